@@ -1,0 +1,21 @@
+//! The receiver's side of Raft as a pure machine: many voters, each with its term, its vote and its log,
+//! what a transcript of their replies means, and a judge of such transcripts.
+//!
+//! Nothing here knows of files, threads or time. A `Voter` answers one `Request` at a time; what it answers and
+//! what it becomes are the definitions of `specs/Rules.antt`, case by case. A `Transcript` tells which requests
+//! came in which rounds and what was answered; `judge` says whether voters that never fail explain it.
+#![tactic(auto)]
+
+mod items;
+mod memory;
+mod reply;
+mod request;
+mod round;
+mod voter;
+
+pub use items::Items;
+pub use memory::Memory;
+pub use reply::{Entry, Reply, VoterState};
+pub use request::Request;
+pub use round::{Outcome, Round, Transcript};
+pub use voter::Voter;

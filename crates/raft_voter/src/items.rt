@@ -77,3 +77,13 @@ impl<T: Drop> Items<T> {
         Ok(())
     }
 }
+
+impl<T: Copy> Items<T> {
+    /// A copy of these elements.
+    pub fn from_slice(alloc: Global, items: &[T]) -> Result<Self, Memory>
+        ensures { IfOk result (λ copy. copy ≡ items.now) }
+    {
+        let items = Vec::from_slice(alloc, items)?;
+        Ok(Items { items })
+    }
+}

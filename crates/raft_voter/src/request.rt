@@ -18,7 +18,7 @@ pub const MAX_ENTRY_BYTES: usize = 65_535;
 pub const MAX_APPEND_BYTES: usize = 1_048_576;
 
 /// A request to one voter, as the receiver of Raft's messages sees it, or of its own node.
-#[derive(Debug, Drop)]
+#[derive(Debug, PartialEq, Drop)]
 pub enum Request {
     /// A candidate asks for a vote (Raft paper, RequestVote).
     Vote {

@@ -9,7 +9,7 @@ use super::log::{copied, matching, replace_tail};
 use crate::{Items, Memory, Reply};
 
 impl Voter {
-    pub fn append(
+    pub(super) fn append(
         &mut self,
         term: u64,
         prev_index: u64,

@@ -8,7 +8,7 @@ use super::log::numbered;
 use crate::{Items, Memory, Reply};
 
 impl Voter {
-    pub fn read(&self, from: u64, to: u64) -> Result<Reply, Memory>
+    pub(super) fn read(&self, from: u64, to: u64) -> Result<Reply, Memory>
         ensures { IfOk result (λ given. given ≡ reply_in_range self.now (Read from to)) }
     {
         let alloc = *self.log.allocator();

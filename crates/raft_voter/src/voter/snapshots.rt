@@ -9,7 +9,7 @@ use super::log::drop_front;
 use crate::Reply;
 
 impl Voter {
-    pub fn compact(&mut self, index: u64) -> Reply
+    pub(super) fn compact(&mut self, index: u64) -> Reply
         ensures replies { result ≡ reply_in_range self.old (Compact index) }
         ensures changes { self.new ≡ next_in_range self.old (Compact index) }
     {
@@ -25,7 +25,7 @@ impl Voter {
         Reply::Base(index)
     }
 
-    pub fn install(&mut self, term: u64, index: u64, entry_term: u64) -> Reply
+    pub(super) fn install(&mut self, term: u64, index: u64, entry_term: u64) -> Reply
         requires { index < 2 ^ 63 }
         ensures replies { result ≡ reply_in_range self.old (Install term index entry_term) }
         ensures changes { self.new ≡ next_in_range self.old (Install term index entry_term) }
@@ -47,7 +47,7 @@ impl Voter {
         Reply::Base(index)
     }
 
-    pub fn retire(&mut self)
+    pub(super) fn retire(&mut self)
         ensures { self.new ≡ fresh }
     {
         self.term = 0;

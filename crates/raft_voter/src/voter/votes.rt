@@ -7,7 +7,13 @@ use super::Voter;
 use crate::Reply;
 
 impl Voter {
-    pub fn vote(&mut self, term: u64, candidate: u64, last_index: u64, last_term: u64) -> Reply
+    pub(super) fn vote(
+        &mut self,
+        term: u64,
+        candidate: u64,
+        last_index: u64,
+        last_term: u64,
+    ) -> Reply
         ensures replies { result ≡ reply_in_range self.old (Vote term candidate last_index last_term) }
         ensures changes { self.new ≡ next_in_range self.old (Vote term candidate last_index last_term) }
     {

@@ -7,3 +7,4 @@ pub mod Joining
 pub mod Ordered
 pub mod Following
 pub mod VoterSteps
+pub mod RunLaws

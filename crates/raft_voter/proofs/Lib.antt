@@ -8,3 +8,5 @@ pub mod Ordered
 pub mod Following
 pub mod VoterSteps
 pub mod RunLaws
+pub mod Indexes
+pub mod Appends

@@ -1,5 +1,5 @@
 //! What follows from the definitions alone: laws over whole runs, each the contract of a function that does nothing.
-ghost use Rattle.raft_voter.specs.Laws.{GroupIsolation, OneVotePerTerm, RoundsJoin, RoundsPart, TermsNeverFall};
+ghost use Rattle.raft_voter.specs.Laws.{GroupIsolation, MatchedAppend, OneVotePerTerm, RoundsJoin, RoundsPart, TermsNeverFall};
 
 /// Rounds that lead from one world to a second and rounds that lead from there to a third are, one behind the other,
 /// rounds that lead from the first to the third, with their cuts one behind the other.
@@ -26,4 +26,9 @@ pub fn terms_never_fall()
 /// The reply to a request depends on the requests alone that its own group took before it, whatever other groups do.
 pub fn group_isolation()
     ensures { GroupIsolation }
+{}
+
+/// What a matched Append makes of the log, index by index (Raft paper, AppendEntries receiver, steps 3 and 4).
+pub fn matched_append()
+    ensures { MatchedAppend }
 {}

@@ -26,3 +26,6 @@ pub use round::{Outcome, Round, Transcript};
 pub use stored::{StoredFault, entry_bytes, read_entry, read_state, state_bytes};
 pub use voter::Voter;
 pub use voters::Voters;
+
+#[cfg(test)]
+mod tests;

@@ -10,3 +10,4 @@ pub mod VoterSteps
 pub mod RunLaws
 pub mod Indexes
 pub mod Appends
+pub mod Standing

@@ -16,7 +16,7 @@ by_test P true x y f g = f refl
 by_test P false x y f g = g refl
 
 -- what holds of each thing that a request may make of a voter holds of what it makes
-vote_next :
+pub vote_next :
     (P : State → Type 0) (v : State) (t c i u : ℕ)
     → (grants v t c i u ≡ true → P (record (adopt_term v t) { vote = Some c })) → P (adopt_term v t)
     → P (next_in_range v (Vote t c i u))

@@ -1,5 +1,5 @@
 //! What follows from the definitions alone: laws over whole runs, each the contract of a function that does nothing.
-ghost use Rattle.raft_voter.specs.Laws.{GroupIsolation, MatchedAppend, OneVotePerTerm, RoundsJoin, RoundsPart, TermsNeverFall};
+ghost use Rattle.raft_voter.specs.Laws.{GroupIsolation, MatchedAppend, MatchedEntriesStand, OneVotePerTerm, RoundsJoin, RoundsPart, TermsNeverFall};
 
 /// Rounds that lead from one world to a second and rounds that lead from there to a third are, one behind the other,
 /// rounds that lead from the first to the third, with their cuts one behind the other.
@@ -31,4 +31,10 @@ pub fn group_isolation()
 /// What a matched Append makes of the log, index by index (Raft paper, AppendEntries receiver, steps 3 and 4).
 pub fn matched_append()
     ensures { MatchedAppend }
+{}
+
+/// An entry that an Append was answered to have matched stands until a later Append brings a different term at or below
+/// it, or it is compacted, replaced by Install, or retired.
+pub fn matched_entries_stand()
+    ensures { MatchedEntriesStand }
 {}

@@ -11,3 +11,4 @@ pub mod RunLaws
 pub mod Indexes
 pub mod Appends
 pub mod Standing
+pub mod Repeating

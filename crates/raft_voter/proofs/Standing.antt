@@ -38,7 +38,7 @@ matched_spares v t p u last i sent m none = elim (cases_lt (matching (drop (p - 
 ]
 
 -- what agrees isn't below the base
-agrees_above : (v : State) (p u : ℕ) → agrees_at v p u ≡ true → nat_lt p v.base_index ≡ false
+pub agrees_above : (v : State) (p u : ℕ) → agrees_at v p u ≡ true → nat_lt p v.base_index ≡ false
 agrees_above v p u agrees = elim (cases_Bool (nat_lt p v.base_index)) [
   | inr above ↦ above
   | inl below ↦

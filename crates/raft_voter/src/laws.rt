@@ -1,5 +1,5 @@
 //! What follows from the definitions alone: laws over whole runs, each the contract of a function that does nothing.
-ghost use Rattle.raft_voter.specs.Laws.{GroupIsolation, MatchedAppend, MatchedEntriesStand, OneVotePerTerm, RoundsJoin, RoundsPart, TermsNeverFall};
+ghost use Rattle.raft_voter.specs.Laws.{GroupIsolation, MatchedAppend, MatchedEntriesStand, OneVotePerTerm, RepeatIsIdempotent, RoundsJoin, RoundsPart, TermsNeverFall};
 
 /// Rounds that lead from one world to a second and rounds that lead from there to a third are, one behind the other,
 /// rounds that lead from the first to the third, with their cuts one behind the other.
@@ -37,4 +37,9 @@ pub fn matched_append()
 /// it, or it is compacted, replaced by Install, or retired.
 pub fn matched_entries_stand()
     ensures { MatchedEntriesStand }
+{}
+
+/// A Vote, Append, Compact or Install that is repeated at once gets the same reply and changes nothing.
+pub fn repeat_is_idempotent()
+    ensures { RepeatIsIdempotent }
 {}

@@ -1,11 +1,10 @@
-use Rattle.std.proofs.Common.{◌≡◌, ◌≢◌, ℕ, ◌+◌, ◌-◌, ◌≤◌, ◌<◌, ◌==◌, List, [], ◌∷◌, ◌++◌, length, take, drop, Bool, true, false, Option, None, Some, refl, sym, ap, ◌∙◌, inl, inr, ◌⊎◌, arith}
-use Rattle.std.specs.Prelude.{slice_get, min, nat_lt, if◌then◌else◌, IsSomeAnd, nat_eq}
-use Rattle.std.specs.Option.{option_map, option_map_or}
+use Rattle.std.proofs.Common.{◌≡◌, ◌≢◌, ℕ, ◌+◌, ◌-◌, ◌≤◌, ◌<◌, ◌==◌, List, ◌++◌, length, take, drop, true, false, Option, None, Some, refl, sym, ap, ◌∙◌, inl, inr, arith}
+use Rattle.std.specs.Prelude.{slice_get, min, nat_lt, if◌then◌else◌, IsSomeAnd}
+use Rattle.std.specs.Option.{option_map_or}
 use Rattle.std.proofs.lemmas.Bool.{cases_Bool, cases_lt, eq-eqb, eqb-true, ltb-true, ltb-false, false≢true}
 use Rattle.std.proofs.lemmas.Bool.Decides.{nat_tests}
 use Rattle.std.proofs.lemmas.List.{take-append-drop}
 use Rattle.std.proofs.lemmas.Option.{slice_get_within}
-use Rattle.raft_voter.specs.declared.reply.Reply.{Reply}
 use Rattle.raft_voter.specs.declared.reply.Reply.TheVariants.{Matched, Mismatch, Stale, Base, Refused}
 use Rattle.raft_voter.specs.declared.request.Request.TheVariants.{Append}
 use Rattle.raft_voter.specs.State.{State, adopt_term, entry_at, last_index, term_at}

@@ -1,5 +1,5 @@
-use Rattle.std.proofs.Common.{◌≡◌, ℕ, ◌+◌, ◌<◌, ◌≤◌, ◌^◌, List, [], ◌∷◌, ◌++◌, length, length-append, take, drop, map, Option, Some, None, Ok, true, false, IsTrue, inl, inr, ◌⊎◌, lit<, refl, sym, ap, ◌∙◌, arith}
-use Rattle.std.specs.Int.{to_be_bytes, from_be_bytes, w64}
+use Rattle.std.proofs.Common.{◌≡◌, ℕ, ◌+◌, ◌<◌, ◌≤◌, ◌^◌, List, [], ◌∷◌, ◌++◌, length, length-append, take, drop, map, Option, Some, None, Ok, true, false, inl, inr, ◌⊎◌, lit<, refl, sym, ap, ◌∙◌, arith}
+use Rattle.std.specs.Int.{from_be_bytes, w64}
 use Rattle.std.specs.Option.{option_map_or}
 use Rattle.std.proofs.lemmas.Nat.{from_be_bytes-to_be_bytes_8}
 use Rattle.std.proofs.lemmas.List.{take_at, drop_at}

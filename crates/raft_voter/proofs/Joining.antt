@@ -1,9 +1,8 @@
-use Rattle.std.proofs.Common.{◌≡◌, ℕ, suc, ◌+◌, List, [], ◌∷◌, ◌++◌, length, take, drop, refl, sym, ap, ◌∙◌, arith}
-use Rattle.raft_voter.specs.declared.reply.Reply.{Reply}
+use Rattle.std.proofs.Common.{◌≡◌, ℕ, suc, ◌+◌, List, [], ◌∷◌, ◌++◌, length, take, drop, refl, ap, ◌∙◌, arith}
 use Rattle.raft_voter.specs.declared.round.Outcome.{Outcome}
 use Rattle.raft_voter.specs.declared.round.Outcome.TheVariants.{Answered, Cut}
 use Rattle.raft_voter.specs.declared.round.Round.{Round}
-use Rattle.raft_voter.specs.Rounds.{World, after, after_round, taken_below, after_rounds, cuts_after, ExplainsFrom, Leads, OutcomeHolds, place_reached}
+use Rattle.raft_voter.specs.Rounds.{World, after, after_round, taken_below, after_rounds, cuts_after, ExplainsFrom, OutcomeHolds, place_reached}
 use Rattle.raft_voter.specs.Laws.{cut_count, cut_count_of, RoundsJoin, RoundsPart}
 
 -- cuts that come after a round's own don't matter to it

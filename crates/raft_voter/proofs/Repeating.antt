@@ -1,19 +1,19 @@
-use Rattle.std.proofs.Common.{◌≡◌, ◌≢◌, ℕ, suc, ◌+◌, ◌-◌, ◌≤◌, ◌<◌, ◌==◌, ◌&&◌, List, [], ◌∷◌, ◌++◌, length, take, drop, Bool, true, false, cond, Option, None, Some, IsTrue, refl, sym, ap, ◌∙◌, inl, inr, ◌⊎◌, arith}
-use Rattle.std.specs.Prelude.{slice_get, nat_lt, nat_le, if◌then◌else◌, min}
+use Rattle.std.proofs.Common.{◌≡◌, ℕ, suc, ◌+◌, ◌-◌, ◌≤◌, ◌==◌, ◌&&◌, List, [], ◌∷◌, ◌++◌, length, take, drop, true, false, Option, None, Some, refl, sym, ap, ◌∙◌, inl, inr, arith}
+use Rattle.std.specs.Prelude.{nat_lt, nat_le, if◌then◌else◌, min}
 use Rattle.std.specs.Option.{option_map_or}
-use Rattle.std.proofs.lemmas.Bool.{and_parts, cases_Bool, cases_lt, eq-eqb, eqb-true, ltb-true, ltb-false, leb-true, false≢true}
+use Rattle.std.proofs.lemmas.Bool.{and_parts, cases_Bool, eq-eqb, eqb-true, ltb-false, false≢true}
 use Rattle.std.proofs.lemmas.Bool.Decides.{nat_tests}
-use Rattle.std.proofs.lemmas.List.{length-take-le, take_at, drop_at, append-nil}
+use Rattle.std.proofs.lemmas.List.{length-take-le, take_at, drop_at}
 use Rattle.raft_voter.specs.declared.reply.Reply.{Reply}
-use Rattle.raft_voter.specs.declared.reply.Reply.TheVariants.{Granted, Denied, Matched, Mismatch, Stale, Base, Refused}
+use Rattle.raft_voter.specs.declared.reply.Reply.TheVariants.{Granted, Denied, Matched, Mismatch, Base}
 use Rattle.raft_voter.specs.declared.request.Request.{Request}
 use Rattle.raft_voter.specs.declared.request.Request.TheVariants.{Vote, Append, Compact, Install, Read, Status, Retire}
-use Rattle.raft_voter.specs.State.{State, adopt_term, entry_at, fresh, last_index, last_term, term_at}
-use Rattle.raft_voter.specs.Rules.{agrees_at, appended, can_compact, compacted, grants, in_range, installed, is_up_to_date, matching, may_vote, merged, next, next_in_range, reply, reply_in_range}
-use Rattle.raft_voter.specs.Accounts.{voter_after, voter_from}
+use Rattle.raft_voter.specs.State.{State, adopt_term, fresh, last_index, term_at}
+use Rattle.raft_voter.specs.Rules.{agrees_at, appended, can_compact, compacted, grants, in_range, installed, is_up_to_date, matching, may_vote, merged, next, reply}
+use Rattle.raft_voter.specs.Accounts.{voter_after}
 use Rattle.raft_voter.specs.Laws.{is_repeatable, RepeatIsIdempotent}
 use Rattle.raft_voter.proofs.Appends.{base-adopt_term, entry_before, reaches}
-use Rattle.raft_voter.proofs.Following.{group_runs, Runs, runs_append, voter_from-append}
+use Rattle.raft_voter.proofs.Following.{group_runs, runs_append, voter_from-append}
 use Rattle.raft_voter.proofs.Indexes.{Pair, term_of}
 use Rattle.raft_voter.proofs.Standing.{agrees_above}
 use Rattle.raft_voter.proofs.VoterSteps.{by_test}

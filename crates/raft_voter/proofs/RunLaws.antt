@@ -1,15 +1,15 @@
-use Rattle.std.proofs.Common.{◌≡◌, ℕ, ◌≤◌, List, [], ◌∷◌, ◌++◌, Option, Some, refl, sym, ap, ◌∙◌, append_assoc, arith}
+use Rattle.std.proofs.Common.{◌≡◌, List, ◌∷◌, ◌++◌, Option, Some, sym, ap, ◌∙◌}
 use Rattle.raft_voter.specs.declared.reply.Reply.{Reply}
-use Rattle.raft_voter.specs.declared.reply.Reply.TheVariants.{Granted, Matched}
+use Rattle.raft_voter.specs.declared.reply.Reply.TheVariants.{Granted}
 use Rattle.raft_voter.specs.declared.request.Request.{Request}
-use Rattle.raft_voter.specs.declared.request.Request.TheVariants.{Vote, Append}
-use Rattle.raft_voter.specs.State.{State, fresh}
+use Rattle.raft_voter.specs.declared.request.Request.TheVariants.{Vote}
+use Rattle.raft_voter.specs.State.{fresh}
 use Rattle.raft_voter.specs.Rules.{next, reply}
 use Rattle.raft_voter.specs.Rounds.{World, after_rounds}
-use Rattle.raft_voter.specs.Accounts.{account, group_account, NoRetire, own, requests_of, voter_after, voter_from}
+use Rattle.raft_voter.specs.Accounts.{account, group_account, voter_after, voter_from}
 use Rattle.raft_voter.specs.Laws.{GroupIsolation, OneVotePerTerm, TermsNeverFall}
 use Rattle.raft_voter.proofs.Following.{account_follows, group_runs, own_runs, Runs, runs_append, voter_from-append, voter_from-requests}
-use Rattle.raft_voter.proofs.VoterSteps.{Gave, gave_granted, gave_voter_from, granted_same, term-voter_from}
+use Rattle.raft_voter.proofs.VoterSteps.{gave_granted, gave_voter_from, granted_same, term-voter_from}
 
 -- the reply that was told to the request behind `before`
 told_behind :

@@ -1,18 +1,17 @@
-use Rattle.std.proofs.Common.{◌≡◌, ◌≢◌, ℕ, ◌+◌, ◌-◌, ◌≤◌, ◌<◌, ◌==◌, List, [], ◌∷◌, ◌++◌, length, take, drop, Bool, true, false, Option, None, Some, refl, sym, ap, ◌∙◌, inl, inr, ◌⊎◌, arith}
-use Rattle.std.specs.Prelude.{slice_get, nat_lt, nat_le, if◌then◌else◌, min}
-use Rattle.std.specs.Option.{option_map_or}
-use Rattle.std.proofs.lemmas.Bool.{cases_Bool, cases_lt, eq-eqb, eqb-true, ltb-true, ltb-false, leb-true, false≢true}
+use Rattle.std.proofs.Common.{◌≡◌, ◌≢◌, ℕ, ◌+◌, ◌-◌, ◌≤◌, ◌<◌, ◌==◌, List, [], ◌∷◌, ◌++◌, length, drop, true, false, Option, None, Some, refl, sym, ap, ◌∙◌, inl, inr, arith}
+use Rattle.std.specs.Prelude.{nat_lt, nat_le}
+use Rattle.std.proofs.lemmas.Bool.{cases_Bool, cases_lt, eq-eqb, ltb-true, false≢true}
 use Rattle.std.proofs.lemmas.Bool.Decides.{nat_tests}
 use Rattle.raft_voter.specs.declared.reply.Reply.{Reply}
 use Rattle.raft_voter.specs.declared.reply.Reply.TheVariants.{Matched}
 use Rattle.raft_voter.specs.declared.request.Request.{Request}
 use Rattle.raft_voter.specs.declared.request.Request.TheVariants.{Vote, Append, Compact, Install, Read, Status, Retire}
 use Rattle.raft_voter.specs.State.{State, adopt_term, entry_at, fresh, term_at}
-use Rattle.raft_voter.specs.Rules.{agrees_at, appended, can_compact, compacted, grants, in_range, installed, matching, merged, next, next_in_range, reply}
+use Rattle.raft_voter.specs.Rules.{agrees_at, can_compact, in_range, matching, next, next_in_range, reply}
 use Rattle.raft_voter.specs.Accounts.{voter_after, voter_from}
-use Rattle.raft_voter.specs.Laws.{AllSpare, BringsOther, MatchedEntriesStand, sent_at, Spares}
+use Rattle.raft_voter.specs.Laws.{AllSpare, BringsOther, MatchedEntriesStand, Spares}
 use Rattle.raft_voter.proofs.Appends.{base-adopt_term, base-next_matched, brings_first, entry_in, entry_kept, entry_own, log_kept, log-adopt_term, Matches, matches_of, matched_there}
-use Rattle.raft_voter.proofs.Following.{group_runs, Runs, runs_append, voter_from-append}
+use Rattle.raft_voter.proofs.Following.{group_runs, runs_append, voter_from-append}
 use Rattle.raft_voter.proofs.Indexes.{Pair}
 use Rattle.raft_voter.proofs.VoterSteps.{by_test, vote_next}
 

@@ -1,4 +1,4 @@
-use Rattle.std.specs.Prelude.{◌≡◌, ◌≢◌, ℕ, ◌+◌, ◌-◌, ◌<◌, ◌≤◌, nat_lt, Bool, true, false, IsTrue, IsSomeAnd, if◌then◌else◌, List, [], ◌∷◌, ◌++◌, length, take, drop, slice_get, Option, None, Some}
+use Rattle.std.specs.Prelude.{◌≡◌, ◌≢◌, ℕ, ◌+◌, ◌-◌, ◌<◌, ◌≤◌, nat_lt, Bool, true, false, IsTrue, IsSomeAnd, if◌then◌else◌, List, [], ◌∷◌, ◌++◌, take, drop, slice_get, Option, None, Some}
 use Rattle.raft_voter.specs.declared.reply.Reply.{Reply}
 use Rattle.raft_voter.specs.declared.reply.Reply.TheVariants.{Granted, Matched}
 use Rattle.raft_voter.specs.declared.request.Request.{Request}

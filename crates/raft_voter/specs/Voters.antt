@@ -1,4 +1,4 @@
-use Rattle.std.specs.Prelude.{ℕ, unwrap_or}
+use Rattle.std.specs.Prelude.{unwrap_or}
 use Rattle.std.specs.BTreeMap.{get}
 use Rattle.std.specs.Ordering.{nat_cmp}
 use Rattle.raft_voter.specs.declared.voters.Voters.{Voters}

@@ -1,6 +1,5 @@
-use Rattle.std.proofs.Common.{◌≡◌, [], drop, arith}
+use Rattle.std.proofs.Common.{◌≡◌, [], drop}
 use Rattle.std.proofs.lemmas.List.{drop_all}
-use Rattle.raft_voter.specs.declared.round.Round.{Round}
 use Rattle.raft_voter.proofs.Places.{none_left}
 use Rattle.raft_voter.proofs.judging.judge.Goals as goal
 

@@ -1,4 +1,4 @@
-use Rattle.std.proofs.Common.{◌≡◌, ◌∙◌, ◌≤◌, Some, length, slice_get, arith, rules}
+use Rattle.std.proofs.Common.{◌≡◌, ◌∙◌, ◌≤◌, Some, length, slice_get, rules}
 use Rattle.raft_voter.specs.Voters.{world_of}
 use Rattle.raft_voter.proofs.Places.{cut_world}
 use Rattle.raft_voter.proofs.judging.judge_round.Goals as goal

@@ -1,4 +1,4 @@
-use Rattle.std.proofs.Common.{◌≡◌, ◌∷◌, ◌++◌, ◌<◌, ◌+◌, ◌∙◌, List, ℕ, Some, ap, length, slice_get, sym, arith, rules}
+use Rattle.std.proofs.Common.{◌≡◌, ◌∷◌, ◌++◌, ◌∙◌, Some, slice_get, sym, arith, rules}
 use Rattle.std.proofs.lemmas.Result.{err_from_is_err_and}
 use Rattle.raft_voter.specs.StoredForms.{number_text}
 use Rattle.raft_voter.proofs.Bytes.{entry_in_range, entry_out_of_range, length-entry}

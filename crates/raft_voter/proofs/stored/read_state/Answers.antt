@@ -1,5 +1,5 @@
-use Rattle.std.proofs.Common.{◌≡◌, ◌<◌, ◌^◌, ◌∷◌, ◌∙◌, List, ℕ, Some, ap, length, slice_get, sym, arith, rules}
-use Rattle.raft_voter.specs.StoredForms.{number_text, state_body}
+use Rattle.std.proofs.Common.{◌≡◌, ◌<◌, ◌^◌, ◌∷◌, ◌∙◌, ℕ, Some, ap, length, slice_get, sym, rules}
+use Rattle.raft_voter.specs.StoredForms.{number_text}
 use Rattle.raft_voter.proofs.Bytes.{length-vote_bytes, state_numbers, state_out_of_range, vote_in_range}
 use Rattle.raft_voter.proofs.stored.read_state.Goals as goal
 

@@ -1,4 +1,4 @@
-use Rattle.std.proofs.Common.{◌≡◌, ◌<◌, ℕ, get_or, ◌++◌, length, take, drop, arith, inl, inr, lit<, sym, ap, ◌∙◌}
+use Rattle.std.proofs.Common.{◌<◌, ℕ, get_or, ◌++◌, drop, arith, inl, inr, lit<, sym, ap, ◌∙◌}
 use Rattle.std.proofs.lemmas.Bool.{cases_lt}
 use Rattle.std.proofs.lemmas.List.{get_or-take, get_or_past, take-append-drop}
 use Rattle.std.proofs.lemmas.Nat.{be_bytes_8}

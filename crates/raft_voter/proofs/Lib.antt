@@ -1,0 +1,14 @@
+pub mod Sizes
+pub mod Merging
+pub mod Equality
+pub mod Places
+pub mod Bytes
+pub mod Joining
+pub mod Ordered
+pub mod Following
+pub mod VoterSteps
+pub mod RunLaws
+pub mod Indexes
+pub mod Appends
+pub mod Standing
+pub mod Repeating

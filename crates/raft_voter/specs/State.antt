@@ -1,0 +1,47 @@
+use Rattle.std.specs.Prelude.{ℕ, ◌+◌, ◌-◌, ◌==◌, nat_lt, if◌then◌else◌, List, [], length, slice_get, Option, None, Some, unwrap_or}
+use Rattle.std.specs.Option.{option_map}
+use Rattle.raft_voter.specs.declared.reply.VoterState.{VoterState}
+
+-- What a Raft server keeps of a group: the current term, whom it voted for in it, the index up to which its log
+-- was compacted with the term of the entry there, and the entries above, each its term and its bytes.
+pub record State : Type 0 where
+  pub term : ℕ
+  pub vote : Option ℕ
+  pub base_index : ℕ
+  pub base_term : ℕ
+  pub log : List (ℕ × List ℕ)
+
+-- a voter that has taken nothing yet
+abbrev pub fresh : State
+fresh = record { term = 0; vote = None; base_index = 0; base_term = 0; log = [] }
+
+-- the entry at an index above the base, if there is one: the k-th of the log, counted from 1, stands at base + k
+abbrev pub entry_at : State → ℕ → Option (ℕ × List ℕ)
+entry_at v i = if nat_lt v.base_index i then slice_get v.log (i - v.base_index - 1) else None
+
+-- the term of the entry at an index, or of the base
+abbrev pub term_at : State → ℕ → Option ℕ
+term_at v i = if i == v.base_index then Some v.base_term else option_map (λ e. e.0) (entry_at v i)
+
+-- the index of the last entry, or of the base
+abbrev pub last_index : State → ℕ
+last_index v = v.base_index + length v.log
+
+-- the term of the last entry, or of the base
+abbrev pub last_term : State → ℕ
+last_term v = unwrap_or (option_map (λ e. e.0) (slice_get v.log (length v.log - 1))) v.base_term
+
+-- a higher term is taken over, and nobody has this voter's vote in it yet
+abbrev pub adopt_term : State → ℕ → State
+adopt_term v t = if nat_lt v.term t then record v { term = t; vote = None } else v
+
+-- the state without the entries
+abbrev pub state_of : State → VoterState
+state_of v = record {
+  term = v.term;
+  vote = v.vote;
+  base_index = v.base_index;
+  base_term = v.base_term;
+  last_index = last_index v;
+  last_term = last_term v;
+}

@@ -1,0 +1,59 @@
+//! What a voter answers.
+use crate::Items;
+
+/// An entry of a log.
+#[derive(Debug, PartialEq, Drop)]
+pub struct Entry {
+    /// Where it stands, counted from 1.
+    pub index: u64,
+    /// The term in which its leader made it.
+    pub term: u64,
+    /// What the leader's client asked for.
+    pub bytes: Items<u8>,
+}
+
+/// The state of a voter, without its entries.
+#[derive(Clone, Copy, Debug, PartialEq, Eq)]
+pub struct VoterState {
+    /// The current term.
+    pub term: u64,
+    /// Whom it voted for in this term.
+    pub vote: Option<u64>,
+    /// The index up to which the log was compacted, 0 at first.
+    pub base_index: u64,
+    /// The term of the entry there, 0 at first.
+    pub base_term: u64,
+    /// The index of the last entry, or the base's.
+    pub last_index: u64,
+    /// The term of the last entry, or the base's.
+    pub last_term: u64,
+}
+
+/// What a voter answers to a request.
+#[derive(Debug, PartialEq, Drop)]
+pub enum Reply {
+    /// The vote is the candidate's, in this term.
+    Granted(u64),
+    /// The vote isn't the candidate's; the voter's term.
+    Denied(u64),
+    /// The log agrees with the leader's up to this index.
+    Matched(u64),
+    /// The log doesn't hold the leader's entry right before those sent; a hint where it may agree.
+    Mismatch(u64),
+    /// The leader's term is over; the voter's term.
+    Stale(u64),
+    /// The index up to which the log was compacted.
+    Base(u64),
+    /// The entries that were asked for.
+    Entries(Items<Entry>),
+    /// The index up to which the log was compacted: what was asked for went with it.
+    Gone(u64),
+    /// The last index: what was asked for lies beyond it.
+    Unknown(u64),
+    /// The voter's state.
+    Status(VoterState),
+    /// The voter is a fresh one again.
+    Retired,
+    /// The request wasn't taken.
+    Refused,
+}

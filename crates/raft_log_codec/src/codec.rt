@@ -1,0 +1,5 @@
+//! Numbers as bytes.
+
+mod error;
+
+pub use error::{BytesSlice, Error, Result};

@@ -1,5 +1,5 @@
 -- How numbers are spelled, and the functions that read them from the front of a list.
-use Rattle.std.specs.Prelude.{◌≡◌, ℕ, ℤ, pos, negsuc, zero, suc, ◌+◌, ◌*◌, ◌/◌, ◌%◌, ◌^◌, ◌<◌, ◌≤◌, ◌-ℤ◌, List, [], ◌∷◌, ◌++◌, length, take, drop, Ok, Err, nat_lt, ◌==◌, if◌then◌else◌}
+use Rattle.std.specs.Prelude.{◌≡◌, ℕ, ℤ, pos, negsuc, zero, suc, ◌+◌, ◌-◌, ◌*◌, ◌/◌, ◌%◌, ◌^◌, ◌<◌, ◌≤◌, ◌-ℤ◌, List, [], ◌∷◌, ◌++◌, length, take, drop, Result, Ok, Err, nat_lt, ◌==◌, if◌then◌else◌}
 use Rattle.std.specs.Int.{Width, w16, w32, w64, byte_len, from_be_bytes, from_le_bytes, bit_not, cast_signed}
 use Rattle.std.specs.declared.io.ErrorKind.TheVariants.{UnexpectedEof, InvalidData}
 use Rattle.raft_log_codec.specs.declared.codec.error.Error.{Error}
@@ -44,9 +44,14 @@ IsU16Le = IsLowFirst w16
 abbrev pub IsU64Desc : List ℕ → ℕ → Type 0
 IsU64Desc = Mapped (bit_not w64) IsU64
 
--- how far n is above the least signed number of 64 bits, so that the order of bytes is the order of numbers
+-- the signed number that is so many steps above the least one of 64 bits: the order of bytes is the order of numbers
 abbrev pub above_least : ℕ → ℤ
 above_least n = pos n -ℤ pos (2 ^ 63)
+
+-- how many steps a signed number of 64 bits is above the least one
+abbrev pub steps_above_least : ℤ → ℕ
+steps_above_least (pos n) = 2 ^ 63 + n
+steps_above_least (negsuc n) = 2 ^ 63 - (n + 1)
 
 abbrev pub IsI64 : List ℕ → ℤ → Type 0
 IsI64 = Mapped above_least IsU64
@@ -106,6 +111,10 @@ pub record IsShortest {X : Type 0} (P : List ℕ → X → Type 0) (bytes : List
 abbrev pub NumberReader : Type 0 → Type 0
 NumberReader X = Reader X Error
 
+-- so many bytes
+abbrev pub front_at : ℕ → NumberReader (List ℕ)
+front_at size bytes = if nat_lt (length bytes) size then Err (Io UnexpectedEof) else Ok (take size bytes, drop size bytes)
+
 abbrev pub high_first_at : Width → NumberReader ℕ
 high_first_at w bytes = if nat_lt (length bytes) (byte_len w) then Err (Io UnexpectedEof) else Ok (from_be_bytes w (take (byte_len w) bytes), drop (byte_len w) bytes)
 
@@ -144,6 +153,14 @@ unfoldable pub var_i64_at : NumberReader ℤ
 var_i64_at = mapped_at from_zigzag var_u64_at
 
 -- ---- refusals
+
+-- the bytes ended too early
+abbrev pub IsShort : {X : Type 0} → Result X Error → Type 0
+IsShort result = result ≡ Err (Io UnexpectedEof)
+
+-- the number doesn't fit
+abbrev pub IsInvalid : {X : Type 0} → Result X Error → Type 0
+IsInvalid result = result ≡ Err (Io InvalidData)
 
 -- every byte has the top bit, so more have to follow
 abbrev pub AllGoOn : List ℕ → Type 0

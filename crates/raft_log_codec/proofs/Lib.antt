@@ -2,6 +2,7 @@ pub mod Crc
 pub mod CrcTables
 pub mod Fixed
 pub mod Grammar
+pub mod HashInverse
 pub mod Var
 pub mod VarLoop
 pub mod VarSpelling

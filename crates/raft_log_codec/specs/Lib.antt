@@ -1,3 +1,4 @@
 pub mod Checksum
 pub mod Grammar
+pub mod Hash
 pub mod Number

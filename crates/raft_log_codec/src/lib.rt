@@ -3,5 +3,9 @@
 
 mod checksum;
 pub mod codec;
+mod hash;
+mod rounding;
 
 pub use checksum::crc32;
+pub use hash::{hash_u64, unhash_u64};
+pub use rounding::{round_down, round_up};

@@ -3,6 +3,7 @@ pub mod CrcTables
 pub mod Fixed
 pub mod Grammar
 pub mod HashInverse
+pub mod Sizes
 pub mod Var
 pub mod VarLoop
 pub mod VarSpelling

@@ -2,3 +2,4 @@ pub mod Checksum
 pub mod Grammar
 pub mod Hash
 pub mod Number
+pub mod Size

@@ -101,3 +101,6 @@ fn after_many(zeros: usize, byte: u8) -> u32
 {
     AFTER_MANY[zeros][byte as usize]
 }
+
+#[cfg(test)]
+mod tests;

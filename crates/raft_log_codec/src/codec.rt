@@ -17,3 +17,6 @@ pub use encode::NumberEncoder;
 pub use error::{BytesSlice, Error, Result};
 pub use laws::no_number_begins_another;
 pub use variable::{MAX_VAR_U64_LEN, decode_var_i64, decode_var_u64};
+
+#[cfg(test)]
+mod tests;

@@ -159,3 +159,6 @@ impl FromStr for ReadableSize {
         text::size_in(text.trim().as_bytes())
     }
 }
+
+#[cfg(test)]
+mod tests;

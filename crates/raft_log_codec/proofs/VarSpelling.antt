@@ -57,6 +57,10 @@ var_u64_shortest n lt = record {
   shortest = λ other p. shortest_within 9 n other p.digits;
 }
 
+pub one_byte : (n : ℕ) → n < 128 → var_u64_bytes n ≡ n ∷ []
+unfolding var_u64_bytes
+one_byte n lt = last_spelling 9 n lt
+
 pub var_i64_shortest : (v : ℤ) → zigzag v < 2 ^ 64 → IsShortest IsVarI64 (var_u64_bytes (zigzag v)) v
 var_i64_shortest v lt = let s = var_u64_shortest (zigzag v) lt in record { spelled = s.spelled; shortest = s.shortest }
 

@@ -11,7 +11,7 @@ ghost use Rattle.raft_log_codec.specs.Number.{
   var_u64_bytes,
 };
 
-use super::variable::spell_var_u64;
+use super::variable::{CONTINUES, spell_var_u64};
 use std::alloc::AllocError;
 
 /// Appends what `encode_u64` writes.
@@ -43,6 +43,10 @@ pub fn append_var_u64(out: &mut Vec<u8>, number: u64) -> Result<(), AllocError>
     ensures err { OnErr result (out.new.items ≡ out.old.items) }
     ensures spelled { IsShortest IsVarU64 (var_u64_bytes number) number }
 {
+    if number < CONTINUES as u64 {
+        out.push(number as u8)?;
+        return Ok(());
+    }
     let (bytes, len) = spell_var_u64(number);
     out.extend_from_slice(&bytes[..len])
 }

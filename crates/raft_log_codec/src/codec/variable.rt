@@ -27,7 +27,7 @@ pub const MAX_VAR_U64_LEN: usize = 10;
 const GOING_ON: usize = MAX_VAR_U64_LEN - 1;
 
 /// A byte from here on has more bytes after it.
-const CONTINUES: u8 = 0x80;
+pub const CONTINUES: u8 = 0x80;
 
 /// The greatest tenth byte: nine bytes hold 63 bits.
 const GREATEST_LAST: u8 = 1;

@@ -1,6 +1,7 @@
 -- The reader of numbers of variable length reads their grammar, and refuses exactly where it should.
-use Rattle.std.proofs.Common.{◌≡◌, ℕ, ℤ, pos, negsuc, zero, suc, ◌+◌, ◌*◌, ◌/◌, ◌%◌, ◌^◌, ◌<◌, ◌≤◌, ltb, List, [], ◌∷◌, ◌++◌, length, Result, Ok, Err, refl, sym, ap, subst, ◌∙◌, ◌↔◌, inl, inr, arith}
+use Rattle.std.proofs.Common.{◌≡◌, ℕ, ℤ, pos, negsuc, zero, suc, ◌+◌, ◌*◌, ◌/◌, ◌%◌, ◌^◌, ◌<◌, ◌≤◌, ltb, List, [], ◌∷◌, ◌++◌, length, Result, Ok, Err, refl, sym, ap, subst, ◌∙◌, ◌↔◌, inl, inr, arith, ◌-◌, get_or, take, drop}
 use Rattle.std.proofs.Math.Nat.{pow-suc}
+use Rattle.std.proofs.lemmas.List.{take_all}
 use Rattle.std.proofs.lemmas.Bool.{ltb-true, ltb-false, lt-ltb, le-ltb, cases_lt}
 use Rattle.std.specs.declared.io.ErrorKind.TheVariants.{UnexpectedEof, InvalidData}
 use Rattle.raft_log_codec.specs.declared.codec.error.Error.{Error}
@@ -231,3 +232,11 @@ invalid_exactly (Ok n) old new h =
     (λ e. absurd (no_refusal n (Io InvalidData) e), λ f. absurd (no_failure (n, new) (Io InvalidData) (var_u64_at old) h ((var_invalid old).1 f)))
 invalid_exactly (Err d) old new h =
     (λ e. (var_invalid old).0 (h.0 ∙ same_failure d (Io InvalidData) e), λ f. same_refusal d (Io InvalidData) (sym h.0 ∙ (var_invalid old).1 f))
+
+-- a byte below 128 is a whole number
+pub var_one : (bytes : List ℕ) → 1 ≤ length bytes → get_or bytes 0 0 < 128 → var_u64_at bytes ≡ Ok (get_or bytes 0 0, take (length bytes - 1) (drop 1 bytes))
+unfolding var_u64_at var_within
+var_one [] some lt = absurd (omega arith)
+var_one (b ∷ bs) some lt =
+    let rest : take (length (b ∷ bs) - 1) bs ≡ bs = take_all (length (b ∷ bs) - 1) bs (omega arith) in
+    rw (lt-ltb b 128 lt) (ap (λ (l : List ℕ). Ok (b, l)) (sym rest))

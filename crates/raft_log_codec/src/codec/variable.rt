@@ -49,9 +49,17 @@ pub fn decode_var_u64(source: &mut BytesSlice<'_>) -> Result<u64>
 fn take_var_u64(source: &mut BytesSlice<'_>) -> Result<u64>
     ensures { Reads result source.old.now source.new.now (var_u64_at source.old.now) }
 {
-    let (number, len) = var_u64_front(source)?;
-    *source = &source[len..];
-    Ok(number)
+    match *source {
+        [byte, rest @ ..] if *byte < CONTINUES => {
+            *source = rest;
+            Ok(*byte as u64)
+        }
+        bytes => {
+            let (number, len) = var_u64_front(bytes)?;
+            *source = &bytes[len..];
+            Ok(number)
+        }
+    }
 }
 
 /// The number at the front, and how many bytes it takes.

@@ -1,0 +1,5 @@
+pub mod Checksum
+pub mod Grammar
+pub mod Hash
+pub mod Number
+pub mod Size

@@ -1,0 +1,3 @@
+pub mod Item
+pub mod Meaning
+pub mod Groups

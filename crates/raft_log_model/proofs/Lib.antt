@@ -1,2 +1,6 @@
+pub mod Cases
+pub mod Tests
 pub mod Words
 pub mod Records
+pub mod Suffix
+pub mod TidyLaws

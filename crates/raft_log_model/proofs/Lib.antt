@@ -4,3 +4,5 @@ pub mod Words
 pub mod Records
 pub mod Suffix
 pub mod TidyLaws
+pub mod Holes
+pub mod Windows

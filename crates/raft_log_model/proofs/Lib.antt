@@ -6,3 +6,4 @@ pub mod Suffix
 pub mod TidyLaws
 pub mod Holes
 pub mod Windows
+pub mod Intervals

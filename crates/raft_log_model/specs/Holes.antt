@@ -1,5 +1,5 @@
 -- The hostile cases: a run past the end of the standing run, and a gap between Rewrite's entries and Append's.
-use Rattle.std.specs.Prelude.{ℕ, ◌+◌, max, min, Bool, true, false, ◌&&◌, not, List, [], ◌∷◌, Option, Some, None, unwrap_or, if◌then◌else◌, nat_le, nat_lt, length, IsFalse, ⊤}
+use Rattle.std.specs.Prelude.{ℕ, ◌≡◌, ◌≤◌, ◌+◌, max, min, Bool, true, false, ◌&&◌, not, List, [], ◌∷◌, Option, Some, None, unwrap_or, if◌then◌else◌, nat_le, nat_lt, length, IsFalse, ⊤}
 use Rattle.std.specs.Option.{option_or}
 use Rattle.raft_log_model.specs.Item.{Item}
 use Rattle.raft_log_model.specs.Item.Item.{Run, Clean, Compact, Put, Del}
@@ -89,20 +89,24 @@ abbrev pub is_below : ℕ → Option ℕ → Bool
 is_below i None = true
 is_below i (Some b) = nat_lt i b
 
+-- the items say nothing of an index: no Clean, at or above the greatest Compact index, below the least start of a run
+abbrev pub is_silent : {E V : Type 0} → List (Item E V) → ℕ → Bool
+is_silent xs i = not (has_clean xs) && (nat_le (low xs) i && is_below i (high xs))
+
 -- what is left of Rewrite's standing run under these items of Append ends below Append's first entry
 abbrev pub has_gap : {E V : Type 0} → Window → List (Item E V) → Bool
 has_gap w append =
     nat_lt (max w.first (low append)) (least w.end (high append))
-    && nat_lt (window nothing append).first (window nothing append).end
-    && nat_lt (least w.end (high append)) (window nothing append).first
+    && (nat_lt (window nothing append).first (window nothing append).end
+    && nat_lt (least w.end (high append)) (window nothing append).first)
 
--- Rewrite's entry at the index is kept under these items of Append: no Clean, at or above the greatest Compact index, below the
--- least start of a run, and no gap
-abbrev pub is_kept : {E V : Type 0} → List (Item E V) → List (Item E V) → ℕ → Bool
-is_kept rewrite append i =
-    not (has_clean append) && nat_le (low append) i && is_below i (high append) && not (has_gap (window nothing rewrite) append)
-
--- what stands at an index of a directory, told by intervals: what Rewrite keeps, and Append's entries over it
+-- what stands at an index of a directory, told by intervals: Append's entries, over what Rewrite keeps under Append's items,
+-- which is nothing where a gap would stay
 abbrev pub directory_by_intervals : {E V : Type 0} → ℕ → List (Item E V) → List (Item E V) → Option (Content E V)
 directory_by_intervals i rewrite append =
-    option_or (holds (Index i) append) (if is_kept rewrite append i then holds_past (Index i) rewrite else None)
+    option_or (holds (Index i) append)
+    (if is_silent append i && not (has_gap (window nothing rewrite) append) then holds_past (Index i) rewrite else None)
+
+-- what is between two entries that stand stands too
+abbrev pub IsSolid : {E V : Type 0} → (ℕ → Option (Content E V)) → Type 0
+IsSolid {E} {V} m = (i j k : ℕ) (a b : Content E V) → i ≤ j → j ≤ k → m i ≡ Some a → m k ≡ Some b → (c : Content E V) × (m j ≡ Some c)

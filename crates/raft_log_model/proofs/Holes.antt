@@ -1,14 +1,13 @@
 -- A list without holes means the same with and without the rule on runs past the end, and so does each end of it.
-use Rattle.std.proofs.Common.{◌≡◌, ℕ, ◌+◌, ◌-◌, ◌<◌, ◌≤◌, ◌⊎◌, max, List, [], ◌∷◌, ◌++◌, length, Bool, true, false, ◌&&◌, Option, Some, None, unwrap_or, option_map, slice_get, nat_lt, nat_le, IsFalse, if◌then◌else◌, refl, sym, ap, ap₂, subst, ◌∙◌, inl, inr, arith}
-use Rattle.std.specs.Bool.{⊤}
+use Rattle.std.proofs.Common.{◌≡◌, ℕ, ◌<◌, ◌≤◌, ◌⊎◌, max, List, [], ◌∷◌, ◌++◌, length, false, ◌&&◌, nat_lt, nat_le, if◌then◌else◌, refl, ap, ap₂, inl, inr, arith}
 use Rattle.std.proofs.lemmas.Bool.Decides.{nat_tests}
 use Rattle.std.specs.Option.{option_or}
 use Rattle.raft_log_model.specs.Item.{Item}
 use Rattle.raft_log_model.specs.Item.Item.{Run, Clean, Compact, Put, Del}
-use Rattle.raft_log_model.specs.Meaning.{Slot, Content, write, says, holds}
+use Rattle.raft_log_model.specs.Meaning.{Slot, write, says}
 use Rattle.raft_log_model.specs.Meaning.Slot.{Index, Key}
-use Rattle.raft_log_model.specs.Holes.{Window, nothing, is_past, next_window, window, write_past, says_past, holds_past, FitsOn, NoHole}
-use Rattle.raft_log_model.proofs.Cases.{at_bool, if_true, if_false}
+use Rattle.raft_log_model.specs.Holes.{Window, nothing, is_past, next_window, window, write_past, says_past, FitsOn, NoHole}
+use Rattle.raft_log_model.proofs.Cases.{if_false}
 
 pub not_past : (w : Window) (f : ℕ) → is_past w f ≡ false → w.first < w.end → f ≤ w.end
 not_past w f h n = grind (arith, nat_tests)
@@ -79,7 +78,7 @@ tail_no_hole a b [] t h = (tt, t)
 tail_no_hole a b (x ∷ xs) t h =
     let step : FitsOn a x × IsTail (next_window a x) (next_window b x) = tail_step a b x t h.0 in
     let rest : NoHole (next_window a x) xs × IsTail (window (next_window a x) xs) (window (next_window b x) xs) =
-        tail_no_hole (next_window a x) (next_window b x) xs step.1 h.1 in
+    tail_no_hole (next_window a x) (next_window b x) xs step.1 h.1 in
     ((step.0, rest.0), rest.1)
 
 -- no holes from the start of a list on, then none from any later start

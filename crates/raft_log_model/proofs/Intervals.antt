@@ -1,18 +1,17 @@
 -- A directory's meaning by the last word, and by intervals of indexes, are one.
-use Rattle.std.proofs.Common.{◌≡◌, ℕ, ◌+◌, ◌-◌, ◌<◌, ◌≤◌, ◌⊎◌, max, min, List, [], ◌∷◌, ◌++◌, length, Bool, true, false, not, ◌&&◌, Option, Some, None, is_none, unwrap_or, option_map, slice_get, nat_lt, nat_le, IsFalse, if◌then◌else◌, refl, sym, ap, ap₂, subst, ◌∙◌, inl, inr, arith}
+use Rattle.std.proofs.Common.{◌≡◌, ℕ, ◌-◌, ◌<◌, ◌≤◌, max, min, List, [], ◌∷◌, Bool, true, false, not, ◌&&◌, Option, Some, None, is_none, unwrap_or, nat_lt, nat_le, if◌then◌else◌, refl, sym, ap, ap₂, ◌∙◌, arith}
 use Rattle.std.proofs.lemmas.Bool.Decides.{nat_tests}
-use Rattle.std.proofs.lemmas.Bool.{cases_lt}
 use Rattle.std.specs.Option.{option_or}
 use Rattle.raft_log_model.specs.Item.{Item}
 use Rattle.raft_log_model.specs.Item.Item.{Run, Clean, Compact, Put, Del}
-use Rattle.raft_log_model.specs.Meaning.{Slot, Content, write, says, holds, directory}
-use Rattle.raft_log_model.specs.Meaning.Slot.{Index, Key}
-use Rattle.raft_log_model.specs.Meaning.Content.{Entry, Value}
-use Rattle.raft_log_model.specs.Holes.{Window, nothing, is_past, next_window, window, says_past, holds_past, NoHole, has_clean, low, least, high, is_below, is_silent, has_gap, directory_by_intervals, IsSolid}
-use Rattle.raft_log_model.proofs.Cases.{at_bool, at_option, if_true, if_false, lt_true, le_true, le_false, lt_false, from_lt_true, from_le_true, from_lt_false, from_le_false}
+use Rattle.raft_log_model.specs.Meaning.{Slot, Content, says, holds, directory}
+use Rattle.raft_log_model.specs.Meaning.Slot.{Index}
+use Rattle.raft_log_model.specs.Meaning.Content.{Entry}
+use Rattle.raft_log_model.specs.Holes.{Window, nothing, window, holds_past, NoHole, has_clean, low, least, high, is_below, is_silent, has_gap, directory_by_intervals, IsSolid}
+use Rattle.raft_log_model.proofs.Cases.{at_bool, at_option, lt_true, le_true, from_lt_true}
 use Rattle.raft_log_model.proofs.Words.{option_or_none}
 use Rattle.raft_log_model.proofs.Holes.{no_hole}
-use Rattle.raft_log_model.proofs.Windows.{Spans, one_run, one_run_fits}
+use Rattle.raft_log_model.proofs.Windows.{one_run_fits}
 
 none_of_two : {A : Type 0} (p q : Option A) → is_none (option_or p q) ≡ (is_none p && is_none q)
 none_of_two None q = refl
@@ -153,10 +152,10 @@ kept_stands : {E V : Type 0} (r a : List (Item E V)) (j : ℕ) → NoHole nothin
     → (e : E) × (directory (Index j) r a ≡ Some (Entry e))
 kept_stands r a j h clean lo hi =
     let quiet : is_silent a j ≡ true =
-        ap₂ (λ b c. not b && c) clean (ap₂ (λ b c. b && c) (le_true (low a) j (omega arith)) (below_bound j (window nothing r).end (high a) hi)) in
+    ap₂ (λ b c. not b && c) clean (ap₂ (λ b c. b && c) (le_true (low a) j (omega arith)) (below_bound j (window nothing r).end (high a) hi)) in
     let silent : says (Index j) a ≡ None = from_none (says (Index j) a) (silence a j ∙ quiet) in
     let there : (e : _) × (holds (Index j) r ≡ Some (Entry e)) =
-        (one_run_fits r h).stands j (omega arith) (omega (arith, least_is_low (window nothing r).end (high a))) in
+    (one_run_fits r h).stands j (omega arith) (omega (arith, least_is_low (window nothing r).end (high a))) in
     (there.0, rewrite_answers (Index j) r a silent ∙ there.1)
 
 -- between what is left of Rewrite's run and Append's first entry nothing stands
@@ -166,9 +165,9 @@ gap_is_empty : {E V : Type 0} (r a : List (Item E V)) (x : Content E V) → NoHo
 gap_is_empty r a x hr ha below stands =
     let j : ℕ = least (window nothing r).end (high a) in
     let from : (is_none (says (Index j) a) ≡ true) × (holds (Index j) r ≡ Some x) =
-        from_rewrite (says (Index j) a) (holds (Index j) r) x ((one_run_fits a ha).none_below j below) stands in
+    from_rewrite (says (Index j) a) (holds (Index j) r) x ((one_run_fits a ha).none_below j below) stands in
     let parts : (nat_le (low a) j ≡ true) × (is_below j (high a) ≡ true) =
-        both _ _ ((both _ _ (sym (silence a j) ∙ from.0)).1) in
+    both _ _ ((both _ _ (sym (silence a j) ∙ from.0)).1) in
     let none : holds (Index j) r ≡ None = (one_run_fits r hr).none_above j (at_the_end (window nothing r).end (high a) parts.1) in
     none_some _ x none from.1
 
@@ -188,7 +187,7 @@ no_gap i r a hr ha solid silent gap =
     let under : (e : _) × (directory (Index (hi - 1)) r a ≡ Some (Entry e)) = kept_stands r a (hi - 1) hr clean (omega arith) (omega arith) in
     let new : (e : _) × (holds (Index v.first) a ≡ Some (Entry e)) = (one_run_fits a ha).stands v.first (omega arith) some in
     let between : (c : _) × (directory (Index hi) r a ≡ Some c) =
-        solid (hi - 1) hi v.first _ _ (omega arith) (omega arith) under.1 (append_decides (Index v.first) r a _ new.1) in
+    solid (hi - 1) hi v.first _ _ (omega arith) (omega arith) under.1 (append_decides (Index v.first) r a _ new.1) in
     gap_is_empty r a between.0 hr ha apart between.1
 
 -- where no run leaves a hole and what stands leaves none, the two are one

@@ -7,3 +7,4 @@ pub mod TidyLaws
 pub mod Holes
 pub mod Windows
 pub mod Intervals
+pub mod Standing

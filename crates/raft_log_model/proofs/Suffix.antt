@@ -1,13 +1,13 @@
 -- What counts of an end of tidy records is an end of what counts of all, group by group.
-use Rattle.std.proofs.Common.{◌≡◌, ℕ, ◌⊎◌, List, [], ◌∷◌, ◌++◌, Bool, true, false, Option, Some, None, unwrap_or, ◌==◌, MatchBool, if◌then◌else◌, refl, sym, ap, ap₂, subst, subst₂, ◌∙◌, inl, inr, append_assoc, append-nil, arith}
+use Rattle.std.proofs.Common.{◌≡◌, ℕ, ◌⊎◌, List, [], ◌∷◌, ◌++◌, Bool, true, false, Option, Some, None, unwrap_or, ◌==◌, MatchBool, if◌then◌else◌, refl, sym, ap, ap₂, subst₂, ◌∙◌, inl, inr, append_assoc}
 use Rattle.std.specs.Bool.{⊤}
 use Rattle.raft_log_model.specs.Item.{Item, Tagged, Record}
 use Rattle.raft_log_model.specs.Item.Record.{Plain, Part}
 use Rattle.raft_log_model.specs.Item.Mark.{Begin, Middle, End}
-use Rattle.raft_log_model.specs.Groups.{of_group, Open, none_open, set_open, onto, counts, opens, settle, opened, rewritten}
+use Rattle.raft_log_model.specs.Groups.{of_group, Open, none_open, set_open, onto, counts, opens, settle, rewritten}
 use Rattle.raft_log_model.specs.Tidy.{Apart, Undisturbed, Tidy}
 use Rattle.raft_log_model.proofs.Cases.{at_bool, if_true, if_false, eq_true, eq_false, from_eq_true, from_eq_false}
-use Rattle.raft_log_model.proofs.Records.{of_group_append, settle_append}
+use Rattle.raft_log_model.proofs.Records.{of_group_append}
 
 -- the same groups are open
 abbrev pub Alike : {E V : Type 0} → Open E V → Open E V → Type 0
@@ -118,10 +118,10 @@ goes_on : {E V : Type 0} (g n k : ℕ) (xs ys said : List (Tagged E V)) (o p : O
     → Differ n xs o p → k ≡ n
     → of_group g (said ++ settle (set_open p k (onto (p k) ys)) rs) ≡ of_group g (brought n (xs ++ ys) rs) ++ of_group g (said ++ settle o rs)
     → of_group g (said ++ settle (set_open p k (onto (p k) ys)) rs)
-        ≡ of_group g (brought n (xs ++ ys) rs) ++ of_group g (said ++ settle (set_open o k (onto (o k) ys)) rs)
+    ≡ of_group g (brought n (xs ++ ys) rs) ++ of_group g (said ++ settle (set_open o k (onto (o k) ys)) rs)
 goes_on g n k xs ys said o p rs d e h =
     h ∙ ap (λ a. of_group g (brought n (xs ++ ys) rs) ++ of_group g (said ++ a))
-        (sym (alike_settle _ _ rs (alike_more o k ys (ap o e ∙ d.without))))
+    (sym (alike_settle _ _ rs (alike_more o k ys (ap o e ∙ d.without))))
 
 ends_here : {E V : Type 0} (g n k : ℕ) (xs ys said : List (Tagged E V)) (o p : Open E V) (rs : List (Record E V))
     → Differ n xs o p → k ≡ n → Apart (xs ++ ys) said
@@ -134,9 +134,9 @@ ends_here g n k xs ys said o p rs d e apart =
 ends_elsewhere : {E V : Type 0} (g n k : ℕ) (xs ys said : List (Tagged E V)) (o p : Open E V) (rs : List (Record E V))
     → Differ n xs o p → (k == n) ≡ false
     → of_group g ((said ++ counts o (Part (End k) ys)) ++ settle (opens p (Part (End k) ys)) rs)
-        ≡ of_group g (brought n xs rs) ++ of_group g ((said ++ counts o (Part (End k) ys)) ++ settle (opens o (Part (End k) ys)) rs)
+    ≡ of_group g (brought n xs rs) ++ of_group g ((said ++ counts o (Part (End k) ys)) ++ settle (opens o (Part (End k) ys)) rs)
     → of_group g (said ++ settle p (Part (End k) ys ∷ rs))
-        ≡ of_group g (brought n xs rs) ++ of_group g (said ++ settle o (Part (End k) ys ∷ rs))
+    ≡ of_group g (brought n xs rs) ++ of_group g (said ++ settle o (Part (End k) ys ∷ rs))
 ends_elsewhere g n k xs ys said o p rs d e h =
     ap (λ a. of_group g (said ++ (unwrap_or (onto a ys) [] ++ settle (opens p (Part (End k) ys)) rs))) (d.others k e)
     ∙ regroup g said (counts o (Part (End k) ys)) (settle (opens p (Part (End k) ys)) rs) (settle (opens o (Part (End k) ys)) rs) (of_group g (brought n xs rs)) h
@@ -151,24 +151,24 @@ along g n xs said o p (Plain ys ∷ rs) d u =
 along g n xs said o p (Part (Begin k) ys ∷ rs) d u =
     at_bool (k == n)
     (λ b. MatchBool b ⊤ (Undisturbed n xs said (opens o (Part (Begin k) ys)) rs)
-        → of_group g (said ++ settle (opens p (Part (Begin k) ys)) rs)
-        ≡ of_group g (if b then [] else brought n xs rs) ++ of_group g (said ++ settle (opens o (Part (Begin k) ys)) rs))
+    → of_group g (said ++ settle (opens p (Part (Begin k) ys)) rs)
+    ≡ of_group g (if b then [] else brought n xs rs) ++ of_group g (said ++ settle (opens o (Part (Begin k) ys)) rs))
     (λ e _. ap (λ zs. of_group g (said ++ zs)) (alike_settle _ _ rs (differ_ends n k xs o p _ d (from_eq_true k n e))))
     (λ e v. along g n xs said (opens o (Part (Begin k) ys)) (opens p (Part (Begin k) ys)) rs (differ_set n xs o p k _ _ d e refl) v)
     u
 along g n xs said o p (Part (Middle k) ys ∷ rs) d u =
     at_bool (k == n)
     (λ b. MatchBool b (Undisturbed n (xs ++ ys) said o rs) (Undisturbed n xs said (opens o (Part (Middle k) ys)) rs)
-        → of_group g (said ++ settle (opens p (Part (Middle k) ys)) rs)
-        ≡ of_group g (if b then brought n (xs ++ ys) rs else brought n xs rs) ++ of_group g (said ++ settle (opens o (Part (Middle k) ys)) rs))
+    → of_group g (said ++ settle (opens p (Part (Middle k) ys)) rs)
+    ≡ of_group g (if b then brought n (xs ++ ys) rs else brought n xs rs) ++ of_group g (said ++ settle (opens o (Part (Middle k) ys)) rs))
     (λ e v. goes_on g n k xs ys said o p rs d (from_eq_true k n e) (along g n (xs ++ ys) said o (set_open p k (onto (p k) ys)) rs (differ_more n k xs ys o p d (from_eq_true k n e)) v))
     (λ e v. along g n xs said (opens o (Part (Middle k) ys)) (opens p (Part (Middle k) ys)) rs (differ_set n xs o p k _ _ d e (ap (λ a. onto a ys) (d.others k e))) v)
     u
 along g n xs said o p (Part (End k) ys ∷ rs) d u =
     at_bool (k == n)
     (λ b. MatchBool b (Apart (xs ++ ys) said) (Undisturbed n xs (said ++ counts o (Part (End k) ys)) (opens o (Part (End k) ys)) rs)
-        → of_group g (said ++ settle p (Part (End k) ys ∷ rs))
-        ≡ of_group g (if b then xs ++ ys else brought n xs rs) ++ of_group g (said ++ settle o (Part (End k) ys ∷ rs)))
+    → of_group g (said ++ settle p (Part (End k) ys ∷ rs))
+    ≡ of_group g (if b then xs ++ ys else brought n xs rs) ++ of_group g (said ++ settle o (Part (End k) ys ∷ rs)))
     (λ e v. ends_here g n k xs ys said o p rs d (from_eq_true k n e) v)
     (λ e v. ends_elsewhere g n k xs ys said o p rs d e (along g n xs (said ++ counts o (Part (End k) ys)) (opens o (Part (End k) ys)) (opens p (Part (End k) ys)) rs (differ_set n xs o p k _ _ d e refl) v))
     u
@@ -183,17 +183,19 @@ differ_begins n xs = record {
 plain_suffix : {E V : Type 0} (g : ℕ) (xs : List (Tagged E V)) (all back : List (Record E V))
     → (c : List (Item E V)) × (c ++ rewritten g back ≡ rewritten g all)
     → (c : List (Item E V)) × (c ++ rewritten g back ≡ of_group g (xs ++ settle none_open all))
-plain_suffix g xs all back (c, e) =
-    (of_group g xs ++ c,
-    append_assoc (of_group g xs) c (rewritten g back) ∙ (ap (λ a. of_group g xs ++ a) e ∙ sym (of_group_append g xs (settle none_open all))))
+plain_suffix g xs all back (c, e) = (
+  of_group g xs ++ c,
+  append_assoc (of_group g xs) c (rewritten g back) ∙ (ap (λ a. of_group g xs ++ a) e ∙ sym (of_group_append g xs (settle none_open all))),
+)
 
 begin_suffix : {E V : Type 0} (g n : ℕ) (xs : List (Tagged E V)) (all back : List (Record E V))
     → of_group g (settle (set_open none_open n (Some xs)) all) ≡ of_group g (brought n xs all) ++ rewritten g all
     → (c : List (Item E V)) × (c ++ rewritten g back ≡ rewritten g all)
     → (c : List (Item E V)) × (c ++ rewritten g back ≡ of_group g (settle (set_open none_open n (Some xs)) all))
-begin_suffix g n xs all back h (c, e) =
-    (of_group g (brought n xs all) ++ c,
-    append_assoc (of_group g (brought n xs all)) c (rewritten g back) ∙ (ap (λ a. of_group g (brought n xs all) ++ a) e ∙ sym h))
+begin_suffix g n xs all back h (c, e) = (
+  of_group g (brought n xs all) ++ c,
+  append_assoc (of_group g (brought n xs all)) c (rewritten g back) ∙ (ap (λ a. of_group g (brought n xs all) ++ a) e ∙ sym h),
+)
 
 closed_suffix : {E V : Type 0} (g n : ℕ) (all back : List (Record E V))
     → (c : List (Item E V)) × (c ++ rewritten g back ≡ rewritten g all)

@@ -1,13 +1,12 @@
 -- What one item says of a slot, each fact once: the rest of the proofs cites these and never looks into `write`.
-use Rattle.std.proofs.Common.{◌≡◌, ℕ, ◌+◌, ◌-◌, ◌<◌, ◌≤◌, List, [], ◌∷◌, length, Bool, true, false, Option, Some, None, option_map, slice_get, nat_lt, nat_le, bytes_eq, refl, sym, ap, ◌∙◌, arith}
+use Rattle.std.proofs.Common.{◌≡◌, ℕ, ◌+◌, ◌-◌, ◌<◌, ◌≤◌, List, [], ◌∷◌, length, Bool, true, false, Option, Some, None, option_map, slice_get, nat_lt, nat_le, bytes_eq, refl, ap, ◌∙◌, arith}
 use Rattle.std.proofs.lemmas.Option.{slice_get_past}
 use Rattle.std.proofs.lemmas.Slice.Eq.{bytes_eq-Decides}
-use Rattle.raft_log_model.specs.Item.{Item}
-use Rattle.raft_log_model.specs.Item.Item.{Run, Clean, Compact, Put, Del}
-use Rattle.raft_log_model.specs.Meaning.{Slot, Content, write}
+use Rattle.raft_log_model.specs.Item.Item.{Run, Compact, Put, Del}
+use Rattle.raft_log_model.specs.Meaning.{Content, write}
 use Rattle.raft_log_model.specs.Meaning.Slot.{Index, Key}
 use Rattle.raft_log_model.specs.Meaning.Content.{Entry, Value}
-use Rattle.raft_log_model.proofs.Cases.{at_bool, if_true, if_false, lt_true, lt_false, le_true, le_false}
+use Rattle.raft_log_model.proofs.Cases.{if_true, if_false, lt_true, lt_false, le_true, le_false}
 
 -- no entry stands at an index past a run's last
 pub past_the_end : {E V : Type 0} (f i : ℕ) (es : List E) → f + length es ≤ i → ◌≡◌ {A = Option (Content E V)} (option_map Entry (slice_get es (i - f))) None

@@ -1,13 +1,13 @@
 -- Tidy records stay tidy: any beginning, any end, one more record that ends no group, a whole group.
-use Rattle.std.proofs.Common.{◌≡◌, ℕ, ◌⊎◌, List, [], ◌∷◌, ◌++◌, Bool, true, false, Option, Some, None, unwrap_or, ◌==◌, MatchBool, if◌then◌else◌, refl, sym, ap, ap₂, subst, subst₂, ◌∙◌, inl, inr, append_assoc, append-nil, arith}
+use Rattle.std.proofs.Common.{◌≡◌, ℕ, List, [], ◌∷◌, ◌++◌, Bool, true, false, Some, unwrap_or, ◌==◌, MatchBool, refl, sym, ap, subst, ◌∙◌, inr, append_assoc, append-nil}
 use Rattle.std.specs.Bool.{⊤}
-use Rattle.raft_log_model.specs.Item.{Item, Tagged, Record}
+use Rattle.raft_log_model.specs.Item.{Tagged, Record}
 use Rattle.raft_log_model.specs.Item.Record.{Plain, Part}
 use Rattle.raft_log_model.specs.Item.Mark.{Begin, Middle, End}
-use Rattle.raft_log_model.specs.Groups.{of_group, Open, none_open, set_open, onto, counts, opens, settle, opened, rewritten, settled}
+use Rattle.raft_log_model.specs.Groups.{Open, none_open, onto, counts, opens, settle, opened, settled}
 use Rattle.raft_log_model.specs.Tidy.{Apart, Undisturbed, Tidy, middles, whole_group, joined, group_items}
-use Rattle.raft_log_model.proofs.Cases.{at_bool, if_true, if_false, eq_true, eq_false, from_eq_true, from_eq_false}
-use Rattle.raft_log_model.proofs.Records.{of_group_append, settle_append, opened_append}
+use Rattle.raft_log_model.proofs.Cases.{at_bool, eq_true}
+use Rattle.raft_log_model.proofs.Records.{settle_append}
 use Rattle.raft_log_model.proofs.Suffix.{set_same}
 
 -- a case on a test, kept as a choice of types
@@ -103,7 +103,7 @@ undisturbed_by_rest m n xs said o [] last h =
     subst (λ b. MatchBool b (Apart (xs ++ last) said) ⊤) (sym h) tt
 undisturbed_by_rest m n xs said o (ys ∷ yss) last h =
     subst (λ b. MatchBool b (Undisturbed m (xs ++ ys) said o (middles n yss ++ (Part (End n) last ∷ [])))
-        (Undisturbed m xs said (opens o (Part (Middle n) ys)) (middles n yss ++ (Part (End n) last ∷ [])))) (sym h)
+    (Undisturbed m xs said (opens o (Part (Middle n) ys)) (middles n yss ++ (Part (End n) last ∷ [])))) (sym h)
     (undisturbed_by_rest m n xs said (opens o (Part (Middle n) ys)) yss last h)
 
 undisturbed_by_group : {E V : Type 0} (n : ℕ) (first : List (Tagged E V)) (between : List (List (Tagged E V))) (last : List (Tagged E V))
@@ -119,7 +119,7 @@ undisturbed_itself n xs o [] last =
     subst (λ b. MatchBool b (Apart (xs ++ last) []) ⊤) (sym (eq_true n n refl)) (λ g. inr refl)
 undisturbed_itself n xs o (ys ∷ yss) last =
     subst (λ b. MatchBool b (Undisturbed n (xs ++ ys) [] o (middles n yss ++ (Part (End n) last ∷ [])))
-        (Undisturbed n xs [] (opens o (Part (Middle n) ys)) (middles n yss ++ (Part (End n) last ∷ [])))) (sym (eq_true n n refl))
+    (Undisturbed n xs [] (opens o (Part (Middle n) ys)) (middles n yss ++ (Part (End n) last ∷ [])))) (sym (eq_true n n refl))
     (undisturbed_itself n (xs ++ ys) o yss last)
 
 tidy_rest : {E V : Type 0} (n : ℕ) (between : List (List (Tagged E V))) (last : List (Tagged E V))

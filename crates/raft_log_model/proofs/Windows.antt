@@ -1,19 +1,18 @@
 -- The two numbers of a window are the run that stands, for every list, hostile ones too.
-use Rattle.std.proofs.Common.{◌≡◌, ℕ, ◌+◌, ◌-◌, ◌<◌, ◌≤◌, ◌⊎◌, max, List, [], ◌∷◌, ◌++◌, length, Bool, true, false, ◌&&◌, Option, Some, None, unwrap_or, option_map, slice_get, get_or, nat_lt, nat_le, IsFalse, if◌then◌else◌, refl, sym, ap, ap₂, subst, ◌∙◌, inl, inr, arith}
+use Rattle.std.proofs.Common.{◌≡◌, ℕ, ◌+◌, ◌-◌, ◌<◌, ◌≤◌, ◌⊎◌, max, List, [], ◌∷◌, length, Bool, true, false, ◌&&◌, Option, Some, None, unwrap_or, option_map, slice_get, get_or, nat_lt, nat_le, if◌then◌else◌, refl, sym, ap, ap₂, ◌∙◌, inl, inr, arith}
 use Rattle.std.proofs.lemmas.Bool.Decides.{nat_tests}
 use Rattle.std.proofs.lemmas.Bool.{cases_lt}
 use Rattle.std.proofs.lemmas.Option.{slice_get-get_or}
-use Rattle.std.specs.Option.{option_or}
 use Rattle.raft_log_model.specs.Item.{Item}
 use Rattle.raft_log_model.specs.Item.Item.{Run, Clean, Compact, Put, Del}
-use Rattle.raft_log_model.specs.Meaning.{Slot, Content, write, says, holds}
-use Rattle.raft_log_model.specs.Meaning.Slot.{Index, Key}
-use Rattle.raft_log_model.specs.Meaning.Content.{Entry, Value}
-use Rattle.raft_log_model.specs.Holes.{Window, nothing, is_past, next_window, window, write_past, says_past, holds_past, FitsOn, NoHole}
-use Rattle.raft_log_model.proofs.Cases.{at_bool, if_true, if_false, lt_true, le_true, le_false, lt_false, from_lt_false, from_le_false}
+use Rattle.raft_log_model.specs.Meaning.{Content, write, holds}
+use Rattle.raft_log_model.specs.Meaning.Slot.{Index}
+use Rattle.raft_log_model.specs.Meaning.Content.{Entry}
+use Rattle.raft_log_model.specs.Holes.{Window, nothing, is_past, next_window, window, write_past, says_past, holds_past, NoHole}
+use Rattle.raft_log_model.proofs.Cases.{at_bool, if_true, if_false, lt_true, lt_false}
 use Rattle.raft_log_model.proofs.Words.{unwrap_or_option_or}
 use Rattle.raft_log_model.proofs.Tests.{run_sets, run_truncates, run_leaves, compact_removes, compact_leaves}
-use Rattle.raft_log_model.proofs.Holes.{not_past, no_hole}
+use Rattle.raft_log_model.proofs.Holes.{no_hole}
 
 -- entries stand from first on, below end, and nowhere else
 pub record Spans {E V : Type 0} (first end : ℕ) (m : ℕ → Option (Content E V)) : Type 0 where
@@ -92,7 +91,7 @@ run_none_below w f e es m sp i h =
     at_bool (is_past w f) (λ b. is_past w f ≡ b → past_step w (Run f (e ∷ es)) m i ≡ None)
     (λ _ p. ap (λ a. unwrap_or a (m i)) (past_drops w i f e es p below))
     (λ _ p. ap (λ a. unwrap_or a (m i)) (not_dropped w i f e es (inl p) ∙ run_leaves i f (e ∷ es) below)
-        ∙ none_outside i sp (outside w.first w.end f i h p))
+    ∙ none_outside i sp (outside w.first w.end f i h p))
     refl
 
 compact_stands : {E V : Type 0} (w : Window) (c : ℕ) (m : ℕ → Option (Content E V)) → Spans w.first w.end m
@@ -136,7 +135,7 @@ spans w (x ∷ xs) m sp =
 
 -- what stands after a list is the run that the window tells
 pub one_run : {E V : Type 0} (xs : List (Item E V)) → Spans (window nothing xs).first (window nothing xs).end (λ i. holds_past (Index i) xs)
-one_run xs = spans nothing xs (λ i. None) (record { stands = λ i h k. absurd (omega arith); none_below = λ i h. refl; none_above = λ i h. refl; })
+one_run xs = spans nothing xs (λ i. None) (record { stands = λ i h k. absurd (omega arith); none_below = λ i h. refl; none_above = λ i h. refl })
 
 -- the same without the rule on runs past the end, where no run leaves a hole
 pub one_run_fits : {E V : Type 0} (xs : List (Item E V)) → NoHole nothing xs

@@ -3,3 +3,4 @@ pub mod Meaning
 pub mod Groups
 pub mod Tidy
 pub mod Holes
+pub mod Stands

@@ -4,6 +4,7 @@ pub mod Words
 pub mod Records
 pub mod Suffix
 pub mod TidyLaws
+pub mod Heads
 pub mod Holes
 pub mod Windows
 pub mod Intervals

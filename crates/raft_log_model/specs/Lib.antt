@@ -2,5 +2,6 @@ pub mod Item
 pub mod Meaning
 pub mod Groups
 pub mod Tidy
+pub mod Fragments
 pub mod Holes
 pub mod Stands

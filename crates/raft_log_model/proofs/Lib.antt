@@ -5,6 +5,8 @@ pub mod Records
 pub mod Suffix
 pub mod TidyLaws
 pub mod Heads
+pub mod LeftOpen
+pub mod Chunks
 pub mod Holes
 pub mod Windows
 pub mod Intervals

@@ -7,6 +7,7 @@ pub mod TidyLaws
 pub mod Heads
 pub mod LeftOpen
 pub mod Chunks
+pub mod Tables
 pub mod Holes
 pub mod Windows
 pub mod Intervals

@@ -8,6 +8,7 @@ pub mod Heads
 pub mod LeftOpen
 pub mod Chunks
 pub mod Tables
+pub mod Summaries
 pub mod Holes
 pub mod Windows
 pub mod Intervals

@@ -9,6 +9,7 @@ pub mod LeftOpen
 pub mod Chunks
 pub mod Tables
 pub mod Summaries
+pub mod Joins
 pub mod Holes
 pub mod Windows
 pub mod Intervals

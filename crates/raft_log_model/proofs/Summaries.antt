@@ -160,7 +160,7 @@ bound_stays : (a f : ℕ) (high : Option ℕ) → is_below a high ≡ false → 
 bound_stays a f None h = let z : true ≡ false = h in cc
 bound_stays a f (Some b) h = lt_false a (min f b) (omega (arith, from_lt_false a b h))
 
-bound_rises : (a b : ℕ) (high : Option ℕ) → a ≤ b → is_below a high ≡ false → is_below b high ≡ false
+pub bound_rises : (a b : ℕ) (high : Option ℕ) → a ≤ b → is_below a high ≡ false → is_below b high ≡ false
 bound_rises a b None h k = k
 bound_rises a b (Some c) h k = lt_false b c (omega (arith, from_lt_false a c k))
 
@@ -272,7 +272,7 @@ abbrev pub JoinFits : {E V : Type 0} → Table E V → Summary E V → Type 0
 JoinFits t z = z.cleaned ≡ false → 0 < length z.table.entries → is_past (span_of (cut_from (compacted t z.low) z.high)) z.table.first ≡ false
 
 -- what the later summary leaves of the earlier table
-content_kept : {E V : Type 0} (t : Table E V) (z : Summary E V) (i : ℕ)
+pub content_kept : {E V : Type 0} (t : Table E V) (z : Summary E V) (i : ℕ)
     → content (cut_from (compacted t z.low) z.high) (Index i) ≡ (if nat_le z.low i && is_below i z.high then content t (Index i) else None)
 content_kept t z i =
     content_cut (compacted t z.low) z.high i

@@ -10,7 +10,7 @@ use Rattle.raft_log_model.specs.Meaning.Content.{Entry}
 use Rattle.raft_log_model.specs.Holes.{Window, nothing, window, holds_past, NoHole, has_clean, low, least, high, is_below, is_silent, has_gap, directory_by_intervals, IsSolid}
 use Rattle.raft_log_model.proofs.Cases.{at_bool, at_option, lt_true, le_true, from_lt_true}
 use Rattle.raft_log_model.proofs.Words.{option_or_none}
-use Rattle.raft_log_model.proofs.Holes.{no_hole}
+use Rattle.raft_log_model.proofs.NoHoles.{no_hole}
 use Rattle.raft_log_model.proofs.Windows.{one_run_fits}
 
 none_of_two : {A : Type 0} (p q : Option A) → is_none (option_or p q) ≡ (is_none p && is_none q)

@@ -2,6 +2,7 @@ pub mod Cases
 pub mod Tests
 pub mod Words
 pub mod Records
+pub mod Steps
 pub mod Suffix
 pub mod TidyLaws
 pub mod Heads
@@ -10,7 +11,8 @@ pub mod Chunks
 pub mod Tables
 pub mod Summaries
 pub mod Joins
-pub mod Holes
+pub mod TooEarly
+pub mod NoHoles
 pub mod Windows
 pub mod Intervals
 pub mod Standing

@@ -8,17 +8,11 @@ use Rattle.raft_log_model.specs.Item.Item.{Run, Clean, Compact, Put, Del}
 use Rattle.raft_log_model.specs.Meaning.{Content, write, holds}
 use Rattle.raft_log_model.specs.Meaning.Slot.{Index}
 use Rattle.raft_log_model.specs.Meaning.Content.{Entry}
-use Rattle.raft_log_model.specs.Holes.{Window, nothing, is_past, next_window, window, write_past, says_past, holds_past, NoHole}
+use Rattle.raft_log_model.specs.Holes.{Spans, Window, nothing, is_past, next_window, window, write_past, says_past, holds_past, NoHole}
 use Rattle.raft_log_model.proofs.Cases.{at_bool, if_true, if_false, lt_true, lt_false}
 use Rattle.raft_log_model.proofs.Words.{unwrap_or_option_or}
 use Rattle.raft_log_model.proofs.Tests.{run_sets, run_truncates, run_leaves, compact_removes, compact_leaves}
-use Rattle.raft_log_model.proofs.Holes.{no_hole}
-
--- entries stand from first on, below end, and nowhere else
-pub record Spans {E V : Type 0} (first end : ℕ) (m : ℕ → Option (Content E V)) : Type 0 where
-  pub stands : (i : ℕ) → first ≤ i → i < end → (e : E) × (m i ≡ Some (Entry e))
-  pub none_below : (i : ℕ) → i < first → m i ≡ None
-  pub none_above : (i : ℕ) → end ≤ i → m i ≡ None
+use Rattle.raft_log_model.proofs.NoHoles.{no_hole}
 
 pub same_spans : {E V : Type 0} (first end : ℕ) (m n : ℕ → Option (Content E V)) → ((i : ℕ) → m i ≡ n i) → Spans first end m → Spans first end n
 same_spans first end m n same sp = record {

@@ -1,9 +1,9 @@
 -- A segment of a queue, read by itself: what counts in it, and the pieces of atomic groups that its borders cut.
-use Rattle.std.specs.Prelude.{ℕ, ◌≡◌, ◌==◌, List, [], ◌∷◌, ◌++◌, Option, Some, None, if◌then◌else◌}
+use Rattle.std.specs.Prelude.{ℕ, ◌≡◌, ◌==◌, List, [], ◌∷◌, ◌++◌, if◌then◌else◌}
 use Rattle.raft_log_model.specs.Item.{Tagged, Record}
 use Rattle.raft_log_model.specs.Item.Record.{Plain, Part}
 use Rattle.raft_log_model.specs.Item.Mark.{Begin, Middle, End}
-use Rattle.raft_log_model.specs.Groups.{Open, of_group, settled}
+use Rattle.raft_log_model.specs.Groups.{of_group, settled}
 
 -- what a segment does with the group of a number that may be open before it
 pub data Head (E V : Type 0) : Type 0 where

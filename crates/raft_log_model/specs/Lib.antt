@@ -6,3 +6,4 @@ pub mod Fragments
 pub mod Holes
 pub mod Stands
 pub mod Summary
+pub mod Examples

@@ -6,8 +6,8 @@ use Rattle.raft_log_model.specs.Item.Item.{Run, Clean, Compact, Put, Del}
 use Rattle.raft_log_model.specs.Meaning.{Slot, Content, says}
 use Rattle.raft_log_model.specs.Meaning.Slot.{Index, Key}
 use Rattle.raft_log_model.specs.Meaning.Content.{Entry, Value}
-use Rattle.raft_log_model.specs.Holes.{Window, FitsOn, least, is_below}
-use Rattle.raft_log_model.specs.Fragments.{Bracketing, all_of}
+use Rattle.raft_log_model.specs.Holes.{Window, least, is_below}
+use Rattle.raft_log_model.specs.Fragments.{Bracketing}
 use Rattle.raft_log_model.specs.Fragments.Bracketing.{One, Both}
 
 -- entries one after another from a first index on, and the values of keys
@@ -30,7 +30,9 @@ no_table = record { first = 0; entries = []; values = λ k. None }
 -- without the entries below an index
 abbrev pub compacted : {E V : Type 0} → Table E V → ℕ → Table E V
 compacted t c = record {
-  first = t.first + min (c - t.first) (length t.entries); entries = drop (c - t.first) t.entries; values = t.values;
+  first = t.first + min (c - t.first) (length t.entries);
+  entries = drop (c - t.first) t.entries;
+  values = t.values;
 }
 
 -- without the entries from an index on
@@ -61,17 +63,27 @@ no_summary = record { table = no_table; cleaned = false; low = 0; high = None; d
 abbrev pub step : {E V : Type 0} → Summary E V → Item E V → Summary E V
 step z (Run f []) = z
 step z (Run f (e ∷ es)) = record {
-  table = run_onto z.table f (e ∷ es); cleaned = z.cleaned; low = z.low; high = Some (least f z.high); deleted = z.deleted;
+  table = run_onto z.table f (e ∷ es);
+  cleaned = z.cleaned;
+  low = z.low;
+  high = Some (least f z.high);
+  deleted = z.deleted;
 }
 step z Clean = record { table = no_table; cleaned = true; low = z.low; high = z.high; deleted = z.deleted }
 step z (Compact c) = record { table = compacted z.table c; cleaned = z.cleaned; low = max c z.low; high = z.high; deleted = z.deleted }
 step z (Put k v) = record {
   table = record { first = z.table.first; entries = z.table.entries; values = λ j. if bytes_eq k j then Some v else z.table.values j };
-  cleaned = z.cleaned; low = z.low; high = z.high; deleted = z.deleted;
+  cleaned = z.cleaned;
+  low = z.low;
+  high = z.high;
+  deleted = z.deleted;
 }
 step z (Del k) = record {
   table = record { first = z.table.first; entries = z.table.entries; values = λ j. if bytes_eq k j then None else z.table.values j };
-  cleaned = z.cleaned; low = z.low; high = z.high; deleted = λ j. bytes_eq k j || z.deleted j;
+  cleaned = z.cleaned;
+  low = z.low;
+  high = z.high;
+  deleted = λ j. bytes_eq k j || z.deleted j;
 }
 
 abbrev pub summary_after : {E V : Type 0} → Summary E V → List (Item E V) → Summary E V
@@ -99,8 +111,8 @@ abbrev pub entries_over : {E V : Type 0} → Table E V → Summary E V → Table
 entries_over t z =
     if z.cleaned then z.table
     else (if nat_lt 0 (length z.table.entries)
-        then run_onto (cut_from (compacted t z.low) z.high) z.table.first z.table.entries
-        else cut_from (compacted t z.low) z.high)
+    then run_onto (cut_from (compacted t z.low) z.high) z.table.first z.table.entries
+    else cut_from (compacted t z.low) z.high)
 
 -- the lesser of two bounds
 abbrev pub lesser : Option ℕ → Option ℕ → Option ℕ
@@ -111,7 +123,9 @@ lesser (Some h) b = Some (least h b)
 abbrev pub join : {E V : Type 0} → Summary E V → Summary E V → Summary E V
 join a z = record {
   table = record {
-    first = (entries_over a.table z).first; entries = (entries_over a.table z).entries; values = values_over a.table z;
+    first = (entries_over a.table z).first;
+    entries = (entries_over a.table z).entries;
+    values = values_over a.table z;
   };
   cleaned = a.cleaned || z.cleaned;
   low = max z.low a.low;
@@ -123,3 +137,12 @@ join a z = record {
 abbrev pub join_all : {E V : Type 0} → Bracketing (Item E V) → Summary E V
 join_all (One xs) = summary xs
 join_all (Both s t) = join (join_all s) (join_all t)
+
+-- a table with entries begins at or above the least start of a run
+abbrev pub IsSound : {E V : Type 0} → Summary E V → Type 0
+IsSound z = 0 < length z.table.entries → is_below z.table.first z.high ≡ false
+
+-- the summary of a segment, however it was made: its word is the segment's
+pub record IsSummary {E V : Type 0} (z : Summary E V) (xs : List (Item E V)) : Type 0 where
+  pub sound : IsSound z
+  pub says : (s : Slot) → word z s ≡ says s xs

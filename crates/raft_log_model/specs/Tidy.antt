@@ -28,6 +28,14 @@ Tidy (Part (Begin n) xs ∷ rs) = Undisturbed n xs [] none_open rs × Tidy rs
 Tidy (Part (Middle n) xs ∷ rs) = Tidy rs
 Tidy (Part (End n) xs ∷ rs) = Tidy rs
 
+-- records that end no group
+abbrev pub EndsNone : {E V : Type 0} → List (Record E V) → Type 0
+EndsNone [] = ⊤
+EndsNone (Plain xs ∷ rs) = EndsNone rs
+EndsNone (Part (Begin n) xs ∷ rs) = EndsNone rs
+EndsNone (Part (Middle n) xs ∷ rs) = EndsNone rs
+EndsNone (Part (End n) xs ∷ rs) = ⊥
+
 -- the records between the first and the last of an atomic group
 abbrev pub middles : {E V : Type 0} → ℕ → List (List (Tagged E V)) → List (Record E V)
 middles n [] = []

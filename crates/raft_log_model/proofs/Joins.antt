@@ -8,7 +8,8 @@ use Rattle.raft_log_model.specs.Meaning.Content.{Entry}
 use Rattle.raft_log_model.specs.Holes.{Spans, nothing, is_past, window, NoHole, is_below}
 use Rattle.raft_log_model.specs.Fragments.{Bracketing, all_of}
 use Rattle.raft_log_model.specs.Fragments.Bracketing.{One, Both}
-use Rattle.raft_log_model.specs.Summary.{IsSummary, Table, content, span_of, compacted, cut_from, Summary, no_summary, summary, is_left, word, join, join_all}
+use Rattle.raft_log_model.specs.Table.{Table, content, span_of, compacted, cut_from}
+use Rattle.raft_log_model.specs.Summary.{IsSummary, Summary, no_summary, summary, is_left, word, join, join_all}
 use Rattle.raft_log_model.proofs.Cases.{at_bool, if_false, from_lt_true}
 use Rattle.raft_log_model.proofs.Words.{says_append, unwrap_or_option_or}
 use Rattle.raft_log_model.proofs.NoHoles.{no_hole_front, no_hole_later}

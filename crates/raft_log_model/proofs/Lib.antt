@@ -11,6 +11,7 @@ pub mod Chunks
 pub mod Tables
 pub mod Summaries
 pub mod Joins
+pub mod TableLaws
 pub mod TooEarly
 pub mod NoHoles
 pub mod Windows

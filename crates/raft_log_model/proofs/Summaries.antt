@@ -9,7 +9,8 @@ use Rattle.raft_log_model.specs.Meaning.{Slot, Content, write, says}
 use Rattle.raft_log_model.specs.Meaning.Slot.{Index, Key}
 use Rattle.raft_log_model.specs.Meaning.Content.{Value}
 use Rattle.raft_log_model.specs.Holes.{Window, nothing, is_past, next_window, FitsOn, NoHole, least, is_below}
-use Rattle.raft_log_model.specs.Summary.{IsSound, Table, content, span_of, no_table, compacted, cut_from, run_onto, Summary, no_summary, step, summary_after, summary, is_left, word, lesser, entries_over, join}
+use Rattle.raft_log_model.specs.Table.{Table, content, span_of, no_table, compacted, cut_from, run_onto}
+use Rattle.raft_log_model.specs.Summary.{IsSound, Summary, no_summary, step, summary_after, summary, is_left, word, lesser, entries_over, join}
 use Rattle.raft_log_model.proofs.Cases.{at_bool, if_true, if_false, lt_true, le_true, le_false, lt_false, from_lt_true, from_lt_false}
 use Rattle.raft_log_model.proofs.Words.{option_or_assoc, option_or_none}
 use Rattle.raft_log_model.proofs.Tests.{run_sets, run_leaves, compact_removes, compact_leaves}
@@ -20,7 +21,7 @@ either_none : {A : Type 0} (b : Bool) → ◌≡◌ {A = Option A} (if b then No
 either_none true = refl
 either_none false = refl
 
-nothing_stands : {E V : Type 0} (i : ℕ) → content (no_table {E = E} {V = V}) (Index i) ≡ None
+pub nothing_stands : {E V : Type 0} (i : ℕ) → content (no_table {E = E} {V = V}) (Index i) ≡ None
 nothing_stands i = either_none (nat_le 0 i)
 
 lesser_test : (i f b : ℕ) → i < f → nat_lt i (min f b) ≡ nat_lt i b

@@ -6,7 +6,7 @@ use Rattle.std.proofs.lemmas.Option.{slice_get_past}
 use Rattle.raft_log_model.specs.Meaning.Slot.{Index}
 use Rattle.raft_log_model.specs.Meaning.Content.{Entry}
 use Rattle.raft_log_model.specs.Holes.{is_past, is_below}
-use Rattle.raft_log_model.specs.Summary.{Table, content, span_of, compacted, cut_from, run_onto}
+use Rattle.raft_log_model.specs.Table.{Table, content, span_of, compacted, cut_from, run_onto}
 use Rattle.raft_log_model.proofs.Cases.{at_bool, if_true, if_false, le_true, le_false, from_lt_true, from_le_true, from_lt_false, from_le_false}
 
 pub get_drop : {A : Type 0} (n : ℕ) (xs : List A) (i : ℕ) → slice_get (drop n xs) i ≡ slice_get xs (n + i)

@@ -33,7 +33,7 @@ both_true : (a b : Bool) → a ≡ true → b ≡ true → (a && b) ≡ true
 both_true a b p q = ap₂ (λ x y. x && y) p q
 
 -- a run past the end drops what stood below it
-past_drops : {E V : Type 0} (w : Window) (i f : ℕ) (e : E) (es : List E) → is_past w f ≡ true → i < f
+pub past_drops : {E V : Type 0} (w : Window) (i f : ℕ) (e : E) (es : List E) → is_past w f ≡ true → i < f
     → write_past {V = V} w (Index i) (Run f (e ∷ es)) ≡ Some None
 past_drops w i f e es h k = if_true (is_past w f && nat_lt i f) _ _ (both_true _ _ h (lt_true i f k))
 
@@ -41,7 +41,7 @@ one_false : (b : Bool) (i f : ℕ) → (b ≡ false) ⊎ (f ≤ i) → (b && nat
 one_false b i f (inl h) = ap (λ c. c && nat_lt i f) h
 one_false b i f (inr h) = elim b as (λ c. (c && nat_lt i f) ≡ false) [ true ↦ lt_false i f h | false ↦ refl ]
 
-not_dropped : {E V : Type 0} (w : Window) (i f : ℕ) (e : E) (es : List E) → (is_past w f ≡ false) ⊎ (f ≤ i)
+pub not_dropped : {E V : Type 0} (w : Window) (i f : ℕ) (e : E) (es : List E) → (is_past w f ≡ false) ⊎ (f ≤ i)
     → write_past {V = V} w (Index i) (Run f (e ∷ es)) ≡ write (Index i) (Run f (e ∷ es))
 not_dropped w i f e es h = if_false (is_past w f && nat_lt i f) _ _ (one_false (is_past w f) i f h)
 

@@ -7,46 +7,9 @@ use Rattle.raft_log_model.specs.Meaning.{Slot, Content, says}
 use Rattle.raft_log_model.specs.Meaning.Slot.{Index, Key}
 use Rattle.raft_log_model.specs.Meaning.Content.{Entry, Value}
 use Rattle.raft_log_model.specs.Holes.{Window, least, is_below}
+use Rattle.raft_log_model.specs.Table.{Table, content, no_table, compacted, cut_from, run_onto, put, delete}
 use Rattle.raft_log_model.specs.Fragments.{Bracketing}
 use Rattle.raft_log_model.specs.Fragments.Bracketing.{One, Both}
-
--- entries one after another from a first index on, and the values of keys
-pub record Table (E V : Type 0) : Type 0 where
-  pub first : ℕ
-  pub entries : List E
-  pub values : List ℕ → Option V
-
-abbrev pub content : {E V : Type 0} → Table E V → Slot → Option (Content E V)
-content t (Index i) = if nat_le t.first i then option_map Entry (slice_get t.entries (i - t.first)) else None
-content t (Key k) = option_map Value (t.values k)
-
--- the run of the table, by its two ends
-abbrev pub span_of : {E V : Type 0} → Table E V → Window
-span_of t = record { first = t.first; end = t.first + length t.entries }
-
-abbrev pub no_table : {E V : Type 0} → Table E V
-no_table = record { first = 0; entries = []; values = λ k. None }
-
--- without the entries below an index
-abbrev pub compacted : {E V : Type 0} → Table E V → ℕ → Table E V
-compacted t c = record {
-  first = t.first + min (c - t.first) (length t.entries);
-  entries = drop (c - t.first) t.entries;
-  values = t.values;
-}
-
--- without the entries from an index on
-abbrev pub cut_from : {E V : Type 0} → Table E V → Option ℕ → Table E V
-cut_from t None = t
-cut_from t (Some h) = record { first = t.first; entries = take (h - t.first) t.entries; values = t.values }
-
--- with a run, in place of the entries from its first index on
-abbrev pub run_onto : {E V : Type 0} → Table E V → ℕ → List E → Table E V
-run_onto t f es = record {
-  first = if nat_lt t.first f && nat_lt 0 (length t.entries) then t.first else f;
-  entries = take (f - t.first) t.entries ++ es;
-  values = t.values;
-}
 
 -- the table; whether the items had a Clean; their greatest Compact index, least start of a run, and deleted keys
 pub record Summary (E V : Type 0) : Type 0 where
@@ -71,19 +34,9 @@ step z (Run f (e ∷ es)) = record {
 }
 step z Clean = record { table = no_table; cleaned = true; low = z.low; high = z.high; deleted = z.deleted }
 step z (Compact c) = record { table = compacted z.table c; cleaned = z.cleaned; low = max c z.low; high = z.high; deleted = z.deleted }
-step z (Put k v) = record {
-  table = record { first = z.table.first; entries = z.table.entries; values = λ j. if bytes_eq k j then Some v else z.table.values j };
-  cleaned = z.cleaned;
-  low = z.low;
-  high = z.high;
-  deleted = z.deleted;
-}
+step z (Put k v) = record { table = put z.table k v; cleaned = z.cleaned; low = z.low; high = z.high; deleted = z.deleted }
 step z (Del k) = record {
-  table = record { first = z.table.first; entries = z.table.entries; values = λ j. if bytes_eq k j then None else z.table.values j };
-  cleaned = z.cleaned;
-  low = z.low;
-  high = z.high;
-  deleted = λ j. bytes_eq k j || z.deleted j;
+  table = delete z.table k; cleaned = z.cleaned; low = z.low; high = z.high; deleted = λ j. bytes_eq k j || z.deleted j;
 }
 
 abbrev pub summary_after : {E V : Type 0} → Summary E V → List (Item E V) → Summary E V

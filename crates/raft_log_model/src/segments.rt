@@ -10,7 +10,8 @@ ghost use Rattle.raft_log_model.specs.Groups.{of_group, rewritten};
 ghost use Rattle.raft_log_model.specs.Tidy.{Tidy};
 ghost use Rattle.raft_log_model.specs.Holes.{nothing, NoHole};
 ghost use Rattle.raft_log_model.specs.Fragments.{head, then_head, unfinished, completed, carried_on, segment, merge, IsSameSegment, Bracketing, all_of, merge_all};
-ghost use Rattle.raft_log_model.specs.Summary.{Summary, content, summary, word, join, join_all, IsSummary};
+ghost use Rattle.raft_log_model.specs.Table.{content};
+ghost use Rattle.raft_log_model.specs.Summary.{Summary, summary, word, join, join_all, IsSummary};
 ghost use Rattle.raft_log_model.specs.Examples.{voter, begun, newer_then_ended, value_in};
 
 /// The summary of a list without holes says of each slot what the list says.

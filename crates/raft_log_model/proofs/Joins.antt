@@ -14,7 +14,7 @@ use Rattle.raft_log_model.proofs.Cases.{at_bool, if_false, from_lt_true}
 use Rattle.raft_log_model.proofs.Words.{says_append, unwrap_or_option_or}
 use Rattle.raft_log_model.proofs.NoHoles.{no_hole_front, no_hole_later}
 use Rattle.raft_log_model.proofs.Windows.{one_run_fits, inside}
-use Rattle.raft_log_model.proofs.Tables.{content_below, content_within, content_above}
+use Rattle.raft_log_model.proofs.TableSteps.{content_below, content_within, content_above}
 use Rattle.raft_log_model.proofs.Summaries.{JoinFits, sound_after, summary_says, content_word, content_kept, join_word, join_sound, bound_rises}
 
 by_left : {A : Type 0} (b : Bool) (c d : Option A) → unwrap_or (if b then None else Some c) d ≡ (if b then d else c)

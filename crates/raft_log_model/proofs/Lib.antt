@@ -8,10 +8,11 @@ pub mod TidyLaws
 pub mod Heads
 pub mod LeftOpen
 pub mod Chunks
-pub mod Tables
+pub mod TableSteps
 pub mod Summaries
 pub mod Joins
 pub mod TableLaws
+pub mod DirectoryTable
 pub mod TooEarly
 pub mod NoHoles
 pub mod Windows

@@ -15,7 +15,7 @@ use Rattle.raft_log_model.proofs.Cases.{at_bool, if_true, if_false, lt_true, le_
 use Rattle.raft_log_model.proofs.Words.{option_or_assoc, option_or_none}
 use Rattle.raft_log_model.proofs.Tests.{run_sets, run_leaves, compact_removes, compact_leaves}
 use Rattle.raft_log_model.proofs.NoHoles.{IsTail, tail_step}
-use Rattle.raft_log_model.proofs.Tables.{content_below, content_within, content_above, content_compacted, content_cut, content_run, run_end}
+use Rattle.raft_log_model.proofs.TableSteps.{content_below, content_within, content_above, content_compacted, content_cut, content_run, run_end}
 
 either_none : {A : Type 0} (b : Bool) → ◌≡◌ {A = Option A} (if b then None else None) None
 either_none true = refl
@@ -186,12 +186,12 @@ sound_after z [] h = h
 sound_after z (x ∷ xs) h = sound_after (step z x) xs (step_sound z x h)
 
 -- what stands in the table of a sound summary is what its word says
-third_test : (c l b : Bool) → (not c && (l && b)) ≡ true → b ≡ true
+pub third_test : (c l b : Bool) → (not c && (l && b)) ≡ true → b ≡ true
 third_test true l b h = cc
 third_test false true b h = h
 third_test false false b h = cc
 
-cases_end : (i n : ℕ) → (n ≤ i) ⊎ (i < n)
+pub cases_end : (i n : ℕ) → (n ≤ i) ⊎ (i < n)
 cases_end i n = grind arith
 
 key_content : {E V : Type 0} (v : Option V) (b : Bool)
@@ -224,7 +224,7 @@ no_second_test : (l b : Bool) → b ≡ false → (l && b) ≡ false
 no_second_test true b h = h
 no_second_test false b h = refl
 
-no_content : {E V : Type 0} (z : Summary E V) (i : ℕ) → IsSound z → is_below i z.high ≡ true
+pub no_content : {E V : Type 0} (z : Summary E V) (i : ℕ) → IsSound z → is_below i z.high ≡ true
     → (i < z.table.first) ⊎ (z.table.first ≤ i) → (z.table.first + length z.table.entries ≤ i) ⊎ (i < z.table.first + length z.table.entries)
     → content z.table (Index i) ≡ None
 no_content z i h k (inl below) m = content_below z.table i below
@@ -275,7 +275,7 @@ content_kept t z i =
     ∙ (ap (λ a. if is_below i z.high then a else None) (content_compacted t z.low i)
     ∙ kept_if (is_below i z.high) (nat_lt i z.low) (nat_le z.low i) (content t (Index i)) (opposite i z.low))
 
-run_content : {E V : Type 0} (t : Table E V) (z : Summary E V) (i : ℕ) → IsSound z → JoinFits t z → z.cleaned ≡ false → 0 < length z.table.entries
+pub run_content : {E V : Type 0} (t : Table E V) (z : Summary E V) (i : ℕ) → IsSound z → JoinFits t z → z.cleaned ≡ false → 0 < length z.table.entries
     → (i < z.table.first) ⊎ (z.table.first ≤ i)
     → content (run_onto (cut_from (compacted t z.low) z.high) z.table.first z.table.entries) (Index i)
     ≡ (if nat_le z.low i && is_below i z.high then content t (Index i) else content z.table (Index i))
@@ -290,7 +290,7 @@ run_content t z i sound fits clean some (inr above) =
     ∙ (sym (content_within z.table i above)
     ∙ sym (if_false (nat_le z.low i && is_below i z.high) _ _ (no_second_test (nat_le z.low i) _ (bound_rises z.table.first i z.high above (sound some))))))
 
-empty_content : {E V : Type 0} (t : Table E V) (i : ℕ) → length t.entries ≤ 0 → (i < t.first) ⊎ (t.first ≤ i) → content t (Index i) ≡ None
+pub empty_content : {E V : Type 0} (t : Table E V) (i : ℕ) → length t.entries ≤ 0 → (i < t.first) ⊎ (t.first ≤ i) → content t (Index i) ≡ None
 empty_content t i h (inl below) = content_below t i below
 empty_content t i h (inr above) = content_above t i (omega arith)
 

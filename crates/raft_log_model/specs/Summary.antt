@@ -1,13 +1,13 @@
 -- A segment's items of one group in short: a table of what stands, and what the items do to what stood before them.
-use Rattle.std.specs.Prelude.{ℕ, ◌+◌, ◌-◌, ◌≡◌, ◌<◌, max, min, Bool, true, false, ◌&&◌, ◌||◌, not, List, [], ◌∷◌, ◌++◌, Option, Some, None, option_map, if◌then◌else◌, nat_le, nat_lt, slice_get, bytes_eq, length, take, drop}
+use Rattle.std.specs.Prelude.{ℕ, ◌≡◌, ◌<◌, max, Bool, true, false, ◌&&◌, ◌||◌, not, List, [], ◌∷◌, Option, Some, None, option_map, if◌then◌else◌, nat_le, nat_lt, bytes_eq, length}
 use Rattle.std.specs.Option.{option_or}
 use Rattle.raft_log_model.specs.Item.{Item}
 use Rattle.raft_log_model.specs.Item.Item.{Run, Clean, Compact, Put, Del}
 use Rattle.raft_log_model.specs.Meaning.{Slot, Content, says}
 use Rattle.raft_log_model.specs.Meaning.Slot.{Index, Key}
-use Rattle.raft_log_model.specs.Meaning.Content.{Entry, Value}
-use Rattle.raft_log_model.specs.Holes.{Window, least, is_below}
-use Rattle.raft_log_model.specs.Table.{Table, content, no_table, compacted, cut_from, run_onto, put, delete}
+use Rattle.raft_log_model.specs.Meaning.Content.{Value}
+use Rattle.raft_log_model.specs.Holes.{least, is_below, is_past}
+use Rattle.raft_log_model.specs.Table.{Table, content, span_of, no_table, compacted, cut_from, run_onto, put, delete}
 use Rattle.raft_log_model.specs.Fragments.{Bracketing}
 use Rattle.raft_log_model.specs.Fragments.Bracketing.{One, Both}
 
@@ -36,7 +36,11 @@ step z Clean = record { table = no_table; cleaned = true; low = z.low; high = z.
 step z (Compact c) = record { table = compacted z.table c; cleaned = z.cleaned; low = max c z.low; high = z.high; deleted = z.deleted }
 step z (Put k v) = record { table = put z.table k v; cleaned = z.cleaned; low = z.low; high = z.high; deleted = z.deleted }
 step z (Del k) = record {
-  table = delete z.table k; cleaned = z.cleaned; low = z.low; high = z.high; deleted = λ j. bytes_eq k j || z.deleted j;
+  table = delete z.table k;
+  cleaned = z.cleaned;
+  low = z.low;
+  high = z.high;
+  deleted = λ j. bytes_eq k j || z.deleted j;
 }
 
 abbrev pub summary_after : {E V : Type 0} → Summary E V → List (Item E V) → Summary E V
@@ -99,3 +103,21 @@ IsSound z = 0 < length z.table.entries → is_below z.table.first z.high ≡ fal
 pub record IsSummary {E V : Type 0} (z : Summary E V) (xs : List (Item E V)) : Type 0 where
   pub sound : IsSound z
   pub says : (s : Slot) → word z s ≡ says s xs
+
+-- the entries of a directory: Append's over Rewrite's, of which none are kept below a gap
+abbrev pub directory_entries : {E V : Type 0} → Table E V → Summary E V → Table E V
+directory_entries t z =
+    if z.cleaned then z.table
+    else (if nat_lt 0 (length z.table.entries)
+    then (if is_past (span_of (cut_from (compacted t z.low) z.high)) z.table.first
+    then z.table
+    else run_onto (cut_from (compacted t z.low) z.high) z.table.first z.table.entries)
+    else cut_from (compacted t z.low) z.high)
+
+-- the table of a directory: the summary of Append's items over Rewrite's table
+abbrev pub directory_table : {E V : Type 0} → Table E V → Summary E V → Table E V
+directory_table t z = record {
+  first = (directory_entries t z).first;
+  entries = (directory_entries t z).entries;
+  values = values_over t z;
+}

@@ -1,5 +1,5 @@
 -- A table of one group, entries one after another and the values of keys, and what each item makes of it.
-use Rattle.std.specs.Prelude.{ℕ, ◌+◌, ◌-◌, min, Bool, ◌&&◌, List, [], ◌∷◌, ◌++◌, Option, Some, None, option_map, if◌then◌else◌, nat_le, nat_lt, slice_get, bytes_eq, length, take, drop}
+use Rattle.std.specs.Prelude.{ℕ, ◌+◌, ◌-◌, min, ◌&&◌, List, [], ◌∷◌, ◌++◌, Option, Some, None, option_map, if◌then◌else◌, nat_le, nat_lt, slice_get, bytes_eq, length, take, drop}
 use Rattle.raft_log_model.specs.Item.{Item}
 use Rattle.raft_log_model.specs.Item.Item.{Run, Clean, Compact, Put, Del}
 use Rattle.raft_log_model.specs.Meaning.{Slot, Content}

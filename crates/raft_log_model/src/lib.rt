@@ -9,4 +9,5 @@ pub mod groups;
 pub mod holes;
 pub mod meaning;
 pub mod segments;
+pub mod tables;
 pub mod wrong_rules;

@@ -10,7 +10,7 @@ use Rattle.raft_log_model.specs.Tidy.{Apart, Undisturbed, Tidy}
 use Rattle.raft_log_model.specs.Fragments.{Head, head, then_head, Unfinished, without, more, next_unfinished, unfinished_after, unfinished, finish, go_on, completed, carried_on, Segment, segment, merge, IsSameSegment, Bracketing, all_of, merge_all}
 use Rattle.raft_log_model.specs.Fragments.Head.{GoesOn, Ends, BeginsAnew}
 use Rattle.raft_log_model.specs.Fragments.Bracketing.{One, Both}
-use Rattle.raft_log_model.proofs.Cases.{at_bool, if_true, if_false, eq_true, eq_false, from_eq_true, from_eq_false}
+use Rattle.raft_log_model.proofs.Cases.{at_bool, if_true, if_false, eq_true, eq_false, from_eq_true, from_eq_false, neither}
 use Rattle.raft_log_model.proofs.Words.{option_or_none}
 use Rattle.raft_log_model.proofs.Records.{of_group_append, settle_append}
 use Rattle.std.proofs.lemmas.Bool.Decides.{when_true, when_false}
@@ -23,10 +23,6 @@ use Rattle.raft_log_model.proofs.LeftOpen.{number_test, unfinished_append}
 abbrev pub open_in : {E V : Type 0} → List (Unfinished E V) → Open E V
 open_in [] k = None
 open_in (u ∷ us) k = if u.number == k then Some u.items else open_in us k
-
-none_either : {A : Type 0} (b : Bool) → ◌≡◌ {A = Option A} None (if b then None else None)
-none_either true = refl
-none_either false = refl
 
 if_twice : {A : Type 0} (b : Bool) (x y z : A) → (if b then x else z) ≡ (if b then x else (if b then y else z))
 if_twice true x y z = refl
@@ -42,7 +38,7 @@ apart_from : (m n k : ℕ) → (m == n) ≡ false → (m == k) ≡ true → (n =
 apart_from m n k h e = eq_false n k (λ q. from_eq_false m n h (from_eq_true m k e ∙ sym q))
 
 open_without : {E V : Type 0} (n : ℕ) (us : List (Unfinished E V)) (k : ℕ) → open_in (without n us) k ≡ set_open (open_in us) n None k
-open_without n [] k = none_either (n == k)
+open_without n [] k = sym (neither (n == k))
 open_without n (u ∷ us) k =
     at_bool (u.number == n)
     (λ b. open_in (if b then without n us else u ∷ without n us) k ≡ (if n == k then None else (if u.number == k then Some u.items else open_in us k)))
@@ -63,7 +59,7 @@ or_if false x o = option_or_none o
 
 open_more : {E V : Type 0} (n : ℕ) (ys : List (Tagged E V)) (us : List (Unfinished E V)) (k : ℕ)
     → open_in (more n ys us) k ≡ set_open (open_in us) n (onto (open_in us n) ys) k
-open_more n ys [] k = none_either (n == k)
+open_more n ys [] k = sym (neither (n == k))
 open_more n ys (u ∷ us) k =
     at_bool (u.number == n)
     (λ b. (if u.number == k then Some (if b then u.items ++ ys else u.items) else open_in (more n ys us) k)

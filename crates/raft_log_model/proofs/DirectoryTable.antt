@@ -12,7 +12,7 @@ use Rattle.raft_log_model.specs.Table.{Table, content, span_of, no_table, compac
 use Rattle.raft_log_model.specs.Summary.{lesser, Summary, no_summary, step, summary_after, summary, is_left, directory_entries, directory_table, IsSound}
 use Rattle.raft_log_model.proofs.Cases.{at_bool, lt_true, lt_false, from_lt_true, from_lt_false}
 use Rattle.raft_log_model.proofs.Words.{option_or_none}
-use Rattle.raft_log_model.proofs.Intervals.{silence}
+use Rattle.raft_log_model.proofs.Intervals.{silence, least_is_low}
 use Rattle.raft_log_model.proofs.Summaries.{content_kept, summary_says, run_content, empty_content, no_content, cases_end}
 use Rattle.raft_log_model.proofs.Joins.{is_summary, table_holds}
 use Rattle.raft_log_model.proofs.TableLaws.{SameRun, same_past, compact_run, hostile_table, hostile_span, span_of_items}
@@ -69,10 +69,6 @@ summary_high xs = after_high no_summary xs ∙ no_lesser (high xs)
 -- what is left of a run, by its two ends
 abbrev left_of : Window → ℕ → Option ℕ → Window
 left_of w l h = record { first = max w.first l; end = least w.end h }
-
-least_is_low : (n : ℕ) (o : Option ℕ) → least n o ≤ n
-least_is_low n None = omega arith
-least_is_low n (Some b) = omega arith
 
 same_left : (a b : Window) (l : ℕ) (h : Option ℕ) → SameRun a b → SameRun (left_of a l h) (left_of b l h)
 same_left a b l h (inl e) = inl (ap (λ x. max x l) e.0, ap (λ x. least x h) e.1)

@@ -10,12 +10,12 @@ use Rattle.raft_log_model.specs.Fragments.{Bracketing, all_of}
 use Rattle.raft_log_model.specs.Fragments.Bracketing.{One, Both}
 use Rattle.raft_log_model.specs.Table.{Table, content, span_of, compacted, cut_from}
 use Rattle.raft_log_model.specs.Summary.{IsSummary, Summary, no_summary, summary, is_left, word, join, join_all}
-use Rattle.raft_log_model.proofs.Cases.{at_bool, if_false, from_lt_true}
+use Rattle.raft_log_model.proofs.Cases.{at_bool, if_false, from_lt_true, both, none_some}
 use Rattle.raft_log_model.proofs.Words.{says_append, unwrap_or_option_or}
-use Rattle.raft_log_model.proofs.NoHoles.{no_hole_front, no_hole_later}
+use Rattle.raft_log_model.proofs.Holes.{no_hole_front, no_hole_later}
 use Rattle.raft_log_model.proofs.Windows.{one_run_fits, inside}
 use Rattle.raft_log_model.proofs.TableSteps.{content_below, content_within, content_above}
-use Rattle.raft_log_model.proofs.Summaries.{JoinFits, sound_after, summary_says, content_word, content_kept, join_word, join_sound, bound_rises}
+use Rattle.raft_log_model.proofs.Summaries.{JoinFits, sound_after, summary_says, content_word, content_kept, join_word, join_sound, bound_rises, not_left}
 
 by_left : {A : Type 0} (b : Bool) (c d : Option A) → unwrap_or (if b then None else Some c) d ≡ (if b then d else c)
 by_left true c d = refl
@@ -29,18 +29,6 @@ none_either : {A : Type 0} (left kept : Bool) (c d : Option A) → left ≡ kept
 none_either true true c d e h k = h
 none_either true false c d e h k = cc
 none_either false kept c d e h k = k
-
-not_left : (c l b : Bool) → b ≡ false → (not c && (l && b)) ≡ false
-not_left true l b h = refl
-not_left false true b h = h
-not_left false false b h = refl
-
-both : (a b : Bool) → (a && b) ≡ true → (a ≡ true) × (b ≡ true)
-both true b h = (refl, h)
-both false b h = cc
-
-none_some : {A : Type 0} (o : Option A) (x : A) → o ≡ None → o ≡ Some x → ⊥
-none_some o x h k = cc
 
 low_case : (i first : ℕ) → (i < first → ⊥) → first ≤ i
 low_case i first h = let k : ¬ (i < first) = h in omega arith

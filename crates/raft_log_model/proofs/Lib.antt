@@ -13,8 +13,7 @@ pub mod Summaries
 pub mod Joins
 pub mod TableLaws
 pub mod DirectoryTable
-pub mod TooEarly
-pub mod NoHoles
+pub mod Holes
 pub mod Windows
 pub mod Intervals
 pub mod Standing

@@ -11,18 +11,14 @@ use Rattle.raft_log_model.specs.Meaning.Content.{Value}
 use Rattle.raft_log_model.specs.Holes.{Window, nothing, is_past, next_window, FitsOn, NoHole, least, is_below}
 use Rattle.raft_log_model.specs.Table.{Table, content, span_of, no_table, compacted, cut_from, run_onto}
 use Rattle.raft_log_model.specs.Summary.{IsSound, Summary, no_summary, step, summary_after, summary, is_left, word, lesser, entries_over, join}
-use Rattle.raft_log_model.proofs.Cases.{at_bool, if_true, if_false, lt_true, le_true, le_false, lt_false, from_lt_true, from_lt_false}
+use Rattle.raft_log_model.proofs.Cases.{at_bool, if_true, if_false, lt_true, le_true, le_false, lt_false, from_lt_true, from_lt_false, neither}
 use Rattle.raft_log_model.proofs.Words.{option_or_assoc, option_or_none}
 use Rattle.raft_log_model.proofs.Tests.{run_sets, run_leaves, compact_removes, compact_leaves}
-use Rattle.raft_log_model.proofs.NoHoles.{IsTail, tail_step}
+use Rattle.raft_log_model.proofs.Holes.{IsTail, tail_step}
 use Rattle.raft_log_model.proofs.TableSteps.{content_below, content_within, content_above, content_compacted, content_cut, content_run, run_end}
 
-either_none : {A : Type 0} (b : Bool) → ◌≡◌ {A = Option A} (if b then None else None) None
-either_none true = refl
-either_none false = refl
-
 pub nothing_stands : {E V : Type 0} (i : ℕ) → content (no_table {E = E} {V = V}) (Index i) ≡ None
-nothing_stands i = either_none (nat_le 0 i)
+nothing_stands i = neither (nat_le 0 i)
 
 lesser_test : (i f b : ℕ) → i < f → nat_lt i (min f b) ≡ nat_lt i b
 lesser_test i f b h = grind (arith, nat_tests)
@@ -36,7 +32,7 @@ run_takes : (i f : ℕ) (high : Option ℕ) → f ≤ i → is_below i (Some (le
 run_takes i f None h = lt_false i f h
 run_takes i f (Some b) h = lt_false i (min f b) (omega arith)
 
-not_left : (c l b : Bool) → b ≡ false → (not c && (l && b)) ≡ false
+pub not_left : (c l b : Bool) → b ≡ false → (not c && (l && b)) ≡ false
 not_left true l b h = refl
 not_left false true b h = h
 not_left false false b h = refl

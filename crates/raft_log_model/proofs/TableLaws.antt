@@ -11,7 +11,7 @@ use Rattle.raft_log_model.specs.Holes.{Window, nothing, is_past, next_window, wi
 use Rattle.raft_log_model.specs.Table.{Table, content, span_of, no_table, compacted, run_onto, table_step, table_after, table_step_past, table_after_past}
 use Rattle.raft_log_model.proofs.Cases.{at_bool, if_false}
 use Rattle.raft_log_model.proofs.Words.{unwrap_or_option_or}
-use Rattle.raft_log_model.proofs.NoHoles.{fits_writes, no_hole}
+use Rattle.raft_log_model.proofs.Holes.{fits_writes, no_hole}
 use Rattle.raft_log_model.proofs.Windows.{past_drops, not_dropped}
 use Rattle.raft_log_model.proofs.Tests.{run_sets}
 use Rattle.raft_log_model.proofs.TableSteps.{content_below, content_within, content_compacted, content_run, run_end}

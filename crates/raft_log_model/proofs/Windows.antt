@@ -8,11 +8,12 @@ use Rattle.raft_log_model.specs.Item.Item.{Run, Clean, Compact, Put, Del}
 use Rattle.raft_log_model.specs.Meaning.{Content, write, holds}
 use Rattle.raft_log_model.specs.Meaning.Slot.{Index}
 use Rattle.raft_log_model.specs.Meaning.Content.{Entry}
-use Rattle.raft_log_model.specs.Holes.{Spans, Window, nothing, is_past, next_window, window, write_past, says_past, holds_past, NoHole}
+pub use Rattle.raft_log_model.specs.Holes.{Spans}
+use Rattle.raft_log_model.specs.Holes.{Window, nothing, is_past, next_window, window, write_past, says_past, holds_past, NoHole}
 use Rattle.raft_log_model.proofs.Cases.{at_bool, if_true, if_false, lt_true, lt_false}
 use Rattle.raft_log_model.proofs.Words.{unwrap_or_option_or}
 use Rattle.raft_log_model.proofs.Tests.{run_sets, run_truncates, run_leaves, compact_removes, compact_leaves}
-use Rattle.raft_log_model.proofs.NoHoles.{no_hole}
+use Rattle.raft_log_model.proofs.Holes.{no_hole}
 
 pub same_spans : {E V : Type 0} (first end : ℕ) (m n : ℕ → Option (Content E V)) → ((i : ℕ) → m i ≡ n i) → Spans first end m → Spans first end n
 same_spans first end m n same sp = record {

@@ -1,11 +1,11 @@
 -- Short logs for the worked examples and for the rules that are wrong. An entry is told by a number, and so is a value.
-use Rattle.std.specs.Prelude.{ℕ, zero, suc, ◌≡◌, List, [], ◌∷◌, ◌++◌, Option, map, take}
+use Rattle.std.specs.Prelude.{ℕ, zero, suc, List, [], ◌∷◌, ◌++◌, Option, map}
 use Rattle.raft_log_model.specs.Item.{Item, Tagged, Record}
-use Rattle.raft_log_model.specs.Item.Item.{Run, Clean, Compact, Put}
+use Rattle.raft_log_model.specs.Item.Item.{Run, Compact, Put}
 use Rattle.raft_log_model.specs.Item.Record.{Plain, Part}
-use Rattle.raft_log_model.specs.Item.Mark.{Begin, Middle, End}
-use Rattle.raft_log_model.specs.Meaning.{Slot, Content, holds, directory}
-use Rattle.raft_log_model.specs.Groups.{directory_meaning, taken}
+use Rattle.raft_log_model.specs.Item.Mark.{Begin, End}
+use Rattle.raft_log_model.specs.Meaning.{Content, holds, directory}
+use Rattle.raft_log_model.specs.Groups.{directory_meaning}
 use Rattle.raft_log_model.specs.Meaning.Slot.{Index, Key}
 use Rattle.raft_log_model.specs.Holes.{Window, nothing, window, holds_past, directory_by_intervals}
 
@@ -22,10 +22,7 @@ shown first n rewrite append = map (λ i. directory (Index i) rewrite append) (u
 abbrev pub voter : List ℕ
 voter = 118 ∷ 111 ∷ 116 ∷ 101 ∷ 114 ∷ []
 
--- what stands at an index, and the value of the key, of a directory; the standing run of a list
-abbrev pub shown_at : ℕ → List (Item ℕ ℕ) → List (Item ℕ ℕ) → Option (Content ℕ ℕ)
-shown_at i rewrite append = directory (Index i) rewrite append
-
+-- the value of the key in a directory
 abbrev pub voter_in : List (Item ℕ ℕ) → List (Item ℕ ℕ) → Option (Content ℕ ℕ)
 voter_in rewrite append = directory (Key voter) rewrite append
 
@@ -33,13 +30,14 @@ voter_in rewrite append = directory (Key voter) rewrite append
 abbrev pub voter_if_rewrite_last : List (Item ℕ ℕ) → List (Item ℕ ℕ) → Option (Content ℕ ℕ)
 voter_if_rewrite_last rewrite append = holds (Key voter) (append ++ rewrite)
 
--- the same of raft group 1 in a Rewrite queue of records, where Append is empty
+-- what stands for raft group 1 in a Rewrite queue of records, where Append is empty
 abbrev pub entry_in : ℕ → List (Record ℕ ℕ) → Option (Content ℕ ℕ)
 entry_in i rewrite = directory_meaning rewrite [] 1 (Index i)
 
 abbrev pub value_in : List (Record ℕ ℕ) → Option (Content ℕ ℕ)
 value_in rewrite = directory_meaning rewrite [] 1 (Key voter)
 
+-- the standing run of a list
 abbrev pub run_of : List (Item ℕ ℕ) → Window
 run_of xs = window nothing xs
 
@@ -66,46 +64,23 @@ ten file = file ∷ file ∷ file ∷ file ∷ file ∷ file ∷ file ∷ file �
 abbrev pub three_files : List (Item ℕ ℕ)
 three_files = Run 10 (ten 1) ∷ Run 20 (ten 2) ∷ Run 25 (ten 3) ∷ []
 
--- entries 1 to 3
-abbrev pub three : List (Item ℕ ℕ)
-three = Run 1 (1 ∷ 2 ∷ 3 ∷ []) ∷ []
-
+-- an item of a group
 abbrev pub of : ℕ → Item ℕ ℕ → Tagged ℕ ℕ
 of g x = record { group = g; item = x }
 
--- an atomic group of raft group 1 over two files of Rewrite, of which only the entries in the second file are in use later
+-- an atomic group in two records
 abbrev pub first_part : List (Record ℕ ℕ)
 first_part = Part (Begin 1) (of 1 (Run 1 (1 ∷ 2 ∷ [])) ∷ []) ∷ []
 
 abbrev pub second_part : List (Record ℕ ℕ)
 second_part = Part (End 1) (of 1 (Run 3 (3 ∷ 4 ∷ [])) ∷ []) ∷ []
 
--- an old file of Rewrite with four entries, and a new one in which they were to be written again: the group's end was refused
+-- a record with four entries, and one with the first half of them, written again
 abbrev pub old_file : List (Record ℕ ℕ)
 old_file = Plain (of 1 (Run 1 (1 ∷ 2 ∷ 3 ∷ 4 ∷ [])) ∷ []) ∷ []
 
-abbrev pub unended : List (Record ℕ ℕ)
-unended = Part (Begin 1) (of 1 (Run 1 (1 ∷ 2 ∷ [])) ∷ []) ∷ Part (Middle 1) (of 1 (Run 3 (3 ∷ 4 ∷ [])) ∷ []) ∷ []
-
--- two groups: Rewrite has the voter of the first; one batch, not yet synced, cleans the first and writes the second
-abbrev pub rewritten_voter : List (Record ℕ ℕ)
-rewritten_voter = Plain (of 1 (Put voter 1) ∷ []) ∷ []
-
-abbrev pub pending_batch : List (Record ℕ ℕ)
-pending_batch = Plain (of 1 Clean ∷ of 2 (Put voter 2) ∷ []) ∷ []
-
-abbrev pub early_mark : List (Record ℕ ℕ)
-early_mark = Plain (of 1 Clean ∷ []) ∷ []
-
--- the first half of the old file's entries, written again
 abbrev pub half : List (Record ℕ ℕ)
 half = Plain (of 1 (Run 1 (1 ∷ 2 ∷ [])) ∷ []) ∷ []
-
--- the map of a directory whose Rewrite has the mark before Append has the batch, as an image without the batch means it, is the
--- map after k batches
-abbrev pub IsExplainedBy : ℕ → Type 0
-IsExplainedBy k =
-    (g : ℕ) (s : Slot) → directory_meaning (rewritten_voter ++ early_mark) [] g s ≡ taken (directory_meaning rewritten_voter []) (take k pending_batch) g s
 
 -- a hostile list: the second run starts past the end of the first
 abbrev pub far_run : List (Item ℕ ℕ)

@@ -6,7 +6,9 @@
 
 pub mod examples;
 pub mod groups;
-pub mod holes;
+pub mod hostile;
+#[cfg(test)]
+mod laws_at_numbers;
 pub mod meaning;
 pub mod segments;
 pub mod tables;

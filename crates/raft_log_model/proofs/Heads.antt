@@ -12,18 +12,6 @@ then_goes_on xs ys (GoesOn zs) = ap GoesOn (sym (append_assoc xs ys zs))
 then_goes_on xs ys (Ends zs) = ap Ends (sym (append_assoc xs ys zs))
 then_goes_on xs ys BeginsAnew = refl
 
-pub then_nothing : {E V : Type 0} (h : Head E V) → then_head (GoesOn []) h ≡ h
-then_nothing (GoesOn xs) = refl
-then_nothing (Ends xs) = refl
-then_nothing BeginsAnew = refl
-
-pub then_assoc : {E V : Type 0} (a b c : Head E V) → then_head (then_head a b) c ≡ then_head a (then_head b c)
-then_assoc (GoesOn xs) (GoesOn ys) c = sym (then_goes_on xs ys c)
-then_assoc (GoesOn xs) (Ends ys) c = refl
-then_assoc (GoesOn xs) BeginsAnew c = refl
-then_assoc (Ends xs) b c = refl
-then_assoc BeginsAnew b c = refl
-
 -- a case on a test inside a head
 if_same : {A B : Type 0} (f : A → B) (b : Bool) (x y : A) (u v : B) → f x ≡ u → f y ≡ v → f (if b then x else y) ≡ (if b then u else v)
 if_same f true x y u v e d = e

@@ -107,8 +107,8 @@ has_gap w append =
     && (nat_lt (window nothing append).first (window nothing append).end
     && nat_lt (least w.end (high append)) (window nothing append).first)
 
--- what stands at an index of a directory, told by intervals: Append's entries, over what Rewrite keeps under Append's items,
--- which is nothing where a gap would stay
+-- what stands at an index of a directory, told by intervals: Append's entries, over what Rewrite keeps under Append's
+-- items, which is nothing where a gap would stay
 abbrev pub directory_by_intervals : {E V : Type 0} → ℕ → List (Item E V) → List (Item E V) → Option (Content E V)
 directory_by_intervals i rewrite append =
     option_or (holds (Index i) append)
@@ -116,4 +116,5 @@ directory_by_intervals i rewrite append =
 
 -- what is between two entries that stand stands too
 abbrev pub IsSolid : {E V : Type 0} → (ℕ → Option (Content E V)) → Type 0
-IsSolid {E} {V} m = (i j k : ℕ) (a b : Content E V) → i ≤ j → j ≤ k → m i ≡ Some a → m k ≡ Some b → (c : Content E V) × (m j ≡ Some c)
+IsSolid {E} {V} m =
+    (i j k : ℕ) (a b : Content E V) → i ≤ j → j ≤ k → m i ≡ Some a → m k ≡ Some b → (c : Content E V) × (m j ≡ Some c)

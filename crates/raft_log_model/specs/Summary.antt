@@ -57,7 +57,8 @@ is_left z i = not z.cleaned && (nat_le z.low i && is_below i z.high)
 -- the summary's word on a slot
 abbrev pub word : {E V : Type 0} → Summary E V → Slot → Option (Option (Content E V))
 word z (Index i) = if is_left z i then None else Some (content z.table (Index i))
-word z (Key k) = option_or (option_map (λ v. Some (Value v)) (z.table.values k)) (if z.cleaned || z.deleted k then Some None else None)
+word z (Key k) =
+    option_or (option_map (λ v. Some (Value v)) (z.table.values k)) (if z.cleaned || z.deleted k then Some None else None)
 
 -- the values of a later summary over those of an earlier table
 abbrev pub values_over : {E V : Type 0} → Table E V → Summary E V → List ℕ → Option V

@@ -4,10 +4,21 @@ ghost use Rattle.std.specs.Prelude.{◌≡◌, ◌++◌, ◌∷◌, [], Some, No
 ghost use Rattle.raft_log_model.specs.Item.Item.{Run, Compact, Put, Del, Clean};
 ghost use Rattle.raft_log_model.specs.Meaning.Content.{Entry, Value};
 ghost use Rattle.raft_log_model.specs.Holes.{is_past, nothing};
-ghost use Rattle.raft_log_model.specs.Examples.{shown, voter_in, run_of, upward, top, voter, twenty, overwritten, truncated, three_files};
+ghost use Rattle.raft_log_model.specs.Examples.{
+  shown,
+  voter_in,
+  run_of,
+  upward,
+  top,
+  voter,
+  twenty,
+  overwritten,
+  truncated,
+  three_files,
+};
 
-/// Entries 1 to 20, all rewritten; then two entries in place of the 15th and all behind it, and a compaction below 17: nothing
-/// stands, before the purge, after it, and from a start that still reads the old Append file.
+/// Entries 1 to 20, all rewritten; then two entries in place of the 15th and all behind it, and a compaction below
+/// 17: nothing stands, before the purge, after it, and from a start that still reads the old Append file.
 pub fn overwritten_then_compacted()
     ensures before { shown 0 25 twenty overwritten ≡ replicate 25 None }
     ensures after { shown 0 25 (twenty ++ Compact top ∷ []) [] ≡ replicate 25 None }
@@ -17,12 +28,15 @@ pub fn overwritten_then_compacted()
 /// The same with a compaction below 16: entry 16 stands, and nothing else.
 pub fn overwritten_then_compacted_inside()
     ensures before { shown 14 4 twenty truncated ≡ None ∷ None ∷ Some (Entry 116) ∷ None ∷ [] }
-    ensures rewritten { shown 14 4 (twenty ++ Compact top ∷ Run 16 (116 ∷ []) ∷ []) [] ≡ None ∷ None ∷ Some (Entry 116) ∷ None ∷ [] }
+    ensures rewritten { shown 14 4 (twenty ++ Compact top ∷ Run 16 (116 ∷ []) ∷ []) []
+        ≡ None ∷ None ∷ Some (Entry 116) ∷ None ∷ [] }
 {}
 
-/// Three runs of which each later one cuts the earlier off: ten entries of the first file, five of the second, ten of the third.
+/// Three runs of which each later one cuts the earlier off: ten entries of the first file, five of the second, ten of
+/// the third.
 pub fn later_runs_cut()
-    ensures entries { shown 9 27 three_files [] ≡ None ∷ (replicate 10 (Some (Entry 1)) ++ (replicate 5 (Some (Entry 2)) ++ (replicate 10 (Some (Entry 3)) ++ None ∷ []))) }
+    ensures entries { shown 9 27 three_files []
+        ≡ None ∷ (replicate 10 (Some (Entry 1)) ++ (replicate 5 (Some (Entry 2)) ++ (replicate 10 (Some (Entry 3)) ++ None ∷ []))) }
     ensures run { run_of three_files ≡ record { first = 10; end = 35 } }
 {}
 

@@ -61,8 +61,8 @@ pub fn tidy_records_may_be_cut<E, V>()
         ≡ rewritten g xs ++ (of_group g (completed (unfinished xs) (λ n. head n [] ys)) ++ rewritten g ys) }
 {}
 
-/// What the second of two segments does with a group that is open before the first, and what both leave unfinished,
-/// whatever the records are.
+/// What two segments, one after the other, do with a group that is open before them, and which groups they leave
+/// unfinished, whatever the records are.
 pub fn borders_of_two<E, V>()
     ensures heads { (n : ℕ) (xs ys : List (Record E V))
         → head n [] (xs ++ ys) ≡ then_head (head n [] xs) (head n [] ys) }

@@ -1,5 +1,5 @@
 -- Short logs for the worked examples and for the rules that are wrong. An entry is told by a number, and so is a value.
-use Rattle.std.specs.Prelude.{ℕ, zero, suc, List, [], ◌∷◌, ◌++◌, Option, map}
+use Rattle.std.specs.Prelude.{ℕ, zero, suc, List, [], ◌∷◌, ◌++◌, Option, map, Some, None}
 use Rattle.raft_log_model.specs.Item.{Item, Tagged, Record}
 use Rattle.raft_log_model.specs.Item.Item.{Run, Compact, Put}
 use Rattle.raft_log_model.specs.Item.Record.{Plain, Part}
@@ -7,6 +7,7 @@ use Rattle.raft_log_model.specs.Item.Mark.{Begin, End}
 use Rattle.raft_log_model.specs.Meaning.{Content, holds, directory}
 use Rattle.raft_log_model.specs.Groups.{directory_meaning}
 use Rattle.raft_log_model.specs.Meaning.Slot.{Index, Key}
+use Rattle.raft_log_model.specs.Meaning.Content.{Entry}
 use Rattle.raft_log_model.specs.Holes.{Window, nothing, window, holds_past, directory_by_intervals}
 
 -- n numbers, one after another
@@ -63,6 +64,29 @@ ten file = file ∷ file ∷ file ∷ file ∷ file ∷ file ∷ file ∷ file �
 
 abbrev pub three_files : List (Item ℕ ℕ)
 three_files = Run 10 (ten 1) ∷ Run 20 (ten 2) ∷ Run 25 (ten 3) ∷ []
+
+-- one purge: Rewrite before it, with the mark carried, and with the entry copied that is still in use; Append from
+-- its file 4, from file 5 and from file 6 on; and what stands at the indexes 0 to 6
+abbrev pub rewrite_before : List (Item ℕ ℕ)
+rewrite_before = Run 1 (1 ∷ 2 ∷ []) ∷ Put voter 1 ∷ []
+
+abbrev pub rewrite_marked : List (Item ℕ ℕ)
+rewrite_marked = rewrite_before ++ Compact top ∷ []
+
+abbrev pub rewrite_copied : List (Item ℕ ℕ)
+rewrite_copied = rewrite_marked ++ Run 4 (4 ∷ []) ∷ []
+
+abbrev pub append_from_6 : List (Item ℕ ℕ)
+append_from_6 = Run 5 (105 ∷ []) ∷ Put voter 3 ∷ []
+
+abbrev pub append_from_5 : List (Item ℕ ℕ)
+append_from_5 = Compact 4 ∷ append_from_6
+
+abbrev pub append_from_4 : List (Item ℕ ℕ)
+append_from_4 = Run 3 (3 ∷ 4 ∷ 5 ∷ []) ∷ Put voter 2 ∷ append_from_5
+
+abbrev pub four_and_five : List (Option (Content ℕ ℕ))
+four_and_five = None ∷ None ∷ None ∷ None ∷ Some (Entry 4) ∷ Some (Entry 105) ∷ None ∷ []
 
 -- an item of a group
 abbrev pub of : ℕ → Item ℕ ℕ → Tagged ℕ ℕ

@@ -15,6 +15,13 @@ ghost use Rattle.raft_log_model.specs.Examples.{
   overwritten,
   truncated,
   three_files,
+  rewrite_before,
+  rewrite_marked,
+  rewrite_copied,
+  append_from_4,
+  append_from_5,
+  append_from_6,
+  four_and_five,
 };
 
 /// Entries 1 to 20, all rewritten; then two entries in place of the 15th and all behind it, and a compaction below
@@ -38,6 +45,18 @@ pub fn later_runs_cut()
     ensures entries { shown 9 27 three_files []
         ≡ None ∷ (replicate 10 (Some (Entry 1)) ++ (replicate 5 (Some (Entry 2)) ++ (replicate 10 (Some (Entry 3)) ++ None ∷ []))) }
     ensures run { run_of three_files ≡ record { first = 10; end = 35 } }
+{}
+
+/// One purge, step by step: entries 4 and 5 stand, whatever is written so far and from whichever file Append is read.
+pub fn one_purge()
+    ensures before { shown 0 7 rewrite_before append_from_4 ≡ four_and_five }
+    ensures marked { shown 0 7 rewrite_marked append_from_4 ≡ four_and_five }
+    ensures copied { shown 0 7 rewrite_copied append_from_4 ≡ four_and_five }
+    ensures half_gone { shown 0 7 rewrite_copied append_from_5 ≡ four_and_five }
+    ensures gone { shown 0 7 rewrite_copied append_from_6 ≡ four_and_five }
+    ensures value { voter_in rewrite_copied append_from_6 ≡ Some (Value 3) }
+    ensures too_early { shown 0 7 rewrite_before append_from_6
+        ≡ None ∷ Some (Entry 1) ∷ Some (Entry 2) ∷ None ∷ None ∷ Some (Entry 105) ∷ None ∷ [] }
 {}
 
 /// A compaction past the last entry leaves none; two compactions leave the entries above the greater index.

@@ -25,7 +25,7 @@ next_window w (Run f []) = w
 next_window w (Run f (e ∷ es)) =
     record { first = if nat_lt w.first f && nat_le f w.end then w.first else f; end = f + length (e ∷ es) }
 next_window w Clean = nothing
-next_window w (Compact c) = record { first = max w.first c; end = w.end }
+next_window w (Compact c) = record w { first = max w.first c }
 next_window w (Put k v) = w
 next_window w (Del k) = w
 

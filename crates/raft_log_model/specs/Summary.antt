@@ -25,23 +25,11 @@ no_summary = record { table = no_table; cleaned = false; low = 0; high = None; d
 -- the summary after one more item
 abbrev pub step : {E V : Type 0} → Summary E V → Item E V → Summary E V
 step z (Run f []) = z
-step z (Run f (e ∷ es)) = record {
-  table = run_onto z.table f (e ∷ es);
-  cleaned = z.cleaned;
-  low = z.low;
-  high = Some (least f z.high);
-  deleted = z.deleted;
-}
-step z Clean = record { table = no_table; cleaned = true; low = z.low; high = z.high; deleted = z.deleted }
-step z (Compact c) = record { table = compacted z.table c; cleaned = z.cleaned; low = max c z.low; high = z.high; deleted = z.deleted }
-step z (Put k v) = record { table = put z.table k v; cleaned = z.cleaned; low = z.low; high = z.high; deleted = z.deleted }
-step z (Del k) = record {
-  table = delete z.table k;
-  cleaned = z.cleaned;
-  low = z.low;
-  high = z.high;
-  deleted = λ j. bytes_eq k j || z.deleted j;
-}
+step z (Run f (e ∷ es)) = record z { table = run_onto z.table f (e ∷ es); high = Some (least f z.high) }
+step z Clean = record z { table = no_table; cleaned = true }
+step z (Compact c) = record z { table = compacted z.table c; low = max c z.low }
+step z (Put k v) = record z { table = put z.table k v }
+step z (Del k) = record z { table = delete z.table k; deleted = λ j. bytes_eq k j || z.deleted j }
 
 abbrev pub summary_after : {E V : Type 0} → Summary E V → List (Item E V) → Summary E V
 summary_after z [] = z

@@ -26,31 +26,27 @@ no_table = record { first = 0; entries = []; values = λ k. None }
 
 -- without the entries below an index
 abbrev pub compacted : {E V : Type 0} → Table E V → ℕ → Table E V
-compacted t c = record {
-  first = t.first + min (c - t.first) (length t.entries);
-  entries = drop (c - t.first) t.entries;
-  values = t.values;
-}
+compacted t c =
+    record t { first = t.first + min (c - t.first) (length t.entries); entries = drop (c - t.first) t.entries }
 
 -- without the entries from an index on
 abbrev pub cut_from : {E V : Type 0} → Table E V → Option ℕ → Table E V
 cut_from t None = t
-cut_from t (Some h) = record { first = t.first; entries = take (h - t.first) t.entries; values = t.values }
+cut_from t (Some h) = record t { entries = take (h - t.first) t.entries }
 
 -- with a run, in place of the entries from its first index on
 abbrev pub run_onto : {E V : Type 0} → Table E V → ℕ → List E → Table E V
-run_onto t f es = record {
+run_onto t f es = record t {
   first = if nat_lt t.first f && nat_lt 0 (length t.entries) then t.first else f;
   entries = take (f - t.first) t.entries ++ es;
-  values = t.values;
 }
 
 -- with a value for a key, and without the key
 abbrev pub put : {E V : Type 0} → Table E V → List ℕ → V → Table E V
-put t k v = record { first = t.first; entries = t.entries; values = λ j. if bytes_eq k j then Some v else t.values j }
+put t k v = record t { values = λ j. if bytes_eq k j then Some v else t.values j }
 
 abbrev pub delete : {E V : Type 0} → Table E V → List ℕ → Table E V
-delete t k = record { first = t.first; entries = t.entries; values = λ j. if bytes_eq k j then None else t.values j }
+delete t k = record t { values = λ j. if bytes_eq k j then None else t.values j }
 
 -- the table after one more item
 abbrev pub table_step : {E V : Type 0} → Table E V → Item E V → Table E V
@@ -69,7 +65,7 @@ table_after t (x ∷ xs) = table_after (table_step t x) xs
 abbrev pub table_step_past : {E V : Type 0} → Table E V → Item E V → Table E V
 table_step_past t (Run f []) = t
 table_step_past t (Run f (e ∷ es)) =
-    if is_past (span_of t) f then record { first = f; entries = e ∷ es; values = t.values } else run_onto t f (e ∷ es)
+    if is_past (span_of t) f then record t { first = f; entries = e ∷ es } else run_onto t f (e ∷ es)
 table_step_past t Clean = no_table
 table_step_past t (Compact c) = compacted t c
 table_step_past t (Put k v) = put t k v

@@ -77,9 +77,10 @@ pub fn any_bracketing_is_the_whole<E, V>()
 {}
 
 /// Why the records are to be tidy: where another record touches the raft group of an open atomic group, merging its
-/// two halves says something else than the whole.
+/// two halves says something else than the whole, and so does reading from behind its begin on.
 pub fn disturbed_group()
     ensures whole { value_in (begun ++ newer_then_ended) ≡ Some (Value 1) }
+    ensures later_start { value_in newer_then_ended ≡ Some (Value 2) }
     ensures merged { holds (Key voter) (of_group 1 (merge (segment begun) (segment newer_then_ended)).counted)
         ≡ Some (Value 2) }
 {}

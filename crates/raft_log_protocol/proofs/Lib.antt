@@ -1,0 +1,9 @@
+pub mod Words
+pub mod UnbrokenLaws
+pub mod Starts
+pub mod SurvivalSteps
+pub mod BookGrows
+pub mod BookCarries
+pub mod BookRaises
+pub mod BookReread
+pub mod FitLaws

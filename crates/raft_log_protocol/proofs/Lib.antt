@@ -7,3 +7,6 @@ pub mod BookCarries
 pub mod BookRaises
 pub mod BookReread
 pub mod FitLaws
+pub mod WorldWords
+pub mod WorldKeeps
+pub mod FreshKeeps

@@ -55,3 +55,7 @@ start_in_rewrite None (Some x) older v e h = e
 start_in_rewrite None None older v e (inl spoken) = let absurd_word : None ≡ Some spoken.0 = spoken.1 in cc
 start_in_rewrite None None older v e (inr (inl nothing)) = sym nothing
 start_in_rewrite None None older v e (inr (inr spoken)) = let absurd_word : None ≡ Some spoken.0 = spoken.1 in cc
+
+pub no_back : {A : Type 0} (a b : List A) → a ++ b ≡ [] → b ≡ []
+no_back [] b e = e
+no_back (x ∷ a) b e = cc

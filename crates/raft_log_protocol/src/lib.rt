@@ -1,11 +1,9 @@
 //! Why no step of the log's engine, and no crash, takes back what was written.
+//!
+//! Each public function here is a law over the definitions of `specs/`: it does nothing, and its contract is what is proved.
+//! * [`survival`]: what a directory holds, step by step, on the records of the two queues alone;
+//! * [`machine`]: the engine's tables beside the queues, each event, and every schedule of them;
 #![tactic(auto)]
 
-ghost use Rattle.raft_log_protocol.specs.Queue.{Store};
-ghost use Rattle.raft_log_protocol.specs.Survival.{Holds, Survives};
-ghost use Rattle.raft_log_model.specs.Groups.{Map};
-
-/// A directory that holds a map survives as it, with Append's unsynced records as the pending batches.
-pub fn held_map_survives<E, V>()
-    ensures { (q : Store E V) (m : Map E V) → Holds q m → Survives q m q.append.pending }
-{}
+pub mod machine;
+pub mod survival;

@@ -10,3 +10,5 @@ pub mod FitLaws
 pub mod WorldWords
 pub mod WorldKeeps
 pub mod FreshKeeps
+pub mod FileLaws
+pub mod DiskLaws

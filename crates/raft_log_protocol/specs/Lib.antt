@@ -6,3 +6,5 @@ pub mod Book
 pub mod Recovery
 pub mod World
 pub mod Fresh
+pub mod Files
+pub mod Disk

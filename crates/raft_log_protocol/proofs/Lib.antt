@@ -12,3 +12,4 @@ pub mod WorldKeeps
 pub mod FreshKeeps
 pub mod FileLaws
 pub mod DiskLaws
+pub mod WrongRuleLaws

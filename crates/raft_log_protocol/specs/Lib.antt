@@ -8,3 +8,4 @@ pub mod World
 pub mod Fresh
 pub mod Files
 pub mod Disk
+pub mod WrongRules

@@ -4,8 +4,10 @@
 //! * [`survival`]: what a directory holds, step by step, on the records of the two queues alone;
 //! * [`machine`]: the engine's tables beside the queues, each event, and every schedule of them;
 //! * [`files`]: the same on numbered files, from every file from which a recovery may read.
+//! * [`wrong_rules`]: rules that look right, and what each loses.
 #![tactic(auto)]
 
 pub mod files;
 pub mod machine;
 pub mod survival;
+pub mod wrong_rules;

@@ -13,3 +13,4 @@ pub mod FreshKeeps
 pub mod FileLaws
 pub mod DiskLaws
 pub mod WrongRuleLaws
+pub mod PurgeLaws

@@ -51,14 +51,18 @@ IsNumbered n q = NumberedFrom n (q.gone ++ span q []) × AllBehind n q.behind
 abbrev pub first_file : {E V : Type 0} → ℕ → FileQueue E V → ℕ
 first_file n q = n + length q.gone
 
--- A recovery may read these files of an image: the files on disk from some place on, numbered without a gap from s on, where s is no higher than the first
--- file of the span
-pub record IsRead {E V : Type 0} (n : ℕ) (q : FileQueue E V) (kept : List (Record E V)) (s : ℕ) (files : List (File E V)) : Type 0 where
-  pub low : s ≤ first_file n q
+-- Of the files on disk, where `first` is the first file of the span, a recovery may read these: those from some place on, numbered without a gap from s on,
+-- where s is no higher than `first`
+pub record IsReadOf {E V : Type 0} (first : ℕ) (disk : List (File E V)) (s : ℕ) (files : List (File E V)) : Type 0 where
+  pub low : s ≤ first
   pub skipped : List (File E V)
-  pub rest : skipped ++ files ≡ on_disk q kept
+  pub rest : skipped ++ files ≡ disk
   pub numbered : NumberedFrom s files
   pub some : 0 < length files
+
+-- a recovery may read these files of an image that kept these of the unsynced records
+abbrev pub IsRead : {E V : Type 0} → ℕ → FileQueue E V → List (Record E V) → ℕ → List (File E V) → Type 0
+IsRead n q kept s files = IsReadOf (first_file n q) (on_disk q kept) s files
 
 -- the queue's records
 abbrev pub queue_of : {E V : Type 0} → FileQueue E V → Queue E V

@@ -9,3 +9,4 @@ pub mod Fresh
 pub mod Files
 pub mod Disk
 pub mod WrongRules
+pub mod Purge

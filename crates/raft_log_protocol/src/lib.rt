@@ -3,11 +3,13 @@
 //! Each public function here is a law over the definitions of `specs/`: it does nothing, and its contract is what is proved.
 //! * [`survival`]: what a directory holds, step by step, on the records of the two queues alone;
 //! * [`machine`]: the engine's tables beside the queues, each event, and every schedule of them;
-//! * [`files`]: the same on numbered files, from every file from which a recovery may read.
+//! * [`files`]: the same on numbered files, from every file from which a recovery may read;
+//! * [`purge`]: a purge changes nothing, a full rewrite leaves one file, a fork means the same;
 //! * [`wrong_rules`]: rules that look right, and what each loses.
 #![tactic(auto)]
 
 pub mod files;
 pub mod machine;
+pub mod purge;
 pub mod survival;
 pub mod wrong_rules;

@@ -5,6 +5,11 @@ pub mod Records
 pub mod Suffix
 pub mod TidyLaws
 pub mod Heads
+pub mod LeftOpen
+pub mod Chunks
+pub mod Tables
+pub mod Summaries
+pub mod Joins
 pub mod Holes
 pub mod Windows
 pub mod Intervals

@@ -93,7 +93,7 @@ differ_more n k xs ys o p d e = record {
 }
 
 -- more for a group that hasn't begun changes nothing
-alike_more : {E V : Type 0} (o : Open E V) (k : ℕ) (ys : List (Tagged E V)) → o k ≡ None → Alike (set_open o k (onto (o k) ys)) o
+pub alike_more : {E V : Type 0} (o : Open E V) (k : ℕ) (ys : List (Tagged E V)) → o k ≡ None → Alike (set_open o k (onto (o k) ys)) o
 alike_more o k ys e j =
     at_bool (k == j) (λ b. (if b then onto (o k) ys else o j) ≡ o j)
     (λ h. ap (λ a. onto a ys) e ∙ (sym e ∙ ap o (from_eq_true k j h))) (λ _. refl)

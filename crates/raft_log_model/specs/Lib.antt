@@ -5,3 +5,4 @@ pub mod Tidy
 pub mod Fragments
 pub mod Holes
 pub mod Stands
+pub mod Summary

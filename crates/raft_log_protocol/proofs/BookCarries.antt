@@ -1,17 +1,17 @@
 -- The invariant of a group is kept where Rewrite takes an item that its table allows, and that item is harmless from every start.
-use Rattle.std.proofs.Common.{◌≡◌, ℕ, ◌+◌, ◌-◌, ◌<◌, ◌≤◌, ◌⊎◌, min, max, Bool, true, false, if◌then◌else◌, bytes_eq, List, [], ◌∷◌, ◌++◌, length, Option, Some, None, option_map, slice_get, unwrap_or, refl, sym, ap, ◌∙◌, subst, inl, inr, arith}
+use Rattle.std.proofs.Common.{◌≡◌, ℕ, ◌+◌, ◌<◌, ◌≤◌, ◌⊎◌, true, false, if◌then◌else◌, bytes_eq, List, [], ◌∷◌, length, Option, Some, None, unwrap_or, refl, sym, ap, ◌∙◌, subst, inl, inr, arith}
 use Rattle.std.proofs.lemmas.Bool.{cases_lt}
 use Rattle.std.specs.Option.{option_or}
 use Rattle.raft_log_model.specs.Item.{Item}
 use Rattle.raft_log_model.specs.Item.Item.{Run, Clean, Compact, Put, Del}
 use Rattle.raft_log_model.specs.Meaning.{Slot, Content, write, says}
 use Rattle.raft_log_model.specs.Meaning.Slot.{Index, Key}
-use Rattle.raft_log_model.specs.Meaning.Content.{Entry, Value}
+use Rattle.raft_log_model.specs.Meaning.Content.{Value}
 use Rattle.raft_log_model.proofs.Cases.{at_bool}
 use Rattle.raft_log_model.proofs.Tests.{run_sets, run_truncates, run_leaves, compact_removes, compact_leaves, from_same_key}
 use Rattle.raft_log_protocol.specs.Survival.{IsSpoken, IsHarmless}
 use Rattle.raft_log_protocol.specs.Table.{Table, top, with_key, Restates, Carries, CarriesAll}
-use Rattle.raft_log_protocol.specs.Book.{Said, Book, IsRight, IsSettledIndex, IsSettledKey}
+use Rattle.raft_log_protocol.specs.Book.{Said, Book, IsRight, IsSettledKey}
 use Rattle.raft_log_protocol.proofs.Words.{option_or_assoc}
 use Rattle.raft_log_protocol.proofs.BookGrows.{book_along}
 
@@ -36,11 +36,12 @@ differ e = absurd (let no_way : true ≡ false = e in let never : ⊥ = cc in ne
 
 module _ {E V : Type 0} (said : Said E V) (m : Slot → Option (Content E V)) (t : Table) (b : Book said m t) where
   carries_run : (f : ℕ) (es : List E) → 0 < length es → t.first ≤ f → f ≤ t.split → t.split ≤ f + length es → f + length es ≤ t.end → Restates m f es
-      → (t.split ≡ f + length es) ⊎ (t.cleaned ≡ false) → Book (rewrite_said said (Run f es)) m (record t { split = f + length es })
+      → (t.split ≡ f + length es) ⊎ ((t.cleaned ≡ false) × (t.compacted ≡ false)) → Book (rewrite_said said (Run f es)) m (record t { split = f + length es })
   carries_run f es some low within reaches fits same clean = record {
     in_order = (omega arith, fits, omega arith);
     below = b.below;
     above = b.above;
+    solid = b.solid;
     rewritten = λ i from high. elim (cases_lt i f) [
       | inl before ↦ ap (λ w. option_or w (said.rewrite (Index i))) (run_leaves i f es before) ∙ b.rewritten i from (omega arith)
       | inr at ↦ ap (λ w. option_or w (said.rewrite (Index i))) (restated i at high)
@@ -50,7 +51,7 @@ module _ {E V : Type 0} (said : Said E V) (m : Slot → Option (Content E V)) (t
     key_older = b.key_older;
     after_clean = λ c. elim clean [
       | inl whole ↦ (let none : t.first ≡ t.split = (b.after_clean c).0 in omega arith, (b.after_clean c).1)
-      | inr shut ↦ differ (sym c ∙ shut)
+      | inr shut ↦ differ (sym c ∙ shut.0)
     ];
     after_delete = b.after_delete;
     index = λ i high. elim (cases_lt i f) [
@@ -83,6 +84,7 @@ module _ {E V : Type 0} (said : Said E V) (m : Slot → Option (Content E V)) (t
     in_order = b.in_order;
     below = b.below;
     above = b.above;
+    solid = b.solid;
     rewritten = λ i from high. absurd (omega (arith, none));
     newer = b.newer;
     key_newer = b.key_newer;
@@ -112,6 +114,7 @@ module _ {E V : Type 0} (said : Said E V) (m : Slot → Option (Content E V)) (t
     in_order = b.in_order;
     below = b.below;
     above = b.above;
+    solid = b.solid;
     rewritten = λ i from high.
         ap (λ w. option_or w (said.rewrite (Index i))) (compact_leaves i c (reaches i from high)) ∙ b.rewritten i from high;
     newer = b.newer;
@@ -155,6 +158,7 @@ module _ {E V : Type 0} (said : Said E V) (m : Slot → Option (Content E V)) (t
     in_order = b.in_order;
     below = b.below;
     above = b.above;
+    solid = b.solid;
     rewritten = b.rewritten;
     newer = b.newer;
     key_newer = λ k. at_bool (bytes_eq l k) (λ test. (if test then false else t.appended k) ≡ true → IsSpoken (said.append (Key k)))
@@ -200,6 +204,7 @@ module _ {E V : Type 0} (said : Said E V) (m : Slot → Option (Content E V)) (t
     in_order = b.in_order;
     below = b.below;
     above = b.above;
+    solid = b.solid;
     rewritten = b.rewritten;
     newer = b.newer;
     key_newer = b.key_newer;
@@ -224,6 +229,7 @@ module _ {E V : Type 0} (said : Said E V) (m : Slot → Option (Content E V)) (t
     in_order = b.in_order;
     below = b.below;
     above = b.above;
+    solid = b.solid;
     rewritten = b.rewritten;
     newer = b.newer;
     key_newer = b.key_newer;

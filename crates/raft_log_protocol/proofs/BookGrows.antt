@@ -1,5 +1,5 @@
 -- The invariant of a group is kept where Append takes an item.
-use Rattle.std.proofs.Common.{◌≡◌, ℕ, ◌+◌, ◌-◌, ◌<◌, ◌≤◌, ◌⊎◌, min, max, Bool, true, false, if◌then◌else◌, bytes_eq, List, [], ◌∷◌, ◌++◌, length, Option, Some, None, unwrap_or, refl, sym, ap, ◌∙◌, subst, inl, inr, arith}
+use Rattle.std.proofs.Common.{◌≡◌, ℕ, ◌+◌, ◌<◌, ◌≤◌, ◌⊎◌, min, max, Bool, true, false, if◌then◌else◌, bytes_eq, List, [], ◌∷◌, length, Option, Some, None, unwrap_or, refl, sym, ap, ◌∙◌, subst, inl, inr, arith}
 use Rattle.std.proofs.lemmas.Bool.{cases_lt}
 use Rattle.std.specs.Option.{option_or}
 use mathlib.Core.Path.{fun_ext}
@@ -9,11 +9,12 @@ use Rattle.raft_log_model.specs.Meaning.{Slot, Content, write, says, after}
 use Rattle.raft_log_model.specs.Meaning.Slot.{Index, Key}
 use Rattle.raft_log_model.specs.Meaning.Content.{Entry, Value}
 use Rattle.raft_log_model.proofs.Cases.{at_bool}
+use Rattle.raft_log_model.proofs.Windows.{inside}
 use Rattle.raft_log_model.proofs.Tests.{run_sets, run_truncates, run_leaves, compact_removes, compact_leaves}
 use Rattle.raft_log_protocol.specs.Survival.{IsSpoken}
 use Rattle.raft_log_protocol.specs.Table.{Table, top, with_key, Alone, GoesOn, compacted_first, Grows, GrowsBy}
 use Rattle.raft_log_protocol.proofs.Words.{option_or_assoc, unwrap_or-option_or}
-use Rattle.raft_log_protocol.specs.Book.{Said, Book, IsRight, IsSettledIndex, IsSettledKey}
+use Rattle.raft_log_protocol.specs.Book.{Said, Book, IsRight}
 
 pub spoken_after : {C : Type 0} (newer older : Option (Option C)) → IsSpoken older → IsSpoken (option_or newer older)
 spoken_after None older h = h
@@ -41,12 +42,19 @@ pub right_along : {E V : Type 0} (said : Said E V) (m n : Slot → Option (Conte
 right_along said m n s e h = (h.0 ∙ sym e, h.1 ∙ sym e)
 
 module _ {E V : Type 0} (said : Said E V) (m : Slot → Option (Content E V)) (t : Table) (b : Book said m t) where
+  -- inside a run its entry stands
+  entry_of_run : (f : ℕ) (es : List E) → 0 < length es → (i : ℕ) → f ≤ i → i < f + length es
+      → (entry : Content E V) × (stepped m (Run f es) (Index i) ≡ Some entry)
+  entry_of_run f es some i low high =
+      let it = inside i f es low high in (Entry it.0, becomes m (Index i) _ _ (run_sets i f es low some) ∙ it.1)
+
   grows_alone : (f : ℕ) (es : List E) → 0 < length es → f + length es ≤ top → Alone t f
       → Book (append_said said (Run f es)) (stepped m (Run f es)) (record t { first = f; split = f; end = f + length es })
   grows_alone f es some fits alone = record {
     in_order = (omega arith, omega arith, fits);
     below = λ i h. stays m (Index i) _ (run_leaves i f es h) ∙ empty_below i h;
     above = λ i h. becomes m (Index i) _ None (run_truncates i f es h some);
+    solid = λ i low high. entry_of_run f es some i low high;
     rewritten = λ i low high. absurd (omega arith);
     newer = λ i low some_appended. spoken_now _ (said.append (Index i)) _ (run_sets i f es low some);
     key_newer = b.key_newer;
@@ -77,6 +85,10 @@ module _ {E V : Type 0} (said : Said E V) (m : Slot → Option (Content E V)) (t
     in_order = (omega arith, omega arith, fits);
     below = λ i h. stays m (Index i) _ (run_leaves i f es (omega arith)) ∙ b.below i h;
     above = λ i h. becomes m (Index i) _ None (run_truncates i f es h some);
+    solid = λ i low high. elim (cases_lt i f) [
+      | inl below ↦ (let old = b.solid i low (omega arith) in (old.0, stays m (Index i) _ (run_leaves i f es below) ∙ old.1))
+      | inr from ↦ entry_of_run f es some i from high
+    ];
     rewritten = λ i low high. b.rewritten i low (omega arith) ∙ ap Some (sym (stays m (Index i) _ (run_leaves i f es (omega arith))));
     newer = λ i low some_appended. elim (cases_lt i f) [
       | inl below ↦ spoken_after (write (Index i) (Run f es)) (said.append (Index i)) (b.newer i (omega arith) (omega arith))
@@ -110,6 +122,7 @@ module _ {E V : Type 0} (said : Said E V) (m : Slot → Option (Content E V)) (t
       | inl low ↦ becomes m (Index i) _ None (compact_removes i c low)
       | inr from ↦ stays m (Index i) _ (compact_leaves i c from) ∙ b.above i h
     ];
+    solid = λ i low high. let old = b.solid i (omega arith) high in (old.0, stays m (Index i) _ (compact_leaves i c (omega arith)) ∙ old.1);
     rewritten = λ i low high.
         b.rewritten i (omega arith) (omega arith) ∙ ap Some (sym (stays m (Index i) _ (compact_leaves i c (omega arith))));
     newer = λ i low some_appended. spoken_after (write (Index i) (Compact c)) (said.append (Index i)) (b.newer i (omega arith) (omega arith));
@@ -138,6 +151,7 @@ module _ {E V : Type 0} (said : Said E V) (m : Slot → Option (Content E V)) (t
     in_order = (omega arith, omega arith, fits);
     below = λ i h. refl;
     above = λ i h. refl;
+    solid = λ i low high. absurd (omega arith);
     rewritten = λ i low high. absurd (omega arith);
     newer = λ i low some_appended. (None, refl);
     key_newer = λ k h. (None, refl);
@@ -153,6 +167,7 @@ module _ {E V : Type 0} (said : Said E V) (m : Slot → Option (Content E V)) (t
     in_order = b.in_order;
     below = b.below;
     above = b.above;
+    solid = b.solid;
     rewritten = b.rewritten;
     newer = b.newer;
     key_newer = λ k. at_bool (bytes_eq l k)
@@ -189,6 +204,7 @@ module _ {E V : Type 0} (said : Said E V) (m : Slot → Option (Content E V)) (t
     in_order = b.in_order;
     below = b.below;
     above = b.above;
+    solid = b.solid;
     rewritten = b.rewritten;
     newer = b.newer;
     key_newer = λ k. at_bool (bytes_eq l k)
@@ -228,6 +244,7 @@ module _ {E V : Type 0} (said : Said E V) (m : Slot → Option (Content E V)) (t
         in_order = b.in_order;
         below = b.below;
         above = b.above;
+        solid = b.solid;
         rewritten = b.rewritten;
         newer = b.newer;
         key_newer = b.key_newer;

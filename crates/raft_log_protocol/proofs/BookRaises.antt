@@ -1,17 +1,17 @@
 -- The invariant of a group is kept where a queue's span begins later, and where gone files are lost.
-use Rattle.std.proofs.Common.{◌≡◌, ℕ, ◌+◌, ◌-◌, ◌<◌, ◌≤◌, ◌⊎◌, Bool, true, false, if◌then◌else◌, nat_lt, List, [], ◌∷◌, ◌++◌, length, Option, Some, None, option_map, slice_get, unwrap_or, refl, sym, ap, ◌∙◌, subst, inl, inr, arith, le_refl}
+use Rattle.std.proofs.Common.{◌≡◌, ℕ, ◌-◌, ◌≤◌, ◌⊎◌, if◌then◌else◌, nat_lt, List, [], ◌∷◌, Option, Some, None, option_map, slice_get, unwrap_or, refl, sym, ap, ◌∙◌, inl, inr, arith, le_refl}
 use Rattle.std.proofs.lemmas.Bool.{cases_lt}
 use Rattle.std.specs.Option.{option_or}
 use Rattle.raft_log_model.specs.Item.{Item}
 use Rattle.raft_log_model.specs.Item.Item.{Run, Clean, Compact, Put, Del}
 use Rattle.raft_log_model.specs.Meaning.{Slot, Content, write, says}
 use Rattle.raft_log_model.specs.Meaning.Slot.{Index, Key}
-use Rattle.raft_log_model.specs.Meaning.Content.{Entry, Value}
+use Rattle.raft_log_model.specs.Meaning.Content.{Entry}
 use Rattle.raft_log_model.proofs.Cases.{at_bool, at_option}
 use Rattle.raft_log_model.proofs.Tests.{run_sets, run_leaves}
 use Rattle.raft_log_protocol.specs.Survival.{IsSpoken}
 use Rattle.raft_log_protocol.specs.Table.{Table, top, OwesNothing, HasAppended, HasRewritten}
-use Rattle.raft_log_protocol.specs.Book.{Said, Book, IsRight, IsSettledIndex, IsSettledKey}
+use Rattle.raft_log_protocol.specs.Book.{Said, Book, IsRight, IsSettledKey}
 use Rattle.raft_log_protocol.proofs.Starts.{spoken_newer}
 use Rattle.raft_log_protocol.proofs.BookGrows.{spoken_after}
 use Rattle.raft_log_protocol.proofs.BookCarries.{differ}
@@ -66,6 +66,7 @@ module _ {E V : Type 0} (said : Said E V) (m : Slot → Option (Content E V)) (t
     in_order = b.in_order;
     below = b.below;
     above = b.above;
+    solid = b.solid;
     rewritten = b.rewritten;
     key_older = b.key_older;
     newer = λ i from some. let lowest = h.0 t.split (le_refl t.split) some in speaks_above kept t.split i lowest.0 from lowest.1;
@@ -107,6 +108,7 @@ module _ {E V : Type 0} (said : Said E V) (m : Slot → Option (Content E V)) (t
       in_order = b.in_order;
       below = b.below;
       above = b.above;
+      solid = b.solid;
       newer = b.newer;
       key_newer = b.key_newer;
       rewritten = h.0;
@@ -153,6 +155,7 @@ module _ {E V : Type 0} (said : Said E V) (m : Slot → Option (Content E V)) (t
     in_order = b.in_order;
     below = b.below;
     above = b.above;
+    solid = b.solid;
     rewritten = b.rewritten;
     newer = b.newer;
     key_newer = b.key_newer;

@@ -1,17 +1,17 @@
 -- The invariant of a group holds afresh for the table that an open makes.
-use Rattle.std.proofs.Common.{◌≡◌, ℕ, ◌+◌, ◌-◌, ◌<◌, ◌≤◌, ◌⊎◌, Bool, true, false, ◌||◌, if◌then◌else◌, nat_lt, bytes_eq, List, [], ◌∷◌, ◌++◌, length, Option, Some, None, option_map, slice_get, unwrap_or, refl, sym, ap, ◌∙◌, subst, inl, inr, arith, le_refl}
+use Rattle.std.proofs.Common.{◌≡◌, ℕ, ◌-◌, ◌<◌, ◌≤◌, ◌⊎◌, true, false, ◌||◌, if◌then◌else◌, bytes_eq, List, [], ◌∷◌, Option, Some, None, option_map, slice_get, unwrap_or, refl, sym, ap, ◌∙◌, inl, inr, arith, le_refl}
 use Rattle.std.proofs.lemmas.Bool.{cases_lt}
 use Rattle.std.specs.Option.{option_or}
 use Rattle.raft_log_model.specs.Item.{Item}
 use Rattle.raft_log_model.specs.Item.Item.{Run, Clean, Compact, Put, Del}
-use Rattle.raft_log_model.specs.Meaning.{Slot, Content, write, says, holds}
+use Rattle.raft_log_model.specs.Meaning.{Slot, Content, write, says}
 use Rattle.raft_log_model.specs.Meaning.Slot.{Index, Key}
 use Rattle.raft_log_model.specs.Meaning.Content.{Entry, Value}
 use Rattle.raft_log_model.specs.Holes.{has_clean}
-use Rattle.raft_log_model.proofs.Cases.{at_bool, at_option, from_le_true, from_lt_true}
+use Rattle.raft_log_model.proofs.Cases.{at_bool, at_option}
 use Rattle.raft_log_model.proofs.Tests.{run_sets, run_leaves, compact_removes, compact_leaves}
 use Rattle.raft_log_protocol.specs.Survival.{IsSpoken}
-use Rattle.raft_log_protocol.specs.Table.{Table, top}
+use Rattle.raft_log_protocol.specs.Table.{Table}
 use Rattle.raft_log_protocol.specs.Book.{Said, Book, IsRight, IsSettledIndex, IsSettledKey}
 use Rattle.raft_log_protocol.specs.Recovery.{has_compact, has_del, IsRecovered}
 use Rattle.raft_log_protocol.proofs.Words.{option_or-none}
@@ -217,6 +217,10 @@ module _ {E V : Type 0} (said : Said E V) (m : Slot → Option (Content E V)) (t
     in_order = r.in_order;
     below = r.below;
     above = r.above;
+    solid = λ i from high. elim (cases_lt i t.split) [
+      | inl within ↦ (r.rewritten i from within).1
+      | inr appended ↦ (let it = r.newer i appended high in (it.0, sym (means (Index i)) ∙ ap (λ w. unwrap_or w (unwrap_or (said.rewrite (Index i)) None)) it.1))
+    ];
     rewritten = λ i from high. let it = r.rewritten i from high in word_is (Index i) it.0 it.1.0 it.1.1;
     newer = λ i from some. spoken (Index i) (let it = r.newer t.split (le_refl t.split) some in speaks_above append t.split i it.0 from it.1);
     key_newer = λ k a. let it = r.key_newer k a in spoken (Key k) (Some it.0, it.1);

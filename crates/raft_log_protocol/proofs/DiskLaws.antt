@@ -1,10 +1,10 @@
 -- Over every schedule, the numbered files survive.
-use Rattle.std.proofs.Common.{◌≡◌, ℕ, ◌+◌, List, [], ◌∷◌, ◌++◌, refl, sym, ap, ◌∙◌, subst, append_assoc, append-nil}
+use Rattle.std.proofs.Common.{◌≡◌, ◌+◌, List, [], ◌∷◌, ◌++◌, refl, sym, ap, ◌∙◌, subst, append_assoc, append-nil}
 use Rattle.raft_log_model.specs.Item.{Record}
 use Rattle.raft_log_protocol.specs.Queue.{Queue, synced, raised, left, reread}
 use Rattle.raft_log_protocol.specs.Survival.{Survives}
 use Rattle.raft_log_protocol.specs.World.{Keeps}
-use Rattle.raft_log_protocol.specs.Files.{File, FileQueue, records_of, IsNumbered, queue_of, store_of, SurvivesOnDisk, numbered_from}
+use Rattle.raft_log_protocol.specs.Files.{File, FileQueue, records_of, IsNumbered, queue_of, store_of, SurvivesOnDisk}
 use Rattle.raft_log_protocol.specs.Disk.{Disk, DiskEvent, DiskStep, DiskSteps, fresh_disk}
 use Rattle.raft_log_protocol.proofs.FileLaws.{records_of-append, survives_on_disk, file_step_numbers}
 use Rattle.raft_log_protocol.proofs.SurvivalSteps.{survives}

@@ -1,10 +1,9 @@
 -- What a recovery reads of numbered files is an end of the gone ones and the whole span.
-use Rattle.std.proofs.Common.{◌≡◌, ℕ, ◌+◌, ◌<◌, ◌≤◌, ◌⊎◌, List, [], ◌∷◌, ◌++◌, length, take, Option, Some, None, refl, sym, ap, ◌∙◌, subst, inl, inr, append_assoc, append-nil, arith, length-append}
+use Rattle.std.proofs.Common.{◌≡◌, ℕ, ◌+◌, ◌<◌, ◌≤◌, List, [], ◌∷◌, ◌++◌, length, refl, sym, ap, ◌∙◌, subst, inl, inr, append_assoc, append-nil, arith, length-append}
 use Rattle.raft_log_model.specs.Item.{Record}
-use Rattle.raft_log_model.specs.Meaning.{Slot}
-use Rattle.raft_log_model.specs.Groups.{Map, directory_meaning, taken}
+use Rattle.raft_log_model.specs.Groups.{Map, directory_meaning}
 use Rattle.raft_log_protocol.specs.Survival.{Survives}
-use Rattle.raft_log_protocol.specs.Files.{File, FileQueue, records_of, span, on_disk, NumberedFrom, AllBehind, IsNumbered, first_file, IsRead, queue_of, store_of, SurvivesOnDisk, FileEvent, FileStep, numbered_from}
+use Rattle.raft_log_protocol.specs.Files.{File, FileQueue, records_of, span, NumberedFrom, AllBehind, IsNumbered, IsRead, queue_of, store_of, SurvivesOnDisk, FileEvent, FileStep, numbered_from}
 use Rattle.raft_log_protocol.specs.Files.FileEvent.{Grow, Sync, Rotate, Raise, Lose, Read}
 use Rattle.raft_log_protocol.proofs.Starts.{cuts}
 

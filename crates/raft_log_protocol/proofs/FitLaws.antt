@@ -1,16 +1,15 @@
 -- Where all runs end at or below `top`, nothing stands from there on.
-use Rattle.std.proofs.Common.{◌≡◌, ℕ, ◌+◌, ◌-◌, ◌<◌, ◌≤◌, Bool, true, false, if◌then◌else◌, nat_lt, List, [], ◌∷◌, ◌++◌, length, Option, Some, None, option_map, slice_get, unwrap_or, ◌==◌, refl, sym, ap, ◌∙◌, subst, inl, inr, arith}
-use Rattle.std.proofs.lemmas.Bool.{cases_lt}
+use Rattle.std.proofs.Common.{◌≡◌, ℕ, ◌≤◌, if◌then◌else◌, nat_lt, List, [], ◌∷◌, ◌++◌, Option, Some, None, unwrap_or, ◌==◌, refl, sym, ◌∙◌, subst, arith}
 use Rattle.std.specs.Option.{option_or}
-use Rattle.raft_log_model.specs.Item.{Item, Tagged, Record, items_of}
+use Rattle.raft_log_model.specs.Item.{Item, Tagged, Record}
 use Rattle.raft_log_model.specs.Item.Item.{Run, Clean, Compact, Put, Del}
 use Rattle.raft_log_model.specs.Item.Record.{Plain, Part}
 use Rattle.raft_log_model.specs.Item.Mark.{Begin, Middle, End}
-use Rattle.raft_log_model.specs.Meaning.{Slot, Content, write, says}
-use Rattle.raft_log_model.specs.Meaning.Slot.{Index, Key}
-use Rattle.raft_log_model.specs.Groups.{of_group, settle, settled, opens, counts, none_open, set_open, onto, Open, rewritten}
+use Rattle.raft_log_model.specs.Meaning.{Content, write, says}
+use Rattle.raft_log_model.specs.Meaning.Slot.{Index}
+use Rattle.raft_log_model.specs.Groups.{of_group, settle, settled, none_open, set_open, onto, Open, rewritten}
 use Rattle.raft_log_model.proofs.Cases.{at_bool, at_option}
-use Rattle.raft_log_model.proofs.Tests.{run_truncates, run_leaves}
+use Rattle.raft_log_model.proofs.Tests.{run_truncates}
 use Rattle.raft_log_protocol.specs.Table.{top}
 use Rattle.raft_log_protocol.specs.World.{Fits, AllFit, RecordsFit}
 use Rattle.raft_log_protocol.proofs.BookRaises.{no_word}

@@ -1,11 +1,7 @@
 -- The fresh world keeps the machine's invariant, so each world that a schedule leads to survives.
-use Rattle.std.proofs.Common.{◌≡◌, ℕ, ◌≤◌, ◌<◌, Bool, true, false, List, [], ◌∷◌, ◌++◌, Option, Some, None, unwrap_or, refl, sym, ap, ◌∙◌, subst, inl, inr, arith}
-use Rattle.raft_log_model.specs.Item.{Record}
-use Rattle.raft_log_model.specs.Meaning.{Slot, Content}
+use Rattle.std.proofs.Common.{ℕ, List, [], ◌++◌, None, refl, sym, ap, ◌∙◌, inl, arith}
 use Rattle.raft_log_model.specs.Groups.{directory_meaning, taken}
-use Rattle.raft_log_protocol.specs.Queue.{Store}
 use Rattle.raft_log_protocol.specs.Survival.{Holds, Survives}
-use Rattle.raft_log_protocol.specs.Table.{top}
 use Rattle.raft_log_protocol.specs.Book.{Book}
 use Rattle.raft_log_protocol.specs.World.{World, Event, Steps, Keeps, said_of}
 use Rattle.raft_log_protocol.specs.Fresh.{empty_table, nothing_stands, fresh_world}
@@ -26,6 +22,7 @@ module _ {E V : Type 0} where
     in_order = (omega arith, omega arith, omega arith);
     below = λ i h. refl;
     above = λ i h. refl;
+    solid = λ i low high. absurd (omega arith);
     rewritten = λ i low high. absurd (omega arith);
     newer = λ i low some. absurd (omega arith);
     key_newer = λ k h. differ (sym h);

@@ -14,3 +14,5 @@ pub mod FileLaws
 pub mod DiskLaws
 pub mod WrongRuleLaws
 pub mod PurgeLaws
+pub mod ReplayItems
+pub mod ReplayLaws

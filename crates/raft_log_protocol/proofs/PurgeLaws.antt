@@ -1,13 +1,11 @@
 -- A purge changes nothing of what the directory means, and a full one leaves one file.
-use Rattle.std.proofs.Common.{◌≡◌, ℕ, ◌+◌, ◌<◌, ◌≤◌, Bool, true, false, List, [], ◌∷◌, ◌++◌, length, refl, sym, ap, ◌∙◌, subst, append-nil, arith}
-use Rattle.raft_log_model.specs.Item.{Record}
+use Rattle.std.proofs.Common.{◌≡◌, ℕ, false, List, [], ◌∷◌, ◌++◌, length, refl, sym, ap, ◌∙◌, append-nil, arith}
 use Rattle.raft_log_model.specs.Meaning.{Slot}
 use Rattle.raft_log_model.specs.Groups.{Map, directory_meaning, taken}
-use Rattle.raft_log_protocol.specs.Queue.{Queue, Store, raised, with_append}
-use Rattle.raft_log_protocol.specs.Table.{Table}
+use Rattle.raft_log_protocol.specs.Queue.{raised, with_append}
 use Rattle.raft_log_protocol.specs.World.{World, Event, Step, Steps, Keeps}
 use Rattle.raft_log_protocol.specs.World.Event.{Take, SyncAppend, SyncRewrite, WritePlain, WriteBegin, WriteMiddle, WriteEnd, RaiseAppend, RaiseRewrite, LoseAppend, LoseRewrite, Fail, Reopen}
-use Rattle.raft_log_protocol.specs.Files.{File, FileQueue, records_of, span, on_disk, first_file, IsReadOf, IsNumbered, queue_of, store_of, SurvivesOnDisk, FileStep}
+use Rattle.raft_log_protocol.specs.Files.{File, FileQueue, records_of, span, on_disk, first_file, IsReadOf, queue_of, SurvivesOnDisk, FileStep}
 use Rattle.raft_log_protocol.specs.Files.FileEvent.{Raise}
 use Rattle.raft_log_protocol.specs.Purge.{IsOwn, AllOwn, Reading, meaning_there, IsRewritten}
 use Rattle.raft_log_protocol.proofs.BookCarries.{differ}

@@ -1,15 +1,14 @@
 -- Each step keeps what the directory holds.
-use Rattle.std.proofs.Common.{◌≡◌, ℕ, ◌≤◌, ◌⊎◌, ◌+◌, length, take, List, [], ◌∷◌, ◌++◌, Option, Some, None, unwrap_or, refl, sym, ap, ◌∙◌, subst, inl, inr, append_assoc, append-nil, arith, length-append}
+use Rattle.std.proofs.Common.{◌≡◌, ℕ, ◌≤◌, length, take, List, [], ◌∷◌, ◌++◌, Option, None, unwrap_or, sym, ap, ◌∙◌, subst, inl, inr, append_assoc, append-nil, arith, length-append}
 use Rattle.std.proofs.Math.Seq.{take-append_seam}
-use Rattle.std.specs.Option.{option_or}
-use Rattle.raft_log_model.specs.Item.{Item, Tagged, Record}
+use Rattle.raft_log_model.specs.Item.{Item, Record}
 use Rattle.raft_log_model.specs.Meaning.{Slot, Content, says, holds}
 use Rattle.raft_log_model.specs.Groups.{of_group, counts, opened, none_open, appended, rewritten, Map, directory_meaning, taken}
-use Rattle.raft_log_protocol.specs.Queue.{Queue, Store, all_records, takes, synced, raised, left, reread, with_append, with_rewrite}
+use Rattle.raft_log_protocol.specs.Queue.{Store, takes, synced, raised, left, reread, with_append, with_rewrite}
 use Rattle.raft_log_protocol.specs.Survival.{Holds, Survives, IsSpoken, IsHarmless, MayRewrite, MayRaiseAppend, MayRaiseRewrite}
 use Rattle.raft_log_protocol.specs.Unbroken.{IsUnbroken}
 use Rattle.raft_log_protocol.proofs.Words.{says_appended, says-append, rewritten_more, directory_more}
-use Rattle.raft_log_protocol.proofs.UnbrokenLaws.{IsUnbroken-front, IsUnbroken-back, rewritten_end}
+use Rattle.raft_log_protocol.proofs.UnbrokenLaws.{IsUnbroken-back, rewritten_end}
 use Rattle.raft_log_protocol.proofs.Starts.{cuts, beginnings, no_front, spoken_newer, harmless, start_in_append, start_in_rewrite}
 
 module _ {E V : Type 0} where

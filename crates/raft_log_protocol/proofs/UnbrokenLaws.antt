@@ -1,9 +1,9 @@
 -- What counts of an end of unbroken records is an end of what counts of all.
-use Rattle.std.proofs.Common.{◌≡◌, ℕ, Bool, true, false, List, [], ◌∷◌, ◌++◌, map, Option, Some, None, unwrap_or, if◌then◌else◌, ◌==◌, refl, sym, ap, ◌∙◌, subst, append_assoc, append-nil, eq-eqb}
-use Rattle.raft_log_model.specs.Item.{Item, Tagged, Record, Mark}
+use Rattle.std.proofs.Common.{◌≡◌, ℕ, List, [], ◌∷◌, ◌++◌, map, Option, Some, None, unwrap_or, if◌then◌else◌, refl, sym, ap, ◌∙◌, subst, append_assoc, eq-eqb}
+use Rattle.raft_log_model.specs.Item.{Item, Tagged, Record}
 use Rattle.raft_log_model.specs.Item.Record.{Plain, Part}
 use Rattle.raft_log_model.specs.Item.Mark.{Begin, Middle, End}
-use Rattle.raft_log_model.specs.Groups.{of_group, settle, settled, opened, opens, counts, none_open, set_open, onto, Open, rewritten}
+use Rattle.raft_log_model.specs.Groups.{of_group, settle, settled, opened, none_open, set_open, onto, Open, rewritten}
 use Rattle.raft_log_protocol.specs.Unbroken.{going_on, UnbrokenFrom, IsUnbroken, begun, joined}
 use Rattle.raft_log_protocol.proofs.Words.{settle-append, opened-append, of_group-append}
 

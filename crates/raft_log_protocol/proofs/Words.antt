@@ -2,8 +2,8 @@
 use Rattle.std.proofs.Common.{◌≡◌, ℕ, Bool, true, false, List, [], ◌∷◌, ◌++◌, Option, Some, None, unwrap_or, if◌then◌else◌, ◌==◌, refl, sym, ap, ◌∙◌, append_assoc, append-nil}
 use Rattle.std.specs.Option.{option_or}
 use Rattle.raft_log_model.specs.Item.{Item, Tagged, Record, items_of}
-use Rattle.raft_log_model.specs.Meaning.{Slot, Content, write, says, holds, directory, after}
-use Rattle.raft_log_model.specs.Groups.{of_group, contents, settle, settled, opened, opens, counts, none_open, Open, appended, rewritten, Map, directory_meaning, taken}
+use Rattle.raft_log_model.specs.Meaning.{Slot, Content, write, says, holds, after}
+use Rattle.raft_log_model.specs.Groups.{of_group, contents, settle, settled, opened, opens, counts, none_open, Open, appended, rewritten, directory_meaning}
 
 pub option_or-none : {T : Type 0} (o : Option T) → option_or o None ≡ o
 option_or-none None = refl

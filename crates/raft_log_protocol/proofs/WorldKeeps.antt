@@ -1,19 +1,19 @@
 -- Each event keeps the machine's invariant.
-use Rattle.std.proofs.Common.{◌≡◌, ℕ, ◌≤◌, ◌⊎◌, Bool, true, false, List, [], ◌∷◌, ◌++◌, Option, Some, None, unwrap_or, refl, sym, ap, ◌∙◌, subst, inl, inr, append_assoc, append-nil}
+use Rattle.std.proofs.Common.{◌≡◌, ℕ, ◌≤◌, ◌⊎◌, true, false, List, [], ◌∷◌, ◌++◌, Option, Some, None, unwrap_or, refl, sym, ap, ◌∙◌, subst, inl, inr, append_assoc, append-nil}
 use Rattle.std.specs.Option.{option_or}
 use Rattle.raft_log_model.specs.Item.{Item, Tagged, Record, items_of}
 use Rattle.raft_log_model.specs.Item.Record.{Plain, Part}
 use Rattle.raft_log_model.specs.Item.Mark.{Begin, Middle, End}
 use Rattle.raft_log_model.specs.Meaning.{Slot, Content, says, holds, after}
-use Rattle.raft_log_model.specs.Meaning.Slot.{Index, Key}
-use Rattle.raft_log_model.specs.Groups.{of_group, counts, opened, none_open, onto, appended, rewritten, Map, taken}
+use Rattle.raft_log_model.specs.Meaning.Slot.{Index}
+use Rattle.raft_log_model.specs.Groups.{of_group, counts, opened, none_open, onto, appended, rewritten, taken}
 use Rattle.raft_log_protocol.specs.Unbroken.{going_on, UnbrokenFrom, IsUnbroken, begun, joined}
-use Rattle.raft_log_protocol.specs.Queue.{Queue, Store, all_records, takes, synced, raised, left, reread, with_append, with_rewrite}
+use Rattle.raft_log_protocol.specs.Queue.{Store, all_records, takes, synced, raised, left, reread, with_append, with_rewrite}
 use Rattle.raft_log_protocol.specs.Survival.{Holds, IsSpoken, IsHarmless, MayRewrite, MayRaiseAppend, MayRaiseRewrite}
 use Rattle.raft_log_protocol.specs.Table.{Table, top, GrowsBy, CarriesAll, OwesNothing, HasAppended, HasRewritten}
-use Rattle.raft_log_protocol.specs.Book.{Said, Book, IsRight}
+use Rattle.raft_log_protocol.specs.Book.{IsRight}
 use Rattle.raft_log_protocol.specs.Recovery.{IsRecovered}
-use Rattle.raft_log_protocol.specs.World.{AllFit, RecordsFit, World, Event, Step, Steps, GoesOnWith, said_of, Keeps}
+use Rattle.raft_log_protocol.specs.World.{AllFit, RecordsFit, World, Event, Step, Steps, GoesOnWith, IsJoined, said_of, Keeps}
 use Rattle.raft_log_protocol.specs.World.Event.{Take, SyncAppend, SyncRewrite, WritePlain, WriteBegin, WriteMiddle, WriteEnd, RaiseAppend, RaiseRewrite, LoseAppend, LoseRewrite, Fail, Reopen}
 use Rattle.raft_log_protocol.proofs.UnbrokenLaws.{UnbrokenFrom-append, IsUnbroken-front, IsUnbroken-back, going_on-begun, opened-begun}
 use Rattle.raft_log_protocol.proofs.SurvivalSteps.{holds_append_synced, holds_rewrite_synced, holds_rewrite_takes, holds_append_raised, holds_rewrite_raised, holds_append_left, holds_rewrite_left, holds_reread}
@@ -126,7 +126,7 @@ module _ {E V : Type 0} (w : World E V) (k : Keeps w) where
 
   keeps_end : (n : ℕ) (xs : List (Tagged E V)) (first : List (Tagged E V)) (more : List (List (Tagged E V))) (tables : ℕ → Table)
       → w.failed ≡ false → w.store.append.pending ≡ [] → AllFit xs → GoesOnWith w.store.rewrite n first more
-      → ((g : ℕ) → (items : List (Item E V)) × ((s : Slot) → says s (of_group g (joined first more ++ xs)) ≡ says s items) × CarriesAll (w.map g) (w.tables g) items (tables g))
+      → ((g : ℕ) → (items : List (Item E V)) × IsJoined (of_group g (joined first more ++ xs)) items × CarriesAll (w.map g) (w.tables g) items (tables g))
       → Keeps (record w { store = with_rewrite w.store (takes w.store.rewrite (Part (End n) xs)); tables = tables })
   keeps_end n xs first more tables alive nothing fits at_end carry =
       keeps_write (Part (End n) xs) (λ g. (carry g).0) tables (may_write (Part (End n) xs) (λ g. (carry g).0) tables alive nothing counted (λ g. (carry g).2))
@@ -138,7 +138,7 @@ module _ {E V : Type 0} (w : World E V) (k : Keeps w) where
           ∙ opened-begun none_open (back ++ at_end.0) n first more
 
       counted : (g : ℕ) → CountsAs (Part (End n) xs) g (carry g).0
-      counted g cut back start s = ap (λ o. says s (of_group g (unwrap_or (onto o xs) []))) (parts back) ∙ (carry g).1 s
+      counted g cut back start s = ap (λ o. says s (of_group g (unwrap_or (onto o xs) []))) (parts back) ∙ (carry g).1.same_words s
 
   keeps_raise_append : (out stay : List (Record E V)) → w.failed ≡ false → w.store.append.pending ≡ [] → w.store.rewrite.pending ≡ [] → out ++ stay ≡ w.store.append.live
       → ((g : ℕ) → OwesNothing (w.tables g)) → ((g : ℕ) → HasAppended (w.tables g) (appended g stay)) → Keeps (record w { store = with_append w.store (raised w.store.append out stay) })

@@ -1,14 +1,13 @@
 -- What is said of a group in the queues after a step.
-use Rattle.std.proofs.Common.{◌≡◌, ℕ, List, [], ◌∷◌, ◌++◌, Option, Some, None, unwrap_or, refl, sym, ap, ◌∙◌, subst, append_assoc, append-nil}
+use Rattle.std.proofs.Common.{◌≡◌, ℕ, List, [], ◌∷◌, ◌++◌, Option, unwrap_or, sym, ap, ◌∙◌, append_assoc, append-nil}
 use Rattle.std.specs.Option.{option_or}
-use Rattle.raft_log_model.specs.Item.{Item, Tagged, Record, items_of}
+use Rattle.raft_log_model.specs.Item.{Item, Record, items_of}
 use Rattle.raft_log_model.specs.Meaning.{Slot, Content, says}
 use Rattle.raft_log_model.specs.Groups.{of_group, counts, opened, none_open, appended, rewritten, Map, taken}
 use Rattle.raft_log_protocol.specs.Unbroken.{IsUnbroken}
 use Rattle.raft_log_protocol.specs.Queue.{Queue, all_records}
 use Rattle.raft_log_protocol.proofs.Words.{says-append, says_appended, rewritten_more, unwrap_or-option_or}
-use Rattle.raft_log_protocol.proofs.UnbrokenLaws.{IsUnbroken-front, IsUnbroken-back, rewritten_end}
-use Rattle.raft_log_protocol.specs.World.{RecordsFit}
+use Rattle.raft_log_protocol.proofs.UnbrokenLaws.{rewritten_end}
 
 module _ {E V : Type 0} where
   -- one more record of Append

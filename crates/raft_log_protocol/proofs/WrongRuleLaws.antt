@@ -1,14 +1,10 @@
 -- What each wrong rule loses.
-use Rattle.std.proofs.Common.{append-nil, ◌≡◌, ℕ, zero, suc, ◌≤◌, List, [], ◌∷◌, ◌++◌, length, take, Option, Some, None, refl, sym, ap, ◌∙◌, arith}
-use Rattle.raft_log_model.specs.Item.{Item, Tagged, Record}
-use Rattle.raft_log_model.specs.Item.Item.{Run, Clean, Compact, Put, Del}
-use Rattle.raft_log_model.specs.Item.Record.{Plain, Part}
-use Rattle.raft_log_model.specs.Item.Mark.{Begin, Middle, End}
+use Rattle.std.proofs.Common.{append-nil, ◌≡◌, ℕ, zero, suc, ◌≤◌, List, [], ◌∷◌, ◌++◌, take, Some, None, refl, ap, ◌∙◌, arith}
+use Rattle.raft_log_model.specs.Item.{Record}
 use Rattle.raft_log_model.specs.Meaning.{Slot, Content}
 use Rattle.raft_log_model.specs.Meaning.Slot.{Index, Key}
 use Rattle.raft_log_model.specs.Meaning.Content.{Entry, Value}
-use Rattle.raft_log_model.specs.Groups.{Map, directory_meaning, taken}
-use Rattle.raft_log_protocol.specs.Queue.{Queue, Store, raised, with_append, with_rewrite}
+use Rattle.raft_log_model.specs.Groups.{directory_meaning, taken}
 use Rattle.raft_log_protocol.specs.Survival.{Holds, Survives}
 use Rattle.raft_log_protocol.specs.WrongRules.{lone, LosesByAppend, LosesByRewrite, first_run, compact_3, compact_4, all_compacted, one_key, removal, other_key, group_begin, group_end, both, unsynced_both}
 use Rattle.raft_log_protocol.proofs.SurvivalSteps.{survives}

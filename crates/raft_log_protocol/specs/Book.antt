@@ -1,5 +1,5 @@
 -- The invariant that ties a group's table to what the two queues say of the group.
-use Rattle.std.specs.Prelude.{◌≡◌, ℕ, ◌<◌, ◌≤◌, ◌⊎◌, Bool, true, false, List, Option, Some, None, unwrap_or}
+use Rattle.std.specs.Prelude.{◌≡◌, ℕ, ◌<◌, ◌≤◌, ◌⊎◌, true, false, List, Option, Some, None, unwrap_or}
 use Rattle.raft_log_model.specs.Meaning.{Slot, Content}
 use Rattle.raft_log_model.specs.Meaning.Slot.{Index, Key}
 use Rattle.raft_log_protocol.specs.Survival.{IsSpoken}
@@ -34,6 +34,7 @@ pub record Book {E V : Type 0} (said : Said E V) (m : Slot → Option (Content E
   pub in_order : (t.first ≤ t.split) × (t.split ≤ t.end) × (t.end ≤ top)
   pub below : (i : ℕ) → i < t.first → m (Index i) ≡ None
   pub above : (i : ℕ) → t.end ≤ i → m (Index i) ≡ None
+  pub solid : (i : ℕ) → t.first ≤ i → i < t.end → (entry : Content E V) × (m (Index i) ≡ Some entry)
   -- rewritten entries stand in Rewrite's span
   pub rewritten : (i : ℕ) → t.first ≤ i → i < t.split → said.rewrite (Index i) ≡ Some (m (Index i))
   -- where an entry stands in Append, Append's span answers for its index and all above

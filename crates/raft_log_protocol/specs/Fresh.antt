@@ -1,8 +1,7 @@
 -- The world of two empty queues.
-use Rattle.std.specs.Prelude.{ℕ, List, [], Bool, true, false, Option, None}
-use Rattle.raft_log_model.specs.Meaning.{Slot, Content}
+use Rattle.std.specs.Prelude.{[], false, None}
 use Rattle.raft_log_model.specs.Groups.{Map}
-use Rattle.raft_log_protocol.specs.Queue.{Queue, Store}
+use Rattle.raft_log_protocol.specs.Queue.{Queue}
 use Rattle.raft_log_protocol.specs.Table.{Table}
 use Rattle.raft_log_protocol.specs.World.{World}
 

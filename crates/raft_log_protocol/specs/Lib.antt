@@ -10,3 +10,4 @@ pub mod Files
 pub mod Disk
 pub mod WrongRules
 pub mod Purge
+pub mod Replay

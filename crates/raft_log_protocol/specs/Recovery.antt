@@ -1,7 +1,7 @@
 -- What an open knows of a group's table that it made from the files it read.
 use Rattle.std.specs.Prelude.{◌≡◌, ℕ, ◌<◌, ◌≤◌, ◌⊎◌, Bool, true, false, ◌||◌, bytes_eq, List, [], ◌∷◌, Option, Some, None}
 use Rattle.raft_log_model.specs.Item.{Item}
-use Rattle.raft_log_model.specs.Item.Item.{Run, Clean, Compact, Put, Del}
+use Rattle.raft_log_model.specs.Item.Item.{Compact, Del}
 use Rattle.raft_log_model.specs.Meaning.{Slot, Content, says}
 use Rattle.raft_log_model.specs.Meaning.Slot.{Index, Key}
 use Rattle.raft_log_model.specs.Holes.{has_clean}

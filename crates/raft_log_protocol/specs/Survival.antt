@@ -1,9 +1,9 @@
 -- What a crash may leave of two queues of records, and that it means the same from every start of the reading.
-use Rattle.std.specs.Prelude.{◌≡◌, ℕ, ◌≤◌, ◌⊎◌, List, [], ◌∷◌, ◌++◌, length, take, Option, None, Some}
+use Rattle.std.specs.Prelude.{◌≡◌, ℕ, ◌≤◌, ◌⊎◌, List, ◌++◌, length, take, Option, None, Some}
 use Rattle.raft_log_model.specs.Item.{Record}
 use Rattle.raft_log_model.specs.Meaning.{Slot, says, holds}
 use Rattle.raft_log_model.specs.Groups.{of_group, counts, opened, none_open, appended, rewritten, Map, directory_meaning, taken}
-use Rattle.raft_log_protocol.specs.Queue.{Queue, Store}
+use Rattle.raft_log_protocol.specs.Queue.{Store}
 
 -- the directory holds the map m: from every start, and with every beginning of Rewrite's unsynced records, what is synced of Append means m
 abbrev pub Holds : {E V : Type 0} → Store E V → Map E V → Type 0

@@ -1,8 +1,8 @@
 -- What the engine's table of one group knows, how it follows what is written, and which marks it still owes to Rewrite.
-use Rattle.std.specs.Prelude.{◌≡◌, ℕ, ◌+◌, ◌-◌, ◌^◌, ◌<◌, ◌≤◌, ◌⊎◌, min, max, Bool, true, false, if◌then◌else◌, bytes_eq, List, [], ◌∷◌, ◌++◌, length, Option, Some, None, option_map, slice_get}
+use Rattle.std.specs.Prelude.{◌≡◌, ℕ, ◌+◌, ◌-◌, ◌^◌, ◌<◌, ◌≤◌, ◌⊎◌, min, max, Bool, true, false, if◌then◌else◌, bytes_eq, List, [], ◌∷◌, length, Option, Some, None, option_map, slice_get}
 use Rattle.raft_log_model.specs.Item.{Item}
 use Rattle.raft_log_model.specs.Item.Item.{Run, Clean, Compact, Put, Del}
-use Rattle.raft_log_model.specs.Meaning.{Slot, Content, write, says}
+use Rattle.raft_log_model.specs.Meaning.{Slot, Content, says}
 use Rattle.raft_log_model.specs.Meaning.Slot.{Index, Key}
 use Rattle.raft_log_model.specs.Meaning.Content.{Entry, Value}
 
@@ -63,7 +63,7 @@ Restates m f es = (i : ℕ) → f ≤ i → i < f + length es → option_map Ent
 
 -- Rewrite may take the item where the group's map is m and its table t, and then the table is u:
 -- * a run of what stands, from a rewritten index (or the first appended one) on, up to the last rewritten entry or past it; to go past it
---   no Clean may be owed;
+--   neither Clean nor Compact may be owed;
 -- * a Clean that is owed;
 -- * a Compact of the first index where rewritten entries stand, else of `top`;
 -- * a Put of a key's value; of an appended one neither Clean nor Del may be owed;
@@ -72,7 +72,7 @@ abbrev pub Carries : {E V : Type 0} → (Slot → Option (Content E V)) → Tabl
 Carries m t (Run f []) u = u ≡ t
 Carries m t (Run f (e ∷ es)) u =
     (t.first ≤ f) × (f ≤ t.split) × (t.split ≤ f + length (e ∷ es)) × (f + length (e ∷ es) ≤ t.end) × Restates m f (e ∷ es)
-    × ((t.split ≡ f + length (e ∷ es)) ⊎ (t.cleaned ≡ false)) × (u ≡ record t { split = f + length (e ∷ es) })
+    × ((t.split ≡ f + length (e ∷ es)) ⊎ ((t.cleaned ≡ false) × (t.compacted ≡ false))) × (u ≡ record t { split = f + length (e ∷ es) })
 Carries m t Clean u = (t.cleaned ≡ true) × (u ≡ record t { cleaned = false })
 Carries m t (Compact c) u =
     (((t.first < t.split) × (c ≡ t.first)) ⊎ ((t.first ≡ t.split) × (c ≡ top))) × (u ≡ record t { compacted = false })

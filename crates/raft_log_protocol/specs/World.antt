@@ -4,8 +4,9 @@ use Rattle.raft_log_model.specs.Item.{Item, Tagged, Record, items_of}
 use Rattle.raft_log_model.specs.Item.Item.{Run, Clean, Compact, Put, Del}
 use Rattle.raft_log_model.specs.Item.Record.{Plain, Part}
 use Rattle.raft_log_model.specs.Item.Mark.{Begin, Middle, End}
-use Rattle.raft_log_model.specs.Meaning.{Slot, Content, says}
+use Rattle.raft_log_model.specs.Meaning.{Slot, says}
 use Rattle.raft_log_model.specs.Groups.{of_group, appended, rewritten, Map, taken}
+use Rattle.raft_log_model.specs.Holes.{Window, NoHole}
 use Rattle.raft_log_protocol.specs.Unbroken.{IsUnbroken, begun, joined}
 use Rattle.raft_log_protocol.specs.Queue.{Queue, Store, all_records, takes, synced, raised, left, reread, with_append, with_rewrite}
 use Rattle.raft_log_protocol.specs.Survival.{Holds}
@@ -65,6 +66,12 @@ pub data Event (E V : Type 0) : Type 0 where
 abbrev pub GoesOnWith : {E V : Type 0} → Queue E V → ℕ → List (Tagged E V) → List (List (Tagged E V)) → Type 0
 GoesOnWith {E} {V} q n first more = (front : List (Record E V)) × (q.live ++ q.pending ≡ front ++ begun n first more)
 
+-- The items of an atomic group may be taken as these: they say the same of each slot, and leave no hole where these leave none. So several runs, each at the end of
+-- the one before, may be taken as one
+pub record IsJoined {E V : Type 0} (parts items : List (Item E V)) : Type 0 where
+  pub same_words : (s : Slot) → says s parts ≡ says s items
+  pub no_more_holes : (w : Window) → NoHole w items → NoHole w parts
+
 -- What each event asks, and the world v that it leads to from w. All that is asked of groups is asked of their tables
 abbrev pub Step : {E V : Type 0} → Event E V → World E V → World E V → Type 0
 Step (Take y) w v =
@@ -89,7 +96,7 @@ Step {E} {V} (WriteEnd n xs) w v =
     (w.failed ≡ false) × (w.store.append.pending ≡ []) × AllFit xs
     × ((first : List (Tagged E V)) × (more : List (List (Tagged E V))) × GoesOnWith w.store.rewrite n first more
     × ((tables : ℕ → Table)
-    × ((g : ℕ) → (items : List (Item E V)) × ((s : Slot) → says s (of_group g (joined first more ++ xs)) ≡ says s items)
+    × ((g : ℕ) → (items : List (Item E V)) × IsJoined (of_group g (joined first more ++ xs)) items
     × CarriesAll (w.map g) (w.tables g) items (tables g))
     × (v ≡ record w { store = with_rewrite w.store (takes w.store.rewrite (Part (End n) xs)); tables = tables })))
 Step (RaiseAppend out stay) w v =

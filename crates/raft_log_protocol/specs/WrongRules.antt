@@ -1,13 +1,12 @@
 -- For each wrong rule a directory that holds its map, and what the rule makes of it. Entries and values are numbers.
-use Rattle.std.specs.Prelude.{◌≡◌, ℕ, List, [], ◌∷◌, Option, Some, None}
+use Rattle.std.specs.Prelude.{ℕ, List, [], ◌∷◌}
 use Rattle.raft_log_model.specs.Item.{Item, Tagged, Record}
-use Rattle.raft_log_model.specs.Item.Item.{Run, Clean, Compact, Put, Del}
+use Rattle.raft_log_model.specs.Item.Item.{Run, Clean, Compact, Put}
 use Rattle.raft_log_model.specs.Item.Record.{Plain, Part}
-use Rattle.raft_log_model.specs.Item.Mark.{Begin, Middle, End}
-use Rattle.raft_log_model.specs.Meaning.{Slot, Content}
-use Rattle.raft_log_model.specs.Groups.{Map, directory_meaning}
+use Rattle.raft_log_model.specs.Item.Mark.{Begin, End}
+use Rattle.raft_log_model.specs.Groups.{directory_meaning}
 use Rattle.raft_log_protocol.specs.Queue.{Queue, Store, raised, with_append, with_rewrite}
-use Rattle.raft_log_protocol.specs.Survival.{Holds, Survives}
+use Rattle.raft_log_protocol.specs.Survival.{Holds}
 
 -- items of a group
 abbrev pub of : ℕ → List (Item ℕ ℕ) → List (Tagged ℕ ℕ)

@@ -4,6 +4,7 @@
 //! * [`survival`]: what a directory holds, step by step, on the records of the two queues alone;
 //! * [`machine`]: the engine's tables beside the queues, each event, and every schedule of them;
 //! * [`files`]: the same on numbered files, from every file from which a recovery may read;
+//! * [`replay`]: whatever a crash leaves can be read: no holes, and no broken atomic groups;
 //! * [`purge`]: a purge changes nothing, a full rewrite leaves one file, a fork means the same;
 //! * [`wrong_rules`]: rules that look right, and what each loses.
 #![tactic(auto)]
@@ -11,5 +12,6 @@
 pub mod files;
 pub mod machine;
 pub mod purge;
+pub mod replay;
 pub mod survival;
 pub mod wrong_rules;

@@ -16,3 +16,4 @@ pub mod WrongRuleLaws
 pub mod PurgeLaws
 pub mod ReplayItems
 pub mod ReplayLaws
+pub mod ExampleLaws

@@ -11,3 +11,4 @@ pub mod Disk
 pub mod WrongRules
 pub mod Purge
 pub mod Replay
+pub mod Example

@@ -6,9 +6,11 @@
 //! * [`files`]: the same on numbered files, from every file from which a recovery may read;
 //! * [`replay`]: whatever a crash leaves can be read: no holes, and no broken atomic groups;
 //! * [`purge`]: a purge changes nothing, a full rewrite leaves one file, a fork means the same;
+//! * [`example`]: a schedule with two purges and a crash, step by step;
 //! * [`wrong_rules`]: rules that look right, and what each loses.
 #![tactic(auto)]
 
+pub mod example;
 pub mod files;
 pub mod machine;
 pub mod purge;

@@ -13,7 +13,7 @@ use Rattle.raft_log_model.proofs.Windows.{inside}
 use Rattle.raft_log_model.proofs.Tests.{run_sets, run_truncates, run_leaves, compact_removes, compact_leaves}
 use Rattle.raft_log_protocol.specs.Survival.{IsSpoken}
 use Rattle.raft_log_protocol.specs.Table.{Table, top, with_key, Alone, GoesOn, compacted_first, Grows, GrowsBy}
-use Rattle.raft_log_protocol.proofs.Words.{option_or_assoc, unwrap_or-option_or}
+use Rattle.raft_log_protocol.proofs.Words.{option_or_assoc, unwrap_or_option_or}
 use Rattle.raft_log_protocol.specs.Book.{Said, Book, IsRight}
 
 pub spoken_after : {C : Type 0} (newer older : Option (Option C)) → IsSpoken older → IsSpoken (option_or newer older)
@@ -284,5 +284,5 @@ grows_by said m t [] u e b = subst (λ v. Book (append_said_all said []) (after 
 grows_by said m t (x ∷ xs) u h b =
     book_along (append_said_all (append_said said x) xs) (append_said_all said (x ∷ xs)) (after (stepped m x) xs) (after m (x ∷ xs)) u
     (λ s. refl) (λ s. refl) (λ s. sym (option_or_assoc (says s xs) (write s x) (said.append s)))
-    (λ s. sym (unwrap_or-option_or (says s xs) (write s x) (m s)))
+    (λ s. sym (unwrap_or_option_or (says s xs) (write s x) (m s)))
     (grows_by (append_said said x) (stepped m x) h.0 xs u h.2 (grows said m t b x h.0 h.1))

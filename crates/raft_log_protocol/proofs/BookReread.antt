@@ -14,7 +14,7 @@ use Rattle.raft_log_protocol.specs.Survival.{IsSpoken}
 use Rattle.raft_log_protocol.specs.Table.{Table}
 use Rattle.raft_log_protocol.specs.Book.{Said, Book, IsRight, IsSettledIndex, IsSettledKey}
 use Rattle.raft_log_protocol.specs.Recovery.{has_compact, has_del, IsRecovered}
-use Rattle.raft_log_protocol.proofs.Words.{option_or-none}
+use Rattle.raft_log_protocol.proofs.Words.{option_or_none}
 use Rattle.raft_log_protocol.proofs.Starts.{spoken_newer}
 use Rattle.raft_log_protocol.proofs.BookGrows.{spoken_after}
 use Rattle.raft_log_protocol.proofs.BookCarries.{differ}
@@ -127,9 +127,9 @@ module _ {E V : Type 0} where
   -- where a key's last word is that nothing stands there, the items have a Clean or a Del of it
   emptied_key : (xs : List (Item E V)) (k : List ℕ) → says (Key k) xs ≡ Some None → (has_clean xs ≡ true) ⊎ (has_del k xs ≡ true)
   emptied_key [] k h = no_word None h
-  emptied_key (Run f es ∷ xs) k h = emptied_key xs k (sym (option_or-none (says (Key k) xs)) ∙ h)
+  emptied_key (Run f es ∷ xs) k h = emptied_key xs k (sym (option_or_none (says (Key k) xs)) ∙ h)
   emptied_key (Clean ∷ xs) k h = inl refl
-  emptied_key (Compact c ∷ xs) k h = emptied_key xs k (sym (option_or-none (says (Key k) xs)) ∙ h)
+  emptied_key (Compact c ∷ xs) k h = emptied_key xs k (sym (option_or_none (says (Key k) xs)) ∙ h)
   emptied_key (Put l v ∷ xs) k h =
       at_option (says (Key k) xs) (λ w. option_or w (write (Key k) (Put l v)) ≡ Some None → (has_clean xs ≡ true) ⊎ (has_del k xs ≡ true))
       (λ e j. at_bool (bytes_eq l k) (λ b. ◌≡◌ {A = Option (Option (Content E V))} (if b then Some (Some (Value v)) else None) (Some None) → (has_clean xs ≡ true) ⊎ (has_del k xs ≡ true))
@@ -140,19 +140,19 @@ module _ {E V : Type 0} where
       some_value e = cc
   emptied_key (Del l ∷ xs) k h =
       at_bool (bytes_eq l k) (λ b. option_or (says (Key k) xs) (if b then Some None else None) ≡ Some None → (has_clean xs ≡ true) ⊎ ((b || has_del k xs) ≡ true))
-      (λ e j. inr refl) (λ e j. emptied_key xs k (sym (option_or-none (says (Key k) xs)) ∙ j)) h
+      (λ e j. inr refl) (λ e j. emptied_key xs k (sym (option_or_none (says (Key k) xs)) ∙ j)) h
 
 module _ {E V : Type 0} (said : Said E V) (m : Slot → Option (Content E V)) (t : Table) (append : List (Item E V)) (r : IsRecovered m append t)
     (lowest_means : (s : Slot) → unwrap_or (says s append) (unwrap_or (said.lowest s) None) ≡ m s)
     (means : (s : Slot) → unwrap_or (says s append) (unwrap_or (said.rewrite s) None) ≡ m s)
-    (says_append : (s : Slot) → said.append s ≡ says s append) where
+    (append_is : (s : Slot) → said.append s ≡ says s append) where
   -- where Append is silent, Rewrite is right
   right_if_quiet : (s : Slot) → says s append ≡ None → IsRight said m s
   right_if_quiet s e =
       (sym (ap (λ w. unwrap_or w (unwrap_or (said.lowest s) None)) e) ∙ lowest_means s, sym (ap (λ w. unwrap_or w (unwrap_or (said.rewrite s) None)) e) ∙ means s)
 
   spoken : (s : Slot) → IsSpoken (says s append) → IsSpoken (said.append s)
-  spoken s h = (h.0, says_append s ∙ h.1)
+  spoken s h = (h.0, append_is s ∙ h.1)
 
   -- a content of Rewrite where Append is silent is Rewrite's word
   its_word : (s : Slot) (w : Option (Option (Content E V))) (c : Content E V) → unwrap_or w None ≡ Some c → w ≡ Some (Some c)

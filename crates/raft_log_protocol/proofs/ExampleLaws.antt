@@ -1,27 +1,25 @@
 -- The example's events can happen, one after the other.
-use Rattle.std.proofs.Common.{◌≡◌, ℕ, ◌+◌, ◌-◌, ◌<◌, ◌≤◌, ◌⊎◌, Bool, true, false, if◌then◌else◌, ◌==◌, bytes_eq, List, [], ◌∷◌, ◌++◌, length, Option, Some, None, option_map, slice_get, unwrap_or, refl, sym, ap, ◌∙◌, subst, inl, inr, arith}
+use Rattle.std.proofs.Common.{◌≡◌, ℕ, ◌+◌, ◌-◌, ◌<◌, ◌≤◌, ◌⊎◌, true, false, if◌then◌else◌, ◌==◌, bytes_eq, List, [], ◌∷◌, length, Option, Some, None, option_map, slice_get, unwrap_or, refl, sym, ap, ◌∙◌, subst, inl, inr, arith}
 use Rattle.std.proofs.lemmas.Bool.{cases_Bool}
 use Rattle.std.specs.Option.{option_or}
-use Rattle.raft_log_model.specs.Item.{Item, Tagged, Record, items_of}
-use Rattle.raft_log_model.specs.Item.Item.{Run, Clean, Compact, Put, Del}
+use Rattle.raft_log_model.specs.Item.{Item}
+use Rattle.raft_log_model.specs.Item.Item.{Run, Compact, Put}
 use Rattle.raft_log_model.specs.Item.Record.{Plain}
-use Rattle.raft_log_model.specs.Meaning.{Slot, Content, write, says, holds}
+use Rattle.raft_log_model.specs.Meaning.{Slot, Content, says, holds}
 use Rattle.raft_log_model.specs.Meaning.Slot.{Index, Key}
 use Rattle.raft_log_model.specs.Meaning.Content.{Entry, Value}
 use Rattle.raft_log_model.specs.Groups.{of_group, appended, Map, taken}
-use Rattle.raft_log_model.specs.Holes.{Window, nothing, window, NoHole}
 use Rattle.raft_log_model.proofs.Cases.{at_bool, if_false, from_eq_true}
-use Rattle.raft_log_model.proofs.Tests.{run_sets, from_same_key, same_key, put_sets}
+use Rattle.raft_log_model.proofs.Tests.{run_sets}
 use Rattle.raft_log_model.proofs.Windows.{Spans, one_run_fits}
-use Rattle.raft_log_protocol.specs.Queue.{Queue, Store, takes, synced, raised, reread, with_append, with_rewrite}
-use Rattle.raft_log_protocol.specs.Table.{Table, top, with_key, Grows, GrowsBy, Carries, CarriesAll, OwesNothing, HasAppended}
+use Rattle.raft_log_protocol.specs.Queue.{takes, synced, raised, reread, with_append, with_rewrite}
+use Rattle.raft_log_protocol.specs.Table.{Table, top, with_key, GrowsBy, CarriesAll, OwesNothing, HasAppended}
 use Rattle.raft_log_protocol.specs.Recovery.{IsRecovered}
-use Rattle.raft_log_protocol.specs.Fresh.{empty_table, nothing_stands, fresh_world}
-use Rattle.raft_log_protocol.specs.World.{World, Event, Step, Steps}
-use Rattle.raft_log_protocol.specs.World.Event.{Take, SyncAppend, SyncRewrite, WritePlain, RaiseAppend, Reopen}
+use Rattle.raft_log_protocol.specs.Fresh.{empty_table, fresh_world}
+use Rattle.raft_log_protocol.specs.World.{World, Steps}
 use Rattle.raft_log_protocol.specs.WrongRules.{of}
 use Rattle.raft_log_protocol.specs.Example.{entries, compaction, only, two_purges, purged_twice, read_again}
-use Rattle.raft_log_protocol.proofs.Words.{says-append, unwrap_or-option_or}
+use Rattle.raft_log_protocol.proofs.Words.{says_append, unwrap_or_option_or}
 use Rattle.raft_log_protocol.proofs.BookCarries.{differ}
 use Rattle.raft_log_protocol.proofs.BookRaises.{no_word}
 
@@ -134,8 +132,8 @@ spans = one_run_fits read_items (refl, (tt, (tt, tt)))
 
 same_map : (s : Slot) → holds s read_items ≡ w11.map 1 s
 same_map s =
-    ap (λ w. unwrap_or w None) (says-append s (Run 1 (11 ∷ 12 ∷ 13 ∷ []) ∷ []) (Compact 3 ∷ Put (5 ∷ []) 50 ∷ []))
-    ∙ unwrap_or-option_or (says s (Compact 3 ∷ Put (5 ∷ []) 50 ∷ [])) (says s (Run 1 (11 ∷ 12 ∷ 13 ∷ []) ∷ [])) None
+    ap (λ w. unwrap_or w None) (says_append s (Run 1 (11 ∷ 12 ∷ 13 ∷ []) ∷ []) (Compact 3 ∷ Put (5 ∷ []) 50 ∷ []))
+    ∙ unwrap_or_option_or (says s (Compact 3 ∷ Put (5 ∷ []) 50 ∷ [])) (says s (Run 1 (11 ∷ 12 ∷ 13 ∷ []) ∷ [])) None
 
 word : (w : Option (Option (Content ℕ ℕ))) (c : Content ℕ ℕ) → unwrap_or w None ≡ Some c → w ≡ Some (Some c)
 word None c e = no_word c e

@@ -14,7 +14,7 @@ use Rattle.raft_log_model.proofs.Windows.{Spans, one_run_fits}
 use Rattle.raft_log_protocol.specs.Table.{Table, top, Grows, GrowsBy, Carries, CarriesAll}
 use Rattle.raft_log_protocol.specs.Book.{Said, Book}
 use Rattle.raft_log_protocol.specs.Replay.{IsTopOf}
-use Rattle.raft_log_protocol.proofs.Words.{says-append}
+use Rattle.raft_log_protocol.proofs.Words.{says_append}
 use Rattle.raft_log_protocol.proofs.BookGrows.{append_said, stepped, grows}
 use Rattle.raft_log_protocol.proofs.BookCarries.{differ, rewrite_said, carries}
 use Rattle.raft_log_protocol.proofs.BookRaises.{no_word, speaks_above}
@@ -145,7 +145,7 @@ all_written_fit said m t whole (x ∷ xs) u b all no_hole c =
       fits,
       subst (λ w. NoHole w xs) (window_append nothing whole (x ∷ []))
           (all_written_fit (rewrite_said said x) m c.0 (whole ++ x ∷ []) xs u (carries said m t b x c.0 c.1)
-          (λ s. ap (λ w. option_or (write s x) w) (all s) ∙ sym (says-append s whole (x ∷ [])))
+          (λ s. ap (λ w. option_or (write s x) w) (all s) ∙ sym (says_append s whole (x ∷ [])))
           (no_hole_append nothing whole (x ∷ []) no_hole (fits, tt)) c.2),
     )
 

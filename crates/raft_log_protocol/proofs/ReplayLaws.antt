@@ -15,7 +15,7 @@ use Rattle.raft_log_protocol.specs.World.{World, Event, Step, Steps, GoesOnWith,
 use Rattle.raft_log_protocol.specs.World.Event.{Take, SyncAppend, SyncRewrite, WritePlain, WriteBegin, WriteMiddle, WriteEnd, RaiseAppend, RaiseRewrite, LoseAppend, LoseRewrite, Fail, Reopen}
 use Rattle.raft_log_protocol.specs.Replay.{Replays, IsTopOf, KeepsReplay}
 use Rattle.raft_log_protocol.specs.Fresh.{fresh_world}
-use Rattle.raft_log_protocol.proofs.Words.{appended-append, settle-append, of_group-append, rewritten_more}
+use Rattle.raft_log_protocol.proofs.Words.{appended_append, settle_append, of_group_append, rewritten_more}
 use Rattle.raft_log_protocol.proofs.UnbrokenLaws.{IsUnbroken-front, IsUnbroken-back, rewritten_end, opened-begun}
 use Rattle.raft_log_protocol.proofs.BookCarries.{differ}
 use Rattle.raft_log_protocol.proofs.WorldWords.{all_more}
@@ -37,15 +37,15 @@ module _ {E V : Type 0} where
   pub rewritten_front : (g : ℕ) (xs ys : List (Record E V)) → (more : List (Item E V)) × (rewritten g xs ++ more ≡ rewritten g (xs ++ ys))
   rewritten_front g xs ys = (
     of_group g (settle (opened none_open xs) ys),
-    sym (of_group-append g (settled xs) (settle (opened none_open xs) ys)) ∙ ap (of_group g) (sym (settle-append none_open xs ys)),
+    sym (of_group_append g (settled xs) (settle (opened none_open xs) ys)) ∙ ap (of_group g) (sym (settle_append none_open xs ys)),
   )
 
   -- no hole in all, then none in a beginning, and none in an end
   appended_front_fits : (g : ℕ) (xs ys : List (Record E V)) → NoHole nothing (appended g (xs ++ ys)) → NoHole nothing (appended g xs)
-  appended_front_fits g xs ys h = no_hole_front nothing (appended g xs) (appended g ys) (subst (λ l. NoHole nothing l) (appended-append g xs ys) h)
+  appended_front_fits g xs ys h = no_hole_front nothing (appended g xs) (appended g ys) (subst (λ l. NoHole nothing l) (appended_append g xs ys) h)
 
   appended_back_fits : (g : ℕ) (xs ys : List (Record E V)) → NoHole nothing (appended g (xs ++ ys)) → NoHole nothing (appended g ys)
-  appended_back_fits g xs ys h = no_hole_later (appended g xs) (appended g ys) (subst (λ l. NoHole nothing l) (appended-append g xs ys) h)
+  appended_back_fits g xs ys h = no_hole_later (appended g xs) (appended g ys) (subst (λ l. NoHole nothing l) (appended_append g xs ys) h)
 
   rewritten_front_fits : (g : ℕ) (xs ys : List (Record E V)) → NoHole nothing (rewritten g (xs ++ ys)) → NoHole nothing (rewritten g xs)
   rewritten_front_fits g xs ys h =
@@ -61,8 +61,8 @@ module _ {E V : Type 0} where
   later_top g xs ys t h top =
       top_of_tail (window nothing (appended g ys)) (window (window nothing (appended g xs)) (appended g ys)) t
       (tail_no_hole nothing (window nothing (appended g xs)) (appended g ys) (inl (omega arith))
-      (no_hole_end nothing (appended g xs) (appended g ys) (subst (λ l. NoHole nothing l) (appended-append g xs ys) h))).1
-      (subst (λ w. IsTopOf w t) (ap (window nothing) (appended-append g xs ys) ∙ window_append nothing (appended g xs) (appended g ys)) top)
+      (no_hole_end nothing (appended g xs) (appended g ys) (subst (λ l. NoHole nothing l) (appended_append g xs ys) h))).1
+      (subst (λ w. IsTopOf w t) (ap (window nothing) (appended_append g xs ys) ∙ window_append nothing (appended g xs) (appended g ys)) top)
 
   -- an image from a start: of all = cut ++ (back ++ (live ++ kept)) ++ lost
   image_is : (q : Queue E V) (kept lost cut back : List (Record E V)) → kept ++ lost ≡ q.pending → cut ++ back ≡ q.gone
@@ -103,7 +103,7 @@ module _ {E V : Type 0} (w : World E V) (k : Keeps w) (p : KeepsReplay w) where
     where
       list_is : (g : ℕ) → appended g (w.store.append.gone ++ (w.store.append.live ++ (w.store.append.pending ++ y ∷ []))) ≡ appended g (all_records w.store.append) ++ of_group g (items_of y)
       list_is g =
-          ap (appended g) (all_more w.store.append y) ∙ appended-append g (all_records w.store.append) (y ∷ [])
+          ap (appended g) (all_more w.store.append y) ∙ appended_append g (all_records w.store.append) (y ∷ [])
           ∙ ap (λ l. appended g (all_records w.store.append) ++ of_group g l) (append-nil (items_of y))
 
       fit : (g : ℕ) → NoHole (window nothing (appended g (all_records w.store.append))) (of_group g (items_of y))

@@ -7,7 +7,7 @@ use Rattle.raft_log_model.specs.Groups.{of_group, counts, opened, none_open, app
 use Rattle.raft_log_protocol.specs.Queue.{Store, takes, synced, raised, left, reread, with_append, with_rewrite}
 use Rattle.raft_log_protocol.specs.Survival.{Holds, Survives, IsSpoken, IsHarmless, MayRewrite, MayRaiseAppend, MayRaiseRewrite}
 use Rattle.raft_log_protocol.specs.Unbroken.{IsUnbroken}
-use Rattle.raft_log_protocol.proofs.Words.{says_appended, says-append, rewritten_more, directory_more}
+use Rattle.raft_log_protocol.proofs.Words.{says_appended, says_append, rewritten_more, directory_more}
 use Rattle.raft_log_protocol.proofs.UnbrokenLaws.{IsUnbroken-back, rewritten_end}
 use Rattle.raft_log_protocol.proofs.Starts.{cuts, beginnings, no_front, spoken_newer, harmless, start_in_append, start_in_rewrite}
 
@@ -73,7 +73,7 @@ module _ {E V : Type 0} where
           ∙ ap (λ k. directory_meaning k (a_back ++ q.append.live) g s)
           (ap (λ k. r_back ++ k) (sym (append_assoc q.rewrite.live q.rewrite.pending (y ∷ []))) ∙ sym (append_assoc r_back (q.rewrite.live ++ q.rewrite.pending) (y ∷ [])))
           ∙ ap (λ w. unwrap_or a_word (unwrap_or w None))
-          (ap (says s) (rewritten_more g r y) ∙ says-append s (rewritten g r) (of_group g (counts (opened none_open r) y)))
+          (ap (says s) (rewritten_more g r y) ∙ says_append s (rewritten g r) (of_group g (counts (opened none_open r) y)))
           ∙ harmless a_word (says s (rewritten g r)) word (m g s)
           (h g s q.rewrite.pending [] r_cut r_back a_cut a_back (append-nil q.rewrite.pending) r_start a_start) is_harmless
 
@@ -132,12 +132,12 @@ module _ {E V : Type 0} where
       within x e =
           ap (λ k. directory_meaning (r_back ++ k) (a_back ++ q.append.live) g s) no_more
           ∙ start_in_rewrite a_word (says s (rewritten g (r_back ++ n2))) (says s longer.0) (m g s)
-          (ap (λ w. unwrap_or a_word (unwrap_or w None)) (sym (says-append s longer.0 (rewritten g (r_back ++ n2))) ∙ ap (says s) longer.1)
+          (ap (λ w. unwrap_or a_word (unwrap_or w None)) (sym (says_append s longer.0 (rewritten g (r_back ++ n2))) ∙ ap (says s) longer.1)
           ∙ ap (λ r. directory_meaning r (a_back ++ q.append.live) g s) (live_is ∙ sym (append-nil q.rewrite.live) ∙ ap (λ k. q.rewrite.live ++ k) (sym (no_front r_kept r_lost (kept ∙ nothing))))
           ∙ h g s r_kept r_lost q.rewrite.gone [] a_cut a_back kept (append-nil q.rewrite.gone) a_start)
           (elim (may g s) [
             | inl spoken ↦ inl (spoken_newer (says s (rewritten g n2)) (says s shorter.0) (says s (rewritten g (r_back ++ n2)))
-                (ap (says s) (sym shorter.1) ∙ says-append s shorter.0 (rewritten g n2)) spoken)
+                (ap (says s) (sym shorter.1) ∙ says_append s shorter.0 (rewritten g n2)) spoken)
             | inr (inl none) ↦ inr (inl none)
             | inr (inr spoken) ↦ inr (inr (spoken_newer (says s (appended g q.append.live)) (says s (appended g a_back)) a_word (says_appended g s a_back q.append.live) spoken))
           ])

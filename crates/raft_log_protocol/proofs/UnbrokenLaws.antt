@@ -5,7 +5,7 @@ use Rattle.raft_log_model.specs.Item.Record.{Plain, Part}
 use Rattle.raft_log_model.specs.Item.Mark.{Begin, Middle, End}
 use Rattle.raft_log_model.specs.Groups.{of_group, settle, settled, opened, none_open, set_open, onto, Open, rewritten}
 use Rattle.raft_log_protocol.specs.Unbroken.{going_on, UnbrokenFrom, IsUnbroken, begun, joined}
-use Rattle.raft_log_protocol.proofs.Words.{settle-append, opened-append, of_group-append}
+use Rattle.raft_log_protocol.proofs.Words.{settle_append, opened_append, of_group_append}
 
 module _ {E V : Type 0} where
   pub set_open-same : (o : Open E V) (n : ℕ) (v : Option (List (Tagged E V))) → set_open o n v n ≡ v
@@ -82,14 +82,14 @@ module _ {E V : Type 0} where
   settled_end cut back h =
       let at_back = settle_end (going_on h.0 cut) (opened none_open cut) none_open back (UnbrokenFrom-back h.0 cut back h.1) (λ n e. refl) in (
         settled cut ++ at_back.0,
-        append_assoc (settled cut) at_back.0 (settled back) ∙ ap (λ l. settled cut ++ l) at_back.1 ∙ sym (settle-append none_open cut back),
+        append_assoc (settled cut) at_back.0 (settled back) ∙ ap (λ l. settled cut ++ l) at_back.1 ∙ sym (settle_append none_open cut back),
       )
 
   pub rewritten_end : (g : ℕ) (cut back : List (Record E V)) → IsUnbroken (cut ++ back)
       → (front : List (Item E V)) × (front ++ rewritten g back ≡ rewritten g (cut ++ back))
   rewritten_end g cut back h =
       let all = settled_end cut back h in
-      (of_group g all.0, sym (of_group-append g all.0 (settled back)) ∙ ap (of_group g) all.1)
+      (of_group g all.0, sym (of_group_append g all.0 (settled back)) ∙ ap (of_group g) all.1)
 
   going_on-middles : (n : ℕ) (more : List (List (Tagged E V))) → going_on (Some n) (map (λ xs. Part (Middle n) xs) more) ≡ Some n
   going_on-middles n [] = refl
@@ -117,5 +117,5 @@ module _ {E V : Type 0} where
   pub opened-begun : (o : Open E V) (front : List (Record E V)) (n : ℕ) (first : List (Tagged E V)) (more : List (List (Tagged E V)))
       → opened o (front ++ begun n first more) n ≡ Some (joined first more)
   opened-begun o front n first more =
-      ap (λ p. p n) (opened-append o front (begun n first more))
+      ap (λ p. p n) (opened_append o front (begun n first more))
       ∙ opened-middles (set_open (opened o front) n (Some first)) n first more (set_open-same (opened o front) n (Some first))

@@ -5,7 +5,8 @@ use Rattle.raft_log_model.specs.Meaning.Slot.{Index, Key}
 use Rattle.raft_log_protocol.specs.Survival.{IsSpoken}
 use Rattle.raft_log_protocol.specs.Table.{Table, top}
 
--- what is said of each slot of a group: by Rewrite from its lowest start and from its span alone, and by Append's span
+-- what is said of each slot of a group: by Rewrite from its lowest start and from its span alone, and by
+-- Append's span
 pub record Said (E V : Type 0) : Type 0 where
   pub lowest : Slot → Option (Option (Content E V))
   pub rewrite : Slot → Option (Option (Content E V))
@@ -15,8 +16,8 @@ pub record Said (E V : Type 0) : Type 0 where
 abbrev pub IsRight : {E V : Type 0} → Said E V → (Slot → Option (Content E V)) → Slot → Type 0
 IsRight said m s = (unwrap_or (said.lowest s) None ≡ m s) × (unwrap_or (said.rewrite s) None ≡ m s)
 
--- an index is settled: Rewrite is right, or the Clean or the Compact that is owed makes it right, or an appended entry at or below it stands,
--- whose run overrules Rewrite
+-- an index is settled: Rewrite is right, or the Clean or the Compact that is owed makes it right, or an
+-- appended entry at or below it stands, whose run overrules Rewrite
 abbrev pub IsSettledIndex : {E V : Type 0} → Said E V → (Slot → Option (Content E V)) → Table → ℕ → Type 0
 IsSettledIndex said m t i =
     IsRight said m (Index i)
@@ -24,7 +25,8 @@ IsSettledIndex said m t i =
     ⊎ (((t.compacted ≡ true) × ((i < t.first) ⊎ (t.first ≡ t.split)))
     ⊎ ((t.split ≤ i) × (t.split < t.end))))
 
--- a key is settled: Rewrite is right, or the Clean or the Del that is owed makes it right, or its value stands in Append
+-- a key is settled: Rewrite is right, or the Clean or the Del that is owed makes it right, or its value stands
+-- in Append
 abbrev pub IsSettledKey : {E V : Type 0} → Said E V → (Slot → Option (Content E V)) → Table → List ℕ → Type 0
 IsSettledKey said m t k =
     IsRight said m (Key k) ⊎ ((t.cleaned ≡ true) ⊎ ((t.deleted k ≡ true) ⊎ (t.appended k ≡ true)))

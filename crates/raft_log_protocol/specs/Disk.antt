@@ -32,4 +32,10 @@ DiskSteps d [] n = n ≡ d
 DiskSteps {E} {V} d (e ∷ es) n = (next : Disk E V) × DiskStep e d next × DiskSteps next es n
 
 abbrev pub fresh_disk : {E V : Type 0} → Disk E V
-fresh_disk = record { world = fresh_world; rewrite = fresh_files; rewrite_from = 1; append = fresh_files; append_from = 1 }
+fresh_disk = record {
+  world = fresh_world;
+  rewrite = fresh_files;
+  rewrite_from = 1;
+  append = fresh_files;
+  append_from = 1;
+}

@@ -1,9 +1,10 @@
--- One group through two purges, a crash, and an open that reads the recycled files again. Entries and values are numbers.
-use Rattle.std.specs.Prelude.{ℕ, Bool, true, false, if◌then◌else◌, ◌==◌, List, [], ◌∷◌}
-use Rattle.raft_log_model.specs.Item.{Item, Record}
+-- One group through two purges, a crash, and an open that reads the recycled files again. Entries and values
+-- are numbers.
+use Rattle.std.specs.Prelude.{ℕ, true, false, if◌then◌else◌, ◌==◌, List, [], ◌∷◌}
+use Rattle.raft_log_model.specs.Item.{Record}
 use Rattle.raft_log_model.specs.Item.Item.{Run, Compact, Put}
 use Rattle.raft_log_model.specs.Item.Record.{Plain}
-use Rattle.raft_log_protocol.specs.Queue.{Queue, Store}
+use Rattle.raft_log_protocol.specs.Queue.{Store}
 use Rattle.raft_log_protocol.specs.Table.{Table, with_key}
 use Rattle.raft_log_protocol.specs.Fresh.{empty_table}
 use Rattle.raft_log_protocol.specs.World.{Event}
@@ -22,14 +23,16 @@ compaction = Plain (of 1 (Compact 3 ∷ Put (5 ∷ []) 50 ∷ []))
 abbrev pub only : Table → ℕ → Table
 only t g = if 1 == g then t else empty_table
 
--- the first purge copies the entries and lets the file go that had them; the second carries the mark, copies the key and lets the next file
--- go. Then the engine stops, and both files, which were kept to be reused, are read again
+-- the first purge copies the entries and lets the file go that had them; the second carries the mark, copies
+-- the key and lets the next file go. Then the engine stops, and both files, which were kept to be reused, are
+-- read again
 abbrev pub two_purges : List (Event ℕ ℕ)
 two_purges =
     Take entries ∷ SyncAppend
     ∷ WritePlain (of 1 (Run 1 (11 ∷ 12 ∷ 13 ∷ []) ∷ [])) ∷ SyncRewrite ∷ RaiseAppend (entries ∷ []) []
     ∷ Take compaction ∷ SyncAppend
-    ∷ WritePlain (of 1 (Compact 3 ∷ [])) ∷ WritePlain (of 1 (Put (5 ∷ []) 50 ∷ [])) ∷ SyncRewrite ∷ RaiseAppend (compaction ∷ []) []
+    ∷ WritePlain (of 1 (Compact 3 ∷ [])) ∷ WritePlain (of 1 (Put (5 ∷ []) 50 ∷ [])) ∷ SyncRewrite
+    ∷ RaiseAppend (compaction ∷ []) []
     ∷ Reopen [] [] [] [] [] [] [] (entries ∷ compaction ∷ []) ∷ []
 
 -- the directory after that

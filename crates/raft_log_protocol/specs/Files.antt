@@ -51,8 +51,8 @@ IsNumbered n q = NumberedFrom n (q.gone ++ span q []) × AllBehind n q.behind
 abbrev pub first_file : {E V : Type 0} → ℕ → FileQueue E V → ℕ
 first_file n q = n + length q.gone
 
--- Of the files on disk, where `first` is the first file of the span, a recovery may read these: those from some place on, numbered without a gap from s on,
--- where s is no higher than `first`
+-- Of the files on disk, where `first` is the first file of the span, a recovery may read these: those from some
+-- place on, numbered without a gap from s on, where s is no higher than `first`
 pub record IsReadOf {E V : Type 0} (first : ℕ) (disk : List (File E V)) (s : ℕ) (files : List (File E V)) : Type 0 where
   pub low : s ≤ first
   pub skipped : List (File E V)
@@ -71,13 +71,17 @@ queue_of q = record { gone = records_of q.gone; live = records_of q.full ++ q.sy
 abbrev pub store_of : {E V : Type 0} → FileQueue E V → FileQueue E V → Store E V
 store_of r a = record { rewrite = queue_of r; append = queue_of a }
 
--- A crash takes back nothing but pending batches, told of the numbered files: whatever beginnings of the unsynced records an image has, there is ONE number of
--- batches such that from every pair of starts that a recovery may take the directory means the map after that many of them
-abbrev pub SurvivesOnDisk : {E V : Type 0} → ℕ → FileQueue E V → ℕ → FileQueue E V → Map E V → List (Record E V) → Type 0
+-- A crash takes back nothing but pending batches, told of the numbered files: whatever beginnings of the
+-- unsynced records an image has, there is ONE number of batches such that from every pair of starts that a
+-- recovery may take the directory means the map after that many of them
+abbrev pub SurvivesOnDisk : {E V : Type 0} → ℕ → FileQueue E V → ℕ → FileQueue E V → Map E V → List (Record E V)
+    → Type 0
 SurvivesOnDisk {E} {V} n r k a m batches =
     (r_kept r_lost a_kept a_lost : List (Record E V)) → r_kept ++ r_lost ≡ r.pending → a_kept ++ a_lost ≡ a.pending
-    → (count : ℕ) × (count ≤ length batches) × ((s t : ℕ) (r_files a_files : List (File E V)) → IsRead n r r_kept s r_files → IsRead k a a_kept t a_files
-    → (g : ℕ) (slot : Slot) → directory_meaning (records_of r_files) (records_of a_files) g slot ≡ taken m (take count batches) g slot)
+    → (count : ℕ) × (count ≤ length batches) × ((s t : ℕ) (r_files a_files : List (File E V))
+    → IsRead n r r_kept s r_files → IsRead k a a_kept t a_files
+    → (g : ℕ) (slot : Slot) → directory_meaning (records_of r_files) (records_of a_files) g slot
+    ≡ taken m (take count batches) g slot)
 
 -- what may happen to the files of a queue
 pub data FileEvent (E V : Type 0) : Type 0 where
@@ -89,7 +93,8 @@ pub data FileEvent (E V : Type 0) : Type 0 where
   Rotate : FileEvent E V
   -- the span begins later: the first files leave it, the others stay
   Raise : (out stay : List (File E V)) → FileEvent E V
-  -- a file below the span is deleted or renamed: it was in the middle of those that could be read, and what lies before it is behind a gap from now on
+  -- a file below the span is deleted or renamed: it was in the middle of those that could be read, and what
+  -- lies before it is behind a gap from now on
   Lose : (before : List (File E V)) (file : File E V) (rest : List (File E V)) → FileEvent E V
   -- an image that kept these of the unsynced records is read: some of the gone files, and the span
   Read : (below again : List (File E V)) (kept : List (Record E V)) → FileEvent E V
@@ -99,12 +104,18 @@ abbrev pub FileStep : {E V : Type 0} → FileEvent E V → FileQueue E V → Fil
 FileStep (Grow ys) q p = p ≡ record q { pending = q.pending ++ ys }
 FileStep Sync q p = p ≡ record q { synced = q.synced ++ q.pending; pending = [] }
 FileStep Rotate q p =
-    p ≡ record q { full = q.full ++ record { number = q.last; records = q.synced ++ q.pending } ∷ []; last = q.last + 1; synced = []; pending = [] }
+    p ≡ record q {
+      full = q.full ++ record { number = q.last; records = q.synced ++ q.pending } ∷ [];
+      last = q.last + 1;
+      synced = [];
+      pending = [];
+    }
 FileStep (Raise out stay) q p = (out ++ stay ≡ q.full) × (p ≡ record q { gone = q.gone ++ out; full = stay })
 FileStep (Lose before file rest) q p =
     (before ++ file ∷ rest ≡ q.gone) × (p ≡ record q { behind = q.behind ++ before; gone = rest })
 FileStep (Read below again kept) q p =
-    (below ++ again ≡ q.gone) × (p ≡ record q { gone = below; full = again ++ q.full; synced = q.synced ++ kept; pending = [] })
+    (below ++ again ≡ q.gone)
+    × (p ≡ record q { gone = below; full = again ++ q.full; synced = q.synced ++ kept; pending = [] })
 
 -- the number from which the files that are not behind a gap go on, after the event
 abbrev pub numbered_from : {E V : Type 0} → ℕ → FileEvent E V → ℕ

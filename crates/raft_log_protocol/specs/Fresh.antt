@@ -10,7 +10,15 @@ empty_queue = record { gone = []; live = []; pending = [] }
 
 -- the table of a group of which nothing was ever written
 abbrev pub empty_table : Table
-empty_table = record { first = 0; split = 0; end = 0; appended = λ k. false; cleaned = false; compacted = false; deleted = λ k. false }
+empty_table = record {
+  first = 0;
+  split = 0;
+  end = 0;
+  appended = λ k. false;
+  cleaned = false;
+  compacted = false;
+  deleted = λ k. false;
+}
 
 abbrev pub nothing_stands : {E V : Type 0} → Map E V
 nothing_stands g s = None

@@ -4,7 +4,8 @@ use Rattle.raft_log_model.specs.Item.{Record}
 
 -- the records of one queue, oldest first
 pub record Queue (E V : Type 0) : Type 0 where
-  -- in files below the first file of the span that may still be on disk, as recycled ones are: a reading may start among them
+  -- in files below the first file of the span that may still be on disk, as recycled ones are: a reading may
+  -- start among them
   pub gone : List (Record E V)
   -- in the files of the span, synced
   pub live : List (Record E V)
@@ -36,7 +37,8 @@ raised q n1 n2 = record { gone = q.gone ++ n1; live = n2; pending = q.pending }
 abbrev pub left : {E V : Type 0} → Queue E V → List (Record E V) → Queue E V
 left q back = record { gone = back; live = q.live; pending = q.pending }
 
--- an image was read from a start and synced: below it lie the records of cut, read were back, all live ones, and kept of the pending ones
+-- an image was read from a start and synced: below it lie the records of cut, read were back, all live ones,
+-- and kept of the pending ones
 abbrev pub reread : {E V : Type 0} → Queue E V → List (Record E V) → List (Record E V) → List (Record E V) → Queue E V
 reread q cut back kept = record { gone = cut; live = back ++ (q.live ++ kept); pending = [] }
 

@@ -1,4 +1,5 @@
--- What the engine's table of one group knows, how it follows what is written, and which marks it still owes to Rewrite.
+-- What the engine's table of one group knows, how it follows what is written, and which marks it still owes to
+-- Rewrite.
 use Rattle.std.specs.Prelude.{◌≡◌, ℕ, ◌+◌, ◌-◌, ◌^◌, ◌<◌, ◌≤◌, ◌⊎◌, min, max, Bool, true, false, if◌then◌else◌, bytes_eq, List, [], ◌∷◌, length, Option, Some, None, option_map, slice_get}
 use Rattle.raft_log_model.specs.Item.{Item}
 use Rattle.raft_log_model.specs.Item.Item.{Run, Clean, Compact, Put, Del}
@@ -10,8 +11,9 @@ use Rattle.raft_log_model.specs.Meaning.Content.{Entry, Value}
 unfoldable pub top : ℕ
 top = 2 ^ 64 - 1
 
--- The entries first .. split stand in Rewrite, split .. end in Append; the keys `appended` stand in Append, the others in Rewrite.
--- Since marks were carried last, Append has a Clean of the group (cleaned), a Compact (compacted), a Del of these keys (deleted).
+-- The entries first .. split stand in Rewrite, split .. end in Append; the keys `appended` stand in Append, the
+-- others in Rewrite. Since marks were carried last, Append has a Clean of the group (cleaned), a Compact
+-- (compacted), a Del of these keys (deleted).
 pub record Table : Type 0 where
   pub first : ℕ
   pub split : ℕ
@@ -37,20 +39,26 @@ GoesOn t f = (t.first < f) × (f ≤ t.end)
 abbrev pub compacted_first : Table → ℕ → ℕ
 compacted_first t c = max t.first (min c t.end)
 
--- the table u follows t where Append takes the item. A Del may also count as a change of the group that asks for a Compact, which does no harm
+-- the table u follows t where Append takes the item. A Del may also count as a change of the group that asks
+-- for a Compact, which does no harm
 abbrev pub Grows : {E V : Type 0} → Table → Item E V → Table → Type 0
 Grows t (Run f []) u = u ≡ t
 Grows t (Run f (e ∷ es)) u =
     (f + length (e ∷ es) ≤ top)
     × ((Alone t f × (u ≡ record t { first = f; split = f; end = f + length (e ∷ es) }))
     ⊎ (GoesOn t f × (u ≡ record t { split = min t.split f; end = f + length (e ∷ es) })))
-Grows t Clean u = (u.first ≡ u.end) × (u.split ≡ u.end) × (u.end ≤ top) × ((k : List ℕ) → u.appended k ≡ false) × (u.cleaned ≡ true)
+Grows t Clean u = (u.first ≡ u.end) × (u.split ≡ u.end) × (u.end ≤ top) × ((k : List ℕ)
+    → u.appended k ≡ false) × (u.cleaned ≡ true)
 Grows t (Compact c) u =
     u ≡ record t { first = compacted_first t c; split = max t.split (compacted_first t c); compacted = true }
 Grows t (Put k v) u = u ≡ record t { appended = with_key t.appended k true }
 Grows t (Del k) u =
     (changed : Bool) × (t.compacted ≡ true → changed ≡ true)
-    × (u ≡ record t { appended = with_key t.appended k false; compacted = changed; deleted = with_key t.deleted k true })
+    × (u ≡ record t {
+      appended = with_key t.appended k false;
+      compacted = changed;
+      deleted = with_key t.deleted k true;
+    })
 
 -- item after item
 abbrev pub GrowsBy : {E V : Type 0} → Table → List (Item E V) → Table → Type 0
@@ -62,8 +70,8 @@ abbrev pub Restates : {E V : Type 0} → (Slot → Option (Content E V)) → ℕ
 Restates m f es = (i : ℕ) → f ≤ i → i < f + length es → option_map Entry (slice_get es (i - f)) ≡ m (Index i)
 
 -- Rewrite may take the item where the group's map is m and its table t, and then the table is u:
--- * a run of what stands, from a rewritten index (or the first appended one) on, up to the last rewritten entry or past it; to go past it
---   neither Clean nor Compact may be owed;
+-- * a run of what stands, from a rewritten index (or the first appended one) on, up to the last rewritten entry
+--   or past it; to go past it neither Clean nor Compact may be owed;
 -- * a Clean that is owed;
 -- * a Compact of the first index where rewritten entries stand, else of `top`;
 -- * a Put of a key's value; of an appended one neither Clean nor Del may be owed;
@@ -71,8 +79,10 @@ Restates m f es = (i : ℕ) → f ≤ i → i < f + length es → option_map Ent
 abbrev pub Carries : {E V : Type 0} → (Slot → Option (Content E V)) → Table → Item E V → Table → Type 0
 Carries m t (Run f []) u = u ≡ t
 Carries m t (Run f (e ∷ es)) u =
-    (t.first ≤ f) × (f ≤ t.split) × (t.split ≤ f + length (e ∷ es)) × (f + length (e ∷ es) ≤ t.end) × Restates m f (e ∷ es)
-    × ((t.split ≡ f + length (e ∷ es)) ⊎ ((t.cleaned ≡ false) × (t.compacted ≡ false))) × (u ≡ record t { split = f + length (e ∷ es) })
+    (t.first ≤ f) × (f ≤ t.split) × (t.split ≤ f + length (e ∷ es)) × (f + length (e ∷ es) ≤ t.end)
+    × Restates m f (e ∷ es)
+    × ((t.split ≡ f + length (e ∷ es)) ⊎ ((t.cleaned ≡ false) × (t.compacted ≡ false)))
+    × (u ≡ record t { split = f + length (e ∷ es) })
 Carries m t Clean u = (t.cleaned ≡ true) × (u ≡ record t { cleaned = false })
 Carries m t (Compact c) u =
     (((t.first < t.split) × (c ≡ t.first)) ⊎ ((t.first ≡ t.split) × (c ≡ top))) × (u ≡ record t { compacted = false })

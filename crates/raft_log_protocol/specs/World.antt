@@ -59,20 +59,22 @@ pub data Event (E V : Type 0) : Type 0 where
   LoseRewrite : (lost rest : List (Record E V)) → Event E V
   -- the engine fails
   Fail : Event E V
-  -- a crash or a close, and an open. Of the unsynced records of both queues some beginning is kept. Of the gone ones an end is read
+  -- a crash or a close, and an open. Of the unsynced records of both queues some beginning is kept. Of the gone
+  -- ones an end is read
   Reopen : (r_kept r_lost r_cut r_back a_kept a_lost a_cut a_back : List (Record E V)) → Event E V
 
 -- the records of an atomic group that has not ended are the last ones of Rewrite's span
 abbrev pub GoesOnWith : {E V : Type 0} → Queue E V → ℕ → List (Tagged E V) → List (List (Tagged E V)) → Type 0
 GoesOnWith {E} {V} q n first more = (front : List (Record E V)) × (q.live ++ q.pending ≡ front ++ begun n first more)
 
--- The items of an atomic group may be taken as these: they say the same of each slot, and leave no hole where these leave none. So several runs, each at the end of
--- the one before, may be taken as one
+-- The items of an atomic group may be taken as these: they say the same of each slot, and leave no hole where
+-- these leave none. So several runs, each at the end of the one before, may be taken as one
 pub record IsJoined {E V : Type 0} (parts items : List (Item E V)) : Type 0 where
   pub same_words : (s : Slot) → says s parts ≡ says s items
   pub no_more_holes : (w : Window) → NoHole w items → NoHole w parts
 
--- What each event asks, and the world v that it leads to from w. All that is asked of groups is asked of their tables
+-- What each event asks, and the world v that it leads to from w. All that is asked of groups is asked of their
+-- tables
 abbrev pub Step : {E V : Type 0} → Event E V → World E V → World E V → Type 0
 Step (Take y) w v =
     (w.failed ≡ false)
@@ -87,7 +89,8 @@ Step (WritePlain xs) w v =
     × ((tables : ℕ → Table) × ((g : ℕ) → CarriesAll (w.map g) (w.tables g) (of_group g xs) (tables g))
     × (v ≡ record w { store = with_rewrite w.store (takes w.store.rewrite (Plain xs)); tables = tables }))
 Step (WriteBegin n xs) w v =
-    (w.failed ≡ false) × AllFit xs × (v ≡ record w { store = with_rewrite w.store (takes w.store.rewrite (Part (Begin n) xs)) })
+    (w.failed ≡ false) × AllFit xs
+    × (v ≡ record w { store = with_rewrite w.store (takes w.store.rewrite (Part (Begin n) xs)) })
 Step {E} {V} (WriteMiddle n xs) w v =
     (w.failed ≡ false) × AllFit xs
     × ((first : List (Tagged E V)) × (more : List (List (Tagged E V))) × GoesOnWith w.store.rewrite n first more
@@ -100,11 +103,13 @@ Step {E} {V} (WriteEnd n xs) w v =
     × CarriesAll (w.map g) (w.tables g) items (tables g))
     × (v ≡ record w { store = with_rewrite w.store (takes w.store.rewrite (Part (End n) xs)); tables = tables })))
 Step (RaiseAppend out stay) w v =
-    (w.failed ≡ false) × (w.store.append.pending ≡ []) × (w.store.rewrite.pending ≡ []) × (out ++ stay ≡ w.store.append.live)
+    (w.failed ≡ false) × (w.store.append.pending ≡ []) × (w.store.rewrite.pending ≡ [])
+    × (out ++ stay ≡ w.store.append.live)
     × ((g : ℕ) → OwesNothing (w.tables g)) × ((g : ℕ) → HasAppended (w.tables g) (appended g stay))
     × (v ≡ record w { store = with_append w.store (raised w.store.append out stay) })
 Step (RaiseRewrite out stay) w v =
-    (w.failed ≡ false) × (w.store.append.pending ≡ []) × (w.store.rewrite.pending ≡ []) × (out ++ stay ≡ w.store.rewrite.live)
+    (w.failed ≡ false) × (w.store.append.pending ≡ []) × (w.store.rewrite.pending ≡ [])
+    × (out ++ stay ≡ w.store.rewrite.live)
     × ((g : ℕ) → HasRewritten (w.map g) (w.tables g) (rewritten g stay))
     × (v ≡ record w { store = with_rewrite w.store (raised w.store.rewrite out stay) })
 Step (LoseAppend lost rest) w v =
@@ -118,7 +123,10 @@ Step (Reopen r_kept r_lost r_cut r_back a_kept a_lost a_cut a_back) w v =
     × ((tables : ℕ → Table)
     × ((g : ℕ) → IsRecovered (taken w.map a_kept g) (appended g (a_back ++ (w.store.append.live ++ a_kept))) (tables g))
     × (v ≡ record {
-      store = record { rewrite = reread w.store.rewrite r_cut r_back r_kept; append = reread w.store.append a_cut a_back a_kept };
+      store = record {
+        rewrite = reread w.store.rewrite r_cut r_back r_kept;
+        append = reread w.store.append a_cut a_back a_kept;
+      };
       map = taken w.map a_kept;
       tables = tables;
       failed = false;

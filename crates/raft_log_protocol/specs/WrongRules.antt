@@ -1,4 +1,5 @@
--- For each wrong rule a directory that holds its map, and what the rule makes of it. Entries and values are numbers.
+-- For each wrong rule a directory that holds its map, and what the rule makes of it. Entries and values are
+-- numbers.
 use Rattle.std.specs.Prelude.{ℕ, List, [], ◌∷◌}
 use Rattle.raft_log_model.specs.Item.{Item, Tagged, Record}
 use Rattle.raft_log_model.specs.Item.Item.{Run, Clean, Compact, Put}

@@ -1,6 +1,7 @@
 //! Why no step of the log's engine, and no crash, takes back what was written.
 //!
-//! Each public function here is a law over the definitions of `specs/`: it does nothing, and its contract is what is proved.
+//! Each public function here is a law over the definitions of `specs/`: it does nothing, and its contract is
+//! what is proved.
 //! * [`survival`]: what a directory holds, step by step, on the records of the two queues alone;
 //! * [`machine`]: the engine's tables beside the queues, each event, and every schedule of them;
 //! * [`files`]: the same on numbered files, from every file from which a recovery may read;

@@ -1,5 +1,5 @@
-//! The engine as a machine: its two queues, what they mean, and a table for each group, which says what stands where and which marks Rewrite is still owed.
-//! The premises of an event speak of the tables alone.
+//! The engine as a machine: its two queues, what they mean, and a table for each group, which says what stands
+//! where and which marks Rewrite is still owed. The premises of an event speak of the tables alone.
 
 ghost use Rattle.std.specs.Prelude.{List};
 ghost use Rattle.raft_log_protocol.specs.Fresh.{fresh_world};
@@ -11,13 +11,15 @@ pub fn fresh_world_keeps<E, V>()
     ensures { Keeps (fresh_world {E = E} {V = V}) }
 {}
 
-/// Each event keeps the invariant: a record in Append, syncs, marks and copies in Rewrite, parts of atomic groups, first files that rise, files that are lost, a
-/// failure, and an open of any image from any starts.
+/// Each event keeps the invariant: a record in Append, syncs, marks and copies in Rewrite, parts of atomic
+/// groups, first files that rise, files that are lost, a failure, and an open of any image from any starts.
 pub fn each_step_keeps<E, V>()
     ensures { (e : Event E V) (w v : World E V) → Step e w v → Keeps w → Keeps v }
 {}
 
-/// Over every schedule of events from a fresh directory, the directory survives as its map, Append's unsynced records being the pending batches.
+/// Over every schedule of events from a fresh directory, the directory survives as its map, Append's unsynced
+/// records being the pending batches.
 pub fn survives_always<E, V>()
-    ensures { (events : List (Event E V)) (v : World E V) → Steps fresh_world events v → Survives v.store v.map v.store.append.pending }
+    ensures { (events : List (Event E V)) (v : World E V) → Steps fresh_world events v
+        → Survives v.store v.map v.store.append.pending }
 {}

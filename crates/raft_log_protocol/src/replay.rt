@@ -1,5 +1,5 @@
-//! What a reading asks beside the meaning: that no run leaves a hole in either queue, and that atomic groups are whole. So a recovery gets through whatever a crash
-//! leaves.
+//! What a reading asks beside the meaning: that no run leaves a hole in either queue, and that atomic groups
+//! are whole. So a recovery gets through whatever a crash leaves.
 
 ghost use Rattle.std.specs.Prelude.{◌+◌, ◌++◌, ◌∷◌, length, List};
 ghost use Rattle.raft_log_model.specs.Item.Item.{Run};
@@ -18,7 +18,8 @@ pub fn each_step_replays<E, V>()
     ensures { (e : Event E V) (w v : World E V) → Step e w v → Keeps w → KeepsReplay w → KeepsReplay v }
 {}
 
-/// Where it is kept, each start of each queue and each beginning of its unsynced records can be read: no hole in Append, none in Rewrite, and no atomic group broken.
+/// Where it is kept, each start of each queue and each beginning of its unsynced records can be read: no hole
+/// in Append, none in Rewrite, and no atomic group broken.
 pub fn kept_world_replays<E, V>()
     ensures { (w : World E V) → Keeps w → KeepsReplay w → Replays w.store }
 {}

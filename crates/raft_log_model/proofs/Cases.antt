@@ -1,5 +1,5 @@
 -- Cases on a test, with what the test answered.
-use Rattle.std.proofs.Common.{◌≡◌, ℕ, ◌<◌, ◌≤◌, Bool, true, false, Option, Some, None, ◌==◌, nat_lt, nat_le, if◌then◌else◌, refl, arith}
+use Rattle.std.proofs.Common.{◌≡◌, ℕ, ◌<◌, ◌≤◌, Bool, true, false, ◌&&◌, Option, Some, None, ◌==◌, nat_lt, nat_le, if◌then◌else◌, refl, arith}
 use Rattle.std.proofs.lemmas.Bool.Decides.{nat_tests}
 
 pub at_bool : (b : Bool) (P : Bool → Type 0) → (b ≡ true → P true) → (b ≡ false → P false) → P b
@@ -53,3 +53,14 @@ from_eq_true a b h = grind (arith, nat_tests)
 
 pub from_eq_false : (a b : ℕ) → (a == b) ≡ false → a ≡ b → ⊥
 from_eq_false a b h e = grind (arith, nat_tests)
+
+pub neither : {A : Type 0} (b : Bool) → ◌≡◌ {A = Option A} (if b then None else None) None
+neither true = refl
+neither false = refl
+
+pub both : (a b : Bool) → (a && b) ≡ true → (a ≡ true) × (b ≡ true)
+both true b h = (refl, h)
+both false b h = cc
+
+pub none_some : {A : Type 0} (o : Option A) (x : A) → o ≡ None → o ≡ Some x → ⊥
+none_some o x h k = cc

@@ -1,8 +1,8 @@
 -- Tidy records may be cut anywhere: what the groups bring that the cut goes through comes between the two parts.
-use Rattle.std.proofs.Common.{◌≡◌, ℕ, ◌⊎◌, ◌==◌, List, [], ◌∷◌, ◌++◌, Bool, true, false, Option, Some, None, unwrap_or, MatchBool, if◌then◌else◌, refl, sym, ap, ap₂, subst, ◌∙◌, inl, inr, append_assoc, append-nil}
+use Rattle.std.proofs.Common.{◌≡◌, ℕ, ◌⊎◌, ◌==◌, List, [], ◌∷◌, ◌++◌, Bool, true, false, Option, Some, None, if◌then◌else◌, refl, sym, ap, ap₂, subst, ◌∙◌, inl, inr, append_assoc, append-nil}
 use Rattle.std.specs.Bool.{⊤}
 use Rattle.std.specs.Option.{option_or}
-use Rattle.raft_log_model.specs.Item.{Item, Tagged, Record}
+use Rattle.raft_log_model.specs.Item.{Tagged, Record}
 use Rattle.raft_log_model.specs.Item.Record.{Plain, Part}
 use Rattle.raft_log_model.specs.Item.Mark.{Begin, Middle, End}
 use Rattle.raft_log_model.specs.Groups.{of_group, Open, none_open, set_open, onto, counts, opens, settle, opened, settled, rewritten}
@@ -10,23 +10,19 @@ use Rattle.raft_log_model.specs.Tidy.{Apart, Undisturbed, Tidy}
 use Rattle.raft_log_model.specs.Fragments.{Head, head, then_head, Unfinished, without, more, next_unfinished, unfinished_after, unfinished, finish, go_on, completed, carried_on, Segment, segment, merge, IsSameSegment, Bracketing, all_of, merge_all}
 use Rattle.raft_log_model.specs.Fragments.Head.{GoesOn, Ends, BeginsAnew}
 use Rattle.raft_log_model.specs.Fragments.Bracketing.{One, Both}
-use Rattle.raft_log_model.proofs.Cases.{at_bool, if_true, if_false, eq_true, eq_false, from_eq_true, from_eq_false}
+use Rattle.raft_log_model.proofs.Cases.{at_bool, if_true, if_false, eq_true, eq_false, from_eq_true, from_eq_false, neither}
 use Rattle.raft_log_model.proofs.Words.{option_or_none}
 use Rattle.raft_log_model.proofs.Records.{of_group_append, settle_append}
 use Rattle.std.proofs.lemmas.Bool.Decides.{when_true, when_false}
-use Rattle.raft_log_model.proofs.Suffix.{alike_more, Alike, alike_set, alike_counts, alike_opens, alike_settle, Differ, brought, along}
+use Rattle.raft_log_model.proofs.Suffix.{alike_more, Alike, alike_counts, alike_opens, alike_settle, Differ, brought, along}
 use Rattle.raft_log_model.proofs.TidyLaws.{choose, tidy_front, tidy_back}
-use Rattle.raft_log_model.proofs.Heads.{head_start, head_append, then_assoc}
+use Rattle.raft_log_model.proofs.Heads.{head_start, head_append}
 use Rattle.raft_log_model.proofs.LeftOpen.{number_test, unfinished_append}
 
 -- the groups of an ordered list, by their numbers
 abbrev pub open_in : {E V : Type 0} → List (Unfinished E V) → Open E V
 open_in [] k = None
 open_in (u ∷ us) k = if u.number == k then Some u.items else open_in us k
-
-none_either : {A : Type 0} (b : Bool) → ◌≡◌ {A = Option A} None (if b then None else None)
-none_either true = refl
-none_either false = refl
 
 if_twice : {A : Type 0} (b : Bool) (x y z : A) → (if b then x else z) ≡ (if b then x else (if b then y else z))
 if_twice true x y z = refl
@@ -42,14 +38,14 @@ apart_from : (m n k : ℕ) → (m == n) ≡ false → (m == k) ≡ true → (n =
 apart_from m n k h e = eq_false n k (λ q. from_eq_false m n h (from_eq_true m k e ∙ sym q))
 
 open_without : {E V : Type 0} (n : ℕ) (us : List (Unfinished E V)) (k : ℕ) → open_in (without n us) k ≡ set_open (open_in us) n None k
-open_without n [] k = none_either (n == k)
+open_without n [] k = sym (neither (n == k))
 open_without n (u ∷ us) k =
     at_bool (u.number == n)
     (λ b. open_in (if b then without n us else u ∷ without n us) k ≡ (if n == k then None else (if u.number == k then Some u.items else open_in us k)))
     (λ e. open_without n us k ∙ (if_twice (n == k) None (Some u.items) (open_in us k)
-        ∙ ap (λ m. if n == k then None else (if m == k then Some u.items else open_in us k)) (sym (from_eq_true u.number n e))))
+    ∙ ap (λ m. if n == k then None else (if m == k then Some u.items else open_in us k)) (sym (from_eq_true u.number n e))))
     (λ e. ap (λ a. if u.number == k then Some u.items else a) (open_without n us k)
-        ∙ if_swap (u.number == k) (n == k) (Some u.items) None (open_in us k) (apart_from u.number n k e))
+    ∙ if_swap (u.number == k) (n == k) (Some u.items) None (open_in us k) (apart_from u.number n k e))
 
 open_append : {E V : Type 0} (us ps : List (Unfinished E V)) (k : ℕ) → open_in (us ++ ps) k ≡ option_or (open_in us k) (open_in ps k)
 open_append [] ps k = refl
@@ -63,17 +59,17 @@ or_if false x o = option_or_none o
 
 open_more : {E V : Type 0} (n : ℕ) (ys : List (Tagged E V)) (us : List (Unfinished E V)) (k : ℕ)
     → open_in (more n ys us) k ≡ set_open (open_in us) n (onto (open_in us n) ys) k
-open_more n ys [] k = none_either (n == k)
+open_more n ys [] k = sym (neither (n == k))
 open_more n ys (u ∷ us) k =
     at_bool (u.number == n)
     (λ b. (if u.number == k then Some (if b then u.items ++ ys else u.items) else open_in (more n ys us) k)
-        ≡ (if n == k then onto (if b then Some u.items else open_in us n) ys else (if u.number == k then Some u.items else open_in us k)))
+    ≡ (if n == k then onto (if b then Some u.items else open_in us n) ys else (if u.number == k then Some u.items else open_in us k)))
     (λ e. ap₂ (λ m a. if m == k then Some (u.items ++ ys) else a) (from_eq_true u.number n e) (open_more n ys us k)
-        ∙ (sym (if_twice (n == k) (Some (u.items ++ ys)) (onto (open_in us n) ys) (open_in us k))
-        ∙ (if_twice (n == k) (Some (u.items ++ ys)) (Some u.items) (open_in us k)
-        ∙ ap (λ m. if n == k then Some (u.items ++ ys) else (if m == k then Some u.items else open_in us k)) (sym (from_eq_true u.number n e)))))
+    ∙ (sym (if_twice (n == k) (Some (u.items ++ ys)) (onto (open_in us n) ys) (open_in us k))
+    ∙ (if_twice (n == k) (Some (u.items ++ ys)) (Some u.items) (open_in us k)
+    ∙ ap (λ m. if n == k then Some (u.items ++ ys) else (if m == k then Some u.items else open_in us k)) (sym (from_eq_true u.number n e)))))
     (λ e. ap (λ a. if u.number == k then Some u.items else a) (open_more n ys us k)
-        ∙ if_swap (u.number == k) (n == k) (Some u.items) (onto (open_in us n) ys) (open_in us k) (apart_from u.number n k e))
+    ∙ if_swap (u.number == k) (n == k) (Some u.items) (onto (open_in us n) ys) (open_in us k) (apart_from u.number n k e))
 
 -- the ordered list has what is open
 open_next : {E V : Type 0} (us : List (Unfinished E V)) (r : Record E V) → Alike (open_in (next_unfinished us r)) (opens (open_in us) r)
@@ -104,7 +100,7 @@ undisturbed_alike n xs said o p (Part (Middle k) ys ∷ rs) same u =
 undisturbed_alike n xs said o p (Part (End k) ys ∷ rs) same u =
     choose (k == n) _ _ _ _ (λ h. h)
     (λ h. undisturbed_alike n xs (said ++ counts p (Part (End k) ys)) _ _ rs (alike_opens o p (Part (End k) ys) same)
-        (subst (λ a. Undisturbed n xs (said ++ a) (opens o (Part (End k) ys)) rs) (alike_counts o p (Part (End k) ys) same) h)) u
+    (subst (λ a. Undisturbed n xs (said ++ a) (opens o (Part (End k) ys)) rs) (alike_counts o p (Part (End k) ys) same) h)) u
 
 no_second : {A : Type 0} (xs ys : List A) → xs ++ ys ≡ [] → ys ≡ []
 no_second [] ys h = h
@@ -130,7 +126,7 @@ undisturbed_less n xs first said o (Part (Middle k) ys ∷ rs) u =
 undisturbed_less n xs first said o (Part (End k) ys ∷ rs) u =
     choose (k == n) _ _ _ _ (apart_less (xs ++ ys) first said)
     (λ h. undisturbed_less n xs first (said ++ counts o (Part (End k) ys)) (opens o (Part (End k) ys)) rs
-        (subst (λ a. Undisturbed n xs a (opens o (Part (End k) ys)) rs) (append_assoc first said (counts o (Part (End k) ys))) h)) u
+    (subst (λ a. Undisturbed n xs a (opens o (Part (End k) ys)) rs) (append_assoc first said (counts o (Part (End k) ys))) h)) u
 
 undisturbed_bare : {E V : Type 0} (n : ℕ) (xs said : List (Tagged E V)) (o : Open E V) (rs : List (Record E V))
     → Undisturbed n xs said o rs → Undisturbed n xs [] o rs
@@ -194,16 +190,16 @@ module _ {E V : Type 0} (k : ℕ) (r : Record E V) (rs : List (Record E V)) (ps 
     (same : (us : List (Unfinished E V)) → Alike (open_in (without k us ++ ps)) (opens (open_in us) r))
     (others : (o : Open E V) (n : ℕ) → (k == n) ≡ false → opens o r n ≡ o n)
     (last : IsQuiet ps rs) where
-
   quiet_out : (us : List (Unfinished E V)) → IsQuiet us (r ∷ rs) → IsQuiet (without k us ++ ps) rs
   quiet_out [] q = last
   quiet_out (u ∷ us) q =
       at_bool (u.number == k) (λ b. IsQuiet ((if b then without k us else u ∷ without k us) ++ ps) rs)
       (λ _. quiet_out us q.2)
-      (λ e. let far : (k == u.number) ≡ false = number_test k u.number ∙ e in
-          (same us u.number ∙ (others (open_in us) u.number far ∙ q.0),
-          undisturbed_alike u.number u.items [] _ _ rs (λ j. sym (same us j)) (pass u.number u.items (open_in us) far q.1),
-          quiet_out us q.2))
+      (λ e. let far : (k == u.number) ≡ false = number_test k u.number ∙ e in (
+        same us u.number ∙ (others (open_in us) u.number far ∙ q.0),
+        undisturbed_alike u.number u.items [] _ _ rs (λ j. sym (same us j)) (pass u.number u.items (open_in us) far q.1),
+        quiet_out us q.2,
+      ))
 
 others_begin : {E V : Type 0} (k : ℕ) (v : Option (List (Tagged E V))) (o : Open E V) (n : ℕ) → (k == n) ≡ false → set_open o k v n ≡ o n
 others_begin k v o n far = if_false (k == n) v (o n) far
@@ -224,7 +220,7 @@ quiet_end k zs rs us q =
     subst (λ a. IsQuiet a rs) (append-nil (without k us))
     (quiet_out k (Part (End k) zs) rs []
     (λ n xs o far u. undisturbed_bare n xs (counts o (Part (End k) zs)) (opens o (Part (End k) zs)) rs
-        (when_false (Apart (xs ++ zs) []) (Undisturbed n xs (counts o (Part (End k) zs)) (opens o (Part (End k) zs)) rs) far u))
+    (when_false (Apart (xs ++ zs) []) (Undisturbed n xs (counts o (Part (End k) zs)) (opens o (Part (End k) zs)) rs) far u))
     (λ vs j. ap (λ a. open_in a j) (append-nil (without k vs)) ∙ open_next vs (Part (End k) zs) j)
     (others_begin k None)
     tt us q)
@@ -234,23 +230,24 @@ more_of_none : {E V : Type 0} (k n : ℕ) (zs : List (Tagged E V)) (us : List (U
 more_of_none k n zs us h =
     open_more k zs us n
     ∙ at_bool (k == n) (λ b. (if b then onto (open_in us k) zs else open_in us n) ≡ None)
-        (λ e. ap (λ j. onto (open_in us j) zs) (from_eq_true k n e) ∙ ap (λ a. onto a zs) h) (λ _. h)
+    (λ e. ap (λ j. onto (open_in us j) zs) (from_eq_true k n e) ∙ ap (λ a. onto a zs) h) (λ _. h)
 
 quiet_middle : {E V : Type 0} (k : ℕ) (zs : List (Tagged E V)) (rs : List (Record E V)) (us : List (Unfinished E V))
     → IsQuiet us (Part (Middle k) zs ∷ rs) → IsQuiet (more k zs us) rs
 quiet_middle k zs rs [] q = tt
-quiet_middle k zs rs (u ∷ us) q =
-    (more_of_none k u.number zs us q.0,
-    at_bool (u.number == k) (λ b. Undisturbed u.number (if b then u.items ++ zs else u.items) [] (open_in (more k zs us)) rs)
-    (λ e. undisturbed_alike u.number (u.items ++ zs) [] (open_in us) (open_in (more k zs us)) rs
-        (λ j. sym (open_more k zs us j ∙ alike_more (open_in us) k zs (ap (open_in us) (sym (from_eq_true u.number k e)) ∙ q.0) j))
-        (when_true (Undisturbed u.number (u.items ++ zs) [] (open_in us) rs) (Undisturbed u.number u.items [] (opens (open_in us) (Part (Middle k) zs)) rs)
-            (number_test k u.number ∙ e) q.1))
-    (λ e. undisturbed_alike u.number u.items [] (opens (open_in us) (Part (Middle k) zs)) (open_in (more k zs us)) rs
-        (λ j. sym (open_more k zs us j))
-        (when_false (Undisturbed u.number (u.items ++ zs) [] (open_in us) rs) (Undisturbed u.number u.items [] (opens (open_in us) (Part (Middle k) zs)) rs)
-            (number_test k u.number ∙ e) q.1)),
-    quiet_middle k zs rs us q.2)
+quiet_middle k zs rs (u ∷ us) q = (
+  more_of_none k u.number zs us q.0,
+  at_bool (u.number == k) (λ b. Undisturbed u.number (if b then u.items ++ zs else u.items) [] (open_in (more k zs us)) rs)
+      (λ e. undisturbed_alike u.number (u.items ++ zs) [] (open_in us) (open_in (more k zs us)) rs
+      (λ j. sym (open_more k zs us j ∙ alike_more (open_in us) k zs (ap (open_in us) (sym (from_eq_true u.number k e)) ∙ q.0) j))
+      (when_true (Undisturbed u.number (u.items ++ zs) [] (open_in us) rs) (Undisturbed u.number u.items [] (opens (open_in us) (Part (Middle k) zs)) rs)
+      (number_test k u.number ∙ e) q.1))
+      (λ e. undisturbed_alike u.number u.items [] (opens (open_in us) (Part (Middle k) zs)) (open_in (more k zs us)) rs
+      (λ j. sym (open_more k zs us j))
+      (when_false (Undisturbed u.number (u.items ++ zs) [] (open_in us) rs) (Undisturbed u.number u.items [] (opens (open_in us) (Part (Middle k) zs)) rs)
+      (number_test k u.number ∙ e) q.1)),
+  quiet_middle k zs rs us q.2,
+)
 
 quiet_after : {E V : Type 0} (us : List (Unfinished E V)) (xs ys : List (Record E V))
     → IsQuiet us (xs ++ ys) → Tidy (xs ++ ys) → IsQuiet (unfinished_after us xs) ys
@@ -268,8 +265,8 @@ cut_anywhere g xs ys t =
     ap (of_group g) (settle_append none_open xs ys)
     ∙ (of_group_append g (settled xs) (settle (opened none_open xs) ys)
     ∙ ap (λ a. rewritten g xs ++ a)
-        (ap (of_group g) (sym (alike_settle _ _ ys (λ k. open_after [] xs k ∙ alike_opened (open_in []) none_open xs (λ j. refl) k)))
-        ∙ quiet_counts g (unfinished xs) ys (quiet_after [] xs ys tt t)))
+    (ap (of_group g) (sym (alike_settle _ _ ys (λ k. open_after [] xs k ∙ alike_opened (open_in []) none_open xs (λ j. refl) k)))
+    ∙ quiet_counts g (unfinished xs) ys (quiet_after [] xs ys tt t)))
 
 same_completed : {E V : Type 0} (us : List (Unfinished E V)) (h k : ℕ → Head E V) → ((n : ℕ) → h n ≡ k n) → completed us h ≡ completed us k
 same_completed [] h k same = refl
@@ -285,10 +282,10 @@ merge_same a b c d p q = record {
   counted = λ g.
       of_group_append g a.counted (completed a.left_open b.heads ++ b.counted)
       ∙ (ap₂ (λ x y. x ++ y) (p.counted g)
-          (of_group_append g (completed a.left_open b.heads) b.counted
-          ∙ (ap₂ (λ x y. of_group g x ++ y)
-              (ap (λ us. completed us b.heads) p.left_open ∙ same_completed c.left_open b.heads d.heads q.heads) (q.counted g)
-          ∙ sym (of_group_append g (completed c.left_open d.heads) d.counted)))
+      (of_group_append g (completed a.left_open b.heads) b.counted
+      ∙ (ap₂ (λ x y. of_group g x ++ y)
+      (ap (λ us. completed us b.heads) p.left_open ∙ same_completed c.left_open b.heads d.heads q.heads) (q.counted g)
+      ∙ sym (of_group_append g (completed c.left_open d.heads) d.counted)))
       ∙ sym (of_group_append g c.counted (completed c.left_open d.heads ++ d.counted)));
   heads = λ n. ap₂ then_head (p.heads n) (q.heads n);
   left_open = ap₂ (λ x y. x ++ y) (ap (λ us. carried_on us b.heads) p.left_open ∙ same_carried c.left_open b.heads d.heads q.heads) q.left_open;
@@ -307,14 +304,16 @@ merge_two xs ys t = record {
 
 same_then : {E V : Type 0} (a b c : Segment E V) → IsSameSegment a b → IsSameSegment b c → IsSameSegment a c
 same_then a b c p q = record {
-  counted = λ g. p.counted g ∙ q.counted g; heads = λ n. p.heads n ∙ q.heads n; left_open = p.left_open ∙ q.left_open;
+  counted = λ g. p.counted g ∙ q.counted g;
+  heads = λ n. p.heads n ∙ q.heads n;
+  left_open = p.left_open ∙ q.left_open;
 }
 
 -- consecutive segments of tidy records, merged in any bracketing, are the segment of all of them
 pub any_bracketing : {E V : Type 0} (t : Bracketing (Record E V)) → Tidy (all_of t) → IsSameSegment (merge_all t) (segment (all_of t))
-any_bracketing (One rs) h = record { counted = λ g. refl; heads = λ n. refl; left_open = refl; }
+any_bracketing (One rs) h = record { counted = λ g. refl; heads = λ n. refl; left_open = refl }
 any_bracketing (Both s t) h =
     same_then (merge (merge_all s) (merge_all t)) (merge (segment (all_of s)) (segment (all_of t))) (segment (all_of s ++ all_of t))
     (merge_same (merge_all s) (merge_all t) (segment (all_of s)) (segment (all_of t))
-        (any_bracketing s (tidy_front (all_of s) (all_of t) h)) (any_bracketing t (tidy_back (all_of s) (all_of t) h)))
+    (any_bracketing s (tidy_front (all_of s) (all_of t) h)) (any_bracketing t (tidy_back (all_of s) (all_of t) h)))
     (merge_two (all_of s) (all_of t) h)

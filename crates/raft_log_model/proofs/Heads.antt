@@ -1,33 +1,16 @@
 -- The pieces of atomic groups at a segment's borders, where segments are joined.
-use Rattle.std.proofs.Common.{◌≡◌, ℕ, ◌==◌, List, [], ◌∷◌, ◌++◌, Bool, true, false, Option, Some, None, unwrap_or, if◌then◌else◌, refl, sym, ap, ap₂, ◌∙◌, append_assoc, append-nil}
-use Rattle.std.specs.Option.{option_or}
-use Rattle.raft_log_model.specs.Item.{Item, Tagged, Record}
+use Rattle.std.proofs.Common.{◌≡◌, ℕ, ◌==◌, List, [], ◌∷◌, ◌++◌, Bool, true, false, if◌then◌else◌, refl, sym, ap, ◌∙◌, append_assoc, append-nil}
+use Rattle.raft_log_model.specs.Item.{Tagged, Record}
 use Rattle.raft_log_model.specs.Item.Record.{Plain, Part}
 use Rattle.raft_log_model.specs.Item.Mark.{Begin, Middle, End}
-use Rattle.raft_log_model.specs.Groups.{Open, none_open, set_open, onto, opens, opened}
-use Rattle.raft_log_model.specs.Fragments.{Head, head, then_head, Unfinished, without, more, next_unfinished, unfinished_after, unfinished, finish, go_on, completed, carried_on}
+use Rattle.raft_log_model.specs.Fragments.{Head, head, then_head}
 use Rattle.raft_log_model.specs.Fragments.Head.{GoesOn, Ends, BeginsAnew}
-use Rattle.raft_log_model.proofs.Cases.{at_bool, if_true, if_false, eq_true, eq_false, from_eq_true, from_eq_false}
-use Rattle.raft_log_model.proofs.Words.{option_or_none}
-use Rattle.raft_log_model.proofs.Suffix.{Alike}
 
 -- more items in front of a head
 pub then_goes_on : {E V : Type 0} (xs ys : List (Tagged E V)) (h : Head E V) → then_head (GoesOn xs) (then_head (GoesOn ys) h) ≡ then_head (GoesOn (xs ++ ys)) h
 then_goes_on xs ys (GoesOn zs) = ap GoesOn (sym (append_assoc xs ys zs))
 then_goes_on xs ys (Ends zs) = ap Ends (sym (append_assoc xs ys zs))
 then_goes_on xs ys BeginsAnew = refl
-
-pub then_nothing : {E V : Type 0} (h : Head E V) → then_head (GoesOn []) h ≡ h
-then_nothing (GoesOn xs) = refl
-then_nothing (Ends xs) = refl
-then_nothing BeginsAnew = refl
-
-pub then_assoc : {E V : Type 0} (a b c : Head E V) → then_head (then_head a b) c ≡ then_head a (then_head b c)
-then_assoc (GoesOn xs) (GoesOn ys) c = sym (then_goes_on xs ys c)
-then_assoc (GoesOn xs) (Ends ys) c = refl
-then_assoc (GoesOn xs) BeginsAnew c = refl
-then_assoc (Ends xs) b c = refl
-then_assoc BeginsAnew b c = refl
 
 -- a case on a test inside a head
 if_same : {A B : Type 0} (f : A → B) (b : Bool) (x y : A) (u v : B) → f x ≡ u → f y ≡ v → f (if b then x else y) ≡ (if b then u else v)

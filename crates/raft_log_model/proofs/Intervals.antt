@@ -8,7 +8,7 @@ use Rattle.raft_log_model.specs.Meaning.{Slot, Content, says, holds, directory}
 use Rattle.raft_log_model.specs.Meaning.Slot.{Index}
 use Rattle.raft_log_model.specs.Meaning.Content.{Entry}
 use Rattle.raft_log_model.specs.Holes.{Window, nothing, window, holds_past, NoHole, has_clean, low, least, high, is_below, is_silent, has_gap, directory_by_intervals, IsSolid}
-use Rattle.raft_log_model.proofs.Cases.{at_bool, at_option, lt_true, le_true, from_lt_true}
+use Rattle.raft_log_model.proofs.Cases.{at_bool, at_option, lt_true, le_true, from_lt_true, both, none_some}
 use Rattle.raft_log_model.proofs.Words.{option_or_none}
 use Rattle.raft_log_model.proofs.Holes.{no_hole}
 use Rattle.raft_log_model.proofs.Windows.{one_run_fits}
@@ -104,10 +104,6 @@ by_intervals i r a h g =
     by_word (says (Index i) a) (is_silent a i) (has_gap (window nothing r) a) (holds_past (Index i) r) (holds (Index i) r) (silence a i) (λ _. g)
     (ap (λ o. unwrap_or o None) (no_hole nothing (Index i) r h))
 
-both : (a b : Bool) → (a && b) ≡ true → (a ≡ true) × (b ≡ true)
-both true b h = (refl, h)
-both false b h = cc
-
 not_true : (a : Bool) → not a ≡ true → a ≡ false
 not_true true h = cc
 not_true false h = refl
@@ -116,7 +112,7 @@ from_none : {A : Type 0} (o : Option A) → is_none o ≡ true → o ≡ None
 from_none None h = refl
 from_none (Some x) h = cc
 
-least_is_low : (n : ℕ) (o : Option ℕ) → least n o ≤ n
+pub least_is_low : (n : ℕ) (o : Option ℕ) → least n o ≤ n
 least_is_low n None = omega arith
 least_is_low n (Some b) = omega arith
 
@@ -127,9 +123,6 @@ below_bound i n (Some b) h = lt_true i b (omega arith)
 at_the_end : (n : ℕ) (o : Option ℕ) → is_below (least n o) o ≡ true → n ≤ least n o
 at_the_end n None h = omega arith
 at_the_end n (Some b) h = min_is_first n b (from_lt_true (min n b) b h)
-
-none_some : {A : Type 0} (o : Option A) (x : A) → o ≡ None → o ≡ Some x → ⊥
-none_some o x h k = cc
 
 -- what Append holds stands in the directory
 pub append_decides : {E V : Type 0} (s : Slot) (r a : List (Item E V)) (x : Content E V) → holds s a ≡ Some x → directory s r a ≡ Some x

@@ -1,21 +1,21 @@
 -- Consecutive segments of a list without holes, summed up and joined in any bracketing, say what the whole list says.
-use Rattle.std.proofs.Common.{◌≡◌, ℕ, zero, suc, ◌+◌, ◌-◌, ◌<◌, ◌≤◌, ◌⊎◌, List, [], ◌∷◌, ◌++◌, length, Bool, true, false, not, ◌&&◌, Option, Some, None, unwrap_or, option_map, slice_get, nat_lt, nat_le, if◌then◌else◌, refl, sym, ap, ap₂, subst, ◌∙◌, inl, inr, arith}
-use Rattle.std.proofs.lemmas.Bool.{cases_lt}
+use Rattle.std.proofs.Common.{◌≡◌, ℕ, ◌+◌, ◌-◌, ◌<◌, ◌≤◌, List, ◌++◌, length, Bool, true, false, not, ◌&&◌, Option, Some, None, unwrap_or, nat_lt, nat_le, if◌then◌else◌, refl, sym, ap, ap₂, subst, ◌∙◌, arith}
 use Rattle.std.specs.Option.{option_or}
 use Rattle.raft_log_model.specs.Item.{Item}
 use Rattle.raft_log_model.specs.Meaning.{Slot, Content, says, holds}
-use Rattle.raft_log_model.specs.Meaning.Slot.{Index, Key}
-use Rattle.raft_log_model.specs.Meaning.Content.{Entry, Value}
-use Rattle.raft_log_model.specs.Holes.{Window, nothing, is_past, window, NoHole, is_below}
+use Rattle.raft_log_model.specs.Meaning.Slot.{Index}
+use Rattle.raft_log_model.specs.Meaning.Content.{Entry}
+use Rattle.raft_log_model.specs.Holes.{Spans, nothing, is_past, window, NoHole, is_below}
 use Rattle.raft_log_model.specs.Fragments.{Bracketing, all_of}
 use Rattle.raft_log_model.specs.Fragments.Bracketing.{One, Both}
-use Rattle.raft_log_model.specs.Summary.{Table, content, span_of, compacted, cut_from, Summary, no_summary, summary, is_left, word, entries_over, join, join_all}
-use Rattle.raft_log_model.proofs.Cases.{at_bool, if_true, if_false, from_lt_true, from_lt_false, from_le_true}
+use Rattle.raft_log_model.specs.Table.{Table, content, span_of, compacted, cut_from}
+use Rattle.raft_log_model.specs.Summary.{IsSummary, Summary, no_summary, summary, is_left, word, join, join_all}
+use Rattle.raft_log_model.proofs.Cases.{at_bool, if_false, from_lt_true, both, none_some}
 use Rattle.raft_log_model.proofs.Words.{says_append, unwrap_or_option_or}
 use Rattle.raft_log_model.proofs.Holes.{no_hole_front, no_hole_later}
-use Rattle.raft_log_model.proofs.Windows.{Spans, one_run_fits, inside}
-use Rattle.raft_log_model.proofs.Tables.{content_below, content_within, content_above}
-use Rattle.raft_log_model.proofs.Summaries.{IsSound, JoinFits, sound_after, summary_says, content_word, content_kept, join_word, join_sound, bound_rises}
+use Rattle.raft_log_model.proofs.Windows.{one_run_fits, inside}
+use Rattle.raft_log_model.proofs.TableSteps.{content_below, content_within, content_above}
+use Rattle.raft_log_model.proofs.Summaries.{JoinFits, sound_after, summary_says, content_word, content_kept, join_word, join_sound, bound_rises, not_left}
 
 by_left : {A : Type 0} (b : Bool) (c d : Option A) → unwrap_or (if b then None else Some c) d ≡ (if b then d else c)
 by_left true c d = refl
@@ -30,28 +30,11 @@ none_either true true c d e h k = h
 none_either true false c d e h k = cc
 none_either false kept c d e h k = k
 
-not_left : (c l b : Bool) → b ≡ false → (not c && (l && b)) ≡ false
-not_left true l b h = refl
-not_left false true b h = h
-not_left false false b h = refl
-
-both : (a b : Bool) → (a && b) ≡ true → (a ≡ true) × (b ≡ true)
-both true b h = (refl, h)
-both false b h = cc
-
-none_some : {A : Type 0} (o : Option A) (x : A) → o ≡ None → o ≡ Some x → ⊥
-none_some o x h k = cc
-
 low_case : (i first : ℕ) → (i < first → ⊥) → first ≤ i
 low_case i first h = let k : ¬ (i < first) = h in omega arith
 
 high_case : (i end : ℕ) → (end ≤ i → ⊥) → i < end
 high_case i end h = let k : ¬ (end ≤ i) = h in omega arith
-
--- the summary of a segment, however it was made: its word is the segment's
-pub record IsSummary {E V : Type 0} (z : Summary E V) (xs : List (Item E V)) : Type 0 where
-  pub sound : IsSound z
-  pub says : (s : Slot) → word z s ≡ says s xs
 
 -- what its table holds is what stands after the segment
 pub table_holds : {E V : Type 0} (z : Summary E V) (xs : List (Item E V)) (s : Slot) → IsSummary z xs → content z.table s ≡ holds s xs
@@ -77,7 +60,7 @@ left_stands : {E V : Type 0} (a z : Summary E V) (xs ys : List (Item E V)) (i : 
     → (e : E) → content (cut_from (compacted a.table z.low) z.high) (Index i) ≡ Some (Entry e) → holds (Index i) (xs ++ ys) ≡ Some (Entry e)
 left_stands a z xs ys i p q clean e h =
     let got : ((nat_le z.low i && is_below i z.high) ≡ true) × (content a.table (Index i) ≡ Some (Entry e)) =
-        some_kept (nat_le z.low i && is_below i z.high) (content a.table (Index i)) (Entry e) (sym (content_kept a.table z i) ∙ h) in
+    some_kept (nat_le z.low i && is_below i z.high) (content a.table (Index i)) (Entry e) (sym (content_kept a.table z i) ∙ h) in
     two_hold a z xs ys i p q
     ∙ (ap₂ (λ b c. if b then c else content z.table (Index i)) (ap₂ (λ c b. not c && b) clean got.0) got.1)
 
@@ -87,15 +70,16 @@ between_none : {E V : Type 0} (a z : Summary E V) (xs ys : List (Item E V)) (i :
 between_none a z xs ys i p q clean h k =
     two_hold a z xs ys i p q
     ∙ none_either (is_left z i) (nat_le z.low i && is_below i z.high) (content a.table (Index i)) (content z.table (Index i))
-        (ap (λ c. not c && (nat_le z.low i && is_below i z.high)) clean) (sym (content_kept a.table z i) ∙ h) k
+    (ap (λ c. not c && (nat_le z.low i && is_below i z.high)) clean) (sym (content_kept a.table z i) ∙ h) k
 
 later_stands : {E V : Type 0} (a z : Summary E V) (xs ys : List (Item E V)) (i : ℕ) → IsSummary a xs → IsSummary z ys
     → z.table.first ≤ i → i < z.table.first + length z.table.entries → (e : E) × (holds (Index i) (xs ++ ys) ≡ Some (Entry e))
 later_stands a z xs ys i p q h k =
-    let new : (e : _) × (content z.table (Index i) ≡ Some (Entry e)) = stands_in z.table i h k in
-    (new.0,
-    two_hold a z xs ys i p q
-    ∙ (if_false (is_left z i) _ _ (not_left z.cleaned (nat_le z.low i) (is_below i z.high) (bound_rises z.table.first i z.high h (q.sound (omega arith)))) ∙ new.1))
+    let new : (e : _) × (content z.table (Index i) ≡ Some (Entry e)) = stands_in z.table i h k in (
+      new.0,
+      two_hold a z xs ys i p q
+          ∙ (if_false (is_left z i) _ _ (not_left z.cleaned (nat_le z.low i) (is_below i z.high) (bound_rises z.table.first i z.high h (q.sound (omega arith)))) ∙ new.1),
+    )
 
 -- what stands lies within the one run
 within_low : {E V : Type 0} (first end : ℕ) (m : ℕ → Option (Content E V)) (i : ℕ) (e : E) → Spans first end m → m i ≡ Some (Entry e) → first ≤ i
@@ -120,8 +104,8 @@ no_hole_between a z xs ys p q h clean some past =
     let sp : Spans (window nothing (xs ++ ys)).first (window nothing (xs ++ ys)).end m = one_run_fits (xs ++ ys) h in
     let low : (window nothing (xs ++ ys)).first ≤ end - 1 = within_low _ _ m (end - 1) last.0 sp under in
     let high : z.table.first < (window nothing (xs ++ ys)).end = within_high _ _ m z.table.first over.0 sp over.1 in
-    none_some (m end) _ (between_none a z xs ys end p q clean (content_above t end (omega arith)) (content_below z.table end apart))
-        ((sp.stands end (omega arith) (omega arith)).1)
+    let there : (e : _) × (m end ≡ Some (Entry e)) = sp.stands end (omega arith) (omega arith) in
+    none_some (m end) (Entry there.0) (between_none a z xs ys end p q clean (content_above t end (omega arith)) (content_below z.table end apart)) there.1
 
 pub join_fits : {E V : Type 0} (a z : Summary E V) (xs ys : List (Item E V)) → IsSummary a xs → IsSummary z ys → NoHole nothing (xs ++ ys)
     → JoinFits a.table z
@@ -144,3 +128,14 @@ all_joined (One xs) h = is_summary xs h
 all_joined (Both s t) h =
     join_is_summary (join_all s) (join_all t) (all_of s) (all_of t)
     (all_joined s (no_hole_front nothing (all_of s) (all_of t) h)) (all_joined t (no_hole_later (all_of s) (all_of t) h)) h
+
+pub bracketing_word : {E V : Type 0} (t : Bracketing (Item E V)) (s : Slot) → NoHole nothing (all_of t) → word (join_all t) s ≡ says s (all_of t)
+bracketing_word t s h = (all_joined t h).says s
+
+pub bracketing_table : {E V : Type 0} (t : Bracketing (Item E V)) (s : Slot) → NoHole nothing (all_of t) → content (join_all t).table s ≡ holds s (all_of t)
+bracketing_table t s h = table_holds (join_all t) (all_of t) s (all_joined t h)
+
+pub bracketings_agree : {E V : Type 0} (t u : Bracketing (Item E V)) (s : Slot) → all_of t ≡ all_of u → NoHole nothing (all_of t)
+    → content (join_all t).table s ≡ content (join_all u).table s
+bracketings_agree t u s e h =
+    bracketing_table t s h ∙ (ap (λ xs. holds s xs) e ∙ sym (bracketing_table u s (subst (λ xs. NoHole nothing xs) e h)))

@@ -1,12 +1,12 @@
 -- The groups that a segment leaves unfinished, where segments are joined.
-use Rattle.std.proofs.Common.{◌≡◌, ℕ, ◌==◌, List, [], ◌∷◌, ◌++◌, Bool, true, false, Option, Some, None, unwrap_or, if◌then◌else◌, refl, sym, ap, ap₂, subst, ◌∙◌, append_assoc, append-nil, arith}
+use Rattle.std.proofs.Common.{◌≡◌, ℕ, ◌==◌, List, [], ◌∷◌, ◌++◌, Bool, true, false, if◌then◌else◌, refl, sym, ap, ap₂, ◌∙◌, append_assoc, append-nil, arith}
 use Rattle.std.proofs.lemmas.Bool.Decides.{nat_tests}
-use Rattle.raft_log_model.specs.Item.{Item, Tagged, Record}
+use Rattle.raft_log_model.specs.Item.{Tagged, Record}
 use Rattle.raft_log_model.specs.Item.Record.{Plain, Part}
 use Rattle.raft_log_model.specs.Item.Mark.{Begin, Middle, End}
-use Rattle.raft_log_model.specs.Fragments.{Head, head, then_head, Unfinished, without, more, next_unfinished, unfinished_after, unfinished, finish, go_on, completed, carried_on}
+use Rattle.raft_log_model.specs.Fragments.{Head, head, then_head, Unfinished, without, more, next_unfinished, unfinished_after, unfinished, go_on, carried_on}
 use Rattle.raft_log_model.specs.Fragments.Head.{GoesOn, Ends, BeginsAnew}
-use Rattle.raft_log_model.proofs.Cases.{at_bool, if_true, if_false, eq_true, eq_false, from_eq_true, from_eq_false}
+use Rattle.raft_log_model.proofs.Cases.{at_bool}
 use Rattle.raft_log_model.proofs.Heads.{head_start}
 
 pub number_test : (n k : ℕ) → (n == k) ≡ (k == n)
@@ -34,7 +34,7 @@ carried_without n h heads [] none = refl
 carried_without n h heads (u ∷ us) none =
     at_bool (u.number == n)
     (λ b. carried_on (if b then without n us else u ∷ without n us) heads
-        ≡ go_on u.number u.items (if b then h else heads u.number) ++ carried_on us (λ k. if n == k then h else heads k))
+    ≡ go_on u.number u.items (if b then h else heads u.number) ++ carried_on us (λ k. if n == k then h else heads k))
     (λ _. carried_without n h heads us none ∙ sym (ap (λ a. a ++ carried_on us (λ k. if n == k then h else heads k)) (none u.number u.items)))
     (λ _. ap (λ a. go_on u.number u.items (heads u.number) ++ a) (carried_without n h heads us none))
     ∙ ap (λ b. go_on u.number u.items (if b then h else heads u.number) ++ carried_on us (λ k. if n == k then h else heads k)) (number_test u.number n)
@@ -50,13 +50,13 @@ carried_more n ys rs [] = refl
 carried_more n ys rs (u ∷ us) =
     at_bool (u.number == n)
     (λ b. go_on u.number (if b then u.items ++ ys else u.items) (head u.number [] rs) ++ carried_on (more n ys us) (λ k. head k [] rs)
-        ≡ go_on u.number u.items (if b then head u.number ys rs else head u.number [] rs) ++ carried_on us (λ k. if n == k then head k ys rs else head k [] rs))
+    ≡ go_on u.number u.items (if b then head u.number ys rs else head u.number [] rs) ++ carried_on us (λ k. if n == k then head k ys rs else head k [] rs))
     (λ _. ap₂ (λ a b. a ++ b)
-        (go_on_more u.number u.items ys (head u.number [] rs) ∙ ap (go_on u.number u.items) (sym (head_start u.number ys rs)))
-        (carried_more n ys rs us))
+    (go_on_more u.number u.items ys (head u.number [] rs) ∙ ap (go_on u.number u.items) (sym (head_start u.number ys rs)))
+    (carried_more n ys rs us))
     (λ _. ap (λ a. go_on u.number u.items (head u.number [] rs) ++ a) (carried_more n ys rs us))
     ∙ ap (λ b. go_on u.number u.items (if b then head u.number ys rs else head u.number [] rs) ++ carried_on us (λ k. if n == k then head k ys rs else head k [] rs))
-        (number_test u.number n)
+    (number_test u.number n)
 
 carried_all : {E V : Type 0} (us ps : List (Unfinished E V)) → us ++ ps ≡ carried_on us (λ n. GoesOn []) ++ ps
 carried_all [] ps = refl
@@ -72,7 +72,7 @@ unfinished_join us ps (Part (Begin n) xs ∷ rs) =
     ∙ (ap (λ a. unfinished_after a rs) (append_assoc (without n us) (without n ps) (record { number = n; items = xs } ∷ []))
     ∙ (unfinished_join (without n us) (without n ps ++ (record { number = n; items = xs } ∷ [])) rs
     ∙ ap (λ a. a ++ unfinished_after (without n ps ++ (record { number = n; items = xs } ∷ [])) rs)
-        (carried_without n BeginsAnew (λ k. head k [] rs) us (λ k ys. refl))))
+    (carried_without n BeginsAnew (λ k. head k [] rs) us (λ k ys. refl))))
 unfinished_join us ps (Part (Middle n) xs ∷ rs) =
     ap (λ a. unfinished_after a rs) (more_append n xs us ps)
     ∙ (unfinished_join (more n xs us) (more n xs ps) rs

@@ -1,12 +1,12 @@
 -- What counts of an end of tidy records is an end of what counts of all, group by group.
-use Rattle.std.proofs.Common.{◌≡◌, ℕ, ◌⊎◌, List, [], ◌∷◌, ◌++◌, Bool, true, false, Option, Some, None, unwrap_or, ◌==◌, MatchBool, if◌then◌else◌, refl, sym, ap, ap₂, subst₂, ◌∙◌, inl, inr, append_assoc}
+use Rattle.std.proofs.Common.{◌≡◌, ℕ, ◌⊎◌, List, [], ◌∷◌, ◌++◌, true, false, Option, Some, None, unwrap_or, ◌==◌, MatchBool, if◌then◌else◌, refl, sym, ap, ap₂, subst₂, ◌∙◌, inl, inr, append_assoc}
 use Rattle.std.specs.Bool.{⊤}
 use Rattle.raft_log_model.specs.Item.{Item, Tagged, Record}
 use Rattle.raft_log_model.specs.Item.Record.{Plain, Part}
 use Rattle.raft_log_model.specs.Item.Mark.{Begin, Middle, End}
 use Rattle.raft_log_model.specs.Groups.{of_group, Open, none_open, set_open, onto, counts, opens, settle, rewritten}
 use Rattle.raft_log_model.specs.Tidy.{Apart, Undisturbed, Tidy}
-use Rattle.raft_log_model.proofs.Cases.{at_bool, if_true, if_false, eq_true, eq_false, from_eq_true, from_eq_false}
+use Rattle.raft_log_model.proofs.Cases.{at_bool, if_true, if_false, eq_true, eq_false, from_eq_true, from_eq_false, neither}
 use Rattle.raft_log_model.proofs.Records.{of_group_append}
 
 -- the same groups are open
@@ -32,13 +32,9 @@ pub alike_settle : {E V : Type 0} (o p : Open E V) (rs : List (Record E V)) → 
 alike_settle o p [] same = refl
 alike_settle o p (r ∷ rs) same = ap₂ (λ a b. a ++ b) (alike_counts o p r same) (alike_settle (opens o r) (opens p r) rs (alike_opens o p r same))
 
-closed : {A : Type 0} (b : Bool) → ◌≡◌ {A = Option A} (if b then None else None) None
-closed true = refl
-closed false = refl
-
 -- where nothing is open, closing a group changes nothing
 pub alike_none : {E V : Type 0} (n : ℕ) → Alike (set_open (none_open {E = E} {V = V}) n None) none_open
-alike_none n k = closed (n == k)
+alike_none n k = neither (n == k)
 
 -- the states differ in group n alone: there p has xs and o nothing
 pub record Differ {E V : Type 0} (n : ℕ) (xs : List (Tagged E V)) (o p : Open E V) : Type 0 where

@@ -1,28 +1,24 @@
 -- The word of a segment's summary is the last word of its items; two summaries joined are the summary of both segments.
-use Rattle.std.proofs.Common.{◌≡◌, ℕ, zero, suc, ◌+◌, ◌-◌, ◌<◌, ◌≤◌, ◌⊎◌, max, min, List, [], ◌∷◌, ◌++◌, length, take, drop, Bool, true, false, not, ◌&&◌, ◌||◌, Option, Some, None, unwrap_or, option_map, slice_get, bytes_eq, nat_lt, nat_le, if◌then◌else◌, refl, sym, ap, ap₂, subst, ◌∙◌, inl, inr, arith, length-append, length-take, length-drop}
+use Rattle.std.proofs.Common.{◌≡◌, ℕ, ◌+◌, ◌-◌, ◌<◌, ◌≤◌, ◌⊎◌, max, min, List, [], ◌∷◌, length, Bool, true, false, not, ◌&&◌, ◌||◌, Option, Some, None, unwrap_or, option_map, bytes_eq, nat_lt, nat_le, if◌then◌else◌, refl, sym, ap, ap₂, ◌∙◌, inl, inr, arith, length-take, length-drop}
 use Rattle.std.proofs.lemmas.Bool.Decides.{nat_tests}
 use Rattle.std.proofs.lemmas.Bool.{cases_lt}
 use Rattle.std.specs.Option.{option_or}
 use Rattle.raft_log_model.specs.Item.{Item}
 use Rattle.raft_log_model.specs.Item.Item.{Run, Clean, Compact, Put, Del}
-use Rattle.raft_log_model.specs.Meaning.{Slot, Content, write, says, holds}
+use Rattle.raft_log_model.specs.Meaning.{Slot, Content, write, says}
 use Rattle.raft_log_model.specs.Meaning.Slot.{Index, Key}
-use Rattle.raft_log_model.specs.Meaning.Content.{Entry, Value}
-use Rattle.raft_log_model.specs.Holes.{Window, nothing, is_past, next_window, window, FitsOn, NoHole, least, is_below}
-use Rattle.raft_log_model.specs.Summary.{Table, content, span_of, no_table, compacted, cut_from, run_onto, Summary, no_summary, step, summary_after, summary, is_left, word, lesser, values_over, entries_over, join, join_all}
-use Rattle.raft_log_model.proofs.Cases.{at_bool, if_true, if_false, lt_true, le_true, le_false, lt_false, from_lt_true, from_le_true, from_lt_false, from_le_false}
-use Rattle.raft_log_model.proofs.Words.{option_or_assoc, option_or_none, says_append}
+use Rattle.raft_log_model.specs.Meaning.Content.{Value}
+use Rattle.raft_log_model.specs.Holes.{Window, nothing, is_past, next_window, FitsOn, NoHole, least, is_below}
+use Rattle.raft_log_model.specs.Table.{Table, content, span_of, no_table, compacted, cut_from, run_onto}
+use Rattle.raft_log_model.specs.Summary.{IsSound, Summary, no_summary, step, summary_after, summary, is_left, word, lesser, entries_over, join}
+use Rattle.raft_log_model.proofs.Cases.{at_bool, if_true, if_false, lt_true, le_true, le_false, lt_false, from_lt_true, from_lt_false, neither}
+use Rattle.raft_log_model.proofs.Words.{option_or_assoc, option_or_none}
 use Rattle.raft_log_model.proofs.Tests.{run_sets, run_leaves, compact_removes, compact_leaves}
-use Rattle.raft_log_model.proofs.Holes.{IsTail, tail_step, no_hole_front, no_hole_later}
-use Rattle.raft_log_model.proofs.Windows.{Spans, one_run_fits}
-use Rattle.raft_log_model.proofs.Tables.{content_below, content_within, content_above, content_compacted, content_cut, content_run, run_end}
+use Rattle.raft_log_model.proofs.Holes.{IsTail, tail_step}
+use Rattle.raft_log_model.proofs.TableSteps.{content_below, content_within, content_above, content_compacted, content_cut, content_run, run_end}
 
-either_none : {A : Type 0} (b : Bool) → ◌≡◌ {A = Option A} (if b then None else None) None
-either_none true = refl
-either_none false = refl
-
-nothing_stands : {E V : Type 0} (i : ℕ) → content (no_table {E = E} {V = V}) (Index i) ≡ None
-nothing_stands i = either_none (nat_le 0 i)
+pub nothing_stands : {E V : Type 0} (i : ℕ) → content (no_table {E = E} {V = V}) (Index i) ≡ None
+nothing_stands i = neither (nat_le 0 i)
 
 lesser_test : (i f b : ℕ) → i < f → nat_lt i (min f b) ≡ nat_lt i b
 lesser_test i f b h = grind (arith, nat_tests)
@@ -36,7 +32,7 @@ run_takes : (i f : ℕ) (high : Option ℕ) → f ≤ i → is_below i (Some (le
 run_takes i f None h = lt_false i f h
 run_takes i f (Some b) h = lt_false i (min f b) (omega arith)
 
-not_left : (c l b : Bool) → b ≡ false → (not c && (l && b)) ≡ false
+pub not_left : (c l b : Bool) → b ≡ false → (not c && (l && b)) ≡ false
 not_left true l b h = refl
 not_left false true b h = h
 not_left false false b h = refl
@@ -49,13 +45,13 @@ step_run : {E V : Type 0} (z : Summary E V) (i f : ℕ) (e : E) (es : List E) �
     → word (step z (Run f (e ∷ es))) (Index i) ≡ option_or (write (Index i) (Run f (e ∷ es))) (word z (Index i))
 step_run z i f e es h (inl below) =
     ap₂ (λ b c. if b then None else Some c)
-        (run_left z.cleaned z.low i f z.high below)
-        (content_run z.table f i (e ∷ es) h ∙ if_false (nat_le f i) _ _ (le_false f i below))
+    (run_left z.cleaned z.low i f z.high below)
+    (content_run z.table f i (e ∷ es) h ∙ if_false (nat_le f i) _ _ (le_false f i below))
     ∙ sym (ap (λ a. option_or a (word z (Index i))) (run_leaves i f (e ∷ es) below))
 step_run z i f e es h (inr above) =
     ap₂ (λ b c. if b then None else Some c)
-        (not_left z.cleaned (nat_le z.low i) (is_below i (Some (least f z.high))) (run_takes i f z.high above))
-        (content_run z.table f i (e ∷ es) h ∙ if_true (nat_le f i) _ _ (le_true f i above))
+    (not_left z.cleaned (nat_le z.low i) (is_below i (Some (least f z.high))) (run_takes i f z.high above))
+    (content_run z.table f i (e ∷ es) h ∙ if_true (nat_le f i) _ _ (le_true f i above))
     ∙ sym (ap (λ a. option_or a (word z (Index i))) (run_sets i f (e ∷ es) above (omega arith)))
 
 above_low : (low c i : ℕ) → c ≤ i → nat_le (max c low) i ≡ nat_le low i
@@ -68,13 +64,13 @@ step_compact : {E V : Type 0} (z : Summary E V) (i c : ℕ) → (i < c) ⊎ (c �
     → word (step z (Compact c)) (Index i) ≡ option_or (write {V = V} (Index i) (Compact c)) (word z (Index i))
 step_compact z i c (inl below) =
     ap₂ (λ b d. if b then None else Some d)
-        (below_low z.cleaned (nat_le (max c z.low) i) (is_below i z.high) (under_low z.low c i below))
-        (content_compacted z.table c i ∙ if_true (nat_lt i c) _ _ (lt_true i c below))
+    (below_low z.cleaned (nat_le (max c z.low) i) (is_below i z.high) (under_low z.low c i below))
+    (content_compacted z.table c i ∙ if_true (nat_lt i c) _ _ (lt_true i c below))
     ∙ sym (ap (λ a. option_or a (word z (Index i))) (compact_removes i c below))
 step_compact z i c (inr above) =
     ap₂ (λ b d. if b then None else Some d)
-        (ap (λ l. not z.cleaned && (l && is_below i z.high)) (above_low z.low c i above))
-        (content_compacted z.table c i ∙ if_false (nat_lt i c) _ _ (lt_false i c above))
+    (ap (λ l. not z.cleaned && (l && is_below i z.high)) (above_low z.low c i above))
+    (content_compacted z.table c i ∙ if_false (nat_lt i c) _ _ (lt_false i c above))
     ∙ sym (ap (λ a. option_or a (word z (Index i))) (compact_leaves i c above))
 
 put_word : {E V : Type 0} (b : Bool) (v : V) (old : Option V) (rest : Option (Option (Content E V)))
@@ -85,8 +81,8 @@ put_word false v old rest = refl
 
 del_word : {E V : Type 0} (b : Bool) (old : Option V) (c d : Bool)
     → ◌≡◌ {A = Option (Option (Content E V))}
-        (option_or (option_map (λ w. Some (Value w)) (if b then None else old)) (if c || (b || d) then Some None else None))
-        (option_or (if b then Some None else None) (option_or (option_map (λ w. Some (Value w)) old) (if c || d then Some None else None)))
+    (option_or (option_map (λ w. Some (Value w)) (if b then None else old)) (if c || (b || d) then Some None else None))
+    (option_or (if b then Some None else None) (option_or (option_map (λ w. Some (Value w)) old) (if c || d then Some None else None)))
 del_word true old true d = refl
 del_word true old false d = refl
 del_word false old c d = refl
@@ -148,10 +144,6 @@ pub summary_says : {E V : Type 0} (xs : List (Item E V)) (s : Slot) → NoHole n
 summary_says xs s h =
     word_after no_summary nothing xs s (inl (omega arith)) h ∙ (ap (option_or (says s xs)) (no_word s) ∙ option_or_none (says s xs))
 
--- a table with entries begins at or above the least start of a run
-abbrev pub IsSound : {E V : Type 0} → Summary E V → Type 0
-IsSound z = 0 < length z.table.entries → is_below z.table.first z.high ≡ false
-
 bound_falls : (a f : ℕ) (high : Option ℕ) → f ≤ a → is_below a (Some (least f high)) ≡ false
 bound_falls a f None h = lt_false a f h
 bound_falls a f (Some b) h = lt_false a (min f b) (omega arith)
@@ -190,12 +182,12 @@ sound_after z [] h = h
 sound_after z (x ∷ xs) h = sound_after (step z x) xs (step_sound z x h)
 
 -- what stands in the table of a sound summary is what its word says
-third_test : (c l b : Bool) → (not c && (l && b)) ≡ true → b ≡ true
+pub third_test : (c l b : Bool) → (not c && (l && b)) ≡ true → b ≡ true
 third_test true l b h = cc
 third_test false true b h = h
 third_test false false b h = cc
 
-cases_end : (i n : ℕ) → (n ≤ i) ⊎ (i < n)
+pub cases_end : (i n : ℕ) → (n ≤ i) ⊎ (i < n)
 cases_end i n = grind arith
 
 key_content : {E V : Type 0} (v : Option V) (b : Bool)
@@ -228,7 +220,7 @@ no_second_test : (l b : Bool) → b ≡ false → (l && b) ≡ false
 no_second_test true b h = h
 no_second_test false b h = refl
 
-no_content : {E V : Type 0} (z : Summary E V) (i : ℕ) → IsSound z → is_below i z.high ≡ true
+pub no_content : {E V : Type 0} (z : Summary E V) (i : ℕ) → IsSound z → is_below i z.high ≡ true
     → (i < z.table.first) ⊎ (z.table.first ≤ i) → (z.table.first + length z.table.entries ≤ i) ⊎ (i < z.table.first + length z.table.entries)
     → content z.table (Index i) ≡ None
 no_content z i h k (inl below) m = content_below z.table i below
@@ -279,10 +271,10 @@ content_kept t z i =
     ∙ (ap (λ a. if is_below i z.high then a else None) (content_compacted t z.low i)
     ∙ kept_if (is_below i z.high) (nat_lt i z.low) (nat_le z.low i) (content t (Index i)) (opposite i z.low))
 
-run_content : {E V : Type 0} (t : Table E V) (z : Summary E V) (i : ℕ) → IsSound z → JoinFits t z → z.cleaned ≡ false → 0 < length z.table.entries
+pub run_content : {E V : Type 0} (t : Table E V) (z : Summary E V) (i : ℕ) → IsSound z → JoinFits t z → z.cleaned ≡ false → 0 < length z.table.entries
     → (i < z.table.first) ⊎ (z.table.first ≤ i)
     → content (run_onto (cut_from (compacted t z.low) z.high) z.table.first z.table.entries) (Index i)
-        ≡ (if nat_le z.low i && is_below i z.high then content t (Index i) else content z.table (Index i))
+    ≡ (if nat_le z.low i && is_below i z.high then content t (Index i) else content z.table (Index i))
 run_content t z i sound fits clean some (inl below) =
     content_run (cut_from (compacted t z.low) z.high) z.table.first i z.table.entries (fits clean some)
     ∙ (if_false (nat_le z.table.first i) _ _ (le_false z.table.first i below)
@@ -294,7 +286,7 @@ run_content t z i sound fits clean some (inr above) =
     ∙ (sym (content_within z.table i above)
     ∙ sym (if_false (nat_le z.low i && is_below i z.high) _ _ (no_second_test (nat_le z.low i) _ (bound_rises z.table.first i z.high above (sound some))))))
 
-empty_content : {E V : Type 0} (t : Table E V) (i : ℕ) → length t.entries ≤ 0 → (i < t.first) ⊎ (t.first ≤ i) → content t (Index i) ≡ None
+pub empty_content : {E V : Type 0} (t : Table E V) (i : ℕ) → length t.entries ≤ 0 → (i < t.first) ⊎ (t.first ≤ i) → content t (Index i) ≡ None
 empty_content t i h (inl below) = content_below t i below
 empty_content t i h (inr above) = content_above t i (omega arith)
 
@@ -303,19 +295,19 @@ entries_content : {E V : Type 0} (t : Table E V) (z : Summary E V) (i : ℕ) →
 entries_content t z i sound fits =
     at_bool z.cleaned
     (λ b. z.cleaned ≡ b
-        → content (if b then z.table
-            else (if nat_lt 0 (length z.table.entries)
-                then run_onto (cut_from (compacted t z.low) z.high) z.table.first z.table.entries
-                else cut_from (compacted t z.low) z.high)) (Index i)
-        ≡ (if not b && (nat_le z.low i && is_below i z.high) then content t (Index i) else content z.table (Index i)))
+    → content (if b then z.table
+    else (if nat_lt 0 (length z.table.entries)
+    then run_onto (cut_from (compacted t z.low) z.high) z.table.first z.table.entries
+    else cut_from (compacted t z.low) z.high)) (Index i)
+    ≡ (if not b && (nat_le z.low i && is_below i z.high) then content t (Index i) else content z.table (Index i)))
     (λ _ _. refl)
     (λ _ clean. at_bool (nat_lt 0 (length z.table.entries))
-        (λ d. content (if d then run_onto (cut_from (compacted t z.low) z.high) z.table.first z.table.entries else cut_from (compacted t z.low) z.high) (Index i)
-            ≡ (if nat_le z.low i && is_below i z.high then content t (Index i) else content z.table (Index i)))
-        (λ some. run_content t z i sound fits clean (from_lt_true 0 (length z.table.entries) some) (cases_lt i z.table.first))
-        (λ none. content_kept t z i
-            ∙ ap (λ a. if nat_le z.low i && is_below i z.high then content t (Index i) else a)
-                (sym (empty_content z.table i (from_lt_false 0 (length z.table.entries) none) (cases_lt i z.table.first)))))
+    (λ d. content (if d then run_onto (cut_from (compacted t z.low) z.high) z.table.first z.table.entries else cut_from (compacted t z.low) z.high) (Index i)
+    ≡ (if nat_le z.low i && is_below i z.high then content t (Index i) else content z.table (Index i)))
+    (λ some. run_content t z i sound fits clean (from_lt_true 0 (length z.table.entries) some) (cases_lt i z.table.first))
+    (λ none. content_kept t z i
+    ∙ ap (λ a. if nat_le z.low i && is_below i z.high then content t (Index i) else a)
+    (sym (empty_content z.table i (from_lt_false 0 (length z.table.entries) none) (cases_lt i z.table.first)))))
     refl
 
 word_of_two : {A : Type 0} (lz la : Bool) (cz ca : A)
@@ -326,9 +318,9 @@ word_of_two false la cz ca = refl
 
 key_of_two : {E V : Type 0} (zv av : Option V) (zc zd ac ad : Bool)
     → ◌≡◌ {A = Option (Option (Content E V))}
-        (option_or (option_map (λ w. Some (Value w)) (option_or zv (if zc || zd then None else av))) (if (ac || zc) || (zd || ad) then Some None else None))
-        (option_or (option_or (option_map (λ w. Some (Value w)) zv) (if zc || zd then Some None else None))
-            (option_or (option_map (λ w. Some (Value w)) av) (if ac || ad then Some None else None)))
+    (option_or (option_map (λ w. Some (Value w)) (option_or zv (if zc || zd then None else av))) (if (ac || zc) || (zd || ad) then Some None else None))
+    (option_or (option_or (option_map (λ w. Some (Value w)) zv) (if zc || zd then Some None else None))
+    (option_or (option_map (λ w. Some (Value w)) av) (if ac || ad then Some None else None)))
 key_of_two (Some v) av zc zd ac ad = refl
 key_of_two None av true zd true ad = refl
 key_of_two None av true zd false ad = refl
@@ -358,8 +350,8 @@ kept_sound : {E V : Type 0} (a : Summary E V) (low : ℕ) (h : Option ℕ) → I
     → 0 < length (cut_from (compacted a.table low) h).entries → is_below (cut_from (compacted a.table low) h).first a.high ≡ false
 kept_sound a low h sound some =
     bound_rises a.table.first (cut_from (compacted a.table low) h).first a.high
-        (omega (arith, cut_first (compacted a.table low) h))
-        (sound (omega (arith, cut_length (compacted a.table low) h, length-drop (low - a.table.first) a.table.entries)))
+    (omega (arith, cut_first (compacted a.table low) h))
+    (sound (omega (arith, cut_length (compacted a.table low) h, length-drop (low - a.table.first) a.table.entries)))
 
 first_false : (x y : Bool) → x ≡ false → (x && y) ≡ false
 first_false x y h = ap (λ b. b && y) h
@@ -377,18 +369,18 @@ pub join_sound : {E V : Type 0} (a z : Summary E V) → IsSound a → IsSound z 
 join_sound a z sa sz =
     at_bool z.cleaned
     (λ b. 0 < length (if b then z.table
-            else (if nat_lt 0 (length z.table.entries)
-                then run_onto (cut_from (compacted a.table z.low) z.high) z.table.first z.table.entries
-                else cut_from (compacted a.table z.low) z.high)).entries
-        → is_below (if b then z.table
-            else (if nat_lt 0 (length z.table.entries)
-                then run_onto (cut_from (compacted a.table z.low) z.high) z.table.first z.table.entries
-                else cut_from (compacted a.table z.low) z.high)).first (lesser z.high a.high) ≡ false)
+    else (if nat_lt 0 (length z.table.entries)
+    then run_onto (cut_from (compacted a.table z.low) z.high) z.table.first z.table.entries
+    else cut_from (compacted a.table z.low) z.high)).entries
+    → is_below (if b then z.table
+    else (if nat_lt 0 (length z.table.entries)
+    then run_onto (cut_from (compacted a.table z.low) z.high) z.table.first z.table.entries
+    else cut_from (compacted a.table z.low) z.high)).first (lesser z.high a.high) ≡ false)
     (λ _ some. lesser_tells z.table.first z.high a.high ∙ first_false _ (is_below z.table.first a.high) (sz some))
     (λ _. at_bool (nat_lt 0 (length z.table.entries))
-        (λ d. 0 < length (if d then run_onto (cut_from (compacted a.table z.low) z.high) z.table.first z.table.entries else cut_from (compacted a.table z.low) z.high).entries
-            → is_below (if d then run_onto (cut_from (compacted a.table z.low) z.high) z.table.first z.table.entries else cut_from (compacted a.table z.low) z.high).first
-                (lesser z.high a.high) ≡ false)
-        (λ some _. run_sound a z sa sz (from_lt_true 0 (length z.table.entries) some))
-        (λ _ some. lesser_tells (cut_from (compacted a.table z.low) z.high).first z.high a.high
-            ∙ no_second_test (is_below (cut_from (compacted a.table z.low) z.high).first z.high) _ (kept_sound a z.low z.high sa some)))
+    (λ d. 0 < length (if d then run_onto (cut_from (compacted a.table z.low) z.high) z.table.first z.table.entries else cut_from (compacted a.table z.low) z.high).entries
+    → is_below (if d then run_onto (cut_from (compacted a.table z.low) z.high) z.table.first z.table.entries else cut_from (compacted a.table z.low) z.high).first
+    (lesser z.high a.high) ≡ false)
+    (λ some _. run_sound a z sa sz (from_lt_true 0 (length z.table.entries) some))
+    (λ _ some. lesser_tells (cut_from (compacted a.table z.low) z.high).first z.high a.high
+    ∙ no_second_test (is_below (cut_from (compacted a.table z.low) z.high).first z.high) _ (kept_sound a z.low z.high sa some)))

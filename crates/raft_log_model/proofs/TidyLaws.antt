@@ -5,7 +5,7 @@ use Rattle.raft_log_model.specs.Item.{Tagged, Record}
 use Rattle.raft_log_model.specs.Item.Record.{Plain, Part}
 use Rattle.raft_log_model.specs.Item.Mark.{Begin, Middle, End}
 use Rattle.raft_log_model.specs.Groups.{Open, none_open, onto, counts, opens, settle, opened, settled}
-use Rattle.raft_log_model.specs.Tidy.{Apart, Undisturbed, Tidy, middles, whole_group, joined, group_items}
+use Rattle.raft_log_model.specs.Tidy.{EndsNone, Apart, Undisturbed, Tidy, middles, whole_group, joined, group_items}
 use Rattle.raft_log_model.proofs.Cases.{at_bool, eq_true}
 use Rattle.raft_log_model.proofs.Records.{settle_append}
 use Rattle.raft_log_model.proofs.Suffix.{set_same}
@@ -41,14 +41,6 @@ tidy_back (Plain xs ∷ rs) back t = tidy_back rs back t
 tidy_back (Part (Begin n) xs ∷ rs) back t = tidy_back rs back t.1
 tidy_back (Part (Middle n) xs ∷ rs) back t = tidy_back rs back t
 tidy_back (Part (End n) xs ∷ rs) back t = tidy_back rs back t
-
--- records that end no group
-abbrev pub EndsNone : {E V : Type 0} → List (Record E V) → Type 0
-EndsNone [] = ⊤
-EndsNone (Plain xs ∷ rs) = EndsNone rs
-EndsNone (Part (Begin n) xs ∷ rs) = EndsNone rs
-EndsNone (Part (Middle n) xs ∷ rs) = EndsNone rs
-EndsNone (Part (End n) xs ∷ rs) = ⊥
 
 -- records without an end disturb nothing by themselves
 undisturbed_alone : {E V : Type 0} (n : ℕ) (xs said : List (Tagged E V)) (o : Open E V) (more : List (Record E V))

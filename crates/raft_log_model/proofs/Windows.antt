@@ -8,17 +8,12 @@ use Rattle.raft_log_model.specs.Item.Item.{Run, Clean, Compact, Put, Del}
 use Rattle.raft_log_model.specs.Meaning.{Content, write, holds}
 use Rattle.raft_log_model.specs.Meaning.Slot.{Index}
 use Rattle.raft_log_model.specs.Meaning.Content.{Entry}
+pub use Rattle.raft_log_model.specs.Holes.{Spans}
 use Rattle.raft_log_model.specs.Holes.{Window, nothing, is_past, next_window, window, write_past, says_past, holds_past, NoHole}
 use Rattle.raft_log_model.proofs.Cases.{at_bool, if_true, if_false, lt_true, lt_false}
 use Rattle.raft_log_model.proofs.Words.{unwrap_or_option_or}
 use Rattle.raft_log_model.proofs.Tests.{run_sets, run_truncates, run_leaves, compact_removes, compact_leaves}
 use Rattle.raft_log_model.proofs.Holes.{no_hole}
-
--- entries stand from first on, below end, and nowhere else
-pub record Spans {E V : Type 0} (first end : ℕ) (m : ℕ → Option (Content E V)) : Type 0 where
-  pub stands : (i : ℕ) → first ≤ i → i < end → (e : E) × (m i ≡ Some (Entry e))
-  pub none_below : (i : ℕ) → i < first → m i ≡ None
-  pub none_above : (i : ℕ) → end ≤ i → m i ≡ None
 
 pub same_spans : {E V : Type 0} (first end : ℕ) (m n : ℕ → Option (Content E V)) → ((i : ℕ) → m i ≡ n i) → Spans first end m → Spans first end n
 same_spans first end m n same sp = record {
@@ -39,7 +34,7 @@ both_true : (a b : Bool) → a ≡ true → b ≡ true → (a && b) ≡ true
 both_true a b p q = ap₂ (λ x y. x && y) p q
 
 -- a run past the end drops what stood below it
-past_drops : {E V : Type 0} (w : Window) (i f : ℕ) (e : E) (es : List E) → is_past w f ≡ true → i < f
+pub past_drops : {E V : Type 0} (w : Window) (i f : ℕ) (e : E) (es : List E) → is_past w f ≡ true → i < f
     → write_past {V = V} w (Index i) (Run f (e ∷ es)) ≡ Some None
 past_drops w i f e es h k = if_true (is_past w f && nat_lt i f) _ _ (both_true _ _ h (lt_true i f k))
 
@@ -47,7 +42,7 @@ one_false : (b : Bool) (i f : ℕ) → (b ≡ false) ⊎ (f ≤ i) → (b && nat
 one_false b i f (inl h) = ap (λ c. c && nat_lt i f) h
 one_false b i f (inr h) = elim b as (λ c. (c && nat_lt i f) ≡ false) [ true ↦ lt_false i f h | false ↦ refl ]
 
-not_dropped : {E V : Type 0} (w : Window) (i f : ℕ) (e : E) (es : List E) → (is_past w f ≡ false) ⊎ (f ≤ i)
+pub not_dropped : {E V : Type 0} (w : Window) (i f : ℕ) (e : E) (es : List E) → (is_past w f ≡ false) ⊎ (f ≤ i)
     → write_past {V = V} w (Index i) (Run f (e ∷ es)) ≡ write (Index i) (Run f (e ∷ es))
 not_dropped w i f e es h = if_false (is_past w f && nat_lt i f) _ _ (one_false (is_past w f) i f h)
 

@@ -1,9 +1,9 @@
 -- A segment of a queue, read by itself: what counts in it, and the pieces of atomic groups that its borders cut.
-use Rattle.std.specs.Prelude.{ℕ, ◌≡◌, ◌==◌, List, [], ◌∷◌, ◌++◌, Option, Some, None, if◌then◌else◌}
+use Rattle.std.specs.Prelude.{ℕ, ◌≡◌, ◌==◌, List, [], ◌∷◌, ◌++◌, if◌then◌else◌}
 use Rattle.raft_log_model.specs.Item.{Tagged, Record}
 use Rattle.raft_log_model.specs.Item.Record.{Plain, Part}
 use Rattle.raft_log_model.specs.Item.Mark.{Begin, Middle, End}
-use Rattle.raft_log_model.specs.Groups.{Open, of_group, settled}
+use Rattle.raft_log_model.specs.Groups.{of_group, settled}
 
 -- what a segment does with the group of a number that may be open before it
 pub data Head (E V : Type 0) : Type 0 where
@@ -43,7 +43,8 @@ without n (u ∷ us) = if u.number == n then without n us else u ∷ without n u
 -- the group of that number has more items
 abbrev pub more : {E V : Type 0} → ℕ → List (Tagged E V) → List (Unfinished E V) → List (Unfinished E V)
 more n ys [] = []
-more n ys (u ∷ us) = record { number = u.number; items = if u.number == n then u.items ++ ys else u.items } ∷ more n ys us
+more n ys (u ∷ us) =
+    record { number = u.number; items = if u.number == n then u.items ++ ys else u.items } ∷ more n ys us
 
 -- the unfinished groups, in the order of their begins, after one more record
 abbrev pub next_unfinished : {E V : Type 0} → List (Unfinished E V) → Record E V → List (Unfinished E V)
@@ -80,7 +81,8 @@ abbrev pub carried_on : {E V : Type 0} → List (Unfinished E V) → (ℕ → He
 carried_on [] heads = []
 carried_on (u ∷ us) heads = go_on u.number u.items (heads u.number) ++ carried_on us heads
 
--- what a segment comes to: what counts in it, what it does with groups that are open before it, what it leaves unfinished
+-- what a segment comes to: what counts in it, what it does with groups that are open before it, what it leaves
+-- unfinished
 pub record Segment (E V : Type 0) : Type 0 where
   pub counted : List (Tagged E V)
   pub heads : ℕ → Head E V

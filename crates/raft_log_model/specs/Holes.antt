@@ -1,10 +1,11 @@
 -- The hostile cases: a run past the end of the standing run, and a gap between Rewrite's entries and Append's.
-use Rattle.std.specs.Prelude.{ℕ, ◌≡◌, ◌≤◌, ◌+◌, max, min, Bool, true, false, ◌&&◌, not, List, [], ◌∷◌, Option, Some, None, unwrap_or, if◌then◌else◌, nat_le, nat_lt, length, IsFalse, ⊤}
+use Rattle.std.specs.Prelude.{ℕ, ◌≡◌, ◌<◌, ◌≤◌, ◌+◌, max, min, Bool, true, false, ◌&&◌, not, List, [], ◌∷◌, Option, Some, None, unwrap_or, if◌then◌else◌, nat_le, nat_lt, length, IsFalse, ⊤}
 use Rattle.std.specs.Option.{option_or}
 use Rattle.raft_log_model.specs.Item.{Item}
 use Rattle.raft_log_model.specs.Item.Item.{Run, Clean, Compact, Put, Del}
 use Rattle.raft_log_model.specs.Meaning.{Slot, Content, write, holds}
 use Rattle.raft_log_model.specs.Meaning.Slot.{Index}
+use Rattle.raft_log_model.specs.Meaning.Content.{Entry}
 
 -- the standing run: its first index, and the index after its last; it is empty where the second isn't above the first
 pub record Window : Type 0 where
@@ -45,6 +46,12 @@ says_past w s (x ∷ xs) = option_or (says_past (next_window w x) s xs) (write_p
 -- what stands in the slot after the items, where a run past the end drops what stood
 abbrev pub holds_past : {E V : Type 0} → Slot → List (Item E V) → Option (Content E V)
 holds_past s xs = unwrap_or (says_past nothing s xs) None
+
+-- entries stand from first on, below end, and nowhere else
+pub record Spans {E V : Type 0} (first end : ℕ) (m : ℕ → Option (Content E V)) : Type 0 where
+  pub stands : (i : ℕ) → first ≤ i → i < end → (e : E) × (m i ≡ Some (Entry e))
+  pub none_below : (i : ℕ) → i < first → m i ≡ None
+  pub none_above : (i : ℕ) → end ≤ i → m i ≡ None
 
 -- the item leaves no hole after that standing run
 abbrev pub FitsOn : {E V : Type 0} → Window → Item E V → Type 0
@@ -100,8 +107,8 @@ has_gap w append =
     && (nat_lt (window nothing append).first (window nothing append).end
     && nat_lt (least w.end (high append)) (window nothing append).first)
 
--- what stands at an index of a directory, told by intervals: Append's entries, over what Rewrite keeps under Append's items,
--- which is nothing where a gap would stay
+-- what stands at an index of a directory, told by intervals: Append's entries, over what Rewrite keeps under Append's
+-- items, which is nothing where a gap would stay
 abbrev pub directory_by_intervals : {E V : Type 0} → ℕ → List (Item E V) → List (Item E V) → Option (Content E V)
 directory_by_intervals i rewrite append =
     option_or (holds (Index i) append)
@@ -109,4 +116,5 @@ directory_by_intervals i rewrite append =
 
 -- what is between two entries that stand stands too
 abbrev pub IsSolid : {E V : Type 0} → (ℕ → Option (Content E V)) → Type 0
-IsSolid {E} {V} m = (i j k : ℕ) (a b : Content E V) → i ≤ j → j ≤ k → m i ≡ Some a → m k ≡ Some b → (c : Content E V) × (m j ≡ Some c)
+IsSolid {E} {V} m =
+    (i j k : ℕ) (a b : Content E V) → i ≤ j → j ≤ k → m i ≡ Some a → m k ≡ Some b → (c : Content E V) × (m j ≡ Some c)

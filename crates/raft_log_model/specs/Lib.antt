@@ -5,4 +5,6 @@ pub mod Tidy
 pub mod Fragments
 pub mod Holes
 pub mod Stands
+pub mod Table
 pub mod Summary
+pub mod Examples

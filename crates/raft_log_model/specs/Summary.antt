@@ -1,50 +1,15 @@
 -- A segment's items of one group in short: a table of what stands, and what the items do to what stood before them.
-use Rattle.std.specs.Prelude.{ℕ, ◌+◌, ◌-◌, ◌≡◌, ◌<◌, max, min, Bool, true, false, ◌&&◌, ◌||◌, not, List, [], ◌∷◌, ◌++◌, Option, Some, None, option_map, if◌then◌else◌, nat_le, nat_lt, slice_get, bytes_eq, length, take, drop}
+use Rattle.std.specs.Prelude.{ℕ, ◌≡◌, ◌<◌, max, Bool, true, false, ◌&&◌, ◌||◌, not, List, [], ◌∷◌, Option, Some, None, option_map, if◌then◌else◌, nat_le, nat_lt, bytes_eq, length}
 use Rattle.std.specs.Option.{option_or}
 use Rattle.raft_log_model.specs.Item.{Item}
 use Rattle.raft_log_model.specs.Item.Item.{Run, Clean, Compact, Put, Del}
 use Rattle.raft_log_model.specs.Meaning.{Slot, Content, says}
 use Rattle.raft_log_model.specs.Meaning.Slot.{Index, Key}
-use Rattle.raft_log_model.specs.Meaning.Content.{Entry, Value}
-use Rattle.raft_log_model.specs.Holes.{Window, FitsOn, least, is_below}
-use Rattle.raft_log_model.specs.Fragments.{Bracketing, all_of}
+use Rattle.raft_log_model.specs.Meaning.Content.{Value}
+use Rattle.raft_log_model.specs.Holes.{least, is_below, is_past}
+use Rattle.raft_log_model.specs.Table.{Table, content, span_of, no_table, compacted, cut_from, run_onto, put, delete}
+use Rattle.raft_log_model.specs.Fragments.{Bracketing}
 use Rattle.raft_log_model.specs.Fragments.Bracketing.{One, Both}
-
--- entries one after another from a first index on, and the values of keys
-pub record Table (E V : Type 0) : Type 0 where
-  pub first : ℕ
-  pub entries : List E
-  pub values : List ℕ → Option V
-
-abbrev pub content : {E V : Type 0} → Table E V → Slot → Option (Content E V)
-content t (Index i) = if nat_le t.first i then option_map Entry (slice_get t.entries (i - t.first)) else None
-content t (Key k) = option_map Value (t.values k)
-
--- the run of the table, by its two ends
-abbrev pub span_of : {E V : Type 0} → Table E V → Window
-span_of t = record { first = t.first; end = t.first + length t.entries }
-
-abbrev pub no_table : {E V : Type 0} → Table E V
-no_table = record { first = 0; entries = []; values = λ k. None }
-
--- without the entries below an index
-abbrev pub compacted : {E V : Type 0} → Table E V → ℕ → Table E V
-compacted t c = record {
-  first = t.first + min (c - t.first) (length t.entries); entries = drop (c - t.first) t.entries; values = t.values;
-}
-
--- without the entries from an index on
-abbrev pub cut_from : {E V : Type 0} → Table E V → Option ℕ → Table E V
-cut_from t None = t
-cut_from t (Some h) = record { first = t.first; entries = take (h - t.first) t.entries; values = t.values }
-
--- with a run, in place of the entries from its first index on
-abbrev pub run_onto : {E V : Type 0} → Table E V → ℕ → List E → Table E V
-run_onto t f es = record {
-  first = if nat_lt t.first f && nat_lt 0 (length t.entries) then t.first else f;
-  entries = take (f - t.first) t.entries ++ es;
-  values = t.values;
-}
 
 -- the table; whether the items had a Clean; their greatest Compact index, least start of a run, and deleted keys
 pub record Summary (E V : Type 0) : Type 0 where
@@ -61,17 +26,21 @@ no_summary = record { table = no_table; cleaned = false; low = 0; high = None; d
 abbrev pub step : {E V : Type 0} → Summary E V → Item E V → Summary E V
 step z (Run f []) = z
 step z (Run f (e ∷ es)) = record {
-  table = run_onto z.table f (e ∷ es); cleaned = z.cleaned; low = z.low; high = Some (least f z.high); deleted = z.deleted;
+  table = run_onto z.table f (e ∷ es);
+  cleaned = z.cleaned;
+  low = z.low;
+  high = Some (least f z.high);
+  deleted = z.deleted;
 }
 step z Clean = record { table = no_table; cleaned = true; low = z.low; high = z.high; deleted = z.deleted }
 step z (Compact c) = record { table = compacted z.table c; cleaned = z.cleaned; low = max c z.low; high = z.high; deleted = z.deleted }
-step z (Put k v) = record {
-  table = record { first = z.table.first; entries = z.table.entries; values = λ j. if bytes_eq k j then Some v else z.table.values j };
-  cleaned = z.cleaned; low = z.low; high = z.high; deleted = z.deleted;
-}
+step z (Put k v) = record { table = put z.table k v; cleaned = z.cleaned; low = z.low; high = z.high; deleted = z.deleted }
 step z (Del k) = record {
-  table = record { first = z.table.first; entries = z.table.entries; values = λ j. if bytes_eq k j then None else z.table.values j };
-  cleaned = z.cleaned; low = z.low; high = z.high; deleted = λ j. bytes_eq k j || z.deleted j;
+  table = delete z.table k;
+  cleaned = z.cleaned;
+  low = z.low;
+  high = z.high;
+  deleted = λ j. bytes_eq k j || z.deleted j;
 }
 
 abbrev pub summary_after : {E V : Type 0} → Summary E V → List (Item E V) → Summary E V
@@ -88,7 +57,8 @@ is_left z i = not z.cleaned && (nat_le z.low i && is_below i z.high)
 -- the summary's word on a slot
 abbrev pub word : {E V : Type 0} → Summary E V → Slot → Option (Option (Content E V))
 word z (Index i) = if is_left z i then None else Some (content z.table (Index i))
-word z (Key k) = option_or (option_map (λ v. Some (Value v)) (z.table.values k)) (if z.cleaned || z.deleted k then Some None else None)
+word z (Key k) =
+    option_or (option_map (λ v. Some (Value v)) (z.table.values k)) (if z.cleaned || z.deleted k then Some None else None)
 
 -- the values of a later summary over those of an earlier table
 abbrev pub values_over : {E V : Type 0} → Table E V → Summary E V → List ℕ → Option V
@@ -99,8 +69,8 @@ abbrev pub entries_over : {E V : Type 0} → Table E V → Summary E V → Table
 entries_over t z =
     if z.cleaned then z.table
     else (if nat_lt 0 (length z.table.entries)
-        then run_onto (cut_from (compacted t z.low) z.high) z.table.first z.table.entries
-        else cut_from (compacted t z.low) z.high)
+    then run_onto (cut_from (compacted t z.low) z.high) z.table.first z.table.entries
+    else cut_from (compacted t z.low) z.high)
 
 -- the lesser of two bounds
 abbrev pub lesser : Option ℕ → Option ℕ → Option ℕ
@@ -111,7 +81,9 @@ lesser (Some h) b = Some (least h b)
 abbrev pub join : {E V : Type 0} → Summary E V → Summary E V → Summary E V
 join a z = record {
   table = record {
-    first = (entries_over a.table z).first; entries = (entries_over a.table z).entries; values = values_over a.table z;
+    first = (entries_over a.table z).first;
+    entries = (entries_over a.table z).entries;
+    values = values_over a.table z;
   };
   cleaned = a.cleaned || z.cleaned;
   low = max z.low a.low;
@@ -123,3 +95,30 @@ join a z = record {
 abbrev pub join_all : {E V : Type 0} → Bracketing (Item E V) → Summary E V
 join_all (One xs) = summary xs
 join_all (Both s t) = join (join_all s) (join_all t)
+
+-- a table with entries begins at or above the least start of a run
+abbrev pub IsSound : {E V : Type 0} → Summary E V → Type 0
+IsSound z = 0 < length z.table.entries → is_below z.table.first z.high ≡ false
+
+-- the summary of a segment, however it was made: its word is the segment's
+pub record IsSummary {E V : Type 0} (z : Summary E V) (xs : List (Item E V)) : Type 0 where
+  pub sound : IsSound z
+  pub says : (s : Slot) → word z s ≡ says s xs
+
+-- the entries of a directory: Append's over Rewrite's, of which none are kept below a gap
+abbrev pub directory_entries : {E V : Type 0} → Table E V → Summary E V → Table E V
+directory_entries t z =
+    if z.cleaned then z.table
+    else (if nat_lt 0 (length z.table.entries)
+    then (if is_past (span_of (cut_from (compacted t z.low) z.high)) z.table.first
+    then z.table
+    else run_onto (cut_from (compacted t z.low) z.high) z.table.first z.table.entries)
+    else cut_from (compacted t z.low) z.high)
+
+-- the table of a directory: the summary of Append's items over Rewrite's table
+abbrev pub directory_table : {E V : Type 0} → Table E V → Summary E V → Table E V
+directory_table t z = record {
+  first = (directory_entries t z).first;
+  entries = (directory_entries t z).entries;
+  values = values_over t z;
+}

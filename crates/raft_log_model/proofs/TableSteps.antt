@@ -1,14 +1,13 @@
 -- What stands in a table after each of its changes.
-use Rattle.std.proofs.Common.{◌≡◌, ℕ, zero, suc, ◌+◌, ◌-◌, ◌<◌, ◌≤◌, ◌⊎◌, max, min, List, [], ◌∷◌, ◌++◌, length, take, drop, Bool, true, false, ◌&&◌, Option, Some, None, unwrap_or, option_map, slice_get, nat_lt, nat_le, if◌then◌else◌, refl, sym, ap, ap₂, subst, ◌∙◌, inl, inr, arith, length-append, length-take, length-drop}
+use Rattle.std.proofs.Common.{◌≡◌, ℕ, zero, suc, ◌+◌, ◌-◌, ◌<◌, ◌≤◌, ◌⊎◌, min, List, [], ◌∷◌, ◌++◌, length, take, drop, false, ◌&&◌, Option, Some, None, option_map, slice_get, nat_lt, nat_le, if◌then◌else◌, refl, sym, ap, ◌∙◌, inl, inr, arith, length-append, length-take, length-drop}
 use Rattle.std.proofs.lemmas.Bool.Decides.{nat_tests}
 use Rattle.std.proofs.lemmas.Bool.{cases_lt}
 use Rattle.std.proofs.lemmas.Option.{slice_get_past}
-use Rattle.raft_log_model.specs.Meaning.{Slot, Content}
-use Rattle.raft_log_model.specs.Meaning.Slot.{Index, Key}
-use Rattle.raft_log_model.specs.Meaning.Content.{Entry, Value}
-use Rattle.raft_log_model.specs.Holes.{Window, is_past, is_below}
-use Rattle.raft_log_model.specs.Summary.{Table, content, span_of, compacted, cut_from, run_onto}
-use Rattle.raft_log_model.proofs.Cases.{at_bool, if_true, if_false, lt_true, le_true, le_false, lt_false, from_lt_true, from_le_true, from_lt_false, from_le_false}
+use Rattle.raft_log_model.specs.Meaning.Slot.{Index}
+use Rattle.raft_log_model.specs.Meaning.Content.{Entry}
+use Rattle.raft_log_model.specs.Holes.{is_past, is_below}
+use Rattle.raft_log_model.specs.Table.{Table, content, span_of, compacted, cut_from, run_onto}
+use Rattle.raft_log_model.proofs.Cases.{at_bool, if_true, if_false, le_true, le_false, from_lt_true, from_le_true, from_lt_false, from_le_false}
 
 pub get_drop : {A : Type 0} (n : ℕ) (xs : List A) (i : ℕ) → slice_get (drop n xs) i ≡ slice_get xs (n + i)
 get_drop zero xs i = let e : i ≡ 0 + i = omega arith in ap (slice_get xs) e
@@ -121,7 +120,7 @@ run_new : {E V : Type 0} (t : Table E V) (f i : ℕ) (es : List E) → is_past (
     → content (run_onto t f es) (Index i) ≡ option_map Entry (slice_get es (i - f))
 run_new t f i es h k =
     let ends : (run_onto t f es).first + length (take (f - t.first) t.entries) ≡ f =
-        ap (λ n. (run_onto t f es).first + n) (length-take (f - t.first) t.entries) ∙ run_ends t.first (length t.entries) f h in
+    ap (λ n. (run_onto t f es).first + n) (length-take (f - t.first) t.entries) ∙ run_ends t.first (length t.entries) f h in
     let place : i - (run_onto t f es).first ≡ length (take (f - t.first) t.entries) + (i - f) = omega arith in
     content_within (run_onto t f es) i (omega arith)
     ∙ ap (option_map Entry) (get_back (take (f - t.first) t.entries) es (i - (run_onto t f es).first) (i - f) place)
@@ -133,12 +132,12 @@ run_old t f i es h k (inl below) =
 run_old t f i es h k (inr above) =
     let same : (run_onto t f es).first ≡ t.first = run_keeps t.first (length t.entries) f i above k in
     let ends : (run_onto t f es).first + length (take (f - t.first) t.entries) ≡ f =
-        ap (λ n. (run_onto t f es).first + n) (length-take (f - t.first) t.entries) ∙ run_ends t.first (length t.entries) f h in
+    ap (λ n. (run_onto t f es).first + n) (length-take (f - t.first) t.entries) ∙ run_ends t.first (length t.entries) f h in
     content_within (run_onto t f es) i above
     ∙ (ap (option_map Entry)
-        (get_front (take (f - t.first) t.entries) es (i - (run_onto t f es).first) (omega arith)
-        ∙ (get_take (f - t.first) t.entries (i - (run_onto t f es).first) (omega arith)
-        ∙ ap (λ n. slice_get t.entries (i - n)) same))
+    (get_front (take (f - t.first) t.entries) es (i - (run_onto t f es).first) (omega arith)
+    ∙ (get_take (f - t.first) t.entries (i - (run_onto t f es).first) (omega arith)
+    ∙ ap (λ n. slice_get t.entries (i - n)) same))
     ∙ sym (content_within t i (omega arith)))
 
 -- a run that leaves no hole: its entries from its first index on, the old ones below

@@ -1,0 +1,119 @@
+-- Short logs for the worked examples and for the rules that are wrong. An entry is told by a number, and so is a value.
+use Rattle.std.specs.Prelude.{ℕ, zero, suc, List, [], ◌∷◌, ◌++◌, Option, map}
+use Rattle.raft_log_model.specs.Item.{Item, Tagged, Record}
+use Rattle.raft_log_model.specs.Item.Item.{Run, Compact, Put}
+use Rattle.raft_log_model.specs.Item.Record.{Plain, Part}
+use Rattle.raft_log_model.specs.Item.Mark.{Begin, End}
+use Rattle.raft_log_model.specs.Meaning.{Content, holds, directory}
+use Rattle.raft_log_model.specs.Groups.{directory_meaning}
+use Rattle.raft_log_model.specs.Meaning.Slot.{Index, Key}
+use Rattle.raft_log_model.specs.Holes.{Window, nothing, window, holds_past, directory_by_intervals}
+
+-- n numbers, one after another
+abbrev pub upward : ℕ → ℕ → List ℕ
+upward first zero = []
+upward first (suc n) = first ∷ upward (suc first) n
+
+-- what stands at n indexes of a directory, one after another
+abbrev pub shown : ℕ → ℕ → List (Item ℕ ℕ) → List (Item ℕ ℕ) → List (Option (Content ℕ ℕ))
+shown first n rewrite append = map (λ i. directory (Index i) rewrite append) (upward first n)
+
+-- the key under which a voter's state is kept
+abbrev pub voter : List ℕ
+voter = 118 ∷ 111 ∷ 116 ∷ 101 ∷ 114 ∷ []
+
+-- the value of the key in a directory
+abbrev pub voter_in : List (Item ℕ ℕ) → List (Item ℕ ℕ) → Option (Content ℕ ℕ)
+voter_in rewrite append = directory (Key voter) rewrite append
+
+-- the value where Rewrite's items were taken after Append's
+abbrev pub voter_if_rewrite_last : List (Item ℕ ℕ) → List (Item ℕ ℕ) → Option (Content ℕ ℕ)
+voter_if_rewrite_last rewrite append = holds (Key voter) (append ++ rewrite)
+
+-- what stands for raft group 1 in a Rewrite queue of records, where Append is empty
+abbrev pub entry_in : ℕ → List (Record ℕ ℕ) → Option (Content ℕ ℕ)
+entry_in i rewrite = directory_meaning rewrite [] 1 (Index i)
+
+abbrev pub value_in : List (Record ℕ ℕ) → Option (Content ℕ ℕ)
+value_in rewrite = directory_meaning rewrite [] 1 (Key voter)
+
+-- the standing run of a list
+abbrev pub run_of : List (Item ℕ ℕ) → Window
+run_of xs = window nothing xs
+
+-- above every index
+abbrev pub top : ℕ
+top = 18446744073709551615
+
+-- Rewrite after entries 1 to 20 were rewritten
+abbrev pub twenty : List (Item ℕ ℕ)
+twenty = Run 1 (upward 1 20) ∷ []
+
+-- Append after two entries in place of the 15th and all behind it, and a compaction past them
+abbrev pub overwritten : List (Item ℕ ℕ)
+overwritten = Run 15 (115 ∷ 116 ∷ []) ∷ Compact 17 ∷ []
+
+-- Append after the same two entries, and a compaction up to the second of them
+abbrev pub truncated : List (Item ℕ ℕ)
+truncated = Run 15 (115 ∷ 116 ∷ []) ∷ Compact 16 ∷ []
+
+-- three runs, of ten entries each, from files 1, 2 and 3
+abbrev pub ten : ℕ → List ℕ
+ten file = file ∷ file ∷ file ∷ file ∷ file ∷ file ∷ file ∷ file ∷ file ∷ file ∷ []
+
+abbrev pub three_files : List (Item ℕ ℕ)
+three_files = Run 10 (ten 1) ∷ Run 20 (ten 2) ∷ Run 25 (ten 3) ∷ []
+
+-- an item of a group
+abbrev pub of : ℕ → Item ℕ ℕ → Tagged ℕ ℕ
+of g x = record { group = g; item = x }
+
+-- an atomic group in two records
+abbrev pub first_part : List (Record ℕ ℕ)
+first_part = Part (Begin 1) (of 1 (Run 1 (1 ∷ 2 ∷ [])) ∷ []) ∷ []
+
+abbrev pub second_part : List (Record ℕ ℕ)
+second_part = Part (End 1) (of 1 (Run 3 (3 ∷ 4 ∷ [])) ∷ []) ∷ []
+
+-- a record with four entries, and one with the first half of them, written again
+abbrev pub old_file : List (Record ℕ ℕ)
+old_file = Plain (of 1 (Run 1 (1 ∷ 2 ∷ 3 ∷ 4 ∷ [])) ∷ []) ∷ []
+
+abbrev pub half : List (Record ℕ ℕ)
+half = Plain (of 1 (Run 1 (1 ∷ 2 ∷ [])) ∷ []) ∷ []
+
+-- a hostile list: the second run starts past the end of the first
+abbrev pub far_run : List (Item ℕ ℕ)
+far_run = Run 1 (1 ∷ 2 ∷ 3 ∷ []) ∷ Run 5 (5 ∷ []) ∷ []
+
+abbrev pub hole_at : ℕ → Option (Content ℕ ℕ)
+hole_at i = holds_past (Index i) far_run
+
+abbrev pub last_word_at : ℕ → Option (Content ℕ ℕ)
+last_word_at i = holds (Index i) far_run
+
+-- a hostile directory: ten entries in Rewrite, and in Append six from index 25 on, then two that close the gap
+abbrev pub low_entries : List (Item ℕ ℕ)
+low_entries = Run 1 (upward 1 10) ∷ []
+
+abbrev pub far_entries : List (Item ℕ ℕ)
+far_entries = Run 25 (upward 25 6) ∷ []
+
+abbrev pub closing_run : List (Item ℕ ℕ)
+closing_run = Run 11 (11 ∷ 12 ∷ []) ∷ []
+
+abbrev pub with_gap : ℕ → Option (Content ℕ ℕ)
+with_gap i = directory_by_intervals i low_entries far_entries
+
+abbrev pub gap_closed : ℕ → Option (Content ℕ ℕ)
+gap_closed i = directory_by_intervals i low_entries (far_entries ++ closing_run)
+
+-- an atomic group that a segment's border cuts, and what comes after its end, or between
+abbrev pub begun : List (Record ℕ ℕ)
+begun = Part (Begin 1) (of 1 (Put voter 1) ∷ []) ∷ []
+
+abbrev pub ended_then_newer : List (Record ℕ ℕ)
+ended_then_newer = Part (End 1) [] ∷ Plain (of 1 (Put voter 2) ∷ []) ∷ []
+
+abbrev pub newer_then_ended : List (Record ℕ ℕ)
+newer_then_ended = Plain (of 1 (Put voter 2) ∷ []) ∷ Part (End 1) [] ∷ []

@@ -17,3 +17,5 @@ pub mod PurgeLaws
 pub mod ReplayItems
 pub mod ReplayLaws
 pub mod ExampleLaws
+pub mod JoinedLaws
+pub mod IntervalLaws

@@ -13,6 +13,8 @@
 
 pub mod example;
 pub mod files;
+#[cfg(test)]
+mod laws_at_numbers;
 pub mod machine;
 pub mod purge;
 pub mod replay;

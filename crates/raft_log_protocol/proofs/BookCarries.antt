@@ -10,7 +10,7 @@ use Rattle.raft_log_model.specs.Meaning.Content.{Value}
 use Rattle.raft_log_model.proofs.Cases.{at_bool}
 use Rattle.raft_log_model.proofs.Tests.{run_sets, run_truncates, run_leaves, compact_removes, compact_leaves, from_same_key}
 use Rattle.raft_log_protocol.specs.Survival.{IsSpoken, IsHarmless}
-use Rattle.raft_log_protocol.specs.Table.{Table, top, with_key, Restates, Carries, CarriesAll}
+use Rattle.raft_log_protocol.specs.Table.{Table, top, with_key, Restates, Carries, CarriesAll, NothingRewritten}
 use Rattle.raft_log_protocol.specs.Book.{Said, Book, IsRight, IsSettledKey}
 use Rattle.raft_log_protocol.proofs.Words.{option_or_assoc}
 use Rattle.raft_log_protocol.proofs.BookGrows.{book_along}
@@ -79,8 +79,17 @@ module _ {E V : Type 0} (said : Said E V) (m : Slot → Option (Content E V)) (t
       below_first i before (inl h) = h
       below_first i before (inr none) = omega arith
 
-  carries_clean : t.cleaned ≡ true → Book (rewrite_said said Clean) m (record t { cleaned = false })
-  carries_clean c = record {
+  -- where a Clean may be carried, nothing of the group stands in Rewrite
+  clean_allowed : (t.cleaned ≡ true) ⊎ NothingRewritten m t → NothingRewritten m t
+  clean_allowed (inl c) = b.after_clean c
+  clean_allowed (inr nothing) = nothing
+
+  del_allowed : (l : List ℕ) → (t.deleted l ≡ true) ⊎ (t.appended l ≡ false → m (Key l) ≡ None) → t.appended l ≡ false → m (Key l) ≡ None
+  del_allowed l (inl d) = b.after_delete l d
+  del_allowed l (inr nothing) = nothing
+
+  carries_clean : NothingRewritten m t → Book (rewrite_said said Clean) m (record t { cleaned = false })
+  carries_clean nothing = record {
     in_order = b.in_order;
     below = b.below;
     above = b.above;
@@ -95,7 +104,7 @@ module _ {E V : Type 0} (said : Said E V) (m : Slot → Option (Content E V)) (t
       | inl before ↦ inl (right_now said m Clean (Index i) None refl (sym (b.below i before)))
       | inr from ↦ elim (cases_lt t.split t.end) [
         | inl some ↦ inr (inr (inr (omega (arith, none), some)))
-        | inr nothing ↦ inl (right_now said m Clean (Index i) None refl (sym (b.above i (omega (arith, none)))))
+        | inr empty ↦ inl (right_now said m Clean (Index i) None refl (sym (b.above i (omega (arith, none)))))
       ]
     ];
     key = λ k. at_bool (t.appended k) (λ a. IsSettledKey (rewrite_said said Clean) m (record t { cleaned = false }) k)
@@ -103,10 +112,10 @@ module _ {E V : Type 0} (said : Said E V) (m : Slot → Option (Content E V)) (t
   }
     where
       none : t.first ≡ t.split
-      none = (b.after_clean c).0
+      none = nothing.0
 
       no_key : (k : List ℕ) → t.appended k ≡ false → m (Key k) ≡ None
-      no_key = (b.after_clean c).1
+      no_key = nothing.1
 
   carries_compact : (c : ℕ) → ((t.first < t.split) × (c ≡ t.first)) ⊎ ((t.first ≡ t.split) × (c ≡ top))
       → Book (rewrite_said said (Compact c)) m (record t { compacted = false })
@@ -196,10 +205,10 @@ module _ {E V : Type 0} (said : Said E V) (m : Slot → Option (Content E V)) (t
       owes_no_del : t.deleted l ≡ true → ⊥
       owes_no_del d = at_bool (t.appended l) (λ a. ⊥) (λ e. differ (sym d ∙ (clear e).1)) (λ e. not_none (b.after_delete l d e))
 
-  no_deleted : (l k : List ℕ) → t.deleted l ≡ true → bytes_eq l k ≡ true → t.appended k ≡ false → m (Key k) ≡ None
-  no_deleted l k d e h = b.after_delete k (sym (ap t.deleted (from_same_key l k e)) ∙ d) h
+  no_deleted : (l k : List ℕ) → (t.appended l ≡ false → m (Key l) ≡ None) → bytes_eq l k ≡ true → t.appended k ≡ false → m (Key k) ≡ None
+  no_deleted l k nothing e h = subst (λ j. t.appended j ≡ false → m (Key j) ≡ None) (from_same_key l k e) nothing h
 
-  carries_del : (l : List ℕ) → t.deleted l ≡ true → Book (rewrite_said said (Del l)) m (record t { deleted = with_key t.deleted l false })
+  carries_del : (l : List ℕ) → (t.appended l ≡ false → m (Key l) ≡ None) → Book (rewrite_said said (Del l)) m (record t { deleted = with_key t.deleted l false })
   carries_del l d = record {
     in_order = b.in_order;
     below = b.below;
@@ -244,10 +253,10 @@ module _ {E V : Type 0} (said : Said E V) (m : Slot → Option (Content E V)) (t
   carries (Run f []) u e = subst (λ v. Book (rewrite_said said (Run f [])) m v) (sym e) (said_nothing f)
   carries (Run f (e ∷ es)) u h =
       subst (λ v. Book (rewrite_said said (Run f (e ∷ es))) m v) (sym h.6) (carries_run f (e ∷ es) (omega arith) h.0 h.1 h.2 h.3 h.4 h.5)
-  carries Clean u h = subst (λ v. Book (rewrite_said said Clean) m v) (sym h.1) (carries_clean h.0)
+  carries Clean u h = subst (λ v. Book (rewrite_said said Clean) m v) (sym h.1) (carries_clean (clean_allowed h.0))
   carries (Compact c) u h = subst (λ v. Book (rewrite_said said (Compact c)) m v) (sym h.1) (carries_compact c h.0)
   carries (Put l v) u h = subst (λ w. Book (rewrite_said said (Put l v)) m w) (sym h.2) (carries_put l v h.0 h.1)
-  carries (Del l) u h = subst (λ v. Book (rewrite_said said (Del l)) m v) (sym h.1) (carries_del l h.0)
+  carries (Del l) u h = subst (λ v. Book (rewrite_said said (Del l)) m v) (sym h.1) (carries_del l (del_allowed l h.0))
 
   -- an index at which the item says "empty", and the table that nothing rewritten stands there
   emptied : (i : ℕ) (w : Option (Option (Content E V))) → w ≡ Some None → (i < t.first) ⊎ (t.split ≤ i) → IsHarmless w (m (Index i)) (said.append (Index i))
@@ -279,19 +288,19 @@ module _ {E V : Type 0} (said : Said E V) (m : Slot → Option (Content E V)) (t
       where_it_is low = elim which
           [ inl some ↦ inl (omega arith) | inr none ↦ elim (cases_lt i t.first) [ inl before ↦ inl before | inr from ↦ inr (omega arith) ] ]
 
-  clean_harmless : t.cleaned ≡ true → (i : ℕ) → IsHarmless (Some None) (m (Index i)) (said.append (Index i))
-  clean_harmless c i = emptied i (Some None) refl (elim (cases_lt i t.first) [ inl before ↦ inl before | inr from ↦ inr (omega (arith, none)) ])
+  clean_harmless : NothingRewritten m t → (i : ℕ) → IsHarmless (Some None) (m (Index i)) (said.append (Index i))
+  clean_harmless nothing i = emptied i (Some None) refl (elim (cases_lt i t.first) [ inl before ↦ inl before | inr from ↦ inr (omega (arith, none)) ])
     where
       none : t.first ≡ t.split
-      none = (b.after_clean c).0
+      none = nothing.0
 
   pub is_harmless : (x : Item E V) (u : Table) → Carries m t x u → (s : Slot) → IsHarmless (write s x) (m s) (said.append s)
   is_harmless (Run f []) u h (Index i) = inl refl
   is_harmless (Run f []) u h (Key k) = inl refl
   is_harmless (Run f (e ∷ es)) u h (Index i) = run_harmless f (e ∷ es) (omega arith) h.2 h.4 i
   is_harmless (Run f (e ∷ es)) u h (Key k) = inl refl
-  is_harmless Clean u h (Index i) = clean_harmless h.0 i
-  is_harmless Clean u h (Key k) = key_emptied k (Some None) refl ((b.after_clean h.0).1 k)
+  is_harmless Clean u h (Index i) = clean_harmless (clean_allowed h.0) i
+  is_harmless Clean u h (Key k) = key_emptied k (Some None) refl ((clean_allowed h.0).1 k)
   is_harmless (Compact c) u h (Index i) = compact_harmless c h.0 i
   is_harmless (Compact c) u h (Key k) = inl refl
   is_harmless (Put l v) u h (Index i) = inl refl
@@ -300,7 +309,7 @@ module _ {E V : Type 0} (said : Said E V) (m : Slot → Option (Content E V)) (t
       (λ e. inr (inl (ap Some (sym (ap (λ j. m (Key j)) (sym (from_same_key l k e)) ∙ h.0))))) (λ e. inl refl)
   is_harmless (Del l) u h (Index i) = inl refl
   is_harmless (Del l) u h (Key k) = at_bool (bytes_eq l k) (λ test. IsHarmless (if test then Some None else None) (m (Key k)) (said.append (Key k)))
-      (λ e. key_emptied k (Some None) refl (no_deleted l k h.0 e)) (λ e. inl refl)
+      (λ e. key_emptied k (Some None) refl (no_deleted l k (del_allowed l h.0) e)) (λ e. inl refl)
 
 -- what is said once Rewrite took the items
 abbrev pub rewrite_said_all : {E V : Type 0} → Said E V → List (Item E V) → Said E V

@@ -69,13 +69,19 @@ GrowsBy t (x ∷ xs) u = (next : Table) × Grows t x next × GrowsBy next xs u
 abbrev pub Restates : {E V : Type 0} → (Slot → Option (Content E V)) → ℕ → List E → Type 0
 Restates m f es = (i : ℕ) → f ≤ i → i < f + length es → option_map Entry (slice_get es (i - f)) ≡ m (Index i)
 
+-- the table has nothing of the group in Rewrite
+abbrev pub NothingRewritten : {E V : Type 0} → (Slot → Option (Content E V)) → Table → Type 0
+NothingRewritten m t = (t.first ≡ t.split) × ((k : List ℕ) → t.appended k ≡ false → m (Key k) ≡ None)
+
 -- Rewrite may take the item where the group's map is m and its table t, and then the table is u:
 -- * a run of what stands, from a rewritten index (or the first appended one) on, up to the last rewritten entry
 --   or past it; to go past it neither Clean nor Compact may be owed;
--- * a Clean that is owed;
+-- * a Clean that is owed, or where nothing of the group stands in Rewrite, as where the last one may have been
+--   lost;
 -- * a Compact of the first index where rewritten entries stand, else of `top`;
 -- * a Put of a key's value; of an appended one neither Clean nor Del may be owed;
--- * a Del that is owed.
+-- * a Del that is owed, or where the key doesn't stand in Rewrite. So an engine may keep its sets of marks
+--   until they are synced, and carry a mark again where it isn't sure.
 abbrev pub Carries : {E V : Type 0} → (Slot → Option (Content E V)) → Table → Item E V → Table → Type 0
 Carries m t (Run f []) u = u ≡ t
 Carries m t (Run f (e ∷ es)) u =
@@ -83,13 +89,15 @@ Carries m t (Run f (e ∷ es)) u =
     × Restates m f (e ∷ es)
     × ((t.split ≡ f + length (e ∷ es)) ⊎ ((t.cleaned ≡ false) × (t.compacted ≡ false)))
     × (u ≡ record t { split = f + length (e ∷ es) })
-Carries m t Clean u = (t.cleaned ≡ true) × (u ≡ record t { cleaned = false })
+Carries m t Clean u = ((t.cleaned ≡ true) ⊎ NothingRewritten m t) × (u ≡ record t { cleaned = false })
 Carries m t (Compact c) u =
     (((t.first < t.split) × (c ≡ t.first)) ⊎ ((t.first ≡ t.split) × (c ≡ top))) × (u ≡ record t { compacted = false })
 Carries m t (Put k v) u =
     (m (Key k) ≡ Some (Value v)) × (t.appended k ≡ true → (t.cleaned ≡ false) × (t.deleted k ≡ false))
     × (u ≡ record t { appended = with_key t.appended k false })
-Carries m t (Del k) u = (t.deleted k ≡ true) × (u ≡ record t { deleted = with_key t.deleted k false })
+Carries m t (Del k) u =
+    ((t.deleted k ≡ true) ⊎ (t.appended k ≡ false → m (Key k) ≡ None))
+    × (u ≡ record t { deleted = with_key t.deleted k false })
 
 abbrev pub CarriesAll : {E V : Type 0} → (Slot → Option (Content E V)) → Table → List (Item E V) → Table → Type 0
 CarriesAll m t [] u = u ≡ t

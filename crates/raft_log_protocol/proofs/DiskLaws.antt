@@ -1,14 +1,19 @@
 -- Over every schedule, the numbered files survive.
-use Rattle.std.proofs.Common.{◌≡◌, ◌+◌, List, [], ◌∷◌, ◌++◌, refl, sym, ap, ◌∙◌, subst, append_assoc, append-nil}
+use Rattle.std.proofs.Common.{ℕ, ◌≡◌, ◌+◌, List, [], ◌∷◌, ◌++◌, refl, sym, ap, ◌∙◌, subst, append_assoc, append-nil, ◌<◌, arith}
 use Rattle.raft_log_model.specs.Item.{Record}
 use Rattle.raft_log_protocol.specs.Queue.{Queue, synced, raised, left, reread}
 use Rattle.raft_log_protocol.specs.Survival.{Survives}
 use Rattle.raft_log_protocol.specs.World.{Keeps}
-use Rattle.raft_log_protocol.specs.Files.{File, FileQueue, records_of, IsNumbered, queue_of, store_of, SurvivesOnDisk}
-use Rattle.raft_log_protocol.specs.Disk.{Disk, DiskEvent, DiskStep, DiskSteps, fresh_disk}
-use Rattle.raft_log_protocol.proofs.FileLaws.{records_of-append, survives_on_disk, file_step_numbers}
+use Rattle.raft_log_protocol.specs.Files.{File, FileQueue, records_of, IsNumbered, queue_of, store_of, SurvivesOnDisk, NumberedFrom}
+use Rattle.raft_log_protocol.specs.Disk.{Disk, DiskEvent, DiskStep, DiskSteps, fresh_disk, IsRising, ReplaysOnDisk}
+use Rattle.raft_log_protocol.proofs.FileLaws.{records_of-append, survives_on_disk, file_step_numbers, read_split, read_records}
 use Rattle.raft_log_protocol.proofs.SurvivalSteps.{survives}
+use Rattle.raft_log_model.specs.Groups.{appended, rewritten}
+use Rattle.raft_log_model.specs.Holes.{nothing, NoHole}
+use Rattle.raft_log_protocol.specs.Unbroken.{IsUnbroken}
+use Rattle.raft_log_protocol.specs.Replay.{Replays, KeepsReplay}
 use Rattle.raft_log_protocol.proofs.WorldKeeps.{step_keeps}
+use Rattle.raft_log_protocol.proofs.ReplayLaws.{replays, step_replays, fresh_replays}
 use Rattle.raft_log_protocol.proofs.FreshKeeps.{fresh_keeps}
 
 module _ {E V : Type 0} where
@@ -18,6 +23,7 @@ module _ {E V : Type 0} where
     pub store : store_of d.rewrite d.append ≡ d.world.store
     pub rewrite : IsNumbered d.rewrite_from d.rewrite
     pub append : IsNumbered d.append_from d.append
+    pub replay : KeepsReplay d.world
 
   disk_step : (e : DiskEvent E V) (d n : Disk E V) → DiskStep e d n → DiskKeeps d → DiskKeeps n
   disk_step e d n h k = record {
@@ -25,6 +31,7 @@ module _ {E V : Type 0} where
     store = h.store;
     rewrite = subst (λ j. IsNumbered j n.rewrite) (sym h.rewrite_from) (file_step_numbers e.rewrite d.rewrite_from d.rewrite n.rewrite h.rewrite k.rewrite);
     append = subst (λ j. IsNumbered j n.append) (sym h.append_from) (file_step_numbers e.append d.append_from d.append n.append h.append k.append);
+    replay = step_replays e.event d.world n.world h.step k.world k.replay;
   }
 
   disk_steps : (es : List (DiskEvent E V)) (d n : Disk E V) → DiskSteps d es n → DiskKeeps d → DiskKeeps n
@@ -32,7 +39,7 @@ module _ {E V : Type 0} where
   disk_steps (e ∷ es) d n h k = disk_steps es h.0 n h.2 (disk_step e d h.0 h.1 k)
 
   fresh_disk_keeps : DiskKeeps fresh_disk
-  fresh_disk_keeps = record { world = fresh_keeps; store = refl; rewrite = ((refl, tt), tt); append = ((refl, tt), tt) }
+  fresh_disk_keeps = record { world = fresh_keeps; store = refl; rewrite = ((refl, tt), tt); append = ((refl, tt), tt); replay = fresh_replays }
 
   pub schedule_survives_on_disk : (es : List (DiskEvent E V)) (d : Disk E V) → DiskSteps fresh_disk es d
       → SurvivesOnDisk d.rewrite_from d.rewrite d.append_from d.append d.world.map d.append.pending
@@ -85,3 +92,28 @@ module _ {E V : Type 0} where
     where
       queue : List (Record E V) → Queue E V
       queue l = record { gone = records_of below; live = l; pending = [] }
+
+rising : {E V : Type 0} (s : ℕ) (files : List (File E V)) → NumberedFrom s files → IsRising files
+rising s [] h = tt
+rising s (f ∷ []) h = tt
+rising s (f ∷ g ∷ fs) h = (let here : f.number ≡ s = h.0 in let next : g.number ≡ s + 1 = h.1.0 in omega arith, rising (s + 1) (g ∷ fs) h.1)
+
+module _ {E V : Type 0} where
+  pub replays_on_disk : (n : ℕ) (r : FileQueue E V) (k : ℕ) (a : FileQueue E V) → IsNumbered n r → IsNumbered k a → Replays (store_of r a) → ReplaysOnDisk n r k a
+  replays_on_disk n r k a r_numbers a_numbers h = record {
+    append = λ kept lost image s files read.
+        let of = read_records a kept files (read_split k a kept s files a_numbers read) in
+        (rising s files read.numbered, λ g. subst (λ l. NoHole nothing (appended g l)) (sym of.3) (h.append g kept lost of.0 of.1 image of.2));
+    rewrite = λ kept lost image s files read.
+        let of = read_records r kept files (read_split n r kept s files r_numbers read) in (
+          rising s files read.numbered,
+          subst (λ l. IsUnbroken l) (sym of.3) (h.groups kept lost of.0 of.1 image of.2),
+          λ g. subst (λ l. NoHole nothing (rewritten g l)) (sym of.3) (h.rewrite g kept lost of.0 of.1 image of.2),
+        );
+  }
+
+  pub schedule_replays_on_disk : (es : List (DiskEvent E V)) (d : Disk E V) → DiskSteps fresh_disk es d → ReplaysOnDisk d.rewrite_from d.rewrite d.append_from d.append
+  schedule_replays_on_disk es d h =
+      let k = disk_steps es fresh_disk d h fresh_disk_keeps in
+      replays_on_disk d.rewrite_from d.rewrite d.append_from d.append k.rewrite k.append
+      (subst (λ q. Replays q) (sym k.store) (replays d.world k.world k.replay))

@@ -1,8 +1,12 @@
 -- The machine on numbered files.
-use Rattle.std.specs.Prelude.{◌≡◌, ℕ, List, [], ◌∷◌}
+use Rattle.std.specs.Prelude.{◌≡◌, ℕ, ◌<◌, List, [], ◌∷◌, ◌++◌}
+use Rattle.raft_log_model.specs.Item.{Record}
+use Rattle.raft_log_model.specs.Groups.{appended, rewritten}
+use Rattle.raft_log_model.specs.Holes.{nothing, NoHole}
+use Rattle.raft_log_protocol.specs.Unbroken.{IsUnbroken}
 use Rattle.raft_log_protocol.specs.World.{World, Event, Step}
 use Rattle.raft_log_protocol.specs.Fresh.{fresh_world}
-use Rattle.raft_log_protocol.specs.Files.{FileQueue, FileEvent, FileStep, numbered_from, store_of, fresh_files}
+use Rattle.raft_log_protocol.specs.Files.{File, FileQueue, FileEvent, FileStep, IsRead, records_of, numbered_from, store_of, fresh_files}
 
 -- a world, and the files of Rewrite and of Append, those that are not behind a gap numbered from these on
 pub record Disk (E V : Type 0) : Type 0 where
@@ -39,3 +43,18 @@ fresh_disk = record {
   append = fresh_files;
   append_from = 1;
 }
+
+-- the files' numbers rise
+abbrev pub IsRising : {E V : Type 0} → List (File E V) → Type 0
+IsRising [] = Unit {0}
+IsRising (f ∷ []) = Unit {0}
+IsRising (f ∷ g ∷ fs) = (f.number < g.number) × IsRising (g ∷ fs)
+
+-- from every file from which a recovery may read, whatever the image kept of the unsynced records, the reading gets
+-- through: numbers rise, no run leaves a hole, and Rewrite's atomic groups are unbroken
+pub record ReplaysOnDisk {E V : Type 0} (n : ℕ) (r : FileQueue E V) (k : ℕ) (a : FileQueue E V) : Type 0 where
+  pub append : (kept lost : List (Record E V)) → kept ++ lost ≡ a.pending → (s : ℕ) (files : List (File E V))
+      → IsRead k a kept s files → IsRising files × ((g : ℕ) → NoHole nothing (appended g (records_of files)))
+  pub rewrite : (kept lost : List (Record E V)) → kept ++ lost ≡ r.pending → (s : ℕ) (files : List (File E V))
+      → IsRead n r kept s files
+      → IsRising files × IsUnbroken (records_of files) × ((g : ℕ) → NoHole nothing (rewritten g (records_of files)))

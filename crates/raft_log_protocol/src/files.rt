@@ -4,7 +4,7 @@
 ghost use Rattle.std.specs.Prelude.{◌≡◌, ℕ, ◌+◌, ◌∷◌, List, ◌++◌, []};
 ghost use Rattle.raft_log_model.specs.Groups.{Map};
 ghost use Rattle.raft_log_model.specs.Item.{Record};
-ghost use Rattle.raft_log_protocol.specs.Disk.{fresh_disk, Disk, DiskEvent, DiskSteps};
+ghost use Rattle.raft_log_protocol.specs.Disk.{fresh_disk, Disk, DiskEvent, DiskSteps, ReplaysOnDisk};
 ghost use Rattle.raft_log_protocol.specs.Files.{
   numbered_from,
   queue_of,
@@ -91,4 +91,12 @@ pub fn reading_of_files<E, V>()
 pub fn survives_on_disk_always<E, V>()
     ensures { (events : List (DiskEvent E V)) (d : Disk E V) → DiskSteps fresh_disk events d
         → SurvivesOnDisk d.rewrite_from d.rewrite d.append_from d.append d.world.map d.append.pending }
+{}
+
+/// Over every such schedule each reading gets through: whatever an image kept, from every file from which a
+/// recovery may read, numbers rise, no run leaves a hole in either queue, and Rewrite's atomic groups are
+/// unbroken.
+pub fn replays_on_disk_always<E, V>()
+    ensures { (events : List (DiskEvent E V)) (d : Disk E V) → DiskSteps fresh_disk events d
+        → ReplaysOnDisk d.rewrite_from d.rewrite d.append_from d.append }
 {}

@@ -33,6 +33,7 @@ fn laws_of_files() {
     files::loss_of_files::<u64, u64>();
     files::reading_of_files::<u64, u64>();
     files::survives_on_disk_always::<u64, u64>();
+    files::replays_on_disk_always::<u64, u64>();
 }
 
 #[test]

@@ -1,5 +1,5 @@
 -- Over every schedule, the numbered files survive.
-use Rattle.std.proofs.Common.{ℕ, ◌≡◌, ◌+◌, List, [], ◌∷◌, ◌++◌, refl, sym, ap, ◌∙◌, subst, append_assoc, append-nil, ◌<◌, arith}
+use Rattle.std.proofs.Common.{ℕ, ◌≡◌, ◌+◌, List, [], ◌∷◌, ◌++◌, refl, sym, ap, ◌∙◌, subst, append_assoc, append-nil, arith}
 use Rattle.raft_log_model.specs.Item.{Record}
 use Rattle.raft_log_protocol.specs.Queue.{Queue, synced, raised, left, reread}
 use Rattle.raft_log_protocol.specs.Survival.{Survives}

@@ -1,5 +1,5 @@
 -- The interval wording says the same of the files as they stand.
-use Rattle.std.proofs.Common.{◌≡◌, ℕ, ◌<◌, ◌≤◌, Bool, false, List, [], ◌++◌, Option, Some, None, refl, sym, ap, ◌∙◌, subst, inl, inr, arith, append-nil}
+use Rattle.std.proofs.Common.{◌≡◌, ℕ, ◌<◌, ◌≤◌, false, [], ◌++◌, Option, Some, sym, ◌∙◌, inl, inr, arith, append-nil}
 use Rattle.std.proofs.lemmas.Bool.{cases_lt}
 use Rattle.raft_log_model.specs.Meaning.{Slot, Content, directory}
 use Rattle.raft_log_model.specs.Meaning.Slot.{Index}
@@ -8,7 +8,7 @@ use Rattle.raft_log_model.specs.Holes.{directory_by_intervals, IsSolid}
 use Rattle.raft_log_model.proofs.Intervals.{by_intervals_solid}
 use Rattle.raft_log_protocol.specs.Book.{Book}
 use Rattle.raft_log_protocol.specs.Purge.{Reading, meaning_there}
-use Rattle.raft_log_protocol.specs.Replay.{Replays, KeepsReplay}
+use Rattle.raft_log_protocol.specs.Replay.{KeepsReplay}
 use Rattle.raft_log_protocol.specs.World.{World, Keeps, said_of}
 use Rattle.raft_log_protocol.proofs.BookRaises.{no_word}
 use Rattle.raft_log_protocol.proofs.PurgeLaws.{means_all}

@@ -1,14 +1,14 @@
 -- Several runs, each at the end of the one before, may be taken as one.
-use Rattle.std.proofs.Common.{◌≡◌, ℕ, ◌+◌, ◌-◌, ◌<◌, ◌≤◌, Bool, true, false, ◌&&◌, if◌then◌else◌, nat_lt, nat_le, List, [], ◌∷◌, ◌++◌, length, Option, Some, None, option_map, slice_get, refl, sym, ap, ◌∙◌, subst, inl, inr, arith, length-append}
+use Rattle.std.proofs.Common.{◌≡◌, ℕ, ◌+◌, ◌-◌, ◌<◌, false, ◌&&◌, if◌then◌else◌, nat_lt, nat_le, List, ◌∷◌, ◌++◌, length, Some, option_map, refl, sym, ap, ◌∙◌, subst, inl, inr, arith, length-append}
 use Rattle.std.proofs.lemmas.Bool.{cases_lt}
 use Rattle.std.proofs.lemmas.Bool.Decides.{nat_tests}
 use Rattle.std.specs.Option.{option_or}
 use Rattle.raft_log_model.specs.Item.{Item}
 use Rattle.raft_log_model.specs.Item.Item.{Run}
-use Rattle.raft_log_model.specs.Meaning.{Slot, Content, write, says}
+use Rattle.raft_log_model.specs.Meaning.{Slot, write, says}
 use Rattle.raft_log_model.specs.Meaning.Slot.{Index, Key}
 use Rattle.raft_log_model.specs.Meaning.Content.{Entry}
-use Rattle.raft_log_model.specs.Holes.{Window, is_past, next_window, window, FitsOn, NoHole}
+use Rattle.raft_log_model.specs.Holes.{Window, next_window, window, NoHole}
 use Rattle.raft_log_model.proofs.Tests.{run_sets, run_leaves}
 use Rattle.raft_log_model.proofs.TableSteps.{get_front, get_back}
 use Rattle.raft_log_model.proofs.Holes.{no_hole_front, no_hole_end, no_hole_append}

@@ -19,3 +19,4 @@ pub mod ReplayLaws
 pub mod ExampleLaws
 pub mod JoinedLaws
 pub mod IntervalLaws
+pub mod HistoryLaws

@@ -12,3 +12,4 @@ pub mod WrongRules
 pub mod Purge
 pub mod Replay
 pub mod Example
+pub mod History

@@ -1,0 +1,15 @@
+pub mod Unbroken
+pub mod Queue
+pub mod Survival
+pub mod Table
+pub mod Book
+pub mod Recovery
+pub mod World
+pub mod Fresh
+pub mod Files
+pub mod Disk
+pub mod WrongRules
+pub mod Purge
+pub mod Replay
+pub mod Example
+pub mod History

@@ -14,7 +14,7 @@ outcome_more (Answered replies) W r size cuts cuts' h = (h, refl, refl)
 outcome_more Cut W r size [] cuts' h = absurd h
 outcome_more Cut W r size (c ∷ cuts) cuts' h = (h, refl, refl)
 
-explains_join :
+pub explains_join :
     (W : World) (first later : List Round) (cuts cuts' : List ℕ) → ExplainsFrom W first cuts
     → ExplainsFrom (after_rounds W first cuts) later cuts' → ExplainsFrom W (first ++ later) (cuts ++ cuts')
 explains_join W [] later cuts cuts' e l = rw e l
@@ -22,7 +22,7 @@ explains_join W (r ∷ rounds) later cuts cuts' e l =
     let more = outcome_more r.outcome W r (length r.requests) cuts cuts' e.0.1 in
     ((e.0.0, more.0), rw (more.1, more.2) (explains_join (after_round W r cuts) rounds later (cuts_after r.outcome cuts) cuts' e.1 l))
 
-after_join :
+pub after_join :
     (W : World) (first later : List Round) (cuts cuts' : List ℕ) → ExplainsFrom W first cuts
     → after_rounds W (first ++ later) (cuts ++ cuts') ≡ after_rounds (after_rounds W first cuts) later cuts'
 after_join W [] later cuts cuts' e = rw e refl
@@ -51,7 +51,7 @@ outcome_part (Answered replies) W r size m cuts h = let none : 0 + m ≡ m = ome
 outcome_part Cut W r size m [] h = absurd h
 outcome_part Cut W r size m (c ∷ cuts) h = let one : 1 + m ≡ suc m = omega arith in rw one (h, refl, refl, refl)
 
-explains_part :
+pub explains_part :
     (W : World) (first later : List Round) (cuts : List ℕ) → ExplainsFrom W (first ++ later) cuts
     → ExplainsFrom W first (take (cut_count first) cuts)
     × ExplainsFrom (after_rounds W first (take (cut_count first) cuts)) later (drop (cut_count first) cuts)

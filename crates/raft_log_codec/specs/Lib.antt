@@ -1,4 +1,5 @@
 pub mod Checksum
+pub mod Fault
 pub mod Grammar
 pub mod Hash
 pub mod Number

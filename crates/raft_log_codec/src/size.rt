@@ -134,6 +134,10 @@ impl fmt::Display for ReadableSize {
 }
 
 impl fmt::Display for ParseSizeError {
+    ghost use Rattle.raft_log_codec.specs.Fault.{size_fault_text};
+
+    ghost output = { size_fault_text };
+
     fn fmt<W: fmt::Write>(&self, f: &mut fmt::Formatter<W>) -> fmt::Result {
         match self {
             ParseSizeError::NoNumber => write!(f, "a size begins with a whole number"),

@@ -31,6 +31,10 @@ impl Error {
 }
 
 impl fmt::Display for Error {
+    ghost use Rattle.raft_log_codec.specs.Fault.{codec_fault_text};
+
+    ghost output = { codec_fault_text };
+
     fn fmt<W: fmt::Write>(&self, f: &mut fmt::Formatter<W>) -> fmt::Result {
         match self {
             Error::Io(kind) => write!(f, "{kind}"),

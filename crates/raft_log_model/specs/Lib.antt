@@ -1,4 +1,5 @@
 pub mod Item
+pub mod Codes
 pub mod Meaning
 pub mod Groups
 pub mod Tidy

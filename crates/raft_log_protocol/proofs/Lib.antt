@@ -20,3 +20,4 @@ pub mod ExampleLaws
 pub mod JoinedLaws
 pub mod IntervalLaws
 pub mod HistoryLaws
+pub mod StaysLaws

@@ -13,6 +13,7 @@ fn laws_of_survival() {
     survival::append_loses::<u64, u64>();
     survival::rewrite_loses::<u64, u64>();
     survival::directory_reopens::<u64, u64>();
+    survival::what_stays_in_rewrite_says::<u64, u64>();
 }
 
 #[test]

@@ -21,3 +21,4 @@ pub mod JoinedLaws
 pub mod IntervalLaws
 pub mod HistoryLaws
 pub mod StaysLaws
+pub mod TidyLaws

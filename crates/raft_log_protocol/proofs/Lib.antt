@@ -20,3 +20,5 @@ pub mod ExampleLaws
 pub mod JoinedLaws
 pub mod IntervalLaws
 pub mod HistoryLaws
+pub mod StaysLaws
+pub mod TidyLaws

@@ -40,7 +40,8 @@ pub record Reading {E V : Type 0} (q : Store E V) : Type 0 where
 -- what such a reading means
 abbrev pub meaning_there : {E V : Type 0} → (q : Store E V) → Reading q → Map E V
 meaning_there q r =
-    directory_meaning (r.r_back ++ (q.rewrite.live ++ q.rewrite.pending)) (r.a_back ++ (q.append.live ++ q.append.pending))
+    directory_meaning (r.r_back ++ (q.rewrite.live ++ q.rewrite.pending))
+    (r.a_back ++ (q.append.live ++ q.append.pending))
 
 -- nothing of the group is left in Append, and no mark is owed
 abbrev pub IsRewritten : Table → Type 0

@@ -37,7 +37,8 @@ IsHarmless word value append_word = (word ≡ None) ⊎ ((word ≡ Some value) �
 abbrev pub counting : {E V : Type 0} → Queue E V → List (Record E V) → Record E V → ℕ → List (Item E V)
 counting q back y g = of_group g (counts (opened none_open (back ++ (q.live ++ q.pending))) y)
 
--- Rewrite may take the record: from each start what comes to count by it is harmless, said against what is SYNCED of Append
+-- Rewrite may take the record: from each start what comes to count by it is harmless, said against what is SYNCED
+-- of Append
 abbrev pub MayRewrite : {E V : Type 0} → Store E V → Map E V → Record E V → Type 0
 MayRewrite {E} {V} q m y =
     (g : ℕ) (s : Slot) (cut back : List (Record E V)) → cut ++ back ≡ q.rewrite.gone

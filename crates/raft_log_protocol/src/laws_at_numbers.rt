@@ -13,6 +13,7 @@ fn laws_of_survival() {
     survival::append_loses::<u64, u64>();
     survival::rewrite_loses::<u64, u64>();
     survival::directory_reopens::<u64, u64>();
+    survival::what_stays_in_rewrite_says::<u64, u64>();
 }
 
 #[test]
@@ -52,6 +53,7 @@ fn laws_of_replay() {
     replay::replays_always::<u64, u64>();
     replay::intervals_say_the_same::<u64, u64>();
     replay::runs_of_a_group_join::<u64, u64>();
+    replay::unbroken_records_are_tidy::<u64, u64>();
 }
 
 #[test]

@@ -5,11 +5,13 @@ ghost use Rattle.std.specs.Prelude.{◌≡◌, ℕ, ◌+◌, false, length, List
 ghost use Rattle.raft_log_model.specs.Groups.{appended, rewritten};
 ghost use Rattle.raft_log_model.specs.Holes.{directory_by_intervals};
 ghost use Rattle.raft_log_model.specs.Item.Item.{Run};
-ghost use Rattle.raft_log_model.specs.Item.{Item};
+ghost use Rattle.raft_log_model.specs.Item.{Item, Record};
 ghost use Rattle.raft_log_model.specs.Meaning.Slot.{Index};
+ghost use Rattle.raft_log_model.specs.Tidy.{Tidy};
 ghost use Rattle.raft_log_protocol.specs.Fresh.{fresh_world};
 ghost use Rattle.raft_log_protocol.specs.Purge.{meaning_there, Reading};
 ghost use Rattle.raft_log_protocol.specs.Replay.{KeepsReplay, Replays};
+ghost use Rattle.raft_log_protocol.specs.Unbroken.{IsUnbroken};
 ghost use Rattle.raft_log_protocol.specs.World.{Event, IsJoined, Keeps, Step, Steps, World};
 
 /// A fresh directory replays.
@@ -51,4 +53,9 @@ pub fn runs_of_a_group_join<E, V>()
     ensures same { (xs : List (Item E V)) → IsJoined xs xs }
     ensures behind { (front xs ys : List (Item E V)) → IsJoined xs ys → IsJoined (front ++ xs) (front ++ ys) }
     ensures in_turn { (xs ys zs : List (Item E V)) → IsJoined xs ys → IsJoined ys zs → IsJoined xs zs }
+{}
+
+/// Unbroken records are tidy, so they may be cut into chunks anywhere, read apart and merged.
+pub fn unbroken_records_are_tidy<E, V>()
+    ensures { (rs : List (Record E V)) → IsUnbroken rs → Tidy rs }
 {}

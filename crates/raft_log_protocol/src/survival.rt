@@ -2,12 +2,15 @@
 //! which a recovery may read, and with every beginning of Rewrite's unsynced records, what is synced of Append
 //! means the map m.
 
-ghost use Rattle.std.specs.Prelude.{◌≡◌, List, [], ◌++◌};
-ghost use Rattle.raft_log_model.specs.Groups.{taken, Map};
-ghost use Rattle.raft_log_model.specs.Item.{Record};
+ghost use Rattle.std.specs.Prelude.{◌≡◌, ℕ, List, [], ◌∷◌, ◌++◌};
+ghost use Rattle.raft_log_model.specs.Groups.{of_group, rewritten, taken, Map};
+ghost use Rattle.raft_log_model.specs.Item.Mark.{End};
+ghost use Rattle.raft_log_model.specs.Item.Record.{Part, Plain};
+ghost use Rattle.raft_log_model.specs.Item.{Record, Tagged};
+ghost use Rattle.raft_log_model.specs.Meaning.{says, Slot};
 ghost use Rattle.raft_log_protocol.specs.Queue.{left, raised, reread, synced, takes, with_append, with_rewrite, Store};
-ghost use Rattle.raft_log_protocol.specs.Survival.{Holds, MayRaiseAppend, MayRaiseRewrite, MayRewrite, Survives};
-ghost use Rattle.raft_log_protocol.specs.Unbroken.{IsUnbroken};
+ghost use Rattle.raft_log_protocol.specs.Survival.{Holds, IsSpoken, MayRaiseAppend, MayRaiseRewrite, MayRewrite, Survives};
+ghost use Rattle.raft_log_protocol.specs.Unbroken.{begun, joined, IsUnbroken};
 
 /// A directory that holds a map survives as it, Append's unsynced records being the pending batches: whatever a
 /// crash leaves of them, there is one number of batches such that from every pair of starts the directory means
@@ -79,4 +82,19 @@ pub fn directory_reopens<E, V>()
         → Holds q m
         → Holds (record { rewrite = reread q.rewrite r_cut r_back r_kept; append = reread q.append a_cut a_back a_kept })
         (taken m a_kept) }
+{}
+
+/// How a table shows what the records that stay in Rewrite say: a slot of which a plain record that stays
+/// speaks, or an atomic group that stays from its BEGIN on, is spoken of by what stays; and then what stays
+/// says of it what all of the span said.
+pub fn what_stays_in_rewrite_says<E, V>()
+    ensures plain { (g : ℕ) (s : Slot) (xs : List (Record E V)) (ys : List (Tagged E V)) (zs : List (Record E V))
+        → IsSpoken (says s (of_group g ys)) → IsSpoken (says s (rewritten g (xs ++ Plain ys ∷ zs))) }
+    ensures group { (g : ℕ) (s : Slot) (xs : List (Record E V)) (n : ℕ) (first : List (Tagged E V)) (more : List (List (Tagged E V)))
+        (last : List (Tagged E V)) (zs : List (Record E V))
+        → IsSpoken (says s (of_group g (joined first more ++ last)))
+        → IsSpoken (says s (rewritten g ((xs ++ begun n first more) ++ Part (End n) last ∷ zs))) }
+    ensures same { (g : ℕ) (s : Slot) (out stay : List (Record E V)) → IsUnbroken (out ++ stay)
+        → IsSpoken (says s (rewritten g stay))
+        → says s (rewritten g stay) ≡ says s (rewritten g (out ++ stay)) }
 {}

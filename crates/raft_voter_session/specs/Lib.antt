@@ -1,0 +1,4 @@
+pub mod Words
+pub mod Requests
+pub mod Session
+pub mod Fault

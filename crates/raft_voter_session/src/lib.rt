@@ -1,0 +1,11 @@
+//! The text of sessions and transcripts: what a session's lines say, and how a transcript is written.
+#![tactic(auto)]
+
+mod event;
+mod line;
+mod requests;
+mod session;
+mod words;
+
+pub use event::Event;
+pub use session::{SessionFault, read_session};

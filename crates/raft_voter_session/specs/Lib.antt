@@ -2,3 +2,4 @@ pub mod Words
 pub mod Requests
 pub mod Session
 pub mod Fault
+pub mod Text

@@ -5,7 +5,9 @@ mod event;
 mod line;
 mod requests;
 mod session;
+mod text;
 mod words;
 
 pub use event::Event;
 pub use session::{SessionFault, read_session};
+pub use text::{write_transcript, write_unreadable};

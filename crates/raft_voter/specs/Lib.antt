@@ -1,3 +1,4 @@
 pub mod State
 pub mod Rules
 pub mod Rounds
+pub mod Voters

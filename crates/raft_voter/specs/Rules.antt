@@ -1,5 +1,5 @@
-use Rattle.std.specs.Prelude.{ℕ, suc, ◌+◌, ◌-◌, ◌^◌, ◌==◌, ◌&&◌, ◌||◌, nat_lt, nat_le, min, Bool, true, false, if◌then◌else◌, List, [], ◌∷◌, ◌++◌, length, take, drop, sum_by, Some, unwrap_or}
-use Rattle.std.specs.List.{list_all}
+use Rattle.std.specs.Prelude.{ℕ, ◌+◌, ◌-◌, ◌^◌, ◌==◌, ◌&&◌, ◌||◌, nat_lt, nat_le, min, Bool, true, false, if◌then◌else◌, List, [], ◌∷◌, ◌++◌, length, take, drop, sum_by, Some, unwrap_or}
+use Rattle.std.specs.List.{common_prefix_len, list_all}
 use Rattle.std.specs.Option.{option_map_or}
 use Rattle.raft_voter.specs.declared.reply.Entry.{Entry}
 use Rattle.raft_voter.specs.declared.reply.Reply.{Reply}
@@ -20,13 +20,13 @@ entry_fits e = fits e.0 && nat_le (length e.1) 65535
 
 -- a request in range is taken; an Append brings at most 1,024 entries with 1,048,576 bytes in all
 abbrev pub in_range : Request → Bool
-in_range (Vote term candidate index last) = fits term && fits candidate && fits index && fits last
-in_range (Append term prev prev_term es) =
-    fits term && fits prev_term && fits (prev + length es) && nat_le (length es) 1024 && list_all entry_fits es
-    && nat_le (sum_by (λ e. length e.1) es) 1048576
+in_range (Vote term candidate index last) = list_all fits (term ∷ candidate ∷ index ∷ last ∷ [])
+in_range (Append term prev prev_term sent) =
+    list_all fits (term ∷ prev_term ∷ (prev + length sent) ∷ []) && nat_le (length sent) 1024 && list_all entry_fits sent
+    && nat_le (sum_by (λ e. length e.1) sent) 1048576
 in_range (Compact index) = fits index
-in_range (Install term index entry_term) = fits term && fits index && fits entry_term
-in_range (Read from to) = fits from && fits to
+in_range (Install term index entry_term) = list_all fits (term ∷ index ∷ entry_term ∷ [])
+in_range (Read from to) = list_all fits (from ∷ to ∷ [])
 in_range Status = true
 in_range Retire = true
 
@@ -53,9 +53,7 @@ agrees_at v index term = option_map_or (λ t. t == term) (term_at v index) false
 
 -- how many of the entries sent are there already: those before the first whose term differs or that is new
 abbrev pub matching : List (ℕ × List ℕ) → List (ℕ × List ℕ) → ℕ
-matching [] sent = 0
-matching (e ∷ old) [] = 0
-matching (e ∷ old) (s ∷ sent) = if e.0 == s.0 then suc (matching old sent) else 0
+matching old sent = common_prefix_len (λ e s. e.0 == s.0) old sent
 
 -- matching entries stay as they are; the first other one drops what is old from there on and brings what was sent
 abbrev pub merged : List (ℕ × List ℕ) → List (ℕ × List ℕ) → List (ℕ × List ℕ)

@@ -7,15 +7,19 @@
 #![tactic(auto)]
 
 mod items;
+mod judging;
 mod memory;
 mod reply;
 mod request;
 mod round;
 mod voter;
+mod voters;
 
 pub use items::Items;
+pub use judging::judge;
 pub use memory::Memory;
 pub use reply::{Entry, Reply, VoterState};
 pub use request::Request;
 pub use round::{Outcome, Round, Transcript};
 pub use voter::Voter;
+pub use voters::Voters;

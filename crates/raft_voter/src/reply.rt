@@ -2,7 +2,7 @@
 use crate::Items;
 
 /// An entry of a log.
-#[derive(Debug, Drop)]
+#[derive(Debug, PartialEq, Drop)]
 pub struct Entry {
     /// Where it stands, counted from 1.
     pub index: u64,
@@ -30,7 +30,7 @@ pub struct VoterState {
 }
 
 /// What a voter answers to a request.
-#[derive(Debug, Drop)]
+#[derive(Debug, PartialEq, Drop)]
 pub enum Reply {
     /// The vote is the candidate's, in this term.
     Granted(u64),

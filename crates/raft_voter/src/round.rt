@@ -2,7 +2,7 @@
 use crate::{Items, Reply, Request};
 
 /// What came of a round.
-#[derive(Debug, Drop)]
+#[derive(Debug, PartialEq, Drop)]
 pub enum Outcome {
     /// Each request has its reply, in the same order.
     Answered(Items<Reply>),
@@ -11,7 +11,7 @@ pub enum Outcome {
 }
 
 /// Requests that were handed in together, to the voters of many groups.
-#[derive(Debug, Drop)]
+#[derive(Debug, PartialEq, Drop)]
 pub struct Round {
     /// Each request with its group, in the order in which they are taken. A request's place is counted from 0.
     pub requests: Items<(u64, Request)>,
@@ -22,7 +22,7 @@ pub struct Round {
 }
 
 /// Rounds in the order in which they were served.
-#[derive(Debug, Drop)]
+#[derive(Debug, PartialEq, Drop)]
 pub struct Transcript {
     /// The rounds.
     pub rounds: Items<Round>,

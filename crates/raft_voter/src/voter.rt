@@ -1,8 +1,15 @@
 //! One Raft voter.
-ghost use Rattle.std.specs.Prelude.{◌≡◌};
-ghost use Rattle.raft_voter.specs.State.{fresh, last_index, last_term, state_of};
+ghost use Rattle.std.specs.Prelude.{◌≡◌, ◌≤◌, ◌&&◌, nat_le, is_some, IsTrue, IfOk, OnOk, OnErr};
+ghost use Rattle.raft_voter.specs.Rules.{agrees_at, next, reply};
+ghost use Rattle.raft_voter.specs.State.{adopt_term, fresh, last_index, last_term, state_of, term_at};
 
-use crate::{Items, VoterState};
+mod appends;
+mod log;
+mod reads;
+mod snapshots;
+mod votes;
+
+use crate::{Items, Memory, Reply, Request, VoterState};
 use std::alloc::Global;
 use std::marker::Model;
 
@@ -41,6 +48,68 @@ impl Voter {
         }
     }
 
+    /// The voter's state, without its entries.
+    pub fn state(&self) -> VoterState
+        ensures { result ≡ state_of self.now }
+    {
+        VoterState {
+            term: self.term,
+            vote: self.vote,
+            base_index: self.base_index,
+            base_term: self.base_term,
+            last_index: self.last_index(),
+            last_term: self.last_term(),
+        }
+    }
+
+    /// Takes a request and answers it. One that is out of range is answered `Refused` and changes nothing. Where memory is
+    /// refused nothing is changed either.
+    pub fn step(&mut self, request: &Request) -> Result<Reply, Memory>
+        ensures replies { IfOk result (λ given. given ≡ reply self.old request.now) }
+        ensures changes { OnOk result (self.new ≡ next self.old request.now) }
+        ensures err { OnErr result (self.new ≡ self.old) }
+    {
+        if !request.in_range() {
+            return Ok(Reply::Refused);
+        }
+        match request {
+            Request::Vote {
+                term,
+                candidate,
+                last_index,
+                last_term,
+            } => Ok(self.vote(*term, *candidate, *last_index, *last_term)),
+            Request::Append {
+                term,
+                prev_index,
+                prev_term,
+                entries,
+            } => self.append(*term, *prev_index, *prev_term, entries.as_slice()),
+            Request::Compact { index } => Ok(self.compact(*index)),
+            Request::Install {
+                term,
+                index,
+                entry_term,
+            } => Ok(self.install(*term, *index, *entry_term)),
+            Request::Read { from, to } => self.read(*from, *to),
+            Request::Status => Ok(Reply::Status(self.state())),
+            Request::Retire => {
+                self.retire();
+                Ok(Reply::Retired)
+            }
+        }
+    }
+
+    /// Takes a higher term over, in which nobody has the vote yet.
+    fn adopt_term(&mut self, term: u64)
+        ensures { self.new ≡ adopt_term self.old term }
+    {
+        if self.term < term {
+            self.term = term;
+            self.vote = None;
+        }
+    }
+
     /// The index of the last entry, or the base's.
     fn last_index(&self) -> u64
         ensures { result ≡ last_index self.now }
@@ -58,17 +127,31 @@ impl Voter {
         }
     }
 
-    /// The voter's state, without its entries.
-    pub fn state(&self) -> VoterState
-        ensures { result ≡ state_of self.now }
+    /// The term of the entry at an index, or of the base.
+    fn term_at(&self, index: u64) -> Option<u64>
+        ensures value { result ≡ term_at self.now index }
+        ensures variant { is_some result ≡ (nat_le self.now.base_index index && nat_le index (last_index self.now)) }
     {
-        VoterState {
-            term: self.term,
-            vote: self.vote,
-            base_index: self.base_index,
-            base_term: self.base_term,
-            last_index: self.last_index(),
-            last_term: self.last_term(),
+        if index == self.base_index {
+            return Some(self.base_term);
+        }
+        if index < self.base_index {
+            return None;
+        }
+        match self.log.get((index - self.base_index - 1) as usize) {
+            Some(entry) => Some(entry.0),
+            None => None,
+        }
+    }
+
+    /// Whether an entry, or the base, of this term stands at this index.
+    fn agrees_at(&self, index: u64, term: u64) -> bool
+        ensures value { result ≡ agrees_at self.now index term }
+        ensures within { IsTrue result → (self.now.base_index ≤ index) × (index ≤ last_index self.now) }
+    {
+        match self.term_at(index) {
+            Some(own) => own == term,
+            None => false,
         }
     }
 }

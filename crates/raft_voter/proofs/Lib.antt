@@ -1,0 +1,4 @@
+pub mod Sizes
+pub mod Merging
+pub mod Equality
+pub mod Places

@@ -1,0 +1,77 @@
+//! Whether voters that never fail explain a transcript.
+ghost use Rattle.std.specs.Prelude.{◌≡◌, ◌≤◌, ◌↔◌, IsTrue, IfOk, IfSome, OnSome, MatchOption, length, drop};
+ghost use Rattle.raft_voter.specs.Rounds.{after_round, are_rising, cuts_after, Explains, RoundHolds};
+ghost use Rattle.raft_voter.specs.Voters.{world_of};
+
+use crate::{Items, Memory, Outcome, Reply, Round, Transcript, Voters};
+use std::alloc::Global;
+
+/// Whether voters that begin as fresh ones and never fail explain a transcript, where the round that was cut off as the
+/// n-th was taken up to the n-th of these places. It is so exactly if there is one place for each such round, none past
+/// its round's requests, each round's refused places rise and are its own, and each answered round has the voters'
+/// replies, with `Refused` at the refused places.
+pub fn judge(alloc: Global, transcript: &Transcript, cuts: &[usize]) -> Result<bool, Memory>
+    ensures { IfOk result (λ explained. IsTrue explained ↔ Explains transcript.now.rounds cuts.now) }
+{
+    let mut voters = Voters::new(alloc);
+    let mut used = 0;
+    for round in transcript.rounds.as_slice() {
+        let Some(more) = judge_round(&mut voters, round, &cuts[used..])? else {
+            return Ok(false);
+        };
+        used += more;
+    }
+    Ok(used == cuts.len())
+}
+
+/// Whether a round may say what it says, and how many of the cuts that are left it takes. The voters take what it took.
+fn judge_round(voters: &mut Voters, round: &Round, cuts: &[usize]) -> Result<Option<usize>, Memory>
+    ensures fails { IfOk result (λ used. MatchOption used (RoundHolds (world_of voters.old) round.now cuts.now → ⊥) (λ n. RoundHolds (world_of voters.old) round.now cuts.now)) }
+    ensures left { IfOk result (λ used. IfSome used (λ n. (n ≤ length cuts.now) × (cuts_after round.now.outcome cuts.now ≡ drop n cuts.now))) }
+    ensures world { IfOk result (λ used. OnSome used (world_of voters.new ≡ after_round (world_of voters.old) round.now cuts.now)) }
+{
+    let requests = round.requests.as_slice();
+    let refused = round.refused.as_slice();
+    if !are_rising(refused, requests.len()) {
+        return Ok(None);
+    }
+    match &round.outcome {
+        Outcome::Answered(told) => {
+            let given = voters.serve(requests, refused)?;
+            if !same(told, &given) {
+                return Ok(None);
+            }
+            Ok(Some(0))
+        }
+        Outcome::Cut => {
+            let Some(cut) = cuts.first() else {
+                return Ok(None);
+            };
+            if *cut > requests.len() {
+                return Ok(None);
+            }
+            voters.serve(&requests[..*cut], refused)?;
+            Ok(Some(1))
+        }
+    }
+}
+
+fn same(told: &Items<Reply>, given: &Items<Reply>) -> bool
+    ensures { IsTrue result ↔ (told.now ≡ given.now) }
+{
+    told == given
+}
+
+/// Whether these places rise and stay below `end`.
+fn are_rising(places: &[usize], end: usize) -> bool
+    ensures { result ≡ are_rising 0 end places.now }
+{
+    let mut low = 0;
+    for place in places {
+        if *place < low || *place >= end {
+            return false;
+        }
+        low = *place + 1;
+    }
+    true
+}

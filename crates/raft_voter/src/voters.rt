@@ -1,0 +1,74 @@
+//! The voters of many groups, in memory.
+ghost use Rattle.std.specs.Prelude.{◌≡◌, ℕ, IsTrue, length, IfOk, OnOk, OnErr};
+ghost use Rattle.raft_voter.specs.Rounds.{after, after_one, are_rising, fresh_world, is_among, replies_from, taken_from};
+ghost use Rattle.raft_voter.specs.Rules.{reply};
+ghost use Rattle.raft_voter.specs.Voters.{world_of};
+
+use crate::{Items, Memory, Reply, Request, Voter};
+use std::alloc::Global;
+use std::collections::BTreeMap;
+
+/// The voters of many groups, in memory. A group that has taken nothing has a fresh voter.
+#[derive(Drop)]
+pub struct Voters {
+    alloc: Global,
+    voters: BTreeMap<u64, Voter>,
+}
+
+impl Voters {
+    /// No group has taken anything.
+    pub fn new(alloc: Global) -> Voters
+        ensures { world_of result ≡ fresh_world }
+    {
+        Voters {
+            alloc,
+            voters: BTreeMap::new(alloc),
+        }
+    }
+
+    /// One group's voter takes a request and answers it. Where memory is refused every voter is as before.
+    pub fn take(&mut self, group: u64, request: &Request) -> Result<Reply, Memory>
+        ensures replies { IfOk result (λ given. given ≡ reply (world_of self.old group) request.now) }
+        ensures changes { OnOk result (world_of self.new ≡ after_one (world_of self.old) (group, request.now)) }
+        ensures err { OnErr result (world_of self.new ≡ world_of self.old) }
+    {
+        let voter = self.voters.entry(group)?.or_insert(Voter::new(self.alloc));
+        voter.step(request)
+    }
+
+    /// The voters take the requests of a round in order, but for those at the refused places, which rise. The replies are
+    /// theirs, and `Refused` at a refused place.
+    pub fn serve(
+        &mut self,
+        requests: &[(u64, Request)],
+        refused: &[usize],
+    ) -> Result<Items<Reply>, Memory>
+        requires { (high : ℕ) × IsTrue (are_rising 0 high refused.now) }
+        ensures replies { IfOk result (λ given. given ≡ replies_from 0 refused.now (world_of self.old) requests.now) }
+        ensures changes { OnOk result (world_of self.new ≡ after (world_of self.old) (taken_from 0 (length requests.now) refused.now requests.now)) }
+    {
+        let mut replies = Items::new(self.alloc);
+        let mut passed = 0;
+        for (place, (group, request)) in requests.iter().enumerate() {
+            if is_next(&refused[passed..], place) {
+                passed += 1;
+                replies.push(Reply::Refused)?;
+                continue;
+            }
+            let reply = self.take(*group, request)?;
+            replies.push(reply)?;
+        }
+        Ok(replies)
+    }
+}
+
+/// Whether a place is among the rising places that are left, the first of which isn't before it.
+fn is_next(ahead: &[usize], place: usize) -> bool
+    requires { (high : ℕ) × IsTrue (are_rising place high ahead.now) }
+    ensures { result ≡ is_among ahead.now place }
+{
+    match ahead.first() {
+        Some(next) => *next == place,
+        None => false,
+    }
+}

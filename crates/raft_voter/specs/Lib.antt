@@ -2,3 +2,4 @@ pub mod State
 pub mod Rules
 pub mod Rounds
 pub mod Voters
+pub mod StoredForms

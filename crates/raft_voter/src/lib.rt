@@ -12,6 +12,7 @@ mod memory;
 mod reply;
 mod request;
 mod round;
+mod stored;
 mod voter;
 mod voters;
 
@@ -19,7 +20,8 @@ pub use items::Items;
 pub use judging::judge;
 pub use memory::Memory;
 pub use reply::{Entry, Reply, VoterState};
-pub use request::Request;
+pub use request::{MAX_APPEND_BYTES, MAX_APPEND_ENTRIES, MAX_ENTRY_BYTES, MAX_NUMBER, Request};
 pub use round::{Outcome, Round, Transcript};
+pub use stored::{StoredFault, entry_bytes, read_entry, read_state, state_bytes};
 pub use voter::Voter;
 pub use voters::Voters;

@@ -100,13 +100,13 @@ impl Request {
     }
 }
 
-fn fits(number: u64) -> bool
+pub(crate) fn fits(number: u64) -> bool
     ensures { result ≡ fits number }
 {
     number <= MAX_NUMBER
 }
 
-fn all_fit(numbers: &[u64]) -> bool
+pub(crate) fn all_fit(numbers: &[u64]) -> bool
     ensures { result ≡ list_all fits numbers.now }
 {
     numbers.iter().all(|number| fits(*number))

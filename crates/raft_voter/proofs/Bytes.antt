@@ -1,4 +1,4 @@
-use Rattle.std.proofs.Common.{◌≡◌, ℕ, ◌+◌, ◌<◌, ◌≤◌, ◌^◌, List, [], ◌∷◌, ◌++◌, length, length-append, take, drop, Option, Some, None, true, false, IsTrue, inl, inr, ◌⊎◌, lit<, refl, sym, ap, ◌∙◌, arith}
+use Rattle.std.proofs.Common.{◌≡◌, ℕ, ◌+◌, ◌<◌, ◌≤◌, ◌^◌, List, [], ◌∷◌, ◌++◌, length, length-append, take, drop, map, Option, Some, None, Ok, true, false, IsTrue, inl, inr, ◌⊎◌, lit<, refl, sym, ap, ◌∙◌, arith}
 use Rattle.std.specs.Int.{to_be_bytes, from_be_bytes, w64}
 use Rattle.std.specs.Option.{option_map_or}
 use Rattle.std.proofs.lemmas.Nat.{from_be_bytes-to_be_bytes_8}
@@ -8,8 +8,10 @@ use Rattle.std.proofs.lemmas.Bool.Decides.{nat_tests}
 use Rattle.std.specs.List.{list_all}
 use Rattle.raft_voter.specs.declared.reply.Entry.{Entry}
 use Rattle.raft_voter.specs.declared.reply.VoterState.{VoterState}
+use Rattle.raft_voter.specs.declared.stored.StoredFault.{StoredFault}
+use Rattle.raft_voter.specs.declared.stored.StoredFault.TheVariants.{Length, Form, Range, Index, Order, Memory}
 use Rattle.raft_voter.specs.Rules.{fits}
-use Rattle.raft_voter.specs.StoredForms.{entry_text, number_text, state_body, state_fits, state_text, stored_entry_fits, vote_text}
+use Rattle.raft_voter.specs.StoredForms.{are_in_order, EntryFault, IsEntry, IsState, restored, StateFault, entry_text, number_text, state_body, state_fits, state_text, stored_entry_fits, vote_text}
 
 pub length-number_text : (n : ℕ) → length (number_text n) ≡ 8
 unfolding number_text
@@ -88,13 +90,13 @@ tails_same x y same = ap (drop 1) same
 -- the numbers of an entry are known by its bytes, so where one is out of range no entry in range has them
 pub entry_numbers :
     (bytes own : List ℕ) (i t : ℕ) (e : Entry) → bytes ≡ 1 ∷ number_text i ++ (number_text t ++ own) → i < 2 ^ 64
-    → t < 2 ^ 64 → stored_entry_fits e ≡ true → bytes ≡ entry_text e → (i ≡ e.index) × (t ≡ e.term)
+    → t < 2 ^ 64 → stored_entry_fits e ≡ true → bytes ≡ entry_text e → (i ≡ e.index) × (t ≡ e.term) × (own ≡ e.bytes)
 entry_numbers bytes own i t e is fi ft fit same =
     let bounds : (e.index < 2 ^ 64) × (e.term < 2 ^ 64) = grind (arith, nat_tests) in
     let first = number_first i e.index (number_text t ++ own) (number_text e.term ++ e.bytes) fi bounds.0
     (tails_same (number_text i ++ (number_text t ++ own)) (number_text e.index ++ (number_text e.term ++ e.bytes)) (sym is ∙ same)) in
     let second = number_first t e.term own e.bytes ft bounds.1 first.1 in
-    (first.0, second.0)
+    (first.0, second.0, second.1)
 
 pub entry_out_of_range :
     (bytes own : List ℕ) (i t : ℕ) → bytes ≡ 1 ∷ number_text i ++ (number_text t ++ own) → i < 2 ^ 64 → t < 2 ^ 64
@@ -141,3 +143,81 @@ state_out_of_range bytes v t b u l m vote s is ft fb fu lv spelled fv out fit sa
     let again : state_fits (record { term = t; vote = vote; base_index = b; base_term = u; last_index = l; last_term = m }) ≡ true =
     rw (numbers.0, ← votes, numbers.2, numbers.3) fit in
     false≢true (sym out ∙ again)
+
+-- What was written is read again.
+
+pub length-state_text : (s : VoterState) → length (state_text s) ≡ 34
+length-state_text s =
+    omega (
+      arith,
+      length-append (number_text s.term) (vote_text s.vote ++ (number_text s.base_index ++ number_text s.base_term)),
+      length-append (vote_text s.vote) (number_text s.base_index ++ number_text s.base_term),
+      length-append (number_text s.base_index) (number_text s.base_term),
+      length-number_text s.term,
+      length-vote_text s.vote,
+      length-number_text s.base_index,
+      length-number_text s.base_term,
+    )
+
+-- the bytes of a state in range have no fault
+pub state_no_fault : (fault : StoredFault) (s : VoterState) → state_fits s ≡ true → StateFault fault (state_text s) → ⊥
+state_no_fault Length s fit (inl none) = cc
+state_no_fault Length s fit (inr other) = other.1 (length-state_text s)
+state_no_fault Form s fit other = let same : 1 ≡ other.0 = cc (other.1) in other.2 (sym same)
+state_no_fault Range s fit other = other.2 s fit refl
+state_no_fault Index s fit other = other
+state_no_fault Order s fit other = other
+state_no_fault Memory s fit other = other
+
+-- a state that is read from the bytes of one in range has its term, its vote and its base
+pub state_read_back :
+    (s r : VoterState) → state_fits s ≡ true → IsState (state_text s) r
+    → (r.term ≡ s.term) × (r.vote ≡ s.vote) × (r.base_index ≡ s.base_index) × (r.base_term ≡ s.base_term)
+state_read_back s r fit is =
+    let own : state_fits r ≡ true = is.in_range in
+    let bounds : (r.term < 2 ^ 64) × (r.base_index < 2 ^ 64) × (r.base_term < 2 ^ 64) = grind (arith, nat_tests) in
+    let numbers = state_numbers (state_text s) (vote_text r.vote) r.term r.base_index r.base_term s is.text bounds.0 bounds.1 bounds.2 (length-vote_text r.vote) fit refl in
+    let votes = vote_text-same r.vote s.vote (vote_in_range r own) (λ c here. vote_fits s.vote c (vote_in_range s fit) here) numbers.1 in
+    (numbers.0, votes, numbers.2, numbers.3)
+
+pub length-entry_text : (e : Entry) → length (entry_text e) ≡ 17 + length e.bytes
+length-entry_text e = length-entry (entry_text e) e.bytes e.index e.term refl
+
+-- the bytes of an entry in range have no fault at its index, but memory may run out
+pub entry_no_fault :
+    (fault : StoredFault) (e : Entry) → stored_entry_fits e ≡ true → EntryFault fault (entry_text e) e.index
+    → fault ≡ Memory
+entry_no_fault Length e fit (inl none) = absurd (cc)
+entry_no_fault Length e fit (inr (first, inl short)) = absurd (omega (arith, length-entry_text e))
+entry_no_fault Length e fit (inr (first, inr long)) =
+    let small : length e.bytes ≤ 65535 = grind (arith, nat_tests) in absurd (omega (arith, length-entry_text e))
+entry_no_fault Form e fit other = let same : 1 ≡ other.0 = cc (other.1) in absurd (other.2 (sym same))
+entry_no_fault Range e fit other = absurd (other.3 e fit refl)
+entry_no_fault Index e fit other =
+    let bounds : (e.index < 2 ^ 64) × (e.term < 2 ^ 64) = grind (arith, nat_tests) in
+    let numbers = entry_numbers (entry_text e) e.bytes e.index e.term other.0 refl bounds.0 bounds.1 other.2 other.1 in
+    absurd (other.3 (sym numbers.0))
+entry_no_fault Order e fit other = absurd other
+entry_no_fault Memory e fit other = refl
+
+-- the entry that is read from the bytes of one in range is it
+pub entry_read_back :
+    (e r : Entry) (index : ℕ) → stored_entry_fits e ≡ true → IsEntry (entry_text e) index r
+    → (r.index ≡ e.index) × (r.term ≡ e.term) × (r.bytes ≡ e.bytes)
+entry_read_back e r index fit is =
+    let own : stored_entry_fits r ≡ true = is.in_range in
+    let bounds : (r.index < 2 ^ 64) × (r.term < 2 ^ 64) = grind (arith, nat_tests) in
+    entry_numbers (entry_text e) r.bytes r.index r.term e is.text bounds.0 bounds.1 fit refl
+
+-- what is in range and in order is restored
+pub restored_ok :
+    (s : VoterState) (es : List Entry) → state_fits s ≡ true → list_all stored_entry_fits es ≡ true
+    → are_in_order (s.base_index + 1) es ≡ true
+    → restored s es ≡ Ok (record {
+      term = s.term;
+      vote = s.vote;
+      base_index = s.base_index;
+      base_term = s.base_term;
+      log = map (λ e. (e.term, e.bytes)) es;
+    })
+restored_ok s es fit each order = rw (fit, each, order) refl

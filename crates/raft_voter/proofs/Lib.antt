@@ -3,3 +3,8 @@ pub mod Merging
 pub mod Equality
 pub mod Places
 pub mod Bytes
+pub mod Joining
+pub mod Ordered
+pub mod Following
+pub mod VoterSteps
+pub mod RunLaws

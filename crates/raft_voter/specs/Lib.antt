@@ -3,3 +3,5 @@ pub mod Rules
 pub mod Rounds
 pub mod Voters
 pub mod StoredForms
+pub mod Accounts
+pub mod Laws

@@ -1,4 +1,4 @@
-use Rattle.std.specs.Prelude.{◌≡◌, ◌≢◌, ℕ, ◌+◌, ◌<◌, ◌⊎◌, ◌==◌, ◌&&◌, nat_le, Bool, true, IsTrue, IsOk, if◌then◌else◌, List, [], ◌∷◌, ◌++◌, length, map, slice_get, Option, None, Some, Result, Ok, Err}
+use Rattle.std.specs.Prelude.{◌≡◌, ◌≢◌, ℕ, ◌+◌, ◌<◌, ◌≤◌, ◌⊎◌, ◌==◌, ◌&&◌, nat_le, Bool, true, IsTrue, IsOk, if◌then◌else◌, List, [], ◌∷◌, ◌++◌, length, map, slice_get, Option, None, Some, Result, Ok, Err}
 use Rattle.std.specs.Int.{to_be_bytes, w64}
 use Rattle.std.specs.List.{list_all}
 use Rattle.std.specs.Option.{option_map_or}
@@ -76,7 +76,7 @@ EntryFault Length bytes index =
     (bytes ≡ []) ⊎ ((slice_get bytes 0 ≡ Some 1) × ((length bytes < 17) ⊎ (65552 < length bytes)))
 EntryFault Form bytes index = HasOtherForm bytes
 EntryFault Range bytes index =
-    (slice_get bytes 0 ≡ Some 1) × (17 < length bytes + 1) × (length bytes < 65553)
+    (slice_get bytes 0 ≡ Some 1) × (17 ≤ length bytes) × (length bytes ≤ 65552)
     × ((e : Entry) → IsTrue (stored_entry_fits e) → bytes ≢ entry_text e)
 EntryFault Index bytes index =
     (e : Entry) × (bytes ≡ entry_text e) × IsTrue (stored_entry_fits e) × (e.index ≢ index)

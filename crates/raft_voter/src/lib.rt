@@ -8,6 +8,7 @@
 
 mod items;
 mod judging;
+pub mod laws;
 mod memory;
 mod reply;
 mod request;

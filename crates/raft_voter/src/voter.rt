@@ -6,6 +6,7 @@ ghost use Rattle.raft_voter.specs.State.{adopt_term, fresh, last_index, last_ter
 mod appends;
 mod log;
 mod reads;
+mod restoring;
 mod snapshots;
 mod votes;
 
@@ -60,6 +61,13 @@ impl Voter {
             last_index: self.last_index(),
             last_term: self.last_term(),
         }
+    }
+
+    /// The entries above the base, each its term and its bytes; the first stands right above the base.
+    pub fn log(&self) -> &[(u64, Items<u8>)]
+        ensures { result.now ≡ self.now.log }
+    {
+        self.log.as_slice()
     }
 
     /// Takes a request and answers it. One that is out of range is answered `Refused` and changes nothing. Where memory is

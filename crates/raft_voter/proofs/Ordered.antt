@@ -1,0 +1,14 @@
+use Rattle.std.proofs.Common.{◌≡◌, ℕ, ◌+◌, ◌<◌, ◌^◌, List, [], ◌∷◌, length, true, arith}
+use Rattle.std.specs.List.{list_all}
+use Rattle.std.proofs.lemmas.Bool.Decides.{nat_tests}
+use Rattle.raft_voter.specs.declared.reply.Entry.{Entry}
+use Rattle.raft_voter.specs.StoredForms.{are_in_order, stored_entry_fits}
+
+-- entries in range that stand in order end in range
+pub last_in_range :
+    (es : List Entry) (base : ℕ) → list_all stored_entry_fits es ≡ true → are_in_order (base + 1) es ≡ true
+    → base < 2 ^ 63 → base + length es < 2 ^ 63
+last_in_range [] base fit order small = omega arith
+last_in_range (e ∷ es) base fit order small =
+    let here : (e.index ≡ base + 1) × (e.index < 2 ^ 63) × (are_in_order (base + 1 + 1) es ≡ true) × (list_all stored_entry_fits es ≡ true) = grind (arith, nat_tests) in
+    omega (arith, last_in_range es (base + 1) here.3 here.2 (omega arith))

@@ -1,0 +1,16 @@
+use Rattle.std.proofs.Common.{◌≡◌, ◌<◌, ◌^◌, List, ◌+◌, length, true, arith, rules}
+use Rattle.std.specs.List.{list_all}
+use Rattle.std.proofs.lemmas.List.{length-map}
+use Rattle.std.proofs.lemmas.Bool.Decides.{nat_tests}
+use Rattle.raft_voter.specs.StoredForms.{are_in_order, stored_entry_fits}
+use Rattle.raft_voter.proofs.Ordered.{last_in_range}
+use Rattle.raft_voter.proofs.voter.Voter.restore.Goals as goal
+
+pub invariant_of-result : goal.invariant_of-result
+invariant_of-result c =
+    let es = c.args.entries in
+    let fit : list_all stored_entry_fits es ≡ true = search rules in
+    let order : are_in_order (c.args.state.base_index + 1) es ≡ true = search rules in
+    let small : c.args.state.base_index < 2 ^ 63 = grind (arith, nat_tests) in
+    let size : length c.in-Ok.log.items ≡ length es = grind (arith, length-map) in
+    omega (arith, last_in_range es c.args.state.base_index fit order small)

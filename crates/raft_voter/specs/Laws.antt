@@ -1,0 +1,136 @@
+use Rattle.std.specs.Prelude.{◌≡◌, ◌≢◌, ℕ, ◌+◌, ◌-◌, ◌<◌, ◌≤◌, nat_lt, Bool, true, false, IsTrue, IsSomeAnd, if◌then◌else◌, List, [], ◌∷◌, ◌++◌, length, take, drop, slice_get, Option, None, Some}
+use Rattle.raft_voter.specs.declared.reply.Reply.{Reply}
+use Rattle.raft_voter.specs.declared.reply.Reply.TheVariants.{Granted, Matched}
+use Rattle.raft_voter.specs.declared.request.Request.{Request}
+use Rattle.raft_voter.specs.declared.request.Request.TheVariants.{Vote, Append, Compact, Install, Read, Status, Retire}
+use Rattle.raft_voter.specs.declared.round.Outcome.{Outcome}
+use Rattle.raft_voter.specs.declared.round.Outcome.TheVariants.{Answered, Cut}
+use Rattle.raft_voter.specs.declared.round.Round.{Round}
+use Rattle.raft_voter.specs.State.{State, entry_at, term_at}
+use Rattle.raft_voter.specs.Rules.{next, reply}
+use Rattle.raft_voter.specs.Rounds.{World, Explains, Leads}
+use Rattle.raft_voter.specs.Accounts.{group_account, NoRetire, requests_of, voter_after}
+
+-- how many rounds were cut off
+abbrev pub cut_count_of : Outcome → ℕ
+cut_count_of (Answered replies) = 0
+cut_count_of Cut = 1
+
+abbrev pub cut_count : List Round → ℕ
+cut_count [] = 0
+cut_count (r ∷ rounds) = cut_count_of r.outcome + cut_count rounds
+
+-- Rounds that lead from W to X and rounds that lead from X to Y are rounds that lead from W to Y.
+abbrev pub RoundsJoin : Type 0
+RoundsJoin =
+    (W X Y : World) (first later : List Round) (cuts cuts' : List ℕ) → Leads W first cuts X → Leads X later cuts' Y
+    → Leads W (first ++ later) (cuts ++ cuts') Y
+
+-- Rounds that lead from W to Y part anywhere into rounds to a world between and rounds from there, each with the cuts of
+-- its own rounds.
+abbrev pub RoundsPart : Type 0
+RoundsPart =
+    (W Y : World) (first later : List Round) (cuts : List ℕ) → Leads W (first ++ later) cuts Y
+    → (X : World) × Leads W first (take (cut_count first) cuts) X × Leads X later (drop (cut_count first) cuts) Y
+
+-- No group grants its vote to two candidates in one term, unless a request to retire it came between.
+abbrev pub OneVotePerTerm : Type 0
+OneVotePerTerm =
+    (rounds : List Round) (cuts : List ℕ) (group : ℕ) → Explains rounds cuts
+    → (before between later : List (Request × Option Reply)) (term t t' candidate candidate' i i' u u' : ℕ)
+    → group_account group rounds cuts
+    ≡ before ++ (Vote t candidate i u, Some (Granted term)) ∷ between ++ (Vote t' candidate' i' u', Some (Granted term)) ∷ later
+    → NoRetire between → candidate ≡ candidate'
+
+-- A group's term never falls, unless a request to retire it came.
+abbrev pub TermsNeverFall : Type 0
+TermsNeverFall =
+    (W X : World) (rounds : List Round) (cuts : List ℕ) (group : ℕ) → Leads W rounds cuts X
+    → NoRetire (group_account group rounds cuts) → (W group).term ≤ (X group).term
+
+-- the entry that an Append brings for an index, if any
+abbrev pub sent_at : ℕ → List (ℕ × List ℕ) → ℕ → Option (ℕ × List ℕ)
+sent_at prev sent i = if nat_lt prev i then slice_get sent (i - prev - 1) else None
+
+-- an Append brings an entry of a term for this index that doesn't stand there
+abbrev pub BringsOther : State → ℕ → List (ℕ × List ℕ) → ℕ → Type 0
+BringsOther v prev sent i = IsSomeAnd (sent_at prev sent i) (λ e. term_at v i ≢ Some e.0)
+
+-- What a matched Append makes of the log, index by index. Where it brings another term, f being the least such index, the
+-- entries below f are the old ones with their bytes, and from f on they are exactly those that it brings. Where it brings
+-- none the log is the old one.
+abbrev pub MatchedAppend : Type 0
+MatchedAppend =
+    (v : State) (term prev prev_term last : ℕ) (sent : List (ℕ × List ℕ))
+    → reply v (Append term prev prev_term sent) ≡ Matched last
+    → (
+    (f : ℕ) → BringsOther v prev sent f → ((j : ℕ) → j < f → ¬ BringsOther v prev sent j)
+    → (i : ℕ) → (i < f → entry_at (next v (Append term prev prev_term sent)) i ≡ entry_at v i)
+    × (f ≤ i → entry_at (next v (Append term prev prev_term sent)) i ≡ sent_at prev sent i)
+    )
+    × (
+    ((j : ℕ) → ¬ BringsOther v prev sent j) → (next v (Append term prev prev_term sent)).log ≡ v.log
+    )
+
+-- A request that voter v takes leaves the entry at index i: a matched Append brings no other term at or below i; the base
+-- stays below i; an Install whose snapshot goes up to an entry below i holds the very entry that the log has there; and
+-- it isn't a request to retire.
+abbrev pub Spares : State → ℕ → Request → Type 0
+Spares v i (Append term prev prev_term sent) =
+    (last : ℕ) → reply v (Append term prev prev_term sent) ≡ Matched last → (j : ℕ) → j ≤ i → ¬ BringsOther v prev sent j
+Spares v i (Compact index) = (next v (Compact index)).base_index < i
+Spares v i (Install term index entry_term) =
+    ((next v (Install term index entry_term)).base_index < i)
+    × ((next v (Install term index entry_term)).base_index ≢ v.base_index → term_at v index ≡ Some entry_term)
+Spares v i Retire = ⊥
+Spares v i (Vote term candidate index last) = Unit {0}
+Spares v i (Read from to) = Unit {0}
+Spares v i Status = Unit {0}
+
+-- each of these requests, taken in order from voter v on, does
+abbrev pub AllSpare : State → ℕ → List (Request × Option Reply) → Type 0
+AllSpare v i [] = Unit {0}
+AllSpare v i (t ∷ ts) = Spares v i t.0 × AllSpare (next v t.0) i ts
+
+-- An entry that an Append was answered to have matched stands, with its term and bytes, until a later Append brings a
+-- different term at or below it, or it is compacted, replaced by Install, or retired.
+abbrev pub MatchedEntriesStand : Type 0
+MatchedEntriesStand =
+    (rounds : List Round) (cuts : List ℕ) (group : ℕ) → Explains rounds cuts
+    → (before between later : List (Request × Option Reply)) (term prev prev_term last i : ℕ) (sent : List (ℕ × List ℕ))
+    (e : ℕ × List ℕ)
+    → group_account group rounds cuts
+    ≡ before ++ (Append term prev prev_term sent, Some (Matched last)) ∷ between ++ later
+    → sent_at prev sent i ≡ Some e
+    → AllSpare (voter_after (before ++ (Append term prev prev_term sent, Some (Matched last)) ∷ [])) i between
+    → (bytes : List ℕ)
+    × (entry_at (voter_after (before ++ (Append term prev prev_term sent, Some (Matched last)) ∷ [])) i ≡ Some (e.0, bytes))
+    × (entry_at (voter_after (before ++ (Append term prev prev_term sent, Some (Matched last)) ∷ between)) i ≡ Some (e.0, bytes))
+
+-- the requests that a leader or a node may repeat
+abbrev pub is_repeatable : Request → Bool
+is_repeatable (Vote term candidate index last) = true
+is_repeatable (Append term prev prev_term sent) = true
+is_repeatable (Compact index) = true
+is_repeatable (Install term index entry_term) = true
+is_repeatable (Read from to) = false
+is_repeatable Status = false
+is_repeatable Retire = false
+
+-- A Vote, Append, Compact or Install that is repeated at once gets the same reply and changes nothing.
+abbrev pub RepeatIsIdempotent : Type 0
+RepeatIsIdempotent =
+    (rounds : List Round) (cuts : List ℕ) (group : ℕ) → Explains rounds cuts
+    → (before later : List (Request × Option Reply)) (q : Request) (a b : Reply)
+    → group_account group rounds cuts ≡ before ++ (q, Some a) ∷ (q, Some b) ∷ later → IsTrue (is_repeatable q)
+    → (a ≡ b) × (voter_after (before ++ (q, Some a) ∷ (q, Some b) ∷ []) ≡ voter_after (before ++ (q, Some a) ∷ []))
+
+-- A reply depends on the requests alone that its own group took: in two transcripts, whatever other groups do, the same
+-- requests of a group get the same reply.
+abbrev pub GroupIsolation : Type 0
+GroupIsolation =
+    (rounds rounds' : List Round) (cuts cuts' : List ℕ) (group : ℕ) → Explains rounds cuts → Explains rounds' cuts'
+    → (before later before' later' : List (Request × Option Reply)) (q : Request) (a a' : Reply)
+    → group_account group rounds cuts ≡ before ++ (q, Some a) ∷ later
+    → group_account group rounds' cuts' ≡ before' ++ (q, Some a') ∷ later'
+    → requests_of before ≡ requests_of before' → a ≡ a'

@@ -1,0 +1,72 @@
+//! A voter from what was stored of it.
+ghost use Rattle.std.specs.Prelude.{◌≡◌, ◌+◌, true, Ok, map, IfOk, IfErr};
+ghost use Rattle.std.specs.List.{list_all};
+ghost use Rattle.raft_voter.specs.StoredForms.{are_in_order, restored, RestoreFault, stored_entry_fits};
+
+use super::Voter;
+use crate::stored::{state_fits, stored_entry_fits};
+use crate::{Entry, Items, Memory, StoredFault, VoterState};
+use std::alloc::Global;
+
+impl Voter {
+    /// The voter with this state and these entries. What the state says of its last entry isn't looked at. A number out of
+    /// range, or an entry that is too long, is refused first, then entries that don't stand one behind the other from the
+    /// base on.
+    pub fn restore(
+        alloc: Global,
+        state: VoterState,
+        entries: Items<Entry>,
+    ) -> Result<Voter, StoredFault>
+        ensures ok { IfOk result (λ voter. restored state entries ≡ Ok voter) }
+        ensures err { IfErr result (λ fault. RestoreFault fault (restored state entries)) }
+    {
+        if !state_fits(&state) || !all_fit(entries.as_slice()) {
+            return Err(StoredFault::Range);
+        }
+        if !are_in_order(state.base_index + 1, entries.as_slice()) {
+            return Err(StoredFault::Order);
+        }
+        let Ok(log) = log_of(alloc, entries.into_vec()) else {
+            return Err(StoredFault::Memory);
+        };
+        Ok(Voter {
+            term: state.term,
+            vote: state.vote,
+            base_index: state.base_index,
+            base_term: state.base_term,
+            log,
+        })
+    }
+}
+
+fn all_fit(entries: &[Entry]) -> bool
+    ensures { result ≡ list_all stored_entry_fits entries.now }
+{
+    entries.iter().all(|entry| stored_entry_fits(entry))
+}
+
+/// Whether the entries stand one behind the other, the first at `first`.
+fn are_in_order(first: u64, entries: &[Entry]) -> bool
+    requires { list_all stored_entry_fits entries.now ≡ true }
+    ensures { result ≡ are_in_order first entries.now }
+{
+    let mut index = first;
+    for entry in entries {
+        if entry.index != index {
+            return false;
+        }
+        index += 1;
+    }
+    true
+}
+
+/// The entries without their indexes.
+fn log_of(alloc: Global, entries: Vec<Entry>) -> Result<Vec<(u64, Items<u8>)>, Memory>
+    ensures { IfOk result (λ log. log.items ≡ map (λ e. (e.term, e.bytes)) entries.items) }
+{
+    let log = entries
+        .into_iter()
+        .map(|entry| (entry.term, entry.bytes))
+        .collect(alloc)?;
+    Ok(log)
+}

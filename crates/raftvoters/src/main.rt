@@ -12,6 +12,8 @@ mod run;
 mod service;
 mod storage;
 mod store;
+#[cfg(test)]
+mod tests;
 
 use std::process::ExitCode;
 use std::{env, io};

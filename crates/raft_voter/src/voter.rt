@@ -1,5 +1,5 @@
 //! One Raft voter.
-ghost use Rattle.std.specs.Prelude.{◌≡◌, ◌≤◌, ◌&&◌, nat_le, is_some, IsTrue, IfOk, OnOk, OnErr};
+ghost use Rattle.std.specs.Prelude.{◌≡◌, ◌+◌, ◌^◌, ◌<◌, ◌≤◌, ◌&&◌, length, nat_le, is_some, IsTrue, IfOk, OnOk, OnErr};
 ghost use Rattle.raft_voter.specs.Rules.{agrees_at, next, reply};
 ghost use Rattle.raft_voter.specs.State.{adopt_term, fresh, last_index, last_term, state_of, term_at};
 
@@ -65,7 +65,8 @@ impl Voter {
 
     /// The entries above the base, each its term and its bytes; the first stands right above the base.
     pub fn log(&self) -> &[(u64, Items<u8>)]
-        ensures { result.now ≡ self.now.log }
+        ensures entries { result.now ≡ self.now.log }
+        ensures in_range { self.now.base_index + length self.now.log < 2 ^ 63 }
     {
         self.log.as_slice()
     }

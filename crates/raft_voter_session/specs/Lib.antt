@@ -1,0 +1,5 @@
+pub mod Words
+pub mod Requests
+pub mod Session
+pub mod Fault
+pub mod Text

@@ -1,0 +1,83 @@
+-- The lines that ask something of a voter.
+use Rattle.std.specs.Prelude.{ℕ, nat_lt, List, [], ◌∷◌, length, Option, Some, None, if◌then◌else◌}
+use Rattle.std.specs.List.{before_first, after_first, position_or_len}
+use Rattle.raft_voter.specs.declared.request.Request.{Request}
+use Rattle.raft_voter.specs.declared.request.Request.TheVariants.{Vote, Append, Compact, Install, Read, Status, Retire}
+use Rattle.raft_voter_session.specs.Words.{◌>>=◌, ends, is_colon, number_of, number_at, data_of, words_of}
+
+-- `vote G T C I U`
+unfoldable pub vote_at : List ℕ → Option (ℕ × Request)
+vote_at text = do
+  group ← number_at text
+  term ← number_at group.1
+  candidate ← number_at term.1
+  index ← number_at candidate.1
+  last_term ← number_at index.1
+  ends last_term.1 (group.0, Vote term.0 candidate.0 index.0 last_term.0)
+
+-- `compact G I`
+unfoldable pub compact_at : List ℕ → Option (ℕ × Request)
+compact_at text = do
+  group ← number_at text
+  index ← number_at group.1
+  ends index.1 (group.0, Compact index.0)
+
+-- `install G T I U`
+unfoldable pub install_at : List ℕ → Option (ℕ × Request)
+install_at text = do
+  group ← number_at text
+  term ← number_at group.1
+  index ← number_at term.1
+  entry_term ← number_at index.1
+  ends entry_term.1 (group.0, Install term.0 index.0 entry_term.0)
+
+-- `read G A B`
+unfoldable pub read_at : List ℕ → Option (ℕ × Request)
+read_at text = do
+  group ← number_at text
+  from ← number_at group.1
+  to ← number_at from.1
+  ends to.1 (group.0, Read from.0 to.0)
+
+-- `status G`
+unfoldable pub status_at : List ℕ → Option (ℕ × Request)
+status_at text = do
+  group ← number_at text
+  ends group.1 (group.0, Status)
+
+-- `retire G`
+unfoldable pub retire_at : List ℕ → Option (ℕ × Request)
+retire_at text = do
+  group ← number_at text
+  ends group.1 (group.0, Retire)
+
+-- an entry, `term:hex`
+unfoldable pub entry_of : List ℕ → Option (ℕ × List ℕ)
+entry_of word = if nat_lt (position_or_len is_colon word) (length word) then (do
+  term ← number_of (before_first is_colon word)
+  bytes ← data_of (after_first is_colon word)
+  Some (term, bytes)) else None
+
+-- one entry a word
+abbrev pub entries_of : List (List ℕ) → Option (List (ℕ × List ℕ))
+entries_of [] = Some []
+entries_of (word ∷ words) = do
+  entry ← entry_of word
+  entries ← entries_of words
+  Some (entry ∷ entries)
+
+-- the entries that are the words of a text
+unfoldable pub entries_at : List ℕ → Option (List (ℕ × List ℕ))
+entries_at text = do
+  words ← words_of text
+  entries_of words
+
+-- `append G T P U E..`
+unfoldable pub append_at : List ℕ → Option (ℕ × Request)
+append_at text = do
+  group ← number_at text
+  term ← number_at group.1
+  prev_index ← number_at term.1
+  prev_term ← number_at prev_index.1
+  entries ← entries_at prev_term.1
+  Some (group.0, Append term.0 prev_index.0 prev_term.0 entries)

@@ -1,0 +1,90 @@
+-- How a transcript is written.
+use Rattle.std.specs.Prelude.{ℕ, ◌+◌, Bool, true, false, List, [], ◌∷◌, ◌++◌, codes, Option, Some, None}
+use Rattle.std.specs.Fmt.{decimal}
+use Rattle.std.specs.List.{flat_map}
+use Rattle.hex.specs.Hex.{encode_lower}
+use Rattle.raft_voter.specs.declared.reply.Entry.{Entry}
+use Rattle.raft_voter.specs.declared.reply.Reply.{Reply}
+use Rattle.raft_voter.specs.declared.reply.Reply.TheVariants.{Granted, Denied, Matched, Mismatch, Stale, Base, Entries, Gone, Unknown, Status, Retired, Refused}
+use Rattle.raft_voter.specs.declared.reply.VoterState.{VoterState}
+use Rattle.raft_voter.specs.declared.request.Request.{Request}
+use Rattle.raft_voter.specs.declared.round.Outcome.{Outcome}
+use Rattle.raft_voter.specs.declared.round.Outcome.TheVariants.{Answered, Cut}
+use Rattle.raft_voter.specs.declared.round.Round.{Round}
+
+-- a number behind a space
+unfoldable pub spaced : ℕ → List ℕ
+spaced n = codes " " ++ decimal n
+
+-- numbers, each behind a space
+abbrev pub spaced_all : List ℕ → List ℕ
+spaced_all ns = flat_map spaced ns
+
+-- a vote, or `-` where there is none
+abbrev pub vote_text : Option ℕ → List ℕ
+vote_text None = codes " -"
+vote_text (Some candidate) = spaced candidate
+
+-- ` index:term:hex`
+unfoldable pub entry_text : Entry → List ℕ
+entry_text entry = spaced entry.index ++ codes ":" ++ decimal entry.term ++ codes ":" ++ encode_lower entry.bytes
+
+unfoldable pub state_text : VoterState → List ℕ
+state_text s =
+    codes "Status" ++ spaced s.term ++ vote_text s.vote ++ spaced s.base_index ++ spaced s.base_term ++ spaced s.last_index ++ spaced s.last_term
+
+-- a reply: its name and what it says
+abbrev pub reply_text : Reply → List ℕ
+reply_text (Granted n) = codes "Granted" ++ spaced n
+reply_text (Denied n) = codes "Denied" ++ spaced n
+reply_text (Matched n) = codes "Matched" ++ spaced n
+reply_text (Mismatch n) = codes "Mismatch" ++ spaced n
+reply_text (Stale n) = codes "Stale" ++ spaced n
+reply_text (Base n) = codes "Base" ++ spaced n
+reply_text (Entries entries) = codes "Entries" ++ flat_map entry_text entries
+reply_text (Gone n) = codes "Gone" ++ spaced n
+reply_text (Unknown n) = codes "Unknown" ++ spaced n
+reply_text (Status s) = state_text s
+reply_text Retired = codes "Retired"
+reply_text Refused = codes "Refused"
+
+-- a place, its group and its reply, on a line
+unfoldable pub place_text : ℕ → ℕ → Reply → List ℕ
+place_text place group reply = decimal place ++ spaced group ++ codes " " ++ reply_text reply ++ codes "\n"
+
+-- a line for each request that has a reply, where the first stands at `place`
+abbrev pub places_text : ℕ → List (ℕ × Request) → List Reply → List ℕ
+places_text place [] replies = []
+places_text place (q ∷ qs) [] = []
+places_text place (q ∷ qs) (reply ∷ replies) = place_text place q.0 reply ++ places_text (place + 1) qs replies
+
+-- refused places, where there are some
+abbrev pub refused_text : List ℕ → List ℕ
+refused_text [] = []
+refused_text (place ∷ places) = codes " refused" ++ spaced_all (place ∷ places)
+
+-- what came of a round
+abbrev pub outcome_text : Round → Outcome → List ℕ
+outcome_text round (Answered replies) = codes " answered\n" ++ places_text 0 round.requests replies
+outcome_text round Cut = codes " cut" ++ refused_text round.refused ++ codes "\n"
+
+-- a round, counted from 0
+unfoldable pub round_text : ℕ → Round → List ℕ
+round_text number round = codes "round" ++ spaced number ++ outcome_text round round.outcome
+
+-- rounds, of which the first has this number
+abbrev pub rounds_text : ℕ → List Round → List ℕ
+rounds_text number [] = []
+rounds_text number (round ∷ rounds) = round_text number round ++ rounds_text (number + 1) rounds
+
+abbrev pub verdict_text : Bool → List ℕ
+verdict_text true = codes "verdict yes\n"
+verdict_text false = codes "verdict no\n"
+
+-- a transcript, its cuts and the verdict on them
+unfoldable pub transcript_text : List Round → List ℕ → Bool → List ℕ
+transcript_text rounds cuts verdict = rounds_text 0 rounds ++ codes "cuts" ++ spaced_all cuts ++ codes "\n" ++ verdict_text verdict
+
+-- what is written where a line is unreadable
+unfoldable pub unreadable_text : ℕ → List ℕ
+unreadable_text number = codes "line" ++ spaced number ++ codes ": unreadable\n"

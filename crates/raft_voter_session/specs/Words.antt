@@ -1,0 +1,68 @@
+-- The words of a line of a session: numbers in decimal digits, and data in hex digits.
+use Rattle.std.specs.Prelude.{ℕ, ◌^◌, ◌==◌, ◌&&◌, ◌||◌, Bool, nat_le, nat_lt, List, [], ◌∷◌, length, drop, Option, Some, None, if◌then◌else◌}
+use Rattle.std.specs.List.{before_first, list_all, slice_split}
+use Rattle.std.specs.Result.{result_ok}
+use Rattle.std.specs.Str.{all_ascii_digits}
+use Rattle.std.specs.Str.Parse.{digits_value_after}
+use Rattle.hex.specs.Hex.{decode_of}
+
+-- the ? of the logic: the second step, if the first gave a value
+infixl 10 ◌>>=◌
+abbrev pub ◌>>=◌ : {A B : Type 0} → Option A → (A → Option B) → Option B
+None >>= f = None
+Some x >>= f = f x
+
+-- a value, if nothing is left of the text
+abbrev pub ends : {A : Type 0} → List ℕ → A → Option A
+ends [] x = Some x
+ends (b ∷ text) x = None
+
+-- what decimal digits say behind those that say n, if that is below 2^64
+unfoldable pub value_from : ℕ → List ℕ → Option ℕ
+value_from n digits =
+    if all_ascii_digits digits && nat_lt (digits_value_after 10 n digits) (2 ^ 64)
+    then Some (digits_value_after 10 n digits)
+    else None
+
+-- what one to twenty digits say, if that is below 2^64
+abbrev pub number_of : List ℕ → Option ℕ
+number_of word = if nat_lt 0 (length word) && nat_le (length word) 20 then value_from 0 word else None
+
+-- whether a byte is a hex digit in lower case, `0` to `9` or `a` to `f`
+abbrev pub is_lower_hex_digit : ℕ → Bool
+is_lower_hex_digit b = (nat_le 48 b && nat_le b 57) || (nat_le 97 b && nat_le b 102)
+
+-- the bytes of hex digits in lower case, two digits for each byte
+abbrev pub data_of : List ℕ → Option (List ℕ)
+data_of word = if list_all is_lower_hex_digit word then result_ok (decode_of word) else None
+
+abbrev pub is_space : ℕ → Bool
+is_space b = b == 32
+
+abbrev pub is_line_feed : ℕ → Bool
+is_line_feed b = b == 10
+
+abbrev pub is_colon : ℕ → Bool
+is_colon b = b == 58
+
+-- The next word of a line, behind one space and up to the next one, with what follows it.
+abbrev pub word_at : List ℕ → Option (List ℕ × List ℕ)
+word_at [] = None
+word_at (b ∷ text) =
+    if is_space b then Some (before_first is_space text, drop (length (before_first is_space text)) text) else None
+
+-- the number that is the next word, with what follows it
+unfoldable pub number_at : List ℕ → Option (ℕ × List ℕ)
+number_at text = do
+  word ← word_at text
+  n ← number_of word.0
+  Some (n, word.1)
+
+-- pieces of which the first is empty: what stands behind it
+abbrev pub behind_space : List (List ℕ) → Option (List (List ℕ))
+behind_space [] = None
+behind_space (piece ∷ pieces) = ends piece pieces
+
+-- the words of a text in which each stands behind one space
+abbrev pub words_of : List ℕ → Option (List (List ℕ))
+words_of text = behind_space (slice_split is_space text)

@@ -1,0 +1,5 @@
+pub mod Ranges
+pub mod Records
+pub mod Refusals
+pub mod Steps
+pub mod Worlds

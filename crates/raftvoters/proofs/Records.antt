@@ -1,0 +1,197 @@
+-- Records are known by their bytes.
+use Rattle.std.proofs.Common.{◌≡◌, ℕ, ◌+◌, ◌<◌, ◌≤◌, ◌^◌, ◌==◌, ◌∙◌, true, List, [], ◌∷◌, ◌++◌, map, length, length-append, append_assoc, append-nil, Ok, Option, Some, None, refl, sym, ap, subst, arith}
+use Rattle.std.proofs.lemmas.Bool.Decides.{nat_tests}
+use Rattle.std.proofs.lemmas.Grind.{common_steps}
+use Rattle.std.proofs.lemmas.List.Concat.{flat_map-append}
+use Rattle.std.proofs.lemmas.List.Folds.{list_all-append}
+use Rattle.std.specs.List.{flat_map, list_all}
+use Rattle.std.specs.Option.{option_map_or}
+use Rattle.raft_voter.proofs.Bytes.{entry_numbers, length-entry_text, length-number_text, length-state_text, length-vote_text, number_first, restored_ok, split_same, state_numbers, vote_in_range, vote_text-same, fits-below}
+use Rattle.raft_voter.proofs.Ordered.{last_in_range}
+use Rattle.raft_voter.specs.declared.reply.Entry.{Entry}
+use Rattle.raft_voter.specs.declared.reply.VoterState.{VoterState}
+use Rattle.raft_voter.specs.Rules.{entry_fits, fits, numbered}
+use Rattle.raft_voter.specs.State.{State, state_of}
+use Rattle.raft_voter.specs.StoredForms.{IsEntry, IsState, are_in_order, restored, entry_text, number_text, state_fits, state_text, stored_entry_fits, vote_text}
+use Rattle.raftvoters.specs.Records.{AreEntries, AreStorable, IsInRange, IsStorable, record_bytes, stored_entry, voter_bytes}
+
+-- Entries.
+
+pub numbered_fit : (i : ℕ) (es : List (ℕ × List ℕ)) → list_all entry_fits es ≡ true → i + length es ≤ 2 ^ 63 → list_all stored_entry_fits (numbered i es) ≡ true
+numbered_fit i [] h small = refl
+numbered_fit i (e ∷ es) h small =
+    let facts : (fits e.0 ≡ true) × (entry_fits e ≡ true) × (list_all entry_fits es ≡ true) = grind (arith, nat_tests) in
+    let first : fits i ≡ true = grind (arith, nat_tests) in
+    let more = numbered_fit (i + 1) es facts.2 (omega arith) in
+    grind (arith, nat_tests)
+
+pub unnumbered : (i : ℕ) (es : List (ℕ × List ℕ)) → map (λ e. (e.term, e.bytes)) (numbered i es) ≡ es
+unnumbered i [] = refl
+unnumbered i (e ∷ es) = ap (λ more. e ∷ more) (unnumbered (i + 1) es)
+
+pub length-numbered : (i : ℕ) (es : List (ℕ × List ℕ)) → length (numbered i es) ≡ length es
+length-numbered i [] = refl
+length-numbered i (e ∷ es) = let more = length-numbered (i + 1) es in omega arith
+
+abbrev entry_with : ℕ → ℕ → List ℕ → Entry
+entry_with i t own = record { index = i; term = t; bytes = own }
+
+entry_with-same : (i j t u : ℕ) (a b : List ℕ) → i ≡ j → t ≡ u → a ≡ b → entry_with i t a ≡ entry_with j u b
+entry_with-same i j t u a b e f g = cc
+
+entry_same : (e f : Entry) (x y : List ℕ) → stored_entry_fits e ≡ true → stored_entry_fits f ≡ true → stored_entry e ++ x ≡ stored_entry f ++ y → (e ≡ f) × (x ≡ y)
+unfolding stored_entry
+entry_same e f x y he hf same =
+    let bounds : (length e.bytes + 17 < 2 ^ 64) × (length f.bytes + 17 < 2 ^ 64) × (e.index < 2 ^ 64) × (e.term < 2 ^ 64) = grind (arith, nat_tests) in
+    let grouped = sym (append_assoc (number_text (length e.bytes + 17)) (entry_text e) x) ∙ same ∙ append_assoc (number_text (length f.bytes + 17)) (entry_text f) y in
+    let sizes = number_first (length e.bytes + 17) (length f.bytes + 17) (entry_text e ++ x) (entry_text f ++ y) bounds.0 bounds.1 grouped in
+    let texts = split_same (entry_text e) (entry_text f) x y (17 + length e.bytes) (length-entry_text e) (omega (arith, length-entry_text f, sizes.0)) sizes.1 in
+    let parts = entry_numbers (entry_text e) e.bytes e.index e.term f refl bounds.2 bounds.3 hf texts.0 in
+    (entry_with-same _ _ _ _ _ _ parts.0 parts.1 parts.2, texts.1)
+
+entries_same : (es fs : List Entry) (x y : List ℕ) → length es ≡ length fs → list_all stored_entry_fits es ≡ true → list_all stored_entry_fits fs ≡ true
+    → flat_map stored_entry es ++ x ≡ flat_map stored_entry fs ++ y → (es ≡ fs) × (x ≡ y)
+entries_same [] [] x y size he hf same = (refl, same)
+entries_same [] (f ∷ fs) x y size he hf same = absurd (omega arith)
+entries_same (e ∷ es) [] x y size he hf same = absurd (omega arith)
+entries_same (e ∷ es) (f ∷ fs) x y size he hf same =
+    let a : (stored_entry_fits e ≡ true) × (list_all stored_entry_fits es ≡ true) = grind (arith, nat_tests) in
+    let b : (stored_entry_fits f ≡ true) × (list_all stored_entry_fits fs ≡ true) = grind (arith, nat_tests) in
+    let grouped = sym (append_assoc (stored_entry e) (flat_map stored_entry es) x) ∙ same ∙ append_assoc (stored_entry f) (flat_map stored_entry fs) y in
+    let one = entry_same e f (flat_map stored_entry es ++ x) (flat_map stored_entry fs ++ y) a.0 b.0 grouped in
+    let more = entries_same es fs x y (omega arith) a.1 b.1 one.1 in
+    let first = one.0 in
+    let others = more.0 in
+    (cc, more.1)
+
+-- Voters.
+
+pub state_in_range : (v : State) → IsInRange v → state_fits (state_of v) ≡ true
+state_in_range v r = rw (r.term, r.vote, r.base_index, r.base_term) refl
+
+abbrev state_with : ℕ → Option ℕ → ℕ → ℕ → List (ℕ × List ℕ) → State
+state_with t o b u es = record { term = t; vote = o; base_index = b; base_term = u; log = es }
+
+state_with-same : (t t' : ℕ) (o o' : Option ℕ) (b b' u u' : ℕ) (es fs : List (ℕ × List ℕ)) → t ≡ t' → o ≡ o' → b ≡ b' → u ≡ u' → es ≡ fs → state_with t o b u es ≡ state_with t' o' b' u' fs
+state_with-same t t' o o' b b' u u' es fs p q r s w = cc
+
+vote_below : (o : Option ℕ) → option_map_or fits o true ≡ true → (c : ℕ) → o ≡ Some c → c < 2 ^ 64
+vote_below None h c e = absurd (cc)
+vote_below (Some d) h c e = let same : d ≡ c = cc in omega (arith, same, fits-below d h)
+
+pub entries_in_range : (r : ℕ × State) → IsStorable r → list_all stored_entry_fits (numbered (r.1.base_index + 1) r.1.log) ≡ true
+entries_in_range r h = numbered_fit (r.1.base_index + 1) r.1.log h.in_range.log (omega (arith, h.end_fits))
+
+voter_same : (r s : ℕ × State) (x y : List ℕ) → IsStorable r → IsStorable s → voter_bytes r.1 ++ x ≡ voter_bytes s.1 ++ y → (r.1 ≡ s.1) × (x ≡ y)
+unfolding voter_bytes
+voter_same r s x y hr hs same =
+    let v = r.1 in
+    let w = s.1 in
+    let es = numbered (v.base_index + 1) v.log in
+    let fs = numbered (w.base_index + 1) w.log in
+    let left : (state_text (state_of v) ++ (number_text (length v.log) ++ flat_map stored_entry es)) ++ x ≡ state_text (state_of v) ++ (number_text (length v.log) ++ (flat_map stored_entry es ++ x)) = simp append_assoc in
+    let right : (state_text (state_of w) ++ (number_text (length w.log) ++ flat_map stored_entry fs)) ++ y ≡ state_text (state_of w) ++ (number_text (length w.log) ++ (flat_map stored_entry fs ++ y)) = simp append_assoc in
+    let grouped = sym left ∙ same ∙ right in
+    let states = split_same (state_text (state_of v)) (state_text (state_of w)) (number_text (length v.log) ++ (flat_map stored_entry es ++ x)) (number_text (length w.log) ++ (flat_map stored_entry fs ++ y)) 34 (length-state_text (state_of v)) (length-state_text (state_of w)) grouped in
+    let bounds : (v.term < 2 ^ 64) × (v.base_index < 2 ^ 64) × (v.base_term < 2 ^ 64) =
+    (fits-below v.term hr.in_range.term, fits-below v.base_index hr.in_range.base_index, fits-below v.base_term hr.in_range.base_term) in
+    let numbers = state_numbers (state_text (state_of v)) (vote_text v.vote) v.term v.base_index v.base_term (state_of w) refl bounds.0 bounds.1 bounds.2 (length-vote_text v.vote) (state_in_range w hs.in_range) states.0 in
+    let votes : v.vote ≡ w.vote = vote_text-same v.vote w.vote hr.in_range.vote (vote_below w.vote hs.in_range.vote) numbers.1 in
+    let sizes = number_first (length v.log) (length w.log) (flat_map stored_entry es ++ x) (flat_map stored_entry fs ++ y) (omega (arith, hr.end_fits)) (omega (arith, hs.end_fits)) states.1 in
+    let entries = entries_same es fs x y (omega (arith, sizes.0, length-numbered (v.base_index + 1) v.log, length-numbered (w.base_index + 1) w.log)) (entries_in_range r hr) (entries_in_range s hs) sizes.1 in
+    let logs : v.log ≡ w.log = sym (unnumbered (v.base_index + 1) v.log) ∙ ap (map (λ e. (e.term, e.bytes))) entries.0 ∙ unnumbered (w.base_index + 1) w.log in
+    (state_with-same _ _ _ _ _ _ _ _ _ _ numbers.0 votes numbers.2 numbers.3 logs, entries.1)
+
+pub record_same : (r s : ℕ × State) (x y : List ℕ) → IsStorable r → IsStorable s → record_bytes r ++ x ≡ record_bytes s ++ y → (r ≡ s) × (x ≡ y)
+unfolding record_bytes
+record_same r s x y hr hs same =
+    let grouped = sym (append_assoc (number_text r.0) (voter_bytes r.1) x) ∙ same ∙ append_assoc (number_text s.0) (voter_bytes s.1) y in
+    let groups = number_first r.0 s.0 (voter_bytes r.1 ++ x) (voter_bytes s.1 ++ y) hr.group hs.group grouped in
+    let voters = voter_same r s x y hr hs groups.1 in
+    (ap (λ g. (g, r.1)) groups.0 ∙ ap (λ v. (s.0, v)) voters.0, voters.1)
+
+length-record : (r : ℕ × State) (x : List ℕ) → 8 ≤ length (record_bytes r ++ x)
+unfolding record_bytes
+length-record r x = omega (arith, length-number_text r.0, length-append (number_text r.0) (voter_bytes r.1), length-append (number_text r.0 ++ voter_bytes r.1) x)
+
+pub records_same : (rs ss : List (ℕ × State)) → AreStorable rs → AreStorable ss → flat_map record_bytes rs ≡ flat_map record_bytes ss → rs ≡ ss
+records_same [] [] hr hs same = refl
+records_same [] (s ∷ ss) hr hs same = absurd (omega (arith, ap length same, length-record s (flat_map record_bytes ss)))
+records_same (r ∷ rs) [] hr hs same = absurd (omega (arith, ap length same, length-record r (flat_map record_bytes rs)))
+records_same (r ∷ rs) (s ∷ ss) hr hs same =
+    let one = record_same r s (flat_map record_bytes rs) (flat_map record_bytes ss) hr.0 hs.0 same in
+    let first = one.0 in
+    let others = records_same rs ss hr.1 hs.1 one.1 in
+    cc
+
+pub shorter : (bytes rest : List ℕ) (r : ℕ × State) → bytes ≡ record_bytes r ++ rest → length rest < length bytes
+unfolding record_bytes
+shorter bytes rest r e =
+    rw e (omega (arith, length-append (number_text r.0 ++ voter_bytes r.1) rest, length-append (number_text r.0) (voter_bytes r.1), length-number_text r.0))
+
+-- Reading.
+
+in_order : (i : ℕ) (es : List Entry) → are_in_order i es ≡ true → numbered i (map (λ e. (e.term, e.bytes)) es) ≡ es
+in_order i [] h = refl
+in_order i (e ∷ es) h =
+    let facts : (e.index ≡ i) × (are_in_order (i + 1) es ≡ true) = grind (arith, nat_tests) in
+    let first : entry_with i e.term e.bytes ≡ e = entry_with-same i e.index e.term e.term e.bytes e.bytes (sym facts.0) refl refl in
+    let others = in_order (i + 1) es facts.1 in
+    cc
+
+unnumbered_fit : (es : List Entry) → list_all stored_entry_fits es ≡ true → list_all entry_fits (map (λ e. (e.term, e.bytes)) es) ≡ true
+unnumbered_fit [] h = refl
+unnumbered_fit (e ∷ es) h =
+    let facts : (stored_entry_fits e ≡ true) × (list_all stored_entry_fits es ≡ true) = grind (arith, nat_tests) in
+    let first : entry_fits (e.term, e.bytes) ≡ true = grind (arith, nat_tests) in
+    rw (first, unnumbered_fit es facts.1) refl
+
+-- one more entry behind others
+order_more : (i : ℕ) (es : List Entry) (e : Entry) → are_in_order i es ≡ true → e.index ≡ i + length es → are_in_order i (es ++ e ∷ []) ≡ true
+order_more i [] e h at = let here : e.index ≡ i = omega arith in grind (arith, nat_tests)
+order_more i (f ∷ es) e h at =
+    let facts : ((f.index == i) ≡ true) × (are_in_order (i + 1) es ≡ true) = grind (arith, nat_tests) in
+    rw facts.0 (order_more (i + 1) es e facts.1 (omega arith))
+
+pub more_entries : (first : ℕ) (es : List Entry) (e : Entry) → AreEntries first es → e.index ≡ first + length es → stored_entry_fits e ≡ true → AreEntries first (es ++ e ∷ [])
+more_entries first es e h at fit = record {
+  fit = list_all-append stored_entry_fits es (e ∷ []) ∙ rw (h.fit, fit) refl;
+  ordered = order_more first es e h.ordered at;
+}
+
+pub more_text : (bytes left rest : List ℕ) (es : List Entry) (e : Entry) → bytes ≡ flat_map stored_entry es ++ left → left ≡ stored_entry e ++ rest → bytes ≡ flat_map stored_entry (es ++ e ∷ []) ++ rest
+more_text bytes left rest es e text one =
+    rw (text, one) (sym (append_assoc (flat_map stored_entry es) (stored_entry e) rest)
+    ∙ ap (λ bs. bs ++ rest) (ap (λ bs. flat_map stored_entry es ++ bs) (sym (append-nil (stored_entry e))) ∙ sym (flat_map-append stored_entry es (e ∷ []))))
+
+pub one_entry : (bytes behind own rest : List ℕ) (size index : ℕ) (e : Entry) → bytes ≡ number_text size ++ behind → length own ≡ size → behind ≡ own ++ rest → IsEntry own index e → bytes ≡ stored_entry e ++ rest
+unfolding stored_entry
+one_entry bytes behind own rest size index e text long split is =
+    let sized : size ≡ length e.bytes + 17 = omega (arith, long, ap length is.text, length-entry_text e) in
+    text ∙ ap (λ bs. number_text size ++ bs) split ∙ ap (λ n. number_text n ++ (own ++ rest)) sized ∙ ap (λ bs. number_text (length e.bytes + 17) ++ (bs ++ rest)) is.text
+    ∙ sym (append_assoc (number_text (length e.bytes + 17)) (entry_text e) rest)
+
+regroup : (g s n e r : List ℕ) → g ++ (s ++ (n ++ (e ++ r))) ≡ (g ++ (s ++ (n ++ e))) ++ r
+regroup g s n e r = simp append_assoc
+
+pub record_read : (bytes one state two three rest : List ℕ) (group count : ℕ) (s : VoterState) (es : List Entry) (v : State) → group < 2 ^ 64
+    → bytes ≡ number_text group ++ one → one ≡ state ++ two → IsState state s → two ≡ number_text count ++ three → AreEntries (s.base_index + 1) es
+    → length es ≡ count → three ≡ flat_map stored_entry es ++ rest → restored s es ≡ Ok v → IsStorable (group, v) × (bytes ≡ record_bytes (group, v) ++ rest)
+unfolding record_bytes voter_bytes
+record_read bytes one state two three rest group count s es v small a b is c entries long d made =
+    let built = state_with s.term s.vote s.base_index s.base_term (map (λ e. (e.term, e.bytes)) es) in
+    let same : v ≡ built = let e = restored_ok s es is.in_range entries.fit entries.ordered in cc in
+    let facts : (fits s.term ≡ true) × (fits s.base_index ≡ true) × (fits s.base_term ≡ true) = let own : state_fits s ≡ true = is.in_range in grind (arith, nat_tests) in
+    let base : s.base_index < 2 ^ 63 = let own : fits s.base_index ≡ true = facts.1 in grind (arith, nat_tests) in
+    let ends = last_in_range es s.base_index entries.fit entries.ordered base in
+    let sized : length {A = ℕ × List ℕ} (map (λ e. (e.term, e.bytes)) es) ≡ length es = grind (arith, common_steps) in
+    let storable : IsStorable (group, built) = record {
+      group = small;
+      in_range = record { term = facts.0; vote = vote_in_range s is.in_range; base_index = facts.1; base_term = facts.2; log = unnumbered_fit es entries.fit };
+      end_fits = omega (arith, sized, ends);
+    } in
+    let P : State → Type 0 = λ w. IsStorable (group, w) × (bytes ≡ record_bytes (group, w) ++ rest) in
+    let text : bytes ≡ record_bytes (group, built) ++ rest =
+    rw (in_order (s.base_index + 1) es entries.ordered, sized, long) (a ∙ ap (λ bs. number_text group ++ bs) (b ∙ ap (λ bs. bs ++ two) is.text ∙ ap (λ bs. state_text s ++ bs) (c ∙ ap (λ bs. number_text count ++ bs) d))
+    ∙ regroup (number_text group) (state_text s) (number_text count) (flat_map stored_entry es) rest) in
+    subst P (sym same) (storable, text)

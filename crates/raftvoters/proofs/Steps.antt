@@ -1,0 +1,102 @@
+-- A session goes on.
+use Rattle.std.proofs.Common.{◌≡◌, ℕ, ◌+◌, ◌<◌, nat_lt, Bool, false, inr, List, [], ◌∷◌, ◌++◌, length, append_assoc, append-nil, refl, sym, ap, subst, arith}
+use Rattle.std.proofs.lemmas.Bool.Decides.{nat_tests}
+use Rattle.raft_voter.specs.declared.reply.Reply.{Reply}
+use Rattle.raft_voter.specs.declared.request.Request.{Request}
+use Rattle.raft_voter.specs.declared.round.Outcome.TheVariants.{Answered, Cut}
+use Rattle.raft_voter.specs.declared.round.Round.{Round as RoundRecord}
+use Rattle.raft_voter.specs.Rounds.{World, fresh_world, after, ExplainsFrom, taken_from}
+use Rattle.raft_voter_session.specs.declared.event.Event.{Event}
+use Rattle.raft_voter_session.specs.declared.event.Event.TheVariants.{Round}
+use Rattle.raftvoters.specs.declared.storage.Storage.{Storage}
+use Rattle.raftvoters.specs.declared.storage.Storage.TheVariants.{Closed, Open}
+use Rattle.raftvoters.specs.declared.store.PlainStore.{PlainStore}
+use Rattle.raftvoters.specs.Content.{Content}
+use Rattle.raftvoters.specs.Service.{Answers, refused_from}
+use Rattle.raftvoters.specs.Store.{IsStored, world_of}
+use Rattle.raftvoters.specs.Storage.{HasCause, Serves, Served, cuts_of, is_open}
+use Rattle.raftvoters.specs.Play.{AreRoundsOf, Sure, IsUnderWay, IsPlayed}
+
+-- Rounds.
+
+-- below place 0 nothing is taken
+none_taken : (place : ℕ) (refused : List ℕ) (qs : List (ℕ × Request)) → taken_from place 0 refused qs ≡ []
+none_taken place refused [] = refl
+none_taken place refused (q ∷ qs) =
+    let out : nat_lt place 0 ≡ false = grind (arith, nat_tests) in
+    rw out (none_taken (place + 1) refused qs)
+
+pub cut_served : (storage : Storage) (requests : List (ℕ × Request)) (round : RoundRecord) → round ≡ record { requests = requests; refused = []; outcome = Cut }
+    → HasCause (is_open storage) (length requests) Cut → Served storage storage requests round
+cut_served storage requests round e cause =
+    let P : RoundRecord → Type 0 = λ r. Served storage storage requests r in
+    subst P (sym e) (record {
+      same = refl;
+      cause = cause;
+      still = refl;
+      world = λ W. W;
+      serves = λ W at. (record { holds = λ cuts. (refl, omega arith); reached = λ cuts. ap (after W) (none_taken 0 [] requests); left = λ cuts. refl }, at);
+    })
+
+pub answered_served : (store new : PlainStore) (requests : List (ℕ × Request)) (replies : List Reply) (round : RoundRecord)
+    → round ≡ record { requests = requests; refused = refused_from 0 replies; outcome = Answered replies }
+    → Answers (world_of store) requests replies (world_of new) → (IsStored store → IsStored new) → Served (Open store) (Open new) requests round
+answered_served store new requests replies round e told stored =
+    let P : RoundRecord → Type 0 = λ r. Served (Open store) (Open new) requests r in
+    let Q : World → Type 0 = λ W. Serves W (record { requests = requests; refused = refused_from 0 replies; outcome = Answered replies }) (world_of new) in
+    let one : Q (world_of store) = record { holds = λ cuts. (told.rising, told.told); reached = λ cuts. sym told.taken; left = λ cuts. refl } in
+    subst P (sym e) (record {
+      same = refl;
+      cause = (refl, told.short);
+      still = refl;
+      world = λ W. world_of new;
+      serves = λ W at. (subst Q at.1 one, (stored at.0, refl));
+    })
+
+-- Sessions.
+
+pub one_more : (old new : Storage) (rounds : List RoundRecord) (cuts : List ℕ) (requests : List (ℕ × Request)) (round : RoundRecord)
+    → Sure old rounds cuts → Served old new requests round → Sure new (rounds ++ round ∷ []) (cuts ++ cuts_of round.outcome)
+one_more old new rounds cuts requests round s served =
+    let one = served.serves s.world s.stored in
+    record {
+      world = served.world s.world;
+      stored = one.1;
+      explained = λ rs cs more.
+          let left : ExplainsFrom s.world (round ∷ rs) (cuts_of round.outcome ++ cs) = (one.0.holds cs, rw (one.0.reached cs, one.0.left cs) more) in
+          rw (append_assoc rounds (round ∷ []) rs, append_assoc cuts (cuts_of round.outcome) cs) (s.explained (round ∷ rs) (cuts_of round.outcome ++ cs) left);
+    }
+
+pub goes_on : (events left now : List Event) (old new : Storage) (rounds rounds_now : List RoundRecord) (cuts cuts_now : List ℕ) (requests : List (ℕ × Request)) (round : RoundRecord)
+    → IsUnderWay events left old rounds cuts → left ≡ Round requests ∷ now → Served old new requests round
+    → rounds_now ≡ rounds ++ round ∷ [] → cuts_now ≡ cuts ++ cuts_of round.outcome → IsUnderWay events now new rounds_now cuts_now
+goes_on events left now old new rounds rounds_now cuts cuts_now requests round s next served e f =
+    rw (e, f) (record {
+      sure = one_more old new rounds cuts requests round s.sure served;
+      of_session = λ rs more.
+          let P : List Event → Type 0 = λ es. AreRoundsOf es (is_open old) (round ∷ rs) in
+          let Q : Bool → Type 0 = λ begun. AreRoundsOf now begun rs in
+          rw (append_assoc rounds (round ∷ []) rs) (s.of_session (round ∷ rs) (subst P (sym next) (served.same, served.cause, subst Q served.still more)));
+    })
+
+pub begins : (events : List Event) (file : Content) (rounds : List RoundRecord) (cuts : List ℕ) → file.synced ≡ [] → file.unsynced ≡ [] → rounds ≡ [] → cuts ≡ []
+    → IsUnderWay events events (Closed file) rounds cuts
+begins events file rounds cuts synced settled e f =
+    rw (e, f) (record {
+      sure = record { world = fresh_world; stored = (record { records = []; storable = tt; text = synced; world = refl }, settled); explained = λ rs cs h. h };
+      of_session = λ rs h. h;
+    })
+
+pub ends : (events left : List Event) (storage : Storage) (rounds : List RoundRecord) (cuts : List ℕ) → IsUnderWay events left storage rounds cuts → left ≡ [] → IsPlayed events rounds cuts
+ends events left storage rounds cuts s e =
+    let P : List Event → Type 0 = λ es. AreRoundsOf es (is_open storage) [] in
+    record {
+      of_session = rw append-nil at (s.of_session [] (subst P (sym e) tt));
+      explained = simp append-nil at (s.sure.explained [] [] refl);
+    }
+
+pub too_long_served : (store new : PlainStore) (requests : List (ℕ × Request)) (round : RoundRecord) → round ≡ record { requests = requests; refused = []; outcome = Cut }
+    → 4096 < length requests → new ≡ store → Served (Open store) (Open new) requests round
+too_long_served store new requests round e long same =
+    let P : PlainStore → Type 0 = λ s. Served (Open store) (Open s) requests round in
+    subst P (sym same) (cut_served (Open store) requests round e (inr long))

@@ -1,0 +1,11 @@
+-- What a file holds.
+use Rattle.std.specs.Prelude.{ℕ, List, ◌++◌}
+
+-- the bytes that are on the disk for good, and those that were written since
+pub record Content : Type 0 where
+  pub synced : List ℕ
+  pub unsynced : List ℕ
+
+-- what a read gives
+abbrev pub whole : Content → List ℕ
+whole file = file.synced ++ file.unsynced

@@ -1,0 +1,7 @@
+pub mod Content
+pub mod Records
+pub mod Service
+pub mod Store
+pub mod Storage
+pub mod Play
+pub mod Run

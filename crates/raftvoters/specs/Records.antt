@@ -1,0 +1,84 @@
+-- The records of a file, and the voters that they mean.
+use Rattle.std.specs.Prelude.{◌≡◌, ℕ, ◌+◌, ◌<◌, ◌^◌, Bool, true, false, List, [], ◌∷◌, ◌++◌, length, unwrap_or}
+use Rattle.std.specs.BTreeMap.{get}
+use Rattle.std.specs.List.{flat_map, list_all}
+use Rattle.std.specs.Option.{option_map_or}
+use Rattle.std.specs.Ordering.{nat_cmp}
+use Rattle.std.specs.declared.alloc.Global.{Global}
+use Rattle.std.specs.declared.collections.BTreeMap.{BTreeMap}
+use Rattle.raft_voter.specs.declared.reply.Entry.{Entry}
+use Rattle.raft_voter.specs.declared.request.Request.{Request}
+use Rattle.raft_voter.specs.declared.request.Request.TheVariants.{Read, Status}
+use Rattle.raft_voter.specs.Rounds.{World, fresh_world, put}
+use Rattle.raft_voter.specs.Rules.{entry_fits, fits, in_range, numbered}
+use Rattle.raft_voter.specs.State.{State, fresh, state_of}
+use Rattle.raft_voter.specs.StoredForms.{are_in_order, entry_text, number_text, state_text, stored_entry_fits}
+
+-- Bytes.
+
+-- an entry, 17 bytes and its own, behind the number of these bytes
+unfoldable pub stored_entry : Entry → List ℕ
+stored_entry e = number_text (length e.bytes + 17) ++ entry_text e
+
+-- A voter as it is stored: its state, the number of its entries, and each entry.
+unfoldable pub voter_bytes : State → List ℕ
+voter_bytes v = state_text (state_of v) ++ (number_text (length v.log) ++ flat_map stored_entry (numbered (v.base_index + 1) v.log))
+
+-- a record: the group, and its voter
+unfoldable pub record_bytes : ℕ × State → List ℕ
+record_bytes r = number_text r.0 ++ voter_bytes r.1
+
+-- Voters.
+
+-- the voter of each group in memory, or a fresh one
+abbrev pub world_in : BTreeMap ℕ State Global → World
+world_in voters = λ group. unwrap_or (get nat_cmp voters group) fresh
+
+-- the numbers of a voter are those that requests may bring
+pub record IsInRange (v : State) : Type 0 where
+  pub term : fits v.term ≡ true
+  pub vote : option_map_or fits v.vote true ≡ true
+  pub base_index : fits v.base_index ≡ true
+  pub base_term : fits v.base_term ≡ true
+  pub log : list_all entry_fits v.log ≡ true
+
+-- a request that may change its voter
+abbrev pub may_change : Request → Bool
+may_change (Read from to) = false
+may_change Status = false
+may_change request = in_range request
+
+-- a record can be stored: its group and its voter's numbers are in range
+pub record IsStorable (r : ℕ × State) : Type 0 where
+  pub group : r.0 < 2 ^ 64
+  pub in_range : IsInRange r.1
+  pub end_fits : r.1.base_index + length r.1.log < 2 ^ 63
+
+abbrev pub AreStorable : List (ℕ × State) → Type 0
+AreStorable [] = Unit {0}
+AreStorable (r ∷ records) = IsStorable r × AreStorable records
+
+-- the voters of a world once these records follow: the last record of a group is its voter
+abbrev pub with_records : World → List (ℕ × State) → World
+with_records W [] = W
+with_records W (r ∷ records) = with_records (put W r.0 r.1) records
+
+-- these bytes are records, one behind another, that lead from voters to voters
+pub record LeadTo (W : World) (bytes : List ℕ) (X : World) : Type 0 where
+  pub records : List (ℕ × State)
+  pub storable : AreStorable records
+  pub text : bytes ≡ flat_map record_bytes records
+  pub world : X ≡ with_records W records
+
+-- A file's bytes hold these voters: they are records, and the last of each group is its voter.
+abbrev pub Holds : List ℕ → World → Type 0
+Holds bytes W = LeadTo fresh_world bytes W
+
+-- every voter's numbers are in range
+abbrev pub AllInRange : World → Type 0
+AllInRange W = (group : ℕ) → IsInRange (W group)
+
+-- stored entries in range, the first at this index
+pub record AreEntries (first : ℕ) (entries : List Entry) : Type 0 where
+  pub fit : list_all stored_entry_fits entries ≡ true
+  pub ordered : are_in_order first entries ≡ true

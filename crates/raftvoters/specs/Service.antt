@@ -1,0 +1,23 @@
+-- What a service of rounds answers.
+use Rattle.std.specs.Prelude.{◌≡◌, ℕ, ◌+◌, ◌≤◌, IsTrue, Bool, true, false, if◌then◌else◌, List, [], ◌∷◌, length}
+use Rattle.raft_voter.specs.declared.reply.Reply.{Reply}
+use Rattle.raft_voter.specs.declared.reply.Reply.TheVariants.{Refused}
+use Rattle.raft_voter.specs.declared.request.Request.{Request}
+use Rattle.raft_voter.specs.Rounds.{World, after, are_rising, replies_from, taken_from}
+
+abbrev pub is_refused : Reply → Bool
+is_refused Refused = true
+is_refused reply = false
+
+-- the places whose reply is Refused, where the first reply stands at `place`
+abbrev pub refused_from : ℕ → List Reply → List ℕ
+refused_from place [] = []
+refused_from place (reply ∷ replies) =
+    if is_refused reply then place ∷ refused_from (place + 1) replies else refused_from (place + 1) replies
+
+-- A round is answered: each group's voter took its requests, in order, but for those that were refused, and the replies are theirs.
+pub record Answers (W : World) (requests : List (ℕ × Request)) (replies : List Reply) (X : World) : Type 0 where
+  pub short : length requests ≤ 4096
+  pub rising : IsTrue (are_rising 0 (length requests) (refused_from 0 replies))
+  pub told : replies ≡ replies_from 0 (refused_from 0 replies) W requests
+  pub taken : X ≡ after W (taken_from 0 (length requests) (refused_from 0 replies) requests)

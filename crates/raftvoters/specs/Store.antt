@@ -1,0 +1,43 @@
+-- The plain store: its voters in memory, and the file that holds them.
+use Rattle.std.specs.Prelude.{◌≡◌, ℕ, List, [], ◌∷◌, ◌++◌}
+use Rattle.raft_voter.specs.declared.reply.Reply.{Reply}
+use Rattle.raft_voter.specs.declared.request.Request.{Request}
+use Rattle.raft_voter.specs.Rounds.{World, after, after_one}
+use Rattle.raft_voter.specs.Rules.{reply}
+use Rattle.raftvoters.specs.declared.store.PlainStore.{PlainStore}
+use Rattle.raftvoters.specs.Records.{AllInRange, Holds, LeadTo, world_in}
+
+-- the voter of each group: the one in memory, or a fresh one
+abbrev pub world_of : PlainStore → World
+world_of store = world_in store.voters
+
+-- what was synced holds the voters, and nothing else was written
+pub record IsStored (store : PlainStore) : Type 0 where
+  pub synced : Holds store.file.synced (world_of store)
+  pub settled : store.file.unsynced ≡ []
+
+-- one request is taken: what it changed is written
+pub record Takes (old : PlainStore) (asked : ℕ × Request) (told : Reply) (new : PlainStore) : Type 0 where
+  pub told_is : told ≡ reply (world_of old asked.0) asked.1
+  pub taken : world_of new ≡ after_one (world_of old) asked
+  pub synced : new.file.synced ≡ old.file.synced
+  pub written : (W : World) → AllInRange (world_of old) → LeadTo W old.file.unsynced (world_of old) → LeadTo W new.file.unsynced (world_of new)
+
+-- the replies to requests that are taken one after another
+abbrev pub replies_in_turn : World → List (ℕ × Request) → List Reply
+replies_in_turn W [] = []
+replies_in_turn W (q ∷ qs) = reply (W q.0) q.1 ∷ replies_in_turn (after_one W q) qs
+
+-- requests are taken one after another: what they changed is written
+pub record TakesAll (old : PlainStore) (asked : List (ℕ × Request)) (told : List Reply) (new : PlainStore) : Type 0 where
+  pub told_is : told ≡ replies_in_turn (world_of old) asked
+  pub taken : world_of new ≡ after (world_of old) asked
+  pub synced : new.file.synced ≡ old.file.synced
+  pub written : AllInRange (world_of old) → LeadTo (world_of old) old.file.unsynced (world_of old) → LeadTo (world_of old) new.file.unsynced (world_of new)
+
+-- some requests are taken, and these are left
+pub record IsAmidst (old : PlainStore) (asked left : List (ℕ × Request)) (told : List Reply) (now : PlainStore) : Type 0 where
+  pub told_is : told ++ replies_in_turn (world_of now) left ≡ replies_in_turn (world_of old) asked
+  pub taken : after (world_of now) left ≡ after (world_of old) asked
+  pub synced : now.file.synced ≡ old.file.synced
+  pub written : AllInRange (world_of old) → AllInRange (world_of now) × ((W : World) → LeadTo W old.file.unsynced (world_of old) → LeadTo W now.file.unsynced (world_of now))

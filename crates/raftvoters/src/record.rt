@@ -1,0 +1,172 @@
+//! The records of the plain file: a group and its voter.
+ghost use Rattle.std.specs.Prelude.{◌≡◌, ℕ, true, ◌+◌, ◌^◌, ◌<◌, ◌++◌, length, IfOk, OnOk};
+ghost use Rattle.std.specs.List.{flat_map};
+ghost use Rattle.raft_voter.specs.StoredForms.{number_text, stored_entry_fits};
+ghost use Rattle.raft_voter.specs.Rules.{numbered};
+ghost use Rattle.raftvoters.specs.Records.{AreEntries, IsStorable, record_bytes, stored_entry, voter_bytes};
+
+use raft_voter::{Entry, Items, Memory, StoredFault, Voter, read_entry, read_state, state_bytes};
+use std::alloc::Global;
+
+/// Why a file couldn't be opened.
+#[derive(Clone, Copy, Debug, PartialEq, Eq)]
+pub enum OpenFault {
+    /// Its bytes aren't those of records.
+    Damaged,
+    /// An allocation was refused.
+    Memory,
+}
+
+impl From<Memory> for OpenFault {
+    fn from(_refused: Memory) -> OpenFault {
+        OpenFault::Memory
+    }
+}
+
+impl From<StoredFault> for OpenFault {
+    fn from(fault: StoredFault) -> OpenFault {
+        match fault {
+            StoredFault::Memory => OpenFault::Memory,
+            _ => OpenFault::Damaged,
+        }
+    }
+}
+
+/// How many bytes a stored state has.
+const STATE_BYTES: usize = 34;
+
+/// The first byte of a stored entry.
+const ENTRY_FORM: u8 = 1;
+
+/// How many bytes of a stored entry stand before its own bytes.
+const ENTRY_HEAD_BYTES: usize = 17;
+
+/// The bytes of a record.
+#[tactic(auto, unfolding(crate::specs::Records::record_bytes, crate::specs::Records::voter_bytes))]
+pub fn record_bytes(alloc: Global, group: u64, voter: &Voter) -> Result<Vec<u8>, Memory>
+    ensures bytes { IfOk result (λ bytes. bytes.items ≡ record_bytes (group, voter.now)) }
+    ensures small { voter.now.base_index + length voter.now.log < 2 ^ 63 }
+{
+    let state = voter.state();
+    let log = voter.log();
+    let mut bytes = Vec::new(alloc);
+    put_number(&mut bytes, group)?;
+    put_bytes(&mut bytes, state_bytes(alloc, &state)?.as_slice())?;
+    put_number(&mut bytes, log.len() as u64)?;
+    put_entries(&mut bytes, state.base_index + 1, log)?;
+    Ok(bytes)
+}
+
+/// Adds the stored entries of a log of which the first stands at this index.
+fn put_entries(bytes: &mut Vec<u8>, first: u64, log: &[(u64, Items<u8>)]) -> Result<(), Memory>
+    requires { first + length log.now < 2 ^ 64 }
+    ensures { OnOk result (bytes.new.items ≡ bytes.old.items ++ flat_map stored_entry (numbered first log.now)) }
+{
+    let mut index = first;
+    for (term, own) in log {
+        put_entry(bytes, index, *term, own.as_slice())?;
+        index += 1;
+    }
+    Ok(())
+}
+
+/// Adds a stored entry.
+#[tactic(auto, unfolding(crate::specs::Records::stored_entry))]
+fn put_entry(bytes: &mut Vec<u8>, index: u64, term: u64, own: &[u8]) -> Result<(), Memory>
+    ensures { OnOk result (bytes.new.items ≡ bytes.old.items ++ stored_entry (record { index = index; term = term; bytes = own.now })) }
+{
+    put_number(bytes, (own.len() + ENTRY_HEAD_BYTES) as u64)?;
+    bytes.push(ENTRY_FORM)?;
+    put_number(bytes, index)?;
+    put_number(bytes, term)?;
+    put_bytes(bytes, own)?;
+    Ok(())
+}
+
+/// Adds a number of eight bytes, the highest first.
+#[tactic(auto, unfolding(raft_voter::specs::StoredForms::number_text))]
+fn put_number(bytes: &mut Vec<u8>, number: u64) -> Result<(), Memory>
+    ensures { OnOk result (bytes.new.items ≡ bytes.old.items ++ number_text number) }
+{
+    put_bytes(bytes, &number.to_be_bytes())
+}
+
+/// Adds bytes.
+fn put_bytes(bytes: &mut Vec<u8>, more: &[u8]) -> Result<(), Memory>
+    ensures { OnOk result (bytes.new.items ≡ bytes.old.items ++ more.now) }
+{
+    bytes.extend_from_slice(more)?;
+    Ok(())
+}
+
+/// The first record of these bytes, and what follows it.
+pub fn read_record(alloc: Global, bytes: &[u8]) -> Result<(u64, Voter, &[u8]), OpenFault>
+    ensures { IfOk result (λ found. IsStorable (found.0, found.1) × (bytes.now ≡ record_bytes (found.0, found.1) ++ found.2.now)) }
+{
+    let (group, rest) = split_number(bytes)?;
+    let (state, rest) = split(rest, STATE_BYTES)?;
+    let state = read_state(state)?;
+    let (count, rest) = split_number(rest)?;
+    let (entries, rest) = read_entries(alloc, state.base_index, count, rest)?;
+    let voter = Voter::restore(alloc, state, entries)?;
+    Ok((group, voter, rest))
+}
+
+/// So many stored entries, the first right above the base, and what follows them.
+fn read_entries(
+    alloc: Global,
+    base: u64,
+    count: u64,
+    bytes: &[u8],
+) -> Result<(Items<Entry>, &[u8]), OpenFault>
+    requires { base < 2 ^ 63 }
+    ensures { IfOk result (λ found. AreEntries (base + 1) found.0
+        × (length found.0 ≡ count) × (bytes.now ≡ flat_map stored_entry found.0 ++ found.1.now)) }
+{
+    let mut entries = Items::new(alloc);
+    let mut left = bytes;
+    for i in 0..count {
+        let Some(index) = base.checked_add(1 + i) else {
+            return Err(OpenFault::Damaged);
+        };
+        let (entry, rest) = read_one(alloc, index, left)?;
+        entries.push(entry)?;
+        left = rest;
+    }
+    Ok((entries, left))
+}
+
+/// The stored entry at this index, and what follows it.
+#[tactic(auto, unfolding(crate::specs::Records::stored_entry))]
+fn read_one(alloc: Global, index: u64, bytes: &[u8]) -> Result<(Entry, &[u8]), OpenFault>
+    ensures { IfOk result (λ found. (found.0.index ≡ index) × (stored_entry_fits found.0 ≡ true) × (bytes.now ≡ stored_entry found.0 ++ found.1.now)) }
+{
+    let (size, rest) = split_number(bytes)?;
+    let (stored, rest) = split(rest, size as usize)?;
+    let entry = read_entry(alloc, stored, index)?;
+    Ok((entry, rest))
+}
+
+/// The number of eight bytes that comes first, and what follows it.
+fn split_number(bytes: &[u8]) -> Result<(u64, &[u8]), OpenFault>
+    ensures { IfOk result (λ found. (found.0 < 2 ^ 64) × (bytes.now ≡ number_text found.0 ++ found.1.now)) }
+{
+    if bytes.len() < 8 {
+        return Err(OpenFault::Damaged);
+    }
+    let (front, rest) = bytes.split_at(8);
+    let number = u64::from_be_bytes([
+        front[0], front[1], front[2], front[3], front[4], front[5], front[6], front[7],
+    ]);
+    Ok((number, rest))
+}
+
+/// So many bytes, and what follows them.
+fn split(bytes: &[u8], count: usize) -> Result<(&[u8], &[u8]), OpenFault>
+    ensures { IfOk result (λ found. (length found.0.now ≡ count) × (bytes.now ≡ found.0.now ++ found.1.now)) }
+{
+    if bytes.len() < count {
+        return Err(OpenFault::Damaged);
+    }
+    Ok(bytes.split_at(count))
+}

@@ -1,0 +1,71 @@
+//! From the bytes of a session to those of its transcript.
+ghost use Rattle.std.specs.Prelude.{◌≡◌, ℕ, List, Err, IfOk, IfSome, string_bytes};
+ghost use Rattle.std.specs.Io.KnownBytes.{Appends};
+ghost use Rattle.raftvoters.specs.Run.{IsJudged, MayWrite, Shows, Tells};
+
+use crate::play::play;
+use crate::record::OpenFault;
+use raft_voter::{Memory, Transcript, judge};
+use raft_voter_session::{Event, SessionFault, read_session, write_transcript, write_unreadable};
+use std::alloc::Global;
+use std::collections::VecDeque;
+use std::io;
+use std::io::{ErrorKind, Read, Write};
+
+/// What is written of a transcript and its cuts, with the judge's verdict; and the status that goes with it, 0 for yes
+/// and 1 for no.
+fn judged(alloc: Global, transcript: &Transcript, cuts: &[usize]) -> Result<(String, u8), Memory>
+    ensures { IfOk result (λ told. IsJudged transcript.now.rounds cuts.now (string_bytes told.0) told.1) }
+{
+    let verdict = judge(alloc, transcript, cuts)?;
+    let mut text = String::new(alloc);
+    write_transcript(&mut text, transcript, cuts, verdict)?;
+    let status = if verdict { 0 } else { 1 };
+    Ok((text, status))
+}
+
+/// What is written for a session's events.
+fn shown(alloc: Global, events: VecDeque<Event>) -> Result<(String, u8), OpenFault>
+    ensures { IfOk result (λ told. Shows events.items (string_bytes told.0) told.1) }
+{
+    let (transcript, cuts) = play(alloc, events)?;
+    Ok(judged(alloc, &transcript, cuts.as_slice())?)
+}
+
+/// What is written where a line is unreadable.
+fn unreadable(alloc: Global, line: usize) -> Result<(String, u8), Memory>
+    ensures { IfOk result (λ told. Tells (Err line) (string_bytes told.0) told.1) }
+{
+    let mut text = String::new(alloc);
+    write_unreadable(&mut text, line)?;
+    Ok((text, 2))
+}
+
+/// What is written for a session, and the status that goes with it.
+fn answer(alloc: Global, input: &[u8]) -> Result<(String, u8), OpenFault>
+    ensures { IfOk result (λ told. MayWrite input.now (string_bytes told.0) told.1) }
+{
+    match read_session(alloc, input) {
+        Ok(events) => shown(alloc, events),
+        Err(SessionFault::Unreadable(line)) => Ok(unreadable(alloc, line)?),
+        Err(SessionFault::Memory) => Err(OpenFault::Memory),
+    }
+}
+
+/// Reads a whole session, serves it, and writes its transcript with a verdict; or writes which line is the first that
+/// is unreadable. The status is 0 where the verdict is yes, 1 where it is no, and 2 for an unreadable line. An `Err`
+/// tells that memory, the reader or the writer was refused; nothing more is written then.
+pub fn run<R: Read, W: Write>(alloc: Global, reader: &mut R, writer: &mut W) -> io::Result<u8>
+    ensures { IfOk result (λ status. IfSome (R.remaining reader.old) (λ input.
+        (text : List ℕ) × MayWrite input text status × Appends (W.contents writer.old) (W.contents writer.new) text)) }
+{
+    let mut input = Vec::new(alloc);
+    reader.read_to_end(&mut input)?;
+    let (text, status) = match answer(alloc, input.as_slice()) {
+        Ok(told) => told,
+        Err(OpenFault::Memory) => return Err(io::Error::from(ErrorKind::OutOfMemory)),
+        Err(OpenFault::Damaged) => return Err(io::Error::from(ErrorKind::InvalidData)),
+    };
+    writer.write_all(text.as_bytes())?;
+    Ok(status)
+}

@@ -1,0 +1,121 @@
+//! A store that is open, or the file of one that isn't.
+ghost use Rattle.std.specs.Prelude.{◌≡◌, [], true, false, IfOk};
+ghost use Rattle.raftvoters.specs.Storage.{is_open, Keeps, Served};
+ghost use Rattle.raftvoters.specs.Service.{is_refused, refused_from};
+
+use crate::file::PlainFile;
+use crate::record::OpenFault;
+use crate::service::{RoundFault, RoundService};
+use crate::store::PlainStore;
+use raft_voter::{Items, Memory, Outcome, Reply, Request, Round};
+use std::alloc::Global;
+
+/// A store that is open, or the file of one that isn't.
+#[derive(Drop)]
+pub enum Storage {
+    /// No store is open.
+    Closed(PlainFile),
+    /// A store is open.
+    Open(PlainStore),
+}
+
+impl Storage {
+    /// The file, where the store is closed if it is open.
+    fn into_file(self) -> PlainFile
+        ensures { Keeps self (Storage.Closed result) }
+    {
+        match self {
+            Storage::Closed(file) => file,
+            Storage::Open(store) => store.into_file(),
+        }
+    }
+
+    /// Opens the store; one that is open is closed first.
+    pub fn opened(self, alloc: Global) -> Result<Storage, OpenFault>
+        ensures open { IfOk result (λ next. is_open next ≡ true) }
+        ensures keeps { IfOk result (Keeps self) }
+    {
+        let store = PlainStore::open(alloc, self.into_file())?;
+        Ok(Storage::Open(store))
+    }
+
+    /// Closes the store, if one is open.
+    pub fn closed(self) -> Storage
+        ensures closed { is_open result ≡ false }
+        ensures keeps { Keeps self result }
+    {
+        Storage::Closed(self.into_file())
+    }
+
+    /// The machine stops: no store is open, and what was synced is left.
+    pub fn crashed(self) -> Storage
+        ensures closed { is_open result ≡ false }
+        ensures keeps { Keeps self result }
+    {
+        let mut file = self.into_file();
+        file.crash();
+        Storage::Closed(file)
+    }
+
+    /// Serves a round, or cuts it off where no store is open or it is too long.
+    pub fn serve(&mut self, alloc: Global, requests: Items<(u64, Request)>) -> Result<Round, Memory>
+        ensures { IfOk result (Served self.old self.new requests) }
+    {
+        let Storage::Open(store) = self else {
+            return Ok(cut_off(alloc, requests));
+        };
+        match store.serve(requests.as_slice()) {
+            Ok(replies) => answered(alloc, requests, replies),
+            Err(RoundFault::TooLong) => Ok(cut_off(alloc, requests)),
+            Err(RoundFault::Memory) => Err(Memory),
+        }
+    }
+}
+
+/// A round of which nothing was taken.
+fn cut_off(alloc: Global, requests: Items<(u64, Request)>) -> Round
+    ensures { result ≡ record { requests = requests; refused = []; outcome = Outcome.Cut } }
+{
+    Round {
+        requests,
+        refused: Items::new(alloc),
+        outcome: Outcome::Cut,
+    }
+}
+
+/// A round with its replies.
+fn answered(
+    alloc: Global,
+    requests: Items<(u64, Request)>,
+    replies: Items<Reply>,
+) -> Result<Round, Memory>
+    ensures { IfOk result (λ round. round ≡ record { requests = requests; refused = refused_from 0 replies; outcome = Outcome.Answered replies }) }
+{
+    let refused = refused_places(alloc, replies.as_slice())?;
+    Ok(Round {
+        requests,
+        refused,
+        outcome: Outcome::Answered(replies),
+    })
+}
+
+/// The places whose reply is `Refused`.
+fn refused_places(alloc: Global, replies: &[Reply]) -> Result<Items<usize>, Memory>
+    ensures { IfOk result (λ places. places ≡ refused_from 0 replies.now) }
+{
+    let mut places = Items::new(alloc);
+    for (place, reply) in replies.iter().enumerate() {
+        if !is_refused(reply) {
+            continue;
+        }
+        places.push(place)?;
+    }
+    Ok(places)
+}
+
+/// Whether a reply is `Refused`.
+fn is_refused(reply: &Reply) -> bool
+    ensures { result ≡ is_refused reply.now }
+{
+    matches!(reply, Reply::Refused)
+}

@@ -1,0 +1,154 @@
+//! Voters of many groups in memory, and the plain file that keeps them.
+ghost use Rattle.std.specs.Prelude.{◌≡◌, ◌+◌, ◌^◌, ◌<◌, ◌↔◌, length, IfOk, OnOk, Err};
+ghost use Rattle.raft_voter.specs.Rounds.{after_one, put};
+ghost use Rattle.raftvoters.specs.Content.{whole};
+ghost use Rattle.raft_voter.specs.Rules.{reply};
+ghost use Rattle.raftvoters.specs.Records.{Holds, may_change, record_bytes, world_in};
+ghost use Rattle.raftvoters.specs.Service.{Answers};
+ghost use Rattle.raftvoters.specs.Store.{IsStored, Takes, TakesAll, world_of};
+
+use crate::file::PlainFile;
+use crate::record::{OpenFault, read_record, record_bytes};
+use crate::service::{MOST_REQUESTS, RoundFault, RoundService};
+use raft_voter::{Items, Memory, Reply, Request, Voter};
+use std::alloc::Global;
+use std::collections::BTreeMap;
+
+/// Voters, and the file that keeps them.
+#[derive(Drop)]
+pub struct PlainStore {
+    pub alloc: Global,
+    pub file: PlainFile,
+    pub voters: BTreeMap<u64, Voter>,
+}
+
+impl PlainStore {
+    /// Opens a file: reads it whole, and the last record of each group is its voter. Bytes that aren't those of records
+    /// are told as damaged.
+    pub fn open(alloc: Global, file: PlainFile) -> Result<PlainStore, OpenFault>
+        ensures same { IfOk result (λ store. store.file ≡ file) }
+        ensures voters { IfOk result (λ store. Holds (whole file) (world_of store)) }
+    {
+        let voters = read_voters(alloc, file.bytes())?;
+        Ok(PlainStore {
+            alloc,
+            file,
+            voters,
+        })
+    }
+
+    /// The voters take requests in order, and what they change is written.
+    fn take_all(&mut self, requests: &[(u64, Request)]) -> Result<Items<Reply>, Memory>
+        ensures { IfOk result (λ replies. TakesAll self.old requests.now replies self.new) }
+    {
+        let mut replies = Items::new(self.alloc);
+        for (group, request) in requests {
+            let reply = self.take(*group, request)?;
+            replies.push(reply)?;
+        }
+        Ok(replies)
+    }
+
+    /// A group's voter takes a request, and what it changes is written.
+    fn take(&mut self, group: u64, request: &Request) -> Result<Reply, Memory>
+        ensures { IfOk result (λ told. Takes self.old (group, request.now) told self.new) }
+    {
+        let reply = step(self.alloc, &mut self.voters, group, request)?;
+        if !may_change(request) {
+            return Ok(reply);
+        }
+        let record = record_of(self.alloc, &self.voters, group)?;
+        self.file.append(record.as_slice())?;
+        Ok(reply)
+    }
+
+    /// The file alone.
+    pub fn into_file(self) -> PlainFile
+        ensures { result ≡ self.file }
+    {
+        let PlainStore {
+            alloc: _alloc,
+            file,
+            voters: _voters,
+        } = self;
+        file
+    }
+}
+
+impl RoundService for PlainStore {
+    ghost world = { world_of };
+
+    fn serve(&mut self, requests: &[(u64, Request)]) -> Result<Items<Reply>, RoundFault>
+        ensures answered { IfOk result (λ replies. Answers (world_of self.old) requests.now replies (world_of self.new)) }
+        ensures too_long { (result ≡ Err RoundFault.TooLong) ↔ (4096 < length requests.now) }
+        ensures kept { result ≡ Err RoundFault.TooLong → world_of self.new ≡ world_of self.old }
+        ensures stored { OnOk result (IsStored self.old → IsStored self.new) }
+        ensures same { result ≡ Err RoundFault.TooLong → self.new ≡ self.old }
+    {
+        if requests.len() > MOST_REQUESTS {
+            return Err(RoundFault::TooLong);
+        }
+        let replies = self.take_all(requests)?;
+        self.file.sync();
+        Ok(replies)
+    }
+}
+
+/// A group's voter takes a request and answers it.
+fn step(
+    alloc: Global,
+    voters: &mut BTreeMap<u64, Voter>,
+    group: u64,
+    request: &Request,
+) -> Result<Reply, Memory>
+    ensures replies { IfOk result (λ told. told ≡ reply (world_in voters.old group) request.now) }
+    ensures changes { OnOk result (world_in voters.new ≡ after_one (world_in voters.old) (group, request.now)) }
+{
+    let voter = voters.entry(group)?.or_insert(Voter::new(alloc));
+    voter.step(request)
+}
+
+/// The record of a group's voter.
+fn record_of(alloc: Global, voters: &BTreeMap<u64, Voter>, group: u64) -> Result<Vec<u8>, Memory>
+    ensures bytes { IfOk result (λ bytes. bytes.items ≡ record_bytes (group, world_in voters.now group)) }
+    ensures small { (world_in voters.now group).base_index + length (world_in voters.now group).log < 2 ^ 63 }
+{
+    match voters.get(&group) {
+        Some(voter) => record_bytes(alloc, group, voter),
+        None => record_bytes(alloc, group, &Voter::new(alloc)),
+    }
+}
+
+/// Whether a request may change its voter.
+fn may_change(request: &Request) -> bool
+    ensures { result ≡ may_change request.now }
+{
+    match request {
+        Request::Read { from: _, to: _ } | Request::Status => false,
+        _ => request.in_range(),
+    }
+}
+
+/// The voters that a file's bytes hold.
+fn read_voters(alloc: Global, bytes: &[u8]) -> Result<BTreeMap<u64, Voter>, OpenFault>
+    ensures { IfOk result (λ voters. Holds bytes.now (world_in voters)) }
+{
+    let mut voters = BTreeMap::new(alloc);
+    let mut left = bytes;
+    while !left.is_empty() {
+        let (group, voter, rest) = read_record(alloc, left)?;
+        set_voter(&mut voters, group, voter)?;
+        left = rest;
+    }
+    Ok(voters)
+}
+
+/// A group's voter is this one from now on.
+fn set_voter(voters: &mut BTreeMap<u64, Voter>, group: u64, voter: Voter) -> Result<(), OpenFault>
+    ensures { OnOk result (world_in voters.new ≡ put (world_in voters.old) group voter) }
+{
+    match voters.insert(group, voter) {
+        Ok(_) => Ok(()),
+        Err(_) => Err(OpenFault::Memory),
+    }
+}

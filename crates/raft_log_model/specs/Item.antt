@@ -1,0 +1,36 @@
+-- What a log is made of: items, each of one group, in records, some of which are parts of an atomic group.
+use Rattle.std.specs.Prelude.{ℕ, List}
+
+-- E is what stands for an entry (its place in a file, or its length), V what stands for a key's value
+pub data Item (E V : Type 0) : Type 0 where
+  -- entries one after another, the first of them at this index; all entries from there on give way
+  Run : ℕ → List E → Item E V
+  -- all entries and keys of the group are gone
+  Clean : Item E V
+  -- all entries below this index are gone
+  Compact : ℕ → Item E V
+  -- the key, a list of bytes, has this value
+  Put : List ℕ → V → Item E V
+  -- the key is gone
+  Del : List ℕ → Item E V
+
+-- an item and the group that it is of
+pub record Tagged (E V : Type 0) : Type 0 where
+  pub group : ℕ
+  pub item : Item E V
+
+-- which part of the atomic group of that number a record is
+pub data Mark : Type 0 where
+  Begin : ℕ → Mark
+  Middle : ℕ → Mark
+  End : ℕ → Mark
+
+-- what one write puts into a queue: items that count at once, or a part of an atomic group
+pub data Record (E V : Type 0) : Type 0 where
+  Plain : List (Tagged E V) → Record E V
+  Part : Mark → List (Tagged E V) → Record E V
+
+-- the items of a record, whether they count or not
+abbrev pub items_of : {E V : Type 0} → Record E V → List (Tagged E V)
+items_of (Plain xs) = xs
+items_of (Part m xs) = xs

@@ -1,0 +1,5 @@
+pub mod Item
+pub mod Meaning
+pub mod Groups
+pub mod Tidy
+pub mod Holes

@@ -1,0 +1,4 @@
+//! What a log means.
+#![tactic(auto)]
+
+pub mod meaning;

@@ -1,3 +1,4 @@
 pub mod Grammar
 pub mod Fixed
 pub mod Var
+pub mod VarLoop

@@ -152,6 +152,11 @@ var_u64_at bytes = var_within 9 bytes
 unfoldable pub var_i64_at : NumberReader ℤ
 var_i64_at = mapped_at from_zigzag var_u64_at
 
+-- a number at the front of the bytes, and how many of them it takes
+abbrev pub Finds : {X : Type 0} → Result (X × ℕ) Error → List ℕ → Result (X × List ℕ) Error → Type 0
+Finds (Ok x) bytes reading = (reading ≡ Ok (x.0, drop x.1 bytes)) × (x.1 ≤ length bytes)
+Finds (Err e) bytes reading = reading ≡ Err e
+
 -- ---- refusals
 
 -- the bytes ended too early

@@ -33,7 +33,7 @@ ghost use Rattle.raft_log_codec.specs.Number.{
 };
 
 use super::error::{BytesSlice, Error, Result};
-use super::order::from_order;
+use super::signed::from_order;
 
 /// The next bytes, as many as the array holds.
 #[inline]

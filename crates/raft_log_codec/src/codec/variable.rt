@@ -1,0 +1,90 @@
+//! Numbers of variable length: seven bits a byte, the lowest first, the top bit set on all bytes but the last.
+
+ghost use Rattle.std.specs.Prelude.{◌≡◌, ◌↔◌, [], take, length};
+ghost use Rattle.raft_log_codec.specs.Grammar.{Reads, Decodes};
+ghost use Rattle.raft_log_codec.specs.Number.{
+  IsVarU64,
+  IsVarI64,
+  IsShort,
+  IsInvalid,
+  Finds,
+  EndsFirst,
+  RunsOver,
+  var_u64_at,
+  var_i64_at,
+};
+
+use super::error::{BytesSlice, Error, Result};
+use super::signed::from_zigzag;
+use std::io::ErrorKind;
+
+/// The greatest number of bytes that a number takes.
+pub const MAX_VAR_U64_LEN: usize = 10;
+
+/// How many bytes with the top bit a number may begin with.
+const GOING_ON: usize = MAX_VAR_U64_LEN - 1;
+
+/// A byte from here on has more bytes after it.
+const CONTINUES: u8 = 0x80;
+
+/// The greatest tenth byte: nine bytes hold 63 bits.
+const GREATEST_LAST: u8 = 1;
+
+/// Reads what `encode_var_u64` writes, and longer spellings of at most ten bytes. A tenth byte above 1, or with more
+/// after it, is refused as `InvalidData`, and bytes that end first as `UnexpectedEof`.
+#[inline]
+pub fn decode_var_u64(source: &mut BytesSlice<'_>) -> Result<u64>
+    ensures decodes { Decodes IsVarU64 result source.old.now source.new.now }
+    ensures short { IsShort result ↔ EndsFirst source.old.now }
+    ensures invalid { IsInvalid result ↔ RunsOver source.old.now }
+    ensures exact { Reads result source.old.now source.new.now (var_u64_at source.old.now) }
+{
+    take_var_u64(source)
+}
+
+/// Takes the number at the front, and where there is none nothing.
+#[inline]
+fn take_var_u64(source: &mut BytesSlice<'_>) -> Result<u64>
+    ensures { Reads result source.old.now source.new.now (var_u64_at source.old.now) }
+{
+    let (number, len) = var_u64_front(source)?;
+    *source = &source[len..];
+    Ok(number)
+}
+
+/// The number at the front, and how many bytes it takes.
+fn var_u64_front(bytes: &[u8]) -> Result<(u64, usize)>
+    ensures { Finds result bytes.now (var_u64_at bytes.now) }
+{
+    let mut number: u64 = 0;
+    for i in 0..GOING_ON {
+        if bytes.len() <= i {
+            return Err(Error::unexpected_eof());
+        }
+        let byte = bytes[i];
+        number += ((byte & 0x7f) as u64) << (7 * i);
+        if byte < CONTINUES {
+            return Ok((number, i + 1));
+        }
+    }
+    if bytes.len() <= GOING_ON {
+        return Err(Error::unexpected_eof());
+    }
+    let last = bytes[GOING_ON];
+    if last > GREATEST_LAST {
+        return Err(Error::Io(ErrorKind::InvalidData));
+    }
+    Ok((number + ((last as u64) << 63), MAX_VAR_U64_LEN))
+}
+
+/// Reads what `encode_var_i64` writes, with the refusals of `decode_var_u64`.
+#[tactic(auto, unfolding(crate::specs::Number::var_i64_at))]
+#[inline]
+pub fn decode_var_i64(source: &mut BytesSlice<'_>) -> Result<i64>
+    ensures decodes { Decodes IsVarI64 result source.old.now source.new.now }
+    ensures short { IsShort result ↔ EndsFirst source.old.now }
+    ensures invalid { IsInvalid result ↔ RunsOver source.old.now }
+    ensures exact { Reads result source.old.now source.new.now (var_i64_at source.old.now) }
+{
+    Ok(from_zigzag(decode_var_u64(source)?))
+}

@@ -1,0 +1,5 @@
+pub mod Files
+pub mod Run
+pub mod Fault
+pub mod Items
+pub mod Reading

@@ -2,3 +2,4 @@ pub mod Grammar
 pub mod Fixed
 pub mod Var
 pub mod VarLoop
+pub mod VarSpelling

@@ -32,10 +32,10 @@ last_taken left b bs y small below same = record {
   parts = ap (λ (q : ℕ × List ℕ). b ∷ q.1) same;
 }
 
-power_grows : (left : ℕ) → 128 ^ suc left ≡ 128 * 128 ^ left
+pub power_grows : (left : ℕ) → 128 ^ suc left ≡ 128 * 128 ^ left
 power_grows left = pow-suc 128 left ∙ omega arith
 
-power_pos : (left : ℕ) → 0 < 128 ^ left
+pub power_pos : (left : ℕ) → 0 < 128 ^ left
 power_pos zero = omega arith
 power_pos (suc left) = omega (arith, power_grows left, power_pos left)
 

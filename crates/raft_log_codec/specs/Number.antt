@@ -1,6 +1,7 @@
 -- How numbers are spelled, and the functions that read them from the front of a list.
 use Rattle.std.specs.Prelude.{◌≡◌, ℕ, ℤ, pos, negsuc, zero, suc, ◌+◌, ◌-◌, ◌*◌, ◌/◌, ◌%◌, ◌^◌, ◌<◌, ◌≤◌, ◌-ℤ◌, List, [], ◌∷◌, ◌++◌, length, take, drop, Result, Ok, Err, nat_lt, ◌==◌, if◌then◌else◌}
-use Rattle.std.specs.Int.{Width, w16, w32, w64, byte_len, from_be_bytes, from_le_bytes, bit_not, cast_signed}
+use Rattle.std.specs.Int.{Width, w16, w32, w64, byte_len, from_be_bytes, from_le_bytes, to_be_bytes, to_le_bytes, bit_not, cast_signed, cast_unsigned}
+use Rattle.std.specs.declared.io.ErrorKind.{ErrorKind}
 use Rattle.std.specs.declared.io.ErrorKind.TheVariants.{UnexpectedEof, InvalidData}
 use Rattle.raft_log_codec.specs.declared.codec.error.Error.{Error}
 use Rattle.raft_log_codec.specs.declared.codec.error.Error.TheVariants.{Io}
@@ -91,7 +92,40 @@ from_zigzag n = if n % 2 == 0 then pos (n / 2) else negsuc (n / 2)
 abbrev pub IsVarI64 : List ℕ → ℤ → Type 0
 IsVarI64 bytes v = IsVarU64 bytes (zigzag v)
 
--- ---- the one spelling that is written
+-- ---- the spellings that are written
+
+unfoldable pub u64_bytes : ℕ → List ℕ
+u64_bytes n = to_be_bytes w64 n
+
+unfoldable pub u32_bytes : ℕ → List ℕ
+u32_bytes n = to_be_bytes w32 n
+
+unfoldable pub u16_bytes : ℕ → List ℕ
+u16_bytes n = to_be_bytes w16 n
+
+unfoldable pub u64_le_bytes : ℕ → List ℕ
+u64_le_bytes n = to_le_bytes w64 n
+
+unfoldable pub u32_le_bytes : ℕ → List ℕ
+u32_le_bytes n = to_le_bytes w32 n
+
+unfoldable pub u16_le_bytes : ℕ → List ℕ
+u16_le_bytes n = to_le_bytes w16 n
+
+abbrev pub u64_desc_bytes : ℕ → List ℕ
+u64_desc_bytes n = u64_bytes (bit_not w64 n)
+
+abbrev pub i64_bytes : ℤ → List ℕ
+i64_bytes v = u64_bytes (steps_above_least v)
+
+abbrev pub i64_desc_bytes : ℤ → List ℕ
+i64_desc_bytes v = u64_desc_bytes (steps_above_least v)
+
+abbrev pub i64_le_bytes : ℤ → List ℕ
+i64_le_bytes v = u64_le_bytes (cast_unsigned w64 v)
+
+abbrev pub i32_le_bytes : ℤ → List ℕ
+i32_le_bytes v = u32_le_bytes (cast_unsigned w32 v)
 
 -- the shortest spelling of n, with at most so many bytes after the first
 unfoldable pub var_bytes_within : ℕ → ℕ → List ℕ
@@ -100,6 +134,9 @@ var_bytes_within (suc left) n = if nat_lt n 128 then n ∷ [] else (n % 128 + 12
 
 unfoldable pub var_u64_bytes : ℕ → List ℕ
 var_u64_bytes n = var_bytes_within 9 n
+
+abbrev pub var_i64_bytes : ℤ → List ℕ
+var_i64_bytes v = var_u64_bytes (zigzag v)
 
 -- a spelling, and none is shorter
 pub record IsShortest {X : Type 0} (P : List ℕ → X → Type 0) (bytes : List ℕ) (x : X) : Type 0 where
@@ -158,6 +195,10 @@ Finds (Ok x) bytes reading = (reading ≡ Ok (x.0, drop x.1 bytes)) × (x.1 ≤ 
 Finds (Err e) bytes reading = reading ≡ Err e
 
 -- ---- refusals
+
+-- the only refusal is the writer's
+abbrev pub IsWriteFault : Error → Type 0
+IsWriteFault e = (kind : ErrorKind) × (e ≡ Io kind)
 
 -- the bytes ended too early
 abbrev pub IsShort : {X : Type 0} → Result X Error → Type 0

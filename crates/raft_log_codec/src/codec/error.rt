@@ -2,10 +2,11 @@
 
 ghost use Rattle.std.specs.Prelude.{◌≡◌};
 ghost use Rattle.std.specs.declared.io.ErrorKind.TheVariants.{UnexpectedEof};
+ghost use Rattle.std.specs.IoError.{error_kind};
 ghost use Rattle.raft_log_codec.specs.declared.codec.error.Error.TheVariants.{Io};
 
-use std::fmt;
 use std::io::ErrorKind;
+use std::{fmt, io};
 
 /// Why a codec refused. Of the kinds of `Io` a decoder answers `UnexpectedEof`, where the bytes end inside
 /// a number, and `InvalidData`, where a number doesn't fit 64 bits.
@@ -41,6 +42,14 @@ impl fmt::Display for Error {
 }
 
 impl std::error::Error for Error {}
+
+impl From<io::Error> for Error {
+    ghost from_gives = { λ fault e. e ≡ Io (error_kind fault) };
+
+    fn from(fault: io::Error) -> Error {
+        Error::Io(fault.kind())
+    }
+}
 
 /// What a codec answers.
 pub type Result<T> = std::result::Result<T, Error>;

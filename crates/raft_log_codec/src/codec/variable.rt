@@ -1,10 +1,11 @@
 //! Numbers of variable length: seven bits a byte, the lowest first, the top bit set on all bytes but the last.
 
-ghost use Rattle.std.specs.Prelude.{◌≡◌, ◌↔◌, [], take, length};
+ghost use Rattle.std.specs.Prelude.{◌≡◌, ◌≤◌, ◌↔◌, take};
 ghost use Rattle.raft_log_codec.specs.Grammar.{Reads, Decodes};
 ghost use Rattle.raft_log_codec.specs.Number.{
   IsVarU64,
   IsVarI64,
+  IsShortest,
   IsShort,
   IsInvalid,
   Finds,
@@ -12,6 +13,7 @@ ghost use Rattle.raft_log_codec.specs.Number.{
   RunsOver,
   var_u64_at,
   var_i64_at,
+  var_u64_bytes,
 };
 
 use super::error::{BytesSlice, Error, Result};
@@ -87,4 +89,23 @@ pub fn decode_var_i64(source: &mut BytesSlice<'_>) -> Result<i64>
     ensures exact { Reads result source.old.now source.new.now (var_i64_at source.old.now) }
 {
     Ok(from_zigzag(decode_var_u64(source)?))
+}
+
+/// The shortest spelling of the number, at the front of the array, and how many bytes it takes.
+#[inline]
+pub fn spell_var_u64(number: u64) -> ([u8; MAX_VAR_U64_LEN], usize)
+    ensures within { result.1 ≤ 10 }
+    ensures bytes { take result.1 result.0 ≡ var_u64_bytes number }
+    ensures spelled { IsShortest IsVarU64 (var_u64_bytes number) number }
+{
+    let mut bytes = [0; MAX_VAR_U64_LEN];
+    let mut len = 0;
+    let mut rest = number;
+    while rest >= CONTINUES as u64 {
+        bytes[len] = (rest & 0x7f) as u8 | CONTINUES;
+        rest >>= 7;
+        len += 1;
+    }
+    bytes[len] = rest as u8;
+    (bytes, len + 1)
 }

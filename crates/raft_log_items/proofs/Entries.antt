@@ -43,11 +43,11 @@ entries_done first front count i bytes total le so_far =
 -- ---- runs
 
 -- an entry with the next index at the end
-pub follows-push : (i : ℕ) (es : List EntryIndex) (e : EntryIndex) → FollowsFrom i es → e.index ≡ i + length es → FollowsFrom i (es ++ e ∷ [])
-follows-push i [] e h is = (omega arith, tt)
-follows-push i (x ∷ xs) e h is = (h.0, follows-push (i + 1) xs e h.1 (omega arith))
+pub follows-push : (i : ℕ) (es : List EntryIndex) (e : EntryIndex) → FollowsFrom i es → e.index ≡ i + length es → e.entry_len < 2 ^ 32 → FollowsFrom i (es ++ e ∷ [])
+follows-push i [] e h is fits = (omega arith, fits, tt)
+follows-push i (x ∷ xs) e h is fits = (h.0, h.1, follows-push (i + 1) xs e h.2 (omega arith) fits)
 
 -- so many entries from an index on, where none of their indexes is 2 ^ 64 - 1
 pub run_of : (first count : ℕ) (es : List EntryIndex) → FollowsFrom first es → length es ≡ count → first + count < 2 ^ 64 → IsRun es
 run_of first count [] h len fits = tt
-run_of first count (e ∷ es) h len fits = ((refl, subst (λ (i : ℕ). FollowsFrom (i + 1) es) (sym h.0) h.1), omega (arith, h.0))
+run_of first count (e ∷ es) h len fits = ((refl, h.1, subst (λ (i : ℕ). FollowsFrom (i + 1) es) (sym h.0) h.2), omega (arith, h.0))

@@ -1,3 +1,5 @@
 pub mod Reading
 pub mod Faults
 pub mod Entries
+pub mod Spelled
+pub mod Each

@@ -3,3 +3,4 @@ pub mod Run
 pub mod Fault
 pub mod Items
 pub mod Reading
+pub mod Writing

@@ -1,10 +1,14 @@
 -- The functions that read items from the front of a list, with the first fault in the order of the format.
-use Rattle.std.specs.Prelude.{ℕ, zero, suc, ◌+◌, List, [], ◌∷◌, ◌++◌, length, take, drop, Ok, Err, nat_lt, ◌==◌, if◌then◌else◌, codes}
+use Rattle.std.specs.Prelude.{Result, ℕ, zero, suc, ◌+◌, List, [], ◌∷◌, ◌++◌, length, take, drop, Ok, Err, nat_lt, ◌==◌, if◌then◌else◌, codes}
 use Rattle.std.specs.Fmt.{decimal}
 use Rattle.std.specs.declared.io.ErrorKind.TheVariants.{UnexpectedEof}
 use Rattle.raft_log_codec.specs.declared.codec.error.Error.TheVariants.{Io}
 use Rattle.raft_log_codec.specs.Grammar.{Reader, times_at, choice_at, ◌>>=◌}
 use Rattle.raft_log_items.specs.declared.entry.EntryIndex.{EntryIndex}
+use Rattle.raft_log_items.specs.declared.entry.CompressionType.{CompressionType}
+use Rattle.raft_log_items.specs.declared.entry.CompressionType.TheVariants as kinds
+use Rattle.raft_log_items.specs.declared.item.OpType.{OpType}
+use Rattle.raft_log_items.specs.declared.item.OpType.TheVariants as ops
 use Rattle.raft_log_items.specs.declared.item.Command.{Command}
 use Rattle.raft_log_items.specs.declared.item.Command.TheVariants as commands
 use Rattle.raft_log_items.specs.declared.item.KeyValue.{KeyValue}
@@ -13,7 +17,7 @@ use Rattle.raft_log_items.specs.declared.item.LogItemContent.TheVariants as cont
 use Rattle.raft_log_items.specs.declared.item.LogItem.{LogItem}
 use Rattle.raft_log_items.specs.Run.{unplaced_entry}
 use Rattle.raft_log_items.specs.Fault.{Fault}
-use Rattle.raft_log_items.specs.Fault.Fault.{number}
+use Rattle.raft_log_items.specs.Fault.Fault.{number, corrupt}
 use Rattle.raft_log_items.specs.Items.{never_at, passing_at, number_at, kind_at, is_entry_len, is_first_of, put_of, del_of}
 
 -- the texts of the faults
@@ -31,6 +35,16 @@ index_past_limit = codes "Entry index past the limit"
 
 abbrev pub length_past_limit : List ℕ
 length_past_limit = codes "Entry length past the limit"
+
+abbrev pub unsupported_compression : ℕ → List ℕ
+unsupported_compression kind = codes "Unsupported compression type: " ++ decimal kind
+
+-- what a byte stands for
+abbrev pub operation_of : ℕ → Result OpType Fault
+operation_of op = if op == 1 then Ok ops.Put else (if op == 2 then Ok ops.Del else Err (corrupt (unknown_operation op)))
+
+abbrev pub compression_of : ℕ → Result CompressionType Fault
+compression_of kind = if kind == 0 then Ok kinds.None else Err (corrupt (unsupported_compression kind))
 
 -- so many bytes
 abbrev pub bytes_of_at : ℕ → Reader (List ℕ) Fault

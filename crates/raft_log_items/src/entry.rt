@@ -1,14 +1,40 @@
 //! Entries of a batch: where each lies, and runs of them.
 ghost use Rattle.std.specs.Prelude.{◌≡◌, ◌∷◌, ◌++◌, [], length, IsTrue, ◌↔◌, OnOk, OnErr};
 
+use crate::errors::{Error, Result};
 use crate::pipe_log::FileBlockHandle;
-use std::alloc::{AllocError, Global};
+use std::alloc::Global;
 use std::marker::Model;
 
 /// How the entry block of a batch is compressed. There is one kind, which is none at all.
 #[derive(Clone, Copy, Debug, PartialEq, Eq)]
 pub enum CompressionType {
     None = 0,
+}
+
+impl CompressionType {
+    ghost use Rattle.std.specs.Prelude.{◌≡◌};
+    ghost use Rattle.raft_log_items.specs.Fault.{Gives};
+    ghost use Rattle.raft_log_items.specs.Reading.{compression_of};
+
+    /// The kind of this byte. Any but 0 is refused as a corruption.
+    pub fn from_u8(alloc: Global, byte: u8) -> Result<CompressionType>
+        ensures { Gives result (compression_of byte) }
+    {
+        if byte != 0 {
+            return Err(Error::Corruption(format!(in alloc;
+                "Unsupported compression type: {byte}"
+            )?));
+        }
+        Ok(CompressionType::None)
+    }
+
+    /// The byte of the kind.
+    pub fn to_u8(self) -> u8
+        ensures { result ≡ 0 }
+    {
+        self as u8
+    }
 }
 
 /// One entry of a group: its index, and where its bytes lie.

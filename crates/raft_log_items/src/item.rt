@@ -3,13 +3,40 @@ ghost use Rattle.std.specs.Prelude.{◌≡◌, None};
 
 use crate::bytes::Bytes;
 use crate::entry::EntryIndexes;
+use crate::errors::{Error, Result};
 use crate::pipe_log::FileId;
+use std::alloc::Global;
 
 /// Whether a key gets a value or loses it.
 #[derive(Clone, Copy, Debug, PartialEq, Eq)]
 pub enum OpType {
     Put = 1,
     Del = 2,
+}
+
+impl OpType {
+    ghost use Rattle.std.specs.Prelude.{◌≡◌};
+    ghost use Rattle.raft_log_items.specs.Fault.{Gives};
+    ghost use Rattle.raft_log_items.specs.Reading.{operation_of};
+    ghost use Rattle.raft_log_items.specs.Writing.{operation_number};
+
+    /// The operation of this byte. An unknown one is refused as a corruption.
+    pub fn from_u8(alloc: Global, byte: u8) -> Result<OpType>
+        ensures { Gives result (operation_of byte) }
+    {
+        match byte {
+            1 => Ok(OpType::Put),
+            2 => Ok(OpType::Del),
+            _ => Err(Error::Corruption(format!(in alloc; "Unrecognized operation type: {byte}")?)),
+        }
+    }
+
+    /// The byte of the operation.
+    pub fn to_u8(self) -> u8
+        ensures { result ≡ operation_number self }
+    {
+        self as u8
+    }
 }
 
 /// What is said of all of a group.

@@ -3,6 +3,7 @@
 
 pub mod bytes;
 pub mod decode;
+pub mod encode;
 pub mod entry;
 pub mod errors;
 pub mod item;

@@ -1,5 +1,7 @@
-pub mod Grammar
+pub mod Crc
+pub mod CrcTables
 pub mod Fixed
+pub mod Grammar
 pub mod Var
 pub mod VarLoop
 pub mod VarSpelling

@@ -1,2 +1,3 @@
+pub mod Checksum
 pub mod Grammar
 pub mod Number

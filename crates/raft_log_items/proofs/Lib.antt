@@ -3,3 +3,4 @@ pub mod Faults
 pub mod Entries
 pub mod Spelled
 pub mod Each
+pub mod Places

@@ -4,3 +4,4 @@ pub mod Fault
 pub mod Items
 pub mod Reading
 pub mod Writing
+pub mod Placed

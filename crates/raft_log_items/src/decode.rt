@@ -3,6 +3,7 @@
 //! Each function takes just the bytes of what it answers, and only where it answers. It refuses only where no beginning of
 //! the bytes is in the grammar, and tells the first fault in the format's order.
 ghost use Rattle.std.specs.Prelude.{◌≡◌, ◌+◌, ◌<◌, ◌^◌, length, IfOk};
+ghost use Rattle.raft_log_codec.specs.Grammar.{times_at};
 ghost use Rattle.raft_log_items.specs.Run.{FollowsFrom};
 ghost use Rattle.raft_log_items.specs.Fault.{Answers, AnswersItems, Decodes};
 ghost use Rattle.raft_log_items.specs.Items.{IsEntries, IsCommand, IsKeyValue, IsItem, AreItems};
@@ -239,6 +240,36 @@ fn take_item(alloc: Global, source: &mut BytesSlice<'_>) -> Result<LogItem>
         raft_group_id,
         content,
     })
+}
+
+/// Reads so many items.
+fn take_items(alloc: Global, source: &mut BytesSlice<'_>, count: u64) -> Result<Vec<LogItem>>
+    ensures { AnswersItems result source.old.now source.new.now (times_at item_at count source.old.now) }
+{
+    let mut rest: &[u8] = *source;
+    // Each item takes a byte at least.
+    let room = (rest.len() as u64).min(count);
+    let mut items = Vec::with_capacity(alloc, room as usize)?;
+    for _ in 0..count {
+        let item = take_item(alloc, &mut rest)?;
+        items.push(item)?;
+    }
+    *source = rest;
+    Ok(items)
+}
+
+/// Reads a list of items: their count, and each of them.
+///
+/// No more room is made than for one item a byte, whatever the count says.
+#[tactic(auto, unfolding(crate::specs::Reading::items_at))]
+pub fn decode_items(alloc: Global, source: &mut BytesSlice<'_>) -> Result<Vec<LogItem>>
+    ensures { AnswersItems result source.old.now source.new.now (items_at source.old.now) }
+{
+    let mut rest: &[u8] = *source;
+    let count = codec::decode_var_u64(&mut rest)?;
+    let items = take_items(alloc, &mut rest, count)?;
+    *source = rest;
+    Ok(items)
 }
 
 impl EntryIndexes {

@@ -71,7 +71,7 @@ impl Default for EntryIndex {
 /// Contracts see it as the list of its entries.
 #[derive(Clone, Debug, Drop)]
 pub struct EntryIndexes {
-    entries: Vec<EntryIndex>,
+    pub(crate) entries: Vec<EntryIndex>,
 }
 
 impl Model for EntryIndexes {

@@ -9,6 +9,7 @@ pub mod errors;
 pub mod item;
 pub mod laws;
 pub mod pipe_log;
+mod place;
 
 pub use bytes::Bytes;
 pub use entry::{CompressionType, EntryIndex, EntryIndexes};

@@ -1,0 +1,7 @@
+//! Log records: items and entries in signed batches.
+#![tactic(auto)]
+
+pub mod batch;
+pub mod header;
+
+pub use header::{LOG_BATCH_HEADER_LEN, decode_entries_block, decode_header};

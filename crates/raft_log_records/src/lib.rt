@@ -3,5 +3,8 @@
 
 pub mod batch;
 pub mod header;
+pub mod log_batch;
+mod record;
 
 pub use header::{LOG_BATCH_HEADER_LEN, decode_entries_block, decode_header};
+pub use log_batch::{BatchState, LogBatch};

@@ -1,0 +1,91 @@
+//! A batch on its way to a file: it is filled, populated, signed for a file, and written.
+ghost use Rattle.std.specs.Prelude.{◌≡◌, ◌≢◌, ◌+◌, ◌≤◌, ◌<◌, ◌^◌, ◌++◌, ◌∷◌, ◌↔◌, [], length, take, drop, None, OnOk, OnErr, IfOk, IsTrue};
+
+use raft_log_items::{Command, FileBlockHandle, LogFileContext, LogItem, LogItemContent};
+use std::alloc::{AllocError, Global};
+use std::marker::Model;
+
+/// How far a batch is on its way to a file.
+#[derive(Clone, Copy, Debug, PartialEq, Eq)]
+pub enum BatchState {
+    /// Items are added.
+    Filling,
+    /// The record is made, and not signed yet.
+    Populated,
+    /// The record is signed with this, for a file.
+    Signed(Option<u32>),
+    /// The record is in a file, and the items have their places.
+    Written,
+}
+
+/// Items and the bytes of their entries, and the record of these.
+///
+/// Contracts see a batch as its state, its items and the bytes of their entries.
+#[derive(Debug, Drop)]
+pub struct LogBatch {
+    items: Vec<LogItem>,
+    /// Room for the header, the entries' bytes, and once it is populated the rest of the record.
+    buf: Vec<u8>,
+    /// How many bytes the entries have.
+    entries_len: usize,
+    /// The checksum of the items, once the batch is populated.
+    checksum: u32,
+    state: BatchState,
+}
+
+impl Model for LogBatch {
+    ghost use Rattle.std.specs.Prelude.{◌≡◌, ◌+◌, ◌≤◌, take, drop, length};
+    ghost use Rattle.raft_log_items.specs.Placed.{entries_len};
+    ghost use Rattle.raft_log_records.specs.Batch.{Batch, HoldsIn, max_entries_len};
+
+    ghost Value = { Batch };
+
+    ghost view = { λ b. record { state = b.state; items = b.items.items; entries = take b.entries_len (drop 16 b.buf.items) } };
+
+    ghost invariant = { λ b. (16 + b.entries_len ≤ length b.buf.items) × (b.entries_len ≤ max_entries_len)
+        × HoldsIn b.state b.buf.items b.checksum b.items.items (take b.entries_len (drop 16 b.buf.items)) };
+}
+
+impl LogBatch {
+    ghost use Rattle.std.specs.Prelude.{◌≡◌, ◌++◌, ◌∷◌, ◌↔◌, [], IfOk, OnOk, OnErr, IsTrue};
+    ghost use Rattle.raft_log_records.specs.declared.log_batch.BatchState.TheVariants.{Filling, Populated, Signed, Written};
+    ghost use Rattle.raft_log_items.specs.declared.item.LogItemContent.TheVariants as contents;
+
+    /// An empty batch, which is being filled.
+    pub fn default(alloc: Global) -> Result<Self, AllocError>
+        ensures { IfOk result (λ b. b ≡ record { state = Filling; items = []; entries = [] }) }
+    {
+        Ok(LogBatch {
+            items: Vec::new(alloc),
+            buf: vec![in alloc; 0; 16]?,
+            entries_len: 0,
+            checksum: 0,
+            state: BatchState::Filling,
+        })
+    }
+
+    /// Whether nothing was added.
+    pub fn is_empty(&self) -> bool
+        ensures { IsTrue result ↔ (self.now.items ≡ []) }
+    {
+        self.items.is_empty()
+    }
+
+    /// How far the batch is.
+    pub fn state(&self) -> BatchState
+        ensures { result ≡ self.now.state }
+    {
+        self.state
+    }
+
+    /// Adds a command of a group. A refusal changes nothing.
+    pub fn add_command(&mut self, raft_group_id: u64, command: Command) -> Result<(), AllocError>
+        requires { self.old.state ≡ Filling }
+        ensures ok { OnOk result (self.new ≡ record self.old { items = self.old.items ++ record { raft_group_id = raft_group_id; content = contents.Command command } ∷ [] }) }
+        ensures err { OnErr result (self.new ≡ self.old) }
+    {
+        self.items
+            .push(LogItem::new_command(raft_group_id, command))?;
+        Ok(())
+    }
+}

@@ -1,7 +1,9 @@
 -- A batch as callers see it: what was added, and how far it is on its way to a file.
-use Rattle.std.specs.Prelude.{◌≡◌, ℕ, ◌+◌, ◌≤◌, ◌<◌, ◌^◌, List, [], ◌∷◌, ◌++◌, length, take, drop, map, Option, Some, None, Bool, true, false}
+use Rattle.std.specs.Prelude.{◌≡◌, ◌⊎◌, ℕ, ◌+◌, ◌≤◌, ◌<◌, ◌^◌, List, [], ◌∷◌, ◌++◌, length, take, drop, map, Option, Some, None, Bool, true, false}
 use Rattle.raft_log_codec.specs.Checksum.{crc32_of}
 use Rattle.raft_log_items.specs.declared.item.LogItem.{LogItem}
+use Rattle.raft_log_items.specs.declared.errors.Error.{Error}
+use Rattle.raft_log_items.specs.declared.errors.Error.TheVariants as errors
 use Rattle.raft_log_items.specs.Items.{AreItems}
 use Rattle.raft_log_items.specs.Writing.{items_bytes, plain_item}
 use Rattle.raft_log_items.specs.Placed.{entries_len}
@@ -41,3 +43,7 @@ HoldsIn Filling buffer checksum items entries = length buffer ≡ 16 + length en
 HoldsIn Populated buffer checksum items entries = HoldsRecord None buffer checksum items entries
 HoldsIn (Signed signature) buffer checksum items entries = HoldsRecord signature buffer checksum items entries
 HoldsIn Written buffer checksum items entries = Unit {0}
+
+-- memory ran out, or the record's length needs more than 56 bits
+abbrev pub IsMemoryOrFull : Error → ℕ → Type 0
+IsMemoryOrFull e len = (e ≡ errors.Memory) ⊎ ((e ≡ errors.Full) × (2 ^ 56 ≤ len))

@@ -1,17 +1,17 @@
 //! The bytes of a record, made in the buffer that holds the entries' bytes behind room for a header.
-ghost use Rattle.std.specs.Prelude.{◌≡◌, ◌+◌, ◌-◌, ◌*◌, ◌≤◌, ◌<◌, ◌^◌, ◌++◌, length, take, drop, map, None, OnOk, OnErr, IfOk};
+ghost use Rattle.std.specs.Prelude.{◌≡◌, ◌+◌, ◌-◌, ◌*◌, ◌≤◌, ◌<◌, ◌^◌, ◌++◌, length, take, drop, map, None, OnOk, OnErr, IfOk, IfErr};
 ghost use Rattle.raft_log_codec.specs.Number.{u32_le_bytes};
 ghost use Rattle.raft_log_codec.specs.Checksum.{crc32_of};
 ghost use Rattle.raft_log_items.specs.Items.{AreItems};
 ghost use Rattle.raft_log_items.specs.Writing.{KeepsFront, items_bytes, plain_item};
-ghost use Rattle.raft_log_records.specs.Record.{header_bytes, block_bytes, footer_bytes};
-ghost use Rattle.raft_log_records.specs.Batch.{Holds};
+ghost use Rattle.raft_log_records.specs.Record.{header_bytes, block_bytes, footer_bytes, record_len};
+ghost use Rattle.raft_log_records.specs.Batch.{Holds, IsMemoryOrFull};
 
 use crate::header::LOG_BATCH_HEADER_LEN;
 use raft_log_codec::codec::append_u32_le;
 use raft_log_codec::crc32;
-use raft_log_items::LogItem;
 use raft_log_items::encode::append_items;
+use raft_log_items::{Error, LogItem, Result};
 use std::alloc::AllocError;
 
 /// Overwrites the first sixteen bytes by a header.
@@ -40,7 +40,7 @@ pub(crate) fn write_checksum(bytes: &mut [u8], checksum: u32)
 
 /// Puts the checksum behind the entries' bytes, where there are some.
 #[tactic(auto, unfolding(crate::specs::Record::block_bytes))]
-fn close_block(buf: &mut Vec<u8>) -> Result<(), AllocError>
+fn close_block(buf: &mut Vec<u8>) -> std::result::Result<(), AllocError>
     requires { 16 ≤ length buf.old.items }
     ensures ok { OnOk result (buf.new.items ≡ take 16 buf.old.items ++ block_bytes (drop 16 buf.old.items)) }
     ensures err { OnErr result (buf.new.items ≡ buf.old.items) }
@@ -55,7 +55,7 @@ fn close_block(buf: &mut Vec<u8>) -> Result<(), AllocError>
 
 /// Puts the items and their checksum, which is answered, behind the block.
 #[tactic(auto, unfolding(crate::specs::Record::footer_bytes))]
-fn append_footer(buf: &mut Vec<u8>, items: &[LogItem]) -> Result<u32, AllocError>
+fn append_footer(buf: &mut Vec<u8>, items: &[LogItem]) -> std::result::Result<u32, AllocError>
     ensures ok { OnOk result (buf.new.items ≡ buf.old.items ++ footer_bytes None items.now) }
     ensures sum { IfOk result (λ checksum. checksum ≡ crc32_of (items_bytes items.now)) }
     ensures spelled { OnOk result (AreItems (items_bytes items.now) (map plain_item items.now)) }
@@ -65,5 +65,27 @@ fn append_footer(buf: &mut Vec<u8>, items: &[LogItem]) -> Result<u32, AllocError
     append_items(buf, items)?;
     let checksum = crc32(&buf[start..]);
     append_u32_le(buf, checksum)?;
+    Ok(checksum)
+}
+
+/// The most bytes of a record: its length stands in 56 bits.
+const MAX_RECORD_LEN: u64 = (1 << 56) - 1;
+
+/// Makes the record of the entries' bytes, which stand behind room for the header, and of these items, and answers the
+/// checksum of the items. A refusal leaves what was there, maybe with more behind it.
+pub(crate) fn fill_record(buf: &mut Vec<u8>, items: &[LogItem]) -> Result<u32>
+    requires { 16 ≤ length buf.old.items }
+    ensures ok { IfOk result (λ checksum. Holds None buf.new.items checksum items.now (drop 16 buf.old.items)) }
+    ensures err { OnErr result (KeepsFront buf.old.items buf.new.items) }
+    ensures errors { IfErr result (λ e. IsMemoryOrFull e (record_len items.now (drop 16 buf.old.items))) }
+{
+    close_block(buf)?;
+    let offset = buf.len();
+    let checksum = append_footer(buf, items)?;
+    let len = buf.len();
+    if len as u64 > MAX_RECORD_LEN {
+        return Err(Error::Full);
+    }
+    write_header(buf.as_mut_slice(), len as u64, offset as u64);
     Ok(checksum)
 }

@@ -1,2 +1,3 @@
 pub mod Words
 pub mod Made
+pub mod Buffer

@@ -19,7 +19,7 @@ keeps_trans a b c h k =
 pub keeps_append : (a b : List ℕ) → KeepsFront a (a ++ b)
 keeps_append a b = take-append_seam a b
 
-block_more : (entries : List ℕ) → (more : List ℕ) × (block_bytes entries ≡ entries ++ more)
+pub block_more : (entries : List ℕ) → (more : List ℕ) × (block_bytes entries ≡ entries ++ more)
 unfolding block_bytes
 block_more [] = ([], refl)
 block_more (b ∷ bs) = (u32_le_bytes (crc32_of (b ∷ bs)), refl)

@@ -47,3 +47,23 @@ HoldsIn Written buffer checksum items entries = Unit {0}
 -- memory ran out, or the record's length needs more than 56 bits
 abbrev pub IsMemoryOrFull : Error → ℕ → Type 0
 IsMemoryOrFull e len = (e ≡ errors.Memory) ⊎ ((e ≡ errors.Full) × (2 ^ 56 ≤ len))
+
+-- the record is made
+abbrev pub IsMade : BatchState → Type 0
+IsMade Filling = ⊥
+IsMade Populated = Unit {0}
+IsMade (Signed signature) = Unit {0}
+IsMade Written = ⊥
+
+abbrev pub IsSigned : BatchState → Type 0
+IsSigned Filling = ⊥
+IsSigned Populated = ⊥
+IsSigned (Signed signature) = Unit {0}
+IsSigned Written = ⊥
+
+-- what the record is signed with
+abbrev pub signature_in : BatchState → Option ℕ
+signature_in Filling = None
+signature_in Populated = None
+signature_in (Signed signature) = signature
+signature_in Written = None

@@ -1,7 +1,9 @@
 //! A batch on its way to a file: it is filled, populated, signed for a file, and written.
 ghost use Rattle.std.specs.Prelude.{◌≡◌, ◌≢◌, ◌+◌, ◌≤◌, ◌<◌, ◌^◌, ◌++◌, ◌∷◌, ◌↔◌, [], length, take, drop, None, OnOk, OnErr, IfOk, IsTrue};
 
-use raft_log_items::{Command, FileBlockHandle, LogFileContext, LogItem, LogItemContent};
+use crate::header::LOG_BATCH_HEADER_LEN;
+use crate::record::{fill_record, write_checksum};
+use raft_log_items::{Command, LogFileContext, LogItem, Result};
 use std::alloc::{AllocError, Global};
 use std::marker::Model;
 
@@ -47,12 +49,16 @@ impl Model for LogBatch {
 }
 
 impl LogBatch {
+    ghost use Rattle.std.specs.Prelude.{length, None, IfErr};
+    ghost use Rattle.raft_log_items.specs.Files.{signature_of};
+    ghost use Rattle.raft_log_records.specs.Record.{record_len};
+    ghost use Rattle.raft_log_records.specs.Batch.{batch_bytes, IsMemoryOrFull, IsMade, IsSigned, signature_in};
     ghost use Rattle.std.specs.Prelude.{◌≡◌, ◌++◌, ◌∷◌, ◌↔◌, [], IfOk, OnOk, OnErr, IsTrue};
     ghost use Rattle.raft_log_records.specs.declared.log_batch.BatchState.TheVariants.{Filling, Populated, Signed, Written};
     ghost use Rattle.raft_log_items.specs.declared.item.LogItemContent.TheVariants as contents;
 
     /// An empty batch, which is being filled.
-    pub fn default(alloc: Global) -> Result<Self, AllocError>
+    pub fn default(alloc: Global) -> std::result::Result<Self, AllocError>
         ensures { IfOk result (λ b. b ≡ record { state = Filling; items = []; entries = [] }) }
     {
         Ok(LogBatch {
@@ -79,13 +85,85 @@ impl LogBatch {
     }
 
     /// Adds a command of a group. A refusal changes nothing.
-    pub fn add_command(&mut self, raft_group_id: u64, command: Command) -> Result<(), AllocError>
+    pub fn add_command(
+        &mut self,
+        raft_group_id: u64,
+        command: Command,
+    ) -> std::result::Result<(), AllocError>
         requires { self.old.state ≡ Filling }
         ensures ok { OnOk result (self.new ≡ record self.old { items = self.old.items ++ record { raft_group_id = raft_group_id; content = contents.Command command } ∷ [] }) }
         ensures err { OnErr result (self.new ≡ self.old) }
     {
         self.items
             .push(LogItem::new_command(raft_group_id, command))?;
+        Ok(())
+    }
+
+    /// Makes the record, and answers how many bytes it has. An empty batch has none.
+    ///
+    /// Refused as full is a record whose length needs more than 56 bits. A refusal changes nothing.
+    pub fn finish_populate(&mut self) -> Result<usize>
+        requires { self.old.state ≡ Filling }
+        ensures ok { IfOk result (λ len. (self.new ≡ record self.old { state = Populated }) × (len ≡ length (batch_bytes None self.old.items self.old.entries))) }
+        ensures err { OnErr result (self.new ≡ self.old) }
+        ensures errors { IfErr result (λ e. IsMemoryOrFull e (record_len self.old.items self.old.entries)) }
+    {
+        if self.items.is_empty() {
+            self.state = BatchState::Populated;
+            return Ok(0);
+        }
+        let filled = self.buf.len();
+        match fill_record(&mut self.buf, self.items.as_slice()) {
+            Ok(checksum) => {
+                self.checksum = checksum;
+                self.state = BatchState::Populated;
+                Ok(self.buf.len())
+            }
+            Err(error) => {
+                self.buf.truncate(filled);
+                Err(error)
+            }
+        }
+    }
+
+    /// Signs the record for a file. It may be signed again for another one.
+    pub fn prepare_write(&mut self, context: &LogFileContext)
+        requires { IsMade self.old.state }
+        ensures { self.new ≡ record self.old { state = Signed (signature_of context.now) } }
+    {
+        let signature = context.get_signature();
+        if self.items.is_empty() {
+            self.state = BatchState::Signed(signature);
+            return;
+        }
+        write_checksum(
+            self.buf.as_mut_slice(),
+            self.checksum ^ signature.unwrap_or(0),
+        );
+        self.state = BatchState::Signed(signature);
+    }
+
+    /// The bytes of the record for the file for which it was signed. An empty batch has none.
+    pub fn encoded_bytes(&self) -> &[u8]
+        requires { IsSigned self.now.state }
+        ensures { result.now ≡ batch_bytes (signature_in self.now.state) self.now.items self.now.entries }
+    {
+        if self.items.is_empty() {
+            return &self.buf[self.buf.len()..];
+        }
+        self.buf.as_slice()
+    }
+
+    /// Gives the items back, behind what is there, and leaves an empty batch that is being filled. Its buffer is kept.
+    /// A refusal changes nothing.
+    pub fn drain(&mut self, into: &mut Vec<LogItem>) -> std::result::Result<(), AllocError>
+        ensures ok { OnOk result ((into.new.items ≡ into.old.items ++ self.old.items) × (self.new ≡ record { state = Filling; items = []; entries = [] })) }
+        ensures err { OnErr result ((into.new.items ≡ into.old.items) × (self.new ≡ self.old)) }
+    {
+        into.append(&mut self.items)?;
+        self.buf.truncate(LOG_BATCH_HEADER_LEN);
+        self.entries_len = 0;
+        self.state = BatchState::Filling;
         Ok(())
     }
 }

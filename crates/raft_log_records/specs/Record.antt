@@ -1,5 +1,5 @@
 -- Whole records: a header, the entry block, and the footer with the items. A record is signed with the number of its file.
-use Rattle.std.specs.Prelude.{◌≡◌, ℕ, ◌+◌, ◌-◌, ◌*◌, ◌/◌, ◌%◌, ◌<◌, ◌^◌, List, [], ◌∷◌, ◌++◌, length, take, drop, Option, Result, Ok, Err, unwrap_or, nat_lt, ◌==◌, if◌then◌else◌, codes, bit_xor, Bool, ◌&&◌}
+use Rattle.std.specs.Prelude.{◌≡◌, ◌⊎◌, ℕ, ◌+◌, ◌-◌, ◌*◌, ◌/◌, ◌%◌, ◌<◌, ◌^◌, List, [], ◌∷◌, ◌++◌, length, take, drop, Option, Result, Ok, Err, unwrap_or, nat_lt, ◌==◌, if◌then◌else◌, codes, bit_xor, Bool, ◌&&◌}
 use Rattle.std.specs.Fmt.{decimal}
 use Rattle.std.specs.Int.{w32, w64, from_be_bytes, from_le_bytes}
 use Rattle.raft_log_codec.specs.Grammar.{Reader, ◌>>=◌}
@@ -31,18 +31,15 @@ pub record IsFooter (signature : Option ℕ) (bytes : List ℕ) (items : List Lo
   pub items_spelled : AreItems body items
   pub checksum_spelled : IsU32Le checksum (signed signature body)
 
--- ---- entry blocks: the entries' bytes and their checksum, or nothing where there are none
-
-abbrev pub block_len : ℕ → ℕ
-block_len n = if n == 0 then 0 else n + 4
+-- ---- entry blocks: no bytes where there are no entries' bytes, or the entries' bytes and their checksum
 
 -- the entries' lengths add up to a block of so many bytes, and each offset in it has 32 bits
 abbrev pub AddsUp : List LogItem → ℕ → Type 0
-AddsUp items len = (entries_len items < 2 ^ 32) × (block_len (entries_len items) ≡ len)
+AddsUp items len = (entries_len items < 2 ^ 32) × (((len ≡ 0) × (entries_len items ≡ 0)) ⊎ (len ≡ entries_len items + 4))
 
+-- A block with a checksum and no entries' bytes is read, and never written.
 abbrev pub IsBlock : List ℕ → List ℕ → Type 0
-IsBlock bytes [] = bytes ≡ []
-IsBlock bytes (b ∷ bs) = (checksum : List ℕ) × IsU32Le checksum (crc32_of (b ∷ bs)) × (bytes ≡ (b ∷ bs) ++ checksum)
+IsBlock bytes entries = ((bytes ≡ []) × (entries ≡ [])) ⊎ ((checksum : List ℕ) × IsU32Le checksum (crc32_of entries) × (bytes ≡ entries ++ checksum))
 
 -- ---- headers: 256 times the record's length, which leaves the compression's type 0 in the lowest byte, and where the footer begins
 
@@ -115,13 +112,13 @@ header_at bytes =
 unfoldable pub block_of : List ℕ → Result (List ℕ) Fault
 block_of bytes =
     if length bytes == 0 then Ok []
-    else (if nat_lt (length bytes) 5 then Err (corrupt (block_too_short (length bytes)))
+    else (if nat_lt (length bytes) 4 then Err (corrupt (block_too_short (length bytes)))
     else (if from_le_bytes w32 (drop (length bytes - 4) bytes) == crc32_of (take (length bytes - 4) bytes) then Ok (take (length bytes - 4) bytes)
     else Err (corrupt block_mismatch)))
 
--- whether so many bytes of entries are a block of this length
+-- whether so many bytes of entries are in a block of this length, where each offset has 32 bits
 abbrev pub adds_up : ℕ → ℕ → Bool
-adds_up len n = nat_lt n (2 ^ 32) && (block_len n == len)
+adds_up len n = nat_lt n (2 ^ 32) && (if len == 0 then n == 0 else len == n + 4)
 
 -- the items of a footer, with what stands behind them
 unfoldable pub whole_items : ℕ → List LogItem → List ℕ → Result (List LogItem) Fault

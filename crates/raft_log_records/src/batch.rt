@@ -1,5 +1,5 @@
 //! Lists of items: what a footer holds.
-ghost use Rattle.std.specs.Prelude.{◌≡◌, ◌+◌, ◌-◌, ◌<◌, ◌^◌, min, length, unwrap_or};
+ghost use Rattle.std.specs.Prelude.{◌≡◌, ◌+◌, ◌-◌, ◌<◌, ◌^◌, ◌==◌, if◌then◌else◌, min};
 ghost use Rattle.raft_log_items.specs.Fault.{Gives, Answers};
 ghost use Rattle.raft_log_items.specs.Placed.{run_len, entries_len, laid_out, written};
 ghost use Rattle.raft_log_records.specs.Record.{GivesItems, whole_items, items_of, footer_of};
@@ -34,6 +34,18 @@ fn entries_len(items: &[LogItem]) -> u64
     len
 }
 
+/// Whether so many bytes of entries are in a block of this length.
+fn fills(len: u64, block_len: usize) -> bool
+    requires { len < 2 ^ 32 }
+    ensures { result ≡ (if block_len == 0 then len == 0 else block_len == len + 4) }
+{
+    if block_len == 0 {
+        len == 0
+    } else {
+        block_len as u64 == len + LOG_BATCH_CHECKSUM_LEN as u64
+    }
+}
+
 /// The items of a footer: nothing stands behind them, and their entries add up to a block of this length.
 #[tactic(auto, unfolding(crate::specs::Record::whole_items))]
 fn check_items(
@@ -49,12 +61,7 @@ fn check_items(
         return Err(Error::Corruption(format!(in alloc; "Bytes after the last log item: {left}")?));
     }
     let len = entries_len(items.as_slice());
-    let block = if len == 0 {
-        0
-    } else {
-        len.saturating_add(LOG_BATCH_CHECKSUM_LEN as u64)
-    };
-    if len > u32::MAX as u64 || block != block_len as u64 {
+    if len > u32::MAX as u64 || !fills(len, block_len) {
         return Err(Error::Corruption(format!(in alloc;
             "Entry lengths do not add up to the entry block"
         )?));

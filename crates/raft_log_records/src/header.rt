@@ -63,7 +63,8 @@ pub fn decode_header(
 
 /// The entries' bytes of a whole entry block, which is not copied. No bytes are a block without entries.
 ///
-/// Refuses as a corruption fewer than five bytes, and a wrong checksum.
+/// Refuses as a corruption one to three bytes, and a wrong checksum. A checksum alone is a block too, which is never
+/// written.
 #[tactic(auto, unfolding(crate::specs::Record::block_of))]
 pub fn decode_entries_block<'a>(
     alloc: Global,
@@ -77,7 +78,7 @@ pub fn decode_entries_block<'a>(
     if len == 0 {
         return Ok(block);
     }
-    if len <= LOG_BATCH_CHECKSUM_LEN {
+    if len < LOG_BATCH_CHECKSUM_LEN {
         return Err(Error::Corruption(format!(in alloc; "Entry block too short: {len}")?));
     }
     let (entries, mut checksum) = block.split_at(len - LOG_BATCH_CHECKSUM_LEN);

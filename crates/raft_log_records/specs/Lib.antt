@@ -1,2 +1,3 @@
 pub mod Record
 pub mod Batch
+pub mod Key

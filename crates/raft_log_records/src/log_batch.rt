@@ -1,9 +1,10 @@
 //! A batch on its way to a file: it is filled, populated, signed for a file, and written.
-ghost use Rattle.std.specs.Prelude.{◌≡◌, ◌≢◌, ◌+◌, ◌≤◌, ◌<◌, ◌^◌, ◌++◌, ◌∷◌, ◌↔◌, [], length, take, drop, None, OnOk, OnErr, IfOk, IsTrue};
+ghost use Rattle.std.specs.Prelude.{◌≡◌, false, OnOk, IfErr};
+ghost use Rattle.raft_log_records.specs.Key.{is_internal, IsKeyRefusal};
 
 use crate::header::LOG_BATCH_HEADER_LEN;
 use crate::record::{fill_record, write_checksum};
-use raft_log_items::{Command, LogFileContext, LogItem, Result};
+use raft_log_items::{Bytes, Command, Error, LogFileContext, LogItem, OpType, Result};
 use std::alloc::{AllocError, Global};
 use std::marker::Model;
 
@@ -35,6 +36,29 @@ pub struct LogBatch {
     state: BatchState,
 }
 
+/// Whether the key begins with two underscores.
+fn is_internal(key: &[u8]) -> bool
+    ensures { result ≡ is_internal key.now }
+{
+    match key {
+        [first, second, ..] => *first == b'_' && *second == b'_',
+        _ => false,
+    }
+}
+
+/// Refuses the log's own keys.
+fn check_key(alloc: Global, key: &[u8]) -> Result<()>
+    ensures ok { OnOk result (is_internal key.now ≡ false) }
+    ensures errors { IfErr result (λ e. IsKeyRefusal e key.now) }
+{
+    if is_internal(key) {
+        return Err(Error::InvalidArgument(format!(in alloc;
+            "key prefix `__` reserved for internal usage"
+        )?));
+    }
+    Ok(())
+}
+
 impl Model for LogBatch {
     ghost use Rattle.std.specs.Prelude.{◌≡◌, ◌+◌, ◌≤◌, take, drop, length};
     ghost use Rattle.raft_log_items.specs.Placed.{entries_len};
@@ -49,7 +73,8 @@ impl Model for LogBatch {
 }
 
 impl LogBatch {
-    ghost use Rattle.std.specs.Prelude.{length, None, IfErr};
+    ghost use Rattle.std.specs.Prelude.{length, None, IfErr, IsErr};
+    ghost use Rattle.raft_log_records.specs.Key.{is_internal, IsKeyRefusal, put_item, del_item};
     ghost use Rattle.raft_log_items.specs.Files.{signature_of};
     ghost use Rattle.raft_log_records.specs.Record.{record_len};
     ghost use Rattle.raft_log_records.specs.Batch.{batch_bytes, IsMemoryOrFull, IsMade, IsSigned, signature_in};
@@ -96,6 +121,35 @@ impl LogBatch {
     {
         self.items
             .push(LogItem::new_command(raft_group_id, command))?;
+        Ok(())
+    }
+
+    /// Adds a key that gets a value. A key that begins with two underscores is refused as an invalid argument. A refusal
+    /// changes nothing.
+    pub fn put(&mut self, alloc: Global, raft_group_id: u64, key: Bytes, value: Bytes) -> Result<()>
+        requires { self.old.state ≡ Filling }
+        ensures ok { OnOk result (self.new ≡ record self.old { items = self.old.items ++ put_item raft_group_id key value ∷ [] }) }
+        ensures internal { IsTrue (is_internal key) → IsErr result }
+        ensures err { OnErr result (self.new ≡ self.old) }
+        ensures errors { IfErr result (λ e. IsKeyRefusal e key) }
+    {
+        check_key(alloc, key.as_slice())?;
+        self.items.push(LogItem::new_kv(raft_group_id, OpType::Put, key, Some(value)))?;
+        Ok(())
+    }
+
+    /// Adds a key that loses its value. A key that begins with two underscores is refused as an invalid argument. A
+    /// refusal changes nothing.
+    pub fn delete(&mut self, alloc: Global, raft_group_id: u64, key: Bytes) -> Result<()>
+        requires { self.old.state ≡ Filling }
+        ensures ok { OnOk result (self.new ≡ record self.old { items = self.old.items ++ del_item raft_group_id key ∷ [] }) }
+        ensures internal { IsTrue (is_internal key) → IsErr result }
+        ensures err { OnErr result (self.new ≡ self.old) }
+        ensures errors { IfErr result (λ e. IsKeyRefusal e key) }
+    {
+        check_key(alloc, key.as_slice())?;
+        self.items
+            .push(LogItem::new_kv(raft_group_id, OpType::Del, key, None))?;
         Ok(())
     }
 

@@ -8,3 +8,6 @@ mod record;
 
 pub use header::{LOG_BATCH_HEADER_LEN, decode_entries_block, decode_header};
 pub use log_batch::{BatchState, LogBatch};
+
+#[cfg(test)]
+mod tests;

@@ -1,8 +1,10 @@
 //! Lists of items: what a footer holds.
-ghost use Rattle.std.specs.Prelude.{◌≡◌, ◌+◌, ◌-◌, ◌<◌, ◌^◌, ◌==◌, if◌then◌else◌, min};
+ghost use Rattle.std.specs.Prelude.{◌≡◌, ◌+◌, ◌-◌, ◌<◌, ◌^◌, ◌==◌, if◌then◌else◌, List, MatchResult, min};
 ghost use Rattle.raft_log_items.specs.Fault.{Gives, Answers};
 ghost use Rattle.raft_log_items.specs.Placed.{run_len, entries_len, laid_out, written};
-ghost use Rattle.raft_log_records.specs.Record.{GivesItems, whole_items, items_of, footer_of};
+ghost use Rattle.raft_log_records.specs.Record.{GivesItems, whole_items, items_of, footer_of, IsFooter, AddsUp};
+ghost use Rattle.raft_log_items.specs.declared.errors.Error.TheVariants as errors;
+ghost use Rattle.raft_log_items.specs.declared.item.LogItem.{LogItem};
 
 use crate::header::LOG_BATCH_CHECKSUM_LEN;
 use raft_log_codec::{codec, crc32};
@@ -81,7 +83,7 @@ fn decode_whole_items(alloc: Global, bytes: &[u8], block_len: usize) -> Result<V
 
 /// The items of a whole footer with this signature.
 #[tactic(auto, unfolding(crate::specs::Record::footer_of))]
-pub(crate) fn decode_footer(
+fn read_footer(
     alloc: Global,
     bytes: &[u8],
     block_len: usize,
@@ -98,4 +100,20 @@ pub(crate) fn decode_footer(
         return Err(Error::Corruption(format!(in alloc; "Log batch footer checksum mismatch")?));
     }
     decode_whole_items(alloc, body, block_len)
+}
+
+/// The items of a whole footer that was signed with this, whose entries add up to a block of this length.
+///
+/// Refuses as a corruption fewer than five bytes, a wrong checksum, bytes after the last item, and lengths that don't add
+/// up, and otherwise the first fault of the items.
+pub fn decode_footer(
+    alloc: Global,
+    bytes: &[u8],
+    block_len: usize,
+    signature: Option<u32>,
+) -> Result<Vec<LogItem>>
+    ensures only { (items : List LogItem) → IsFooter signature bytes.now items → AddsUp items block_len → MatchResult result (λ found. found.items ≡ items) (λ e. e ≡ errors.Memory) }
+    ensures exact { GivesItems result (footer_of signature block_len bytes.now) }
+{
+    read_footer(alloc, bytes, block_len, signature)
 }

@@ -1,6 +1,5 @@
 //! The worked bytes of the format, and refusals with their texts.
-use crate::batch::decode_footer;
-use crate::{LogBatch, decode_entries_block, decode_header};
+use crate::{LogBatch, decode_entries_block, decode_footer, decode_header};
 use raft_log_items::{
     Bytes, Command, CompressionType, FileId, LogFileContext, LogItemContent, LogQueue, Version,
 };

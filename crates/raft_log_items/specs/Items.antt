@@ -1,0 +1,106 @@
+-- How items are spelled, and the functions that read them from the front of a list. A number is a var_u64.
+use Rattle.std.specs.Prelude.{◌≡◌, ℕ, zero, suc, ◌+◌, ◌^◌, Bool, List, [], ◌∷◌, length, Some, None, Ok, Err, nat_lt, ◌==◌, if◌then◌else◌, IsTrue}
+use Rattle.raft_log_codec.specs.Grammar.{Reader, IsKnown, Then, Times, Choice, ◌>>=◌}
+use Rattle.raft_log_codec.specs.Number.{IsVarU64, IsByte, var_u64_at, byte_at_front}
+use Rattle.raft_log_items.specs.declared.entry.EntryIndex.{EntryIndex}
+use Rattle.raft_log_items.specs.declared.item.OpType.TheVariants as ops
+use Rattle.raft_log_items.specs.declared.item.Command.{Command}
+use Rattle.raft_log_items.specs.declared.item.Command.TheVariants as commands
+use Rattle.raft_log_items.specs.declared.item.KeyValue.{KeyValue}
+use Rattle.raft_log_items.specs.declared.item.LogItemContent.{LogItemContent}
+use Rattle.raft_log_items.specs.declared.item.LogItemContent.TheVariants as contents
+use Rattle.raft_log_items.specs.declared.item.LogItem.{LogItem}
+use Rattle.raft_log_items.specs.Run.{unplaced_entry}
+use Rattle.raft_log_items.specs.Fault.{Fault, lifted_at}
+use Rattle.raft_log_items.specs.Fault.Fault.{corrupt}
+
+-- ---- rules
+
+-- no bytes at all
+abbrev pub Never : {A : Type 0} → List ℕ → A → Type 0
+Never bytes x = ⊥
+
+abbrev pub never_at : {A : Type 0} → List ℕ → Reader A Fault
+never_at text bytes = Err (corrupt text)
+
+-- of the spellings only those whose value passes
+abbrev pub Passing : {A : Type 0} → (A → Bool) → (List ℕ → A → Type 0) → List ℕ → A → Type 0
+Passing test P bytes x = P bytes x × IsTrue (test x)
+
+abbrev pub passing_at : {A : Type 0} → (A → Bool) → List ℕ → Reader A Fault → Reader A Fault
+passing_at test text read bytes = read bytes >>= λ r. if test r.0 then Ok r else Err (corrupt text)
+
+-- ---- numbers and bytes
+
+abbrev pub number_at : Reader ℕ Fault
+number_at = lifted_at var_u64_at
+
+abbrev pub kind_at : Reader ℕ Fault
+kind_at = lifted_at byte_at_front
+
+-- a length, and as many bytes
+abbrev pub IsBytesOf : ℕ → List ℕ → List ℕ → Type 0
+IsBytesOf n bytes xs = (length bytes ≡ n) × (xs ≡ bytes)
+
+abbrev pub IsBytes : List ℕ → List ℕ → Type 0
+IsBytes = Then IsVarU64 IsBytesOf
+
+-- ---- entries: their count, if it isn't 0 the first index, then the length of each
+
+-- a length has 32 bits
+abbrev pub is_entry_len : ℕ → Bool
+is_entry_len n = nat_lt n (2 ^ 32)
+
+abbrev pub IsEntryLen : List ℕ → ℕ → Type 0
+IsEntryLen = Passing is_entry_len IsVarU64
+
+-- the entries from this index on, so many of them
+unfoldable pub AreEntriesFrom : ℕ → ℕ → List ℕ → List EntryIndex → Type 0
+AreEntriesFrom index zero = IsKnown []
+AreEntriesFrom index (suc n) = Then IsEntryLen (λ len. Then (AreEntriesFrom (index + 1) n) (λ es. IsKnown (unplaced_entry index len ∷ es)))
+
+-- none of so many indexes from this one on is 2 ^ 64 - 1
+abbrev pub is_first_of : ℕ → ℕ → Bool
+is_first_of count first = nat_lt (first + count) (2 ^ 64)
+
+abbrev pub IsEntriesOf : ℕ → List ℕ → List EntryIndex → Type 0
+IsEntriesOf count = Choice (count == 0) (IsKnown []) (Then (Passing (is_first_of count) IsVarU64) (λ first. AreEntriesFrom first count))
+
+abbrev pub IsEntries : List ℕ → List EntryIndex → Type 0
+IsEntries = Then IsVarU64 IsEntriesOf
+
+-- ---- commands: 1 clean; 2 compact, and the index
+
+abbrev pub IsCommandOf : ℕ → List ℕ → Command → Type 0
+IsCommandOf kind = Choice (kind == 1) (IsKnown commands.Clean) (Choice (kind == 2) (Then IsVarU64 (λ index. IsKnown (commands.Compact index))) Never)
+
+abbrev pub IsCommand : List ℕ → Command → Type 0
+IsCommand = Then IsByte IsCommandOf
+
+-- ---- keys: 1 put, the key, the value; 2 delete, the key
+
+abbrev pub put_of : List ℕ → List ℕ → KeyValue
+put_of key value = record { op_type = ops.Put; key = key; value = Some value; file_id = None }
+
+abbrev pub del_of : List ℕ → KeyValue
+del_of key = record { op_type = ops.Del; key = key; value = None; file_id = None }
+
+abbrev pub IsKeyValueOf : ℕ → List ℕ → KeyValue → Type 0
+IsKeyValueOf op = Choice (op == 1) (Then IsBytes (λ key. Then IsBytes (λ value. IsKnown (put_of key value)))) (Choice (op == 2) (Then IsBytes (λ key. IsKnown (del_of key))) Never)
+
+abbrev pub IsKeyValue : List ℕ → KeyValue → Type 0
+IsKeyValue = Then IsByte IsKeyValueOf
+
+-- ---- items: the group, 1 entries, 2 command, 3 key, and the content
+
+abbrev pub IsContentOf : ℕ → List ℕ → LogItemContent → Type 0
+IsContentOf kind = Choice (kind == 1) (Then IsEntries (λ es. IsKnown (contents.EntryIndexes es)))
+    (Choice (kind == 2) (Then IsCommand (λ c. IsKnown (contents.Command c)))
+    (Choice (kind == 3) (Then IsKeyValue (λ kv. IsKnown (contents.Kv kv))) Never))
+
+abbrev pub IsItem : List ℕ → LogItem → Type 0
+IsItem = Then IsVarU64 (λ group. Then IsByte (λ kind. Then (IsContentOf kind) (λ content. IsKnown (record { raft_group_id = group; content = content }))))
+
+-- a list of items: their count, and each of them
+abbrev pub AreItems : List ℕ → List LogItem → Type 0
+AreItems = Then IsVarU64 (Times IsItem)

@@ -1,0 +1,49 @@
+-- How many bytes the entries of items have, and where each lies in its entry block.
+use Rattle.std.specs.Prelude.{ℕ, ◌+◌, List, [], ◌∷◌, Some, map, sum_by}
+use Rattle.raft_log_items.specs.declared.pipe_log.FileBlockHandle.{FileBlockHandle}
+use Rattle.raft_log_items.specs.declared.entry.EntryIndex.{EntryIndex}
+use Rattle.raft_log_items.specs.declared.item.LogItemContent.{LogItemContent}
+use Rattle.raft_log_items.specs.declared.item.LogItemContent.TheVariants as contents
+use Rattle.raft_log_items.specs.declared.item.LogItem.{LogItem}
+
+-- how many bytes these entries have
+abbrev pub run_len : List EntryIndex → ℕ
+run_len es = sum_by (λ e. e.entry_len) es
+
+abbrev pub content_len : LogItemContent → ℕ
+content_len (contents.EntryIndexes es) = run_len es
+content_len (contents.Command c) = 0
+content_len (contents.Kv kv) = 0
+
+-- how many bytes the entries of these items have
+abbrev pub entries_len : List LogItem → ℕ
+entries_len xs = sum_by (λ x. content_len x.content) xs
+
+-- the entries lie one after another in their block, from this offset on
+abbrev pub laid_run : ℕ → List EntryIndex → List EntryIndex
+laid_run offset [] = []
+laid_run offset (e ∷ es) = record e { entry_offset = offset } ∷ laid_run (offset + e.entry_len) es
+
+abbrev pub laid_content : ℕ → LogItemContent → LogItemContent
+laid_content offset (contents.EntryIndexes es) = contents.EntryIndexes (laid_run offset es)
+laid_content offset (contents.Command c) = contents.Command c
+laid_content offset (contents.Kv kv) = contents.Kv kv
+
+abbrev pub laid_out : ℕ → List LogItem → List LogItem
+laid_out offset [] = []
+laid_out offset (x ∷ xs) = record x { content = laid_content offset x.content } ∷ laid_out (offset + content_len x.content) xs
+
+-- the items once their entry block is written at this place
+abbrev pub written_entry : FileBlockHandle → EntryIndex → EntryIndex
+written_entry handle e = record e { entries = Some handle }
+
+abbrev pub written_content : FileBlockHandle → LogItemContent → LogItemContent
+written_content handle (contents.EntryIndexes es) = contents.EntryIndexes (map (written_entry handle) es)
+written_content handle (contents.Command c) = contents.Command c
+written_content handle (contents.Kv kv) = contents.Kv (record kv { file_id = Some handle.id })
+
+abbrev pub written_item : FileBlockHandle → LogItem → LogItem
+written_item handle x = record x { content = written_content handle x.content }
+
+abbrev pub written : FileBlockHandle → List LogItem → List LogItem
+written handle xs = map (written_item handle) xs

@@ -1,0 +1,23 @@
+//! Laws of the definitions that contracts cite, each the contract of an empty function.
+ghost use Rattle.raft_log_codec.specs.Grammar.{IsPrefixFree};
+ghost use Rattle.raft_log_items.specs.Files.{AppendAboveRewrite, NumberedInQueue, OrderAgreesWithEquality};
+ghost use Rattle.raft_log_items.specs.Items.{IsBytes, IsEntries, IsCommand, IsKeyValue, IsItem, AreItems};
+
+/// The order of files: each file of the append queue is above each of the rewrite queue, files of one queue are
+/// ordered by their numbers, and only one and the same file is neither above nor below.
+pub fn file_order()
+    ensures queues { AppendAboveRewrite }
+    ensures numbers { NumberedInQueue }
+    ensures equality { OrderAgreesWithEquality }
+{}
+
+/// No spelling of a kind begins another one of the kind, and none spells two values. So what was written is read again,
+/// whatever follows it.
+pub fn no_spelling_begins_another()
+    ensures bytes { IsPrefixFree IsBytes }
+    ensures entries { IsPrefixFree IsEntries }
+    ensures commands { IsPrefixFree IsCommand }
+    ensures keys { IsPrefixFree IsKeyValue }
+    ensures items { IsPrefixFree IsItem }
+    ensures lists { IsPrefixFree AreItems }
+{}

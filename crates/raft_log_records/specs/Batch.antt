@@ -1,0 +1,70 @@
+-- A batch as callers see it: what was added, and how far it is on its way to a file.
+use Rattle.std.specs.Prelude.{IsTrue, ◌==◌, ◌&&◌, ◌≡◌, ◌⊎◌, ℕ, ◌+◌, ◌≤◌, ◌<◌, ◌^◌, List, [], ◌∷◌, ◌++◌, length, take, drop, map, Option, Some, None, Bool, true, false}
+use Rattle.raft_log_codec.specs.Checksum.{crc32_of}
+use Rattle.raft_log_items.specs.declared.item.LogItem.{LogItem}
+use Rattle.raft_log_items.specs.declared.errors.Error.{Error}
+use Rattle.raft_log_items.specs.declared.errors.Error.TheVariants as errors
+use Rattle.raft_log_items.specs.declared.item.LogItemContent.TheVariants as contents
+use Rattle.raft_log_items.specs.Items.{AreItems, put_of, del_of}
+use Rattle.raft_log_items.specs.Writing.{items_bytes, plain_item}
+use Rattle.raft_log_items.specs.Placed.{entries_len}
+use Rattle.raft_log_records.specs.declared.log_batch.BatchState.{BatchState}
+use Rattle.raft_log_records.specs.declared.log_batch.BatchState.TheVariants.{Filling, Populated, Signed, Written}
+use Rattle.raft_log_records.specs.Record.{record_bytes}
+
+-- the state, the items, and the bytes of their entries
+pub record Batch : Type 0 where
+  pub state : BatchState
+  pub items : List LogItem
+  pub entries : List ℕ
+
+-- the most bytes that the entries of a batch may have
+abbrev pub max_entries_len : ℕ
+max_entries_len = 2147483647
+
+-- the bytes of the batch in a file with this signature: those of its record, and none where it is empty
+abbrev pub batch_bytes : Option ℕ → List LogItem → List ℕ → List ℕ
+batch_bytes signature [] entries = []
+batch_bytes signature (x ∷ xs) entries = record_bytes signature (x ∷ xs) entries
+
+-- the record in the buffer, and the checksum of its items before it is signed
+pub record Holds (signature : Option ℕ) (buffer : List ℕ) (checksum : ℕ) (items : List LogItem) (entries : List ℕ) : Type 0 where
+  pub bytes : buffer ≡ record_bytes signature items entries
+  pub sum : checksum ≡ crc32_of (items_bytes items)
+  pub spelled : AreItems (items_bytes items) (map plain_item items)
+
+-- what the buffer holds of a batch that is not empty
+abbrev pub HoldsRecord : Option ℕ → List ℕ → ℕ → List LogItem → List ℕ → Type 0
+HoldsRecord signature buffer checksum [] entries = Unit {0}
+HoldsRecord signature buffer checksum (x ∷ xs) entries = Holds signature buffer checksum (x ∷ xs) entries
+
+-- what the buffer holds in each state
+abbrev pub HoldsIn : BatchState → List ℕ → ℕ → List LogItem → List ℕ → Type 0
+HoldsIn Filling buffer checksum items entries = length buffer ≡ 16 + length entries
+HoldsIn Populated buffer checksum items entries = HoldsRecord None buffer checksum items entries
+HoldsIn (Signed signature) buffer checksum items entries = HoldsRecord signature buffer checksum items entries
+HoldsIn Written buffer checksum items entries = Unit {0}
+
+-- memory ran out, or the record's length needs more than 56 bits
+abbrev pub IsMemoryOrFull : Error → ℕ → Type 0
+IsMemoryOrFull e len = (e ≡ errors.Memory) ⊎ ((e ≡ errors.Full) × (2 ^ 56 ≤ len))
+
+-- the record is made
+abbrev pub IsMade : BatchState → Type 0
+IsMade Filling = ⊥
+IsMade Populated = Unit {0}
+IsMade (Signed signature) = Unit {0}
+IsMade Written = ⊥
+
+abbrev pub IsSigned : BatchState → Type 0
+IsSigned Filling = ⊥
+IsSigned Populated = ⊥
+IsSigned (Signed signature) = Unit {0}
+IsSigned Written = ⊥
+
+-- what the record is signed with
+abbrev pub signature_in : BatchState → Option ℕ
+signature_in Filling = None
+signature_in Populated = None
+signature_in (Signed signature) = signature
+signature_in Written = None

@@ -1,0 +1,37 @@
+-- Keys: which are the log's own, and the items that put and delete them.
+use Rattle.std.specs.Prelude.{ℕ, Bool, false, List, [], ◌∷◌, ◌==◌, ◌&&◌, IsTrue}
+use Rattle.raft_log_items.specs.declared.errors.Error.{Error}
+use Rattle.raft_log_items.specs.declared.errors.Error.TheVariants as errors
+use Rattle.raft_log_items.specs.declared.item.LogItemContent.TheVariants as contents
+use Rattle.raft_log_items.specs.declared.item.LogItem.{LogItem}
+use Rattle.raft_log_items.specs.Items.{put_of, del_of}
+
+-- the key begins with two underscores: such keys are the log's own
+abbrev pub is_internal : List ℕ → Bool
+is_internal [] = false
+is_internal (a ∷ []) = false
+is_internal (a ∷ b ∷ rest) = (a == 95) && (b == 95)
+
+-- why a key is refused: it is one of the log's own, or memory ran out
+abbrev pub IsKeyRefusal : Error → List ℕ → Type 0
+IsKeyRefusal errors.Memory key = Unit {0}
+IsKeyRefusal (errors.InvalidArgument text) key = IsTrue (is_internal key)
+IsKeyRefusal (errors.Corruption text) key = ⊥
+IsKeyRefusal (errors.Io kind) key = ⊥
+IsKeyRefusal (errors.Codec c) key = ⊥
+IsKeyRefusal (errors.Message text) key = ⊥
+IsKeyRefusal (errors.TryAgain text) key = ⊥
+IsKeyRefusal errors.EntryCompacted key = ⊥
+IsKeyRefusal errors.EntryNotFound key = ⊥
+IsKeyRefusal errors.Full key = ⊥
+IsKeyRefusal (errors.Other e) key = ⊥
+IsKeyRefusal errors.Failed key = ⊥
+IsKeyRefusal errors.Hole key = ⊥
+IsKeyRefusal errors.NumberRange key = ⊥
+
+-- a put, and a deletion, of a group that is in no file yet
+abbrev pub put_item : ℕ → List ℕ → List ℕ → LogItem
+put_item group key value = record { raft_group_id = group; content = contents.Kv (put_of key value) }
+
+abbrev pub del_item : ℕ → List ℕ → LogItem
+del_item group key = record { raft_group_id = group; content = contents.Kv (del_of key) }

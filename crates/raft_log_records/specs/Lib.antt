@@ -1,0 +1,4 @@
+pub mod Record
+pub mod Batch
+pub mod Key
+pub mod Signatures

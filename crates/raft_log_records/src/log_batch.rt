@@ -1,0 +1,223 @@
+//! A batch on its way to a file: it is filled, populated, signed for a file, and written.
+ghost use Rattle.std.specs.Prelude.{◌≡◌, false, OnOk, IfErr};
+ghost use Rattle.raft_log_records.specs.Key.{is_internal, IsKeyRefusal};
+
+use crate::header::LOG_BATCH_HEADER_LEN;
+use crate::record::{fill_record, write_checksum};
+use raft_log_items::{Bytes, Command, Error, LogFileContext, LogItem, OpType, Result};
+use std::alloc::{AllocError, Global};
+use std::marker::Model;
+
+/// How far a batch is on its way to a file.
+#[derive(Clone, Copy, Debug, PartialEq, Eq)]
+pub enum BatchState {
+    /// Items are added.
+    Filling,
+    /// The record is made, and not signed yet.
+    Populated,
+    /// The record is signed with this, for a file.
+    Signed(Option<u32>),
+    /// The record is in a file, and the items have their places.
+    Written,
+}
+
+/// Items and the bytes of their entries, and the record of these.
+///
+/// Contracts see a batch as its state, its items and the bytes of their entries.
+#[derive(Debug, Drop)]
+pub struct LogBatch {
+    items: Vec<LogItem>,
+    /// Room for the header, the entries' bytes, and once it is populated the rest of the record.
+    buf: Vec<u8>,
+    /// How many bytes the entries have.
+    entries_len: usize,
+    /// The checksum of the items, once the batch is populated.
+    checksum: u32,
+    state: BatchState,
+}
+
+/// Whether the key begins with two underscores.
+fn is_internal(key: &[u8]) -> bool
+    ensures { result ≡ is_internal key.now }
+{
+    match key {
+        [first, second, ..] => *first == b'_' && *second == b'_',
+        _ => false,
+    }
+}
+
+/// Refuses the log's own keys.
+fn check_key(alloc: Global, key: &[u8]) -> Result<()>
+    ensures ok { OnOk result (is_internal key.now ≡ false) }
+    ensures errors { IfErr result (λ e. IsKeyRefusal e key.now) }
+{
+    if is_internal(key) {
+        return Err(Error::InvalidArgument(format!(in alloc;
+            "key prefix `__` reserved for internal usage"
+        )?));
+    }
+    Ok(())
+}
+
+impl Model for LogBatch {
+    ghost use Rattle.std.specs.Prelude.{◌≡◌, ◌+◌, ◌≤◌, take, drop, length};
+    ghost use Rattle.raft_log_items.specs.Placed.{entries_len};
+    ghost use Rattle.raft_log_records.specs.Batch.{Batch, HoldsIn, max_entries_len};
+
+    ghost Value = { Batch };
+
+    ghost view = { λ b. record { state = b.state; items = b.items.items; entries = take b.entries_len (drop 16 b.buf.items) } };
+
+    ghost invariant = { λ b. (16 + b.entries_len ≤ length b.buf.items) × (b.entries_len ≤ max_entries_len)
+        × HoldsIn b.state b.buf.items b.checksum b.items.items (take b.entries_len (drop 16 b.buf.items)) };
+}
+
+impl LogBatch {
+    ghost use Rattle.std.specs.Prelude.{length, None, IfErr, IsErr};
+    ghost use Rattle.raft_log_records.specs.Key.{is_internal, IsKeyRefusal, put_item, del_item};
+    ghost use Rattle.raft_log_items.specs.Files.{signature_of};
+    ghost use Rattle.raft_log_records.specs.Record.{record_len};
+    ghost use Rattle.raft_log_records.specs.Batch.{batch_bytes, IsMemoryOrFull, IsMade, IsSigned, signature_in};
+    ghost use Rattle.std.specs.Prelude.{◌≡◌, ◌++◌, ◌∷◌, ◌↔◌, [], IfOk, OnOk, OnErr, IsTrue};
+    ghost use Rattle.raft_log_records.specs.declared.log_batch.BatchState.TheVariants.{Filling, Populated, Signed, Written};
+    ghost use Rattle.raft_log_items.specs.declared.item.LogItemContent.TheVariants as contents;
+
+    /// An empty batch, which is being filled.
+    pub fn default(alloc: Global) -> std::result::Result<Self, AllocError>
+        ensures { IfOk result (λ b. b ≡ record { state = Filling; items = []; entries = [] }) }
+    {
+        Ok(LogBatch {
+            items: Vec::new(alloc),
+            buf: vec![in alloc; 0; 16]?,
+            entries_len: 0,
+            checksum: 0,
+            state: BatchState::Filling,
+        })
+    }
+
+    /// Whether nothing was added.
+    pub fn is_empty(&self) -> bool
+        ensures { IsTrue result ↔ (self.now.items ≡ []) }
+    {
+        self.items.is_empty()
+    }
+
+    /// How far the batch is.
+    pub fn state(&self) -> BatchState
+        ensures { result ≡ self.now.state }
+    {
+        self.state
+    }
+
+    /// Adds a command of a group. A refusal changes nothing.
+    pub fn add_command(
+        &mut self,
+        raft_group_id: u64,
+        command: Command,
+    ) -> std::result::Result<(), AllocError>
+        requires { self.old.state ≡ Filling }
+        ensures ok { OnOk result (self.new ≡ record self.old { items = self.old.items ++ record { raft_group_id = raft_group_id; content = contents.Command command } ∷ [] }) }
+        ensures err { OnErr result (self.new ≡ self.old) }
+    {
+        self.items
+            .push(LogItem::new_command(raft_group_id, command))?;
+        Ok(())
+    }
+
+    /// Adds a key that gets a value. A key that begins with two underscores is refused as an invalid argument. A refusal
+    /// changes nothing.
+    pub fn put(&mut self, alloc: Global, raft_group_id: u64, key: Bytes, value: Bytes) -> Result<()>
+        requires { self.old.state ≡ Filling }
+        ensures ok { OnOk result (self.new ≡ record self.old { items = self.old.items ++ put_item raft_group_id key value ∷ [] }) }
+        ensures internal { IsTrue (is_internal key) → IsErr result }
+        ensures err { OnErr result (self.new ≡ self.old) }
+        ensures errors { IfErr result (λ e. IsKeyRefusal e key) }
+    {
+        check_key(alloc, key.as_slice())?;
+        self.items.push(LogItem::new_kv(raft_group_id, OpType::Put, key, Some(value)))?;
+        Ok(())
+    }
+
+    /// Adds a key that loses its value. A key that begins with two underscores is refused as an invalid argument. A
+    /// refusal changes nothing.
+    pub fn delete(&mut self, alloc: Global, raft_group_id: u64, key: Bytes) -> Result<()>
+        requires { self.old.state ≡ Filling }
+        ensures ok { OnOk result (self.new ≡ record self.old { items = self.old.items ++ del_item raft_group_id key ∷ [] }) }
+        ensures internal { IsTrue (is_internal key) → IsErr result }
+        ensures err { OnErr result (self.new ≡ self.old) }
+        ensures errors { IfErr result (λ e. IsKeyRefusal e key) }
+    {
+        check_key(alloc, key.as_slice())?;
+        self.items
+            .push(LogItem::new_kv(raft_group_id, OpType::Del, key, None))?;
+        Ok(())
+    }
+
+    /// Makes the record, and answers how many bytes it has. An empty batch has none.
+    ///
+    /// Refused as full is a record whose length needs more than 56 bits. A refusal changes nothing.
+    pub fn finish_populate(&mut self) -> Result<usize>
+        requires { self.old.state ≡ Filling }
+        ensures ok { IfOk result (λ len. (self.new ≡ record self.old { state = Populated }) × (len ≡ length (batch_bytes None self.old.items self.old.entries))) }
+        ensures err { OnErr result (self.new ≡ self.old) }
+        ensures errors { IfErr result (λ e. IsMemoryOrFull e (record_len self.old.items self.old.entries)) }
+    {
+        if self.items.is_empty() {
+            self.state = BatchState::Populated;
+            return Ok(0);
+        }
+        let filled = self.buf.len();
+        match fill_record(&mut self.buf, self.items.as_slice()) {
+            Ok(checksum) => {
+                self.checksum = checksum;
+                self.state = BatchState::Populated;
+                Ok(self.buf.len())
+            }
+            Err(error) => {
+                self.buf.truncate(filled);
+                Err(error)
+            }
+        }
+    }
+
+    /// Signs the record for a file. It may be signed again for another one.
+    pub fn prepare_write(&mut self, context: &LogFileContext)
+        requires { IsMade self.old.state }
+        ensures { self.new ≡ record self.old { state = Signed (signature_of context.now) } }
+    {
+        let signature = context.get_signature();
+        if self.items.is_empty() {
+            self.state = BatchState::Signed(signature);
+            return;
+        }
+        write_checksum(
+            self.buf.as_mut_slice(),
+            self.checksum ^ signature.unwrap_or(0),
+        );
+        self.state = BatchState::Signed(signature);
+    }
+
+    /// The bytes of the record for the file for which it was signed. An empty batch has none.
+    pub fn encoded_bytes(&self) -> &[u8]
+        requires { IsSigned self.now.state }
+        ensures { result.now ≡ batch_bytes (signature_in self.now.state) self.now.items self.now.entries }
+    {
+        if self.items.is_empty() {
+            return &self.buf[self.buf.len()..];
+        }
+        self.buf.as_slice()
+    }
+
+    /// Gives the items back, behind what is there, and leaves an empty batch that is being filled. Its buffer is kept.
+    /// A refusal changes nothing.
+    pub fn drain(&mut self, into: &mut Vec<LogItem>) -> std::result::Result<(), AllocError>
+        ensures ok { OnOk result ((into.new.items ≡ into.old.items ++ self.old.items) × (self.new ≡ record { state = Filling; items = []; entries = [] })) }
+        ensures err { OnErr result ((into.new.items ≡ into.old.items) × (self.new ≡ self.old)) }
+    {
+        into.append(&mut self.items)?;
+        self.buf.truncate(LOG_BATCH_HEADER_LEN);
+        self.entries_len = 0;
+        self.state = BatchState::Filling;
+        Ok(())
+    }
+}

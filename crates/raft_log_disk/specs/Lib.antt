@@ -1,0 +1,3 @@
+pub mod Disk
+pub mod Image
+pub mod Calls

@@ -1,0 +1,2 @@
+//! What a file system holds, what a crash may leave of it, and what each call changes: definitions and their laws.
+#![tactic(auto)]

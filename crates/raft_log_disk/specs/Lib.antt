@@ -1,3 +1,4 @@
 pub mod Disk
 pub mod Image
 pub mod Calls
+pub mod ImageLaws

@@ -2,3 +2,4 @@ pub mod Disk
 pub mod Image
 pub mod Calls
 pub mod ImageLaws
+pub mod SoundLaws

@@ -1,103 +1,152 @@
 -- Each call, answered or refused, leaves a sound disk sound.
-use Rattle.std.specs.Prelude.{◌≡◌, ℕ, ◌+◌, ◌-◌, ◌<◌, ◌≤◌, ◌⊎◌, Bool, true, false, cond, Option, Some, None, List, [], ◌∷◌, ◌++◌, length, slice_index, suc}
-use Rattle.std.specs.Bool.{Decides}
+use Rattle.std.specs.Prelude.{◌≡◌, ℕ, ◌<◌, ◌≤◌, ◌⊎◌, Bool, true, false, cond, Option, Some, None, List, [], ◌∷◌, ◌++◌, length, suc}
 use Rattle.std.specs.List.{All}
 use Rattle.std.specs.Map.{update}
 use Rattle.std.specs.Str.{bytes_eq}
-use Rattle.std.proofs.Common.{refl, sym, ◌∙◌, ap, subst, arith, inl, inr, get_or, nat_eq, take, drop, replicate}
-use Rattle.std.proofs.lemmas.List.{get_or_append_left, get_or-append_right, get_or-take, get_or-drop, get_or_push, append-nil, length-append, length-take, length-take-le, length-drop, length-replicate}
-use Rattle.std.proofs.lemmas.List.Elements.{All-nil}
-use Rattle.std.proofs.lemmas.Bool.{cases_lt, cases_eq, cases_Bool, false≢true}
-use Rattle.std.proofs.lemmas.Bool.Decides.{Decides-eqb}
+use Rattle.std.proofs.Common.{refl, sym, ◌∙◌, ap, subst, arith, inl, inr, nat_eq}
+use Rattle.std.proofs.lemmas.List.Elements.{All-nil, All-push}
+use Rattle.std.proofs.lemmas.Bool.{cases_eq, cases_Bool}
 use Rattle.std.proofs.lemmas.Slice.Eq.{bytes_eq-Decides}
-use Rattle.std.proofs.lemmas.Map.{update_same, update_other}
-use Rattle.raft_log_disk.specs.Disk.{Piece, Wrote, CutTo, GrewTo, File, Disk, at_rest, zeros, grown, overwritten, changed, with_file, file_limit}
-use Rattle.raft_log_disk.specs.Image.{Touches, Spares, end_of, IsLeft, IsSoundFile, IsSound}
-use Rattle.raft_log_disk.specs.Calls.{with_piece, after_piece, flushed, created, deleted, without, renamed, with_directory, with_marks, counted, at_stop, IsTorn, InPart}
+use Rattle.raft_log_disk.specs.Disk.{Piece, File, Disk, at_rest, with_file, file_limit}
+use Rattle.raft_log_disk.specs.Image.{end_of, IsLeft, IsSoundFile, IsSound}
+use Rattle.raft_log_disk.specs.Calls.{with_piece, after_piece, flushed, created, deleted, without, renamed, with_directory, with_marks, counted, at_stop, InPart}
+use Rattle.raft_log_disk.specs.ImageLaws.{left_at_rest, rest_sound}
+use Rattle.raft_log_disk.specs.ChangeLaws.{part_may, left_changed, changed_in_part}
+use Rattle.raft_log_disk.specs.Updates.{name_case, file_case, name_here, name_apart, file_here, file_apart}
 
--- what a change may leave of a content, whole or in part: the places that it spares stand
-pub record MayBecome (piece : Piece) (old new : List ℕ) : Type 0 where
-  pub kept : (place : ℕ) → place < length old → Spares place piece → (place < length new) × (slice_index new place ≡ slice_index old place)
-  pub within : (size : ℕ) → length old ≤ size → end_of piece ≤ size → length new ≤ size
+pub empty_sound : IsSoundFile (at_rest [])
+empty_sound = record { stands = left_at_rest []; short = omega arith; ends = All-nil _ }
 
--- a refused change leaves no more than that
-pub part_may : (piece : Piece) (old new : List ℕ) → InPart piece old new → MayBecome piece old new
-part_may (Wrote at bytes) old new torn = record {
-    kept = λ place below spared.
-        (omega (arith, torn.longer), torn.outside place below (elim (cases_lt place at) [
-            inl before ↦ inl before
-          | inr from ↦ elim (cases_lt place (at + length bytes)) [ inl inside ↦ absurd (spared (from, inside)) | inr behind ↦ inr behind ] ]));
-    within = torn.within }
-part_may (CutTo size) old new (inl same) = record {
-    kept = λ place below spared. subst (λ (b : List ℕ). (place < length b) × (slice_index b place ≡ slice_index old place)) (sym same) (below, refl);
-    within = λ most fits ends. subst (λ (b : List ℕ). length b ≤ most) (sym same) fits }
-part_may (CutTo size) old new (inr cut) = record {
-    kept = λ place below spared.
-        let inside : place < size = elim (cases_lt place size) [ inl less ↦ less | inr more ↦ absurd (spared more) ] in
-        subst (λ (b : List ℕ). (place < length b) × (slice_index b place ≡ slice_index old place)) (sym cut)
-          (omega (arith, length-take size old), get_or-take size old place 0 inside);
-    within = λ most fits ends. subst (λ (b : List ℕ). length b ≤ most) (sym cut) (omega (arith, length-take size old)) }
-part_may (GrewTo size) old new (count, fits_in, same) = record {
-    kept = λ place below spared. subst (λ (b : List ℕ). (place < length b) × (slice_index b place ≡ slice_index old place)) (sym same)
-        (omega (arith, length-append old (zeros count)), get_or_append_left old (zeros count) 0 place below);
-    within = λ most fits ends. subst (λ (b : List ℕ). length b ≤ most) (sym same)
-        (elim fits_in [ inl room ↦ omega (arith, length-append old (zeros count), length-replicate {A = ℕ} count 0, room)
-                      | inr none ↦ omega (arith, length-append old (zeros count), length-replicate {A = ℕ} count 0, none) ]) }
+-- a file is sound after a change in part, if the change is short of the limit
+pub sound_with_piece : (file : File) (piece : Piece) (content : List ℕ) → IsSoundFile file → InPart piece file.content content → end_of piece < file_limit
+    → IsSoundFile (with_piece piece content file)
+sound_with_piece file piece content sound part short = record {
+    stands = left_changed file piece content file.content content sound.stands (part_may piece file.content content part);
+    short = sound.short;
+    ends = All-push (λ p. end_of p < file_limit) file.pieces piece sound.ends short }
 
-length-grown : (size : ℕ) (old : List ℕ) → length (grown size old) ≡ length old + (size - length old)
-length-grown size old = length-append old (zeros (size - length old)) ∙ ap (λ (n : ℕ). length old + n) (length-replicate {A = ℕ} (size - length old) 0)
+-- and after a whole one
+pub sound_after_piece : (file : File) (piece : Piece) → IsSoundFile file → end_of piece < file_limit → IsSoundFile (after_piece piece file)
+sound_after_piece file piece sound short = sound_with_piece file piece _ sound (changed_in_part piece file.content) short
 
--- a write that was done whole is one that was done in part
-pub overwritten_torn : (at : ℕ) (bytes old : List ℕ) → IsTorn at bytes old (overwritten at bytes old)
-overwritten_torn at bytes old =
-    let room : List ℕ = grown (at + length bytes) old in
-    let size : length room ≡ length old + (at + length bytes - length old) = length-grown (at + length bytes) old in
-    let front : length (take at room) ≡ at = length-take-le at room (omega (arith, size)) in
-    let whole : length (overwritten at bytes old) ≡ at + (length bytes + (length room - (at + length bytes))) =
-        length-append (take at room) (bytes ++ drop (at + length bytes) room)
-        ∙ (ap (λ (n : ℕ). n + length (bytes ++ drop (at + length bytes) room)) front
-        ∙ ap (λ (n : ℕ). at + n) (length-append bytes (drop (at + length bytes) room)
-        ∙ ap (λ (n : ℕ). length bytes + n) (length-drop (at + length bytes) room))) in
-    record {
-        outside = λ place below apart.
-            let in_room : get_or room place 0 ≡ get_or old place 0 = get_or_append_left old (zeros (at + length bytes - length old)) 0 place below in
-            elim apart [
-                inl before ↦ get_or_append_left (take at room) (bytes ++ drop (at + length bytes) room) 0 place (omega (arith, front, before))
-                    ∙ (get_or-take at room place 0 before ∙ in_room)
-              | inr behind ↦
-                    let reached : at + length bytes + (place - at - length bytes) ≡ place = omega (arith, behind) in
-                    get_or-append_right (take at room) (bytes ++ drop (at + length bytes) room) at place 0 front (omega (arith, behind))
-                    ∙ (get_or-append_right bytes (drop (at + length bytes) room) (length bytes) (place - at) 0 refl (omega (arith, behind))
-                    ∙ (get_or-drop (at + length bytes) room (place - at - length bytes) 0
-                    ∙ (ap (λ (n : ℕ). get_or room n 0) reached ∙ in_room))) ];
-        longer = omega (arith, whole, size);
-        within = λ most fits ends. omega (arith, whole, size) }
+-- and after a sync
+pub sound_flushed : (file : File) → IsSoundFile file → IsSoundFile (flushed file)
+sound_flushed file sound = rest_sound file file.content sound sound.stands
 
--- so is any change
-pub changed_in_part : (piece : Piece) (old : List ℕ) → InPart piece old (changed piece old)
-changed_in_part (Wrote at bytes) old = overwritten_torn at bytes old
-changed_in_part (CutTo size) old = inr refl
-changed_in_part (GrewTo size) old =
-    (size - length old, elim (cases_lt (length old) size) [ inl less ↦ inl (omega arith) | inr enough ↦ inr (omega arith) ], refl)
+-- the disk, where one file became another sound one
+pub sound_with_file : (d : Disk) (id : ℕ) (old next : File) → IsSound d → d.files id ≡ Some old → IsSoundFile next → IsSound (with_file id (Some next) d)
+sound_with_file d id old next sound is fine = record {
+    named = λ path j at. elim (cases_eq j id) [
+        inl same ↦ (next, subst (λ (q : ℕ). update nat_eq d.files id (Some next) q ≡ Some next) (sym same) (file_here d.files id (Some next)))
+      | inr apart ↦ let there = sound.named path j at in (there.0, file_apart d.files id (Some next) j apart ∙ there.1) ];
+    one_name = sound.one_name;
+    apart = sound.apart;
+    fresh = λ j above. file_apart d.files id (Some next) j (λ same. cc (sound.fresh j above)) ∙ sound.fresh j above;
+    files = λ j file at. elim (file_case d.files id (Some next) j (Some file) at) [
+        inl here ↦ (let same : next ≡ file = cc (here.1) in subst IsSoundFile same fine)
+      | inr there ↦ sound.files j file there.1 ] }
 
--- a change that left nothing but what stood is one that was done in part
-pub unchanged_in_part : (piece : Piece) (old : List ℕ) → InPart piece old old
-unchanged_in_part (Wrote at bytes) old = record { outside = λ place below apart. refl; longer = omega arith; within = λ size fits ends. fits }
-unchanged_in_part (CutTo size) old = inl refl
-unchanged_in_part (GrewTo size) old = (0, inr refl, sym (append-nil old))
+-- after a failure, at a stop, and with other marks
+pub sound_counted : (d : Disk) → IsSound d → IsSound (counted d)
+sound_counted d sound = record { named = sound.named; one_name = sound.one_name; apart = sound.apart; fresh = sound.fresh; files = sound.files }
 
-all_front : {X : Type 0} (P : X → Type 0) (xs : List X) (x : X) → All P (xs ++ x ∷ []) → All P xs
-all_front P xs x all = λ k d below. subst P (get_or_append_left xs (x ∷ []) d k below) (all k d (omega (arith, length-append xs (x ∷ []))))
+pub sound_at_stop : (d : Disk) → IsSound d → IsSound (at_stop d)
+sound_at_stop d sound = record { named = sound.named; one_name = sound.one_name; apart = sound.apart; fresh = sound.fresh; files = sound.files }
 
-all_last : {X : Type 0} (P : X → Type 0) (xs : List X) (x : X) → All P (xs ++ x ∷ []) → P x
-all_last P xs x all = subst P (get_or_push xs x x (length xs) refl) (all (length xs) x (omega (arith, length-append xs (x ∷ []))))
+pub sound_with_marks : (marks : ℕ → ℕ → Bool) (d : Disk) → IsSound d → IsSound (with_marks marks d)
+sound_with_marks marks d sound = record { named = sound.named; one_name = sound.one_name; apart = sound.apart; fresh = sound.fresh; files = sound.files }
 
--- what may be left of a file, and then changed in part, may be left of the file with that change
-pub left_changed : (file : File) (piece : Piece) (content old new : List ℕ) → IsLeft file old → MayBecome piece old new → IsLeft (with_piece piece content file) new
-left_changed file piece content old new left may = record {
-    kept = λ place below spared.
-        let before = left.kept place below (all_front (Spares place) file.pieces piece spared) in
-        let after = may.kept place before.0 (all_last (Spares place) file.pieces piece spared) in
-        (after.0, after.1 ∙ before.1);
-    within = λ size fits ends.
-        may.within size (left.within size fits (all_front (λ p. end_of p ≤ size) file.pieces piece ends)) (all_last (λ p. end_of p ≤ size) file.pieces piece ends) }
+-- with a new file
+pub sound_created : (d : Disk) (path : List ℕ) → IsSound d → d.names path ≡ None → d.directories path ≡ false → IsSound (created path d)
+sound_created d path sound free apart = record {
+    named = λ p j at. elim (name_case d.names path (Some d.unused) p (Some j) at) [
+        inl new ↦ (let same : d.unused ≡ j = cc (new.1) in (at_rest [], subst (λ (q : ℕ). update nat_eq d.files d.unused (Some (at_rest [])) q ≡ Some (at_rest [])) same (file_here d.files d.unused (Some (at_rest [])))))
+      | inr old ↦ (let there = sound.named p j old.1 in (there.0, file_apart d.files d.unused (Some (at_rest [])) j (λ same. used p j old.1 same) ∙ there.1)) ];
+    one_name = λ a b j at_a at_b. elim (name_case d.names path (Some d.unused) a (Some j) at_a) [
+        inl new_a ↦ elim (name_case d.names path (Some d.unused) b (Some j) at_b) [
+            inl new_b ↦ new_a.0 ∙ sym new_b.0
+          | inr old_b ↦ absurd (used b j old_b.1 (cc (new_a.1))) ]
+      | inr old_a ↦ elim (name_case d.names path (Some d.unused) b (Some j) at_b) [
+            inl new_b ↦ absurd (used a j old_a.1 (cc (new_b.1)))
+          | inr old_b ↦ sound.one_name a b j old_a.1 old_b.1 ] ];
+    apart = λ p j at. elim (name_case d.names path (Some d.unused) p (Some j) at) [
+        inl new ↦ ap d.directories new.0 ∙ apart
+      | inr old ↦ sound.apart p j old.1 ];
+    fresh = λ j above. file_apart d.files d.unused (Some (at_rest [])) j (λ same. omega (arith, same)) ∙ sound.fresh j (omega arith);
+    files = λ j file at. elim (file_case d.files d.unused (Some (at_rest [])) j (Some file) at) [
+        inl new ↦ (let same : at_rest [] ≡ file = cc (new.1) in subst IsSoundFile same empty_sound)
+      | inr old ↦ sound.files j file old.1 ] }
+  where
+    used : (p : List ℕ) (j : ℕ) → d.names p ≡ Some j → j ≡ d.unused → ⊥
+    used p j at same = let there = sound.named p j at in let none : d.files j ≡ None = sound.fresh j (omega (arith, same)) in cc (there.1, none)
+
+-- without a name and its file
+pub sound_deleted : (d : Disk) (path : List ℕ) (id : ℕ) → IsSound d → d.names path ≡ Some id → IsSound (deleted path id d)
+sound_deleted d path id sound is = record {
+    named = λ p j at. let old = kept p j at in let there = sound.named p j old.1 in
+        (there.0, file_apart d.files id None j (λ same. old.0 (sound.one_name p path j old.1 (is ∙ ap Some (sym same)))) ∙ there.1);
+    one_name = λ a b j at_a at_b. sound.one_name a b j (kept a j at_a).1 (kept b j at_b).1;
+    apart = λ p j at. sound.apart p j (kept p j at).1;
+    fresh = λ j above. elim (cases_eq j id) [
+        inl same ↦ subst (λ (q : ℕ). update nat_eq d.files id None q ≡ None) (sym same) (file_here d.files id None)
+      | inr apart ↦ file_apart d.files id None j apart ∙ sound.fresh j above ];
+    files = λ j file at. elim (file_case d.files id None j (Some file) at) [
+        inl gone ↦ cc (gone.1)
+      | inr old ↦ sound.files j file old.1 ] }
+  where
+    kept : (p : List ℕ) (j : ℕ) → update bytes_eq d.names path None p ≡ Some j → (p ≡ path → ⊥) × (d.names p ≡ Some j)
+    kept p j at = elim (name_case d.names path None p (Some j) at) [ inl gone ↦ cc (gone.1) | inr old ↦ old ]
+
+-- what stays where the file of another name went
+without_case : (o : Option ℕ) (files : ℕ → Option File) (j : ℕ) (file : File) → without o files j ≡ Some file → files j ≡ Some file
+without_case None files j file at = at
+without_case (Some id) files j file at = elim (file_case files id None j (Some file) at) [ inl gone ↦ cc (gone.1) | inr old ↦ old.1 ]
+
+without_apart : (o : Option ℕ) (files : ℕ → Option File) (j : ℕ) → (o ≡ Some j → ⊥) → without o files j ≡ files j
+without_apart None files j apart = refl
+without_apart (Some id) files j apart = file_apart files id None j (λ same. apart (ap Some (sym same)))
+
+without_none : (o : Option ℕ) (files : ℕ → Option File) (j : ℕ) → files j ≡ None → without o files j ≡ None
+without_none None files j none = none
+without_none (Some id) files j none = elim (cases_eq j id) [
+    inl same ↦ subst (λ (q : ℕ). update nat_eq files id None q ≡ None) (sym same) (file_here files id None)
+  | inr apart ↦ file_apart files id None j apart ∙ none ]
+
+-- with a file under another name
+pub sound_renamed : (d : Disk) (from to : List ℕ) (id : ℕ) → IsSound d → d.names from ≡ Some id → d.directories to ≡ false → IsSound (renamed from to id d)
+sound_renamed d from to id sound is apart = record {
+    named = λ p j at. elim (moved p j at) [
+        inl new ↦ (let there = sound.named from id is in
+            (there.0, subst (λ (q : ℕ). update nat_eq (without (d.names to) d.files) id (d.files id) q ≡ Some there.0) new.1 (file_here (without (d.names to) d.files) id (d.files id) ∙ there.1)))
+      | inr old ↦ (let there = sound.named p j old.2 in
+            (there.0, file_apart (without (d.names to) d.files) id (d.files id) j (λ same. old.1 (sound.one_name p from j old.2 (is ∙ ap Some (sym same))))
+              ∙ (without_apart (d.names to) d.files j (λ lost. old.0 (sound.one_name p to j old.2 lost)) ∙ there.1))) ];
+    one_name = λ a b j at_a at_b. elim (moved a j at_a) [
+        inl new_a ↦ elim (moved b j at_b) [
+            inl new_b ↦ new_a.0 ∙ sym new_b.0
+          | inr old_b ↦ absurd (old_b.1 (sound.one_name b from j old_b.2 (is ∙ ap Some new_a.1))) ]
+      | inr old_a ↦ elim (moved b j at_b) [
+            inl new_b ↦ absurd (old_a.1 (sound.one_name a from j old_a.2 (is ∙ ap Some new_b.1)))
+          | inr old_b ↦ sound.one_name a b j old_a.2 old_b.2 ] ];
+    apart = λ p j at. elim (moved p j at) [ inl new ↦ ap d.directories new.0 ∙ apart | inr old ↦ sound.apart p j old.2 ];
+    fresh = λ j above. elim (cases_eq j id) [
+        inl same ↦ subst (λ (q : ℕ). update nat_eq (without (d.names to) d.files) id (d.files id) q ≡ None) (sym same)
+            (file_here (without (d.names to) d.files) id (d.files id) ∙ sound.fresh id (omega (arith, same)))
+      | inr other ↦ file_apart (without (d.names to) d.files) id (d.files id) j other ∙ without_none (d.names to) d.files j (sound.fresh j above) ];
+    files = λ j file at. elim (file_case (without (d.names to) d.files) id (d.files id) j (Some file) at) [
+        inl here ↦ sound.files id file here.1
+      | inr there ↦ sound.files j file (without_case (d.names to) d.files j file there.1) ] }
+  where
+    moved : (p : List ℕ) (j : ℕ) → update bytes_eq (update bytes_eq d.names from None) to (Some id) p ≡ Some j
+        → ((p ≡ to) × (id ≡ j)) ⊎ ((p ≡ to → ⊥) × (p ≡ from → ⊥) × (d.names p ≡ Some j))
+    moved p j at = elim (name_case (update bytes_eq d.names from None) to (Some id) p (Some j) at) [
+        inl new ↦ (let same : id ≡ j = cc (new.1) in inl (new.0, same))
+      | inr old ↦ elim (name_case d.names from None p (Some j) old.1) [ inl gone ↦ cc (gone.1) | inr older ↦ inr (old.0, older.0, older.1) ] ]
+
+-- with one more directory
+pub sound_with_directory : (d : Disk) (path : List ℕ) → IsSound d → d.names path ≡ None → IsSound (with_directory path d)
+sound_with_directory d path sound free = record {
+    named = sound.named; one_name = sound.one_name; fresh = sound.fresh; files = sound.files;
+    apart = λ p j at. elim (cases_Bool (bytes_eq path p)) [
+        inl hit ↦ (let same : path ≡ p = (bytes_eq-Decides path p).0 hit in let none : d.names p ≡ None = ap d.names (sym same) ∙ free in cc (none, at))
+      | inr miss ↦ ap (λ (b : Bool). cond b true (d.directories p)) miss ∙ sound.apart p j at ] }

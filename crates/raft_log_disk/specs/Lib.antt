@@ -5,3 +5,6 @@ pub mod ImageLaws
 pub mod ChangeLaws
 pub mod Updates
 pub mod SoundLaws
+pub mod Causes
+pub mod KeptLaws
+pub mod CauseLaws

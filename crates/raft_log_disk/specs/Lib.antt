@@ -8,3 +8,4 @@ pub mod SoundLaws
 pub mod Causes
 pub mod KeptLaws
 pub mod CauseLaws
+pub mod Laws

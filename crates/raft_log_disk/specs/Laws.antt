@@ -3,10 +3,9 @@ use Rattle.std.specs.Prelude.{◌≡◌, ℕ, ◌<◌, ◌≤◌, ◌⊎◌, fal
 use Rattle.std.specs.List.{Contains}
 use Rattle.std.proofs.Math.ListN.{set}
 use Rattle.raft_log_disk.specs.Disk.{Piece, File, Disk, with_file, file_limit}
-use Rattle.raft_log_disk.specs.Image.{Touches, end_of, IsLeft, IsImage, IsSoundFile, IsSound}
+use Rattle.raft_log_disk.specs.Image.{Touches, end_of, IsLeft, IsImage, IsSoundFile, IsSound, as_it_stands, IsAllSynced}
 use Rattle.raft_log_disk.specs.Calls.{with_piece, flushed, created, deleted, renamed, with_directory, counted, at_stop, InPart}
 use Rattle.raft_log_disk.specs.Causes.{HasCause, IsUndisturbed}
-use Rattle.raft_log_disk.specs.ImageLaws.{as_it_stands, IsAllSynced}
 
 abbrev pub StandsIsImage : Type 0
 StandsIsImage = (d : Disk) → IsSound d → IsImage d (as_it_stands d)

@@ -1,11 +1,5 @@
 pub mod Disk
 pub mod Image
 pub mod Calls
-pub mod ImageLaws
-pub mod ChangeLaws
-pub mod Updates
-pub mod SoundLaws
 pub mod Causes
-pub mod KeptLaws
-pub mod CauseLaws
 pub mod Laws

@@ -1,4 +1,4 @@
-use Rattle.raft_log_disk.specs.SoundLaws.{sound_with_piece, sound_flushed, sound_with_file, sound_created, sound_deleted, sound_renamed, sound_with_directory, sound_counted, sound_at_stop}
+use Rattle.raft_log_disk.proofs.SoundLaws.{sound_with_piece, sound_flushed, sound_with_file, sound_created, sound_deleted, sound_renamed, sound_with_directory, sound_counted, sound_at_stop}
 use Rattle.raft_log_disk.specs.Calls.{with_piece, flushed}
 use Rattle.raft_log_disk.proofs.calls.calls_keep_a_disk_sound.Goals as goal
 

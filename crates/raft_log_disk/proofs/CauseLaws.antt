@@ -6,7 +6,7 @@ use Rattle.std.proofs.lemmas.Bool.{false≢true}
 use Rattle.raft_log_disk.specs.Disk.{Piece, File, Disk, HasDirectory, with_file}
 use Rattle.raft_log_disk.specs.Calls.{with_piece, after_piece, flushed, created, deleted, renamed, with_directory, counted, at_stop, InPart, Changes, Creates, Deletes, Renames, MakesDirectory, Refused, after_stop, wrong_argument, failed, stops, SomeOf, none, some, RefusedPiece, RefusedWhole}
 use Rattle.raft_log_disk.specs.Causes.{HasCause, stopped, counted_one, unreadable_place, Fails, has_stopped, has_failed, IsLater, IsUndisturbed}
-use Rattle.raft_log_disk.specs.KeptLaws.{IsCalm, kept_piece, kept_sync, kept_create, kept_delete, kept_rename, kept_directory}
+use Rattle.raft_log_disk.proofs.KeptLaws.{IsCalm, kept_piece, kept_sync, kept_create, kept_delete, kept_rename, kept_directory}
 
 -- no cause stands behind a refusal on an undisturbed disk
 pub undisturbed_has_no_cause : (d : Disk) → IsUndisturbed d → HasCause d d → ⊥

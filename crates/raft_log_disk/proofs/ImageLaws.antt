@@ -10,19 +10,7 @@ use Rattle.std.proofs.lemmas.List.Elements.{All-nil, All-contains, All-weaker}
 use Rattle.std.proofs.lemmas.Bool.{cases_lt}
 use std.Path.{fun_ext}
 use Rattle.raft_log_disk.specs.Disk.{Piece, File, Disk, at_rest, file_limit}
-use Rattle.raft_log_disk.specs.Image.{Touches, Spares, end_of, IsLeft, IsFileImage, IsImage, IsSoundFile, IsSound}
-
--- the file as a restart finds it where all of it was kept
-abbrev pub settled : File → File
-settled file = at_rest file.content
-
--- the disk as a restart finds it where everything was kept
-abbrev pub as_it_stands : Disk → Disk
-as_it_stands d = record d { files = λ id. option_map settled (d.files id); unreadable = λ id place. false; stopped = false; failures = 0 }
-
--- every file is synced
-abbrev pub IsAllSynced : Disk → Type 0
-IsAllSynced d = (id : ℕ) (file : File) → d.files id ≡ Some file → file.pieces ≡ []
+use Rattle.raft_log_disk.specs.Image.{Touches, Spares, end_of, IsLeft, IsFileImage, IsImage, IsSoundFile, IsSound, settled, as_it_stands, IsAllSynced}
 
 -- bytes at rest are what is left of them
 pub left_at_rest : (bytes : List ℕ) → IsLeft (at_rest bytes) bytes

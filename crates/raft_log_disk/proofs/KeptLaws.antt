@@ -4,7 +4,7 @@ use Rattle.std.specs.Result.{IfOk, IfErr, OnOk}
 use Rattle.std.proofs.Common.{refl, sym, subst, inl, inr}
 use Rattle.raft_log_disk.specs.Disk.{Piece, File, Disk, with_file, HasDirectory}
 use Rattle.raft_log_disk.specs.Calls.{with_piece, after_piece, flushed, created, deleted, renamed, with_directory, counted, at_stop, InPart, Changes, Creates, Deletes, Renames, MakesDirectory, Refused, after_stop, wrong_argument, failed, stops, SomeOf, none, some, RefusedPiece, RefusedWhole}
-use Rattle.raft_log_disk.specs.ChangeLaws.{changed_in_part}
+use Rattle.raft_log_disk.proofs.ChangeLaws.{changed_in_part}
 
 -- neither a counted failure nor a stop touches it
 pub record IsCalm (Q : Disk → Type 0) : Type 0 where

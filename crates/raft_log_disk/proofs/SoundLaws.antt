@@ -10,9 +10,9 @@ use Rattle.std.proofs.lemmas.Slice.Eq.{bytes_eq-Decides}
 use Rattle.raft_log_disk.specs.Disk.{Piece, File, Disk, at_rest, with_file, file_limit}
 use Rattle.raft_log_disk.specs.Image.{end_of, IsLeft, IsSoundFile, IsSound}
 use Rattle.raft_log_disk.specs.Calls.{with_piece, after_piece, flushed, created, deleted, without, renamed, with_directory, with_marks, counted, at_stop, InPart}
-use Rattle.raft_log_disk.specs.ImageLaws.{left_at_rest, rest_sound}
-use Rattle.raft_log_disk.specs.ChangeLaws.{part_may, left_changed, changed_in_part}
-use Rattle.raft_log_disk.specs.Updates.{name_case, file_case, name_here, name_apart, file_here, file_apart}
+use Rattle.raft_log_disk.proofs.ImageLaws.{left_at_rest, rest_sound}
+use Rattle.raft_log_disk.proofs.ChangeLaws.{part_may, left_changed, changed_in_part}
+use Rattle.raft_log_disk.proofs.Updates.{name_case, file_case, name_here, name_apart, file_here, file_apart}
 
 pub empty_sound : IsSoundFile (at_rest [])
 empty_sound = record { stands = left_at_rest []; short = omega arith; ends = All-nil _ }

@@ -4,3 +4,4 @@ pub mod ChangeLaws
 pub mod SoundLaws
 pub mod KeptLaws
 pub mod CauseLaws
+pub mod Props

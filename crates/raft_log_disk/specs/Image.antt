@@ -54,7 +54,7 @@ pub record IsSoundFile (file : File) : Type 0 where
 -- A disk is sound if a name has a file and no file has two names, no path is a file's and a directory's, a new file's
 -- number was never used, and each file is sound.
 pub record IsSound (d : Disk) : Type 0 where
-  pub named : (path : List ℕ) (id : ℕ) → d.names path ≡ Some id → (file : File) × (d.files id ≡ Some file)
+  pub named : (path : List ℕ) (id : ℕ) → d.names path ≡ Some id → d.files id ≡ None → ⊥
   pub one_name : (a b : List ℕ) (id : ℕ) → d.names a ≡ Some id → d.names b ≡ Some id → a ≡ b
   pub apart : (path : List ℕ) (id : ℕ) → d.names path ≡ Some id → d.directories path ≡ false
   pub fresh : (id : ℕ) → d.unused ≤ id → d.files id ≡ None

@@ -4,7 +4,7 @@ use Rattle.std.proofs.lemmas.List.{append-nil, append_assoc, nil_from_length, ta
 use Rattle.std.proofs.lemmas.Bool.{cases_lt}
 use Rattle.raft_log_disk.specs.Disk.{Piece, Wrote}
 use Rattle.raft_log_disk.specs.Image.{IsLeft}
-use Rattle.raft_log_disk.specs.ImageLaws.{only_at_rest}
+use Rattle.raft_log_disk.proofs.ImageLaws.{only_at_rest}
 use Rattle.raft_log_disk.specs.Chains.{Written, spelled, AreFrames, BeginsWith, Reads, Meets}
 use Rattle.raft_log_disk.specs.KeepsSynced.{NoChanceMatch}
 use Rattle.raft_log_disk.specs.CrashExamples.{one_unsynced, TornRecordIsLost, ForeignRecordIsChance, SyncedFileHasNoChance}

@@ -1,6 +1,6 @@
 -- How a file keeps its chain of records through calls, and what follows for what a stop leaves.
 use Rattle.std.proofs.Common.{◌≡◌, ℕ, ◌+◌, ◌-◌, min, ◌<◌, ◌≤◌, List, [], ◌∷◌, ◌++◌, length, take, drop, get_or, refl, sym, ◌∙◌, ap, subst, inl, inr, arith, length-append, length-drop}
-use Rattle.std.proofs.lemmas.List.{append-nil, append_assoc, nil_from_length, length-take, get_or-take}
+use Rattle.std.proofs.lemmas.List.{append-nil, append_assoc, drop-take, drop_at, get_or-take, length-take, nil_from_length, take-append-drop, take-take, take_at}
 use Rattle.std.proofs.lemmas.Bool.{cases_lt}
 use Rattle.std.proofs.lemmas.List.Prefix.{at_from_reads, at_reads}
 use Rattle.std.proofs.lemmas.List.Elements.{All-nil, All-push, Contains-push_cases}
@@ -9,7 +9,14 @@ use Rattle.raft_log_disk.specs.Image.{IsLeft, Spares}
 use Rattle.raft_log_disk.specs.Calls.{with_piece}
 use Rattle.raft_log_disk.specs.Chains.{Written, IsPrefixFree, spelled, AreFrames, BeginsWith, Reads, Meets, LiesIn}
 use Rattle.raft_log_disk.proofs.ChainLaws.{spelled-append, lies_within, lies_in_more, frames_append, frames_front, frames_back, reads_begin, frame_filled, reads_further, follows_chain}
-use Rattle.raft_log_disk.specs.KeepsSynced.{NoChanceMatch, HoldsChain, KeepsSynced}
+use Rattle.raft_log_disk.specs.KeepsSynced.{HoldsAtLeast, NoChanceMatch, HoldsChain, KeepsSynced}
+
+take_over : {X : Type 0} (xs ys : List X) (n : ℕ) → take (length xs + n) (xs ++ ys) ≡ xs ++ take n ys
+take_over {X} xs ys n =
+    let m = length xs in
+    let front : take m (take (m + n) (xs ++ ys)) ≡ xs = take-take m (m + n) (xs ++ ys) (omega arith) ∙ take_at xs ys m refl in
+    let back : drop m (take (m + n) (xs ++ ys)) ≡ take n ys = drop-take m n (xs ++ ys) ∙ ap (λ (zs : List X). take n zs) (drop_at xs ys m refl) in
+    sym (take-append-drop m (take (m + n) (xs ++ ys))) ∙ ap (λ (zs : List X). zs ++ drop m (take (m + n) (xs ++ ys))) front ∙ ap (λ (zs : List X). xs ++ zs) back
 
 module _ {R : Type 0} (IsFrame : List ℕ → R → Type 0) (start end : ℕ) where
   -- a record that is in the chain lies there
@@ -73,6 +80,32 @@ module _ {R : Type 0} (IsFrame : List ℕ → R → Type 0) (start end : ℕ) wh
         let all = subst (λ (vs : List (Written R)). BeginsWith IsFrame start vs bytes) more.1 (reads_begin IsFrame start ws bytes reads) in
         let kept = follows_chain IsFrame free (durable ++ pending) durable pending more.0 start bytes holds.frames refl all (met_in_chain bytes holds chance) in
         (kept.0, kept.1, more.1 ∙ ap (λ (vs : List (Written R)). durable ++ vs) kept.2)
+
+    -- and also those that are durable beyond the ones that are claimed
+    pub keeps_more : (more rest : List (Written R)) → pending ≡ more ++ rest → KeepsSynced IsFrame start end (durable ++ more) rest file → KeepsSynced IsFrame start end durable pending file
+    keeps_more more rest splits keeps bytes left chance ws reads =
+        let kept = keeps bytes left chance ws reads in
+        let count = length more + kept.0 in
+        let front : take count pending ≡ more ++ take kept.0 rest = ap (λ (vs : List (Written R)). take count vs) splits ∙ take_over more rest kept.0 in
+        (count, omega (arith, kept.1, ap length splits, length-append more rest), kept.2 ∙ append_assoc durable more (take kept.0 rest) ∙ ap (λ (vs : List (Written R)). durable ++ vs) (sym front))
+
+  -- the same, of a file that holds at least these
+  pub at_least_keeps : (durable pending : List (Written R)) (file : File) → IsPrefixFree IsFrame → HoldsAtLeast IsFrame start end durable pending file → KeepsSynced IsFrame start end durable pending file
+  at_least_keeps durable pending file free least =
+      keeps_more free durable pending file least.more least.rest least.splits (keeps_synced free (durable ++ least.more) least.rest file least.holds)
+
+  -- just these are at least these
+  pub holds_at_least : (durable pending : List (Written R)) (file : File) → HoldsChain IsFrame start end durable pending file → HoldsAtLeast IsFrame start end durable pending file
+  holds_at_least durable pending file holds = record {
+    more = [];
+    rest = pending;
+    splits = refl;
+    holds = subst (λ (vs : List (Written R)). HoldsChain IsFrame start end vs pending file) (sym (append-nil durable)) holds;
+  }
+
+  -- and so are all of them
+  pub all_at_least : (durable pending : List (Written R)) (file : File) → HoldsChain IsFrame start end (durable ++ pending) [] file → HoldsAtLeast IsFrame start end durable pending file
+  all_at_least durable pending file holds = record { more = pending; rest = []; splits = sym (append-nil pending); holds = holds }
 
   -- a record written behind the chain is the last pending one, whatever of it landed
   pub holds_written : (durable pending : List (Written R)) (w : Written R) (content : List ℕ) (file : File) → IsFrame w.bytes w.value → HoldsChain IsFrame start end durable pending file

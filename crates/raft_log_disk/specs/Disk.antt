@@ -41,8 +41,13 @@ abbrev pub grown : ℕ → List ℕ → List ℕ
 grown size bytes = bytes ++ zeros (size - length bytes)
 
 -- old bytes with others over them from a place on; a gap between the end and that place is zeros
+abbrev pub spliced : ℕ → List ℕ → List ℕ → List ℕ
+spliced at bytes old = let room = grown (at + length bytes) old in take at room ++ (bytes ++ drop (at + length bytes) room)
+
+-- the same as a write does it: one of no bytes changes nothing, wherever it is
 abbrev pub overwritten : ℕ → List ℕ → List ℕ → List ℕ
-overwritten at bytes old = let room = grown (at + length bytes) old in take at room ++ (bytes ++ drop (at + length bytes) room)
+overwritten at [] old = old
+overwritten at (b ∷ bs) old = spliced at (b ∷ bs) old
 
 -- what a change makes of a content when it is carried out whole
 abbrev pub changed : Piece → List ℕ → List ℕ

@@ -1,6 +1,7 @@
 -- What a stop at this moment may leave.
 use Rattle.std.specs.Prelude.{◌≡◌, ℕ, ◌+◌, ◌<◌, ◌≤◌, true, false, Option, Some, None, List, [], length, slice_index}
 use Rattle.std.specs.List.{All}
+use Rattle.std.specs.Option.{option_map}
 use Rattle.raft_log_disk.specs.Disk.{Piece, Wrote, CutTo, GrewTo, File, Disk, at_rest, file_limit}
 
 -- a change touches each place of a written range, and each place from which on it cuts
@@ -53,8 +54,20 @@ pub record IsSoundFile (file : File) : Type 0 where
 -- A disk is sound if a name has a file and no file has two names, no path is a file's and a directory's, a new file's
 -- number was never used, and each file is sound.
 pub record IsSound (d : Disk) : Type 0 where
-  pub named : (path : List ℕ) (id : ℕ) → d.names path ≡ Some id → (file : File) × (d.files id ≡ Some file)
+  pub named : (path : List ℕ) (id : ℕ) → d.names path ≡ Some id → d.files id ≡ None → ⊥
   pub one_name : (a b : List ℕ) (id : ℕ) → d.names a ≡ Some id → d.names b ≡ Some id → a ≡ b
   pub apart : (path : List ℕ) (id : ℕ) → d.names path ≡ Some id → d.directories path ≡ false
   pub fresh : (id : ℕ) → d.unused ≤ id → d.files id ≡ None
   pub files : (id : ℕ) (file : File) → d.files id ≡ Some file → IsSoundFile file
+
+-- the file as a restart finds it where all of it was kept
+abbrev pub settled : File → File
+settled file = at_rest file.content
+
+-- the disk as a restart finds it where everything was kept
+abbrev pub as_it_stands : Disk → Disk
+as_it_stands d = record d { files = λ id. option_map settled (d.files id); unreadable = λ id place. false; stopped = false; failures = 0 }
+
+-- every file is synced
+abbrev pub IsAllSynced : Disk → Type 0
+IsAllSynced d = (id : ℕ) (file : File) → d.files id ≡ Some file → file.pieces ≡ []

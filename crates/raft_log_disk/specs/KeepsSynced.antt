@@ -31,6 +31,14 @@ pub record HoldsChain {R : Type 0} (IsFrame : List ℕ → R → Type 0) (start 
   pub spared : (place : ℕ) → start ≤ place → place < start + length (spelled durable) → All (Spares place) file.pieces
   pub handed : (at : ℕ) (bytes : List ℕ) → Contains file.pieces (Wrote at bytes) → (at + length bytes ≤ start) ⊎ LiesIn start (spelled (durable ++ pending)) at bytes
 
+-- The file holds the chain, and at least the durable records are synced: a sync may have been carried out although the file
+-- system stopped at it and refused it, and then the first pending ones are durable too.
+pub record HoldsAtLeast {R : Type 0} (IsFrame : List ℕ → R → Type 0) (start end : ℕ) (durable pending : List (Written R)) (file : File) : Type 0 where
+  pub more : List (Written R)
+  pub rest : List (Written R)
+  pub splits : pending ≡ more ++ rest
+  pub holds : HoldsChain IsFrame start end (durable ++ more) rest file
+
 -- the durable records and the first `count` pending ones
 abbrev pub kept_records : {R : Type 0} → List (Written R) → List (Written R) → ℕ → List (Written R)
 kept_records durable pending count = durable ++ take count pending
@@ -45,7 +53,7 @@ KeepsSynced {R} IsFrame start end durable pending file =
 -- The theorem: a file that holds a chain keeps the synced records of it.
 abbrev pub ChainKeepsSynced : {R : Type 0} → (List ℕ → R → Type 0) → Type 0
 ChainKeepsSynced {R} IsFrame = IsPrefixFree IsFrame → (start end : ℕ) (durable pending : List (Written R)) (file : File)
-    → HoldsChain IsFrame start end durable pending file → KeepsSynced IsFrame start end durable pending file
+    → HoldsAtLeast IsFrame start end durable pending file → KeepsSynced IsFrame start end durable pending file
 
 -- How a file goes on holding its chain. A record written behind it, of which anything may have landed, is the last pending
 -- one; so is one that is only going to be written. A cut behind the durable records, a growth and a write in front of the

@@ -1,10 +1,8 @@
 pub mod Disk
 pub mod Image
 pub mod Calls
-pub mod ImageLaws
-pub mod ChangeLaws
-pub mod Updates
-pub mod SoundLaws
+pub mod Causes
+pub mod Laws
 pub mod Chains
 pub mod KeepsSynced
 pub mod CrashExamples

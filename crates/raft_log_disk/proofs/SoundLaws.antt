@@ -10,9 +10,9 @@ use Rattle.std.proofs.lemmas.Slice.Eq.{bytes_eq-Decides}
 use Rattle.raft_log_disk.specs.Disk.{Piece, File, Disk, at_rest, with_file, file_limit}
 use Rattle.raft_log_disk.specs.Image.{end_of, IsLeft, IsSoundFile, IsSound}
 use Rattle.raft_log_disk.specs.Calls.{with_piece, after_piece, flushed, created, deleted, without, renamed, with_directory, with_marks, counted, at_stop, InPart}
-use Rattle.raft_log_disk.specs.ImageLaws.{left_at_rest, rest_sound}
-use Rattle.raft_log_disk.specs.ChangeLaws.{part_may, left_changed, changed_in_part}
-use Rattle.raft_log_disk.specs.Updates.{name_case, file_case, name_here, name_apart, file_here, file_apart}
+use Rattle.raft_log_disk.proofs.ImageLaws.{left_at_rest, rest_sound}
+use Rattle.raft_log_disk.proofs.ChangeLaws.{part_may, left_changed, changed_in_part}
+use Rattle.raft_log_disk.proofs.Updates.{name_case, file_case, name_here, name_apart, file_here, file_apart}
 
 pub empty_sound : IsSoundFile (at_rest [])
 empty_sound = record { stands = left_at_rest []; short = omega arith; ends = All-nil _ }
@@ -36,9 +36,7 @@ sound_flushed file sound = rest_sound file file.content sound sound.stands
 -- the disk, where one file became another sound one
 pub sound_with_file : (d : Disk) (id : ℕ) (old next : File) → IsSound d → d.files id ≡ Some old → IsSoundFile next → IsSound (with_file id (Some next) d)
 sound_with_file d id old next sound is fine = record {
-    named = λ path j at. elim (cases_eq j id) [
-        inl same ↦ (next, subst (λ (q : ℕ). update nat_eq d.files id (Some next) q ≡ Some next) (sym same) (file_here d.files id (Some next)))
-      | inr apart ↦ let there = sound.named path j at in (there.0, file_apart d.files id (Some next) j apart ∙ there.1) ];
+    named = λ path j at none. elim (file_case d.files id (Some next) j None none) [ inl here ↦ cc (here.1) | inr there ↦ sound.named path j at there.1 ];
     one_name = sound.one_name;
     apart = sound.apart;
     fresh = λ j above. file_apart d.files id (Some next) j (λ same. cc (sound.fresh j above)) ∙ sound.fresh j above;
@@ -59,9 +57,11 @@ sound_with_marks marks d sound = record { named = sound.named; one_name = sound.
 -- with a new file
 pub sound_created : (d : Disk) (path : List ℕ) → IsSound d → d.names path ≡ None → d.directories path ≡ false → IsSound (created path d)
 sound_created d path sound free apart = record {
-    named = λ p j at. elim (name_case d.names path (Some d.unused) p (Some j) at) [
-        inl new ↦ (let same : d.unused ≡ j = cc (new.1) in (at_rest [], subst (λ (q : ℕ). update nat_eq d.files d.unused (Some (at_rest [])) q ≡ Some (at_rest [])) same (file_here d.files d.unused (Some (at_rest [])))))
-      | inr old ↦ (let there = sound.named p j old.1 in (there.0, file_apart d.files d.unused (Some (at_rest [])) j (λ same. used p j old.1 same) ∙ there.1)) ];
+    named = λ p j at none. elim (file_case d.files d.unused (Some (at_rest [])) j None none) [
+        inl here ↦ cc (here.1)
+      | inr there ↦ elim (name_case d.names path (Some d.unused) p (Some j) at) [
+            inl new ↦ there.0 (let same : d.unused ≡ j = cc (new.1) in sym same)
+          | inr old ↦ sound.named p j old.1 there.1 ] ];
     one_name = λ a b j at_a at_b. elim (name_case d.names path (Some d.unused) a (Some j) at_a) [
         inl new_a ↦ elim (name_case d.names path (Some d.unused) b (Some j) at_b) [
             inl new_b ↦ new_a.0 ∙ sym new_b.0
@@ -78,13 +78,13 @@ sound_created d path sound free apart = record {
       | inr old ↦ sound.files j file old.1 ] }
   where
     used : (p : List ℕ) (j : ℕ) → d.names p ≡ Some j → j ≡ d.unused → ⊥
-    used p j at same = let there = sound.named p j at in let none : d.files j ≡ None = sound.fresh j (omega (arith, same)) in cc (there.1, none)
+    used p j at same = sound.named p j at (sound.fresh j (omega (arith, same)))
 
 -- without a name and its file
 pub sound_deleted : (d : Disk) (path : List ℕ) (id : ℕ) → IsSound d → d.names path ≡ Some id → IsSound (deleted path id d)
 sound_deleted d path id sound is = record {
-    named = λ p j at. let old = kept p j at in let there = sound.named p j old.1 in
-        (there.0, file_apart d.files id None j (λ same. old.0 (sound.one_name p path j old.1 (is ∙ ap Some (sym same)))) ∙ there.1);
+    named = λ p j at none. let old = kept p j at in
+        sound.named p j old.1 (sym (file_apart d.files id None j (λ same. old.0 (sound.one_name p path j old.1 (is ∙ ap Some (sym same))))) ∙ none);
     one_name = λ a b j at_a at_b. sound.one_name a b j (kept a j at_a).1 (kept b j at_b).1;
     apart = λ p j at. sound.apart p j (kept p j at).1;
     fresh = λ j above. elim (cases_eq j id) [
@@ -115,12 +115,12 @@ without_none (Some id) files j none = elim (cases_eq j id) [
 -- with a file under another name
 pub sound_renamed : (d : Disk) (from to : List ℕ) (id : ℕ) → IsSound d → d.names from ≡ Some id → d.directories to ≡ false → IsSound (renamed from to id d)
 sound_renamed d from to id sound is apart = record {
-    named = λ p j at. elim (moved p j at) [
-        inl new ↦ (let there = sound.named from id is in
-            (there.0, subst (λ (q : ℕ). update nat_eq (without (d.names to) d.files) id (d.files id) q ≡ Some there.0) new.1 (file_here (without (d.names to) d.files) id (d.files id) ∙ there.1)))
-      | inr old ↦ (let there = sound.named p j old.2 in
-            (there.0, file_apart (without (d.names to) d.files) id (d.files id) j (λ same. old.1 (sound.one_name p from j old.2 (is ∙ ap Some (sym same))))
-              ∙ (without_apart (d.names to) d.files j (λ lost. old.0 (sound.one_name p to j old.2 lost)) ∙ there.1))) ];
+    named = λ p j at none. elim (moved p j at) [
+        inl new ↦ sound.named from id is (sym (file_here (without (d.names to) d.files) id (d.files id))
+            ∙ subst (λ (q : ℕ). update nat_eq (without (d.names to) d.files) id (d.files id) q ≡ None) (sym new.1) none)
+      | inr old ↦ sound.named p j old.2
+            (sym (without_apart (d.names to) d.files j (λ lost. old.0 (sound.one_name p to j old.2 lost)))
+            ∙ (sym (file_apart (without (d.names to) d.files) id (d.files id) j (λ same. old.1 (sound.one_name p from j old.2 (is ∙ ap Some (sym same))))) ∙ none)) ];
     one_name = λ a b j at_a at_b. elim (moved a j at_a) [
         inl new_a ↦ elim (moved b j at_b) [
             inl new_b ↦ new_a.0 ∙ sym new_b.0

@@ -5,13 +5,13 @@ use Rattle.std.specs.List.{All}
 use Rattle.std.specs.Map.{update}
 use Rattle.std.specs.Str.{bytes_eq}
 use Rattle.std.proofs.Common.{refl, sym, ◌∙◌, ap, subst, arith, inl, inr, get_or, nat_eq, take, drop, replicate}
-use Rattle.std.proofs.lemmas.List.{get_or_append_left, get_or-append_right, get_or-take, get_or-drop, get_or_push, append-nil, length-append, length-take, length-take-le, length-drop, length-replicate}
+use Rattle.std.proofs.lemmas.List.{take_at, drop_all, get_or_append_left, get_or-append_right, get_or-take, get_or-drop, get_or_push, append-nil, length-append, length-take, length-take-le, length-drop, length-replicate}
 use Rattle.std.proofs.lemmas.List.Elements.{All-nil}
 use Rattle.std.proofs.lemmas.Bool.{cases_lt, cases_eq, cases_Bool, false≢true}
 use Rattle.std.proofs.lemmas.Bool.Decides.{Decides-eqb}
 use Rattle.std.proofs.lemmas.Slice.Eq.{bytes_eq-Decides}
 use Rattle.std.proofs.lemmas.Map.{update_same, update_other}
-use Rattle.raft_log_disk.specs.Disk.{Piece, Wrote, CutTo, GrewTo, File, Disk, at_rest, zeros, grown, overwritten, changed, with_file, file_limit}
+use Rattle.raft_log_disk.specs.Disk.{Piece, Wrote, CutTo, GrewTo, File, Disk, at_rest, zeros, grown, spliced, overwritten, changed, with_file, file_limit}
 use Rattle.raft_log_disk.specs.Image.{Touches, Spares, end_of, IsLeft, IsSoundFile, IsSound}
 use Rattle.raft_log_disk.specs.Calls.{with_piece, after_piece, flushed, created, deleted, without, renamed, with_directory, with_marks, counted, at_stop, IsTorn, InPart}
 
@@ -47,13 +47,12 @@ part_may (GrewTo size) old new (count, fits_in, same) = record {
 length-grown : (size : ℕ) (old : List ℕ) → length (grown size old) ≡ length old + (size - length old)
 length-grown size old = length-append old (zeros (size - length old)) ∙ ap (λ (n : ℕ). length old + n) (length-replicate {A = ℕ} (size - length old) 0)
 
--- a write that was done whole is one that was done in part
-pub overwritten_torn : (at : ℕ) (bytes old : List ℕ) → IsTorn at bytes old (overwritten at bytes old)
-overwritten_torn at bytes old =
+spliced_torn : (at : ℕ) (bytes old : List ℕ) → IsTorn at bytes old (spliced at bytes old)
+spliced_torn at bytes old =
     let room : List ℕ = grown (at + length bytes) old in
     let size : length room ≡ length old + (at + length bytes - length old) = length-grown (at + length bytes) old in
     let front : length (take at room) ≡ at = length-take-le at room (omega (arith, size)) in
-    let whole : length (overwritten at bytes old) ≡ at + (length bytes + (length room - (at + length bytes))) =
+    let whole : length (spliced at bytes old) ≡ at + (length bytes + (length room - (at + length bytes))) =
         length-append (take at room) (bytes ++ drop (at + length bytes) room)
         ∙ (ap (λ (n : ℕ). n + length (bytes ++ drop (at + length bytes) room)) front
         ∙ ap (λ (n : ℕ). at + n) (length-append bytes (drop (at + length bytes) room)
@@ -73,7 +72,30 @@ overwritten_torn at bytes old =
         longer = omega (arith, whole, size);
         within = λ most fits ends. omega (arith, whole, size) }
 
--- so is any change
+-- a write that was done whole is one that was done in part
+pub overwritten_torn : (at : ℕ) (bytes old : List ℕ) → IsTorn at bytes old (overwritten at bytes old)
+overwritten_torn at [] old = record { outside = λ place below apart. refl; longer = omega arith; within = λ size fits ends. fits }
+overwritten_torn at (b ∷ bs) old = spliced_torn at (b ∷ bs) old
+
+-- a write of some bytes
+pub overwritten_some : (at : ℕ) (bytes old : List ℕ) → 0 < length bytes → overwritten at bytes old ≡ spliced at bytes old
+overwritten_some at [] old some = absurd (omega arith)
+overwritten_some at (b ∷ bs) old some = refl
+
+-- a write at the end appends
+pub overwritten_at_end : (bytes old : List ℕ) → overwritten (length old) bytes old ≡ old ++ bytes
+overwritten_at_end [] old = sym (append-nil old)
+overwritten_at_end (b ∷ bs) old =
+    let bytes : List ℕ = b ∷ bs in
+    let gap : List ℕ = zeros (length old + length bytes - length old) in
+    let front : take (length old) (old ++ gap) ≡ old = take_at old gap (length old) refl in
+    let behind : drop (length old + length bytes) (old ++ gap) ≡ [] =
+        drop_all (length old + length bytes) (old ++ gap) (omega (arith, length-append old gap, length-replicate {A = ℕ} (length old + length bytes - length old) 0)) in
+    ap (λ (xs : List ℕ). xs ++ (bytes ++ drop (length old + length bytes) (old ++ gap))) front
+    ∙ ap (λ (xs : List ℕ). old ++ (bytes ++ xs)) behind
+    ∙ ap (λ (xs : List ℕ). old ++ xs) (append-nil bytes)
+
+-- any change done whole is one done in part
 pub changed_in_part : (piece : Piece) (old : List ℕ) → InPart piece old (changed piece old)
 changed_in_part (Wrote at bytes) old = overwritten_torn at bytes old
 changed_in_part (CutTo size) old = inr refl

@@ -10,19 +10,7 @@ use Rattle.std.proofs.lemmas.List.Elements.{All-nil, All-contains, All-weaker}
 use Rattle.std.proofs.lemmas.Bool.{cases_lt}
 use std.Path.{fun_ext}
 use Rattle.raft_log_disk.specs.Disk.{Piece, File, Disk, at_rest, file_limit}
-use Rattle.raft_log_disk.specs.Image.{Touches, Spares, end_of, IsLeft, IsFileImage, IsImage, IsSoundFile, IsSound}
-
--- the file as a restart finds it where all of it was kept
-abbrev pub settled : File → File
-settled file = at_rest file.content
-
--- the disk as a restart finds it where everything was kept
-abbrev pub as_it_stands : Disk → Disk
-as_it_stands d = record d { files = λ id. option_map settled (d.files id); unreadable = λ id place. false; stopped = false; failures = 0 }
-
--- every file is synced
-abbrev pub IsAllSynced : Disk → Type 0
-IsAllSynced d = (id : ℕ) (file : File) → d.files id ≡ Some file → file.pieces ≡ []
+use Rattle.raft_log_disk.specs.Image.{Touches, Spares, end_of, IsLeft, IsFileImage, IsImage, IsSoundFile, IsSound, settled, as_it_stands, IsAllSynced}
 
 -- bytes at rest are what is left of them
 pub left_at_rest : (bytes : List ℕ) → IsLeft (at_rest bytes) bytes
@@ -77,6 +65,11 @@ disk_ext d e directories names files unused unreadable stopped failures =
     ∙ ap (λ (x : Bool). record e { stopped = x; failures = d.failures }) stopped
     ∙ ap (λ (x : ℕ). record e { failures = x }) failures
 
+-- where a file isn't absent, there is one
+pub some_file : (o : Option File) → (o ≡ None → ⊥) → (file : File) × (o ≡ Some file)
+some_file None there = absurd (there refl)
+some_file (Some file) there = (file, refl)
+
 -- the files as they stand are an image
 pub stands_is_image : (d : Disk) → IsSound d → IsImage d (as_it_stands d)
 stands_is_image d sound = record {
@@ -127,11 +120,10 @@ file_sound (Some before) (Some after) sound (bytes, at, left) file some =
     let same : at_rest bytes ≡ file = cc in
     subst IsSoundFile same (rest_sound before bytes (sound before refl) left)
 
-file_there : (o image : Option File) → IsFileImage o image → (file : File) × (o ≡ Some file) → (file : File) × (image ≡ Some file)
-file_there None None is (file, some) = absurd (cc)
-file_there None (Some after) is some = absurd is
-file_there (Some before) None is some = absurd is
-file_there (Some before) (Some after) is some = (after, refl)
+file_there : (o image : Option File) → IsFileImage o image → image ≡ None → o ≡ None
+file_there None image is none = refl
+file_there (Some before) None is none = absurd is
+file_there (Some before) (Some after) is none = cc
 
 file_absent : (o image : Option File) → IsFileImage o image → o ≡ None → image ≡ None
 file_absent None None is none = refl
@@ -141,7 +133,7 @@ file_absent (Some before) image is none = absurd (cc)
 -- an image of a sound disk is sound
 pub image_is_sound : (d image : Disk) → IsSound d → IsImage d image → IsSound image
 image_is_sound d image sound is = record {
-    named = λ path id at. file_there (d.files id) (image.files id) (is.files id) (sound.named path id (name_of path id at));
+    named = λ path id at none. sound.named path id (name_of path id at) (file_there (d.files id) (image.files id) (is.files id) none);
     one_name = λ a b id at_a at_b. sound.one_name a b id (name_of a id at_a) (name_of b id at_b);
     apart = λ path id at. ap (λ (f : List ℕ → Bool). f path) is.directories ∙ sound.apart path id (name_of path id at);
     fresh = λ id above. file_absent (d.files id) (image.files id) (is.files id) (sound.fresh id (subst (λ (n : ℕ). n ≤ id) is.unused above));

@@ -57,8 +57,9 @@ fails_whole right refused = fails right (λ left same. ap (λ (d : Disk). d.fail
 -- to be later is calm
 pub later_calm : (old : Disk) → IsCalm (IsLater old)
 later_calm old = record {
-    at_count = λ d later. record { failures = omega (arith, later.failures); stopped = later.stopped };
-    at_end = λ d later. record { failures = later.failures; stopped = λ is. refl } }
+  at_count = λ d later. record { failures = omega (arith, later.failures); stopped = later.stopped };
+  at_end = λ d later. record { failures = later.failures; stopped = λ is. refl };
+}
 
 -- each call, answered or refused, leaves a later disk
 pub later_piece : {T E : Type 0} {old new : Disk} (wrong : E → Type 0) (result : Result T E) (id : ℕ) (piece : Piece)

@@ -23,26 +23,35 @@ pub record MayBecome (piece : Piece) (old new : List ℕ) : Type 0 where
 -- a refused change leaves no more than that
 pub part_may : (piece : Piece) (old new : List ℕ) → InPart piece old new → MayBecome piece old new
 part_may (Wrote at bytes) old new torn = record {
-    kept = λ place below spared.
-        (omega (arith, torn.longer), torn.outside place below (elim (cases_lt place at) [
-            inl before ↦ inl before
-          | inr from ↦ elim (cases_lt place (at + length bytes)) [ inl inside ↦ absurd (spared (from, inside)) | inr behind ↦ inr behind ] ]));
-    within = torn.within }
+  kept = λ place below spared. (
+    omega (arith, torn.longer),
+    torn.outside place below (elim (cases_lt place at) [
+      | inl before ↦ inl before
+      | inr from ↦ elim (cases_lt place (at + length bytes)) [ inl inside ↦ absurd (spared (from, inside)) | inr behind ↦ inr behind ]
+    ]),
+  );
+  within = torn.within;
+}
 part_may (CutTo size) old new (inl same) = record {
-    kept = λ place below spared. subst (λ (b : List ℕ). (place < length b) × (slice_index b place ≡ slice_index old place)) (sym same) (below, refl);
-    within = λ most fits ends. subst (λ (b : List ℕ). length b ≤ most) (sym same) fits }
+  kept = λ place below spared. subst (λ (b : List ℕ). (place < length b) × (slice_index b place ≡ slice_index old place)) (sym same) (below, refl);
+  within = λ most fits ends. subst (λ (b : List ℕ). length b ≤ most) (sym same) fits;
+}
 part_may (CutTo size) old new (inr cut) = record {
-    kept = λ place below spared.
-        let inside : place < size = elim (cases_lt place size) [ inl less ↦ less | inr more ↦ absurd (spared more) ] in
-        subst (λ (b : List ℕ). (place < length b) × (slice_index b place ≡ slice_index old place)) (sym cut)
-          (omega (arith, length-take size old), get_or-take size old place 0 inside);
-    within = λ most fits ends. subst (λ (b : List ℕ). length b ≤ most) (sym cut) (omega (arith, length-take size old)) }
+  kept = λ place below spared.
+      let inside : place < size = elim (cases_lt place size) [ inl less ↦ less | inr more ↦ absurd (spared more) ] in
+      subst (λ (b : List ℕ). (place < length b) × (slice_index b place ≡ slice_index old place)) (sym cut)
+      (omega (arith, length-take size old), get_or-take size old place 0 inside);
+  within = λ most fits ends. subst (λ (b : List ℕ). length b ≤ most) (sym cut) (omega (arith, length-take size old));
+}
 part_may (GrewTo size) old new (count, fits_in, same) = record {
-    kept = λ place below spared. subst (λ (b : List ℕ). (place < length b) × (slice_index b place ≡ slice_index old place)) (sym same)
-        (omega (arith, length-append old (zeros count)), get_or_append_left old (zeros count) 0 place below);
-    within = λ most fits ends. subst (λ (b : List ℕ). length b ≤ most) (sym same)
-        (elim fits_in [ inl room ↦ omega (arith, length-append old (zeros count), length-replicate {A = ℕ} count 0, room)
-                      | inr none ↦ omega (arith, length-append old (zeros count), length-replicate {A = ℕ} count 0, none) ]) }
+  kept = λ place below spared. subst (λ (b : List ℕ). (place < length b) × (slice_index b place ≡ slice_index old place)) (sym same)
+      (omega (arith, length-append old (zeros count)), get_or_append_left old (zeros count) 0 place below);
+  within = λ most fits ends. subst (λ (b : List ℕ). length b ≤ most) (sym same)
+      (elim fits_in [
+        | inl room ↦ omega (arith, length-append old (zeros count), length-replicate {A = ℕ} count 0, room)
+        | inr none ↦ omega (arith, length-append old (zeros count), length-replicate {A = ℕ} count 0, none)
+      ]);
+}
 
 length-grown : (size : ℕ) (old : List ℕ) → length (grown size old) ≡ length old + (size - length old)
 length-grown size old = length-append old (zeros (size - length old)) ∙ ap (λ (n : ℕ). length old + n) (length-replicate {A = ℕ} (size - length old) 0)
@@ -53,24 +62,26 @@ spliced_torn at bytes old =
     let size : length room ≡ length old + (at + length bytes - length old) = length-grown (at + length bytes) old in
     let front : length (take at room) ≡ at = length-take-le at room (omega (arith, size)) in
     let whole : length (spliced at bytes old) ≡ at + (length bytes + (length room - (at + length bytes))) =
-        length-append (take at room) (bytes ++ drop (at + length bytes) room)
-        ∙ (ap (λ (n : ℕ). n + length (bytes ++ drop (at + length bytes) room)) front
-        ∙ ap (λ (n : ℕ). at + n) (length-append bytes (drop (at + length bytes) room)
-        ∙ ap (λ (n : ℕ). length bytes + n) (length-drop (at + length bytes) room))) in
+    length-append (take at room) (bytes ++ drop (at + length bytes) room)
+    ∙ (ap (λ (n : ℕ). n + length (bytes ++ drop (at + length bytes) room)) front
+    ∙ ap (λ (n : ℕ). at + n) (length-append bytes (drop (at + length bytes) room)
+    ∙ ap (λ (n : ℕ). length bytes + n) (length-drop (at + length bytes) room))) in
     record {
-        outside = λ place below apart.
-            let in_room : get_or room place 0 ≡ get_or old place 0 = get_or_append_left old (zeros (at + length bytes - length old)) 0 place below in
-            elim apart [
-                inl before ↦ get_or_append_left (take at room) (bytes ++ drop (at + length bytes) room) 0 place (omega (arith, front, before))
-                    ∙ (get_or-take at room place 0 before ∙ in_room)
-              | inr behind ↦
-                    let reached : at + length bytes + (place - at - length bytes) ≡ place = omega (arith, behind) in
-                    get_or-append_right (take at room) (bytes ++ drop (at + length bytes) room) at place 0 front (omega (arith, behind))
-                    ∙ (get_or-append_right bytes (drop (at + length bytes) room) (length bytes) (place - at) 0 refl (omega (arith, behind))
-                    ∙ (get_or-drop (at + length bytes) room (place - at - length bytes) 0
-                    ∙ (ap (λ (n : ℕ). get_or room n 0) reached ∙ in_room))) ];
-        longer = omega (arith, whole, size);
-        within = λ most fits ends. omega (arith, whole, size) }
+      outside = λ place below apart.
+          let in_room : get_or room place 0 ≡ get_or old place 0 = get_or_append_left old (zeros (at + length bytes - length old)) 0 place below in
+          elim apart [
+            | inl before ↦ get_or_append_left (take at room) (bytes ++ drop (at + length bytes) room) 0 place (omega (arith, front, before))
+                ∙ (get_or-take at room place 0 before ∙ in_room)
+            | inr behind ↦
+                let reached : at + length bytes + (place - at - length bytes) ≡ place = omega (arith, behind) in
+                get_or-append_right (take at room) (bytes ++ drop (at + length bytes) room) at place 0 front (omega (arith, behind))
+                ∙ (get_or-append_right bytes (drop (at + length bytes) room) (length bytes) (place - at) 0 refl (omega (arith, behind))
+                ∙ (get_or-drop (at + length bytes) room (place - at - length bytes) 0
+                ∙ (ap (λ (n : ℕ). get_or room n 0) reached ∙ in_room)))
+          ];
+      longer = omega (arith, whole, size);
+      within = λ most fits ends. omega (arith, whole, size);
+    }
 
 -- a write that was done whole is one that was done in part
 pub overwritten_torn : (at : ℕ) (bytes old : List ℕ) → IsTorn at bytes old (overwritten at bytes old)
@@ -90,7 +101,7 @@ overwritten_at_end (b ∷ bs) old =
     let gap : List ℕ = zeros (length old + length bytes - length old) in
     let front : take (length old) (old ++ gap) ≡ old = take_at old gap (length old) refl in
     let behind : drop (length old + length bytes) (old ++ gap) ≡ [] =
-        drop_all (length old + length bytes) (old ++ gap) (omega (arith, length-append old gap, length-replicate {A = ℕ} (length old + length bytes - length old) 0)) in
+    drop_all (length old + length bytes) (old ++ gap) (omega (arith, length-append old gap, length-replicate {A = ℕ} (length old + length bytes - length old) 0)) in
     ap (λ (xs : List ℕ). xs ++ (bytes ++ drop (length old + length bytes) (old ++ gap))) front
     ∙ ap (λ (xs : List ℕ). old ++ (bytes ++ xs)) behind
     ∙ ap (λ (xs : List ℕ). old ++ xs) (append-nil bytes)
@@ -117,9 +128,10 @@ all_last P xs x all = subst P (get_or_push xs x x (length xs) refl) (all (length
 -- what may be left of a file, and then changed in part, may be left of the file with that change
 pub left_changed : (file : File) (piece : Piece) (content old new : List ℕ) → IsLeft file old → MayBecome piece old new → IsLeft (with_piece piece content file) new
 left_changed file piece content old new left may = record {
-    kept = λ place below spared.
-        let before = left.kept place below (all_front (Spares place) file.pieces piece spared) in
-        let after = may.kept place before.0 (all_last (Spares place) file.pieces piece spared) in
-        (after.0, after.1 ∙ before.1);
-    within = λ size fits ends.
-        may.within size (left.within size fits (all_front (λ p. end_of p ≤ size) file.pieces piece ends)) (all_last (λ p. end_of p ≤ size) file.pieces piece ends) }
+  kept = λ place below spared.
+      let before = left.kept place below (all_front (Spares place) file.pieces piece spared) in
+      let after = may.kept place before.0 (all_last (Spares place) file.pieces piece spared) in
+      (after.0, after.1 ∙ before.1);
+  within = λ size fits ends.
+      may.within size (left.within size fits (all_front (λ p. end_of p ≤ size) file.pieces piece ends)) (all_last (λ p. end_of p ≤ size) file.pieces piece ends);
+}

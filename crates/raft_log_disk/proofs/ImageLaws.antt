@@ -22,9 +22,10 @@ only_at_rest file bytes none left =
     let spared : (place : ℕ) → All (Spares place) file.pieces = λ place. subst (All (Spares place)) (sym none) (All-nil _) in
     let short : length bytes ≤ length file.synced = left.within (length file.synced) (omega arith) (subst (All (λ piece. end_of piece ≤ length file.synced)) (sym none) (All-nil _)) in
     let long : length file.synced ≤ length bytes =
-        elim (cases_lt (length bytes) (length file.synced)) [
-          inl less ↦ let more = (left.kept (length bytes) less (spared (length bytes))).0 in absurd (omega arith)
-        | inr enough ↦ enough ] in
+    elim (cases_lt (length bytes) (length file.synced)) [
+      | inl less ↦ let more = (left.kept (length bytes) less (spared (length bytes))).0 in absurd (omega arith)
+      | inr enough ↦ enough
+    ] in
     ext_get_or 0 bytes file.synced (omega arith) (λ place below. (left.kept place (omega arith) (spared place)).1)
 
 -- the content of a sound file without unsynced changes is what was synced
@@ -73,44 +74,54 @@ some_file (Some file) there = (file, refl)
 -- the files as they stand are an image
 pub stands_is_image : (d : Disk) → IsSound d → IsImage d (as_it_stands d)
 stands_is_image d sound = record {
-    directories = refl; names = refl; unused = refl;
-    files = λ id. file_stands (d.files id) (sound.files id);
-    readable = λ id place. refl; running = refl; uncounted = refl }
+  directories = refl;
+  names = refl;
+  unused = refl;
+  files = λ id. file_stands (d.files id) (sound.files id);
+  readable = λ id place. refl;
+  running = refl;
+  uncounted = refl;
+}
 
 -- where all is synced, they are the only one
 pub synced_is_only_image : (d image : Disk) → IsSound d → IsAllSynced d → IsImage d image → image ≡ as_it_stands d
 synced_is_only_image d image sound synced is =
     disk_ext image (as_it_stands d) is.directories is.names
-      (fun_ext (λ id. file_only (d.files id) (image.files id) (sound.files id) (synced id) (is.files id)))
-      is.unused (fun_ext (λ id. fun_ext (λ place. is.readable id place))) is.running is.uncounted
+    (fun_ext (λ id. file_only (d.files id) (image.files id) (sound.files id) (synced id) (is.files id)))
+    is.unused (fun_ext (λ id. fun_ext (λ place. is.readable id place))) is.running is.uncounted
 
 -- an image of an image is an image
 pub image_of_image : (d image later : Disk) → IsImage d image → IsImage image later → IsImage d later
 image_of_image d image later is again = record {
-    directories = again.directories ∙ is.directories;
-    names = again.names ∙ is.names;
-    unused = again.unused ∙ is.unused;
-    files = λ id. file_twice (d.files id) (image.files id) (later.files id) (is.files id) (again.files id);
-    readable = again.readable; running = again.running; uncounted = again.uncounted }
+  directories = again.directories ∙ is.directories;
+  names = again.names ∙ is.names;
+  unused = again.unused ∙ is.unused;
+  files = λ id. file_twice (d.files id) (image.files id) (later.files id) (is.files id) (again.files id);
+  readable = again.readable;
+  running = again.running;
+  uncounted = again.uncounted;
+}
 
 -- in a written range, and behind a cut, any byte may be left
 pub any_byte_left : (file : File) (bytes : List ℕ) (piece : Piece) (place byte : ℕ) → Contains file.pieces piece → Touches piece place
     → IsLeft file bytes → IsLeft file (set bytes place byte)
 any_byte_left file bytes piece place byte is touched left = record {
-    kept = λ q below spared.
-        let apart : q ≡ place → ⊥ = λ same. All-contains (Spares q) file.pieces piece spared is (subst (Touches piece) (sym same) touched) in
-        let old = left.kept q below spared in
-        (subst (λ (n : ℕ). q < n) (sym (length-set bytes place byte)) old.0, get_or-set_other bytes place q byte 0 apart ∙ old.1);
-    within = λ size fits ends. subst (λ (n : ℕ). n ≤ size) (sym (length-set bytes place byte)) (left.within size fits ends) }
+  kept = λ q below spared.
+      let apart : q ≡ place → ⊥ = λ same. All-contains (Spares q) file.pieces piece spared is (subst (Touches piece) (sym same) touched) in
+      let old = left.kept q below spared in
+      (subst (λ (n : ℕ). q < n) (sym (length-set bytes place byte)) old.0, get_or-set_other bytes place q byte 0 apart ∙ old.1);
+  within = λ size fits ends. subst (λ (n : ℕ). n ≤ size) (sym (length-set bytes place byte)) (left.within size fits ends);
+}
 
 -- what is left of a sound file is sound
 pub rest_sound : (file : File) (bytes : List ℕ) → IsSoundFile file → IsLeft file bytes → IsSoundFile (at_rest bytes)
 rest_sound file bytes sound left = record {
-    stands = left_at_rest bytes;
-    short = let most : length bytes ≤ file_limit - 1 = left.within (file_limit - 1) (omega (arith, sound.short))
-        (All-weaker (λ piece. end_of piece < file_limit) (λ piece. end_of piece ≤ file_limit - 1) (λ piece less. omega (arith, less)) file.pieces sound.ends) in
-        omega (arith, most);
-    ends = All-nil _ }
+  stands = left_at_rest bytes;
+  short = let most : length bytes ≤ file_limit - 1 = left.within (file_limit - 1) (omega (arith, sound.short))
+      (All-weaker (λ piece. end_of piece < file_limit) (λ piece. end_of piece ≤ file_limit - 1) (λ piece less. omega (arith, less)) file.pieces sound.ends) in
+      omega (arith, most);
+  ends = All-nil _;
+}
 
 file_sound : (o image : Option File) → ((file : File) → o ≡ Some file → IsSoundFile file) → IsFileImage o image → (file : File) → image ≡ Some file → IsSoundFile file
 file_sound None None sound is file none = absurd (cc)
@@ -133,11 +144,12 @@ file_absent (Some before) image is none = absurd (cc)
 -- an image of a sound disk is sound
 pub image_is_sound : (d image : Disk) → IsSound d → IsImage d image → IsSound image
 image_is_sound d image sound is = record {
-    named = λ path id at none. sound.named path id (name_of path id at) (file_there (d.files id) (image.files id) (is.files id) none);
-    one_name = λ a b id at_a at_b. sound.one_name a b id (name_of a id at_a) (name_of b id at_b);
-    apart = λ path id at. ap (λ (f : List ℕ → Bool). f path) is.directories ∙ sound.apart path id (name_of path id at);
-    fresh = λ id above. file_absent (d.files id) (image.files id) (is.files id) (sound.fresh id (subst (λ (n : ℕ). n ≤ id) is.unused above));
-    files = λ id. file_sound (d.files id) (image.files id) (sound.files id) (is.files id) }
+  named = λ path id at none. sound.named path id (name_of path id at) (file_there (d.files id) (image.files id) (is.files id) none);
+  one_name = λ a b id at_a at_b. sound.one_name a b id (name_of a id at_a) (name_of b id at_b);
+  apart = λ path id at. ap (λ (f : List ℕ → Bool). f path) is.directories ∙ sound.apart path id (name_of path id at);
+  fresh = λ id above. file_absent (d.files id) (image.files id) (is.files id) (sound.fresh id (subst (λ (n : ℕ). n ≤ id) is.unused above));
+  files = λ id. file_sound (d.files id) (image.files id) (sound.files id) (is.files id);
+}
   where
     name_of : (path : List ℕ) (id : ℕ) → image.names path ≡ Some id → d.names path ≡ Some id
     name_of path id at = ap (λ (f : List ℕ → Option ℕ). f path) (sym is.names) ∙ at

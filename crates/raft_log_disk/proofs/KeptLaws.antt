@@ -30,6 +30,7 @@ kept_piece {old = old} Q wrong (Err e) id piece calm before step ok err = kept_r
     in_part : (left : Disk) → SomeOf id piece old left → Q left
     in_part left (none same) = subst Q (sym same) before
     in_part left (some file content is part same) = subst Q (sym same) (step file content is part)
+
     whole : (left : Disk) → Changes id (after_piece piece) old left → Q left
     whole left is = subst Q (sym is.done) (step is.file _ is.is (changed_in_part piece is.file.content))
 

@@ -33,8 +33,9 @@ without (Some id) files = update nat_eq files id None
 -- the disk with a file under another name; a file that had that name is gone, and the renamed one is as it was
 abbrev pub renamed : List ℕ → List ℕ → ℕ → Disk → Disk
 renamed from to id d = record d {
-    names = update bytes_eq (update bytes_eq d.names from None) to (Some id);
-    files = update nat_eq (without (d.names to) d.files) id (d.files id) }
+  names = update bytes_eq (update bytes_eq d.names from None) to (Some id);
+  files = update nat_eq (without (d.names to) d.files) id (d.files id);
+}
 
 -- the disk with one more directory
 abbrev pub with_directory : List ℕ → Disk → Disk

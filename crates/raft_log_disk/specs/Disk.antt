@@ -63,11 +63,15 @@ file_limit = 2 ^ 63
 abbrev pub with_file : ℕ → Option File → Disk → Disk
 with_file id file d = record d { files = update nat_eq d.files id file }
 
+-- a name within a directory has no slash
+abbrev pub IsPlain : List ℕ → Type 0
+IsPlain name = (k : ℕ) → k < length name → slice_index name k ≡ 47 → ⊥
+
 -- a path of a file: a directory's, a slash, and a name without a slash
 pub record IsPathIn (directory path : List ℕ) : Type 0 where
   pub name : List ℕ
   pub joined : path ≡ directory ++ 47 ∷ name
-  pub plain : (k : ℕ) → k < length name → slice_index name k ≡ 47 → ⊥
+  pub plain : IsPlain name
 
 -- some directory that is there is the path's own
 pub record HasDirectory (path : List ℕ) (d : Disk) : Type 0 where

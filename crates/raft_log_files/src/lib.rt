@@ -1,13 +1,11 @@
-// A library with one function.
+//! The file systems under the log: what a store asks of one, and one in memory whose calls can be refused, which can
+//! stop at any call, and which tells what a crash then leaves.
 #![tactic(auto)]
 
-ghost use Rattle.std.specs.Prelude.{◌≡◌};
-ghost use Rattle.raft_log_files.specs.Echo.{echo_of};
+/// What a store asks of a file system.
+pub mod file_system;
+/// What a file is opened for, and how calls are made to fail.
+pub mod handle;
 
-// The `ensures` clause is the contract: what `echo` returns is `echo_of` of its argument, a definition
-// in `specs/Echo.antt`, which a caller's clause can cite too.
-pub fn echo(x: usize) -> usize
-    ensures { result ≡ echo_of x }
-{
-    x
-}
+pub use file_system::FileSystem;
+pub use handle::{Fault, Handle, Permission};

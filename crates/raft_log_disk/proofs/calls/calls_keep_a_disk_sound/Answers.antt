@@ -4,12 +4,13 @@ use Rattle.raft_log_disk.proofs.calls.calls_keep_a_disk_sound.Goals as goal
 
 pub returns : goal.returns
 returns c = record {
-    change = λ d id file piece content sound is part short.
-        sound_with_file d id file (with_piece piece content file) sound is (sound_with_piece file piece content (sound.files id file is) part short);
-    sync = λ d id file sound is. sound_with_file d id file (flushed file) sound is (sound_flushed file (sound.files id file is));
-    create = sound_created;
-    delete = sound_deleted;
-    rename = sound_renamed;
-    directory = sound_with_directory;
-    failure = sound_counted;
-    stop = sound_at_stop }
+  change = λ d id file piece content sound is part short.
+      sound_with_file d id file (with_piece piece content file) sound is (sound_with_piece file piece content (sound.files id file is) part short);
+  sync = λ d id file sound is. sound_with_file d id file (flushed file) sound is (sound_flushed file (sound.files id file is));
+  create = sound_created;
+  delete = sound_deleted;
+  rename = sound_renamed;
+  directory = sound_with_directory;
+  failure = sound_counted;
+  stop = sound_at_stop;
+}

@@ -1,1 +1,4 @@
 pub mod Frames
+pub mod Causes
+pub mod KeepingLaws
+pub mod OpenLaws

@@ -11,7 +11,8 @@ use Rattle.raft_log_disk.specs.Chains.{Written, IsPrefixFree, spelled, AreFrames
 use Rattle.raft_log_disk.proofs.ChainLaws.{spelled-append, lies_within, lies_in_more, frames_append, frames_front, frames_back, reads_begin, frame_filled, reads_further, follows_chain}
 use Rattle.raft_log_disk.specs.KeepsSynced.{HoldsAtLeast, NoChanceMatch, HoldsChain, KeepsSynced}
 
-take_over : {X : Type 0} (xs ys : List X) (n : ℕ) → take (length xs + n) (xs ++ ys) ≡ xs ++ take n ys
+-- the front of two lists, beyond the first
+pub take_over : {X : Type 0} (xs ys : List X) (n : ℕ) → take (length xs + n) (xs ++ ys) ≡ xs ++ take n ys
 take_over {X} xs ys n =
     let m = length xs in
     let front : take m (take (m + n) (xs ++ ys)) ≡ xs = take-take m (m + n) (xs ++ ys) (omega arith) ∙ take_at xs ys m refl in

@@ -1,12 +1,10 @@
-use Rattle.std.proofs.Common.{◌≡◌, ℕ, ◌+◌, ◌<◌, ◌≤◌, List, ◌++◌, length, take, drop, true, false, nat_eq, [], ◌∷◌, sym, ◌∙◌, ap, subst, arith, rules, ◌^◌}
+use Rattle.std.proofs.Common.{◌≡◌, ℕ, List, ◌++◌, length, take, drop, sym, ◌∙◌, ap, subst, arith, rules}
 use Rattle.std.proofs.lemmas.List.{take-append-drop}
 use Rattle.std.proofs.lemmas.Slice.Eq.{starts_is}
 use Rattle.std.proofs.lemmas.Bool.{false≢true}
 use Rattle.std.proofs.lemmas.Bool.Decides.{Decides-eqb}
 use Rattle.std.specs.Int.{w32, from_be_bytes}
 use Rattle.md5.specs.Md5.{md5}
-use Rattle.raft_log_disk.specs.Chains.{Written, Refuses}
-use Rattle.raft_log_append_file.specs.Frame.{IsFrame}
 use Rattle.raft_log_append_file.proofs.Frames.{frame_found, frame_there}
 use Rattle.raft_log_append_file.proofs.frame.frame_len.Goals as goal
 

@@ -6,6 +6,7 @@ use Rattle.raft_log_disk.specs.Causes.{HasCause, Fails}
 use Rattle.raft_log_disk.specs.Chains.{spelled}
 use Rattle.raft_log_disk.specs.KeepsSynced.{HoldsChain}
 use Rattle.raft_log_files.specs.declared.handle.Permission.TheVariants.{ReadWrite}
+use Rattle.raft_log_files.specs.Arguments.{WrongCreate}
 use Rattle.raft_log_append_file.specs.Frame.{IsFrame, Records, framed}
 use Rattle.raft_log_append_file.specs.Keeping.{IsKept}
 use Rattle.raft_log_append_file.specs.declared.append_file.AppendFile.{AppendFile}
@@ -46,3 +47,8 @@ OpenRefused _ old new = ⊥
 -- a file that is open is kept
 abbrev pub OpenIsKept : Type 0
 OpenIsKept = (log : AppendFile) (durable pending : Records) (d : Disk) → IsOpen log durable pending d → IsKept log.handle.file durable pending d
+
+-- Why a file wasn't made: the path is taken or has no directory, and nothing has changed; or a file call failed.
+abbrev pub CreateRefused : AppendError → List ℕ → Disk → Disk → Type 0
+CreateRefused (FileSystem kind) path old new = (WrongCreate path old kind × (new ≡ old)) ⊎ Fails old new
+CreateRefused _ path old new = ⊥

@@ -1,6 +1,5 @@
 ghost use Rattle.std.specs.Prelude.{◌≡◌, ℕ, ◌+◌, ◌<◌, ◌≤◌, ◌^◌, ◌⊎◌, Some, None, false, List, [], ◌∷◌, ◌++◌, length, take, IfOk, IfErr, OnOk, OnErr};
-ghost use Rattle.raft_log_disk.specs.Disk.{File, HasDirectory};
-ghost use Rattle.raft_log_disk.specs.Causes.{Fails};
+ghost use Rattle.raft_log_disk.specs.Disk.{File};
 ghost use Rattle.raft_log_disk.specs.KeepsSynced.{kept_records};
 ghost use Rattle.raft_log_append_file.specs.Frame.{IsFrame, Records, framed};
 ghost use Rattle.raft_log_append_file.specs.Keeping.{IsKept, NoChanceNow, KeepsRecords};
@@ -20,16 +19,13 @@ pub struct AppendFile {
 }
 
 impl AppendFile {
-    ghost use Rattle.raft_log_append_file.specs.AppendFile.{IsOpen, AppendRefused, SyncRefused, OpenRefused};
+    ghost use Rattle.raft_log_append_file.specs.AppendFile.{IsOpen, CreateRefused, AppendRefused, SyncRefused, OpenRefused};
 
     /// Makes an empty file.
     pub fn create<F: FileSystem>(file_system: &mut F, path: &str) -> Result<AppendFile, AppendError>
         ensures ok { IfOk result (λ log. IsOpen log [] [] (F.disk file_system.new)) }
         ensures named { IfOk result (λ log. (F.disk file_system.new).names path.now ≡ Some log.handle.file) }
-
-        // Where the path is free and its directory is there, only a failure stands behind a refusal.
-        ensures err { OnErr result ((F.disk file_system.old).names path.now ≡ None → (F.disk file_system.old).directories path.now ≡ false
-            → HasDirectory path.now (F.disk file_system.old) → Fails (F.disk file_system.old) (F.disk file_system.new)) }
+        ensures err { IfErr result (λ error. CreateRefused error path.now (F.disk file_system.old) (F.disk file_system.new)) }
     {
         let handle = file_system.create(path)?;
         Ok(AppendFile {

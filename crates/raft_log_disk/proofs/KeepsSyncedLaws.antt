@@ -1,6 +1,7 @@
 -- How a file keeps its chain of records through calls, and what follows for what a stop leaves.
+use Rattle.std.specs.List.{All}
 use Rattle.std.proofs.Common.{◌≡◌, ℕ, ◌+◌, ◌-◌, min, ◌<◌, ◌≤◌, List, [], ◌∷◌, ◌++◌, length, take, drop, get_or, refl, sym, ◌∙◌, ap, subst, inl, inr, arith, length-append, length-drop}
-use Rattle.std.proofs.lemmas.List.{append-nil, append_assoc, drop-take, drop_at, get_or-take, length-take, nil_from_length, take-append-drop, take-take, take_at}
+use Rattle.std.proofs.lemmas.List.{append-nil, append_assoc, drop-take, drop_all, drop_at, ext_get_or, get_or-drop, get_or-take, length-take, length-take-le, nil_from_length, take-append-drop, take-take, take_at}
 use Rattle.std.proofs.lemmas.Bool.{cases_lt}
 use Rattle.std.proofs.lemmas.List.Prefix.{at_from_reads, at_reads}
 use Rattle.std.proofs.lemmas.List.Elements.{All-nil, All-push, Contains-push_cases}
@@ -8,7 +9,7 @@ use Rattle.raft_log_disk.specs.Disk.{Wrote, CutTo, GrewTo, File, at_rest}
 use Rattle.raft_log_disk.specs.Image.{IsLeft, Spares}
 use Rattle.raft_log_disk.specs.Calls.{with_piece}
 use Rattle.raft_log_disk.specs.Chains.{Written, IsPrefixFree, spelled, AreFrames, BeginsWith, Reads, Meets, LiesIn}
-use Rattle.raft_log_disk.proofs.ChainLaws.{spelled-append, lies_within, lies_in_more, frames_append, frames_front, frames_back, reads_begin, frame_filled, reads_further, follows_chain}
+use Rattle.raft_log_disk.proofs.ChainLaws.{follows_chain, frame_filled, frames_append, frames_back, frames_front, lies_in_more, lies_within, nothing_refuses, reads_begin, reads_further, spelled-append}
 use Rattle.raft_log_disk.specs.KeepsSynced.{HoldsAtLeast, NoChanceMatch, HoldsChain, KeepsSynced}
 
 -- the front of two lists, beyond the first
@@ -18,6 +19,24 @@ take_over {X} xs ys n =
     let front : take m (take (m + n) (xs ++ ys)) ≡ xs = take-take m (m + n) (xs ++ ys) (omega arith) ∙ take_at xs ys m refl in
     let back : drop m (take (m + n) (xs ++ ys)) ≡ take n ys = drop-take m n (xs ++ ys) ∙ ap (λ (zs : List X). take n zs) (drop_at xs ys m refl) in
     sym (take-append-drop m (take (m + n) (xs ++ ys))) ∙ ap (λ (zs : List X). zs ++ drop m (take (m + n) (xs ++ ys))) front ∙ ap (λ (zs : List X). xs ++ zs) back
+
+-- a part of the synced bytes that no change touches stays
+pub left_keeps_part : (from size : ℕ) (file : File) (bytes : List ℕ) → from + size ≤ length file.synced → ((place : ℕ) → from ≤ place → place < from + size → All (Spares place) file.pieces)
+    → IsLeft file bytes → take size (drop from bytes) ≡ take size (drop from file.synced)
+left_keeps_part from size file bytes inside spared left =
+    let s = file.synced in
+    let kept : (i : ℕ) → i < size → (from + i < length bytes) × (get_or bytes (from + i) 0 ≡ get_or s (from + i) 0) = λ i less.
+    left.kept (from + i) (omega arith) (spared (from + i) (omega arith) (omega arith)) in
+    let room : size ≤ length (drop from bytes) = elim (cases_lt 0 size) [
+      | inl some ↦ (let last = kept (size - 1) (omega arith) in omega (arith, last.0, length-drop from bytes))
+      | inr none ↦ omega arith
+    ] in
+    let room_s : size ≤ length (drop from s) = omega (arith, length-drop from s) in
+    let long = length-take-le size (drop from bytes) room in
+    let long_s = length-take-le size (drop from s) room_s in
+    ext_get_or 0 (take size (drop from bytes)) (take size (drop from s)) (long ∙ sym long_s) (λ i less.
+    (let below : i < size = omega arith in
+    get_or-take size (drop from bytes) i 0 below ∙ get_or-drop from bytes i 0 ∙ (kept i below).1 ∙ sym (get_or-drop from s i 0) ∙ sym (get_or-take size (drop from s) i 0 below)))
 
 module _ {R : Type 0} (IsFrame : List ℕ → R → Type 0) (start end : ℕ) where
   -- a record that is in the chain lies there
@@ -194,3 +213,10 @@ module _ {R : Type 0} (IsFrame : List ℕ → R → Type 0) (start end : ℕ) wh
     spared = λ place _ _. All-nil (Spares place);
     handed = λ n bs within. absurd (omega (arith, within.1));
   }
+
+module _ {R : Type 0} (IsFrame : List ℕ → R → Type 0) where
+  -- of a file that is used again nothing was written under its new number
+  pub holds_reused : IsPrefixFree IsFrame → (start : ℕ) (bytes : List ℕ) → HoldsChain IsFrame start start [] [] (at_rest bytes)
+  holds_reused free start bytes =
+      let none : drop start (take start bytes) ≡ [] = drop_all start (take start bytes) (omega (arith, length-take start bytes)) in
+      holds_at_rest IsFrame start start [] bytes (record { rest = []; splits = none; frames = tt; ends = nothing_refuses IsFrame free })

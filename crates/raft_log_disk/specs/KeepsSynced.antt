@@ -1,6 +1,6 @@
 -- Synced records are kept: what a stop may leave of a chain of records, under the premise that no checksum is met by
 -- chance.
-use Rattle.std.specs.Prelude.{◌≡◌, ℕ, ◌+◌, ◌<◌, ◌≤◌, ◌⊎◌, List, [], ◌∷◌, ◌++◌, length, take, Contains}
+use Rattle.std.specs.Prelude.{◌≡◌, ℕ, ◌+◌, ◌<◌, ◌≤◌, ◌⊎◌, List, [], ◌∷◌, ◌++◌, length, take, drop, Contains}
 use Rattle.std.specs.List.{All}
 use Rattle.raft_log_disk.specs.Disk.{Piece, Wrote, CutTo, GrewTo, File, at_rest}
 use Rattle.raft_log_disk.specs.Image.{IsLeft, Spares}
@@ -57,7 +57,8 @@ ChainKeepsSynced {R} IsFrame = IsPrefixFree IsFrame → (start end : ℕ) (durab
 
 -- How a file goes on holding its chain. A record written behind it, of which anything may have landed, is the last pending
 -- one; so is one that is only going to be written. A cut behind the durable records, a growth and a write in front of the
--- chain change nothing. After a sync, or a restart, the file holds what is read of it, all durable.
+-- chain change nothing. A file that is used again holds the empty chain, whatever stands in it. After a sync, or a restart,
+-- a file holds what is read of it, all durable.
 pub record ChainSteps {R : Type 0} (IsFrame : List ℕ → R → Type 0) (start end : ℕ) : Type 0 where
   pub written : (durable pending : List (Written R)) (w : Written R) (content : List ℕ) (file : File) → IsFrame w.bytes w.value → HoldsChain IsFrame start end durable pending file
       → HoldsChain IsFrame start end durable (pending ++ w ∷ []) (with_piece (Wrote (start + length (spelled (durable ++ pending))) w.bytes) content file)
@@ -69,4 +70,10 @@ pub record ChainSteps {R : Type 0} (IsFrame : List ℕ → R → Type 0) (start 
       → HoldsChain IsFrame start end durable pending (with_piece (GrewTo size) content file)
   pub in_front : (durable pending : List (Written R)) (at : ℕ) (bytes content : List ℕ) (file : File) → at + length bytes ≤ start → HoldsChain IsFrame start end durable pending file
       → HoldsChain IsFrame start end durable pending (with_piece (Wrote at bytes) content file)
+  pub reused : IsPrefixFree IsFrame → (bytes : List ℕ) → HoldsChain IsFrame start start [] [] (at_rest bytes)
   pub resting : (ws : List (Written R)) (bytes : List ℕ) → Reads IsFrame start ws (take end bytes) → HoldsChain IsFrame start end ws [] (at_rest bytes)
+
+-- A part of the synced bytes that no change touches stays: so does a header in front of the records.
+abbrev pub UntouchedPartStays : Type 0
+UntouchedPartStays = (from size : ℕ) (file : File) (bytes : List ℕ) → from + size ≤ length file.synced → ((place : ℕ) → from ≤ place → place < from + size → All (Spares place) file.pieces)
+    → IsLeft file bytes → take size (drop from bytes) ≡ take size (drop from file.synced)

@@ -2,7 +2,7 @@
 
 ghost use Rattle.std.specs.Prelude.{ℕ, List};
 ghost use Rattle.raft_log_disk.specs.Chains.{IsPrefixFree, ReadsOneWay, ReadsSome, AgreesUpToEnd};
-ghost use Rattle.raft_log_disk.specs.KeepsSynced.{ChainKeepsSynced, ChainSteps};
+ghost use Rattle.raft_log_disk.specs.KeepsSynced.{ChainKeepsSynced, ChainSteps, UntouchedPartStays};
 ghost use Rattle.raft_log_disk.specs.CrashExamples.{TornRecordIsLost, ForeignRecordIsChance, SyncedFileHasNoChance};
 
 /// Says which bytes spell which record.
@@ -51,4 +51,9 @@ pub fn foreign_record_is_chance<G: Framing>()
 /// A stop leaves nothing to chance of a file whose bytes are all synced.
 pub fn synced_file_has_no_chance<G: Framing>()
     ensures { SyncedFileHasNoChance G.is_frame }
+{}
+
+/// A part of the synced bytes that no change touches stays: so does a header in front of the records.
+pub fn untouched_part_stays()
+    ensures { UntouchedPartStays }
 {}

@@ -1,5 +1,5 @@
 -- Why a call on an open file is refused.
-use Rattle.std.proofs.Common.{◌≡◌, ℕ, ◌⊎◌, Some, None, inl, inr, ap, ◌∙◌}
+use Rattle.std.proofs.Common.{◌≡◌, ℕ, ◌⊎◌, Some, inl, inr, ap, ◌∙◌}
 use Rattle.std.specs.declared.io.ErrorKind.{ErrorKind}
 use Rattle.raft_log_disk.specs.Disk.{File, Disk}
 use Rattle.raft_log_disk.specs.Causes.{HasCause, stopped as stop_cause, unreadable_place, Fails, has_stopped}

@@ -2,3 +2,4 @@ pub mod Frames
 pub mod Causes
 pub mod KeepingLaws
 pub mod OpenLaws
+pub mod OthersLaws

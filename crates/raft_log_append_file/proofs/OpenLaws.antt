@@ -5,7 +5,7 @@ use Rattle.std.proofs.lemmas.List.{append-nil, append_assoc, take_all, take_at, 
 use Rattle.std.proofs.lemmas.List.Elements.{All-weaker}
 use Rattle.std.specs.declared.io.ErrorKind.{ErrorKind}
 use Rattle.raft_log_disk.specs.Disk.{file_limit, Piece, Wrote, File, Disk, with_file, at_rest, overwritten}
-use Rattle.raft_log_disk.specs.Image.{IsSound, IsSoundFile, end_of, IsLeft, IsFileImage, IsImage}
+use Rattle.raft_log_disk.specs.Image.{IsSound, IsSoundFile, end_of, IsLeft}
 use Rattle.raft_log_disk.specs.Calls.{with_piece, after_piece, flushed, Changes, IsTorn}
 use Rattle.raft_log_disk.specs.Chains.{Written, spelled, AreFrames, Reads}
 use Rattle.raft_log_disk.specs.KeepsSynced.{NoChanceMatch, HoldsChain, kept_records}
@@ -14,7 +14,7 @@ use Rattle.raft_log_disk.proofs.ChangeLaws.{overwritten_at_end}
 use Rattle.raft_log_disk.proofs.Updates.{file_here}
 use Rattle.raft_log_disk.proofs.KeptLaws.{IsCalm}
 use Rattle.raft_log_disk.proofs.ChainLaws.{spelled-append, frames_front, nothing_refuses, reads_some}
-use Rattle.raft_log_disk.proofs.KeepsSyncedLaws.{take_over, keeps_synced, at_least_keeps, holds_written, holds_more, holds_at_rest, holds_at_least}
+use Rattle.raft_log_disk.proofs.KeepsSyncedLaws.{left_of_image, take_over, keeps_synced, at_least_keeps, holds_written, holds_more, holds_at_rest, holds_at_least}
 use Rattle.raft_log_disk.proofs.CrashExampleLaws.{synced_file_has_no_chance}
 use Rattle.raft_log_files.specs.declared.handle.Handle.{Handle}
 use Rattle.raft_log_files.specs.declared.handle.Permission.TheVariants.{ReadWrite}
@@ -28,14 +28,10 @@ use Rattle.raft_log_append_file.specs.declared.error.AppendError.TheVariants.{Me
 use Rattle.raft_log_append_file.proofs.Frames.{prefix_free, can_tell}
 use Rattle.raft_log_append_file.proofs.KeepingLaws.{same_file, settled_at_least}
 
--- what is left of a file, by the image of the disk
-left_of : (d image : Disk) (id : ℕ) (file after : File) → IsImage d image → d.files id ≡ Some file → image.files id ≡ Some after → (bytes : List ℕ) × (after ≡ at_rest bytes) × IsLeft file bytes
-left_of d image id file after is here there = subst (λ (o : _). IsFileImage (Some file) o) there (subst (λ (o : _). IsFileImage o (image.files id)) here (is.files id))
-
 pub kept_keeps : KeptKeeps
 kept_keeps id durable pending d kept image after is there chance =
     let file = kept.file in
-    let left = left_of d image id file after is kept.is there in
+    let left = left_of_image d image id file after is kept.is there in
     let left_now = subst (IsLeft file) (sym (ap (λ (f : File). f.content) left.1)) left.2 in
     let reads = reads_some IsFrame prefix_free can_tell 0 after.content in
     let keeps = at_least_keeps IsFrame 0 (length file.synced) durable pending file prefix_free kept.holds after.content left_now (chance file kept.is) reads.0 reads.1 in
@@ -59,7 +55,7 @@ rest_no_chance id d bytes is file there =
 pub kept_through_restart : KeptThroughRestart
 kept_through_restart id durable pending d image after kept is there chance =
     let keeps = kept_keeps id durable pending d kept image after is there chance in
-    let left = left_of d image id kept.file after is kept.is there in
+    let left = left_of_image d image id kept.file after is kept.is there in
     let bytes = left.0 in
     let rests : image.files id ≡ Some (at_rest bytes) = there ∙ ap Some left.1 in
     let reads = subst (Reads IsFrame 0 (kept_records durable pending keeps.0)) (ap (λ (f : File). f.content) left.1) keeps.2 in

@@ -12,6 +12,12 @@ pub record IsKept (id : ℕ) (durable pending : Records) (d : Disk) : Type 0 whe
   pub is : d.files id ≡ Some file
   pub holds : HoldsAtLeast IsFrame 0 (length file.synced) durable pending file
 
+-- nothing changed but this file's bytes
+pub record TouchesOnly (id : ℕ) (old new : Disk) : Type 0 where
+  pub names : new.names ≡ old.names
+  pub directories : new.directories ≡ old.directories
+  pub others : (other : ℕ) → (other ≡ id → ⊥) → new.files other ≡ old.files other
+
 -- A file that is about to be cut to a size: it holds these records, and its bytes up to there are the durable ones and the
 -- first `count` pending ones.
 pub record CanCut (id size count : ℕ) (durable pending : Records) (d : Disk) : Type 0 where

@@ -2,7 +2,7 @@ ghost use Rattle.std.specs.Prelude.{◌≡◌, ℕ, ◌+◌, ◌<◌, ◌≤◌,
 ghost use Rattle.raft_log_disk.specs.Disk.{File};
 ghost use Rattle.raft_log_disk.specs.KeepsSynced.{kept_records};
 ghost use Rattle.raft_log_append_file.specs.Frame.{IsFrame, Records, framed};
-ghost use Rattle.raft_log_append_file.specs.Keeping.{IsKept, NoChanceNow, KeepsRecords};
+ghost use Rattle.raft_log_append_file.specs.Keeping.{IsKept, NoChanceNow, KeepsRecords, TouchesOnly};
 
 use super::error::AppendError;
 use super::frame::{MAX_LEN, make_frame};
@@ -50,6 +50,7 @@ impl AppendFile {
             → IsKept id durable pending (F.disk file_system.new) }
         ensures err { IfErr result (λ error. (id : ℕ) (file : File) → (F.disk file_system.old).names path.now ≡ Some id
             → (F.disk file_system.old).files id ≡ Some file → OpenRefused error (F.disk file_system.old) (F.disk file_system.new)) }
+        ensures others { (id : ℕ) → (F.disk file_system.old).names path.now ≡ Some id → TouchesOnly id (F.disk file_system.old) (F.disk file_system.new) }
     {
         let handle = file_system.open(path, Permission::ReadWrite)?;
         let bytes = read_file(alloc, file_system, handle)?;
@@ -78,6 +79,7 @@ impl AppendFile {
         ensures kept { (durable pending : Records) → IsOpen self.old durable pending (F.disk file_system.old)
             → KeepsRecords self.old.handle.file durable (pending ++ framed bytes.now ∷ []) (F.disk file_system.new) }
         ensures handle { self.new.handle ≡ self.old.handle }
+        ensures others { TouchesOnly self.old.handle.file (F.disk file_system.old) (F.disk file_system.new) }
     {
         if self.failed {
             return Err(AppendError::Failed);
@@ -98,6 +100,7 @@ impl AppendFile {
         ensures kept { (durable pending : Records) → IsOpen self.old durable pending (F.disk file_system.old)
             → KeepsRecords self.old.handle.file durable pending (F.disk file_system.new) }
         ensures handle { self.new.handle ≡ self.old.handle }
+        ensures others { TouchesOnly self.old.handle.file (F.disk file_system.old) (F.disk file_system.new) }
     {
         if self.failed {
             return Err(AppendError::Failed);
@@ -116,6 +119,7 @@ impl AppendFile {
         ensures err { IfErr result (λ error. (bytes : List ℕ) (durable pending : Records) → IsFrame frame.now bytes → IsOpen self.old durable pending (F.disk file_system.old)
             → AppendRefused error bytes self.new durable pending (F.disk file_system.old) (F.disk file_system.new)) }
         ensures handle { self.new.handle ≡ self.old.handle }
+        ensures others { TouchesOnly self.old.handle.file (F.disk file_system.old) (F.disk file_system.new) }
     {
         let Some(end) = self.written.checked_add(frame.len()) else {
             return Err(AppendError::TooLong);

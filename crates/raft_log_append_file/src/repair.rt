@@ -3,7 +3,7 @@ ghost use Rattle.raft_log_disk.specs.Disk.{File, at_rest};
 ghost use Rattle.raft_log_disk.specs.Causes.{HasCause, Fails, IsLater};
 ghost use Rattle.raft_log_disk.specs.Chains.{Reads, spelled};
 ghost use Rattle.raft_log_append_file.specs.Frame.{IsFrame, Records};
-ghost use Rattle.raft_log_append_file.specs.Keeping.{IsKept, CanCut};
+ghost use Rattle.raft_log_append_file.specs.Keeping.{IsKept, CanCut, TouchesOnly};
 ghost use Rattle.raft_log_append_file.specs.AppendFile.{OpenRefused};
 
 use super::error::AppendError;
@@ -51,6 +51,7 @@ pub fn cut_back<F: FileSystem>(
     ensures err { OnErr result ((file : File) → (F.disk file_system.old).files handle.file ≡ Some file → handle.permission ≡ Permission.ReadWrite
         → Fails (F.disk file_system.old) (F.disk file_system.new)) }
     ensures later { IsLater (F.disk file_system.old) (F.disk file_system.new) }
+    ensures others { TouchesOnly handle.file (F.disk file_system.old) (F.disk file_system.new) }
 {
     file_system.truncate(handle, size)?;
     file_system.sync(handle)

@@ -1,16 +1,20 @@
 -- How a file keeps its chain of records through calls, and what follows for what a stop leaves.
 use Rattle.std.specs.List.{All}
-use Rattle.std.proofs.Common.{◌≡◌, ℕ, ◌+◌, ◌-◌, min, ◌<◌, ◌≤◌, List, [], ◌∷◌, ◌++◌, length, take, drop, get_or, refl, sym, ◌∙◌, ap, subst, inl, inr, arith, length-append, length-drop}
+use Rattle.std.proofs.Common.{Option, Some, ◌≡◌, ℕ, ◌+◌, ◌-◌, min, ◌<◌, ◌≤◌, List, [], ◌∷◌, ◌++◌, length, take, drop, get_or, refl, sym, ◌∙◌, ap, subst, inl, inr, arith, length-append, length-drop}
 use Rattle.std.proofs.lemmas.List.{append-nil, append_assoc, drop-take, drop_all, drop_at, ext_get_or, get_or-drop, get_or-take, length-take, length-take-le, nil_from_length, take-append-drop, take-take, take_at}
 use Rattle.std.proofs.lemmas.Bool.{cases_lt}
 use Rattle.std.proofs.lemmas.List.Prefix.{at_from_reads, at_reads}
 use Rattle.std.proofs.lemmas.List.Elements.{All-nil, All-push, Contains-push_cases}
-use Rattle.raft_log_disk.specs.Disk.{Wrote, CutTo, GrewTo, File, at_rest}
-use Rattle.raft_log_disk.specs.Image.{IsLeft, Spares}
+use Rattle.raft_log_disk.specs.Disk.{Disk, Wrote, CutTo, GrewTo, File, at_rest}
+use Rattle.raft_log_disk.specs.Image.{IsFileImage, IsImage, IsLeft, Spares}
 use Rattle.raft_log_disk.specs.Calls.{with_piece}
 use Rattle.raft_log_disk.specs.Chains.{Written, IsPrefixFree, spelled, AreFrames, BeginsWith, Reads, Meets, LiesIn}
 use Rattle.raft_log_disk.proofs.ChainLaws.{follows_chain, frame_filled, frames_append, frames_back, frames_front, lies_in_more, lies_within, nothing_refuses, reads_begin, reads_further, spelled-append}
 use Rattle.raft_log_disk.specs.KeepsSynced.{HoldsAtLeast, NoChanceMatch, HoldsChain, KeepsSynced}
+
+-- what is left of a file, by the image of the disk
+pub left_of_image : (d image : Disk) (id : ℕ) (file after : File) → IsImage d image → d.files id ≡ Some file → image.files id ≡ Some after → (bytes : List ℕ) × (after ≡ at_rest bytes) × IsLeft file bytes
+left_of_image d image id file after is here there = subst (λ (o : Option File). IsFileImage (Some file) o) there (subst (λ (o : Option File). IsFileImage o (image.files id)) here (is.files id))
 
 -- the front of two lists, beyond the first
 pub take_over : {X : Type 0} (xs ys : List X) (n : ℕ) → take (length xs + n) (xs ++ ys) ≡ xs ++ take n ys

@@ -6,6 +6,7 @@ use Rattle.raft_log_disk.proofs.CauseLaws.{fails_piece, fails_still}
 use Rattle.raft_log_disk.specs.Chains.{spelled}
 use Rattle.raft_log_append_file.specs.Frame.{framed}
 use Rattle.raft_log_append_file.specs.Keeping.{CanCut}
+use Rattle.raft_log_append_file.proofs.OthersLaws.{touches_same, touches_then, touches_piece}
 use Rattle.raft_log_append_file.proofs.OpenLaws.{content_short, front_records, open_can_cut, torn_can_cut, cut_calm, settled_open, open_appended, right_writer}
 use Rattle.raft_log_append_file.proofs.append_file.AppendFile.put.Goals as goal
 
@@ -63,3 +64,25 @@ returns-clause-ok g c = λ bytes durable pending is_frame opened.
     let D = g.F.FileSystem.disk in
     open_appended c.args.self.now (record { handle = c.args.self.now.handle; written = c.in-Some.end; failed = false }) durable pending bytes c.args.frame.now (D c.args.file_system.now) (D c.write_at.new.self) opened is_frame refl
     (search rules) refl c.in_default-write_at.ensures.ok
+
+pub returns-in_default-clause-others : goal.returns-in_default-clause-others
+returns-in_default-clause-others g c = touches_same c.args.self.now.handle.file (g.F.FileSystem.disk c.args.file_system.now)
+
+pub returns-in_err-cut_back-clause-others : goal.returns-in_err-cut_back-clause-others
+returns-in_err-cut_back-clause-others g c =
+    let D = g.F.FileSystem.disk in
+    let id = c.args.self.now.handle.file in
+    let write = touches_piece _ c.write_at.result id (Wrote c.args.self.now.written c.args.frame.now) c.write_at.ensures.ok c.write_at.ensures.err in
+    touches_then id (D c.args.file_system.now) (D c.write_at.new.self) (D c.cut_back.new.file_system) write c.cut_back.ensures.others
+
+pub returns-in-Err-clause-others : goal.returns-in-Err-clause-others
+returns-in-Err-clause-others g c =
+    let D = g.F.FileSystem.disk in
+    let id = c.args.self.now.handle.file in
+    let write = touches_piece _ c.write_at.result id (Wrote c.args.self.now.written c.args.frame.now) c.write_at.ensures.ok c.write_at.ensures.err in
+    touches_then id (D c.args.file_system.now) (D c.write_at.new.self) (D c.cut_back.new.file_system) write c.cut_back.ensures.others
+
+pub returns-clause-others : goal.returns-clause-others
+returns-clause-others g c =
+    let id = c.args.self.now.handle.file in
+    touches_piece _ c.write_at.result id (Wrote c.args.self.now.written c.args.frame.now) c.write_at.ensures.ok c.write_at.ensures.err

@@ -6,6 +6,7 @@ use Rattle.raft_log_disk.proofs.KeptLaws.{kept_sync}
 use Rattle.raft_log_disk.proofs.CauseLaws.{fails_whole}
 use Rattle.raft_log_disk.proofs.Updates.{file_here}
 use Rattle.raft_log_append_file.specs.Keeping.{IsKept}
+use Rattle.raft_log_append_file.proofs.OthersLaws.{touches_sync}
 use Rattle.raft_log_append_file.proofs.KeepingLaws.{kept_calm, same_file}
 use Rattle.raft_log_append_file.proofs.OpenLaws.{kept_keeps, open_kept, synced_kept, settled_open, right_handle}
 use Rattle.raft_log_append_file.proofs.append_file.AppendFile.sync.Goals as goal
@@ -50,3 +51,9 @@ returns-clause-ok g c = λ durable pending opened.
     let bytes = ap (λ (f : File). f.content) same ∙ opened.content in
     let now = ap (λ (d : _). d.files log.handle.file) synced.done ∙ file_here old.files log.handle.file (Some (flushed synced.file)) in
     settled_open (record { handle = log.handle; written = log.written; failed = false }) (durable ++ pending) synced.file.content (D c.sync.new.self) opened.holds.frames bytes now opened.permitted opened.written refl
+
+pub returns-in_err-sync-clause-others : goal.returns-in_err-sync-clause-others
+returns-in_err-sync-clause-others g c = touches_sync _ c.sync.result c.args.self.now.handle.file c.sync.ensures.ok c.sync.ensures.err
+
+pub returns-clause-others : goal.returns-clause-others
+returns-clause-others g c = touches_sync _ c.sync.result c.args.self.now.handle.file c.sync.ensures.ok c.sync.ensures.err

@@ -51,6 +51,7 @@ impl AppendFile {
         ensures err { IfErr result (λ error. (id : ℕ) (file : File) → (F.disk file_system.old).names path.now ≡ Some id
             → (F.disk file_system.old).files id ≡ Some file → OpenRefused error (F.disk file_system.old) (F.disk file_system.new)) }
         ensures others { (id : ℕ) → (F.disk file_system.old).names path.now ≡ Some id → TouchesOnly id (F.disk file_system.old) (F.disk file_system.new) }
+        ensures missing { (F.disk file_system.old).names path.now ≡ None → F.disk file_system.new ≡ F.disk file_system.old }
     {
         let handle = file_system.open(path, Permission::ReadWrite)?;
         let bytes = read_file(alloc, file_system, handle)?;

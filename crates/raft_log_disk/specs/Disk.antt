@@ -78,3 +78,15 @@ pub record HasDirectory (path : List ℕ) (d : Disk) : Type 0 where
   pub directory : List ℕ
   pub inside : IsPathIn directory path
   pub there : d.directories directory ≡ true
+
+-- the disk of a file system with no directory
+abbrev pub empty_disk : Disk
+empty_disk = record {
+  directories = λ path. false;
+  names = λ path. None;
+  files = λ id. None;
+  unused = 0;
+  unreadable = λ id place. false;
+  stopped = false;
+  failures = 0;
+}

@@ -6,6 +6,9 @@
 pub mod file_system;
 /// What a file is opened for, and how calls are made to fail.
 pub mod handle;
+/// A file system in memory.
+pub mod memory;
 
 pub use file_system::FileSystem;
 pub use handle::{Fault, Handle, Permission};
+pub use memory::MemoryFileSystem;

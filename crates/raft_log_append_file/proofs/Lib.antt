@@ -1,0 +1,5 @@
+pub mod Frames
+pub mod Causes
+pub mod KeepingLaws
+pub mod OpenLaws
+pub mod OthersLaws

@@ -1,0 +1,310 @@
+-- An open file of records through its calls, and what a stop leaves of it.
+use Rattle.std.proofs.Common.{◌≡◌, ℕ, ◌+◌, ◌-◌, ◌^◌, ◌<◌, ◌≤◌, inl, inr, false, Some, List, [], ◌∷◌, ◌++◌, length, take, drop, refl, sym, ◌∙◌, ap, subst, arith, length-append, Result, Ok, Err}
+use Rattle.std.specs.Result.{OnOk, IfErr}
+use Rattle.std.proofs.lemmas.List.{append-nil, append_assoc, take_all, take_at, take-append-le, length-take-le, get_or-take, ext_get_or, take-append-drop}
+use Rattle.std.proofs.lemmas.List.Elements.{All-weaker}
+use Rattle.std.specs.declared.io.ErrorKind.{ErrorKind}
+use Rattle.raft_log_disk.specs.Disk.{file_limit, Piece, Wrote, File, Disk, with_file, at_rest, overwritten}
+use Rattle.raft_log_disk.specs.Image.{IsSound, IsSoundFile, end_of, IsLeft}
+use Rattle.raft_log_disk.specs.Calls.{with_piece, after_piece, flushed, Changes, IsTorn}
+use Rattle.raft_log_disk.specs.Chains.{Written, spelled, AreFrames, Reads}
+use Rattle.raft_log_disk.specs.KeepsSynced.{NoChanceMatch, HoldsChain, kept_records}
+use Rattle.raft_log_disk.proofs.ImageLaws.{left_at_rest}
+use Rattle.raft_log_disk.proofs.ChangeLaws.{overwritten_at_end}
+use Rattle.raft_log_disk.proofs.Updates.{file_here}
+use Rattle.raft_log_disk.proofs.KeptLaws.{IsCalm}
+use Rattle.raft_log_disk.proofs.ChainLaws.{spelled-append, frames_front, nothing_refuses, reads_some}
+use Rattle.raft_log_disk.proofs.KeepsSyncedLaws.{left_of_image, take_over, keeps_synced, at_least_keeps, holds_written, holds_more, holds_at_rest, holds_at_least}
+use Rattle.raft_log_disk.proofs.CrashExampleLaws.{synced_file_has_no_chance}
+use Rattle.raft_log_files.specs.declared.handle.Handle.{Handle}
+use Rattle.raft_log_files.specs.declared.handle.Permission.TheVariants.{ReadWrite}
+use Rattle.raft_log_files.specs.Arguments.{WrongHandle, WrongWriter}
+use Rattle.raft_log_append_file.specs.Frame.{IsFrame, Records, framed}
+use Rattle.raft_log_append_file.specs.Keeping.{IsKept, CanCut, NoChanceNow, KeepsRecords, KeptKeeps, KeptThroughRestart}
+use Rattle.raft_log_append_file.specs.AppendFile.{IsOpen, AppendRefused}
+use Rattle.raft_log_append_file.specs.declared.append_file.AppendFile.{AppendFile}
+use Rattle.raft_log_append_file.specs.declared.error.AppendError.{AppendError}
+use Rattle.raft_log_append_file.specs.declared.error.AppendError.TheVariants.{Memory, TooLong, Failed, FileSystem}
+use Rattle.raft_log_append_file.proofs.Frames.{prefix_free, can_tell}
+use Rattle.raft_log_append_file.proofs.KeepingLaws.{same_file, settled_at_least}
+
+pub kept_keeps : KeptKeeps
+kept_keeps id durable pending d kept image after is there chance =
+    let file = kept.file in
+    let left = left_of_image d image id file after is kept.is there in
+    let left_now = subst (IsLeft file) (sym (ap (λ (f : File). f.content) left.1)) left.2 in
+    let reads = reads_some IsFrame prefix_free can_tell 0 after.content in
+    let keeps = at_least_keeps IsFrame 0 (length file.synced) durable pending file prefix_free kept.holds after.content left_now (chance file kept.is) reads.0 reads.1 in
+    (keeps.0, keeps.1, subst (λ (ws : Records). Reads IsFrame 0 ws after.content) keeps.2 reads.1)
+
+-- a file at rest that reads as these records is kept with them
+rest_kept : (id : ℕ) (ws : Records) (d : Disk) (bytes : List ℕ) → d.files id ≡ Some (at_rest bytes) → Reads IsFrame 0 ws bytes → IsKept id ws [] d
+rest_kept id ws d bytes is reads = record {
+  file = at_rest bytes;
+  is = is;
+  holds = holds_at_least IsFrame 0 (length bytes) ws [] (at_rest bytes)
+      (holds_at_rest IsFrame 0 (length bytes) ws bytes (subst (Reads IsFrame 0 ws) (sym (take_all (length bytes) bytes (omega arith))) reads));
+}
+
+-- and no checksum in it is met by chance
+rest_no_chance : (id : ℕ) (d : Disk) (bytes : List ℕ) → d.files id ≡ Some (at_rest bytes) → NoChanceNow id d
+rest_no_chance id d bytes is file there =
+    let same = same_file d id (at_rest bytes) file is there in
+    subst (λ (f : File). NoChanceMatch IsFrame 0 (length f.synced) f f.content) same (synced_file_has_no_chance IsFrame 0 (at_rest bytes) bytes refl (left_at_rest bytes))
+
+pub kept_through_restart : KeptThroughRestart
+kept_through_restart id durable pending d image after kept is there chance =
+    let keeps = kept_keeps id durable pending d kept image after is there chance in
+    let left = left_of_image d image id kept.file after is kept.is there in
+    let bytes = left.0 in
+    let rests : image.files id ≡ Some (at_rest bytes) = there ∙ ap Some left.1 in
+    let reads = subst (Reads IsFrame 0 (kept_records durable pending keeps.0)) (ap (λ (f : File). f.content) left.1) keeps.2 in
+    (keeps.0, keeps.1, rest_kept id (kept_records durable pending keeps.0) image bytes rests reads, rest_no_chance id image bytes rests)
+
+-- an open file is kept
+pub open_kept : (log : AppendFile) (durable pending : Records) (d : Disk) → IsOpen log durable pending d → IsKept log.handle.file durable pending d
+open_kept log durable pending d opened = record { file = opened.file; is = opened.is; holds = holds_at_least IsFrame 0 (length opened.file.synced) durable pending opened.file opened.holds }
+
+-- more may be counted on than is durable
+pub kept_fewer : (id : ℕ) (durable more rest : Records) (d : Disk) → IsKept id (durable ++ more) rest d → IsKept id durable (more ++ rest) d
+kept_fewer id durable more rest d kept =
+    let least = kept.holds in
+    record {
+      file = kept.file;
+      is = kept.is;
+      holds = record {
+        more = more ++ least.more;
+        rest = least.rest;
+        splits = ap (λ (vs : Records). more ++ vs) least.splits ∙ sym (append_assoc more least.more least.rest);
+        holds = subst (λ (vs : Records). HoldsChain IsFrame 0 (length kept.file.synced) vs least.rest kept.file) (append_assoc durable more least.more) least.holds;
+      };
+    }
+
+-- what is kept is kept where more may follow
+pub keeps_longer : (id : ℕ) (durable pending more : Records) (d : Disk) → KeepsRecords id durable pending d → KeepsRecords id durable (pending ++ more) d
+keeps_longer id durable pending more d keeps image after is there chance =
+    let kept = keeps image after is there chance in
+    let same : kept_records durable pending kept.0 ≡ kept_records durable (pending ++ more) kept.0 = ap (λ (vs : Records). durable ++ vs) (sym (take-append-le kept.0 pending more kept.1)) in
+    (kept.0, omega (arith, kept.1, length-append pending more), subst (λ (ws : Records). Reads IsFrame 0 ws after.content) same kept.2)
+
+-- an open file after its frame was written
+pub open_appended : (log next : AppendFile) (durable pending : Records) (bytes frame : List ℕ) (old new : Disk) → IsOpen log durable pending old → IsFrame frame bytes
+    → next.handle ≡ log.handle → next.written ≡ log.written + length frame → next.failed ≡ false → Changes log.handle.file (after_piece (Wrote log.written frame)) old new
+    → IsOpen next durable (pending ++ framed bytes ∷ []) new
+open_appended log next durable pending bytes frame old new opened is_frame handle written runs changes =
+    let w = framed bytes in
+    let all = durable ++ pending in
+    let file = opened.file in
+    let same = same_file old log.handle.file changes.file file changes.is opened.is in
+    let is_bytes : frame ≡ w.bytes = is_frame.1 in
+    let at : log.written ≡ 0 + length (spelled all) = omega (arith, opened.written) in
+    let piece : Wrote log.written frame ≡ Wrote (0 + length (spelled all)) w.bytes = λ i. Wrote (at i) (is_bytes i) in
+    let step : all ++ w ∷ [] ≡ durable ++ (pending ++ w ∷ []) = append_assoc durable pending (w ∷ []) in
+    let total : spelled (durable ++ (pending ++ w ∷ [])) ≡ spelled all ++ frame =
+    ap spelled (sym step) ∙ spelled-append all (w ∷ []) ∙ ap (λ (b : List ℕ). spelled all ++ b) (append-nil w.bytes ∙ sym is_bytes) in
+    let content : overwritten log.written frame file.content ≡ spelled all ++ frame =
+    ap (λ (n : ℕ). overwritten n frame file.content) (opened.written ∙ ap length (sym opened.content)) ∙ overwritten_at_end frame file.content ∙ ap (λ (b : List ℕ). b ++ frame) opened.content in
+    let next_file = after_piece (Wrote log.written frame) file in
+    let now : new.files next.handle.file ≡ Some next_file =
+    ap (λ (h : Handle). new.files h.file) handle ∙ ap (λ (d : Disk). d.files log.handle.file) changes.done ∙ file_here old.files log.handle.file (Some (after_piece (Wrote log.written frame) changes.file))
+    ∙ ap (λ (f : File). Some (after_piece (Wrote log.written frame) f)) same in
+    let holds = holds_written IsFrame 0 (length file.synced) durable pending w (overwritten log.written frame file.content) file (is_frame.0, refl) opened.holds in
+    record {
+      file = next_file;
+      is = now;
+      permitted = ap (λ (h : Handle). h.permission) handle ∙ opened.permitted;
+      holds = subst (λ (p : Piece). HoldsChain IsFrame 0 (length file.synced) durable (pending ++ w ∷ []) (with_piece p (overwritten log.written frame file.content) file)) (sym piece) holds;
+      content = content ∙ sym total;
+      written = written ∙ omega (arith, opened.written, ap length total, length-append (spelled all) frame);
+      runs = runs;
+    }
+
+-- the records in front of the last one
+pub front_records : (durable pending : Records) (w : Written (List ℕ)) → kept_records durable (pending ++ w ∷ []) (length pending) ≡ durable ++ pending
+front_records durable pending w = ap (λ (vs : Records). durable ++ vs) (take_at pending (w ∷ []) (length pending) refl)
+
+-- a torn write leaves what stands in front of it
+torn_front : (at : ℕ) (bytes old new : List ℕ) → IsTorn at bytes old new → length old ≡ at → take at new ≡ old
+torn_front at bytes old new torn long =
+    let room : at ≤ length new = omega (arith, torn.longer) in
+    ext_get_or 0 (take at new) old (length-take-le at new room ∙ sym long) (λ i less.
+    (let inside : i < at = omega (arith, length-take-le at new room) in
+    get_or-take at new i 0 inside ∙ torn.outside i (omega arith) (inl inside)))
+
+-- after a refused write the file can be cut back
+pub torn_can_cut : (log : AppendFile) (durable pending : Records) (bytes frame : List ℕ) (d : Disk) (file : File) (content : List ℕ) → IsOpen log durable pending d → IsFrame frame bytes
+    → d.files log.handle.file ≡ Some file → IsTorn log.written frame file.content content
+    → CanCut log.handle.file log.written (length pending) durable (pending ++ framed bytes ∷ []) (with_file log.handle.file (Some (with_piece (Wrote log.written frame) content file)) d)
+torn_can_cut log durable pending bytes frame d file content opened is_frame is torn =
+    let w = framed bytes in
+    let all = durable ++ pending in
+    let same = same_file d log.handle.file opened.file file opened.is is in
+    let is_bytes : frame ≡ w.bytes = is_frame.1 in
+    let at : log.written ≡ 0 + length (spelled all) = omega (arith, opened.written) in
+    let piece : Wrote log.written frame ≡ Wrote (0 + length (spelled all)) w.bytes = λ i. Wrote (at i) (is_bytes i) in
+    let was : file.content ≡ spelled all = ap (λ (f : File). f.content) (sym same) ∙ opened.content in
+    let front = front_records durable pending w in
+    let before = subst (λ (f : File). HoldsChain IsFrame 0 (length f.synced) durable pending f) same opened.holds in
+    let holds = holds_written IsFrame 0 (length file.synced) durable pending w content file (is_frame.0, refl) before in
+    let torn_file = with_piece (Wrote log.written frame) content file in
+    record {
+      file = torn_file;
+      is = file_here d.files log.handle.file (Some torn_file);
+      holds = subst (λ (p : Piece). HoldsChain IsFrame 0 (length file.synced) durable (pending ++ w ∷ []) (with_piece p content file)) (sym piece) holds;
+      within = omega (arith, length-append pending (w ∷ []));
+      front = torn_front log.written frame file.content content torn (ap length was ∙ sym opened.written) ∙ was ∙ ap spelled (sym front);
+      end = opened.written ∙ ap (λ (vs : Records). length (spelled vs)) (sym front);
+    }
+
+-- also where nothing of it was written
+pub open_can_cut : (log : AppendFile) (durable pending : Records) (bytes frame : List ℕ) (d : Disk) → IsOpen log durable pending d → IsFrame frame bytes
+    → CanCut log.handle.file log.written (length pending) durable (pending ++ framed bytes ∷ []) d
+open_can_cut log durable pending bytes frame d opened is_frame =
+    let w = framed bytes in
+    let all = durable ++ pending in
+    let front = front_records durable pending w in
+    record {
+      file = opened.file;
+      is = opened.is;
+      holds = holds_more IsFrame 0 (length opened.file.synced) durable pending (w ∷ []) opened.file ((is_frame.0, refl), tt) opened.holds;
+      within = omega (arith, length-append pending (w ∷ []));
+      front = take_all log.written opened.file.content (omega (arith, opened.written, ap length opened.content)) ∙ opened.content ∙ ap spelled (sym front);
+      end = opened.written ∙ ap (λ (vs : Records). length (spelled vs)) (sym front);
+    }
+
+pub cut_calm : (id size count : ℕ) (durable pending : Records) → IsCalm (CanCut id size count durable pending)
+cut_calm id size count durable pending = record {
+  at_count = λ d can. record { file = can.file; is = can.is; holds = can.holds; within = can.within; front = can.front; end = can.end };
+  at_end = λ d can. record { file = can.file; is = can.is; holds = can.holds; within = can.within; front = can.front; end = can.end };
+}
+
+-- a file that was cut, or synced, is open with all its records durable
+pub settled_open : (log : AppendFile) (ws : Records) (bytes : List ℕ) (d : Disk) → AreFrames IsFrame ws → bytes ≡ spelled ws → d.files log.handle.file ≡ Some (at_rest bytes)
+    → log.handle.permission ≡ ReadWrite → log.written ≡ length (spelled ws) → log.failed ≡ false → IsOpen log ws [] d
+settled_open log ws bytes d frames is here permitted written runs =
+    let none = append-nil ws in
+    let reads : Reads IsFrame 0 ws (take (length bytes) bytes) = record {
+      rest = [];
+      splits = take_all (length bytes) bytes (omega arith) ∙ is ∙ sym (append-nil (spelled ws));
+      frames = frames;
+      ends = nothing_refuses IsFrame prefix_free;
+    } in
+    record {
+      file = at_rest bytes;
+      is = here;
+      permitted = permitted;
+      holds = holds_at_rest IsFrame 0 (length bytes) ws bytes reads;
+      content = is ∙ ap spelled (sym none);
+      written = written ∙ ap (λ (vs : Records). length (spelled vs)) (sym none);
+      runs = runs;
+    }
+
+-- a sync that is carried out, answered or not, keeps the file
+pub synced_kept : (log : AppendFile) (durable pending : Records) (d : Disk) (file : File) → IsOpen log durable pending d → d.files log.handle.file ≡ Some file
+    → IsKept log.handle.file durable pending (with_file log.handle.file (Some (flushed file)) d)
+synced_kept log durable pending d file opened is =
+    let same = same_file d log.handle.file opened.file file opened.is is in
+    let all : kept_records durable pending (length pending) ≡ durable ++ pending = ap (λ (vs : Records). durable ++ vs) (take_all (length pending) pending (omega arith)) in
+    let content : file.content ≡ spelled (kept_records durable pending (length pending)) = ap (λ (f : File). f.content) (sym same) ∙ opened.content ∙ ap spelled (sym all) in
+    record { file = flushed file; is = file_here d.files log.handle.file (Some (flushed file)); holds = settled_at_least durable pending (length pending) file.content opened.holds.frames content }
+
+-- what is appended, or refused, keeps the durable records
+pub refused_keeps : (error : AppendError) (bytes : List ℕ) (log : AppendFile) (durable pending : Records) (old new : Disk) → AppendRefused error bytes log durable pending old new
+    → KeepsRecords log.handle.file durable (pending ++ framed bytes ∷ []) new
+refused_keeps Memory bytes log durable pending old new refused =
+    let id = log.handle.file in
+    keeps_longer id durable pending (framed bytes ∷ []) new (kept_keeps id durable pending new (open_kept log durable pending new refused.1))
+refused_keeps TooLong bytes log durable pending old new refused =
+    let id = log.handle.file in
+    keeps_longer id durable pending (framed bytes ∷ []) new (kept_keeps id durable pending new (open_kept log durable pending new refused.2))
+refused_keeps Failed bytes log durable pending old new refused = absurd refused
+refused_keeps (FileSystem kind) bytes log durable pending old new (why, inl opened) =
+    let id = log.handle.file in
+    let kept = kept_fewer id durable pending [] new (open_kept log (durable ++ pending) [] new opened) in
+    let all = subst (λ (vs : Records). KeepsRecords id durable vs new) (append-nil pending) (kept_keeps id durable (pending ++ []) new kept) in
+    keeps_longer id durable pending (framed bytes ∷ []) new all
+refused_keeps (FileSystem kind) bytes log durable pending old new (why, inr left) = kept_keeps log.handle.file durable (pending ++ framed bytes ∷ []) new left.1
+
+-- the arguments of an open file's calls are right
+pub right_writer : (log : AppendFile) (durable pending : Records) (d : Disk) (kind : ErrorKind) → IsOpen log durable pending d → WrongWriter log.handle d kind → ⊥
+right_writer log durable pending d kind opened (inl (why, none)) = let here = opened.is in cc
+right_writer log durable pending d kind opened (inr (why, only)) = let both = opened.permitted in cc
+
+pub right_handle : (log : AppendFile) (durable pending : Records) (d : Disk) (kind : ErrorKind) → IsOpen log durable pending d → WrongHandle log.handle d kind → ⊥
+right_handle log durable pending d kind opened (why, none) = let here = opened.is in cc
+
+-- a file's content is short
+pub content_short : (file : File) → IsSoundFile file → length file.content < 2 ^ 63
+content_short file sound =
+    let size : ℕ = 2 ^ 63 - 1 in
+    let ends = All-weaker (λ piece. end_of piece < file_limit) (λ piece. end_of piece ≤ size) (λ piece less. omega arith) file.pieces sound.ends in
+    let within = sound.stands.within size (omega (arith, sound.short)) ends in
+    omega (arith, within)
+
+-- an append, answered or refused, keeps the durable records
+pub appended_keeps : {T : Type 0} (result : Result T AppendError) (bytes : List ℕ) (log next : AppendFile) (durable pending : Records) (old new : Disk) → next.handle ≡ log.handle
+    → OnOk result (IsOpen next durable (pending ++ framed bytes ∷ []) new) → IfErr result (λ error. AppendRefused error bytes next durable pending old new)
+    → KeepsRecords log.handle.file durable (pending ++ framed bytes ∷ []) new
+appended_keeps (Ok v) bytes log next durable pending old new same ok err =
+    subst (λ (h : Handle). KeepsRecords h.file durable (pending ++ framed bytes ∷ []) new) same
+    (kept_keeps next.handle.file durable (pending ++ framed bytes ∷ []) new (open_kept next durable (pending ++ framed bytes ∷ []) new ok))
+appended_keeps (Err error) bytes log next durable pending old new same ok err =
+    subst (λ (h : Handle). KeepsRecords h.file durable (pending ++ framed bytes ∷ []) new) same (refused_keeps error bytes next durable pending old new err)
+
+-- what opening finds: of the records that the file was to keep these are read, and it can be cut behind them
+pub record FindsEnd (id end : ℕ) (durable pending ws : Records) (d : Disk) (kept : IsKept id durable pending d) : Type 0 where
+  pub count : ℕ
+  pub can : CanCut id end count (durable ++ kept.holds.more) kept.holds.rest d
+  pub same : ws ≡ kept_records (durable ++ kept.holds.more) kept.holds.rest count
+
+pub finds_end : (id end : ℕ) (durable pending ws : Records) (bytes : List ℕ) (d : Disk) (kept : IsKept id durable pending d) → IsSound d → NoChanceNow id d → bytes ≡ kept.file.content
+    → Reads IsFrame 0 ws bytes → end ≡ length (spelled ws) → FindsEnd id end durable pending ws d kept
+finds_end id end durable pending ws bytes d kept sound chance content reads_bytes ends =
+    let file = kept.file in
+    let least = kept.holds in
+    let all = durable ++ least.more in
+    let reads = subst (Reads IsFrame 0 ws) content reads_bytes in
+    let stands = (sound.files id file kept.is).stands in
+    let keeps = keeps_synced IsFrame 0 (length file.synced) prefix_free all least.rest file least.holds file.content stands (chance file kept.is) ws reads in
+    let front : take end file.content ≡ spelled ws = ap (λ (b : List ℕ). take end b) reads.splits ∙ take_at (spelled ws) reads.rest end (sym ends) in
+    record {
+      count = keeps.0;
+      can = record {
+        file = file;
+        is = kept.is;
+        holds = least.holds;
+        within = keeps.1;
+        front = front ∙ ap spelled keeps.2;
+        end = ends ∙ ap (λ (vs : Records). length (spelled vs)) keeps.2;
+      };
+      same = keeps.2;
+    }
+
+-- what is kept of these is kept of those that were to be kept
+pub found_kept : (id : ℕ) (durable pending : Records) (old new : Disk) (kept : IsKept id durable pending old) → IsKept id (durable ++ kept.holds.more) kept.holds.rest new → IsKept id durable pending new
+found_kept id durable pending old new kept after =
+    subst (λ (vs : Records). IsKept id durable vs new) (sym kept.holds.splits) (kept_fewer id durable kept.holds.more kept.holds.rest new after)
+
+-- after the cut and the sync the file is open, with the records that were read
+pub found_open : (log : AppendFile) (durable pending ws : Records) (old new : Disk) (kept : IsKept log.handle.file durable pending old) → (found : FindsEnd log.handle.file log.written durable pending ws old kept)
+    → new.files log.handle.file ≡ Some (at_rest (take log.written kept.file.content)) → log.handle.permission ≡ ReadWrite → log.failed ≡ false
+    → (count : ℕ) × (count ≤ length pending) × IsOpen log (kept_records durable pending count) [] new
+found_open log durable pending ws old new kept found now permitted runs =
+    let least = kept.holds in
+    let all = durable ++ least.more in
+    let count = length least.more + found.count in
+    let front : take count pending ≡ least.more ++ take found.count least.rest = ap (λ (vs : Records). take count vs) least.splits ∙ take_over least.more least.rest found.count in
+    let records : kept_records all least.rest found.count ≡ kept_records durable pending count = append_assoc durable least.more (take found.count least.rest) ∙ ap (λ (vs : Records). durable ++ vs) (sym front) in
+    let can = found.can in
+    let same_one = same_file old log.handle.file can.file kept.file can.is kept.is in
+    let bytes : take log.written kept.file.content ≡ spelled (kept_records durable pending count) =
+    ap (λ (f : File). take log.written f.content) (sym same_one) ∙ can.front ∙ ap spelled records in
+    let parts : durable ++ pending ≡ kept_records durable pending count ++ drop count pending =
+    ap (λ (vs : Records). durable ++ vs) (sym (take-append-drop count pending)) ∙ sym (append_assoc durable (take count pending) (drop count pending)) in
+    let whole : all ++ least.rest ≡ durable ++ pending = append_assoc durable least.more least.rest ∙ ap (λ (vs : Records). durable ++ vs) (sym least.splits) in
+    let frames = frames_front IsFrame (kept_records durable pending count) (drop count pending) (subst (AreFrames IsFrame) (whole ∙ parts) least.holds.frames) in
+    let room = ap length least.splits in (
+      count,
+      omega (arith, can.within, length-append least.more least.rest),
+      settled_open log (kept_records durable pending count) (take log.written kept.file.content) new frames bytes now permitted (can.end ∙ ap (λ (vs : Records). length (spelled vs)) records) runs,
+    )

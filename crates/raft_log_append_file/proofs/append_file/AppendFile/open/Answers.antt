@@ -1,0 +1,45 @@
+use Rattle.std.proofs.Common.{◌≡◌, ℕ, ◌++◌, false, refl, ◌∙◌, sym, subst}
+use Rattle.raft_log_append_file.specs.Keeping.{IsKept, NoChanceNow}
+use Rattle.raft_log_append_file.proofs.OpenLaws.{finds_end, found_kept, found_open}
+use Rattle.raft_log_append_file.proofs.append_file.AppendFile.open.Goals as goal
+
+pub returns-in_err-cut_back-clause-kept : goal.returns-in_err-cut_back-clause-kept
+returns-in_err-cut_back-clause-kept g c = λ id durable pending named kept_id chance_id.
+    let D = g.F.FileSystem.disk in
+    let old = D c.args.file_system.now in
+    let new = D c.cut_back.new.file_system in
+    let handle = c.in_ok-handle.handle in
+    let same : id ≡ handle.file = let there = c.in_ok-handle.ensures.ok.is in cc in
+    let kept = subst (λ (n : ℕ). IsKept n durable pending old) same kept_id in
+    let chance = subst (λ (n : ℕ). NoChanceNow n old) same chance_id in
+    let bytes = c.in_ok-bytes.ensures.ok kept.file kept.is in
+    let read = c.good_end-end.ensures in
+    let found = finds_end handle.file c.good_end-end.result durable pending read.0 c.deref.result.now old kept (g.met.F.FileSystem.sound c.args.file_system.now) chance (c.deref.ensures.value ∙ bytes) read.1 read.2 in
+    subst (λ (n : ℕ). IsKept n durable pending new) (sym same)
+    (found_kept handle.file durable pending old new kept (c.cut_back.ensures.kept (durable ++ kept.holds.more) kept.holds.rest found.count found.can))
+
+pub returns-clause-kept : goal.returns-clause-kept
+returns-clause-kept g c = λ id durable pending named kept_id chance_id.
+    let D = g.F.FileSystem.disk in
+    let old = D c.args.file_system.now in
+    let new = D c.cut_back.new.file_system in
+    let handle = c.in_ok-handle.handle in
+    let same : id ≡ handle.file = let there = c.in_ok-handle.ensures.ok.is in cc in
+    let kept = subst (λ (n : ℕ). IsKept n durable pending old) same kept_id in
+    let chance = subst (λ (n : ℕ). NoChanceNow n old) same chance_id in
+    let bytes = c.in_ok-bytes.ensures.ok kept.file kept.is in
+    let read = c.good_end-end.ensures in
+    let found = finds_end handle.file c.good_end-end.result durable pending read.0 c.deref.result.now old kept (g.met.F.FileSystem.sound c.args.file_system.now) chance (c.deref.ensures.value ∙ bytes) read.1 read.2 in
+    subst (λ (n : ℕ). IsKept n durable pending new) (sym same)
+    (found_kept handle.file durable pending old new kept (c.cut_back.ensures.kept (durable ++ kept.holds.more) kept.holds.rest found.count found.can))
+
+pub returns-clause-ok : goal.returns-clause-ok
+returns-clause-ok g c = λ durable pending kept chance.
+    let D = g.F.FileSystem.disk in
+    let old = D c.args.file_system.now in
+    let new = D c.cut_back.new.file_system in
+    let handle = c.in_ok-handle.handle in
+    let bytes = c.in_ok-bytes.ensures.ok kept.file kept.is in
+    let read = c.good_end-end.ensures in
+    let found = finds_end handle.file c.good_end-end.result durable pending read.0 c.deref.result.now old kept (g.met.F.FileSystem.sound c.args.file_system.now) chance (c.deref.ensures.value ∙ bytes) read.1 read.2 in
+    found_open (record { handle = handle; written = c.good_end-end.result; failed = false }) durable pending read.0 old new kept found (c.in_ok-cut_back.ensures.ok kept.file kept.is) c.in_ok-handle.ensures.ok.permitted refl

@@ -1,0 +1,21 @@
+-- How a record is framed in the file.
+use Rattle.std.specs.Prelude.{◌≡◌, ℕ, ◌<◌, ◌^◌, List, ◌++◌, length}
+use Rattle.std.specs.Int.{w32, to_be_bytes}
+use Rattle.md5.specs.Md5.{md5}
+use Rattle.raft_log_disk.specs.Chains.{Written}
+
+-- the frame of a record's bytes: their number, in four bytes, the greatest first; the bytes; and their MD5 digest
+unfoldable pub frame_of : List ℕ → List ℕ
+frame_of bytes = to_be_bytes w32 (length bytes) ++ (bytes ++ md5 bytes)
+
+-- a record is its bytes, and has one frame
+abbrev pub IsFrame : List ℕ → List ℕ → Type 0
+IsFrame frame bytes = (length bytes < 2 ^ 32) × (frame ≡ frame_of bytes)
+
+-- these bytes as a record in its frame
+abbrev pub framed : List ℕ → Written (List ℕ)
+framed bytes = record { bytes = frame_of bytes; value = bytes }
+
+-- records as they were written
+abbrev pub Records : Type 0
+Records = List (Written (List ℕ))

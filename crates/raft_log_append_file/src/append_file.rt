@@ -1,0 +1,138 @@
+ghost use Rattle.std.specs.Prelude.{◌≡◌, ℕ, ◌+◌, ◌<◌, ◌≤◌, ◌^◌, ◌⊎◌, Some, None, false, List, [], ◌∷◌, ◌++◌, length, take, IfOk, IfErr, OnOk, OnErr};
+ghost use Rattle.raft_log_disk.specs.Disk.{File};
+ghost use Rattle.raft_log_disk.specs.KeepsSynced.{kept_records};
+ghost use Rattle.raft_log_append_file.specs.Frame.{IsFrame, Records, framed};
+ghost use Rattle.raft_log_append_file.specs.Keeping.{IsKept, NoChanceNow, KeepsRecords, TouchesOnly};
+
+use super::error::AppendError;
+use super::frame::{MAX_LEN, make_frame};
+use super::repair::{cut_back, good_end, read_file};
+use raft_log_files::{FileSystem, Handle, Permission};
+use std::alloc::Global;
+
+/// An open file of records, to which records are appended.
+#[derive(Drop, Debug)]
+pub struct AppendFile {
+    handle: Handle,
+    written: usize,
+    failed: bool,
+}
+
+impl AppendFile {
+    ghost use Rattle.raft_log_append_file.specs.AppendFile.{IsOpen, CreateRefused, AppendRefused, SyncRefused, OpenRefused};
+
+    /// Makes an empty file.
+    pub fn create<F: FileSystem>(file_system: &mut F, path: &str) -> Result<AppendFile, AppendError>
+        ensures ok { IfOk result (λ log. IsOpen log [] [] (F.disk file_system.new)) }
+        ensures named { IfOk result (λ log. (F.disk file_system.new).names path.now ≡ Some log.handle.file) }
+        ensures err { IfErr result (λ error. CreateRefused error path.now (F.disk file_system.old) (F.disk file_system.new)) }
+    {
+        let handle = file_system.create(path)?;
+        Ok(AppendFile {
+            handle,
+            written: 0,
+            failed: false,
+        })
+    }
+
+    /// Opens a file: finds its whole records, cuts it behind them and syncs it. Refused, it holds what it held.
+    pub fn open<F: FileSystem>(
+        alloc: Global,
+        file_system: &mut F,
+        path: &str,
+    ) -> Result<AppendFile, AppendError>
+        ensures named { IfOk result (λ log. (F.disk file_system.old).names path.now ≡ Some log.handle.file) }
+        ensures ok { IfOk result (λ log. (durable pending : Records) → IsKept log.handle.file durable pending (F.disk file_system.old)
+            → NoChanceNow log.handle.file (F.disk file_system.old)
+            → (count : ℕ) × (count ≤ length pending) × IsOpen log (kept_records durable pending count) [] (F.disk file_system.new)) }
+        ensures kept { (id : ℕ) (durable pending : Records) → (F.disk file_system.old).names path.now ≡ Some id
+            → IsKept id durable pending (F.disk file_system.old) → NoChanceNow id (F.disk file_system.old)
+            → IsKept id durable pending (F.disk file_system.new) }
+        ensures err { IfErr result (λ error. (id : ℕ) (file : File) → (F.disk file_system.old).names path.now ≡ Some id
+            → (F.disk file_system.old).files id ≡ Some file → OpenRefused error (F.disk file_system.old) (F.disk file_system.new)) }
+        ensures others { (id : ℕ) → (F.disk file_system.old).names path.now ≡ Some id → TouchesOnly id (F.disk file_system.old) (F.disk file_system.new) }
+        ensures missing { (F.disk file_system.old).names path.now ≡ None → F.disk file_system.new ≡ F.disk file_system.old }
+    {
+        let handle = file_system.open(path, Permission::ReadWrite)?;
+        let bytes = read_file(alloc, file_system, handle)?;
+        let end = good_end(&bytes);
+        cut_back(file_system, handle, end)?;
+        Ok(AppendFile {
+            handle,
+            written: end,
+            failed: false,
+        })
+    }
+
+    /// Appends a record. It is durable once `sync` has answered.
+    pub fn append<F: FileSystem>(
+        &mut self,
+        alloc: Global,
+        file_system: &mut F,
+        bytes: &[u8],
+    ) -> Result<(), AppendError>
+        ensures ok { OnOk result ((durable pending : Records) → IsOpen self.old durable pending (F.disk file_system.old)
+            → IsOpen self.new durable (pending ++ framed bytes.now ∷ []) (F.disk file_system.new)) }
+        ensures err { IfErr result (λ error. (durable pending : Records) → IsOpen self.old durable pending (F.disk file_system.old)
+            → AppendRefused error bytes.now self.new durable pending (F.disk file_system.old) (F.disk file_system.new)) }
+
+        // Answered or refused: whatever a stop leaves has all durable records.
+        ensures kept { (durable pending : Records) → IsOpen self.old durable pending (F.disk file_system.old)
+            → KeepsRecords self.old.handle.file durable (pending ++ framed bytes.now ∷ []) (F.disk file_system.new) }
+        ensures handle { self.new.handle ≡ self.old.handle }
+        ensures others { TouchesOnly self.old.handle.file (F.disk file_system.old) (F.disk file_system.new) }
+    {
+        if self.failed {
+            return Err(AppendError::Failed);
+        }
+        if bytes.len() > MAX_LEN {
+            return Err(AppendError::TooLong);
+        }
+        let frame = make_frame(alloc, bytes)?;
+        self.put(file_system, &frame)
+    }
+
+    /// Makes every record that was appended durable.
+    pub fn sync<F: FileSystem>(&mut self, file_system: &mut F) -> Result<(), AppendError>
+        ensures ok { OnOk result ((durable pending : Records) → IsOpen self.old durable pending (F.disk file_system.old)
+            → IsOpen self.new (durable ++ pending) [] (F.disk file_system.new)) }
+        ensures err { IfErr result (λ error. (durable pending : Records) → IsOpen self.old durable pending (F.disk file_system.old)
+            → SyncRefused error self.new durable pending (F.disk file_system.old) (F.disk file_system.new)) }
+        ensures kept { (durable pending : Records) → IsOpen self.old durable pending (F.disk file_system.old)
+            → KeepsRecords self.old.handle.file durable pending (F.disk file_system.new) }
+        ensures handle { self.new.handle ≡ self.old.handle }
+        ensures others { TouchesOnly self.old.handle.file (F.disk file_system.old) (F.disk file_system.new) }
+    {
+        if self.failed {
+            return Err(AppendError::Failed);
+        }
+        self.failed = true;
+        file_system.sync(self.handle)?;
+        self.failed = false;
+        Ok(())
+    }
+
+    // Writes a frame behind the others. Where that is refused the file is cut back and synced; where that is refused too
+    // it is in doubt what stands there, and the log has failed.
+    fn put<F: FileSystem>(&mut self, file_system: &mut F, frame: &[u8]) -> Result<(), AppendError>
+        ensures ok { OnOk result ((bytes : List ℕ) (durable pending : Records) → IsFrame frame.now bytes → IsOpen self.old durable pending (F.disk file_system.old)
+            → IsOpen self.new durable (pending ++ framed bytes ∷ []) (F.disk file_system.new)) }
+        ensures err { IfErr result (λ error. (bytes : List ℕ) (durable pending : Records) → IsFrame frame.now bytes → IsOpen self.old durable pending (F.disk file_system.old)
+            → AppendRefused error bytes self.new durable pending (F.disk file_system.old) (F.disk file_system.new)) }
+        ensures handle { self.new.handle ≡ self.old.handle }
+        ensures others { TouchesOnly self.old.handle.file (F.disk file_system.old) (F.disk file_system.new) }
+    {
+        let Some(end) = self.written.checked_add(frame.len()) else {
+            return Err(AppendError::TooLong);
+        };
+        self.failed = true;
+        if let Err(kind) = file_system.write_at(self.handle, self.written, frame) {
+            cut_back(file_system, self.handle, self.written)?;
+            self.failed = false;
+            return Err(AppendError::FileSystem(kind));
+        }
+        self.written = end;
+        self.failed = false;
+        Ok(())
+    }
+}

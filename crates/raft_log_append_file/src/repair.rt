@@ -1,0 +1,58 @@
+ghost use Rattle.std.specs.Prelude.{◌≡◌, ℕ, ◌+◌, ◌<◌, ◌≤◌, Some, None, List, [], ◌∷◌, ◌++◌, length, take, IfOk, IfErr, OnOk, OnErr};
+ghost use Rattle.raft_log_disk.specs.Disk.{File, at_rest};
+ghost use Rattle.raft_log_disk.specs.Causes.{HasCause, Fails, IsLater};
+ghost use Rattle.raft_log_disk.specs.Chains.{Reads, spelled};
+ghost use Rattle.raft_log_append_file.specs.Frame.{IsFrame, Records};
+ghost use Rattle.raft_log_append_file.specs.Keeping.{IsKept, CanCut, TouchesOnly};
+ghost use Rattle.raft_log_append_file.specs.AppendFile.{OpenRefused};
+
+use super::error::AppendError;
+use super::frame::frame_len;
+use raft_log_files::{FileSystem, Handle, Permission};
+use std::alloc::Global;
+use std::io::ErrorKind;
+
+/// Reads a file whole.
+pub fn read_file<F: FileSystem>(
+    alloc: Global,
+    file_system: &F,
+    handle: Handle,
+) -> Result<Vec<u8>, AppendError>
+    ensures ok { IfOk result (λ bytes. (file : File) → (F.disk file_system.now).files handle.file ≡ Some file → bytes.items ≡ file.content) }
+    ensures err { IfErr result (λ error. (file : File) → (F.disk file_system.now).files handle.file ≡ Some file → OpenRefused error (F.disk file_system.now) (F.disk file_system.now)) }
+{
+    let size = file_system.file_size(handle)?;
+    let mut bytes = vec![in alloc; 0u8; size]?;
+    let _read = file_system.read_at(handle, 0, &mut bytes)?;
+    Ok(bytes)
+}
+
+/// Where the last whole record ends.
+pub fn good_end(bytes: &[u8]) -> usize
+    ensures { (ws : Records) × Reads IsFrame 0 ws bytes.now × (result ≡ length (spelled ws)) }
+{
+    let mut end = 0;
+    while let Some(size) = frame_len(&bytes[end..]) {
+        end += size;
+    }
+    end
+}
+
+/// Cuts a file to a size and syncs it.
+pub fn cut_back<F: FileSystem>(
+    file_system: &mut F,
+    handle: Handle,
+    size: usize,
+) -> Result<(), ErrorKind>
+    ensures ok { OnOk result ((file : File) → (F.disk file_system.old).files handle.file ≡ Some file
+        → (F.disk file_system.new).files handle.file ≡ Some (at_rest (take size file.content))) }
+    ensures kept { (durable pending : Records) (count : ℕ) → CanCut handle.file size count durable pending (F.disk file_system.old)
+        → IsKept handle.file durable pending (F.disk file_system.new) }
+    ensures err { OnErr result ((file : File) → (F.disk file_system.old).files handle.file ≡ Some file → handle.permission ≡ Permission.ReadWrite
+        → Fails (F.disk file_system.old) (F.disk file_system.new)) }
+    ensures later { IsLater (F.disk file_system.old) (F.disk file_system.new) }
+    ensures others { TouchesOnly handle.file (F.disk file_system.old) (F.disk file_system.new) }
+{
+    file_system.truncate(handle, size)?;
+    file_system.sync(handle)
+}

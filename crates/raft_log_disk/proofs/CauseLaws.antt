@@ -1,0 +1,93 @@
+-- Causes, chained along calls.
+use Rattle.std.specs.Prelude.{◌≡◌, ℕ, ◌+◌, ◌<◌, ◌≤◌, ◌⊎◌, Bool, true, false, Option, Some, None, List, Result, Ok, Err}
+use Rattle.std.specs.Result.{IfOk, IfErr, OnOk}
+use Rattle.std.proofs.Common.{refl, sym, ◌∙◌, ap, subst, arith, inl, inr}
+use Rattle.std.proofs.lemmas.Bool.{false≢true}
+use Rattle.raft_log_disk.specs.Disk.{Piece, File, Disk, HasDirectory, with_file}
+use Rattle.raft_log_disk.specs.Calls.{with_piece, after_piece, flushed, created, deleted, renamed, with_directory, counted, at_stop, InPart, Changes, Creates, Deletes, Renames, MakesDirectory, Refused, after_stop, wrong_argument, failed, stops, SomeOf, none, some, RefusedPiece, RefusedWhole}
+use Rattle.raft_log_disk.specs.Causes.{HasCause, stopped, counted_one, unreadable_place, Fails, has_stopped, has_failed, IsLater, IsUndisturbed}
+use Rattle.raft_log_disk.proofs.KeptLaws.{IsCalm, kept_piece, kept_sync, kept_create, kept_delete, kept_rename, kept_directory}
+
+-- no cause stands behind a refusal on an undisturbed disk
+pub undisturbed_has_no_cause : (d : Disk) → IsUndisturbed d → HasCause d d → ⊥
+undisturbed_has_no_cause d quiet (stopped is) = false≢true (sym quiet.runs ∙ is)
+undisturbed_has_no_cause d quiet (counted_one rises) = omega arith
+undisturbed_has_no_cause d quiet (unreadable_place id place is) = false≢true (sym (quiet.readable id place) ∙ is)
+
+-- a counted failure or a stop is a cause
+pub fails_has_cause : (old new : Disk) → Fails old new → HasCause old new
+fails_has_cause old new (has_stopped is) = stopped is
+fails_has_cause old new (has_failed rises) = counted_one rises
+
+pub later_same : (d : Disk) → IsLater d d
+later_same d = record { failures = omega arith; stopped = λ is. is }
+
+pub later_then : (a b c : Disk) → IsLater a b → IsLater b c → IsLater a c
+later_then a b c first next = record { failures = omega (arith, first.failures, next.failures); stopped = λ is. next.stopped (first.stopped is) }
+
+-- a failure after other calls is a failure since before them
+pub fails_after : (a b c : Disk) → IsLater a b → Fails b c → Fails a c
+fails_after a b c first (has_stopped is) = has_stopped is
+fails_after a b c first (has_failed rises) = has_failed (omega (arith, first.failures, rises))
+
+-- a failure before other calls is one still
+pub fails_still : (a b c : Disk) → Fails a b → IsLater b c → Fails a c
+fails_still a b c (has_stopped is) next = has_stopped (next.stopped is)
+fails_still a b c (has_failed rises) next = has_failed (omega (arith, next.failures, rises))
+
+-- a refused call whose argument was right has failed
+pub fails : {part done : Disk → Type 0} {wrong : Type 0} {old new : Disk} → (wrong → ⊥) → ((left : Disk) → part left → left.failures ≡ old.failures)
+    → Refused part done wrong old new → Fails old new
+fails {old = old} right keeps (after_stop is same) = has_stopped (ap (λ (d : Disk). d.stopped) same ∙ is)
+fails right keeps (wrong_argument runs why same) = absurd (right why)
+fails {old = old} right keeps (failed runs fine left is same) =
+    has_failed (let count : left.failures ≡ old.failures = keeps left is in omega (arith, ap (λ (d : Disk). d.failures) same, count))
+fails right keeps (stops runs left is same) = has_stopped (ap (λ (d : Disk). d.stopped) same)
+
+pub fails_piece : {id : ℕ} {piece : Piece} {wrong : Type 0} {old new : Disk} → (wrong → ⊥) → RefusedPiece id piece wrong old new → Fails old new
+fails_piece {id = id} {piece = piece} {old = old} right refused = fails right keeps refused
+  where
+    keeps : (left : Disk) → SomeOf id piece old left → left.failures ≡ old.failures
+    keeps left (none same) = ap (λ (d : Disk). d.failures) same
+    keeps left (some file content is part same) = ap (λ (d : Disk). d.failures) same
+
+pub fails_whole : {done : Disk → Type 0} {wrong : Type 0} {old new : Disk} → (wrong → ⊥) → RefusedWhole done wrong old new → Fails old new
+fails_whole right refused = fails right (λ left same. ap (λ (d : Disk). d.failures) same) refused
+
+-- to be later is calm
+pub later_calm : (old : Disk) → IsCalm (IsLater old)
+later_calm old = record {
+  at_count = λ d later. record { failures = omega (arith, later.failures); stopped = later.stopped };
+  at_end = λ d later. record { failures = later.failures; stopped = λ is. refl };
+}
+
+-- each call, answered or refused, leaves a later disk
+pub later_piece : {T E : Type 0} {old new : Disk} (wrong : E → Type 0) (result : Result T E) (id : ℕ) (piece : Piece)
+    → OnOk result (Changes id (after_piece piece) old new) → IfErr result (λ e. RefusedPiece id piece (wrong e) old new) → IsLater old new
+later_piece {old = old} wrong result id piece ok err =
+    kept_piece (IsLater old) wrong result id piece (later_calm old) (later_same old) (λ file content is part. record { failures = omega arith; stopped = λ is. is }) ok err
+
+pub later_sync : {T E : Type 0} {old new : Disk} (wrong : E → Type 0) (result : Result T E) (id : ℕ)
+    → OnOk result (Changes id flushed old new) → IfErr result (λ e. RefusedWhole (Changes id flushed old) (wrong e) old new) → IsLater old new
+later_sync {old = old} wrong result id ok err =
+    kept_sync (IsLater old) wrong result id (later_calm old) (later_same old) (λ file is. record { failures = omega arith; stopped = λ is. is }) ok err
+
+pub later_create : {T E : Type 0} {old new : Disk} (number : T → ℕ) (wrong : E → Type 0) (result : Result T E) (path : List ℕ)
+    → IfOk result (λ v. Creates path (number v) old new) → IfErr result (λ e. RefusedWhole (Creates path old.unused old) (wrong e) old new) → IsLater old new
+later_create {old = old} number wrong result path ok err =
+    kept_create (IsLater old) number wrong result path (later_calm old) (later_same old) (λ free apart home. record { failures = omega arith; stopped = λ is. is }) ok err
+
+pub later_delete : {T E : Type 0} {old new : Disk} (wrong : E → Type 0) (result : Result T E) (path : List ℕ)
+    → OnOk result (Deletes path old new) → IfErr result (λ e. RefusedWhole (Deletes path old) (wrong e) old new) → IsLater old new
+later_delete {old = old} wrong result path ok err =
+    kept_delete (IsLater old) wrong result path (later_calm old) (later_same old) (λ id is. record { failures = omega arith; stopped = λ is. is }) ok err
+
+pub later_rename : {T E : Type 0} {old new : Disk} (wrong : E → Type 0) (result : Result T E) (from to : List ℕ)
+    → OnOk result (Renames from to old new) → IfErr result (λ e. RefusedWhole (Renames from to old) (wrong e) old new) → IsLater old new
+later_rename {old = old} wrong result from to ok err =
+    kept_rename (IsLater old) wrong result from to (later_calm old) (later_same old) (λ id is apart home. record { failures = omega arith; stopped = λ is. is }) ok err
+
+pub later_directory : {T E : Type 0} {old new : Disk} (wrong : E → Type 0) (result : Result T E) (path : List ℕ)
+    → OnOk result (MakesDirectory path old new) → IfErr result (λ e. RefusedWhole (MakesDirectory path old) (wrong e) old new) → IsLater old new
+later_directory {old = old} wrong result path ok err =
+    kept_directory (IsLater old) wrong result path (later_calm old) (later_same old) (λ free apart. record { failures = omega arith; stopped = λ is. is }) ok err

@@ -1,0 +1,155 @@
+-- The laws of images: the files as they stand are one, after a sync of all they are the only one, an image of an image
+-- is an image, and any byte may stand in a written range.
+use Rattle.std.specs.Prelude.{◌≡◌, ℕ, ◌-◌, ◌<◌, ◌≤◌, Bool, true, false, Option, Some, None, List, [], length, slice_index}
+use Rattle.std.specs.List.{All, Contains}
+use Rattle.std.specs.Option.{option_map}
+use Rattle.std.proofs.Common.{refl, sym, ◌∙◌, ap, subst, arith, inl, inr, get_or}
+use Rattle.std.proofs.Math.ListN.{set}
+use Rattle.std.proofs.lemmas.List.{ext_get_or, get_or-set_other, length-set}
+use Rattle.std.proofs.lemmas.List.Elements.{All-nil, All-contains, All-weaker}
+use Rattle.std.proofs.lemmas.Bool.{cases_lt}
+use std.Path.{fun_ext}
+use Rattle.raft_log_disk.specs.Disk.{Piece, File, Disk, at_rest, file_limit}
+use Rattle.raft_log_disk.specs.Image.{Touches, Spares, end_of, IsLeft, IsFileImage, IsImage, IsSoundFile, IsSound, settled, as_it_stands, IsAllSynced}
+
+-- bytes at rest are what is left of them
+pub left_at_rest : (bytes : List ℕ) → IsLeft (at_rest bytes) bytes
+left_at_rest bytes = record { kept = λ place below spared. (below, refl); within = λ size fits ends. fits }
+
+-- and nothing else is
+pub only_at_rest : (file : File) (bytes : List ℕ) → file.pieces ≡ [] → IsLeft file bytes → bytes ≡ file.synced
+only_at_rest file bytes none left =
+    let spared : (place : ℕ) → All (Spares place) file.pieces = λ place. subst (All (Spares place)) (sym none) (All-nil _) in
+    let short : length bytes ≤ length file.synced = left.within (length file.synced) (omega arith) (subst (All (λ piece. end_of piece ≤ length file.synced)) (sym none) (All-nil _)) in
+    let long : length file.synced ≤ length bytes =
+    elim (cases_lt (length bytes) (length file.synced)) [
+      | inl less ↦ let more = (left.kept (length bytes) less (spared (length bytes))).0 in absurd (omega arith)
+      | inr enough ↦ enough
+    ] in
+    ext_get_or 0 bytes file.synced (omega arith) (λ place below. (left.kept place (omega arith) (spared place)).1)
+
+-- the content of a sound file without unsynced changes is what was synced
+pub content_is_synced : (file : File) → IsSoundFile file → file.pieces ≡ [] → file.content ≡ file.synced
+content_is_synced file sound none = only_at_rest file file.content none sound.stands
+
+file_stands : (o : Option File) → ((file : File) → o ≡ Some file → IsSoundFile file) → IsFileImage o (option_map settled o)
+file_stands None sound = tt
+file_stands (Some file) sound = (file.content, refl, (sound file refl).stands)
+
+file_only : (o image : Option File) → ((file : File) → o ≡ Some file → IsSoundFile file) → ((file : File) → o ≡ Some file → file.pieces ≡ [])
+    → IsFileImage o image → image ≡ option_map settled o
+file_only None None sound none is = refl
+file_only None (Some after) sound none is = absurd is
+file_only (Some before) None sound none is = absurd is
+file_only (Some before) (Some after) sound none (bytes, at, left) =
+    ap Some (at ∙ ap at_rest (only_at_rest before bytes (none before refl) left ∙ sym (content_is_synced before (sound before refl) (none before refl))))
+
+file_twice : (o p q : Option File) → IsFileImage o p → IsFileImage p q → IsFileImage o q
+file_twice None None None is again = tt
+file_twice None None (Some r) is again = absurd again
+file_twice None (Some r) q is again = absurd is
+file_twice (Some f) None q is again = absurd is
+file_twice (Some f) (Some r) None is again = absurd again
+file_twice (Some f) (Some r) (Some s) (first, at, left) (second, then_at, left_again) =
+    let same : second ≡ first = only_at_rest (at_rest first) second refl (subst (λ (x : File). IsLeft x second) at left_again) in
+    (second, then_at, subst (IsLeft f) (sym same) left)
+
+-- two disks are one where all they hold is
+pub disk_ext : (d e : Disk) → d.directories ≡ e.directories → d.names ≡ e.names → d.files ≡ e.files → d.unused ≡ e.unused
+    → d.unreadable ≡ e.unreadable → d.stopped ≡ e.stopped → d.failures ≡ e.failures → d ≡ e
+disk_ext d e directories names files unused unreadable stopped failures =
+    ap (λ (x : List ℕ → Bool). record d { directories = x }) directories
+    ∙ ap (λ (x : List ℕ → Option ℕ). record d { directories = e.directories; names = x }) names
+    ∙ ap (λ (x : ℕ → Option File). record d { directories = e.directories; names = e.names; files = x }) files
+    ∙ ap (λ (x : ℕ). record e { unused = x; unreadable = d.unreadable; stopped = d.stopped; failures = d.failures }) unused
+    ∙ ap (λ (x : ℕ → ℕ → Bool). record e { unreadable = x; stopped = d.stopped; failures = d.failures }) unreadable
+    ∙ ap (λ (x : Bool). record e { stopped = x; failures = d.failures }) stopped
+    ∙ ap (λ (x : ℕ). record e { failures = x }) failures
+
+-- where a file isn't absent, there is one
+pub some_file : (o : Option File) → (o ≡ None → ⊥) → (file : File) × (o ≡ Some file)
+some_file None there = absurd (there refl)
+some_file (Some file) there = (file, refl)
+
+-- the files as they stand are an image
+pub stands_is_image : (d : Disk) → IsSound d → IsImage d (as_it_stands d)
+stands_is_image d sound = record {
+  directories = refl;
+  names = refl;
+  unused = refl;
+  files = λ id. file_stands (d.files id) (sound.files id);
+  readable = λ id place. refl;
+  running = refl;
+  uncounted = refl;
+}
+
+-- where all is synced, they are the only one
+pub synced_is_only_image : (d image : Disk) → IsSound d → IsAllSynced d → IsImage d image → image ≡ as_it_stands d
+synced_is_only_image d image sound synced is =
+    disk_ext image (as_it_stands d) is.directories is.names
+    (fun_ext (λ id. file_only (d.files id) (image.files id) (sound.files id) (synced id) (is.files id)))
+    is.unused (fun_ext (λ id. fun_ext (λ place. is.readable id place))) is.running is.uncounted
+
+-- an image of an image is an image
+pub image_of_image : (d image later : Disk) → IsImage d image → IsImage image later → IsImage d later
+image_of_image d image later is again = record {
+  directories = again.directories ∙ is.directories;
+  names = again.names ∙ is.names;
+  unused = again.unused ∙ is.unused;
+  files = λ id. file_twice (d.files id) (image.files id) (later.files id) (is.files id) (again.files id);
+  readable = again.readable;
+  running = again.running;
+  uncounted = again.uncounted;
+}
+
+-- in a written range, and behind a cut, any byte may be left
+pub any_byte_left : (file : File) (bytes : List ℕ) (piece : Piece) (place byte : ℕ) → Contains file.pieces piece → Touches piece place
+    → IsLeft file bytes → IsLeft file (set bytes place byte)
+any_byte_left file bytes piece place byte is touched left = record {
+  kept = λ q below spared.
+      let apart : q ≡ place → ⊥ = λ same. All-contains (Spares q) file.pieces piece spared is (subst (Touches piece) (sym same) touched) in
+      let old = left.kept q below spared in
+      (subst (λ (n : ℕ). q < n) (sym (length-set bytes place byte)) old.0, get_or-set_other bytes place q byte 0 apart ∙ old.1);
+  within = λ size fits ends. subst (λ (n : ℕ). n ≤ size) (sym (length-set bytes place byte)) (left.within size fits ends);
+}
+
+-- what is left of a sound file is sound
+pub rest_sound : (file : File) (bytes : List ℕ) → IsSoundFile file → IsLeft file bytes → IsSoundFile (at_rest bytes)
+rest_sound file bytes sound left = record {
+  stands = left_at_rest bytes;
+  short = let most : length bytes ≤ file_limit - 1 = left.within (file_limit - 1) (omega (arith, sound.short))
+      (All-weaker (λ piece. end_of piece < file_limit) (λ piece. end_of piece ≤ file_limit - 1) (λ piece less. omega (arith, less)) file.pieces sound.ends) in
+      omega (arith, most);
+  ends = All-nil _;
+}
+
+file_sound : (o image : Option File) → ((file : File) → o ≡ Some file → IsSoundFile file) → IsFileImage o image → (file : File) → image ≡ Some file → IsSoundFile file
+file_sound None None sound is file none = absurd (cc)
+file_sound None (Some after) sound is file some = absurd is
+file_sound (Some before) None sound is file none = absurd is
+file_sound (Some before) (Some after) sound (bytes, at, left) file some =
+    let same : at_rest bytes ≡ file = cc in
+    subst IsSoundFile same (rest_sound before bytes (sound before refl) left)
+
+file_there : (o image : Option File) → IsFileImage o image → image ≡ None → o ≡ None
+file_there None image is none = refl
+file_there (Some before) None is none = absurd is
+file_there (Some before) (Some after) is none = cc
+
+file_absent : (o image : Option File) → IsFileImage o image → o ≡ None → image ≡ None
+file_absent None None is none = refl
+file_absent None (Some after) is none = absurd is
+file_absent (Some before) image is none = absurd (cc)
+
+-- an image of a sound disk is sound
+pub image_is_sound : (d image : Disk) → IsSound d → IsImage d image → IsSound image
+image_is_sound d image sound is = record {
+  named = λ path id at none. sound.named path id (name_of path id at) (file_there (d.files id) (image.files id) (is.files id) none);
+  one_name = λ a b id at_a at_b. sound.one_name a b id (name_of a id at_a) (name_of b id at_b);
+  apart = λ path id at. ap (λ (f : List ℕ → Bool). f path) is.directories ∙ sound.apart path id (name_of path id at);
+  fresh = λ id above. file_absent (d.files id) (image.files id) (is.files id) (sound.fresh id (subst (λ (n : ℕ). n ≤ id) is.unused above));
+  files = λ id. file_sound (d.files id) (image.files id) (sound.files id) (is.files id);
+}
+  where
+    name_of : (path : List ℕ) (id : ℕ) → image.names path ≡ Some id → d.names path ≡ Some id
+    name_of path id at = ap (λ (f : List ℕ → Option ℕ). f path) (sym is.names) ∙ at

@@ -1,0 +1,10 @@
+pub mod Updates
+pub mod ImageLaws
+pub mod ChangeLaws
+pub mod SoundLaws
+pub mod KeptLaws
+pub mod CauseLaws
+pub mod Props
+pub mod ChainLaws
+pub mod KeepsSyncedLaws
+pub mod CrashExampleLaws

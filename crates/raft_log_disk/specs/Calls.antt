@@ -1,0 +1,133 @@
+-- What a call leaves, answered or refused.
+use Rattle.std.specs.Prelude.{◌≡◌, ℕ, ◌+◌, ◌<◌, ◌≤◌, ◌⊎◌, Bool, true, false, cond, Option, Some, None, List, [], ◌∷◌, ◌++◌, length, slice_index, suc}
+use Rattle.std.specs.Map.{update}
+use Rattle.std.specs.Str.{bytes_eq}
+use Rattle.std.proofs.Common.{nat_eq, take}
+use Rattle.raft_log_disk.specs.Disk.{Piece, Wrote, CutTo, GrewTo, File, Disk, at_rest, zeros, grown, changed, with_file, HasDirectory}
+
+-- the file with a content, and a change that it isn't synced with
+abbrev pub with_piece : Piece → List ℕ → File → File
+with_piece piece content file = record { content = content; synced = file.synced; pieces = file.pieces ++ piece ∷ [] }
+
+-- the file after a change
+abbrev pub after_piece : Piece → File → File
+after_piece piece file = with_piece piece (changed piece file.content) file
+
+-- the file after a sync
+abbrev pub flushed : File → File
+flushed file = at_rest file.content
+
+-- the disk with an empty file under a new name
+abbrev pub created : List ℕ → Disk → Disk
+created path d = record d { names = update bytes_eq d.names path (Some d.unused); files = update nat_eq d.files d.unused (Some (at_rest [])); unused = suc d.unused }
+
+-- the disk without a name and its file
+abbrev pub deleted : List ℕ → ℕ → Disk → Disk
+deleted path id d = record d { names = update bytes_eq d.names path None; files = update nat_eq d.files id None }
+
+-- the files without the one that loses its name
+abbrev pub without : Option ℕ → (ℕ → Option File) → ℕ → Option File
+without None files = files
+without (Some id) files = update nat_eq files id None
+
+-- the disk with a file under another name; a file that had that name is gone, and the renamed one is as it was
+abbrev pub renamed : List ℕ → List ℕ → ℕ → Disk → Disk
+renamed from to id d = record d {
+  names = update bytes_eq (update bytes_eq d.names from None) to (Some id);
+  files = update nat_eq (without (d.names to) d.files) id (d.files id);
+}
+
+-- the disk with one more directory
+abbrev pub with_directory : List ℕ → Disk → Disk
+with_directory path d = record d { directories = λ q. cond (bytes_eq path q) true (d.directories q) }
+
+-- the disk with other marks on unreadable places
+abbrev pub with_marks : (ℕ → ℕ → Bool) → Disk → Disk
+with_marks marks d = record d { unreadable = marks }
+
+-- the disk with one more failure counted
+abbrev pub counted : Disk → Disk
+counted d = record d { failures = suc d.failures }
+
+-- the disk of a file system that has stopped
+abbrev pub at_stop : Disk → Disk
+at_stop d = record d { stopped = true }
+
+-- What a write may leave of a content that was refused when it had written some: the places outside its range stand,
+-- inside of it any bytes do, and the file doesn't get shorter, nor longer than the write.
+pub record IsTorn (at : ℕ) (bytes old new : List ℕ) : Type 0 where
+  pub outside : (place : ℕ) → place < length old → (place < at) ⊎ (at + length bytes ≤ place) → slice_index new place ≡ slice_index old place
+  pub longer : length old ≤ length new
+  pub within : (size : ℕ) → length old ≤ size → at + length bytes ≤ size → length new ≤ size
+
+-- what a refused change may leave of a content: some of a write, the cut made or not, some of a growth's zeros
+abbrev pub InPart : Piece → List ℕ → List ℕ → Type 0
+InPart (Wrote at bytes) old new = IsTorn at bytes old new
+InPart (CutTo size) old new = (new ≡ old) ⊎ (new ≡ take size old)
+InPart (GrewTo size) old new = (count : ℕ) × (length old + count ≤ size ⊎ (count ≡ 0)) × (new ≡ old ++ zeros count)
+
+-- a call changed one file, and was answered before the file system stopped
+pub record Changes (id : ℕ) (next : File → File) (old new : Disk) : Type 0 where
+  pub runs : old.stopped ≡ false
+  pub file : File
+  pub is : old.files id ≡ Some file
+  pub done : new ≡ with_file id (Some (next file)) old
+
+-- an empty file got a name
+pub record Creates (path : List ℕ) (id : ℕ) (old new : Disk) : Type 0 where
+  pub runs : old.stopped ≡ false
+  pub free : old.names path ≡ None
+  pub apart : old.directories path ≡ false
+  pub home : HasDirectory path old
+  pub number : id ≡ old.unused
+  pub done : new ≡ created path old
+
+-- a name and its file went
+pub record Deletes (path : List ℕ) (old new : Disk) : Type 0 where
+  pub runs : old.stopped ≡ false
+  pub id : ℕ
+  pub is : old.names path ≡ Some id
+  pub done : new ≡ deleted path id old
+
+-- a file got another name
+pub record Renames (from to : List ℕ) (old new : Disk) : Type 0 where
+  pub runs : old.stopped ≡ false
+  pub id : ℕ
+  pub is : old.names from ≡ Some id
+  pub apart : old.directories to ≡ false
+  pub home : HasDirectory to old
+  pub done : new ≡ renamed from to id old
+
+-- a directory was made
+pub record MakesDirectory (path : List ℕ) (old new : Disk) : Type 0 where
+  pub runs : old.stopped ≡ false
+  pub free : old.names path ≡ None
+  pub apart : old.directories path ≡ false
+  pub done : new ≡ with_directory path old
+
+-- A refused call. After a stop nothing changes. Nor does it for an argument that the state shows to be wrong, and no
+-- failure is counted for it. Else a failure is counted, and the call may have been done in part; or the file system
+-- stopped at this call, which may have been done in part or whole.
+pub data Refused (part done : Disk → Type 0) (wrong : Type 0) (old new : Disk) : Type 0 where
+  after_stop : old.stopped ≡ true → new ≡ old → Refused part done wrong old new
+  wrong_argument : old.stopped ≡ false → wrong → new ≡ old → Refused part done wrong old new
+  failed : old.stopped ≡ false → (wrong → ⊥) → (left : Disk) → part left → new ≡ counted left → Refused part done wrong old new
+  stops : old.stopped ≡ false → (left : Disk) → part left ⊎ done left → new ≡ at_stop left → Refused part done wrong old new
+
+-- what a refused call that is done whole or not at all may leave: a call on names, or a sync
+abbrev pub Nothing : Disk → Disk → Type 0
+Nothing old left = left ≡ old
+
+-- what a refused write, cut or growth may leave: nothing, or a content with some of it, among the changes since the last sync
+pub data SomeOf (id : ℕ) (piece : Piece) (old left : Disk) : Type 0 where
+  none : left ≡ old → SomeOf id piece old left
+  some : (file : File) (content : List ℕ) → old.files id ≡ Some file → InPart piece file.content content
+      → left ≡ with_file id (Some (with_piece piece content file)) old → SomeOf id piece old left
+
+-- a refused write, cut or growth
+abbrev pub RefusedPiece : ℕ → Piece → Type 0 → Disk → Disk → Type 0
+RefusedPiece id piece wrong old new = Refused (SomeOf id piece old) (Changes id (after_piece piece) old) wrong old new
+
+-- a refused call that is done whole or not at all
+abbrev pub RefusedWhole : (Disk → Type 0) → Type 0 → Disk → Disk → Type 0
+RefusedWhole done wrong old new = Refused (Nothing old) done wrong old new

@@ -1,0 +1,25 @@
+-- Why a call was refused.
+use Rattle.std.specs.Prelude.{◌≡◌, ℕ, ◌+◌, ◌<◌, ◌≤◌, Bool, true, false}
+use Rattle.raft_log_disk.specs.Disk.{Disk}
+
+-- Nothing else may stand behind a refusal than a stop, a failure that was counted during the call, or an unreadable
+-- place in what was asked for.
+pub data HasCause (old new : Disk) : Type 0 where
+  stopped : new.stopped ≡ true → HasCause old new
+  counted_one : old.failures < new.failures → HasCause old new
+  unreadable_place : (id place : ℕ) → new.unreadable id place ≡ true → HasCause old new
+
+-- a stop, or a failure that was counted during the call: the cause of a refused changing call
+pub data Fails (old new : Disk) : Type 0 where
+  has_stopped : new.stopped ≡ true → Fails old new
+  has_failed : old.failures < new.failures → Fails old new
+
+-- a later disk: failures are counted, never taken back, and a stop is for good
+pub record IsLater (old new : Disk) : Type 0 where
+  pub failures : old.failures ≤ new.failures
+  pub stopped : old.stopped ≡ true → new.stopped ≡ true
+
+-- an undisturbed disk: it runs, and no place is unreadable
+pub record IsUndisturbed (d : Disk) : Type 0 where
+  pub runs : d.stopped ≡ false
+  pub readable : (id place : ℕ) → d.unreadable id place ≡ false

@@ -1,0 +1,70 @@
+-- Chains of records in a file: one record behind the other from a place on, and what reads back of them. A frame relation
+-- says which bytes spell which record; everything here holds of any one in which no spelling begins another.
+use Rattle.std.specs.Prelude.{◌≡◌, ℕ, ◌+◌, ◌⊎◌, List, [], ◌∷◌, ◌++◌, length, take, drop}
+
+-- a record as it was written: its bytes, and what they say
+pub record Written (R : Type 0) : Type 0 where
+  pub bytes : List ℕ
+  pub value : R
+
+-- no spelling begins another one or another record's, and none is empty
+pub record IsPrefixFree {R : Type 0} (IsFrame : List ℕ → R → Type 0) : Type 0 where
+  pub apart : (a b x y : List ℕ) (r s : R) → IsFrame a r → IsFrame b s → a ++ x ≡ b ++ y → (a ≡ b) × (r ≡ s)
+  pub filled : (r : R) → IsFrame [] r → ⊥
+
+-- the bytes of these records, one behind the other
+abbrev pub spelled : {R : Type 0} → List (Written R) → List ℕ
+spelled [] = []
+spelled (w ∷ ws) = w.bytes ++ spelled ws
+
+-- each one's bytes are a spelling of it
+abbrev pub AreFrames : {R : Type 0} → (List ℕ → R → Type 0) → List (Written R) → Type 0
+AreFrames IsFrame [] = Unit {0}
+AreFrames IsFrame (w ∷ ws) = IsFrame w.bytes w.value × AreFrames IsFrame ws
+
+-- no record begins here
+abbrev pub Refuses : {R : Type 0} → (List ℕ → R → Type 0) → List ℕ → Type 0
+Refuses {R} IsFrame bytes = (w : Written R) (rest : List ℕ) → IsFrame w.bytes w.value → bytes ≡ w.bytes ++ rest → ⊥
+
+-- from `start` on the bytes begin with these records
+pub record BeginsWith {R : Type 0} (IsFrame : List ℕ → R → Type 0) (start : ℕ) (ws : List (Written R)) (bytes : List ℕ) : Type 0 where
+  pub rest : List ℕ
+  pub splits : drop start bytes ≡ spelled ws ++ rest
+  pub frames : AreFrames IsFrame ws
+
+-- from `start` on these records are read, and then none
+pub record Reads {R : Type 0} (IsFrame : List ℕ → R → Type 0) (start : ℕ) (ws : List (Written R)) (bytes : List ℕ) : Type 0 where
+  pub rest : List ℕ
+  pub splits : drop start bytes ≡ spelled ws ++ rest
+  pub frames : AreFrames IsFrame ws
+  pub ends : Refuses IsFrame rest
+
+-- whoever reads from `start` on meets this record at this place
+pub record Meets {R : Type 0} (IsFrame : List ℕ → R → Type 0) (start at : ℕ) (w : Written R) (bytes : List ℕ) : Type 0 where
+  pub before : List (Written R)
+  pub begins : BeginsWith IsFrame start (before ++ w ∷ []) bytes
+  pub place : at ≡ start + length (spelled before)
+
+-- bytes that stand from one place on have these among them, at this place
+pub record LiesIn (from : ℕ) (all : List ℕ) (at : ℕ) (bytes : List ℕ) : Type 0 where
+  pub ahead : List ℕ
+  pub behind : List ℕ
+  pub splits : all ≡ ahead ++ (bytes ++ behind)
+  pub place : at ≡ from + length ahead
+
+-- it can be told of any bytes whether a record begins there
+abbrev pub CanTell : {R : Type 0} → (List ℕ → R → Type 0) → Type 0
+CanTell {R} IsFrame = (bytes : List ℕ) → ((w : Written R) × (rest : List ℕ) × IsFrame w.bytes w.value × (bytes ≡ w.bytes ++ rest)) ⊎ Refuses IsFrame bytes
+
+-- bytes are read in one way
+abbrev pub ReadsOneWay : {R : Type 0} → (List ℕ → R → Type 0) → Type 0
+ReadsOneWay {R} IsFrame = (start : ℕ) (bytes : List ℕ) (vs ws : List (Written R)) → Reads IsFrame start vs bytes → Reads IsFrame start ws bytes → ws ≡ vs
+
+-- where it can be told whether a record begins, all bytes have a reading
+abbrev pub ReadsSome : {R : Type 0} → (List ℕ → R → Type 0) → Type 0
+ReadsSome {R} IsFrame = CanTell IsFrame → (start : ℕ) (bytes : List ℕ) → (ws : List (Written R)) × Reads IsFrame start ws bytes
+
+-- files that agree up to the end of a chain both begin with it
+abbrev pub AgreesUpToEnd : {R : Type 0} → (List ℕ → R → Type 0) → Type 0
+AgreesUpToEnd {R} IsFrame = (start : ℕ) (ws : List (Written R)) (c d : List ℕ) → take (start + length (spelled ws)) d ≡ take (start + length (spelled ws)) c
+    → BeginsWith IsFrame start ws c → BeginsWith IsFrame start ws d

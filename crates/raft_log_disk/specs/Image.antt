@@ -1,0 +1,73 @@
+-- What a stop at this moment may leave.
+use Rattle.std.specs.Prelude.{◌≡◌, ℕ, ◌+◌, ◌<◌, ◌≤◌, true, false, Option, Some, None, List, [], length, slice_index}
+use Rattle.std.specs.List.{All}
+use Rattle.std.specs.Option.{option_map}
+use Rattle.raft_log_disk.specs.Disk.{Piece, Wrote, CutTo, GrewTo, File, Disk, at_rest, file_limit}
+
+-- a change touches each place of a written range, and each place from which on it cuts
+abbrev pub Touches : Piece → ℕ → Type 0
+Touches (Wrote at bytes) place = (at ≤ place) × (place < at + length bytes)
+Touches (CutTo size) place = size ≤ place
+Touches (GrewTo size) place = ⊥
+
+abbrev pub Spares : ℕ → Piece → Type 0
+Spares place piece = Touches piece place → ⊥
+
+-- how far a change may have grown the file
+abbrev pub end_of : Piece → ℕ
+end_of (Wrote at bytes) = at + length bytes
+end_of (CutTo size) = 0
+end_of (GrewTo size) = size
+
+-- Bytes that a stop may leave of a file: a synced byte that no change touches stays, and the bytes end where the synced
+-- ones or some change ended at the latest. All else is open: any bytes stand in a written range, behind a cut and past
+-- the old end, and the file may end inside of these.
+pub record IsLeft (file : File) (bytes : List ℕ) : Type 0 where
+  pub kept : (place : ℕ) → place < length file.synced → All (Spares place) file.pieces
+      → (place < length bytes) × (slice_index bytes place ≡ slice_index file.synced place)
+  pub within : (size : ℕ) → length file.synced ≤ size → All (λ piece. end_of piece ≤ size) file.pieces → length bytes ≤ size
+
+-- the file after a restart, whose bytes are what was left
+abbrev pub IsFileImage : Option File → Option File → Type 0
+IsFileImage None None = Unit {0}
+IsFileImage None (Some after) = ⊥
+IsFileImage (Some before) None = ⊥
+IsFileImage (Some before) (Some after) = (bytes : List ℕ) × (after ≡ at_rest bytes) × IsLeft before bytes
+
+-- An image of a disk is a disk that a stop at this moment may leave: the names as they stand, each file at rest, nothing
+-- unreadable, no failure counted.
+pub record IsImage (d image : Disk) : Type 0 where
+  pub directories : image.directories ≡ d.directories
+  pub names : image.names ≡ d.names
+  pub unused : image.unused ≡ d.unused
+  pub files : (id : ℕ) → IsFileImage (d.files id) (image.files id)
+  pub readable : (id place : ℕ) → image.unreadable id place ≡ false
+  pub running : image.stopped ≡ false
+  pub uncounted : image.failures ≡ 0
+
+-- A file is sound if its content is one of what a stop may leave, and neither it nor any of these reaches the limit.
+pub record IsSoundFile (file : File) : Type 0 where
+  pub stands : IsLeft file file.content
+  pub short : length file.synced < file_limit
+  pub ends : All (λ piece. end_of piece < file_limit) file.pieces
+
+-- A disk is sound if a name has a file and no file has two names, no path is a file's and a directory's, a new file's
+-- number was never used, and each file is sound.
+pub record IsSound (d : Disk) : Type 0 where
+  pub named : (path : List ℕ) (id : ℕ) → d.names path ≡ Some id → d.files id ≡ None → ⊥
+  pub one_name : (a b : List ℕ) (id : ℕ) → d.names a ≡ Some id → d.names b ≡ Some id → a ≡ b
+  pub apart : (path : List ℕ) (id : ℕ) → d.names path ≡ Some id → d.directories path ≡ false
+  pub fresh : (id : ℕ) → d.unused ≤ id → d.files id ≡ None
+  pub files : (id : ℕ) (file : File) → d.files id ≡ Some file → IsSoundFile file
+
+-- the file as a restart finds it where all of it was kept
+abbrev pub settled : File → File
+settled file = at_rest file.content
+
+-- the disk as a restart finds it where everything was kept
+abbrev pub as_it_stands : Disk → Disk
+as_it_stands d = record d { files = λ id. option_map settled (d.files id); unreadable = λ id place. false; stopped = false; failures = 0 }
+
+-- every file is synced
+abbrev pub IsAllSynced : Disk → Type 0
+IsAllSynced d = (id : ℕ) (file : File) → d.files id ≡ Some file → file.pieces ≡ []

@@ -1,0 +1,59 @@
+//! Laws of chains of records in a file, over any way to spell records in which no spelling begins another.
+
+ghost use Rattle.std.specs.Prelude.{ℕ, List};
+ghost use Rattle.raft_log_disk.specs.Chains.{IsPrefixFree, ReadsOneWay, ReadsSome, AgreesUpToEnd};
+ghost use Rattle.raft_log_disk.specs.KeepsSynced.{ChainKeepsSynced, ChainSteps, UntouchedPartStays};
+ghost use Rattle.raft_log_disk.specs.CrashExamples.{TornRecordIsLost, ForeignRecordIsChance, SyncedFileHasNoChance};
+
+/// Says which bytes spell which record.
+pub trait Framing {
+    /// What a record says.
+    type Record;
+
+    ghost is_frame: { List ℕ → Self.Record → Type 0 };
+}
+
+/// Bytes are read in one way.
+pub fn one_reading<G: Framing>()
+    ensures { IsPrefixFree G.is_frame → ReadsOneWay G.is_frame }
+{}
+
+/// Where it can be told whether a record begins, all bytes have a reading.
+pub fn some_reading<G: Framing>()
+    ensures { IsPrefixFree G.is_frame → ReadsSome G.is_frame }
+{}
+
+/// Files that agree up to the end of a chain both begin with it.
+pub fn agreement<G: Framing>()
+    ensures { AgreesUpToEnd G.is_frame }
+{}
+
+/// A file goes on holding its chain through writes, cuts, growths, syncs and restarts.
+pub fn chain_steps<G: Framing>()
+    ensures { (start end : ℕ) → ChainSteps G.is_frame start end }
+{}
+
+/// A file that holds a chain keeps its synced records, whatever a stop leaves.
+pub fn synced_records_are_kept<G: Framing>()
+    ensures { ChainKeepsSynced G.is_frame }
+{}
+
+/// A stop that leaves a beginning of a record which isn't synced meets no checksum by chance, and loses the record.
+pub fn torn_record_is_lost<G: Framing>()
+    ensures { TornRecordIsLost G.is_frame }
+{}
+
+/// A stop that leaves another record than the one written has met its checksum by chance.
+pub fn foreign_record_is_chance<G: Framing>()
+    ensures { ForeignRecordIsChance G.is_frame }
+{}
+
+/// A stop leaves nothing to chance of a file whose bytes are all synced.
+pub fn synced_file_has_no_chance<G: Framing>()
+    ensures { SyncedFileHasNoChance G.is_frame }
+{}
+
+/// A part of the synced bytes that no change touches stays: so does a header in front of the records.
+pub fn untouched_part_stays()
+    ensures { UntouchedPartStays }
+{}

@@ -1,0 +1,26 @@
+ghost use Rattle.raft_log_disk.specs.Laws.{StandsIsImage, SyncedIsOnlyImage, ImageOfImage, ImageIsSound, AnyByteLeft};
+
+/// A crash may leave the files as they stand.
+pub fn stands_is_an_image()
+    ensures { StandsIsImage }
+{}
+
+/// Where all files are synced, a crash leaves them as they stand.
+pub fn synced_files_have_one_image()
+    ensures { SyncedIsOnlyImage }
+{}
+
+/// What a second crash leaves of what the first one left, the first one could have left.
+pub fn image_of_an_image_is_an_image()
+    ensures { ImageOfImage }
+{}
+
+/// What a crash leaves of a sound disk is sound.
+pub fn image_of_a_sound_disk_is_sound()
+    ensures { ImageIsSound }
+{}
+
+/// Any byte may stand in a written range or behind a cut.
+pub fn any_byte_may_be_left()
+    ensures { AnyByteLeft }
+{}

@@ -1,0 +1,7 @@
+pub mod Journal
+pub mod Flushed
+pub mod StorageLaws
+pub mod Whole
+pub mod Calls
+pub mod Paths
+pub mod Listings

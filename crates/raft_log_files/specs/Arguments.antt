@@ -1,0 +1,45 @@
+-- Which error says that an argument is wrong, and where the state shows it.
+use Rattle.std.specs.Prelude.{◌≡◌, ℕ, ◌⊎◌, true, false, None, List}
+use Rattle.std.specs.declared.io.ErrorKind.{ErrorKind}
+use Rattle.std.specs.declared.io.ErrorKind.TheVariants.{NotFound, AlreadyExists, PermissionDenied, IsADirectory, InvalidInput, OutOfMemory}
+use Rattle.raft_log_disk.specs.Disk.{Disk, HasDirectory}
+use Rattle.raft_log_files.specs.declared.handle.Handle.{Handle}
+use Rattle.raft_log_files.specs.declared.handle.Permission.TheVariants.{ReadOnly}
+
+-- a file or a directory has the path
+abbrev pub IsTaken : List ℕ → Disk → Type 0
+IsTaken path d = (d.names path ≡ None → ⊥) ⊎ (d.directories path ≡ true)
+
+-- `AlreadyExists` for a path that is taken, `NotFound` where no directory is there for it
+abbrev pub WrongCreate : List ℕ → Disk → ErrorKind → Type 0
+WrongCreate path d error = ((error ≡ AlreadyExists) × IsTaken path d) ⊎ ((error ≡ NotFound) × (HasDirectory path d → ⊥))
+
+-- `NotFound` where no file has the name
+abbrev pub WrongName : List ℕ → Disk → ErrorKind → Type 0
+WrongName path d error = (error ≡ NotFound) × (d.names path ≡ None)
+
+-- and, for the new name, `IsADirectory` for a directory's path, `NotFound` where no directory is there for it
+abbrev pub WrongRename : List ℕ → List ℕ → Disk → ErrorKind → Type 0
+WrongRename from to d error = WrongName from d error ⊎ (((error ≡ IsADirectory) × (d.directories to ≡ true)) ⊎ ((error ≡ NotFound) × (HasDirectory to d → ⊥)))
+
+-- `AlreadyExists` for a path that is taken
+abbrev pub WrongDirectory : List ℕ → Disk → ErrorKind → Type 0
+WrongDirectory path d error = (error ≡ AlreadyExists) × IsTaken path d
+
+-- `NotFound` where the handle's file is gone
+abbrev pub WrongHandle : Handle → Disk → ErrorKind → Type 0
+WrongHandle handle d error = (error ≡ NotFound) × (d.files handle.file ≡ None)
+
+-- and `PermissionDenied` where the handle may only read
+abbrev pub WrongWriter : Handle → Disk → ErrorKind → Type 0
+WrongWriter handle d error = WrongHandle handle d error ⊎ ((error ≡ PermissionDenied) × (handle.permission ≡ ReadOnly))
+
+-- `InvalidInput` where the path is a file's, `NotFound` where nothing has it
+abbrev pub WrongListing : List ℕ → Disk → ErrorKind → Type 0
+WrongListing path d error = ((error ≡ InvalidInput) × (d.names path ≡ None → ⊥)) ⊎ ((error ≡ NotFound) × (d.names path ≡ None) × (d.directories path ≡ false))
+
+-- A refused call that changes nothing: after a stop, for a wrong argument, or for want of memory.
+pub data IsDeclined (wrong : Type 0) (d : Disk) (error : ErrorKind) : Type 0 where
+  stopped : d.stopped ≡ true → IsDeclined wrong d error
+  wrong_argument : wrong → IsDeclined wrong d error
+  no_memory : error ≡ OutOfMemory → IsDeclined wrong d error

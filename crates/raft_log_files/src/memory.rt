@@ -1,0 +1,55 @@
+// Changes of a file's bytes in place.
+mod bytes;
+// The calls.
+mod calls;
+// The files by their numbers.
+mod files;
+// The changes that aren't synced.
+mod journal;
+// What the file system holds.
+mod storage;
+// Which calls fail.
+mod turns;
+
+ghost use Rattle.raft_log_files.specs.Storage.{IsWhole, IsWhole-prop};
+
+use std::alloc::Global;
+use storage::Storage;
+
+/// A file system in memory, for tests and for simulated crashes. It has no directory at first.
+#[derive(Drop)]
+pub struct MemoryFileSystem {
+    storage: Storage,
+    failures: u64,
+    stopped: bool,
+    // How many changing calls there are up to the one that is refused, and up to the one at which it stops; 0 where none is armed.
+    refuse: u64,
+    stop: u64,
+    ghost whole: { IsWhole storage } by { IsWhole-prop storage },
+}
+
+impl MemoryFileSystem {
+    ghost use Rattle.std.specs.Prelude.{◌≡◌};
+    ghost use Rattle.raft_log_disk.specs.Disk.{empty_disk};
+    ghost use Rattle.raft_log_files.specs.Memory.{disk_of};
+
+    /// A file system with no directory and no file.
+    pub fn new(alloc: Global) -> MemoryFileSystem
+        ensures { disk_of result ≡ empty_disk }
+    {
+        MemoryFileSystem {
+            storage: Storage::new(alloc),
+            failures: 0,
+            stopped: false,
+            refuse: 0,
+            stop: 0,
+        }
+    }
+
+    /// How many failures were counted: refused changing calls, but for an argument that was wrong.
+    pub fn failures(&self) -> u64
+        ensures { result ≡ (disk_of self.now).failures }
+    {
+        self.failures
+    }
+}

@@ -1,0 +1,60 @@
+// The changes of all files that aren't synced, in the order of the calls.
+ghost use Rattle.std.specs.Prelude.{◌≡◌, ℕ, not, nat_eq, ◌<◌, ◌≤◌, OnOk, OnErr};
+ghost use Rattle.std.specs.List.{filter};
+ghost use Rattle.raft_log_disk.specs.Disk.{changed, file_limit};
+ghost use Rattle.raft_log_disk.specs.Image.{end_of, Touches};
+
+use super::bytes::{grow_to, overwrite};
+use std::alloc::AllocError;
+
+// Drops the changes of a file.
+pub(super) fn forget(journal: &mut Vec<Unsynced>, id: usize)
+    ensures { journal.new.items ≡ filter (λ u. not (nat_eq u.file id)) journal.old.items }
+{
+    journal.retain(|unsynced| unsynced.file != id);
+}
+
+#[derive(Debug, Drop)]
+pub(super) enum Change {
+    Write { offset: usize, bytes: Vec<u8> },
+    Cut { size: usize },
+    Growth { size: usize },
+}
+
+// A change of a file, by its number.
+#[derive(Debug, Drop)]
+pub(super) struct Unsynced {
+    pub(super) file: usize,
+    pub(super) change: Change,
+}
+
+impl Change {
+    ghost use Rattle.raft_log_files.specs.Pieces.{piece_of};
+
+    // Makes the change. Without memory nothing changes.
+    pub(super) fn carry_out(&self, content: &mut Vec<u8>) -> Result<(), AllocError>
+        requires { end_of (piece_of self.now) < file_limit }
+        ensures ok { OnOk result (content.new.items ≡ changed (piece_of self.now) content.old.items) }
+        ensures err { OnErr result (content.new.items ≡ content.old.items) }
+    {
+        match self {
+            Change::Write { offset, bytes } => overwrite(content, *offset, bytes),
+            Change::Cut { size } => {
+                content.truncate(*size);
+                Ok(())
+            }
+            Change::Growth { size } => grow_to(content, *size),
+        }
+    }
+
+    // The change touches the places from the first number up to the second.
+    pub(super) fn touched(&self) -> (usize, usize)
+        ensures { (place : ℕ) → place < file_limit → Touches (piece_of self.now) place → (result.0 ≤ place) × (place < result.1) }
+    {
+        match self {
+            Change::Write { offset, bytes } => (*offset, offset.saturating_add(bytes.len())),
+            Change::Cut { size } => (*size, usize::MAX),
+            Change::Growth { size: _ } => (0, 0),
+        }
+    }
+}

@@ -57,8 +57,9 @@ shorter : (at : ℕ) (bytes other old : List ℕ) → length other ≤ length by
 shorter at bytes other old less =
     let may = whole (Wrote at other) old in
     record {
-        kept = λ place below spared. may.kept place below (λ touched. spared (touched.0, omega (arith, touched.1, less)));
-        within = λ size fits ends. may.within size fits (omega (arith, ends, less)) }
+      kept = λ place below spared. may.kept place below (λ touched. spared (touched.0, omega (arith, touched.1, less)));
+      within = λ size fits ends. may.within size fits (omega (arith, ends, less));
+    }
 
 front_may : (count : ℕ) (piece : disk.Piece) (old : List ℕ) → MayBecome piece old (left_front count piece old)
 front_may count (Wrote at bytes) old = shorter at bytes (take count bytes) old (omega (arith, length-take count bytes))
@@ -94,18 +95,19 @@ left_on : (what : Remainder) (place id : ℕ) (us : List Unsynced) (before : Lis
 left_on what place id [] before content synced now left =
     subst (λ (ps : List disk.Piece). IsLeft (record { content = content; synced = synced; pieces = ps }) now) (sym (append-nil before)) left
 left_on what place id (u ∷ us) before content synced now left = elim (cases_eq u.file id) [
-    inl own ↦
-        (let piece = piece_of u.change in
-        let next = left_changed (record { content = content; synced = synced; pieces = before }) piece content now (left_by what place piece now) left (by_may what place piece now) in
-        let rest = left_on what (place + 1) id us (before ++ piece ∷ []) content synced (left_by what place piece now) next in
-        subst (IsLeft (record { content = content; synced = synced; pieces = before ++ pieces_of id (u ∷ us) })) (sym (left_own what place id u us now own))
-          (subst (λ (ps : List disk.Piece). IsLeft (record { content = content; synced = synced; pieces = ps }) (left_of what (place + 1) id us (left_by what place piece now)))
-            (append_assoc before (piece ∷ []) (pieces_of id us) ∙ ap (λ (ps : List disk.Piece). before ++ ps) (sym (own_first id u us own))) rest))
+  | inl own ↦
+      (let piece = piece_of u.change in
+      let next = left_changed (record { content = content; synced = synced; pieces = before }) piece content now (left_by what place piece now) left (by_may what place piece now) in
+      let rest = left_on what (place + 1) id us (before ++ piece ∷ []) content synced (left_by what place piece now) next in
+      subst (IsLeft (record { content = content; synced = synced; pieces = before ++ pieces_of id (u ∷ us) })) (sym (left_own what place id u us now own))
+      (subst (λ (ps : List disk.Piece). IsLeft (record { content = content; synced = synced; pieces = ps }) (left_of what (place + 1) id us (left_by what place piece now)))
+      (append_assoc before (piece ∷ []) (pieces_of id us) ∙ ap (λ (ps : List disk.Piece). before ++ ps) (sym (own_first id u us own))) rest))
   | inr apart ↦
-        (let rest = left_on what (place + 1) id us before content synced now left in
-        subst (IsLeft (record { content = content; synced = synced; pieces = before ++ pieces_of id (u ∷ us) })) (sym (left_other what place id u us now apart))
-          (subst (λ (ps : List disk.Piece). IsLeft (record { content = content; synced = synced; pieces = ps }) (left_of what (place + 1) id us now))
-            (ap (λ (ps : List disk.Piece). before ++ ps) (sym (other_first id u us apart))) rest)) ]
+      (let rest = left_on what (place + 1) id us before content synced now left in
+      subst (IsLeft (record { content = content; synced = synced; pieces = before ++ pieces_of id (u ∷ us) })) (sym (left_other what place id u us now apart))
+      (subst (λ (ps : List disk.Piece). IsLeft (record { content = content; synced = synced; pieces = ps }) (left_of what (place + 1) id us now))
+      (ap (λ (ps : List disk.Piece). before ++ ps) (sym (other_first id u us apart))) rest))
+]
 
 pub left_is_left : (what : Remainder) (id : ℕ) (journal : List Unsynced) (file : Held) → IsLeft (file_at (pieces_of id journal) file) (left_of what 0 id journal file.synced)
 left_is_left what id journal file = left_on what 0 id journal [] file.content file.synced file.synced
@@ -141,10 +143,10 @@ pub contents_left : (what : Remainder) (old new : Storage) → ((q : List ℕ) �
     → new.journal.items ≡ [] → vec_len new.files ≡ vec_len old.files → contents_of new ≡ left_disk what old
 contents_left what old new nodes files journal len =
     disk_ext (contents_of new) (left_disk what old)
-      (fun_ext (λ q. ap is_directory (nodes q))) (fun_ext (λ q. ap file_named (nodes q)))
-      (fun_ext (λ q. ap (λ (us : List Unsynced). option_map (file_at (pieces_of q us)) (held_of new.files.items q)) journal
-        ∙ (ap (option_map (file_at [])) (files q) ∙ rest_of what q old.journal.items (held_of old.files.items q))))
-      len refl refl refl
+    (fun_ext (λ q. ap is_directory (nodes q))) (fun_ext (λ q. ap file_named (nodes q)))
+    (fun_ext (λ q. ap (λ (us : List Unsynced). option_map (file_at (pieces_of q us)) (held_of new.files.items q)) journal
+    ∙ (ap (option_map (file_at [])) (files q) ∙ rest_of what q old.journal.items (held_of old.files.items q))))
+    len refl refl refl
 
 file_left : (what : Remainder) (id : ℕ) (journal : List Unsynced) (o : Option Held)
     → IsFileImage (option_map (file_at (pieces_of id journal)) o) (option_map (λ (file : Held). at_rest (left_of what 0 id journal file.synced)) o)
@@ -153,6 +155,11 @@ file_left what id journal (Some file) = (left_of what 0 id journal file.synced, 
 
 pub left_is_image : (what : Remainder) (storage : Storage) → IsImage (contents_of storage) (left_disk what storage)
 left_is_image what storage = record {
-    directories = refl; names = refl; unused = refl;
-    files = λ id. file_left what id storage.journal.items (held_of storage.files.items id);
-    readable = λ id place. refl; running = refl; uncounted = refl }
+  directories = refl;
+  names = refl;
+  unused = refl;
+  files = λ id. file_left what id storage.journal.items (held_of storage.files.items id);
+  readable = λ id place. refl;
+  running = refl;
+  uncounted = refl;
+}

@@ -11,4 +11,5 @@ use Rattle.raft_log_files.specs.Storage.{contents_of}
 -- the names as they stand, and each file at rest with the synced bytes and what is left of the changes since
 abbrev pub left_disk : Remainder → Storage → Disk
 left_disk what storage = record (contents_of storage) {
-    files = λ id. option_map (λ (file : Held). at_rest (left_of what 0 id storage.journal.items file.synced)) (held_of storage.files.items id) }
+  files = λ id. option_map (λ (file : Held). at_rest (left_of what 0 id storage.journal.items file.synced)) (held_of storage.files.items id);
+}

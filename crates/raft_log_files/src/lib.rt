@@ -15,3 +15,6 @@ pub use file_system::FileSystem;
 pub use handle::{Fault, Handle, Permission};
 pub use memory::MemoryFileSystem;
 pub use remainder::{Piece, Remainder};
+
+#[cfg(test)]
+mod tests;

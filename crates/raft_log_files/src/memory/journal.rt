@@ -49,12 +49,20 @@ impl Change {
     }
 
     // Makes the first bytes of a write, and nothing of another change.
-    pub(super) fn carry_out_front(&self, count: usize, content: &mut Vec<u8>) -> Result<(), AllocError>
+    pub(super) fn carry_out_front(
+        &self,
+        count: usize,
+        content: &mut Vec<u8>,
+    ) -> Result<(), AllocError>
         requires { end_of (piece_of self.now) < file_limit }
         ensures { OnOk result (content.new.items ≡ left_front count (piece_of self.now) content.old.items) }
     {
         match self {
-            Change::Write { offset, bytes } => overwrite(content, *offset, &bytes[..count.min(bytes.len())]),
+            Change::Write { offset, bytes } => overwrite(
+                content,
+                *offset,
+                &bytes[..count.min(bytes.len())],
+            ),
             Change::Cut { size: _ } | Change::Growth { size: _ } => Ok(()),
         }
     }
@@ -65,7 +73,11 @@ impl Change {
         ensures { OnOk result (content.new.items ≡ left_as other.now (piece_of self.now) content.old.items) }
     {
         match self {
-            Change::Write { offset, bytes } => overwrite(content, *offset, &other[..bytes.len().min(other.len())]),
+            Change::Write { offset, bytes } => overwrite(
+                content,
+                *offset,
+                &other[..bytes.len().min(other.len())],
+            ),
             Change::Cut { size: _ } | Change::Growth { size: _ } => self.carry_out(content),
         }
     }

@@ -14,7 +14,12 @@ use crate::remainder::{Piece, Remainder};
 use std::alloc::{AllocError, Global};
 
 // Makes what is left of the change at a place in the order of the calls.
-fn carry_out(what: &Remainder, place: usize, change: &Change, content: &mut Vec<u8>) -> Result<(), AllocError>
+fn carry_out(
+    what: &Remainder,
+    place: usize,
+    change: &Change,
+    content: &mut Vec<u8>,
+) -> Result<(), AllocError>
     requires { end_of (piece_of change.now) < file_limit }
     ensures { OnOk result (content.new.items ≡ left_by what.now place (piece_of change.now) content.old.items) }
 {
@@ -39,7 +44,13 @@ fn carry_out(what: &Remainder, place: usize, change: &Change, content: &mut Vec<
 }
 
 // What is left of a file's bytes.
-fn left_bytes(alloc: Global, what: &Remainder, id: usize, journal: &[Unsynced], synced: &[u8]) -> Result<Vec<u8>, AllocError>
+fn left_bytes(
+    alloc: Global,
+    what: &Remainder,
+    id: usize,
+    journal: &[Unsynced],
+    synced: &[u8],
+) -> Result<Vec<u8>, AllocError>
     requires { All (λ p. end_of p < file_limit) (pieces_of id journal.now) }
     ensures { IfOk result (λ bytes. bytes.items ≡ left_of what.now 0 id journal.now synced.now) }
 {
@@ -53,7 +64,13 @@ fn left_bytes(alloc: Global, what: &Remainder, id: usize, journal: &[Unsynced], 
 }
 
 // What is left of a file.
-fn left_file(alloc: Global, what: &Remainder, id: usize, journal: &[Unsynced], stored: &Stored) -> Result<Stored, AllocError>
+fn left_file(
+    alloc: Global,
+    what: &Remainder,
+    id: usize,
+    journal: &[Unsynced],
+    stored: &Stored,
+) -> Result<Stored, AllocError>
     requires { All (λ p. end_of p < file_limit) (pieces_of id journal.now) }
     ensures { IfOk result (λ after. held after ≡ left_held what.now id journal.now (held stored.now)) }
 {
@@ -63,7 +80,12 @@ fn left_file(alloc: Global, what: &Remainder, id: usize, journal: &[Unsynced], s
 }
 
 // What is left of all files.
-pub(super) fn left_files(alloc: Global, what: &Remainder, journal: &[Unsynced], files: &[Option<Stored>]) -> Result<Vec<Option<Stored>>, AllocError>
+pub(super) fn left_files(
+    alloc: Global,
+    what: &Remainder,
+    journal: &[Unsynced],
+    files: &[Option<Stored>],
+) -> Result<Vec<Option<Stored>>, AllocError>
     requires { (id : ℕ) → All (λ p. end_of p < file_limit) (pieces_of id journal.now) }
     ensures len { IfOk result (λ after. vec_len after ≡ length files.now) }
     ensures files { IfOk result (λ after. (q : ℕ) → held_of after.items q ≡ option_map (left_held what.now q journal.now) (held_of files.now q)) }

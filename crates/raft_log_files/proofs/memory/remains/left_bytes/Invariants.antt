@@ -8,5 +8,6 @@ use Rattle.raft_log_files.proofs.memory.remains.left_bytes.Given as goal
 
 abbrev pub invariant-loop-place : goal.invariant-loop-place
 invariant-loop-place l = record {
-    same : left_of l.what l.place l.id (drop l.place l.journal) l.bytes.items ≡ left_of l.what 0 l.id l.journal l.synced;
-    ends : All (λ p. end_of p < file_limit) (pieces_of l.id (drop l.place l.journal)) }
+  same : left_of l.what l.place l.id (drop l.place l.journal) l.bytes.items ≡ left_of l.what 0 l.id l.journal l.synced;
+  ends : All (λ p. end_of p < file_limit) (pieces_of l.id (drop l.place l.journal));
+}

@@ -7,5 +7,6 @@ use Rattle.raft_log_files.proofs.memory.remains.left_files.Given as goal
 
 abbrev pub invariant-loop-id : goal.invariant-loop-id
 invariant-loop-id l = record {
-    len : vec_len l.left ≡ l.id;
-    files : (q : ℕ) → q < l.id → held_of l.left.items q ≡ option_map (left_held l.what q l.journal) (held_of l.files q) }
+  len : vec_len l.left ≡ l.id;
+  files : (q : ℕ) → q < l.id → held_of l.left.items q ≡ option_map (left_held l.what q l.journal) (held_of l.files q);
+}

@@ -27,9 +27,9 @@ returns-clause-contents c =
     let old = c.args.self.now in
     let what = c.args.what.now in
     let files : (q : ℕ) → held_of c.in_ok-files.files.items q ≡ option_map (left_held what q old.journal.items) (held_of old.files.items q) = λ q.
-        c.in_ok-files.ensures.files q
-        ∙ (ap (λ (us : List Unsynced). option_map (left_held what q us) (held_of c.deref-2.result.now q)) c.deref.ensures.value
-        ∙ ap (λ (xs : List (Option Stored)). option_map (left_held what q old.journal.items) (held_of xs q)) c.deref-2.ensures.value) in
+    c.in_ok-files.ensures.files q
+    ∙ (ap (λ (us : List Unsynced). option_map (left_held what q us) (held_of c.deref-2.result.now q)) c.deref.ensures.value
+    ∙ ap (λ (xs : List (Option Stored)). option_map (left_held what q old.journal.items) (held_of xs q)) c.deref-2.ensures.value) in
     contents_left what old (after c) (λ q. cloned old.paths.entries c.in_ok-paths.paths.entries c.in_ok-paths.ensures.cases q) files c.new.ensures.items (c.in_ok-files.ensures.len ∙ c.deref-2.ensures.len)
 
 pub returns-clause-image : goal.returns-clause-image
@@ -37,5 +37,6 @@ returns-clause-image c = subst (IsImage (contents_of c.args.self.now)) (sym (ret
 
 pub returns-clause-whole : goal.returns-clause-whole
 returns-clause-whole c = record {
-    sound = image_is_sound (contents_of c.args.self.now) (contents_of (after c)) c.requires.sound (returns-clause-image c);
-    gone = λ id none. ap (pieces_of id) c.new.ensures.items }
+  sound = image_is_sound (contents_of c.args.self.now) (contents_of (after c)) c.requires.sound (returns-clause-image c);
+  gone = λ id none. ap (pieces_of id) c.new.ensures.items;
+}

@@ -10,7 +10,7 @@ use Rattle.raft_log_disk.specs.Disk.{Piece}
 use Rattle.raft_log_files.specs.declared.memory.journal.Unsynced.{Unsynced}
 use Rattle.raft_log_files.specs.Pieces.{piece_of, pieces_of}
 
-miss : (a b : ℕ) → (a ≡ b → ⊥) → nat_eq a b ≡ false
+pub miss : (a b : ℕ) → (a ≡ b → ⊥) → nat_eq a b ≡ false
 miss a b apart = elim (cases_Bool (nat_eq a b)) [ inl hit ↦ absurd (apart ((Decides-eqb a b).0 hit)) | inr lost ↦ lost ]
 
 pub own_first : (id : ℕ) (u : Unsynced) (rest : List Unsynced) → u.file ≡ id → pieces_of id (u ∷ rest) ≡ piece_of u.change ∷ pieces_of id rest
@@ -20,7 +20,7 @@ pub other_first : (id : ℕ) (u : Unsynced) (rest : List Unsynced) → (u.file �
 other_first id u rest apart = ap (λ (b : Bool). map (λ v. piece_of v.change) (cond b (u ∷ filter (λ v. nat_eq v.file id) rest) (filter (λ v. nat_eq v.file id) rest))) (miss u.file id apart)
 
 -- the changes from a place of the list on
-next_item : (journal : List Unsynced) (i : ℕ) (u : Unsynced) → i < length journal → u ≡ get_or journal i u → drop i journal ≡ u ∷ drop (i + 1) journal
+pub next_item : (journal : List Unsynced) (i : ℕ) (u : Unsynced) → i < length journal → u ≡ get_or journal i u → drop i journal ≡ u ∷ drop (i + 1) journal
 next_item journal i u below is = drop_more journal i u below ∙ ap (λ (v : Unsynced). v ∷ drop (i + 1) journal) (sym is)
 
 pub own_next : (id : ℕ) (journal : List Unsynced) (i : ℕ) (u : Unsynced) → i < length journal → u ≡ get_or journal i u → u.file ≡ id

@@ -5,3 +5,4 @@ pub mod Whole
 pub mod Calls
 pub mod Paths
 pub mod Listings
+pub mod Remains

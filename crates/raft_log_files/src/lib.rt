@@ -8,7 +8,13 @@ pub mod file_system;
 pub mod handle;
 /// A file system in memory.
 pub mod memory;
+/// What a crash leaves of changes that weren't synced.
+pub mod remainder;
 
 pub use file_system::FileSystem;
 pub use handle::{Fault, Handle, Permission};
 pub use memory::MemoryFileSystem;
+pub use remainder::{Piece, Remainder};
+
+#[cfg(test)]
+mod tests;

@@ -6,6 +6,8 @@ mod calls;
 mod files;
 // The changes that aren't synced.
 mod journal;
+// What a crash leaves.
+mod remains;
 // What the file system holds.
 mod storage;
 // Which calls fail.
@@ -13,7 +15,8 @@ mod turns;
 
 ghost use Rattle.raft_log_files.specs.Storage.{IsWhole, IsWhole-prop};
 
-use std::alloc::Global;
+use crate::remainder::Remainder;
+use std::alloc::{AllocError, Global};
 use storage::Storage;
 
 /// A file system in memory, for tests and for simulated crashes. It has no directory at first.
@@ -29,7 +32,9 @@ pub struct MemoryFileSystem {
 }
 
 impl MemoryFileSystem {
-    ghost use Rattle.std.specs.Prelude.{◌≡◌};
+    ghost use Rattle.std.specs.Prelude.{◌≡◌, IfOk};
+    ghost use Rattle.raft_log_disk.specs.Image.{IsImage};
+    ghost use Rattle.raft_log_files.specs.Remains.{left_disk};
     ghost use Rattle.raft_log_disk.specs.Disk.{empty_disk};
     ghost use Rattle.raft_log_files.specs.Memory.{disk_of};
 
@@ -51,5 +56,22 @@ impl MemoryFileSystem {
         ensures { result ≡ (disk_of self.now).failures }
     {
         self.failures
+    }
+
+    /// The file system that a restart finds after a crash at this moment, which leaves of the changes that weren't synced
+    /// what is said. The names are as they stand, a gap before what is left of a write is zeros, no fault is armed and no
+    /// failure is counted. It is refused for want of memory alone.
+    pub fn remainder(&self, what: &Remainder) -> Result<MemoryFileSystem, AllocError>
+        ensures exact { IfOk result (λ after. disk_of after ≡ left_disk what.now self.now.storage) }
+        ensures image { IfOk result (λ after. IsImage (disk_of self.now) (disk_of after)) }
+    {
+        let storage = self.storage.left(what)?;
+        Ok(MemoryFileSystem {
+            storage,
+            failures: 0,
+            stopped: false,
+            refuse: 0,
+            stop: 0,
+        })
     }
 }

@@ -30,6 +30,7 @@ pub(super) struct Unsynced {
 
 impl Change {
     ghost use Rattle.raft_log_files.specs.Pieces.{piece_of};
+    ghost use Rattle.raft_log_files.specs.Left.{left_front, left_as};
 
     // Makes the change. Without memory nothing changes.
     pub(super) fn carry_out(&self, content: &mut Vec<u8>) -> Result<(), AllocError>
@@ -44,6 +45,40 @@ impl Change {
                 Ok(())
             }
             Change::Growth { size } => grow_to(content, *size),
+        }
+    }
+
+    // Makes the first bytes of a write, and nothing of another change.
+    pub(super) fn carry_out_front(
+        &self,
+        count: usize,
+        content: &mut Vec<u8>,
+    ) -> Result<(), AllocError>
+        requires { end_of (piece_of self.now) < file_limit }
+        ensures { OnOk result (content.new.items ≡ left_front count (piece_of self.now) content.old.items) }
+    {
+        match self {
+            Change::Write { offset, bytes } => overwrite(
+                content,
+                *offset,
+                &bytes[..count.min(bytes.len())],
+            ),
+            Change::Cut { size: _ } | Change::Growth { size: _ } => Ok(()),
+        }
+    }
+
+    // Makes a write of other bytes in place of its own, or another change.
+    pub(super) fn carry_out_as(&self, other: &[u8], content: &mut Vec<u8>) -> Result<(), AllocError>
+        requires { end_of (piece_of self.now) < file_limit }
+        ensures { OnOk result (content.new.items ≡ left_as other.now (piece_of self.now) content.old.items) }
+    {
+        match self {
+            Change::Write { offset, bytes } => overwrite(
+                content,
+                *offset,
+                &other[..bytes.len().min(other.len())],
+            ),
+            Change::Cut { size: _ } | Change::Growth { size: _ } => self.carry_out(content),
         }
     }
 

@@ -5,6 +5,8 @@ ghost use Rattle.raft_log_files.specs.Listing.{IsChild};
 use super::bytes::copy_out;
 use super::files::{Stored, change_file, empty, flush_file};
 use super::journal::{Change, Unsynced, forget};
+use super::remains::left_files;
+use crate::remainder::Remainder;
 use std::alloc::{AllocError, Global};
 use std::collections::BTreeMap;
 use std::io::ErrorKind;
@@ -31,7 +33,7 @@ impl Storage {
     ghost use Rattle.std.specs.List.{filter};
     ghost use Rattle.std.specs.Prelude.{not, nat_eq, ◌≡◌, ℕ, ◌+◌, ◌-◌, ◌++◌, min, take, drop, length, IsTrue, ◌↔◌, ◌<◌, List, OnOk, OnErr, IfOk, vec_len, is_some};
     ghost use Rattle.raft_log_disk.specs.Disk.{Wrote, CutTo, GrewTo, File, with_file, file_limit, empty_disk, HasDirectory};
-    ghost use Rattle.raft_log_disk.specs.Image.{end_of};
+    ghost use Rattle.raft_log_disk.specs.Image.{end_of, IsImage};
     ghost use Rattle.raft_log_disk.specs.Calls.{after_piece, flushed, created, deleted, renamed, with_directory};
     ghost use Rattle.std.specs.Prelude.{map};
     ghost use Rattle.std.specs.String.{string_bytes, string_cmp};
@@ -42,6 +44,7 @@ impl Storage {
     ghost use Rattle.std.specs.Str.{bytes_eq};
     ghost use Rattle.raft_log_files.specs.Held.{Held, held_of};
     ghost use Rattle.raft_log_files.specs.Storage.{file_named, is_directory, node_at, contents_of, IsWhole};
+    ghost use Rattle.raft_log_files.specs.Remains.{left_disk};
 
     pub(super) fn new(alloc: Global) -> Storage
         ensures contents { contents_of result ≡ empty_disk }
@@ -131,6 +134,23 @@ impl Storage {
             }
         }
         Ok(names)
+    }
+
+    // What a crash leaves.
+    pub(super) fn left(&self, what: &Remainder) -> Result<Storage, AllocError>
+        requires { IsWhole self.now }
+        ensures contents { IfOk result (λ after. contents_of after ≡ left_disk what.now self.now) }
+        ensures image { IfOk result (λ after. IsImage (contents_of self.now) (contents_of after)) }
+        ensures whole { IfOk result (λ after. IsWhole after) }
+    {
+        let files = left_files(self.alloc, what, &self.journal, &self.files)?;
+        let paths = self.paths.clone()?;
+        Ok(Storage {
+            alloc: self.alloc,
+            paths,
+            files,
+            journal: Vec::new(self.alloc),
+        })
     }
 
     // Writes into a file that is there.

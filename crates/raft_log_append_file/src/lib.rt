@@ -11,6 +11,8 @@ pub mod frame;
 pub mod laws;
 /// Reading a file whole, and cutting it behind its last record.
 pub mod repair;
+#[cfg(test)]
+mod tests;
 
 pub use append_file::AppendFile;
 pub use error::AppendError;

@@ -16,3 +16,6 @@ pub use entry::{CompressionType, EntryIndex, EntryIndexes};
 pub use errors::{Error, Result};
 pub use item::{Command, KeyValue, LogItem, LogItemContent, OpType};
 pub use pipe_log::{FileBlockHandle, FileId, FileSeq, LogFileContext, LogQueue, Version};
+
+#[cfg(test)]
+mod tests;

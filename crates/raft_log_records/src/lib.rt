@@ -10,6 +10,10 @@ mod record;
 pub use batch::decode_footer;
 pub use header::{LOG_BATCH_HEADER_LEN, decode_entries_block, decode_header};
 pub use log_batch::{BatchState, LogBatch};
+pub use raft_log_items::{
+    Bytes, Command, CompressionType, EntryIndex, EntryIndexes, Error, FileBlockHandle, FileId,
+    FileSeq, KeyValue, LogFileContext, LogItem, LogItemContent, LogQueue, OpType, Result, Version,
+};
 
 #[cfg(test)]
 mod tests;

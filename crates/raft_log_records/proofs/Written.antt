@@ -1,6 +1,5 @@
 -- What is written is a record.
-use Rattle.std.proofs.Common.{◌≡◌, ℕ, zero, suc, ◌+◌, ◌*◌, ◌/◌, ◌%◌, ◌≤◌, ◌<◌, ◌^◌, List, [], ◌∷◌, ◌++◌, length, map, eqb, true, false, Bool, cond, Option, unwrap_or, ◌⊎◌, inl, inr, refl, sym, ap, ◌∙◌, subst, arith, bit_xor}
-use Rattle.std.specs.Int.{w32, w64, from_be_bytes, from_le_bytes}
+use Rattle.std.proofs.Common.{◌≡◌, ℕ, zero, suc, ◌+◌, ◌*◌, ◌/◌, ◌%◌, ◌<◌, ◌^◌, List, [], ◌∷◌, ◌++◌, length, map, eqb, true, false, Bool, cond, Option, unwrap_or, ◌⊎◌, inl, inr, refl, sym, ap, ◌∙◌, subst, arith, bit_xor}
 use Rattle.std.proofs.lemmas.Nat.{xor_of_32, from_le_bytes-to_le_bytes_4, from_be_bytes-to_be_bytes_8}
 use Rattle.std.proofs.lemmas.List.{length-append}
 use Rattle.std.proofs.lemmas.List.Sums.{sum_by-append}
@@ -14,7 +13,7 @@ use Rattle.raft_log_items.specs.Items.{AreItems}
 use Rattle.raft_log_items.specs.Run.{unplaced}
 use Rattle.raft_log_items.specs.Placed.{run_len, content_len, entries_len}
 use Rattle.raft_log_items.specs.Writing.{items_bytes, plain_item, plain_content}
-use Rattle.raft_log_records.specs.Record.{signed, block_bytes, footer_bytes, header_bytes, record_len, record_bytes, IsHeader, IsBlock, IsFooter, IsFrame, IsRecord, AddsUp}
+use Rattle.raft_log_records.specs.Record.{signed, block_bytes, footer_bytes, header_bytes, record_len, record_bytes, IsHeader, IsBlock, IsFooter, IsRecord, AddsUp}
 use Rattle.raft_log_records.specs.Written.{AreBytes}
 use Rattle.raft_log_records.proofs.Made.{four_bytes}
 use Rattle.raft_log_records.proofs.Buffer.{record-length}

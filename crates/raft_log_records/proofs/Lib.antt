@@ -2,3 +2,4 @@ pub mod Words
 pub mod Made
 pub mod Buffer
 pub mod Footers
+pub mod Written

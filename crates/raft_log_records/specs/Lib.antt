@@ -2,3 +2,4 @@ pub mod Record
 pub mod Batch
 pub mod Key
 pub mod Signatures
+pub mod Written

@@ -1,5 +1,5 @@
 use Rattle.raft_log_records.proofs.Footers.{footer_again, gives_only}
-use Rattle.raft_log_records.proofs.batch.decode_footer.Goals as goal
+use Rattle.raft_log_records.proofs.footer.decode_footer.Goals as goal
 
 pub returns-clause-only : goal.returns-clause-only
 returns-clause-only c = λ items footer up.

@@ -1,5 +1,5 @@
 //! The footer of a record: its items, and their signed checksum.
-ghost use Rattle.std.specs.Prelude.{◌≡◌, ◌+◌, ◌-◌, ◌<◌, ◌^◌, ◌==◌, if◌then◌else◌, List, MatchResult, min};
+ghost use Rattle.std.specs.Prelude.{◌≡◌, ◌+◌, ◌-◌, ◌<◌, ◌^◌, ◌==◌, if◌then◌else◌, List, IfOk, MatchResult, min};
 ghost use Rattle.raft_log_items.specs.Placed.{run_len, entries_len};
 ghost use Rattle.raft_log_records.specs.Record.{GivesItems, whole_items, items_of, footer_of, IsFooter, AddsUp};
 ghost use Rattle.raft_log_items.specs.declared.errors.Error.TheVariants as errors;
@@ -111,6 +111,7 @@ pub fn decode_footer(
     block_len: usize,
     signature: Option<u32>,
 ) -> Result<Vec<LogItem>>
+    ensures found { IfOk result (λ items. IsFooter signature bytes.now items.items × AddsUp items.items block_len) }
     ensures only { (items : List LogItem) → IsFooter signature bytes.now items → AddsUp items block_len → MatchResult result (λ found. found.items ≡ items) (λ e. e ≡ errors.Memory) }
     ensures exact { GivesItems result (footer_of signature block_len bytes.now) }
 {

@@ -22,7 +22,7 @@ use Rattle.raft_log_items.specs.Placed.{entries_len}
 use Rattle.raft_log_records.specs.Record.{signed, IsFooter, AddsUp, adds_up, whole_items, items_of, footer_of, GivesItems, footer_too_short, footer_mismatch, bytes_after_items, lengths_mismatch}
 
 -- a list of items has a byte at least
-some_bytes : (body : List ℕ) (items : List LogItem) → AreItems body items → 1 ≤ length body
+pub some_bytes : (body : List ℕ) (items : List LogItem) → AreItems body items → 1 ≤ length body
 some_bytes body items h = starts h.1 h.2 body h.3 h.5
   where
     starts : (front back body : List ℕ) {n : ℕ} → IsVarU64 front n → body ≡ front ++ back → 1 ≤ length body

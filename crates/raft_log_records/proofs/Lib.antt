@@ -4,4 +4,5 @@ pub mod Buffer
 pub mod Headers
 pub mod Blocks
 pub mod Footers
+pub mod Frames
 pub mod Written

@@ -2,4 +2,5 @@ pub mod Record
 pub mod Batch
 pub mod Key
 pub mod Signatures
+pub mod Frames
 pub mod Written

@@ -3,3 +3,5 @@ pub mod Made
 pub mod Buffer
 pub mod Footers
 pub mod Written
+pub mod Items
+pub mod Encoded

@@ -109,7 +109,7 @@ impl LogBatch {
     }
 
     /// Adds an item that is no run of entries. A refusal changes nothing.
-    fn push_item(&mut self, item: LogItem) -> std::result::Result<(), AllocError>
+    pub(crate) fn push_item(&mut self, item: LogItem) -> std::result::Result<(), AllocError>
         requires filling { self.old.state ≡ Filling }
         requires plain { HasNoEntries item.content }
         ensures ok { OnOk result (self.new ≡ record self.old { items = self.old.items ++ item ∷ [] }) }

@@ -6,3 +6,5 @@ pub mod Blocks
 pub mod Footers
 pub mod Frames
 pub mod Written
+pub mod Items
+pub mod Encoded

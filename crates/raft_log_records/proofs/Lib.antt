@@ -3,3 +3,4 @@ pub mod Made
 pub mod Buffer
 pub mod Footers
 pub mod Written
+pub mod Messages

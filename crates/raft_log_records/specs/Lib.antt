@@ -3,3 +3,4 @@ pub mod Batch
 pub mod Key
 pub mod Signatures
 pub mod Written
+pub mod Message

@@ -8,3 +8,4 @@ pub mod Frames
 pub mod Written
 pub mod Items
 pub mod Encoded
+pub mod Messages

@@ -5,11 +5,13 @@ pub mod footer;
 pub mod header;
 pub mod laws;
 pub mod log_batch;
+pub mod message;
 mod record;
 
 pub use footer::decode_footer;
 pub use header::{LOG_BATCH_HEADER_LEN, decode_entries_block, decode_header};
 pub use log_batch::{BatchState, LogBatch};
+pub use message::{Message, MessageExt};
 pub use raft_log_items::{
     Bytes, Command, CompressionType, EntryIndex, EntryIndexes, Error, FileBlockHandle, FileId,
     FileSeq, KeyValue, LogFileContext, LogItem, LogItemContent, LogQueue, OpType, Result, Version,

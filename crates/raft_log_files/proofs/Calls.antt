@@ -1,14 +1,14 @@
 -- The exits of the calls of the file system in memory.
-use Rattle.std.specs.Prelude.{◌≡◌, ℕ, ◌⊎◌, true, false, Option, Some, None, List, Result, Ok, Err, suc}
-use Rattle.std.specs.Result.{IfOk, IfErr, OnOk, OnErr, MatchResult}
+use Rattle.std.specs.Prelude.{◌≡◌, ℕ, ◌⊎◌, false, Option, Some, None, List, Result, Ok, Err}
+use Rattle.std.specs.Result.{IfErr, OnOk, OnErr, MatchResult}
 use Rattle.std.specs.declared.io.ErrorKind.{ErrorKind}
-use Rattle.std.proofs.Common.{refl, sym, ◌∙◌, ap, subst, inl, inr}
+use Rattle.std.proofs.Common.{refl, sym, ◌∙◌, ap, inl, inr}
 use Rattle.std.proofs.lemmas.Bool.{false≢true}
 use Rattle.raft_log_disk.specs.Disk.{Piece, File, Disk, with_file, HasDirectory}
-use Rattle.raft_log_disk.specs.Calls.{after_piece, counted, at_stop, Changes, Refused, failed, stops, Nothing, SomeOf, none, RefusedPiece, RefusedWhole}
+use Rattle.raft_log_disk.specs.Calls.{after_piece, counted, at_stop, Changes, failed, stops, none, RefusedPiece, RefusedWhole}
 use Rattle.raft_log_disk.proofs.ImageLaws.{some_file}
 use Rattle.raft_log_files.specs.declared.handle.Handle.{Handle}
-use Rattle.raft_log_files.specs.declared.handle.Permission.TheVariants.{ReadOnly, ReadWrite}
+use Rattle.raft_log_files.specs.declared.handle.Permission.TheVariants.{ReadWrite}
 use Rattle.raft_log_files.specs.declared.memory.MemoryFileSystem.{MemoryFileSystem}
 use Rattle.raft_log_files.specs.declared.memory.storage.Storage.{Storage}
 use Rattle.raft_log_files.specs.Arguments.{WrongCreate, WrongName, WrongRename, WrongDirectory, WrongHandle, WrongWriter}

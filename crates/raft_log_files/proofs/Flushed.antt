@@ -1,12 +1,12 @@
 -- A sync that copies each touched place makes what is synced the content.
-use Rattle.std.specs.Prelude.{◌≡◌, ℕ, ◌+◌, ◌-◌, ◌<◌, ◌≤◌, List, ◌++◌, length, slice_index}
+use Rattle.std.specs.Prelude.{◌≡◌, ℕ, ◌+◌, ◌-◌, ◌<◌, List, ◌++◌, length, slice_index}
 use Rattle.std.specs.List.{All}
 use Rattle.std.proofs.Common.{refl, sym, ◌∙◌, ap, arith, inl, inr, take, drop, get_or}
 use Rattle.std.proofs.lemmas.List.{ext_get_or, get_or_append_left, get_or-append_right, get_or-take, get_or-drop, take_all, length-take}
 use Rattle.std.proofs.lemmas.Bool.{cases_lt}
 use Rattle.raft_log_disk.specs.Disk.{Piece}
 use Rattle.raft_log_disk.specs.Image.{Spares, IsLeft}
-use Rattle.raft_log_files.specs.Held.{Held, file_at}
+use Rattle.raft_log_files.specs.Held.{file_at}
 
 fitted : (content synced : List ℕ) (pieces : List Piece) (place : ℕ) → IsLeft (file_at pieces (record { content = content; synced = synced })) content → place < length content
     → All (Spares place) pieces → get_or (take (length content) synced ++ drop (length synced) content) place 0 ≡ get_or content place 0

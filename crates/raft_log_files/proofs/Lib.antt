@@ -3,6 +3,7 @@ pub mod Flushed
 pub mod StorageLaws
 pub mod Whole
 pub mod Calls
+pub mod Turns
 pub mod Paths
 pub mod Listings
 pub mod Remains

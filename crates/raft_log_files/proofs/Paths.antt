@@ -1,7 +1,7 @@
 -- A path's directory ends before its last slash.
 use Rattle.std.specs.Prelude.{◌≡◌, ℕ, ◌+◌, ◌-◌, ◌<◌, ◌≤◌, List, [], ◌∷◌, ◌++◌, length, suc}
-use Rattle.std.proofs.Common.{refl, sym, ◌∙◌, ap, subst, arith, inl, inr, take, drop, get_or}
-use Rattle.std.proofs.lemmas.List.{take-append-drop, drop_more, get_or-drop, get_or_append_left, get_or-append_right, length-append, length-drop, take_at}
+use Rattle.std.proofs.Common.{refl, sym, ◌∙◌, ap, arith, inl, inr, take, drop, get_or}
+use Rattle.std.proofs.lemmas.List.{take-append-drop, drop_more, get_or-drop, get_or-append_right, length-append, length-drop, take_at}
 use Rattle.std.proofs.lemmas.Bool.{cases_order}
 use Rattle.raft_log_disk.specs.Disk.{IsPathIn, IsPlain}
 

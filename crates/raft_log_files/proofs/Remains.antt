@@ -1,5 +1,5 @@
 -- What a remainder leaves is an image.
-use Rattle.std.specs.Prelude.{◌≡◌, ℕ, ◌+◌, ◌<◌, ◌≤◌, ◌⊎◌, Bool, true, false, cond, List, [], ◌∷◌, ◌++◌, Option, Some, None, length, suc, slice_get, vec_len}
+use Rattle.std.specs.Prelude.{◌≡◌, ℕ, ◌+◌, ◌<◌, ◌≤◌, Bool, true, false, cond, List, [], ◌∷◌, ◌++◌, Option, Some, None, length, suc, slice_get, vec_len}
 use Rattle.std.specs.List.{All, AllZip}
 use Rattle.std.specs.Map.{lookup}
 use Rattle.std.specs.BTreeMap.{is_at}
@@ -9,12 +9,12 @@ use Rattle.std.specs.String.{string_bytes}
 use Rattle.std.proofs.Common.{refl, sym, ◌∙◌, ap, subst, arith, inl, inr, take, nat_eq, nat_lt, String, Global}
 use Rattle.std.proofs.lemmas.List.{append_assoc, append-nil, length-take}
 use Rattle.std.proofs.lemmas.List.Elements.{All-nil}
-use Rattle.std.proofs.lemmas.Bool.{cases_Bool, cases_eq, eq-eqb}
+use Rattle.std.proofs.lemmas.Bool.{cases_eq, eq-eqb}
 use Rattle.raft_log_disk.specs.Disk.{Wrote, CutTo, GrewTo, File, overwritten, changed, at_rest, file_limit}
 use Rattle.raft_log_disk.specs.Disk as disk
 use Rattle.std.specs.Option.{option_map}
 use std.Path.{fun_ext}
-use Rattle.raft_log_disk.specs.Image.{Spares, end_of, IsLeft, IsFileImage, IsImage, IsSoundFile}
+use Rattle.raft_log_disk.specs.Image.{end_of, IsLeft, IsFileImage, IsImage}
 use Rattle.raft_log_disk.proofs.ImageLaws.{disk_ext}
 use Rattle.raft_log_disk.proofs.ChangeLaws.{MayBecome, part_may, changed_in_part, unchanged_in_part, left_changed}
 use Rattle.raft_log_files.specs.declared.remainder.Remainder.{Remainder}

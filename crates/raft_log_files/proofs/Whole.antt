@@ -1,5 +1,5 @@
 -- Each step of the storage keeps it whole.
-use Rattle.std.specs.Prelude.{◌≡◌, ℕ, ◌<◌, ◌≤◌, Bool, true, false, cond, not, Option, Some, None, List, [], ◌∷◌, ◌++◌, length, suc, vec_len}
+use Rattle.std.specs.Prelude.{◌≡◌, ℕ, false, cond, not, Option, Some, None, List, [], suc, vec_len}
 use Rattle.std.specs.List.{filter}
 use Rattle.std.specs.Option.{option_map}
 use Rattle.std.specs.Map.{update}
@@ -9,12 +9,11 @@ use Rattle.std.proofs.lemmas.Bool.{cases_eq, cases_Bool}
 use Rattle.std.proofs.lemmas.Slice.Eq.{bytes_eq-Decides}
 use Rattle.std.proofs.lemmas.Map.{update_same, update_other}
 use std.Path.{fun_ext}
-use Rattle.raft_log_disk.specs.Disk.{Piece, File, Disk, at_rest, changed, with_file, file_limit}
-use Rattle.raft_log_disk.specs.Image.{end_of, IsSound}
-use Rattle.raft_log_disk.specs.Calls.{after_piece, flushed, created, deleted, without, renamed, with_directory}
-use Rattle.raft_log_disk.proofs.ImageLaws.{disk_ext, some_file}
-use Rattle.raft_log_disk.proofs.SoundLaws.{sound_with_file, sound_after_piece, sound_flushed, sound_created, sound_deleted, sound_renamed, sound_with_directory}
-use Rattle.raft_log_disk.proofs.Updates.{name_case, file_case, name_here, name_apart, file_here, file_apart}
+use Rattle.raft_log_disk.specs.Disk.{File}
+use Rattle.raft_log_disk.specs.Image.{IsSound}
+use Rattle.raft_log_disk.specs.Calls.{created, deleted, without, renamed, with_directory}
+use Rattle.raft_log_disk.proofs.ImageLaws.{disk_ext}
+use Rattle.raft_log_disk.proofs.Updates.{file_case, name_apart, file_here, file_apart}
 use Rattle.raft_log_files.specs.declared.memory.journal.Unsynced.{Unsynced}
 use Rattle.raft_log_files.specs.declared.memory.storage.Storage.{Storage}
 use Rattle.raft_log_files.specs.declared.memory.storage.Node.{Node}

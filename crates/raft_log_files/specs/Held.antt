@@ -1,5 +1,5 @@
 -- The bytes that a file system in memory keeps of its files.
-use Rattle.std.specs.Prelude.{ℕ, List, [], Option, Some, None}
+use Rattle.std.specs.Prelude.{ℕ, List, [], Option, None}
 use Rattle.std.specs.Option.{option_map}
 use Rattle.std.proofs.Common.{get_or}
 use Rattle.raft_log_disk.specs.Disk.{Piece, File}

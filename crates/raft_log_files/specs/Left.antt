@@ -1,5 +1,5 @@
 -- What a crash leaves of changes that weren't synced, as a remainder says.
-use Rattle.std.specs.Prelude.{ℕ, Bool, cond, List, [], ◌∷◌, Option, Some, None, length, suc, slice_get}
+use Rattle.std.specs.Prelude.{ℕ, cond, List, [], ◌∷◌, Option, Some, None, length, suc, slice_get}
 use Rattle.std.proofs.Common.{take, nat_eq, nat_lt}
 use Rattle.raft_log_disk.specs.Disk.{Wrote, CutTo, GrewTo, overwritten, changed}
 use Rattle.raft_log_disk.specs.Disk as disk

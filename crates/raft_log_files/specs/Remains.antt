@@ -1,5 +1,4 @@
 -- The disk that a crash leaves, as a remainder says.
-use Rattle.std.specs.Prelude.{ℕ}
 use Rattle.std.specs.Option.{option_map}
 use Rattle.raft_log_disk.specs.Disk.{Disk, at_rest}
 use Rattle.raft_log_files.specs.declared.remainder.Remainder.{Remainder}

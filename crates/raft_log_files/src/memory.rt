@@ -37,10 +37,12 @@ impl MemoryFileSystem {
     ghost use Rattle.raft_log_files.specs.Remains.{left_disk};
     ghost use Rattle.raft_log_disk.specs.Disk.{empty_disk};
     ghost use Rattle.raft_log_files.specs.Memory.{disk_of};
+    ghost use Rattle.raft_log_files.specs.Turns.{armed, nothing_armed};
 
     /// A file system with no directory and no file.
     pub fn new(alloc: Global) -> MemoryFileSystem
-        ensures { disk_of result ≡ empty_disk }
+        ensures empty { disk_of result ≡ empty_disk }
+        ensures unarmed { armed result ≡ nothing_armed }
     {
         MemoryFileSystem {
             storage: Storage::new(alloc),
@@ -64,6 +66,7 @@ impl MemoryFileSystem {
     pub fn remainder(&self, what: &Remainder) -> Result<MemoryFileSystem, AllocError>
         ensures exact { IfOk result (λ after. disk_of after ≡ left_disk what.now self.now.storage) }
         ensures image { IfOk result (λ after. IsImage (disk_of self.now) (disk_of after)) }
+        ensures unarmed { IfOk result (λ after. armed after ≡ nothing_armed) }
     {
         let storage = self.storage.left(what)?;
         Ok(MemoryFileSystem {

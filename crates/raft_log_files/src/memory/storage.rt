@@ -31,7 +31,7 @@ pub(super) struct Storage {
 
 impl Storage {
     ghost use Rattle.std.specs.List.{filter};
-    ghost use Rattle.std.specs.Prelude.{not, nat_eq, ◌≡◌, ℕ, ◌+◌, ◌-◌, ◌++◌, min, take, drop, length, IsTrue, ◌↔◌, ◌<◌, List, OnOk, OnErr, IfOk, vec_len, is_some};
+    ghost use Rattle.std.specs.Prelude.{not, nat_eq, ◌≡◌, ℕ, ◌+◌, ◌-◌, ◌++◌, min, take, drop, length, IsTrue, ◌↔◌, ◌⊎◌, ◌<◌, ◌≤◌, List, OnOk, OnErr, IfOk, IfErr, vec_len, is_some};
     ghost use Rattle.raft_log_disk.specs.Disk.{Wrote, CutTo, GrewTo, File, with_file, file_limit, empty_disk, HasDirectory};
     ghost use Rattle.raft_log_disk.specs.Image.{end_of, IsImage};
     ghost use Rattle.raft_log_disk.specs.Calls.{after_piece, flushed, created, deleted, renamed, with_directory};
@@ -159,6 +159,7 @@ impl Storage {
         requires whole { IsWhole self.old }
         ensures ok { OnOk result ((file : File) → (contents_of self.old).files id ≡ Some file → contents_of self.new ≡ with_file id (Some (after_piece (Wrote offset bytes.now) file)) (contents_of self.old)) }
         ensures err { OnErr result (contents_of self.new ≡ contents_of self.old) }
+        ensures kind { IfErr result (λ error. (error ≡ ErrorKind.OutOfMemory) ⊎ ((error ≡ ErrorKind.StorageFull) × (file_limit ≤ end_of (Wrote offset bytes.now)))) }
         ensures whole { IsWhole self.new }
     {
         if LIMIT <= offset || LIMIT - offset <= bytes.len() {
@@ -177,6 +178,7 @@ impl Storage {
         requires whole { IsWhole self.old }
         ensures ok { OnOk result ((file : File) → (contents_of self.old).files id ≡ Some file → contents_of self.new ≡ with_file id (Some (after_piece (CutTo size) file)) (contents_of self.old)) }
         ensures err { OnErr result (contents_of self.new ≡ contents_of self.old) }
+        ensures kind { IfErr result (λ error. error ≡ ErrorKind.OutOfMemory) }
         ensures whole { IsWhole self.new }
     {
         self.change(id, Change::Cut { size })
@@ -189,6 +191,7 @@ impl Storage {
         requires whole { IsWhole self.old }
         ensures ok { OnOk result ((file : File) → (contents_of self.old).files id ≡ Some file → contents_of self.new ≡ with_file id (Some (after_piece (GrewTo (offset + size)) file)) (contents_of self.old)) }
         ensures err { OnErr result (contents_of self.new ≡ contents_of self.old) }
+        ensures kind { IfErr result (λ error. (error ≡ ErrorKind.OutOfMemory) ⊎ ((error ≡ ErrorKind.StorageFull) × (file_limit ≤ end_of (GrewTo (offset + size))))) }
         ensures whole { IsWhole self.new }
     {
         if LIMIT <= offset || LIMIT - offset <= size {

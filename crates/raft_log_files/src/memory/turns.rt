@@ -1,18 +1,22 @@
 // Which changing calls are refused, and at which one the file system stops.
+ghost use Rattle.std.specs.Prelude.{◌≡◌, ◌-◌, ◌↔◌, IsTrue};
+
 use super::MemoryFileSystem;
 use super::storage::Node;
-use crate::handle::{Handle, Permission};
+use crate::handle::{Fault, Handle, Permission};
 use std::io::ErrorKind;
 
 impl MemoryFileSystem {
-    ghost use Rattle.std.specs.Prelude.{◌≡◌, ◌⊎◌, true, false, None, OnOk, OnErr, IfErr, IsErr, IfOk};
-    ghost use Rattle.raft_log_disk.specs.Calls.{counted, at_stop};
+    ghost use Rattle.std.specs.Prelude.{◌≡◌, ◌⊎◌, ◌↔◌, true, false, None, OnOk, OnErr, IfErr, IsErr, IfOk, IsTrue};
+    ghost use Rattle.raft_log_disk.specs.Calls.{counted, at_stop, Nothing};
     ghost use Rattle.raft_log_files.specs.Arguments.{WrongHandle, WrongWriter, WrongListing};
     ghost use Rattle.raft_log_files.specs.Memory.{disk_of};
+    ghost use Rattle.raft_log_files.specs.Turns.{armed, armed_with, call_later, IsSpared, IsRefused, IsStopped};
 
     /// Lets the n-th changing call from now be refused; it changes nothing. 0 leaves what was armed.
     pub fn refuse_call(&mut self, n: u64)
-        ensures { disk_of self.new ≡ disk_of self.old }
+        ensures same { disk_of self.new ≡ disk_of self.old }
+        ensures armed { armed self.new ≡ armed_with (Fault.Refuse n) (armed self.old) }
     {
         if n != 0 {
             self.refuse = n;
@@ -22,7 +26,8 @@ impl MemoryFileSystem {
     /// Lets the file system stop at the n-th changing call from now: a write, a cut or an allocation there counts as not
     /// synced, any other call hasn't happened. 0 leaves what was armed.
     pub fn stop_at(&mut self, n: u64)
-        ensures { disk_of self.new ≡ disk_of self.old }
+        ensures same { disk_of self.new ≡ disk_of self.old }
+        ensures armed { armed self.new ≡ armed_with (Fault.StopAt n) (armed self.old) }
     {
         if n != 0 {
             self.stop = n;
@@ -32,8 +37,11 @@ impl MemoryFileSystem {
     // Lets a changing call begin, or refuses it; answers whether the file system stops at this call.
     pub(super) fn begin_change(&mut self) -> Result<bool, ErrorKind>
         ensures storage { self.new.storage ≡ self.old.storage }
+        ensures next { armed self.new ≡ call_later (armed self.old) }
         ensures ok { OnOk result (disk_of self.new ≡ disk_of self.old) }
-        ensures err { OnErr result ((disk_of self.new ≡ counted (disk_of self.old)) ⊎ (disk_of self.new ≡ at_stop (disk_of self.old))) }
+        ensures stops { IfOk result (λ stops. IsTrue stops ↔ ((armed self.old).stop ≡ 1)) }
+        ensures spared { IfOk result (λ stops. stops ≡ false → IsSpared (armed self.old)) }
+        ensures err { IfErr result (λ error. IsRefused error self.old self.new) }
     {
         let stops = falls(&mut self.stop);
         let refused = falls(&mut self.refuse);
@@ -46,8 +54,10 @@ impl MemoryFileSystem {
     // Lets a call begin that is done whole or not at all, or refuses it.
     pub(super) fn begin(&mut self) -> Result<(), ErrorKind>
         ensures storage { self.new.storage ≡ self.old.storage }
+        ensures next { armed self.new ≡ call_later (armed self.old) }
         ensures ok { OnOk result (disk_of self.new ≡ disk_of self.old) }
-        ensures err { OnErr result ((disk_of self.new ≡ counted (disk_of self.old)) ⊎ (disk_of self.new ≡ at_stop (disk_of self.old))) }
+        ensures spared { OnOk result (IsSpared (armed self.old)) }
+        ensures err { IfErr result (λ error. IsRefused error self.old self.new ⊎ IsStopped (Nothing (disk_of self.old)) self.old self.new) }
     {
         if self.begin_change()? {
             self.stopped = true;
@@ -65,6 +75,10 @@ impl MemoryFileSystem {
         ensures storage { self.new.storage ≡ self.old.storage }
         ensures ok { OnOk result (OnErr done ⊥ × (disk_of self.new ≡ disk_of self.old)) }
         ensures err { OnErr result ((disk_of self.new ≡ at_stop (disk_of self.old)) ⊎ (OnOk done ⊥ × (disk_of self.new ≡ counted (disk_of self.old)))) }
+        ensures same { armed self.new ≡ armed self.old }
+        ensures stopped { stops ≡ true → disk_of self.new ≡ at_stop (disk_of self.old) }
+        ensures answered { OnOk result (stops ≡ false) }
+        ensures refused { IfErr result (λ error. stops ≡ false → done ≡ Err error) }
     {
         if stops {
             self.stopped = true;
@@ -80,7 +94,8 @@ impl MemoryFileSystem {
     pub(super) fn fail(&mut self, kind: ErrorKind) -> ErrorKind
         ensures storage { self.new.storage ≡ self.old.storage }
         ensures failed { (disk_of self.new ≡ counted (disk_of self.old)) ⊎ (disk_of self.new ≡ at_stop (disk_of self.old)) }
-        ensures same { result ≡ kind }
+        ensures same { armed self.new ≡ armed self.old }
+        ensures kind { result ≡ kind }
     {
         if self.failures < u64::MAX - 1 {
             self.failures += 1;
@@ -138,7 +153,10 @@ impl MemoryFileSystem {
 }
 
 // Counts a call down, and says whether it is the one that was armed.
-fn falls(left: &mut u64) -> bool {
+fn falls(left: &mut u64) -> bool
+    ensures left { left.new ≡ left.old - 1 }
+    ensures falls { IsTrue result ↔ (left.old ≡ 1) }
+{
     if *left == 0 {
         return false;
     }

@@ -1,11 +1,11 @@
-use Rattle.std.proofs.Common.{rules, refl, ap, List, [], sym, ◌∙◌, subst, arith, inl, inr, ◌≡◌, ℕ, ◌<◌, ◌≤◌, ◌+◌, length, slice_index, drop, ◌∷◌, ◌⊎◌}
+use Rattle.std.proofs.Common.{ap, [], sym, ◌∙◌, subst, arith, inl, inr, ◌≡◌, ◌<◌, ◌≤◌, ◌+◌, slice_index, drop, ◌⊎◌}
 use Rattle.std.specs.List.{All}
 use Rattle.std.proofs.lemmas.List.{drop_all}
 use Rattle.std.proofs.lemmas.List.Elements.{All-nil, All-cons}
 use Rattle.std.proofs.lemmas.Bool.{cases_lt}
 use Rattle.std.specs.Prelude.{vec_len}
-use Rattle.raft_log_disk.specs.Disk.{Piece, file_limit}
-use Rattle.raft_log_disk.specs.Image.{Touches, Spares}
+use Rattle.raft_log_disk.specs.Disk.{file_limit}
+use Rattle.raft_log_disk.specs.Image.{Spares}
 use Rattle.raft_log_files.specs.Pieces.{piece_of, pieces_of}
 use Rattle.raft_log_files.proofs.Journal.{own_next, other_next}
 use Rattle.raft_log_files.proofs.memory.files.copy_touched.Goals as goal

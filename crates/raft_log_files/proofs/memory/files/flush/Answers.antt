@@ -1,4 +1,4 @@
-use Rattle.std.proofs.Common.{refl, sym, ap, subst, arith, ◌∙◌, ◌≡◌, ◌+◌, ◌<◌, ◌++◌, List, ℕ, length, take, drop, slice_index}
+use Rattle.std.proofs.Common.{sym, ap, subst, ◌∙◌, ◌≡◌, ◌<◌, ◌++◌, List, ℕ, length, take, drop, slice_index}
 use Rattle.std.specs.List.{All}
 use Rattle.raft_log_disk.specs.Image.{Spares}
 use Rattle.raft_log_files.specs.Pieces.{pieces_of}

@@ -1,7 +1,7 @@
-use Rattle.std.proofs.Common.{refl, sym, ◌∙◌, ap, subst, arith, ◌≡◌, ◌+◌, ◌<◌, ℕ, List, ◌∷◌, drop}
+use Rattle.std.proofs.Common.{sym, ◌∙◌, ap, subst, ◌+◌, ◌<◌, List, drop}
 use Rattle.std.specs.List.{All}
 use Rattle.std.proofs.lemmas.List.Elements.{All-head, All-tail}
-use Rattle.raft_log_disk.specs.Disk.{Piece, file_limit}
+use Rattle.raft_log_disk.specs.Disk.{file_limit}
 use Rattle.raft_log_disk.specs.Image.{end_of}
 use Rattle.raft_log_files.specs.declared.memory.journal.Unsynced.{Unsynced}
 use Rattle.raft_log_files.specs.Pieces.{piece_of, pieces_of}

@@ -1,4 +1,4 @@
-use Rattle.std.proofs.Common.{rules, refl, sym, ap, subst, ◌∙◌, ◌≡◌, ◌+◌, ◌++◌, ◌∷◌, ℕ, List, Some, None, take, drop, lit<}
+use Rattle.std.proofs.Common.{rules, sym, ap, subst, ◌∙◌, ◌≡◌, ◌+◌, ◌++◌, ◌∷◌, ℕ, List, Some, None, take, drop, lit<}
 use Rattle.std.proofs.lemmas.Str.Pattern.{rfind_char}
 use Rattle.raft_log_disk.specs.Disk.{IsPathIn}
 use Rattle.raft_log_files.specs.declared.memory.storage.Node.{Node}

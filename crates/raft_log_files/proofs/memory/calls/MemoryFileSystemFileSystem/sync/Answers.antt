@@ -1,12 +1,11 @@
-use Rattle.std.proofs.Common.{rules, refl, sym, ap, subst, inl, ◌≡◌, ◌∙◌, Some, None, false, true}
-use Rattle.raft_log_disk.specs.Disk.{Disk, HasDirectory, with_file}
+use Rattle.std.proofs.Common.{refl, ap, ◌∙◌, Some}
+use Rattle.raft_log_disk.specs.Disk.{Disk, with_file}
 use Rattle.raft_log_disk.specs.Calls.{Changes, RefusedWhole, flushed}
 use Rattle.raft_log_files.specs.Arguments.{WrongHandle}
-use Rattle.raft_log_files.specs.Storage.{contents_of, node_at, file_named, is_directory}
+use Rattle.raft_log_files.specs.Storage.{contents_of}
 use Rattle.raft_log_files.specs.Memory.{disk_of}
-use Rattle.raft_log_files.specs.declared.memory.storage.Node.TheVariants as node
+use Rattle.raft_log_files.proofs.Turns.{fallen}
 use Rattle.raft_log_files.proofs.Calls.{any_err, over, refused_whole, right_handle}
-use Rattle.raft_log_files.proofs.Whole.{not_directory}
 use Rattle.raft_log_disk.proofs.ImageLaws.{some_file}
 use Rattle.raft_log_files.proofs.memory.calls.MemoryFileSystemFileSystem.sync.Goals as goal
 
@@ -14,7 +13,7 @@ pub returns-in_err-begin-clause-err : goal.returns-in_err-begin-clause-err
 returns-in_err-begin-clause-err c =
     let old = disk_of c.args.self.now in
     any_err c.from_residual-in_err-begin.result (λ e. RefusedWhole (Changes c.args.handle.file flushed old) (WrongHandle c.args.handle old e) old (disk_of c.begin.new.self))
-    (λ e. refused_whole old old (disk_of c.begin.new.self) c.in_ok-check_handle.ensures.ok.0 (right_handle c.args.handle old c.in_ok-check_handle.ensures.ok.1 e) refl c.in_err-begin.ensures.err)
+    (λ e. refused_whole old old (disk_of c.begin.new.self) c.in_ok-check_handle.ensures.ok.0 (right_handle c.args.handle old c.in_ok-check_handle.ensures.ok.1 e) refl (fallen c.in_err-begin.ensures.err))
 
 pub returns-in-Err-clause-err : goal.returns-in-Err-clause-err
 returns-in-Err-clause-err c =

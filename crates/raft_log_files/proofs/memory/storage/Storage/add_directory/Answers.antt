@@ -1,10 +1,9 @@
-use Rattle.std.proofs.Common.{refl, ap, sym, subst, ◌≡◌, ℕ}
+use Rattle.std.proofs.Common.{ap, sym, subst, ◌≡◌, ℕ}
 use Rattle.std.specs.Prelude.{vec_len}
 use Rattle.raft_log_disk.specs.Image.{IsSound}
 use Rattle.raft_log_disk.specs.Calls.{with_directory}
 use Rattle.raft_log_disk.proofs.SoundLaws.{sound_with_directory}
 use Rattle.raft_log_files.specs.Held.{held_of}
-use Rattle.raft_log_files.specs.Pieces.{pieces_of}
 use Rattle.raft_log_files.specs.Storage.{contents_of, file_named}
 use Rattle.raft_log_files.proofs.Whole.{whole_same, whole_kept, contents_with_directory}
 use Rattle.raft_log_files.proofs.memory.storage.Storage.add_directory.Goals as goal

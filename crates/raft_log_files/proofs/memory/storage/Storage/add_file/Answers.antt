@@ -1,4 +1,4 @@
-use Rattle.std.proofs.Common.{refl, rules, ap, sym, subst, arith, ◌≡◌, ◌∙◌, ◌+◌, ℕ, List, Option, Some, ◌++◌, ◌∷◌, [], nat_eq, length}
+use Rattle.std.proofs.Common.{refl, rules, ap, sym, subst, arith, ◌≡◌, ◌∙◌, ◌+◌, ℕ, List, Option, Some, ◌++◌, ◌∷◌, [], nat_eq}
 use Rattle.std.specs.Prelude.{vec_len, suc}
 use Rattle.std.specs.Map.{update}
 use Rattle.raft_log_disk.specs.Image.{IsSound}

@@ -1,16 +1,16 @@
-use Rattle.std.proofs.Common.{rules, refl, ap, sym, subst, ◌≡◌, ◌∙◌, ℕ, List, Some, ◌++◌, ◌∷◌, []}
+use Rattle.std.proofs.Common.{rules, refl, ap, sym, subst, ◌≡◌, ◌∙◌, List, Some, ◌++◌, ◌∷◌, []}
 use Rattle.std.specs.Option.{option_map}
 use std.Path.{fun_ext}
-use Rattle.raft_log_disk.specs.Disk.{Piece, changed, with_file}
+use Rattle.raft_log_disk.specs.Disk.{Piece, changed}
 use Rattle.raft_log_disk.specs.Calls.{after_piece}
 use Rattle.raft_log_disk.proofs.ImageLaws.{disk_ext}
 use Rattle.raft_log_files.specs.Pieces.{piece_of, pieces_of}
-use Rattle.raft_log_files.specs.Held.{Held, held_of, with_content, file_at}
+use Rattle.raft_log_files.specs.Held.{held_of, with_content, file_at}
 use Rattle.raft_log_files.specs.Storage.{contents_of}
 use Rattle.raft_log_files.specs.declared.memory.journal.Unsynced.{Unsynced}
 use Rattle.raft_log_files.proofs.Journal.{own_last, other_last}
 use Rattle.raft_log_disk.specs.Image.{IsSound}
-use Rattle.raft_log_disk.proofs.SoundLaws.{sound_with_file, sound_after_piece, sound_flushed}
+use Rattle.raft_log_disk.proofs.SoundLaws.{sound_with_file, sound_after_piece}
 use Rattle.raft_log_files.proofs.StorageLaws.{stepped}
 use Rattle.raft_log_files.proofs.Whole.{whole_same, whole_stepped, some_file_held}
 use Rattle.raft_log_files.proofs.memory.storage.Storage.change.Goals as goal

@@ -1,9 +1,6 @@
-use Rattle.std.proofs.Common.{refl, ap, sym, subst, rules, ◌≡◌, ◌∙◌, ℕ, List, Some, ◌++◌, ◌∷◌, [], nat_eq}
-use Rattle.std.specs.Prelude.{not}
-use Rattle.std.specs.List.{filter}
+use Rattle.std.proofs.Common.{refl, ap, sym, subst, ◌≡◌, ◌∙◌, List, Some}
 use Rattle.std.specs.Option.{option_map}
 use std.Path.{fun_ext}
-use Rattle.std.proofs.lemmas.List.Elements.{filter_from_retain}
 use Rattle.raft_log_disk.specs.Disk.{Piece}
 use Rattle.raft_log_disk.specs.Calls.{flushed}
 use Rattle.raft_log_disk.specs.Image.{IsLeft}
@@ -14,7 +11,7 @@ use Rattle.raft_log_files.specs.Held.{held_of, all_synced, file_at}
 use Rattle.raft_log_files.specs.declared.memory.journal.Unsynced.{Unsynced}
 use Rattle.raft_log_files.proofs.Journal.{own_dropped, others_kept}
 use Rattle.raft_log_disk.specs.Image.{IsSound}
-use Rattle.raft_log_disk.proofs.SoundLaws.{sound_with_file, sound_after_piece, sound_flushed}
+use Rattle.raft_log_disk.proofs.SoundLaws.{sound_with_file, sound_flushed}
 use Rattle.raft_log_files.proofs.StorageLaws.{stepped}
 use Rattle.raft_log_files.proofs.Whole.{whole_same, whole_stepped, some_file_held}
 use Rattle.raft_log_files.proofs.memory.storage.Storage.flush.Goals as goal

@@ -1,4 +1,4 @@
-use Rattle.std.proofs.Common.{rules, refl, sym, ◌∙◌, ap, subst, ◌≡◌, ℕ, List, Some, None, take, true, lit<}
+use Rattle.std.proofs.Common.{rules, sym, ◌∙◌, ap, ◌≡◌, ℕ, List, Some, None, take, lit<}
 use Rattle.std.proofs.lemmas.Str.Pattern.{rfind_char}
 use Rattle.raft_log_files.specs.Storage.{is_directory, node_at}
 use Rattle.raft_log_files.proofs.Paths.{own_path, same_directory, no_path}

@@ -1,9 +1,8 @@
-use Rattle.std.proofs.Common.{refl, sym, ap, subst, ◌∙◌, ◌≡◌, ◌<◌, ℕ, List, Option, []}
+use Rattle.std.proofs.Common.{sym, ap, subst, ◌∙◌, ◌≡◌, ◌<◌, ℕ, List, Option}
 use Rattle.std.specs.List.{All}
-use Rattle.std.specs.Prelude.{vec_len}
 use Rattle.std.specs.Option.{option_map}
 use Rattle.raft_log_disk.specs.Disk.{file_limit}
-use Rattle.raft_log_disk.specs.Image.{end_of, IsSound, IsImage}
+use Rattle.raft_log_disk.specs.Image.{end_of, IsImage}
 use Rattle.raft_log_disk.proofs.ImageLaws.{image_is_sound}
 use Rattle.raft_log_files.specs.declared.memory.files.Stored.{Stored}
 use Rattle.raft_log_files.specs.declared.memory.journal.Unsynced.{Unsynced}
@@ -11,8 +10,7 @@ use Rattle.raft_log_files.specs.declared.memory.storage.Storage.{Storage}
 use Rattle.raft_log_files.specs.Held.{held_of}
 use Rattle.raft_log_files.specs.Left.{left_held}
 use Rattle.raft_log_files.specs.Pieces.{pieces_of}
-use Rattle.raft_log_files.specs.Storage.{contents_of, node_at}
-use Rattle.raft_log_files.specs.Remains.{left_disk}
+use Rattle.raft_log_files.specs.Storage.{contents_of}
 use Rattle.raft_log_files.proofs.Remains.{cloned, ends_short, contents_left, left_is_image}
 use Rattle.raft_log_files.proofs.memory.storage.Storage.left.Goals as goal
 

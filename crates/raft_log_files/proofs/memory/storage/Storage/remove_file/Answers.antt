@@ -1,12 +1,11 @@
-use Rattle.std.proofs.Common.{refl, ap, sym, subst, ◌≡◌, ◌∙◌, ℕ, List, None, nat_eq}
+use Rattle.std.proofs.Common.{ap, sym, subst, ◌≡◌, ◌∙◌, ℕ, None, nat_eq}
 use Rattle.std.specs.Prelude.{vec_len, not}
 use Rattle.std.specs.List.{filter}
-use Rattle.std.specs.Str.{bytes_eq}
 use Rattle.std.specs.Map.{update}
 use Rattle.raft_log_disk.specs.Image.{IsSound}
 use Rattle.raft_log_disk.proofs.SoundLaws.{sound_deleted}
 use Rattle.raft_log_files.specs.Held.{held_of}
-use Rattle.raft_log_files.specs.Storage.{contents_of, file_named, node_at}
+use Rattle.raft_log_files.specs.Storage.{contents_of, file_named}
 use Rattle.raft_log_files.proofs.Whole.{whole_dropped, contents_deleted}
 use Rattle.raft_log_files.proofs.memory.storage.Storage.remove_file.Goals as goal
 

@@ -1,4 +1,4 @@
-use Rattle.std.proofs.Common.{rules, refl, ap, sym, subst, ◌≡◌, ◌∙◌, ℕ, List, Option, Some, None, nat_eq}
+use Rattle.std.proofs.Common.{rules, ap, sym, subst, ◌≡◌, ◌∙◌, ℕ, List, Option, Some, None, nat_eq}
 use std.Path.{fun_ext}
 use Rattle.std.specs.Prelude.{vec_len, not}
 use Rattle.std.specs.List.{filter}
@@ -9,7 +9,7 @@ use Rattle.raft_log_disk.proofs.SoundLaws.{sound_renamed}
 use Rattle.raft_log_files.specs.declared.memory.storage.Node.{Node}
 use Rattle.raft_log_files.specs.declared.memory.storage.Node.TheVariants as node
 use Rattle.raft_log_files.specs.Held.{held_of}
-use Rattle.raft_log_files.specs.Storage.{contents_of, file_named, is_directory, node_at}
+use Rattle.raft_log_files.specs.Storage.{contents_of, file_named, node_at}
 use Rattle.raft_log_files.proofs.Whole.{whole_same, whole_kept, whole_dropped, contents_moved, contents_moved_over, named_file, not_directory}
 use Rattle.raft_log_files.proofs.memory.storage.Storage.rename_file.Goals as goal
 

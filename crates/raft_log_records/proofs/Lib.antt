@@ -3,5 +3,6 @@ pub mod Made
 pub mod Buffer
 pub mod Footers
 pub mod Written
+pub mod Entries
 pub mod Items
 pub mod Encoded

@@ -4,3 +4,4 @@ pub mod Buffer
 pub mod Footers
 pub mod Written
 pub mod Messages
+pub mod ItemBatches

@@ -4,3 +4,4 @@ pub mod Key
 pub mod Signatures
 pub mod Written
 pub mod Message
+pub mod ItemBatch

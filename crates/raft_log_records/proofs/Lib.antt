@@ -5,3 +5,5 @@ pub mod Footers
 pub mod Written
 pub mod Messages
 pub mod ItemBatches
+pub mod Items
+pub mod Encoded

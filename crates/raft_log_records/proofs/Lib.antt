@@ -6,3 +6,5 @@ pub mod Written
 pub mod Entries
 pub mod Items
 pub mod Encoded
+pub mod Messages
+pub mod ItemBatches

@@ -4,3 +4,5 @@ pub mod Entries
 pub mod Key
 pub mod Signatures
 pub mod Written
+pub mod Message
+pub mod ItemBatch

@@ -9,3 +9,8 @@ pub mod Written
 pub mod Items
 pub mod Encoded
 pub mod Messages
+pub mod Entries
+pub mod Items
+pub mod Encoded
+pub mod Messages
+pub mod ItemBatches

@@ -8,6 +8,11 @@ use raft_log_items::{Bytes, Command, Error, LogFileContext, LogItem, OpType, Res
 use std::alloc::{AllocError, Global};
 use std::marker::Model;
 
+mod entries;
+
+/// The most bytes that the entries of a batch may have.
+const MAX_ENTRIES_LEN: usize = 2_147_483_647;
+
 /// How far a batch is on its way to a file.
 #[derive(Clone, Copy, Debug, PartialEq, Eq)]
 pub enum BatchState {

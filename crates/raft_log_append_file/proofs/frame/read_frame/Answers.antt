@@ -6,7 +6,7 @@ use Rattle.std.proofs.lemmas.Bool.Decides.{Decides-eqb}
 use Rattle.std.specs.Int.{w32, from_be_bytes}
 use Rattle.md5.specs.Md5.{md5}
 use Rattle.raft_log_append_file.proofs.Frames.{frame_found, frame_there}
-use Rattle.raft_log_append_file.proofs.frame.frame_len.Goals as goal
+use Rattle.raft_log_append_file.proofs.frame.read_frame.Goals as goal
 
 pub returns-then-starts_with : goal.returns-then-starts_with
 returns-then-starts_with c =
@@ -22,9 +22,8 @@ returns-then-starts_with c =
     let md : c.digest-digest.result ≡ md5 content = c.digest-digest.ensures in
     let starts = starts_is Decides-eqb rest c.digest-digest.result c.starts_with.result c.starts_with.ensures.value in
     let digest : rest ≡ md5 content ++ drop (length (md5 content)) rest = subst (λ (m : List ℕ). rest ≡ m ++ drop (length m) rest) md (starts.0 c.if-starts_with.true) in
-    let found = frame_found all tail content rest (omega (arith, c.in_ok-head.ensures.cases.2)) (λ i. search (rules, c.type_inv.bytes i)) (search rules) behind size splits digest in
-    let long : length c.digest-digest.result ≡ 16 = search rules in
-    (found.0, found.1, found.2, found.3, omega (arith, found.4, ap length md))
+    let sixteen : length (md5 content) ≡ 16 = (let long : length c.digest-digest.result ≡ 16 = search rules in sym (ap length md) ∙ long) in
+    frame_found all tail content rest (omega (arith, c.in_ok-head.ensures.cases.2)) (λ i. search (rules, c.type_inv.bytes i)) (search rules) behind size splits digest sixteen
 
 pub returns-else-starts_with : goal.returns-else-starts_with
 returns-else-starts_with c = λ w after is e.

@@ -7,3 +7,4 @@ pub mod Messages
 pub mod ItemBatches
 pub mod Items
 pub mod Encoded
+pub mod ItemPlaces

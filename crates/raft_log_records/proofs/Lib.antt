@@ -14,3 +14,4 @@ pub mod Items
 pub mod Encoded
 pub mod Messages
 pub mod ItemBatches
+pub mod ItemPlaces

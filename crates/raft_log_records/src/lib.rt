@@ -7,6 +7,7 @@ pub mod laws;
 pub mod log_batch;
 pub mod log_item_batch;
 pub mod message;
+mod places;
 mod record;
 
 pub use footer::decode_footer;

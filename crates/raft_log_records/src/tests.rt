@@ -2,8 +2,12 @@
 use raft_log_items::{FileId, LogFileContext, LogQueue, Version};
 
 mod batches;
-mod damage;
+mod damaged_blocks;
+mod damaged_footers;
+mod damaged_headers;
+mod damaged_items;
 mod reading;
+mod whole_records;
 
 mod messages;
 
@@ -19,4 +23,12 @@ const CLEAN_SIGNED: [u8; 24] = [
 
 fn context(version: Version, number: u64) -> LogFileContext {
     LogFileContext::new(FileId::new(LogQueue::Append, number), version)
+}
+
+/// Bytes that a decoder refuses, and the text of the refusal.
+#[derive(Clone, Copy)]
+struct Damaged {
+    name: &'static str,
+    bytes: &'static [u8],
+    refusal: &'static str,
 }

@@ -10,8 +10,5 @@ pub mod Items
 pub mod Encoded
 pub mod Messages
 pub mod Entries
-pub mod Items
-pub mod Encoded
-pub mod Messages
 pub mod ItemBatches
 pub mod ItemPlaces

@@ -1,7 +1,7 @@
 //! The bytes of a record, made in the buffer that holds the entries' bytes behind room for a header.
 ghost use Rattle.std.specs.Prelude.{◌≡◌, ◌+◌, ◌-◌, ◌*◌, ◌≤◌, ◌<◌, ◌^◌, ◌++◌, length, take, drop, map, None, OnOk, OnErr, IfOk, IfErr};
 ghost use Rattle.raft_log_codec.specs.Number.{u32_le_bytes};
-ghost use Rattle.raft_log_codec.specs.Checksum.{crc32_of};
+ghost use Rattle.raft_log_checksum.specs.Checksum.{crc32_of};
 ghost use Rattle.raft_log_items.specs.Items.{AreItems};
 ghost use Rattle.raft_log_items.specs.Writing.{KeepsFront, items_bytes, plain_item};
 ghost use Rattle.raft_log_records.specs.Record.{header_bytes, block_bytes, footer_bytes, record_len};

@@ -1,6 +1,6 @@
 -- A batch as callers see it: what was added, and how far it is on its way to a file.
 use Rattle.std.specs.Prelude.{IsTrue, ◌==◌, ◌&&◌, ◌≡◌, ◌⊎◌, ℕ, ◌+◌, ◌≤◌, ◌<◌, ◌^◌, List, [], ◌∷◌, ◌++◌, length, take, drop, map, Option, Some, None, unwrap_or, Bool, true, false}
-use Rattle.raft_log_codec.specs.Checksum.{crc32_of}
+use Rattle.raft_log_checksum.specs.Checksum.{crc32_of}
 use Rattle.raft_log_items.specs.declared.item.LogItem.{LogItem}
 use Rattle.raft_log_items.specs.declared.errors.Error.{Error}
 use Rattle.raft_log_items.specs.declared.errors.Error.TheVariants as errors

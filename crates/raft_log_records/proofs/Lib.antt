@@ -1,10 +1,14 @@
 pub mod Words
 pub mod Made
 pub mod Buffer
+pub mod Headers
+pub mod Blocks
 pub mod Footers
+pub mod Frames
 pub mod Written
+pub mod Messages
+pub mod ItemBatches
 pub mod Entries
 pub mod Items
 pub mod Encoded
-pub mod Messages
-pub mod ItemBatches
+pub mod ItemPlaces

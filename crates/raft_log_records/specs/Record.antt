@@ -1,5 +1,5 @@
 -- Whole records: a header, the entry block, and the footer with the items. A record is signed with the number of its file.
-use Rattle.std.specs.Prelude.{◌≡◌, ◌⊎◌, ℕ, ◌+◌, ◌-◌, ◌*◌, ◌/◌, ◌%◌, ◌<◌, ◌^◌, List, [], ◌∷◌, ◌++◌, length, take, drop, Option, Result, Ok, Err, unwrap_or, nat_lt, ◌==◌, if◌then◌else◌, codes, bit_xor, Bool, ◌&&◌}
+use Rattle.std.specs.Prelude.{◌≡◌, ◌⊎◌, ℕ, ◌+◌, ◌-◌, ◌*◌, ◌/◌, ◌%◌, ◌<◌, ◌≤◌, ◌^◌, List, [], ◌∷◌, ◌++◌, length, take, drop, Option, Result, Ok, Err, unwrap_or, nat_lt, ◌==◌, if◌then◌else◌, codes, bit_xor, Bool, ◌&&◌}
 use Rattle.std.specs.Fmt.{decimal}
 use Rattle.std.specs.Int.{w32, w64, from_be_bytes, from_le_bytes}
 use Rattle.raft_log_codec.specs.Grammar.{Reader, ◌>>=◌}
@@ -49,6 +49,14 @@ pub record IsHeader (bytes : List ℕ) (len offset : ℕ) : Type 0 where
   pub joined : bytes ≡ first ++ second
   pub length_spelled : IsU64 first (256 * len)
   pub offset_spelled : IsU64 second offset
+
+-- a header that is read: its footer begins behind it, and not past the record's end. It says where the footer begins,
+-- how the block is compressed, which is not at all, and the record's length.
+pub record IsSoundHeader (bytes : List ℕ) (header : ℕ × CompressionType × ℕ) : Type 0 where
+  pub spelled : IsHeader bytes header.2 header.0
+  pub plain : header.1 ≡ kinds.None
+  pub behind : 16 ≤ header.0
+  pub inside : header.0 ≤ header.2
 
 -- ---- records: a frame is the header and the footer with a block of the right length between them
 

@@ -1,15 +1,16 @@
 //! Log records: items and entries in signed batches.
 #![tactic(auto)]
 
-pub mod batch;
+pub mod footer;
 pub mod header;
 pub mod laws;
 pub mod log_batch;
 pub mod log_item_batch;
 pub mod message;
+mod places;
 mod record;
 
-pub use batch::decode_footer;
+pub use footer::decode_footer;
 pub use header::{LOG_BATCH_HEADER_LEN, decode_entries_block, decode_header};
 pub use log_batch::{BatchState, LogBatch};
 pub use log_item_batch::LogItemBatch;

@@ -1,4 +1,4 @@
-use Rattle.std.proofs.Common.{ℕ, ◌%◌, ◌^◌, Option, Some, ap, subst}
+use Rattle.std.proofs.Common.{ℕ, ◌%◌, ◌^◌, Some, subst}
 use Rattle.raft_log_records.specs.Record.{IsFooter}
 use Rattle.raft_log_records.proofs.Footers.{one_signature}
 use Rattle.raft_log_records.proofs.laws.signature_separates_files.Goals as goal

@@ -1,7 +1,6 @@
-//! Lists of items: what a footer holds.
-ghost use Rattle.std.specs.Prelude.{◌≡◌, ◌+◌, ◌-◌, ◌<◌, ◌^◌, ◌==◌, if◌then◌else◌, List, MatchResult, min};
-ghost use Rattle.raft_log_items.specs.Fault.{Gives, Answers};
-ghost use Rattle.raft_log_items.specs.Placed.{run_len, entries_len, laid_out, written};
+//! The footer of a record: its items, and their signed checksum.
+ghost use Rattle.std.specs.Prelude.{◌≡◌, ◌+◌, ◌-◌, ◌<◌, ◌^◌, ◌==◌, if◌then◌else◌, List, IfOk, MatchResult, min};
+ghost use Rattle.raft_log_items.specs.Placed.{run_len, entries_len};
 ghost use Rattle.raft_log_records.specs.Record.{GivesItems, whole_items, items_of, footer_of, IsFooter, AddsUp};
 ghost use Rattle.raft_log_items.specs.declared.errors.Error.TheVariants as errors;
 ghost use Rattle.raft_log_items.specs.declared.item.LogItem.{LogItem};
@@ -9,7 +8,7 @@ ghost use Rattle.raft_log_items.specs.declared.item.LogItem.{LogItem};
 use crate::header::LOG_BATCH_CHECKSUM_LEN;
 use raft_log_codec::{codec, crc32};
 use raft_log_items::decode::decode_items;
-use raft_log_items::{EntryIndex, Error, FileBlockHandle, LogItem, LogItemContent, Result};
+use raft_log_items::{EntryIndex, Error, LogItem, LogItemContent, Result};
 use std::alloc::Global;
 
 /// How many bytes these entries have, or 2^64 - 1 where they have more.
@@ -112,6 +111,7 @@ pub fn decode_footer(
     block_len: usize,
     signature: Option<u32>,
 ) -> Result<Vec<LogItem>>
+    ensures found { IfOk result (λ items. IsFooter signature bytes.now items.items × AddsUp items.items block_len) }
     ensures only { (items : List LogItem) → IsFooter signature bytes.now items → AddsUp items block_len → MatchResult result (λ found. found.items ≡ items) (λ e. e ≡ errors.Memory) }
     ensures exact { GivesItems result (footer_of signature block_len bytes.now) }
 {

@@ -9,6 +9,7 @@ use std::alloc::{AllocError, Global};
 use std::marker::Model;
 
 mod entries;
+mod messages;
 
 /// The most bytes that the entries of a batch may have.
 const MAX_ENTRIES_LEN: usize = 2_147_483_647;

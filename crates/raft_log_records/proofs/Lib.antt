@@ -3,3 +3,8 @@ pub mod Made
 pub mod Buffer
 pub mod Footers
 pub mod Written
+pub mod Entries
+pub mod Items
+pub mod Encoded
+pub mod Messages
+pub mod ItemBatches

@@ -11,9 +11,4 @@ pub mod Encoded
 pub mod Messages
 pub mod Entries
 pub mod ItemBatches
-pub mod Messages
-pub mod ItemBatches
-pub mod Entries
-pub mod Items
-pub mod Encoded
 pub mod ItemPlaces

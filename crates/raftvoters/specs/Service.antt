@@ -1,5 +1,5 @@
 -- What a service of rounds answers.
-use Rattle.std.specs.Prelude.{◌≡◌, ℕ, ◌+◌, ◌≤◌, IsTrue, Bool, true, false, if◌then◌else◌, List, [], ◌∷◌, length}
+use Rattle.std.specs.Prelude.{◌≡◌, ℕ, ◌+◌, ◌≤◌, IsTrue, Bool, true, false, if◌then◌else◌, List, [], ◌∷◌, length, take}
 use Rattle.raft_voter.specs.declared.reply.Reply.{Reply}
 use Rattle.raft_voter.specs.declared.reply.Reply.TheVariants.{Refused}
 use Rattle.raft_voter.specs.declared.request.Request.{Request}
@@ -21,3 +21,9 @@ pub record Answers (W : World) (requests : List (ℕ × Request)) (replies : Lis
   pub rising : IsTrue (are_rising 0 (length requests) (refused_from 0 replies))
   pub told : replies ≡ replies_from 0 (refused_from 0 replies) W requests
   pub taken : X ≡ after W (taken_from 0 (length requests) (refused_from 0 replies) requests)
+
+-- a round isn't answered: some of its first requests were taken, perhaps none, and no others
+pub record Stopped (W : World) (requests : List (ℕ × Request)) (X : World) : Type 0 where
+  pub count : ℕ
+  pub few : count ≤ length requests
+  pub taken : X ≡ after W (take count requests)

@@ -5,7 +5,7 @@ ghost use Rattle.raftvoters.specs.Content.{whole};
 ghost use Rattle.raft_voter.specs.Rules.{reply};
 ghost use Rattle.raftvoters.specs.Damage.{HoldsNothing, TellsDamage};
 ghost use Rattle.raftvoters.specs.Records.{Holds, may_change, record_bytes, world_in};
-ghost use Rattle.raftvoters.specs.Service.{Answers, Stopped};
+ghost use Rattle.raftvoters.specs.Service.{Answers, out_of_range, refused_from, Stopped};
 ghost use Rattle.raftvoters.specs.Store.{IsRefused, IsStopped, IsStored, Takes, TakesAll, world_of};
 
 use crate::file::PlainFile;
@@ -87,6 +87,7 @@ impl RoundService for PlainStore {
     fn serve(&mut self, requests: &[(u64, Request)]) -> Result<Items<Reply>, RoundFault>
         ensures answered { IfOk result (λ replies. Answers (world_of self.old) requests.now replies (world_of self.new)) }
         ensures stopped { OnErr result (Stopped (world_of self.old) requests.now (world_of self.new)) }
+        ensures refused { IfOk result (λ replies. refused_from 0 replies ≡ out_of_range 0 requests.now) }
         ensures too_long { (result ≡ Err RoundFault.TooLong) ↔ (4096 < length requests.now) }
         ensures kept { result ≡ Err RoundFault.TooLong → world_of self.new ≡ world_of self.old }
         ensures stored { OnOk result (IsStored self.old → IsStored self.new) }

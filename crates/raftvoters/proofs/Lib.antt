@@ -4,4 +4,5 @@ pub mod Ranges
 pub mod Records
 pub mod Refusals
 pub mod Steps
+pub mod Stops
 pub mod Worlds

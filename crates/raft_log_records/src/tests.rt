@@ -1,11 +1,12 @@
 //! The worked bytes of the format, and refusals with their texts.
 use raft_log_items::{FileId, LogFileContext, LogQueue, Version};
+use std::alloc::Global;
+use std::test::Fail;
 
 mod batches;
 mod damaged_blocks;
 mod damaged_footers;
 mod damaged_headers;
-mod damaged_items;
 mod reading;
 mod whole_records;
 
@@ -23,10 +24,19 @@ fn context(version: Version, number: u64) -> LogFileContext {
     LogFileContext::new(FileId::new(LogQueue::Append, number), version)
 }
 
-/// Bytes that a decoder refuses, and the text of the refusal.
-#[derive(Clone, Copy)]
-struct Damaged {
-    name: &'static str,
-    bytes: &'static [u8],
-    refusal: &'static str,
+/// The text before the first bar of a line, and the text behind it.
+fn cell(line: &str) -> (&str, &str) {
+    match line.split_once('|') {
+        Some((front, behind)) => (front.trim(), behind.trim()),
+        None => (line.trim(), ""),
+    }
+}
+
+/// The bytes that are written as numbers of two hexadecimal digits.
+fn bytes_of(alloc: Global, text: &str) -> Result<Vec<u8>, Fail> {
+    let mut bytes = Vec::new(alloc);
+    for digits in text.split_whitespace() {
+        bytes.push(u8::from_str_radix(digits, 16)?)?;
+    }
+    Ok(bytes)
 }

@@ -1,104 +1,36 @@
 //! Headers that are refused, and the text of each refusal.
-use super::Damaged;
+use super::{bytes_of, cell};
 use crate::decode_header;
 use std::test::Fail;
 
-const HEADERS: [Damaged; 16] = [
-    Damaged {
-        name: "no bytes",
-        bytes: &[],
-        refusal: "Corruption: Log batch header too short: 0",
-    },
-    Damaged {
-        name: "one byte",
-        bytes: &[0],
-        refusal: "Corruption: Log batch header too short: 1",
-    },
-    Damaged {
-        name: "the first word alone",
-        bytes: &[0, 0, 0, 0, 0, 0, 0x18, 0],
-        refusal: "Corruption: Log batch header too short: 8",
-    },
-    Damaged {
-        name: "a byte short",
-        bytes: &[0, 0, 0, 0, 0, 0, 0x18, 0, 0, 0, 0, 0, 0, 0, 0],
-        refusal: "Corruption: Log batch header too short: 15",
-    },
-    Damaged {
-        name: "compression 1",
-        bytes: &[0, 0, 0, 0, 0, 0, 0x18, 1, 0, 0, 0, 0, 0, 0, 0, 0x10],
-        refusal: "Corruption: Unsupported compression type: 1",
-    },
-    Damaged {
-        name: "compression 255",
-        bytes: &[0, 0, 0, 0, 0, 0, 0x18, 0xff, 0, 0, 0, 0, 0, 0, 0, 0x10],
-        refusal: "Corruption: Unsupported compression type: 255",
-    },
-    Damaged {
-        name: "compression before a footer in the header",
-        bytes: &[0, 0, 0, 0, 0, 0, 0x18, 4, 0, 0, 0, 0, 0, 0, 0, 0],
-        refusal: "Corruption: Unsupported compression type: 4",
-    },
-    Damaged {
-        name: "all bits set",
-        bytes: &[
-            0xff, 0xff, 0xff, 0xff, 0xff, 0xff, 0xff, 0xff, 0xff, 0xff, 0xff, 0xff, 0xff, 0xff,
-            0xff, 0xff,
-        ],
-        refusal: "Corruption: Unsupported compression type: 255",
-    },
-    Damaged {
-        name: "all bytes zero",
-        bytes: &[0, 0, 0, 0, 0, 0, 0, 0, 0, 0, 0, 0, 0, 0, 0, 0],
-        refusal: "Corruption: Log batch footer inside the header: 0",
-    },
-    Damaged {
-        name: "footer at the start",
-        bytes: &[0, 0, 0, 0, 0, 0, 0x18, 0, 0, 0, 0, 0, 0, 0, 0, 0],
-        refusal: "Corruption: Log batch footer inside the header: 0",
-    },
-    Damaged {
-        name: "footer at 15",
-        bytes: &[0, 0, 0, 0, 0, 0, 0x18, 0, 0, 0, 0, 0, 0, 0, 0, 0x0f],
-        refusal: "Corruption: Log batch footer inside the header: 15",
-    },
-    Damaged {
-        name: "footer inside the header and past the end",
-        bytes: &[0, 0, 0, 0, 0, 0, 0x0e, 0, 0, 0, 0, 0, 0, 0, 0, 0x0f],
-        refusal: "Corruption: Log batch footer inside the header: 15",
-    },
-    Damaged {
-        name: "footer one past the end",
-        bytes: &[0, 0, 0, 0, 0, 0, 0x18, 0, 0, 0, 0, 0, 0, 0, 0, 0x19],
-        refusal: "Corruption: Log batch footer past the end: 25",
-    },
-    Damaged {
-        name: "no length",
-        bytes: &[0, 0, 0, 0, 0, 0, 0, 0, 0, 0, 0, 0, 0, 0, 0, 0x10],
-        refusal: "Corruption: Log batch footer past the end: 16",
-    },
-    Damaged {
-        name: "footer at the greatest number",
-        bytes: &[
-            0, 0, 0, 0, 0, 0, 0x18, 0, 0xff, 0xff, 0xff, 0xff, 0xff, 0xff, 0xff, 0xff,
-        ],
-        refusal: "Corruption: Log batch footer past the end: 18446744073709551615",
-    },
-    Damaged {
-        name: "offset with the lowest byte first",
-        bytes: &[0, 0, 0, 0, 0, 0, 0x18, 0, 0x10, 0, 0, 0, 0, 0, 0, 0],
-        refusal: "Corruption: Log batch footer past the end: 1152921504606846976",
-    },
-];
+/// What is damaged, the bytes, and the refusal.
+const HEADERS: &str = "\
+no bytes |  | Corruption: Log batch header too short: 0
+one byte | 00 | Corruption: Log batch header too short: 1
+the first word alone | 00 00 00 00 00 00 18 00 | Corruption: Log batch header too short: 8
+a byte short | 00 00 00 00 00 00 18 00 00 00 00 00 00 00 00 | Corruption: Log batch header too short: 15
+compression 1 | 00 00 00 00 00 00 18 01 00 00 00 00 00 00 00 10 | Corruption: Unsupported compression type: 1
+compression 255 | 00 00 00 00 00 00 18 ff 00 00 00 00 00 00 00 10 | Corruption: Unsupported compression type: 255
+compression before a footer in the header | 00 00 00 00 00 00 18 04 00 00 00 00 00 00 00 00 | Corruption: Unsupported compression type: 4
+all bits set | ff ff ff ff ff ff ff ff ff ff ff ff ff ff ff ff | Corruption: Unsupported compression type: 255
+all bytes zero | 00 00 00 00 00 00 00 00 00 00 00 00 00 00 00 00 | Corruption: Log batch footer inside the header: 0
+footer at the start | 00 00 00 00 00 00 18 00 00 00 00 00 00 00 00 00 | Corruption: Log batch footer inside the header: 0
+footer at 15 | 00 00 00 00 00 00 18 00 00 00 00 00 00 00 00 0f | Corruption: Log batch footer inside the header: 15
+footer inside the header and past the end | 00 00 00 00 00 00 0e 00 00 00 00 00 00 00 00 0f | Corruption: Log batch footer inside the header: 15
+footer one past the end | 00 00 00 00 00 00 18 00 00 00 00 00 00 00 00 19 | Corruption: Log batch footer past the end: 25
+no length | 00 00 00 00 00 00 00 00 00 00 00 00 00 00 00 10 | Corruption: Log batch footer past the end: 16
+footer at the greatest number | 00 00 00 00 00 00 18 00 ff ff ff ff ff ff ff ff | Corruption: Log batch footer past the end: 18446744073709551615
+offset with the lowest byte first | 00 00 00 00 00 00 18 00 10 00 00 00 00 00 00 00 | Corruption: Log batch footer past the end: 1152921504606846976
+";
 
 #[test]
 fn damaged_headers_are_refused(rt: HostRuntime) -> Result<(), Fail> {
-    for Damaged {
-        name,
-        bytes,
-        refusal,
-    } in HEADERS {
-        let mut rest = bytes;
+    assert_eq!(rt; HEADERS.lines().count(), 16);
+    for line in HEADERS.lines() {
+        let (name, line) = cell(line);
+        let (bytes, refusal) = cell(line);
+        let bytes = bytes_of(rt.alloc(), bytes)?;
+        let mut rest = bytes.as_slice();
         match decode_header(rt.alloc(), &mut rest) {
             Ok(_) => assert!(rt; false, "{name}"),
             Err(error) => assert_eq!(rt; error.to_string(rt.alloc())?.as_str(), refusal, "{name}"),

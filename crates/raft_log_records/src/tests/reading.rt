@@ -1,5 +1,5 @@
 //! Records that are read.
-use super::{CLEAN_SIGNED, CLEAN_UNSIGNED, context};
+use super::{CLEAN_SIGNED, CLEAN_UNSIGNED, bytes_of, cell, context};
 use crate::{decode_entries_block, decode_footer, decode_header};
 use raft_log_items::{Command, CompressionType, LogItemContent, Version};
 use std::test::Fail;
@@ -74,105 +74,37 @@ fn good_blocks_are_read(rt: HostRuntime) -> Result<(), Fail> {
     Ok(())
 }
 
-/// A footer that is read beside a block of this length, in a file without signatures.
-#[derive(Clone, Copy)]
-struct GoodFooter {
-    name: &'static str,
-    bytes: &'static [u8],
-    block_len: usize,
-    items: usize,
-}
-
-const FOOTERS: [GoodFooter; 11] = [
-    GoodFooter {
-        name: "no items",
-        bytes: &[0, 0x8d, 0xef, 2, 0xd2],
-        block_len: 0,
-        items: 0,
-    },
-    GoodFooter {
-        name: "a group in two bytes",
-        bytes: &[1, 0x81, 0, 2, 1, 0xe7, 0x5d, 0x96, 0xeb],
-        block_len: 0,
-        items: 1,
-    },
-    GoodFooter {
-        name: "a count in ten bytes",
-        bytes: &[
-            0x81, 0x80, 0x80, 0x80, 0x80, 0x80, 0x80, 0x80, 0x80, 0, 1, 2, 1, 0x60, 0x1a, 0x76,
-            0xd5,
-        ],
-        block_len: 0,
-        items: 1,
-    },
-    GoodFooter {
-        name: "the greatest group",
-        bytes: &[
-            1, 0xff, 0xff, 0xff, 0xff, 0xff, 0xff, 0xff, 0xff, 0xff, 1, 2, 1, 0xd3, 0xb8, 0xe3,
-            0x56,
-        ],
-        block_len: 0,
-        items: 1,
-    },
-    GoodFooter {
-        name: "no entries counted",
-        bytes: &[1, 1, 1, 0, 0x0f, 0xe3, 0x21, 0x81],
-        block_len: 0,
-        items: 1,
-    },
-    GoodFooter {
-        name: "an entry without bytes",
-        bytes: &[1, 1, 1, 1, 7, 0, 0x23, 0xc0, 0xc1, 0xb1],
-        block_len: 0,
-        items: 1,
-    },
-    GoodFooter {
-        name: "index 2^64 - 2",
-        bytes: &[
-            1, 1, 1, 1, 0xfe, 0xff, 0xff, 0xff, 0xff, 0xff, 0xff, 0xff, 0xff, 1, 3, 0xd7, 0x49,
-            0xfb, 0xbc,
-        ],
-        block_len: 7,
-        items: 1,
-    },
-    GoodFooter {
-        name: "a block of a checksum alone",
-        bytes: &[1, 1, 2, 1, 0x5a, 0x80, 0x0b, 0xdd],
-        block_len: 4,
-        items: 1,
-    },
-    GoodFooter {
-        name: "an empty key and value",
-        bytes: &[1, 1, 3, 1, 0, 0, 0x6f, 0x9e, 0x89, 0x54],
-        block_len: 0,
-        items: 1,
-    },
-    GoodFooter {
-        name: "lengths of two items",
-        bytes: &[2, 1, 1, 1, 7, 3, 2, 1, 1, 5, 4, 0x80, 0x55, 0x6f, 0xfd],
-        block_len: 11,
-        items: 2,
-    },
-    GoodFooter {
-        name: "2^32 - 1 bytes of entries",
-        bytes: &[
-            1, 1, 1, 1, 7, 0xff, 0xff, 0xff, 0xff, 0x0f, 0xea, 0x39, 0x89, 0xc5,
-        ],
-        block_len: 4_294_967_299,
-        items: 1,
-    },
-];
+/// Footers that are read, in a file without signatures: what is at its border, the length of the block, the number of items,
+/// and the bytes.
+const FOOTERS: &str = "\
+no items | 0 | 0 | 00 8d ef 02 d2
+a group in two bytes | 0 | 1 | 01 81 00 02 01 e7 5d 96 eb
+a count in ten bytes | 0 | 1 | 81 80 80 80 80 80 80 80 80 00 01 02 01 60 1a 76 d5
+the greatest group | 0 | 1 | 01 ff ff ff ff ff ff ff ff ff 01 02 01 d3 b8 e3 56
+no entries counted | 0 | 1 | 01 01 01 00 0f e3 21 81
+an entry without bytes | 0 | 1 | 01 01 01 01 07 00 23 c0 c1 b1
+index 2^64 - 2 | 7 | 1 | 01 01 01 01 fe ff ff ff ff ff ff ff ff 01 03 d7 49 fb bc
+a block of a checksum alone | 4 | 1 | 01 01 02 01 5a 80 0b dd
+an empty key and value | 0 | 1 | 01 01 03 01 00 00 6f 9e 89 54
+lengths of two items | 11 | 2 | 02 01 01 01 07 03 02 01 01 05 04 80 55 6f fd
+2^32 - 1 bytes of entries | 4294967299 | 1 | 01 01 01 01 07 ff ff ff ff 0f ea 39 89 c5
+";
 
 #[test]
 fn footers_at_the_borders(rt: HostRuntime) -> Result<(), Fail> {
-    for GoodFooter {
-        name,
-        bytes,
-        block_len,
-        items,
-    } in FOOTERS {
-        match decode_footer(rt.alloc(), bytes, block_len, None) {
-            Ok(read) => assert_eq!(rt; read.len(), items, "{name}"),
+    assert_eq!(rt; FOOTERS.lines().count(), 11);
+    for line in FOOTERS.lines() {
+        let (name, line) = cell(line);
+        let (block_len, line) = cell(line);
+        let (items, bytes) = cell(line);
+        let bytes = bytes_of(rt.alloc(), bytes)?;
+        match decode_footer(
+            rt.alloc(),
+            bytes.as_slice(),
+            block_len.parse::<usize>()?,
+            None,
+        ) {
+            Ok(read) => assert_eq!(rt; read.len(), items.parse::<usize>()?, "{name}"),
             Err(error) => assert!(rt; false, "{name}: {error}"),
         }
     }

@@ -126,3 +126,24 @@ impl EntryIndexes {
         entries
     }
 }
+
+impl PartialEq for EntryIndexes {
+    ghost use Rattle.std.specs.Cmp.{partial_equiv_from_equiv};
+    ghost use Rattle.std.specs.Cmp.Lexicographic.{pointwise, lists_equiv};
+    ghost use Rattle.raft_log_items.specs.contracts.entry.EntryIndexEq.TheImpl.Laws.{laws-law};
+
+    ghost eq = { pointwise ⟦<EntryIndex as PartialEq>⟧.eq };
+
+    ghost laws = { partial_equiv_from_equiv (lists_equiv laws-law) };
+
+    fn eq(&self, other: &EntryIndexes) -> bool {
+        self.entries.as_slice() == other.entries.as_slice()
+    }
+}
+
+impl Eq for EntryIndexes {
+    ghost use Rattle.std.specs.Cmp.Lexicographic.{lists_equiv};
+    ghost use Rattle.raft_log_items.specs.contracts.entry.EntryIndexEq.TheImpl.Laws.{laws-law};
+
+    ghost laws = { lists_equiv laws-law };
+}

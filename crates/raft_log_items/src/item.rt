@@ -73,7 +73,7 @@ impl KeyValue {
 }
 
 /// What an item says.
-#[derive(Clone, Debug, Drop)]
+#[derive(Clone, Debug, Drop, PartialEq)]
 pub enum LogItemContent {
     EntryIndexes(EntryIndexes),
     Command(Command),
@@ -81,7 +81,7 @@ pub enum LogItemContent {
 }
 
 /// What a batch says of one group.
-#[derive(Clone, Debug, Drop)]
+#[derive(Clone, Debug, Drop, PartialEq)]
 pub struct LogItem {
     pub raft_group_id: u64,
     pub content: LogItemContent,

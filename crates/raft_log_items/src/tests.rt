@@ -197,3 +197,35 @@ fn bytes_keep_what_they_are_given(rt: HostRuntime) -> Result<(), Fail> {
     assert_eq!(rt; same.as_slice(), b"key".as_slice());
     Ok(())
 }
+
+#[test]
+fn items_are_equal_where_all_their_parts_are(rt: HostRuntime) -> Result<(), Fail> {
+    let alloc = rt.alloc();
+    let key = Bytes::from_slice(alloc, b"k")?;
+    let put = LogItem::new_kv(1, OpType::Put, key.clone()?, Some(key.clone()?));
+    let del = LogItem::new_kv(1, OpType::Del, key, None);
+    assert_eq!(rt; put.clone()?, put);
+    assert_eq!(rt; del.clone()?, del);
+    assert!(rt; put != del);
+    let clean = LogItem::new_command(1, Command::Clean);
+    assert_eq!(rt; clean.clone()?, clean);
+    assert!(rt; clean != LogItem::new_command(2, Command::Clean));
+    assert!(rt; clean != LogItem::new_command(1, Command::Compact { index: 0 }));
+
+    // Indexes 7 and 8, of three and four bytes.
+    let entries = EntryIndexes::decode(alloc, &mut [2u8, 7, 3, 4].as_slice())?;
+    let mut placed = entries.clone()?;
+    assert_eq!(rt; placed, entries);
+    placed.set_written(FileBlockHandle {
+        id: FileId::new(LogQueue::Append, 1),
+        offset: 16,
+        len: 11,
+    });
+    assert!(rt; placed != entries);
+    assert!(rt; entries != EntryIndexes::decode(alloc, &mut [1u8, 7, 3].as_slice())?);
+    let run = LogItem::new_entry_indexes(1, entries);
+    assert_eq!(rt; run.clone()?, run);
+    assert_eq!(rt; run.content.clone()?, run.content);
+    assert!(rt; run != LogItem::new_entry_indexes(1, placed));
+    Ok(())
+}

@@ -1,9 +1,9 @@
 -- What the buffer of a batch holds in each state.
-use Rattle.std.proofs.Common.{◌≡◌, ℕ, ◌+◌, ◌-◌, ◌≤◌, ◌<◌, List, [], ◌∷◌, ◌++◌, length, take, drop, Option, Some, None, unwrap_or, refl, sym, ap, subst, ◌∙◌, append_assoc, arith, bit_xor}
+use Rattle.std.proofs.Common.{◌≡◌, ℕ, ◌+◌, ◌-◌, ◌≤◌, ◌<◌, ◌^◌, List, [], ◌∷◌, ◌++◌, length, take, drop, Option, Some, None, unwrap_or, refl, sym, ap, subst, ◌∙◌, append_assoc, arith, bit_xor}
 use Rattle.std.proofs.Math.Seq.{take-length}
 use Rattle.std.proofs.lemmas.List.{append-nil, length-append, length-take-le, length-drop, take-append-drop, drop_at, take_at}
 use Rattle.raft_log_codec.specs.Number.{u32_le_bytes, u64_bytes}
-use Rattle.raft_log_codec.specs.Checksum.{crc32_of}
+use Rattle.raft_log_checksum.specs.Checksum.{crc32_of}
 use Rattle.raft_log_items.specs.declared.item.LogItem.{LogItem}
 use Rattle.raft_log_items.specs.Writing.{items_bytes}
 use Rattle.raft_log_records.specs.declared.log_batch.BatchState.{BatchState}
@@ -95,10 +95,10 @@ filled_populates n buffer new before sum state items given s room held e h =
 -- ---- signed
 
 -- another checksum at the end signs the record for another file
-pub signs : (signature next : Option ℕ) (buffer new : List ℕ) (sum : ℕ) (items : List LogItem) (entries : List ℕ) → Holds signature buffer sum items entries
+pub signs : (signature next : Option ℕ) (buffer new : List ℕ) (sum : ℕ) (items : List LogItem) (entries : List ℕ) → unwrap_or next 0 < 2 ^ 32 → Holds signature buffer sum items entries
     → new ≡ take (length buffer - 4) buffer ++ u32_le_bytes (bit_xor sum (unwrap_or next 0)) → Holds next new sum items entries
 unfolding record_bytes footer_bytes
-signs signature next buffer new sum items entries h e =
+signs signature next buffer new sum items entries fits h e =
     let front : List ℕ = header_bytes (record_len items entries) (16 + length (block_bytes entries)) ++ block_bytes entries in
     let body : List ℕ = items_bytes items in
     let old : List ℕ = u32_le_bytes (signed signature body) in
@@ -111,6 +111,8 @@ signs signature next buffer new sum items entries h e =
       bytes = e ∙ ap (λ (l : List ℕ). l ++ u32_le_bytes (bit_xor sum (unwrap_or next 0))) kept ∙ ap (λ (s : ℕ). (front ++ body) ++ u32_le_bytes s) sum_is ∙ append_assoc front body (u32_le_bytes (signed next body));
       sum = h.sum;
       spelled = h.spelled;
+      signs = fits;
+      short = h.short;
     }
 
 -- a batch that is not empty and whose record is made holds it
@@ -130,12 +132,12 @@ empty_holds signature buffer sum (x ∷ xs) entries e = absurd (omega arith)
 
 -- the record with another checksum at its end, in a buffer that was written over
 pub signed_populates : (n : ℕ) (next : Option ℕ) (buffer new left : List ℕ) (size : ℕ) (sum : ℕ) (state : BatchState) (items : List LogItem)
-    → IsMade state → 0 < length items → 16 + n ≤ length buffer → HoldsIn state buffer sum items (take n (drop 16 buffer))
+    → unwrap_or next 0 < 2 ^ 32 → IsMade state → 0 < length items → 16 + n ≤ length buffer → HoldsIn state buffer sum items (take n (drop 16 buffer))
     → new ≡ take (length buffer - 4) buffer ++ u32_le_bytes (bit_xor sum (unwrap_or next 0)) → length new ≡ size
     → Populates n next (take size (new ++ left)) sum items (take n (drop 16 buffer))
-signed_populates n next buffer new left size sum state items made some room held e len =
+signed_populates n next buffer new left size sum state items fits made some room held e len =
     let entries : List ℕ = take n (drop 16 buffer) in
     let before = made_holds state buffer sum items entries made some held in
-    let holds : Holds next new sum items entries = signs before.0 next buffer new sum items entries before.1 e in
+    let holds : Holds next new sum items entries = signs before.0 next buffer new sum items entries fits before.1 e in
     let count : length entries ≡ n = length-take-le n (drop 16 buffer) (omega (arith, length-drop 16 buffer)) in
     subst (λ (l : List ℕ). Populates n next l sum items entries) (sym (take_at new left size len)) (populates n next new sum items entries count holds)

@@ -6,3 +6,9 @@ pub mod Blocks
 pub mod Footers
 pub mod Frames
 pub mod Written
+pub mod Items
+pub mod Encoded
+pub mod Messages
+pub mod Entries
+pub mod ItemBatches
+pub mod ItemPlaces

@@ -4,7 +4,7 @@ use Rattle.std.proofs.Math.Seq.{take-append_seam}
 use Rattle.std.proofs.lemmas.List.{append-nil, length-append, length-take-le, take-append-drop, drop_at, take_at}
 use Rattle.std.specs.Int.{w32, to_le_bytes}
 use Rattle.raft_log_codec.specs.Number.{u32_le_bytes}
-use Rattle.raft_log_codec.specs.Checksum.{crc32_of}
+use Rattle.raft_log_checksum.specs.Checksum.{crc32_of}
 use Rattle.raft_log_items.specs.declared.item.LogItem.{LogItem}
 use Rattle.raft_log_items.specs.Writing.{items_bytes, KeepsFront}
 use Rattle.raft_log_items.proofs.Each.{keeps_more}

@@ -1,16 +1,17 @@
 -- A batch as callers see it: what was added, and how far it is on its way to a file.
-use Rattle.std.specs.Prelude.{IsTrue, ◌==◌, ◌&&◌, ◌≡◌, ◌⊎◌, ℕ, ◌+◌, ◌≤◌, ◌<◌, ◌^◌, List, [], ◌∷◌, ◌++◌, length, take, drop, map, Option, Some, None, Bool, true, false}
-use Rattle.raft_log_codec.specs.Checksum.{crc32_of}
+use Rattle.std.specs.Prelude.{IsTrue, ◌==◌, ◌&&◌, ◌≡◌, ◌⊎◌, ℕ, ◌+◌, ◌≤◌, ◌<◌, ◌^◌, List, [], ◌∷◌, ◌++◌, length, take, drop, map, Option, Some, None, unwrap_or, Bool, true, false}
+use Rattle.raft_log_checksum.specs.Checksum.{crc32_of}
 use Rattle.raft_log_items.specs.declared.item.LogItem.{LogItem}
 use Rattle.raft_log_items.specs.declared.errors.Error.{Error}
 use Rattle.raft_log_items.specs.declared.errors.Error.TheVariants as errors
+use Rattle.raft_log_items.specs.declared.item.LogItemContent.{LogItemContent}
 use Rattle.raft_log_items.specs.declared.item.LogItemContent.TheVariants as contents
 use Rattle.raft_log_items.specs.Items.{AreItems, put_of, del_of}
 use Rattle.raft_log_items.specs.Writing.{items_bytes, plain_item}
-use Rattle.raft_log_items.specs.Placed.{entries_len}
+use Rattle.raft_log_items.specs.Placed.{entries_len, laid_out}
 use Rattle.raft_log_records.specs.declared.log_batch.BatchState.{BatchState}
 use Rattle.raft_log_records.specs.declared.log_batch.BatchState.TheVariants.{Filling, Populated, Signed, Written}
-use Rattle.raft_log_records.specs.Record.{record_bytes}
+use Rattle.raft_log_records.specs.Record.{record_bytes, record_len}
 
 -- the state, the items, and the bytes of their entries
 pub record Batch : Type 0 where
@@ -27,11 +28,13 @@ abbrev pub batch_bytes : Option ℕ → List LogItem → List ℕ → List ℕ
 batch_bytes signature [] entries = []
 batch_bytes signature (x ∷ xs) entries = record_bytes signature (x ∷ xs) entries
 
--- the record in the buffer, and the checksum of its items before it is signed
+-- the record in the buffer, whose length fits, and the checksum of its items before it is signed
 pub record Holds (signature : Option ℕ) (buffer : List ℕ) (checksum : ℕ) (items : List LogItem) (entries : List ℕ) : Type 0 where
   pub bytes : buffer ≡ record_bytes signature items entries
   pub sum : checksum ≡ crc32_of (items_bytes items)
   pub spelled : AreItems (items_bytes items) (map plain_item items)
+  pub signs : unwrap_or signature 0 < 2 ^ 32
+  pub short : record_len items entries < 2 ^ 56
 
 -- what the buffer holds of a batch that is not empty
 abbrev pub HoldsRecord : Option ℕ → List ℕ → ℕ → List LogItem → List ℕ → Type 0
@@ -44,6 +47,21 @@ HoldsIn Filling buffer checksum items entries = length buffer ≡ 16 + length en
 HoldsIn Populated buffer checksum items entries = HoldsRecord None buffer checksum items entries
 HoldsIn (Signed signature) buffer checksum items entries = HoldsRecord signature buffer checksum items entries
 HoldsIn Written buffer checksum items entries = Unit {0}
+
+-- The fields of a batch: its buffer has room for a header, and behind it the entries' bytes, which the items' entries are laid
+-- out over one after another.
+pub record IsBatch (state : BatchState) (buffer : List ℕ) (len checksum : ℕ) (items : List LogItem) : Type 0 where
+  pub room : 16 + len ≤ length buffer
+  pub fits : len ≤ max_entries_len
+  pub adds : entries_len items ≡ len
+  pub laid : laid_out 0 items ≡ items
+  pub holds : HoldsIn state buffer checksum items (take len (drop 16 buffer))
+
+-- what is said is no run of entries
+abbrev pub HasNoEntries : LogItemContent → Type 0
+HasNoEntries (contents.EntryIndexes es) = ⊥
+HasNoEntries (contents.Command c) = Unit {0}
+HasNoEntries (contents.Kv kv) = Unit {0}
 
 -- memory ran out, or the record's length needs more than 56 bits
 abbrev pub IsMemoryOrFull : Error → ℕ → Type 0

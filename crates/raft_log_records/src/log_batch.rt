@@ -3,10 +3,16 @@ ghost use Rattle.std.specs.Prelude.{◌≡◌, false, OnOk, IfErr};
 ghost use Rattle.raft_log_records.specs.Key.{is_internal, IsKeyRefusal};
 
 use crate::header::LOG_BATCH_HEADER_LEN;
-use crate::record::{fill_record, write_checksum};
+use crate::record::{are_bytes, fill_record, write_checksum};
 use raft_log_items::{Bytes, Command, Error, LogFileContext, LogItem, OpType, Result};
 use std::alloc::{AllocError, Global};
 use std::marker::Model;
+
+mod entries;
+mod messages;
+
+/// The most bytes that the entries of a batch may have.
+const MAX_ENTRIES_LEN: usize = 2_147_483_647;
 
 /// How far a batch is on its way to a file.
 #[derive(Clone, Copy, Debug, PartialEq, Eq)]
@@ -60,25 +66,24 @@ fn check_key(alloc: Global, key: &[u8]) -> Result<()>
 }
 
 impl Model for LogBatch {
-    ghost use Rattle.std.specs.Prelude.{◌≡◌, ◌+◌, ◌≤◌, take, drop, length};
-    ghost use Rattle.raft_log_items.specs.Placed.{entries_len};
-    ghost use Rattle.raft_log_records.specs.Batch.{Batch, HoldsIn, max_entries_len};
+    ghost use Rattle.std.specs.Prelude.{take, drop};
+    ghost use Rattle.raft_log_records.specs.Batch.{Batch, IsBatch};
 
     ghost Value = { Batch };
 
     ghost view = { λ b. record { state = b.state; items = b.items.items; entries = take b.entries_len (drop 16 b.buf.items) } };
 
-    ghost invariant = { λ b. (16 + b.entries_len ≤ length b.buf.items) × (b.entries_len ≤ max_entries_len)
-        × HoldsIn b.state b.buf.items b.checksum b.items.items (take b.entries_len (drop 16 b.buf.items)) };
+    ghost invariant = { λ b. IsBatch b.state b.buf.items b.entries_len b.checksum b.items.items };
 }
 
 impl LogBatch {
     ghost use Rattle.std.specs.Prelude.{length, None, IfErr, IsErr};
     ghost use Rattle.raft_log_records.specs.Key.{is_internal, IsKeyRefusal, put_item, del_item};
     ghost use Rattle.raft_log_items.specs.Files.{signature_of};
-    ghost use Rattle.raft_log_records.specs.Record.{record_len};
-    ghost use Rattle.raft_log_records.specs.Batch.{batch_bytes, IsMemoryOrFull, IsMade, IsSigned, signature_in};
-    ghost use Rattle.std.specs.Prelude.{◌≡◌, ◌++◌, ◌∷◌, ◌↔◌, [], IfOk, OnOk, OnErr, IsTrue};
+    ghost use Rattle.raft_log_items.specs.Writing.{plain_item};
+    ghost use Rattle.raft_log_records.specs.Record.{record_len, IsRecord};
+    ghost use Rattle.raft_log_records.specs.Batch.{batch_bytes, HasNoEntries, IsMemoryOrFull, IsMade, IsSigned, signature_in};
+    ghost use Rattle.std.specs.Prelude.{◌≡◌, ◌++◌, ◌∷◌, ◌↔◌, [], map, IfOk, OnOk, OnErr, IsTrue};
     ghost use Rattle.raft_log_records.specs.declared.log_batch.BatchState.TheVariants.{Filling, Populated, Signed, Written};
     ghost use Rattle.raft_log_items.specs.declared.item.LogItemContent.TheVariants as contents;
 
@@ -109,6 +114,17 @@ impl LogBatch {
         self.state
     }
 
+    /// Adds an item that is no run of entries. A refusal changes nothing.
+    pub(crate) fn push_item(&mut self, item: LogItem) -> std::result::Result<(), AllocError>
+        requires filling { self.old.state ≡ Filling }
+        requires plain { HasNoEntries item.content }
+        ensures ok { OnOk result (self.new ≡ record self.old { items = self.old.items ++ item ∷ [] }) }
+        ensures err { OnErr result (self.new ≡ self.old) }
+    {
+        self.items.push(item)?;
+        Ok(())
+    }
+
     /// Adds a command of a group. A refusal changes nothing.
     pub fn add_command(
         &mut self,
@@ -119,9 +135,7 @@ impl LogBatch {
         ensures ok { OnOk result (self.new ≡ record self.old { items = self.old.items ++ record { raft_group_id = raft_group_id; content = contents.Command command } ∷ [] }) }
         ensures err { OnErr result (self.new ≡ self.old) }
     {
-        self.items
-            .push(LogItem::new_command(raft_group_id, command))?;
-        Ok(())
+        self.push_item(LogItem::new_command(raft_group_id, command))
     }
 
     /// Adds a key that gets a value. A key that begins with two underscores is refused as an invalid argument. A refusal
@@ -134,7 +148,7 @@ impl LogBatch {
         ensures errors { IfErr result (λ e. IsKeyRefusal e key) }
     {
         check_key(alloc, key.as_slice())?;
-        self.items.push(LogItem::new_kv(raft_group_id, OpType::Put, key, Some(value)))?;
+        self.push_item(LogItem::new_kv(raft_group_id, OpType::Put, key, Some(value)))?;
         Ok(())
     }
 
@@ -148,8 +162,7 @@ impl LogBatch {
         ensures errors { IfErr result (λ e. IsKeyRefusal e key) }
     {
         check_key(alloc, key.as_slice())?;
-        self.items
-            .push(LogItem::new_kv(raft_group_id, OpType::Del, key, None))?;
+        self.push_item(LogItem::new_kv(raft_group_id, OpType::Del, key, None))?;
         Ok(())
     }
 
@@ -200,12 +213,15 @@ impl LogBatch {
     /// The bytes of the record for the file for which it was signed. An empty batch has none.
     pub fn encoded_bytes(&self) -> &[u8]
         requires { IsSigned self.now.state }
-        ensures { result.now ≡ batch_bytes (signature_in self.now.state) self.now.items self.now.entries }
+        ensures whole { (self.now.items ≡ [] → ⊥) → IsRecord (signature_in self.now.state) result.now (map plain_item self.now.items) self.now.entries }
+        ensures exact { result.now ≡ batch_bytes (signature_in self.now.state) self.now.items self.now.entries }
     {
         if self.items.is_empty() {
             return &self.buf[self.buf.len()..];
         }
-        self.buf.as_slice()
+        let bytes = self.buf.as_slice();
+        are_bytes(bytes);
+        bytes
     }
 
     /// Gives the items back, behind what is there, and leaves an empty batch that is being filled. Its buffer is kept.

@@ -1,11 +1,12 @@
 //! The bytes of a record, made in the buffer that holds the entries' bytes behind room for a header.
 ghost use Rattle.std.specs.Prelude.{◌≡◌, ◌+◌, ◌-◌, ◌*◌, ◌≤◌, ◌<◌, ◌^◌, ◌++◌, length, take, drop, map, None, OnOk, OnErr, IfOk, IfErr};
 ghost use Rattle.raft_log_codec.specs.Number.{u32_le_bytes};
-ghost use Rattle.raft_log_codec.specs.Checksum.{crc32_of};
+ghost use Rattle.raft_log_checksum.specs.Checksum.{crc32_of};
 ghost use Rattle.raft_log_items.specs.Items.{AreItems};
 ghost use Rattle.raft_log_items.specs.Writing.{KeepsFront, items_bytes, plain_item};
 ghost use Rattle.raft_log_records.specs.Record.{header_bytes, block_bytes, footer_bytes, record_len};
 ghost use Rattle.raft_log_records.specs.Batch.{Holds, IsMemoryOrFull};
+ghost use Rattle.raft_log_records.specs.Written.{AreBytes};
 
 use crate::header::LOG_BATCH_HEADER_LEN;
 use raft_log_codec::codec::append_u32_le;
@@ -13,6 +14,11 @@ use raft_log_codec::crc32;
 use raft_log_items::encode::append_items;
 use raft_log_items::{Error, LogItem, Result};
 use std::alloc::AllocError;
+
+/// Each item of a slice of bytes is a byte: what a contract can't see of a value behind a model. It does nothing.
+pub(crate) fn are_bytes(bytes: &[u8])
+    ensures { AreBytes bytes.now }
+{}
 
 /// Overwrites the first sixteen bytes by a header.
 #[tactic(auto, unfolding(crate::specs::Record::header_bytes, raft_log_codec::specs::Number::u64_bytes))]

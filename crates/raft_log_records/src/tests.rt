@@ -10,6 +10,8 @@ mod damaged_headers;
 mod reading;
 mod whole_records;
 
+mod messages;
+
 /// One `Clean` of group 1, in a file without signatures.
 const CLEAN_UNSIGNED: [u8; 24] = [
     0, 0, 0, 0, 0, 0, 0x18, 0, 0, 0, 0, 0, 0, 0, 0, 0x10, 1, 1, 2, 1, 0x5a, 0x80, 0x0b, 0xdd,

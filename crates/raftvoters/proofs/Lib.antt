@@ -1,3 +1,5 @@
+pub mod Damage
+pub mod Fronts
 pub mod Ranges
 pub mod Records
 pub mod Refusals

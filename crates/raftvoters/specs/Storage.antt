@@ -19,6 +19,10 @@ abbrev pub IsAt : Storage → World → Type 0
 IsAt (Closed file) W = Holds file.synced W × (file.unsynced ≡ [])
 IsAt (Open store) W = IsStored store × (world_of store ≡ W)
 
+-- some voters are stored
+abbrev pub IsSound : Storage → Type 0
+IsSound storage = (W : World) × IsAt storage W
+
 -- what is stored stays
 abbrev pub Keeps : Storage → Storage → Type 0
 Keeps old new = (W : World) → IsAt old W → IsAt new W

@@ -1,8 +1,9 @@
 //! Voters of many groups in memory, and the plain file that keeps them.
-ghost use Rattle.std.specs.Prelude.{◌≡◌, ◌+◌, ◌^◌, ◌<◌, ◌↔◌, length, IfOk, OnOk, Err};
+ghost use Rattle.std.specs.Prelude.{◌≡◌, ◌+◌, ◌^◌, ◌<◌, ◌↔◌, length, IfErr, IfOk, OnOk, Err};
 ghost use Rattle.raft_voter.specs.Rounds.{after_one, put};
 ghost use Rattle.raftvoters.specs.Content.{whole};
 ghost use Rattle.raft_voter.specs.Rules.{reply};
+ghost use Rattle.raftvoters.specs.Damage.{HoldsNothing, TellsDamage};
 ghost use Rattle.raftvoters.specs.Records.{Holds, may_change, record_bytes, world_in};
 ghost use Rattle.raftvoters.specs.Service.{Answers};
 ghost use Rattle.raftvoters.specs.Store.{IsStored, Takes, TakesAll, world_of};
@@ -23,11 +24,12 @@ pub struct PlainStore {
 }
 
 impl PlainStore {
-    /// Opens a file: reads it whole, and the last record of each group is its voter. Bytes that aren't those of records
-    /// are told as damaged.
+    /// Opens a file: reads it whole, and the last record of each group is its voter. Damage is told only where
+    /// the bytes aren't those of records, so never of what a store wrote.
     pub fn open(alloc: Global, file: PlainFile) -> Result<PlainStore, OpenFault>
         ensures same { IfOk result (λ store. store.file ≡ file) }
         ensures voters { IfOk result (λ store. Holds (whole file) (world_of store)) }
+        ensures err { IfErr result (TellsDamage (HoldsNothing (whole file))) }
     {
         let voters = read_voters(alloc, file.bytes())?;
         Ok(PlainStore {
@@ -131,7 +133,8 @@ fn may_change(request: &Request) -> bool
 
 /// The voters that a file's bytes hold.
 fn read_voters(alloc: Global, bytes: &[u8]) -> Result<BTreeMap<u64, Voter>, OpenFault>
-    ensures { IfOk result (λ voters. Holds bytes.now (world_in voters)) }
+    ensures ok { IfOk result (λ voters. Holds bytes.now (world_in voters)) }
+    ensures err { IfErr result (TellsDamage (HoldsNothing bytes.now)) }
 {
     let mut voters = BTreeMap::new(alloc);
     let mut left = bytes;
@@ -144,11 +147,11 @@ fn read_voters(alloc: Global, bytes: &[u8]) -> Result<BTreeMap<u64, Voter>, Open
 }
 
 /// A group's voter is this one from now on.
-fn set_voter(voters: &mut BTreeMap<u64, Voter>, group: u64, voter: Voter) -> Result<(), OpenFault>
+fn set_voter(voters: &mut BTreeMap<u64, Voter>, group: u64, voter: Voter) -> Result<(), Memory>
     ensures { OnOk result (world_in voters.new ≡ put (world_in voters.old) group voter) }
 {
     match voters.insert(group, voter) {
         Ok(_) => Ok(()),
-        Err(_) => Err(OpenFault::Memory),
+        Err(_) => Err(Memory),
     }
 }

@@ -46,4 +46,6 @@ returns-clause-ok c =
       bytes = take_at new (drop (length new) c.append_footer.new.buf.items) c.append_footer.new.buf.len kept ∙ record_made old c.args.items.now c.len-len.result c.len-offset.result new c.requires len offset written;
       sum = c.in_ok-checksum.ensures.sum;
       spelled = c.in_ok-checksum.ensures.spelled;
+      signs = omega arith;
+      short = omega (arith, made-length old c.args.items.now c.append_footer.new.buf.items c.requires made, c.append_footer.new.buf.ok.0, c.len-len.ensures, c.if-len-gt-MAX_RECORD_LEN.false);
     }

@@ -1,4 +1,4 @@
-use Rattle.std.proofs.Common.{◌≡◌, ◌≢◌, ℕ, List, ◌-◌, ◌<◌, ◌++◌, length, take, drop, Option, unwrap_or, bit_xor, sym, ap, subst, ◌∙◌, arith}
+use Rattle.std.proofs.Common.{◌≡◌, ◌≢◌, ℕ, List, ◌-◌, ◌<◌, ◌^◌, ◌++◌, length, take, drop, Option, unwrap_or, bit_xor, sym, ap, subst, ◌∙◌, arith}
 use Rattle.std.proofs.lemmas.Bool.{eqb-false}
 use Rattle.raft_log_codec.specs.Number.{u32_le_bytes}
 use Rattle.raft_log_records.specs.declared.log_batch.BatchState.{BatchState}
@@ -17,10 +17,11 @@ invariant_of-self-2 c =
     let new : c.write_checksum.new.bytes ≡ take (length buffer - 4) buffer ++ u32_le_bytes (bit_xor c.self.inside.checksum (unwrap_or next 0)) =
     c.write_checksum.ensures ∙ ap (λ (l : List ℕ). take (length l - 4) l ++ u32_le_bytes (bit_xor c.self.inside.checksum c.unwrap_or.result)) c.as_mut_slice.ensures.value
     ∙ ap (λ (s : ℕ). take (length buffer - 4) buffer ++ u32_le_bytes (bit_xor c.self.inside.checksum s)) c.unwrap_or.ensures in
+    let fits : unwrap_or next 0 < 2 ^ 32 = omega (arith, c.unwrap_or.ensures) in
     let kept : length c.write_checksum.new.bytes ≡ c.self.inside.buf.len = c.write_checksum.auto.bytes ∙ c.as_mut_slice.ensures.len in
     let all = signed_populates c.self.inside.entries_len next buffer c.write_checksum.new.bytes (drop (length c.write_checksum.new.bytes) buffer) c.self.inside.buf.len c.self.inside.checksum c.self.inside.state c.self.inside.items.items
-    made some c.self.invariant.0 c.self.invariant.2 new kept in
-    (all.room, c.self.invariant.1, all.holds)
+    fits made some c.self.invariant.room c.self.invariant.holds new kept in
+    record { room = all.room; fits = c.self.invariant.fits; adds = c.self.invariant.adds; laid = c.self.invariant.laid; holds = all.holds }
 
 pub returns : goal.returns
 returns c =
@@ -32,9 +33,10 @@ returns c =
     let new : c.write_checksum.new.bytes ≡ take (length buffer - 4) buffer ++ u32_le_bytes (bit_xor c.self.inside.checksum (unwrap_or next 0)) =
     c.write_checksum.ensures ∙ ap (λ (l : List ℕ). take (length l - 4) l ++ u32_le_bytes (bit_xor c.self.inside.checksum c.unwrap_or.result)) c.as_mut_slice.ensures.value
     ∙ ap (λ (s : ℕ). take (length buffer - 4) buffer ++ u32_le_bytes (bit_xor c.self.inside.checksum s)) c.unwrap_or.ensures in
+    let fits : unwrap_or next 0 < 2 ^ 32 = omega (arith, c.unwrap_or.ensures) in
     let kept : length c.write_checksum.new.bytes ≡ c.self.inside.buf.len = c.write_checksum.auto.bytes ∙ c.as_mut_slice.ensures.len in
     let all = signed_populates c.self.inside.entries_len next buffer c.write_checksum.new.bytes (drop (length c.write_checksum.new.bytes) buffer) c.self.inside.buf.len c.self.inside.checksum c.self.inside.state c.self.inside.items.items
-    made some c.self.invariant.0 c.self.invariant.2 new kept in
+    fits made some c.self.invariant.room c.self.invariant.holds new kept in
     ap (λ (e : List ℕ). record { state = Signed next; items = c.self.inside.items.items; entries = e }) all.same
     ∙ ap (λ (b : Batch). record b { state = Signed next }) c.self.view_is
     ∙ ap (λ (s : Option ℕ). record { state = Signed s; items = c.args.self.now.items; entries = c.args.self.now.entries }) c.get_signature-signature.ensures

@@ -1,10 +1,5 @@
-pub mod Words
 pub mod Made
 pub mod Buffer
-pub mod Headers
-pub mod Blocks
-pub mod Footers
-pub mod Frames
 pub mod Written
 pub mod Items
 pub mod Encoded

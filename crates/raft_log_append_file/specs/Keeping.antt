@@ -44,6 +44,10 @@ NoChanceLeft id d image = (after : File) → image.files id ≡ Some after → N
 abbrev pub AreKept : Records → Records → List (List ℕ) → Type 0
 AreKept durable pending found = (count : ℕ) × (count ≤ length pending) × (found ≡ values durable ++ take count (values pending))
 
+-- records as they were read back: all the durable ones, in order, and then some
+abbrev pub BeginWithDurable : Records → List (List ℕ) → Type 0
+BeginWithDurable durable found = (rest : List (List ℕ)) × (found ≡ values durable ++ rest)
+
 -- Whatever a stop leaves, if no checksum is met by chance in it: all durable records are read, then the first pending
 -- ones, and nothing else.
 abbrev pub KeepsRecords : ℕ → Records → Records → Disk → Type 0

@@ -2,7 +2,7 @@
 
 ghost use Rattle.std.specs.Prelude.{ℕ, List};
 ghost use Rattle.raft_log_disk.specs.Chains.{IsPrefixFree, ReadsOneWay, ReadsSome, AgreesUpToEnd};
-ghost use Rattle.raft_log_disk.specs.KeepsSynced.{ChainKeepsSynced, DurableIsRead, ChainSteps, UntouchedPartStays};
+ghost use Rattle.raft_log_disk.specs.KeepsSynced.{ChainKeepsSynced, DurableIsRead, ChainSteps, ChainGrows, UntouchedPartStays};
 ghost use Rattle.raft_log_disk.specs.LogFiles.{LogKeepsSynced};
 ghost use Rattle.raft_log_disk.specs.CrashExamples.{TornRecordIsLost, ForeignRecordIsChance, SyncedFileHasNoChance};
 
@@ -32,6 +32,11 @@ pub fn agreement<G: Framing>()
 /// A file goes on holding its chain through writes, cuts, growths, syncs and restarts.
 pub fn chain_steps<G: Framing>()
     ensures { (start end : ℕ) → ChainSteps G.is_frame start end }
+{}
+
+/// A record that is written at a chain's end is the next one, whatever an earlier use of the file left there.
+pub fn chain_grows<G: Framing>()
+    ensures { IsPrefixFree G.is_frame → (start : ℕ) → ChainGrows G.is_frame start }
 {}
 
 /// A file that holds a chain keeps its synced records, whatever a stop leaves.

@@ -8,7 +8,7 @@ use Rattle.raft_log_items.specs.declared.item.LogItem.{LogItem}
 use Rattle.raft_log_items.specs.Writing.{items_bytes}
 use Rattle.raft_log_records.specs.declared.log_batch.BatchState.{BatchState}
 use Rattle.raft_log_records.specs.declared.log_batch.BatchState.TheVariants.{Filling, Populated, Signed, Written}
-use Rattle.raft_log_records.specs.Record.{signed, block_bytes, footer_bytes, header_bytes, record_len, record_bytes}
+use Rattle.raft_log_frames.specs.Record.{signed, block_bytes, footer_bytes, header_bytes, record_len, record_bytes}
 use Rattle.raft_log_records.specs.Batch.{Holds, HoldsRecord, HoldsIn, IsMade, batch_bytes}
 use Rattle.raft_log_records.proofs.Made.{block_more, four_bytes, footer-length}
 

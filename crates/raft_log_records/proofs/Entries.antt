@@ -1,13 +1,14 @@
 -- Entries that are added to a batch.
-use Rattle.std.proofs.Common.{◌≡◌, ◌≢◌, ℕ, zero, suc, ◌+◌, ◌-◌, ◌<◌, ◌≤◌, ◌^◌, List, [], ◌∷◌, ◌++◌, length, take, drop, map, get_or, None, refl, sym, ap, subst, ◌∙◌, add-one, arith}
+use Rattle.std.proofs.Common.{◌≡◌, ◌≢◌, ℕ, zero, suc, ◌+◌, ◌-◌, ◌<◌, ◌≤◌, ◌^◌, List, [], ◌∷◌, ◌++◌, length, take, drop, map, get_or, refl, sym, ap, subst, ◌∙◌, append_assoc, arith}
 use Rattle.std.proofs.Math.ListN.{set}
-use Rattle.std.proofs.lemmas.List.{take_more, map-append, length-map, length-append, length-take-le, length-drop}
-use Rattle.std.proofs.lemmas.List.Sums.{sum_by-cons, sum_by_push}
+use Rattle.std.proofs.lemmas.List.{take_more, take-map, map-append, append-nil, get_or-map, length-map, length-append, length-take-le}
+use Rattle.std.proofs.lemmas.List.Sums.{sum_by-cons, sum_by-take-le}
+use Rattle.std.proofs.lemmas.List.Concat.{length-flat_map, flat_map-append}
 use Rattle.raft_log_items.specs.declared.entry.EntryIndex.{EntryIndex}
 use Rattle.raft_log_items.specs.Run.{FollowsFrom, IsRun, unplaced_entry}
 use Rattle.raft_log_items.specs.Placed.{run_len, laid_run}
 use Rattle.raft_log_items.proofs.Places.{inner_get, inner_set}
-use Rattle.raft_log_records.specs.Entries.{RisesFrom, IsIndexRun, IsRunOf, entries_of, bytes_len}
+use Rattle.raft_log_records.specs.Entries.{RisesFrom, IsIndexRun, entries_of, joined, bytes_len}
 
 abbrev pub indexes_of : List EntryIndex → List ℕ
 indexes_of es = map (λ (e : EntryIndex). e.index) es
@@ -89,3 +90,35 @@ run_len-entries_of (i ∷ is) (b ∷ bs) e =
     let left : run_len (entries_of (i ∷ is) (b ∷ bs)) ≡ length b + run_len (entries_of is bs) = sum_by-cons (λ (x : EntryIndex). x.entry_len) (unplaced_entry i (length b)) (entries_of is bs) in
     let right : bytes_len (b ∷ bs) ≡ length b + bytes_len bs = sum_by-cons (λ (y : List ℕ). length y) b bs in
     omega (arith, left, right, run_len-entries_of is bs (omega arith))
+
+-- ---- messages
+
+pub joined-length : (entries : List (List ℕ)) → length (joined entries) ≡ bytes_len entries
+joined-length entries = length-flat_map (λ (x : List ℕ). x) entries
+
+-- one message more
+pub message_more : {M : Type 0} (f : M → List ℕ) (old : List ℕ) (ms : List M) (i : ℕ) (m : M) (before after : List ℕ) → i < length ms → m ≡ get_or ms i m → before ≡ old ++ joined (map f (take i ms)) → after ≡ before ++ f m
+    → after ≡ old ++ joined (map f (take (i + 1) ms))
+message_more {M = M} f old ms i m before after lt is h e =
+    let so_far : List ℕ = joined (map f (take i ms)) in
+    let one : map f (take (i + 1) ms) ≡ map f (take i ms) ++ f m ∷ [] =
+    ap (λ (l : List M). map f l) (take_more ms i m lt ∙ ap (λ (y : M). take i ms ++ y ∷ []) (sym is)) ∙ map-append f (take i ms) (m ∷ []) in
+    let more : joined (map f (take (i + 1) ms)) ≡ so_far ++ f m =
+    ap (λ (l : List (List ℕ)). joined l) one ∙ flat_map-append (λ (x : List ℕ). x) (map f (take i ms)) (f m ∷ []) ∙ ap (λ (l : List ℕ). so_far ++ l) (append-nil (f m)) in
+    e ∙ ap (λ (l : List ℕ). l ++ f m) h ∙ append_assoc old so_far (f m) ∙ ap (λ (l : List ℕ). old ++ l) (sym more)
+
+pub message_sized : {M : Type 0} (f : M → List ℕ) (old xs : List EntryIndex) (ms : List M) (i : ℕ) (d : EntryIndex) (m : M) (len : ℕ) → i < length old → length old ≡ length ms
+    → xs ≡ entries_of (indexes_of (take i old)) (map f (take i ms)) ++ drop i old → m ≡ get_or ms i m → len ≡ length (f m)
+    → set xs i (unplaced_entry (get_or xs i d).index len) ≡ entries_of (indexes_of (take (i + 1) old)) (map f (take (i + 1) ms)) ++ drop (i + 1) old
+message_sized {M = M} f old xs ms i d m len lt same h is l =
+    let entries : List (List ℕ) = map f ms in
+    let this : f m ≡ get_or entries i (f m) = ap f is ∙ sym (get_or-map f ms i m (f m) (omega arith)) in
+    let so_far : xs ≡ entries_of (indexes_of (take i old)) (take i entries) ++ drop i old = h ∙ ap (λ (b : List (List ℕ)). entries_of (indexes_of (take i old)) b ++ drop i old) (sym (take-map f i ms)) in
+    sized_step old xs entries i d (f m) len lt (omega (arith, length-map ms f)) so_far this l
+    ∙ ap (λ (b : List (List ℕ)). entries_of (indexes_of (take (i + 1) old)) b ++ drop (i + 1) old) (take-map f (i + 1) ms)
+
+pub out_len : {M : Type 0} (f : M → List ℕ) (old out : List ℕ) (ms : List M) → out ≡ old ++ joined (map f ms) → length out ≡ length old + bytes_len (map f ms)
+out_len f old out ms e = ap (λ (l : List ℕ). length l) e ∙ length-append old (joined (map f ms)) ∙ ap (λ (n : ℕ). length old + n) (joined-length (map f ms))
+
+pub part_len : {M : Type 0} (f : M → List ℕ) (ms : List M) (i : ℕ) → bytes_len (map f (take i ms)) ≤ bytes_len (map f ms)
+part_len f ms i = omega (arith, sum_by-take-le (λ (x : List ℕ). length x) (map f ms) i, ap (λ (l : List (List ℕ)). bytes_len l) (take-map f i ms))

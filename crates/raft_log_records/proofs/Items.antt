@@ -68,7 +68,7 @@ item_len : (group offset : ℕ) (indexes : List ℕ) (entries : List (List ℕ))
 item_len group offset indexes entries same = run_len-laid offset (entries_of indexes entries) ∙ run_len-entries_of indexes entries same
 
 -- the buffer of a batch that is being filled has nothing behind the entries' bytes
-filling_size : (state : BatchState) (buffer : List ℕ) (len sum : ℕ) (items : List LogItem) → state ≡ Filling → IsBatch state buffer len sum items → length buffer ≡ 16 + len
+pub filling_size : (state : BatchState) (buffer : List ℕ) (len sum : ℕ) (items : List LogItem) → state ≡ Filling → IsBatch state buffer len sum items → length buffer ≡ 16 + len
 filling_size state buffer len sum items e h =
     let count : length (take len (drop 16 buffer)) ≡ len = length-take-le len (drop 16 buffer) (omega (arith, h.room, length-drop 16 buffer)) in
     in_filling state buffer sum items (take len (drop 16 buffer)) e h.holds ∙ ap (λ (n : ℕ). 16 + n) count

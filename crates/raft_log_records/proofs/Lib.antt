@@ -1,10 +1,9 @@
-pub mod Words
 pub mod Made
 pub mod Buffer
-pub mod Footers
 pub mod Written
-pub mod Entries
 pub mod Items
 pub mod Encoded
 pub mod Messages
+pub mod Entries
 pub mod ItemBatches
+pub mod ItemPlaces

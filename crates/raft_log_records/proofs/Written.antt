@@ -13,7 +13,7 @@ use Rattle.raft_log_items.specs.Items.{AreItems}
 use Rattle.raft_log_items.specs.Run.{unplaced}
 use Rattle.raft_log_items.specs.Placed.{run_len, content_len, entries_len}
 use Rattle.raft_log_items.specs.Writing.{items_bytes, plain_item, plain_content}
-use Rattle.raft_log_records.specs.Record.{signed, block_bytes, footer_bytes, header_bytes, record_len, record_bytes, IsHeader, IsBlock, IsFooter, IsRecord, AddsUp}
+use Rattle.raft_log_frames.specs.Record.{signed, block_bytes, footer_bytes, header_bytes, record_len, record_bytes, IsHeader, IsBlock, IsFooter, IsRecord, AddsUp}
 use Rattle.raft_log_records.specs.Written.{AreBytes}
 use Rattle.raft_log_records.proofs.Made.{four_bytes}
 use Rattle.raft_log_records.proofs.Buffer.{record-length}

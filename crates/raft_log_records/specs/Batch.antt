@@ -11,7 +11,7 @@ use Rattle.raft_log_items.specs.Writing.{items_bytes, plain_item}
 use Rattle.raft_log_items.specs.Placed.{entries_len, laid_out}
 use Rattle.raft_log_records.specs.declared.log_batch.BatchState.{BatchState}
 use Rattle.raft_log_records.specs.declared.log_batch.BatchState.TheVariants.{Filling, Populated, Signed, Written}
-use Rattle.raft_log_records.specs.Record.{record_bytes, record_len}
+use Rattle.raft_log_frames.specs.Record.{record_bytes, record_len}
 
 -- the state, the items, and the bytes of their entries
 pub record Batch : Type 0 where

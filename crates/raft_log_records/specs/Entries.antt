@@ -1,5 +1,5 @@
 -- Entries that are added to a batch, by their indexes and their bytes.
-use Rattle.std.specs.Prelude.{◌≡◌, ℕ, ◌+◌, ◌<◌, ◌^◌, List, [], ◌∷◌, ◌++◌, length, sum_by, flat_map}
+use Rattle.std.specs.Prelude.{◌≡◌, ◌⊎◌, ℕ, ◌+◌, ◌<◌, ◌^◌, List, [], ◌∷◌, ◌++◌, length, sum_by, flat_map}
 use Rattle.raft_log_items.specs.declared.entry.EntryIndex.{EntryIndex}
 use Rattle.raft_log_items.specs.declared.errors.Error.{Error}
 use Rattle.raft_log_items.specs.declared.errors.Error.TheVariants as errors
@@ -79,3 +79,7 @@ IsRunRefusal (errors.Other e) indexes count = ⊥
 IsRunRefusal errors.Failed indexes count = ⊥
 IsRunRefusal errors.Hole indexes count = ⊥
 IsRunRefusal errors.NumberRange indexes count = ⊥
+
+-- why bytes are refused: memory ran out, or they would be more than this
+abbrev pub IsRoomRefusal : Error → ℕ → ℕ → Type 0
+IsRoomRefusal e most len = (e ≡ errors.Memory) ⊎ ((e ≡ errors.Full) × (most < len))

@@ -1,0 +1,99 @@
+//! Whole records, read by the three decoders.
+use super::{CLEAN_SIGNED, CLEAN_UNSIGNED};
+use crate::{decode_entries_block, decode_footer, decode_header};
+use raft_log_items::{Error, LogItem, LogItemContent};
+use std::alloc::Global;
+use std::test::Fail;
+
+/// Two entries of group 7, from index 5 on, with the bytes `ab` and `cde`, in file 1 of a format with signatures.
+const TWO_ENTRIES: [u8; 36] = [
+    0, 0, 0, 0, 0, 0, 0x24, 0, 0, 0, 0, 0, 0, 0, 0, 0x19, 0x61, 0x62, 0x63, 0x64, 0x65, 0x65, 0xd8,
+    0x87, 0x85, 1, 7, 1, 2, 5, 2, 3, 0x9b, 0xf4, 0x83, 0x1c,
+];
+
+/// The items and the entries' bytes of the record at the front, and what stands behind it.
+fn read_record(
+    alloc: Global,
+    bytes: &[u8],
+    signature: Option<u32>,
+) -> crate::Result<(Vec<LogItem>, &[u8], &[u8])> {
+    let mut rest = bytes;
+    let (offset, compression, len) = decode_header(alloc, &mut rest)?;
+    match (
+        bytes.get(16..offset),
+        bytes.get(offset..len),
+        bytes.get(len..),
+    ) {
+        (Some(block), Some(footer), Some(behind)) => {
+            let items = decode_footer(alloc, footer, block.len(), signature)?;
+            let entries = decode_entries_block(alloc, block, compression)?;
+            Ok((items, entries, behind))
+        }
+        _ => Err(Error::Corruption(format!(in alloc; "cut short")?)),
+    }
+}
+
+#[test]
+fn records_are_read_one_behind_the_other(rt: HostRuntime) -> Result<(), Fail> {
+    let alloc = rt.alloc();
+    let mut bytes = Vec::new(alloc);
+    bytes.extend_from_slice(&TWO_ENTRIES)?;
+    bytes.extend_from_slice(&CLEAN_SIGNED)?;
+    let (items, entries, behind) = read_record(alloc, bytes.as_slice(), Some(1))?;
+    assert_eq!(rt; entries, b"abcde".as_slice());
+    assert_eq!(rt; behind, CLEAN_SIGNED.as_slice());
+    assert_eq!(rt; items.len(), 1);
+    assert_eq!(rt; items[0].raft_group_id, 7);
+    match &items[0].content {
+        LogItemContent::EntryIndexes(run) => {
+            assert_eq!(rt; run.len(), 2);
+            assert_eq!(rt; run.as_slice()[0].index, 5);
+            assert_eq!(rt; run.as_slice()[0].entry_len, 2);
+            assert_eq!(rt; run.as_slice()[1].index, 6);
+            assert_eq!(rt; run.as_slice()[1].entry_len, 3);
+        }
+        _ => assert!(rt; false, "a run of entries"),
+    }
+    let (items, entries, behind) = read_record(alloc, behind, Some(1))?;
+    assert_eq!(rt; items.len(), 1);
+    assert_eq!(rt; entries.len(), 0);
+    assert_eq!(rt; behind.len(), 0);
+    Ok(())
+}
+
+#[test]
+fn each_cut_is_refused(rt: HostRuntime) -> Result<(), Fail> {
+    for len in 0..TWO_ENTRIES.len() {
+        let refused = read_record(rt.alloc(), &TWO_ENTRIES[..len], Some(1)).is_err();
+        assert!(rt; refused, "the first {len} bytes");
+    }
+    Ok(())
+}
+
+#[test]
+fn each_flipped_bit_is_refused(rt: HostRuntime) -> Result<(), Fail> {
+    for at in 0..TWO_ENTRIES.len() {
+        for bit in 0..8u32 {
+            let mut bytes = TWO_ENTRIES;
+            bytes[at] ^= 1 << bit;
+            let refused = read_record(rt.alloc(), &bytes, Some(1)).is_err();
+            assert!(rt; refused, "bit {bit} of byte {at}");
+        }
+    }
+    Ok(())
+}
+
+#[test]
+fn records_of_other_files_are_refused(rt: HostRuntime) -> Result<(), Fail> {
+    let alloc = rt.alloc();
+    assert!(rt; read_record(alloc, &TWO_ENTRIES, Some(1)).is_ok());
+    for signature in [None, Some(0), Some(2), Some(u32::MAX)] {
+        assert!(rt;
+            read_record(alloc, &TWO_ENTRIES, signature).is_err(),
+            "{signature:?}"
+        );
+    }
+    // A file without signatures and one whose number has none of the low bits sign alike.
+    assert!(rt; read_record(alloc, &CLEAN_UNSIGNED, Some(0)).is_ok());
+    Ok(())
+}

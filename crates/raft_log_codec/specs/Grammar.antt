@@ -2,10 +2,6 @@
 -- the function on lists that reads by it from the front.
 use Rattle.std.specs.Prelude.{◌≡◌, ℕ, zero, suc, Bool, List, [], ◌∷◌, ◌++◌, Result, Ok, Err, MatchBool, MatchResult, if◌then◌else◌}
 
--- a kind of spelling: which bytes spell which value
-abbrev pub Grammar : Type 0 → Type 1
-Grammar X = List ℕ → X → Type 0
-
 -- reads a value from the front, and gives it with the bytes after it
 abbrev pub Reader : Type 0 → Type 0 → Type 0
 Reader X E = List ℕ → Result (X × List ℕ) E

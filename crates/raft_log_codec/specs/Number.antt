@@ -45,7 +45,7 @@ IsU16Le = IsLowFirst w16
 abbrev pub IsU64Desc : List ℕ → ℕ → Type 0
 IsU64Desc = Mapped (bit_not w64) IsU64
 
--- the signed number that is so many steps above the least one of 64 bits: the order of bytes is the order of numbers
+-- the signed number that is so many steps above the least one of 64 bits
 abbrev pub above_least : ℕ → ℤ
 above_least n = pos n -ℤ pos (2 ^ 63)
 

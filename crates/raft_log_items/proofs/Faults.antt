@@ -1,10 +1,11 @@
 -- Refusals that are passed on, and decoders that give what a reader reads.
 use Rattle.std.proofs.Common.{◌≡◌, ℕ, List, Result, Ok, Err, refl, sym, ap, ◌∙◌}
+use Rattle.std.specs.Global.{Vec}
 use Rattle.raft_log_codec.specs.Grammar.{Reader, IsReader}
 use Rattle.raft_log_codec.proofs.Grammar.{ok_is}
 use Rattle.raft_log_items.specs.declared.errors.Error.{Error}
 use Rattle.raft_log_items.specs.declared.errors.Error.TheVariants as errors
-use Rattle.raft_log_items.specs.Fault.{Fault, Fails, Answers, Decodes}
+use Rattle.raft_log_items.specs.Fault.{Fault, Fails, Answers, AnswersItems, Decodes, DecodesItems}
 use Rattle.raft_log_items.specs.Fault.Fault.{number}
 
 -- where each fault of one reading is a fault of another, so is the refusal
@@ -51,4 +52,16 @@ decodes {X = X} (Ok y) old new {read = read} h t = record {
 decodes {X = X} (Err d) old new {read = read} h t = record {
   found = t.1;
   only = λ text rest x p e. fails_of_ok d (read old) (x, rest) (ap read e ∙ h.again text rest x p) t.0;
+}
+
+pub decodes_items : {X : Type 0} (result : Result (Vec X) Error) (old new : List ℕ) {read : Reader (List X) Fault} {P : List ℕ → List X → Type 0} → IsReader read P → AnswersItems result old new (read old) → DecodesItems P result old new
+decodes_items {X = X} (Ok ys) old new {read = read} h t = record {
+  found = h.takes old (ys.items, new) t;
+  only = λ text rest xs p e.
+      let same = ok_is {E = Fault} (ys.items, new) (xs, rest) (sym t ∙ ap read e ∙ h.again text rest xs p) in
+      (ap (λ (q : List X × List ℕ). q.0) same, ap (λ (q : List X × List ℕ). q.1) same);
+}
+decodes_items {X = X} (Err d) old new {read = read} h t = record {
+  found = t.1;
+  only = λ text rest xs p e. fails_of_ok d (read old) (xs, rest) (ap read e ∙ h.again text rest xs p) t.0;
 }

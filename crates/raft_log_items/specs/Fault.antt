@@ -57,3 +57,8 @@ pub record Decodes {X : Type 0} (P : List ℕ → X → Type 0) (result : Result
 abbrev pub AnswersItems : {X : Type 0} → Result (Vec X) Error → List ℕ → List ℕ → Result (List X × List ℕ) Fault → Type 0
 AnswersItems (Ok x) old new reading = reading ≡ Ok (x.items, new)
 AnswersItems (Err e) old new reading = Fails e reading × (new ≡ old)
+
+-- A decoder that answers a vector whose items are of this grammar.
+pub record DecodesItems {X : Type 0} (P : List ℕ → List X → Type 0) (result : Result (Vec X) Error) (old new : List ℕ) : Type 0 where
+  pub found : MatchResult result (λ xs. (text : List ℕ) × P text xs.items × (old ≡ text ++ new)) (λ e. new ≡ old)
+  pub only : (text rest : List ℕ) (xs : List X) → P text xs → old ≡ text ++ rest → MatchResult result (λ ys. (ys.items ≡ xs) × (new ≡ rest)) (λ e. e ≡ errors.Memory)

@@ -5,7 +5,7 @@
 ghost use Rattle.std.specs.Prelude.{◌≡◌, ◌+◌, ◌<◌, ◌^◌, length, IfOk};
 ghost use Rattle.raft_log_codec.specs.Grammar.{times_at};
 ghost use Rattle.raft_log_items.specs.Run.{FollowsFrom};
-ghost use Rattle.raft_log_items.specs.Fault.{Answers, AnswersItems, Decodes};
+ghost use Rattle.raft_log_items.specs.Fault.{Answers, AnswersItems, Decodes, DecodesItems};
 ghost use Rattle.raft_log_items.specs.Items.{IsEntries, IsCommand, IsKeyValue, IsItem, AreItems};
 ghost use Rattle.raft_log_items.specs.Reading.{
   bytes_at,
@@ -258,11 +258,9 @@ fn take_items(alloc: Global, source: &mut BytesSlice<'_>, count: u64) -> Result<
     Ok(items)
 }
 
-/// Reads a list of items: their count, and each of them.
-///
-/// No more room is made than for one item a byte, whatever the count says.
+/// Reads as many items as are counted.
 #[tactic(auto, unfolding(crate::specs::Reading::items_at))]
-pub fn decode_items(alloc: Global, source: &mut BytesSlice<'_>) -> Result<Vec<LogItem>>
+fn take_counted_items(alloc: Global, source: &mut BytesSlice<'_>) -> Result<Vec<LogItem>>
     ensures { AnswersItems result source.old.now source.new.now (items_at source.old.now) }
 {
     let mut rest: &[u8] = *source;
@@ -270,6 +268,16 @@ pub fn decode_items(alloc: Global, source: &mut BytesSlice<'_>) -> Result<Vec<Lo
     let items = take_items(alloc, &mut rest, count)?;
     *source = rest;
     Ok(items)
+}
+
+/// Reads a list of items: their count, and each of them.
+///
+/// No more room is made than for one item a byte, whatever the count says.
+pub fn decode_items(alloc: Global, source: &mut BytesSlice<'_>) -> Result<Vec<LogItem>>
+    ensures decodes { DecodesItems AreItems result source.old.now source.new.now }
+    ensures exact { AnswersItems result source.old.now source.new.now (items_at source.old.now) }
+{
+    take_counted_items(alloc, source)
 }
 
 impl EntryIndexes {

@@ -49,7 +49,8 @@ pub fn durable_records_are_read<G: Framing>()
     ensures { DurableIsRead G.is_frame }
 {}
 
-/// So does a log of several files, of which all but the last are synced whole.
+/// What is read of a log of several files, of which all but the last are synced whole, is a beginning of the records
+/// written, with all the synced ones.
 pub fn log_of_files_is_kept<G: Framing>()
     ensures { LogKeepsSynced G.is_frame }
 {}

@@ -11,3 +11,5 @@ pub mod ItemBatches
 pub mod Items
 pub mod Encoded
 pub mod ItemPlaces
+pub mod Marks
+pub mod Meanings

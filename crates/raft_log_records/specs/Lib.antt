@@ -6,3 +6,5 @@ pub mod Frames
 pub mod Written
 pub mod Message
 pub mod ItemBatch
+pub mod AtomicGroup
+pub mod Meaning

@@ -1,6 +1,7 @@
 //! Log records: items and entries in signed batches.
 #![tactic(auto)]
 
+pub mod atomic_group;
 pub mod footer;
 pub mod header;
 pub mod laws;
@@ -10,6 +11,7 @@ pub mod message;
 mod places;
 mod record;
 
+pub use atomic_group::{AtomicGroupBuilder, AtomicGroupStatus};
 pub use footer::decode_footer;
 pub use header::{LOG_BATCH_HEADER_LEN, decode_entries_block, decode_header};
 pub use log_batch::{BatchState, LogBatch};

@@ -1,13 +1,20 @@
 -- Items that are added to a batch.
-use Rattle.std.proofs.Common.{◌≡◌, ℕ, ◌+◌, List, [], ◌∷◌, ◌++◌, take, drop, refl, sym, ap, ◌∙◌, arith}
-use Rattle.std.proofs.lemmas.List.Sums.{sum_by-cons, sum_by_push}
+use Rattle.std.proofs.Common.{◌≡◌, ℕ, ◌+◌, ◌<◌, ◌≤◌, List, [], ◌∷◌, ◌++◌, length, take, drop, refl, sym, ap, subst, ◌∙◌, arith}
+use Rattle.std.proofs.Math.Seq.{take-length}
+use Rattle.std.proofs.lemmas.List.{length-append, length-take-le, length-drop, drop-append-le}
+use Rattle.std.proofs.lemmas.List.Concat.{length-flat_map}
+use Rattle.std.proofs.lemmas.List.Sums.{sum_by-cons, sum_by-append, sum_by_push}
+use Rattle.raft_log_items.specs.declared.entry.EntryIndex.{EntryIndex}
 use Rattle.raft_log_items.specs.declared.item.LogItemContent.{LogItemContent}
 use Rattle.raft_log_items.specs.declared.item.LogItemContent.TheVariants as contents
 use Rattle.raft_log_items.specs.declared.item.LogItem.{LogItem}
-use Rattle.raft_log_items.specs.Placed.{content_len, entries_len, laid_content, laid_out}
+use Rattle.raft_log_items.specs.Placed.{run_len, content_len, entries_len, laid_run, laid_content, laid_out}
 use Rattle.raft_log_records.specs.declared.log_batch.BatchState.{BatchState}
 use Rattle.raft_log_records.specs.declared.log_batch.BatchState.TheVariants.{Filling, Populated, Signed, Written}
-use Rattle.raft_log_records.specs.Batch.{IsBatch, HasNoEntries, HoldsIn}
+use Rattle.raft_log_records.specs.Batch.{Batch, IsBatch, HasNoEntries, HoldsIn, max_entries_len}
+use Rattle.raft_log_records.specs.Entries.{entries_of, entries_item, joined, bytes_len, with_entries}
+use Rattle.raft_log_records.proofs.Buffer.{in_filling}
+use Rattle.raft_log_records.proofs.Entries.{run_len-entries_of}
 
 pub laid_out-append : (offset : ℕ) (a b : List LogItem) → laid_out offset (a ++ b) ≡ laid_out offset a ++ laid_out (offset + entries_len a) b
 laid_out-append offset [] b = ap (λ (o : ℕ). laid_out o b) (omega arith)
@@ -44,3 +51,87 @@ pushed state buffer len sum items x e plain h = record {
       ∙ ap (λ (c : LogItemContent). items ++ record x { content = c } ∷ []) (plain_laid (0 + entries_len items) x.content plain);
   holds = filling_holds state buffer (take len (drop 16 buffer)) sum items (items ++ x ∷ []) e h.holds;
 }
+
+-- ---- entries
+
+run_len-laid : (offset : ℕ) (es : List EntryIndex) → run_len (laid_run offset es) ≡ run_len es
+run_len-laid offset [] = refl
+run_len-laid offset (e ∷ es) =
+    let f : EntryIndex → ℕ = λ (x : EntryIndex). x.entry_len in
+    sum_by-cons f (record e { entry_offset = offset }) (laid_run (offset + e.entry_len) es) ∙ ap (λ (n : ℕ). e.entry_len + n) (run_len-laid (offset + e.entry_len) es) ∙ sym (sum_by-cons f e es)
+
+laid_twice : (offset : ℕ) (es : List EntryIndex) → laid_run offset (laid_run offset es) ≡ laid_run offset es
+laid_twice offset [] = refl
+laid_twice offset (e ∷ es) = ap (λ (l : List EntryIndex). record e { entry_offset = offset } ∷ l) (laid_twice (offset + e.entry_len) es)
+
+item_len : (group offset : ℕ) (indexes : List ℕ) (entries : List (List ℕ)) → length indexes ≡ length entries → content_len (entries_item group offset indexes entries).content ≡ bytes_len entries
+item_len group offset indexes entries same = run_len-laid offset (entries_of indexes entries) ∙ run_len-entries_of indexes entries same
+
+-- the buffer of a batch that is being filled has nothing behind the entries' bytes
+pub filling_size : (state : BatchState) (buffer : List ℕ) (len sum : ℕ) (items : List LogItem) → state ≡ Filling → IsBatch state buffer len sum items → length buffer ≡ 16 + len
+filling_size state buffer len sum items e h =
+    let count : length (take len (drop 16 buffer)) ≡ len = length-take-le len (drop 16 buffer) (omega (arith, h.room, length-drop 16 buffer)) in
+    in_filling state buffer sum items (take len (drop 16 buffer)) e h.holds ∙ ap (λ (n : ℕ). 16 + n) count
+
+-- bytes behind those of the entries
+pub more_bytes : (buffer more : List ℕ) (len added : ℕ) → length buffer ≡ 16 + len → length more ≡ added → take (len + added) (drop 16 (buffer ++ more)) ≡ take len (drop 16 buffer) ++ more
+more_bytes buffer more len added size count =
+    let behind : drop 16 (buffer ++ more) ≡ drop 16 buffer ++ more = drop-append-le 16 buffer more (omega (arith, size)) in
+    let whole : length (drop 16 buffer) ≡ len = omega (arith, length-drop 16 buffer, size) in
+    let all : take (len + added) (drop 16 buffer ++ more) ≡ drop 16 buffer ++ more =
+    ap (λ (n : ℕ). take n (drop 16 buffer ++ more)) (omega (arith, whole, count, length-append (drop 16 buffer) more)) ∙ take-length (drop 16 buffer ++ more) in
+    let front : take len (drop 16 buffer) ≡ drop 16 buffer = ap (λ (n : ℕ). take n (drop 16 buffer)) (sym whole) ∙ take-length (drop 16 buffer) in
+    ap (λ (l : List ℕ). take (len + added) l) behind ∙ all ∙ ap (λ (l : List ℕ). l ++ more) (sym front)
+
+still_filling : (state : BatchState) (buffer entries : List ℕ) (sum : ℕ) (items : List LogItem) → state ≡ Filling → length buffer ≡ 16 + length entries → HoldsIn state buffer sum items entries
+still_filling Filling buffer entries sum items e h = h
+still_filling Populated buffer entries sum items e h = absurd cc
+still_filling (Signed s) buffer entries sum items e h = absurd cc
+still_filling Written buffer entries sum items e h = absurd cc
+
+-- items with bytes of entries, laid out behind what a batch has
+pub items_added : (state : BatchState) (buffer more : List ℕ) (len added sum : ℕ) (items after : List LogItem) → state ≡ Filling → length more ≡ added → len + added ≤ max_entries_len
+    → entries_len after ≡ added → laid_out len after ≡ after → IsBatch state buffer len sum items → IsBatch state (buffer ++ more) (len + added) sum (items ++ after)
+items_added state buffer more len added sum items after e count fits adds laid h =
+    let size : length buffer ≡ 16 + len = filling_size state buffer len sum items e h in
+    let grown : length (buffer ++ more) ≡ 16 + (len + added) = omega (arith, length-append buffer more, size, count) in
+    let entries : List ℕ = take (len + added) (drop 16 (buffer ++ more)) in
+    let whole : length entries ≡ len + added = length-take-le (len + added) (drop 16 (buffer ++ more)) (omega (arith, grown, length-drop 16 (buffer ++ more))) in
+    record {
+      room = omega (arith, grown);
+      fits = fits;
+      adds = sum_by-append (λ (y : LogItem). content_len y.content) items after ∙ omega (arith, h.adds, adds);
+      laid = laid_out-append 0 items after ∙ ap (λ (l : List LogItem). l ++ laid_out (0 + entries_len items) after) h.laid
+          ∙ ap (λ (n : ℕ). items ++ laid_out n after) (omega (arith, h.adds)) ∙ ap (λ (l : List LogItem). items ++ l) laid;
+      holds = still_filling state (buffer ++ more) entries sum (items ++ after) e (omega (arith, grown, whole));
+    }
+
+-- entries of a group
+pub entries_added : (state : BatchState) (buffer new : List ℕ) (len added sum group : ℕ) (items : List LogItem) (indexes : List ℕ) (entries : List (List ℕ)) → state ≡ Filling → length indexes ≡ length entries
+    → bytes_len entries ≡ added → len + added ≤ max_entries_len → new ≡ buffer ++ joined entries → IsBatch state buffer len sum items
+    → IsBatch state new (len + added) sum (items ++ entries_item group len indexes entries ∷ [])
+entries_added state buffer new len added sum group items indexes entries e same count fits grown h =
+    let item : LogItem = entries_item group len indexes entries in
+    let size : length (joined entries) ≡ added = length-flat_map (λ (x : List ℕ). x) entries ∙ count in
+    let adds : entries_len (item ∷ []) ≡ added = omega (arith, sum_by-cons (λ (y : LogItem). content_len y.content) item [], item_len group len indexes entries same, count) in
+    let laid : laid_out len (item ∷ []) ≡ item ∷ [] = ap (λ (l : List EntryIndex). record item { content = contents.EntryIndexes l } ∷ []) (laid_twice len (entries_of indexes entries)) in
+    subst (λ (l : List ℕ). IsBatch state l (len + added) sum (items ++ item ∷ [])) (sym grown) (items_added state buffer (joined entries) len added sum items (item ∷ []) e size fits adds laid h)
+
+with_some : (b : Batch) (group : ℕ) (indexes : List ℕ) (entries : List (List ℕ)) → 0 < length entries
+    → with_entries b group indexes entries ≡ record b { items = b.items ++ entries_item group (length b.entries) indexes entries ∷ []; entries = b.entries ++ joined entries }
+with_some b group indexes [] some = absurd (omega arith)
+with_some b group indexes (x ∷ xs) some = refl
+
+-- what callers see of the batch then
+pub entries_seen : (state : BatchState) (buffer new : List ℕ) (len added sum group : ℕ) (items : List LogItem) (indexes : List ℕ) (entries : List (List ℕ)) → state ≡ Filling
+    → 0 < length entries → bytes_len entries ≡ added → new ≡ buffer ++ joined entries → IsBatch state buffer len sum items
+    → record { state = state; items = items ++ entries_item group len indexes entries ∷ []; entries = take (len + added) (drop 16 new) }
+    ≡ with_entries (record { state = state; items = items; entries = take len (drop 16 buffer) }) group indexes entries
+entries_seen state buffer new len added sum group items indexes entries e some count grown h =
+    let size : length buffer ≡ 16 + len = filling_size state buffer len sum items e h in
+    let more : length (joined entries) ≡ added = length-flat_map (λ (x : List ℕ). x) entries ∙ count in
+    let seen : take (len + added) (drop 16 new) ≡ take len (drop 16 buffer) ++ joined entries = ap (λ (l : List ℕ). take (len + added) (drop 16 l)) grown ∙ more_bytes buffer (joined entries) len added size more in
+    let at : len ≡ length (take len (drop 16 buffer)) = sym (length-take-le len (drop 16 buffer) (omega (arith, size, length-drop 16 buffer))) in
+    ap (λ (l : List ℕ). record { state = state; items = items ++ entries_item group len indexes entries ∷ []; entries = l }) seen
+    ∙ ap (λ (n : ℕ). record { state = state; items = items ++ entries_item group n indexes entries ∷ []; entries = take len (drop 16 buffer) ++ joined entries }) at
+    ∙ sym (with_some (record { state = state; items = items; entries = take len (drop 16 buffer) }) group indexes entries some)

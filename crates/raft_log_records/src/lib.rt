@@ -2,8 +2,6 @@
 #![tactic(auto)]
 
 pub mod atomic_group;
-pub mod footer;
-pub mod header;
 pub mod laws;
 pub mod log_batch;
 pub mod log_item_batch;
@@ -12,11 +10,12 @@ mod places;
 mod record;
 
 pub use atomic_group::{AtomicGroupBuilder, AtomicGroupStatus};
-pub use footer::decode_footer;
-pub use header::{LOG_BATCH_HEADER_LEN, decode_entries_block, decode_header};
 pub use log_batch::{BatchState, LogBatch};
 pub use log_item_batch::LogItemBatch;
 pub use message::{Message, MessageExt};
+pub use raft_log_frames::{
+    LOG_BATCH_HEADER_LEN, decode_entries_block, decode_footer, decode_header,
+};
 pub use raft_log_items::{
     Bytes, Command, CompressionType, EntryIndex, EntryIndexes, Error, FileBlockHandle, FileId,
     FileSeq, KeyValue, LogFileContext, LogItem, LogItemContent, LogQueue, OpType, Result, Version,

@@ -2,11 +2,17 @@
 ghost use Rattle.std.specs.Prelude.{◌≡◌, false, OnOk, IfErr};
 ghost use Rattle.raft_log_records.specs.Key.{is_internal, IsKeyRefusal};
 
-use crate::header::LOG_BATCH_HEADER_LEN;
 use crate::record::{are_bytes, fill_record, write_checksum};
+use raft_log_frames::LOG_BATCH_HEADER_LEN;
 use raft_log_items::{Bytes, Command, Error, LogFileContext, LogItem, OpType, Result};
 use std::alloc::{AllocError, Global};
 use std::marker::Model;
+
+mod entries;
+mod messages;
+
+/// The most bytes that the entries of a batch may have.
+const MAX_ENTRIES_LEN: usize = 2_147_483_647;
 
 /// How far a batch is on its way to a file.
 #[derive(Clone, Copy, Debug, PartialEq, Eq)]
@@ -75,7 +81,7 @@ impl LogBatch {
     ghost use Rattle.raft_log_records.specs.Key.{is_internal, IsKeyRefusal, put_item, del_item};
     ghost use Rattle.raft_log_items.specs.Files.{signature_of};
     ghost use Rattle.raft_log_items.specs.Writing.{plain_item};
-    ghost use Rattle.raft_log_records.specs.Record.{record_len, IsRecord};
+    ghost use Rattle.raft_log_frames.specs.Record.{record_len, IsRecord};
     ghost use Rattle.raft_log_records.specs.Batch.{batch_bytes, HasNoEntries, IsMemoryOrFull, IsMade, IsSigned, signature_in};
     ghost use Rattle.std.specs.Prelude.{◌≡◌, ◌++◌, ◌∷◌, ◌↔◌, [], map, IfOk, OnOk, OnErr, IsTrue};
     ghost use Rattle.raft_log_records.specs.declared.log_batch.BatchState.TheVariants.{Filling, Populated, Signed, Written};

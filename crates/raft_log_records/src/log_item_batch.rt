@@ -2,9 +2,9 @@
 ghost use Rattle.std.specs.Prelude.{◌≡◌, ◌-◌, ◌^◌, min, slice_get};
 ghost use Rattle.raft_log_records.specs.ItemBatch.{content_size, items_size, all_entries};
 
-use crate::footer::decode_footer;
 use crate::message::Message;
 use crate::places::place;
+use raft_log_frames::decode_footer;
 use raft_log_items::encode::append_items;
 use raft_log_items::{
     Bytes, Command, CompressionType, EntryIndex, EntryIndexes, FileBlockHandle, LogFileContext,
@@ -102,7 +102,7 @@ impl LogItemBatch {
     ghost use Rattle.raft_log_items.specs.declared.item.LogItem.{LogItem};
     ghost use Rattle.raft_log_items.specs.Fault.{Gives};
     ghost use Rattle.raft_log_items.specs.Files.{signature_of};
-    ghost use Rattle.raft_log_records.specs.Record.{IsFooter, AddsUp};
+    ghost use Rattle.raft_log_frames.specs.Record.{IsFooter, AddsUp};
     ghost use Rattle.raft_log_records.specs.ItemBatch.{items_size, all_entries, placed, IsPlacedFooter, batch_of};
 
     /// An empty batch.

@@ -1,7 +1,7 @@
 use Rattle.std.proofs.Common.{◌≡◌, ℕ, List, Option, length, drop, sym, ap, subst, ◌∙◌}
 use Rattle.std.proofs.lemmas.List.{take_at}
 use Rattle.raft_log_items.specs.declared.item.LogItem.{LogItem}
-use Rattle.raft_log_records.specs.Record.{IsFooter}
+use Rattle.raft_log_frames.specs.Record.{IsFooter}
 use Rattle.raft_log_records.specs.ItemBatch.{placed}
 use Rattle.raft_log_records.proofs.log_item_batch.LogItemBatch.decode.Goals as goal
 

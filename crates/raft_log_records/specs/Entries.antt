@@ -1,0 +1,85 @@
+-- Entries that are added to a batch, by their indexes and their bytes.
+use Rattle.std.specs.Prelude.{◌≡◌, ◌⊎◌, ℕ, ◌+◌, ◌<◌, ◌^◌, List, [], ◌∷◌, ◌++◌, length, sum_by, flat_map}
+use Rattle.raft_log_items.specs.declared.entry.EntryIndex.{EntryIndex}
+use Rattle.raft_log_items.specs.declared.errors.Error.{Error}
+use Rattle.raft_log_items.specs.declared.errors.Error.TheVariants as errors
+use Rattle.raft_log_items.specs.declared.item.LogItemContent.TheVariants as contents
+use Rattle.raft_log_items.specs.declared.item.LogItem.{LogItem}
+use Rattle.raft_log_items.specs.Run.{unplaced_entry}
+use Rattle.raft_log_items.specs.Placed.{laid_run}
+use Rattle.raft_log_records.specs.Batch.{Batch, max_entries_len}
+
+-- the indexes rise by one from this one on
+abbrev pub RisesFrom : ℕ → List ℕ → Type 0
+RisesFrom i [] = Unit {0}
+RisesFrom i (x ∷ xs) = (x ≡ i) × RisesFrom (i + 1) xs
+
+-- the indexes rise by one, and none is 2 ^ 64 - 1
+abbrev pub IsIndexRun : List ℕ → Type 0
+IsIndexRun [] = Unit {0}
+IsIndexRun (x ∷ xs) = RisesFrom x (x ∷ xs) × (x + length (x ∷ xs) < 2 ^ 64)
+
+-- there are as many indexes as entries, and the indexes are those of a run
+abbrev pub IsRunOf : List ℕ → List (List ℕ) → Type 0
+IsRunOf indexes entries = (length indexes ≡ length entries) × IsIndexRun indexes
+
+-- the entries with these indexes and bytes, which are in no file yet
+abbrev pub entries_of : List ℕ → List (List ℕ) → List EntryIndex
+entries_of [] bytes = []
+entries_of (i ∷ is) [] = []
+entries_of (i ∷ is) (b ∷ bs) = unplaced_entry i (length b) ∷ entries_of is bs
+
+-- the item of these entries of a group, whose bytes begin at this offset of the batch's entry block
+abbrev pub entries_item : ℕ → ℕ → List ℕ → List (List ℕ) → LogItem
+entries_item group offset indexes entries = record { raft_group_id = group; content = contents.EntryIndexes (laid_run offset (entries_of indexes entries)) }
+
+-- the bytes of the entries, one after another
+abbrev pub joined : List (List ℕ) → List ℕ
+joined entries = flat_map (λ e. e) entries
+
+-- the batch with these entries of a group; no entries add nothing
+abbrev pub with_entries : Batch → ℕ → List ℕ → List (List ℕ) → Batch
+with_entries b group indexes [] = b
+with_entries b group indexes (x ∷ xs) = record b { items = b.items ++ entries_item group (length b.entries) indexes (x ∷ xs) ∷ []; entries = b.entries ++ joined (x ∷ xs) }
+
+-- how many bytes these entries have
+abbrev pub bytes_len : List (List ℕ) → ℕ
+bytes_len entries = sum_by (λ e. length e) entries
+
+-- why entries are refused: they are no run, or else they make too many bytes, or memory ran out
+abbrev pub IsEntriesRefusal : Error → Batch → List ℕ → List (List ℕ) → Type 0
+IsEntriesRefusal errors.Memory b indexes entries = Unit {0}
+IsEntriesRefusal (errors.InvalidArgument text) b indexes entries = IsRunOf indexes entries → ⊥
+IsEntriesRefusal errors.Full b indexes entries = IsRunOf indexes entries × (max_entries_len < length b.entries + bytes_len entries)
+IsEntriesRefusal (errors.Corruption text) b indexes entries = ⊥
+IsEntriesRefusal (errors.Io kind) b indexes entries = ⊥
+IsEntriesRefusal (errors.Codec c) b indexes entries = ⊥
+IsEntriesRefusal (errors.Message text) b indexes entries = ⊥
+IsEntriesRefusal (errors.TryAgain text) b indexes entries = ⊥
+IsEntriesRefusal errors.EntryCompacted b indexes entries = ⊥
+IsEntriesRefusal errors.EntryNotFound b indexes entries = ⊥
+IsEntriesRefusal (errors.Other e) b indexes entries = ⊥
+IsEntriesRefusal errors.Failed b indexes entries = ⊥
+IsEntriesRefusal errors.Hole b indexes entries = ⊥
+IsEntriesRefusal errors.NumberRange b indexes entries = ⊥
+
+-- why indexes are refused
+abbrev pub IsRunRefusal : Error → List ℕ → ℕ → Type 0
+IsRunRefusal errors.Memory indexes count = Unit {0}
+IsRunRefusal (errors.InvalidArgument text) indexes count = ((length indexes ≡ count) × IsIndexRun indexes) → ⊥
+IsRunRefusal errors.Full indexes count = ⊥
+IsRunRefusal (errors.Corruption text) indexes count = ⊥
+IsRunRefusal (errors.Io kind) indexes count = ⊥
+IsRunRefusal (errors.Codec c) indexes count = ⊥
+IsRunRefusal (errors.Message text) indexes count = ⊥
+IsRunRefusal (errors.TryAgain text) indexes count = ⊥
+IsRunRefusal errors.EntryCompacted indexes count = ⊥
+IsRunRefusal errors.EntryNotFound indexes count = ⊥
+IsRunRefusal (errors.Other e) indexes count = ⊥
+IsRunRefusal errors.Failed indexes count = ⊥
+IsRunRefusal errors.Hole indexes count = ⊥
+IsRunRefusal errors.NumberRange indexes count = ⊥
+
+-- why bytes are refused: memory ran out, or they would be more than this
+abbrev pub IsRoomRefusal : Error → ℕ → ℕ → Type 0
+IsRoomRefusal e most len = (e ≡ errors.Memory) ⊎ ((e ≡ errors.Full) × (most < len))

@@ -4,6 +4,7 @@ pub mod StorageLaws
 pub mod Whole
 pub mod Calls
 pub mod Turns
+pub mod CountDown
 pub mod Paths
 pub mod Listings
 pub mod Remains

@@ -1,6 +1,7 @@
 -- Which changing calls of a file system in memory fail, and how.
-use Rattle.std.specs.Prelude.{◌≡◌, ℕ, ◌-◌, ◌≤◌, ◌⊎◌, true, false, cond}
-use Rattle.std.proofs.Common.{nat_eq}
+use Rattle.std.specs.Prelude.{◌≡◌, ℕ, ◌-◌, ◌≤◌, ◌⊎◌, true, false, cond, List, [], ◌∷◌, ◌++◌}
+use Rattle.std.specs.List.{Contains, filter}
+use Rattle.std.proofs.Common.{map, nat_eq, nat_lt}
 use Rattle.std.specs.declared.io.ErrorKind.{ErrorKind}
 use Rattle.std.specs.declared.io.ErrorKind.TheVariants.{Other, OutOfMemory, StorageFull}
 use Rattle.raft_log_disk.specs.Disk.{Piece, Disk, file_limit}
@@ -11,30 +12,34 @@ use Rattle.raft_log_files.specs.declared.handle.Fault.TheVariants.{Refuse, StopA
 use Rattle.raft_log_memory_files.specs.declared.memory.MemoryFileSystem.{MemoryFileSystem}
 use Rattle.raft_log_memory_files.specs.Memory.{disk_of}
 
--- how many changing calls there are up to the one that is refused, and up to the one at which the file system stops;
--- 0 where none is armed
+-- how many changing calls there are up to each one that is refused, and up to the one at which the file system stops,
+-- or 0 where no stop is armed
 pub record Armed : Type 0 where
-  pub refusal : ℕ
+  pub refusals : List ℕ
   pub stop : ℕ
 
 abbrev pub armed : MemoryFileSystem → Armed
-armed system = record { refusal = system.refuse; stop = system.stop }
+armed system = record { refusals = system.refusals.items; stop = system.stop }
 
 abbrev pub nothing_armed : Armed
-nothing_armed = record { refusal = 0; stop = 0 }
+nothing_armed = record { refusals = []; stop = 0 }
 
--- a fault is armed in place of the one before; at the number 0 none is
+-- one refusal more, or a stop in place of the one before; at the number 0 nothing is armed
 abbrev pub armed_with : Fault → Armed → Armed
-armed_with (Refuse n) a = record a { refusal = cond (nat_eq n 0) a.refusal n }
+armed_with (Refuse n) a = record a { refusals = cond (nat_eq n 0) a.refusals (a.refusals ++ n ∷ []) }
 armed_with (StopAt n) a = record a { stop = cond (nat_eq n 0) a.stop n }
+
+-- the refusals that don't fall at the next changing call, one call nearer
+abbrev pub nearer : List ℕ → List ℕ
+nearer refusals = map (λ n. n - 1) (filter (λ n. nat_lt 1 n) refusals)
 
 -- one changing call later
 abbrev pub call_later : Armed → Armed
-call_later a = record { refusal = a.refusal - 1; stop = a.stop - 1 }
+call_later a = record { refusals = nearer a.refusals; stop = a.stop - 1 }
 
--- what is armed doesn't fall at the next changing call
+-- nothing falls at the next changing call
 pub record IsSpared (a : Armed) : Type 0 where
-  pub refusal : a.refusal ≡ 1 → ⊥
+  pub refusal : Contains a.refusals 1 → ⊥
   pub stop : a.stop ≡ 1 → ⊥
 
 -- the call counts as a changing one: the file system runs, and the argument is right
@@ -48,9 +53,9 @@ pub record IsAnswered (old new : MemoryFileSystem) : Type 0 where
   pub spared : IsSpared (armed old)
   pub next : armed new ≡ call_later (armed old)
 
--- The armed refusal fell, and nothing was done. (One failure more, and where no more can be counted, a stop.)
+-- An armed refusal fell, and nothing was done. (One failure more, and where no more can be counted, a stop.)
 pub record IsRefused (error : ErrorKind) (old new : MemoryFileSystem) : Type 0 where
-  pub falls : (armed old).refusal ≡ 1
+  pub falls : Contains (armed old).refusals 1
   pub no_stop : (armed old).stop ≡ 1 → ⊥
   pub kind : error ≡ Other
   pub left : (disk_of new ≡ counted (disk_of old)) ⊎ (disk_of new ≡ at_stop (disk_of old))
@@ -63,7 +68,7 @@ pub record IsStopped (left : Disk → Type 0) (old new : MemoryFileSystem) : Typ
   pub done : disk_of new ≡ at_stop disk
 
 -- Why a changing call was refused: it doesn't count, as the file system has stopped or the argument is wrong; or the
--- armed stop fell, or the armed refusal; or nothing fell, and the file would get too long or memory is short.
+-- armed stop fell, or an armed refusal; or nothing fell, and the file would get too long or memory is short.
 pub data IsRefusedCall (left : Disk → Type 0) (wrong : ErrorKind → Type 0) (long : Type 0) (error : ErrorKind) (old new : MemoryFileSystem) : Type 0 where
   uncounted : ((disk_of old).stopped ≡ true) ⊎ wrong error → armed new ≡ armed old → IsRefusedCall left wrong long error old new
   stop_fell : IsCounted wrong old new → IsStopped left old new → IsRefusedCall left wrong long error old new

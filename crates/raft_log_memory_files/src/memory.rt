@@ -25,8 +25,8 @@ pub struct MemoryFileSystem {
     storage: Storage,
     failures: u64,
     stopped: bool,
-    // How many changing calls there are up to the one that is refused, and up to the one at which it stops; 0 where none is armed.
-    refuse: u64,
+    // How many changing calls there are up to each one that is refused, and up to the one at which it stops, or 0.
+    refusals: Vec<u64>,
     stop: u64,
     ghost whole: { IsWhole storage } by { IsWhole-prop storage },
 }
@@ -48,7 +48,7 @@ impl MemoryFileSystem {
             storage: Storage::new(alloc),
             failures: 0,
             stopped: false,
-            refuse: 0,
+            refusals: Vec::new(alloc),
             stop: 0,
         }
     }
@@ -73,7 +73,7 @@ impl MemoryFileSystem {
             storage,
             failures: 0,
             stopped: false,
-            refuse: 0,
+            refusals: Vec::new(self.storage.alloc),
             stop: 0,
         })
     }

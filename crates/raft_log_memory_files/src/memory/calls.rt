@@ -4,7 +4,7 @@ use raft_log_files::{Fault, FileSystem, Handle, Permission};
 use std::io::ErrorKind;
 
 impl FileSystem for MemoryFileSystem {
-    ghost use Rattle.std.specs.Prelude.{◌≡◌, ℕ, ◌+◌, Bool, true, OnOk, OnErr, IfOk, IfErr};
+    ghost use Rattle.std.specs.Prelude.{◌≡◌, ℕ, ◌+◌, ◌⊎◌, Bool, true, OnOk, OnErr, IfOk, IfErr};
     ghost use Rattle.raft_log_disk.specs.Disk.{Wrote, CutTo, GrewTo};
     ghost use Rattle.raft_log_disk.specs.Calls.{Creates, Deletes, Renames, MakesDirectory, Changes, after_piece, flushed, with_marks, RefusedWhole, RefusedPiece};
     ghost use Rattle.raft_log_files.specs.Arguments.{WrongCreate, WrongName, WrongRename, WrongDirectory, WrongHandle, WrongWriter};
@@ -189,14 +189,19 @@ impl FileSystem for MemoryFileSystem {
         ensures ok { OnOk result ((marks : ℕ → ℕ → Bool) × (disk_of self.new ≡ with_marks marks (disk_of self.old))) }
         ensures err { OnErr result (disk_of self.new ≡ disk_of self.old) }
         ensures armed { OnOk result (armed self.new ≡ armed_with fault.now (armed self.old)) }
-        ensures stopped { OnErr result ((disk_of self.old).stopped ≡ true) }
+        ensures cause { IfErr result (λ error. ((disk_of self.old).stopped ≡ true) ⊎ (error ≡ ErrorKind.OutOfMemory)) }
     {
         self.check_runs()?;
         match fault {
-            Fault::Refuse(n) => self.refuse_call(*n),
-            Fault::StopAt(n) => self.stop_at(*n),
+            Fault::Refuse(n) => match self.refuse_call(*n) {
+                Ok(()) => Ok(()),
+                Err(_) => Err(ErrorKind::OutOfMemory),
+            },
+            Fault::StopAt(n) => {
+                self.stop_at(*n);
+                Ok(())
+            }
         }
-        Ok(())
     }
 
     ghost sound = { λ system. let storage = system.whole.sound in

@@ -1,9 +1,12 @@
 // Which changing calls are refused, and at which one the file system stops.
-ghost use Rattle.std.specs.Prelude.{◌≡◌, ◌-◌, ◌↔◌, IsTrue};
+ghost use Rattle.std.specs.Prelude.{◌≡◌, ◌-◌, ◌↔◌, IsTrue, map};
+ghost use Rattle.std.specs.List.{Contains};
+ghost use Rattle.raft_log_memory_files.specs.Turns.{nearer};
 
 use super::MemoryFileSystem;
 use super::storage::Node;
 use raft_log_files::{Fault, Handle, Permission};
+use std::alloc::AllocError;
 use std::io::ErrorKind;
 
 impl MemoryFileSystem {
@@ -13,18 +16,21 @@ impl MemoryFileSystem {
     ghost use Rattle.raft_log_memory_files.specs.Memory.{disk_of};
     ghost use Rattle.raft_log_memory_files.specs.Turns.{armed, armed_with, call_later, IsSpared, IsRefused, IsStopped};
 
-    /// Lets the n-th changing call from now be refused; it changes nothing. 0 leaves what was armed.
-    pub fn refuse_call(&mut self, n: u64)
+    /// Lets the n-th changing call from now be refused; it changes nothing. Refusals that are armed already stay. 0 arms
+    /// none. It is refused for want of memory alone.
+    pub fn refuse_call(&mut self, n: u64) -> Result<(), AllocError>
         ensures same { disk_of self.new ≡ disk_of self.old }
-        ensures armed { armed self.new ≡ armed_with (Fault.Refuse n) (armed self.old) }
+        ensures ok { OnOk result (armed self.new ≡ armed_with (Fault.Refuse n) (armed self.old)) }
+        ensures err { OnErr result (armed self.new ≡ armed self.old) }
     {
         if n != 0 {
-            self.refuse = n;
+            self.refusals.push(n)?;
         }
+        Ok(())
     }
 
-    /// Lets the file system stop at the n-th changing call from now: a write, a cut or an allocation there counts as not
-    /// synced, any other call hasn't happened. 0 leaves what was armed.
+    /// Lets the file system stop at the n-th changing call from now, in place of a stop that was armed: a write, a cut or
+    /// an allocation there counts as not synced, any other call hasn't happened. 0 leaves what was armed.
     pub fn stop_at(&mut self, n: u64)
         ensures same { disk_of self.new ≡ disk_of self.old }
         ensures armed { armed self.new ≡ armed_with (Fault.StopAt n) (armed self.old) }
@@ -43,8 +49,8 @@ impl MemoryFileSystem {
         ensures spared { IfOk result (λ stops. stops ≡ false → IsSpared (armed self.old)) }
         ensures err { IfErr result (λ error. IsRefused error self.old self.new) }
     {
-        let stops = falls(&mut self.stop);
-        let refused = falls(&mut self.refuse);
+        let stops = stop_falls(&mut self.stop);
+        let refused = refusal_falls(&mut self.refusals);
         if refused && !stops {
             return Err(self.fail(ErrorKind::Other));
         }
@@ -152,14 +158,33 @@ impl MemoryFileSystem {
     }
 }
 
-// Counts a call down, and says whether it is the one that was armed.
-fn falls(left: &mut u64) -> bool
-    ensures left { left.new ≡ left.old - 1 }
-    ensures falls { IsTrue result ↔ (left.old ≡ 1) }
+// Counts a call, and says whether the stop falls at it.
+fn stop_falls(stop: &mut u64) -> bool
+    ensures later { stop.new ≡ stop.old - 1 }
+    ensures falls { IsTrue result ↔ (stop.old ≡ 1) }
 {
-    if *left == 0 {
+    if *stop == 0 {
         return false;
     }
-    *left -= 1;
-    *left == 0
+    *stop -= 1;
+    *stop == 0
+}
+
+// Counts a call, and says whether a refusal falls at it.
+fn refusal_falls(refusals: &mut Vec<u64>) -> bool
+    ensures later { refusals.new.items ≡ nearer refusals.old.items }
+    ensures falls { IsTrue result ↔ Contains refusals.old.items 1 }
+{
+    let falls = refusals.contains(&1);
+    refusals.retain(|n| 1 < *n);
+    count_down(refusals);
+    falls
+}
+
+fn count_down(refusals: &mut [u64])
+    ensures { refusals.new ≡ map (λ n. n - 1) refusals.old }
+{
+    for n in refusals.iter_mut() {
+        *n = n.saturating_sub(1);
+    }
 }

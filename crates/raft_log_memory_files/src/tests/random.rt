@@ -87,9 +87,9 @@ struct Run {
     system: MemoryFileSystem,
     model: Model,
     has_late: bool,
-    // How many changing calls there were, and at which of them one is refused and the system stops.
+    // How many changing calls there were, which of them are refused, and at which the system stops.
     calls: usize,
-    refuse_at: Option<usize>,
+    refuse_at: Vec<usize>,
     stop_at: Option<usize>,
     stopped: bool,
     failures: u64,
@@ -115,7 +115,7 @@ impl Run {
             model: Model::new(alloc),
             has_late: false,
             calls: 0,
-            refuse_at: None,
+            refuse_at: Vec::new(alloc),
             stop_at: None,
             stopped: false,
             failures: 0,
@@ -130,7 +130,7 @@ impl Run {
             self.stops = self.stops.wrapping_add(1);
             return Turn::Stopped;
         }
-        if self.refuse_at == Some(self.calls) {
+        if self.refuse_at.contains(&self.calls) {
             self.failures = self.failures.wrapping_add(1);
             return Turn::Refused;
         }
@@ -327,7 +327,7 @@ impl Run {
         })
     }
 
-    fn arm(&mut self) {
+    fn arm(&mut self) -> Result<(), Fail> {
         let count = self.random.below(7);
         if self.random.below(3) == 0 {
             self.system.stop_at(count as u64);
@@ -335,18 +335,19 @@ impl Run {
                 self.stop_at = Some(self.calls.wrapping_add(count));
             }
         } else {
-            self.system.refuse_call(count as u64);
+            self.system.refuse_call(count as u64)?;
             if count != 0 {
-                self.refuse_at = Some(self.calls.wrapping_add(count));
+                self.refuse_at.push(self.calls.wrapping_add(count))?;
             }
         }
+        Ok(())
     }
 
     fn crash(&mut self) -> Result<(), Fail> {
         let what = self.random.remainder(self.alloc)?;
         self.system = self.system.remainder(&what)?;
         self.model.crash(&what)?;
-        self.refuse_at = None;
+        self.refuse_at.clear();
         self.stop_at = None;
         self.stopped = false;
         self.failures = 0;
@@ -360,7 +361,7 @@ impl Run {
             4 | 5 => self.rename(rt)?,
             6 => self.create_dir(rt)?,
             7 | 8 | 9 => self.sync(rt)?,
-            10 | 11 => self.arm(),
+            10 | 11 => self.arm()?,
             12 => self.crash()?,
             _ => self.change(rt)?,
         }

@@ -153,7 +153,7 @@ fn eight_calls(system: &mut MemoryFileSystem) -> Result<Handle, ErrorKind> {
 fn each_call_is_refused_once(rt: HostRuntime) -> Result<(), Fail> {
     for n in 1u64..9 {
         let mut system = MemoryFileSystem::new(rt.alloc());
-        system.refuse_call(n);
+        system.refuse_call(n)?;
         assert!(rt; eight_calls(&mut system).is_err());
         assert_eq!(rt; system.failures(), 1);
         assert!(rt; system.create_dir("x").is_ok());

@@ -12,3 +12,4 @@ pub mod Entries
 pub mod Items
 pub mod Encoded
 pub mod ItemPlaces
+pub mod Moves

@@ -9,9 +9,9 @@ room="$(mktemp -d)"
 trap 'rm -rf "$room"' EXIT
 
 mkdir -p "$room/crates/codec_bench/src"
-cp -r "$top/crates/raft_log_codec" "$room/crates/"
+cp -r "$top/crates/raft_log_checksum" "$top/crates/raft_log_codec" "$room/crates/"
 cp "$here/main.rt.txt" "$room/crates/codec_bench/src/main.rt"
-printf 'raft_log_codec:\ncodec_bench: raft_log_codec\n' > "$room/crates.txt"
+printf 'raft_log_checksum:\nraft_log_codec: raft_log_checksum\ncodec_bench: raft_log_codec\n' > "$room/crates.txt"
 (cd "$room/crates/codec_bench" && "${RT:-rt}" run > "$room/first" 2> "$room/log") || { cat "$room/log" >&2; exit 1; }
 rustc --edition 2021 -O -C codegen-units=1 -o "$room/rust" "$here/rust.rs"
 

@@ -1,5 +1,5 @@
 -- Frames: no spelling of one begins another's, and what reading one finds.
-use Rattle.std.proofs.Common.{◌≡◌, ℕ, ◌+◌, ◌<◌, ◌≤◌, ◌^◌, List, [], ◌++◌, length, take, drop, get_or, refl, sym, ◌∙◌, ap, subst, inl, inr, arith, length-append}
+use Rattle.std.proofs.Common.{◌≡◌, ℕ, ◌<◌, ◌≤◌, ◌^◌, List, [], ◌++◌, length, take, drop, get_or, refl, sym, ◌∙◌, ap, subst, inl, inr, arith, length-append}
 use Rattle.std.proofs.lemmas.List.{append_assoc, append_cancel_left, take_at, take-append-drop, length-take-le, get_or-take, get_or_past, length-take}
 use Rattle.std.proofs.lemmas.Bool.{cases_lt, cases_Bool, false≢true}
 use Rattle.std.proofs.lemmas.Slice.Eq.{bytes_eq-Decides}
@@ -8,7 +8,7 @@ use Rattle.std.proofs.lemmas.Nat.{be_bytes_4, from_be_bytes-to_be_bytes_4}
 use Rattle.std.specs.Int.{w32, to_be_bytes, from_be_bytes}
 use Rattle.md5.specs.Md5.{md5}
 use Rattle.raft_log_disk.specs.Chains.{Written, IsPrefixFree, CanTell}
-use Rattle.raft_log_append_file.specs.Frame.{IsFrame, frame_of, framed}
+use Rattle.raft_log_append_file.specs.Frame.{IsFrame, StartsWithFrame, frame_of, framed}
 
 -- a frame and what follows it, part by part
 parts : (frame bytes rest : List ℕ) → IsFrame frame bytes → frame ++ rest ≡ to_be_bytes w32 (length bytes) ++ (bytes ++ (md5 bytes ++ rest))
@@ -43,9 +43,9 @@ prefix_free = record {
 -- where a record's digest stands behind it, its frame is there
 pub frame_found : (all tail content rest : List ℕ) → 4 ≤ length all → ((i : ℕ) → get_or all i 0 < 256) → length content < 2 ^ 32 → tail ≡ drop 4 all
     → from_be_bytes w32 (take 4 all) ≡ length content → tail ≡ content ++ rest → rest ≡ md5 content ++ drop (length (md5 content)) rest
-    → (w : Written (List ℕ)) × (after : List ℕ) × IsFrame w.bytes w.value × (all ≡ w.bytes ++ after) × (length content + (4 + length (md5 content)) ≡ length w.bytes)
+    → length (md5 content) ≡ 16 → StartsWithFrame all content
 unfolding frame_of
-frame_found all tail content rest long small below behind size splits digest =
+frame_found all tail content rest long small below behind size splits digest sixteen =
     let n = length content in
     let head : to_be_bytes w32 n ≡ take 4 all = be_bytes_4 (take 4 all) n (length-take-le 4 all long) small_head (sym size) in
     let frame = to_be_bytes w32 n ++ (content ++ md5 content) in
@@ -53,7 +53,7 @@ frame_found all tail content rest long small below behind size splits digest =
     let whole : all ≡ frame ++ after =
     sym (take-append-drop 4 all) ∙ ap (λ (b : List ℕ). b ++ drop 4 all) (sym head) ∙ ap (λ (b : List ℕ). to_be_bytes w32 n ++ b) (sym behind ∙ splits ∙ ap (λ (b : List ℕ). content ++ b) digest)
     ∙ sym (parts frame content after (below, refl)) in
-    (record { bytes = frame; value = content }, after, (below, refl), whole, omega (arith, length-append content (md5 content)))
+    record { rest = after; short = below; splits = whole; size = omega (arith, length-append content (md5 content), sixteen) }
   where
     small_head : (i : ℕ) → get_or (take 4 all) i 0 < 256
     small_head i = elim (cases_lt i 4) [ inl less ↦ subst (λ (x : ℕ). x < 256) (sym (get_or-take 4 all i 0 less)) (small i) | inr past ↦ subst (λ (x : ℕ). x < 256) (sym (get_or_past (take 4 all) i 0 (omega (arith, length-take 4 all)))) (omega arith) ]

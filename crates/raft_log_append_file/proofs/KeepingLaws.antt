@@ -1,15 +1,15 @@
 -- How a file of records is kept through a cut and a sync, and what is read of it.
-use Rattle.std.proofs.Common.{◌≡◌, ℕ, ◌+◌, ◌<◌, ◌≤◌, Some, List, [], ◌∷◌, ◌++◌, length, take, drop, refl, sym, ◌∙◌, ap, subst, arith, length-append, length-drop}
-use Rattle.std.proofs.lemmas.List.{append-nil, append_assoc, take_all, drop_at, take-append-drop}
+use Rattle.std.proofs.Common.{◌≡◌, ℕ, ◌+◌, ◌≤◌, Some, List, [], ◌∷◌, ◌++◌, length, take, drop, refl, sym, ◌∙◌, ap, subst, arith, length-append, length-drop}
+use Rattle.std.proofs.lemmas.List.{append-nil, append_assoc, take_all, drop_at, take-append-drop, map-append}
 use Rattle.raft_log_disk.specs.Disk.{CutTo, File, Disk, with_file, at_rest}
 use Rattle.raft_log_disk.specs.Calls.{with_piece, after_piece, flushed, Changes}
-use Rattle.raft_log_disk.specs.Chains.{Written, spelled, AreFrames, Refuses, BeginsWith, Reads}
+use Rattle.raft_log_disk.specs.Chains.{Written, spelled, AreFrames, BeginsWith, Reads}
 use Rattle.raft_log_disk.specs.KeepsSynced.{HoldsChain, HoldsAtLeast, kept_records}
 use Rattle.raft_log_disk.proofs.Updates.{file_here}
 use Rattle.raft_log_disk.proofs.KeptLaws.{IsCalm}
-use Rattle.raft_log_disk.proofs.ChainLaws.{spelled-append, frames_append, frames_front, frames_back, frame_filled, nothing_refuses}
+use Rattle.raft_log_disk.proofs.ChainLaws.{spelled-append, frames_append, frames_front, frames_back, nothing_refuses}
 use Rattle.raft_log_disk.proofs.KeepsSyncedLaws.{holds_cut, holds_more, holds_at_rest, holds_at_least}
-use Rattle.raft_log_append_file.specs.Frame.{IsFrame, Records}
+use Rattle.raft_log_append_file.specs.Frame.{IsFrame, StartsWithFrame, Records, frame_of, framed, values}
 use Rattle.raft_log_append_file.specs.Keeping.{IsKept, CanCut}
 use Rattle.raft_log_append_file.proofs.Frames.{prefix_free}
 
@@ -79,38 +79,33 @@ pub record ReadsUpTo (bytes : List ℕ) (end : ℕ) : Type 0 where
   pub begins : BeginsWith IsFrame 0 ws bytes
   pub is : end ≡ length (spelled ws)
 
-pub up_to_start : (bytes : List ℕ) → ReadsUpTo bytes 0
-up_to_start bytes = record { ws = []; begins = record { rest = bytes; splits = refl; frames = tt }; is = refl }
-
 -- what stands behind that place
 pub behind_end : (bytes : List ℕ) (end : ℕ) (up : ReadsUpTo bytes end) → up.begins.rest ≡ drop end bytes
 behind_end bytes end up = sym (drop_at (spelled up.ws) up.begins.rest end (sym up.is)) ∙ ap (λ (b : List ℕ). drop end b) (sym up.begins.splits)
 
 -- up to the end of the next record
-pub up_to_next : (bytes : List ℕ) (end size : ℕ) → ReadsUpTo bytes end → (w : Written (List ℕ)) × (rest : List ℕ) × IsFrame w.bytes w.value × (drop end bytes ≡ w.bytes ++ rest) × (size ≡ length w.bytes)
-    → ReadsUpTo bytes (end + size)
-up_to_next bytes end size up (w, rest, framed, here, long) =
+pub record NextRead (bytes content : List ℕ) (end : ℕ) (ws : Records) : Type 0 where
+  pub up : ReadsUpTo bytes (end + (length content + 20))
+  pub says : values up.ws ≡ values ws ++ content ∷ []
+
+pub up_to_next : (bytes content : List ℕ) (end : ℕ) (up : ReadsUpTo bytes end) → StartsWithFrame (drop end bytes) content → NextRead bytes content end up.ws
+up_to_next bytes content end up here =
+    let w = framed content in
     let more = spelled-append up.ws (w ∷ []) in
     record {
-      ws = up.ws ++ w ∷ [];
-      begins = record {
-        rest = rest;
-        splits = up.begins.splits ∙ ap (λ (b : List ℕ). spelled up.ws ++ b) (behind_end bytes end up ∙ here) ∙ sym (append_assoc (spelled up.ws) w.bytes rest)
-            ∙ ap (λ (b : List ℕ). b ++ rest) (ap (λ (b : List ℕ). spelled up.ws ++ b) (sym (append-nil w.bytes)) ∙ sym more);
-        frames = frames_append IsFrame up.ws (w ∷ []) up.begins.frames (framed, tt);
+      up = record {
+        ws = up.ws ++ w ∷ [];
+        begins = record {
+          rest = here.rest;
+          splits = up.begins.splits ∙ ap (λ (b : List ℕ). spelled up.ws ++ b) (behind_end bytes end up ∙ here.splits) ∙ sym (append_assoc (spelled up.ws) w.bytes here.rest)
+              ∙ ap (λ (b : List ℕ). b ++ here.rest) (ap (λ (b : List ℕ). spelled up.ws ++ b) (sym (append-nil w.bytes)) ∙ sym more);
+          frames = frames_append IsFrame up.ws (w ∷ []) up.begins.frames ((here.short, refl), tt);
+        };
+        is = omega (arith, up.is, here.size, ap length more, length-append (spelled up.ws) (w.bytes ++ []), length-append w.bytes []);
       };
-      is = omega (arith, up.is, ap length more, length-append (spelled up.ws) (w.bytes ++ []), length-append w.bytes []);
+      says = map-append (λ (v : Written (List ℕ)). v.value) up.ws (w ∷ []);
     }
 
--- the next record ends within the bytes, behind that place
-pub next_within : (bytes : List ℕ) (end size : ℕ) → (w : Written (List ℕ)) × (rest : List ℕ) × IsFrame w.bytes w.value × (drop end bytes ≡ w.bytes ++ rest) × (size ≡ length w.bytes)
-    → (0 < size) × (end + size ≤ length bytes)
-next_within bytes end size (w, rest, framed, here, long) =
-    let filled = frame_filled IsFrame prefix_free w.bytes w.value framed in
-    let sizes = ap length here in
-    (omega arith, omega (arith, length-drop end bytes, length-append w.bytes rest))
-
--- where no record begins, all is read
-pub read_to_end : (bytes : List ℕ) (end : ℕ) → ReadsUpTo bytes end → Refuses IsFrame (drop end bytes) → (ws : Records) × Reads IsFrame 0 ws bytes × (end ≡ length (spelled ws))
-read_to_end bytes end up ends =
-    (up.ws, record { rest = up.begins.rest; splits = up.begins.splits; frames = up.begins.frames; ends = subst (Refuses IsFrame) (sym (behind_end bytes end up)) ends }, up.is)
+-- the next record ends within the bytes
+pub next_within : (bytes content : List ℕ) (end : ℕ) → StartsWithFrame (drop end bytes) content → end + (length content + 20) ≤ length bytes
+next_within bytes content end here = omega (arith, here.size, ap length here.splits, length-drop end bytes, length-append (frame_of content) here.rest)

@@ -2,4 +2,5 @@ pub mod Frames
 pub mod Causes
 pub mod KeepingLaws
 pub mod OpenLaws
+pub mod RecordsLaws
 pub mod OthersLaws

@@ -23,6 +23,10 @@ pub record IsOpen (log : AppendFile) (durable pending : Records) (d : Disk) : Ty
   pub written : log.written ≡ length (spelled (durable ++ pending))
   pub runs : log.failed ≡ false
 
+-- an earlier call left the file in doubt
+abbrev pub IsInDoubt : AppendFile → Type 0
+IsInDoubt log = log.failed ≡ true
+
 -- Why an append was refused, and what stands then: nothing has changed; or a file call failed, and either the file was
 -- cut back and synced, and goes on with all its records durable, or the log has failed, and the new record is the last
 -- pending one.
@@ -31,12 +35,18 @@ AppendRefused Memory bytes log durable pending old new = (new ≡ old) × IsOpen
 AppendRefused TooLong bytes log durable pending old new = (2 ^ 32 ≤ length bytes) × (new ≡ old) × IsOpen log durable pending new
 AppendRefused Failed bytes log durable pending old new = ⊥
 AppendRefused (FileSystem kind) bytes log durable pending old new = Fails old new
-    × (IsOpen log (durable ++ pending) [] new ⊎ ((log.failed ≡ true) × IsKept log.handle.file durable (pending ++ framed bytes ∷ []) new))
+    × (IsOpen log (durable ++ pending) [] new ⊎ (IsInDoubt log × IsKept log.handle.file durable (pending ++ framed bytes ∷ []) new))
 
 -- why a sync was refused, and what stands then: a file call failed, and so has the log
 abbrev pub SyncRefused : AppendError → AppendFile → Records → Records → Disk → Disk → Type 0
-SyncRefused (FileSystem kind) log durable pending old new = Fails old new × (log.failed ≡ true) × IsKept log.handle.file durable pending new
+SyncRefused (FileSystem kind) log durable pending old new = Fails old new × IsInDoubt log × IsKept log.handle.file durable pending new
 SyncRefused _ log durable pending old new = ⊥
+
+-- why a file that is there was not read: memory; or the file system has stopped, or a place of the file is unreadable
+abbrev pub ReadRefused : AppendError → ℕ → Disk → Type 0
+ReadRefused Memory id d = Unit {0}
+ReadRefused (FileSystem kind) id d = (d.stopped ≡ true) ⊎ ((place : ℕ) × (d.unreadable id place ≡ true))
+ReadRefused _ id d = ⊥
 
 -- why a file that is there was not opened: a failure, an unreadable place, or memory
 abbrev pub OpenRefused : AppendError → Disk → Disk → Type 0

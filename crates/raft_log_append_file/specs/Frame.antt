@@ -1,5 +1,5 @@
 -- How a record is framed in the file.
-use Rattle.std.specs.Prelude.{◌≡◌, ℕ, ◌<◌, ◌^◌, List, ◌++◌, length}
+use Rattle.std.specs.Prelude.{◌≡◌, ℕ, ◌+◌, ◌<◌, ◌^◌, List, ◌++◌, length, map}
 use Rattle.std.specs.Int.{w32, to_be_bytes}
 use Rattle.md5.specs.Md5.{md5}
 use Rattle.raft_log_disk.specs.Chains.{Written}
@@ -16,6 +16,17 @@ IsFrame frame bytes = (length bytes < 2 ^ 32) × (frame ≡ frame_of bytes)
 abbrev pub framed : List ℕ → Written (List ℕ)
 framed bytes = record { bytes = frame_of bytes; value = bytes }
 
+-- these bytes begin with the frame of a record, which has 20 bytes more than the record
+pub record StartsWithFrame (bytes content : List ℕ) : Type 0 where
+  pub rest : List ℕ
+  pub short : length content < 2 ^ 32
+  pub splits : bytes ≡ frame_of content ++ rest
+  pub size : length (frame_of content) ≡ length content + 20
+
 -- records as they were written
 abbrev pub Records : Type 0
 Records = List (Written (List ℕ))
+
+-- what they say
+abbrev pub values : Records → List (List ℕ)
+values ws = map (λ w. w.value) ws

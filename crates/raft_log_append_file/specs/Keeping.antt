@@ -1,10 +1,10 @@
 -- What a file of records keeps, whatever a stop leaves of it.
-use Rattle.std.specs.Prelude.{◌≡◌, ℕ, ◌≤◌, Some, List, [], length, take}
+use Rattle.std.specs.Prelude.{◌≡◌, ℕ, ◌≤◌, Some, List, [], ◌++◌, length, take}
 use Rattle.raft_log_disk.specs.Disk.{File, Disk}
 use Rattle.raft_log_disk.specs.Image.{IsImage}
 use Rattle.raft_log_disk.specs.Chains.{Reads, spelled}
 use Rattle.raft_log_disk.specs.KeepsSynced.{NoChanceMatch, HoldsChain, HoldsAtLeast, kept_records}
-use Rattle.raft_log_append_file.specs.Frame.{IsFrame, Records}
+use Rattle.raft_log_append_file.specs.Frame.{IsFrame, Records, values}
 
 -- the file holds these records, and at least the durable ones are synced
 pub record IsKept (id : ℕ) (durable pending : Records) (d : Disk) : Type 0 where
@@ -35,6 +35,14 @@ NoChanceIn id d bytes = (file : File) → d.files id ≡ Some file → NoChanceM
 -- nor in the file as it stands
 abbrev pub NoChanceNow : ℕ → Disk → Type 0
 NoChanceNow id d = (file : File) → d.files id ≡ Some file → NoChanceMatch IsFrame 0 (length file.synced) file file.content
+
+-- nor in what a stop left of it
+abbrev pub NoChanceLeft : ℕ → Disk → Disk → Type 0
+NoChanceLeft id d image = (after : File) → image.files id ≡ Some after → NoChanceIn id d after.content
+
+-- Records as they were read back: all the durable ones, then the first pending ones, and nothing else.
+abbrev pub AreKept : Records → Records → List (List ℕ) → Type 0
+AreKept durable pending found = (count : ℕ) × (count ≤ length pending) × (found ≡ values durable ++ take count (values pending))
 
 -- Whatever a stop leaves, if no checksum is met by chance in it: all durable records are read, then the first pending
 -- ones, and nothing else.

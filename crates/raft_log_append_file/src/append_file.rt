@@ -1,12 +1,14 @@
-ghost use Rattle.std.specs.Prelude.{◌≡◌, ℕ, ◌+◌, ◌<◌, ◌≤◌, ◌^◌, ◌⊎◌, Some, None, false, List, [], ◌∷◌, ◌++◌, length, take, IfOk, IfErr, OnOk, OnErr};
-ghost use Rattle.raft_log_disk.specs.Disk.{File};
+ghost use Rattle.std.specs.Prelude.{◌≡◌, ℕ, ◌+◌, ◌<◌, ◌≤◌, ◌^◌, ◌⊎◌, Some, None, false, List, [], ◌∷◌, ◌++◌, length, take, map, vec_items, IsTrue, IfOk, IfErr, OnOk, OnErr};
+ghost use Rattle.raft_log_disk.specs.Disk.{Disk, File};
+ghost use Rattle.raft_log_disk.specs.Image.{IsImage};
+ghost use Rattle.raft_log_disk.specs.Chains.{Reads};
 ghost use Rattle.raft_log_disk.specs.KeepsSynced.{kept_records};
-ghost use Rattle.raft_log_append_file.specs.Frame.{IsFrame, Records, framed};
-ghost use Rattle.raft_log_append_file.specs.Keeping.{IsKept, NoChanceNow, KeepsRecords, TouchesOnly};
+ghost use Rattle.raft_log_append_file.specs.Frame.{IsFrame, Records, framed, values};
+ghost use Rattle.raft_log_append_file.specs.Keeping.{IsKept, NoChanceNow, NoChanceLeft, AreKept, KeepsRecords, TouchesOnly};
 
 use super::error::AppendError;
 use super::frame::{MAX_LEN, make_frame};
-use super::repair::{cut_back, good_end, read_file};
+use super::repair::{cut_back, good_end, read_file, whole_records};
 use raft_log_files::{FileSystem, Handle, Permission};
 use std::alloc::Global;
 
@@ -19,7 +21,7 @@ pub struct AppendFile {
 }
 
 impl AppendFile {
-    ghost use Rattle.raft_log_append_file.specs.AppendFile.{IsOpen, CreateRefused, AppendRefused, SyncRefused, OpenRefused};
+    ghost use Rattle.raft_log_append_file.specs.AppendFile.{IsOpen, IsInDoubt, CreateRefused, AppendRefused, SyncRefused, ReadRefused, OpenRefused};
 
     /// Makes an empty file.
     pub fn create<F: FileSystem>(file_system: &mut F, path: &str) -> Result<AppendFile, AppendError>
@@ -42,6 +44,12 @@ impl AppendFile {
         path: &str,
     ) -> Result<AppendFile, AppendError>
         ensures named { IfOk result (λ log. (F.disk file_system.old).names path.now ≡ Some log.handle.file) }
+
+        // Whatever stands in the file: the records that are read of it are durable, and nothing else is left.
+        ensures found { IfOk result (λ log. (file : File) → (F.disk file_system.old).files log.handle.file ≡ Some file
+            → (ws : Records) × Reads IsFrame 0 ws file.content × IsOpen log ws [] (F.disk file_system.new)) }
+
+        // A file that was kept has all its synced records, then the first of those that weren't synced.
         ensures ok { IfOk result (λ log. (durable pending : Records) → IsKept log.handle.file durable pending (F.disk file_system.old)
             → NoChanceNow log.handle.file (F.disk file_system.old)
             → (count : ℕ) × (count ≤ length pending) × IsOpen log (kept_records durable pending count) [] (F.disk file_system.new)) }
@@ -64,6 +72,60 @@ impl AppendFile {
         })
     }
 
+    /// Opens a file, as `open` does, and reads its records back.
+    pub fn recover<F: FileSystem>(
+        alloc: Global,
+        file_system: &mut F,
+        path: &str,
+    ) -> Result<(AppendFile, Vec<Vec<u8>>), AppendError>
+        // Whatever a stop left of a file, if no checksum is met by chance in it: all the synced records are read, in
+        // order, then the first ones of those that weren't synced, and nothing else.
+        ensures after_stop { IfOk result (λ recovered. (before : Disk) (durable pending : Records)
+            → IsKept recovered.0.handle.file durable pending before → IsImage before (F.disk file_system.old)
+            → NoChanceLeft recovered.0.handle.file before (F.disk file_system.old)
+            → AreKept durable pending (map vec_items recovered.1.items)) }
+
+        // So too where nothing stopped, but the file was in doubt.
+        ensures in_place { IfOk result (λ recovered. (durable pending : Records)
+            → IsKept recovered.0.handle.file durable pending (F.disk file_system.old) → NoChanceNow recovered.0.handle.file (F.disk file_system.old)
+            → AreKept durable pending (map vec_items recovered.1.items)) }
+
+        // Whatever stands in the file: these records are read of it, they are durable, and nothing else is left.
+        ensures found { IfOk result (λ recovered. (file : File) → (F.disk file_system.old).files recovered.0.handle.file ≡ Some file
+            → (ws : Records) × Reads IsFrame 0 ws file.content × IsOpen recovered.0 ws [] (F.disk file_system.new) × (map vec_items recovered.1.items ≡ values ws)) }
+        ensures named { IfOk result (λ recovered. (F.disk file_system.old).names path.now ≡ Some recovered.0.handle.file) }
+        ensures kept { (id : ℕ) (durable pending : Records) → (F.disk file_system.old).names path.now ≡ Some id
+            → IsKept id durable pending (F.disk file_system.old) → NoChanceNow id (F.disk file_system.old)
+            → IsKept id durable pending (F.disk file_system.new) }
+        ensures err { IfErr result (λ error. (id : ℕ) (file : File) → (F.disk file_system.old).names path.now ≡ Some id
+            → (F.disk file_system.old).files id ≡ Some file → OpenRefused error (F.disk file_system.old) (F.disk file_system.new)) }
+        ensures others { (id : ℕ) → (F.disk file_system.old).names path.now ≡ Some id → TouchesOnly id (F.disk file_system.old) (F.disk file_system.new) }
+        ensures missing { (F.disk file_system.old).names path.now ≡ None → F.disk file_system.new ≡ F.disk file_system.old }
+    {
+        let log = AppendFile::open(alloc, file_system, path)?;
+        let records = log.records(alloc, file_system)?;
+        Ok((log, records))
+    }
+
+    /// Reads the records back, in the order in which they were appended.
+    pub fn records<F: FileSystem>(
+        &self,
+        alloc: Global,
+        file_system: &F,
+    ) -> Result<Vec<Vec<u8>>, AppendError>
+        ensures ok { IfOk result (λ records. (durable pending : Records) → IsOpen self.now durable pending (F.disk file_system.now)
+            → map vec_items records.items ≡ values (durable ++ pending)) }
+        ensures err { IfErr result (λ error. (file : File) → self.now.failed ≡ false → (F.disk file_system.now).files self.now.handle.file ≡ Some file
+            → ReadRefused error self.now.handle.file (F.disk file_system.now)) }
+        ensures doubt { IsInDoubt self.now → result ≡ Err AppendError.Failed }
+    {
+        if self.failed {
+            return Err(AppendError::Failed);
+        }
+        let bytes = read_file(alloc, file_system, self.handle)?;
+        Ok(whole_records(alloc, &bytes)?)
+    }
+
     /// Appends a record. It is durable once `sync` has answered.
     pub fn append<F: FileSystem>(
         &mut self,
@@ -79,6 +141,7 @@ impl AppendFile {
         // Answered or refused: whatever a stop leaves has all durable records.
         ensures kept { (durable pending : Records) → IsOpen self.old durable pending (F.disk file_system.old)
             → KeepsRecords self.old.handle.file durable (pending ++ framed bytes.now ∷ []) (F.disk file_system.new) }
+        ensures doubt { IsInDoubt self.old → (result ≡ Err AppendError.Failed) × (self.new ≡ self.old) × (F.disk file_system.new ≡ F.disk file_system.old) }
         ensures handle { self.new.handle ≡ self.old.handle }
         ensures others { TouchesOnly self.old.handle.file (F.disk file_system.old) (F.disk file_system.new) }
     {
@@ -100,6 +163,7 @@ impl AppendFile {
             → SyncRefused error self.new durable pending (F.disk file_system.old) (F.disk file_system.new)) }
         ensures kept { (durable pending : Records) → IsOpen self.old durable pending (F.disk file_system.old)
             → KeepsRecords self.old.handle.file durable pending (F.disk file_system.new) }
+        ensures doubt { IsInDoubt self.old → (result ≡ Err AppendError.Failed) × (self.new ≡ self.old) × (F.disk file_system.new ≡ F.disk file_system.old) }
         ensures handle { self.new.handle ≡ self.old.handle }
         ensures others { TouchesOnly self.old.handle.file (F.disk file_system.old) (F.disk file_system.new) }
     {

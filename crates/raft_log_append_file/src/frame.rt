@@ -1,6 +1,6 @@
 ghost use Rattle.std.specs.Prelude.{◌≡◌, ℕ, ◌+◌, ◌<◌, ◌≤◌, ◌^◌, List, ◌++◌, length, IfOk, MatchOption};
-ghost use Rattle.raft_log_disk.specs.Chains.{Written, Refuses};
-ghost use Rattle.raft_log_append_file.specs.Frame.{IsFrame, frame_of};
+ghost use Rattle.raft_log_disk.specs.Chains.{Refuses};
+ghost use Rattle.raft_log_append_file.specs.Frame.{IsFrame, StartsWithFrame, frame_of};
 
 use md5::{Digest, Md5};
 use std::alloc::{AllocError, Global};
@@ -24,16 +24,16 @@ pub fn make_frame(alloc: Global, bytes: &[u8]) -> Result<Vec<u8>, AllocError>
     Ok(frame)
 }
 
-/// How many bytes the frame has with which these begin, if they begin with one.
+/// The record in the frame with which these bytes begin, if they begin with one.
 #[tactic(auto, unfolding(crate::specs::Frame::frame_of))]
-pub fn frame_len(bytes: &[u8]) -> Option<usize>
-    ensures { MatchOption result (Refuses IsFrame bytes.now) (λ size. (w : Written (List ℕ)) × (rest : List ℕ) × IsFrame w.bytes w.value × (bytes.now ≡ w.bytes ++ rest) × (size ≡ length w.bytes)) }
+pub fn read_frame(bytes: &[u8]) -> Option<&[u8]>
+    ensures { MatchOption result (Refuses IsFrame bytes.now) (λ content. StartsWithFrame bytes.now content.now) }
 {
     let (head, tail) = bytes.split_first_chunk::<4>()?;
     let (content, rest) = tail.split_at_checked(u32::from_be_bytes(*head) as usize)?;
     let digest: [u8; 16] = Md5::digest(content);
     if rest.starts_with(&digest) {
-        Some(content.len() + OVERHEAD)
+        Some(content)
     } else {
         None
     }

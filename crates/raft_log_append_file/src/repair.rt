@@ -1,15 +1,15 @@
-ghost use Rattle.std.specs.Prelude.{◌≡◌, ℕ, ◌+◌, ◌<◌, ◌≤◌, Some, None, List, [], ◌∷◌, ◌++◌, length, take, IfOk, IfErr, OnOk, OnErr};
+ghost use Rattle.std.specs.Prelude.{◌≡◌, ℕ, ◌+◌, ◌<◌, ◌≤◌, Some, None, List, [], ◌∷◌, ◌++◌, length, take, map, vec_items, IfOk, IfErr, OnOk, OnErr};
 ghost use Rattle.raft_log_disk.specs.Disk.{File, at_rest};
 ghost use Rattle.raft_log_disk.specs.Causes.{HasCause, Fails, IsLater};
 ghost use Rattle.raft_log_disk.specs.Chains.{Reads, spelled};
-ghost use Rattle.raft_log_append_file.specs.Frame.{IsFrame, Records};
+ghost use Rattle.raft_log_append_file.specs.Frame.{IsFrame, Records, values};
 ghost use Rattle.raft_log_append_file.specs.Keeping.{IsKept, CanCut, TouchesOnly};
-ghost use Rattle.raft_log_append_file.specs.AppendFile.{OpenRefused};
+ghost use Rattle.raft_log_append_file.specs.AppendFile.{ReadRefused};
 
 use super::error::AppendError;
-use super::frame::frame_len;
+use super::frame::{OVERHEAD, read_frame};
 use raft_log_files::{FileSystem, Handle, Permission};
-use std::alloc::Global;
+use std::alloc::{AllocError, Global};
 use std::io::ErrorKind;
 
 /// Reads a file whole.
@@ -19,7 +19,7 @@ pub fn read_file<F: FileSystem>(
     handle: Handle,
 ) -> Result<Vec<u8>, AppendError>
     ensures ok { IfOk result (λ bytes. (file : File) → (F.disk file_system.now).files handle.file ≡ Some file → bytes.items ≡ file.content) }
-    ensures err { IfErr result (λ error. (file : File) → (F.disk file_system.now).files handle.file ≡ Some file → OpenRefused error (F.disk file_system.now) (F.disk file_system.now)) }
+    ensures err { IfErr result (λ error. (file : File) → (F.disk file_system.now).files handle.file ≡ Some file → ReadRefused error handle.file (F.disk file_system.now)) }
 {
     let size = file_system.file_size(handle)?;
     let mut bytes = vec![in alloc; 0u8; size]?;
@@ -32,10 +32,23 @@ pub fn good_end(bytes: &[u8]) -> usize
     ensures { (ws : Records) × Reads IsFrame 0 ws bytes.now × (result ≡ length (spelled ws)) }
 {
     let mut end = 0;
-    while let Some(size) = frame_len(&bytes[end..]) {
-        end += size;
+    while let Some(next) = read_frame(&bytes[end..]) {
+        end += next.len() + OVERHEAD;
     }
     end
+}
+
+/// The records from the start on, up to the last whole one.
+pub fn whole_records(alloc: Global, bytes: &[u8]) -> Result<Vec<Vec<u8>>, AllocError>
+    ensures { IfOk result (λ records. (ws : Records) × Reads IsFrame 0 ws bytes.now × (map vec_items records.items ≡ values ws)) }
+{
+    let mut records = Vec::new(alloc);
+    let mut end = 0;
+    while let Some(content) = read_frame(&bytes[end..]) {
+        records.push(content.to_vec(alloc)?)?;
+        end += content.len() + OVERHEAD;
+    }
+    Ok(records)
 }
 
 /// Cuts a file to a size and syncs it.

@@ -1,6 +1,7 @@
 use super::frame::make_frame;
 use super::{AppendError, AppendFile};
-use raft_log_files::{FileSystem, MemoryFileSystem, Permission, Remainder};
+use raft_log_files::{FileSystem, Permission};
+use raft_log_memory_files::{MemoryFileSystem, Remainder};
 use std::alloc::Global;
 use std::test::Fail;
 

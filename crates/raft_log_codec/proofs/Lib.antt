@@ -1,8 +1,5 @@
-pub mod Crc
-pub mod CrcTables
 pub mod Fixed
 pub mod Grammar
-pub mod HashInverse
 pub mod Sizes
 pub mod Var
 pub mod VarLoop

@@ -1,18 +1,18 @@
 -- Causes, chained along calls.
-use Rattle.std.specs.Prelude.{◌≡◌, ℕ, ◌+◌, ◌<◌, ◌≤◌, ◌⊎◌, Bool, true, false, Option, Some, None, List, Result, Ok, Err}
+use Rattle.std.specs.Prelude.{◌≡◌, ℕ, List, Result}
 use Rattle.std.specs.Result.{IfOk, IfErr, OnOk}
-use Rattle.std.proofs.Common.{refl, sym, ◌∙◌, ap, subst, arith, inl, inr}
+use Rattle.std.proofs.Common.{refl, sym, ◌∙◌, ap, arith}
 use Rattle.std.proofs.lemmas.Bool.{false≢true}
-use Rattle.raft_log_disk.specs.Disk.{Piece, File, Disk, HasDirectory, with_file}
-use Rattle.raft_log_disk.specs.Calls.{with_piece, after_piece, flushed, created, deleted, renamed, with_directory, counted, at_stop, InPart, Changes, Creates, Deletes, Renames, MakesDirectory, Refused, after_stop, wrong_argument, failed, stops, SomeOf, none, some, RefusedPiece, RefusedWhole}
+use Rattle.raft_log_disk.specs.Disk.{Piece, Disk}
+use Rattle.raft_log_disk.specs.Calls.{after_piece, flushed, Changes, Creates, Deletes, Renames, MakesDirectory, Refused, after_stop, wrong_argument, failed, stops, SomeOf, none, some, RefusedPiece, RefusedWhole}
 use Rattle.raft_log_disk.specs.Causes.{HasCause, stopped, counted_one, unreadable_place, Fails, has_stopped, has_failed, IsLater, IsUndisturbed}
 use Rattle.raft_log_disk.proofs.KeptLaws.{IsCalm, kept_piece, kept_sync, kept_create, kept_delete, kept_rename, kept_directory}
 
 -- no cause stands behind a refusal on an undisturbed disk
-pub undisturbed_has_no_cause : (d : Disk) → IsUndisturbed d → HasCause d d → ⊥
-undisturbed_has_no_cause d quiet (stopped is) = false≢true (sym quiet.runs ∙ is)
-undisturbed_has_no_cause d quiet (counted_one rises) = omega arith
-undisturbed_has_no_cause d quiet (unreadable_place id place is) = false≢true (sym (quiet.readable id place) ∙ is)
+pub undisturbed_has_no_cause : (old new : Disk) → IsUndisturbed new → new.failures ≡ old.failures → HasCause old new → ⊥
+undisturbed_has_no_cause old new quiet same (stopped is) = false≢true (sym quiet.runs ∙ is)
+undisturbed_has_no_cause old new quiet same (counted_one rises) = omega arith
+undisturbed_has_no_cause old new quiet same (unreadable_place id place is) = false≢true (sym (quiet.readable id place) ∙ is)
 
 -- a counted failure or a stop is a cause
 pub fails_has_cause : (old new : Disk) → Fails old new → HasCause old new

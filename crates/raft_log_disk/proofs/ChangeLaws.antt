@@ -1,19 +1,12 @@
 -- What a change of a file, carried out whole or in part, leaves of what a stop may leave.
-use Rattle.std.specs.Prelude.{◌≡◌, ℕ, ◌+◌, ◌-◌, ◌<◌, ◌≤◌, ◌⊎◌, Bool, true, false, cond, Option, Some, None, List, [], ◌∷◌, ◌++◌, length, slice_index, suc}
-use Rattle.std.specs.Bool.{Decides}
+use Rattle.std.specs.Prelude.{◌≡◌, ℕ, ◌+◌, ◌-◌, ◌<◌, ◌≤◌, List, [], ◌∷◌, ◌++◌, length, slice_index}
 use Rattle.std.specs.List.{All}
-use Rattle.std.specs.Map.{update}
-use Rattle.std.specs.Str.{bytes_eq}
-use Rattle.std.proofs.Common.{refl, sym, ◌∙◌, ap, subst, arith, inl, inr, get_or, nat_eq, take, drop, replicate}
+use Rattle.std.proofs.Common.{refl, sym, ◌∙◌, ap, subst, arith, inl, inr, get_or, take, drop}
 use Rattle.std.proofs.lemmas.List.{take_at, drop_all, get_or_append_left, get_or-append_right, get_or-take, get_or-drop, get_or_push, append-nil, length-append, length-take, length-take-le, length-drop, length-replicate}
-use Rattle.std.proofs.lemmas.List.Elements.{All-nil}
-use Rattle.std.proofs.lemmas.Bool.{cases_lt, cases_eq, cases_Bool, false≢true}
-use Rattle.std.proofs.lemmas.Bool.Decides.{Decides-eqb}
-use Rattle.std.proofs.lemmas.Slice.Eq.{bytes_eq-Decides}
-use Rattle.std.proofs.lemmas.Map.{update_same, update_other}
-use Rattle.raft_log_disk.specs.Disk.{Piece, Wrote, CutTo, GrewTo, File, Disk, at_rest, zeros, grown, spliced, overwritten, changed, with_file, file_limit}
-use Rattle.raft_log_disk.specs.Image.{Touches, Spares, end_of, IsLeft, IsSoundFile, IsSound}
-use Rattle.raft_log_disk.specs.Calls.{with_piece, after_piece, flushed, created, deleted, without, renamed, with_directory, with_marks, counted, at_stop, IsTorn, InPart}
+use Rattle.std.proofs.lemmas.Bool.{cases_lt}
+use Rattle.raft_log_disk.specs.Disk.{Piece, Wrote, CutTo, GrewTo, File, zeros, grown, spliced, overwritten, changed}
+use Rattle.raft_log_disk.specs.Image.{Spares, end_of, IsLeft}
+use Rattle.raft_log_disk.specs.Calls.{with_piece, IsTorn, InPart}
 
 -- what a change may leave of a content, whole or in part: the places that it spares stand
 pub record MayBecome (piece : Piece) (old new : List ℕ) : Type 0 where

@@ -1,15 +1,16 @@
 -- The laws of images: the files as they stand are one, after a sync of all they are the only one, an image of an image
 -- is an image, and any byte may stand in a written range.
-use Rattle.std.specs.Prelude.{◌≡◌, ℕ, ◌-◌, ◌<◌, ◌≤◌, Bool, true, false, Option, Some, None, List, [], length, slice_index}
+use Rattle.std.specs.Prelude.{◌≡◌, ℕ, ◌-◌, ◌<◌, ◌≤◌, Bool, Option, Some, None, List, [], length}
 use Rattle.std.specs.List.{All, Contains}
 use Rattle.std.specs.Option.{option_map}
-use Rattle.std.proofs.Common.{refl, sym, ◌∙◌, ap, subst, arith, inl, inr, get_or}
+use Rattle.std.proofs.Common.{refl, sym, ◌∙◌, ap, subst, arith, inl, inr}
 use Rattle.std.proofs.Math.ListN.{set}
 use Rattle.std.proofs.lemmas.List.{ext_get_or, get_or-set_other, length-set}
 use Rattle.std.proofs.lemmas.List.Elements.{All-nil, All-contains, All-weaker}
 use Rattle.std.proofs.lemmas.Bool.{cases_lt}
 use std.Path.{fun_ext}
 use Rattle.raft_log_disk.specs.Disk.{Piece, File, Disk, at_rest, file_limit}
+use Rattle.raft_log_disk.specs.Laws.{SyncedFileHasOneImage}
 use Rattle.raft_log_disk.specs.Image.{Touches, Spares, end_of, IsLeft, IsFileImage, IsImage, IsSoundFile, IsSound, settled, as_it_stands, IsAllSynced}
 
 -- bytes at rest are what is left of them
@@ -89,6 +90,12 @@ synced_is_only_image d image sound synced is =
     disk_ext image (as_it_stands d) is.directories is.names
     (fun_ext (λ id. file_only (d.files id) (image.files id) (sound.files id) (synced id) (is.files id)))
     is.unused (fun_ext (λ id. fun_ext (λ place. is.readable id place))) is.running is.uncounted
+
+-- and of one file that is synced
+pub synced_file_has_one_image : SyncedFileHasOneImage
+synced_file_has_one_image d image id file sound at none is =
+    let all_none : (f : File) → d.files id ≡ Some f → f.pieces ≡ [] = λ f there. (let same : file ≡ f = cc in subst (λ (g : File). g.pieces ≡ []) same none) in
+    file_only (d.files id) (image.files id) (sound.files id) all_none (is.files id) ∙ ap (option_map settled) at
 
 -- an image of an image is an image
 pub image_of_image : (d image later : Disk) → IsImage d image → IsImage image later → IsImage d later

@@ -118,6 +118,14 @@ module _ {R : Type 0} (IsFrame : List ℕ → R → Type 0) (start end : ℕ) wh
   at_least_keeps durable pending file free least =
       keeps_more free durable pending file least.more least.rest least.splits (keeps_synced free (durable ++ least.more) least.rest file least.holds)
 
+  -- the durable records are read first, with no premise
+  pub durable_is_read : (durable pending : List (Written R)) (file : File) (bytes : List ℕ) → IsPrefixFree IsFrame → HoldsAtLeast IsFrame start end durable pending file → IsLeft file bytes
+      → (ws : List (Written R)) → Reads IsFrame start ws bytes → (more : List (Written R)) × (ws ≡ durable ++ more)
+  durable_is_read durable pending file bytes free least left ws reads =
+      let begins = left_begins (durable ++ least.more) least.rest file bytes least.holds left in
+      let (more, same) = reads_further IsFrame free start (durable ++ least.more) ws bytes begins reads in
+      (least.more ++ more, same ∙ append_assoc durable least.more more)
+
   -- just these are at least these
   pub holds_at_least : (durable pending : List (Written R)) (file : File) → HoldsChain IsFrame start end durable pending file → HoldsAtLeast IsFrame start end durable pending file
   holds_at_least durable pending file holds = record {

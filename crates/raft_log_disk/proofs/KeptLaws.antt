@@ -1,7 +1,7 @@
 -- What each call, answered or refused, keeps of a predicate on the disk: a client's proof is one line for each call.
-use Rattle.std.specs.Prelude.{◌≡◌, ℕ, ◌<◌, ◌≤◌, ◌⊎◌, Bool, true, false, Option, Some, None, List, [], Result, Ok, Err}
+use Rattle.std.specs.Prelude.{◌≡◌, ℕ, false, Some, None, List, Result, Ok, Err}
 use Rattle.std.specs.Result.{IfOk, IfErr, OnOk}
-use Rattle.std.proofs.Common.{refl, sym, subst, inl, inr}
+use Rattle.std.proofs.Common.{sym, subst, inl, inr}
 use Rattle.raft_log_disk.specs.Disk.{Piece, File, Disk, with_file, HasDirectory}
 use Rattle.raft_log_disk.specs.Calls.{with_piece, after_piece, flushed, created, deleted, renamed, with_directory, counted, at_stop, InPart, Changes, Creates, Deletes, Renames, MakesDirectory, Refused, after_stop, wrong_argument, failed, stops, SomeOf, none, some, RefusedPiece, RefusedWhole}
 use Rattle.raft_log_disk.proofs.ChangeLaws.{changed_in_part}

@@ -8,3 +8,5 @@ pub mod Props
 pub mod ChainLaws
 pub mod KeepsSyncedLaws
 pub mod CrashExampleLaws
+pub mod LogFilesLaws
+pub mod NamesLaws

@@ -1,7 +1,6 @@
 -- A disk is sound in one way only, so that a type may keep the fact beside its fields.
-use Rattle.std.specs.Prelude.{◌≡◌, ℕ, Option, Some, None, List}
+use Rattle.std.specs.Prelude.{ℕ, List}
 use Rattle.std.proofs.Props.{props}
-use Rattle.std.proofs.Common.{refl}
 use Rattle.raft_log_disk.specs.Disk.{Piece, File, Disk}
 use Rattle.raft_log_disk.specs.Image.{IsLeft, IsSoundFile, IsSound}
 

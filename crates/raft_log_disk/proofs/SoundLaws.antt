@@ -1,6 +1,5 @@
 -- Each call, answered or refused, leaves a sound disk sound.
-use Rattle.std.specs.Prelude.{◌≡◌, ℕ, ◌<◌, ◌≤◌, ◌⊎◌, Bool, true, false, cond, Option, Some, None, List, [], ◌∷◌, ◌++◌, length, suc}
-use Rattle.std.specs.List.{All}
+use Rattle.std.specs.Prelude.{◌≡◌, ℕ, ◌<◌, ◌⊎◌, Bool, true, false, cond, Option, Some, None, List, []}
 use Rattle.std.specs.Map.{update}
 use Rattle.std.specs.Str.{bytes_eq}
 use Rattle.std.proofs.Common.{refl, sym, ◌∙◌, ap, subst, arith, inl, inr, nat_eq}
@@ -8,11 +7,11 @@ use Rattle.std.proofs.lemmas.List.Elements.{All-nil, All-push}
 use Rattle.std.proofs.lemmas.Bool.{cases_eq, cases_Bool}
 use Rattle.std.proofs.lemmas.Slice.Eq.{bytes_eq-Decides}
 use Rattle.raft_log_disk.specs.Disk.{Piece, File, Disk, at_rest, with_file, file_limit}
-use Rattle.raft_log_disk.specs.Image.{end_of, IsLeft, IsSoundFile, IsSound}
+use Rattle.raft_log_disk.specs.Image.{end_of, IsSoundFile, IsSound}
 use Rattle.raft_log_disk.specs.Calls.{with_piece, after_piece, flushed, created, deleted, without, renamed, with_directory, with_marks, counted, at_stop, InPart}
 use Rattle.raft_log_disk.proofs.ImageLaws.{left_at_rest, rest_sound}
 use Rattle.raft_log_disk.proofs.ChangeLaws.{part_may, left_changed, changed_in_part}
-use Rattle.raft_log_disk.proofs.Updates.{name_case, file_case, name_here, name_apart, file_here, file_apart}
+use Rattle.raft_log_disk.proofs.Updates.{name_case, file_case, file_here, file_apart}
 
 pub empty_sound : IsSoundFile (at_rest [])
 empty_sound = record { stands = left_at_rest []; short = omega arith; ends = All-nil _ }
@@ -116,7 +115,7 @@ without_case : (o : Option ℕ) (files : ℕ → Option File) (j : ℕ) (file : 
 without_case None files j file at = at
 without_case (Some id) files j file at = elim (file_case files id None j (Some file) at) [ inl gone ↦ cc (gone.1) | inr old ↦ old.1 ]
 
-without_apart : (o : Option ℕ) (files : ℕ → Option File) (j : ℕ) → (o ≡ Some j → ⊥) → without o files j ≡ files j
+pub without_apart : (o : Option ℕ) (files : ℕ → Option File) (j : ℕ) → (o ≡ Some j → ⊥) → without o files j ≡ files j
 without_apart None files j apart = refl
 without_apart (Some id) files j apart = file_apart files id None j (λ same. apart (ap Some (sym same)))
 

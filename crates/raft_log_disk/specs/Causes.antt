@@ -1,9 +1,9 @@
 -- Why a call was refused.
-use Rattle.std.specs.Prelude.{◌≡◌, ℕ, ◌+◌, ◌<◌, ◌≤◌, Bool, true, false}
+use Rattle.std.specs.Prelude.{◌≡◌, ℕ, ◌<◌, ◌≤◌, true, false}
 use Rattle.raft_log_disk.specs.Disk.{Disk}
 
 -- Nothing else may stand behind a refusal than a stop, a failure that was counted during the call, or an unreadable
--- place in what was asked for.
+-- place. (A refused read says more: which place of what was asked for.)
 pub data HasCause (old new : Disk) : Type 0 where
   stopped : new.stopped ≡ true → HasCause old new
   counted_one : old.failures < new.failures → HasCause old new

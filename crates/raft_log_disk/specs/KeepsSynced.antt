@@ -55,6 +55,11 @@ abbrev pub ChainKeepsSynced : {R : Type 0} → (List ℕ → R → Type 0) → T
 ChainKeepsSynced {R} IsFrame = IsPrefixFree IsFrame → (start end : ℕ) (durable pending : List (Written R)) (file : File)
     → HoldsAtLeast IsFrame start end durable pending file → KeepsSynced IsFrame start end durable pending file
 
+-- The durable records need no premise: whatever a stop leaves, they are read, in order, before anything else.
+abbrev pub DurableIsRead : {R : Type 0} → (List ℕ → R → Type 0) → Type 0
+DurableIsRead {R} IsFrame = IsPrefixFree IsFrame → (start end : ℕ) (durable pending : List (Written R)) (file : File) → HoldsAtLeast IsFrame start end durable pending file
+    → (bytes : List ℕ) → IsLeft file bytes → (ws : List (Written R)) → Reads IsFrame start ws bytes → (more : List (Written R)) × (ws ≡ durable ++ more)
+
 -- How a file goes on holding its chain. A record written behind it, of which anything may have landed, is the last pending
 -- one; so is one that is only going to be written. A cut behind the durable records, a growth and a write in front of the
 -- chain change nothing. A file that is used again holds the empty chain, whatever stands in it. After a sync, or a restart,

@@ -1,9 +1,9 @@
 -- The laws of the definitions, as the public functions without a body state them.
-use Rattle.std.specs.Prelude.{◌≡◌, ℕ, ◌<◌, ◌≤◌, ◌⊎◌, false, Option, Some, None, List}
+use Rattle.std.specs.Prelude.{◌≡◌, ℕ, ◌<◌, false, Some, None, List, []}
 use Rattle.std.specs.List.{Contains}
 use Rattle.std.proofs.Math.ListN.{set}
-use Rattle.raft_log_disk.specs.Disk.{Piece, File, Disk, with_file, file_limit}
-use Rattle.raft_log_disk.specs.Image.{Touches, end_of, IsLeft, IsImage, IsSoundFile, IsSound, as_it_stands, IsAllSynced}
+use Rattle.raft_log_disk.specs.Disk.{Piece, File, Disk, at_rest, with_file, file_limit}
+use Rattle.raft_log_disk.specs.Image.{Touches, end_of, IsLeft, IsImage, IsSound, as_it_stands, IsAllSynced}
 use Rattle.raft_log_disk.specs.Calls.{with_piece, flushed, created, deleted, renamed, with_directory, counted, at_stop, InPart}
 use Rattle.raft_log_disk.specs.Causes.{HasCause, IsUndisturbed}
 
@@ -12,6 +12,11 @@ StandsIsImage = (d : Disk) → IsSound d → IsImage d (as_it_stands d)
 
 abbrev pub SyncedIsOnlyImage : Type 0
 SyncedIsOnlyImage = (d image : Disk) → IsSound d → IsAllSynced d → IsImage d image → image ≡ as_it_stands d
+
+-- the same of one file: after a sync a stop leaves what a read gives
+abbrev pub SyncedFileHasOneImage : Type 0
+SyncedFileHasOneImage = (d image : Disk) (id : ℕ) (file : File) → IsSound d → d.files id ≡ Some file → file.pieces ≡ [] → IsImage d image
+    → image.files id ≡ Some (at_rest file.content)
 
 abbrev pub ImageOfImage : Type 0
 ImageOfImage = (d image later : Disk) → IsImage d image → IsImage image later → IsImage d later
@@ -24,8 +29,9 @@ abbrev pub AnyByteLeft : Type 0
 AnyByteLeft = (file : File) (bytes : List ℕ) (piece : Piece) (place byte : ℕ) → Contains file.pieces piece → Touches piece place
     → IsLeft file bytes → IsLeft file (set bytes place byte)
 
+-- where no failure was counted since, and the disk runs and can be read, there is no cause
 abbrev pub UndisturbedHasNoCause : Type 0
-UndisturbedHasNoCause = (d : Disk) → IsUndisturbed d → HasCause d d → ⊥
+UndisturbedHasNoCause = (old new : Disk) → IsUndisturbed new → new.failures ≡ old.failures → HasCause old new → ⊥
 
 -- what a call may leave of a sound disk is sound
 pub record CallsKeepSound : Type 0 where

@@ -6,3 +6,5 @@ pub mod Laws
 pub mod Chains
 pub mod KeepsSynced
 pub mod CrashExamples
+pub mod LogFiles
+pub mod Names

@@ -2,7 +2,8 @@
 
 ghost use Rattle.std.specs.Prelude.{ℕ, List};
 ghost use Rattle.raft_log_disk.specs.Chains.{IsPrefixFree, ReadsOneWay, ReadsSome, AgreesUpToEnd};
-ghost use Rattle.raft_log_disk.specs.KeepsSynced.{ChainKeepsSynced, ChainSteps, UntouchedPartStays};
+ghost use Rattle.raft_log_disk.specs.KeepsSynced.{ChainKeepsSynced, DurableIsRead, ChainSteps, UntouchedPartStays};
+ghost use Rattle.raft_log_disk.specs.LogFiles.{LogKeepsSynced};
 ghost use Rattle.raft_log_disk.specs.CrashExamples.{TornRecordIsLost, ForeignRecordIsChance, SyncedFileHasNoChance};
 
 /// Says which bytes spell which record.
@@ -36,6 +37,16 @@ pub fn chain_steps<G: Framing>()
 /// A file that holds a chain keeps its synced records, whatever a stop leaves.
 pub fn synced_records_are_kept<G: Framing>()
     ensures { ChainKeepsSynced G.is_frame }
+{}
+
+/// What of them was synced is read after any stop, whatever checksums say of the rest.
+pub fn durable_records_are_read<G: Framing>()
+    ensures { DurableIsRead G.is_frame }
+{}
+
+/// So does a log of several files, of which all but the last are synced whole.
+pub fn log_of_files_is_kept<G: Framing>()
+    ensures { LogKeepsSynced G.is_frame }
 {}
 
 /// A stop that leaves a beginning of a record which isn't synced meets no checksum by chance, and loses the record.

@@ -1,4 +1,4 @@
-ghost use Rattle.raft_log_disk.specs.Laws.{StandsIsImage, SyncedIsOnlyImage, ImageOfImage, ImageIsSound, AnyByteLeft};
+ghost use Rattle.raft_log_disk.specs.Laws.{StandsIsImage, SyncedIsOnlyImage, SyncedFileHasOneImage, ImageOfImage, ImageIsSound, AnyByteLeft};
 
 /// A crash may leave the files as they stand.
 pub fn stands_is_an_image()
@@ -8,6 +8,11 @@ pub fn stands_is_an_image()
 /// Where all files are synced, a crash leaves them as they stand.
 pub fn synced_files_have_one_image()
     ensures { SyncedIsOnlyImage }
+{}
+
+/// After a sync of a file, a crash leaves of it what a read gives.
+pub fn synced_file_has_one_image()
+    ensures { SyncedFileHasOneImage }
 {}
 
 /// What a second crash leaves of what the first one left, the first one could have left.

@@ -8,5 +8,7 @@ pub mod calls;
 pub mod causes;
 /// What a crash may leave.
 pub mod images;
+/// What calls on names change.
+pub mod names;
 /// What is read of chains of records that a crash may have torn.
 pub mod chains;

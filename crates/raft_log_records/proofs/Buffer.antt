@@ -3,12 +3,12 @@ use Rattle.std.proofs.Common.{◌≡◌, ℕ, ◌+◌, ◌-◌, ◌≤◌, ◌<�
 use Rattle.std.proofs.Math.Seq.{take-length}
 use Rattle.std.proofs.lemmas.List.{append-nil, length-append, length-take-le, length-drop, take-append-drop, drop_at, take_at}
 use Rattle.raft_log_codec.specs.Number.{u32_le_bytes, u64_bytes}
-use Rattle.raft_log_codec.specs.Checksum.{crc32_of}
+use Rattle.raft_log_checksum.specs.Checksum.{crc32_of}
 use Rattle.raft_log_items.specs.declared.item.LogItem.{LogItem}
 use Rattle.raft_log_items.specs.Writing.{items_bytes}
 use Rattle.raft_log_records.specs.declared.log_batch.BatchState.{BatchState}
 use Rattle.raft_log_records.specs.declared.log_batch.BatchState.TheVariants.{Filling, Populated, Signed, Written}
-use Rattle.raft_log_records.specs.Record.{signed, block_bytes, footer_bytes, header_bytes, record_len, record_bytes}
+use Rattle.raft_log_frames.specs.Record.{signed, block_bytes, footer_bytes, header_bytes, record_len, record_bytes}
 use Rattle.raft_log_records.specs.Batch.{Holds, HoldsRecord, HoldsIn, IsMade, batch_bytes}
 use Rattle.raft_log_records.proofs.Made.{block_more, four_bytes, footer-length}
 

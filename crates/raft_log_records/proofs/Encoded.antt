@@ -7,7 +7,7 @@ use Rattle.raft_log_items.specs.Writing.{items_bytes, plain_item}
 use Rattle.raft_log_codec.specs.Number.{u32_le_bytes}
 use Rattle.raft_log_records.specs.declared.log_batch.BatchState.{BatchState}
 use Rattle.raft_log_records.specs.declared.log_batch.BatchState.TheVariants.{Filling, Populated, Signed, Written}
-use Rattle.raft_log_records.specs.Record.{signed, header_bytes, block_bytes, footer_bytes, record_len, record_bytes, IsRecord}
+use Rattle.raft_log_frames.specs.Record.{signed, header_bytes, block_bytes, footer_bytes, record_len, record_bytes, IsRecord}
 use Rattle.raft_log_records.specs.Batch.{Holds, HoldsIn, IsBatch, IsSigned, signature_in}
 use Rattle.raft_log_records.specs.Written.{AreBytes}
 use Rattle.raft_log_records.proofs.Made.{block_more}

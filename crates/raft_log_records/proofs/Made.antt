@@ -4,11 +4,11 @@ use Rattle.std.proofs.Math.Seq.{take-append_seam}
 use Rattle.std.proofs.lemmas.List.{append-nil, length-append, length-take-le, take-append-drop, drop_at, take_at}
 use Rattle.std.specs.Int.{w32, to_le_bytes}
 use Rattle.raft_log_codec.specs.Number.{u32_le_bytes}
-use Rattle.raft_log_codec.specs.Checksum.{crc32_of}
+use Rattle.raft_log_checksum.specs.Checksum.{crc32_of}
 use Rattle.raft_log_items.specs.declared.item.LogItem.{LogItem}
 use Rattle.raft_log_items.specs.Writing.{items_bytes, KeepsFront}
 use Rattle.raft_log_items.proofs.Each.{keeps_more}
-use Rattle.raft_log_records.specs.Record.{signed, block_bytes, footer_bytes, header_bytes, record_len, record_bytes}
+use Rattle.raft_log_frames.specs.Record.{signed, block_bytes, footer_bytes, header_bytes, record_len, record_bytes}
 
 -- what stands at the front of a front stands at the front
 pub keeps_trans : (a b c : List ℕ) → KeepsFront a b → KeepsFront b c → KeepsFront a c

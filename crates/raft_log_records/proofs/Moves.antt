@@ -4,7 +4,7 @@ use Rattle.std.proofs.Math.Dec.{eqb-suc-zero}
 use Rattle.std.proofs.Math.Seq.{take-length}
 use Rattle.std.proofs.lemmas.List.{length-append, length-take-le, length-drop, take_at, drop_at}
 use Rattle.std.proofs.lemmas.List.Sums.{sum_by-cons}
-use Rattle.raft_log_codec.specs.Checksum.{crc32_of}
+use Rattle.raft_log_checksum.specs.Checksum.{crc32_of}
 use Rattle.raft_log_codec.specs.Number.{u32_le_bytes}
 use Rattle.raft_log_items.specs.declared.pipe_log.FileBlockHandle.{FileBlockHandle}
 use Rattle.raft_log_items.specs.declared.entry.EntryIndex.{EntryIndex}
@@ -14,7 +14,7 @@ use Rattle.raft_log_items.specs.declared.item.LogItem.{LogItem}
 use Rattle.raft_log_items.specs.Placed.{run_len, content_len, entries_len, laid_run, laid_content, laid_out, written_entry, written_content, written_item, written}
 use Rattle.raft_log_records.specs.declared.log_batch.BatchState.{BatchState}
 use Rattle.raft_log_records.specs.declared.log_batch.BatchState.TheVariants.{Filling, Populated, Signed, Written}
-use Rattle.raft_log_records.specs.Record.{block_bytes}
+use Rattle.raft_log_frames.specs.Record.{block_bytes}
 use Rattle.raft_log_records.specs.Batch.{Batch, IsBatch, max_entries_len, batch_size}
 use Rattle.raft_log_records.specs.ItemBatch.{items_size}
 use Rattle.raft_log_records.proofs.Made.{four_bytes}

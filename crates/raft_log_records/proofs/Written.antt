@@ -3,7 +3,7 @@ use Rattle.std.proofs.Common.{◌≡◌, ℕ, zero, suc, ◌+◌, ◌*◌, ◌/�
 use Rattle.std.proofs.lemmas.Nat.{xor_of_32, from_le_bytes-to_le_bytes_4, from_be_bytes-to_be_bytes_8}
 use Rattle.std.proofs.lemmas.List.{length-append}
 use Rattle.std.proofs.lemmas.List.Sums.{sum_by-append}
-use Rattle.raft_log_codec.specs.Checksum.{crc_bit, crc_bits, crc_after, crc32_of}
+use Rattle.raft_log_checksum.specs.Checksum.{crc_bit, crc_bits, crc_after, crc32_of}
 use Rattle.raft_log_codec.specs.Number.{IsU64, IsU32Le, u32_le_bytes, u64_bytes}
 use Rattle.raft_log_items.specs.declared.item.LogItem.{LogItem}
 use Rattle.raft_log_items.specs.declared.item.LogItemContent.{LogItemContent}
@@ -13,7 +13,7 @@ use Rattle.raft_log_items.specs.Items.{AreItems}
 use Rattle.raft_log_items.specs.Run.{unplaced}
 use Rattle.raft_log_items.specs.Placed.{run_len, content_len, entries_len}
 use Rattle.raft_log_items.specs.Writing.{items_bytes, plain_item, plain_content}
-use Rattle.raft_log_records.specs.Record.{signed, block_bytes, footer_bytes, header_bytes, record_len, record_bytes, IsHeader, IsBlock, IsFooter, IsRecord, AddsUp}
+use Rattle.raft_log_frames.specs.Record.{signed, block_bytes, footer_bytes, header_bytes, record_len, record_bytes, IsHeader, IsBlock, IsFooter, IsRecord, AddsUp}
 use Rattle.raft_log_records.specs.Written.{AreBytes}
 use Rattle.raft_log_records.proofs.Made.{four_bytes}
 use Rattle.raft_log_records.proofs.Buffer.{record-length}

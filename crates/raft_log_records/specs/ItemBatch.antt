@@ -9,7 +9,7 @@ use Rattle.raft_log_items.specs.declared.item.LogItem.{LogItem}
 use Rattle.raft_log_items.specs.Fault.{Fault}
 use Rattle.raft_log_items.specs.Placed.{laid_out, written}
 use Rattle.raft_log_items.specs.Writing.{value_of}
-use Rattle.raft_log_records.specs.Record.{footer_of}
+use Rattle.raft_log_frames.specs.Record.{footer_of}
 
 -- about how many bytes a content has: each number is counted as eight
 abbrev pub content_size : LogItemContent → ℕ

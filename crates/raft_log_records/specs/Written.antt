@@ -4,7 +4,7 @@ use Rattle.raft_log_items.specs.declared.item.LogItem.{LogItem}
 use Rattle.raft_log_items.specs.Items.{AreItems}
 use Rattle.raft_log_items.specs.Placed.{entries_len}
 use Rattle.raft_log_items.specs.Writing.{items_bytes, plain_item}
-use Rattle.raft_log_records.specs.Record.{IsRecord, record_bytes, record_len}
+use Rattle.raft_log_frames.specs.Record.{IsRecord, record_bytes, record_len}
 
 -- each number is one byte
 abbrev pub AreBytes : List ℕ → Type 0

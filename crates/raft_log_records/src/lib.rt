@@ -1,8 +1,6 @@
 //! Log records: items and entries in signed batches.
 #![tactic(auto)]
 
-pub mod footer;
-pub mod header;
 pub mod laws;
 pub mod log_batch;
 pub mod log_item_batch;
@@ -10,11 +8,12 @@ pub mod message;
 mod places;
 mod record;
 
-pub use footer::decode_footer;
-pub use header::{LOG_BATCH_HEADER_LEN, decode_entries_block, decode_header};
 pub use log_batch::{BatchState, LogBatch};
 pub use log_item_batch::LogItemBatch;
 pub use message::{Message, MessageExt};
+pub use raft_log_frames::{
+    LOG_BATCH_HEADER_LEN, decode_entries_block, decode_footer, decode_header,
+};
 pub use raft_log_items::{
     Bytes, Command, CompressionType, EntryIndex, EntryIndexes, Error, FileBlockHandle, FileId,
     FileSeq, KeyValue, LogFileContext, LogItem, LogItemContent, LogQueue, OpType, Result, Version,

@@ -3,10 +3,10 @@ ghost use Rattle.std.specs.Prelude.{◌≡◌, ◌+◌, ◌≤◌, ◌==◌, if�
 ghost use Rattle.raft_log_records.specs.Batch.{max_entries_len};
 ghost use Rattle.raft_log_records.specs.Key.{is_internal, IsKeyRefusal};
 
-use crate::header::{LOG_BATCH_CHECKSUM_LEN, LOG_BATCH_HEADER_LEN};
 use crate::log_item_batch::items_size;
 use crate::places::set_written;
 use crate::record::{are_bytes, fill_record, write_checksum};
+use raft_log_frames::LOG_BATCH_HEADER_LEN;
 use raft_log_items::{
     Bytes, Command, Error, FileBlockHandle, LogFileContext, LogItem, OpType, Result,
 };
@@ -16,6 +16,9 @@ use std::marker::Model;
 mod entries;
 mod merge;
 mod messages;
+
+/// How many bytes a checksum has.
+const CHECKSUM_LEN: usize = 4;
 
 /// The most bytes that the entries of a batch may have.
 const MAX_ENTRIES_LEN: usize = 2_147_483_647;
@@ -76,11 +79,7 @@ fn block_len(len: usize) -> usize
     requires { len ≤ max_entries_len }
     ensures { result ≡ (if len == 0 then 0 else len + 4) }
 {
-    if len == 0 {
-        0
-    } else {
-        len + LOG_BATCH_CHECKSUM_LEN
-    }
+    if len == 0 { 0 } else { len + CHECKSUM_LEN }
 }
 
 impl Model for LogBatch {
@@ -100,7 +99,7 @@ impl LogBatch {
     ghost use Rattle.raft_log_items.specs.Files.{signature_of};
     ghost use Rattle.raft_log_items.specs.Writing.{plain_item};
     ghost use Rattle.raft_log_items.specs.Placed.{entries_len, laid_out, written};
-    ghost use Rattle.raft_log_records.specs.Record.{record_len, IsRecord};
+    ghost use Rattle.raft_log_frames.specs.Record.{record_len, IsRecord};
     ghost use Rattle.raft_log_records.specs.Batch.{batch_bytes, batch_size, block_place, HasNoEntries, IsMemoryOrFull, IsMade, IsSigned, signature_in};
     ghost use Rattle.std.specs.Prelude.{◌≡◌, ◌+◌, ◌-◌, ◌<◌, ◌^◌, ◌++◌, ◌∷◌, ◌↔◌, [], map, min, IfOk, OnOk, OnErr, IsTrue};
     ghost use Rattle.raft_log_records.specs.declared.log_batch.BatchState.TheVariants.{Filling, Populated, Signed, Written};

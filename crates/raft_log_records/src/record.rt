@@ -1,16 +1,16 @@
 //! The bytes of a record, made in the buffer that holds the entries' bytes behind room for a header.
 ghost use Rattle.std.specs.Prelude.{◌≡◌, ◌+◌, ◌-◌, ◌*◌, ◌≤◌, ◌<◌, ◌^◌, ◌++◌, length, take, drop, map, None, OnOk, OnErr, IfOk, IfErr};
 ghost use Rattle.raft_log_codec.specs.Number.{u32_le_bytes};
-ghost use Rattle.raft_log_codec.specs.Checksum.{crc32_of};
+ghost use Rattle.raft_log_checksum.specs.Checksum.{crc32_of};
 ghost use Rattle.raft_log_items.specs.Items.{AreItems};
 ghost use Rattle.raft_log_items.specs.Writing.{KeepsFront, items_bytes, plain_item};
-ghost use Rattle.raft_log_records.specs.Record.{header_bytes, block_bytes, footer_bytes, record_len};
+ghost use Rattle.raft_log_frames.specs.Record.{header_bytes, block_bytes, footer_bytes, record_len};
 ghost use Rattle.raft_log_records.specs.Batch.{Holds, IsMemoryOrFull};
 ghost use Rattle.raft_log_records.specs.Written.{AreBytes};
 
-use crate::header::LOG_BATCH_HEADER_LEN;
 use raft_log_codec::codec::append_u32_le;
 use raft_log_codec::crc32;
+use raft_log_frames::LOG_BATCH_HEADER_LEN;
 use raft_log_items::encode::append_items;
 use raft_log_items::{Error, LogItem, Result};
 use std::alloc::AllocError;
@@ -21,7 +21,7 @@ pub(crate) fn are_bytes(bytes: &[u8])
 {}
 
 /// Overwrites the first sixteen bytes by a header.
-#[tactic(auto, unfolding(crate::specs::Record::header_bytes, raft_log_codec::specs::Number::u64_bytes))]
+#[tactic(auto, unfolding(raft_log_frames::specs::Record::header_bytes, raft_log_codec::specs::Number::u64_bytes))]
 fn write_header(bytes: &mut [u8], len: u64, offset: u64)
     requires long { 16 ≤ length bytes.old }
     requires fits { 256 * len < 2 ^ 64 }
@@ -45,7 +45,7 @@ pub(crate) fn write_checksum(bytes: &mut [u8], checksum: u32)
 }
 
 /// Puts the checksum behind the entries' bytes, where there are some.
-#[tactic(auto, unfolding(crate::specs::Record::block_bytes))]
+#[tactic(auto, unfolding(raft_log_frames::specs::Record::block_bytes))]
 fn close_block(buf: &mut Vec<u8>) -> std::result::Result<(), AllocError>
     requires { 16 ≤ length buf.old.items }
     ensures ok { OnOk result (buf.new.items ≡ take 16 buf.old.items ++ block_bytes (drop 16 buf.old.items)) }
@@ -60,7 +60,7 @@ fn close_block(buf: &mut Vec<u8>) -> std::result::Result<(), AllocError>
 }
 
 /// Puts the items and their checksum, which is answered, behind the block.
-#[tactic(auto, unfolding(crate::specs::Record::footer_bytes))]
+#[tactic(auto, unfolding(raft_log_frames::specs::Record::footer_bytes))]
 fn append_footer(buf: &mut Vec<u8>, items: &[LogItem]) -> std::result::Result<u32, AllocError>
     ensures ok { OnOk result (buf.new.items ≡ buf.old.items ++ footer_bytes None items.now) }
     ensures sum { IfOk result (λ checksum. checksum ≡ crc32_of (items_bytes items.now)) }

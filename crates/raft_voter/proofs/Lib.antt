@@ -12,3 +12,4 @@ pub mod Indexes
 pub mod Appends
 pub mod Standing
 pub mod Repeating
+pub mod ReplyTexts

@@ -5,3 +5,4 @@ pub mod Voters
 pub mod StoredForms
 pub mod Accounts
 pub mod Laws
+pub mod ReplyText

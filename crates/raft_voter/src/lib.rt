@@ -6,6 +6,7 @@
 //! came in which rounds and what was answered; `judge` says whether voters that never fail explain it.
 #![tactic(auto)]
 
+mod display;
 mod items;
 mod judging;
 pub mod laws;

@@ -460,6 +460,79 @@ fn texts_of_faults(rt: HostRuntime) -> Result<(), Fail> {
     Ok(())
 }
 
+/// Each reply as it is written: its name, a space, and its numbers.
+#[test]
+fn texts_of_replies(rt: HostRuntime) -> Result<(), Fail> {
+    let alloc = rt.alloc();
+    let state = VoterState {
+        term: 9,
+        vote: None,
+        base_index: 3,
+        base_term: 2,
+        last_index: 18_446_744_073_709_551_615,
+        last_term: 8,
+    };
+    let voted = VoterState {
+        vote: Some(7),
+        ..state
+    };
+    let table = [
+        (Reply::Granted(5), "Granted 5"),
+        (Reply::Denied(0), "Denied 0"),
+        (Reply::Matched(10), "Matched 10"),
+        (Reply::Mismatch(1), "Mismatch 1"),
+        (Reply::Stale(20), "Stale 20"),
+        (Reply::Base(3), "Base 3"),
+        (Reply::Gone(4), "Gone 4"),
+        (Reply::Unknown(6), "Unknown 6"),
+        (
+            Reply::Status(state),
+            "Status 9 - 3 2 18446744073709551615 8",
+        ),
+        (
+            Reply::Status(voted),
+            "Status 9 7 3 2 18446744073709551615 8",
+        ),
+        (Reply::Retired, "Retired"),
+        (Reply::Refused, "Refused"),
+        (Reply::Entries(Items::new(alloc)), "Entries"),
+        (
+            entries(alloc, &[(3, 2, 0), (4, 2, 0xaf)])?,
+            "Entries 3:2:00 4:2:af",
+        ),
+    ];
+    for (reply, text) in table.iter() {
+        assert!(rt; reply.to_string(alloc)?.as_str() == *text, "for {text}");
+    }
+    Ok(())
+}
+
+/// An entry's bytes are written in parts, of which none is lost or written twice.
+#[test]
+fn text_of_a_long_entry(rt: HostRuntime) -> Result<(), Fail> {
+    let alloc = rt.alloc();
+    for len in [0usize, 1, 127, 128, 129, 256, 300] {
+        let mut own = Vec::new(alloc);
+        let mut text = String::from_str(alloc, "12:5:")?;
+        for i in 0..len {
+            let byte = (i % 251) as u8;
+            own.push(byte)?;
+            write!(text, "{byte:02x}")?;
+        }
+        let bytes = Items::from_vec(own);
+        let entry = Entry {
+            index: 12,
+            term: 5,
+            bytes,
+        };
+        assert!(rt;
+            entry.to_string(alloc)?.as_str() == text.as_str(),
+            "of {len} bytes"
+        );
+    }
+    Ok(())
+}
+
 /// Where memory is refused at any allocation, the voter is as before, and the same request then gets its reply.
 #[test]
 fn refused_memory_changes_nothing(rt: HostRuntime) -> Result<(), Fail> {

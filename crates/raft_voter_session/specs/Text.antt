@@ -1,16 +1,13 @@
 -- How a transcript is written.
-use Rattle.std.specs.Prelude.{ℕ, ◌+◌, Bool, true, false, List, [], ◌∷◌, ◌++◌, codes, Option, Some, None}
+use Rattle.std.specs.Prelude.{ℕ, ◌+◌, Bool, true, false, List, [], ◌∷◌, ◌++◌, codes}
 use Rattle.std.specs.Fmt.{decimal}
 use Rattle.std.specs.List.{flat_map}
-use Rattle.hex.specs.Hex.{encode_lower}
-use Rattle.raft_voter.specs.declared.reply.Entry.{Entry}
 use Rattle.raft_voter.specs.declared.reply.Reply.{Reply}
-use Rattle.raft_voter.specs.declared.reply.Reply.TheVariants.{Granted, Denied, Matched, Mismatch, Stale, Base, Entries, Gone, Unknown, Status, Retired, Refused}
-use Rattle.raft_voter.specs.declared.reply.VoterState.{VoterState}
 use Rattle.raft_voter.specs.declared.request.Request.{Request}
 use Rattle.raft_voter.specs.declared.round.Outcome.{Outcome}
 use Rattle.raft_voter.specs.declared.round.Outcome.TheVariants.{Answered, Cut}
 use Rattle.raft_voter.specs.declared.round.Round.{Round}
+use Rattle.raft_voter.specs.ReplyText.{reply_text}
 
 -- a number behind a space
 unfoldable pub spaced : ℕ → List ℕ
@@ -19,34 +16,6 @@ spaced n = codes " " ++ decimal n
 -- numbers, each behind a space
 abbrev pub spaced_all : List ℕ → List ℕ
 spaced_all ns = flat_map spaced ns
-
--- a vote, or `-` where there is none
-abbrev pub vote_text : Option ℕ → List ℕ
-vote_text None = codes " -"
-vote_text (Some candidate) = spaced candidate
-
--- ` index:term:hex`
-unfoldable pub entry_text : Entry → List ℕ
-entry_text entry = spaced entry.index ++ codes ":" ++ decimal entry.term ++ codes ":" ++ encode_lower entry.bytes
-
-unfoldable pub state_text : VoterState → List ℕ
-state_text s =
-    codes "Status" ++ spaced s.term ++ vote_text s.vote ++ spaced s.base_index ++ spaced s.base_term ++ spaced s.last_index ++ spaced s.last_term
-
--- a reply: its name and what it says
-abbrev pub reply_text : Reply → List ℕ
-reply_text (Granted n) = codes "Granted" ++ spaced n
-reply_text (Denied n) = codes "Denied" ++ spaced n
-reply_text (Matched n) = codes "Matched" ++ spaced n
-reply_text (Mismatch n) = codes "Mismatch" ++ spaced n
-reply_text (Stale n) = codes "Stale" ++ spaced n
-reply_text (Base n) = codes "Base" ++ spaced n
-reply_text (Entries entries) = codes "Entries" ++ flat_map entry_text entries
-reply_text (Gone n) = codes "Gone" ++ spaced n
-reply_text (Unknown n) = codes "Unknown" ++ spaced n
-reply_text (Status s) = state_text s
-reply_text Retired = codes "Retired"
-reply_text Refused = codes "Refused"
 
 -- a place, its group and its reply, on a line
 unfoldable pub place_text : ℕ → ℕ → Reply → List ℕ

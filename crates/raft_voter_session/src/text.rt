@@ -1,9 +1,8 @@
 //! The text of transcripts.
 ghost use Rattle.std.specs.Prelude.{◌≡◌, ◌++◌, codes, OnOk, string_bytes};
-ghost use Rattle.std.specs.List.{flat_map};
-ghost use Rattle.raft_voter_session.specs.Text.{spaced, spaced_all, vote_text, entry_text, state_text, reply_text, place_text, places_text, refused_text, outcome_text, round_text, rounds_text, verdict_text, transcript_text, unreadable_text};
+ghost use Rattle.raft_voter_session.specs.Text.{spaced, spaced_all, place_text, places_text, refused_text, outcome_text, round_text, rounds_text, verdict_text, transcript_text, unreadable_text};
 
-use raft_voter::{Entry, Memory, Outcome, Reply, Request, Round, Transcript, VoterState};
+use raft_voter::{Memory, Outcome, Reply, Request, Round, Transcript};
 
 /// Writes a number behind a space.
 #[tactic(auto, unfolding(crate::specs::Text::spaced))]
@@ -24,86 +23,6 @@ fn write_places(text: &mut String, places: &[usize]) -> Result<(), Memory>
     Ok(())
 }
 
-/// Writes a candidate, or `-` where there is none.
-fn write_vote(text: &mut String, vote: Option<u64>) -> Result<(), Memory>
-    ensures { OnOk result (string_bytes text.new ≡ string_bytes text.old ++ vote_text vote) }
-{
-    match vote {
-        None => Ok(text.push_str(" -")?),
-        Some(candidate) => write_spaced(text, candidate),
-    }
-}
-
-/// Writes an entry as ` index:term:hex`.
-#[tactic(auto, unfolding(crate::specs::Text::entry_text))]
-fn write_entry(text: &mut String, entry: &Entry) -> Result<(), Memory>
-    ensures { OnOk result (string_bytes text.new ≡ string_bytes text.old ++ entry_text entry.now) }
-{
-    let term = entry.term;
-    write_spaced(text, entry.index)?;
-    write!(text, ":{term}:")?;
-    let digits = hex::encode(*text.allocator(), entry.bytes.as_slice())?;
-    text.push_str(digits.as_str())?;
-    Ok(())
-}
-
-/// Writes entries, each behind a space.
-fn write_entries(text: &mut String, entries: &[Entry]) -> Result<(), Memory>
-    ensures { OnOk result (string_bytes text.new ≡ string_bytes text.old ++ flat_map entry_text entries.now) }
-{
-    for entry in entries {
-        write_entry(text, entry)?;
-    }
-    Ok(())
-}
-
-/// Writes a voter's state.
-#[tactic(auto, unfolding(crate::specs::Text::state_text))]
-fn write_state(text: &mut String, state: &VoterState) -> Result<(), Memory>
-    ensures { OnOk result (string_bytes text.new ≡ string_bytes text.old ++ state_text state.now) }
-{
-    text.push_str("Status")?;
-    write_spaced(text, state.term)?;
-    write_vote(text, state.vote)?;
-    write_spaced(text, state.base_index)?;
-    write_spaced(text, state.base_term)?;
-    write_spaced(text, state.last_index)?;
-    write_spaced(text, state.last_term)?;
-    Ok(())
-}
-
-/// Writes a name and a number.
-fn write_named(text: &mut String, name: &str, number: u64) -> Result<(), Memory>
-    ensures { OnOk result (string_bytes text.new ≡ string_bytes text.old ++ name.now ++ spaced number) }
-{
-    text.push_str(name)?;
-    write_spaced(text, number)?;
-    Ok(())
-}
-
-/// Writes a reply.
-fn write_reply(text: &mut String, reply: &Reply) -> Result<(), Memory>
-    ensures { OnOk result (string_bytes text.new ≡ string_bytes text.old ++ reply_text reply.now) }
-{
-    match reply {
-        Reply::Granted(term) => write_named(text, "Granted", *term),
-        Reply::Denied(term) => write_named(text, "Denied", *term),
-        Reply::Matched(index) => write_named(text, "Matched", *index),
-        Reply::Mismatch(index) => write_named(text, "Mismatch", *index),
-        Reply::Stale(term) => write_named(text, "Stale", *term),
-        Reply::Base(index) => write_named(text, "Base", *index),
-        Reply::Entries(entries) => {
-            text.push_str("Entries")?;
-            write_entries(text, entries.as_slice())
-        }
-        Reply::Gone(index) => write_named(text, "Gone", *index),
-        Reply::Unknown(index) => write_named(text, "Unknown", *index),
-        Reply::Status(state) => write_state(text, state),
-        Reply::Retired => Ok(text.push_str("Retired")?),
-        Reply::Refused => Ok(text.push_str("Refused")?),
-    }
-}
-
 /// Writes a place, its group and its reply on a line.
 #[tactic(auto, unfolding(crate::specs::Text::place_text))]
 fn write_place(text: &mut String, place: usize, group: u64, reply: &Reply) -> Result<(), Memory>
@@ -111,9 +30,7 @@ fn write_place(text: &mut String, place: usize, group: u64, reply: &Reply) -> Re
 {
     write!(text, "{place}")?;
     write_spaced(text, group)?;
-    text.push_str(" ")?;
-    write_reply(text, reply)?;
-    text.push_str("\n")?;
+    write!(text, " {reply}\n")?;
     Ok(())
 }
 

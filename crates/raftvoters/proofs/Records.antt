@@ -39,7 +39,7 @@ entry_with i t own = record { index = i; term = t; bytes = own }
 entry_with-same : (i j t u : ℕ) (a b : List ℕ) → i ≡ j → t ≡ u → a ≡ b → entry_with i t a ≡ entry_with j u b
 entry_with-same i j t u a b e f g = cc
 
-entry_same : (e f : Entry) (x y : List ℕ) → stored_entry_fits e ≡ true → stored_entry_fits f ≡ true → stored_entry e ++ x ≡ stored_entry f ++ y → (e ≡ f) × (x ≡ y)
+pub entry_same : (e f : Entry) (x y : List ℕ) → stored_entry_fits e ≡ true → stored_entry_fits f ≡ true → stored_entry e ++ x ≡ stored_entry f ++ y → (e ≡ f) × (x ≡ y)
 unfolding stored_entry
 entry_same e f x y he hf same =
     let bounds : (length e.bytes + 17 < 2 ^ 64) × (length f.bytes + 17 < 2 ^ 64) × (e.index < 2 ^ 64) × (e.term < 2 ^ 64) = grind (arith, nat_tests) in
@@ -110,7 +110,7 @@ record_same r s x y hr hs same =
     let voters = voter_same r s x y hr hs groups.1 in
     (ap (λ g. (g, r.1)) groups.0 ∙ ap (λ v. (s.0, v)) voters.0, voters.1)
 
-length-record : (r : ℕ × State) (x : List ℕ) → 8 ≤ length (record_bytes r ++ x)
+pub length-record : (r : ℕ × State) (x : List ℕ) → 8 ≤ length (record_bytes r ++ x)
 unfolding record_bytes
 length-record r x = omega (arith, length-number_text r.0, length-append (number_text r.0) (voter_bytes r.1), length-append (number_text r.0 ++ voter_bytes r.1) x)
 

@@ -1,5 +1,5 @@
 -- The refused places of a round are those whose reply is Refused.
-use Rattle.std.proofs.Common.{◌≡◌, ℕ, ◌+◌, ◌<◌, ◌≤◌, ◌==◌, ◌||◌, ◌∙◌, nat_lt, nat_le, Bool, true, false, cond, List, [], ◌∷◌, ◌++◌, length, append_assoc, refl, ap, subst, arith}
+use Rattle.std.proofs.Common.{◌≡◌, ℕ, ◌+◌, ◌<◌, ◌≤◌, ◌==◌, ◌||◌, ◌∙◌, nat_lt, nat_le, Bool, true, false, cond, not, List, [], ◌∷◌, ◌++◌, length, append_assoc, refl, sym, ap, subst, arith}
 use Rattle.std.proofs.lemmas.Bool.Decides.{nat_tests}
 use Rattle.raft_voter.specs.declared.reply.Reply.{Reply}
 use Rattle.raft_voter.specs.declared.reply.Reply.TheVariants.{Granted, Denied, Matched, Mismatch, Stale, Base, Entries, Gone, Unknown, Status as StatusReply, Retired, Refused}
@@ -8,7 +8,7 @@ use Rattle.raft_voter.specs.declared.request.Request.TheVariants.{Vote, Append, 
 use Rattle.raft_voter.specs.Rounds.{World, after, after_one, are_rising, is_among, replies_from, taken_from}
 use Rattle.raft_voter.specs.Rules.{agrees_at, can_compact, grants, in_range, next, next_in_range, reply, reply_in_range}
 use Rattle.raft_voter.specs.State.{State, adopt_term, last_index}
-use Rattle.raftvoters.specs.Service.{Answers, is_refused, refused_from}
+use Rattle.raftvoters.specs.Service.{Answers, is_refused, out_of_range, refused_from}
 use Rattle.raftvoters.specs.Store.{replies_in_turn}
 use Rattle.raftvoters.proofs.Ranges.{by_test, put_same}
 
@@ -44,6 +44,21 @@ answered v (Read from to) =
     (λ _. by_test (λ r. is_refused r ≡ false) (nat_lt (last_index v + 1) to) (Unknown (last_index v)) (Entries _) (λ _. refl) (λ _. refl)))
 answered v Status = refl
 answered v Retire = refl
+
+-- and it refuses all that isn't
+refuses : (v : State) (q : Request) → is_refused (reply v q) ≡ not (in_range q)
+refuses v q =
+    by_test (λ r. is_refused r ≡ not (in_range q)) (in_range q) (reply_in_range v q) Refused (λ e. answered v q ∙ sym (ap not e)) (λ e. sym (ap not e))
+
+turned : (b : Bool) (xs ys : List ℕ) → cond (not b) ys xs ≡ cond b xs ys
+turned true xs ys = refl
+turned false xs ys = refl
+
+-- of requests that are taken in turn those out of range are refused
+pub refused_in_turn : (place : ℕ) (W : World) (qs : List (ℕ × Request)) → refused_from place (replies_in_turn W qs) ≡ out_of_range place qs
+refused_in_turn place W [] = refl
+refused_in_turn place W (q ∷ qs) =
+    rw (refuses (W q.0) q.1, refused_in_turn (place + 1) (after_one W q) qs) (turned (in_range q.1) (out_of_range (place + 1) qs) (place ∷ out_of_range (place + 1) qs))
 
 -- what is refused changes nothing
 refused_stays_at : (v : State) (q : Request) (fit : Bool) → is_refused (cond fit (reply_in_range v q) Refused) ≡ true → cond fit (next_in_range v q) v ≡ v

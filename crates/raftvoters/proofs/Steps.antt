@@ -1,5 +1,5 @@
 -- A session goes on.
-use Rattle.std.proofs.Common.{◌≡◌, ℕ, ◌+◌, ◌<◌, nat_lt, Bool, false, inr, List, [], ◌∷◌, ◌++◌, length, append_assoc, append-nil, refl, sym, ap, subst, arith}
+use Rattle.std.proofs.Common.{◌≡◌, ℕ, ◌+◌, ◌<◌, nat_lt, Bool, false, ◌⊎◌, inr, List, [], ◌∷◌, ◌++◌, length, append_assoc, append-nil, refl, sym, ap, subst, arith}
 use Rattle.std.proofs.lemmas.Bool.Decides.{nat_tests}
 use Rattle.raft_voter.specs.declared.reply.Reply.{Reply}
 use Rattle.raft_voter.specs.declared.request.Request.{Request}
@@ -12,9 +12,9 @@ use Rattle.raftvoters.specs.declared.storage.Storage.{Storage}
 use Rattle.raftvoters.specs.declared.storage.Storage.TheVariants.{Closed, Open}
 use Rattle.raftvoters.specs.declared.store.PlainStore.{PlainStore}
 use Rattle.raftvoters.specs.Content.{Content}
-use Rattle.raftvoters.specs.Service.{Answers, refused_from}
+use Rattle.raftvoters.specs.Service.{Answers, out_of_range, refused_from}
 use Rattle.raftvoters.specs.Store.{IsStored, world_of}
-use Rattle.raftvoters.specs.Storage.{HasCause, Serves, Served, cuts_of, is_open}
+use Rattle.raftvoters.specs.Storage.{Serves, Served, cuts_of, is_open}
 use Rattle.raftvoters.specs.Play.{AreRoundsOf, Sure, IsUnderWay, IsPlayed}
 
 -- Rounds.
@@ -27,12 +27,12 @@ none_taken place refused (q ∷ qs) =
     rw out (none_taken (place + 1) refused qs)
 
 pub cut_served : (storage : Storage) (requests : List (ℕ × Request)) (round : RoundRecord) → round ≡ record { requests = requests; refused = []; outcome = Cut }
-    → HasCause (is_open storage) (length requests) Cut → Served storage storage requests round
+    → (is_open storage ≡ false) ⊎ (4096 < length requests) → Served storage storage requests round
 cut_served storage requests round e cause =
     let P : RoundRecord → Type 0 = λ r. Served storage storage requests r in
     subst P (sym e) (record {
       same = refl;
-      cause = cause;
+      cause = (cause, refl);
       still = refl;
       world = λ W. W;
       serves = λ W at. (record { holds = λ cuts. (refl, omega arith); reached = λ cuts. ap (after W) (none_taken 0 [] requests); left = λ cuts. refl }, at);
@@ -40,14 +40,14 @@ cut_served storage requests round e cause =
 
 pub answered_served : (store new : PlainStore) (requests : List (ℕ × Request)) (replies : List Reply) (round : RoundRecord)
     → round ≡ record { requests = requests; refused = refused_from 0 replies; outcome = Answered replies }
-    → Answers (world_of store) requests replies (world_of new) → (IsStored store → IsStored new) → Served (Open store) (Open new) requests round
-answered_served store new requests replies round e told stored =
+    → Answers (world_of store) requests replies (world_of new) → refused_from 0 replies ≡ out_of_range 0 requests → (IsStored store → IsStored new) → Served (Open store) (Open new) requests round
+answered_served store new requests replies round e told refused stored =
     let P : RoundRecord → Type 0 = λ r. Served (Open store) (Open new) requests r in
     let Q : World → Type 0 = λ W. Serves W (record { requests = requests; refused = refused_from 0 replies; outcome = Answered replies }) (world_of new) in
     let one : Q (world_of store) = record { holds = λ cuts. (told.rising, told.told); reached = λ cuts. sym told.taken; left = λ cuts. refl } in
     subst P (sym e) (record {
       same = refl;
-      cause = (refl, told.short);
+      cause = (refl, told.short, refused);
       still = refl;
       world = λ W. world_of new;
       serves = λ W at. (subst Q at.1 one, (stored at.0, refl));

@@ -1,5 +1,6 @@
 pub mod Content
 pub mod Records
+pub mod Damage
 pub mod Service
 pub mod Store
 pub mod Storage

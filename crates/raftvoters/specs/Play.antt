@@ -8,7 +8,7 @@ use Rattle.raftvoters.specs.declared.storage.Storage.{Storage}
 use Rattle.raftvoters.specs.Storage.{HasCause, IsAt, is_open}
 
 -- Each round of a session is in the transcript, with its requests, in order. One is cut off only where no store is
--- open, or where it is too long. `begun` says whether a store is open at first.
+-- open, or where it is too long, and only requests out of range are refused. `begun` says whether a store is open at first.
 abbrev pub AreRoundsOf : List Event → Bool → List RoundRecord → Type 0
 AreRoundsOf [] begun [] = Unit {0}
 AreRoundsOf [] begun (round ∷ rounds) = ⊥
@@ -17,7 +17,7 @@ AreRoundsOf (Close ∷ events) begun rounds = AreRoundsOf events false rounds
 AreRoundsOf (CrashLast ∷ events) begun rounds = AreRoundsOf events false rounds
 AreRoundsOf (Round requests ∷ events) begun [] = ⊥
 AreRoundsOf (Round requests ∷ events) begun (round ∷ rounds) =
-    (round.requests ≡ requests) × HasCause begun (length requests) round.outcome × AreRoundsOf events begun rounds
+    (round.requests ≡ requests) × HasCause begun round round.outcome × AreRoundsOf events begun rounds
 
 -- a transcript of a session, that voters which never fail explain
 pub record IsPlayed (events : List Event) (rounds : List RoundRecord) (cuts : List ℕ) : Type 0 where

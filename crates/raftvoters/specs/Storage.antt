@@ -8,6 +8,7 @@ use Rattle.raft_voter.specs.Rounds.{World, RoundHolds, after_round, cuts_after}
 use Rattle.raftvoters.specs.declared.storage.Storage.{Storage}
 use Rattle.raftvoters.specs.declared.storage.Storage.TheVariants.{Closed, Open}
 use Rattle.raftvoters.specs.Records.{Holds}
+use Rattle.raftvoters.specs.Service.{out_of_range}
 use Rattle.raftvoters.specs.Store.{IsStored, world_of}
 
 abbrev pub is_open : Storage → Bool
@@ -19,14 +20,19 @@ abbrev pub IsAt : Storage → World → Type 0
 IsAt (Closed file) W = Holds file.synced W × (file.unsynced ≡ [])
 IsAt (Open store) W = IsStored store × (world_of store ≡ W)
 
+-- some voters are stored
+abbrev pub IsSound : Storage → Type 0
+IsSound storage = (W : World) × IsAt storage W
+
 -- what is stored stays
 abbrev pub Keeps : Storage → Storage → Type 0
 Keeps old new = (W : World) → IsAt old W → IsAt new W
 
--- A round is answered where a store is open and it isn't too long, and else it is cut off.
-abbrev pub HasCause : Bool → ℕ → Outcome → Type 0
-HasCause begun size (Answered replies) = (begun ≡ true) × (size ≤ 4096)
-HasCause begun size Cut = (begun ≡ false) ⊎ (4096 < size)
+-- A round is answered where a store is open and it isn't too long, and else it is cut off. Of a round that is answered
+-- just the requests out of range are refused.
+abbrev pub HasCause : Bool → Round → Outcome → Type 0
+HasCause begun round (Answered replies) = (begun ≡ true) × (length round.requests ≤ 4096) × (round.refused ≡ out_of_range 0 round.requests)
+HasCause begun round Cut = ((begun ≡ false) ⊎ (4096 < length round.requests)) × (round.refused ≡ [])
 
 -- the place up to which a round that is cut off here was taken: none of it was
 abbrev pub cuts_of : Outcome → List ℕ
@@ -42,7 +48,7 @@ pub record Serves (W : World) (round : Round) (X : World) : Type 0 where
 -- a round was served, or cut off with cause
 pub record Served (old new : Storage) (requests : List (ℕ × Request)) (round : Round) : Type 0 where
   pub same : round.requests ≡ requests
-  pub cause : HasCause (is_open old) (length requests) round.outcome
+  pub cause : HasCause (is_open old) round round.outcome
   pub still : is_open new ≡ is_open old
   pub world : World → World
   pub serves : (W : World) → IsAt old W → Serves W round (world W) × IsAt new (world W)

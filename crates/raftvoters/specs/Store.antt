@@ -1,11 +1,12 @@
 -- The plain store: its voters in memory, and the file that holds them.
-use Rattle.std.specs.Prelude.{◌≡◌, ℕ, List, [], ◌∷◌, ◌++◌}
+use Rattle.std.specs.Prelude.{◌≡◌, ◌⊎◌, ℕ, List, [], ◌∷◌, ◌++◌}
 use Rattle.raft_voter.specs.declared.reply.Reply.{Reply}
 use Rattle.raft_voter.specs.declared.request.Request.{Request}
 use Rattle.raft_voter.specs.Rounds.{World, after, after_one}
 use Rattle.raft_voter.specs.Rules.{reply}
 use Rattle.raftvoters.specs.declared.store.PlainStore.{PlainStore}
 use Rattle.raftvoters.specs.Records.{AllInRange, Holds, LeadTo, world_in}
+use Rattle.raftvoters.specs.Service.{Stopped}
 
 -- the voter of each group: the one in memory, or a fresh one
 abbrev pub world_of : PlainStore → World
@@ -23,6 +24,11 @@ pub record Takes (old : PlainStore) (asked : ℕ × Request) (told : Reply) (new
   pub synced : new.file.synced ≡ old.file.synced
   pub written : (W : World) → AllInRange (world_of old) → LeadTo W old.file.unsynced (world_of old) → LeadTo W new.file.unsynced (world_of new)
 
+-- one request isn't answered: it was taken or not, and what was synced stays
+pub record IsRefused (old : PlainStore) (asked : ℕ × Request) (new : PlainStore) : Type 0 where
+  pub taken : (world_of new ≡ world_of old) ⊎ (world_of new ≡ after_one (world_of old) asked)
+  pub synced : new.file.synced ≡ old.file.synced
+
 -- the replies to requests that are taken one after another
 abbrev pub replies_in_turn : World → List (ℕ × Request) → List Reply
 replies_in_turn W [] = []
@@ -34,6 +40,11 @@ pub record TakesAll (old : PlainStore) (asked : List (ℕ × Request)) (told : L
   pub taken : world_of new ≡ after (world_of old) asked
   pub synced : new.file.synced ≡ old.file.synced
   pub written : AllInRange (world_of old) → LeadTo (world_of old) old.file.unsynced (world_of old) → LeadTo (world_of old) new.file.unsynced (world_of new)
+
+-- requests aren't answered: some of the first were taken, and what was synced stays
+pub record IsStopped (old : PlainStore) (asked : List (ℕ × Request)) (new : PlainStore) : Type 0 where
+  pub taken : Stopped (world_of old) asked (world_of new)
+  pub synced : new.file.synced ≡ old.file.synced
 
 -- some requests are taken, and these are left
 pub record IsAmidst (old : PlainStore) (asked left : List (ℕ × Request)) (told : List Reply) (now : PlainStore) : Type 0 where

@@ -4,7 +4,6 @@ ghost use Rattle.raftvoters.specs.Play.{IsPlayed};
 ghost use Rattle.raftvoters.specs.Storage.{cuts_of};
 
 use crate::file::PlainFile;
-use crate::record::OpenFault;
 use crate::storage::Storage;
 use raft_voter::{Items, Memory, Outcome, Transcript};
 use raft_voter_session::Event;
@@ -15,7 +14,7 @@ use std::collections::VecDeque;
 pub fn play(
     alloc: Global,
     mut events: VecDeque<Event>,
-) -> Result<(Transcript, Items<usize>), OpenFault>
+) -> Result<(Transcript, Items<usize>), Memory>
     ensures { IfOk result (λ played. IsPlayed events.items played.0.rounds played.1) }
 {
     let mut storage = Storage::Closed(PlainFile::new(alloc));

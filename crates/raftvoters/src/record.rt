@@ -1,8 +1,9 @@
 //! The records of the plain file: a group and its voter.
-ghost use Rattle.std.specs.Prelude.{◌≡◌, ℕ, true, ◌+◌, ◌^◌, ◌<◌, ◌++◌, length, IfOk, OnOk};
+ghost use Rattle.std.specs.Prelude.{◌≡◌, ℕ, true, ◌+◌, ◌^◌, ◌<◌, ◌++◌, length, IfOk, IfErr, OnOk};
 ghost use Rattle.std.specs.List.{flat_map};
 ghost use Rattle.raft_voter.specs.StoredForms.{number_text, stored_entry_fits};
 ghost use Rattle.raft_voter.specs.Rules.{numbered};
+ghost use Rattle.raftvoters.specs.Damage.{HasNoEntries, HasNoEntry, HasNoRecord, TellsDamage};
 ghost use Rattle.raftvoters.specs.Records.{AreEntries, IsStorable, record_bytes, stored_entry, voter_bytes};
 
 use raft_voter::{Entry, Items, Memory, StoredFault, Voter, read_entry, read_state, state_bytes};
@@ -18,12 +19,20 @@ pub enum OpenFault {
 }
 
 impl From<Memory> for OpenFault {
+    ghost use Rattle.raftvoters.specs.declared.record.OpenFault.TheVariants.{Memory as OutOfMemory};
+
+    ghost from_gives = { λ _ fault. fault ≡ OutOfMemory };
+
     fn from(_refused: Memory) -> OpenFault {
         OpenFault::Memory
     }
 }
 
 impl From<StoredFault> for OpenFault {
+    ghost use Rattle.raftvoters.specs.Damage.{open_fault};
+
+    ghost from_gives = { λ given fault. fault ≡ open_fault given };
+
     fn from(fault: StoredFault) -> OpenFault {
         match fault {
             StoredFault::Memory => OpenFault::Memory,
@@ -99,9 +108,10 @@ fn put_bytes(bytes: &mut Vec<u8>, more: &[u8]) -> Result<(), Memory>
     Ok(())
 }
 
-/// The first record of these bytes, and what follows it.
+/// The first record of these bytes, and what follows it. Damage is told only where no record comes first.
 pub fn read_record(alloc: Global, bytes: &[u8]) -> Result<(u64, Voter, &[u8]), OpenFault>
-    ensures { IfOk result (λ found. IsStorable (found.0, found.1) × (bytes.now ≡ record_bytes (found.0, found.1) ++ found.2.now)) }
+    ensures ok { IfOk result (λ found. IsStorable (found.0, found.1) × (bytes.now ≡ record_bytes (found.0, found.1) ++ found.2.now)) }
+    ensures err { IfErr result (TellsDamage (HasNoRecord bytes.now)) }
 {
     let (group, rest) = split_number(bytes)?;
     let (state, rest) = split(rest, STATE_BYTES)?;
@@ -112,7 +122,8 @@ pub fn read_record(alloc: Global, bytes: &[u8]) -> Result<(u64, Voter, &[u8]), O
     Ok((group, voter, rest))
 }
 
-/// So many stored entries, the first right above the base, and what follows them.
+/// So many stored entries, the first right above the base, and what follows them. Damage is told only where they don't
+/// come first.
 fn read_entries(
     alloc: Global,
     base: u64,
@@ -120,26 +131,25 @@ fn read_entries(
     bytes: &[u8],
 ) -> Result<(Items<Entry>, &[u8]), OpenFault>
     requires { base < 2 ^ 63 }
-    ensures { IfOk result (λ found. AreEntries (base + 1) found.0
+    ensures ok { IfOk result (λ found. AreEntries (base + 1) found.0
         × (length found.0 ≡ count) × (bytes.now ≡ flat_map stored_entry found.0 ++ found.1.now)) }
+    ensures err { IfErr result (TellsDamage (HasNoEntries (base + 1) count bytes.now)) }
 {
     let mut entries = Items::new(alloc);
     let mut left = bytes;
     for i in 0..count {
-        let Some(index) = base.checked_add(1 + i) else {
-            return Err(OpenFault::Damaged);
-        };
-        let (entry, rest) = read_one(alloc, index, left)?;
+        let (entry, rest) = read_one(alloc, base + 1 + i, left)?;
         entries.push(entry)?;
         left = rest;
     }
     Ok((entries, left))
 }
 
-/// The stored entry at this index, and what follows it.
+/// The stored entry at this index, and what follows it. Damage is told only where it doesn't come first.
 #[tactic(auto, unfolding(crate::specs::Records::stored_entry))]
 fn read_one(alloc: Global, index: u64, bytes: &[u8]) -> Result<(Entry, &[u8]), OpenFault>
-    ensures { IfOk result (λ found. (found.0.index ≡ index) × (stored_entry_fits found.0 ≡ true) × (bytes.now ≡ stored_entry found.0 ++ found.1.now)) }
+    ensures ok { IfOk result (λ found. (found.0.index ≡ index) × (stored_entry_fits found.0 ≡ true) × (bytes.now ≡ stored_entry found.0 ++ found.1.now)) }
+    ensures err { IfErr result (TellsDamage (HasNoEntry index bytes.now)) }
 {
     let (size, rest) = split_number(bytes)?;
     let (stored, rest) = split(rest, size as usize)?;
@@ -149,7 +159,8 @@ fn read_one(alloc: Global, index: u64, bytes: &[u8]) -> Result<(Entry, &[u8]), O
 
 /// The number of eight bytes that comes first, and what follows it.
 fn split_number(bytes: &[u8]) -> Result<(u64, &[u8]), OpenFault>
-    ensures { IfOk result (λ found. (found.0 < 2 ^ 64) × (bytes.now ≡ number_text found.0 ++ found.1.now)) }
+    ensures ok { IfOk result (λ found. (found.0 < 2 ^ 64) × (bytes.now ≡ number_text found.0 ++ found.1.now)) }
+    ensures err { IfErr result (λ _. length bytes.now < 8) }
 {
     if bytes.len() < 8 {
         return Err(OpenFault::Damaged);
@@ -163,7 +174,8 @@ fn split_number(bytes: &[u8]) -> Result<(u64, &[u8]), OpenFault>
 
 /// So many bytes, and what follows them.
 fn split(bytes: &[u8], count: usize) -> Result<(&[u8], &[u8]), OpenFault>
-    ensures { IfOk result (λ found. (length found.0.now ≡ count) × (bytes.now ≡ found.0.now ++ found.1.now)) }
+    ensures ok { IfOk result (λ found. (length found.0.now ≡ count) × (bytes.now ≡ found.0.now ++ found.1.now)) }
+    ensures err { IfErr result (λ _. length bytes.now < count) }
 {
     if bytes.len() < count {
         return Err(OpenFault::Damaged);

@@ -1,16 +1,18 @@
 //! From the bytes of a session to those of its transcript.
-ghost use Rattle.std.specs.Prelude.{◌≡◌, ℕ, List, Err, IfOk, IfSome, string_bytes};
+ghost use Rattle.std.specs.Prelude.{◌≡◌, ℕ, List, Err, IfOk, IfSome, string_bytes, take};
 ghost use Rattle.std.specs.Io.KnownBytes.{Appends};
 ghost use Rattle.raftvoters.specs.Run.{IsJudged, MayWrite, Shows, Tells};
 
 use crate::play::play;
-use crate::record::OpenFault;
 use raft_voter::{Memory, Transcript, judge};
 use raft_voter_session::{Event, SessionFault, read_session, write_transcript, write_unreadable};
 use std::alloc::Global;
 use std::collections::VecDeque;
 use std::io;
 use std::io::{ErrorKind, Read, Write};
+
+/// The most bytes that are read: one more than a session may have, so that one which is too long is known by them.
+const MOST_READ_BYTES: u64 = 268_435_457;
 
 /// What is written of a transcript and its cuts, with the judge's verdict; and the status that goes with it, 0 for yes
 /// and 1 for no.
@@ -25,11 +27,11 @@ fn judged(alloc: Global, transcript: &Transcript, cuts: &[usize]) -> Result<(Str
 }
 
 /// What is written for a session's events.
-fn shown(alloc: Global, events: VecDeque<Event>) -> Result<(String, u8), OpenFault>
+fn shown(alloc: Global, events: VecDeque<Event>) -> Result<(String, u8), Memory>
     ensures { IfOk result (λ told. Shows events.items (string_bytes told.0) told.1) }
 {
     let (transcript, cuts) = play(alloc, events)?;
-    Ok(judged(alloc, &transcript, cuts.as_slice())?)
+    judged(alloc, &transcript, cuts.as_slice())
 }
 
 /// What is written where a line is unreadable.
@@ -42,29 +44,36 @@ fn unreadable(alloc: Global, line: usize) -> Result<(String, u8), Memory>
 }
 
 /// What is written for a session, and the status that goes with it.
-fn answer(alloc: Global, input: &[u8]) -> Result<(String, u8), OpenFault>
+fn answer(alloc: Global, input: &[u8]) -> Result<(String, u8), Memory>
     ensures { IfOk result (λ told. MayWrite input.now (string_bytes told.0) told.1) }
 {
     match read_session(alloc, input) {
         Ok(events) => shown(alloc, events),
-        Err(SessionFault::Unreadable(line)) => Ok(unreadable(alloc, line)?),
-        Err(SessionFault::Memory) => Err(OpenFault::Memory),
+        Err(SessionFault::Unreadable(line)) => unreadable(alloc, line),
+        Err(SessionFault::Memory) => Err(Memory),
     }
 }
 
-/// Reads a whole session, serves it, and writes its transcript with a verdict; or writes which line is the first that
+/// The bytes of a session, and of one that is too long only as many as tell so.
+fn read_front<R: Read>(alloc: Global, reader: &mut R) -> io::Result<Vec<u8>>
+    ensures { IfOk result (λ front. IfSome (R.remaining reader.old) (λ input. front.items ≡ take 268435457 input)) }
+{
+    let mut front = Vec::new(alloc);
+    reader.take(MOST_READ_BYTES).read_to_end(&mut front)?;
+    Ok(front)
+}
+
+/// Reads a session, serves it, and writes its transcript with a verdict; or writes which line is the first that
 /// is unreadable. The status is 0 where the verdict is yes, 1 where it is no, and 2 for an unreadable line. An `Err`
-/// tells that memory, the reader or the writer was refused; nothing more is written then.
+/// tells that memory, the reader or the writer was refused; nothing more is written then. Of a session that is too long
+/// no more is read than tells so.
 pub fn run<R: Read, W: Write>(alloc: Global, reader: &mut R, writer: &mut W) -> io::Result<u8>
     ensures { IfOk result (λ status. IfSome (R.remaining reader.old) (λ input.
         (text : List ℕ) × MayWrite input text status × Appends (W.contents writer.old) (W.contents writer.new) text)) }
 {
-    let mut input = Vec::new(alloc);
-    reader.read_to_end(&mut input)?;
-    let (text, status) = match answer(alloc, input.as_slice()) {
-        Ok(told) => told,
-        Err(OpenFault::Memory) => return Err(io::Error::from(ErrorKind::OutOfMemory)),
-        Err(OpenFault::Damaged) => return Err(io::Error::from(ErrorKind::InvalidData)),
+    let front = read_front(alloc, reader)?;
+    let Ok((text, status)) = answer(alloc, front.as_slice()) else {
+        return Err(io::Error::from(ErrorKind::OutOfMemory));
     };
     writer.write_all(text.as_bytes())?;
     Ok(status)

@@ -1,6 +1,6 @@
 //! A store that is open, or the file of one that isn't.
 ghost use Rattle.std.specs.Prelude.{◌≡◌, [], true, false, IfOk};
-ghost use Rattle.raftvoters.specs.Storage.{is_open, Keeps, Served};
+ghost use Rattle.raftvoters.specs.Storage.{is_open, IsSound, Keeps, Served};
 ghost use Rattle.raftvoters.specs.Service.{is_refused, refused_from};
 
 use crate::file::PlainFile;
@@ -30,13 +30,18 @@ impl Storage {
         }
     }
 
-    /// Opens the store; one that is open is closed first.
-    pub fn opened(self, alloc: Global) -> Result<Storage, OpenFault>
+    /// Opens the store; one that is open is closed first. What a store wrote can always be read, so only memory may be
+    /// refused.
+    pub fn opened(self, alloc: Global) -> Result<Storage, Memory>
+        requires { IsSound self }
         ensures open { IfOk result (λ next. is_open next ≡ true) }
         ensures keeps { IfOk result (Keeps self) }
     {
-        let store = PlainStore::open(alloc, self.into_file())?;
-        Ok(Storage::Open(store))
+        match PlainStore::open(alloc, self.into_file()) {
+            Ok(store) => Ok(Storage::Open(store)),
+            Err(OpenFault::Memory) => Err(Memory),
+            Err(OpenFault::Damaged) => unreachable!(),
+        }
     }
 
     /// Closes the store, if one is open.

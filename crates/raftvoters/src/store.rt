@@ -1,11 +1,12 @@
 //! Voters of many groups in memory, and the plain file that keeps them.
-ghost use Rattle.std.specs.Prelude.{◌≡◌, ◌+◌, ◌^◌, ◌<◌, ◌↔◌, length, IfOk, OnOk, Err};
+ghost use Rattle.std.specs.Prelude.{◌≡◌, ◌+◌, ◌^◌, ◌<◌, ◌↔◌, length, IfErr, IfOk, OnErr, OnOk, Err};
 ghost use Rattle.raft_voter.specs.Rounds.{after_one, put};
 ghost use Rattle.raftvoters.specs.Content.{whole};
 ghost use Rattle.raft_voter.specs.Rules.{reply};
+ghost use Rattle.raftvoters.specs.Damage.{HoldsNothing, TellsDamage};
 ghost use Rattle.raftvoters.specs.Records.{Holds, may_change, record_bytes, world_in};
-ghost use Rattle.raftvoters.specs.Service.{Answers};
-ghost use Rattle.raftvoters.specs.Store.{IsStored, Takes, TakesAll, world_of};
+ghost use Rattle.raftvoters.specs.Service.{Answers, out_of_range, refused_from, Stopped};
+ghost use Rattle.raftvoters.specs.Store.{IsRefused, IsStopped, IsStored, Takes, TakesAll, world_of};
 
 use crate::file::PlainFile;
 use crate::record::{OpenFault, read_record, record_bytes};
@@ -23,11 +24,12 @@ pub struct PlainStore {
 }
 
 impl PlainStore {
-    /// Opens a file: reads it whole, and the last record of each group is its voter. Bytes that aren't those of records
-    /// are told as damaged.
+    /// Opens a file: reads it whole, and the last record of each group is its voter. Damage is told only where
+    /// the bytes aren't those of records, so never of what a store wrote.
     pub fn open(alloc: Global, file: PlainFile) -> Result<PlainStore, OpenFault>
         ensures same { IfOk result (λ store. store.file ≡ file) }
         ensures voters { IfOk result (λ store. Holds (whole file) (world_of store)) }
+        ensures err { IfErr result (TellsDamage (HoldsNothing (whole file))) }
     {
         let voters = read_voters(alloc, file.bytes())?;
         Ok(PlainStore {
@@ -37,9 +39,11 @@ impl PlainStore {
         })
     }
 
-    /// The voters take requests in order, and what they change is written.
+    /// The voters take requests in order, and what they change is written. Where memory is refused some of the first were
+    /// taken, and what was synced stays.
     fn take_all(&mut self, requests: &[(u64, Request)]) -> Result<Items<Reply>, Memory>
-        ensures { IfOk result (λ replies. TakesAll self.old requests.now replies self.new) }
+        ensures ok { IfOk result (λ replies. TakesAll self.old requests.now replies self.new) }
+        ensures err { OnErr result (IsStopped self.old requests.now self.new) }
     {
         let mut replies = Items::new(self.alloc);
         for (group, request) in requests {
@@ -49,9 +53,11 @@ impl PlainStore {
         Ok(replies)
     }
 
-    /// A group's voter takes a request, and what it changes is written.
+    /// A group's voter takes a request, and what it changes is written. Where memory is refused it may have taken it in
+    /// memory alone.
     fn take(&mut self, group: u64, request: &Request) -> Result<Reply, Memory>
-        ensures { IfOk result (λ told. Takes self.old (group, request.now) told self.new) }
+        ensures ok { IfOk result (λ told. Takes self.old (group, request.now) told self.new) }
+        ensures err { OnErr result (IsRefused self.old (group, request.now) self.new) }
     {
         let reply = step(self.alloc, &mut self.voters, group, request)?;
         if !may_change(request) {
@@ -80,9 +86,12 @@ impl RoundService for PlainStore {
 
     fn serve(&mut self, requests: &[(u64, Request)]) -> Result<Items<Reply>, RoundFault>
         ensures answered { IfOk result (λ replies. Answers (world_of self.old) requests.now replies (world_of self.new)) }
+        ensures stopped { OnErr result (Stopped (world_of self.old) requests.now (world_of self.new)) }
+        ensures refused { IfOk result (λ replies. refused_from 0 replies ≡ out_of_range 0 requests.now) }
         ensures too_long { (result ≡ Err RoundFault.TooLong) ↔ (4096 < length requests.now) }
         ensures kept { result ≡ Err RoundFault.TooLong → world_of self.new ≡ world_of self.old }
         ensures stored { OnOk result (IsStored self.old → IsStored self.new) }
+        ensures held { OnErr result (IsStored self.old → Holds self.new.file.synced (world_of self.old)) }
         ensures same { result ≡ Err RoundFault.TooLong → self.new ≡ self.old }
     {
         if requests.len() > MOST_REQUESTS {
@@ -103,6 +112,7 @@ fn step(
 ) -> Result<Reply, Memory>
     ensures replies { IfOk result (λ told. told ≡ reply (world_in voters.old group) request.now) }
     ensures changes { OnOk result (world_in voters.new ≡ after_one (world_in voters.old) (group, request.now)) }
+    ensures refused { OnErr result (world_in voters.new ≡ world_in voters.old) }
 {
     let voter = voters.entry(group)?.or_insert(Voter::new(alloc));
     voter.step(request)
@@ -131,7 +141,8 @@ fn may_change(request: &Request) -> bool
 
 /// The voters that a file's bytes hold.
 fn read_voters(alloc: Global, bytes: &[u8]) -> Result<BTreeMap<u64, Voter>, OpenFault>
-    ensures { IfOk result (λ voters. Holds bytes.now (world_in voters)) }
+    ensures ok { IfOk result (λ voters. Holds bytes.now (world_in voters)) }
+    ensures err { IfErr result (TellsDamage (HoldsNothing bytes.now)) }
 {
     let mut voters = BTreeMap::new(alloc);
     let mut left = bytes;
@@ -144,11 +155,11 @@ fn read_voters(alloc: Global, bytes: &[u8]) -> Result<BTreeMap<u64, Voter>, Open
 }
 
 /// A group's voter is this one from now on.
-fn set_voter(voters: &mut BTreeMap<u64, Voter>, group: u64, voter: Voter) -> Result<(), OpenFault>
+fn set_voter(voters: &mut BTreeMap<u64, Voter>, group: u64, voter: Voter) -> Result<(), Memory>
     ensures { OnOk result (world_in voters.new ≡ put (world_in voters.old) group voter) }
 {
     match voters.insert(group, voter) {
         Ok(_) => Ok(()),
-        Err(_) => Err(OpenFault::Memory),
+        Err(_) => Err(Memory),
     }
 }

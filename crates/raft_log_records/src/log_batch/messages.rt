@@ -5,8 +5,8 @@ ghost use Rattle.raft_log_records.specs.Entries.{entries_of, joined, bytes_len, 
 
 use super::entries::{check_run, sized_entry};
 use super::{LogBatch, MAX_ENTRIES_LEN, check_key};
-use crate::header::LOG_BATCH_HEADER_LEN;
 use crate::message::{Message, MessageExt};
+use raft_log_frames::LOG_BATCH_HEADER_LEN;
 use raft_log_items::{Bytes, EntryIndex, EntryIndexes, Error, LogItem, OpType, Result};
 use std::alloc::{AllocError, Global};
 

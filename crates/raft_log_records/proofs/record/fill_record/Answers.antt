@@ -2,7 +2,7 @@ use Rattle.std.proofs.Common.{◌≡◌, ℕ, List, ◌++◌, ◌≤◌, ◌^◌
 use Rattle.std.proofs.lemmas.Result.{err_from_is_err_and}
 use Rattle.std.proofs.lemmas.List.{take_at}
 use Rattle.raft_log_items.specs.Writing.{KeepsFront}
-use Rattle.raft_log_records.specs.Record.{block_bytes, footer_bytes, header_bytes, record_len}
+use Rattle.raft_log_frames.specs.Record.{block_bytes, footer_bytes, header_bytes, record_len}
 use Rattle.raft_log_records.proofs.Made.{keeps_trans, keeps_append, block_keeps, record_made, made-length}
 use Rattle.raft_log_records.proofs.record.fill_record.Goals as goal
 

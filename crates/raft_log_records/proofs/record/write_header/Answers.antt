@@ -2,7 +2,7 @@ use Rattle.std.proofs.Common.{◌≡◌, List, ℕ, ◌*◌, ◌++◌, drop, ap,
 use Rattle.std.specs.Int.{w64, to_be_bytes}
 use Rattle.std.proofs.lemmas.List.{drop-drop}
 use Rattle.raft_log_codec.specs.Number.{u64_bytes}
-use Rattle.raft_log_records.specs.Record.{header_bytes}
+use Rattle.raft_log_frames.specs.Record.{header_bytes}
 use Rattle.raft_log_records.proofs.record.write_header.Goals as goal
 
 pub returns : goal.returns

@@ -5,9 +5,9 @@ use Rattle.std.proofs.lemmas.Nat.{be_bytes_8}
 use Rattle.raft_voter.specs.StoredForms.{number_text}
 use Rattle.raftvoters.proofs.record.split_number.Goals as goal
 
-pub returns : goal.returns
+pub returns-clause-ok : goal.returns-clause-ok
 unfolding number_text
-returns c =
+returns-clause-ok c =
     let bytes = c.args.bytes.now in
     let n = c.from_be_bytes-number.result in
     let front = c.split_at.result.0.now in

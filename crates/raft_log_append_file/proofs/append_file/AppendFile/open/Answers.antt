@@ -1,7 +1,31 @@
-use Rattle.std.proofs.Common.{◌≡◌, ℕ, ◌++◌, false, refl, ◌∙◌, sym, subst}
+use Rattle.std.proofs.Common.{◌≡◌, ℕ, List, ◌++◌, false, take, refl, ◌∙◌, ap, sym, subst}
+use Rattle.std.proofs.lemmas.List.{take_at}
+use Rattle.std.proofs.lemmas.Result.{err_from_is_err_and}
+use Rattle.raft_log_disk.specs.Chains.{spelled, Reads}
+use Rattle.raft_log_append_file.specs.Frame.{IsFrame}
 use Rattle.raft_log_append_file.specs.Keeping.{IsKept, NoChanceNow}
-use Rattle.raft_log_append_file.proofs.OpenLaws.{finds_end, found_kept, found_open}
+use Rattle.raft_log_append_file.proofs.OpenLaws.{finds_end, found_kept, found_open, settled_open}
+use Rattle.raft_log_append_file.proofs.Causes.{read_open_refused}
 use Rattle.raft_log_append_file.proofs.append_file.AppendFile.open.Goals as goal
+
+pub returns-in_err-bytes-clause-err : goal.returns-in_err-bytes-clause-err
+returns-in_err-bytes-clause-err g c =
+    let d = g.F.FileSystem.disk c.args.file_system.now in
+    let handle = c.in_ok-handle.handle in
+    let gave = err_from_is_err_and c.from_residual-in_err-bytes.result c.from_residual-in_err-bytes.ensures.1 in
+    rw (gave.1, gave.2) (λ id file named is.
+    (let same : id ≡ handle.file = (let there = c.in_ok-handle.ensures.ok.is in cc) in
+    read_open_refused c.in_err-bytes.field-0.0 handle.file d d (c.in_err-bytes.ensures.err file (ap d.files (sym same) ∙ is))))
+
+pub returns-clause-found : goal.returns-clause-found
+returns-clause-found g c = λ file is.
+    let D = g.F.FileSystem.disk in
+    let handle = c.in_ok-handle.handle in
+    let end = c.good_end-end.result in
+    let (ws, reads_bytes, ends) = c.good_end-end.ensures in
+    let reads = subst (λ (b : List ℕ). Reads IsFrame 0 ws b) (c.deref.ensures.value ∙ c.in_ok-bytes.ensures.ok file is) reads_bytes in
+    let front : take end file.content ≡ spelled ws = ap (λ (b : List ℕ). take end b) reads.splits ∙ take_at (spelled ws) reads.rest end (sym ends) in
+    (ws, reads, settled_open (record { handle = handle; written = end; failed = false }) ws (take end file.content) (D c.cut_back.new.file_system) reads.frames front (c.in_ok-cut_back.ensures.ok file is) c.in_ok-handle.ensures.ok.permitted ends refl)
 
 pub returns-in_err-cut_back-clause-kept : goal.returns-in_err-cut_back-clause-kept
 returns-in_err-cut_back-clause-kept g c = λ id durable pending named kept_id chance_id.

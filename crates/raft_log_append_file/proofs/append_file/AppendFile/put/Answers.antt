@@ -10,35 +10,11 @@ use Rattle.raft_log_append_file.proofs.OthersLaws.{touches_same, touches_then, t
 use Rattle.raft_log_append_file.proofs.OpenLaws.{content_short, front_records, open_can_cut, torn_can_cut, cut_calm, settled_open, open_appended, right_writer}
 use Rattle.raft_log_append_file.proofs.append_file.AppendFile.put.Goals as goal
 
-pub returns-in_default-clause-err : goal.returns-in_default-clause-err
-returns-in_default-clause-err g c = λ bytes durable pending is_frame opened.
-    let old = g.F.FileSystem.disk c.args.file_system.now in
-    let sound = g.met.F.FileSystem.sound c.args.file_system.now in
-    let short = content_short opened.file (sound.files c.args.self.now.handle.file opened.file opened.is) in
-    let long : length c.args.frame.now < 2 ^ 63 = search rules in
-    let size = ap length opened.content in
-    let fits : c.args.self.now.written + length c.args.frame.now < 2 ^ 64 = omega (arith, short, long, opened.written) in
-    let full = c.in_default.ensures in
-    absurd (full fits)
-
-pub returns-in_err-cut_back-clause-err : goal.returns-in_err-cut_back-clause-err
-returns-in_err-cut_back-clause-err g c =
-    let gave = err_from_is_err_and c.from_residual.result c.from_residual.ensures.1 in
-    rw (gave.1, gave.2) (λ bytes durable pending is_frame opened.
-    (let D = g.F.FileSystem.disk in
-    let old = D c.args.file_system.now in
-    let mid = D c.write_at.new.self in
-    let new = D c.cut_back.new.file_system in
-    let log = c.args.self.now in
-    let frame = c.args.frame.now in
-    let id = log.handle.file in
-    let more = pending ++ framed bytes ∷ [] in
-    let can = kept_piece (CanCut id log.written (length pending) durable more) _ c.write_at.result id (Wrote log.written frame) (cut_calm id log.written (length pending) durable more)
-    (open_can_cut log durable pending bytes frame old opened is_frame) (λ file content is part. torn_can_cut log durable pending bytes frame old file content opened is_frame is part)
-    c.write_at.ensures.ok c.write_at.ensures.err in (
-      fails_still old mid new (fails_piece (right_writer log durable pending old c.in-Err.kind opened) c.in-Err.ensures.err) c.cut_back.ensures.later,
-      inr (refl, c.cut_back.ensures.kept durable more (length pending) can),
-    )))
+pub returns-clause-ok : goal.returns-clause-ok
+returns-clause-ok g c = λ bytes durable pending is_frame opened.
+    let D = g.F.FileSystem.disk in
+    open_appended c.args.self.now (record { handle = c.args.self.now.handle; written = c.in-Some.end; failed = false }) durable pending bytes c.args.frame.now (D c.args.file_system.now) (D c.write_at.new.self) opened is_frame refl
+    (search rules) refl c.in_default-write_at.ensures.ok
 
 pub returns-in-Err-clause-err : goal.returns-in-Err-clause-err
 returns-in-Err-clause-err g c = λ bytes durable pending is_frame opened.
@@ -59,11 +35,35 @@ returns-in-Err-clause-err g c = λ bytes durable pending is_frame opened.
       inl (settled_open (record { handle = log.handle; written = log.written; failed = false }) (durable ++ pending) (take log.written can.file.content) new opened.holds.frames front now opened.permitted opened.written refl),
     )
 
-pub returns-clause-ok : goal.returns-clause-ok
-returns-clause-ok g c = λ bytes durable pending is_frame opened.
-    let D = g.F.FileSystem.disk in
-    open_appended c.args.self.now (record { handle = c.args.self.now.handle; written = c.in-Some.end; failed = false }) durable pending bytes c.args.frame.now (D c.args.file_system.now) (D c.write_at.new.self) opened is_frame refl
-    (search rules) refl c.in_default-write_at.ensures.ok
+pub returns-in_err-cut_back-clause-err : goal.returns-in_err-cut_back-clause-err
+returns-in_err-cut_back-clause-err g c =
+    let gave = err_from_is_err_and c.from_residual.result c.from_residual.ensures.1 in
+    rw (gave.1, gave.2) (λ bytes durable pending is_frame opened.
+    (let D = g.F.FileSystem.disk in
+    let old = D c.args.file_system.now in
+    let mid = D c.write_at.new.self in
+    let new = D c.cut_back.new.file_system in
+    let log = c.args.self.now in
+    let frame = c.args.frame.now in
+    let id = log.handle.file in
+    let more = pending ++ framed bytes ∷ [] in
+    let can = kept_piece (CanCut id log.written (length pending) durable more) _ c.write_at.result id (Wrote log.written frame) (cut_calm id log.written (length pending) durable more)
+    (open_can_cut log durable pending bytes frame old opened is_frame) (λ file content is part. torn_can_cut log durable pending bytes frame old file content opened is_frame is part)
+    c.write_at.ensures.ok c.write_at.ensures.err in (
+      fails_still old mid new (fails_piece (right_writer log durable pending old c.in-Err.kind opened) c.in-Err.ensures.err) c.cut_back.ensures.later,
+      inr (refl, c.cut_back.ensures.kept durable more (length pending) can),
+    )))
+
+pub returns-in_default-clause-err : goal.returns-in_default-clause-err
+returns-in_default-clause-err g c = λ bytes durable pending is_frame opened.
+    let old = g.F.FileSystem.disk c.args.file_system.now in
+    let sound = g.met.F.FileSystem.sound c.args.file_system.now in
+    let short = content_short opened.file (sound.files c.args.self.now.handle.file opened.file opened.is) in
+    let long : length c.args.frame.now < 2 ^ 63 = search rules in
+    let size = ap length opened.content in
+    let fits : c.args.self.now.written + length c.args.frame.now < 2 ^ 64 = omega (arith, short, long, opened.written) in
+    let full = c.in_default.ensures in
+    absurd (full fits)
 
 pub returns-in_default-clause-others : goal.returns-in_default-clause-others
 returns-in_default-clause-others g c = touches_same c.args.self.now.handle.file (g.F.FileSystem.disk c.args.file_system.now)

@@ -1,7 +1,7 @@
 use Rattle.std.proofs.Common.{◌≡◌, List, ℕ, [], take, drop, map, sym, ap, subst, arith}
 use Rattle.raft_log_items.specs.Writing.{plain_item}
 use Rattle.raft_log_records.specs.declared.log_batch.BatchState.{BatchState}
-use Rattle.raft_log_records.specs.Record.{IsRecord}
+use Rattle.raft_log_frames.specs.Record.{IsRecord}
 use Rattle.raft_log_records.specs.Batch.{Batch, IsSigned, signature_in}
 use Rattle.raft_log_records.specs.Written.{AreBytes}
 use Rattle.raft_log_records.proofs.Encoded.{batch_record}

@@ -1,7 +1,16 @@
+use Rattle.raftvoters.specs.Content.{whole}
+use Rattle.raftvoters.specs.Damage.{HoldsNothing}
+use Rattle.raftvoters.proofs.Damage.{not_damaged}
 use Rattle.raftvoters.proofs.Worlds.{found}
 use Rattle.raftvoters.proofs.storage.Storage.opened.Goals as goal
 
-pub returns-clause-keeps : goal.returns-clause-keeps
-returns-clause-keeps c = λ W here.
+pub unreachable-requires : goal.unreachable-requires
+unreachable-requires c =
+    let at = c.into_file.ensures c.requires.0 c.requires.1 in
+    let none : HoldsNothing (whole c.into_file.result) = rw c.in-Err-Damaged.field-0-is at c.in-Err-Damaged.ensures.err in
+    not_damaged c.into_file.result c.requires.0 at.0 at.1 none
+
+pub returns-in-Ok-clause-keeps : goal.returns-in-Ok-clause-keeps
+returns-in-Ok-clause-keeps c = λ W here.
     let at = c.into_file.ensures W here in
-    found c.into_file.result c.in_ok-store.store c.in_ok-store.ensures.same c.in_ok-store.ensures.voters W at.0 at.1
+    found c.into_file.result c.in-Ok.store c.in-Ok.ensures.same c.in-Ok.ensures.voters W at.0 at.1

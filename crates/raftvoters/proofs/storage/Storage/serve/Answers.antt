@@ -9,7 +9,7 @@ returns-in_default c = cut_served c.args.self.now c.args.requests c.cut_off.resu
 
 pub returns-in-Ok : goal.returns-in-Ok
 returns-in-Ok c =
-    rw c.in-Open.is (IfOk-weaker _ _ _ (λ round e. answered_served c.in-Open.store c.serve.new.self c.args.requests c.in-Ok.replies round e (rw c.as_slice.ensures at c.in-Ok.ensures.answered) c.in-Ok.ensures.stored) c.answered.ensures)
+    rw c.in-Open.is (IfOk-weaker _ _ _ (λ round e. answered_served c.in-Open.store c.serve.new.self c.args.requests c.in-Ok.replies round e (rw c.as_slice.ensures at c.in-Ok.ensures.answered) (rw c.as_slice.ensures at c.in-Ok.ensures.refused) c.in-Ok.ensures.stored) c.answered.ensures)
 
 pub returns-in-Err-TooLong : goal.returns-in-Err-TooLong
 returns-in-Err-TooLong c =

@@ -1,0 +1,3 @@
+pub mod Crc
+pub mod CrcTables
+pub mod HashInverse

@@ -1,0 +1,5 @@
+pub mod Words
+pub mod Headers
+pub mod Blocks
+pub mod Footers
+pub mod Frames

@@ -1,0 +1,113 @@
+//! The header of a record, and its entry block.
+ghost use Rattle.std.specs.Prelude.{◌≡◌, ℕ, List, drop, IsOk, IsOkAnd, IfOk, OnOk};
+ghost use Rattle.raft_log_codec.specs.Grammar.{Decodes};
+ghost use Rattle.raft_log_items.specs.Fault.{Gives, Answers};
+ghost use Rattle.raft_log_frames.specs.Record.{IsSoundHeader, IsBlock, header_of, header_at, block_of, GivesSlice};
+
+use raft_log_codec::codec::BytesSlice;
+use raft_log_codec::{codec, crc32};
+use raft_log_items::{CompressionType, Error, Result};
+use std::alloc::Global;
+
+/// How many bytes a header has.
+pub const LOG_BATCH_HEADER_LEN: usize = 16;
+
+/// How many bytes a checksum has.
+pub(crate) const LOG_BATCH_CHECKSUM_LEN: usize = 4;
+
+/// What the two words of a header say.
+#[tactic(auto, unfolding(crate::specs::Record::header_of))]
+fn read_words(alloc: Global, word: u64, offset: u64) -> Result<(usize, CompressionType, usize)>
+    ensures exact { Gives result (header_of word offset) }
+    ensures sure { IsOk (header_of word offset) → IsOk result }
+{
+    let kind = (word % 256) as u8;
+    if kind != 0 {
+        return Err(Error::Corruption(format!(in alloc; "Unsupported compression type: {kind}")?));
+    }
+    if offset < LOG_BATCH_HEADER_LEN as u64 {
+        return Err(Error::Corruption(format!(in alloc;
+            "Log batch footer inside the header: {offset}"
+        )?));
+    }
+    let len = word / 256;
+    if offset > len {
+        return Err(Error::Corruption(format!(in alloc;
+            "Log batch footer past the end: {offset}"
+        )?));
+    }
+    Ok((offset as usize, CompressionType::None, len as usize))
+}
+
+#[tactic(auto, unfolding(crate::specs::Record::header_at))]
+fn take_header(
+    alloc: Global,
+    source: &mut BytesSlice<'_>,
+) -> Result<(usize, CompressionType, usize)>
+    ensures exact { Answers result source.old.now source.new.now (header_at source.old.now) }
+    ensures sure { IsOk (header_at source.old.now) → IsOk result }
+{
+    let mut rest: &[u8] = *source;
+    if rest.len() < LOG_BATCH_HEADER_LEN {
+        let len = rest.len();
+        return Err(Error::Corruption(format!(in alloc; "Log batch header too short: {len}")?));
+    }
+    let word = codec::decode_u64(&mut rest)?;
+    let offset = codec::decode_u64(&mut rest)?;
+    let header = read_words(alloc, word, offset)?;
+    *source = rest;
+    Ok(header)
+}
+
+/// Reads the header of a record: where its footer begins, how its entry block is compressed, and its length, the
+/// first and the last counted from the start of the record. Takes sixteen bytes, or none where it refuses.
+///
+/// Refuses as a corruption, in this order: fewer than 16 bytes, a compression, a footer that begins inside the header, and
+/// one that begins past the record's end. Only the text of a refusal takes memory: a good header is always answered.
+pub fn decode_header(
+    alloc: Global,
+    source: &mut BytesSlice<'_>,
+) -> Result<(usize, CompressionType, usize)>
+    ensures decodes { Decodes IsSoundHeader result source.old.now source.new.now }
+    ensures taken { OnOk result (source.new.now ≡ drop 16 source.old.now) }
+    ensures exact { Answers result source.old.now source.new.now (header_at source.old.now) }
+{
+    take_header(alloc, source)
+}
+
+/// The entries' bytes of a whole entry block.
+#[tactic(auto, unfolding(crate::specs::Record::block_of))]
+fn open_block(alloc: Global, block: &[u8]) -> Result<&[u8]>
+    ensures exact { GivesSlice result (block_of block.now) }
+    ensures sure { IsOk (block_of block.now) → IsOk result }
+{
+    let len = block.len();
+    if len == 0 {
+        return Ok(block);
+    }
+    if len < LOG_BATCH_CHECKSUM_LEN {
+        return Err(Error::Corruption(format!(in alloc; "Entry block too short: {len}")?));
+    }
+    let (entries, mut checksum) = block.split_at(len - LOG_BATCH_CHECKSUM_LEN);
+    if codec::decode_u32_le(&mut checksum)? != crc32(entries) {
+        return Err(Error::Corruption(format!(in alloc; "Entry block checksum mismatch")?));
+    }
+    Ok(entries)
+}
+
+/// The entries' bytes of a whole entry block, which is not copied. No bytes are a block without entries.
+///
+/// Refuses as a corruption one to three bytes, and a wrong checksum. A checksum alone is a block too, which is never
+/// written. Only the text of a refusal takes memory: a good block is always answered.
+pub fn decode_entries_block<'a>(
+    alloc: Global,
+    block: &'a [u8],
+    compression: CompressionType,
+) -> Result<&'a [u8]>
+    ensures found { IfOk result (λ entries. IsBlock block.now entries.now) }
+    ensures only { (entries : List ℕ) → IsBlock block.now entries → IsOkAnd result (λ found. found.now ≡ entries) }
+    ensures exact { GivesSlice result (block_of block.now) }
+{
+    let CompressionType::None = compression;
+    open_block(alloc, block)
+}

@@ -1,0 +1,50 @@
+//! Laws of records, each the contract of an empty function.
+ghost use Rattle.raft_log_frames.specs.Frames.{
+  OneHeaderAtAPlace,
+  OneFooterAtAPlace,
+  OneBlockOfALength,
+  OneFrameAtAPlace,
+  OneRecordAtAPlace,
+  RecordIsFrameAndBlock,
+  FramesTakeBytes,
+  FramesAreReadBack,
+  WhatIsReadIsAFrame,
+  RecordsAreReadBack,
+  WhatIsReadIsARecord,
+};
+ghost use Rattle.raft_log_frames.specs.Signatures.{SignatureSeparatesFiles};
+
+/// A footer that is signed for one file with signatures is one of another such file exactly if the low 32 bits of the two
+/// files' numbers are the same.
+pub fn signature_separates_files()
+    ensures { SignatureSeparatesFiles }
+{}
+
+/// At one place of a file there is one record only: no header, footer, frame or record begins another one, and none has
+/// two contents. A block has no end of its own, so there is one of each length.
+pub fn one_record_at_a_place()
+    ensures headers { OneHeaderAtAPlace }
+    ensures footers { OneFooterAtAPlace }
+    ensures blocks { OneBlockOfALength }
+    ensures frames { OneFrameAtAPlace }
+    ensures records { OneRecordAtAPlace }
+{}
+
+/// A record is a frame, which is a header and a footer that fit together, with an entry block that is read. Each takes 21
+/// bytes at least.
+pub fn record_is_a_frame_with_a_block()
+    ensures parts { RecordIsFrameAndBlock }
+    ensures bytes { FramesTakeBytes }
+{}
+
+/// What is a frame or a record at the front of bytes is read back by the decoders, whatever stands behind it.
+pub fn records_are_read_back()
+    ensures frames { FramesAreReadBack }
+    ensures records { RecordsAreReadBack }
+{}
+
+/// What the decoders of header and footer accept is a frame, and what all three accept is a record.
+pub fn what_is_read_is_a_record()
+    ensures frames { WhatIsReadIsAFrame }
+    ensures records { WhatIsReadIsARecord }
+{}

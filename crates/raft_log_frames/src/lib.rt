@@ -1,0 +1,12 @@
+//! The form of whole records: a header, an entry block and a footer that is signed for one file.
+#![tactic(auto)]
+
+pub mod footer;
+pub mod header;
+pub mod laws;
+
+pub use footer::decode_footer;
+pub use header::{LOG_BATCH_HEADER_LEN, decode_entries_block, decode_header};
+
+#[cfg(test)]
+mod tests;

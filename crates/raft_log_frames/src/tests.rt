@@ -1,0 +1,41 @@
+//! The worked bytes of the format, and refusals with their texts.
+use raft_log_items::{FileId, LogFileContext, LogQueue, Version};
+use std::alloc::Global;
+use std::test::Fail;
+
+mod damaged_blocks;
+mod damaged_footers;
+mod damaged_headers;
+mod reading;
+mod whole_records;
+
+/// One `Clean` of group 1, in a file without signatures.
+const CLEAN_UNSIGNED: [u8; 24] = [
+    0, 0, 0, 0, 0, 0, 0x18, 0, 0, 0, 0, 0, 0, 0, 0, 0x10, 1, 1, 2, 1, 0x5a, 0x80, 0x0b, 0xdd,
+];
+
+/// The same in file 1 of a format with signatures.
+const CLEAN_SIGNED: [u8; 24] = [
+    0, 0, 0, 0, 0, 0, 0x18, 0, 0, 0, 0, 0, 0, 0, 0, 0x10, 1, 1, 2, 1, 0x5b, 0x80, 0x0b, 0xdd,
+];
+
+fn context(version: Version, number: u64) -> LogFileContext {
+    LogFileContext::new(FileId::new(LogQueue::Append, number), version)
+}
+
+/// The text before the first bar of a line, and the text behind it.
+fn cell(line: &str) -> (&str, &str) {
+    match line.split_once('|') {
+        Some((front, behind)) => (front.trim(), behind.trim()),
+        None => (line.trim(), ""),
+    }
+}
+
+/// The bytes that are written as numbers of two hexadecimal digits.
+fn bytes_of(alloc: Global, text: &str) -> Result<Vec<u8>, Fail> {
+    let mut bytes = Vec::new(alloc);
+    for digits in text.split_whitespace() {
+        bytes.push(u8::from_str_radix(digits, 16)?)?;
+    }
+    Ok(bytes)
+}

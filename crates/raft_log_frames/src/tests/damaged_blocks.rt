@@ -1,0 +1,39 @@
+//! Entry blocks that are refused, and the text of each refusal.
+use super::{bytes_of, cell};
+use crate::decode_entries_block;
+use raft_log_items::CompressionType;
+use std::test::Fail;
+
+/// What is damaged of the bytes `123456789` and their checksum, CBF43926, the bytes, and the refusal.
+const BLOCKS: &str = "\
+1 byte | 31 | Corruption: Entry block too short: 1
+2 bytes | 31 32 | Corruption: Entry block too short: 2
+3 bytes | 31 32 33 | Corruption: Entry block too short: 3
+first byte changed | 30 32 33 34 35 36 37 38 39 26 39 f4 cb | Corruption: Entry block checksum mismatch
+last byte of the entries changed | 31 32 33 34 35 36 37 38 38 26 39 f4 cb | Corruption: Entry block checksum mismatch
+two bytes exchanged | 31 32 33 35 34 36 37 38 39 26 39 f4 cb | Corruption: Entry block checksum mismatch
+first byte of the checksum changed | 31 32 33 34 35 36 37 38 39 27 39 f4 cb | Corruption: Entry block checksum mismatch
+last byte of the checksum changed | 31 32 33 34 35 36 37 38 39 26 39 f4 4b | Corruption: Entry block checksum mismatch
+checksum with the highest byte first | 31 32 33 34 35 36 37 38 39 cb f4 39 26 | Corruption: Entry block checksum mismatch
+cut by one byte | 31 32 33 34 35 36 37 38 39 26 39 f4 | Corruption: Entry block checksum mismatch
+one byte behind it | 31 32 33 34 35 36 37 38 39 26 39 f4 cb 00 | Corruption: Entry block checksum mismatch
+without its first byte | 32 33 34 35 36 37 38 39 26 39 f4 cb | Corruption: Entry block checksum mismatch
+signed like a footer, for file 1 | 31 32 33 34 35 36 37 38 39 27 39 f4 cb | Corruption: Entry block checksum mismatch
+four bytes that are not zero | 00 00 00 01 | Corruption: Entry block checksum mismatch
+four bytes of all bits | ff ff ff ff | Corruption: Entry block checksum mismatch
+";
+
+#[test]
+fn damaged_blocks_are_refused(rt: HostRuntime) -> Result<(), Fail> {
+    assert_eq!(rt; BLOCKS.lines().count(), 15);
+    for line in BLOCKS.lines() {
+        let (name, line) = cell(line);
+        let (bytes, refusal) = cell(line);
+        let bytes = bytes_of(rt.alloc(), bytes)?;
+        match decode_entries_block(rt.alloc(), bytes.as_slice(), CompressionType::None) {
+            Ok(_) => assert!(rt; false, "{name}"),
+            Err(error) => assert_eq!(rt; error.to_string(rt.alloc())?.as_str(), refusal, "{name}"),
+        }
+    }
+    Ok(())
+}

@@ -1,0 +1,9 @@
+pub mod Journal
+pub mod Flushed
+pub mod StorageLaws
+pub mod Whole
+pub mod Calls
+pub mod Turns
+pub mod Paths
+pub mod Listings
+pub mod Remains

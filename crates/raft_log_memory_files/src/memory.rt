@@ -1,0 +1,80 @@
+// Changes of a file's bytes in place.
+mod bytes;
+// The calls.
+mod calls;
+// The files by their numbers.
+mod files;
+// The changes that aren't synced.
+mod journal;
+// What a crash leaves.
+mod remains;
+// What the file system holds.
+mod storage;
+// Which calls fail.
+mod turns;
+
+ghost use Rattle.raft_log_memory_files.specs.Storage.{IsWhole, IsWhole-prop};
+
+use crate::remainder::Remainder;
+use std::alloc::{AllocError, Global};
+use storage::Storage;
+
+/// A file system in memory, for tests and for simulated crashes. It has no directory at first.
+#[derive(Drop)]
+pub struct MemoryFileSystem {
+    storage: Storage,
+    failures: u64,
+    stopped: bool,
+    // How many changing calls there are up to the one that is refused, and up to the one at which it stops; 0 where none is armed.
+    refuse: u64,
+    stop: u64,
+    ghost whole: { IsWhole storage } by { IsWhole-prop storage },
+}
+
+impl MemoryFileSystem {
+    ghost use Rattle.std.specs.Prelude.{◌≡◌, IfOk};
+    ghost use Rattle.raft_log_disk.specs.Image.{IsImage};
+    ghost use Rattle.raft_log_memory_files.specs.Remains.{left_disk};
+    ghost use Rattle.raft_log_disk.specs.Disk.{empty_disk};
+    ghost use Rattle.raft_log_memory_files.specs.Memory.{disk_of};
+    ghost use Rattle.raft_log_memory_files.specs.Turns.{armed, nothing_armed};
+
+    /// A file system with no directory and no file.
+    pub fn new(alloc: Global) -> MemoryFileSystem
+        ensures empty { disk_of result ≡ empty_disk }
+        ensures unarmed { armed result ≡ nothing_armed }
+    {
+        MemoryFileSystem {
+            storage: Storage::new(alloc),
+            failures: 0,
+            stopped: false,
+            refuse: 0,
+            stop: 0,
+        }
+    }
+
+    /// How many failures were counted: refused changing calls, but for an argument that was wrong.
+    pub fn failures(&self) -> u64
+        ensures { result ≡ (disk_of self.now).failures }
+    {
+        self.failures
+    }
+
+    /// The file system that a restart finds after a crash at this moment, which leaves of the changes that weren't synced
+    /// what is said. The names are as they stand, a gap before what is left of a write is zeros, no fault is armed and no
+    /// failure is counted. It is refused for want of memory alone.
+    pub fn remainder(&self, what: &Remainder) -> Result<MemoryFileSystem, AllocError>
+        ensures exact { IfOk result (λ after. disk_of after ≡ left_disk what.now self.now.storage) }
+        ensures image { IfOk result (λ after. IsImage (disk_of self.now) (disk_of after)) }
+        ensures unarmed { IfOk result (λ after. armed after ≡ nothing_armed) }
+    {
+        let storage = self.storage.left(what)?;
+        Ok(MemoryFileSystem {
+            storage,
+            failures: 0,
+            stopped: false,
+            refuse: 0,
+            stop: 0,
+        })
+    }
+}

@@ -1,0 +1,204 @@
+use super::MemoryFileSystem;
+use super::storage::Node;
+use raft_log_files::{Fault, FileSystem, Handle, Permission};
+use std::io::ErrorKind;
+
+impl FileSystem for MemoryFileSystem {
+    ghost use Rattle.std.specs.Prelude.{◌≡◌, ℕ, ◌+◌, Bool, true, OnOk, OnErr, IfOk, IfErr};
+    ghost use Rattle.raft_log_disk.specs.Disk.{Wrote, CutTo, GrewTo};
+    ghost use Rattle.raft_log_disk.specs.Calls.{Creates, Deletes, Renames, MakesDirectory, Changes, after_piece, flushed, with_marks, RefusedWhole, RefusedPiece};
+    ghost use Rattle.raft_log_files.specs.Arguments.{WrongCreate, WrongName, WrongRename, WrongDirectory, WrongHandle, WrongWriter};
+    ghost use Rattle.raft_log_memory_files.specs.Memory.{disk_of};
+    ghost use Rattle.raft_log_memory_files.specs.Turns.{armed, armed_with, IsAnswered, IsRefusedWhole, IsRefusedChange};
+
+    ghost disk = { disk_of };
+
+    fn create(&mut self, path: &str) -> Result<Handle, ErrorKind>
+        ensures ok { IfOk result (λ handle. Creates path.now handle.file (disk_of self.old) (disk_of self.new)) }
+        ensures permission { IfOk result (λ handle. handle.permission ≡ Permission.ReadWrite) }
+        ensures err { IfErr result (λ error. RefusedWhole (Creates path.now (disk_of self.old).unused (disk_of self.old)) (WrongCreate path.now (disk_of self.old) error) (disk_of self.old) (disk_of self.new)) }
+        ensures turn { OnOk result (IsAnswered self.old self.new) }
+        ensures cause { IfErr result (λ error. IsRefusedWhole (WrongCreate path.now (disk_of self.old)) error self.old self.new) }
+    {
+        self.check_runs()?;
+        if self.storage.node(path).is_some() {
+            return Err(ErrorKind::AlreadyExists);
+        }
+        if !self.storage.has_directory(path) {
+            return Err(ErrorKind::NotFound);
+        }
+        self.begin()?;
+        match self.storage.add_file(path) {
+            Ok(file) => Ok(Handle {
+                file,
+                permission: Permission::ReadWrite,
+            }),
+            Err(_) => Err(self.fail(ErrorKind::OutOfMemory)),
+        }
+    }
+
+    fn delete(&mut self, path: &str) -> Result<(), ErrorKind>
+        ensures ok { OnOk result (Deletes path.now (disk_of self.old) (disk_of self.new)) }
+        ensures err { IfErr result (λ error. RefusedWhole (Deletes path.now (disk_of self.old)) (WrongName path.now (disk_of self.old) error) (disk_of self.old) (disk_of self.new)) }
+        ensures turn { OnOk result (IsAnswered self.old self.new) }
+        ensures cause { IfErr result (λ error. IsRefusedWhole (WrongName path.now (disk_of self.old)) error self.old self.new) }
+    {
+        self.check_runs()?;
+        let Some(Node::File(id)) = self.storage.node(path) else {
+            return Err(ErrorKind::NotFound);
+        };
+        self.begin()?;
+        self.storage.remove_file(path, id);
+        Ok(())
+    }
+
+    fn rename(&mut self, from: &str, to: &str) -> Result<(), ErrorKind>
+        ensures ok { OnOk result (Renames from.now to.now (disk_of self.old) (disk_of self.new)) }
+        ensures err { IfErr result (λ error. RefusedWhole (Renames from.now to.now (disk_of self.old)) (WrongRename from.now to.now (disk_of self.old) error) (disk_of self.old) (disk_of self.new)) }
+        ensures turn { OnOk result (IsAnswered self.old self.new) }
+        ensures cause { IfErr result (λ error. IsRefusedWhole (WrongRename from.now to.now (disk_of self.old)) error self.old self.new) }
+    {
+        self.check_runs()?;
+        let Some(Node::File(id)) = self.storage.node(from) else {
+            return Err(ErrorKind::NotFound);
+        };
+        if self.storage.is_directory(to) {
+            return Err(ErrorKind::IsADirectory);
+        }
+        if !self.storage.has_directory(to) {
+            return Err(ErrorKind::NotFound);
+        }
+        self.begin()?;
+        match self.storage.rename_file(from, to, id) {
+            Ok(()) => Ok(()),
+            Err(_) => Err(self.fail(ErrorKind::OutOfMemory)),
+        }
+    }
+
+    fn reuse(&mut self, from: &str, to: &str) -> Result<(), ErrorKind>
+        ensures ok { OnOk result (Renames from.now to.now (disk_of self.old) (disk_of self.new)) }
+        ensures err { IfErr result (λ error. RefusedWhole (Renames from.now to.now (disk_of self.old)) (WrongRename from.now to.now (disk_of self.old) error) (disk_of self.old) (disk_of self.new)) }
+        ensures turn { OnOk result (IsAnswered self.old self.new) }
+        ensures cause { IfErr result (λ error. IsRefusedWhole (WrongRename from.now to.now (disk_of self.old)) error self.old self.new) }
+    {
+        self.rename(from, to)
+    }
+
+    fn create_dir(&mut self, path: &str) -> Result<(), ErrorKind>
+        ensures ok { OnOk result (MakesDirectory path.now (disk_of self.old) (disk_of self.new)) }
+        ensures err { IfErr result (λ error. RefusedWhole (MakesDirectory path.now (disk_of self.old)) (WrongDirectory path.now (disk_of self.old) error) (disk_of self.old) (disk_of self.new)) }
+        ensures turn { OnOk result (IsAnswered self.old self.new) }
+        ensures cause { IfErr result (λ error. IsRefusedWhole (WrongDirectory path.now (disk_of self.old)) error self.old self.new) }
+    {
+        self.check_runs()?;
+        if self.storage.node(path).is_some() {
+            return Err(ErrorKind::AlreadyExists);
+        }
+        self.begin()?;
+        match self.storage.add_directory(path) {
+            Ok(()) => Ok(()),
+            Err(_) => Err(self.fail(ErrorKind::OutOfMemory)),
+        }
+    }
+
+    fn write_at(&mut self, handle: Handle, offset: usize, bytes: &[u8]) -> Result<(), ErrorKind>
+        ensures ok { OnOk result (Changes handle.file (after_piece (Wrote offset bytes.now)) (disk_of self.old) (disk_of self.new)) }
+        ensures permitted { OnOk result (handle.permission ≡ Permission.ReadWrite) }
+        ensures err { IfErr result (λ error. RefusedPiece handle.file (Wrote offset bytes.now) (WrongWriter handle (disk_of self.old) error) (disk_of self.old) (disk_of self.new)) }
+        ensures turn { OnOk result (IsAnswered self.old self.new) }
+        ensures cause { IfErr result (λ error. IsRefusedChange handle.file (Wrote offset bytes.now) (WrongWriter handle (disk_of self.old)) error self.old self.new) }
+    {
+        self.check_writer(handle)?;
+        let stops = self.begin_change()?;
+        let done = self.storage.write(handle.file, offset, bytes);
+        self.end_change(stops, done)
+    }
+
+    fn truncate(&mut self, handle: Handle, size: usize) -> Result<(), ErrorKind>
+        ensures ok { OnOk result (Changes handle.file (after_piece (CutTo size)) (disk_of self.old) (disk_of self.new)) }
+        ensures permitted { OnOk result (handle.permission ≡ Permission.ReadWrite) }
+        ensures err { IfErr result (λ error. RefusedPiece handle.file (CutTo size) (WrongWriter handle (disk_of self.old) error) (disk_of self.old) (disk_of self.new)) }
+        ensures turn { OnOk result (IsAnswered self.old self.new) }
+        ensures cause { IfErr result (λ error. IsRefusedChange handle.file (CutTo size) (WrongWriter handle (disk_of self.old)) error self.old self.new) }
+    {
+        self.check_writer(handle)?;
+        let stops = self.begin_change()?;
+        let done = self.storage.cut(handle.file, size);
+        self.end_change(stops, done)
+    }
+
+    fn allocate(&mut self, handle: Handle, offset: usize, size: usize) -> Result<(), ErrorKind>
+        ensures ok { OnOk result (Changes handle.file (after_piece (GrewTo (offset + size))) (disk_of self.old) (disk_of self.new)) }
+        ensures permitted { OnOk result (handle.permission ≡ Permission.ReadWrite) }
+        ensures err { IfErr result (λ error. RefusedPiece handle.file (GrewTo (offset + size)) (WrongWriter handle (disk_of self.old) error) (disk_of self.old) (disk_of self.new)) }
+        ensures turn { OnOk result (IsAnswered self.old self.new) }
+        ensures cause { IfErr result (λ error. IsRefusedChange handle.file (GrewTo (offset + size)) (WrongWriter handle (disk_of self.old)) error self.old self.new) }
+    {
+        self.check_writer(handle)?;
+        let stops = self.begin_change()?;
+        let done = self.storage.grow(handle.file, offset, size);
+        self.end_change(stops, done)
+    }
+
+    fn sync(&mut self, handle: Handle) -> Result<(), ErrorKind>
+        ensures ok { OnOk result (Changes handle.file flushed (disk_of self.old) (disk_of self.new)) }
+        ensures err { IfErr result (λ error. RefusedWhole (Changes handle.file flushed (disk_of self.old)) (WrongHandle handle (disk_of self.old) error) (disk_of self.old) (disk_of self.new)) }
+        ensures turn { OnOk result (IsAnswered self.old self.new) }
+        ensures cause { IfErr result (λ error. IsRefusedWhole (WrongHandle handle (disk_of self.old)) error self.old self.new) }
+    {
+        self.check_handle(handle)?;
+        self.begin()?;
+        match self.storage.flush(handle.file) {
+            Ok(()) => Ok(()),
+            Err(_) => Err(self.fail(ErrorKind::OutOfMemory)),
+        }
+    }
+
+    fn open(&self, path: &str, permission: Permission) -> Result<Handle, ErrorKind> {
+        self.check_runs()?;
+        match self.storage.file(path) {
+            Some(file) => Ok(Handle { file, permission }),
+            None => Err(ErrorKind::NotFound),
+        }
+    }
+
+    fn list(&self, directory: &str) -> Result<Vec<String>, ErrorKind> {
+        self.check_directory(directory)?;
+        match self.storage.list(directory) {
+            Ok(names) => Ok(names),
+            Err(_) => Err(ErrorKind::OutOfMemory),
+        }
+    }
+
+    fn free_space(&self, directory: &str) -> Result<u64, ErrorKind> {
+        self.check_directory(directory)?;
+        Ok(u64::MAX)
+    }
+
+    fn read_at(&self, handle: Handle, offset: usize, room: &mut [u8]) -> Result<usize, ErrorKind> {
+        self.check_handle(handle)?;
+        Ok(self.storage.read(handle.file, offset, room))
+    }
+
+    fn file_size(&self, handle: Handle) -> Result<usize, ErrorKind> {
+        self.check_handle(handle)?;
+        Ok(self.storage.size(handle.file))
+    }
+
+    fn arm(&mut self, fault: &Fault) -> Result<(), ErrorKind>
+        ensures ok { OnOk result ((marks : ℕ → ℕ → Bool) × (disk_of self.new ≡ with_marks marks (disk_of self.old))) }
+        ensures err { OnErr result (disk_of self.new ≡ disk_of self.old) }
+        ensures armed { OnOk result (armed self.new ≡ armed_with fault.now (armed self.old)) }
+        ensures stopped { OnErr result ((disk_of self.old).stopped ≡ true) }
+    {
+        self.check_runs()?;
+        match fault {
+            Fault::Refuse(n) => self.refuse_call(*n),
+            Fault::StopAt(n) => self.stop_at(*n),
+        }
+        Ok(())
+    }
+
+    ghost sound = { λ system. let storage = system.whole.sound in
+        record { named = storage.named; one_name = storage.one_name; apart = storage.apart; fresh = storage.fresh; files = storage.files } };
+}

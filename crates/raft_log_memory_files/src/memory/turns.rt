@@ -1,0 +1,165 @@
+// Which changing calls are refused, and at which one the file system stops.
+ghost use Rattle.std.specs.Prelude.{◌≡◌, ◌-◌, ◌↔◌, IsTrue};
+
+use super::MemoryFileSystem;
+use super::storage::Node;
+use raft_log_files::{Fault, Handle, Permission};
+use std::io::ErrorKind;
+
+impl MemoryFileSystem {
+    ghost use Rattle.std.specs.Prelude.{◌≡◌, ◌⊎◌, ◌↔◌, true, false, None, OnOk, OnErr, IfErr, IsErr, IfOk, IsTrue};
+    ghost use Rattle.raft_log_disk.specs.Calls.{counted, at_stop, Nothing};
+    ghost use Rattle.raft_log_files.specs.Arguments.{WrongHandle, WrongWriter, WrongListing};
+    ghost use Rattle.raft_log_memory_files.specs.Memory.{disk_of};
+    ghost use Rattle.raft_log_memory_files.specs.Turns.{armed, armed_with, call_later, IsSpared, IsRefused, IsStopped};
+
+    /// Lets the n-th changing call from now be refused; it changes nothing. 0 leaves what was armed.
+    pub fn refuse_call(&mut self, n: u64)
+        ensures same { disk_of self.new ≡ disk_of self.old }
+        ensures armed { armed self.new ≡ armed_with (Fault.Refuse n) (armed self.old) }
+    {
+        if n != 0 {
+            self.refuse = n;
+        }
+    }
+
+    /// Lets the file system stop at the n-th changing call from now: a write, a cut or an allocation there counts as not
+    /// synced, any other call hasn't happened. 0 leaves what was armed.
+    pub fn stop_at(&mut self, n: u64)
+        ensures same { disk_of self.new ≡ disk_of self.old }
+        ensures armed { armed self.new ≡ armed_with (Fault.StopAt n) (armed self.old) }
+    {
+        if n != 0 {
+            self.stop = n;
+        }
+    }
+
+    // Lets a changing call begin, or refuses it; answers whether the file system stops at this call.
+    pub(super) fn begin_change(&mut self) -> Result<bool, ErrorKind>
+        ensures storage { self.new.storage ≡ self.old.storage }
+        ensures next { armed self.new ≡ call_later (armed self.old) }
+        ensures ok { OnOk result (disk_of self.new ≡ disk_of self.old) }
+        ensures stops { IfOk result (λ stops. IsTrue stops ↔ ((armed self.old).stop ≡ 1)) }
+        ensures spared { IfOk result (λ stops. stops ≡ false → IsSpared (armed self.old)) }
+        ensures err { IfErr result (λ error. IsRefused error self.old self.new) }
+    {
+        let stops = falls(&mut self.stop);
+        let refused = falls(&mut self.refuse);
+        if refused && !stops {
+            return Err(self.fail(ErrorKind::Other));
+        }
+        Ok(stops)
+    }
+
+    // Lets a call begin that is done whole or not at all, or refuses it.
+    pub(super) fn begin(&mut self) -> Result<(), ErrorKind>
+        ensures storage { self.new.storage ≡ self.old.storage }
+        ensures next { armed self.new ≡ call_later (armed self.old) }
+        ensures ok { OnOk result (disk_of self.new ≡ disk_of self.old) }
+        ensures spared { OnOk result (IsSpared (armed self.old)) }
+        ensures err { IfErr result (λ error. IsRefused error self.old self.new ⊎ IsStopped (Nothing (disk_of self.old)) self.old self.new) }
+    {
+        if self.begin_change()? {
+            self.stopped = true;
+            return Err(ErrorKind::Other);
+        }
+        Ok(())
+    }
+
+    // Ends a change, which was made or wasn't.
+    pub(super) fn end_change(
+        &mut self,
+        stops: bool,
+        done: Result<(), ErrorKind>,
+    ) -> Result<(), ErrorKind>
+        ensures storage { self.new.storage ≡ self.old.storage }
+        ensures ok { OnOk result (OnErr done ⊥ × (disk_of self.new ≡ disk_of self.old)) }
+        ensures err { OnErr result ((disk_of self.new ≡ at_stop (disk_of self.old)) ⊎ (OnOk done ⊥ × (disk_of self.new ≡ counted (disk_of self.old)))) }
+        ensures same { armed self.new ≡ armed self.old }
+        ensures stopped { stops ≡ true → disk_of self.new ≡ at_stop (disk_of self.old) }
+        ensures answered { OnOk result (stops ≡ false) }
+        ensures refused { IfErr result (λ error. stops ≡ false → done ≡ Err error) }
+    {
+        if stops {
+            self.stopped = true;
+            return Err(ErrorKind::Other);
+        }
+        match done {
+            Ok(()) => Ok(()),
+            Err(kind) => Err(self.fail(kind)),
+        }
+    }
+
+    // Counts a failure; the one that would make 2^64 - 1 stops the file system.
+    pub(super) fn fail(&mut self, kind: ErrorKind) -> ErrorKind
+        ensures storage { self.new.storage ≡ self.old.storage }
+        ensures failed { (disk_of self.new ≡ counted (disk_of self.old)) ⊎ (disk_of self.new ≡ at_stop (disk_of self.old)) }
+        ensures same { armed self.new ≡ armed self.old }
+        ensures kind { result ≡ kind }
+    {
+        if self.failures < u64::MAX - 1 {
+            self.failures += 1;
+        } else {
+            self.stopped = true;
+        }
+        kind
+    }
+
+    pub(super) fn check_runs(&self) -> Result<(), ErrorKind>
+        ensures ok { OnOk result ((disk_of self.now).stopped ≡ false) }
+        ensures err { OnErr result ((disk_of self.now).stopped ≡ true) }
+    {
+        if self.stopped {
+            Err(ErrorKind::Other)
+        } else {
+            Ok(())
+        }
+    }
+
+    pub(super) fn check_directory(&self, path: &str) -> Result<(), ErrorKind>
+        ensures ok { OnOk result (((disk_of self.now).stopped ≡ false) × ((disk_of self.now).directories path.now ≡ true)) }
+        ensures err { IfErr result (λ error. ((disk_of self.now).stopped ≡ true) ⊎ WrongListing path.now (disk_of self.now) error) }
+    {
+        self.check_runs()?;
+        match self.storage.node(path) {
+            Some(Node::Directory) => Ok(()),
+            Some(Node::File(_)) => Err(ErrorKind::InvalidInput),
+            None => Err(ErrorKind::NotFound),
+        }
+    }
+
+    pub(super) fn check_handle(&self, handle: Handle) -> Result<(), ErrorKind>
+        ensures ok { OnOk result (((disk_of self.now).stopped ≡ false) × ((disk_of self.now).files handle.file ≡ None → ⊥)) }
+        ensures err { IfErr result (λ error. ((disk_of self.now).stopped ≡ true) ⊎ (((disk_of self.now).stopped ≡ false) × WrongHandle handle (disk_of self.now) error)) }
+    {
+        self.check_runs()?;
+        if self.storage.has(handle.file) {
+            Ok(())
+        } else {
+            Err(ErrorKind::NotFound)
+        }
+    }
+
+    pub(super) fn check_writer(&self, handle: Handle) -> Result<(), ErrorKind>
+        ensures ok { OnOk result (((disk_of self.now).stopped ≡ false) × ((disk_of self.now).files handle.file ≡ None → ⊥) × (handle.permission ≡ Permission.ReadWrite)) }
+        ensures err { IfErr result (λ error. ((disk_of self.now).stopped ≡ true) ⊎ (((disk_of self.now).stopped ≡ false) × WrongWriter handle (disk_of self.now) error)) }
+    {
+        self.check_handle(handle)?;
+        match handle.permission {
+            Permission::ReadWrite => Ok(()),
+            Permission::ReadOnly => Err(ErrorKind::PermissionDenied),
+        }
+    }
+}
+
+// Counts a call down, and says whether it is the one that was armed.
+fn falls(left: &mut u64) -> bool
+    ensures left { left.new ≡ left.old - 1 }
+    ensures falls { IsTrue result ↔ (left.old ≡ 1) }
+{
+    if *left == 0 {
+        return false;
+    }
+    *left -= 1;
+    *left == 0
+}

@@ -1,0 +1,95 @@
+// A call that finds no memory is refused as such and changes nothing; asked again, it is answered. Run it with each
+// allocation failing in turn.
+use crate::{MemoryFileSystem, Remainder};
+use raft_log_files::{FileSystem, Permission};
+use std::io::ErrorKind;
+use std::process::Abort;
+use std::test::Fail;
+
+const CALLS: usize = 12;
+
+fn call(system: &mut MemoryFileSystem, number: usize) -> Result<(), ErrorKind> {
+    match number {
+        0 => system.create_dir("d"),
+        1 => system.create("d/f").map(|_| ()),
+        2 => system.create("d/g").map(|_| ()),
+        3 => {
+            let file = system.open("d/f", Permission::ReadWrite)?;
+            system.write_at(file, 0, b"abcdef")
+        }
+        4 => {
+            let file = system.open("d/f", Permission::ReadWrite)?;
+            system.sync(file)
+        }
+        5 => {
+            let file = system.open("d/f", Permission::ReadWrite)?;
+            system.write_at(file, 40, b"gh")
+        }
+        6 => {
+            let file = system.open("d/g", Permission::ReadWrite)?;
+            system.allocate(file, 10, 90)
+        }
+        7 => {
+            let file = system.open("d/f", Permission::ReadWrite)?;
+            system.truncate(file, 5)
+        }
+        8 => {
+            let file = system.open("d/f", Permission::ReadWrite)?;
+            system.sync(file)
+        }
+        9 => system.rename("d/f", "d/h"),
+        10 => system.create("d/f").map(|_| ()),
+        _ => system.rename("d/h", "d/f"),
+    }
+}
+
+// What a file holds: its size and its first bytes.
+fn seen(system: &MemoryFileSystem, path: &str) -> Result<(usize, [u8; 8]), ErrorKind> {
+    let file = system.open(path, Permission::ReadOnly)?;
+    let mut room = [0u8; 8];
+    system.read_at(file, 0, &mut room)?;
+    Ok((system.file_size(file)?, room))
+}
+
+// Makes a call; where it finds no memory, once more.
+fn made(rt: &impl Abort, system: &mut MemoryFileSystem, number: usize) -> Result<bool, Fail> {
+    let failures = system.failures();
+    let f = seen(system, "d/f");
+    let g = seen(system, "d/g");
+    let h = seen(system, "d/h");
+    let Err(kind) = call(system, number) else {
+        return Ok(false);
+    };
+    assert_eq!(rt; kind, ErrorKind::OutOfMemory);
+    assert_eq!(rt; system.failures(), failures.wrapping_add(1));
+    assert_eq!(rt; seen(system, "d/f"), f);
+    assert_eq!(rt; seen(system, "d/g"), g);
+    assert_eq!(rt; seen(system, "d/h"), h);
+    call(system, number)?;
+    Ok(true)
+}
+
+#[test]
+fn a_call_without_memory_changes_nothing(rt: HostRuntime) -> Result<(), Fail> {
+    let mut system = MemoryFileSystem::new(rt.alloc());
+    let mut short = 0u64;
+    for number in 0..CALLS {
+        if made(&rt, &mut system, number)? {
+            short = short.wrapping_add(1);
+        }
+    }
+    assert_eq!(rt; system.failures(), short);
+    let listed = match system.list("d") {
+        Err(ErrorKind::OutOfMemory) => system.list("d"),
+        listed => listed,
+    };
+    assert_eq!(rt; listed?.len(), 2);
+    let left = match system.remainder(&Remainder::LastSync) {
+        Err(_) => system.remainder(&Remainder::LastSync)?,
+        Ok(left) => left,
+    };
+    assert_eq!(rt; seen(&left, "d/f"), Ok((5, *b"abcde\0\0\0")));
+    assert_eq!(rt; seen(&left, "d/g"), Ok((0, [0u8; 8])));
+    assert_eq!(rt; seen(&system, "d/g"), Ok((100, [0u8; 8])));
+    Ok(())
+}

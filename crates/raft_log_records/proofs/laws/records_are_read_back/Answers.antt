@@ -1,5 +1,0 @@
-use Rattle.raft_log_records.proofs.Frames.{frame_back, record_back}
-use Rattle.raft_log_records.proofs.laws.records_are_read_back.Goals as goal
-
-pub returns : goal.returns
-returns c = record { frames = frame_back; records = record_back }

@@ -1,0 +1,217 @@
+-- What is told as damaged holds no records.
+use Rattle.std.proofs.Common.{◌≡◌, ◌≢◌, ℕ, ◌+◌, ◌<◌, ◌≤◌, ◌^◌, ◌∙◌, true, List, [], ◌∷◌, ◌++◌, length, length-append, append-nil, append_assoc, Result, Ok, Err, IfErr, refl, sym, ap, subst, arith}
+use Rattle.std.proofs.lemmas.Bool.Decides.{nat_tests}
+use Rattle.std.specs.List.{flat_map, list_all}
+use Rattle.std.specs.Prelude.{IsErrAnd}
+use Rattle.raft_voter.proofs.Bytes.{entry_no_fault, length-entry_text, length-number_text, length-state_text, number_first, restored_ok, split_same, state_no_fault, state_read_back}
+use Rattle.raft_voter.specs.declared.reply.Entry.{Entry}
+use Rattle.raft_voter.specs.declared.reply.VoterState.{VoterState}
+use Rattle.raft_voter.specs.declared.stored.StoredFault.{StoredFault}
+use Rattle.raft_voter.specs.declared.stored.StoredFault.TheVariants.{Length, Form, Range, Index, Order, Memory}
+use Rattle.raft_voter.specs.Rounds.{World}
+use Rattle.raft_voter.specs.Rules.{numbered}
+use Rattle.raft_voter.specs.State.{State, state_of}
+use Rattle.raft_voter.specs.StoredForms.{EntryFault, IsState, RestoreFault, StateFault, are_in_order, entry_text, number_text, restored, state_text, stored_entry_fits}
+use Rattle.raftvoters.specs.declared.record.OpenFault.{OpenFault}
+use Rattle.raftvoters.specs.declared.record.OpenFault.TheVariants.{Damaged, Memory as OutOfMemory}
+use Rattle.raftvoters.specs.Content.{Content, whole}
+use Rattle.raftvoters.specs.Damage.{HasNoEntries, HasNoEntry, HasNoRecord, HoldsNothing, TellsDamage, open_fault}
+use Rattle.raftvoters.specs.Records.{AreEntries, AreStorable, Holds, IsStorable, record_bytes, stored_entry, voter_bytes}
+use Rattle.raftvoters.proofs.Records.{entries_in_range, entry_same, length-numbered, length-record, record_same, state_in_range}
+
+-- Faults.
+
+tells : (P : Type 0) (fault : OpenFault) → P → TellsDamage P fault
+tells P Damaged h = h
+tells P OutOfMemory h = tt
+
+tells_fault : (P : Type 0) (given : StoredFault) (fault : OpenFault) → fault ≡ open_fault given → (given ≢ Memory → P) → TellsDamage P fault
+tells_fault P Length fault e h = tells P fault (h (λ m. absurd (cc)))
+tells_fault P Form fault e h = tells P fault (h (λ m. absurd (cc)))
+tells_fault P Range fault e h = tells P fault (h (λ m. absurd (cc)))
+tells_fault P Index fault e h = tells P fault (h (λ m. absurd (cc)))
+tells_fault P Order fault e h = tells P fault (h (λ m. absurd (cc)))
+tells_fault P Memory fault e h = rw e tt
+
+told_on : (P Q : Type 0) (fault : OpenFault) → TellsDamage P fault → (P → Q) → TellsDamage Q fault
+told_on P Q Damaged h f = f h
+told_on P Q OutOfMemory h f = tt
+
+-- an error, whichever it is
+pub any_err : {T : Type 0} (r : Result T OpenFault) (P : Type 0) → P → IfErr r (TellsDamage P)
+any_err (Ok v) P h = tt
+any_err (Err e) P h = tells P e h
+
+-- one that is handed on
+pub handed_on : {T : Type 0} (r : Result T OpenFault) (P Q : Type 0) (fault : OpenFault) → IsErrAnd r (λ e. e ≡ fault) → TellsDamage P fault → (P → Q) → IfErr r (TellsDamage Q)
+handed_on (Ok v) P Q fault same h f = absurd same
+handed_on (Err e) P Q fault same h f = subst (TellsDamage Q) (sym same) (told_on P Q fault h f)
+
+-- one that stored bytes give
+pub stored_fault : {T : Type 0} (r : Result T OpenFault) (P : Type 0) (given : StoredFault) → IsErrAnd r (λ e. e ≡ open_fault given) → (given ≢ Memory → P) → IfErr r (TellsDamage P)
+stored_fault (Ok v) P given same h = absurd same
+stored_fault (Err e) P given same h = tells_fault P given e same h
+
+-- One entry.
+
+-- the parts of an entry that stands at the front of bytes
+own_there : (bytes behind rest : List ℕ) (size : ℕ) (e : Entry) → bytes ≡ number_text size ++ behind → size < 2 ^ 64 → stored_entry_fits e ≡ true
+    → bytes ≡ stored_entry e ++ rest → (size ≡ length e.bytes + 17) × (behind ≡ entry_text e ++ rest)
+unfolding stored_entry
+own_there bytes behind rest size e a small fit same =
+    let bound : length e.bytes + 17 < 2 ^ 64 = grind (arith, nat_tests) in
+    number_first size (length e.bytes + 17) behind (entry_text e ++ rest) small bound
+    (sym a ∙ same ∙ append_assoc (number_text (length e.bytes + 17)) (entry_text e) rest)
+
+length-stored_entry : (e : Entry) (rest : List ℕ) → 8 ≤ length (stored_entry e ++ rest)
+unfolding stored_entry
+length-stored_entry e rest =
+    omega (
+      arith,
+      length-number_text (length e.bytes + 17),
+      length-append (number_text (length e.bytes + 17)) (entry_text e),
+      length-append (number_text (length e.bytes + 17) ++ entry_text e) rest,
+    )
+
+pub no_size : (bytes : List ℕ) (index : ℕ) → length bytes < 8 → HasNoEntry index bytes
+no_size bytes index short = λ e rest at fit same. omega (arith, length-stored_entry e rest, ap length same)
+
+pub no_own : (bytes behind : List ℕ) (size index : ℕ) → bytes ≡ number_text size ++ behind → size < 2 ^ 64 → length behind < size → HasNoEntry index bytes
+no_own bytes behind size index a small short = λ e rest at fit same.
+    let there = own_there bytes behind rest size e a small fit same in
+    omega (arith, there.0, ap length there.1, length-append (entry_text e) rest, length-entry_text e)
+
+pub no_entry_read : (bytes behind own left : List ℕ) (size index : ℕ) (given : StoredFault) → bytes ≡ number_text size ++ behind → size < 2 ^ 64
+    → length own ≡ size → behind ≡ own ++ left → EntryFault given own index → given ≢ Memory → HasNoEntry index bytes
+no_entry_read bytes behind own left size index given a small long split fault other = λ e rest at fit same.
+    let there = own_there bytes behind rest size e a small fit same in
+    let texts = split_same own (entry_text e) left rest size long (omega (arith, length-entry_text e, there.0)) (sym split ∙ there.1) in
+    let P : List ℕ → Type 0 = λ bs. EntryFault given bs index in
+    let Q : ℕ → Type 0 = λ i. EntryFault given (entry_text e) i in
+    other (entry_no_fault given e fit (subst Q (sym at) (subst P texts.0 fault)))
+
+-- Entries.
+
+-- what stands behind entries that were read, of more that are there
+next_entry : (i : ℕ) (es fs : List Entry) (left rest : List ℕ) → list_all stored_entry_fits es ≡ true → list_all stored_entry_fits fs ≡ true
+    → are_in_order i fs ≡ true → length es < length fs → flat_map stored_entry es ++ left ≡ flat_map stored_entry fs ++ rest
+    → (f : Entry) × (more : List ℕ) × (f.index ≡ i + length es) × (stored_entry_fits f ≡ true) × (left ≡ stored_entry f ++ more)
+next_entry i [] [] left rest he hf order size same = absurd (omega arith)
+next_entry i [] (f ∷ fs) left rest he hf order size same =
+    let fit : stored_entry_fits f ≡ true = grind (arith, nat_tests) in
+    let at : f.index ≡ i + 0 = grind (arith, nat_tests) in
+    (f, flat_map stored_entry fs ++ rest, at, fit, same ∙ append_assoc (stored_entry f) (flat_map stored_entry fs) rest)
+next_entry i (e ∷ es) [] left rest he hf order size same = absurd (omega arith)
+next_entry i (e ∷ es) (f ∷ fs) left rest he hf order size same =
+    let a : (stored_entry_fits e ≡ true) × (list_all stored_entry_fits es ≡ true) = grind (arith, nat_tests) in
+    let b : (stored_entry_fits f ≡ true) × (list_all stored_entry_fits fs ≡ true) = grind (arith, nat_tests) in
+    let others : are_in_order (i + 1) fs ≡ true = grind (arith, nat_tests) in
+    let grouped = sym (append_assoc (stored_entry e) (flat_map stored_entry es) left) ∙ same ∙ append_assoc (stored_entry f) (flat_map stored_entry fs) rest in
+    let one = entry_same e f (flat_map stored_entry es ++ left) (flat_map stored_entry fs ++ rest) a.0 b.0 grouped in
+    let more = next_entry (i + 1) es fs left rest a.1 b.1 others (omega arith) one.1 in
+    (more.0, more.1, omega (arith, more.2), more.3, more.4)
+
+pub no_entries : (bytes left : List ℕ) (base count i : ℕ) (es : List Entry) → AreEntries (base + 1) es → length es ≡ i → i < count
+    → bytes ≡ flat_map stored_entry es ++ left → HasNoEntry (base + 1 + i) left → HasNoEntries (base + 1) count bytes
+no_entries bytes left base count i es read long more text none = λ fs rest are size same.
+    let next = next_entry (base + 1) es fs left rest read.fit are.fit are.ordered (omega (arith, long, size)) (sym text ∙ same) in
+    none next.0 next.1 (omega (arith, next.2, long)) next.3 next.4
+
+-- Records.
+
+grouped : (v : State) (x : List ℕ) → voter_bytes v ++ x
+    ≡ state_text (state_of v) ++ (number_text (length v.log) ++ (flat_map stored_entry (numbered (v.base_index + 1) v.log) ++ x))
+unfolding voter_bytes
+grouped v x = simp append_assoc
+
+-- behind the group of a record stand its voter's state, the number of its entries, and its entries
+voter_there : (bytes one x : List ℕ) (group : ℕ) (r : ℕ × State) → bytes ≡ number_text group ++ one → group < 2 ^ 64 → IsStorable r → bytes ≡ record_bytes r ++ x
+    → one ≡ state_text (state_of r.1) ++ (number_text (length r.1.log) ++ (flat_map stored_entry (numbered (r.1.base_index + 1) r.1.log) ++ x))
+unfolding record_bytes
+voter_there bytes one x group r a small h same =
+    (number_first group r.0 one (voter_bytes r.1 ++ x) small h.group (sym a ∙ same ∙ append_assoc (number_text r.0) (voter_bytes r.1) x)).1 ∙ grouped r.1 x
+
+-- the state, and what stands behind it
+state_there : (bytes one state two x : List ℕ) (group : ℕ) (r : ℕ × State) → bytes ≡ number_text group ++ one → group < 2 ^ 64 → one ≡ state ++ two
+    → length state ≡ 34 → IsStorable r → bytes ≡ record_bytes r ++ x
+    → (state ≡ state_text (state_of r.1)) × (two ≡ number_text (length r.1.log) ++ (flat_map stored_entry (numbered (r.1.base_index + 1) r.1.log) ++ x))
+state_there bytes one state two x group r a small b long h same =
+    split_same state (state_text (state_of r.1)) two _ 34 long (length-state_text (state_of r.1)) (sym b ∙ voter_there bytes one x group r a small h same)
+
+pub no_group : (bytes : List ℕ) → length bytes < 8 → HasNoRecord bytes
+no_group bytes short = λ r x h same. omega (arith, length-record r x, ap length same)
+
+pub no_state : (bytes one : List ℕ) (group : ℕ) → bytes ≡ number_text group ++ one → group < 2 ^ 64 → length one < 34 → HasNoRecord bytes
+no_state bytes one group a small short = λ r x h same.
+    let there = voter_there bytes one x group r a small h same in
+    omega (
+      arith,
+      ap length there,
+      length-state_text (state_of r.1),
+      length-append (state_text (state_of r.1)) (number_text (length r.1.log) ++ (flat_map stored_entry (numbered (r.1.base_index + 1) r.1.log) ++ x)),
+    )
+
+pub no_state_read : (bytes one state two : List ℕ) (group : ℕ) (given : StoredFault) → bytes ≡ number_text group ++ one → group < 2 ^ 64 → one ≡ state ++ two
+    → length state ≡ 34 → StateFault given state → HasNoRecord bytes
+no_state_read bytes one state two group given a small b long fault = λ r x h same.
+    let there = state_there bytes one state two x group r a small b long h same in
+    state_no_fault given (state_of r.1) (state_in_range r.1 h.in_range) (subst (StateFault given) there.0 fault)
+
+pub no_count : (bytes one state two : List ℕ) (group : ℕ) → bytes ≡ number_text group ++ one → group < 2 ^ 64 → one ≡ state ++ two
+    → length state ≡ 34 → length two < 8 → HasNoRecord bytes
+no_count bytes one state two group a small b long short = λ r x h same.
+    let there = state_there bytes one state two x group r a small b long h same in
+    omega (
+      arith,
+      ap length there.1,
+      length-number_text (length r.1.log),
+      length-append (number_text (length r.1.log)) (flat_map stored_entry (numbered (r.1.base_index + 1) r.1.log) ++ x),
+    )
+
+numbered_in_order : (i : ℕ) (es : List (ℕ × List ℕ)) → are_in_order i (numbered i es) ≡ true
+numbered_in_order i [] = refl
+numbered_in_order i (e ∷ es) = let others = numbered_in_order (i + 1) es in grind (arith, nat_tests)
+
+pub no_entries_read : (bytes one state two three : List ℕ) (group count : ℕ) (s : VoterState) → bytes ≡ number_text group ++ one → group < 2 ^ 64
+    → one ≡ state ++ two → length state ≡ 34 → IsState state s → two ≡ number_text count ++ three → count < 2 ^ 64
+    → HasNoEntries (s.base_index + 1) count three → HasNoRecord bytes
+no_entries_read bytes one state two three group count s a small b long is c few none = λ r x h same.
+    let v = r.1 in
+    let es = numbered (v.base_index + 1) v.log in
+    let there = state_there bytes one state two x group r a small b long h same in
+    let counts = number_first count (length v.log) three (flat_map stored_entry es ++ x) few (omega (arith, h.end_fits)) (sym c ∙ there.1) in
+    let P : List ℕ → Type 0 = λ bs. IsState bs s in
+    let base : s.base_index ≡ v.base_index = (state_read_back (state_of v) s (state_in_range v h.in_range) (subst P there.0 is)).2 in
+    let are : AreEntries (v.base_index + 1) es = record { fit = entries_in_range r h; ordered = numbered_in_order (v.base_index + 1) v.log } in
+    let Q : ℕ → Type 0 = λ b. AreEntries (b + 1) es in
+    none es x (subst Q (sym base) are) (length-numbered (v.base_index + 1) v.log ∙ sym counts.0) counts.1
+
+-- Files.
+
+-- where bytes hold records, those that are left are records too
+abbrev pub AreLeft : List ℕ → List ℕ → Type 0
+AreLeft bytes left = (W : World) → Holds bytes W → (rs : List (ℕ × State)) × AreStorable rs × (left ≡ flat_map record_bytes rs)
+
+pub all_left : (bytes : List ℕ) → AreLeft bytes bytes
+all_left bytes = λ W h. (h.records, h.storable, h.text)
+
+behind : (rs : List (ℕ × State)) (r : ℕ × State) (left rest : List ℕ) → AreStorable rs → left ≡ flat_map record_bytes rs → IsStorable r → left ≡ record_bytes r ++ rest
+    → (ss : List (ℕ × State)) × AreStorable ss × (rest ≡ flat_map record_bytes ss)
+behind [] r left rest h e fit f = absurd (omega (arith, length-record r rest, ap length e, ap length f))
+behind (s ∷ rs) r left rest h e fit f =
+    let one = record_same s r (flat_map record_bytes rs) rest h.0 fit (sym e ∙ f) in
+    (rs, h.1, sym one.1)
+
+pub one_less : (bytes left rest : List ℕ) (r : ℕ × State) → AreLeft bytes left → IsStorable r → left ≡ record_bytes r ++ rest → AreLeft bytes rest
+one_less bytes left rest r so_far fit f = λ W h. let there = so_far W h in behind there.0 r left rest there.1 there.2 fit f
+
+none_behind : (rs : List (ℕ × State)) (left : List ℕ) → AreStorable rs → left ≡ flat_map record_bytes rs → 0 < length left → HasNoRecord left → ⊥
+none_behind [] left h e more none = omega (arith, ap length e)
+none_behind (r ∷ rs) left h e more none = none r (flat_map record_bytes rs) h.0 e
+
+pub nothing_held : (bytes left : List ℕ) → AreLeft bytes left → 0 < length left → HasNoRecord left → HoldsNothing bytes
+nothing_held bytes left so_far more none = λ W h. let there = so_far W h in none_behind there.0 left there.1 there.2 more none
+
+-- what is stored isn't damaged
+pub not_damaged : (file : Content) (W : World) → Holds file.synced W → file.unsynced ≡ [] → HoldsNothing (whole file) → ⊥
+not_damaged file W h settled none = let P : List ℕ → Type 0 = λ bs. Holds bs W in none W (subst P (sym (rw settled (append-nil file.synced))) h)

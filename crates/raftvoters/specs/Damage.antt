@@ -1,0 +1,38 @@
+-- Bytes that are told as damaged.
+use Rattle.std.specs.Prelude.{◌≡◌, ◌≢◌, ℕ, true, List, ◌++◌, length}
+use Rattle.std.specs.List.{flat_map}
+use Rattle.raft_voter.specs.declared.reply.Entry.{Entry}
+use Rattle.raft_voter.specs.declared.stored.StoredFault.{StoredFault}
+use Rattle.raft_voter.specs.declared.stored.StoredFault.TheVariants.{Memory as StoredMemory}
+use Rattle.raft_voter.specs.Rounds.{World}
+use Rattle.raft_voter.specs.State.{State}
+use Rattle.raft_voter.specs.StoredForms.{stored_entry_fits}
+use Rattle.raftvoters.specs.declared.record.OpenFault.{OpenFault}
+use Rattle.raftvoters.specs.declared.record.OpenFault.TheVariants.{Damaged, Memory}
+use Rattle.raftvoters.specs.Records.{AreEntries, Holds, IsStorable, record_bytes, stored_entry}
+
+-- what a fault of stored bytes is told as
+abbrev pub open_fault : StoredFault → OpenFault
+open_fault StoredMemory = Memory
+open_fault fault = Damaged
+
+-- damage is told only where this holds; nothing is said of want of memory
+abbrev pub TellsDamage : Type 0 → OpenFault → Type 0
+TellsDamage P Damaged = P
+TellsDamage P Memory = Unit {0}
+
+-- no entry that stands at this index comes first
+abbrev pub HasNoEntry : ℕ → List ℕ → Type 0
+HasNoEntry index bytes = (e : Entry) (rest : List ℕ) → e.index ≡ index → stored_entry_fits e ≡ true → bytes ≢ stored_entry e ++ rest
+
+-- nor do so many entries, of which the first stands at this index
+abbrev pub HasNoEntries : ℕ → ℕ → List ℕ → Type 0
+HasNoEntries first count bytes = (es : List Entry) (rest : List ℕ) → AreEntries first es → length es ≡ count → bytes ≢ flat_map stored_entry es ++ rest
+
+-- no record comes first
+abbrev pub HasNoRecord : List ℕ → Type 0
+HasNoRecord bytes = (r : ℕ × State) (rest : List ℕ) → IsStorable r → bytes ≢ record_bytes r ++ rest
+
+-- these bytes aren't records, whatever voters they might mean
+abbrev pub HoldsNothing : List ℕ → Type 0
+HoldsNothing bytes = (W : World) → Holds bytes W → ⊥

@@ -1,14 +1,7 @@
-//! The worked bytes of the format, and refusals with their texts.
+//! The worked bytes of the format, and batches.
 use raft_log_items::{FileId, LogFileContext, LogQueue, Version};
 
 mod batches;
-mod damaged_blocks;
-mod damaged_footers;
-mod damaged_headers;
-mod damaged_items;
-mod reading;
-mod whole_records;
-
 mod messages;
 
 /// One `Clean` of group 1, in a file without signatures.
@@ -23,12 +16,4 @@ const CLEAN_SIGNED: [u8; 24] = [
 
 fn context(version: Version, number: u64) -> LogFileContext {
     LogFileContext::new(FileId::new(LogQueue::Append, number), version)
-}
-
-/// Bytes that a decoder refuses, and the text of the refusal.
-#[derive(Clone, Copy)]
-struct Damaged {
-    name: &'static str,
-    bytes: &'static [u8],
-    refusal: &'static str,
 }

@@ -1,7 +1,7 @@
 -- Items that are added to a batch.
 use Rattle.std.proofs.Common.{◌≡◌, ℕ, ◌+◌, ◌<◌, ◌≤◌, List, [], ◌∷◌, ◌++◌, length, take, drop, refl, sym, ap, subst, ◌∙◌, arith}
 use Rattle.std.proofs.Math.Seq.{take-length}
-use Rattle.std.proofs.lemmas.List.{length-append, length-take-le, length-drop, drop-append-le}
+use Rattle.std.proofs.lemmas.List.{append-nil, length-append, length-take-le, length-drop, drop-append-le}
 use Rattle.std.proofs.lemmas.List.Concat.{length-flat_map}
 use Rattle.std.proofs.lemmas.List.Sums.{sum_by-cons, sum_by-append, sum_by_push}
 use Rattle.raft_log_items.specs.declared.entry.EntryIndex.{EntryIndex}
@@ -12,7 +12,7 @@ use Rattle.raft_log_items.specs.Placed.{run_len, content_len, entries_len, laid_
 use Rattle.raft_log_records.specs.declared.log_batch.BatchState.{BatchState}
 use Rattle.raft_log_records.specs.declared.log_batch.BatchState.TheVariants.{Filling, Populated, Signed, Written}
 use Rattle.raft_log_records.specs.Batch.{Batch, IsBatch, HasNoEntries, HoldsIn, max_entries_len}
-use Rattle.raft_log_records.specs.Entries.{entries_of, entries_item, joined, bytes_len, with_entries}
+use Rattle.raft_log_records.specs.Entries.{entries_of, entries_item, entries_items, joined, bytes_len, with_entries}
 use Rattle.raft_log_records.proofs.Buffer.{in_filling}
 use Rattle.raft_log_records.proofs.Entries.{run_len-entries_of}
 
@@ -54,13 +54,13 @@ pushed state buffer len sum items x e plain h = record {
 
 -- ---- entries
 
-run_len-laid : (offset : ℕ) (es : List EntryIndex) → run_len (laid_run offset es) ≡ run_len es
+pub run_len-laid : (offset : ℕ) (es : List EntryIndex) → run_len (laid_run offset es) ≡ run_len es
 run_len-laid offset [] = refl
 run_len-laid offset (e ∷ es) =
     let f : EntryIndex → ℕ = λ (x : EntryIndex). x.entry_len in
     sum_by-cons f (record e { entry_offset = offset }) (laid_run (offset + e.entry_len) es) ∙ ap (λ (n : ℕ). e.entry_len + n) (run_len-laid (offset + e.entry_len) es) ∙ sym (sum_by-cons f e es)
 
-laid_twice : (offset : ℕ) (es : List EntryIndex) → laid_run offset (laid_run offset es) ≡ laid_run offset es
+pub laid_twice : (offset : ℕ) (es : List EntryIndex) → laid_run offset (laid_run offset es) ≡ laid_run offset es
 laid_twice offset [] = refl
 laid_twice offset (e ∷ es) = ap (λ (l : List EntryIndex). record e { entry_offset = offset } ∷ l) (laid_twice (offset + e.entry_len) es)
 
@@ -83,7 +83,7 @@ more_bytes buffer more len added size count =
     let front : take len (drop 16 buffer) ≡ drop 16 buffer = ap (λ (n : ℕ). take n (drop 16 buffer)) (sym whole) ∙ take-length (drop 16 buffer) in
     ap (λ (l : List ℕ). take (len + added) l) behind ∙ all ∙ ap (λ (l : List ℕ). l ++ more) (sym front)
 
-still_filling : (state : BatchState) (buffer entries : List ℕ) (sum : ℕ) (items : List LogItem) → state ≡ Filling → length buffer ≡ 16 + length entries → HoldsIn state buffer sum items entries
+pub still_filling : (state : BatchState) (buffer entries : List ℕ) (sum : ℕ) (items : List LogItem) → state ≡ Filling → length buffer ≡ 16 + length entries → HoldsIn state buffer sum items entries
 still_filling Filling buffer entries sum items e h = h
 still_filling Populated buffer entries sum items e h = absurd cc
 still_filling (Signed s) buffer entries sum items e h = absurd cc
@@ -117,10 +117,14 @@ entries_added state buffer new len added sum group items indexes entries e same 
     let laid : laid_out len (item ∷ []) ≡ item ∷ [] = ap (λ (l : List EntryIndex). record item { content = contents.EntryIndexes l } ∷ []) (laid_twice len (entries_of indexes entries)) in
     subst (λ (l : List ℕ). IsBatch state l (len + added) sum (items ++ item ∷ [])) (sym grown) (items_added state buffer (joined entries) len added sum items (item ∷ []) e size fits adds laid h)
 
-with_some : (b : Batch) (group : ℕ) (indexes : List ℕ) (entries : List (List ℕ)) → 0 < length entries
-    → with_entries b group indexes entries ≡ record b { items = b.items ++ entries_item group (length b.entries) indexes entries ∷ []; entries = b.entries ++ joined entries }
-with_some b group indexes [] some = absurd (omega arith)
-with_some b group indexes (x ∷ xs) some = refl
+one_item : (group offset : ℕ) (indexes : List ℕ) (entries : List (List ℕ)) → 0 < length entries → entries_items group offset indexes entries ≡ entries_item group offset indexes entries ∷ []
+one_item group offset indexes [] some = absurd (omega arith)
+one_item group offset indexes (x ∷ xs) some = refl
+
+-- no entries add nothing
+pub with_none : (b : Batch) (group : ℕ) (indexes : List ℕ) (entries : List (List ℕ)) → length entries ≡ 0 → b ≡ with_entries b group indexes entries
+with_none b group indexes [] none = ap (λ (l : List LogItem). record b { items = l }) (sym (append-nil b.items)) ∙ ap (λ (l : List ℕ). record b { items = b.items ++ []; entries = l }) (sym (append-nil b.entries))
+with_none b group indexes (x ∷ xs) none = absurd (omega arith)
 
 -- what callers see of the batch then
 pub entries_seen : (state : BatchState) (buffer new : List ℕ) (len added sum group : ℕ) (items : List LogItem) (indexes : List ℕ) (entries : List (List ℕ)) → state ≡ Filling
@@ -134,4 +138,4 @@ entries_seen state buffer new len added sum group items indexes entries e some c
     let at : len ≡ length (take len (drop 16 buffer)) = sym (length-take-le len (drop 16 buffer) (omega (arith, size, length-drop 16 buffer))) in
     ap (λ (l : List ℕ). record { state = state; items = items ++ entries_item group len indexes entries ∷ []; entries = l }) seen
     ∙ ap (λ (n : ℕ). record { state = state; items = items ++ entries_item group n indexes entries ∷ []; entries = take len (drop 16 buffer) ++ joined entries }) at
-    ∙ sym (with_some (record { state = state; items = items; entries = take len (drop 16 buffer) }) group indexes entries some)
+    ∙ ap (λ (l : List LogItem). record { state = state; items = items ++ l; entries = take len (drop 16 buffer) ++ joined entries }) (sym (one_item group (length (take len (drop 16 buffer))) indexes entries some))

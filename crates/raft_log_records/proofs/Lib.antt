@@ -9,3 +9,4 @@ pub mod ItemBatches
 pub mod ItemPlaces
 pub mod Marks
 pub mod Meanings
+pub mod Moves

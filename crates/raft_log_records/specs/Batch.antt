@@ -1,6 +1,7 @@
 -- A batch as callers see it: what was added, and how far it is on its way to a file.
 use Rattle.std.specs.Prelude.{IsTrue, ◌==◌, ◌&&◌, ◌≡◌, ◌⊎◌, ℕ, ◌+◌, ◌≤◌, ◌<◌, ◌^◌, List, [], ◌∷◌, ◌++◌, length, take, drop, map, Option, Some, None, unwrap_or, Bool, true, false}
 use Rattle.raft_log_checksum.specs.Checksum.{crc32_of}
+use Rattle.raft_log_items.specs.declared.pipe_log.FileBlockHandle.{FileBlockHandle}
 use Rattle.raft_log_items.specs.declared.item.LogItem.{LogItem}
 use Rattle.raft_log_items.specs.declared.errors.Error.{Error}
 use Rattle.raft_log_items.specs.declared.errors.Error.TheVariants as errors
@@ -11,7 +12,8 @@ use Rattle.raft_log_items.specs.Writing.{items_bytes, plain_item}
 use Rattle.raft_log_items.specs.Placed.{entries_len, laid_out}
 use Rattle.raft_log_records.specs.declared.log_batch.BatchState.{BatchState}
 use Rattle.raft_log_records.specs.declared.log_batch.BatchState.TheVariants.{Filling, Populated, Signed, Written}
-use Rattle.raft_log_frames.specs.Record.{record_bytes, record_len}
+use Rattle.raft_log_frames.specs.Record.{block_bytes, record_bytes, record_len}
+use Rattle.raft_log_records.specs.ItemBatch.{items_size}
 
 -- the state, the items, and the bytes of their entries
 pub record Batch : Type 0 where
@@ -62,6 +64,15 @@ abbrev pub HasNoEntries : LogItemContent → Type 0
 HasNoEntries (contents.EntryIndexes es) = ⊥
 HasNoEntries (contents.Command c) = Unit {0}
 HasNoEntries (contents.Kv kv) = Unit {0}
+
+-- where the entry block of a record at this place lies
+abbrev pub block_place : FileBlockHandle → List ℕ → FileBlockHandle
+block_place handle entries = record handle { offset = handle.offset + 16; len = length (block_bytes entries) }
+
+-- about how many bytes the record has: each number in the footer is counted as eight; an empty batch has none
+abbrev pub batch_size : List LogItem → List ℕ → ℕ
+batch_size [] entries = 0
+batch_size (x ∷ xs) entries = 28 + length (block_bytes entries) + items_size (x ∷ xs)
 
 -- memory ran out, or the record's length needs more than 56 bits
 abbrev pub IsMemoryOrFull : Error → ℕ → Type 0

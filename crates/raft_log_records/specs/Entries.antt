@@ -37,10 +37,14 @@ entries_item group offset indexes entries = record { raft_group_id = group; cont
 abbrev pub joined : List (List ℕ) → List ℕ
 joined entries = flat_map (λ e. e) entries
 
--- the batch with these entries of a group; no entries add nothing
+-- the items that these entries of a group add: one, and none where there are no entries
+abbrev pub entries_items : ℕ → ℕ → List ℕ → List (List ℕ) → List LogItem
+entries_items group offset indexes [] = []
+entries_items group offset indexes (x ∷ xs) = entries_item group offset indexes (x ∷ xs) ∷ []
+
+-- the batch with these entries of a group
 abbrev pub with_entries : Batch → ℕ → List ℕ → List (List ℕ) → Batch
-with_entries b group indexes [] = b
-with_entries b group indexes (x ∷ xs) = record b { items = b.items ++ entries_item group (length b.entries) indexes (x ∷ xs) ∷ []; entries = b.entries ++ joined (x ∷ xs) }
+with_entries b group indexes entries = record b { items = b.items ++ entries_items group (length b.entries) indexes entries; entries = b.entries ++ joined entries }
 
 -- how many bytes these entries have
 abbrev pub bytes_len : List (List ℕ) → ℕ

@@ -1,15 +1,24 @@
 //! A batch on its way to a file: it is filled, populated, signed for a file, and written.
-ghost use Rattle.std.specs.Prelude.{◌≡◌, false, OnOk, IfErr};
+ghost use Rattle.std.specs.Prelude.{◌≡◌, ◌+◌, ◌≤◌, ◌==◌, if◌then◌else◌, false, OnOk, IfErr};
+ghost use Rattle.raft_log_records.specs.Batch.{max_entries_len};
 ghost use Rattle.raft_log_records.specs.Key.{is_internal, IsKeyRefusal};
 
+use crate::log_item_batch::items_size;
+use crate::places::set_written;
 use crate::record::{are_bytes, fill_record, write_checksum};
 use raft_log_frames::LOG_BATCH_HEADER_LEN;
-use raft_log_items::{Bytes, Command, Error, LogFileContext, LogItem, OpType, Result};
+use raft_log_items::{
+    Bytes, Command, Error, FileBlockHandle, LogFileContext, LogItem, OpType, Result,
+};
 use std::alloc::{AllocError, Global};
 use std::marker::Model;
 
 mod entries;
+mod merge;
 mod messages;
+
+/// How many bytes a checksum has.
+const CHECKSUM_LEN: usize = 4;
 
 /// The most bytes that the entries of a batch may have.
 const MAX_ENTRIES_LEN: usize = 2_147_483_647;
@@ -65,6 +74,14 @@ fn check_key(alloc: Global, key: &[u8]) -> Result<()>
     Ok(())
 }
 
+/// How many bytes the block of entries with so many bytes has.
+fn block_len(len: usize) -> usize
+    requires { len ≤ max_entries_len }
+    ensures { result ≡ (if len == 0 then 0 else len + 4) }
+{
+    if len == 0 { 0 } else { len + CHECKSUM_LEN }
+}
+
 impl Model for LogBatch {
     ghost use Rattle.std.specs.Prelude.{take, drop};
     ghost use Rattle.raft_log_records.specs.Batch.{Batch, IsBatch};
@@ -81,9 +98,10 @@ impl LogBatch {
     ghost use Rattle.raft_log_records.specs.Key.{is_internal, IsKeyRefusal, put_item, del_item};
     ghost use Rattle.raft_log_items.specs.Files.{signature_of};
     ghost use Rattle.raft_log_items.specs.Writing.{plain_item};
+    ghost use Rattle.raft_log_items.specs.Placed.{entries_len, laid_out, written};
     ghost use Rattle.raft_log_frames.specs.Record.{record_len, IsRecord};
-    ghost use Rattle.raft_log_records.specs.Batch.{batch_bytes, HasNoEntries, IsMemoryOrFull, IsMade, IsSigned, signature_in};
-    ghost use Rattle.std.specs.Prelude.{◌≡◌, ◌++◌, ◌∷◌, ◌↔◌, [], map, IfOk, OnOk, OnErr, IsTrue};
+    ghost use Rattle.raft_log_records.specs.Batch.{batch_bytes, batch_size, block_place, HasNoEntries, IsMemoryOrFull, IsMade, IsSigned, signature_in};
+    ghost use Rattle.std.specs.Prelude.{◌≡◌, ◌+◌, ◌-◌, ◌<◌, ◌^◌, ◌++◌, ◌∷◌, ◌↔◌, [], map, min, IfOk, OnOk, OnErr, IsTrue};
     ghost use Rattle.raft_log_records.specs.declared.log_batch.BatchState.TheVariants.{Filling, Populated, Signed, Written};
     ghost use Rattle.raft_log_items.specs.declared.item.LogItemContent.TheVariants as contents;
 
@@ -93,6 +111,19 @@ impl LogBatch {
     {
         Ok(LogBatch {
             items: Vec::new(alloc),
+            buf: vec![in alloc; 0; 16]?,
+            entries_len: 0,
+            checksum: 0,
+            state: BatchState::Filling,
+        })
+    }
+
+    /// An empty batch with room for so many items.
+    pub fn with_capacity(alloc: Global, capacity: usize) -> std::result::Result<Self, AllocError>
+        ensures { IfOk result (λ b. b ≡ record { state = Filling; items = []; entries = [] }) }
+    {
+        Ok(LogBatch {
+            items: Vec::with_capacity(alloc, capacity)?,
             buf: vec![in alloc; 0; 16]?,
             entries_len: 0,
             checksum: 0,
@@ -222,6 +253,36 @@ impl LogBatch {
         let bytes = self.buf.as_slice();
         are_bytes(bytes);
         bytes
+    }
+
+    /// The record is written at this place. Each entry gets the place of the entry block, which begins behind the header,
+    /// and each key gets the file.
+    pub fn finish_write(&mut self, handle: FileBlockHandle)
+        requires signed { IsSigned self.old.state }
+        requires place { handle.offset + 16 < 2 ^ 64 }
+        ensures written { self.new ≡ record self.old { state = Written; items = written (block_place handle self.old.entries) self.old.items } }
+        ensures laid { laid_out 0 self.new.items ≡ self.new.items }
+        ensures adds { entries_len self.new.items ≡ length self.new.entries }
+    {
+        let len = block_len(self.entries_len);
+        let block = FileBlockHandle {
+            id: handle.id,
+            offset: handle.offset + LOG_BATCH_HEADER_LEN as u64,
+            len,
+        };
+        set_written(self.items.as_mut_slice(), block);
+        self.state = BatchState::Written;
+    }
+
+    /// About how many bytes the record has: those of the header and of the entry block, and of the footer with each number
+    /// counted as eight bytes; 2^64 - 1 where there are more. An empty batch has none.
+    pub fn approximate_size(&self) -> usize
+        ensures { result ≡ min (batch_size self.now.items self.now.entries) (2 ^ 64 - 1) }
+    {
+        if self.items.is_empty() {
+            return 0;
+        }
+        items_size(self.items.as_slice()).saturating_add(28 + block_len(self.entries_len))
     }
 
     /// Gives the items back, behind what is there, and leaves an empty batch that is being filled. Its buffer is kept.

@@ -1,5 +1,5 @@
 use Rattle.std.proofs.Common.{◌≡◌, ◌≢◌, ℕ, ◌+◌, ◌-◌, ◌<◌, ◌≤◌, ◌^◌, List, [], ◌∷◌, ◌++◌, length, map, take, drop, sym, ap, subst, ◌∙◌, arith}
-use Rattle.std.proofs.lemmas.Bool.{eqb-false}
+use Rattle.std.proofs.lemmas.Bool.{eqb-false, eqb-true}
 use Rattle.std.proofs.lemmas.List.{take_at, length-map, length-append}
 use Rattle.raft_log_items.specs.declared.entry.EntryIndex.{EntryIndex}
 use Rattle.raft_log_items.specs.declared.item.LogItem.{LogItem}
@@ -9,8 +9,13 @@ use Rattle.raft_log_items.specs.Placed.{run_len, laid_run}
 use Rattle.raft_log_records.specs.Batch.{Batch, max_entries_len}
 use Rattle.raft_log_records.specs.Entries.{IsIndexRun, entries_of, entries_item, joined, bytes_len, with_entries}
 use Rattle.raft_log_records.proofs.Entries.{indexes_of, joined-length, out_len, run_of_entries, run_len-entries_of}
-use Rattle.raft_log_records.proofs.Items.{filling_size, entries_added, entries_seen}
+use Rattle.raft_log_records.proofs.Items.{with_none, filling_size, entries_added, entries_seen}
 use Rattle.raft_log_records.proofs.log_batch.LogBatch.add_entries.Goals as goal
+
+pub returns-then-is_empty-clause-ok : goal.returns-then-is_empty-clause-ok
+returns-then-is_empty-clause-ok g c =
+    let none : length c.args.entries.now ≡ 0 = eqb-true _ _ (sym c.is_empty.ensures ∙ c.if-is_empty.true) in
+    with_none c.args.self.now c.args.raft_group_id (map g.M.MessageExt.index c.args.entries.now) (map g.M.Entry.Message.spelling c.args.entries.now) (omega (arith, none, length-map c.args.entries.now g.M.Entry.Message.spelling))
 
 pub new-placed-requires : goal.new-placed-requires
 new-placed-requires g c =

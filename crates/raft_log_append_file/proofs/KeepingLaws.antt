@@ -8,9 +8,9 @@ use Rattle.raft_log_disk.specs.KeepsSynced.{HoldsChain, HoldsAtLeast, kept_recor
 use Rattle.raft_log_disk.proofs.Updates.{file_here}
 use Rattle.raft_log_disk.proofs.KeptLaws.{IsCalm}
 use Rattle.raft_log_disk.proofs.ChainLaws.{spelled-append, frames_append, frames_front, frames_back, nothing_refuses}
-use Rattle.raft_log_disk.proofs.KeepsSyncedLaws.{holds_cut, holds_more, holds_at_rest, holds_at_least}
+use Rattle.raft_log_disk.proofs.KeepsSyncedLaws.{holds_cut, holds_more, holds_at_rest, holds_at_least, all_at_least}
 use Rattle.raft_log_append_file.specs.Frame.{IsFrame, StartsWithFrame, Records, frame_of, framed, values}
-use Rattle.raft_log_append_file.specs.Keeping.{IsKept, CanCut}
+use Rattle.raft_log_append_file.specs.Keeping.{IsKept, CanCut, CanCutRead, KeepsDurable}
 use Rattle.raft_log_append_file.proofs.Frames.{prefix_free}
 
 -- a disk that keeps a file keeps it when a failure is counted and at a stop
@@ -72,6 +72,59 @@ kept_settled id size count durable pending old mid file can cut is =
     let first = same_file old id cut.file can.file cut.is can.is in
     let bytes : file.content ≡ spelled (kept_records durable pending count) = ap (λ (f : File). f.content) same ∙ ap (λ (f : File). take size f.content) first ∙ can.front in
     record { file = flushed file; is = file_here mid.files id (Some (flushed file)); holds = settled_at_least durable pending count file.content can.holds.frames bytes }
+
+-- the durable records stay where a failure is counted, and at a stop
+pub durable_calm : (id : ℕ) (durable : Records) → IsCalm (KeepsDurable id durable)
+durable_calm id durable = record {
+  at_count = λ d keeps. (keeps.0, (kept_calm id durable keeps.0).at_count d keeps.1);
+  at_end = λ d keeps. (keeps.0, (kept_calm id durable keeps.0).at_end d keeps.1);
+}
+
+-- a file that can be cut behind what is read keeps its durable records
+pub can_cut_read_keeps : (id size : ℕ) (durable pending ws : Records) (d : Disk) → CanCutRead id size durable pending ws d → KeepsDurable id durable d
+can_cut_read_keeps id size durable pending ws d can =
+    (pending, record { file = can.file; is = can.is; holds = holds_at_least IsFrame 0 (length can.file.synced) durable pending can.file can.holds })
+
+-- also by the cut, made or not
+pub read_cut_keeps : (id size : ℕ) (durable pending ws : Records) (d : Disk) (file : File) (content : List ℕ) → CanCutRead id size durable pending ws d → d.files id ≡ Some file
+    → KeepsDurable id durable (with_file id (Some (with_piece (CutTo size) content file)) d)
+read_cut_keeps id size durable pending ws d file content can is =
+    let same = same_file d id can.file file can.is is in
+    let holds = subst (λ (f : File). HoldsChain IsFrame 0 (length f.synced) durable pending f) same can.holds in
+    let behind : length (spelled durable) ≤ size = omega (arith, can.end, ap length (ap spelled can.splits ∙ spelled-append durable can.more), length-append (spelled durable) (spelled can.more)) in
+    let cut = with_piece (CutTo size) content file in (
+      pending,
+      record {
+        file = cut;
+        is = file_here d.files id (Some cut);
+        holds = holds_at_least IsFrame 0 (length file.synced) durable pending cut (holds_cut IsFrame 0 (length file.synced) durable pending size content file (omega (arith, behind)) holds);
+      },
+    )
+
+-- and by the sync behind the cut: what was read is durable then
+pub read_settled_keeps : (id size : ℕ) (durable pending ws : Records) (old mid : Disk) (file : File) → CanCutRead id size durable pending ws old
+    → Changes id (after_piece (CutTo size)) old mid → mid.files id ≡ Some file → KeepsDurable id durable (with_file id (Some (flushed file)) mid)
+read_settled_keeps id size durable pending ws old mid file can cut is =
+    let cut_file = after_piece (CutTo size) cut.file in
+    let at : mid.files id ≡ Some cut_file = ap (λ (d : Disk). d.files id) cut.done ∙ file_here old.files id (Some cut_file) in
+    let same = same_file mid id file cut_file is at in
+    let first = same_file old id cut.file can.file cut.is can.is in
+    let bytes : file.content ≡ spelled ws = ap (λ (f : File). f.content) same ∙ ap (λ (f : File). take size f.content) first ∙ can.front in
+    let reads : Reads IsFrame 0 ws (take (length file.content) file.content) = record {
+      rest = [];
+      splits = take_all (length file.content) file.content (omega arith) ∙ bytes ∙ sym (append-nil (spelled ws));
+      frames = can.frames;
+      ends = nothing_refuses IsFrame prefix_free;
+    } in
+    let whole = holds_at_rest IsFrame 0 (length file.content) ws file.content reads in
+    let parts = subst (λ (vs : Records). HoldsChain IsFrame 0 (length file.content) vs [] (at_rest file.content)) can.splits whole in (
+      can.more,
+      record {
+        file = flushed file;
+        is = file_here mid.files id (Some (flushed file));
+        holds = all_at_least IsFrame 0 (length file.content) durable can.more (at_rest file.content) parts;
+      },
+    )
 
 -- the records of the bytes up to a place
 pub record ReadsUpTo (bytes : List ℕ) (end : ℕ) : Type 0 where

@@ -14,13 +14,13 @@ use Rattle.raft_log_disk.proofs.ChangeLaws.{overwritten_at_end}
 use Rattle.raft_log_disk.proofs.Updates.{file_here}
 use Rattle.raft_log_disk.proofs.KeptLaws.{IsCalm}
 use Rattle.raft_log_disk.proofs.ChainLaws.{spelled-append, frames_front, nothing_refuses, reads_some}
-use Rattle.raft_log_disk.proofs.KeepsSyncedLaws.{left_of_image, take_over, keeps_synced, at_least_keeps, holds_written, holds_more, holds_at_rest, holds_at_least}
+use Rattle.raft_log_disk.proofs.KeepsSyncedLaws.{left_of_image, take_over, keeps_synced, at_least_keeps, durable_is_read, holds_written, holds_more, holds_at_rest, holds_at_least}
 use Rattle.raft_log_disk.proofs.CrashExampleLaws.{synced_file_has_no_chance}
 use Rattle.raft_log_files.specs.declared.handle.Handle.{Handle}
 use Rattle.raft_log_files.specs.declared.handle.Permission.TheVariants.{ReadWrite}
 use Rattle.raft_log_files.specs.Arguments.{WrongHandle, WrongWriter}
 use Rattle.raft_log_append_file.specs.Frame.{IsFrame, Records, framed}
-use Rattle.raft_log_append_file.specs.Keeping.{IsKept, CanCut, NoChanceNow, KeepsRecords, KeptKeeps, KeptThroughRestart}
+use Rattle.raft_log_append_file.specs.Keeping.{IsKept, CanCut, CanCutRead, KeepsDurable, NoChanceNow, KeepsRecords, KeptKeeps, KeptThroughRestart}
 use Rattle.raft_log_append_file.specs.AppendFile.{IsOpen, AppendRefused}
 use Rattle.raft_log_append_file.specs.declared.append_file.AppendFile.{AppendFile}
 use Rattle.raft_log_append_file.specs.declared.error.AppendError.{AppendError}
@@ -308,3 +308,30 @@ found_open log durable pending ws old new kept found now permitted runs =
       omega (arith, can.within, length-append least.more least.rest),
       settled_open log (kept_records durable pending count) (take log.written kept.file.content) new frames bytes now permitted (can.end ∙ ap (λ (vs : Records). length (spelled vs)) records) runs,
     )
+
+-- what opening finds, with no premise: of the records that are read the durable ones are the first, and the file can be cut
+-- behind them
+pub finds_durable : (id end : ℕ) (durable pending ws : Records) (bytes : List ℕ) (d : Disk) (kept : IsKept id durable pending d) → IsSound d → bytes ≡ kept.file.content
+    → Reads IsFrame 0 ws bytes → end ≡ length (spelled ws) → CanCutRead id end (durable ++ kept.holds.more) kept.holds.rest ws d
+finds_durable id end durable pending ws bytes d kept sound content reads_bytes ends =
+    let file = kept.file in
+    let least = kept.holds in
+    let all = durable ++ least.more in
+    let reads = subst (Reads IsFrame 0 ws) content reads_bytes in
+    let stands = (sound.files id file kept.is).stands in
+    let whole = holds_at_least IsFrame 0 (length file.synced) all least.rest file least.holds in
+    let begins = durable_is_read IsFrame 0 (length file.synced) all least.rest file file.content prefix_free whole stands ws reads in
+    record {
+      file = file;
+      is = kept.is;
+      holds = least.holds;
+      more = begins.0;
+      splits = begins.1;
+      frames = reads.frames;
+      front = ap (λ (b : List ℕ). take end b) reads.splits ∙ take_at (spelled ws) reads.rest end (sym ends);
+      end = ends;
+    }
+
+-- what is kept of all that is durable is kept of what was to be
+pub found_durable : (id : ℕ) (durable pending : Records) (old new : Disk) (kept : IsKept id durable pending old) → KeepsDurable id (durable ++ kept.holds.more) new → KeepsDurable id durable new
+found_durable id durable pending old new kept keeps = (kept.holds.more ++ keeps.0, kept_fewer id durable kept.holds.more keeps.0 new keeps.1)

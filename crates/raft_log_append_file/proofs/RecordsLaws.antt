@@ -3,12 +3,13 @@ use Rattle.std.proofs.Common.{◌≡◌, ℕ, ◌≤◌, Option, Some, None, Lis
 use Rattle.std.proofs.lemmas.List.{append-nil, map-append, take-map}
 use Rattle.std.proofs.Math.Seq.{take-nil}
 use Rattle.raft_log_disk.specs.Disk.{File, Disk}
-use Rattle.raft_log_disk.specs.Image.{IsFileImage, IsImage}
+use Rattle.raft_log_disk.specs.Image.{IsFileImage, IsImage, IsLeft}
 use Rattle.raft_log_disk.specs.Chains.{Written, Reads, spelled}
 use Rattle.raft_log_disk.specs.KeepsSynced.{kept_records}
 use Rattle.raft_log_disk.proofs.ChainLaws.{nothing_refuses, reads_unique}
+use Rattle.raft_log_disk.proofs.KeepsSyncedLaws.{left_of_image, durable_is_read}
 use Rattle.raft_log_append_file.specs.Frame.{IsFrame, Records, values}
-use Rattle.raft_log_append_file.specs.Keeping.{IsKept, NoChanceNow, NoChanceLeft, AreKept}
+use Rattle.raft_log_append_file.specs.Keeping.{IsKept, NoChanceNow, NoChanceLeft, AreKept, BeginWithDurable}
 use Rattle.raft_log_append_file.specs.AppendFile.{IsOpen}
 use Rattle.raft_log_append_file.specs.declared.append_file.AppendFile.{AppendFile}
 use Rattle.raft_log_append_file.proofs.Frames.{prefix_free}
@@ -54,3 +55,14 @@ kept_after_stop id durable pending before image found kept is chance in_place =
     let (after, there) = image_there before image id kept.file is kept.is in
     let (count, within, again, quiet) = kept_through_restart id durable pending before image after kept is there (chance after there) in
     kept_of_kept durable pending count found within (in_place (kept_records durable pending count) again quiet)
+
+-- what is read, whatever a stop left, begins with the durable records
+pub durable_first : (id : ℕ) (durable pending : Records) (before image : Disk) (found : List (List ℕ)) → IsKept id durable pending before → IsImage before image
+    → ((after : File) → image.files id ≡ Some after → (ws : Records) × Reads IsFrame 0 ws after.content × (found ≡ values ws)) → BeginWithDurable durable found
+durable_first id durable pending before image found kept is reading =
+    let (after, there) = image_there before image id kept.file is kept.is in
+    let (bytes, same, left) = left_of_image before image id kept.file after is kept.is there in
+    let (ws, reads, says) = reading after there in
+    let stands = subst (IsLeft kept.file) (sym (ap (λ (f : File). f.content) same)) left in
+    let (more, splits) = durable_is_read IsFrame 0 (length kept.file.synced) durable pending kept.file after.content prefix_free kept.holds stands ws reads in
+    (values more, says ∙ ap (λ (vs : Records). values vs) splits ∙ map-append (λ (w : Written (List ℕ)). w.value) durable more)

@@ -4,7 +4,7 @@ ghost use Rattle.raft_log_disk.specs.Image.{IsImage};
 ghost use Rattle.raft_log_disk.specs.Chains.{Reads};
 ghost use Rattle.raft_log_disk.specs.KeepsSynced.{kept_records};
 ghost use Rattle.raft_log_append_file.specs.Frame.{IsFrame, Records, framed, values};
-ghost use Rattle.raft_log_append_file.specs.Keeping.{IsKept, NoChanceNow, NoChanceLeft, AreKept, KeepsRecords, TouchesOnly};
+ghost use Rattle.raft_log_append_file.specs.Keeping.{IsKept, NoChanceNow, NoChanceLeft, AreKept, BeginWithDurable, KeepsDurable, KeepsRecords, TouchesOnly};
 
 use super::error::AppendError;
 use super::frame::{MAX_LEN, make_frame};
@@ -53,6 +53,10 @@ impl AppendFile {
         ensures ok { IfOk result (λ log. (durable pending : Records) → IsKept log.handle.file durable pending (F.disk file_system.old)
             → NoChanceNow log.handle.file (F.disk file_system.old)
             → (count : ℕ) × (count ≤ length pending) × IsOpen log (kept_records durable pending count) [] (F.disk file_system.new)) }
+
+        // Answered or refused: the synced records stay, and where no checksum is met by chance the others do.
+        ensures durable { (id : ℕ) (durable pending : Records) → (F.disk file_system.old).names path.now ≡ Some id
+            → IsKept id durable pending (F.disk file_system.old) → KeepsDurable id durable (F.disk file_system.new) }
         ensures kept { (id : ℕ) (durable pending : Records) → (F.disk file_system.old).names path.now ≡ Some id
             → IsKept id durable pending (F.disk file_system.old) → NoChanceNow id (F.disk file_system.old)
             → IsKept id durable pending (F.disk file_system.new) }
@@ -78,8 +82,13 @@ impl AppendFile {
         file_system: &mut F,
         path: &str,
     ) -> Result<(AppendFile, Vec<Vec<u8>>), AppendError>
-        // Whatever a stop left of a file, if no checksum is met by chance in it: all the synced records are read, in
-        // order, then the first ones of those that weren't synced, and nothing else.
+        // Whatever a stop left of a file, what is read back begins with every synced record. No premise on checksums stands
+        // here.
+        ensures synced { IfOk result (λ recovered. (before : Disk) (durable pending : Records)
+            → IsKept recovered.0.handle.file durable pending before → IsImage before (F.disk file_system.old)
+            → BeginWithDurable durable (map vec_items recovered.1.items)) }
+
+        // Where no checksum is met by chance, the first ones of those that weren't synced follow, and nothing else.
         ensures after_stop { IfOk result (λ recovered. (before : Disk) (durable pending : Records)
             → IsKept recovered.0.handle.file durable pending before → IsImage before (F.disk file_system.old)
             → NoChanceLeft recovered.0.handle.file before (F.disk file_system.old)
@@ -94,6 +103,10 @@ impl AppendFile {
         ensures found { IfOk result (λ recovered. (file : File) → (F.disk file_system.old).files recovered.0.handle.file ≡ Some file
             → (ws : Records) × Reads IsFrame 0 ws file.content × IsOpen recovered.0 ws [] (F.disk file_system.new) × (map vec_items recovered.1.items ≡ values ws)) }
         ensures named { IfOk result (λ recovered. (F.disk file_system.old).names path.now ≡ Some recovered.0.handle.file) }
+
+        // Answered or refused: the synced records stay, and where no checksum is met by chance the others do.
+        ensures durable { (id : ℕ) (durable pending : Records) → (F.disk file_system.old).names path.now ≡ Some id
+            → IsKept id durable pending (F.disk file_system.old) → KeepsDurable id durable (F.disk file_system.new) }
         ensures kept { (id : ℕ) (durable pending : Records) → (F.disk file_system.old).names path.now ≡ Some id
             → IsKept id durable pending (F.disk file_system.old) → NoChanceNow id (F.disk file_system.old)
             → IsKept id durable pending (F.disk file_system.new) }

@@ -3,7 +3,7 @@ ghost use Rattle.raft_log_disk.specs.Disk.{File, at_rest};
 ghost use Rattle.raft_log_disk.specs.Causes.{HasCause, Fails, IsLater};
 ghost use Rattle.raft_log_disk.specs.Chains.{Reads, spelled};
 ghost use Rattle.raft_log_append_file.specs.Frame.{IsFrame, Records, values};
-ghost use Rattle.raft_log_append_file.specs.Keeping.{IsKept, CanCut, TouchesOnly};
+ghost use Rattle.raft_log_append_file.specs.Keeping.{IsKept, CanCut, CanCutRead, KeepsDurable, TouchesOnly};
 ghost use Rattle.raft_log_append_file.specs.AppendFile.{ReadRefused};
 
 use super::error::AppendError;
@@ -61,6 +61,8 @@ pub fn cut_back<F: FileSystem>(
         → (F.disk file_system.new).files handle.file ≡ Some (at_rest (take size file.content))) }
     ensures kept { (durable pending : Records) (count : ℕ) → CanCut handle.file size count durable pending (F.disk file_system.old)
         → IsKept handle.file durable pending (F.disk file_system.new) }
+    ensures durable { (durable pending ws : Records) → CanCutRead handle.file size durable pending ws (F.disk file_system.old)
+        → KeepsDurable handle.file durable (F.disk file_system.new) }
     ensures err { OnErr result ((file : File) → (F.disk file_system.old).files handle.file ≡ Some file → handle.permission ≡ Permission.ReadWrite
         → Fails (F.disk file_system.old) (F.disk file_system.new)) }
     ensures later { IsLater (F.disk file_system.old) (F.disk file_system.new) }

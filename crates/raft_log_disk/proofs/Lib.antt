@@ -10,3 +10,4 @@ pub mod KeepsSyncedLaws
 pub mod CrashExampleLaws
 pub mod LogFilesLaws
 pub mod NamesLaws
+pub mod ChainContentLaws

@@ -2,10 +2,10 @@
 -- chance.
 use Rattle.std.specs.Prelude.{◌≡◌, ℕ, ◌+◌, ◌<◌, ◌≤◌, ◌⊎◌, List, [], ◌∷◌, ◌++◌, length, take, drop, Contains}
 use Rattle.std.specs.List.{All}
-use Rattle.raft_log_disk.specs.Disk.{Piece, Wrote, CutTo, GrewTo, File, at_rest}
+use Rattle.raft_log_disk.specs.Disk.{Piece, Wrote, CutTo, GrewTo, File, at_rest, overwritten}
 use Rattle.raft_log_disk.specs.Image.{IsLeft, Spares}
 use Rattle.raft_log_disk.specs.Calls.{with_piece}
-use Rattle.raft_log_disk.specs.Chains.{IsPrefixFree, Written, AreFrames, spelled, Reads, Meets, LiesIn}
+use Rattle.raft_log_disk.specs.Chains.{IsPrefixFree, Written, AreFrames, spelled, BeginsWith, Reads, Meets, LiesIn}
 
 -- these bytes were handed in at this place, whole, by one write that isn't synced yet, whatever of it landed
 pub record IsHandedIn (pieces : List Piece) (at : ℕ) (bytes : List ℕ) : Type 0 where
@@ -77,6 +77,13 @@ pub record ChainSteps {R : Type 0} (IsFrame : List ℕ → R → Type 0) (start 
       → HoldsChain IsFrame start end durable pending (with_piece (Wrote at bytes) content file)
   pub reused : IsPrefixFree IsFrame → (bytes : List ℕ) → HoldsChain IsFrame start start [] [] (at_rest bytes)
   pub resting : (ws : List (Written R)) (bytes : List ℕ) → Reads IsFrame start ws (take end bytes) → HoldsChain IsFrame start end ws [] (at_rest bytes)
+
+-- What a write and a sync make of a content that begins with a chain, whatever an earlier use of the file left behind it: a
+-- record written at the chain's end is the next one, and once the content is synced the chain is durable up to its end.
+pub record ChainGrows {R : Type 0} (IsFrame : List ℕ → R → Type 0) (start : ℕ) : Type 0 where
+  pub written : (ws : List (Written R)) (w : Written R) (content : List ℕ) → IsFrame w.bytes w.value → start + length (spelled ws) ≤ length content → BeginsWith IsFrame start ws content
+      → BeginsWith IsFrame start (ws ++ w ∷ []) (overwritten (start + length (spelled ws)) w.bytes content)
+  pub synced : (ws : List (Written R)) (content : List ℕ) → BeginsWith IsFrame start ws content → HoldsChain IsFrame start (start + length (spelled ws)) ws [] (at_rest content)
 
 -- A part of the synced bytes that no change touches stays: so does a header in front of the records.
 abbrev pub UntouchedPartStays : Type 0

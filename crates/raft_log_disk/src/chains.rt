@@ -2,7 +2,7 @@
 
 ghost use Rattle.std.specs.Prelude.{ℕ, List};
 ghost use Rattle.raft_log_disk.specs.Chains.{IsPrefixFree, ReadsOneWay, ReadsSome, AgreesUpToEnd};
-ghost use Rattle.raft_log_disk.specs.KeepsSynced.{ChainKeepsSynced, DurableIsRead, ChainSteps, UntouchedPartStays};
+ghost use Rattle.raft_log_disk.specs.KeepsSynced.{ChainKeepsSynced, DurableIsRead, ChainSteps, ChainGrows, UntouchedPartStays};
 ghost use Rattle.raft_log_disk.specs.LogFiles.{LogKeepsSynced};
 ghost use Rattle.raft_log_disk.specs.CrashExamples.{TornRecordIsLost, ForeignRecordIsChance, SyncedFileHasNoChance};
 
@@ -34,6 +34,11 @@ pub fn chain_steps<G: Framing>()
     ensures { (start end : ℕ) → ChainSteps G.is_frame start end }
 {}
 
+/// A record that is written at a chain's end is the next one, whatever an earlier use of the file left there.
+pub fn chain_grows<G: Framing>()
+    ensures { IsPrefixFree G.is_frame → (start : ℕ) → ChainGrows G.is_frame start }
+{}
+
 /// A file that holds a chain keeps its synced records, whatever a stop leaves.
 pub fn synced_records_are_kept<G: Framing>()
     ensures { ChainKeepsSynced G.is_frame }
@@ -44,7 +49,8 @@ pub fn durable_records_are_read<G: Framing>()
     ensures { DurableIsRead G.is_frame }
 {}
 
-/// So does a log of several files, of which all but the last are synced whole.
+/// What is read of a log of several files, of which all but the last are synced whole, is a beginning of the records
+/// written, with all the synced ones.
 pub fn log_of_files_is_kept<G: Framing>()
     ensures { LogKeepsSynced G.is_frame }
 {}

@@ -7,3 +7,5 @@ pub mod Messages
 pub mod Entries
 pub mod ItemBatches
 pub mod ItemPlaces
+pub mod Marks
+pub mod Meanings

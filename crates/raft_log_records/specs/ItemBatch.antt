@@ -9,7 +9,7 @@ use Rattle.raft_log_items.specs.declared.item.LogItem.{LogItem}
 use Rattle.raft_log_items.specs.Fault.{Fault}
 use Rattle.raft_log_items.specs.Placed.{laid_out, written}
 use Rattle.raft_log_items.specs.Writing.{value_of}
-use Rattle.raft_log_frames.specs.Record.{footer_of}
+use Rattle.raft_log_frames.specs.Record.{IsFooter, AddsUp, footer_of}
 
 -- about how many bytes a content has: each number is counted as eight
 abbrev pub content_size : LogItemContent → ℕ
@@ -37,6 +37,14 @@ all_entries xs = flat_map (λ x. content_entries x.content) xs
 -- the items with their places: their entries lie one after another in the block at this place
 abbrev pub placed : FileBlockHandle → List LogItem → List LogItem
 placed handle items = written handle (laid_out 0 items)
+
+-- the bytes are a footer that is signed with this, its entries fill the block at this place, and these are its items with
+-- their places
+pub record IsPlacedFooter (signature : Option ℕ) (handle : FileBlockHandle) (bytes : List ℕ) (batch : List LogItem) : Type 0 where
+  pub items : List LogItem
+  pub footer : IsFooter signature bytes items
+  pub adds_up : AddsUp items handle.len
+  pub places : batch ≡ placed handle items
 
 -- what a whole footer says, whose entries lie in the block at this place
 unfoldable pub batch_of : Option ℕ → FileBlockHandle → List ℕ → Result (List LogItem) Fault

@@ -4,3 +4,5 @@ pub mod Key
 pub mod Written
 pub mod Message
 pub mod ItemBatch
+pub mod AtomicGroup
+pub mod Meaning

@@ -1,6 +1,7 @@
 //! Log records: items and entries in signed batches.
 #![tactic(auto)]
 
+pub mod atomic_group;
 pub mod laws;
 pub mod log_batch;
 pub mod log_item_batch;
@@ -8,6 +9,7 @@ pub mod message;
 mod places;
 mod record;
 
+pub use atomic_group::{AtomicGroupBuilder, AtomicGroupStatus};
 pub use log_batch::{BatchState, LogBatch};
 pub use log_item_batch::LogItemBatch;
 pub use message::{Message, MessageExt};

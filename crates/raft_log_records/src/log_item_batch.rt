@@ -3,8 +3,13 @@ ghost use Rattle.std.specs.Prelude.{◌≡◌, ◌-◌, ◌^◌, min, slice_get}
 ghost use Rattle.raft_log_records.specs.ItemBatch.{content_size, items_size, all_entries};
 
 use crate::message::Message;
+use crate::places::place;
+use raft_log_frames::decode_footer;
 use raft_log_items::encode::append_items;
-use raft_log_items::{Bytes, Command, EntryIndex, EntryIndexes, LogItem, LogItemContent, OpType};
+use raft_log_items::{
+    Bytes, Command, CompressionType, EntryIndex, EntryIndexes, FileBlockHandle, LogFileContext,
+    LogItem, LogItemContent, OpType,
+};
 use std::alloc::{AllocError, Global};
 use std::marker::Model;
 use std::slice::Iter;
@@ -71,6 +76,19 @@ impl Model for LogItemBatch {
     ghost view = { λ b. b.items.items };
 }
 
+impl PartialEq for LogItemBatch {
+    ghost use Rattle.std.specs.Cmp.Lexicographic.{pointwise, lists_per};
+    ghost use Rattle.raft_log_items.specs.contracts.item.LogItemPartialEq.TheImpl.Laws.{laws-law};
+
+    ghost eq = { pointwise ⟦<LogItem as PartialEq>⟧.eq };
+
+    ghost laws = { lists_per laws-law };
+
+    fn eq(&self, other: &LogItemBatch) -> bool {
+        self.items.as_slice() == other.items.as_slice()
+    }
+}
+
 impl LogItemBatch {
     ghost use Rattle.std.specs.Prelude.{◌≡◌, ◌+◌, ◌-◌, ◌^◌, ◌++◌, ◌∷◌, ◌↔◌, [], length, map, min, slice_get, None, IfOk, OnOk, OnErr, IsTrue};
     ghost use Rattle.std.specs.Slice.Iter.{iter_rest};
@@ -79,7 +97,13 @@ impl LogItemBatch {
     ghost use Rattle.raft_log_items.specs.Items.{AreItems};
     ghost use Rattle.raft_log_items.specs.Writing.{items_bytes, plain_item, KeepsFront};
     ghost use Rattle.raft_log_records.specs.Key.{put_item, del_item};
-    ghost use Rattle.raft_log_records.specs.ItemBatch.{items_size, all_entries};
+    ghost use Rattle.std.specs.Prelude.{List, MatchResult};
+    ghost use Rattle.raft_log_items.specs.declared.errors.Error.TheVariants as errors;
+    ghost use Rattle.raft_log_items.specs.declared.item.LogItem.{LogItem};
+    ghost use Rattle.raft_log_items.specs.Fault.{Gives};
+    ghost use Rattle.raft_log_items.specs.Files.{signature_of};
+    ghost use Rattle.raft_log_frames.specs.Record.{IsFooter, AddsUp};
+    ghost use Rattle.raft_log_records.specs.ItemBatch.{items_size, all_entries, placed, IsPlacedFooter, batch_of};
 
     /// An empty batch.
     pub fn default(alloc: Global) -> Self
@@ -217,6 +241,29 @@ impl LogItemBatch {
         ensures spelled { OnOk result (AreItems (items_bytes self.now) (map plain_item self.now)) }
     {
         append_items(out, self.items.as_slice())
+    }
+
+    /// The items of a whole footer of this file, whose entries lie in the block at this place. Each entry has its offset in
+    /// the block and the block's place, and each key its file.
+    ///
+    /// Refuses what `decode_footer` refuses: a footer that is signed for another file, entries whose lengths don't add up to
+    /// the block, and the first fault of the items.
+    #[tactic(auto, unfolding(crate::specs::ItemBatch::batch_of))]
+    pub fn decode(
+        alloc: Global,
+        bytes: &[u8],
+        entries: FileBlockHandle,
+        compression_type: CompressionType,
+        context: &LogFileContext,
+    ) -> raft_log_items::Result<Self>
+        ensures found { IfOk result (λ batch. IsPlacedFooter (signature_of context.now) entries bytes.now batch) }
+        ensures only { (items : List LogItem) → IsFooter (signature_of context.now) bytes.now items → AddsUp items entries.len → MatchResult result (λ batch. batch ≡ placed entries items) (λ e. e ≡ errors.Memory) }
+        ensures exact { Gives result (batch_of (signature_of context.now) entries bytes.now) }
+    {
+        let CompressionType::None = compression_type;
+        let mut items = decode_footer(alloc, bytes, entries.len, context.get_signature())?;
+        place(items.as_mut_slice(), entries);
+        Ok(LogItemBatch { items })
     }
 
     /// About how many bytes the footer of these items has, where each number is counted as eight, or 2^64 - 1 where there

@@ -1,6 +1,7 @@
 //! Where the entries of items lie, and in which file the items stand.
 ghost use Rattle.std.specs.Prelude.{◌≡◌, ◌+◌, ◌<◌, ◌^◌};
 ghost use Rattle.raft_log_items.specs.Placed.{content_len, entries_len, laid_content, laid_out, written_content, written};
+ghost use Rattle.raft_log_records.specs.ItemBatch.{placed};
 
 use raft_log_items::{FileBlockHandle, LogItem, LogItemContent};
 
@@ -45,4 +46,13 @@ pub(crate) fn set_written(items: &mut [LogItem], handle: FileBlockHandle)
     for item in items.iter_mut() {
         set_content_written(&mut item.content, handle);
     }
+}
+
+/// Gives the items of a written batch their places: their entries lie one after another in the block at this place.
+pub(crate) fn place(items: &mut [LogItem], handle: FileBlockHandle)
+    requires { entries_len items.old < 2 ^ 32 }
+    ensures { items.new ≡ placed handle items.old }
+{
+    lay_out(items, 0);
+    set_written(items, handle);
 }

@@ -1,7 +1,9 @@
 //! The worked bytes of the format, and batches.
 use raft_log_items::{FileId, LogFileContext, LogQueue, Version};
 
+mod atomic_groups;
 mod batches;
+mod item_batches;
 mod messages;
 
 /// One `Clean` of group 1, in a file without signatures.

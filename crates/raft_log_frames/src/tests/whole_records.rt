@@ -16,7 +16,7 @@ fn read_record(
     alloc: Global,
     bytes: &[u8],
     signature: Option<u32>,
-) -> crate::Result<(Vec<LogItem>, &[u8], &[u8])> {
+) -> raft_log_items::Result<(Vec<LogItem>, &[u8], &[u8])> {
     let mut rest = bytes;
     let (offset, compression, len) = decode_header(alloc, &mut rest)?;
     match (

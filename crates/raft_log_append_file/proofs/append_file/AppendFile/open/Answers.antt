@@ -3,8 +3,8 @@ use Rattle.std.proofs.lemmas.List.{take_at}
 use Rattle.std.proofs.lemmas.Result.{err_from_is_err_and}
 use Rattle.raft_log_disk.specs.Chains.{spelled, Reads}
 use Rattle.raft_log_append_file.specs.Frame.{IsFrame}
-use Rattle.raft_log_append_file.specs.Keeping.{IsKept, NoChanceNow}
-use Rattle.raft_log_append_file.proofs.OpenLaws.{finds_end, found_kept, found_open, settled_open}
+use Rattle.raft_log_append_file.specs.Keeping.{IsKept, KeepsDurable, NoChanceNow}
+use Rattle.raft_log_append_file.proofs.OpenLaws.{finds_durable, found_durable, finds_end, found_kept, found_open, settled_open}
 use Rattle.raft_log_append_file.proofs.Causes.{read_open_refused}
 use Rattle.raft_log_append_file.proofs.append_file.AppendFile.open.Goals as goal
 
@@ -26,6 +26,34 @@ returns-clause-found g c = λ file is.
     let reads = subst (λ (b : List ℕ). Reads IsFrame 0 ws b) (c.deref.ensures.value ∙ c.in_ok-bytes.ensures.ok file is) reads_bytes in
     let front : take end file.content ≡ spelled ws = ap (λ (b : List ℕ). take end b) reads.splits ∙ take_at (spelled ws) reads.rest end (sym ends) in
     (ws, reads, settled_open (record { handle = handle; written = end; failed = false }) ws (take end file.content) (D c.cut_back.new.file_system) reads.frames front (c.in_ok-cut_back.ensures.ok file is) c.in_ok-handle.ensures.ok.permitted ends refl)
+
+pub returns-in_err-cut_back-clause-durable : goal.returns-in_err-cut_back-clause-durable
+returns-in_err-cut_back-clause-durable g c = λ id durable pending named kept_id.
+    let D = g.F.FileSystem.disk in
+    let old = D c.args.file_system.now in
+    let new = D c.cut_back.new.file_system in
+    let handle = c.in_ok-handle.handle in
+    let same : id ≡ handle.file = (let there = c.in_ok-handle.ensures.ok.is in cc) in
+    let kept = subst (λ (n : ℕ). IsKept n durable pending old) same kept_id in
+    let bytes = c.in_ok-bytes.ensures.ok kept.file kept.is in
+    let read = c.good_end-end.ensures in
+    let found = finds_durable handle.file c.good_end-end.result durable pending read.0 c.deref.result.now old kept (g.met.F.FileSystem.sound c.args.file_system.now) (c.deref.ensures.value ∙ bytes) read.1 read.2 in
+    subst (λ (n : ℕ). KeepsDurable n durable new) (sym same)
+    (found_durable handle.file durable pending old new kept (c.cut_back.ensures.durable (durable ++ kept.holds.more) kept.holds.rest read.0 found))
+
+pub returns-clause-durable : goal.returns-clause-durable
+returns-clause-durable g c = λ id durable pending named kept_id.
+    let D = g.F.FileSystem.disk in
+    let old = D c.args.file_system.now in
+    let new = D c.cut_back.new.file_system in
+    let handle = c.in_ok-handle.handle in
+    let same : id ≡ handle.file = (let there = c.in_ok-handle.ensures.ok.is in cc) in
+    let kept = subst (λ (n : ℕ). IsKept n durable pending old) same kept_id in
+    let bytes = c.in_ok-bytes.ensures.ok kept.file kept.is in
+    let read = c.good_end-end.ensures in
+    let found = finds_durable handle.file c.good_end-end.result durable pending read.0 c.deref.result.now old kept (g.met.F.FileSystem.sound c.args.file_system.now) (c.deref.ensures.value ∙ bytes) read.1 read.2 in
+    subst (λ (n : ℕ). KeepsDurable n durable new) (sym same)
+    (found_durable handle.file durable pending old new kept (c.cut_back.ensures.durable (durable ++ kept.holds.more) kept.holds.rest read.0 found))
 
 pub returns-in_err-cut_back-clause-kept : goal.returns-in_err-cut_back-clause-kept
 returns-in_err-cut_back-clause-kept g c = λ id durable pending named kept_id chance_id.

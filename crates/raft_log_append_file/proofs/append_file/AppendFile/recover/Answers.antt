@@ -5,7 +5,7 @@ use Rattle.std.proofs.lemmas.Result.{err_from_is_err_and}
 use Rattle.raft_log_disk.specs.KeepsSynced.{kept_records}
 use Rattle.raft_log_append_file.specs.Frame.{Records, values}
 use Rattle.raft_log_append_file.proofs.Causes.{read_open_refused}
-use Rattle.raft_log_append_file.proofs.RecordsLaws.{kept_values, kept_after_stop}
+use Rattle.raft_log_append_file.proofs.RecordsLaws.{kept_values, kept_after_stop, durable_first}
 use Rattle.raft_log_append_file.proofs.append_file.AppendFile.recover.Goals as goal
 
 pub returns-in_err-records-clause-err : goal.returns-in_err-records-clause-err
@@ -19,6 +19,14 @@ returns-in_err-records-clause-err g c =
     (let same : id ≡ log.handle.file = (let there = c.in_ok-log.ensures.named in cc) in
     let (ws, reads, opened) = c.in_ok-log.ensures.found file (ap old.files (sym same) ∙ is) in
     read_open_refused c.in_err-records.field-0.0 log.handle.file old new (c.in_err-records.ensures.err opened.file opened.runs opened.is)))
+
+pub returns-clause-synced : goal.returns-clause-synced
+returns-clause-synced g c = λ before durable pending kept is.
+    let old = g.F.FileSystem.disk c.args.file_system.now in
+    let found = map vec_items c.in_ok-records.records.items in
+    durable_first c.in_ok-log.log.handle.file durable pending before old found kept is (λ after there.
+    (let (ws, reads, opened) = c.in_ok-log.ensures.found after there in
+    (ws, reads, c.in_ok-records.ensures.ok ws [] opened ∙ ap (λ (vs : Records). values vs) (append-nil ws))))
 
 pub returns-clause-in_place : goal.returns-clause-in_place
 returns-clause-in_place g c = λ durable pending kept chance.

@@ -1,7 +1,8 @@
 -- What is wrong with bytes, apart from the memory that telling it takes.
-use Rattle.std.specs.Prelude.{◌≡◌, ◌++◌, ℕ, List, Result, Ok, Err, MatchResult}
+use Rattle.std.specs.Prelude.{◌≡◌, ◌⊎◌, ◌++◌, ℕ, List, Result, Ok, Err, MatchResult}
 use Rattle.std.specs.String.{string_bytes}
-use Rattle.std.specs.Global.{Vec}
+use Rattle.std.specs.Global.{Vec, Box}
+use Rattle.anyhow.specs.declared.error.Error.{Error as AnyhowError}
 use Rattle.raft_log_codec.specs.declared.codec.error.Error.{Error as CodecError}
 use Rattle.raft_log_codec.specs.Grammar.{Reader}
 use Rattle.raft_log_items.specs.declared.errors.Error.{Error}
@@ -36,6 +37,10 @@ Fails (errors.Other e) reading = ⊥
 Fails errors.Failed reading = ⊥
 Fails errors.Hole reading = ⊥
 Fails errors.NumberRange reading = ⊥
+
+-- this error is carried, or memory ran out
+abbrev pub IsOtherOf : AnyhowError → Error → Type 0
+IsOtherOf error e = (e ≡ errors.Memory) ⊎ ((kept : Box AnyhowError) × (e ≡ errors.Other kept) × (kept.value ≡ error))
 
 -- What a decoder answered and what it left is what the reading of the bytes gives, unless memory ran out. A refusal leaves all.
 abbrev pub Answers : {X : Type 0} → Result X Error → List ℕ → List ℕ → Result (X × List ℕ) Fault → Type 0

@@ -3,7 +3,7 @@ ghost use Rattle.std.specs.Prelude.{◌≡◌};
 ghost use Rattle.raft_log_items.specs.declared.errors.Error.TheVariants as errors;
 
 use raft_log_codec::codec;
-use std::alloc::{AllocError, AllocFailed};
+use std::alloc::{AllocError, AllocFailed, Global};
 use std::io::ErrorKind;
 use thiserror::Error;
 
@@ -39,7 +39,7 @@ pub enum Error {
     Full,
     /// Anything else.
     #[error("Other Error: {0}")]
-    Other(anyhow::Error),
+    Other(Box<anyhow::Error>),
     /// Memory ran out.
     #[error("Memory")]
     Memory,
@@ -56,6 +56,20 @@ pub enum Error {
 
 /// What a call on the log answers.
 pub type Result<T> = std::result::Result<T, Error>;
+
+impl Error {
+    ghost use Rattle.raft_log_items.specs.Fault.{IsOtherOf};
+
+    /// Anything else that went wrong, or `Memory` where there is no room to keep it.
+    pub fn other(alloc: Global, error: anyhow::Error) -> Error
+        ensures { IsOtherOf error result }
+    {
+        match Box::new(alloc, error) {
+            Ok(error) => Error::Other(error),
+            Err(_) => Error::Memory,
+        }
+    }
+}
 
 impl From<AllocError> for Error {
     ghost from_gives = { λ _ e. e ≡ errors.Memory };
@@ -78,13 +92,5 @@ impl From<codec::Error> for Error {
 
     fn from(e: codec::Error) -> Error {
         Error::Codec(e)
-    }
-}
-
-impl From<anyhow::Error> for Error {
-    ghost from_gives = { λ c e. e ≡ errors.Other c };
-
-    fn from(e: anyhow::Error) -> Error {
-        Error::Other(e)
     }
 }

@@ -37,7 +37,10 @@ fn errors_print_these_texts(rt: HostRuntime) -> Result<(), Fail> {
         (Error::EntryCompacted, "Entry Compacted"),
         (Error::EntryNotFound, "Entry not found"),
         (Error::Full, "Full"),
-        (Error::from(anyhow::anyhow!("why")), "Other Error: why"),
+        (
+            Error::other(alloc, anyhow::anyhow!("why")),
+            "Other Error: why",
+        ),
         (Error::Memory, "Memory"),
         (Error::Failed, "Failed"),
         (Error::Hole, "Hole"),

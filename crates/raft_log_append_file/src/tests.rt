@@ -214,7 +214,7 @@ fn each_call_refused(rt: HostRuntime) -> Result<(), Fail> {
         let mut met = 0u64;
         for n in 1..100u64 {
             let mut system = prepared(alloc)?;
-            system.refuse_call(n);
+            system.refuse_call(n)?;
             let progress = run(alloc, &mut system, few);
             let _lost = reopened_in_each_way(alloc, &system, progress)?;
             if system.failures() == 0 {
@@ -289,7 +289,7 @@ fn refused_while_it_is_opened(rt: HostRuntime) -> Result<(), Fail> {
     let mut met = 0u64;
     for n in 1..100u64 {
         let mut system = torn(alloc)?;
-        system.refuse_call(n);
+        system.refuse_call(n)?;
         if AppendFile::recover(alloc, &mut system, PATH).is_ok() {
             break;
         }
@@ -307,7 +307,7 @@ fn a_refused_append_is_taken_back(rt: HostRuntime) -> Result<(), Fail> {
     let mut system = prepared(alloc)?;
     let mut log = AppendFile::create(&mut system, PATH)?;
     log.append(alloc, &mut system, &[0; 3])?;
-    system.refuse_call(1);
+    system.refuse_call(1)?;
     assert!(rt;
         matches!(
             log.append(alloc, &mut system, &[9; 30]),

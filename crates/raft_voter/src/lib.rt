@@ -3,7 +3,8 @@
 //!
 //! Nothing here knows of files, threads or time. A `Voter` answers one `Request` at a time; what it answers and
 //! what it becomes are the definitions of `specs/Rules.antt`, case by case. A `Transcript` tells which requests
-//! came in which rounds and what was answered; `judge` says whether voters that never fail explain it.
+//! came in which rounds and what was answered; `judge` says whether voters that never fail explain it. Replies print
+//! themselves, as transcripts show them: `Granted 5`, `Entries 3:2:00ff`.
 #![tactic(auto)]
 
 mod display;

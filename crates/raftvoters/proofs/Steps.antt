@@ -1,5 +1,6 @@
 -- A session goes on.
-use Rattle.std.proofs.Common.{◌≡◌, ℕ, ◌+◌, ◌<◌, nat_lt, Bool, false, ◌⊎◌, inr, List, [], ◌∷◌, ◌++◌, length, append_assoc, append-nil, refl, sym, ap, subst, arith}
+use Rattle.std.proofs.Common.{◌≡◌, ℕ, ◌+◌, ◌<◌, nat_lt, Bool, false, ◌⊎◌, inr, List, [], ◌∷◌, ◌++◌, length, append_assoc, append-nil, refl, sym, ap, ◌∙◌, subst, arith}
+use Rattle.std.proofs.lemmas.List.Concat.{flat_map-append}
 use Rattle.std.proofs.lemmas.Bool.Decides.{nat_tests}
 use Rattle.raft_voter.specs.declared.reply.Reply.{Reply}
 use Rattle.raft_voter.specs.declared.request.Request.{Request}
@@ -15,7 +16,7 @@ use Rattle.raftvoters.specs.Content.{Content}
 use Rattle.raftvoters.specs.Service.{Answers, out_of_range, refused_from}
 use Rattle.raftvoters.specs.Store.{IsStored, world_of}
 use Rattle.raftvoters.specs.Storage.{Serves, Served, cuts_of, is_open}
-use Rattle.raftvoters.specs.Play.{AreRoundsOf, Sure, IsUnderWay, IsPlayed}
+use Rattle.raftvoters.specs.Play.{AreRoundsOf, Sure, IsUnderWay, IsPlayed, cuts_in}
 
 -- Rounds.
 
@@ -67,12 +68,18 @@ one_more old new rounds cuts requests round s served =
           rw (append_assoc rounds (round ∷ []) rs, append_assoc cuts (cuts_of round.outcome) cs) (s.explained (round ∷ rs) (cuts_of round.outcome ++ cs) left);
     }
 
+one_more_cut : (rounds : List RoundRecord) (cuts : List ℕ) (round : RoundRecord) → cuts ≡ cuts_in rounds → cuts ++ cuts_of round.outcome ≡ cuts_in (rounds ++ round ∷ [])
+one_more_cut rounds cuts round e =
+    let own : RoundRecord → List ℕ = λ r. cuts_of r.outcome in
+    ap (λ cs. cs ++ cuts_of round.outcome) e ∙ ap (λ cs. cuts_in rounds ++ cs) (sym (append-nil (cuts_of round.outcome))) ∙ sym (flat_map-append own rounds (round ∷ []))
+
 pub goes_on : (events left now : List Event) (old new : Storage) (rounds rounds_now : List RoundRecord) (cuts cuts_now : List ℕ) (requests : List (ℕ × Request)) (round : RoundRecord)
     → IsUnderWay events left old rounds cuts → left ≡ Round requests ∷ now → Served old new requests round
     → rounds_now ≡ rounds ++ round ∷ [] → cuts_now ≡ cuts ++ cuts_of round.outcome → IsUnderWay events now new rounds_now cuts_now
 goes_on events left now old new rounds rounds_now cuts cuts_now requests round s next served e f =
     rw (e, f) (record {
       sure = one_more old new rounds cuts requests round s.sure served;
+      none_taken = one_more_cut rounds cuts round s.none_taken;
       of_session = λ rs more.
           let P : List Event → Type 0 = λ es. AreRoundsOf es (is_open old) (round ∷ rs) in
           let Q : Bool → Type 0 = λ begun. AreRoundsOf now begun rs in
@@ -84,6 +91,7 @@ pub begins : (events : List Event) (file : Content) (rounds : List RoundRecord) 
 begins events file rounds cuts synced settled e f =
     rw (e, f) (record {
       sure = record { world = fresh_world; stored = (record { records = []; storable = tt; text = synced; world = refl }, settled); explained = λ rs cs h. h };
+      none_taken = refl;
       of_session = λ rs h. h;
     })
 
@@ -92,6 +100,7 @@ ends events left storage rounds cuts s e =
     let P : List Event → Type 0 = λ es. AreRoundsOf es (is_open storage) [] in
     record {
       of_session = rw append-nil at (s.of_session [] (subst P (sym e) tt));
+      none_taken = s.none_taken;
       explained = simp append-nil at (s.sure.explained [] [] refl);
     }
 

@@ -1,9 +1,8 @@
 -- What the buffer of a batch holds in each state.
-use Rattle.std.proofs.Common.{◌≡◌, ℕ, ◌+◌, ◌-◌, ◌≤◌, ◌<◌, ◌^◌, List, [], ◌∷◌, ◌++◌, length, take, drop, Option, Some, None, unwrap_or, refl, sym, ap, subst, ◌∙◌, append_assoc, arith, bit_xor}
+use Rattle.std.proofs.Common.{◌≡◌, ℕ, ◌+◌, ◌-◌, ◌≤◌, ◌<◌, ◌^◌, List, [], ◌∷◌, ◌++◌, length, take, drop, Option, None, unwrap_or, refl, sym, ap, subst, ◌∙◌, append_assoc, arith, bit_xor}
 use Rattle.std.proofs.Math.Seq.{take-length}
-use Rattle.std.proofs.lemmas.List.{append-nil, length-append, length-take-le, length-drop, take-append-drop, drop_at, take_at}
+use Rattle.std.proofs.lemmas.List.{length-append, length-take-le, length-drop, drop_at, take_at}
 use Rattle.raft_log_codec.specs.Number.{u32_le_bytes, u64_bytes}
-use Rattle.raft_log_checksum.specs.Checksum.{crc32_of}
 use Rattle.raft_log_items.specs.declared.item.LogItem.{LogItem}
 use Rattle.raft_log_items.specs.Writing.{items_bytes}
 use Rattle.raft_log_records.specs.declared.log_batch.BatchState.{BatchState}

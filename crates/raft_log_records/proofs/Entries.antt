@@ -1,12 +1,12 @@
 -- Entries that are added to a batch.
-use Rattle.std.proofs.Common.{◌≡◌, ◌≢◌, ℕ, zero, suc, ◌+◌, ◌-◌, ◌<◌, ◌≤◌, ◌^◌, List, [], ◌∷◌, ◌++◌, length, take, drop, map, get_or, refl, sym, ap, subst, ◌∙◌, append_assoc, arith}
+use Rattle.std.proofs.Common.{◌≡◌, ℕ, zero, suc, ◌+◌, ◌<◌, ◌≤◌, ◌^◌, List, [], ◌∷◌, ◌++◌, length, take, drop, map, get_or, refl, sym, ap, subst, ◌∙◌, append_assoc, arith}
 use Rattle.std.proofs.Math.ListN.{set}
 use Rattle.std.proofs.lemmas.List.{take_more, take-map, map-append, append-nil, get_or-map, length-map, length-append, length-take-le}
 use Rattle.std.proofs.lemmas.List.Sums.{sum_by-cons, sum_by-take-le}
 use Rattle.std.proofs.lemmas.List.Concat.{length-flat_map, flat_map-append}
 use Rattle.raft_log_items.specs.declared.entry.EntryIndex.{EntryIndex}
 use Rattle.raft_log_items.specs.Run.{FollowsFrom, IsRun, unplaced_entry}
-use Rattle.raft_log_items.specs.Placed.{run_len, laid_run}
+use Rattle.raft_log_items.specs.Placed.{run_len}
 use Rattle.raft_log_items.proofs.Places.{inner_get, inner_set}
 use Rattle.raft_log_records.specs.Entries.{RisesFrom, IsIndexRun, entries_of, joined, bytes_len}
 

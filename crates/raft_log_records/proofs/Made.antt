@@ -1,8 +1,7 @@
 -- The bytes of a record that is made in a buffer.
-use Rattle.std.proofs.Common.{◌≡◌, ℕ, ◌+◌, ◌≤◌, ◌<◌, List, [], ◌∷◌, ◌++◌, length, take, drop, Option, None, refl, sym, ap, subst, ◌∙◌, append_assoc, arith}
+use Rattle.std.proofs.Common.{◌≡◌, ℕ, ◌+◌, ◌≤◌, List, [], ◌∷◌, ◌++◌, length, take, drop, Option, None, refl, sym, ap, subst, ◌∙◌, append_assoc, arith}
 use Rattle.std.proofs.Math.Seq.{take-append_seam}
-use Rattle.std.proofs.lemmas.List.{append-nil, length-append, length-take-le, take-append-drop, drop_at, take_at}
-use Rattle.std.specs.Int.{w32, to_le_bytes}
+use Rattle.std.proofs.lemmas.List.{length-append, length-take-le, take-append-drop, drop_at}
 use Rattle.raft_log_codec.specs.Number.{u32_le_bytes}
 use Rattle.raft_log_checksum.specs.Checksum.{crc32_of}
 use Rattle.raft_log_items.specs.declared.item.LogItem.{LogItem}

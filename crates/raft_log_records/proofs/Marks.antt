@@ -1,5 +1,5 @@
 -- Reading a mark is what a mark is.
-use Rattle.std.proofs.Common.{◌≡◌, ℕ, ◌≤◌, Bool, true, false, cond, ltb, eqb, List, [], ◌∷◌, ◌++◌, length, take, drop, Option, Some, None, ◌⊎◌, inl, inr, refl, sym, ap, ◌∙◌, arith}
+use Rattle.std.proofs.Common.{◌≡◌, ℕ, ◌≤◌, false, cond, ltb, eqb, List, [], ◌∷◌, ◌++◌, length, take, drop, Option, Some, None, inl, inr, refl, sym, ap, ◌∙◌, arith}
 use Rattle.std.specs.Prelude.{bytes_eq, option_map, option_and_then, IfSome}
 use Rattle.std.specs.Cmp.Lexicographic.{same_text}
 use Rattle.std.specs.Int.{w64, from_be_bytes}
@@ -14,7 +14,6 @@ use Rattle.raft_log_items.specs.declared.item.LogItemContent.TheVariants as cont
 use Rattle.raft_log_items.specs.declared.item.LogItem.{LogItem}
 use Rattle.raft_log_records.specs.declared.atomic_group.AtomicGroupStatus.{AtomicGroupStatus}
 use Rattle.raft_log_records.specs.declared.atomic_group.AtomicGroupStatus.TheVariants.{Begin, Middle, End}
-use Rattle.raft_log_records.specs.Key.{put_item}
 use Rattle.raft_log_records.specs.AtomicGroup.{mark_key, status_number, IsMark, mark_value, mark_item, status_of, status_at, mark_in, mark_of_value, mark_of_content, mark_of}
 
 -- ---- what is a mark is read as one

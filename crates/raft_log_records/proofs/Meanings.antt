@@ -2,7 +2,7 @@
 use Rattle.std.proofs.Common.{◌≡◌, ℕ, suc, arith, cond, eqb, List, [], ◌∷◌, ◌++◌, map, Option, Some, None, refl, sym, ap, subst, ◌∙◌}
 use Rattle.std.specs.Option.{option_or}
 use Rattle.std.specs.Prelude.{option_and_then, unwrap_or, bytes_eq, true, false, All}
-use Rattle.raft_log_model.specs.Item.{Item, Tagged, Record}
+use Rattle.raft_log_model.specs.Item.{Item, Tagged}
 use Rattle.raft_log_model.specs.Item.Item.{Run}
 use Rattle.raft_log_model.specs.Item.Record.{Plain}
 use Rattle.raft_log_items.specs.declared.entry.EntryIndex.{EntryIndex}

@@ -1,5 +1,5 @@
 -- Batches that are written, and batches that become one.
-use Rattle.std.proofs.Common.{◌≡◌, ℕ, ◌+◌, ◌-◌, ◌<◌, ◌≤◌, List, [], ◌∷◌, ◌++◌, length, take, drop, map, Bool, false, eqb, cond, refl, sym, ap, subst, ◌∙◌, arith}
+use Rattle.std.proofs.Common.{◌≡◌, ℕ, ◌+◌, ◌-◌, ◌<◌, ◌≤◌, List, [], ◌∷◌, ◌++◌, length, take, drop, map, Bool, eqb, cond, refl, sym, ap, subst, ◌∙◌, arith}
 use Rattle.std.proofs.Math.Dec.{eqb-suc-zero}
 use Rattle.std.proofs.Math.Seq.{take-length}
 use Rattle.std.proofs.lemmas.List.{length-append, length-take-le, length-drop, take_at, drop_at}
@@ -13,9 +13,9 @@ use Rattle.raft_log_items.specs.declared.item.LogItemContent.TheVariants as cont
 use Rattle.raft_log_items.specs.declared.item.LogItem.{LogItem}
 use Rattle.raft_log_items.specs.Placed.{run_len, content_len, entries_len, laid_run, laid_content, laid_out, written_entry, written_content, written_item, written}
 use Rattle.raft_log_records.specs.declared.log_batch.BatchState.{BatchState}
-use Rattle.raft_log_records.specs.declared.log_batch.BatchState.TheVariants.{Filling, Populated, Signed, Written}
+use Rattle.raft_log_records.specs.declared.log_batch.BatchState.TheVariants.{Filling, Written}
 use Rattle.raft_log_frames.specs.Record.{block_bytes}
-use Rattle.raft_log_records.specs.Batch.{Batch, IsBatch, max_entries_len, batch_size}
+use Rattle.raft_log_records.specs.Batch.{IsBatch, max_entries_len, batch_size}
 use Rattle.raft_log_records.specs.ItemBatch.{items_size}
 use Rattle.raft_log_records.proofs.Made.{four_bytes}
 use Rattle.raft_log_records.proofs.Buffer.{all_entries, in_filling}

@@ -1,6 +1,6 @@
 -- Marks of atomic groups: items of the log's own, which say that a batch is a part of several that count together or not at
 -- all.
-use Rattle.std.specs.Prelude.{◌≡◌, ℕ, Bool, true, false, ◌&&◌, ◌==◌, if◌then◌else◌, List, [], ◌∷◌, ◌++◌, length, take, drop, Option, Some, None, nat_lt, bytes_eq, option_map, option_and_then}
+use Rattle.std.specs.Prelude.{◌≡◌, ℕ, true, ◌==◌, if◌then◌else◌, List, [], ◌∷◌, ◌++◌, length, take, drop, Option, Some, None, nat_lt, bytes_eq, option_map, option_and_then}
 use Rattle.std.specs.Int.{w64, from_be_bytes}
 use Rattle.raft_log_codec.specs.Number.{IsU64, u64_bytes}
 use Rattle.raft_log_items.specs.declared.item.OpType.{OpType}
@@ -11,7 +11,7 @@ use Rattle.raft_log_items.specs.declared.item.LogItemContent.TheVariants as cont
 use Rattle.raft_log_items.specs.declared.item.LogItem.{LogItem}
 use Rattle.raft_log_records.specs.declared.atomic_group.AtomicGroupStatus.{AtomicGroupStatus}
 use Rattle.raft_log_records.specs.declared.atomic_group.AtomicGroupStatus.TheVariants.{Begin, Middle, End}
-use Rattle.raft_log_records.specs.Key.{is_internal, put_item, del_item}
+use Rattle.raft_log_records.specs.Key.{is_internal, put_item}
 
 -- the key of a mark: two underscores and a 1
 abbrev pub mark_key : List ℕ

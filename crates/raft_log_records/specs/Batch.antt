@@ -1,5 +1,5 @@
 -- A batch as callers see it: what was added, and how far it is on its way to a file.
-use Rattle.std.specs.Prelude.{IsTrue, ◌==◌, ◌&&◌, ◌≡◌, ◌⊎◌, ℕ, ◌+◌, ◌≤◌, ◌<◌, ◌^◌, List, [], ◌∷◌, ◌++◌, length, take, drop, map, Option, Some, None, unwrap_or, Bool, true, false}
+use Rattle.std.specs.Prelude.{◌≡◌, ◌⊎◌, ℕ, ◌+◌, ◌≤◌, ◌<◌, ◌^◌, List, [], ◌∷◌, length, take, drop, map, Option, None, unwrap_or}
 use Rattle.raft_log_checksum.specs.Checksum.{crc32_of}
 use Rattle.raft_log_items.specs.declared.pipe_log.FileBlockHandle.{FileBlockHandle}
 use Rattle.raft_log_items.specs.declared.item.LogItem.{LogItem}
@@ -7,7 +7,7 @@ use Rattle.raft_log_items.specs.declared.errors.Error.{Error}
 use Rattle.raft_log_items.specs.declared.errors.Error.TheVariants as errors
 use Rattle.raft_log_items.specs.declared.item.LogItemContent.{LogItemContent}
 use Rattle.raft_log_items.specs.declared.item.LogItemContent.TheVariants as contents
-use Rattle.raft_log_items.specs.Items.{AreItems, put_of, del_of}
+use Rattle.raft_log_items.specs.Items.{AreItems}
 use Rattle.raft_log_items.specs.Writing.{items_bytes, plain_item}
 use Rattle.raft_log_items.specs.Placed.{entries_len, laid_out}
 use Rattle.raft_log_records.specs.declared.log_batch.BatchState.{BatchState}

@@ -1,5 +1,5 @@
 -- What a batch means, as plain data: what it says of each group, and which part of an atomic group it is.
-use Rattle.std.specs.Prelude.{◌≡◌, ℕ, List, [], ◌∷◌, ◌++◌, map, Option, Some, None, false, All}
+use Rattle.std.specs.Prelude.{◌≡◌, ℕ, List, [], ◌∷◌, map, Option, Some, None, false, All}
 use Rattle.std.specs.Option.{option_or}
 use Rattle.raft_log_model.specs.Item.{Item, Tagged, Mark, Record}
 use Rattle.raft_log_model.specs.Item.Item.{Run, Clean, Compact, Put, Del}
@@ -16,7 +16,7 @@ use Rattle.raft_log_items.specs.Writing.{value_of, plain_item}
 use Rattle.raft_log_records.specs.declared.atomic_group.AtomicGroupStatus.{AtomicGroupStatus}
 use Rattle.raft_log_records.specs.declared.atomic_group.AtomicGroupStatus.TheVariants as statuses
 use Rattle.raft_log_records.specs.Key.{is_internal}
-use Rattle.raft_log_records.specs.AtomicGroup.{mark_of, mark_item}
+use Rattle.raft_log_records.specs.AtomicGroup.{mark_of}
 
 abbrev pub key_meaning : {E : Type 0} → OpType → List ℕ → List ℕ → Item E (List ℕ)
 key_meaning ops.Put key value = Put key value

@@ -1,5 +1,5 @@
 //! A batch on its way to a file: it is filled, populated, signed for a file, and written.
-ghost use Rattle.std.specs.Prelude.{◌≡◌, ◌+◌, ◌≤◌, ◌==◌, if◌then◌else◌, false, OnOk, IfErr};
+ghost use Rattle.std.specs.Prelude.{◌≡◌, ◌+◌, ◌≤◌, ◌==◌, if◌then◌else◌, false, OnOk, IfOk, IfErr};
 ghost use Rattle.raft_log_records.specs.Batch.{max_entries_len};
 ghost use Rattle.raft_log_records.specs.Key.{is_internal, IsKeyRefusal};
 
@@ -74,6 +74,24 @@ fn check_key(alloc: Global, key: &[u8]) -> Result<()>
     Ok(())
 }
 
+/// A copy of the item.
+fn copy_of(item: &LogItem) -> std::result::Result<LogItem, AllocError>
+    ensures { IfOk result (λ copy. copy ≡ item.now) }
+{
+    item.clone()
+}
+
+/// A copy of these items.
+fn copied(alloc: Global, items: &[LogItem]) -> std::result::Result<Vec<LogItem>, AllocError>
+    ensures { IfOk result (λ copy. copy.items ≡ items.now) }
+{
+    let mut copy = Vec::with_capacity(alloc, items.len())?;
+    for item in items {
+        copy.push(copy_of(item)?)?;
+    }
+    Ok(copy)
+}
+
 /// How many bytes the block of entries with so many bytes has.
 fn block_len(len: usize) -> usize
     requires { len ≤ max_entries_len }
@@ -128,6 +146,21 @@ impl LogBatch {
             entries_len: 0,
             checksum: 0,
             state: BatchState::Filling,
+        })
+    }
+
+    /// A copy of the batch, as far on its way as this one.
+    pub fn clone(&self, alloc: Global) -> std::result::Result<Self, AllocError>
+        ensures { IfOk result (λ b. b ≡ self.now) }
+    {
+        let items = copied(alloc, self.items.as_slice())?;
+        let buf = self.buf.as_slice().to_vec(alloc)?;
+        Ok(LogBatch {
+            items,
+            buf,
+            entries_len: self.entries_len,
+            checksum: self.checksum,
+            state: self.state,
         })
     }
 

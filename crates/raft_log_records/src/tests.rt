@@ -4,6 +4,7 @@ use raft_log_items::{FileId, LogFileContext, LogQueue, Version};
 mod atomic_groups;
 mod batches;
 mod item_batches;
+mod log_batches;
 mod messages;
 
 /// One `Clean` of group 1, in a file without signatures.

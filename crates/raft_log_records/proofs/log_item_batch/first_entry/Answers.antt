@@ -1,4 +1,4 @@
-use Rattle.std.proofs.Common.{List, ap, ◌∙◌, Some, slice_get}
+use Rattle.std.proofs.Common.{List, ap, ◌∙◌, slice_get}
 use Rattle.raft_log_items.specs.declared.entry.EntryIndex.{EntryIndex}
 use Rattle.raft_log_records.proofs.ItemBatches.{first_of_all}
 use Rattle.raft_log_records.proofs.log_item_batch.first_entry.Goals as goal

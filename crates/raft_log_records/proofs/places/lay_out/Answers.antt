@@ -1,5 +1,4 @@
-use Rattle.std.proofs.Common.{◌≡◌, ◌+◌, ◌<◌, length, take, arith, ◌∙◌}
-use Rattle.raft_log_items.specs.Placed.{entries_len}
+use Rattle.std.proofs.Common.{◌+◌, arith, ◌∙◌}
 use Rattle.raft_log_records.proofs.ItemPlaces.{laid_item, laid_end, entries_len-take}
 use Rattle.raft_log_records.proofs.places.lay_out.Goals as goal
 

@@ -1,14 +1,14 @@
-use Rattle.std.proofs.Common.{◌≡◌, ◌≢◌, ℕ, ◌+◌, ◌-◌, ◌<◌, ◌≤◌, ◌^◌, List, [], ◌∷◌, ◌++◌, length, map, take, drop, sym, ap, subst, ◌∙◌, arith}
+use Rattle.std.proofs.Common.{◌≡◌, ◌≢◌, ℕ, ◌+◌, ◌-◌, ◌<◌, ◌≤◌, List, [], ◌∷◌, ◌++◌, length, map, take, drop, sym, ap, subst, ◌∙◌, arith}
 use Rattle.std.proofs.lemmas.Bool.{eqb-false, eqb-true}
-use Rattle.std.proofs.lemmas.List.{take_at, length-map, length-append}
+use Rattle.std.proofs.lemmas.List.{take_at, length-map}
 use Rattle.raft_log_items.specs.declared.entry.EntryIndex.{EntryIndex}
 use Rattle.raft_log_items.specs.declared.item.LogItem.{LogItem}
 use Rattle.raft_log_items.specs.declared.item.LogItemContent.TheVariants as contents
 use Rattle.raft_log_items.specs.Run.{IsRun}
 use Rattle.raft_log_items.specs.Placed.{run_len, laid_run}
 use Rattle.raft_log_records.specs.Batch.{Batch, max_entries_len}
-use Rattle.raft_log_records.specs.Entries.{IsIndexRun, entries_of, entries_item, joined, bytes_len, with_entries}
-use Rattle.raft_log_records.proofs.Entries.{indexes_of, joined-length, out_len, run_of_entries, run_len-entries_of}
+use Rattle.raft_log_records.specs.Entries.{IsIndexRun, entries_of, entries_item, bytes_len, with_entries}
+use Rattle.raft_log_records.proofs.Entries.{indexes_of, out_len, run_of_entries, run_len-entries_of}
 use Rattle.raft_log_records.proofs.Items.{with_none, filling_size, entries_added, entries_seen}
 use Rattle.raft_log_records.proofs.log_batch.LogBatch.add_entries.Goals as goal
 

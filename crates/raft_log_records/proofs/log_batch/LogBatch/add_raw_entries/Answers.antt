@@ -1,13 +1,11 @@
-use Rattle.std.proofs.Common.{◌≡◌, ◌≢◌, ℕ, ◌+◌, ◌<◌, ◌≤◌, List, [], ◌∷◌, ◌++◌, length, take, drop, sym, ap, ◌∙◌, arith}
+use Rattle.std.proofs.Common.{◌≡◌, ◌≢◌, ℕ, ◌+◌, ◌≤◌, List, [], ◌∷◌, ◌++◌, length, take, drop, sym, ap, ◌∙◌, arith}
 use Rattle.std.proofs.lemmas.Bool.{eqb-false, eqb-true}
 use Rattle.std.proofs.lemmas.List.{length-map}
 use Rattle.raft_log_items.specs.declared.entry.EntryIndex.{EntryIndex}
 use Rattle.raft_log_items.specs.declared.item.LogItem.{LogItem}
 use Rattle.raft_log_items.specs.declared.item.LogItemContent.TheVariants as contents
-use Rattle.raft_log_records.specs.Batch.{Batch, IsBatch, max_entries_len}
-use Rattle.raft_log_records.specs.Entries.{entries_item, joined, bytes_len, with_entries}
-use Rattle.raft_log_records.specs.declared.log_batch.BatchState.{BatchState}
-use Rattle.raft_log_records.specs.declared.log_batch.BatchState.TheVariants.{Filling}
+use Rattle.raft_log_records.specs.Batch.{Batch, max_entries_len}
+use Rattle.raft_log_records.specs.Entries.{entries_item, bytes_len, with_entries}
 use Rattle.raft_log_records.proofs.Entries.{indexes_of}
 use Rattle.raft_log_records.proofs.Items.{with_none, entries_added, entries_seen}
 use Rattle.raft_log_records.proofs.log_batch.LogBatch.add_raw_entries.Goals as goal

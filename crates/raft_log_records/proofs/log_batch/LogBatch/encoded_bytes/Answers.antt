@@ -1,4 +1,4 @@
-use Rattle.std.proofs.Common.{◌≡◌, List, ℕ, [], take, drop, map, sym, ap, subst, arith}
+use Rattle.std.proofs.Common.{◌≡◌, List, ℕ, [], take, drop, map, sym, ap, subst}
 use Rattle.raft_log_items.specs.Writing.{plain_item}
 use Rattle.raft_log_records.specs.declared.log_batch.BatchState.{BatchState}
 use Rattle.raft_log_frames.specs.Record.{IsRecord}

@@ -1,4 +1,4 @@
-use Rattle.std.proofs.Common.{◌≡◌, ◌≢◌, ℕ, List, ◌<◌, length, take, drop, None, sym, ap, ◌∙◌, arith}
+use Rattle.std.proofs.Common.{◌≢◌, ℕ, List, ◌<◌, length, take, drop, None, sym, ap, ◌∙◌, arith}
 use Rattle.std.proofs.lemmas.Bool.{eqb-false}
 use Rattle.raft_log_records.specs.declared.log_batch.BatchState.TheVariants.{Populated}
 use Rattle.raft_log_records.specs.Batch.{Batch, batch_bytes}

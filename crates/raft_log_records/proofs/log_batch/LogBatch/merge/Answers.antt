@@ -1,7 +1,6 @@
 use Rattle.std.proofs.Common.{◌≡◌, ℕ, ◌+◌, ◌≤◌, List, ◌++◌, length, take, drop, sym, ap, subst, ◌∙◌, arith}
 use Rattle.raft_log_items.specs.declared.item.LogItem.{LogItem}
 use Rattle.raft_log_items.specs.Placed.{laid_out}
-use Rattle.raft_log_records.specs.declared.log_batch.BatchState.TheVariants.{Filling}
 use Rattle.raft_log_records.specs.Batch.{Batch, IsBatch, max_entries_len}
 use Rattle.raft_log_records.proofs.Moves.{behind_header, moved_items, merged, merged_seen, entries_count}
 use Rattle.raft_log_records.proofs.log_batch.LogBatch.merge.Goals as goal

@@ -4,7 +4,7 @@ use Rattle.raft_log_codec.specs.Number.{u32_le_bytes}
 use Rattle.raft_log_records.specs.declared.log_batch.BatchState.{BatchState}
 use Rattle.raft_log_records.specs.declared.log_batch.BatchState.TheVariants.{Signed}
 use Rattle.raft_log_records.specs.Batch.{Batch, IsMade}
-use Rattle.raft_log_records.proofs.Buffer.{Populates, signed_populates}
+use Rattle.raft_log_records.proofs.Buffer.{signed_populates}
 use Rattle.raft_log_records.proofs.log_batch.LogBatch.prepare_write.Goals as goal
 
 pub invariant_of-self-2 : goal.invariant_of-self-2

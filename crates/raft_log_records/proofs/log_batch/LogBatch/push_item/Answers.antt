@@ -1,4 +1,4 @@
-use Rattle.std.proofs.Common.{◌≡◌, ap, ◌∙◌}
+use Rattle.std.proofs.Common.{ap, ◌∙◌}
 use Rattle.raft_log_records.specs.Batch.{Batch}
 use Rattle.raft_log_records.proofs.Items.{pushed}
 use Rattle.raft_log_records.proofs.log_batch.LogBatch.push_item.Goals as goal

@@ -1,4 +1,4 @@
-use Rattle.std.proofs.Common.{◌≡◌, ◌+◌, ◌≤◌, ◌++◌, length, map, take, drop}
+use Rattle.std.proofs.Common.{◌≡◌, ◌≤◌, ◌++◌, length, map, take, drop}
 use Rattle.raft_log_records.specs.Entries.{entries_of, joined}
 use Rattle.raft_log_records.proofs.log_batch.messages.append_each.Given as goal
 

@@ -9,11 +9,11 @@ room="$(mktemp -d)"
 trap 'rm -rf "$room"' EXIT
 
 mkdir -p "$room/crates/records_bench/src"
-for crate in raft_log_checksum raft_log_codec raft_log_model raft_log_items raft_log_frames raft_log_records; do
+for crate in raft_log_checksum raft_log_codec raft_log_model raft_log_base raft_log_items raft_log_frames raft_log_records; do
     cp -r "$top/crates/$crate" "$room/crates/"
 done
 cp "$here/main.rt.txt" "$room/crates/records_bench/src/main.rt"
-grep -E '^raft_log_(checksum|codec|model|items|frames|records):' "$top/crates.txt" > "$room/crates.txt"
+grep -E '^raft_log_(checksum|codec|model|base|items|frames|records):' "$top/crates.txt" > "$room/crates.txt"
 echo 'records_bench: raft_log_records anyhow' >> "$room/crates.txt"
 (cd "$room/crates/records_bench" && "${RT:-rt}" run > "$room/first" 2> "$room/log") || { cat "$room/log" >&2; exit 1; }
 rustc --edition 2021 -O -C codegen-units=1 -o "$room/rust" "$here/rust.rs"

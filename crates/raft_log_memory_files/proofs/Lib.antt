@@ -1,10 +1,4 @@
-pub mod Journal
-pub mod Flushed
-pub mod StorageLaws
-pub mod Whole
 pub mod Calls
 pub mod Turns
 pub mod CountDown
-pub mod Paths
 pub mod Listings
-pub mod Remains

@@ -13,24 +13,10 @@ use Rattle.std.proofs.lemmas.List.{append_cancel_left}
 use Rattle.std.proofs.lemmas.Map.Text.{is_eq-slice_cmp}
 use Rattle.std.proofs.lemmas.Slice.Eq.{bytes_eq-Decides}
 use Rattle.raft_log_disk.specs.Disk.{Disk, IsPlain}
-use Rattle.raft_log_memory_files.specs.declared.memory.storage.Node.{Node}
-use Rattle.raft_log_memory_files.specs.Storage.{file_named}
-use Rattle.raft_log_memory_files.specs.Listing.{IsChild, Names}
+use Rattle.raft_log_memory_storage.specs.declared.storage.Node.{Node}
+use Rattle.raft_log_memory_storage.specs.Storage.{file_named}
+use Rattle.raft_log_memory_storage.specs.Listing.{Names}
 use Rattle.raft_log_files.specs.Reading.{IsListing}
-
--- one more entry, which is listed or isn't
-pub names_more : (directory : List ℕ) (es : List (String Global × Node)) (e : String Global × Node) (names : List (List ℕ)) (name : List ℕ)
-    → Names directory es names → IsChild directory (string_bytes e.0) e.1 name → Names directory (es ++ e ∷ []) (names ++ name ∷ [])
-names_more directory [] e names name is child = inl (name, [], ap (λ (xs : List (List ℕ)). xs ++ name ∷ []) is, child, refl)
-names_more directory (f ∷ es) e names name (inl (first, rest, same, own, more)) child =
-    inl (first, rest ++ name ∷ [], ap (λ (xs : List (List ℕ)). xs ++ name ∷ []) same, own, names_more directory es e rest name more child)
-names_more directory (f ∷ es) e names name (inr (other, more)) child = inr (other, names_more directory es e names name more child)
-
-pub names_skip : (directory : List ℕ) (es : List (String Global × Node)) (e : String Global × Node) (names : List (List ℕ))
-    → Names directory es names → ((name : List ℕ) → IsChild directory (string_bytes e.0) e.1 name → ⊥) → Names directory (es ++ e ∷ []) names
-names_skip directory [] e names is none = inr (none, is)
-names_skip directory (f ∷ es) e names (inl (first, rest, same, own, more)) none = inl (first, rest, same, own, names_skip directory es e rest more none)
-names_skip directory (f ∷ es) e names (inr (other, more)) none = inr (other, names_skip directory es e names more none)
 
 -- an entry of the map, by recursion
 abbrev pub Stands : List (String Global × Node) → List ℕ → Node → Type 0

@@ -4,11 +4,10 @@
 
 /// A file system in memory.
 pub mod memory;
-/// What a crash leaves of changes that weren't synced.
-pub mod remainder;
 
 pub use memory::MemoryFileSystem;
-pub use remainder::{Piece, Remainder};
+pub use raft_log_memory_storage::remainder;
+pub use raft_log_memory_storage::remainder::{Piece, Remainder};
 
 #[cfg(test)]
 mod tests;

@@ -1,23 +1,12 @@
-// Changes of a file's bytes in place.
-mod bytes;
 // The calls.
 mod calls;
-// The files by their numbers.
-mod files;
-// The changes that aren't synced.
-mod journal;
-// What a crash leaves.
-mod remains;
-// What the file system holds.
-mod storage;
 // Which calls fail.
 mod turns;
 
-ghost use Rattle.raft_log_memory_files.specs.Storage.{IsWhole, IsWhole-prop};
+ghost use Rattle.raft_log_memory_storage.specs.Storage.{IsWhole, IsWhole-prop};
 
-use crate::remainder::Remainder;
+use raft_log_memory_storage::{Remainder, Storage};
 use std::alloc::{AllocError, Global};
-use storage::Storage;
 
 /// A file system in memory, for tests and for simulated crashes. It has no directory at first.
 #[derive(Drop)]
@@ -34,7 +23,7 @@ pub struct MemoryFileSystem {
 impl MemoryFileSystem {
     ghost use Rattle.std.specs.Prelude.{◌≡◌, IfOk};
     ghost use Rattle.raft_log_disk.specs.Image.{IsImage};
-    ghost use Rattle.raft_log_memory_files.specs.Remains.{left_disk};
+    ghost use Rattle.raft_log_memory_storage.specs.Remains.{left_disk};
     ghost use Rattle.raft_log_disk.specs.Disk.{empty_disk};
     ghost use Rattle.raft_log_memory_files.specs.Memory.{disk_of};
     ghost use Rattle.raft_log_memory_files.specs.Turns.{armed, nothing_armed};

@@ -1,6 +1,6 @@
 use super::MemoryFileSystem;
-use super::storage::Node;
 use raft_log_files::{Fault, FileSystem, Handle, Permission};
+use raft_log_memory_storage::Node;
 use std::io::ErrorKind;
 
 impl FileSystem for MemoryFileSystem {

@@ -4,8 +4,8 @@ ghost use Rattle.std.specs.List.{Contains};
 ghost use Rattle.raft_log_memory_files.specs.Turns.{nearer};
 
 use super::MemoryFileSystem;
-use super::storage::Node;
 use raft_log_files::{Fault, Handle, Permission};
+use raft_log_memory_storage::Node;
 use std::alloc::AllocError;
 use std::io::ErrorKind;
 

@@ -96,14 +96,6 @@ struct Run {
     stops: u64,
 }
 
-// What happens at a changing call.
-#[derive(Clone, Copy, PartialEq, Eq)]
-enum Turn {
-    Done,
-    Refused,
-    Stopped,
-}
-
 impl Run {
     fn new(alloc: Global, seed: u64) -> Result<Run, Fail> {
         let mut system = MemoryFileSystem::new(alloc);
@@ -123,32 +115,27 @@ impl Run {
         })
     }
 
-    fn turn(&mut self) -> Turn {
+    // What a call answers, where each pair says whether its arguments are wrong so and what is told then.
+    fn answer(&mut self, wrong: &[(bool, ErrorKind)]) -> Result<(), ErrorKind> {
+        if self.stopped {
+            return Err(ErrorKind::Other);
+        }
+        for (is, kind) in wrong {
+            if *is {
+                return Err(*kind);
+            }
+        }
         self.calls = self.calls.wrapping_add(1);
         if self.stop_at == Some(self.calls) {
             self.stopped = true;
             self.stops = self.stops.wrapping_add(1);
-            return Turn::Stopped;
+            return Err(ErrorKind::Other);
         }
         if self.refuse_at.contains(&self.calls) {
             self.failures = self.failures.wrapping_add(1);
-            return Turn::Refused;
+            return Err(ErrorKind::Other);
         }
-        Turn::Done
-    }
-
-    // Why a call on a name is refused, or none.
-    fn fault(&mut self, wrong: Option<ErrorKind>) -> Option<ErrorKind> {
-        if self.stopped {
-            return Some(ErrorKind::Other);
-        }
-        if wrong.is_some() {
-            return wrong;
-        }
-        match self.turn() {
-            Turn::Done => None,
-            Turn::Refused | Turn::Stopped => Some(ErrorKind::Other),
-        }
+        Ok(())
     }
 
     fn has_home(&self, name: usize) -> bool {
@@ -175,16 +162,14 @@ impl Run {
     fn create(&mut self, rt: &impl Abort) -> Result<(), Fail> {
         let name = self.random.below(5);
         let got = self.system.create(path(name));
-        let wrong = if name == DIRECTORY || self.model.named(name).is_some() {
-            Some(ErrorKind::AlreadyExists)
-        } else if !self.has_home(name) {
-            Some(ErrorKind::NotFound)
-        } else {
-            None
-        };
-        let want = match self.fault(wrong) {
-            Some(kind) => Err(kind),
-            None => Ok(Handle {
+        let taken = name == DIRECTORY || self.model.named(name).is_some();
+        let homeless = !self.has_home(name);
+        let want = match self.answer(&[
+            (taken, ErrorKind::AlreadyExists),
+            (homeless, ErrorKind::NotFound),
+        ]) {
+            Err(kind) => Err(kind),
+            Ok(()) => Ok(Handle {
                 file: self.model.create(name)?,
                 permission: Permission::ReadWrite,
             }),
@@ -196,17 +181,11 @@ impl Run {
     fn delete(&mut self, rt: &impl Abort) -> Result<(), Fail> {
         let name = self.random.below(5);
         let got = self.system.delete(path(name));
-        let wrong = match self.model.named(name) {
-            Some(_) => None,
-            None => Some(ErrorKind::NotFound),
-        };
-        let want = match self.fault(wrong) {
-            Some(kind) => Err(kind),
-            None => {
-                self.model.delete(name);
-                Ok(())
-            }
-        };
+        let absent = self.model.named(name).is_none();
+        let want = self.answer(&[(absent, ErrorKind::NotFound)]);
+        if want.is_ok() {
+            self.model.delete(name);
+        }
         assert_eq!(rt; got, want);
         Ok(())
     }
@@ -219,40 +198,26 @@ impl Run {
         } else {
             self.system.reuse(path(from), path(to))
         };
-        let wrong = if self.model.named(from).is_none() {
-            Some(ErrorKind::NotFound)
-        } else if to == DIRECTORY {
-            Some(ErrorKind::IsADirectory)
-        } else if !self.has_home(to) {
-            Some(ErrorKind::NotFound)
-        } else {
-            None
-        };
-        let want = match self.fault(wrong) {
-            Some(kind) => Err(kind),
-            None => {
-                self.model.rename(from, to)?;
-                Ok(())
-            }
-        };
+        let absent = self.model.named(from).is_none();
+        let homeless = !self.has_home(to);
+        let want = self.answer(&[
+            (absent, ErrorKind::NotFound),
+            (to == DIRECTORY, ErrorKind::IsADirectory),
+            (homeless, ErrorKind::NotFound),
+        ]);
+        if want.is_ok() {
+            self.model.rename(from, to)?;
+        }
         assert_eq!(rt; got, want);
         Ok(())
     }
 
     fn create_dir(&mut self, rt: &impl Abort) -> Result<(), Fail> {
         let got = self.system.create_dir("e");
-        let wrong = if self.has_late {
-            Some(ErrorKind::AlreadyExists)
-        } else {
-            None
-        };
-        let want = match self.fault(wrong) {
-            Some(kind) => Err(kind),
-            None => {
-                self.has_late = true;
-                Ok(())
-            }
-        };
+        let want = self.answer(&[(self.has_late, ErrorKind::AlreadyExists)]);
+        if want.is_ok() {
+            self.has_late = true;
+        }
         assert_eq!(rt; got, want);
         Ok(())
     }
@@ -260,18 +225,11 @@ impl Run {
     fn sync(&mut self, rt: &impl Abort) -> Result<(), Fail> {
         let handle = self.handle();
         let got = self.system.sync(handle);
-        let wrong = if self.model.has(handle.file) {
-            None
-        } else {
-            Some(ErrorKind::NotFound)
-        };
-        let want = match self.fault(wrong) {
-            Some(kind) => Err(kind),
-            None => {
-                self.model.sync(handle.file)?;
-                Ok(())
-            }
-        };
+        let absent = !self.model.has(handle.file);
+        let want = self.answer(&[(absent, ErrorKind::NotFound)]);
+        if want.is_ok() {
+            self.model.sync(handle.file)?;
+        }
         assert_eq!(rt; got, want);
         Ok(())
     }
@@ -298,33 +256,21 @@ impl Run {
                 )
             }
         };
-        let want = self.changed(handle, edit)?;
+        let absent = !self.model.has(handle.file);
+        let ran = !self.stopped;
+        let want = self.answer(&[
+            (absent, ErrorKind::NotFound),
+            (
+                handle.permission == Permission::ReadOnly,
+                ErrorKind::PermissionDenied,
+            ),
+        ]);
+        // A change at which the system stops is made.
+        if want.is_ok() || ran && self.stopped {
+            self.model.change(handle.file, edit)?;
+        }
         assert_eq!(rt; got, want);
         Ok(())
-    }
-
-    // What the model says of a change; one at a stop is made.
-    fn changed(&mut self, handle: Handle, edit: Edit) -> Result<Result<(), ErrorKind>, Fail> {
-        if self.stopped {
-            return Ok(Err(ErrorKind::Other));
-        }
-        if !self.model.has(handle.file) {
-            return Ok(Err(ErrorKind::NotFound));
-        }
-        if handle.permission == Permission::ReadOnly {
-            return Ok(Err(ErrorKind::PermissionDenied));
-        }
-        Ok(match self.turn() {
-            Turn::Done => {
-                self.model.change(handle.file, edit)?;
-                Ok(())
-            }
-            Turn::Stopped => {
-                self.model.change(handle.file, edit)?;
-                Err(ErrorKind::Other)
-            }
-            Turn::Refused => Err(ErrorKind::Other),
-        })
     }
 
     fn arm(&mut self) -> Result<(), Fail> {

@@ -19,12 +19,8 @@ fn content(rt: &HostRuntime, system: &MemoryFileSystem, path: &str) -> Result<Ve
     let file = system.open(path, Permission::ReadOnly)?;
     let mut room = [0u8; 16];
     let count = system.read_at(file, 0, &mut room)?;
-    let mut bytes = Vec::new(rt.alloc());
-    for (place, byte) in room.iter().enumerate() {
-        if place < count {
-            bytes.push(*byte)?;
-        }
-    }
+    let mut bytes = room.to_vec(rt.alloc())?;
+    bytes.truncate(count);
     Ok(bytes)
 }
 

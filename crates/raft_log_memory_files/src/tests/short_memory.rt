@@ -9,34 +9,18 @@ use std::test::Fail;
 const CALLS: usize = 12;
 
 fn call(system: &mut MemoryFileSystem, number: usize) -> Result<(), ErrorKind> {
+    let f = system.open("d/f", Permission::ReadWrite);
+    let g = system.open("d/g", Permission::ReadWrite);
     match number {
         0 => system.create_dir("d"),
         1 => system.create("d/f").map(|_| ()),
         2 => system.create("d/g").map(|_| ()),
-        3 => {
-            let file = system.open("d/f", Permission::ReadWrite)?;
-            system.write_at(file, 0, b"abcdef")
-        }
-        4 => {
-            let file = system.open("d/f", Permission::ReadWrite)?;
-            system.sync(file)
-        }
-        5 => {
-            let file = system.open("d/f", Permission::ReadWrite)?;
-            system.write_at(file, 40, b"gh")
-        }
-        6 => {
-            let file = system.open("d/g", Permission::ReadWrite)?;
-            system.allocate(file, 10, 90)
-        }
-        7 => {
-            let file = system.open("d/f", Permission::ReadWrite)?;
-            system.truncate(file, 5)
-        }
-        8 => {
-            let file = system.open("d/f", Permission::ReadWrite)?;
-            system.sync(file)
-        }
+        3 => system.write_at(f?, 0, b"abcdef"),
+        4 => system.sync(f?),
+        5 => system.write_at(f?, 40, b"gh"),
+        6 => system.allocate(g?, 10, 90),
+        7 => system.truncate(f?, 5),
+        8 => system.sync(f?),
         9 => system.rename("d/f", "d/h"),
         10 => system.create("d/f").map(|_| ()),
         _ => system.rename("d/h", "d/f"),

@@ -50,22 +50,23 @@ with_entries b group indexes entries = record b { items = b.items ++ entries_ite
 abbrev pub bytes_len : List (List ℕ) → ℕ
 bytes_len entries = sum_by (λ e. length e) entries
 
--- why entries are refused: they are no run, or else they make too many bytes, or memory ran out
-abbrev pub IsEntriesRefusal : Error → Batch → List ℕ → List (List ℕ) → Type 0
-IsEntriesRefusal errors.Memory b indexes entries = Unit {0}
-IsEntriesRefusal (errors.InvalidArgument text) b indexes entries = IsRunOf indexes entries → ⊥
-IsEntriesRefusal errors.Full b indexes entries = IsRunOf indexes entries × (max_entries_len < length b.entries + bytes_len entries)
-IsEntriesRefusal (errors.Corruption text) b indexes entries = ⊥
-IsEntriesRefusal (errors.Io kind) b indexes entries = ⊥
-IsEntriesRefusal (errors.Codec c) b indexes entries = ⊥
-IsEntriesRefusal (errors.Message text) b indexes entries = ⊥
-IsEntriesRefusal (errors.TryAgain text) b indexes entries = ⊥
-IsEntriesRefusal errors.EntryCompacted b indexes entries = ⊥
-IsEntriesRefusal errors.EntryNotFound b indexes entries = ⊥
-IsEntriesRefusal (errors.Other e) b indexes entries = ⊥
-IsEntriesRefusal errors.Failed b indexes entries = ⊥
-IsEntriesRefusal errors.Hole b indexes entries = ⊥
-IsEntriesRefusal errors.NumberRange b indexes entries = ⊥
+-- why entries are refused where so many bytes of entries are there: they are no run, or else they make too many bytes, or memory
+-- ran out
+abbrev pub IsEntriesRefusal : Error → ℕ → List ℕ → List (List ℕ) → Type 0
+IsEntriesRefusal errors.Memory held indexes entries = Unit {0}
+IsEntriesRefusal (errors.InvalidArgument text) held indexes entries = IsRunOf indexes entries → ⊥
+IsEntriesRefusal errors.Full held indexes entries = IsRunOf indexes entries × (max_entries_len < held + bytes_len entries)
+IsEntriesRefusal (errors.Corruption text) held indexes entries = ⊥
+IsEntriesRefusal (errors.Io kind) held indexes entries = ⊥
+IsEntriesRefusal (errors.Codec c) held indexes entries = ⊥
+IsEntriesRefusal (errors.Message text) held indexes entries = ⊥
+IsEntriesRefusal (errors.TryAgain text) held indexes entries = ⊥
+IsEntriesRefusal errors.EntryCompacted held indexes entries = ⊥
+IsEntriesRefusal errors.EntryNotFound held indexes entries = ⊥
+IsEntriesRefusal (errors.Other e) held indexes entries = ⊥
+IsEntriesRefusal errors.Failed held indexes entries = ⊥
+IsEntriesRefusal errors.Hole held indexes entries = ⊥
+IsEntriesRefusal errors.NumberRange held indexes entries = ⊥
 
 -- why indexes are refused
 abbrev pub IsRunRefusal : Error → List ℕ → ℕ → Type 0

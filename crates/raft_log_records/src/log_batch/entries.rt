@@ -157,7 +157,7 @@ impl LogBatch {
         ensures run { OnOk result (IsRunOf (map (λ e. e.index) entry_indexes.items) entries.now) }
         ensures room { OnOk result (length self.old.entries + bytes_len entries.now ≤ max_entries_len) }
         ensures err { OnErr result (self.new ≡ self.old) }
-        ensures errors { IfErr result (λ e. IsEntriesRefusal e self.old (map (λ e. e.index) entry_indexes.items) entries.now) }
+        ensures errors { IfErr result (λ e. IsEntriesRefusal e (length self.old.entries) (map (λ e. e.index) entry_indexes.items) entries.now) }
     {
         check_run(alloc, entry_indexes.as_slice(), entries.len())?;
         let added = bytes_len(entries);

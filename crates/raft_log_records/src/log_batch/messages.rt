@@ -1,7 +1,9 @@
 //! Messages that are added to a batch, as entries and as values of keys.
 ghost use Rattle.std.specs.Prelude.{◌≡◌, ◌+◌, ◌≤◌, ◌<◌, ◌^◌, ◌++◌, length, map, IfOk, OnOk, OnErr, IfErr};
 ghost use Rattle.raft_log_items.specs.Writing.{KeepsFront};
-ghost use Rattle.raft_log_records.specs.Entries.{entries_of, joined, bytes_len, IsRoomRefusal};
+ghost use Rattle.raft_log_items.specs.Placed.{laid_run};
+ghost use Rattle.raft_log_records.specs.Batch.{max_entries_len};
+ghost use Rattle.raft_log_records.specs.Entries.{entries_of, joined, bytes_len, IsRunOf, IsEntriesRefusal, IsRoomRefusal};
 
 use super::entries::{check_run, sized_entry};
 use super::{LogBatch, MAX_ENTRIES_LEN, check_key};
@@ -77,6 +79,36 @@ fn append_messages<M: Message>(
     appended
 }
 
+/// Appends the bytes of these messages, and answers the entries with their indexes and lengths, laid out from this offset on.
+/// Refused, in this order, are indexes that are no run, and more bytes than a batch may have. A refusal changes nothing.
+fn append_run<M: MessageExt>(
+    alloc: Global,
+    out: &mut Vec<u8>,
+    entries: &[M::Entry],
+    offset: u32,
+) -> Result<EntryIndexes>
+    requires start { length out.old.items ≡ 16 + offset }
+    requires small { offset ≤ max_entries_len }
+    ensures placed { IfOk result (λ placed. placed ≡ laid_run offset (entries_of (map M.index entries.now) (map M.Entry.spelling entries.now))) }
+    ensures bytes { OnOk result (out.new.items ≡ out.old.items ++ joined (map M.Entry.spelling entries.now)) }
+    ensures run { OnOk result (IsRunOf (map M.index entries.now) (map M.Entry.spelling entries.now)) }
+    ensures room { OnOk result (offset + bytes_len (map M.Entry.spelling entries.now) ≤ max_entries_len) }
+    ensures err { OnErr result (out.new.items ≡ out.old.items) }
+    ensures errors { IfErr result (λ e. IsEntriesRefusal e offset (map M.index entries.now) (map M.Entry.spelling entries.now)) }
+{
+    let mut indexes = indexes_of::<M>(alloc, entries)?;
+    check_run(alloc, indexes.as_slice(), entries.len())?;
+    append_messages(
+        out,
+        indexes.as_mut_slice(),
+        entries,
+        LOG_BATCH_HEADER_LEN + MAX_ENTRIES_LEN,
+    )?;
+    let mut placed = EntryIndexes::new(indexes);
+    placed.lay_out(offset);
+    Ok(placed)
+}
+
 impl LogBatch {
     ghost use Rattle.std.specs.Prelude.{◌≡◌, ◌+◌, ◌≤◌, ◌++◌, ◌∷◌, [], length, map, OnOk, OnErr, IfErr, IsErr, IsTrue};
     ghost use Rattle.raft_log_records.specs.declared.log_batch.BatchState.TheVariants.{Filling};
@@ -100,23 +132,14 @@ impl LogBatch {
         ensures run { OnOk result (IsRunOf (map M.index entries.now) (map M.Entry.spelling entries.now)) }
         ensures room { OnOk result (length self.old.entries + bytes_len (map M.Entry.spelling entries.now) ≤ max_entries_len) }
         ensures err { OnErr result (self.new ≡ self.old) }
-        ensures errors { IfErr result (λ e. IsEntriesRefusal e self.old (map M.index entries.now) (map M.Entry.spelling entries.now)) }
+        ensures errors { IfErr result (λ e. IsEntriesRefusal e (length self.old.entries) (map M.index entries.now) (map M.Entry.spelling entries.now)) }
     {
-        let mut indexes = indexes_of::<M>(alloc, entries)?;
-        check_run(alloc, indexes.as_slice(), entries.len())?;
         let start = self.buf.len();
         if entries.is_empty() {
             return Ok(());
         }
         self.items.reserve(1)?;
-        append_messages(
-            &mut self.buf,
-            indexes.as_mut_slice(),
-            entries,
-            LOG_BATCH_HEADER_LEN + MAX_ENTRIES_LEN,
-        )?;
-        let mut placed = EntryIndexes::new(indexes);
-        placed.lay_out(self.entries_len as u32);
+        let placed = append_run::<M>(alloc, &mut self.buf, entries, self.entries_len as u32)?;
         self.items
             .push_reserved(LogItem::new_entry_indexes(raft_group_id, placed));
         self.entries_len += self.buf.len() - start;

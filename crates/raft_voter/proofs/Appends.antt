@@ -5,10 +5,11 @@ use Rattle.std.proofs.lemmas.Bool.{cases_Bool, cases_lt, eq-eqb, eqb-true, ltb-t
 use Rattle.std.proofs.lemmas.Bool.Decides.{nat_tests}
 use Rattle.std.proofs.lemmas.List.{take-append-drop}
 use Rattle.std.proofs.lemmas.Option.{slice_get_within}
-use Rattle.raft_voter.specs.declared.reply.Reply.TheVariants.{Matched, Mismatch, Stale, Base, Refused}
-use Rattle.raft_voter.specs.declared.request.Request.TheVariants.{Append}
+use Rattle.raft_voter_messages.specs.declared.reply.Reply.TheVariants.{Matched, Mismatch, Stale, Base, Refused}
+use Rattle.raft_voter_messages.specs.declared.request.Request.TheVariants.{Append}
 use Rattle.raft_voter.specs.State.{State, adopt_term, entry_at, last_index, term_at}
-use Rattle.raft_voter.specs.Rules.{agrees_at, appended, in_range, matching, merged, next, reply}
+use Rattle.raft_voter.specs.Rules.{agrees_at, appended, matching, merged, next, reply}
+use Rattle.raft_voter_messages.specs.Ranges.{in_range}
 use Rattle.raft_voter.specs.Laws.{BringsOther, MatchedAppend, sent_at}
 use Rattle.raft_voter.proofs.Indexes.{get_back, get_drop, get_front, get_merged_back, get_merged_front, matches_before, matching-le, other_there, Pair, term_of}
 use Rattle.raft_voter.proofs.VoterSteps.{by_test}

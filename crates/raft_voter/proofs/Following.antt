@@ -2,11 +2,11 @@ use Rattle.std.proofs.Common.{◌≡◌, ℕ, ◌+◌, ◌≤◌, ◌==◌, List
 use Rattle.std.specs.Prelude.{IfSome, nat_lt}
 use Rattle.std.proofs.lemmas.Bool.{cases_Bool, eqb-true, eq-eqb}
 use Rattle.std.proofs.lemmas.Bool.Decides.{nat_tests}
-use Rattle.raft_voter.specs.declared.reply.Reply.{Reply}
-use Rattle.raft_voter.specs.declared.request.Request.{Request}
-use Rattle.raft_voter.specs.declared.round.Outcome.{Outcome}
-use Rattle.raft_voter.specs.declared.round.Outcome.TheVariants.{Answered, Cut}
-use Rattle.raft_voter.specs.declared.round.Round.{Round}
+use Rattle.raft_voter_messages.specs.declared.reply.Reply.{Reply}
+use Rattle.raft_voter_messages.specs.declared.request.Request.{Request}
+use Rattle.raft_voter_messages.specs.declared.round.Outcome.{Outcome}
+use Rattle.raft_voter_messages.specs.declared.round.Outcome.TheVariants.{Answered, Cut}
+use Rattle.raft_voter_messages.specs.declared.round.Round.{Round}
 use Rattle.raft_voter.specs.State.{State, fresh}
 use Rattle.raft_voter.specs.Rules.{next, reply}
 use Rattle.raft_voter.specs.Rounds.{World, after, after_one, after_round, after_rounds, cuts_after, Explains, ExplainsFrom, fresh_world, is_among, OutcomeHolds, place_reached, replies_from, taken_below, taken_from}

@@ -1,7 +1,7 @@
 use Rattle.std.proofs.Common.{◌≡◌, ℕ, suc, ◌+◌, List, [], ◌∷◌, ◌++◌, length, take, drop, refl, ap, ◌∙◌, arith}
-use Rattle.raft_voter.specs.declared.round.Outcome.{Outcome}
-use Rattle.raft_voter.specs.declared.round.Outcome.TheVariants.{Answered, Cut}
-use Rattle.raft_voter.specs.declared.round.Round.{Round}
+use Rattle.raft_voter_messages.specs.declared.round.Outcome.{Outcome}
+use Rattle.raft_voter_messages.specs.declared.round.Outcome.TheVariants.{Answered, Cut}
+use Rattle.raft_voter_messages.specs.declared.round.Round.{Round}
 use Rattle.raft_voter.specs.Rounds.{World, after, after_round, taken_below, after_rounds, cuts_after, ExplainsFrom, OutcomeHolds, place_reached}
 use Rattle.raft_voter.specs.Laws.{cut_count, cut_count_of, RoundsJoin, RoundsPart}
 

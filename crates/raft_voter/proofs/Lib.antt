@@ -1,8 +1,5 @@
-pub mod Sizes
 pub mod Merging
-pub mod Equality
 pub mod Places
-pub mod Bytes
 pub mod Joining
 pub mod Ordered
 pub mod Following
@@ -12,4 +9,3 @@ pub mod Indexes
 pub mod Appends
 pub mod Standing
 pub mod Repeating
-pub mod ReplyTexts

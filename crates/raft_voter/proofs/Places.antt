@@ -3,11 +3,11 @@ use Rattle.std.proofs.lemmas.Bool.Decides.{nat_tests}
 use Rattle.std.proofs.lemmas.Bool.{cases_lt, eq-eqb, eqb-true}
 use Rattle.std.proofs.lemmas.List.{append_assoc, drop_all, length-take-le, nil_from_length}
 use Rattle.std.specs.Bool.{Decides}
-use Rattle.raft_voter.specs.declared.reply.Reply.{Reply}
-use Rattle.raft_voter.specs.declared.reply.Reply.TheVariants.{Refused}
-use Rattle.raft_voter.specs.declared.request.Request.{Request}
-use Rattle.raft_voter.specs.declared.round.Outcome.TheVariants.{Cut}
-use Rattle.raft_voter.specs.declared.round.Round.{Round}
+use Rattle.raft_voter_messages.specs.declared.reply.Reply.{Reply}
+use Rattle.raft_voter_messages.specs.declared.reply.Reply.TheVariants.{Refused}
+use Rattle.raft_voter_messages.specs.declared.request.Request.{Request}
+use Rattle.raft_voter_messages.specs.declared.round.Outcome.TheVariants.{Cut}
+use Rattle.raft_voter_messages.specs.declared.round.Round.{Round}
 use Rattle.raft_voter.specs.Rules.{reply}
 use Rattle.raft_voter.specs.Rounds.{World, after, after_one, after_round, are_rising, is_among, place_reached, replies_from, taken_from}
 

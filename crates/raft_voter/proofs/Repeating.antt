@@ -4,12 +4,13 @@ use Rattle.std.specs.Option.{option_map_or}
 use Rattle.std.proofs.lemmas.Bool.{and_parts, cases_Bool, eq-eqb, eqb-true, ltb-false, false≢true}
 use Rattle.std.proofs.lemmas.Bool.Decides.{nat_tests}
 use Rattle.std.proofs.lemmas.List.{length-take-le, take_at, drop_at}
-use Rattle.raft_voter.specs.declared.reply.Reply.{Reply}
-use Rattle.raft_voter.specs.declared.reply.Reply.TheVariants.{Granted, Denied, Matched, Mismatch, Base}
-use Rattle.raft_voter.specs.declared.request.Request.{Request}
-use Rattle.raft_voter.specs.declared.request.Request.TheVariants.{Vote, Append, Compact, Install, Read, Status, Retire}
+use Rattle.raft_voter_messages.specs.declared.reply.Reply.{Reply}
+use Rattle.raft_voter_messages.specs.declared.reply.Reply.TheVariants.{Granted, Denied, Matched, Mismatch, Base}
+use Rattle.raft_voter_messages.specs.declared.request.Request.{Request}
+use Rattle.raft_voter_messages.specs.declared.request.Request.TheVariants.{Vote, Append, Compact, Install, Read, Status, Retire}
 use Rattle.raft_voter.specs.State.{State, adopt_term, fresh, last_index, term_at}
-use Rattle.raft_voter.specs.Rules.{agrees_at, appended, can_compact, compacted, grants, in_range, installed, is_up_to_date, matching, may_vote, merged, next, reply}
+use Rattle.raft_voter.specs.Rules.{agrees_at, appended, can_compact, compacted, grants, installed, is_up_to_date, matching, may_vote, merged, next, reply}
+use Rattle.raft_voter_messages.specs.Ranges.{in_range}
 use Rattle.raft_voter.specs.Accounts.{voter_after}
 use Rattle.raft_voter.specs.Laws.{is_repeatable, RepeatIsIdempotent}
 use Rattle.raft_voter.proofs.Appends.{base-adopt_term, entry_before, reaches}

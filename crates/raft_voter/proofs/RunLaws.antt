@@ -1,8 +1,8 @@
 use Rattle.std.proofs.Common.{◌≡◌, List, ◌∷◌, ◌++◌, Option, Some, sym, ap, ◌∙◌}
-use Rattle.raft_voter.specs.declared.reply.Reply.{Reply}
-use Rattle.raft_voter.specs.declared.reply.Reply.TheVariants.{Granted}
-use Rattle.raft_voter.specs.declared.request.Request.{Request}
-use Rattle.raft_voter.specs.declared.request.Request.TheVariants.{Vote}
+use Rattle.raft_voter_messages.specs.declared.reply.Reply.{Reply}
+use Rattle.raft_voter_messages.specs.declared.reply.Reply.TheVariants.{Granted}
+use Rattle.raft_voter_messages.specs.declared.request.Request.{Request}
+use Rattle.raft_voter_messages.specs.declared.request.Request.TheVariants.{Vote}
 use Rattle.raft_voter.specs.State.{fresh}
 use Rattle.raft_voter.specs.Rules.{next, reply}
 use Rattle.raft_voter.specs.Rounds.{World, after_rounds}

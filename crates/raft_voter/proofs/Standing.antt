@@ -2,12 +2,13 @@ use Rattle.std.proofs.Common.{◌≡◌, ◌≢◌, ℕ, ◌+◌, ◌-◌, ◌�
 use Rattle.std.specs.Prelude.{nat_lt, nat_le}
 use Rattle.std.proofs.lemmas.Bool.{cases_Bool, cases_lt, eq-eqb, ltb-true, false≢true}
 use Rattle.std.proofs.lemmas.Bool.Decides.{nat_tests}
-use Rattle.raft_voter.specs.declared.reply.Reply.{Reply}
-use Rattle.raft_voter.specs.declared.reply.Reply.TheVariants.{Matched}
-use Rattle.raft_voter.specs.declared.request.Request.{Request}
-use Rattle.raft_voter.specs.declared.request.Request.TheVariants.{Vote, Append, Compact, Install, Read, Status, Retire}
+use Rattle.raft_voter_messages.specs.declared.reply.Reply.{Reply}
+use Rattle.raft_voter_messages.specs.declared.reply.Reply.TheVariants.{Matched}
+use Rattle.raft_voter_messages.specs.declared.request.Request.{Request}
+use Rattle.raft_voter_messages.specs.declared.request.Request.TheVariants.{Vote, Append, Compact, Install, Read, Status, Retire}
 use Rattle.raft_voter.specs.State.{State, adopt_term, entry_at, fresh, term_at}
-use Rattle.raft_voter.specs.Rules.{agrees_at, can_compact, in_range, matching, next, next_in_range, reply}
+use Rattle.raft_voter.specs.Rules.{agrees_at, can_compact, matching, next, next_in_range, reply}
+use Rattle.raft_voter_messages.specs.Ranges.{in_range}
 use Rattle.raft_voter.specs.Accounts.{voter_after, voter_from}
 use Rattle.raft_voter.specs.Laws.{AllSpare, BringsOther, MatchedEntriesStand, Spares}
 use Rattle.raft_voter.proofs.Appends.{base-adopt_term, base-next_matched, brings_first, entry_in, entry_kept, entry_own, log_kept, log-adopt_term, Matches, matches_of, matched_there}

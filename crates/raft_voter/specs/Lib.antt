@@ -2,7 +2,9 @@ pub mod State
 pub mod Rules
 pub mod Rounds
 pub mod Voters
-pub mod StoredForms
+pub mod Restoring
 pub mod Accounts
 pub mod Laws
-pub mod ReplyText
+pub use Rattle.raft_voter_messages.specs.Ranges
+pub use Rattle.raft_voter_messages.specs.StoredForms
+pub use Rattle.raft_voter_messages.specs.ReplyText

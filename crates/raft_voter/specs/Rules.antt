@@ -1,34 +1,13 @@
-use Rattle.std.specs.Prelude.{ℕ, ◌+◌, ◌-◌, ◌^◌, ◌==◌, ◌&&◌, ◌||◌, nat_lt, nat_le, min, Bool, true, false, if◌then◌else◌, List, [], ◌∷◌, ◌++◌, length, take, drop, sum_by, Some, unwrap_or}
-use Rattle.std.specs.List.{common_prefix_len, list_all}
+use Rattle.std.specs.Prelude.{ℕ, ◌+◌, ◌-◌, ◌==◌, ◌&&◌, ◌||◌, nat_lt, nat_le, min, Bool, true, false, if◌then◌else◌, List, [], ◌∷◌, ◌++◌, length, take, drop, Some, unwrap_or}
+use Rattle.std.specs.List.{common_prefix_len}
 use Rattle.std.specs.Option.{option_map_or}
-use Rattle.raft_voter.specs.declared.reply.Entry.{Entry}
-use Rattle.raft_voter.specs.declared.reply.Reply.{Reply}
-use Rattle.raft_voter.specs.declared.reply.Reply.TheVariants.{Granted, Denied, Matched, Mismatch, Stale, Base, Entries, Gone, Unknown, Status as StatusReply, Retired, Refused}
-use Rattle.raft_voter.specs.declared.request.Request.{Request}
-use Rattle.raft_voter.specs.declared.request.Request.TheVariants.{Vote, Append, Compact, Install, Read, Status, Retire}
+use Rattle.raft_voter_messages.specs.declared.reply.Entry.{Entry}
+use Rattle.raft_voter_messages.specs.declared.reply.Reply.{Reply}
+use Rattle.raft_voter_messages.specs.declared.reply.Reply.TheVariants.{Granted, Denied, Matched, Mismatch, Stale, Base, Entries, Gone, Unknown, Status as StatusReply, Retired, Refused}
+use Rattle.raft_voter_messages.specs.declared.request.Request.{Request}
+use Rattle.raft_voter_messages.specs.declared.request.Request.TheVariants.{Vote, Append, Compact, Install, Read, Status, Retire}
+use Rattle.raft_voter_messages.specs.Ranges.{in_range}
 use Rattle.raft_voter.specs.State.{State, fresh, last_index, last_term, term_at, adopt_term, state_of}
-
--- What may be asked.
-
--- indexes, terms and candidates stay below this bound
-abbrev pub fits : ℕ → Bool
-fits n = nat_lt n (2 ^ 63)
-
--- an entry has a term and at most 65,535 bytes
-abbrev pub entry_fits : ℕ × List ℕ → Bool
-entry_fits e = fits e.0 && nat_le (length e.1) 65535
-
--- a request in range is taken; an Append brings at most 1,024 entries with 1,048,576 bytes in all
-abbrev pub in_range : Request → Bool
-in_range (Vote term candidate index last) = list_all fits (term ∷ candidate ∷ index ∷ last ∷ [])
-in_range (Append term prev prev_term sent) =
-    list_all fits (term ∷ prev_term ∷ (prev + length sent) ∷ []) && nat_le (length sent) 1024 && list_all entry_fits sent
-    && nat_le (sum_by (λ e. length e.1) sent) 1048576
-in_range (Compact index) = fits index
-in_range (Install term index entry_term) = list_all fits (term ∷ index ∷ entry_term ∷ [])
-in_range (Read from to) = list_all fits (from ∷ to ∷ [])
-in_range Status = true
-in_range Retire = true
 
 -- Votes.
 

@@ -1,6 +1,6 @@
 use Rattle.std.specs.Prelude.{ℕ, ◌+◌, ◌-◌, ◌==◌, nat_lt, if◌then◌else◌, List, [], length, slice_get, Option, None, Some, unwrap_or}
 use Rattle.std.specs.Option.{option_map}
-use Rattle.raft_voter.specs.declared.reply.VoterState.{VoterState}
+use Rattle.raft_voter_messages.specs.declared.reply.VoterState.{VoterState}
 
 -- What a Raft server keeps of a group: the current term, whom it voted for in it, the index up to which its log
 -- was compacted with the term of the entry there, and the entries above, each its term and its bytes.

@@ -1,6 +1,6 @@
 use crate::{
     Entry, Items, Memory, Outcome, Reply, Request, Round, StoredFault, Transcript, Voter,
-    VoterState, Voters, entry_bytes, judge, read_entry, read_state, state_bytes,
+    VoterState, Voters, judge, read_state, state_bytes,
 };
 use std::alloc::Global;
 use std::process::Abort;
@@ -115,7 +115,7 @@ fn retired_voter_votes_again(rt: HostRuntime) -> Result<(), Fail> {
 }
 
 #[test]
-fn snapshots_and_hints(rt: HostRuntime) -> Result<(), Fail> {
+fn install_keeps_only_what_follows_its_entry(rt: HostRuntime) -> Result<(), Fail> {
     let alloc = rt.alloc();
     let mut voter = Voter::new(alloc);
     asks(
@@ -148,6 +148,24 @@ fn snapshots_and_hints(rt: HostRuntime) -> Result<(), Fail> {
     )?;
     let state = voter.state();
     assert_eq!(rt; (state.last_index, state.last_term), (3, 9));
+    Ok(())
+}
+
+/// Above a base at index 3 of term 9 a log is empty.
+#[test]
+fn hints_of_an_empty_log(rt: HostRuntime) -> Result<(), Fail> {
+    let alloc = rt.alloc();
+    let mut voter = Voter::new(alloc);
+    asks(
+        &rt,
+        &mut voter,
+        Request::Install {
+            term: 2,
+            index: 3,
+            entry_term: 9,
+        },
+        Reply::Base(3),
+    )?;
     asks(
         &rt,
         &mut voter,
@@ -251,54 +269,6 @@ fn request_out_of_range_is_refused_alone(rt: HostRuntime) -> Result<(), Fail> {
     Ok(())
 }
 
-#[test]
-fn limits_of_an_append(rt: HostRuntime) -> Result<(), Fail> {
-    let alloc = rt.alloc();
-    let long = vec![in alloc; 7u8; 65_535]?;
-    for (count, sixteenth, fits) in [
-        (1, 0, true),
-        (17, 15, true),
-        (17, 17, false),
-        (1024, 0, true),
-        (1025, 0, false),
-    ] {
-        let mut sent = Items::new(alloc);
-        for place in 0..count {
-            let bytes = if place < sixteenth {
-                Items::from_slice(alloc, long.as_slice())?
-            } else {
-                Items::new(alloc)
-            };
-            sent.push((1, bytes))?;
-        }
-        let request = Request::Append {
-            term: 1,
-            prev_index: 0,
-            prev_term: 0,
-            entries: sent,
-        };
-        assert_eq!(rt;
-            request.in_range(),
-            fits,
-            "{count} entries, {sixteenth} of them long"
-        );
-    }
-    let mut one = vec![in alloc; 7u8; 65_536]?;
-    let mut sent = Items::new(alloc);
-    sent.push((1, Items::from_slice(alloc, one.as_slice())?))?;
-    let request = Request::Append {
-        term: 1,
-        prev_index: 0,
-        prev_term: 0,
-        entries: sent,
-    };
-    assert!(rt; !request.in_range());
-    one.clear();
-    assert!(rt; !append(alloc, 1, 0x7fff_ffff_ffff_ffff, 0, &[(1, 1)])?.in_range());
-    assert!(rt; append(alloc, 1, 0x7fff_ffff_ffff_fffe, 0, &[(1, 1)])?.in_range());
-    Ok(())
-}
-
 /// A vote that was cut off, and the answer to the next candidate in the same term.
 fn cut_off_vote(alloc: Global) -> Result<Transcript, Memory> {
     let mut first = Items::new(alloc);
@@ -357,62 +327,6 @@ fn judge_looks_at_refused_places(rt: HostRuntime) -> Result<(), Fail> {
 }
 
 #[test]
-fn stored_state(rt: HostRuntime) -> Result<(), Fail> {
-    let alloc = rt.alloc();
-    let mut voter = Voter::new(alloc);
-    asks(&rt, &mut voter, vote(5, 2, 0, 0), Reply::Granted(5))?;
-    let bytes = state_bytes(alloc, &voter.state())?;
-    let stored = b"\x01\0\0\0\0\0\0\0\x05\x01\0\0\0\0\0\0\0\x02\0\0\0\0\0\0\0\0\0\0\0\0\0\0\0\0";
-    assert!(rt; bytes.as_slice() == stored.as_slice());
-    assert_eq!(rt; read_state(bytes.as_slice()), Ok(voter.state()));
-    assert_eq!(rt; read_state(&[]), Err(StoredFault::Length));
-    assert_eq!(rt;
-        read_state(b"\x02\0\0\0\0\0\0\0\x05\x01\0\0\0\0\0\0\0\x02\0\0\0\0\0\0\0\0\0\0\0\0\0\0\0\0"),
-        Err(StoredFault::Form)
-    );
-    assert_eq!(rt;
-        read_state(
-            b"\x01\0\0\0\0\0\0\0\x05\x01\0\0\0\0\0\0\0\x02\0\0\0\0\0\0\0\0\0\0\0\0\0\0\0\0\0"
-        ),
-        Err(StoredFault::Length)
-    );
-    assert_eq!(rt;
-        read_state(b"\x01\0\0\0\0\0\0\0\x05\x02\0\0\0\0\0\0\0\x02\0\0\0\0\0\0\0\0\0\0\0\0\0\0\0\0"),
-        Err(StoredFault::Range)
-    );
-    assert_eq!(rt;
-        read_state(b"\x01\0\0\0\0\0\0\0\x05\0\0\0\0\0\0\0\0\x02\0\0\0\0\0\0\0\0\0\0\0\0\0\0\0\0"),
-        Err(StoredFault::Range)
-    );
-    assert_eq!(rt;
-        read_state(
-            b"\x01\x80\0\0\0\0\0\0\x05\x01\0\0\0\0\0\0\0\x02\0\0\0\0\0\0\0\0\0\0\0\0\0\0\0\0"
-        ),
-        Err(StoredFault::Range)
-    );
-    Ok(())
-}
-
-#[test]
-fn stored_entry(rt: HostRuntime) -> Result<(), Fail> {
-    let alloc = rt.alloc();
-    let entry = Entry {
-        index: 4,
-        term: 2,
-        bytes: Items::from_slice(alloc, &[7, 8])?,
-    };
-    let bytes = entry_bytes(alloc, &entry)?;
-    let stored = b"\x01\0\0\0\0\0\0\0\x04\0\0\0\0\0\0\0\x02\x07\x08";
-    assert!(rt; bytes.as_slice() == stored.as_slice());
-    assert!(rt; read_entry(alloc, bytes.as_slice(), 4) == Ok(entry));
-    assert!(rt; read_entry(alloc, bytes.as_slice(), 5) == Err(StoredFault::Index));
-    assert!(rt; read_entry(alloc, &stored[..16], 4) == Err(StoredFault::Length));
-    assert!(rt; read_entry(alloc, &[], 4) == Err(StoredFault::Length));
-    assert!(rt; read_entry(alloc, &[3], 4) == Err(StoredFault::Form));
-    Ok(())
-}
-
-#[test]
 fn restored_voter(rt: HostRuntime) -> Result<(), Fail> {
     let alloc = rt.alloc();
     let state = VoterState {
@@ -441,7 +355,13 @@ fn restored_voter(rt: HostRuntime) -> Result<(), Fail> {
             }
         }
     }
-    let mut beyond = state;
+    Ok(())
+}
+
+#[test]
+fn state_out_of_range_is_not_restored(rt: HostRuntime) -> Result<(), Fail> {
+    let alloc = rt.alloc();
+    let mut beyond = Voter::new(alloc).state();
     beyond.term = 0x8000_0000_0000_0000;
     assert!(rt;
         matches!(
@@ -453,83 +373,14 @@ fn restored_voter(rt: HostRuntime) -> Result<(), Fail> {
 }
 
 #[test]
-fn texts_of_faults(rt: HostRuntime) -> Result<(), Fail> {
+fn granted_vote_is_in_the_stored_state(rt: HostRuntime) -> Result<(), Fail> {
     let alloc = rt.alloc();
-    assert!(rt; Memory.to_string(alloc)?.as_str() == "out of memory");
-    assert!(rt; StoredFault::Index.to_string(alloc)?.as_str() == "wrong index");
-    Ok(())
-}
-
-/// Each reply as it is written: its name, a space, and its numbers.
-#[test]
-fn texts_of_replies(rt: HostRuntime) -> Result<(), Fail> {
-    let alloc = rt.alloc();
-    let state = VoterState {
-        term: 9,
-        vote: None,
-        base_index: 3,
-        base_term: 2,
-        last_index: 18_446_744_073_709_551_615,
-        last_term: 8,
-    };
-    let voted = VoterState {
-        vote: Some(7),
-        ..state
-    };
-    let table = [
-        (Reply::Granted(5), "Granted 5"),
-        (Reply::Denied(0), "Denied 0"),
-        (Reply::Matched(10), "Matched 10"),
-        (Reply::Mismatch(1), "Mismatch 1"),
-        (Reply::Stale(20), "Stale 20"),
-        (Reply::Base(3), "Base 3"),
-        (Reply::Gone(4), "Gone 4"),
-        (Reply::Unknown(6), "Unknown 6"),
-        (
-            Reply::Status(state),
-            "Status 9 - 3 2 18446744073709551615 8",
-        ),
-        (
-            Reply::Status(voted),
-            "Status 9 7 3 2 18446744073709551615 8",
-        ),
-        (Reply::Retired, "Retired"),
-        (Reply::Refused, "Refused"),
-        (Reply::Entries(Items::new(alloc)), "Entries"),
-        (
-            entries(alloc, &[(3, 2, 0), (4, 2, 0xaf)])?,
-            "Entries 3:2:00 4:2:af",
-        ),
-    ];
-    for (reply, text) in table.iter() {
-        assert!(rt; reply.to_string(alloc)?.as_str() == *text, "for {text}");
-    }
-    Ok(())
-}
-
-/// An entry's bytes are written in parts, of which none is lost or written twice.
-#[test]
-fn text_of_a_long_entry(rt: HostRuntime) -> Result<(), Fail> {
-    let alloc = rt.alloc();
-    for len in [0usize, 1, 127, 128, 129, 256, 300] {
-        let mut own = Vec::new(alloc);
-        let mut text = String::from_str(alloc, "12:5:")?;
-        for i in 0..len {
-            let byte = (i % 251) as u8;
-            own.push(byte)?;
-            write!(text, "{byte:02x}")?;
-        }
-        let bytes = Items::from_vec(own);
-        let entry = Entry {
-            index: 12,
-            term: 5,
-            bytes,
-        };
-        assert!(rt;
-            entry.to_string(alloc)?.as_str() == text.as_str(),
-            "of {len} bytes"
-        );
-    }
+    let mut voter = Voter::new(alloc);
+    asks(&rt, &mut voter, vote(5, 2, 0, 0), Reply::Granted(5))?;
+    let bytes = state_bytes(alloc, &voter.state())?;
+    let state = read_state(bytes.as_slice());
+    assert_eq!(rt; state, Ok(voter.state()));
+    assert_eq!(rt; voter.state().vote, Some(2));
     Ok(())
 }
 
@@ -550,16 +401,5 @@ fn refused_memory_changes_nothing(rt: HostRuntime) -> Result<(), Fail> {
         }
     }
     assert_eq!(rt; voter.state().last_term, 4);
-    Ok(())
-}
-
-#[test]
-fn lists_give_back_what_they_got(rt: HostRuntime) -> Result<(), Fail> {
-    let alloc = rt.alloc();
-    let mut places: Items<usize> = Items::new(alloc);
-    assert!(rt; places.is_empty());
-    places.push(3)?;
-    assert_eq!(rt; places.len(), 1);
-    assert!(rt; Items::from_vec(places.into_vec()).as_slice() == [3usize].as_slice());
     Ok(())
 }

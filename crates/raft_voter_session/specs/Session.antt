@@ -3,7 +3,7 @@ use Rattle.std.specs.Prelude.{ℕ, ◌+◌, nat_lt, nat_le, Bool, true, false, L
 use Rattle.std.specs.List.{before_first, slice_split}
 use Rattle.std.specs.Option.{option_map}
 use Rattle.std.specs.Str.{bytes_eq}
-use Rattle.raft_voter.specs.declared.request.Request.{Request}
+use Rattle.raft_voter_messages.specs.declared.request.Request.{Request}
 use Rattle.raft_voter_session.specs.declared.event.Event.{Event}
 use Rattle.raft_voter_session.specs.declared.event.Event.TheVariants.{Open, Close, CrashLast, Round}
 use Rattle.raft_voter_session.specs.declared.line.Line.{Line}

@@ -2,12 +2,12 @@
 use Rattle.std.specs.Prelude.{ℕ, ◌+◌, Bool, true, false, List, [], ◌∷◌, ◌++◌, codes}
 use Rattle.std.specs.Fmt.{decimal}
 use Rattle.std.specs.List.{flat_map}
-use Rattle.raft_voter.specs.declared.reply.Reply.{Reply}
-use Rattle.raft_voter.specs.declared.request.Request.{Request}
-use Rattle.raft_voter.specs.declared.round.Outcome.{Outcome}
-use Rattle.raft_voter.specs.declared.round.Outcome.TheVariants.{Answered, Cut}
-use Rattle.raft_voter.specs.declared.round.Round.{Round}
-use Rattle.raft_voter.specs.ReplyText.{reply_text}
+use Rattle.raft_voter_messages.specs.declared.reply.Reply.{Reply}
+use Rattle.raft_voter_messages.specs.declared.request.Request.{Request}
+use Rattle.raft_voter_messages.specs.declared.round.Outcome.{Outcome}
+use Rattle.raft_voter_messages.specs.declared.round.Outcome.TheVariants.{Answered, Cut}
+use Rattle.raft_voter_messages.specs.declared.round.Round.{Round}
+use Rattle.raft_voter_messages.specs.ReplyText.{reply_text}
 
 -- a number behind a space
 unfoldable pub spaced : ℕ → List ℕ

@@ -1,5 +1,5 @@
 //! What a session tells a store of voters.
-use raft_voter::{Items, Request};
+use raft_voter_messages::{Items, Request};
 
 /// One event of a session.
 #[derive(Debug, Drop)]

@@ -5,7 +5,7 @@ ghost use Rattle.raft_voter_session.specs.Session.{line_of, open_at, request_at,
 use crate::Event;
 use crate::requests::{append_at, compact_at, install_at, read_at, retire_at, status_at, vote_at};
 use crate::words::{end_of_word, number_at};
-use raft_voter::{Memory, Request};
+use raft_voter_messages::{Memory, Request};
 use std::alloc::Global;
 
 /// The most bytes of a line, without its line feed.

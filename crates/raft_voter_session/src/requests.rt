@@ -4,7 +4,7 @@ ghost use Rattle.raft_voter_session.specs.Words.{ends};
 ghost use Rattle.raft_voter_session.specs.Requests.{vote_at, compact_at, install_at, read_at, status_at, retire_at, entry_of, entries_at, append_at};
 
 use crate::words::{cut_at, data_of, number_at, number_of, word_at};
-use raft_voter::{Items, Memory, Request};
+use raft_voter_messages::{Items, Memory, Request};
 use std::alloc::Global;
 
 /// A request, if nothing is left of its line.

@@ -6,7 +6,7 @@ ghost use Rattle.raft_voter_session.specs.Fault.{TellsFault};
 use crate::Event;
 use crate::line::{Line, read_line};
 use crate::words::cut_at;
-use raft_voter::{Items, Memory, Request};
+use raft_voter_messages::{Items, Memory, Request};
 use std::alloc::Global;
 use std::collections::VecDeque;
 use std::marker::Model;

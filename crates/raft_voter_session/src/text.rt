@@ -2,7 +2,7 @@
 ghost use Rattle.std.specs.Prelude.{◌≡◌, ◌++◌, codes, OnOk, string_bytes};
 ghost use Rattle.raft_voter_session.specs.Text.{spaced, spaced_all, place_text, places_text, refused_text, outcome_text, round_text, rounds_text, verdict_text, transcript_text, unreadable_text};
 
-use raft_voter::{Memory, Outcome, Reply, Request, Round, Transcript};
+use raft_voter_messages::{Memory, Outcome, Reply, Request, Round, Transcript};
 
 /// Writes a number behind a space.
 #[tactic(auto, unfolding(crate::specs::Text::spaced))]

@@ -5,7 +5,7 @@ ghost use Rattle.std.specs.Option.{option_map};
 ghost use Rattle.raft_voter_session.specs.Words.{is_space, is_lower_hex_digit, number_of, number_at, data_of, value_from, word_at};
 
 use hex::FromHexError;
-use raft_voter::{Items, Memory};
+use raft_voter_messages::{Items, Memory};
 use std::alloc::Global;
 
 /// The most digits that a number may have.

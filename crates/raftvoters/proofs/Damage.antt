@@ -3,15 +3,16 @@ use Rattle.std.proofs.Common.{◌≡◌, ◌≢◌, ℕ, ◌+◌, ◌<◌, ◌�
 use Rattle.std.proofs.lemmas.Bool.Decides.{nat_tests}
 use Rattle.std.specs.List.{flat_map, list_all}
 use Rattle.std.specs.Prelude.{IsErrAnd}
-use Rattle.raft_voter.proofs.Bytes.{entry_no_fault, length-entry_text, length-number_text, length-state_text, number_first, restored_ok, split_same, state_no_fault, state_read_back}
-use Rattle.raft_voter.specs.declared.reply.Entry.{Entry}
-use Rattle.raft_voter.specs.declared.reply.VoterState.{VoterState}
-use Rattle.raft_voter.specs.declared.stored.StoredFault.{StoredFault}
-use Rattle.raft_voter.specs.declared.stored.StoredFault.TheVariants.{Length, Form, Range, Index, Order, Memory}
+use Rattle.raft_voter_messages.proofs.Bytes.{entry_no_fault, length-entry_text, length-number_text, length-state_text, number_first, split_same, state_no_fault, state_read_back}
+use Rattle.raft_voter_messages.specs.declared.reply.Entry.{Entry}
+use Rattle.raft_voter_messages.specs.declared.reply.VoterState.{VoterState}
+use Rattle.raft_voter_messages.specs.declared.stored.StoredFault.{StoredFault}
+use Rattle.raft_voter_messages.specs.declared.stored.StoredFault.TheVariants.{Length, Form, Range, Index, Order, Memory}
 use Rattle.raft_voter.specs.Rounds.{World}
 use Rattle.raft_voter.specs.Rules.{numbered}
 use Rattle.raft_voter.specs.State.{State, state_of}
-use Rattle.raft_voter.specs.StoredForms.{EntryFault, IsState, RestoreFault, StateFault, are_in_order, entry_text, number_text, restored, state_text, stored_entry_fits}
+use Rattle.raft_voter.specs.Restoring.{are_in_order}
+use Rattle.raft_voter_messages.specs.StoredForms.{EntryFault, IsState, StateFault, entry_text, number_text, state_text, stored_entry_fits}
 use Rattle.raftvoters.specs.declared.record.OpenFault.{OpenFault}
 use Rattle.raftvoters.specs.declared.record.OpenFault.TheVariants.{Damaged, Memory as OutOfMemory}
 use Rattle.raftvoters.specs.Content.{Content, whole}

@@ -1,10 +1,10 @@
 -- A session that is too long is known by its front.
-use Rattle.std.proofs.Common.{◌≡◌, ℕ, ◌+◌, ◌≤◌, nat_le, List, [], ◌++◌, length, length-take, min, take, Option, Some, None, IfSome, refl, arith}
+use Rattle.std.proofs.Common.{◌≡◌, ℕ, ◌+◌, nat_le, List, [], ◌++◌, length, length-take, take, Option, Some, None, IfSome, refl, arith}
 use Rattle.std.proofs.lemmas.Bool.Decides.{nat_tests}
 use Rattle.std.proofs.lemmas.List.{take-take}
 use Rattle.std.specs.Option.{option_map}
 use Rattle.raft_voter_session.specs.Session.{session_of}
-use Rattle.raftvoters.specs.Run.{MayWrite, Tells}
+use Rattle.raftvoters.specs.Run.{MayWrite}
 
 too_long : (n : ℕ) (bytes : List ℕ) → nat_le (length (take (n + 1) bytes)) n ≡ nat_le (length bytes) n
 too_long n bytes = let size = length-take (n + 1) bytes in grind (arith, nat_tests)

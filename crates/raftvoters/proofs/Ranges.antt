@@ -5,10 +5,11 @@ use Rattle.std.proofs.lemmas.Bool.Decides.{nat_tests}
 use Rattle.std.proofs.lemmas.List.Folds.{list_all-append}
 use Rattle.std.specs.List.{list_all}
 use Rattle.std.specs.Option.{option_map}
-use Rattle.raft_voter.specs.declared.request.Request.{Request}
-use Rattle.raft_voter.specs.declared.request.Request.TheVariants.{Vote, Append, Compact, Install, Read, Status, Retire}
+use Rattle.raft_voter_messages.specs.declared.request.Request.{Request}
+use Rattle.raft_voter_messages.specs.declared.request.Request.TheVariants.{Vote, Append, Compact, Install, Read, Status, Retire}
 use Rattle.raft_voter.specs.Rounds.{World, fresh_world, after_one, put}
-use Rattle.raft_voter.specs.Rules.{agrees_at, appended, can_compact, compacted, entry_fits, fits, grants, in_range, installed, matching, merged, next, next_in_range}
+use Rattle.raft_voter.specs.Rules.{agrees_at, appended, can_compact, compacted, grants, installed, matching, merged, next, next_in_range}
+use Rattle.raft_voter_messages.specs.Ranges.{entry_fits, fits, in_range}
 use Rattle.raft_voter.specs.State.{State, adopt_term, entry_at, fresh, term_at}
 use Rattle.raftvoters.specs.Records.{AllInRange, IsInRange, may_change}
 

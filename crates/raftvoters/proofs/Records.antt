@@ -6,13 +6,15 @@ use Rattle.std.proofs.lemmas.List.Concat.{flat_map-append}
 use Rattle.std.proofs.lemmas.List.Folds.{list_all-append}
 use Rattle.std.specs.List.{flat_map, list_all}
 use Rattle.std.specs.Option.{option_map_or}
-use Rattle.raft_voter.proofs.Bytes.{entry_numbers, length-entry_text, length-number_text, length-state_text, length-vote_text, number_first, restored_ok, split_same, state_numbers, vote_in_range, vote_text-same, fits-below}
-use Rattle.raft_voter.proofs.Ordered.{last_in_range}
-use Rattle.raft_voter.specs.declared.reply.Entry.{Entry}
-use Rattle.raft_voter.specs.declared.reply.VoterState.{VoterState}
-use Rattle.raft_voter.specs.Rules.{entry_fits, fits, numbered}
+use Rattle.raft_voter_messages.proofs.Bytes.{entry_numbers, length-entry_text, length-number_text, length-state_text, length-vote_text, number_first, split_same, state_numbers, vote_in_range, vote_text-same, fits-below}
+use Rattle.raft_voter.proofs.Ordered.{last_in_range, restored_ok}
+use Rattle.raft_voter_messages.specs.declared.reply.Entry.{Entry}
+use Rattle.raft_voter_messages.specs.declared.reply.VoterState.{VoterState}
+use Rattle.raft_voter.specs.Rules.{numbered}
+use Rattle.raft_voter_messages.specs.Ranges.{entry_fits, fits}
 use Rattle.raft_voter.specs.State.{State, state_of}
-use Rattle.raft_voter.specs.StoredForms.{IsEntry, IsState, are_in_order, restored, entry_text, number_text, state_fits, state_text, stored_entry_fits, vote_text}
+use Rattle.raft_voter.specs.Restoring.{are_in_order, restored}
+use Rattle.raft_voter_messages.specs.StoredForms.{IsEntry, IsState, entry_text, number_text, state_fits, state_text, stored_entry_fits, vote_text}
 use Rattle.raftvoters.specs.Records.{AreEntries, AreStorable, IsInRange, IsStorable, record_bytes, stored_entry, voter_bytes}
 
 -- Entries.

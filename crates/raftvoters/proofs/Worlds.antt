@@ -1,8 +1,8 @@
 -- What a file holds is one world.
 use Rattle.std.proofs.Common.{◌≡◌, ℕ, ◌+◌, ◌<◌, ◌^◌, false, List, [], ◌∷◌, ◌++◌, length, append-nil, append_assoc, refl, sym, ap, ◌∙◌, subst, arith}
 use Rattle.std.proofs.lemmas.List.Concat.{flat_map-append}
-use Rattle.raft_voter.specs.declared.reply.Reply.{Reply}
-use Rattle.raft_voter.specs.declared.request.Request.{Request}
+use Rattle.raft_voter_messages.specs.declared.reply.Reply.{Reply}
+use Rattle.raft_voter_messages.specs.declared.request.Request.{Request}
 use Rattle.raft_voter.specs.Rounds.{World, fresh_world, after, after_one, put}
 use Rattle.raft_voter.specs.Rules.{next, reply}
 use Rattle.raft_voter.specs.State.{State}

@@ -1,12 +1,12 @@
 -- Bytes that are told as damaged.
 use Rattle.std.specs.Prelude.{◌≡◌, ◌≢◌, ℕ, true, List, ◌++◌, length}
 use Rattle.std.specs.List.{flat_map}
-use Rattle.raft_voter.specs.declared.reply.Entry.{Entry}
-use Rattle.raft_voter.specs.declared.stored.StoredFault.{StoredFault}
-use Rattle.raft_voter.specs.declared.stored.StoredFault.TheVariants.{Memory as StoredMemory}
+use Rattle.raft_voter_messages.specs.declared.reply.Entry.{Entry}
+use Rattle.raft_voter_messages.specs.declared.stored.StoredFault.{StoredFault}
+use Rattle.raft_voter_messages.specs.declared.stored.StoredFault.TheVariants.{Memory as StoredMemory}
 use Rattle.raft_voter.specs.Rounds.{World}
 use Rattle.raft_voter.specs.State.{State}
-use Rattle.raft_voter.specs.StoredForms.{stored_entry_fits}
+use Rattle.raft_voter_messages.specs.StoredForms.{stored_entry_fits}
 use Rattle.raftvoters.specs.declared.record.OpenFault.{OpenFault}
 use Rattle.raftvoters.specs.declared.record.OpenFault.TheVariants.{Damaged, Memory}
 use Rattle.raftvoters.specs.Records.{AreEntries, Holds, IsStorable, record_bytes, stored_entry}

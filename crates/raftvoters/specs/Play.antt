@@ -1,7 +1,7 @@
 -- A session that is played.
-use Rattle.std.specs.Prelude.{◌≡◌, ℕ, Bool, true, false, List, [], ◌∷◌, ◌++◌, length}
+use Rattle.std.specs.Prelude.{◌≡◌, ℕ, Bool, true, false, List, [], ◌∷◌, ◌++◌}
 use Rattle.std.specs.List.{flat_map}
-use Rattle.raft_voter.specs.declared.round.Round.{Round as RoundRecord}
+use Rattle.raft_voter_messages.specs.declared.round.Round.{Round as RoundRecord}
 use Rattle.raft_voter.specs.Rounds.{World, Explains, ExplainsFrom}
 use Rattle.raft_voter_session.specs.declared.event.Event.{Event}
 use Rattle.raft_voter_session.specs.declared.event.Event.TheVariants.{Open, Close, CrashLast, Round}

@@ -6,13 +6,15 @@ use Rattle.std.specs.Option.{option_map_or}
 use Rattle.std.specs.Ordering.{nat_cmp}
 use Rattle.std.specs.declared.alloc.Global.{Global}
 use Rattle.std.specs.declared.collections.BTreeMap.{BTreeMap}
-use Rattle.raft_voter.specs.declared.reply.Entry.{Entry}
-use Rattle.raft_voter.specs.declared.request.Request.{Request}
-use Rattle.raft_voter.specs.declared.request.Request.TheVariants.{Read, Status}
+use Rattle.raft_voter_messages.specs.declared.reply.Entry.{Entry}
+use Rattle.raft_voter_messages.specs.declared.request.Request.{Request}
+use Rattle.raft_voter_messages.specs.declared.request.Request.TheVariants.{Read, Status}
 use Rattle.raft_voter.specs.Rounds.{World, fresh_world, put}
-use Rattle.raft_voter.specs.Rules.{entry_fits, fits, in_range, numbered}
+use Rattle.raft_voter.specs.Rules.{numbered}
+use Rattle.raft_voter_messages.specs.Ranges.{entry_fits, fits, in_range}
 use Rattle.raft_voter.specs.State.{State, fresh, state_of}
-use Rattle.raft_voter.specs.StoredForms.{are_in_order, entry_text, number_text, state_text, stored_entry_fits}
+use Rattle.raft_voter.specs.Restoring.{are_in_order}
+use Rattle.raft_voter_messages.specs.StoredForms.{entry_text, number_text, state_text, stored_entry_fits}
 
 -- Bytes.
 

@@ -1,6 +1,6 @@
 -- What the program writes.
 use Rattle.std.specs.Prelude.{◌≡◌, ◌↔◌, ℕ, Bool, true, IsTrue, if◌then◌else◌, List, Result, Ok, Err}
-use Rattle.raft_voter.specs.declared.round.Round.{Round}
+use Rattle.raft_voter_messages.specs.declared.round.Round.{Round}
 use Rattle.raft_voter.specs.Rounds.{Explains}
 use Rattle.raft_voter_session.specs.declared.event.Event.{Event}
 use Rattle.raft_voter_session.specs.Session.{session_of}

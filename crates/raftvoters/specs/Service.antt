@@ -1,10 +1,10 @@
 -- What a service of rounds answers.
 use Rattle.std.specs.Prelude.{◌≡◌, ℕ, ◌+◌, ◌≤◌, IsTrue, Bool, true, false, if◌then◌else◌, List, [], ◌∷◌, length, take}
-use Rattle.raft_voter.specs.declared.reply.Reply.{Reply}
-use Rattle.raft_voter.specs.declared.reply.Reply.TheVariants.{Refused}
-use Rattle.raft_voter.specs.declared.request.Request.{Request}
+use Rattle.raft_voter_messages.specs.declared.reply.Reply.{Reply}
+use Rattle.raft_voter_messages.specs.declared.reply.Reply.TheVariants.{Refused}
+use Rattle.raft_voter_messages.specs.declared.request.Request.{Request}
 use Rattle.raft_voter.specs.Rounds.{World, after, are_rising, replies_from, taken_from}
-use Rattle.raft_voter.specs.Rules.{in_range}
+use Rattle.raft_voter_messages.specs.Ranges.{in_range}
 
 abbrev pub is_refused : Reply → Bool
 is_refused Refused = true

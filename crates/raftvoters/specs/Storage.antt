@@ -1,9 +1,9 @@
 -- A store that is open, or the file of one that isn't.
 use Rattle.std.specs.Prelude.{◌≡◌, ℕ, ◌≤◌, ◌<◌, Bool, true, false, ◌⊎◌, List, [], ◌∷◌, ◌++◌, length}
-use Rattle.raft_voter.specs.declared.request.Request.{Request}
-use Rattle.raft_voter.specs.declared.round.Outcome.{Outcome}
-use Rattle.raft_voter.specs.declared.round.Outcome.TheVariants.{Answered, Cut}
-use Rattle.raft_voter.specs.declared.round.Round.{Round}
+use Rattle.raft_voter_messages.specs.declared.request.Request.{Request}
+use Rattle.raft_voter_messages.specs.declared.round.Outcome.{Outcome}
+use Rattle.raft_voter_messages.specs.declared.round.Outcome.TheVariants.{Answered, Cut}
+use Rattle.raft_voter_messages.specs.declared.round.Round.{Round}
 use Rattle.raft_voter.specs.Rounds.{World, RoundHolds, after_round, cuts_after}
 use Rattle.raftvoters.specs.declared.storage.Storage.{Storage}
 use Rattle.raftvoters.specs.declared.storage.Storage.TheVariants.{Closed, Open}

@@ -1,7 +1,7 @@
 -- The plain store: its voters in memory, and the file that holds them.
 use Rattle.std.specs.Prelude.{◌≡◌, ◌⊎◌, ℕ, List, [], ◌∷◌, ◌++◌}
-use Rattle.raft_voter.specs.declared.reply.Reply.{Reply}
-use Rattle.raft_voter.specs.declared.request.Request.{Request}
+use Rattle.raft_voter_messages.specs.declared.reply.Reply.{Reply}
+use Rattle.raft_voter_messages.specs.declared.request.Request.{Request}
 use Rattle.raft_voter.specs.Rounds.{World, after, after_one}
 use Rattle.raft_voter.specs.Rules.{reply}
 use Rattle.raftvoters.specs.declared.store.PlainStore.{PlainStore}

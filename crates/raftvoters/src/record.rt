@@ -1,7 +1,7 @@
 //! The records of the plain file: a group and its voter.
 ghost use Rattle.std.specs.Prelude.{◌≡◌, ℕ, true, ◌+◌, ◌^◌, ◌<◌, ◌++◌, length, IfOk, IfErr, OnOk};
 ghost use Rattle.std.specs.List.{flat_map};
-ghost use Rattle.raft_voter.specs.StoredForms.{number_text, stored_entry_fits};
+ghost use Rattle.raft_voter_messages.specs.StoredForms.{number_text, stored_entry_fits};
 ghost use Rattle.raft_voter.specs.Rules.{numbered};
 ghost use Rattle.raftvoters.specs.Damage.{HasNoEntries, HasNoEntry, HasNoRecord, TellsDamage};
 ghost use Rattle.raftvoters.specs.Records.{AreEntries, IsStorable, record_bytes, stored_entry, voter_bytes};
@@ -93,7 +93,7 @@ fn put_entry(bytes: &mut Vec<u8>, index: u64, term: u64, own: &[u8]) -> Result<(
 }
 
 /// Adds a number of eight bytes, the highest first.
-#[tactic(auto, unfolding(raft_voter::specs::StoredForms::number_text))]
+#[tactic(auto, unfolding(raft_voter_messages::specs::StoredForms::number_text))]
 fn put_number(bytes: &mut Vec<u8>, number: u64) -> Result<(), Memory>
     ensures { OnOk result (bytes.new.items ≡ bytes.old.items ++ number_text number) }
 {

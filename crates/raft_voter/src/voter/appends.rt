@@ -1,6 +1,6 @@
 //! A leader's entries (Raft paper, AppendEntries receiver).
 ghost use Rattle.std.specs.Prelude.{◌≡◌, ◌+◌, ◌^◌, ◌<◌, ◌≤◌, length, IfOk, OnOk, OnErr};
-ghost use Rattle.raft_voter.specs.declared.request.Request.TheVariants.{Append};
+ghost use Rattle.raft_voter_messages.specs.declared.request.Request.TheVariants.{Append};
 ghost use Rattle.raft_voter.specs.Rules.{appended, next_in_range, reply_in_range};
 ghost use Rattle.raft_voter.specs.State.{last_index};
 

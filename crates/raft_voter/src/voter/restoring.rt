@@ -1,11 +1,12 @@
 //! A voter from what was stored of it.
 ghost use Rattle.std.specs.Prelude.{◌≡◌, ◌+◌, true, Ok, map, IfOk, IfErr};
 ghost use Rattle.std.specs.List.{list_all};
-ghost use Rattle.raft_voter.specs.StoredForms.{are_in_order, restored, RestoreFault, stored_entry_fits};
+ghost use Rattle.raft_voter.specs.Restoring.{are_in_order, restored, RestoreFault};
+ghost use Rattle.raft_voter_messages.specs.StoredForms.{stored_entry_fits};
 
 use super::Voter;
-use crate::stored::{state_fits, stored_entry_fits};
 use crate::{Entry, Items, Memory, StoredFault, VoterState};
+use raft_voter_messages::{state_fits, stored_entry_fits};
 use std::alloc::Global;
 
 impl Voter {

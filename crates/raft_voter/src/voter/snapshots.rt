@@ -1,6 +1,6 @@
 //! Compaction, snapshots and the end of a group (Raft paper, section 7).
 ghost use Rattle.std.specs.Prelude.{◌≡◌, ◌^◌, ◌<◌};
-ghost use Rattle.raft_voter.specs.declared.request.Request.TheVariants.{Compact, Install};
+ghost use Rattle.raft_voter_messages.specs.declared.request.Request.TheVariants.{Compact, Install};
 ghost use Rattle.raft_voter.specs.Rules.{next_in_range, reply_in_range};
 ghost use Rattle.raft_voter.specs.State.{fresh};
 

@@ -1,7 +1,7 @@
 use Rattle.std.proofs.Common.{◌≡◌, ℕ, ◌≤◌, ◌∙◌, List, [], ◌∷◌, ◌++◌, length, drop, append-nil, refl, sym, ap, arith}
 use Rattle.std.proofs.lemmas.List.{at_drop_all}
-use Rattle.raft_voter.specs.declared.reply.Reply.{Reply}
-use Rattle.raft_voter.specs.declared.request.Request.{Request}
+use Rattle.raft_voter_messages.specs.declared.reply.Reply.{Reply}
+use Rattle.raft_voter_messages.specs.declared.request.Request.{Request}
 use Rattle.raft_voter_session.specs.Text.{places_text}
 use Rattle.raft_voter_session.proofs.text.write_replies.Goals as goal
 

@@ -2,7 +2,7 @@ use Rattle.std.proofs.Common.{◌<◌, ℕ, get_or, ◌++◌, drop, arith, inl, 
 use Rattle.std.proofs.lemmas.Bool.{cases_lt}
 use Rattle.std.proofs.lemmas.List.{get_or-take, get_or_past, take-append-drop}
 use Rattle.std.proofs.lemmas.Nat.{be_bytes_8}
-use Rattle.raft_voter.specs.StoredForms.{number_text}
+use Rattle.raft_voter_messages.specs.StoredForms.{number_text}
 use Rattle.raftvoters.proofs.record.split_number.Goals as goal
 
 pub returns-clause-ok : goal.returns-clause-ok

@@ -1,6 +1,6 @@
 use Rattle.std.proofs.Common.{ℕ, ◌+◌, ◌∙◌, List, ◌∷◌, drop, sym, ap, arith}
 use Rattle.std.proofs.lemmas.List.{at_drop_more}
-use Rattle.raft_voter.specs.declared.request.Request.{Request}
+use Rattle.raft_voter_messages.specs.declared.request.Request.{Request}
 use Rattle.raftvoters.proofs.Stops.{on_err, refused_here, reply_refused, took_more}
 use Rattle.raftvoters.proofs.Worlds.{amidst_next}
 use Rattle.raftvoters.proofs.store.PlainStore.take_all.Goals as goal

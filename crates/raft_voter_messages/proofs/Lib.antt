@@ -1,0 +1,4 @@
+pub mod Sizes
+pub mod Equality
+pub mod Bytes
+pub mod ReplyTexts

@@ -1,0 +1,43 @@
+-- How a reply is written: its name, and what it says in words parted by one space.
+use Rattle.std.specs.Prelude.{ℕ, List, ◌++◌, codes, Option, Some, None}
+use Rattle.std.specs.Fmt.{decimal}
+use Rattle.std.specs.List.{flat_map}
+use Rattle.hex.specs.Hex.{encode_lower}
+use Rattle.raft_voter_messages.specs.declared.reply.Entry.{Entry}
+use Rattle.raft_voter_messages.specs.declared.reply.Reply.{Reply}
+use Rattle.raft_voter_messages.specs.declared.reply.Reply.TheVariants.{Granted, Denied, Matched, Mismatch, Stale, Base, Entries, Gone, Unknown, Status, Retired, Refused}
+use Rattle.raft_voter_messages.specs.declared.reply.VoterState.{VoterState}
+
+-- a vote, or `-` where there is none
+abbrev pub vote_word : Option ℕ → List ℕ
+vote_word None = codes "-"
+vote_word (Some candidate) = decimal candidate
+
+-- a voter's state: its term and vote, and the index and the term of the base and of the last entry
+unfoldable pub state_words : VoterState → List ℕ
+state_words s =
+    decimal s.term ++ codes " " ++ vote_word s.vote ++ codes " " ++ decimal s.base_index ++ codes " " ++ decimal s.base_term
+    ++ codes " " ++ decimal s.last_index ++ codes " " ++ decimal s.last_term
+
+-- an entry, `index:term:hex`
+unfoldable pub entry_word : Entry → List ℕ
+entry_word entry = decimal entry.index ++ codes ":" ++ decimal entry.term ++ codes ":" ++ encode_lower entry.bytes
+
+-- the same behind a space
+abbrev pub spaced_entry : Entry → List ℕ
+spaced_entry entry = codes " " ++ entry_word entry
+
+-- a reply
+abbrev pub reply_text : Reply → List ℕ
+reply_text (Granted term) = codes "Granted " ++ decimal term
+reply_text (Denied term) = codes "Denied " ++ decimal term
+reply_text (Matched index) = codes "Matched " ++ decimal index
+reply_text (Mismatch index) = codes "Mismatch " ++ decimal index
+reply_text (Stale term) = codes "Stale " ++ decimal term
+reply_text (Base index) = codes "Base " ++ decimal index
+reply_text (Entries entries) = codes "Entries" ++ flat_map spaced_entry entries
+reply_text (Gone index) = codes "Gone " ++ decimal index
+reply_text (Unknown index) = codes "Unknown " ++ decimal index
+reply_text (Status state) = codes "Status " ++ state_words state
+reply_text Retired = codes "Retired"
+reply_text Refused = codes "Refused"

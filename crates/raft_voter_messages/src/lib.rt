@@ -1,0 +1,27 @@
+//! What goes into a Raft voter and what comes out of it: requests, replies, entries of a log, and rounds of them; the texts
+//! of replies, and the bytes in which a voter is stored.
+//!
+//! Nothing here knows what a voter does with a request. `Request::in_range` tells which requests one takes at all. Replies
+//! print themselves, as transcripts show them: `Granted 5`, `Entries 3:2:00ff`. What `state_bytes` and `entry_bytes` write,
+//! `read_state` and `read_entry` read, and each other list of bytes is refused with its first fault.
+#![tactic(auto)]
+
+mod display;
+mod items;
+mod memory;
+mod reply;
+mod request;
+mod round;
+mod stored;
+
+pub use items::Items;
+pub use memory::Memory;
+pub use reply::{Entry, Reply, VoterState};
+pub use request::{MAX_APPEND_BYTES, MAX_APPEND_ENTRIES, MAX_ENTRY_BYTES, MAX_NUMBER, Request};
+pub use round::{Outcome, Round, Transcript};
+pub use stored::{
+    StoredFault, entry_bytes, read_entry, read_state, state_bytes, state_fits, stored_entry_fits,
+};
+
+#[cfg(test)]
+mod tests;

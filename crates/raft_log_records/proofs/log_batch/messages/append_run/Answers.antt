@@ -1,8 +1,8 @@
-use Rattle.std.proofs.Common.{◌≡◌, ℕ, ◌+◌, ◌<◌, ◌≤◌, List, ◌++◌, length, map, take, drop, sym, ap, subst, ◌∙◌, arith}
+use Rattle.std.proofs.Common.{◌≡◌, ℕ, List, ◌++◌, length, map, take, drop, sym, ap, subst, ◌∙◌, arith}
 use Rattle.std.proofs.lemmas.List.{take_at, length-map}
 use Rattle.raft_log_items.specs.declared.entry.EntryIndex.{EntryIndex}
 use Rattle.raft_log_items.specs.Run.{IsRun}
-use Rattle.raft_log_items.specs.Placed.{run_len, laid_run}
+use Rattle.raft_log_items.specs.Placed.{run_len}
 use Rattle.raft_log_records.specs.Entries.{IsIndexRun, entries_of, bytes_len}
 use Rattle.raft_log_records.proofs.Entries.{indexes_of, run_of_entries, run_len-entries_of}
 use Rattle.raft_log_records.proofs.log_batch.messages.append_run.Goals as goal

@@ -24,7 +24,7 @@ ghost use Rattle.raft_log_items.specs.Reading.{
 };
 
 use crate::bytes::Bytes;
-use crate::entry::{CompressionType, EntryIndex, EntryIndexes};
+use crate::entry::{EntryIndex, EntryIndexes};
 use crate::item::{Command, KeyValue, LogItem, LogItemContent, OpType};
 use raft_log_base::{Error, Result};
 use raft_log_codec::codec;
@@ -111,13 +111,7 @@ fn take_entries(
     let mut entries = Vec::with_capacity(alloc, room as usize)?;
     for i in 0..count {
         let entry_len = take_entry_len(alloc, &mut rest)?;
-        entries.push(EntryIndex {
-            index: first + i,
-            entries: None,
-            compression_type: CompressionType::None,
-            entry_offset: 0,
-            entry_len,
-        })?;
+        entries.push(EntryIndex::unplaced(first + i, entry_len))?;
     }
     *source = rest;
     Ok(entries)

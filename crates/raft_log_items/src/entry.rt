@@ -51,6 +51,24 @@ pub struct EntryIndex {
     pub entry_len: u32,
 }
 
+impl EntryIndex {
+    ghost use Rattle.std.specs.Prelude.{◌≡◌};
+    ghost use Rattle.raft_log_items.specs.Run.{unplaced_entry};
+
+    /// An entry that is in no file yet, with this index and so many bytes.
+    pub fn unplaced(index: u64, entry_len: u32) -> EntryIndex
+        ensures { result ≡ unplaced_entry index entry_len }
+    {
+        EntryIndex {
+            index,
+            entries: None,
+            compression_type: CompressionType::None,
+            entry_offset: 0,
+            entry_len,
+        }
+    }
+}
+
 impl Default for EntryIndex {
     ghost use Rattle.std.specs.Prelude.{◌≡◌, None};
     ghost use Rattle.raft_log_items.specs.declared.entry.CompressionType.TheVariants as kinds;
@@ -58,13 +76,7 @@ impl Default for EntryIndex {
     ghost is_default = { λ e. e ≡ record { index = 0; entries = None; compression_type = kinds.None; entry_offset = 0; entry_len = 0 } };
 
     fn default() -> EntryIndex {
-        EntryIndex {
-            index: 0,
-            entries: None,
-            compression_type: CompressionType::None,
-            entry_offset: 0,
-            entry_len: 0,
-        }
+        EntryIndex::unplaced(0, 0)
     }
 }
 

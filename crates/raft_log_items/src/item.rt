@@ -1,10 +1,10 @@
 //! Items: what a batch says of a group.
-ghost use Rattle.std.specs.Prelude.{◌≡◌, None};
+ghost use Rattle.std.specs.Prelude.{◌≡◌, None, IfOk};
 
 use crate::bytes::Bytes;
 use crate::entry::EntryIndexes;
 use raft_log_base::{Error, FileId, Result};
-use std::alloc::Global;
+use std::alloc::{AllocError, Global};
 
 pub mod place;
 
@@ -118,4 +118,22 @@ impl LogItem {
             content: LogItemContent::Kv(KeyValue::new(op_type, key, value)),
         }
     }
+}
+
+/// A copy of the item.
+fn copy_of(item: &LogItem) -> std::result::Result<LogItem, AllocError>
+    ensures { IfOk result (λ copy. copy ≡ item.now) }
+{
+    item.clone()
+}
+
+/// A copy of these items, in their order.
+pub fn copied(alloc: Global, items: &[LogItem]) -> std::result::Result<Vec<LogItem>, AllocError>
+    ensures { IfOk result (λ copy. copy.items ≡ items.now) }
+{
+    let mut copy = Vec::with_capacity(alloc, items.len())?;
+    for item in items {
+        copy.push(copy_of(item)?)?;
+    }
+    Ok(copy)
 }

@@ -6,6 +6,7 @@ ghost use Rattle.raft_log_records.specs.Key.{is_internal, IsKeyRefusal};
 use raft_log_frames::LOG_BATCH_HEADER_LEN;
 use raft_log_frames::log_item_batch::items_size;
 use raft_log_frames::record::{are_bytes, fill_record, write_checksum};
+use raft_log_items::item::copied;
 use raft_log_items::item::place::set_written;
 use raft_log_items::{
     Bytes, Command, Error, FileBlockHandle, LogFileContext, LogItem, OpType, Result,
@@ -72,24 +73,6 @@ fn check_key(alloc: Global, key: &[u8]) -> Result<()>
         )?));
     }
     Ok(())
-}
-
-/// A copy of the item.
-fn copy_of(item: &LogItem) -> std::result::Result<LogItem, AllocError>
-    ensures { IfOk result (λ copy. copy ≡ item.now) }
-{
-    item.clone()
-}
-
-/// A copy of these items.
-fn copied(alloc: Global, items: &[LogItem]) -> std::result::Result<Vec<LogItem>, AllocError>
-    ensures { IfOk result (λ copy. copy.items ≡ items.now) }
-{
-    let mut copy = Vec::with_capacity(alloc, items.len())?;
-    for item in items {
-        copy.push(copy_of(item)?)?;
-    }
-    Ok(copy)
 }
 
 /// How many bytes the block of entries with so many bytes has.

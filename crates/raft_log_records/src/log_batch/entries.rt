@@ -1,12 +1,11 @@
 //! Entries that are added to a batch: their bytes stand one after another behind those that it has.
 ghost use Rattle.std.specs.Prelude.{◌≡◌, ◌+◌, ◌-◌, ◌<◌, ◌^◌, ◌++◌, ◌↔◌, length, map, min, IsTrue, OnOk, OnErr, IfErr};
 ghost use Rattle.raft_log_items.specs.Writing.{KeepsFront};
-ghost use Rattle.raft_log_items.specs.Run.{unplaced_entry};
 ghost use Rattle.raft_log_items.specs.Placed.{laid_run};
 ghost use Rattle.raft_log_records.specs.Entries.{RisesFrom, IsIndexRun, entries_of, joined, bytes_len, IsRunRefusal};
 
 use super::{LogBatch, MAX_ENTRIES_LEN};
-use raft_log_items::{Bytes, CompressionType, EntryIndex, EntryIndexes, Error, LogItem, Result};
+use raft_log_items::{Bytes, EntryIndex, EntryIndexes, Error, LogItem, Result};
 use std::alloc::{AllocError, Global};
 
 /// Whether the indexes rise by one from this one on.
@@ -95,19 +94,6 @@ fn append_entries(
     appended
 }
 
-/// An entry that is in no file yet, with this index and so many bytes.
-pub(super) fn sized_entry(index: u64, len: u32) -> EntryIndex
-    ensures { result ≡ unplaced_entry index len }
-{
-    EntryIndex {
-        index,
-        entries: None,
-        compression_type: CompressionType::None,
-        entry_offset: 0,
-        entry_len: len,
-    }
-}
-
 /// Gives each entry the length of its bytes, and leaves of what it had the index alone.
 fn set_lengths(indexes: &mut [EntryIndex], entries: &[Bytes])
     requires same { length indexes.old ≡ length entries.now }
@@ -115,7 +101,7 @@ fn set_lengths(indexes: &mut [EntryIndex], entries: &[Bytes])
     ensures { indexes.new ≡ entries_of (map (λ e. e.index) indexes.old) entries.now }
 {
     for i in 0..indexes.len() {
-        indexes[i] = sized_entry(indexes[i].index, entries[i].len() as u32);
+        indexes[i] = EntryIndex::unplaced(indexes[i].index, entries[i].len() as u32);
     }
 }
 

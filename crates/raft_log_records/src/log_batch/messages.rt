@@ -5,7 +5,7 @@ ghost use Rattle.raft_log_items.specs.Placed.{laid_run};
 ghost use Rattle.raft_log_records.specs.Batch.{max_entries_len};
 ghost use Rattle.raft_log_records.specs.Entries.{entries_of, joined, bytes_len, IsRunOf, IsEntriesRefusal, IsRoomRefusal};
 
-use super::entries::{check_run, sized_entry};
+use super::entries::check_run;
 use super::{LogBatch, MAX_ENTRIES_LEN, check_key};
 use raft_log_frames::LOG_BATCH_HEADER_LEN;
 use raft_log_items::{
@@ -22,7 +22,7 @@ fn indexes_of<M: MessageExt>(
 {
     let mut indexes = Vec::with_capacity(alloc, entries.len())?;
     for entry in entries {
-        indexes.push(sized_entry(M::index(entry), 0))?;
+        indexes.push(EntryIndex::unplaced(M::index(entry), 0))?;
     }
     Ok(indexes)
 }
@@ -50,7 +50,7 @@ fn append_each<M: Message>(
         if out.len() > most {
             return Err(Error::Full);
         }
-        indexes[i] = sized_entry(indexes[i].index, (out.len() - start) as u32);
+        indexes[i] = EntryIndex::unplaced(indexes[i].index, (out.len() - start) as u32);
     }
     Ok(())
 }

@@ -20,7 +20,7 @@ returns-in_err-entry_len-clause-read c =
 pub loop-i-preserved : goal.loop-i-preserved
 loop-i-preserved c =
     let lt : c.loop-i.i < c.args.count = omega arith in
-    let items = c.in_ok-push.ensures.items in (
+    let items = rw c.unplaced.ensures at c.in_ok-push.ensures.items in (
       rw items (entries_go_on c.args.first c.loop-i.entries.items c.args.count c.loop-i.i c.loop-i.rest.now _ _ _ lt c.in_ok-entry_len.ensures c.loop-i.invariant.0),
       rw items (follows-push c.args.first c.loop-i.entries.items _ c.loop-i.invariant.1 (omega (arith, c.loop-i.invariant.2)) (omega arith)),
       rw items (simp length-append (omega (arith, c.loop-i.invariant.2))),

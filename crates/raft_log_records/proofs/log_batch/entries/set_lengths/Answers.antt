@@ -8,5 +8,5 @@ use Rattle.raft_log_records.proofs.log_batch.entries.set_lengths.Goals as goal
 pub loop-i-preserved : goal.loop-i-preserved
 loop-i-preserved c =
     let lt : c.loop-i.i < length c.args.indexes.now = omega arith in
-    ap (λ (e : EntryIndex). set c.loop-i.indexes c.loop-i.i e) c.sized_entry.ensures
+    ap (λ (e : EntryIndex). set c.loop-i.indexes c.loop-i.i e) c.unplaced.ensures
     ∙ sized_step c.args.indexes.now c.loop-i.indexes c.args.entries.now c.loop-i.i (unplaced_entry 0 0) c.index-entries-i.result c.len.result lt c.requires.same c.loop-i.invariant c.index-entries-i.is c.len.ensures

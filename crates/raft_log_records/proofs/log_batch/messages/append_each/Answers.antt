@@ -39,7 +39,7 @@ loop-i-preserved g c =
     let len : c.len-in-loop-i.result - c.len-start.result ≡ length (g.M.Message.spelling c.index-messages-i.result) =
     omega (arith, grown, c.len-in-loop-i.ensures, c.len-start.ensures, c.write.new.out.ok.0, c.loop-i.out.ok.0) in (
       message_more g.M.Message.spelling c.args.out.now.items c.args.messages.now i c.index-messages-i.result c.loop-i.out.items c.write.new.out.items lt c.index-messages-i.is c.loop-i.invariant.0 c.in_ok-write.ensures.ok,
-      ap (λ (e : EntryIndex). set c.loop-i.indexes i e) c.sized_entry.ensures
+      ap (λ (e : EntryIndex). set c.loop-i.indexes i e) c.unplaced.ensures
           ∙ message_sized g.M.Message.spelling c.args.indexes.now c.loop-i.indexes c.args.messages.now i (unplaced_entry 0 0) c.index-messages-i.result (c.len-in-loop-i.result - c.len-start.result) lt' c.requires.same c.loop-i.invariant.1 c.index-messages-i.is len,
       omega (arith, c.len.ensures, c.write.new.out.ok.0, c.if-len-most.false),
     )

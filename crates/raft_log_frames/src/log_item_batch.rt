@@ -93,7 +93,7 @@ impl LogItemBatch {
     ghost use Rattle.std.specs.Slice.Iter.{iter_rest};
     ghost use Rattle.std.specs.Iterator.Adapters.{IterYieldsInOrder};
     ghost use Rattle.raft_log_items.specs.declared.item.LogItemContent.TheVariants as contents;
-    ghost use Rattle.raft_log_items.specs.Writing.{items_bytes, plain_item, KeepsFront};
+    ghost use Rattle.raft_log_items.specs.Writing.{items_bytes, plain_item};
     ghost use Rattle.raft_log_items.specs.Items.{AreItems, put_item, del_item};
     ghost use Rattle.raft_log_items.specs.Placed.{placed};
     ghost use Rattle.std.specs.Prelude.{List, MatchResult};
@@ -232,14 +232,19 @@ impl LogItemBatch {
         self.put(raft_group_id, key, Bytes::new(value))
     }
 
-    /// Appends the count of the items and each of them, as a footer has them in front of its checksum. A refusal may leave a
-    /// part behind what was there.
+    /// Appends the count of the items and each of them, as a footer has them in front of its checksum. A refusal changes
+    /// nothing.
     pub fn encode(&self, out: &mut Vec<u8>) -> Result<(), AllocError>
         ensures ok { OnOk result (out.new.items ≡ out.old.items ++ items_bytes self.now) }
-        ensures err { OnErr result (KeepsFront out.old.items out.new.items) }
+        ensures err { OnErr result (out.new.items ≡ out.old.items) }
         ensures spelled { OnOk result (AreItems (items_bytes self.now) (map plain_item self.now)) }
     {
-        append_items(out, self.items.as_slice())
+        let start = out.len();
+        let appended = append_items(out, self.items.as_slice());
+        if appended.is_err() {
+            out.truncate(start);
+        }
+        appended
     }
 
     /// The items of a whole footer of this file, whose entries lie in the block at this place. Each entry has its offset in

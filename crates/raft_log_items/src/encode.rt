@@ -195,59 +195,79 @@ impl EntryIndexes {
     ghost use Rattle.std.specs.Prelude.{map};
     ghost use Rattle.raft_log_items.specs.Run.{unplaced};
     ghost use Rattle.raft_log_items.specs.Items.{IsEntries};
-    ghost use Rattle.raft_log_items.specs.Writing.{entries_bytes, KeepsFront};
+    ghost use Rattle.raft_log_items.specs.Writing.{entries_bytes};
 
-    /// Appends the entries, each number in its shortest spelling. A refusal may leave a part behind what was there.
+    /// Appends the entries, each number in its shortest spelling. A refusal changes nothing.
     pub fn encode(&self, out: &mut Vec<u8>) -> Result<(), AllocError>
         ensures ok { OnOk result (out.new.items ≡ out.old.items ++ entries_bytes self.now) }
-        ensures err { OnErr result (KeepsFront out.old.items out.new.items) }
+        ensures err { OnErr result (out.new.items ≡ out.old.items) }
         ensures spelled { OnOk result (IsEntries (entries_bytes self.now) (map unplaced self.now)) }
     {
-        append_entries(out, self.as_slice())
+        let start = out.len();
+        let appended = append_entries(out, self.as_slice());
+        if appended.is_err() {
+            out.truncate(start);
+        }
+        appended
     }
 }
 
 impl Command {
     ghost use Rattle.std.specs.Prelude.{◌≡◌, ◌++◌, OnOk, OnErr};
     ghost use Rattle.raft_log_items.specs.Items.{IsCommand};
-    ghost use Rattle.raft_log_items.specs.Writing.{command_bytes, KeepsFront};
+    ghost use Rattle.raft_log_items.specs.Writing.{command_bytes};
 
-    /// Appends the command, each number in its shortest spelling. A refusal may leave a part behind what was there.
+    /// Appends the command, each number in its shortest spelling. A refusal changes nothing.
     pub fn encode(&self, out: &mut Vec<u8>) -> Result<(), AllocError>
         ensures ok { OnOk result (out.new.items ≡ out.old.items ++ command_bytes self.now) }
-        ensures err { OnErr result (KeepsFront out.old.items out.new.items) }
+        ensures err { OnErr result (out.new.items ≡ out.old.items) }
         ensures spelled { OnOk result (IsCommand (command_bytes self.now) self.now) }
     {
-        append_command(out, *self)
+        let start = out.len();
+        let appended = append_command(out, *self);
+        if appended.is_err() {
+            out.truncate(start);
+        }
+        appended
     }
 }
 
 impl KeyValue {
     ghost use Rattle.std.specs.Prelude.{◌≡◌, ◌++◌, OnOk, OnErr};
     ghost use Rattle.raft_log_items.specs.Items.{IsKeyValue};
-    ghost use Rattle.raft_log_items.specs.Writing.{key_value_bytes, plain_key_value, KeepsFront};
+    ghost use Rattle.raft_log_items.specs.Writing.{key_value_bytes, plain_key_value};
 
-    /// Appends the key, each number in its shortest spelling. A refusal may leave a part behind what was there.
+    /// Appends the key, each number in its shortest spelling. A refusal changes nothing.
     pub fn encode(&self, out: &mut Vec<u8>) -> Result<(), AllocError>
         ensures ok { OnOk result (out.new.items ≡ out.old.items ++ key_value_bytes self.now) }
-        ensures err { OnErr result (KeepsFront out.old.items out.new.items) }
+        ensures err { OnErr result (out.new.items ≡ out.old.items) }
         ensures spelled { OnOk result (IsKeyValue (key_value_bytes self.now) (plain_key_value self.now)) }
     {
-        append_key_value(out, self)
+        let start = out.len();
+        let appended = append_key_value(out, self);
+        if appended.is_err() {
+            out.truncate(start);
+        }
+        appended
     }
 }
 
 impl LogItem {
     ghost use Rattle.std.specs.Prelude.{◌≡◌, ◌++◌, OnOk, OnErr};
     ghost use Rattle.raft_log_items.specs.Items.{IsItem};
-    ghost use Rattle.raft_log_items.specs.Writing.{item_bytes, plain_item, KeepsFront};
+    ghost use Rattle.raft_log_items.specs.Writing.{item_bytes, plain_item};
 
-    /// Appends the item, each number in its shortest spelling. A refusal may leave a part behind what was there.
+    /// Appends the item, each number in its shortest spelling. A refusal changes nothing.
     pub fn encode(&self, out: &mut Vec<u8>) -> Result<(), AllocError>
         ensures ok { OnOk result (out.new.items ≡ out.old.items ++ item_bytes self.now) }
-        ensures err { OnErr result (KeepsFront out.old.items out.new.items) }
+        ensures err { OnErr result (out.new.items ≡ out.old.items) }
         ensures spelled { OnOk result (IsItem (item_bytes self.now) (plain_item self.now)) }
     {
-        append_item(out, self)
+        let start = out.len();
+        let appended = append_item(out, self);
+        if appended.is_err() {
+            out.truncate(start);
+        }
+        appended
     }
 }

@@ -87,6 +87,14 @@ impl<T: Drop> From<AllocFailed<T>> for Error {
     }
 }
 
+impl From<ErrorKind> for Error {
+    ghost from_gives = { λ kind e. e ≡ errors.Io kind };
+
+    fn from(kind: ErrorKind) -> Error {
+        Error::Io(kind)
+    }
+}
+
 impl From<codec::Error> for Error {
     ghost from_gives = { λ c e. e ≡ errors.Codec c };
 

@@ -16,7 +16,10 @@ fn errors_print_these_texts(rt: HostRuntime) -> Result<(), Fail> {
             Error::Corruption(format!(in alloc; "why")?),
             "Corruption: why",
         ),
-        (Error::Io(ErrorKind::NotFound), "IO Error: entity not found"),
+        (
+            Error::from(ErrorKind::NotFound),
+            "IO Error: entity not found",
+        ),
         (
             Error::from(codec::Error::unexpected_eof()),
             "Codec Error: unexpected end of file",

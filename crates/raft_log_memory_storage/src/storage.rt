@@ -26,7 +26,7 @@ pub enum Node {
 /// What a file system in memory holds.
 #[derive(Drop)]
 pub struct Storage {
-    /// What it is kept in.
+    /// The allocator.
     pub alloc: Global,
     /// What each path names.
     pub paths: BTreeMap<String, Node>,
@@ -107,8 +107,8 @@ impl Storage {
         }
     }
 
-    /// Copies the bytes of a file that is there, from `offset` on, until the room is full or they end, and answers how
-    /// many. Of a file that isn't there it copies none.
+    /// Copies the bytes of a file that is there from `offset` on, until the room is full or they end, and answers how many.
+    /// For a file that isn't there nothing is said.
     pub fn read(&self, id: usize, offset: usize, room: &mut [u8]) -> usize
         ensures number { (file : Held) → held_of self.now.files.items id ≡ Some file → result ≡ min (length room.old) (length file.content - offset) }
         ensures bytes { (file : Held) → held_of self.now.files.items id ≡ Some file → room.new ≡ take result (drop offset file.content) ++ drop result room.old }
@@ -121,7 +121,7 @@ impl Storage {
         0
     }
 
-    /// The size in bytes of a file that is there, and 0 of one that isn't.
+    /// The size in bytes of a file that is there. For one that isn't nothing is said.
     pub fn size(&self, id: usize) -> usize
         ensures { (file : Held) → held_of self.now.files.items id ≡ Some file → result ≡ length file.content }
     {

@@ -115,7 +115,7 @@ impl Run {
         })
     }
 
-    // What a call answers, where each pair says whether its arguments are wrong so and what is told then.
+    // What a call answers. Each pair says whether its arguments are wrong in one way, and what is told of it.
     fn answer(&mut self, wrong: &[(bool, ErrorKind)]) -> Result<(), ErrorKind> {
         if self.stopped {
             return Err(ErrorKind::Other);

@@ -8,9 +8,9 @@ use Rattle.std.proofs.lemmas.List.{take_at, drop_at, take-append-drop, length-dr
 use Rattle.raft_log_checksum.specs.Checksum.{crc32_of}
 use Rattle.raft_log_codec.specs.Number.{IsU32Le}
 use Rattle.raft_log_codec.proofs.Grammar.{ok_is, chosen}
-use Rattle.raft_log_items.specs.declared.errors.Error.{Error}
-use Rattle.raft_log_items.specs.Fault.{Fault}
-use Rattle.raft_log_items.specs.Fault.Fault.{corrupt}
+use Rattle.raft_log_base.specs.declared.errors.Error.{Error}
+use Rattle.raft_log_base.specs.Fault.{Fault}
+use Rattle.raft_log_base.specs.Fault.Fault.{corrupt}
 use Rattle.raft_log_frames.specs.Record.{IsBlock, block_of, block_too_short, block_mismatch, GivesSlice}
 
 pub block_found : (bytes entries : List ℕ) → block_of bytes ≡ Ok entries → IsBlock bytes entries

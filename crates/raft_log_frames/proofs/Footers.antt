@@ -8,15 +8,15 @@ use Rattle.std.proofs.lemmas.List.{append-nil, take_at, drop_at, take-append-dro
 use Rattle.raft_log_codec.specs.Number.{IsVarU64}
 use Rattle.raft_log_codec.proofs.Grammar.{bind_ok, ok_is, chosen}
 use Rattle.raft_log_items.specs.declared.item.LogItem.{LogItem}
-use Rattle.raft_log_items.specs.Fault.{Fault}
-use Rattle.raft_log_items.specs.Fault.Fault.{corrupt}
+use Rattle.raft_log_base.specs.Fault.{Fault}
+use Rattle.raft_log_base.specs.Fault.Fault.{corrupt}
 use Rattle.raft_log_items.specs.Items.{AreItems}
 use Rattle.raft_log_items.specs.Reading.{items_at}
 use Rattle.std.specs.Global.{Vec}
 use Rattle.std.specs.Prelude.{MatchResult, IfOk}
-use Rattle.raft_log_items.specs.declared.errors.Error.{Error}
-use Rattle.raft_log_items.specs.declared.errors.Error.TheVariants as errors
-use Rattle.raft_log_items.proofs.Faults.{fails_of_ok}
+use Rattle.raft_log_base.specs.declared.errors.Error.{Error}
+use Rattle.raft_log_base.specs.declared.errors.Error.TheVariants as errors
+use Rattle.raft_log_base.proofs.Faults.{fails_of_ok}
 use Rattle.raft_log_items.proofs.Reading.{are_items}
 use Rattle.raft_log_items.specs.Placed.{entries_len}
 use Rattle.raft_log_frames.specs.Record.{signed, IsFooter, AddsUp, adds_up, whole_items, items_of, footer_of, GivesItems, footer_too_short, footer_mismatch, bytes_after_items, lengths_mismatch}

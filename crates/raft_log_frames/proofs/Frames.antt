@@ -6,7 +6,7 @@ use Rattle.std.proofs.lemmas.List.{take_at, drop_at, take-append-drop, length-ta
 use Rattle.raft_log_codec.proofs.Grammar.{ok_is, prefix_free}
 use Rattle.raft_log_items.specs.declared.item.LogItem.{LogItem}
 use Rattle.raft_log_items.specs.declared.entry.CompressionType.TheVariants as kinds
-use Rattle.raft_log_items.specs.Fault.{Fault}
+use Rattle.raft_log_base.specs.Fault.{Fault}
 use Rattle.raft_log_items.proofs.Reading.{are_items}
 use Rattle.raft_log_frames.specs.Record.{IsHeader, IsSoundHeader, IsFrame, AddsUp, header_at, block_of, footer_of}
 use Rattle.raft_log_frames.specs.Frames.{OneHeaderAtAPlace, OneFooterAtAPlace, OneBlockOfALength, OneFrameAtAPlace, OneRecordAtAPlace, RecordIsFrameAndBlock, FramesTakeBytes, FramesAreReadBack, WhatIsReadIsAFrame, RecordsAreReadBack, WhatIsReadIsARecord}

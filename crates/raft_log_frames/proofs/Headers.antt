@@ -8,9 +8,9 @@ use Rattle.raft_log_codec.specs.Grammar.{Reader, IsReader, Decodes, ◌>>=◌}
 use Rattle.raft_log_codec.proofs.Grammar.{bind_ok, ok_is, chosen}
 use Rattle.raft_log_items.specs.declared.entry.CompressionType.{CompressionType}
 use Rattle.raft_log_items.specs.declared.entry.CompressionType.TheVariants as kinds
-use Rattle.raft_log_items.specs.declared.errors.Error.{Error}
-use Rattle.raft_log_items.specs.Fault.{Fault, Answers}
-use Rattle.raft_log_items.specs.Fault.Fault.{corrupt}
+use Rattle.raft_log_base.specs.declared.errors.Error.{Error}
+use Rattle.raft_log_base.specs.Fault.{Fault, Answers}
+use Rattle.raft_log_base.specs.Fault.Fault.{corrupt}
 use Rattle.raft_log_items.specs.Reading.{unsupported_compression}
 use Rattle.raft_log_frames.specs.Record.{IsHeader, IsSoundHeader, header_of, header_at, header_too_short, offset_in_header, offset_past_end}
 

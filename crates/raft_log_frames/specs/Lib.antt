@@ -1,3 +1,6 @@
 pub mod Record
 pub mod Signatures
 pub mod Frames
+pub mod Written
+pub mod Made
+pub mod ItemBatch

@@ -10,9 +10,9 @@ use Rattle.raft_log_items.specs.declared.entry.CompressionType.TheVariants as ki
 use Rattle.raft_log_items.specs.declared.item.LogItem.{LogItem}
 use Rattle.std.specs.Borrow.{Bor}
 use Rattle.std.specs.Global.{Vec}
-use Rattle.raft_log_items.specs.declared.errors.Error.{Error}
-use Rattle.raft_log_items.specs.Fault.{Fault, Fails}
-use Rattle.raft_log_items.specs.Fault.Fault.{corrupt}
+use Rattle.raft_log_base.specs.declared.errors.Error.{Error}
+use Rattle.raft_log_base.specs.Fault.{Fault, Fails}
+use Rattle.raft_log_base.specs.Fault.Fault.{corrupt}
 use Rattle.raft_log_items.specs.Items.{AreItems}
 use Rattle.raft_log_items.specs.Reading.{items_at, unsupported_compression}
 use Rattle.raft_log_items.specs.Writing.{items_bytes}

@@ -1,8 +1,8 @@
 -- What a signature tells apart.
 use Rattle.std.specs.Prelude.{◌≡◌, ◌↔◌, ℕ, ◌%◌, ◌^◌, List}
 use Rattle.raft_log_items.specs.declared.item.LogItem.{LogItem}
-use Rattle.raft_log_items.specs.declared.pipe_log.Version.TheVariants.{V2}
-use Rattle.raft_log_items.specs.Files.{signature}
+use Rattle.raft_log_base.specs.declared.pipe_log.Version.TheVariants.{V2}
+use Rattle.raft_log_base.specs.Files.{signature}
 use Rattle.raft_log_frames.specs.Record.{IsFooter}
 
 -- a footer of one file is one of another file exactly if the low 32 bits of their numbers are the same

@@ -2,7 +2,7 @@
 ghost use Rattle.std.specs.Prelude.{◌≡◌, ◌+◌, ◌-◌, ◌<◌, ◌^◌, ◌==◌, if◌then◌else◌, List, IfOk, MatchResult, min};
 ghost use Rattle.raft_log_items.specs.Placed.{run_len, entries_len};
 ghost use Rattle.raft_log_frames.specs.Record.{GivesItems, whole_items, items_of, footer_of, IsFooter, AddsUp};
-ghost use Rattle.raft_log_items.specs.declared.errors.Error.TheVariants as errors;
+ghost use Rattle.raft_log_base.specs.declared.errors.Error.TheVariants as errors;
 ghost use Rattle.raft_log_items.specs.declared.item.LogItem.{LogItem};
 
 use crate::header::LOG_BATCH_CHECKSUM_LEN;

@@ -1,7 +1,7 @@
 //! The header of a record, and its entry block.
 ghost use Rattle.std.specs.Prelude.{◌≡◌, ℕ, List, drop, IsOk, IsOkAnd, IfOk, OnOk};
 ghost use Rattle.raft_log_codec.specs.Grammar.{Decodes};
-ghost use Rattle.raft_log_items.specs.Fault.{Gives, Answers};
+ghost use Rattle.raft_log_base.specs.Fault.{Gives, Answers};
 ghost use Rattle.raft_log_frames.specs.Record.{IsSoundHeader, IsBlock, header_of, header_at, block_of, GivesSlice};
 
 use raft_log_codec::codec::BytesSlice;

@@ -13,6 +13,7 @@ ghost use Rattle.raft_log_frames.specs.Frames.{
   WhatIsReadIsARecord,
 };
 ghost use Rattle.raft_log_frames.specs.Signatures.{SignatureSeparatesFiles};
+ghost use Rattle.raft_log_frames.specs.Written.{WrittenIsRecord};
 
 /// A footer that is signed for one file with signatures is one of another such file exactly if the low 32 bits of the two
 /// files' numbers are the same.
@@ -47,4 +48,10 @@ pub fn records_are_read_back()
 pub fn what_is_read_is_a_record()
     ensures frames { WhatIsReadIsAFrame }
     ensures records { WhatIsReadIsARecord }
+{}
+
+/// What is written of items and of their entries' bytes is a record of them, where both lengths fit and the entries'
+/// lengths add up to the bytes.
+pub fn written_is_record()
+    ensures { WrittenIsRecord }
 {}

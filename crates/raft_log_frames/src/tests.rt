@@ -6,6 +6,7 @@ use std::test::Fail;
 mod damaged_blocks;
 mod damaged_footers;
 mod damaged_headers;
+mod item_batches;
 mod reading;
 mod whole_records;
 

@@ -4,7 +4,7 @@ use Rattle.std.proofs.lemmas.List.{append-nil}
 use Rattle.raft_log_codec.specs.Grammar.{◌>>=◌}
 use Rattle.raft_log_codec.proofs.Grammar.{with_front}
 use Rattle.raft_log_items.specs.declared.entry.EntryIndex.{EntryIndex}
-use Rattle.raft_log_items.specs.Fault.{Fault}
+use Rattle.raft_log_base.specs.Fault.{Fault}
 use Rattle.raft_log_items.specs.Reading.{entry_len_at, entries_from_at}
 use Rattle.raft_log_items.specs.Run.{FollowsFrom, IsRun, unplaced_entry}
 

@@ -10,8 +10,8 @@ use Rattle.std.specs.declared.io.ErrorKind.TheVariants.{UnexpectedEof}
 use Rattle.raft_log_codec.proofs.Grammar.{bind_ok, done, ok_is, chosen, is_known, is_then, is_times, is_choice}
 use Rattle.raft_log_codec.proofs.Fixed.{is_byte}
 use Rattle.raft_log_codec.proofs.Var.{is_var_u64}
-use Rattle.raft_log_items.specs.Fault.{Fault, lifted, lifted_at}
-use Rattle.raft_log_items.specs.Fault.Fault.{number, corrupt}
+use Rattle.raft_log_base.specs.Fault.{Fault, lifted, lifted_at}
+use Rattle.raft_log_base.specs.Fault.Fault.{number, corrupt}
 use Rattle.raft_log_items.specs.Items.{Never, never_at, Passing, passing_at, number_at, kind_at, IsBytesOf, IsBytes, is_entry_len, IsEntryLen, AreEntriesFrom, is_first_of, IsEntriesOf, IsEntries, IsCommandOf, IsCommand, IsKeyValueOf, IsKeyValue, IsContentOf, IsItem, AreItems}
 use Rattle.raft_log_items.specs.Reading.{bytes_of_at, bytes_at, entry_len_at, entries_from_at, first_index_at, entries_of_at, entries_at, command_of_at, command_at, key_value_of_at, key_value_at, content_of_at, item_at, items_at, unknown_command, unknown_operation, unknown_content, index_past_limit, length_past_limit}
 

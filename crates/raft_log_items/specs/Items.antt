@@ -11,8 +11,8 @@ use Rattle.raft_log_items.specs.declared.item.LogItemContent.{LogItemContent}
 use Rattle.raft_log_items.specs.declared.item.LogItemContent.TheVariants as contents
 use Rattle.raft_log_items.specs.declared.item.LogItem.{LogItem}
 use Rattle.raft_log_items.specs.Run.{unplaced_entry}
-use Rattle.raft_log_items.specs.Fault.{Fault, lifted_at}
-use Rattle.raft_log_items.specs.Fault.Fault.{corrupt}
+use Rattle.raft_log_base.specs.Fault.{Fault, lifted_at}
+use Rattle.raft_log_base.specs.Fault.Fault.{corrupt}
 
 -- ---- rules
 
@@ -84,6 +84,13 @@ put_of key value = record { op_type = ops.Put; key = key; value = Some value; fi
 
 abbrev pub del_of : List ℕ → KeyValue
 del_of key = record { op_type = ops.Del; key = key; value = None; file_id = None }
+
+-- a put, and a deletion, of a group that is in no file yet
+abbrev pub put_item : ℕ → List ℕ → List ℕ → LogItem
+put_item group key value = record { raft_group_id = group; content = contents.Kv (put_of key value) }
+
+abbrev pub del_item : ℕ → List ℕ → LogItem
+del_item group key = record { raft_group_id = group; content = contents.Kv (del_of key) }
 
 abbrev pub IsKeyValueOf : ℕ → List ℕ → KeyValue → Type 0
 IsKeyValueOf op = Choice (op == 1) (Then IsBytes (λ key. Then IsBytes (λ value. IsKnown (put_of key value)))) (Choice (op == 2) (Then IsBytes (λ key. IsKnown (del_of key))) Never)

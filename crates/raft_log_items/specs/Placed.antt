@@ -1,6 +1,6 @@
 -- How many bytes the entries of items have, and where each lies in its entry block.
 use Rattle.std.specs.Prelude.{ℕ, ◌+◌, List, [], ◌∷◌, Some, map, sum_by}
-use Rattle.raft_log_items.specs.declared.pipe_log.FileBlockHandle.{FileBlockHandle}
+use Rattle.raft_log_base.specs.declared.pipe_log.FileBlockHandle.{FileBlockHandle}
 use Rattle.raft_log_items.specs.declared.entry.EntryIndex.{EntryIndex}
 use Rattle.raft_log_items.specs.declared.item.LogItemContent.{LogItemContent}
 use Rattle.raft_log_items.specs.declared.item.LogItemContent.TheVariants as contents
@@ -47,3 +47,7 @@ written_item handle x = record x { content = written_content handle x.content }
 
 abbrev pub written : FileBlockHandle → List LogItem → List LogItem
 written handle xs = map (written_item handle) xs
+
+-- the items with their places: their entries lie one after another in the block at this place
+abbrev pub placed : FileBlockHandle → List LogItem → List LogItem
+placed handle items = written handle (laid_out 0 items)

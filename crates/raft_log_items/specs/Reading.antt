@@ -16,8 +16,8 @@ use Rattle.raft_log_items.specs.declared.item.LogItemContent.{LogItemContent}
 use Rattle.raft_log_items.specs.declared.item.LogItemContent.TheVariants as contents
 use Rattle.raft_log_items.specs.declared.item.LogItem.{LogItem}
 use Rattle.raft_log_items.specs.Run.{unplaced_entry}
-use Rattle.raft_log_items.specs.Fault.{Fault}
-use Rattle.raft_log_items.specs.Fault.Fault.{number, corrupt}
+use Rattle.raft_log_base.specs.Fault.{Fault}
+use Rattle.raft_log_base.specs.Fault.Fault.{number, corrupt}
 use Rattle.raft_log_items.specs.Items.{never_at, passing_at, number_at, kind_at, is_entry_len, is_first_of, put_of, del_of}
 
 -- the texts of the faults

@@ -5,7 +5,7 @@
 ghost use Rattle.std.specs.Prelude.{◌≡◌, ◌+◌, ◌<◌, ◌^◌, length, IfOk};
 ghost use Rattle.raft_log_codec.specs.Grammar.{times_at};
 ghost use Rattle.raft_log_items.specs.Run.{FollowsFrom};
-ghost use Rattle.raft_log_items.specs.Fault.{Answers, AnswersItems, Decodes, DecodesItems};
+ghost use Rattle.raft_log_base.specs.Fault.{Answers, AnswersItems, Decodes, DecodesItems};
 ghost use Rattle.raft_log_items.specs.Items.{IsEntries, IsCommand, IsKeyValue, IsItem, AreItems};
 ghost use Rattle.raft_log_items.specs.Reading.{
   bytes_at,
@@ -25,8 +25,8 @@ ghost use Rattle.raft_log_items.specs.Reading.{
 
 use crate::bytes::Bytes;
 use crate::entry::{CompressionType, EntryIndex, EntryIndexes};
-use crate::errors::{Error, Result};
 use crate::item::{Command, KeyValue, LogItem, LogItemContent, OpType};
+use raft_log_base::{Error, Result};
 use raft_log_codec::codec;
 use raft_log_codec::codec::BytesSlice;
 use std::alloc::Global;
@@ -282,7 +282,7 @@ pub fn decode_items(alloc: Global, source: &mut BytesSlice<'_>) -> Result<Vec<Lo
 
 impl EntryIndexes {
     ghost use Rattle.std.specs.Prelude.{◌≡◌};
-    ghost use Rattle.raft_log_items.specs.Fault.{Answers, Decodes};
+    ghost use Rattle.raft_log_base.specs.Fault.{Answers, Decodes};
     ghost use Rattle.raft_log_items.specs.Items.{IsEntries};
     ghost use Rattle.raft_log_items.specs.Reading.{entries_at};
 
@@ -299,7 +299,7 @@ impl EntryIndexes {
 
 impl Command {
     ghost use Rattle.std.specs.Prelude.{◌≡◌};
-    ghost use Rattle.raft_log_items.specs.Fault.{Answers, Decodes};
+    ghost use Rattle.raft_log_base.specs.Fault.{Answers, Decodes};
     ghost use Rattle.raft_log_items.specs.Items.{IsCommand};
     ghost use Rattle.raft_log_items.specs.Reading.{command_at};
 
@@ -314,7 +314,7 @@ impl Command {
 
 impl KeyValue {
     ghost use Rattle.std.specs.Prelude.{◌≡◌};
-    ghost use Rattle.raft_log_items.specs.Fault.{Answers, Decodes};
+    ghost use Rattle.raft_log_base.specs.Fault.{Answers, Decodes};
     ghost use Rattle.raft_log_items.specs.Items.{IsKeyValue};
     ghost use Rattle.raft_log_items.specs.Reading.{key_value_at};
 
@@ -329,7 +329,7 @@ impl KeyValue {
 
 impl LogItem {
     ghost use Rattle.std.specs.Prelude.{◌≡◌};
-    ghost use Rattle.raft_log_items.specs.Fault.{Answers, Decodes};
+    ghost use Rattle.raft_log_base.specs.Fault.{Answers, Decodes};
     ghost use Rattle.raft_log_items.specs.Items.{IsItem};
     ghost use Rattle.raft_log_items.specs.Reading.{item_at};
 

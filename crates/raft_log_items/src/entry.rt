@@ -1,10 +1,11 @@
 //! Entries of a batch: where each lies, and runs of them.
 ghost use Rattle.std.specs.Prelude.{◌≡◌, ◌∷◌, ◌++◌, [], length, IsTrue, ◌↔◌, OnOk, OnErr};
 
-use crate::errors::{Error, Result};
-use crate::pipe_log::FileBlockHandle;
+use raft_log_base::{Error, FileBlockHandle, Result};
 use std::alloc::Global;
 use std::marker::Model;
+
+mod place;
 
 /// How the entry block of a batch is compressed. There is one kind, which is none at all.
 #[derive(Clone, Copy, Debug, PartialEq, Eq)]
@@ -14,7 +15,7 @@ pub enum CompressionType {
 
 impl CompressionType {
     ghost use Rattle.std.specs.Prelude.{◌≡◌};
-    ghost use Rattle.raft_log_items.specs.Fault.{Gives};
+    ghost use Rattle.raft_log_base.specs.Fault.{Gives};
     ghost use Rattle.raft_log_items.specs.Reading.{compression_of};
 
     /// The kind of this byte. Any but 0 is refused as a corruption.

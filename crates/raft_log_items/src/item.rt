@@ -3,9 +3,10 @@ ghost use Rattle.std.specs.Prelude.{◌≡◌, None};
 
 use crate::bytes::Bytes;
 use crate::entry::EntryIndexes;
-use crate::errors::{Error, Result};
-use crate::pipe_log::FileId;
+use raft_log_base::{Error, FileId, Result};
 use std::alloc::Global;
+
+pub mod place;
 
 /// Whether a key gets a value or loses it.
 #[derive(Clone, Copy, Debug, PartialEq, Eq)]
@@ -16,7 +17,7 @@ pub enum OpType {
 
 impl OpType {
     ghost use Rattle.std.specs.Prelude.{◌≡◌};
-    ghost use Rattle.raft_log_items.specs.Fault.{Gives};
+    ghost use Rattle.raft_log_base.specs.Fault.{Gives};
     ghost use Rattle.raft_log_items.specs.Reading.{operation_of};
     ghost use Rattle.raft_log_items.specs.Writing.{operation_number};
 

@@ -3,7 +3,6 @@ ghost use Rattle.std.specs.Prelude.{◌≡◌, ◌↔◌, List, IsTrue};
 ghost use Rattle.raft_log_codec.specs.Grammar.{IsPrefixFree};
 ghost use Rattle.raft_log_items.specs.declared.entry.EntryIndex.{EntryIndex as Entry};
 ghost use Rattle.raft_log_items.specs.declared.item.LogItem.{LogItem as Item};
-ghost use Rattle.raft_log_items.specs.Files.{AppendAboveRewrite, NumberedInQueue, OrderAgreesWithEquality};
 ghost use Rattle.raft_log_items.specs.Items.{IsBytes, IsEntries, IsCommand, IsKeyValue, IsItem, AreItems};
 
 use crate::entry::EntryIndexes;
@@ -13,14 +12,6 @@ use crate::item::LogItem;
 pub fn equal_where_same()
     ensures runs { (a b : List Entry) → IsTrue (⟦<EntryIndexes as PartialEq>⟧.eq a b) ↔ (a ≡ b) }
     ensures items { (a b : Item) → IsTrue (⟦<LogItem as PartialEq>⟧.eq a b) ↔ (a ≡ b) }
-{}
-
-/// The order of files: each file of the append queue is above each of the rewrite queue, files of one queue are
-/// ordered by their numbers, and only one and the same file is neither above nor below.
-pub fn file_order()
-    ensures queues { AppendAboveRewrite }
-    ensures numbers { NumberedInQueue }
-    ensures equality { OrderAgreesWithEquality }
 {}
 
 /// No spelling of a kind begins another one of the kind, and none spells two values. So what was written is read again,

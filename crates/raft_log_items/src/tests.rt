@@ -1,56 +1,11 @@
-//! Texts of errors, the worked bytes of items both ways, and what a file signs with.
+//! The worked bytes of items both ways.
 use crate::decode::decode_items;
 use crate::encode::append_items;
 use crate::{
-    Bytes, Command, CompressionType, EntryIndex, EntryIndexes, Error, FileBlockHandle, FileId,
-    KeyValue, LogFileContext, LogItem, LogItemContent, LogQueue, OpType, Version,
+    Bytes, Command, CompressionType, EntryIndex, EntryIndexes, FileBlockHandle, FileId, KeyValue,
+    LogItem, LogItemContent, LogQueue, OpType,
 };
-use raft_log_codec::codec;
-use std::io::ErrorKind;
 use std::test::Fail;
-
-#[test]
-fn errors_print_these_texts(rt: HostRuntime) -> Result<(), Fail> {
-    let alloc = rt.alloc();
-    let cases: [(Error, &str); 14] = [
-        (
-            Error::InvalidArgument(format!(in alloc; "why")?),
-            "Invalid Argument: why",
-        ),
-        (
-            Error::Corruption(format!(in alloc; "why")?),
-            "Corruption: why",
-        ),
-        (Error::Io(ErrorKind::NotFound), "IO Error: entity not found"),
-        (
-            Error::from(codec::Error::unexpected_eof()),
-            "Codec Error: unexpected end of file",
-        ),
-        (
-            Error::Message(format!(in alloc; "why")?),
-            "Message Error: why",
-        ),
-        (
-            Error::TryAgain(format!(in alloc; "why")?),
-            "Try again error: why",
-        ),
-        (Error::EntryCompacted, "Entry Compacted"),
-        (Error::EntryNotFound, "Entry not found"),
-        (Error::Full, "Full"),
-        (
-            Error::other(alloc, anyhow::anyhow!("why")),
-            "Other Error: why",
-        ),
-        (Error::Memory, "Memory"),
-        (Error::Failed, "Failed"),
-        (Error::Hole, "Hole"),
-        (Error::NumberRange, "Number out of range"),
-    ];
-    for (error, want) in &cases {
-        assert_eq!(rt; error.to_string(alloc)?.as_str(), *want);
-    }
-    Ok(())
-}
 
 #[test]
 fn unknown_kinds_are_refused_with_their_number(rt: HostRuntime) -> Result<(), Fail> {
@@ -81,26 +36,6 @@ fn unknown_kinds_are_refused_with_their_number(rt: HostRuntime) -> Result<(), Fa
     assert_eq!(rt; OpType::from_u8(alloc, 2)?, OpType::Del);
     assert_eq!(rt; OpType::Put.to_u8(), 1);
     assert_eq!(rt; CompressionType::from_u8(alloc, 0)?.to_u8(), 0);
-    Ok(())
-}
-
-#[test]
-fn files_sign_with_the_low_half_of_their_number(rt: HostRuntime) -> Result<(), Fail> {
-    let file = FileId::new(LogQueue::Append, (10u64 << 32) + 100);
-    assert_eq!(rt;
-        LogFileContext::new(file, Version::V2).get_signature(),
-        Some(100)
-    );
-    assert_eq!(rt;
-        LogFileContext::new(file, Version::V1).get_signature(),
-        None
-    );
-    assert_eq!(rt; Version::default().to_string(rt.alloc())?.as_str(), "1");
-    assert_eq!(rt; Version::from_u64(2), Some(Version::V2));
-    assert_eq!(rt; Version::from_u64(3), None);
-    assert_eq!(rt; Version::V2.to_u64(), 2);
-    assert!(rt; Version::V2.has_log_signing());
-    assert!(rt; file > FileId::new(LogQueue::Rewrite, u64::MAX));
     Ok(())
 }
 

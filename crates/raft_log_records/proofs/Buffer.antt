@@ -2,18 +2,15 @@
 use Rattle.std.proofs.Common.{◌≡◌, ℕ, ◌+◌, ◌-◌, ◌≤◌, ◌<◌, ◌^◌, List, [], ◌∷◌, ◌++◌, length, take, drop, Option, None, unwrap_or, refl, sym, ap, subst, ◌∙◌, append_assoc, arith, bit_xor}
 use Rattle.std.proofs.Math.Seq.{take-length}
 use Rattle.std.proofs.lemmas.List.{length-append, length-take-le, length-drop, drop_at, take_at}
-use Rattle.raft_log_codec.specs.Number.{u32_le_bytes, u64_bytes}
+use Rattle.raft_log_codec.specs.Number.{u32_le_bytes}
 use Rattle.raft_log_items.specs.declared.item.LogItem.{LogItem}
 use Rattle.raft_log_items.specs.Writing.{items_bytes}
 use Rattle.raft_log_records.specs.declared.log_batch.BatchState.{BatchState}
 use Rattle.raft_log_records.specs.declared.log_batch.BatchState.TheVariants.{Filling, Populated, Signed, Written}
 use Rattle.raft_log_frames.specs.Record.{signed, block_bytes, footer_bytes, header_bytes, record_len, record_bytes}
-use Rattle.raft_log_records.specs.Batch.{Holds, HoldsRecord, HoldsIn, IsMade, batch_bytes}
-use Rattle.raft_log_records.proofs.Made.{block_more, four_bytes, footer-length}
-
-pub header-length : (len offset : ℕ) → length (header_bytes len offset) ≡ 16
-unfolding header_bytes u64_bytes
-header-length len offset = refl
+use Rattle.raft_log_frames.specs.Made.{Holds}
+use Rattle.raft_log_records.specs.Batch.{HoldsRecord, HoldsIn, IsMade, batch_bytes}
+use Rattle.raft_log_frames.proofs.Made.{block_more, four_bytes, header-length, record-length}
 
 -- behind the header of a record its block stands first
 behind_header : (signature : Option ℕ) (items : List LogItem) (entries : List ℕ) → drop 16 (record_bytes signature items entries) ≡ block_bytes entries ++ footer_bytes signature items
@@ -29,12 +26,6 @@ record_entries signature items entries =
     let whole : drop 16 (record_bytes signature items entries) ≡ entries ++ (more.0 ++ footer_bytes signature items) =
     behind_header signature items entries ∙ ap (λ (l : List ℕ). l ++ footer_bytes signature items) more.1 ∙ append_assoc entries more.0 (footer_bytes signature items) in
     ap (λ (l : List ℕ). take (length entries) l) whole ∙ take_at entries (more.0 ++ footer_bytes signature items) (length entries) refl
-
-pub record-length : (signature : Option ℕ) (items : List LogItem) (entries : List ℕ) → length (record_bytes signature items entries) ≡ record_len items entries
-unfolding record_bytes
-record-length signature items entries =
-    let header : List ℕ = header_bytes (record_len items entries) (16 + length (block_bytes entries)) in
-    omega (arith, length-append (header ++ block_bytes entries) (footer_bytes signature items), length-append header (block_bytes entries), header-length (record_len items entries) (16 + length (block_bytes entries)), footer-length signature items)
 
 pub block_room : (entries : List ℕ) → length entries ≤ length (block_bytes entries)
 block_room entries = let more = block_more entries in omega (arith, ap (λ (l : List ℕ). length l) more.1, length-append entries more.0)

@@ -1,5 +1,5 @@
 -- The bytes of a batch that is signed are a record.
-use Rattle.std.proofs.Common.{◌≡◌, ℕ, suc, ◌+◌, ◌<◌, ◌^◌, List, [], ◌∷◌, ◌++◌, length, take, drop, map, get_or, Option, refl, sym, subst, arith}
+use Rattle.std.proofs.Common.{◌≡◌, ℕ, ◌+◌, ◌<◌, ◌^◌, List, [], ◌∷◌, ◌++◌, length, take, drop, map, Option, refl, sym, subst, arith}
 use Rattle.std.proofs.lemmas.List.{length-take-le, length-drop}
 use Rattle.raft_log_items.specs.declared.item.LogItem.{LogItem}
 use Rattle.raft_log_items.specs.Placed.{entries_len}
@@ -8,14 +8,11 @@ use Rattle.raft_log_codec.specs.Number.{u32_le_bytes}
 use Rattle.raft_log_records.specs.declared.log_batch.BatchState.{BatchState}
 use Rattle.raft_log_records.specs.declared.log_batch.BatchState.TheVariants.{Filling, Populated, Signed, Written}
 use Rattle.raft_log_frames.specs.Record.{signed, header_bytes, block_bytes, footer_bytes, record_len, record_bytes, IsRecord}
-use Rattle.raft_log_records.specs.Batch.{Holds, HoldsIn, IsBatch, IsSigned, signature_in}
-use Rattle.raft_log_records.specs.Written.{AreBytes}
-use Rattle.raft_log_records.proofs.Made.{block_more}
-use Rattle.raft_log_records.proofs.Written.{written_is_record}
-
-pub are_bytes : (xs : List ℕ) → ((i : ℕ) → get_or xs i 0 < 256) → AreBytes xs
-are_bytes [] h = tt
-are_bytes (x ∷ xs) h = (h 0, are_bytes xs (λ i. h (suc i)))
+use Rattle.raft_log_frames.specs.Made.{Holds}
+use Rattle.raft_log_records.specs.Batch.{HoldsIn, IsBatch, IsSigned, signature_in}
+use Rattle.raft_log_frames.specs.Written.{AreBytes}
+use Rattle.raft_log_frames.proofs.Made.{block_more}
+use Rattle.raft_log_frames.proofs.Written.{written_is_record}
 
 front_bytes : (a b : List ℕ) → AreBytes (a ++ b) → AreBytes a
 front_bytes [] b h = tt

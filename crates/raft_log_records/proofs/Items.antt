@@ -8,6 +8,7 @@ use Rattle.raft_log_items.specs.declared.entry.EntryIndex.{EntryIndex}
 use Rattle.raft_log_items.specs.declared.item.LogItemContent.{LogItemContent}
 use Rattle.raft_log_items.specs.declared.item.LogItemContent.TheVariants as contents
 use Rattle.raft_log_items.specs.declared.item.LogItem.{LogItem}
+use Rattle.raft_log_items.proofs.ItemPlaces.{laid_out-append}
 use Rattle.raft_log_items.specs.Placed.{run_len, content_len, entries_len, laid_run, laid_content, laid_out}
 use Rattle.raft_log_records.specs.declared.log_batch.BatchState.{BatchState}
 use Rattle.raft_log_records.specs.declared.log_batch.BatchState.TheVariants.{Filling, Populated, Signed, Written}
@@ -15,14 +16,6 @@ use Rattle.raft_log_records.specs.Batch.{Batch, IsBatch, HasNoEntries, HoldsIn, 
 use Rattle.raft_log_records.specs.Entries.{entries_of, entries_item, entries_items, joined, bytes_len, with_entries}
 use Rattle.raft_log_records.proofs.Buffer.{in_filling}
 use Rattle.raft_log_records.proofs.Entries.{run_len-entries_of}
-
-pub laid_out-append : (offset : ℕ) (a b : List LogItem) → laid_out offset (a ++ b) ≡ laid_out offset a ++ laid_out (offset + entries_len a) b
-laid_out-append offset [] b = ap (λ (o : ℕ). laid_out o b) (omega arith)
-laid_out-append offset (x ∷ xs) b =
-    let whole : entries_len (x ∷ xs) ≡ content_len x.content + entries_len xs = sum_by-cons (λ (y : LogItem). content_len y.content) x xs in
-    let next : offset + content_len x.content + entries_len xs ≡ offset + entries_len (x ∷ xs) = omega (arith, whole) in
-    ap (λ (l : List LogItem). record x { content = laid_content offset x.content } ∷ l)
-    (laid_out-append (offset + content_len x.content) xs b ∙ ap (λ (o : ℕ). laid_out (offset + content_len x.content) xs ++ laid_out o b) next)
 
 -- ---- an item without entries
 

@@ -1,12 +1,8 @@
-pub mod Made
 pub mod Buffer
-pub mod Written
 pub mod Items
 pub mod Encoded
 pub mod Messages
 pub mod Entries
-pub mod ItemBatches
-pub mod ItemPlaces
 pub mod Marks
 pub mod Meanings
 pub mod Moves

@@ -6,7 +6,7 @@ use Rattle.std.proofs.lemmas.List.{length-append, length-take-le, length-drop, t
 use Rattle.std.proofs.lemmas.List.Sums.{sum_by-cons}
 use Rattle.raft_log_checksum.specs.Checksum.{crc32_of}
 use Rattle.raft_log_codec.specs.Number.{u32_le_bytes}
-use Rattle.raft_log_items.specs.declared.pipe_log.FileBlockHandle.{FileBlockHandle}
+use Rattle.raft_log_base.specs.declared.pipe_log.FileBlockHandle.{FileBlockHandle}
 use Rattle.raft_log_items.specs.declared.entry.EntryIndex.{EntryIndex}
 use Rattle.raft_log_items.specs.declared.item.LogItemContent.{LogItemContent}
 use Rattle.raft_log_items.specs.declared.item.LogItemContent.TheVariants as contents
@@ -16,8 +16,8 @@ use Rattle.raft_log_records.specs.declared.log_batch.BatchState.{BatchState}
 use Rattle.raft_log_records.specs.declared.log_batch.BatchState.TheVariants.{Filling, Written}
 use Rattle.raft_log_frames.specs.Record.{block_bytes}
 use Rattle.raft_log_records.specs.Batch.{IsBatch, max_entries_len, batch_size}
-use Rattle.raft_log_records.specs.ItemBatch.{items_size}
-use Rattle.raft_log_records.proofs.Made.{four_bytes}
+use Rattle.raft_log_frames.specs.ItemBatch.{items_size}
+use Rattle.raft_log_frames.proofs.Made.{four_bytes}
 use Rattle.raft_log_records.proofs.Buffer.{all_entries, in_filling}
 use Rattle.raft_log_records.proofs.Items.{run_len-laid, laid_twice, filling_size, more_bytes, items_added, still_filling}
 

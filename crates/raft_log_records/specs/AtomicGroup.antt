@@ -11,7 +11,8 @@ use Rattle.raft_log_items.specs.declared.item.LogItemContent.TheVariants as cont
 use Rattle.raft_log_items.specs.declared.item.LogItem.{LogItem}
 use Rattle.raft_log_records.specs.declared.atomic_group.AtomicGroupStatus.{AtomicGroupStatus}
 use Rattle.raft_log_records.specs.declared.atomic_group.AtomicGroupStatus.TheVariants.{Begin, Middle, End}
-use Rattle.raft_log_records.specs.Key.{is_internal, put_item}
+use Rattle.raft_log_items.specs.Items.{put_item}
+use Rattle.raft_log_records.specs.Key.{is_internal}
 
 -- the key of a mark: two underscores and a 1
 abbrev pub mark_key : List ℕ

@@ -1,19 +1,15 @@
 -- A batch as callers see it: what was added, and how far it is on its way to a file.
-use Rattle.std.specs.Prelude.{◌≡◌, ◌⊎◌, ℕ, ◌+◌, ◌≤◌, ◌<◌, ◌^◌, List, [], ◌∷◌, length, take, drop, map, Option, None, unwrap_or}
-use Rattle.raft_log_checksum.specs.Checksum.{crc32_of}
-use Rattle.raft_log_items.specs.declared.pipe_log.FileBlockHandle.{FileBlockHandle}
+use Rattle.std.specs.Prelude.{◌≡◌, ℕ, ◌+◌, ◌≤◌, List, [], ◌∷◌, length, take, drop, Option, None}
+use Rattle.raft_log_base.specs.declared.pipe_log.FileBlockHandle.{FileBlockHandle}
 use Rattle.raft_log_items.specs.declared.item.LogItem.{LogItem}
-use Rattle.raft_log_items.specs.declared.errors.Error.{Error}
-use Rattle.raft_log_items.specs.declared.errors.Error.TheVariants as errors
 use Rattle.raft_log_items.specs.declared.item.LogItemContent.{LogItemContent}
 use Rattle.raft_log_items.specs.declared.item.LogItemContent.TheVariants as contents
-use Rattle.raft_log_items.specs.Items.{AreItems}
-use Rattle.raft_log_items.specs.Writing.{items_bytes, plain_item}
 use Rattle.raft_log_items.specs.Placed.{entries_len, laid_out}
 use Rattle.raft_log_records.specs.declared.log_batch.BatchState.{BatchState}
 use Rattle.raft_log_records.specs.declared.log_batch.BatchState.TheVariants.{Filling, Populated, Signed, Written}
-use Rattle.raft_log_frames.specs.Record.{block_bytes, record_bytes, record_len}
-use Rattle.raft_log_records.specs.ItemBatch.{items_size}
+use Rattle.raft_log_frames.specs.Record.{block_bytes, record_bytes}
+use Rattle.raft_log_frames.specs.ItemBatch.{items_size}
+use Rattle.raft_log_frames.specs.Made.{Holds}
 
 -- the state, the items, and the bytes of their entries
 pub record Batch : Type 0 where
@@ -29,14 +25,6 @@ max_entries_len = 2147483647
 abbrev pub batch_bytes : Option ℕ → List LogItem → List ℕ → List ℕ
 batch_bytes signature [] entries = []
 batch_bytes signature (x ∷ xs) entries = record_bytes signature (x ∷ xs) entries
-
--- the record in the buffer, whose length fits, and the checksum of its items before it is signed
-pub record Holds (signature : Option ℕ) (buffer : List ℕ) (checksum : ℕ) (items : List LogItem) (entries : List ℕ) : Type 0 where
-  pub bytes : buffer ≡ record_bytes signature items entries
-  pub sum : checksum ≡ crc32_of (items_bytes items)
-  pub spelled : AreItems (items_bytes items) (map plain_item items)
-  pub signs : unwrap_or signature 0 < 2 ^ 32
-  pub short : record_len items entries < 2 ^ 56
 
 -- what the buffer holds of a batch that is not empty
 abbrev pub HoldsRecord : Option ℕ → List ℕ → ℕ → List LogItem → List ℕ → Type 0
@@ -73,10 +61,6 @@ block_place handle entries = record handle { offset = handle.offset + 16; len = 
 abbrev pub batch_size : List LogItem → List ℕ → ℕ
 batch_size [] entries = 0
 batch_size (x ∷ xs) entries = 28 + length (block_bytes entries) + items_size (x ∷ xs)
-
--- memory ran out, or the record's length needs more than 56 bits
-abbrev pub IsMemoryOrFull : Error → ℕ → Type 0
-IsMemoryOrFull e len = (e ≡ errors.Memory) ⊎ ((e ≡ errors.Full) × (2 ^ 56 ≤ len))
 
 -- the record is made
 abbrev pub IsMade : BatchState → Type 0

@@ -1,8 +1,8 @@
 -- Entries that are added to a batch, by their indexes and their bytes.
 use Rattle.std.specs.Prelude.{◌≡◌, ◌⊎◌, ℕ, ◌+◌, ◌<◌, ◌^◌, List, [], ◌∷◌, ◌++◌, length, sum_by, flat_map}
 use Rattle.raft_log_items.specs.declared.entry.EntryIndex.{EntryIndex}
-use Rattle.raft_log_items.specs.declared.errors.Error.{Error}
-use Rattle.raft_log_items.specs.declared.errors.Error.TheVariants as errors
+use Rattle.raft_log_base.specs.declared.errors.Error.{Error}
+use Rattle.raft_log_base.specs.declared.errors.Error.TheVariants as errors
 use Rattle.raft_log_items.specs.declared.item.LogItemContent.TheVariants as contents
 use Rattle.raft_log_items.specs.declared.item.LogItem.{LogItem}
 use Rattle.raft_log_items.specs.Run.{unplaced_entry}

@@ -1,10 +1,7 @@
 -- Keys: which are the log's own, and the items that put and delete them.
 use Rattle.std.specs.Prelude.{ℕ, Bool, false, List, [], ◌∷◌, ◌==◌, ◌&&◌, IsTrue}
-use Rattle.raft_log_items.specs.declared.errors.Error.{Error}
-use Rattle.raft_log_items.specs.declared.errors.Error.TheVariants as errors
-use Rattle.raft_log_items.specs.declared.item.LogItemContent.TheVariants as contents
-use Rattle.raft_log_items.specs.declared.item.LogItem.{LogItem}
-use Rattle.raft_log_items.specs.Items.{put_of, del_of}
+use Rattle.raft_log_base.specs.declared.errors.Error.{Error}
+use Rattle.raft_log_base.specs.declared.errors.Error.TheVariants as errors
 
 -- the key begins with two underscores: such keys are the log's own
 abbrev pub is_internal : List ℕ → Bool
@@ -28,10 +25,3 @@ IsKeyRefusal (errors.Other e) key = ⊥
 IsKeyRefusal errors.Failed key = ⊥
 IsKeyRefusal errors.Hole key = ⊥
 IsKeyRefusal errors.NumberRange key = ⊥
-
--- a put, and a deletion, of a group that is in no file yet
-abbrev pub put_item : ℕ → List ℕ → List ℕ → LogItem
-put_item group key value = record { raft_group_id = group; content = contents.Kv (put_of key value) }
-
-abbrev pub del_item : ℕ → List ℕ → LogItem
-del_item group key = record { raft_group_id = group; content = contents.Kv (del_of key) }

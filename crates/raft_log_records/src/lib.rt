@@ -1,24 +1,18 @@
-//! Log records: items and entries in signed batches.
+//! Log records: items and entries in signed batches, and the marks of atomic groups.
 #![tactic(auto)]
 
 pub mod atomic_group;
-pub mod laws;
 pub mod log_batch;
-pub mod log_item_batch;
-pub mod message;
-mod places;
-mod record;
 
 pub use atomic_group::{AtomicGroupBuilder, AtomicGroupStatus};
 pub use log_batch::{BatchState, LogBatch};
-pub use log_item_batch::LogItemBatch;
-pub use message::{Message, MessageExt};
 pub use raft_log_frames::{
-    LOG_BATCH_HEADER_LEN, decode_entries_block, decode_footer, decode_header,
+    LOG_BATCH_HEADER_LEN, LogItemBatch, decode_entries_block, decode_footer, decode_header,
 };
 pub use raft_log_items::{
     Bytes, Command, CompressionType, EntryIndex, EntryIndexes, Error, FileBlockHandle, FileId,
-    FileSeq, KeyValue, LogFileContext, LogItem, LogItemContent, LogQueue, OpType, Result, Version,
+    FileSeq, KeyValue, LogFileContext, LogItem, LogItemContent, LogQueue, Message, MessageExt,
+    OpType, Result, Version,
 };
 
 #[cfg(test)]

@@ -3,10 +3,10 @@ ghost use Rattle.std.specs.Prelude.{◌≡◌, ◌+◌, ◌≤◌, ◌==◌, if�
 ghost use Rattle.raft_log_records.specs.Batch.{max_entries_len};
 ghost use Rattle.raft_log_records.specs.Key.{is_internal, IsKeyRefusal};
 
-use crate::log_item_batch::items_size;
-use crate::places::set_written;
-use crate::record::{are_bytes, fill_record, write_checksum};
 use raft_log_frames::LOG_BATCH_HEADER_LEN;
+use raft_log_frames::log_item_batch::items_size;
+use raft_log_frames::record::{are_bytes, fill_record, write_checksum};
+use raft_log_items::item::place::set_written;
 use raft_log_items::{
     Bytes, Command, Error, FileBlockHandle, LogFileContext, LogItem, OpType, Result,
 };
@@ -113,12 +113,14 @@ impl Model for LogBatch {
 
 impl LogBatch {
     ghost use Rattle.std.specs.Prelude.{length, None, IfErr, IsErr};
-    ghost use Rattle.raft_log_records.specs.Key.{is_internal, IsKeyRefusal, put_item, del_item};
-    ghost use Rattle.raft_log_items.specs.Files.{signature_of};
+    ghost use Rattle.raft_log_records.specs.Key.{is_internal, IsKeyRefusal};
+    ghost use Rattle.raft_log_items.specs.Items.{put_item, del_item};
+    ghost use Rattle.raft_log_base.specs.Files.{signature_of};
     ghost use Rattle.raft_log_items.specs.Writing.{plain_item};
     ghost use Rattle.raft_log_items.specs.Placed.{entries_len, laid_out, written};
     ghost use Rattle.raft_log_frames.specs.Record.{record_len, IsRecord};
-    ghost use Rattle.raft_log_records.specs.Batch.{batch_bytes, batch_size, block_place, HasNoEntries, IsMemoryOrFull, IsMade, IsSigned, signature_in};
+    ghost use Rattle.raft_log_frames.specs.Made.{IsMemoryOrFull};
+    ghost use Rattle.raft_log_records.specs.Batch.{batch_bytes, batch_size, block_place, HasNoEntries, IsMade, IsSigned, signature_in};
     ghost use Rattle.std.specs.Prelude.{◌≡◌, ◌+◌, ◌-◌, ◌<◌, ◌^◌, ◌++◌, ◌∷◌, ◌↔◌, [], map, min, IfOk, OnOk, OnErr, IsTrue};
     ghost use Rattle.raft_log_records.specs.declared.log_batch.BatchState.TheVariants.{Filling, Populated, Signed, Written};
     ghost use Rattle.raft_log_items.specs.declared.item.LogItemContent.TheVariants as contents;

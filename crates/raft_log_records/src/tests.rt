@@ -3,7 +3,6 @@ use raft_log_items::{FileId, LogFileContext, LogQueue, Version};
 
 mod atomic_groups;
 mod batches;
-mod item_batches;
 mod log_batches;
 mod messages;
 

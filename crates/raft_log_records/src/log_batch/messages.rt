@@ -5,9 +5,10 @@ ghost use Rattle.raft_log_records.specs.Entries.{entries_of, joined, bytes_len, 
 
 use super::entries::{check_run, sized_entry};
 use super::{LogBatch, MAX_ENTRIES_LEN, check_key};
-use crate::message::{Message, MessageExt};
 use raft_log_frames::LOG_BATCH_HEADER_LEN;
-use raft_log_items::{Bytes, EntryIndex, EntryIndexes, Error, LogItem, OpType, Result};
+use raft_log_items::{
+    Bytes, EntryIndex, EntryIndexes, Error, LogItem, Message, MessageExt, OpType, Result,
+};
 use std::alloc::{AllocError, Global};
 
 /// Entries with the indexes of these, and no lengths yet.
@@ -79,7 +80,8 @@ fn append_messages<M: Message>(
 impl LogBatch {
     ghost use Rattle.std.specs.Prelude.{◌≡◌, ◌+◌, ◌≤◌, ◌++◌, ◌∷◌, [], length, map, OnOk, OnErr, IfErr, IsErr, IsTrue};
     ghost use Rattle.raft_log_records.specs.declared.log_batch.BatchState.TheVariants.{Filling};
-    ghost use Rattle.raft_log_records.specs.Key.{is_internal, IsKeyRefusal, put_item};
+    ghost use Rattle.raft_log_items.specs.Items.{put_item};
+    ghost use Rattle.raft_log_records.specs.Key.{is_internal, IsKeyRefusal};
     ghost use Rattle.raft_log_records.specs.Batch.{max_entries_len};
     ghost use Rattle.raft_log_records.specs.Entries.{IsRunOf, bytes_len, with_entries, IsEntriesRefusal};
 

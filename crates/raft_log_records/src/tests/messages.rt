@@ -1,5 +1,5 @@
 //! A small message: an index, eight bytes with the highest first, and data.
-use crate::{Bytes, Error, Message, MessageExt, Result};
+use crate::{Bytes, Error, LogItemBatch, Message, MessageExt, Result};
 use raft_log_codec::codec;
 use std::alloc::{AllocError, Global};
 use std::test::Fail;
@@ -94,6 +94,24 @@ fn bytes_of_no_message_are_refused(rt: HostRuntime) -> std::result::Result<(), F
     assert_eq!(rt;
         TestEntry::parse(rt.alloc(), b"\0\0\0\0\0\0\0\x05")?.index,
         5
+    );
+    Ok(())
+}
+
+#[test]
+fn a_message_is_put(rt: HostRuntime) -> std::result::Result<(), Fail> {
+    let alloc = rt.alloc();
+    let entry = TestEntry {
+        index: 1,
+        bytes: Bytes::from_slice(alloc, b"x")?,
+    };
+    let mut batch = LogItemBatch::default(alloc);
+    batch.put_message(alloc, 2, Bytes::from_slice(alloc, b"k")?, &entry)?;
+    let mut out = Vec::new(alloc);
+    batch.encode(&mut out)?;
+    assert_eq!(rt;
+        out.as_slice(),
+        [1, 2, 3, 1, 1, b'k', 9, 0, 0, 0, 0, 0, 0, 0, 1, b'x'].as_slice()
     );
     Ok(())
 }

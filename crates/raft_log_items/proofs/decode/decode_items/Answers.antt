@@ -1,4 +1,4 @@
-use Rattle.raft_log_items.proofs.Faults.{decodes_items}
+use Rattle.raft_log_base.proofs.Faults.{decodes_items}
 use Rattle.raft_log_items.proofs.Reading.{are_items}
 use Rattle.raft_log_items.proofs.decode.decode_items.Goals as goal
 

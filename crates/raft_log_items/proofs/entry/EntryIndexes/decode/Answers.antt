@@ -1,4 +1,4 @@
-use Rattle.raft_log_items.proofs.Faults.{decodes}
+use Rattle.raft_log_base.proofs.Faults.{decodes}
 use Rattle.raft_log_items.proofs.Reading.{is_entries}
 use Rattle.raft_log_items.proofs.entry.EntryIndexes.decode.Goals as goal
 

@@ -1,4 +1,4 @@
-use Rattle.raft_log_items.proofs.Faults.{decodes}
+use Rattle.raft_log_base.proofs.Faults.{decodes}
 use Rattle.raft_log_items.proofs.Reading.{is_command}
 use Rattle.raft_log_items.proofs.item.Command.decode.Goals as goal
 

@@ -2,7 +2,7 @@ use Rattle.std.proofs.Common.{◌≢◌, ℕ, ◌<◌, List, length, take, drop,
 use Rattle.std.proofs.lemmas.Bool.{eqb-false}
 use Rattle.raft_log_items.specs.declared.item.LogItem.{LogItem}
 use Rattle.raft_log_records.specs.Batch.{Batch, batch_size}
-use Rattle.raft_log_records.specs.ItemBatch.{items_size}
+use Rattle.raft_log_frames.specs.ItemBatch.{items_size}
 use Rattle.raft_log_records.proofs.Moves.{some_size, block_size_at, entries_count}
 use Rattle.raft_log_records.proofs.log_batch.LogBatch.approximate_size.Goals as goal
 

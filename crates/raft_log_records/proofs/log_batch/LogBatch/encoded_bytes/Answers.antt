@@ -3,7 +3,7 @@ use Rattle.raft_log_items.specs.Writing.{plain_item}
 use Rattle.raft_log_records.specs.declared.log_batch.BatchState.{BatchState}
 use Rattle.raft_log_frames.specs.Record.{IsRecord}
 use Rattle.raft_log_records.specs.Batch.{Batch, IsSigned, signature_in}
-use Rattle.raft_log_records.specs.Written.{AreBytes}
+use Rattle.raft_log_frames.specs.Written.{AreBytes}
 use Rattle.raft_log_records.proofs.Encoded.{batch_record}
 use Rattle.raft_log_records.proofs.log_batch.LogBatch.encoded_bytes.Goals as goal
 

@@ -1,0 +1,21 @@
+-- A record that is made in a buffer.
+use Rattle.std.specs.Prelude.{◌≡◌, ◌⊎◌, ℕ, ◌≤◌, ◌<◌, ◌^◌, List, map, Option, unwrap_or}
+use Rattle.raft_log_checksum.specs.Checksum.{crc32_of}
+use Rattle.raft_log_base.specs.declared.errors.Error.{Error}
+use Rattle.raft_log_base.specs.declared.errors.Error.TheVariants as errors
+use Rattle.raft_log_items.specs.declared.item.LogItem.{LogItem}
+use Rattle.raft_log_items.specs.Items.{AreItems}
+use Rattle.raft_log_items.specs.Writing.{items_bytes, plain_item}
+use Rattle.raft_log_frames.specs.Record.{record_bytes, record_len}
+
+-- the record in the buffer, whose length fits, and the checksum of its items before it is signed
+pub record Holds (signature : Option ℕ) (buffer : List ℕ) (checksum : ℕ) (items : List LogItem) (entries : List ℕ) : Type 0 where
+  pub bytes : buffer ≡ record_bytes signature items entries
+  pub sum : checksum ≡ crc32_of (items_bytes items)
+  pub spelled : AreItems (items_bytes items) (map plain_item items)
+  pub signs : unwrap_or signature 0 < 2 ^ 32
+  pub short : record_len items entries < 2 ^ 56
+
+-- memory ran out, or the record's length needs more than 56 bits
+abbrev pub IsMemoryOrFull : Error → ℕ → Type 0
+IsMemoryOrFull e len = (e ≡ errors.Memory) ⊎ ((e ≡ errors.Full) × (2 ^ 56 ≤ len))

@@ -54,7 +54,7 @@ fn after_chunk(register: u32, chunk: &[u8; 16]) -> u32
     later ^ after_first_four(u32::from_le_bytes([a, b, c, d]) ^ register)
 }
 
-/// What four bytes, the lowest first, leave after sixteen bytes from them on.
+/// What four bytes, the lowest first, leave after twelve zero bytes.
 #[inline]
 fn after_first_four(word: u32) -> u32
     ensures { result ≡ crc_bits 128 word }

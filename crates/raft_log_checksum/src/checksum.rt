@@ -10,6 +10,10 @@ ghost use Rattle.raft_log_checksum.specs.Checksum.{crc_bits, crc_after, crc32_of
 use few_zeros::AFTER_FEW;
 use many_zeros::AFTER_MANY;
 
+/// What a byte leaves after fewer than eight zero bytes, and after eight and more: one table, so that the loop over chunks
+/// needs one address.
+const AFTER: [[[u32; 256]; 8]; 2] = [AFTER_FEW, AFTER_MANY];
+
 /// The register at the start, and what turns it at the end.
 const ALL_ONES: u32 = u32::MAX;
 
@@ -94,7 +98,7 @@ fn after_few(zeros: usize, byte: u8) -> u32
     requires { zeros < 8 }
     ensures { result ≡ crc_bits (8 * (zeros + 1)) byte }
 {
-    AFTER_FEW[zeros][byte as usize]
+    AFTER[0][zeros][byte as usize]
 }
 
 /// What a byte leaves after eight zero bytes and so many more.
@@ -103,7 +107,7 @@ fn after_many(zeros: usize, byte: u8) -> u32
     requires { zeros < 8 }
     ensures { result ≡ crc_bits (8 * (zeros + 9)) byte }
 {
-    AFTER_MANY[zeros][byte as usize]
+    AFTER[1][zeros][byte as usize]
 }
 
 #[cfg(test)]

@@ -1,8 +1,8 @@
 -- The register of the CRC is linear in its bits, so each byte counts for itself.
-use Rattle.std.proofs.Common.{◌≡◌, ℕ, zero, suc, ◌+◌, ◌-◌, ◌*◌, ◌/◌, ◌%◌, ◌^◌, ◌<◌, ◌≤◌, List, [], ◌∷◌, ◌++◌, length, get_or, take, drop, refl, sym, ap, ◌∙◌, ◌⊎◌, inl, inr, arith, add-one}
+use Rattle.std.proofs.Common.{◌≡◌, ℕ, zero, suc, ◌+◌, ◌*◌, ◌/◌, ◌%◌, ◌^◌, ◌<◌, ◌≤◌, List, [], ◌∷◌, ◌++◌, length, get_or, take, drop, refl, sym, ap, ◌∙◌, ◌⊎◌, inl, inr, arith, add-one, length-append}
 use Rattle.std.specs.Prelude.{bit_xor, bit_and}
 use Rattle.std.specs.List.{concat}
-use Rattle.std.specs.Int.{w128, sum_through, byte_at, byte_worth, from_le_bytes}
+use Rattle.std.specs.Int.{w32, sum_through, byte_at, byte_worth, from_le_bytes}
 use Rattle.std.specs.Simd.{first_chunks}
 use Rattle.std.proofs.Math.Nat.{pow-suc}
 use Rattle.std.proofs.Math.Seq.{take-add, drop-cons}
@@ -132,34 +132,149 @@ sum_value zero (b ∷ []) e = omega arith
 sum_value zero (b ∷ c ∷ bs) e = absurd (omega arith)
 sum_value (suc n) (b ∷ bs) e = sum_cons b bs n ∙ ap (λ v. b + 256 * v) (sum_value n bs (omega arith))
 
-split_word : (x : ℕ) → x ≡ bit_xor (bit_and x (2 ^ 64 - 1)) (x / 2 ^ 64 * 2 ^ 64)
-split_word x =
-    let low : bit_and x (2 ^ 64 - 1) ≡ x % 2 ^ 64 = and_mask x 64 in
-    let joined : bit_xor (x / 2 ^ 64 * 2 ^ 64) (x % 2 ^ 64) ≡ x / 2 ^ 64 * 2 ^ 64 + x % 2 ^ 64 = xor_shifted (x / 2 ^ 64) 64 (x % 2 ^ 64) (omega arith) in
-    let whole : x / 2 ^ 64 * 2 ^ 64 + x % 2 ^ 64 ≡ x = omega arith in
-    rw low (sym (xor_comm (x % 2 ^ 64) (x / 2 ^ 64 * 2 ^ 64) ∙ joined ∙ whole))
-
--- the two halves of a word of sixteen bytes
-pub crc_after_chunk : (r : ℕ) (chunk : List ℕ) → length chunk ≡ 16 → ((i : ℕ) → get_or chunk i 0 < 256) → (word : ℕ) → word ≡ bit_xor (from_le_bytes w128 chunk) r
-    → bit_xor (crc_bits 128 (bit_and word (2 ^ 64 - 1))) (crc_bits 64 (word / 2 ^ 64)) ≡ crc_after r chunk
-crc_after_chunk r chunk size fits word is =
-    let low : ℕ = bit_and word (2 ^ 64 - 1) in
-    let high : ℕ = word / 2 ^ 64 in
-    let value : from_le_bytes w128 chunk ≡ value_of chunk = sum_value 15 chunk size in
-    let bits : 8 * length chunk ≡ 64 + 64 = omega arith in
-    let whole : word ≡ bit_xor r (value_of chunk) = is ∙ ap (λ v. bit_xor v r) value ∙ xor_comm (value_of chunk) r in
-    let after : crc_after r chunk ≡ crc_bits (64 + 64) word = crc_after_word r chunk fits ∙ ap (λ n. crc_bits n (bit_xor r (value_of chunk))) bits ∙ ap (λ w. crc_bits (64 + 64) w) (sym whole) in
-    let halves : crc_bits (64 + 64) word ≡ bit_xor (crc_bits (64 + 64) low) (crc_bits 64 high)
-    = crc_bits-add 64 64 word ∙ ap (λ w. crc_bits 64 (crc_bits 64 w)) (split_word word) ∙ ap (λ w. crc_bits 64 w) (crc_bits_below 64 low high)
-    ∙ crc_bits-xor 64 (crc_bits 64 low) high ∙ ap (λ w. bit_xor w (crc_bits 64 high)) (sym (crc_bits-add 64 64 low)) in
-    sym (after ∙ halves)
-
 -- ---- one part after another
 
 pub crc_after-append : (r : ℕ) (xs ys : List ℕ) → crc_after r (xs ++ ys) ≡ crc_after (crc_after r xs) ys
 unfolding crc_after
 crc_after-append r [] ys = refl
 crc_after-append r (x ∷ xs) ys = crc_after-append (crc_bits 8 (bit_xor r x)) xs ys
+
+-- ---- the register and each byte count for themselves
+
+front_byte : (r b n m rest : ℕ) → m ≡ 8 + 8 * n → bit_xor (crc_bits (8 * n) (crc_bits 8 (bit_xor r b))) rest ≡ bit_xor (crc_bits m r) (bit_xor (crc_bits m b) rest)
+front_byte r b n m rest size =
+    let both : crc_bits (8 * n) (crc_bits 8 (bit_xor r b)) ≡ bit_xor (crc_bits m r) (crc_bits m b) = rw size (sym (crc_bits-add 8 (8 * n) (bit_xor r b)) ∙ crc_bits-xor (8 + 8 * n) r b) in
+    ap (λ x. bit_xor x rest) both ∙ xor_assoc (crc_bits m r) (crc_bits m b) rest
+
+front_alone : (b n m rest : ℕ) → m ≡ 8 + 8 * n → bit_xor (crc_bits (8 * n) (crc_bits 8 b)) rest ≡ bit_xor (crc_bits m b) rest
+front_alone b n m rest size = rw size (ap (λ x. bit_xor x rest) (sym (crc_bits-add 8 (8 * n) b)))
+
+pub crc_after_apart : (r : ℕ) (bytes : List ℕ) → crc_after r bytes ≡ bit_xor (crc_bits (8 * length bytes) r) (crc_after 0 bytes)
+unfolding crc_after crc_bits
+crc_after_apart r [] = sym (xor_zero_r r)
+crc_after_apart r (b ∷ bs) =
+    let n : ℕ = length bs in
+    let m : ℕ = 8 * suc (length bs) in
+    let size : m ≡ 8 + 8 * n = omega arith in
+    let own : crc_after (crc_bits 8 (bit_xor r b)) bs ≡ bit_xor (crc_bits (8 * n) (crc_bits 8 (bit_xor r b))) (crc_after 0 bs) = crc_after_apart (crc_bits 8 (bit_xor r b)) bs in
+    let alone : crc_after (crc_bits 8 b) bs ≡ bit_xor (crc_bits (8 * n) (crc_bits 8 b)) (crc_after 0 bs) = crc_after_apart (crc_bits 8 b) bs in
+    own ∙ front_byte r b n m (crc_after 0 bs) size ∙ ap (λ x. bit_xor (crc_bits m r) x) (sym (alone ∙ front_alone b n m (crc_after 0 bs) size))
+
+fold_front : (acc b : ℕ) (bs : List ℕ) (m : ℕ) → m ≡ 8 + 8 * length bs → bit_xor acc (crc_after 0 (b ∷ bs)) ≡ bit_xor (bit_xor acc (crc_bits m b)) (crc_after 0 bs)
+unfolding crc_after
+fold_front acc b bs m size = ap (λ x. bit_xor acc x) (crc_after_apart (crc_bits 8 b) bs ∙ front_alone b (length bs) m (crc_after 0 bs) size) ∙ sym (xor_assoc acc (crc_bits m b) (crc_after 0 bs))
+
+first_front : (b : ℕ) (bs : List ℕ) (m : ℕ) → m ≡ 8 + 8 * length bs → crc_after 0 (b ∷ bs) ≡ bit_xor (crc_bits m b) (crc_after 0 bs)
+unfolding crc_after
+first_front b bs m size = crc_after_apart (crc_bits 8 b) bs ∙ front_alone b (length bs) m (crc_after 0 bs) size
+
+no_bytes : (r : ℕ) → bit_xor r (crc_after 0 []) ≡ r
+unfolding crc_after
+no_bytes r = xor_zero_r r
+
+four_bytes : (a b c d : ℕ) → crc_after 0 (a ∷ b ∷ c ∷ d ∷ []) ≡ bit_xor (bit_xor (bit_xor (crc_bits 32 a) (crc_bits 24 b)) (crc_bits 16 c)) (crc_bits 8 d)
+four_bytes a b c d =
+    let x1 : ℕ = crc_bits 32 a in
+    let x2 : ℕ = bit_xor x1 (crc_bits 24 b) in
+    let x3 : ℕ = bit_xor x2 (crc_bits 16 c) in
+    let x4 : ℕ = bit_xor x3 (crc_bits 8 d) in
+    first_front a (b ∷ c ∷ d ∷ []) 32 refl ∙ fold_front x1 b (c ∷ d ∷ []) 24 refl ∙ fold_front x2 c (d ∷ []) 16 refl ∙ fold_front x3 d [] 8 refl ∙ no_bytes x4
+
+-- a list whose elements are named
+four_of : (xs : List ℕ) (i : ℕ) → i + 4 ≤ length xs → drop i xs ≡ get_or xs i 0 ∷ get_or xs (i + 1) 0 ∷ get_or xs (i + 2) 0 ∷ get_or xs (i + 3) 0 ∷ drop (i + 4) xs
+four_of xs i within =
+    let s1 : suc i ≡ i + 1 = omega arith in
+    let s2 : suc (i + 1) ≡ i + 2 = omega arith in
+    let s3 : suc (i + 2) ≡ i + 3 = omega arith in
+    let s4 : suc (i + 3) ≡ i + 4 = omega arith in
+    let d0 : drop i xs ≡ get_or xs i 0 ∷ drop (i + 1) xs = drop-cons xs i 0 (omega arith) ∙ ap (λ k. get_or xs i 0 ∷ drop k xs) s1 in
+    let d1 : drop (i + 1) xs ≡ get_or xs (i + 1) 0 ∷ drop (i + 2) xs = drop-cons xs (i + 1) 0 (omega arith) ∙ ap (λ k. get_or xs (i + 1) 0 ∷ drop k xs) s2 in
+    let d2 : drop (i + 2) xs ≡ get_or xs (i + 2) 0 ∷ drop (i + 3) xs = drop-cons xs (i + 2) 0 (omega arith) ∙ ap (λ k. get_or xs (i + 2) 0 ∷ drop k xs) s3 in
+    let d3 : drop (i + 3) xs ≡ get_or xs (i + 3) 0 ∷ drop (i + 4) xs = drop-cons xs (i + 3) 0 (omega arith) ∙ ap (λ k. get_or xs (i + 3) 0 ∷ drop k xs) s4 in
+    d0 ∙ ap (λ (l : List ℕ). get_or xs i 0 ∷ l) (d1 ∙ ap (λ (l : List ℕ). get_or xs (i + 1) 0 ∷ l) (d2 ∙ ap (λ (l : List ℕ). get_or xs (i + 2) 0 ∷ l) d3))
+
+pub four_named : (xs : List ℕ) → length xs ≡ 4 → xs ≡ get_or xs 0 0 ∷ get_or xs 1 0 ∷ get_or xs 2 0 ∷ get_or xs 3 0 ∷ []
+four_named xs size = four_of xs 0 (omega arith) ∙ ap (λ (l : List ℕ). get_or xs 0 0 ∷ get_or xs 1 0 ∷ get_or xs 2 0 ∷ get_or xs 3 0 ∷ l) (drop_all 4 xs (omega arith))
+
+pub eight_named : (xs : List ℕ) → length xs ≡ 8
+    → xs ≡ get_or xs 0 0 ∷ get_or xs 1 0 ∷ get_or xs 2 0 ∷ get_or xs 3 0 ∷ get_or xs 4 0 ∷ get_or xs 5 0 ∷ get_or xs 6 0 ∷ get_or xs 7 0 ∷ []
+eight_named xs size =
+    four_of xs 0 (omega arith) ∙ ap (λ (l : List ℕ). get_or xs 0 0 ∷ get_or xs 1 0 ∷ get_or xs 2 0 ∷ get_or xs 3 0 ∷ l) (
+    four_of xs 4 (omega arith) ∙ ap (λ (l : List ℕ). get_or xs 4 0 ∷ get_or xs 5 0 ∷ get_or xs 6 0 ∷ get_or xs 7 0 ∷ l) (drop_all 8 xs (omega arith)))
+
+pub sixteen_named : (xs : List ℕ) → length xs ≡ 16
+    → xs ≡ get_or xs 0 0 ∷ get_or xs 1 0 ∷ get_or xs 2 0 ∷ get_or xs 3 0 ∷ get_or xs 4 0 ∷ get_or xs 5 0 ∷ get_or xs 6 0 ∷ get_or xs 7 0
+    ∷ get_or xs 8 0 ∷ get_or xs 9 0 ∷ get_or xs 10 0 ∷ get_or xs 11 0 ∷ get_or xs 12 0 ∷ get_or xs 13 0 ∷ get_or xs 14 0 ∷ get_or xs 15 0 ∷ []
+sixteen_named xs size =
+    four_of xs 0 (omega arith) ∙ ap (λ (l : List ℕ). get_or xs 0 0 ∷ get_or xs 1 0 ∷ get_or xs 2 0 ∷ get_or xs 3 0 ∷ l) (
+    four_of xs 4 (omega arith) ∙ ap (λ (l : List ℕ). get_or xs 4 0 ∷ get_or xs 5 0 ∷ get_or xs 6 0 ∷ get_or xs 7 0 ∷ l) (
+    four_of xs 8 (omega arith) ∙ ap (λ (l : List ℕ). get_or xs 8 0 ∷ get_or xs 9 0 ∷ get_or xs 10 0 ∷ get_or xs 11 0 ∷ l) (
+    four_of xs 12 (omega arith) ∙ ap (λ (l : List ℕ). get_or xs 12 0 ∷ get_or xs 13 0 ∷ get_or xs 14 0 ∷ get_or xs 15 0 ∷ l) (drop_all 16 xs (omega arith)))))
+
+-- what eight bytes leave
+pub last_eight : (xs : List ℕ) → length xs ≡ 8
+    → bit_xor (bit_xor (bit_xor (bit_xor (bit_xor (bit_xor (bit_xor (crc_bits 64 (get_or xs 0 0)) (crc_bits 56 (get_or xs 1 0))) (crc_bits 48 (get_or xs 2 0)))
+    (crc_bits 40 (get_or xs 3 0))) (crc_bits 32 (get_or xs 4 0))) (crc_bits 24 (get_or xs 5 0))) (crc_bits 16 (get_or xs 6 0))) (crc_bits 8 (get_or xs 7 0))
+    ≡ crc_after 0 xs
+last_eight xs size =
+    let a : ℕ = get_or xs 0 0 in
+    let b : ℕ = get_or xs 1 0 in
+    let c : ℕ = get_or xs 2 0 in
+    let d : ℕ = get_or xs 3 0 in
+    let e : ℕ = get_or xs 4 0 in
+    let f : ℕ = get_or xs 5 0 in
+    let g : ℕ = get_or xs 6 0 in
+    let h : ℕ = get_or xs 7 0 in
+    let x1 : ℕ = crc_bits 64 a in
+    let x2 : ℕ = bit_xor x1 (crc_bits 56 b) in
+    let x3 : ℕ = bit_xor x2 (crc_bits 48 c) in
+    let x4 : ℕ = bit_xor x3 (crc_bits 40 d) in
+    let x5 : ℕ = bit_xor x4 (crc_bits 32 e) in
+    let x6 : ℕ = bit_xor x5 (crc_bits 24 f) in
+    let x7 : ℕ = bit_xor x6 (crc_bits 16 g) in
+    let x8 : ℕ = bit_xor x7 (crc_bits 8 h) in
+    let folded : crc_after 0 (a ∷ b ∷ c ∷ d ∷ e ∷ f ∷ g ∷ h ∷ []) ≡ x8
+    = first_front a (b ∷ c ∷ d ∷ e ∷ f ∷ g ∷ h ∷ []) 64 refl ∙ fold_front x1 b (c ∷ d ∷ e ∷ f ∷ g ∷ h ∷ []) 56 refl ∙ fold_front x2 c (d ∷ e ∷ f ∷ g ∷ h ∷ []) 48 refl
+    ∙ fold_front x3 d (e ∷ f ∷ g ∷ h ∷ []) 40 refl ∙ fold_front x4 e (f ∷ g ∷ h ∷ []) 32 refl ∙ fold_front x5 f (g ∷ h ∷ []) 24 refl ∙ fold_front x6 g (h ∷ []) 16 refl
+    ∙ fold_front x7 h [] 8 refl ∙ no_bytes x8 in
+    sym (ap (λ (l : List ℕ). crc_after 0 l) (eight_named xs size) ∙ folded)
+
+-- what four bytes leave after eight zero bytes
+pub middle_four : (xs : List ℕ) → length xs ≡ 4
+    → bit_xor (bit_xor (bit_xor (crc_bits 96 (get_or xs 0 0)) (crc_bits 88 (get_or xs 1 0))) (crc_bits 80 (get_or xs 2 0))) (crc_bits 72 (get_or xs 3 0)) ≡ crc_bits 64 (crc_after 0 xs)
+middle_four xs size =
+    let a : ℕ = crc_bits 32 (get_or xs 0 0) in
+    let b : ℕ = crc_bits 24 (get_or xs 1 0) in
+    let c : ℕ = crc_bits 16 (get_or xs 2 0) in
+    let d : ℕ = crc_bits 8 (get_or xs 3 0) in
+    let folded : crc_after 0 xs ≡ bit_xor (bit_xor (bit_xor a b) c) d = ap (λ (l : List ℕ). crc_after 0 l) (four_named xs size) ∙ four_bytes (get_or xs 0 0) (get_or xs 1 0) (get_or xs 2 0) (get_or xs 3 0) in
+    let parts : crc_bits 64 (bit_xor (bit_xor (bit_xor a b) c) d) ≡ bit_xor (bit_xor (bit_xor (crc_bits 64 a) (crc_bits 64 b)) (crc_bits 64 c)) (crc_bits 64 d)
+    = crc_bits-xor 64 (bit_xor (bit_xor a b) c) d ∙ ap (λ x. bit_xor x (crc_bits 64 d)) (crc_bits-xor 64 (bit_xor a b) c ∙ ap (λ x. bit_xor x (crc_bits 64 c)) (crc_bits-xor 64 a b)) in
+    rw (folded, parts, ← crc_bits-add 32 64 (get_or xs 0 0), ← crc_bits-add 24 64 (get_or xs 1 0), ← crc_bits-add 16 64 (get_or xs 2 0), ← crc_bits-add 8 64 (get_or xs 3 0)) refl
+
+-- a register that goes into the first four of sixteen bytes
+pub crc_after_sixteen : (r : ℕ) (first middle last : List ℕ) → length first ≡ 4 → length middle ≡ 4 → length last ≡ 8 → ((i : ℕ) → get_or first i 0 < 256)
+    → bit_xor (bit_xor (crc_bits 64 (crc_after 0 middle)) (crc_after 0 last)) (crc_bits 128 (bit_xor (from_le_bytes w32 first) r)) ≡ crc_after r (first ++ (middle ++ last))
+crc_after_sixteen r first middle last f m l fits =
+    let later : List ℕ = middle ++ last in
+    let value : from_le_bytes w32 first ≡ value_of first = sum_value 3 first f in
+    let word : ℕ = bit_xor r (value_of first) in
+    let start : crc_after r first ≡ crc_bits 32 word = let size : 8 * length first ≡ 32 = omega arith in crc_after_word r first fits ∙ ap (λ n. crc_bits n word) size in
+    let size : 8 * length later ≡ 96 = omega (arith, length-append middle last) in
+    let moved : crc_bits (8 * length later) (crc_after r first) ≡ crc_bits 128 word = rw (size, start) (sym (crc_bits-add 32 96 word)) in
+    let back : crc_after 0 later ≡ bit_xor (crc_bits 64 (crc_after 0 middle)) (crc_after 0 last)
+    = crc_after-append 0 middle last ∙ crc_after_apart (crc_after 0 middle) last ∙ (let eight : 8 * length last ≡ 64 = omega arith in ap (λ n. bit_xor (crc_bits n (crc_after 0 middle)) (crc_after 0 last)) eight) in
+    let whole : crc_after r (first ++ later) ≡ bit_xor (crc_bits 128 word) (bit_xor (crc_bits 64 (crc_after 0 middle)) (crc_after 0 last))
+    = crc_after-append r first later ∙ crc_after_apart (crc_after r first) later ∙ ap (λ x. bit_xor x (crc_after 0 later)) moved ∙ ap (λ x. bit_xor (crc_bits 128 word) x) back in
+    let turned : crc_bits 128 (bit_xor (from_le_bytes w32 first) r) ≡ crc_bits 128 word = ap (λ x. crc_bits 128 x) (ap (λ v. bit_xor v r) value ∙ xor_comm (value_of first) r) in
+    rw turned (xor_comm (bit_xor (crc_bits 64 (crc_after 0 middle)) (crc_after 0 last)) (crc_bits 128 word) ∙ sym whole)
+
+pub fits_named : (a b c d : ℕ) → a < 256 → b < 256 → c < 256 → d < 256 → (i : ℕ) → get_or (a ∷ b ∷ c ∷ d ∷ []) i 0 < 256
+fits_named a b c d fa fb fc fd zero = fa
+fits_named a b c d fa fb fc fd (suc zero) = fb
+fits_named a b c d fa fb fc fd (suc (suc zero)) = fc
+fits_named a b c d fa fb fc fd (suc (suc (suc zero))) = fd
+fits_named a b c d fa fb fc fd (suc (suc (suc (suc i)))) = omega arith
 
 concat-first_chunks : (n k : ℕ) (xs : List ℕ) → concat (first_chunks n k xs) ≡ take (k * n) xs
 concat-first_chunks n zero xs = let none : zero * n ≡ 0 = omega arith in rw none refl
@@ -201,32 +316,23 @@ register_step r b =
     let parts : bit_xor r b ≡ bit_xor (bit_xor (r % 256) b) (r / 256 * 2 ^ 8) = ap (λ x. bit_xor x b) (split_byte r) ∙ xor_swap (r % 256) (r / 256 * 2 ^ 8) b in
     rw low (xor_comm (r / 256) (crc_bits 8 (bit_xor (r % 256) b)) ∙ sym (ap (λ x. crc_bits 8 x) parts ∙ crc_bits_below 8 (bit_xor (r % 256) b) (r / 256)))
 
--- ---- eight bytes of a word
+-- ---- four bytes of a word
 
 fold_more : (acc j m x p q : ℕ) → m ≡ j + 1 → x / p / 256 ≡ x / q
     → bit_xor acc (crc_bits (8 * m) (x / p)) ≡ bit_xor (bit_xor acc (crc_bits (8 * m) (x / p % 256))) (crc_bits (8 * j) (x / q))
 fold_more acc j m x p q next parts = rw next (fold_byte acc j (x / p) ∙ ap (λ y. bit_xor (bit_xor acc (crc_bits (8 * (j + 1)) (x / p % 256))) (crc_bits (8 * j) y)) parts)
 
-pub fold_eight : (k x : ℕ) → x < 2 ^ 64
-    → bit_xor (bit_xor (bit_xor (bit_xor (bit_xor (bit_xor (bit_xor (crc_bits (8 * (k + 8)) (byte_at 0 x)) (crc_bits (8 * (k + 7)) (byte_at 1 x))) (crc_bits (8 * (k + 6)) (byte_at 2 x)))
-    (crc_bits (8 * (k + 5)) (byte_at 3 x))) (crc_bits (8 * (k + 4)) (byte_at 4 x))) (crc_bits (8 * (k + 3)) (byte_at 5 x))) (crc_bits (8 * (k + 2)) (byte_at 6 x))) (crc_bits (8 * (k + 1)) (byte_at 7 x))
-    ≡ crc_bits (8 * (k + 8)) x
-fold_eight k x lt =
-    let a0 : ℕ = crc_bits (8 * (k + 8)) (byte_at 0 x) in
-    let a1 : ℕ = bit_xor a0 (crc_bits (8 * (k + 7)) (byte_at 1 x)) in
-    let a2 : ℕ = bit_xor a1 (crc_bits (8 * (k + 6)) (byte_at 2 x)) in
-    let a3 : ℕ = bit_xor a2 (crc_bits (8 * (k + 5)) (byte_at 3 x)) in
-    let a4 : ℕ = bit_xor a3 (crc_bits (8 * (k + 4)) (byte_at 4 x)) in
-    let a5 : ℕ = bit_xor a4 (crc_bits (8 * (k + 3)) (byte_at 5 x)) in
-    let a6 : ℕ = bit_xor a5 (crc_bits (8 * (k + 2)) (byte_at 6 x)) in
-    let a7 : ℕ = bit_xor a6 (crc_bits (8 * (k + 1)) (byte_at 7 x)) in
-    let first : crc_bits (8 * (k + 8)) x ≡ bit_xor a0 (crc_bits (8 * (k + 7)) (x / 256 ^ 1))
-    = let size : k + 8 ≡ k + 7 + 1 = omega arith in rw size (fold_first (k + 7) x) in
-    let s1 : bit_xor a0 (crc_bits (8 * (k + 7)) (x / 256 ^ 1)) ≡ bit_xor a1 (crc_bits (8 * (k + 6)) (x / 256 ^ 2)) = fold_more a0 (k + 6) (k + 7) x (256 ^ 1) (256 ^ 2) (omega arith) (omega arith) in
-    let s2 : bit_xor a1 (crc_bits (8 * (k + 6)) (x / 256 ^ 2)) ≡ bit_xor a2 (crc_bits (8 * (k + 5)) (x / 256 ^ 3)) = fold_more a1 (k + 5) (k + 6) x (256 ^ 2) (256 ^ 3) (omega arith) (omega arith) in
-    let s3 : bit_xor a2 (crc_bits (8 * (k + 5)) (x / 256 ^ 3)) ≡ bit_xor a3 (crc_bits (8 * (k + 4)) (x / 256 ^ 4)) = fold_more a2 (k + 4) (k + 5) x (256 ^ 3) (256 ^ 4) (omega arith) (omega arith) in
-    let s4 : bit_xor a3 (crc_bits (8 * (k + 4)) (x / 256 ^ 4)) ≡ bit_xor a4 (crc_bits (8 * (k + 3)) (x / 256 ^ 5)) = fold_more a3 (k + 3) (k + 4) x (256 ^ 4) (256 ^ 5) (omega arith) (omega arith) in
-    let s5 : bit_xor a4 (crc_bits (8 * (k + 3)) (x / 256 ^ 5)) ≡ bit_xor a5 (crc_bits (8 * (k + 2)) (x / 256 ^ 6)) = fold_more a4 (k + 2) (k + 3) x (256 ^ 5) (256 ^ 6) (omega arith) (omega arith) in
-    let s6 : bit_xor a5 (crc_bits (8 * (k + 2)) (x / 256 ^ 6)) ≡ bit_xor a6 (crc_bits (8 * (k + 1)) (x / 256 ^ 7)) = fold_more a5 (k + 1) (k + 2) x (256 ^ 6) (256 ^ 7) (omega arith) (omega arith) in
-    let s7 : bit_xor a6 (crc_bits (8 * (k + 1)) (x / 256 ^ 7)) ≡ bit_xor a7 (crc_bits (8 * k) 0) = fold_more a6 k (k + 1) x (256 ^ 7) (256 ^ 8) refl (omega arith) ∙ ap (λ y. bit_xor a7 (crc_bits (8 * k) y)) (omega arith) in
-    sym (first ∙ s1 ∙ s2 ∙ s3 ∙ s4 ∙ s5 ∙ s6 ∙ s7 ∙ ap (λ y. bit_xor a7 y) (crc_bits-zero (8 * k)) ∙ xor_zero_r a7)
+pub fold_four : (k x : ℕ) → x < 2 ^ 32
+    → bit_xor (bit_xor (bit_xor (crc_bits (8 * (k + 4)) (byte_at 0 x)) (crc_bits (8 * (k + 3)) (byte_at 1 x))) (crc_bits (8 * (k + 2)) (byte_at 2 x))) (crc_bits (8 * (k + 1)) (byte_at 3 x))
+    ≡ crc_bits (8 * (k + 4)) x
+fold_four k x lt =
+    let a0 : ℕ = crc_bits (8 * (k + 4)) (byte_at 0 x) in
+    let a1 : ℕ = bit_xor a0 (crc_bits (8 * (k + 3)) (byte_at 1 x)) in
+    let a2 : ℕ = bit_xor a1 (crc_bits (8 * (k + 2)) (byte_at 2 x)) in
+    let a3 : ℕ = bit_xor a2 (crc_bits (8 * (k + 1)) (byte_at 3 x)) in
+    let first : crc_bits (8 * (k + 4)) x ≡ bit_xor a0 (crc_bits (8 * (k + 3)) (x / 256 ^ 1))
+    = let size : k + 4 ≡ k + 3 + 1 = omega arith in rw size (fold_first (k + 3) x) in
+    let s1 : bit_xor a0 (crc_bits (8 * (k + 3)) (x / 256 ^ 1)) ≡ bit_xor a1 (crc_bits (8 * (k + 2)) (x / 256 ^ 2)) = fold_more a0 (k + 2) (k + 3) x (256 ^ 1) (256 ^ 2) (omega arith) (omega arith) in
+    let s2 : bit_xor a1 (crc_bits (8 * (k + 2)) (x / 256 ^ 2)) ≡ bit_xor a2 (crc_bits (8 * (k + 1)) (x / 256 ^ 3)) = fold_more a1 (k + 1) (k + 2) x (256 ^ 2) (256 ^ 3) (omega arith) (omega arith) in
+    let s3 : bit_xor a2 (crc_bits (8 * (k + 1)) (x / 256 ^ 3)) ≡ bit_xor a3 (crc_bits (8 * k) 0) = fold_more a2 k (k + 1) x (256 ^ 3) (256 ^ 4) refl (omega arith) ∙ ap (λ y. bit_xor a3 (crc_bits (8 * k) y)) (omega arith) in
+    sym (first ∙ s1 ∙ s2 ∙ s3 ∙ ap (λ y. bit_xor a3 y) (crc_bits-zero (8 * k)) ∙ xor_zero_r a3)

@@ -10,6 +10,10 @@ ghost use Rattle.raft_log_checksum.specs.Checksum.{crc_bits, crc_after, crc32_of
 use few_zeros::AFTER_FEW;
 use many_zeros::AFTER_MANY;
 
+/// What a byte leaves after fewer than eight zero bytes, and after eight and more: one table, so that the loop over chunks
+/// needs one address.
+const AFTER: [[[u32; 256]; 8]; 2] = [AFTER_FEW, AFTER_MANY];
+
 /// The register at the start, and what turns it at the end.
 const ALL_ONES: u32 = u32::MAX;
 
@@ -43,37 +47,41 @@ fn after_bytes(register: u32, bytes: &[u8]) -> u32
     register
 }
 
-/// The register after sixteen bytes: it goes into the first four, and then each byte counts for itself.
+/// The register after sixteen bytes: it goes into the first four, and then each byte counts for itself. Those that don't
+/// wait for the register come first.
 #[inline]
 fn after_chunk(register: u32, chunk: &[u8; 16]) -> u32
     ensures { result ≡ crc_after register chunk.now }
 {
-    let word = u128::from_le_bytes(*chunk) ^ register as u128;
-    after_first_eight((word & u64::MAX as u128) as u64) ^ after_last_eight((word >> 64) as u64)
+    let [a, b, c, d, e, f, g, h, i, j, k, l, m, n, o, p] = *chunk;
+    let later = after_middle_four([e, f, g, h]) ^ after_last_eight([i, j, k, l, m, n, o, p]);
+    later ^ after_first_four(u32::from_le_bytes([a, b, c, d]) ^ register)
 }
 
-/// What eight bytes, the lowest first, leave after eight zero bytes.
+/// What four bytes, the lowest first, leave after twelve zero bytes.
 #[inline]
-fn after_first_eight(word: u64) -> u32
+fn after_first_four(word: u32) -> u32
     ensures { result ≡ crc_bits 128 word }
 {
-    let [a, b, c, d, e, f, g, h] = word.to_le_bytes();
-    after_many(7, a)
-        ^ after_many(6, b)
-        ^ after_many(5, c)
-        ^ after_many(4, d)
-        ^ after_many(3, e)
-        ^ after_many(2, f)
-        ^ after_many(1, g)
-        ^ after_many(0, h)
+    let [a, b, c, d] = word.to_le_bytes();
+    after_many(7, a) ^ after_many(6, b) ^ after_many(5, c) ^ after_many(4, d)
 }
 
-/// What eight bytes, the lowest first, leave.
+/// What four bytes leave after eight zero bytes.
 #[inline]
-fn after_last_eight(word: u64) -> u32
-    ensures { result ≡ crc_bits 64 word }
+fn after_middle_four(bytes: [u8; 4]) -> u32
+    ensures { result ≡ crc_bits 64 (crc_after 0 bytes) }
 {
-    let [a, b, c, d, e, f, g, h] = word.to_le_bytes();
+    let [a, b, c, d] = bytes;
+    after_many(3, a) ^ after_many(2, b) ^ after_many(1, c) ^ after_many(0, d)
+}
+
+/// What eight bytes leave.
+#[inline]
+fn after_last_eight(bytes: [u8; 8]) -> u32
+    ensures { result ≡ crc_after 0 bytes }
+{
+    let [a, b, c, d, e, f, g, h] = bytes;
     after_few(7, a)
         ^ after_few(6, b)
         ^ after_few(5, c)
@@ -90,7 +98,7 @@ fn after_few(zeros: usize, byte: u8) -> u32
     requires { zeros < 8 }
     ensures { result ≡ crc_bits (8 * (zeros + 1)) byte }
 {
-    AFTER_FEW[zeros][byte as usize]
+    AFTER[0][zeros][byte as usize]
 }
 
 /// What a byte leaves after eight zero bytes and so many more.
@@ -99,7 +107,7 @@ fn after_many(zeros: usize, byte: u8) -> u32
     requires { zeros < 8 }
     ensures { result ≡ crc_bits (8 * (zeros + 9)) byte }
 {
-    AFTER_MANY[zeros][byte as usize]
+    AFTER[1][zeros][byte as usize]
 }
 
 #[cfg(test)]

@@ -1,15 +1,15 @@
 -- The loop that reads a number of variable length: the low digits are read, the others follow.
-use Rattle.std.proofs.Common.{◌≡◌, ℕ, zero, suc, ◌+◌, ◌-◌, ◌*◌, ◌%◌, ◌^◌, ◌<◌, ◌≤◌, ltb, true, false, List, [], ◌∷◌, length, get_or, drop, Result, Ok, Err, refl, sym, ap, subst, ◌∙◌, arith, add-one}
+use Rattle.std.proofs.Common.{◌≡◌, ℕ, zero, suc, ◌+◌, ◌-◌, ◌*◌, ◌%◌, ◌^◌, ◌<◌, ◌≤◌, ltb, true, false, List, [], ◌∷◌, length, length-drop, get_or, take, drop, Result, Ok, Err, refl, sym, ap, subst, ◌∙◌, arith, add-one}
 use Rattle.std.proofs.Math.Seq.{drop-cons}
 use Rattle.std.proofs.lemmas.Bool.{lt-ltb, le-ltb}
-use Rattle.std.proofs.lemmas.List.{drop_all}
+use Rattle.std.proofs.lemmas.List.{drop_all, take_all}
 use Rattle.std.proofs.lemmas.Nat.{pow-add, and_mask, shl_whole, mul-add-lt, pow_below}
 use Rattle.std.specs.Prelude.{bit_and}
 use Rattle.std.specs.declared.io.ErrorKind.TheVariants.{UnexpectedEof, InvalidData}
 use Rattle.raft_log_codec.specs.declared.codec.error.Error.{Error}
 use Rattle.raft_log_codec.specs.declared.codec.error.Error.TheVariants.{Io}
 use Rattle.raft_log_codec.specs.Grammar.{◌>>=◌}
-use Rattle.raft_log_codec.specs.Number.{var_within}
+use Rattle.raft_log_codec.specs.Number.{var_within, var_u64_at}
 
 -- low digits before what is read, which counts in units
 abbrev pub added : ℕ → ℕ → Result (ℕ × List ℕ) Error → Result (ℕ × List ℕ) Error
@@ -103,3 +103,16 @@ unfolding var_within
 var_over low i bytes total is within large so_far =
     let test : ltb (get_or bytes 9 0) 2 ≡ false = le-ltb _ _ large in
     sym (at_nine low bytes i total is so_far) ∙ rw (front_is 9 bytes within, test) refl
+
+-- ---- a number of two bytes
+
+pub var_two : (bytes : List ℕ) (n : ℕ) → 2 ≤ length bytes → 128 ≤ get_or bytes 0 0 → get_or bytes 1 0 < 128 → n ≡ get_or bytes 0 0 % 128 + get_or bytes 1 0 * 128 → var_u64_at bytes ≡ Ok (n, take (length bytes - 2) (drop 2 bytes))
+unfolding var_u64_at
+var_two bytes n within top small is =
+    let total : Result (ℕ × List ℕ) Error = var_u64_at bytes in
+    let low : ℕ = 0 + digit (get_or bytes 0 0) 0 in
+    let one : added low (2 ^ (7 * 1)) (var_within (9 - 1) (drop 1 bytes)) ≡ total = var_goes_on 0 0 bytes total (omega arith) (omega arith) top (added_none total) in
+    let two : total ≡ Ok (low + digit (get_or bytes 1 0) 1, drop 2 bytes) = var_ends low 1 bytes total (omega arith) (omega arith) small one in
+    let number : low + digit (get_or bytes 1 0) 1 ≡ n = omega (arith, is, digit_is (get_or bytes 0 0) 0 (omega arith), digit_is (get_or bytes 1 0) 1 (omega arith)) in
+    let rest : take (length bytes - 2) (drop 2 bytes) ≡ drop 2 bytes = take_all (length bytes - 2) (drop 2 bytes) (omega (arith, length-drop 2 bytes)) in
+    rw (rest, ← number) two

@@ -103,3 +103,18 @@ spelling_goes_on len rest bytes total le room large so_far =
 pub spelling_ends : (len rest : ℕ) (bytes total : List ℕ) → len < length bytes → rest < 128 → take len bytes ++ var_bytes_within (9 - len) rest ≡ total → take (len + 1) (set bytes len rest) ≡ total
 spelling_ends len rest bytes total room small so_far =
     rw (take_more_set bytes len rest room) (ap (λ (l : List ℕ). take len bytes ++ l) (sym (last_spelling (9 - len) rest small)) ∙ so_far)
+
+-- ---- the loop that appends it
+
+pub append_goes_on : (len next rest : ℕ) (front total : List ℕ) → len ≤ 8 → next ≡ len + 1 → 128 ≤ rest → front ++ var_bytes_within (9 - len) rest ≡ total
+    → (front ++ bit_or (bit_and rest 127) 128 ∷ []) ++ var_bytes_within (9 - next) (rest / 128) ≡ total
+append_goes_on len next rest front total le is large so_far =
+    let k : 9 - len ≡ suc (9 - next) = omega arith in
+    let one : front ++ var_bytes_within (9 - len) rest ≡ front ++ ((rest % 128 + 128) ∷ var_bytes_within (9 - next) (rest / 128)) = rw (k, more_spelling (9 - next) rest large) refl in
+    rw (digit_byte rest, append_assoc front ((rest % 128 + 128) ∷ []) (var_bytes_within (9 - next) (rest / 128))) (sym one ∙ so_far)
+
+pub append_ends : (len rest : ℕ) (front total : List ℕ) → rest < 128 → front ++ var_bytes_within (9 - len) rest ≡ total → front ++ rest ∷ [] ≡ total
+append_ends len rest front total small so_far = ap (λ (l : List ℕ). front ++ l) (sym (last_spelling (9 - len) rest small)) ∙ so_far
+
+pub rest_below_next : (len next rest : ℕ) → len ≤ 8 → next ≡ len + 1 → rest < 2 ^ (64 - 7 * len) → rest / 128 < 2 ^ (64 - 7 * next)
+rest_below_next len next rest le is below = rw is (rest_below len rest le below)

@@ -1,6 +1,6 @@
 //! Numbers at the end of a buffer that the caller keeps: where memory runs out, the buffer is as it was.
 
-ghost use Rattle.std.specs.Prelude.{◌≡◌, ◌++◌, OnOk, OnErr};
+ghost use Rattle.std.specs.Prelude.{◌≡◌, ◌++◌, ◌+◌, ◌≤◌, vec_len, vec_capacity, OnOk, OnErr};
 ghost use Rattle.raft_log_codec.specs.Number.{
   IsU64,
   IsU32Le,
@@ -11,7 +11,7 @@ ghost use Rattle.raft_log_codec.specs.Number.{
   var_u64_bytes,
 };
 
-use super::variable::{CONTINUES, spell_var_u64};
+use super::variable::{CONTINUES, MAX_VAR_U64_LEN};
 use std::alloc::AllocError;
 
 /// Appends what `encode_u64` writes.
@@ -36,6 +36,19 @@ pub fn append_u32_le(out: &mut Vec<u8>, number: u32) -> Result<(), AllocError>
     out.extend_from_slice(&number.to_le_bytes())
 }
 
+/// Appends the shortest spelling of the number, for which there is room.
+fn push_digits(out: &mut Vec<u8>, number: u64)
+    requires { vec_len out.old + 10 ≤ vec_capacity out.old }
+    ensures { out.new.items ≡ out.old.items ++ var_u64_bytes number }
+{
+    let mut rest = number;
+    while rest >= CONTINUES as u64 {
+        out.push_reserved((rest & 0x7f) as u8 | CONTINUES);
+        rest >>= 7;
+    }
+    out.push_reserved(rest as u8);
+}
+
 /// Appends what `encode_var_u64` writes.
 #[inline]
 pub fn append_var_u64(out: &mut Vec<u8>, number: u64) -> Result<(), AllocError>
@@ -47,6 +60,7 @@ pub fn append_var_u64(out: &mut Vec<u8>, number: u64) -> Result<(), AllocError>
         out.push(number as u8)?;
         return Ok(());
     }
-    let (bytes, len) = spell_var_u64(number);
-    out.extend_from_slice(&bytes[..len])
+    out.reserve(MAX_VAR_U64_LEN)?;
+    push_digits(out, number);
+    Ok(())
 }

@@ -34,7 +34,7 @@ const GREATEST_LAST: u8 = 1;
 
 /// Reads what `encode_var_u64` writes, and longer spellings of at most ten bytes. A tenth byte above 1, or with more
 /// after it, is refused as `InvalidData`, and bytes that end first as `UnexpectedEof`.
-#[inline]
+#[inline(always)]
 pub fn decode_var_u64(source: &mut BytesSlice<'_>) -> Result<u64>
     ensures decodes { Decodes IsVarU64 result source.old.now source.new.now }
     ensures short { IsShort result ↔ EndsFirst source.old.now }
@@ -44,8 +44,8 @@ pub fn decode_var_u64(source: &mut BytesSlice<'_>) -> Result<u64>
     take_var_u64(source)
 }
 
-/// Takes the number at the front, and where there is none nothing.
-#[inline]
+/// Takes the number at the front, and where there is none nothing. Numbers of one and two bytes are read in place.
+#[inline(always)]
 fn take_var_u64(source: &mut BytesSlice<'_>) -> Result<u64>
     ensures { Reads result source.old.now source.new.now (var_u64_at source.old.now) }
 {
@@ -53,6 +53,10 @@ fn take_var_u64(source: &mut BytesSlice<'_>) -> Result<u64>
         [byte, rest @ ..] if *byte < CONTINUES => {
             *source = rest;
             Ok(*byte as u64)
+        }
+        [low, high, rest @ ..] if *low >= CONTINUES && *high < CONTINUES => {
+            *source = rest;
+            Ok((*low - CONTINUES) as u64 + *high as u64 * CONTINUES as u64)
         }
         bytes => {
             let (number, len) = var_u64_front(bytes)?;
@@ -63,6 +67,7 @@ fn take_var_u64(source: &mut BytesSlice<'_>) -> Result<u64>
 }
 
 /// The number at the front, and how many bytes it takes.
+#[inline(never)]
 fn var_u64_front(bytes: &[u8]) -> Result<(u64, usize)>
     ensures { Finds result bytes.now (var_u64_at bytes.now) }
 {

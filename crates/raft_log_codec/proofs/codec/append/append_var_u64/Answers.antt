@@ -11,3 +11,9 @@ returns-then-number-clause-ok c = let one : var_u64_bytes c.args.number ≡ c.ar
 
 pub returns-then-number-clause-spelled : goal.returns-then-number-clause-spelled
 returns-then-number-clause-spelled c = var_u64_shortest c.args.number (omega arith)
+
+pub returns-in_err-reserve-clause-spelled : goal.returns-in_err-reserve-clause-spelled
+returns-in_err-reserve-clause-spelled c = var_u64_shortest c.args.number (omega arith)
+
+pub returns-clause-spelled : goal.returns-clause-spelled
+returns-clause-spelled c = var_u64_shortest c.args.number (omega arith)

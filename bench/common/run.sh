@@ -1,0 +1,39 @@
+#!/usr/bin/env bash
+# Builds a benchmark's main.rt.txt over crates of this repository, and its Rust twin rust.rs, runs both so many times, and
+# prints the best of each. Each line that they print has the work, its MB/s and a sum, which must be the same.
+# Usage: bench/common/run.sh FOLDER ROUNDS CRATE..; the crates are those that main.rt.txt names. RT names the toolchain's command.
+set -euo pipefail
+here="$(cd "$1" && pwd)"
+rounds="$2"
+shift 2
+top="$(cd "$(dirname "$0")/../.." && pwd)"
+name="$(basename "$here")_bench"
+room="$(mktemp -d)"
+trap 'rm -rf "$room"' EXIT
+
+# the lines of crates.txt of these crates, and of those below them
+awk -v wanted="$*" '
+    { sub(/#.*/, ""); if (split($0, part, ":") == 2) { below[part[1]] = part[2]; line[part[1]] = $0 } }
+    END { count = split(wanted, todo, " ")
+          for (i = 1; i <= count; i++) if (todo[i] in line && !(todo[i] in seen)) {
+              seen[todo[i]] = 1; print line[todo[i]]
+              more = split(below[todo[i]], dep, " "); for (k = 1; k <= more; k++) todo[++count] = dep[k] } }' "$top/crates.txt" > "$room/crates.txt"
+mkdir -p "$room/crates/$name/src"
+cut -d: -f1 "$room/crates.txt" | while read -r crate; do
+    cp -r "$top/crates/$crate" "$room/crates/"
+done
+echo "$name: $*" >> "$room/crates.txt"
+cp "$here/main.rt.txt" "$room/crates/$name/src/main.rt"
+(cd "$room/crates/$name" && "${RT:-rt}" run > "$room/first" 2> "$room/log") || { cat "$room/log" >&2; exit 1; }
+rustc --edition 2021 -O -C codegen-units=1 -o "$room/rust" "$here/rust.rs"
+
+for _ in $(seq "$rounds"); do
+    "$room/rust" >> "$room/rust.out"
+    "$room/crates/$name/out/$name" >> "$room/rattle.out"
+done
+awk 'FNR == NR { if ($2 > rust[$1]) rust[$1] = $2; sum[$1] = $3; next }
+     { if (sum[$1] != $3) { print $1 ": the sums differ"; bad = 1 }
+       if ($2 > best[$1]) best[$1] = $2; if (!($1 in seen)) { seen[$1] = 1; order[++n] = $1 } }
+     END { printf "%-22s %12s %12s %8s\n", "work", "Rattle MB/s", "Rust MB/s", "ratio"
+           for (i = 1; i <= n; i++) { w = order[i]; printf "%-22s %12d %12d %8.2f\n", w, best[w], rust[w], best[w] / rust[w] }
+           exit bad }' "$room/rust.out" "$room/rattle.out"

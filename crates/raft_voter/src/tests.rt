@@ -15,6 +15,23 @@ fn vote(term: u64, candidate: u64, last_index: u64, last_term: u64) -> Request {
     }
 }
 
+fn compact(index: u64) -> Request {
+    Request::Compact { index }
+}
+
+/// A snapshot up to this entry, from the leader of term 2.
+fn install(index: u64, entry_term: u64) -> Request {
+    Request::Install {
+        term: 2,
+        index,
+        entry_term,
+    }
+}
+
+fn read(from: u64, to: u64) -> Request {
+    Request::Read { from, to }
+}
+
 /// An Append whose entries have these terms and one byte each.
 fn append(
     alloc: Global,
@@ -71,7 +88,7 @@ fn later_leader_overwrites(rt: HostRuntime) -> Result<(), Fail> {
         Reply::Matched(3),
     )?;
     let found = entries(alloc, &[(1, 1, 10), (2, 2, 20), (3, 2, 21)])?;
-    asks(&rt, &mut voter, Request::Read { from: 1, to: 4 }, found)?;
+    asks(&rt, &mut voter, read(1, 4), found)?;
     asks(&rt, &mut voter, vote(3, 9, 5, 1), Reply::Denied(3))?;
     asks(
         &rt,
@@ -100,7 +117,7 @@ fn matching_entries_stay(rt: HostRuntime) -> Result<(), Fail> {
         Reply::Matched(2),
     )?;
     let found = entries(alloc, &[(1, 1, 10), (2, 1, 11), (3, 1, 12)])?;
-    asks(&rt, &mut voter, Request::Read { from: 1, to: 4 }, found)?;
+    asks(&rt, &mut voter, read(1, 4), found)?;
     Ok(())
 }
 
@@ -124,28 +141,10 @@ fn install_keeps_only_what_follows_its_entry(rt: HostRuntime) -> Result<(), Fail
         append(alloc, 2, 0, 0, &[(1, 10), (1, 11), (2, 12)])?,
         Reply::Matched(3),
     )?;
-    asks(
-        &rt,
-        &mut voter,
-        Request::Install {
-            term: 2,
-            index: 2,
-            entry_term: 1,
-        },
-        Reply::Base(2),
-    )?;
+    asks(&rt, &mut voter, install(2, 1), Reply::Base(2))?;
     let found = entries(alloc, &[(3, 2, 12)])?;
-    asks(&rt, &mut voter, Request::Read { from: 3, to: 4 }, found)?;
-    asks(
-        &rt,
-        &mut voter,
-        Request::Install {
-            term: 2,
-            index: 3,
-            entry_term: 9,
-        },
-        Reply::Base(3),
-    )?;
+    asks(&rt, &mut voter, read(3, 4), found)?;
+    asks(&rt, &mut voter, install(3, 9), Reply::Base(3))?;
     let state = voter.state();
     assert_eq!(rt; (state.last_index, state.last_term), (3, 9));
     Ok(())
@@ -156,28 +155,9 @@ fn install_keeps_only_what_follows_its_entry(rt: HostRuntime) -> Result<(), Fail
 fn hints_of_an_empty_log(rt: HostRuntime) -> Result<(), Fail> {
     let alloc = rt.alloc();
     let mut voter = Voter::new(alloc);
-    asks(
-        &rt,
-        &mut voter,
-        Request::Install {
-            term: 2,
-            index: 3,
-            entry_term: 9,
-        },
-        Reply::Base(3),
-    )?;
-    asks(
-        &rt,
-        &mut voter,
-        Request::Read { from: 4, to: 5 },
-        Reply::Unknown(3),
-    )?;
-    asks(
-        &rt,
-        &mut voter,
-        Request::Read { from: 4, to: 4 },
-        entries(alloc, &[])?,
-    )?;
+    asks(&rt, &mut voter, install(3, 9), Reply::Base(3))?;
+    asks(&rt, &mut voter, read(4, 5), Reply::Unknown(3))?;
+    asks(&rt, &mut voter, read(4, 4), entries(alloc, &[])?)?;
     asks(
         &rt,
         &mut voter,
@@ -209,36 +189,11 @@ fn compacted_entries_are_gone(rt: HostRuntime) -> Result<(), Fail> {
         append(alloc, 2, 0, 0, &[(1, 10), (2, 20), (2, 21)])?,
         Reply::Matched(3),
     )?;
-    asks(
-        &rt,
-        &mut voter,
-        Request::Compact { index: 4 },
-        Reply::Base(0),
-    )?;
-    asks(
-        &rt,
-        &mut voter,
-        Request::Compact { index: 2 },
-        Reply::Base(2),
-    )?;
-    asks(
-        &rt,
-        &mut voter,
-        Request::Compact { index: 1 },
-        Reply::Base(2),
-    )?;
-    asks(
-        &rt,
-        &mut voter,
-        Request::Read { from: 2, to: 4 },
-        Reply::Gone(2),
-    )?;
-    asks(
-        &rt,
-        &mut voter,
-        Request::Read { from: 3, to: 4 },
-        entries(alloc, &[(3, 2, 21)])?,
-    )?;
+    asks(&rt, &mut voter, compact(4), Reply::Base(0))?;
+    asks(&rt, &mut voter, compact(2), Reply::Base(2))?;
+    asks(&rt, &mut voter, compact(1), Reply::Base(2))?;
+    asks(&rt, &mut voter, read(2, 4), Reply::Gone(2))?;
+    asks(&rt, &mut voter, read(3, 4), entries(alloc, &[(3, 2, 21)])?)?;
     let state = VoterState {
         term: 2,
         vote: None,
@@ -392,7 +347,7 @@ fn refused_memory_changes_nothing(rt: HostRuntime) -> Result<(), Fail> {
     for request in [
         append(alloc, 3, 0, 0, &[(1, 10), (1, 11), (2, 12)])?,
         append(alloc, 4, 1, 1, &[(3, 20), (4, 21)])?,
-        Request::Read { from: 1, to: 4 },
+        read(1, 4),
     ] {
         let before = voter.state();
         if let Err(Memory) = voter.step(&request) {

@@ -1,5 +1,7 @@
 -- Entries that are added to a batch, by their indexes and their bytes.
-use Rattle.std.specs.Prelude.{◌≡◌, ◌⊎◌, ℕ, ◌+◌, ◌<◌, ◌^◌, List, [], ◌∷◌, ◌++◌, length, sum_by, flat_map}
+use Rattle.std.specs.Prelude.{◌≡◌, ◌⊎◌, ℕ, ◌+◌, ◌<◌, ◌^◌, ◌==◌, if◌then◌else◌, codes, List, [], ◌∷◌, ◌++◌, length, sum_by, flat_map}
+use Rattle.std.specs.Fmt.{decimal}
+use Rattle.std.specs.String.{string_bytes}
 use Rattle.raft_log_items.specs.declared.entry.EntryIndex.{EntryIndex}
 use Rattle.raft_log_base.specs.declared.errors.Error.{Error}
 use Rattle.raft_log_base.specs.declared.errors.Error.TheVariants as errors
@@ -50,11 +52,17 @@ with_entries b group indexes entries = record b { items = b.items ++ entries_ite
 abbrev pub bytes_len : List (List ℕ) → ℕ
 bytes_len entries = sum_by (λ e. length e) entries
 
+-- the text that tells that so many indexes, given for so many entries, are no run
+abbrev pub run_refusal : ℕ → ℕ → List ℕ
+run_refusal indexes entries =
+    if indexes == entries then codes "entry indexes that don't rise by one, or of which one is 18446744073709551615"
+    else decimal indexes ++ codes " indexes for " ++ decimal entries ++ codes " entries"
+
 -- why entries are refused where so many bytes of entries are there: they are no run, or else they make too many bytes, or memory
 -- ran out
 abbrev pub IsEntriesRefusal : Error → ℕ → List ℕ → List (List ℕ) → Type 0
 IsEntriesRefusal errors.Memory held indexes entries = Unit {0}
-IsEntriesRefusal (errors.InvalidArgument text) held indexes entries = IsRunOf indexes entries → ⊥
+IsEntriesRefusal (errors.InvalidArgument text) held indexes entries = (IsRunOf indexes entries → ⊥) × (string_bytes text ≡ run_refusal (length indexes) (length entries))
 IsEntriesRefusal errors.Full held indexes entries = IsRunOf indexes entries × (max_entries_len < held + bytes_len entries)
 IsEntriesRefusal (errors.Corruption text) held indexes entries = ⊥
 IsEntriesRefusal (errors.Io kind) held indexes entries = ⊥
@@ -68,10 +76,10 @@ IsEntriesRefusal errors.Failed held indexes entries = ⊥
 IsEntriesRefusal errors.Hole held indexes entries = ⊥
 IsEntriesRefusal errors.NumberRange held indexes entries = ⊥
 
--- why indexes are refused
+-- why indexes for so many entries are refused
 abbrev pub IsRunRefusal : Error → List ℕ → ℕ → Type 0
 IsRunRefusal errors.Memory indexes count = Unit {0}
-IsRunRefusal (errors.InvalidArgument text) indexes count = ((length indexes ≡ count) × IsIndexRun indexes) → ⊥
+IsRunRefusal (errors.InvalidArgument text) indexes count = (((length indexes ≡ count) × IsIndexRun indexes) → ⊥) × (string_bytes text ≡ run_refusal (length indexes) count)
 IsRunRefusal errors.Full indexes count = ⊥
 IsRunRefusal (errors.Corruption text) indexes count = ⊥
 IsRunRefusal (errors.Io kind) indexes count = ⊥

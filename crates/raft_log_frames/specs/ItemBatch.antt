@@ -25,6 +25,7 @@ item_size x = 8 + content_size x.content
 abbrev pub items_size : List LogItem → ℕ
 items_size xs = sum_by item_size xs
 
+-- the entries of a content
 abbrev pub content_entries : LogItemContent → List EntryIndex
 content_entries (contents.EntryIndexes es) = es
 content_entries (contents.Command c) = []

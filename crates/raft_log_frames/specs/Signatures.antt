@@ -7,4 +7,6 @@ use Rattle.raft_log_frames.specs.Record.{IsFooter}
 
 -- a footer of one file is one of another file exactly if the low 32 bits of their numbers are the same
 abbrev pub SignatureSeparatesFiles : Type 0
-SignatureSeparatesFiles = (a b : ℕ) (bytes : List ℕ) (items : List LogItem) → IsFooter (signature V2 a) bytes items → (IsFooter (signature V2 b) bytes items ↔ (a % 2 ^ 32 ≡ b % 2 ^ 32))
+SignatureSeparatesFiles =
+    (a b : ℕ) (bytes : List ℕ) (items : List LogItem) → IsFooter (signature V2 a) bytes items
+    → (IsFooter (signature V2 b) bytes items ↔ (a % 2 ^ 32 ≡ b % 2 ^ 32))

@@ -11,7 +11,11 @@ abbrev pub AreBytes : List ℕ → Type 0
 AreBytes [] = Unit {0}
 AreBytes (b ∷ bs) = (b < 256) × AreBytes bs
 
--- What is written of items that have a spelling, and of their entries' bytes, is a record of them in a file with this signature.
+-- what is written of items that have a spelling, and of their entries' bytes, is a record of them in a file with this
+-- signature
 abbrev pub WrittenIsRecord : Type 0
-WrittenIsRecord = (signature : Option ℕ) (items : List LogItem) (entries : List ℕ) → unwrap_or signature 0 < 2 ^ 32 → AreItems (items_bytes items) (map plain_item items) → AreBytes (items_bytes items) → AreBytes entries
-    → entries_len items ≡ length entries → length entries < 2 ^ 32 → record_len items entries < 2 ^ 56 → IsRecord signature (record_bytes signature items entries) (map plain_item items) entries
+WrittenIsRecord =
+    (signature : Option ℕ) (items : List LogItem) (entries : List ℕ) → unwrap_or signature 0 < 2 ^ 32
+    → AreItems (items_bytes items) (map plain_item items) → AreBytes (items_bytes items) → AreBytes entries
+    → entries_len items ≡ length entries → length entries < 2 ^ 32 → record_len items entries < 2 ^ 56
+    → IsRecord signature (record_bytes signature items entries) (map plain_item items) entries

@@ -1,9 +1,7 @@
 //! The footer of a record: its items, and their signed checksum.
-ghost use Rattle.std.specs.Prelude.{◌≡◌, ◌+◌, ◌-◌, ◌<◌, ◌^◌, ◌==◌, if◌then◌else◌, List, IfOk, MatchResult, min};
+ghost use Rattle.std.specs.Prelude.{◌≡◌, ◌+◌, ◌-◌, ◌<◌, ◌^◌, ◌==◌, if◌then◌else◌, IfOk, min};
 ghost use Rattle.raft_log_items.specs.Placed.{run_len, entries_len};
-ghost use Rattle.raft_log_frames.specs.Record.{GivesItems, whole_items, items_of, footer_of, IsFooter, AddsUp};
-ghost use Rattle.raft_log_base.specs.declared.errors.Error.TheVariants as errors;
-ghost use Rattle.raft_log_items.specs.declared.item.LogItem.{LogItem};
+ghost use Rattle.raft_log_frames.specs.Record.{GivesItems, OnlyItems, whole_items, items_of, footer_of, IsFooterOf};
 
 use crate::header::LOG_BATCH_CHECKSUM_LEN;
 use raft_log_base::codec;
@@ -112,8 +110,8 @@ pub fn decode_footer(
     block_len: usize,
     signature: Option<u32>,
 ) -> Result<Vec<LogItem>>
-    ensures found { IfOk result (λ items. IsFooter signature bytes.now items.items × AddsUp items.items block_len) }
-    ensures only { (items : List LogItem) → IsFooter signature bytes.now items → AddsUp items block_len → MatchResult result (λ found. found.items ≡ items) (λ e. e ≡ errors.Memory) }
+    ensures found { IfOk result (λ items. IsFooterOf signature block_len bytes.now items.items) }
+    ensures only { OnlyItems result (IsFooterOf signature block_len bytes.now) }
     ensures exact { GivesItems result (footer_of signature block_len bytes.now) }
 {
     read_footer(alloc, bytes, block_len, signature)

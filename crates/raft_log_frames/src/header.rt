@@ -1,11 +1,11 @@
 //! The header of a record, and its entry block.
-ghost use Rattle.std.specs.Prelude.{◌≡◌, ℕ, List, drop, IsOk, IsOkAnd, IfOk, OnOk};
+ghost use Rattle.std.specs.Prelude.{◌≡◌, drop, IsOk, IfOk, OnOk};
 ghost use Rattle.raft_log_base.specs.Grammar.{Decodes};
 ghost use Rattle.raft_log_base.specs.Fault.{GivesOrMemory, ReadsOrMemory};
-ghost use Rattle.raft_log_frames.specs.Record.{IsSoundHeader, IsBlock, header_of, header_at, block_of, GivesSlice};
+ghost use Rattle.raft_log_frames.specs.Record.{IsSoundHeader, IsBlock, header_of, header_at, block_of, GivesSlice, OnlyEntries};
 
-use raft_log_base::codec::BytesSlice;
 use raft_log_base::codec;
+use raft_log_base::codec::BytesSlice;
 use raft_log_checksum::crc32;
 use raft_log_items::{CompressionType, Error, Result};
 use std::alloc::Global;
@@ -40,8 +40,9 @@ fn read_words(alloc: Global, word: u64, offset: u64) -> Result<(usize, Compressi
     Ok((offset as usize, CompressionType::None, len as usize))
 }
 
+/// The header at the front, which is taken; a refusal takes none.
 #[tactic(auto, unfolding(crate::specs::Record::header_at))]
-fn take_header(
+fn split_header(
     alloc: Global,
     source: &mut BytesSlice<'_>,
 ) -> Result<(usize, CompressionType, usize)>
@@ -73,7 +74,7 @@ pub fn decode_header(
     ensures taken { OnOk result (source.new.now ≡ drop 16 source.old.now) }
     ensures exact { ReadsOrMemory result source.old.now source.new.now (header_at source.old.now) }
 {
-    take_header(alloc, source)
+    split_header(alloc, source)
 }
 
 /// The entries' bytes of a whole entry block.
@@ -106,7 +107,7 @@ pub fn decode_entries_block<'a>(
     compression: CompressionType,
 ) -> Result<&'a [u8]>
     ensures found { IfOk result (λ entries. IsBlock block.now entries.now) }
-    ensures only { (entries : List ℕ) → IsBlock block.now entries → IsOkAnd result (λ found. found.now ≡ entries) }
+    ensures only { OnlyEntries result block.now }
     ensures exact { GivesSlice result (block_of block.now) }
 {
     let CompressionType::None = compression;

@@ -11,6 +11,3 @@ pub mod record;
 pub use footer::decode_footer;
 pub use header::{LOG_BATCH_HEADER_LEN, decode_entries_block, decode_header};
 pub use log_item_batch::LogItemBatch;
-
-#[cfg(test)]
-mod tests;

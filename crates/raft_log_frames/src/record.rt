@@ -5,7 +5,7 @@ ghost use Rattle.raft_log_checksum.specs.Checksum.{crc32_of};
 ghost use Rattle.raft_log_items.specs.Items.{AreItems};
 ghost use Rattle.raft_log_items.specs.Writing.{KeepsFront, items_bytes, plain_item};
 ghost use Rattle.raft_log_frames.specs.Record.{header_bytes, block_bytes, footer_bytes, record_len};
-ghost use Rattle.raft_log_frames.specs.Made.{Holds, IsMemoryOrFull};
+ghost use Rattle.raft_log_frames.specs.Made.{MakesRecord, IsMemoryOrFull, with_block};
 ghost use Rattle.raft_log_frames.specs.Written.{AreBytes};
 
 use crate::header::LOG_BATCH_HEADER_LEN;
@@ -48,7 +48,7 @@ pub fn write_checksum(bytes: &mut [u8], checksum: u32)
 #[tactic(auto, unfolding(crate::specs::Record::block_bytes))]
 fn close_block(buf: &mut Vec<u8>) -> std::result::Result<(), AllocError>
     requires { 16 ≤ length buf.old.items }
-    ensures ok { OnOk result (buf.new.items ≡ take 16 buf.old.items ++ block_bytes (drop 16 buf.old.items)) }
+    ensures ok { OnOk result (buf.new.items ≡ with_block buf.old.items) }
     ensures err { OnErr result (buf.new.items ≡ buf.old.items) }
 {
     let entries = &buf[LOG_BATCH_HEADER_LEN..];
@@ -81,7 +81,7 @@ const MAX_RECORD_LEN: u64 = (1 << 56) - 1;
 /// checksum of the items. A refusal leaves what was there, maybe with more behind it.
 pub fn fill_record(buf: &mut Vec<u8>, items: &[LogItem]) -> Result<u32>
     requires { 16 ≤ length buf.old.items }
-    ensures ok { IfOk result (λ checksum. Holds None buf.new.items checksum items.now (drop 16 buf.old.items)) }
+    ensures ok { IfOk result (λ checksum. MakesRecord buf.old.items buf.new.items checksum items.now) }
     ensures err { OnErr result (KeepsFront buf.old.items buf.new.items) }
     ensures errors { IfErr result (λ e. IsMemoryOrFull e (record_len items.now (drop 16 buf.old.items))) }
 {

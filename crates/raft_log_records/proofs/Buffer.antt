@@ -8,7 +8,7 @@ use Rattle.raft_log_items.specs.Writing.{items_bytes}
 use Rattle.raft_log_records.specs.declared.log_batch.BatchState.{BatchState}
 use Rattle.raft_log_records.specs.declared.log_batch.BatchState.TheVariants.{Filling, Populated, Signed, Written}
 use Rattle.raft_log_frames.specs.Record.{signed, block_bytes, footer_bytes, header_bytes, record_len, record_bytes}
-use Rattle.raft_log_frames.specs.Made.{Holds}
+use Rattle.raft_log_frames.specs.Made.{HoldsRecordBytes}
 use Rattle.raft_log_records.specs.Batch.{HoldsRecord, HoldsIn, IsMade, batch_bytes}
 use Rattle.raft_log_frames.proofs.Made.{block_more, four_bytes, header-length, record-length}
 
@@ -45,7 +45,7 @@ all_entries n buffer room h =
 
 -- ---- populated
 
-pub holds_record : (signature : Option ℕ) (buffer : List ℕ) (sum : ℕ) (items : List LogItem) (entries : List ℕ) → Holds signature buffer sum items entries → HoldsRecord signature buffer sum items entries
+pub holds_record : (signature : Option ℕ) (buffer : List ℕ) (sum : ℕ) (items : List LogItem) (entries : List ℕ) → HoldsRecordBytes signature buffer sum items entries → HoldsRecord signature buffer sum items entries
 holds_record signature buffer sum [] entries h = tt
 holds_record signature buffer sum (x ∷ xs) entries h = h
 
@@ -55,7 +55,7 @@ pub record Populates (n : ℕ) (signature : Option ℕ) (buffer : List ℕ) (sum
   pub holds : HoldsRecord signature buffer sum items (take n (drop 16 buffer))
   pub size : length buffer ≡ length (record_bytes signature items entries)
 
-pub populates : (n : ℕ) (signature : Option ℕ) (buffer : List ℕ) (sum : ℕ) (items : List LogItem) (entries : List ℕ) → length entries ≡ n → Holds signature buffer sum items entries → Populates n signature buffer sum items entries
+pub populates : (n : ℕ) (signature : Option ℕ) (buffer : List ℕ) (sum : ℕ) (items : List LogItem) (entries : List ℕ) → length entries ≡ n → HoldsRecordBytes signature buffer sum items entries → Populates n signature buffer sum items entries
 populates n signature buffer sum items entries len h =
     let size : length buffer ≡ length (record_bytes signature items entries) = ap (λ (l : List ℕ). length l) h.bytes in
     let same : take n (drop 16 buffer) ≡ entries =
@@ -73,20 +73,20 @@ batch_record signature (x ∷ xs) entries h = refl
 
 -- the record that is made of a batch that was being filled
 pub filled_populates : (n : ℕ) (buffer new : List ℕ) (before sum : ℕ) (state : BatchState) (items given : List LogItem)
-    → state ≡ Filling → 16 + n ≤ length buffer → HoldsIn state buffer before items (take n (drop 16 buffer)) → given ≡ items → Holds None new sum given (drop 16 buffer)
+    → state ≡ Filling → 16 + n ≤ length buffer → HoldsIn state buffer before items (take n (drop 16 buffer)) → given ≡ items → HoldsRecordBytes None new sum given (drop 16 buffer)
     → Populates n None new sum items (take n (drop 16 buffer))
 filled_populates n buffer new before sum state items given s room held e h =
     let full : length buffer ≡ 16 + length (take n (drop 16 buffer)) = in_filling state buffer before items (take n (drop 16 buffer)) s held in
     let all : take n (drop 16 buffer) ≡ drop 16 buffer = all_entries n buffer room full in
     let len : length (take n (drop 16 buffer)) ≡ n = length-take-le n (drop 16 buffer) (omega (arith, length-drop 16 buffer)) in
     populates n None new sum items (take n (drop 16 buffer)) len
-    (subst (λ (l : List ℕ). Holds None new sum items l) (sym all) (subst (λ (g : List LogItem). Holds None new sum g (drop 16 buffer)) e h))
+    (subst (λ (l : List ℕ). HoldsRecordBytes None new sum items l) (sym all) (subst (λ (g : List LogItem). HoldsRecordBytes None new sum g (drop 16 buffer)) e h))
 
 -- ---- signed
 
 -- another checksum at the end signs the record for another file
-pub signs : (signature next : Option ℕ) (buffer new : List ℕ) (sum : ℕ) (items : List LogItem) (entries : List ℕ) → unwrap_or next 0 < 2 ^ 32 → Holds signature buffer sum items entries
-    → new ≡ take (length buffer - 4) buffer ++ u32_le_bytes (bit_xor sum (unwrap_or next 0)) → Holds next new sum items entries
+pub signs : (signature next : Option ℕ) (buffer new : List ℕ) (sum : ℕ) (items : List LogItem) (entries : List ℕ) → unwrap_or next 0 < 2 ^ 32 → HoldsRecordBytes signature buffer sum items entries
+    → new ≡ take (length buffer - 4) buffer ++ u32_le_bytes (bit_xor sum (unwrap_or next 0)) → HoldsRecordBytes next new sum items entries
 unfolding record_bytes footer_bytes
 signs signature next buffer new sum items entries fits h e =
     let front : List ℕ = header_bytes (record_len items entries) (16 + length (block_bytes entries)) ++ block_bytes entries in
@@ -107,7 +107,7 @@ signs signature next buffer new sum items entries fits h e =
 
 -- a batch that is not empty and whose record is made holds it
 pub made_holds : (state : BatchState) (buffer : List ℕ) (sum : ℕ) (items : List LogItem) (entries : List ℕ) → IsMade state → 0 < length items → HoldsIn state buffer sum items entries
-    → (signature : Option ℕ) × Holds signature buffer sum items entries
+    → (signature : Option ℕ) × HoldsRecordBytes signature buffer sum items entries
 made_holds Filling buffer sum items entries made some h = absurd made
 made_holds Populated buffer sum [] entries made some h = absurd (omega arith)
 made_holds Populated buffer sum (x ∷ xs) entries made some h = (None, h)
@@ -128,6 +128,6 @@ pub signed_populates : (n : ℕ) (next : Option ℕ) (buffer new left : List ℕ
 signed_populates n next buffer new left size sum state items fits made some room held e len =
     let entries : List ℕ = take n (drop 16 buffer) in
     let before = made_holds state buffer sum items entries made some held in
-    let holds : Holds next new sum items entries = signs before.0 next buffer new sum items entries fits before.1 e in
+    let holds : HoldsRecordBytes next new sum items entries = signs before.0 next buffer new sum items entries fits before.1 e in
     let count : length entries ≡ n = length-take-le n (drop 16 buffer) (omega (arith, length-drop 16 buffer)) in
     subst (λ (l : List ℕ). Populates n next l sum items entries) (sym (take_at new left size len)) (populates n next new sum items entries count holds)

@@ -8,7 +8,7 @@ use Rattle.raft_log_base.specs.Number.{u32_le_bytes}
 use Rattle.raft_log_records.specs.declared.log_batch.BatchState.{BatchState}
 use Rattle.raft_log_records.specs.declared.log_batch.BatchState.TheVariants.{Filling, Populated, Signed, Written}
 use Rattle.raft_log_frames.specs.Record.{signed, header_bytes, block_bytes, footer_bytes, record_len, record_bytes, IsRecord}
-use Rattle.raft_log_frames.specs.Made.{Holds}
+use Rattle.raft_log_frames.specs.Made.{HoldsRecordBytes}
 use Rattle.raft_log_records.specs.Batch.{HoldsIn, IsBatch, IsSigned, signature_in}
 use Rattle.raft_log_frames.specs.Written.{AreBytes}
 use Rattle.raft_log_frames.proofs.Made.{block_more}
@@ -35,14 +35,14 @@ entry_part signature items entries h =
     let more = block_more entries in
     front_bytes entries more.0 (subst (λ (l : List ℕ). AreBytes l) more.1 (back_bytes header (block_bytes entries) (front_bytes (header ++ block_bytes entries) (footer_bytes signature items) h)))
 
-held_record : (signature : Option ℕ) (buffer : List ℕ) (sum : ℕ) (items : List LogItem) (entries : List ℕ) → Holds signature buffer sum items entries → entries_len items ≡ length entries → length entries < 2 ^ 32
+held_record : (signature : Option ℕ) (buffer : List ℕ) (sum : ℕ) (items : List LogItem) (entries : List ℕ) → HoldsRecordBytes signature buffer sum items entries → entries_len items ≡ length entries → length entries < 2 ^ 32
     → AreBytes buffer → IsRecord signature buffer (map plain_item items) entries
 held_record signature buffer sum items entries h adds fits all =
     let all' : AreBytes (record_bytes signature items entries) = subst (λ (l : List ℕ). AreBytes l) h.bytes all in
     subst (λ (l : List ℕ). IsRecord signature l (map plain_item items) entries) (sym h.bytes)
     (written_is_record signature items entries h.signs h.spelled (item_part signature items entries all') (entry_part signature items entries all') adds fits h.short)
 
-signed_holds : (state : BatchState) (buffer : List ℕ) (sum : ℕ) (items : List LogItem) (entries : List ℕ) → IsSigned state → (items ≡ [] → ⊥) → HoldsIn state buffer sum items entries → Holds (signature_in state) buffer sum items entries
+signed_holds : (state : BatchState) (buffer : List ℕ) (sum : ℕ) (items : List LogItem) (entries : List ℕ) → IsSigned state → (items ≡ [] → ⊥) → HoldsIn state buffer sum items entries → HoldsRecordBytes (signature_in state) buffer sum items entries
 signed_holds Filling buffer sum items entries h some held = absurd h
 signed_holds Populated buffer sum items entries h some held = absurd h
 signed_holds (Signed signature) buffer sum [] entries h some held = absurd (some refl)

@@ -1,7 +1,6 @@
 pub mod Buffer
 pub mod Items
 pub mod Encoded
-pub mod Messages
 pub mod Entries
 pub mod Marks
 pub mod Meanings

@@ -1,5 +1,5 @@
--- Marks of atomic groups: items of the log's own, which say that a batch is a part of several that count together or not at
--- all.
+-- Marks of atomic groups: items of the log's own, which say that a batch is a part of several that count together or
+-- not at all.
 use Rattle.std.specs.Prelude.{◌≡◌, ℕ, true, ◌==◌, if◌then◌else◌, List, [], ◌∷◌, ◌++◌, length, take, drop, Option, Some, None, nat_lt, bytes_eq, option_map, option_and_then}
 use Rattle.std.specs.Int.{w64, from_be_bytes}
 use Rattle.raft_log_base.specs.Number.{IsU64, u64_bytes}
@@ -24,8 +24,8 @@ status_number Begin = 0
 status_number Middle = 1
 status_number End = 2
 
--- A mark: an item of group 0 that puts, under the key of marks, the number of the atomic group, eight bytes with the highest
--- first, and the byte of the status.
+-- A mark: an item of group 0 that puts, under the key of marks, the number of the atomic group, eight bytes with the
+-- highest first, and the byte of the status.
 pub record IsMark (item : LogItem) (id : ℕ) (status : AtomicGroupStatus) : Type 0 where
   pub group : item.raft_group_id ≡ 0
   pub key_value : KeyValue
@@ -36,8 +36,9 @@ pub record IsMark (item : LogItem) (id : ℕ) (status : AtomicGroupStatus) : Typ
   pub spelled : IsU64 number id
   pub value : key_value.value ≡ Some (number ++ status_number status ∷ [])
 
--- ---- writing
+-- Writing.
 
+-- the value of a mark
 unfoldable pub mark_value : ℕ → AtomicGroupStatus → List ℕ
 mark_value id status = u64_bytes id ++ status_number status ∷ []
 
@@ -45,8 +46,9 @@ mark_value id status = u64_bytes id ++ status_number status ∷ []
 abbrev pub mark_item : ℕ → AtomicGroupStatus → LogItem
 mark_item id status = put_item 0 mark_key (mark_value id status)
 
--- ---- reading
+-- Reading.
 
+-- the status of this byte, if there is one
 abbrev pub status_of : ℕ → Option AtomicGroupStatus
 status_of n = if n == 0 then Some Begin else (if n == 1 then Some Middle else (if n == 2 then Some End else None))
 
@@ -56,13 +58,18 @@ status_at [] = None
 status_at (b ∷ []) = status_of b
 status_at (b ∷ c ∷ bs) = None
 
+-- what the value of a mark says
 unfoldable pub mark_in : List ℕ → Option (ℕ × AtomicGroupStatus)
-mark_in bytes = if nat_lt (length bytes) 8 then None else option_map (λ status. (from_be_bytes w64 (take 8 bytes), status)) (status_at (drop 8 bytes))
+mark_in bytes =
+    if nat_lt (length bytes) 8 then None
+    else option_map (λ status. (from_be_bytes w64 (take 8 bytes), status)) (status_at (drop 8 bytes))
 
+-- what a key says as a mark
 abbrev pub mark_of_value : OpType → List ℕ → Option (List ℕ) → Option (ℕ × AtomicGroupStatus)
 mark_of_value Put key value = if bytes_eq key mark_key then option_and_then mark_in value else None
 mark_of_value Del key value = None
 
+-- what a content says as a mark, if its group is that of marks
 abbrev pub mark_of_content : LogItemContent → Option (ℕ × AtomicGroupStatus)
 mark_of_content (contents.EntryIndexes es) = None
 mark_of_content (contents.Command c) = None
@@ -72,7 +79,7 @@ mark_of_content (contents.Kv kv) = mark_of_value kv.op_type kv.key kv.value
 unfoldable pub mark_of : LogItem → Option (ℕ × AtomicGroupStatus)
 mark_of item = if item.raft_group_id == 0 then mark_of_content item.content else None
 
--- ---- the builder
+-- The builder.
 
 -- the number of the group, and the last mark that was written
 pub record AtomicGroup : Type 0 where
@@ -86,6 +93,8 @@ IsOpen (Some Begin) = Unit {0}
 IsOpen (Some Middle) = Unit {0}
 IsOpen (Some End) = ⊥
 
--- ---- what users add is no mark: their keys don't begin with two underscores
+-- what users add is no mark: their keys don't begin with two underscores
 abbrev pub UserItemsAreNoMarks : Type 0
-UserItemsAreNoMarks = (item : LogItem) (id : ℕ) (status : AtomicGroupStatus) → IsMark item id status → (kv : KeyValue) → item.content ≡ contents.Kv kv → is_internal kv.key ≡ true
+UserItemsAreNoMarks =
+    (item : LogItem) (id : ℕ) (status : AtomicGroupStatus) → IsMark item id status
+    → (kv : KeyValue) → item.content ≡ contents.Kv kv → is_internal kv.key ≡ true

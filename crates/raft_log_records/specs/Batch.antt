@@ -9,7 +9,7 @@ use Rattle.raft_log_records.specs.declared.log_batch.BatchState.{BatchState}
 use Rattle.raft_log_records.specs.declared.log_batch.BatchState.TheVariants.{Filling, Populated, Signed, Written}
 use Rattle.raft_log_frames.specs.Record.{block_bytes, record_bytes}
 use Rattle.raft_log_frames.specs.ItemBatch.{items_size}
-use Rattle.raft_log_frames.specs.Made.{Holds}
+use Rattle.raft_log_frames.specs.Made.{HoldsRecordBytes}
 
 -- the state, the items, and the bytes of their entries
 pub record Batch : Type 0 where
@@ -29,7 +29,7 @@ batch_bytes signature (x ∷ xs) entries = record_bytes signature (x ∷ xs) ent
 -- what the buffer holds of a batch that is not empty
 abbrev pub HoldsRecord : Option ℕ → List ℕ → ℕ → List LogItem → List ℕ → Type 0
 HoldsRecord signature buffer checksum [] entries = Unit {0}
-HoldsRecord signature buffer checksum (x ∷ xs) entries = Holds signature buffer checksum (x ∷ xs) entries
+HoldsRecord signature buffer checksum (x ∷ xs) entries = HoldsRecordBytes signature buffer checksum (x ∷ xs) entries
 
 -- what the buffer holds in each state
 abbrev pub HoldsIn : BatchState → List ℕ → ℕ → List LogItem → List ℕ → Type 0
@@ -38,8 +38,8 @@ HoldsIn Populated buffer checksum items entries = HoldsRecord None buffer checks
 HoldsIn (Signed signature) buffer checksum items entries = HoldsRecord signature buffer checksum items entries
 HoldsIn Written buffer checksum items entries = Unit {0}
 
--- The fields of a batch: its buffer has room for a header, and behind it the entries' bytes, which the items' entries are laid
--- out over one after another.
+-- The fields of a batch: its buffer has room for a header, and behind it the entries' bytes, which the items' entries
+-- are laid out over one after another.
 pub record IsBatch (state : BatchState) (buffer : List ℕ) (len checksum : ℕ) (items : List LogItem) : Type 0 where
   pub room : 16 + len ≤ length buffer
   pub fits : len ≤ max_entries_len
@@ -69,6 +69,7 @@ IsMade Populated = Unit {0}
 IsMade (Signed signature) = Unit {0}
 IsMade Written = ⊥
 
+-- the record is signed for a file
 abbrev pub IsSigned : BatchState → Type 0
 IsSigned Filling = ⊥
 IsSigned Populated = ⊥

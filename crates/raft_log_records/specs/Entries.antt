@@ -33,7 +33,8 @@ entries_of (i ∷ is) (b ∷ bs) = unplaced_entry i (length b) ∷ entries_of is
 
 -- the item of these entries of a group, whose bytes begin at this offset of the batch's entry block
 abbrev pub entries_item : ℕ → ℕ → List ℕ → List (List ℕ) → LogItem
-entries_item group offset indexes entries = record { raft_group_id = group; content = contents.EntryIndexes (laid_run offset (entries_of indexes entries)) }
+entries_item group offset indexes entries =
+    record { raft_group_id = group; content = contents.EntryIndexes (laid_run offset (entries_of indexes entries)) }
 
 -- the bytes of the entries, one after another
 abbrev pub joined : List (List ℕ) → List ℕ
@@ -46,7 +47,8 @@ entries_items group offset indexes (x ∷ xs) = entries_item group offset indexe
 
 -- the batch with these entries of a group
 abbrev pub with_entries : Batch → ℕ → List ℕ → List (List ℕ) → Batch
-with_entries b group indexes entries = record b { items = b.items ++ entries_items group (length b.entries) indexes entries; entries = b.entries ++ joined entries }
+with_entries b group indexes entries =
+    record b { items = b.items ++ entries_items group (length b.entries) indexes entries; entries = b.entries ++ joined entries }
 
 -- how many bytes these entries have
 abbrev pub bytes_len : List (List ℕ) → ℕ
@@ -55,43 +57,25 @@ bytes_len entries = sum_by (λ e. length e) entries
 -- the text that tells that so many indexes, given for so many entries, are no run
 abbrev pub run_refusal : ℕ → ℕ → List ℕ
 run_refusal indexes entries =
-    if indexes == entries then codes "entry indexes that don't rise by one, or of which one is 18446744073709551615"
+    if indexes == entries
+    then codes "entry indexes that don't rise by one, or of which one is 18446744073709551615"
     else decimal indexes ++ codes " indexes for " ++ decimal entries ++ codes " entries"
 
--- why entries are refused where so many bytes of entries are there: they are no run, or else they make too many bytes, or memory
--- ran out
+-- why entries are refused where so many bytes of entries are there: they are no run, or else they make too many bytes,
+-- or memory ran out
 abbrev pub IsEntriesRefusal : Error → ℕ → List ℕ → List (List ℕ) → Type 0
 IsEntriesRefusal errors.Memory held indexes entries = Unit {0}
-IsEntriesRefusal (errors.InvalidArgument text) held indexes entries = (IsRunOf indexes entries → ⊥) × (string_bytes text ≡ run_refusal (length indexes) (length entries))
+IsEntriesRefusal (errors.InvalidArgument text) held indexes entries =
+    (IsRunOf indexes entries → ⊥) × (string_bytes text ≡ run_refusal (length indexes) (length entries))
 IsEntriesRefusal errors.Full held indexes entries = IsRunOf indexes entries × (max_entries_len < held + bytes_len entries)
-IsEntriesRefusal (errors.Corruption text) held indexes entries = ⊥
-IsEntriesRefusal (errors.Io kind) held indexes entries = ⊥
-IsEntriesRefusal (errors.Codec c) held indexes entries = ⊥
-IsEntriesRefusal (errors.Message text) held indexes entries = ⊥
-IsEntriesRefusal (errors.TryAgain text) held indexes entries = ⊥
-IsEntriesRefusal errors.EntryCompacted held indexes entries = ⊥
-IsEntriesRefusal errors.EntryNotFound held indexes entries = ⊥
-IsEntriesRefusal (errors.Other e) held indexes entries = ⊥
-IsEntriesRefusal errors.Failed held indexes entries = ⊥
-IsEntriesRefusal errors.Hole held indexes entries = ⊥
-IsEntriesRefusal errors.NumberRange held indexes entries = ⊥
+IsEntriesRefusal _ held indexes entries = ⊥
 
 -- why indexes for so many entries are refused
 abbrev pub IsRunRefusal : Error → List ℕ → ℕ → Type 0
 IsRunRefusal errors.Memory indexes count = Unit {0}
-IsRunRefusal (errors.InvalidArgument text) indexes count = (((length indexes ≡ count) × IsIndexRun indexes) → ⊥) × (string_bytes text ≡ run_refusal (length indexes) count)
-IsRunRefusal errors.Full indexes count = ⊥
-IsRunRefusal (errors.Corruption text) indexes count = ⊥
-IsRunRefusal (errors.Io kind) indexes count = ⊥
-IsRunRefusal (errors.Codec c) indexes count = ⊥
-IsRunRefusal (errors.Message text) indexes count = ⊥
-IsRunRefusal (errors.TryAgain text) indexes count = ⊥
-IsRunRefusal errors.EntryCompacted indexes count = ⊥
-IsRunRefusal errors.EntryNotFound indexes count = ⊥
-IsRunRefusal (errors.Other e) indexes count = ⊥
-IsRunRefusal errors.Failed indexes count = ⊥
-IsRunRefusal errors.Hole indexes count = ⊥
-IsRunRefusal errors.NumberRange indexes count = ⊥
+IsRunRefusal (errors.InvalidArgument text) indexes count =
+    (((length indexes ≡ count) × IsIndexRun indexes) → ⊥) × (string_bytes text ≡ run_refusal (length indexes) count)
+IsRunRefusal _ indexes count = ⊥
 
 -- why bytes are refused: memory ran out, or they would be more than this
 abbrev pub IsRoomRefusal : Error → ℕ → ℕ → Type 0

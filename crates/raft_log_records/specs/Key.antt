@@ -10,6 +10,7 @@ is_internal [] = false
 is_internal (a ∷ []) = false
 is_internal (a ∷ b ∷ rest) = (a == 95) && (b == 95)
 
+-- the text that tells that a key is one of the log's own
 abbrev pub reserved_key : List ℕ
 reserved_key = codes "key prefix `__` reserved for internal usage"
 
@@ -17,15 +18,4 @@ reserved_key = codes "key prefix `__` reserved for internal usage"
 abbrev pub IsKeyRefusal : Error → List ℕ → Type 0
 IsKeyRefusal errors.Memory key = Unit {0}
 IsKeyRefusal (errors.InvalidArgument text) key = IsTrue (is_internal key) × (string_bytes text ≡ reserved_key)
-IsKeyRefusal (errors.Corruption text) key = ⊥
-IsKeyRefusal (errors.Io kind) key = ⊥
-IsKeyRefusal (errors.Codec c) key = ⊥
-IsKeyRefusal (errors.Message text) key = ⊥
-IsKeyRefusal (errors.TryAgain text) key = ⊥
-IsKeyRefusal errors.EntryCompacted key = ⊥
-IsKeyRefusal errors.EntryNotFound key = ⊥
-IsKeyRefusal errors.Full key = ⊥
-IsKeyRefusal (errors.Other e) key = ⊥
-IsKeyRefusal errors.Failed key = ⊥
-IsKeyRefusal errors.Hole key = ⊥
-IsKeyRefusal errors.NumberRange key = ⊥
+IsKeyRefusal _ key = ⊥

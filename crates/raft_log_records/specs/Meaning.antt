@@ -18,6 +18,7 @@ use Rattle.raft_log_records.specs.declared.atomic_group.AtomicGroupStatus.TheVar
 use Rattle.raft_log_records.specs.Key.{is_internal}
 use Rattle.raft_log_records.specs.AtomicGroup.{mark_of}
 
+-- what is said of a key
 abbrev pub key_meaning : {E : Type 0} → OpType → List ℕ → List ℕ → Item E (List ℕ)
 key_meaning ops.Put key value = Put key value
 key_meaning ops.Del key value = Del key
@@ -30,6 +31,7 @@ meaning entry (contents.Command commands.Clean) = Clean
 meaning entry (contents.Command (commands.Compact index)) = Compact index
 meaning entry (contents.Kv kv) = key_meaning kv.op_type kv.key (value_of kv)
 
+-- what an item says, with its group
 abbrev pub tagged : {E : Type 0} → (EntryIndex → E) → LogItem → Tagged E (List ℕ)
 tagged entry x = record { group = x.raft_group_id; item = meaning entry x.content }
 
@@ -54,6 +56,7 @@ part_of id statuses.Begin = Begin id
 part_of id statuses.Middle = Middle id
 part_of id statuses.End = End id
 
+-- the record of these items with the mark, if there is one
 abbrev pub marked : {E : Type 0} → Option (ℕ × AtomicGroupStatus) → List (Tagged E (List ℕ)) → Record E (List ℕ)
 marked None xs = Plain xs
 marked (Some m) xs = Part (part_of m.0 m.1) xs
@@ -64,12 +67,14 @@ record_of entry xs = marked (first_mark xs) (tagged_items entry xs)
 
 -- these items became those: they say the same, and now are this part of an atomic group, if they were none
 abbrev pub BecomesPart : List LogItem → List LogItem → ℕ → AtomicGroupStatus → Type 0
-BecomesPart old new id status = first_mark old ≡ None → record_of (λ e. e) new ≡ Part (part_of id status) (tagged_items (λ e. e) old)
+BecomesPart old new id status =
+    first_mark old ≡ None → record_of (λ e. e) new ≡ Part (part_of id status) (tagged_items (λ e. e) old)
 
--- What is read of a written batch means the same as the batch, where an entry's length stands for it: the entries' places are
--- told by where the batch is.
+-- What is read of a written batch means the same as the batch, where an entry's length stands for it: the entries'
+-- places are told by where the batch is.
 abbrev pub ReadMeansWritten : Type 0
-ReadMeansWritten = (items : List LogItem) → record_of (λ e. e.entry_len) (map plain_item items) ≡ record_of (λ e. e.entry_len) items
+ReadMeansWritten =
+    (items : List LogItem) → record_of (λ e. e.entry_len) (map plain_item items) ≡ record_of (λ e. e.entry_len) items
 
 -- what users may add: if it is of a key, the key doesn't begin with two underscores
 abbrev pub IsUsers : LogItemContent → Type 0
@@ -79,4 +84,6 @@ IsUsers (contents.Kv kv) = is_internal kv.key ≡ false
 
 -- a batch of what users added is a plain one, which says what each of its items says
 abbrev pub UserBatchesArePlain : Type 0
-UserBatchesArePlain = (items : List LogItem) → All (λ x. IsUsers x.content) items → record_of (λ e. e) items ≡ Plain (map (tagged (λ e. e)) items)
+UserBatchesArePlain =
+    (items : List LogItem) → All (λ x. IsUsers x.content) items
+    → record_of (λ e. e) items ≡ Plain (map (tagged (λ e. e)) items)

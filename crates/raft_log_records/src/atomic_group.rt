@@ -1,8 +1,7 @@
 //! Atomic groups: several batches that count together or not at all. A mark in each batch tells which part it is.
 ghost use Rattle.std.specs.Prelude.{◌≡◌, ◌∷◌, ◌++◌, Some, IfSome, OnOk, IfOk, option_and_then};
 ghost use Rattle.raft_log_base.specs.Number.{IsU64, u64_bytes};
-ghost use Rattle.raft_log_records.specs.Meaning.{ReadMeansWritten, UserBatchesArePlain};
-ghost use Rattle.raft_log_records.specs.AtomicGroup.{status_number, status_of, mark_key, mark_value, mark_in, mark_of_value, mark_of, UserItemsAreNoMarks};
+ghost use Rattle.raft_log_records.specs.AtomicGroup.{status_number, status_of, mark_key, mark_value, mark_in, mark_of_value, mark_of};
 
 use crate::log_batch::LogBatch;
 use raft_log_base::codec;
@@ -198,18 +197,3 @@ impl AtomicGroupBuilder {
         self.mark(alloc, batch, AtomicGroupStatus::End)
     }
 }
-
-/// A key of which no user's item may be is the key of each mark.
-pub fn user_items_are_no_marks()
-    ensures { UserItemsAreNoMarks }
-{}
-
-/// What is read of a written batch means the same as the batch, where an entry's length stands for it.
-pub fn read_means_written()
-    ensures { ReadMeansWritten }
-{}
-
-/// What users added to one batch counts at once, each item for what it says.
-pub fn user_batches_are_plain()
-    ensures { UserBatchesArePlain }
-{}

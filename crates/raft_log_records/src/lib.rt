@@ -2,6 +2,7 @@
 #![tactic(auto)]
 
 pub mod atomic_group;
+pub mod laws;
 pub mod log_batch;
 
 pub use atomic_group::{AtomicGroupBuilder, AtomicGroupStatus};
@@ -14,6 +15,3 @@ pub use raft_log_items::{
     FileSeq, KeyValue, LogFileContext, LogItem, LogItemContent, LogQueue, Message, MessageExt,
     OpType, Result, Version,
 };
-
-#[cfg(test)]
-mod tests;

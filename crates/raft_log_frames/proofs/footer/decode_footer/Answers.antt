@@ -11,5 +11,5 @@ returns-clause-found c =
     (footer_found c.args.signature c.args.block_len c.args.bytes.now) c.read_footer.ensures
 
 pub returns-clause-only : goal.returns-clause-only
-returns-clause-only c = λ items footer up.
-    gives_only c.read_footer.result _ items (footer_again c.args.signature c.args.block_len c.args.bytes.now items footer up) c.read_footer.ensures
+returns-clause-only c = λ items h.
+    gives_only c.read_footer.result _ items (footer_again c.args.signature c.args.block_len c.args.bytes.now items h.0 h.1) c.read_footer.ensures

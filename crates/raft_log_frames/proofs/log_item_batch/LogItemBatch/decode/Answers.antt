@@ -7,7 +7,7 @@ use Rattle.raft_log_frames.proofs.log_item_batch.LogItemBatch.decode.Goals as go
 
 pub returns-clause-only : goal.returns-clause-only
 returns-clause-only c = λ items footer up.
-    let given : c.in_ok-items.items.items ≡ items = c.in_ok-items.ensures.only items (subst (λ (s : Option ℕ). IsFooter s c.args.bytes.now items) (sym c.get_signature.ensures) footer) up in
+    let given : c.in_ok-items.items.items ≡ items = c.in_ok-items.ensures.only items (subst (λ (s : Option ℕ). IsFooter s c.args.bytes.now items) (sym c.get_signature.ensures) footer, up) in
     let kept : length c.place.new.items ≡ c.in_ok-items.items.len = c.place.auto.items ∙ c.as_mut_slice.ensures.len in
     take_at c.place.new.items (drop (length c.place.new.items) c.in_ok-items.items.items) c.in_ok-items.items.len kept
     ∙ c.place.ensures ∙ ap (λ (l : List LogItem). placed c.args.entries l) (c.as_mut_slice.ensures.value ∙ given)

@@ -1,19 +1,16 @@
 //! Records that are read.
-use super::{CLEAN_SIGNED, CLEAN_UNSIGNED, bytes_of, cell, context};
-use crate::{decode_entries_block, decode_footer, decode_header};
-use raft_log_items::{Command, CompressionType, LogItemContent, Version};
+use crate::{CLEAN_SIGNED, CLEAN_UNSIGNED, bytes_of, cell, context};
+use raft_log_frames::{decode_entries_block, decode_footer, decode_header};
+use raft_log_items::{Command, CompressionType, LogItem, Version};
 use std::test::Fail;
 
 #[test]
 fn clean_of_group_one_is_read(rt: HostRuntime) -> Result<(), Fail> {
     let mut rest = CLEAN_UNSIGNED.as_slice();
     let (offset, compression, len) = decode_header(rt.alloc(), &mut rest)?;
-    assert_eq!(rt; (offset, len), (16, 24));
-    assert_eq!(rt; compression, CompressionType::None);
+    assert!(rt; (offset, compression, len) == (16, CompressionType::None, 24));
     let items = decode_footer(rt.alloc(), rest, 0, None)?;
-    assert_eq!(rt; items.len(), 1);
-    assert_eq!(rt; items[0].raft_group_id, 1);
-    assert!(rt; matches!(items[0].content, LogItemContent::Command(Command::Clean)));
+    assert!(rt; items.as_slice() == [LogItem::new_command(1, Command::Clean)].as_slice());
     Ok(())
 }
 

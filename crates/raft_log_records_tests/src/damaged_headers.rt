@@ -1,6 +1,6 @@
 //! Headers that are refused, and the text of each refusal.
-use super::{bytes_of, cell};
-use crate::decode_header;
+use crate::{bytes_of, cell};
+use raft_log_frames::decode_header;
 use std::test::Fail;
 
 /// What is damaged, the bytes, and the refusal.

@@ -1,6 +1,6 @@
 //! Entry blocks that are refused, and the text of each refusal.
-use super::{bytes_of, cell};
-use crate::decode_entries_block;
+use crate::{bytes_of, cell};
+use raft_log_frames::decode_entries_block;
 use raft_log_items::CompressionType;
 use std::test::Fail;
 

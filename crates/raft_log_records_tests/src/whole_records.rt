@@ -1,6 +1,6 @@
 //! Whole records, read by the three decoders.
-use super::{CLEAN_SIGNED, CLEAN_UNSIGNED};
-use crate::{decode_entries_block, decode_footer, decode_header};
+use crate::{CLEAN_SIGNED, CLEAN_UNSIGNED};
+use raft_log_frames::{decode_entries_block, decode_footer, decode_header};
 use raft_log_items::{Error, LogItem, LogItemContent};
 use std::alloc::Global;
 use std::test::Fail;
@@ -33,31 +33,33 @@ fn read_record(
     }
 }
 
+/// The index and the length of an entry of the first item.
+fn entry_at(items: &[LogItem], at: usize) -> Option<(u64, u32)> {
+    match &items.first()?.content {
+        LogItemContent::EntryIndexes(run) => {
+            let entry = run.as_slice().get(at)?;
+            Some((entry.index, entry.entry_len))
+        }
+        _ => None,
+    }
+}
+
+#[test]
+fn a_record_is_read(rt: HostRuntime) -> Result<(), Fail> {
+    let (items, entries, _) = read_record(rt.alloc(), &TWO_ENTRIES, Some(1))?;
+    assert!(rt; entries == b"abcde".as_slice());
+    assert!(rt; entry_at(items.as_slice(), 0) == Some((5, 2)));
+    assert!(rt; entry_at(items.as_slice(), 1) == Some((6, 3)));
+    Ok(())
+}
+
 #[test]
 fn records_are_read_one_behind_the_other(rt: HostRuntime) -> Result<(), Fail> {
-    let alloc = rt.alloc();
-    let mut bytes = Vec::new(alloc);
-    bytes.extend_from_slice(&TWO_ENTRIES)?;
+    let mut bytes = Vec::from_slice(rt.alloc(), &TWO_ENTRIES)?;
     bytes.extend_from_slice(&CLEAN_SIGNED)?;
-    let (items, entries, behind) = read_record(alloc, bytes.as_slice(), Some(1))?;
-    assert_eq!(rt; entries, b"abcde".as_slice());
-    assert_eq!(rt; behind, CLEAN_SIGNED.as_slice());
-    assert_eq!(rt; items.len(), 1);
-    assert_eq!(rt; items[0].raft_group_id, 7);
-    match &items[0].content {
-        LogItemContent::EntryIndexes(run) => {
-            assert_eq!(rt; run.len(), 2);
-            assert_eq!(rt; run.as_slice()[0].index, 5);
-            assert_eq!(rt; run.as_slice()[0].entry_len, 2);
-            assert_eq!(rt; run.as_slice()[1].index, 6);
-            assert_eq!(rt; run.as_slice()[1].entry_len, 3);
-        }
-        _ => assert!(rt; false, "a run of entries"),
-    }
-    let (items, entries, behind) = read_record(alloc, behind, Some(1))?;
-    assert_eq!(rt; items.len(), 1);
-    assert_eq!(rt; entries.len(), 0);
-    assert_eq!(rt; behind.len(), 0);
+    let (_, _, behind) = read_record(rt.alloc(), bytes.as_slice(), Some(1))?;
+    let (items, entries, behind) = read_record(rt.alloc(), behind, Some(1))?;
+    assert!(rt; (items.len(), entries.len(), behind.len()) == (1, 0, 0));
     Ok(())
 }
 

@@ -1,12 +1,17 @@
-//! The worked bytes of the format, and refusals with their texts.
-use raft_log_items::{FileId, LogFileContext, LogQueue, Version};
-use std::alloc::Global;
-use std::test::Fail;
+//! Tests of frames and of records: the worked bytes of the format, refusals with their texts, and each call once.
+#![tactic(auto)]
 
+use raft_log_items::{FileId, LogFileContext, LogQueue, Version};
+use std::alloc::{AllocError, Global};
+
+mod atomic_groups;
+mod batches;
 mod damaged_blocks;
 mod damaged_footers;
 mod damaged_headers;
 mod item_batches;
+mod log_batches;
+mod messages;
 mod reading;
 mod whole_records;
 
@@ -20,6 +25,7 @@ const CLEAN_SIGNED: [u8; 24] = [
     0, 0, 0, 0, 0, 0, 0x18, 0, 0, 0, 0, 0, 0, 0, 0, 0x10, 1, 1, 2, 1, 0x5b, 0x80, 0x0b, 0xdd,
 ];
 
+/// A file of the append queue.
 fn context(version: Version, number: u64) -> LogFileContext {
     LogFileContext::new(FileId::new(LogQueue::Append, number), version)
 }
@@ -32,11 +38,13 @@ fn cell(line: &str) -> (&str, &str) {
     }
 }
 
-/// The bytes that are written as numbers of two hexadecimal digits.
-fn bytes_of(alloc: Global, text: &str) -> Result<Vec<u8>, Fail> {
+/// The bytes that are written as numbers of two hexadecimal digits; other words are left out.
+fn bytes_of(alloc: Global, text: &str) -> Result<Vec<u8>, AllocError> {
     let mut bytes = Vec::new(alloc);
     for digits in text.split_whitespace() {
-        bytes.push(u8::from_str_radix(digits, 16)?)?;
+        if let Ok(byte) = u8::from_str_radix(digits, 16) {
+            bytes.push(byte)?;
+        }
     }
     Ok(bytes)
 }

@@ -1,6 +1,6 @@
 use Rattle.std.proofs.Common.{arith}
 use Rattle.raft_log_frames.proofs.Words.{word_there, word_leaves}
-use Rattle.raft_log_frames.proofs.header.take_header.Goals as goal
+use Rattle.raft_log_frames.proofs.header.split_header.Goals as goal
 
 pub returns-in_err-word : goal.returns-in_err-word
 returns-in_err-word c = absurd (word_there c.args.source.now.now c.in_err-word.field-0.0 (omega arith) c.in_err-word.ensures.exact.0)

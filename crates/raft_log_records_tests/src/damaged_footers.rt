@@ -1,7 +1,7 @@
 //! Footers that are refused for their length, their checksum, their items or the lengths of their entries, and the text of
 //! each refusal.
-use super::{bytes_of, cell};
-use crate::decode_footer;
+use crate::{bytes_of, cell};
+use raft_log_frames::decode_footer;
 use std::test::Fail;
 
 /// What is damaged, the length of the block, what the file signs with, if it does, the bytes, and the refusal.

@@ -1,11 +1,12 @@
 //! A small message: an index, eight bytes with the highest first, and data.
-use crate::{Bytes, Error, LogItemBatch, Message, MessageExt, Result};
 use raft_log_base::codec;
+use raft_log_items::{Bytes, Error, Message, MessageExt, Result};
+use raft_log_records::LogItemBatch;
 use std::alloc::{AllocError, Global};
 use std::test::Fail;
 
 /// An entry of a log, as a user might have it.
-#[derive(Debug, Drop, PartialEq)]
+#[derive(Drop, PartialEq)]
 pub(crate) struct TestEntry {
     pub(crate) index: u64,
     pub(crate) bytes: Bytes,
@@ -65,53 +66,51 @@ fn index_of<M: MessageExt>(entry: &M::Entry) -> u64 {
 }
 
 #[test]
+fn a_message_is_written(rt: HostRuntime) -> std::result::Result<(), Fail> {
+    let entry = TestEntry {
+        index: 258,
+        bytes: Bytes::from_slice(rt.alloc(), b"ab")?,
+    };
+    let mut out = vec![in rt.alloc(); 7u8]?;
+    entry.write(&mut out)?;
+    assert!(rt; out.as_slice() == [7, 0, 0, 0, 0, 0, 0, 1, 2, b'a', b'b'].as_slice());
+    Ok(())
+}
+
+#[test]
 fn a_written_message_is_parsed(rt: HostRuntime) -> std::result::Result<(), Fail> {
     let entry = TestEntry {
         index: 258,
         bytes: Bytes::from_slice(rt.alloc(), b"ab")?,
     };
-    let mut out = Vec::new(rt.alloc());
-    out.push(7)?;
-    entry.write(&mut out)?;
-    assert_eq!(rt;
-        out.as_slice(),
-        [7, 0, 0, 0, 0, 0, 0, 1, 2, b'a', b'b'].as_slice()
-    );
-    assert_eq!(rt; written_and_parsed(rt.alloc(), &entry)?, entry);
-    assert_eq!(rt; index_of::<TestEntries>(&entry), 258);
+    assert!(rt; written_and_parsed(rt.alloc(), &entry)? == entry);
+    assert!(rt; index_of::<TestEntries>(&entry) == 258);
     Ok(())
 }
 
 #[test]
 fn bytes_of_no_message_are_refused(rt: HostRuntime) -> std::result::Result<(), Fail> {
-    match TestEntry::parse(rt.alloc(), b"1234567") {
-        Ok(_) => assert!(rt; false, "seven bytes"),
-        Err(error) => assert_eq!(rt;
-            error.to_string(rt.alloc())?.as_str(),
-            "Message Error: entry too short: 7"
-        ),
-    }
-    assert_eq!(rt;
-        TestEntry::parse(rt.alloc(), b"\0\0\0\0\0\0\0\x05")?.index,
-        5
-    );
+    let Err(error) = TestEntry::parse(rt.alloc(), b"1234567") else {
+        assert!(rt; false, "seven bytes");
+        return Ok(());
+    };
+    assert!(rt; error.to_string(rt.alloc())?.as_str() == "Message Error: entry too short: 7");
+    assert!(rt; TestEntry::parse(rt.alloc(), b"\0\0\0\0\0\0\0\x05")?.index == 5);
     Ok(())
 }
 
 #[test]
 fn a_message_is_put(rt: HostRuntime) -> std::result::Result<(), Fail> {
-    let alloc = rt.alloc();
     let entry = TestEntry {
         index: 1,
-        bytes: Bytes::from_slice(alloc, b"x")?,
+        bytes: Bytes::from_slice(rt.alloc(), b"x")?,
     };
-    let mut batch = LogItemBatch::default(alloc);
-    batch.put_message(alloc, 2, Bytes::from_slice(alloc, b"k")?, &entry)?;
-    let mut out = Vec::new(alloc);
+    let mut batch = LogItemBatch::default(rt.alloc());
+    let key = Bytes::from_slice(rt.alloc(), b"k")?;
+    batch.put_message(rt.alloc(), 2, key, &entry)?;
+    let mut out = Vec::new(rt.alloc());
     batch.encode(&mut out)?;
-    assert_eq!(rt;
-        out.as_slice(),
-        [1, 2, 3, 1, 1, b'k', 9, 0, 0, 0, 0, 0, 0, 0, 1, b'x'].as_slice()
-    );
+    let bytes = [1, 2, 3, 1, 1, b'k', 9, 0, 0, 0, 0, 0, 0, 0, 1, b'x'];
+    assert!(rt; out.as_slice() == bytes.as_slice());
     Ok(())
 }

@@ -1,0 +1,283 @@
+//! Batches with entries: the bytes that come out, the places that come back, and what is refused.
+ghost use Rattle.std.specs.Prelude.{◌≡◌, IfOk, OnOk};
+ghost use Rattle.raft_log_records.specs.declared.log_batch.BatchState.TheVariants.{Filling};
+ghost use Rattle.raft_log_records.specs.Batch.{IsSigned};
+
+use crate::context;
+use crate::messages::{TestEntries, TestEntry};
+use raft_log_items::{
+    Bytes, Command, EntryIndex, Error, FileBlockHandle, FileId, LogItem, LogItemContent, LogQueue,
+    Result, Version,
+};
+use raft_log_records::{BatchState, LogBatch};
+use std::alloc::{AllocError, Global};
+use std::test::Fail;
+
+/// Two entries of group 1, `ab` at index 7 and `cde` at 8, in file 1 of a format with signatures.
+///
+/// By zlib the checksum of `abcde` is 8587D865, and that of the seven bytes of the items C95EC3E9.
+const TWO_ENTRIES: [u8; 36] = [
+    0, 0, 0, 0, 0, 0, 36, 0, 0, 0, 0, 0, 0, 0, 0, 25, b'a', b'b', b'c', b'd', b'e', 0x65, 0xd8,
+    0x87, 0x85, 1, 1, 1, 2, 7, 2, 3, 0xe8, 0xc3, 0x5e, 0xc9,
+];
+
+fn place(seq: u64) -> FileBlockHandle
+    ensures { result.offset ≡ 100 }
+{
+    FileBlockHandle {
+        id: FileId::new(LogQueue::Append, seq),
+        offset: 100,
+        len: 36,
+    }
+}
+
+/// The entry with this index, and with a length and places that are not its own.
+fn misplaced(index: u64) -> EntryIndex {
+    let mut entry = EntryIndex::default();
+    entry.index = index;
+    entry.entries = Some(place(9));
+    entry.entry_offset = 99;
+    entry.entry_len = 99;
+    entry
+}
+
+/// Adds these entries of a group.
+fn add(
+    alloc: Global,
+    batch: &mut LogBatch,
+    group: u64,
+    indexes: &[u64],
+    entries: &[&[u8]],
+) -> Result<()>
+    requires { batch.old.state ≡ Filling }
+    ensures { batch.new.state ≡ Filling }
+{
+    let mut given = Vec::new(alloc);
+    for index in indexes {
+        given.push(misplaced(*index))?;
+    }
+    let mut bytes = Vec::new(alloc);
+    for entry in entries {
+        bytes.push(Bytes::from_slice(alloc, entry)?)?;
+    }
+    batch.add_raw_entries(alloc, group, given, bytes.as_slice())
+}
+
+/// A batch of the two entries, for file 1.
+fn signed(alloc: Global) -> Result<LogBatch>
+    ensures { IfOk result (λ b. IsSigned b.state) }
+{
+    let mut batch = LogBatch::with_capacity(alloc, 4)?;
+    add(alloc, &mut batch, 1, &[7, 8], &[b"ab", b"cde"])?;
+    batch.finish_populate()?;
+    batch.prepare_write(&context(Version::V2, 2));
+    batch.prepare_write(&context(Version::V2, 1));
+    Ok(batch)
+}
+
+/// Each entry of the batch, one after another. The batch is emptied.
+fn drained(alloc: Global, batch: &mut LogBatch) -> std::result::Result<Vec<EntryIndex>, AllocError>
+    ensures { OnOk result (batch.new.state ≡ Filling) }
+{
+    let mut items: Vec<LogItem> = Vec::new(alloc);
+    batch.drain(&mut items)?;
+    let mut all = Vec::new(alloc);
+    for item in items.iter() {
+        if let LogItemContent::EntryIndexes(entries) = &item.content {
+            all.extend_from_slice(entries.as_slice())?;
+        }
+    }
+    Ok(all)
+}
+
+/// Where an entry lies in the block, and how long it is.
+fn extent(entries: &[EntryIndex], at: usize) -> Option<(u32, u32)> {
+    let entry = entries.get(at)?;
+    Some((entry.entry_offset, entry.entry_len))
+}
+
+#[test]
+fn a_batch_tells_its_size(rt: HostRuntime) -> std::result::Result<(), Fail> {
+    let mut batch = LogBatch::with_capacity(rt.alloc(), 4)?;
+    add(rt.alloc(), &mut batch, 1, &[7, 8], &[b"ab", b"cde"])?;
+    // Header 16, block 9, footer 12, and of the item 8 for the group and 8 for each of four numbers.
+    assert!(rt; batch.approximate_size() == 37 + 40);
+    assert!(rt; batch.finish_populate()? == 36);
+    Ok(())
+}
+
+#[test]
+fn entries_are_written(rt: HostRuntime) -> std::result::Result<(), Fail> {
+    let batch = signed(rt.alloc())?;
+    let copy = batch.clone(rt.alloc())?;
+    assert!(rt; batch.encoded_bytes() == TWO_ENTRIES.as_slice());
+    assert!(rt; copy.encoded_bytes() == TWO_ENTRIES.as_slice());
+    Ok(())
+}
+
+#[test]
+fn written_entries_get_their_places(rt: HostRuntime) -> std::result::Result<(), Fail> {
+    let mut batch = signed(rt.alloc())?;
+    batch.finish_write(place(1));
+    assert!(rt; batch.state() == BatchState::Written);
+    let entries = drained(rt.alloc(), &mut batch)?;
+    assert!(rt; batch.state() == BatchState::Filling);
+    let block = FileBlockHandle {
+        id: place(1).id,
+        offset: 116,
+        len: 9,
+    };
+    let at_places = entries
+        .iter()
+        .filter(|entry| entry.entries == Some(block))
+        .count();
+    assert!(rt; at_places == 2);
+    Ok(())
+}
+
+#[test]
+fn written_entries_lie_in_their_block(rt: HostRuntime) -> std::result::Result<(), Fail> {
+    let mut batch = signed(rt.alloc())?;
+    batch.finish_write(place(1));
+    let entries = drained(rt.alloc(), &mut batch)?;
+    assert!(rt; extent(entries.as_slice(), 0) == Some((0, 2)));
+    assert!(rt; extent(entries.as_slice(), 1) == Some((2, 3)));
+    Ok(())
+}
+
+/// The text of a refusal of indexes that are no run.
+const NO_RUN: &str =
+    "Invalid Argument: entry indexes that don't rise by one, or of which one is 18446744073709551615";
+
+/// Indexes for two entries, and why they are refused.
+const NO_RUNS: [(&[u64], &str); 5] = [
+    (&[1, 3], NO_RUN),
+    (&[2, 2], NO_RUN),
+    (&[2, 1], NO_RUN),
+    (&[u64::MAX - 1, u64::MAX], NO_RUN),
+    (&[1], "Invalid Argument: 1 indexes for 2 entries"),
+];
+
+#[test]
+fn entries_that_are_no_run_are_refused(rt: HostRuntime) -> std::result::Result<(), Fail> {
+    for (indexes, want) in NO_RUNS.iter() {
+        let mut batch = LogBatch::default(rt.alloc())?;
+        match add(rt.alloc(), &mut batch, 1, indexes, &[b"ab", b"cde"]) {
+            Ok(_) => assert!(rt; false, "{want}"),
+            Err(error) => assert!(rt; error.to_string(rt.alloc())?.as_str() == *want, "{want}"),
+        }
+    }
+    Ok(())
+}
+
+#[test]
+fn no_entries_add_nothing(rt: HostRuntime) -> std::result::Result<(), Fail> {
+    let mut batch = LogBatch::default(rt.alloc())?;
+    add(rt.alloc(), &mut batch, 1, &[], &[])?;
+    batch.add_entries::<TestEntries>(rt.alloc(), 1, &[])?;
+    assert!(rt; batch.is_empty() && batch.approximate_size() == 0);
+    // An entry without bytes is an entry, and needs no block.
+    add(rt.alloc(), &mut batch, 1, &[u64::MAX - 1], &[b""])?;
+    assert!(rt; batch.finish_populate()? == 16 + 4 + 4 + 10 + 1);
+    Ok(())
+}
+
+/// An entry of a user's log.
+fn entry(alloc: Global, index: u64, bytes: &[u8]) -> std::result::Result<TestEntry, AllocError> {
+    Ok(TestEntry {
+        index,
+        bytes: Bytes::from_slice(alloc, bytes)?,
+    })
+}
+
+#[test]
+fn messages_are_entries(rt: HostRuntime) -> std::result::Result<(), Fail> {
+    let mut batch = LogBatch::default(rt.alloc())?;
+    let entries = vec![in rt.alloc(); entry(rt.alloc(), 7, b"ab")?, entry(rt.alloc(), 8, b"")?]?;
+    batch.add_entries::<TestEntries>(rt.alloc(), 1, entries.as_slice())?;
+    batch.finish_populate()?;
+    batch.prepare_write(&context(Version::V2, 1));
+    assert!(rt; batch.encoded_bytes().get(16..26) == Some(b"\0\0\0\0\0\0\0\x07ab".as_slice()));
+    let entries = drained(rt.alloc(), &mut batch)?;
+    assert!(rt; extent(entries.as_slice(), 1) == Some((10, 8)));
+    Ok(())
+}
+
+#[test]
+fn messages_are_values(rt: HostRuntime) -> std::result::Result<(), Fail> {
+    let mut batch = LogBatch::default(rt.alloc())?;
+    let value = entry(rt.alloc(), 8, b"")?;
+    let key = Bytes::from_slice(rt.alloc(), b"__k")?;
+    let refused = batch.put_message(rt.alloc(), 1, key, &value).is_err();
+    let key = Bytes::from_slice(rt.alloc(), b"k")?;
+    batch.put_message(rt.alloc(), 1, key, &value)?;
+    // Header, one item of 14 bytes, and the footer's count and checksum.
+    assert!(rt; refused && batch.finish_populate()? == 16 + 1 + 14 + 4);
+    Ok(())
+}
+
+/// Batches of `ab` for group 1, and of `x` and `cde` for group 2.
+fn two_batches(alloc: Global) -> Result<(LogBatch, LogBatch)>
+    ensures { IfOk result (λ b. (b.0.state ≡ Filling) × (b.1.state ≡ Filling)) }
+{
+    let mut batch = LogBatch::default(alloc)?;
+    let mut other = LogBatch::default(alloc)?;
+    add(alloc, &mut batch, 1, &[7], &[b"ab"])?;
+    add(alloc, &mut other, 2, &[1], &[b"x"])?;
+    add(alloc, &mut other, 2, &[2], &[b"cde"])?;
+    Ok((batch, other))
+}
+
+#[test]
+fn merged_batches_are_one(rt: HostRuntime) -> std::result::Result<(), Fail> {
+    let (mut batch, mut other) = two_batches(rt.alloc())?;
+    batch.merge(&mut other)?;
+    assert!(rt; other.is_empty() && other.finish_populate()? == 0);
+    batch.finish_populate()?;
+    batch.prepare_write(&context(Version::V2, 1));
+    assert!(rt; batch.encoded_bytes().get(16..22) == Some(b"abxcde".as_slice()));
+    Ok(())
+}
+
+#[test]
+fn merged_entries_lie_behind(rt: HostRuntime) -> std::result::Result<(), Fail> {
+    let (mut batch, mut other) = two_batches(rt.alloc())?;
+    batch.merge(&mut other)?;
+    let entries = drained(rt.alloc(), &mut batch)?;
+    assert!(rt; extent(entries.as_slice(), 1) == Some((2, 1)));
+    assert!(rt; extent(entries.as_slice(), 2) == Some((3, 3)));
+    Ok(())
+}
+
+/// Whether the step was done, or refused for want of memory with the batch as it was.
+fn is_done_or_unchanged(batch: &LogBatch, before: usize, step: &Result<()>) -> bool {
+    match step {
+        Ok(()) => true,
+        Err(Error::Memory) => batch.approximate_size() == before,
+        Err(_) => false,
+    }
+}
+
+#[test]
+fn want_of_memory_adds_nothing(rt: HostRuntime) -> std::result::Result<(), Fail> {
+    let Ok(mut batch) = LogBatch::default(rt.alloc()) else {
+        return Ok(());
+    };
+    let step = add(rt.alloc(), &mut batch, 1, &[7, 8], &[b"ab", b"cde"]);
+    assert!(rt; is_done_or_unchanged(&batch, 0, &step));
+    let whole = batch.approximate_size();
+    assert!(rt; batch.finish_populate().is_ok() || batch.approximate_size() == whole);
+    Ok(())
+}
+
+#[test]
+fn want_of_memory_merges_nothing(rt: HostRuntime) -> std::result::Result<(), Fail> {
+    let Ok((mut batch, mut other)) = two_batches(rt.alloc()) else {
+        return Ok(());
+    };
+    let (own, others) = (batch.approximate_size(), other.approximate_size());
+    let step = batch.merge(&mut other);
+    assert!(rt; is_done_or_unchanged(&batch, own, &step));
+    assert!(rt; step.is_ok() || other.approximate_size() == others);
+    Ok(())
+}

@@ -5,8 +5,8 @@ use Rattle.raft_log_disk.specs.Disk.{File, Disk}
 use Rattle.raft_log_disk.specs.Causes.{stopped as stop_cause, unreadable_place, Fails, has_stopped}
 use Rattle.raft_log_disk.specs.Calls.{RefusedWhole, after_stop, wrong_argument, failed, stops}
 use Rattle.raft_log_disk.proofs.CauseLaws.{fails_whole}
-use Rattle.raft_log_files.specs.declared.handle.Handle.{Handle}
-use Rattle.raft_log_files.specs.Reading.{IsUnread, stopped, gone, unreadable}
+use Rattle.raft_log_disk.specs.declared.handle.Handle.{Handle}
+use Rattle.raft_log_disk.specs.Reading.{IsUnread, stopped, gone, unreadable}
 use Rattle.raft_log_append_file.specs.AppendFile.{ReadRefused, OpenRefused}
 use Rattle.raft_log_append_file.specs.declared.error.AppendError.{AppendError}
 use Rattle.raft_log_append_file.specs.declared.error.AppendError.TheVariants.{Memory, TooLong, Failed, FileSystem}

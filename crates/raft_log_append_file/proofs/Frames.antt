@@ -7,7 +7,7 @@ use Rattle.std.specs.Str.{bytes_eq}
 use Rattle.std.proofs.lemmas.Nat.{be_bytes_4, from_be_bytes-to_be_bytes_4}
 use Rattle.std.specs.Int.{w32, to_be_bytes, from_be_bytes}
 use Rattle.md5.specs.Md5.{md5}
-use Rattle.raft_log_disk.specs.Chains.{Written, IsPrefixFree, CanTell}
+use Rattle.raft_log_disk.specs.Chains.{Written, IsSelfDelimiting, CanTell}
 use Rattle.raft_log_append_file.specs.Frame.{IsFrame, StartsWithFrame, frame_of, framed}
 
 -- a frame and what follows it, part by part
@@ -30,7 +30,7 @@ frame_not_empty : (bytes : List ℕ) → frame_of bytes ≡ [] → ⊥
 unfolding frame_of
 frame_not_empty bytes e = cc e
 
-pub prefix_free : IsPrefixFree IsFrame
+pub prefix_free : IsSelfDelimiting IsFrame
 prefix_free = record {
   apart = λ a b x y r s g h e.
       (let n : length r ≡ length s = sym (size_of_head a r x (a ++ x) g refl) ∙ ap (λ (l : List ℕ). from_be_bytes w32 (take 4 l)) e ∙ size_of_head b s y (b ++ y) h refl in

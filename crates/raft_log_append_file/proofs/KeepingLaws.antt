@@ -1,8 +1,8 @@
 -- How a file of records is kept through a cut and a sync, and what is read of it.
 use Rattle.std.proofs.Common.{◌≡◌, ℕ, ◌+◌, ◌≤◌, Some, List, [], ◌∷◌, ◌++◌, length, take, drop, refl, sym, ◌∙◌, ap, subst, arith, length-append, length-drop}
 use Rattle.std.proofs.lemmas.List.{append-nil, append_assoc, take_all, drop_at, take-append-drop, map-append}
-use Rattle.raft_log_disk.specs.Disk.{CutTo, File, Disk, with_file, at_rest}
-use Rattle.raft_log_disk.specs.Calls.{with_piece, after_piece, flushed, Changes}
+use Rattle.raft_log_disk.specs.Disk.{ShortenedTo, File, Disk, with_file, at_rest}
+use Rattle.raft_log_disk.specs.Calls.{with_change, after_change, flushed, Changes}
 use Rattle.raft_log_disk.specs.Chains.{Written, spelled, AreFrames, BeginsWith, Reads}
 use Rattle.raft_log_disk.specs.KeepsSynced.{HoldsChain, HoldsAtLeast, kept_records}
 use Rattle.raft_log_disk.proofs.Updates.{file_here}
@@ -50,12 +50,12 @@ can_cut_kept id size count durable pending d can = record { file = can.file; is 
 
 -- and by the cut, made or not
 pub kept_cut : (id size count : ℕ) (durable pending : Records) (d : Disk) (file : File) (content : List ℕ) → CanCut id size count durable pending d → d.files id ≡ Some file
-    → IsKept id durable pending (with_file id (Some (with_piece (CutTo size) content file)) d)
+    → IsKept id durable pending (with_file id (Some (with_change (ShortenedTo size) content file)) d)
 kept_cut id size count durable pending d file content can is =
     let same = same_file d id can.file file can.is is in
     let holds = subst (λ (f : File). HoldsChain IsFrame 0 (length f.synced) durable pending f) same can.holds in
     let behind : length (spelled durable) ≤ size = omega (arith, can.end, ap length (spelled-append durable (take count pending)), length-append (spelled durable) (spelled (take count pending))) in
-    let cut = with_piece (CutTo size) content file in
+    let cut = with_change (ShortenedTo size) content file in
     record {
       file = cut;
       is = file_here d.files id (Some cut);
@@ -64,9 +64,9 @@ kept_cut id size count durable pending d file content can is =
 
 -- and by the sync behind the cut
 pub kept_settled : (id size count : ℕ) (durable pending : Records) (old mid : Disk) (file : File) → CanCut id size count durable pending old
-    → Changes id (after_piece (CutTo size)) old mid → mid.files id ≡ Some file → IsKept id durable pending (with_file id (Some (flushed file)) mid)
+    → Changes id (after_change (ShortenedTo size)) old mid → mid.files id ≡ Some file → IsKept id durable pending (with_file id (Some (flushed file)) mid)
 kept_settled id size count durable pending old mid file can cut is =
-    let cut_file = after_piece (CutTo size) cut.file in
+    let cut_file = after_change (ShortenedTo size) cut.file in
     let at : mid.files id ≡ Some cut_file = ap (λ (d : Disk). d.files id) cut.done ∙ file_here old.files id (Some cut_file) in
     let same = same_file mid id file cut_file is at in
     let first = same_file old id cut.file can.file cut.is can.is in
@@ -87,12 +87,12 @@ can_cut_read_keeps id size durable pending ws d can =
 
 -- also by the cut, made or not
 pub read_cut_keeps : (id size : ℕ) (durable pending ws : Records) (d : Disk) (file : File) (content : List ℕ) → CanCutRead id size durable pending ws d → d.files id ≡ Some file
-    → KeepsDurable id durable (with_file id (Some (with_piece (CutTo size) content file)) d)
+    → KeepsDurable id durable (with_file id (Some (with_change (ShortenedTo size) content file)) d)
 read_cut_keeps id size durable pending ws d file content can is =
     let same = same_file d id can.file file can.is is in
     let holds = subst (λ (f : File). HoldsChain IsFrame 0 (length f.synced) durable pending f) same can.holds in
     let behind : length (spelled durable) ≤ size = omega (arith, can.end, ap length (ap spelled can.splits ∙ spelled-append durable can.more), length-append (spelled durable) (spelled can.more)) in
-    let cut = with_piece (CutTo size) content file in (
+    let cut = with_change (ShortenedTo size) content file in (
       pending,
       record {
         file = cut;
@@ -103,9 +103,9 @@ read_cut_keeps id size durable pending ws d file content can is =
 
 -- and by the sync behind the cut: what was read is durable then
 pub read_settled_keeps : (id size : ℕ) (durable pending ws : Records) (old mid : Disk) (file : File) → CanCutRead id size durable pending ws old
-    → Changes id (after_piece (CutTo size)) old mid → mid.files id ≡ Some file → KeepsDurable id durable (with_file id (Some (flushed file)) mid)
+    → Changes id (after_change (ShortenedTo size)) old mid → mid.files id ≡ Some file → KeepsDurable id durable (with_file id (Some (flushed file)) mid)
 read_settled_keeps id size durable pending ws old mid file can cut is =
-    let cut_file = after_piece (CutTo size) cut.file in
+    let cut_file = after_change (ShortenedTo size) cut.file in
     let at : mid.files id ≡ Some cut_file = ap (λ (d : Disk). d.files id) cut.done ∙ file_here old.files id (Some cut_file) in
     let same = same_file mid id file cut_file is at in
     let first = same_file old id cut.file can.file cut.is can.is in

@@ -4,9 +4,9 @@ use Rattle.std.specs.Result.{OnOk, IfErr}
 use Rattle.std.proofs.lemmas.List.{append-nil, append_assoc, take_all, take_at, take-append-le, length-take-le, get_or-take, ext_get_or, take-append-drop}
 use Rattle.std.proofs.lemmas.List.Elements.{All-weaker}
 use Rattle.std.specs.declared.io.ErrorKind.{ErrorKind}
-use Rattle.raft_log_disk.specs.Disk.{file_limit, Piece, Wrote, File, Disk, with_file, at_rest, overwritten}
+use Rattle.raft_log_disk.specs.Disk.{file_limit, Change, Wrote, File, Disk, with_file, at_rest, overwritten}
 use Rattle.raft_log_disk.specs.Image.{IsSound, IsSoundFile, end_of, IsLeft}
-use Rattle.raft_log_disk.specs.Calls.{with_piece, after_piece, flushed, Changes, IsTorn}
+use Rattle.raft_log_disk.specs.Calls.{with_change, after_change, flushed, Changes, IsTorn}
 use Rattle.raft_log_disk.specs.Chains.{Written, spelled, AreFrames, Reads}
 use Rattle.raft_log_disk.specs.KeepsSynced.{NoChanceMatch, HoldsChain, kept_records}
 use Rattle.raft_log_disk.proofs.ImageLaws.{left_at_rest}
@@ -16,9 +16,9 @@ use Rattle.raft_log_disk.proofs.KeptLaws.{IsCalm}
 use Rattle.raft_log_disk.proofs.ChainLaws.{spelled-append, frames_front, nothing_refuses, reads_some}
 use Rattle.raft_log_disk.proofs.KeepsSyncedLaws.{left_of_image, take_over, keeps_synced, at_least_keeps, durable_is_read, holds_written, holds_more, holds_at_rest, holds_at_least}
 use Rattle.raft_log_disk.proofs.CrashExampleLaws.{synced_file_has_no_chance}
-use Rattle.raft_log_files.specs.declared.handle.Handle.{Handle}
-use Rattle.raft_log_files.specs.declared.handle.Permission.TheVariants.{ReadWrite}
-use Rattle.raft_log_files.specs.Arguments.{WrongHandle, WrongWriter}
+use Rattle.raft_log_disk.specs.declared.handle.Handle.{Handle}
+use Rattle.raft_log_disk.specs.declared.handle.Permission.TheVariants.{ReadWrite}
+use Rattle.raft_log_disk.specs.Arguments.{WrongHandle, WrongWriter}
 use Rattle.raft_log_append_file.specs.Frame.{IsFrame, Records, framed}
 use Rattle.raft_log_append_file.specs.Keeping.{IsKept, CanCut, CanCutRead, KeepsDurable, NoChanceNow, KeepsRecords, KeptKeeps, KeptThroughRestart}
 use Rattle.raft_log_append_file.specs.AppendFile.{IsOpen, AppendRefused}
@@ -89,7 +89,7 @@ keeps_longer id durable pending more d keeps image after is there chance =
 
 -- an open file after its frame was written
 pub open_appended : (log next : AppendFile) (durable pending : Records) (bytes frame : List ℕ) (old new : Disk) → IsOpen log durable pending old → IsFrame frame bytes
-    → next.handle ≡ log.handle → next.written ≡ log.written + length frame → next.failed ≡ false → Changes log.handle.file (after_piece (Wrote log.written frame)) old new
+    → next.handle ≡ log.handle → next.written ≡ log.written + length frame → next.failed ≡ false → Changes log.handle.file (after_change (Wrote log.written frame)) old new
     → IsOpen next durable (pending ++ framed bytes ∷ []) new
 open_appended log next durable pending bytes frame old new opened is_frame handle written runs changes =
     let w = framed bytes in
@@ -98,22 +98,22 @@ open_appended log next durable pending bytes frame old new opened is_frame handl
     let same = same_file old log.handle.file changes.file file changes.is opened.is in
     let is_bytes : frame ≡ w.bytes = is_frame.1 in
     let at : log.written ≡ 0 + length (spelled all) = omega (arith, opened.written) in
-    let piece : Wrote log.written frame ≡ Wrote (0 + length (spelled all)) w.bytes = λ i. Wrote (at i) (is_bytes i) in
+    let change : Wrote log.written frame ≡ Wrote (0 + length (spelled all)) w.bytes = λ i. Wrote (at i) (is_bytes i) in
     let step : all ++ w ∷ [] ≡ durable ++ (pending ++ w ∷ []) = append_assoc durable pending (w ∷ []) in
     let total : spelled (durable ++ (pending ++ w ∷ [])) ≡ spelled all ++ frame =
     ap spelled (sym step) ∙ spelled-append all (w ∷ []) ∙ ap (λ (b : List ℕ). spelled all ++ b) (append-nil w.bytes ∙ sym is_bytes) in
     let content : overwritten log.written frame file.content ≡ spelled all ++ frame =
     ap (λ (n : ℕ). overwritten n frame file.content) (opened.written ∙ ap length (sym opened.content)) ∙ overwritten_at_end frame file.content ∙ ap (λ (b : List ℕ). b ++ frame) opened.content in
-    let next_file = after_piece (Wrote log.written frame) file in
+    let next_file = after_change (Wrote log.written frame) file in
     let now : new.files next.handle.file ≡ Some next_file =
-    ap (λ (h : Handle). new.files h.file) handle ∙ ap (λ (d : Disk). d.files log.handle.file) changes.done ∙ file_here old.files log.handle.file (Some (after_piece (Wrote log.written frame) changes.file))
-    ∙ ap (λ (f : File). Some (after_piece (Wrote log.written frame) f)) same in
+    ap (λ (h : Handle). new.files h.file) handle ∙ ap (λ (d : Disk). d.files log.handle.file) changes.done ∙ file_here old.files log.handle.file (Some (after_change (Wrote log.written frame) changes.file))
+    ∙ ap (λ (f : File). Some (after_change (Wrote log.written frame) f)) same in
     let holds = holds_written IsFrame 0 (length file.synced) durable pending w (overwritten log.written frame file.content) file (is_frame.0, refl) opened.holds in
     record {
       file = next_file;
       is = now;
       permitted = ap (λ (h : Handle). h.permission) handle ∙ opened.permitted;
-      holds = subst (λ (p : Piece). HoldsChain IsFrame 0 (length file.synced) durable (pending ++ w ∷ []) (with_piece p (overwritten log.written frame file.content) file)) (sym piece) holds;
+      holds = subst (λ (p : Change). HoldsChain IsFrame 0 (length file.synced) durable (pending ++ w ∷ []) (with_change p (overwritten log.written frame file.content) file)) (sym change) holds;
       content = content ∙ sym total;
       written = written ∙ omega (arith, opened.written, ap length total, length-append (spelled all) frame);
       runs = runs;
@@ -134,23 +134,23 @@ torn_front at bytes old new torn long =
 -- after a refused write the file can be cut back
 pub torn_can_cut : (log : AppendFile) (durable pending : Records) (bytes frame : List ℕ) (d : Disk) (file : File) (content : List ℕ) → IsOpen log durable pending d → IsFrame frame bytes
     → d.files log.handle.file ≡ Some file → IsTorn log.written frame file.content content
-    → CanCut log.handle.file log.written (length pending) durable (pending ++ framed bytes ∷ []) (with_file log.handle.file (Some (with_piece (Wrote log.written frame) content file)) d)
+    → CanCut log.handle.file log.written (length pending) durable (pending ++ framed bytes ∷ []) (with_file log.handle.file (Some (with_change (Wrote log.written frame) content file)) d)
 torn_can_cut log durable pending bytes frame d file content opened is_frame is torn =
     let w = framed bytes in
     let all = durable ++ pending in
     let same = same_file d log.handle.file opened.file file opened.is is in
     let is_bytes : frame ≡ w.bytes = is_frame.1 in
     let at : log.written ≡ 0 + length (spelled all) = omega (arith, opened.written) in
-    let piece : Wrote log.written frame ≡ Wrote (0 + length (spelled all)) w.bytes = λ i. Wrote (at i) (is_bytes i) in
+    let change : Wrote log.written frame ≡ Wrote (0 + length (spelled all)) w.bytes = λ i. Wrote (at i) (is_bytes i) in
     let was : file.content ≡ spelled all = ap (λ (f : File). f.content) (sym same) ∙ opened.content in
     let front = front_records durable pending w in
     let before = subst (λ (f : File). HoldsChain IsFrame 0 (length f.synced) durable pending f) same opened.holds in
     let holds = holds_written IsFrame 0 (length file.synced) durable pending w content file (is_frame.0, refl) before in
-    let torn_file = with_piece (Wrote log.written frame) content file in
+    let torn_file = with_change (Wrote log.written frame) content file in
     record {
       file = torn_file;
       is = file_here d.files log.handle.file (Some torn_file);
-      holds = subst (λ (p : Piece). HoldsChain IsFrame 0 (length file.synced) durable (pending ++ w ∷ []) (with_piece p content file)) (sym piece) holds;
+      holds = subst (λ (p : Change). HoldsChain IsFrame 0 (length file.synced) durable (pending ++ w ∷ []) (with_change p content file)) (sym change) holds;
       within = omega (arith, length-append pending (w ∷ []));
       front = torn_front log.written frame file.content content torn (ap length was ∙ sym opened.written) ∙ was ∙ ap spelled (sym front);
       end = opened.written ∙ ap (λ (vs : Records). length (spelled vs)) (sym front);
@@ -237,7 +237,7 @@ right_handle log durable pending d kind opened (why, none) = let here = opened.i
 pub content_short : (file : File) → IsSoundFile file → length file.content < 2 ^ 63
 content_short file sound =
     let size : ℕ = 2 ^ 63 - 1 in
-    let ends = All-weaker (λ piece. end_of piece < file_limit) (λ piece. end_of piece ≤ size) (λ piece less. omega arith) file.pieces sound.ends in
+    let ends = All-weaker (λ change. end_of change < file_limit) (λ change. end_of change ≤ size) (λ change less. omega arith) file.changes sound.ends in
     let within = sound.stands.within size (omega (arith, sound.short)) ends in
     omega (arith, within)
 

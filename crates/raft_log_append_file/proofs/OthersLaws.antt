@@ -1,10 +1,10 @@
 -- Calls on a file touch nothing else.
 use Rattle.std.proofs.Common.{ℕ, Option, Some, refl, ◌∙◌, Result}
 use Rattle.std.specs.Result.{OnOk, IfErr}
-use Rattle.raft_log_disk.specs.Disk.{Piece, File, Disk, with_file}
-use Rattle.raft_log_disk.specs.Calls.{with_piece, after_piece, flushed, Changes, RefusedPiece, RefusedWhole}
+use Rattle.raft_log_disk.specs.Disk.{Change, File, Disk, with_file}
+use Rattle.raft_log_disk.specs.Calls.{with_change, after_change, flushed, Changes, RefusedChange, RefusedWhole}
 use Rattle.raft_log_disk.proofs.Updates.{file_apart}
-use Rattle.raft_log_disk.proofs.KeptLaws.{IsCalm, kept_piece, kept_sync}
+use Rattle.raft_log_disk.proofs.KeptLaws.{IsCalm, kept_change, kept_sync}
 use Rattle.raft_log_append_file.specs.Keeping.{TouchesOnly}
 
 pub touches_same : (id : ℕ) (d : Disk) → TouchesOnly id d d
@@ -27,10 +27,10 @@ touches_file : (id : ℕ) (d : Disk) (file : Option File) → TouchesOnly id d (
 touches_file id d file = record { names = refl; directories = refl; others = λ other apart. file_apart d.files id file other apart }
 
 -- a write, a cut or a growth, answered or refused
-pub touches_piece : {T E : Type 0} {old new : Disk} (wrong : E → Type 0) (result : Result T E) (id : ℕ) (piece : Piece)
-    → OnOk result (Changes id (after_piece piece) old new) → IfErr result (λ e. RefusedPiece id piece (wrong e) old new) → TouchesOnly id old new
-touches_piece {old = old} wrong result id piece ok err =
-    kept_piece (TouchesOnly id old) wrong result id piece (touches_calm id old) (touches_same id old) (λ file content is part. touches_file id old (Some (with_piece piece content file))) ok err
+pub touches_piece : {T E : Type 0} {old new : Disk} (wrong : E → Type 0) (result : Result T E) (id : ℕ) (change : Change)
+    → OnOk result (Changes id (after_change change) old new) → IfErr result (λ e. RefusedChange id change (wrong e) old new) → TouchesOnly id old new
+touches_piece {old = old} wrong result id change ok err =
+    kept_change (TouchesOnly id old) wrong result id change (touches_calm id old) (touches_same id old) (λ file content is part. touches_file id old (Some (with_change change content file))) ok err
 
 -- a sync
 pub touches_sync : {T E : Type 0} {old new : Disk} (wrong : E → Type 0) (result : Result T E) (id : ℕ)

@@ -5,8 +5,8 @@ use Rattle.raft_log_disk.specs.Disk.{File, Disk}
 use Rattle.raft_log_disk.specs.Causes.{HasCause, Fails}
 use Rattle.raft_log_disk.specs.Chains.{spelled}
 use Rattle.raft_log_disk.specs.KeepsSynced.{HoldsChain}
-use Rattle.raft_log_files.specs.declared.handle.Permission.TheVariants.{ReadWrite}
-use Rattle.raft_log_files.specs.Arguments.{WrongCreate}
+use Rattle.raft_log_disk.specs.declared.handle.Permission.TheVariants.{ReadWrite}
+use Rattle.raft_log_disk.specs.Arguments.{WrongCreate}
 use Rattle.raft_log_append_file.specs.Frame.{IsFrame, Records, framed}
 use Rattle.raft_log_append_file.specs.Keeping.{IsKept}
 use Rattle.raft_log_append_file.specs.declared.append_file.AppendFile.{AppendFile}

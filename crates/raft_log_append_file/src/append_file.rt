@@ -9,7 +9,7 @@ ghost use Rattle.raft_log_append_file.specs.Keeping.{IsKept, NoChanceNow, NoChan
 use super::error::AppendError;
 use super::frame::{MAX_LEN, make_frame};
 use super::repair::{cut_back, good_end, read_file, whole_records};
-use raft_log_files::{FileSystem, Handle, Permission};
+use raft_log_disk::{FileSystem, Handle, Permission};
 use std::alloc::Global;
 
 /// An open file of records, to which records are appended.

@@ -8,7 +8,7 @@ ghost use Rattle.raft_log_append_file.specs.AppendFile.{ReadRefused};
 
 use super::error::AppendError;
 use super::frame::{OVERHEAD, read_frame};
-use raft_log_files::{FileSystem, Handle, Permission};
+use raft_log_disk::{FileSystem, Handle, Permission};
 use std::alloc::{AllocError, Global};
 use std::io::ErrorKind;
 

@@ -1,6 +1,6 @@
 use super::frame::{make_frame, read_frame};
 use super::{AppendError, AppendFile};
-use raft_log_files::{FileSystem, Permission};
+use raft_log_disk::{FileSystem, Permission};
 use raft_log_memory_files::{MemoryFileSystem, Piece, Remainder};
 use std::alloc::{AllocError, Global};
 use std::test::Fail;

@@ -3,10 +3,10 @@ use Rattle.std.specs.Prelude.{◌≡◌, ℕ, List, Result}
 use Rattle.std.specs.Result.{IfOk, IfErr, OnOk}
 use Rattle.std.proofs.Common.{refl, sym, ◌∙◌, ap, arith}
 use Rattle.std.proofs.lemmas.Bool.{false≢true}
-use Rattle.raft_log_disk.specs.Disk.{Piece, Disk}
-use Rattle.raft_log_disk.specs.Calls.{after_piece, flushed, Changes, Creates, Deletes, Renames, MakesDirectory, Refused, after_stop, wrong_argument, failed, stops, SomeOf, none, some, RefusedPiece, RefusedWhole}
+use Rattle.raft_log_disk.specs.Disk.{Change, Disk}
+use Rattle.raft_log_disk.specs.Calls.{after_change, flushed, Changes, Creates, Deletes, Renames, MakesDirectory, Refused, after_stop, wrong_argument, failed, stops, SomeOf, none, some, RefusedChange, RefusedWhole}
 use Rattle.raft_log_disk.specs.Causes.{HasCause, stopped, counted_one, unreadable_place, Fails, has_stopped, has_failed, IsLater, IsUndisturbed}
-use Rattle.raft_log_disk.proofs.KeptLaws.{IsCalm, kept_piece, kept_sync, kept_create, kept_delete, kept_rename, kept_directory}
+use Rattle.raft_log_disk.proofs.KeptLaws.{IsCalm, kept_change, kept_sync, kept_create, kept_delete, kept_rename, kept_directory}
 
 -- no cause stands behind a refusal on an undisturbed disk
 pub undisturbed_has_no_cause : (old new : Disk) → IsUndisturbed new → new.failures ≡ old.failures → HasCause old new → ⊥
@@ -44,10 +44,10 @@ fails {old = old} right keeps (failed runs fine left is same) =
     has_failed (let count : left.failures ≡ old.failures = keeps left is in omega (arith, ap (λ (d : Disk). d.failures) same, count))
 fails right keeps (stops runs left is same) = has_stopped (ap (λ (d : Disk). d.stopped) same)
 
-pub fails_piece : {id : ℕ} {piece : Piece} {wrong : Type 0} {old new : Disk} → (wrong → ⊥) → RefusedPiece id piece wrong old new → Fails old new
-fails_piece {id = id} {piece = piece} {old = old} right refused = fails right keeps refused
+pub fails_change : {id : ℕ} {change : Change} {wrong : Type 0} {old new : Disk} → (wrong → ⊥) → RefusedChange id change wrong old new → Fails old new
+fails_change {id = id} {change = change} {old = old} right refused = fails right keeps refused
   where
-    keeps : (left : Disk) → SomeOf id piece old left → left.failures ≡ old.failures
+    keeps : (left : Disk) → SomeOf id change old left → left.failures ≡ old.failures
     keeps left (none same) = ap (λ (d : Disk). d.failures) same
     keeps left (some file content is part same) = ap (λ (d : Disk). d.failures) same
 
@@ -62,10 +62,10 @@ later_calm old = record {
 }
 
 -- each call, answered or refused, leaves a later disk
-pub later_piece : {T E : Type 0} {old new : Disk} (wrong : E → Type 0) (result : Result T E) (id : ℕ) (piece : Piece)
-    → OnOk result (Changes id (after_piece piece) old new) → IfErr result (λ e. RefusedPiece id piece (wrong e) old new) → IsLater old new
-later_piece {old = old} wrong result id piece ok err =
-    kept_piece (IsLater old) wrong result id piece (later_calm old) (later_same old) (λ file content is part. record { failures = omega arith; stopped = λ is. is }) ok err
+pub later_change : {T E : Type 0} {old new : Disk} (wrong : E → Type 0) (result : Result T E) (id : ℕ) (change : Change)
+    → OnOk result (Changes id (after_change change) old new) → IfErr result (λ e. RefusedChange id change (wrong e) old new) → IsLater old new
+later_change {old = old} wrong result id change ok err =
+    kept_change (IsLater old) wrong result id change (later_calm old) (later_same old) (λ file content is part. record { failures = omega arith; stopped = λ is. is }) ok err
 
 pub later_sync : {T E : Type 0} {old new : Disk} (wrong : E → Type 0) (result : Result T E) (id : ℕ)
     → OnOk result (Changes id flushed old new) → IfErr result (λ e. RefusedWhole (Changes id flushed old) (wrong e) old new) → IsLater old new

@@ -2,13 +2,13 @@
 use Rattle.std.proofs.Common.{◌≡◌, ℕ, ◌+◌, ◌-◌, ◌≤◌, List, [], ◌∷◌, ◌++◌, length, take, drop, refl, sym, ◌∙◌, ap, arith}
 use Rattle.std.proofs.lemmas.List.{append-nil, append_assoc, drop-append-le, drop-take, length-take-le, take-append-le, take_at}
 use Rattle.raft_log_disk.specs.Disk.{at_rest, grown, zeros, overwritten}
-use Rattle.raft_log_disk.specs.Chains.{Written, IsPrefixFree, spelled, BeginsWith}
+use Rattle.raft_log_disk.specs.Chains.{Written, IsSelfDelimiting, spelled, BeginsWith}
 use Rattle.raft_log_disk.specs.KeepsSynced.{HoldsChain, ChainGrows}
 use Rattle.raft_log_disk.proofs.ChangeLaws.{overwritten_some}
 use Rattle.raft_log_disk.proofs.ChainLaws.{frame_filled, frames_append, reads_to_end, spelled-append}
 use Rattle.raft_log_disk.proofs.KeepsSyncedLaws.{holds_at_rest}
 
-module _ {R : Type 0} (IsFrame : List ℕ → R → Type 0) (free : IsPrefixFree IsFrame) (start : ℕ) where
+module _ {R : Type 0} (IsFrame : List ℕ → R → Type 0) (free : IsSelfDelimiting IsFrame) (start : ℕ) where
   -- a record written at the chain's end is the next one, whatever stood there
   pub begins_written : (ws : List (Written R)) (w : Written R) (content : List ℕ) → IsFrame w.bytes w.value → start + length (spelled ws) ≤ length content → BeginsWith IsFrame start ws content
       → BeginsWith IsFrame start (ws ++ w ∷ []) (overwritten (start + length (spelled ws)) w.bytes content)

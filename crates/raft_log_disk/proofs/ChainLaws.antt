@@ -1,7 +1,7 @@
 -- What holds of chains of records over any frame relation in which no spelling begins another.
 use Rattle.std.proofs.Common.{◌≡◌, ℕ, ◌+◌, ◌<◌, ◌≤◌, zero, suc, List, [], ◌∷◌, ◌++◌, length, take, drop, refl, sym, ◌∙◌, ap, subst, inl, inr, arith, length-append, length-drop}
 use Rattle.std.proofs.lemmas.List.{append-nil, append_assoc, append_cancel_left, drop_at, drop-take, take_at, take-append-drop}
-use Rattle.raft_log_disk.specs.Chains.{Written, IsPrefixFree, spelled, AreFrames, Refuses, BeginsWith, Reads, Meets, LiesIn, CanTell}
+use Rattle.raft_log_disk.specs.Chains.{Written, IsSelfDelimiting, spelled, AreFrames, Refuses, BeginsWith, Reads, Meets, LiesIn, CanTell}
 
 pub spelled-append : {R : Type 0} (vs ws : List (Written R)) → spelled (vs ++ ws) ≡ spelled vs ++ spelled ws
 spelled-append [] ws = refl
@@ -65,7 +65,7 @@ module _ {R : Type 0} (IsFrame : List ℕ → R → Type 0) where
       sym (drop-take start n d) ∙ ap (λ (b : List ℕ). drop start b) same ∙ drop-take start n c ∙ ap (λ (b : List ℕ). take n b) begins.splits ∙ take_at (spelled ws) begins.rest n refl in
       record { rest = drop n (drop start d); splits = sym (take-append-drop n (drop start d)) ∙ ap (λ (b : List ℕ). b ++ drop n (drop start d)) front; frames = begins.frames }
 
-  module _ (free : IsPrefixFree IsFrame) where
+  module _ (free : IsSelfDelimiting IsFrame) where
     -- a spelling has a first byte
     pub frame_filled : (bytes : List ℕ) (r : R) → IsFrame bytes r → 0 < length bytes
     frame_filled [] r h = absurd (free.filled r h)

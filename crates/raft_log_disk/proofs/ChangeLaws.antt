@@ -4,17 +4,17 @@ use Rattle.std.specs.List.{All}
 use Rattle.std.proofs.Common.{refl, sym, ◌∙◌, ap, subst, arith, inl, inr, get_or, take, drop}
 use Rattle.std.proofs.lemmas.List.{take_at, drop_all, get_or_append_left, get_or-append_right, get_or-take, get_or-drop, get_or_push, append-nil, length-append, length-take, length-take-le, length-drop, length-replicate}
 use Rattle.std.proofs.lemmas.Bool.{cases_lt}
-use Rattle.raft_log_disk.specs.Disk.{Piece, Wrote, CutTo, GrewTo, File, zeros, grown, spliced, overwritten, changed}
+use Rattle.raft_log_disk.specs.Disk.{Change, Wrote, ShortenedTo, GrewTo, File, zeros, grown, spliced, overwritten, changed}
 use Rattle.raft_log_disk.specs.Image.{Spares, end_of, IsLeft}
-use Rattle.raft_log_disk.specs.Calls.{with_piece, IsTorn, InPart}
+use Rattle.raft_log_disk.specs.Calls.{with_change, IsTorn, InPart}
 
 -- what a change may leave of a content, whole or in part: the places that it spares stand
-pub record MayBecome (piece : Piece) (old new : List ℕ) : Type 0 where
-  pub kept : (place : ℕ) → place < length old → Spares place piece → (place < length new) × (slice_index new place ≡ slice_index old place)
-  pub within : (size : ℕ) → length old ≤ size → end_of piece ≤ size → length new ≤ size
+pub record MayBecome (change : Change) (old new : List ℕ) : Type 0 where
+  pub kept : (place : ℕ) → place < length old → Spares place change → (place < length new) × (slice_index new place ≡ slice_index old place)
+  pub within : (size : ℕ) → length old ≤ size → end_of change ≤ size → length new ≤ size
 
 -- a refused change leaves no more than that
-pub part_may : (piece : Piece) (old new : List ℕ) → InPart piece old new → MayBecome piece old new
+pub part_may : (change : Change) (old new : List ℕ) → InPart change old new → MayBecome change old new
 part_may (Wrote at bytes) old new torn = record {
   kept = λ place below spared. (
     omega (arith, torn.longer),
@@ -25,11 +25,11 @@ part_may (Wrote at bytes) old new torn = record {
   );
   within = torn.within;
 }
-part_may (CutTo size) old new (inl same) = record {
+part_may (ShortenedTo size) old new (inl same) = record {
   kept = λ place below spared. subst (λ (b : List ℕ). (place < length b) × (slice_index b place ≡ slice_index old place)) (sym same) (below, refl);
   within = λ most fits ends. subst (λ (b : List ℕ). length b ≤ most) (sym same) fits;
 }
-part_may (CutTo size) old new (inr cut) = record {
+part_may (ShortenedTo size) old new (inr cut) = record {
   kept = λ place below spared.
       let inside : place < size = elim (cases_lt place size) [ inl less ↦ less | inr more ↦ absurd (spared more) ] in
       subst (λ (b : List ℕ). (place < length b) × (slice_index b place ≡ slice_index old place)) (sym cut)
@@ -100,16 +100,16 @@ overwritten_at_end (b ∷ bs) old =
     ∙ ap (λ (xs : List ℕ). old ++ xs) (append-nil bytes)
 
 -- any change done whole is one done in part
-pub changed_in_part : (piece : Piece) (old : List ℕ) → InPart piece old (changed piece old)
+pub changed_in_part : (change : Change) (old : List ℕ) → InPart change old (changed change old)
 changed_in_part (Wrote at bytes) old = overwritten_torn at bytes old
-changed_in_part (CutTo size) old = inr refl
+changed_in_part (ShortenedTo size) old = inr refl
 changed_in_part (GrewTo size) old =
     (size - length old, elim (cases_lt (length old) size) [ inl less ↦ inl (omega arith) | inr enough ↦ inr (omega arith) ], refl)
 
 -- a change that left nothing but what stood is one that was done in part
-pub unchanged_in_part : (piece : Piece) (old : List ℕ) → InPart piece old old
+pub unchanged_in_part : (change : Change) (old : List ℕ) → InPart change old old
 unchanged_in_part (Wrote at bytes) old = record { outside = λ place below apart. refl; longer = omega arith; within = λ size fits ends. fits }
-unchanged_in_part (CutTo size) old = inl refl
+unchanged_in_part (ShortenedTo size) old = inl refl
 unchanged_in_part (GrewTo size) old = (0, inr refl, sym (append-nil old))
 
 all_front : {X : Type 0} (P : X → Type 0) (xs : List X) (x : X) → All P (xs ++ x ∷ []) → All P xs
@@ -119,12 +119,12 @@ all_last : {X : Type 0} (P : X → Type 0) (xs : List X) (x : X) → All P (xs +
 all_last P xs x all = subst P (get_or_push xs x x (length xs) refl) (all (length xs) x (omega (arith, length-append xs (x ∷ []))))
 
 -- what may be left of a file, and then changed in part, may be left of the file with that change
-pub left_changed : (file : File) (piece : Piece) (content old new : List ℕ) → IsLeft file old → MayBecome piece old new → IsLeft (with_piece piece content file) new
-left_changed file piece content old new left may = record {
+pub left_changed : (file : File) (change : Change) (content old new : List ℕ) → IsLeft file old → MayBecome change old new → IsLeft (with_change change content file) new
+left_changed file change content old new left may = record {
   kept = λ place below spared.
-      let before = left.kept place below (all_front (Spares place) file.pieces piece spared) in
-      let after = may.kept place before.0 (all_last (Spares place) file.pieces piece spared) in
+      let before = left.kept place below (all_front (Spares place) file.changes change spared) in
+      let after = may.kept place before.0 (all_last (Spares place) file.changes change spared) in
       (after.0, after.1 ∙ before.1);
   within = λ size fits ends.
-      may.within size (left.within size fits (all_front (λ p. end_of p ≤ size) file.pieces piece ends)) (all_last (λ p. end_of p ≤ size) file.pieces piece ends);
+      may.within size (left.within size fits (all_front (λ p. end_of p ≤ size) file.changes change ends)) (all_last (λ p. end_of p ≤ size) file.changes change ends);
 }

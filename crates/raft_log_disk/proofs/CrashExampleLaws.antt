@@ -2,7 +2,7 @@
 use Rattle.std.proofs.Common.{◌≡◌, ℕ, ◌+◌, ◌≤◌, List, [], ◌∷◌, ◌++◌, length, take, drop, get_or, refl, sym, ◌∙◌, ap, subst, inl, inr, arith, length-append, Contains}
 use Rattle.std.proofs.lemmas.List.{append-nil, append_assoc, nil_from_length, take_all, drop_at, length-take, get_or_append_left}
 use Rattle.std.proofs.lemmas.Bool.{cases_lt}
-use Rattle.raft_log_disk.specs.Disk.{Piece, Wrote}
+use Rattle.raft_log_disk.specs.Disk.{Change, Wrote}
 use Rattle.raft_log_disk.specs.Image.{IsLeft}
 use Rattle.raft_log_disk.proofs.ImageLaws.{only_at_rest}
 use Rattle.raft_log_disk.specs.Chains.{Written, spelled, AreFrames, BeginsWith, Reads, Meets}
@@ -17,7 +17,7 @@ tail_is_left synced tail w less = record {
   within = λ size fits ends. omega (arith, length-append synced tail, ends 0 (Wrote (length synced) w.bytes) (omega arith));
 }
 
-only_member : (p q : Piece) → Contains (p ∷ []) q → p ≡ q
+only_member : (p q : Change) → Contains (p ∷ []) q → p ≡ q
 only_member p q (k, less, is) = elim (cases_lt 0 k) [ inl more ↦ absurd (omega arith) | inr first ↦ (let none : k ≡ 0 = omega arith in sym (ap (λ (n : ℕ). get_or (p ∷ []) n q) none) ∙ is) ]
 
 module _ {R : Type 0} (IsFrame : List ℕ → R → Type 0) where

@@ -9,7 +9,7 @@ use Rattle.std.proofs.lemmas.List.{ext_get_or, get_or-set_other, length-set}
 use Rattle.std.proofs.lemmas.List.Elements.{All-nil, All-contains, All-weaker}
 use Rattle.std.proofs.lemmas.Bool.{cases_lt}
 use std.Path.{fun_ext}
-use Rattle.raft_log_disk.specs.Disk.{Piece, File, Disk, at_rest, file_limit}
+use Rattle.raft_log_disk.specs.Disk.{Change, File, Disk, at_rest, file_limit}
 use Rattle.raft_log_disk.specs.Laws.{SyncedFileHasOneImage}
 use Rattle.raft_log_disk.specs.Image.{Touches, Spares, end_of, IsLeft, IsFileImage, IsImage, IsSoundFile, IsSound, settled, as_it_stands, IsAllSynced}
 
@@ -18,10 +18,10 @@ pub left_at_rest : (bytes : List ℕ) → IsLeft (at_rest bytes) bytes
 left_at_rest bytes = record { kept = λ place below spared. (below, refl); within = λ size fits ends. fits }
 
 -- and nothing else is
-pub only_at_rest : (file : File) (bytes : List ℕ) → file.pieces ≡ [] → IsLeft file bytes → bytes ≡ file.synced
+pub only_at_rest : (file : File) (bytes : List ℕ) → file.changes ≡ [] → IsLeft file bytes → bytes ≡ file.synced
 only_at_rest file bytes none left =
-    let spared : (place : ℕ) → All (Spares place) file.pieces = λ place. subst (All (Spares place)) (sym none) (All-nil _) in
-    let short : length bytes ≤ length file.synced = left.within (length file.synced) (omega arith) (subst (All (λ piece. end_of piece ≤ length file.synced)) (sym none) (All-nil _)) in
+    let spared : (place : ℕ) → All (Spares place) file.changes = λ place. subst (All (Spares place)) (sym none) (All-nil _) in
+    let short : length bytes ≤ length file.synced = left.within (length file.synced) (omega arith) (subst (All (λ change. end_of change ≤ length file.synced)) (sym none) (All-nil _)) in
     let long : length file.synced ≤ length bytes =
     elim (cases_lt (length bytes) (length file.synced)) [
       | inl less ↦ let more = (left.kept (length bytes) less (spared (length bytes))).0 in absurd (omega arith)
@@ -30,14 +30,14 @@ only_at_rest file bytes none left =
     ext_get_or 0 bytes file.synced (omega arith) (λ place below. (left.kept place (omega arith) (spared place)).1)
 
 -- the content of a sound file without unsynced changes is what was synced
-pub content_is_synced : (file : File) → IsSoundFile file → file.pieces ≡ [] → file.content ≡ file.synced
+pub content_is_synced : (file : File) → IsSoundFile file → file.changes ≡ [] → file.content ≡ file.synced
 content_is_synced file sound none = only_at_rest file file.content none sound.stands
 
 file_stands : (o : Option File) → ((file : File) → o ≡ Some file → IsSoundFile file) → IsFileImage o (option_map settled o)
 file_stands None sound = tt
 file_stands (Some file) sound = (file.content, refl, (sound file refl).stands)
 
-file_only : (o image : Option File) → ((file : File) → o ≡ Some file → IsSoundFile file) → ((file : File) → o ≡ Some file → file.pieces ≡ [])
+file_only : (o image : Option File) → ((file : File) → o ≡ Some file → IsSoundFile file) → ((file : File) → o ≡ Some file → file.changes ≡ [])
     → IsFileImage o image → image ≡ option_map settled o
 file_only None None sound none is = refl
 file_only None (Some after) sound none is = absurd is
@@ -94,7 +94,7 @@ synced_is_only_image d image sound synced is =
 -- and of one file that is synced
 pub synced_file_has_one_image : SyncedFileHasOneImage
 synced_file_has_one_image d image id file sound at none is =
-    let all_none : (f : File) → d.files id ≡ Some f → f.pieces ≡ [] = λ f there. (let same : file ≡ f = cc in subst (λ (g : File). g.pieces ≡ []) same none) in
+    let all_none : (f : File) → d.files id ≡ Some f → f.changes ≡ [] = λ f there. (let same : file ≡ f = cc in subst (λ (g : File). g.changes ≡ []) same none) in
     file_only (d.files id) (image.files id) (sound.files id) all_none (is.files id) ∙ ap (option_map settled) at
 
 -- an image of an image is an image
@@ -110,11 +110,11 @@ image_of_image d image later is again = record {
 }
 
 -- in a written range, and behind a cut, any byte may be left
-pub any_byte_left : (file : File) (bytes : List ℕ) (piece : Piece) (place byte : ℕ) → Contains file.pieces piece → Touches piece place
+pub any_byte_left : (file : File) (bytes : List ℕ) (change : Change) (place byte : ℕ) → Contains file.changes change → Touches change place
     → IsLeft file bytes → IsLeft file (set bytes place byte)
-any_byte_left file bytes piece place byte is touched left = record {
+any_byte_left file bytes change place byte is touched left = record {
   kept = λ q below spared.
-      let apart : q ≡ place → ⊥ = λ same. All-contains (Spares q) file.pieces piece spared is (subst (Touches piece) (sym same) touched) in
+      let apart : q ≡ place → ⊥ = λ same. All-contains (Spares q) file.changes change spared is (subst (Touches change) (sym same) touched) in
       let old = left.kept q below spared in
       (subst (λ (n : ℕ). q < n) (sym (length-set bytes place byte)) old.0, get_or-set_other bytes place q byte 0 apart ∙ old.1);
   within = λ size fits ends. subst (λ (n : ℕ). n ≤ size) (sym (length-set bytes place byte)) (left.within size fits ends);
@@ -125,7 +125,7 @@ pub rest_sound : (file : File) (bytes : List ℕ) → IsSoundFile file → IsLef
 rest_sound file bytes sound left = record {
   stands = left_at_rest bytes;
   short = let most : length bytes ≤ file_limit - 1 = left.within (file_limit - 1) (omega (arith, sound.short))
-      (All-weaker (λ piece. end_of piece < file_limit) (λ piece. end_of piece ≤ file_limit - 1) (λ piece less. omega (arith, less)) file.pieces sound.ends) in
+      (All-weaker (λ change. end_of change < file_limit) (λ change. end_of change ≤ file_limit - 1) (λ change less. omega (arith, less)) file.changes sound.ends) in
       omega (arith, most);
   ends = All-nil _;
 }

@@ -5,10 +5,10 @@ use Rattle.std.proofs.lemmas.List.{append-nil, append_assoc, drop-take, drop_all
 use Rattle.std.proofs.lemmas.Bool.{cases_lt}
 use Rattle.std.proofs.lemmas.List.Prefix.{at_from_reads, at_reads}
 use Rattle.std.proofs.lemmas.List.Elements.{All-nil, All-push, Contains-push_cases}
-use Rattle.raft_log_disk.specs.Disk.{Disk, Wrote, CutTo, GrewTo, File, at_rest}
+use Rattle.raft_log_disk.specs.Disk.{Disk, Wrote, ShortenedTo, GrewTo, File, at_rest}
 use Rattle.raft_log_disk.specs.Image.{IsFileImage, IsImage, IsLeft, Spares}
-use Rattle.raft_log_disk.specs.Calls.{with_piece}
-use Rattle.raft_log_disk.specs.Chains.{Written, IsPrefixFree, spelled, AreFrames, BeginsWith, Reads, Meets, LiesIn}
+use Rattle.raft_log_disk.specs.Calls.{with_change}
+use Rattle.raft_log_disk.specs.Chains.{Written, IsSelfDelimiting, spelled, AreFrames, BeginsWith, Reads, Meets, LiesIn}
 use Rattle.raft_log_disk.proofs.ChainLaws.{follows_chain, frame_filled, frames_append, frames_back, frames_front, lies_in_more, lies_within, nothing_refuses, reads_begin, reads_further, spelled-append}
 use Rattle.raft_log_disk.specs.KeepsSynced.{HoldsAtLeast, NoChanceMatch, HoldsChain, KeepsSynced}
 
@@ -25,7 +25,7 @@ take_over {X} xs ys n =
     sym (take-append-drop m (take (m + n) (xs ++ ys))) ∙ ap (λ (zs : List X). zs ++ drop m (take (m + n) (xs ++ ys))) front ∙ ap (λ (zs : List X). xs ++ zs) back
 
 -- a part of the synced bytes that no change touches stays
-pub left_keeps_part : (from size : ℕ) (file : File) (bytes : List ℕ) → from + size ≤ length file.synced → ((place : ℕ) → from ≤ place → place < from + size → All (Spares place) file.pieces)
+pub left_keeps_part : (from size : ℕ) (file : File) (bytes : List ℕ) → from + size ≤ length file.synced → ((place : ℕ) → from ≤ place → place < from + size → All (Spares place) file.changes)
     → IsLeft file bytes → take size (drop from bytes) ≡ take size (drop from file.synced)
 left_keeps_part from size file bytes inside spared left =
     let s = file.synced in
@@ -73,7 +73,7 @@ module _ {R : Type 0} (IsFrame : List ℕ → R → Type 0) (start end : ℕ) wh
         | inr none ↦ record { rest = drop start bytes; splits = sym (ap (λ (b : List ℕ). b ++ drop start bytes) (nil_from_length p (omega arith))); frames = frames }
       ]
 
-  module _ (free : IsPrefixFree IsFrame) (durable pending : List (Written R)) (file : File) where
+  module _ (free : IsSelfDelimiting IsFrame) (durable pending : List (Written R)) (file : File) where
     -- what reading meets lies in the chain, if no checksum is met by chance
     met_in_chain : (bytes : List ℕ) → HoldsChain IsFrame start end durable pending file → NoChanceMatch IsFrame start end file bytes
         → (at : ℕ) (w : Written R) → Meets IsFrame start at w bytes → LiesIn start (spelled (durable ++ pending)) at w.bytes
@@ -114,12 +114,12 @@ module _ {R : Type 0} (IsFrame : List ℕ → R → Type 0) (start end : ℕ) wh
         (count, omega (arith, kept.1, ap length splits, length-append more rest), kept.2 ∙ append_assoc durable more (take kept.0 rest) ∙ ap (λ (vs : List (Written R)). durable ++ vs) (sym front))
 
   -- the same, of a file that holds at least these
-  pub at_least_keeps : (durable pending : List (Written R)) (file : File) → IsPrefixFree IsFrame → HoldsAtLeast IsFrame start end durable pending file → KeepsSynced IsFrame start end durable pending file
+  pub at_least_keeps : (durable pending : List (Written R)) (file : File) → IsSelfDelimiting IsFrame → HoldsAtLeast IsFrame start end durable pending file → KeepsSynced IsFrame start end durable pending file
   at_least_keeps durable pending file free least =
       keeps_more free durable pending file least.more least.rest least.splits (keeps_synced free (durable ++ least.more) least.rest file least.holds)
 
   -- the durable records are read first, with no premise
-  pub durable_is_read : (durable pending : List (Written R)) (file : File) (bytes : List ℕ) → IsPrefixFree IsFrame → HoldsAtLeast IsFrame start end durable pending file → IsLeft file bytes
+  pub durable_is_read : (durable pending : List (Written R)) (file : File) (bytes : List ℕ) → IsSelfDelimiting IsFrame → HoldsAtLeast IsFrame start end durable pending file → IsLeft file bytes
       → (ws : List (Written R)) → Reads IsFrame start ws bytes → (more : List (Written R)) × (ws ≡ durable ++ more)
   durable_is_read durable pending file bytes free least left ws reads =
       let begins = left_begins (durable ++ least.more) least.rest file bytes least.holds left in
@@ -141,7 +141,7 @@ module _ {R : Type 0} (IsFrame : List ℕ → R → Type 0) (start end : ℕ) wh
 
   -- a record written behind the chain is the last pending one, whatever of it landed
   pub holds_written : (durable pending : List (Written R)) (w : Written R) (content : List ℕ) (file : File) → IsFrame w.bytes w.value → HoldsChain IsFrame start end durable pending file
-      → HoldsChain IsFrame start end durable (pending ++ w ∷ []) (with_piece (Wrote (start + length (spelled (durable ++ pending))) w.bytes) content file)
+      → HoldsChain IsFrame start end durable (pending ++ w ∷ []) (with_change (Wrote (start + length (spelled (durable ++ pending))) w.bytes) content file)
   holds_written durable pending w content file framed holds =
       let all = durable ++ pending in
       let step : all ++ w ∷ [] ≡ durable ++ (pending ++ w ∷ []) = append_assoc durable pending (w ∷ []) in
@@ -155,8 +155,8 @@ module _ {R : Type 0} (IsFrame : List ℕ → R → Type 0) (start end : ℕ) wh
       record {
         frames = subst (AreFrames IsFrame) step (frames_append IsFrame all (w ∷ []) holds.frames (framed, tt));
         synced = holds.synced;
-        spared = λ place from less. All-push (Spares place) file.pieces (Wrote at w.bytes) (holds.spared place from less) (free place from less);
-        handed = λ n bs within. elim (Contains-push_cases file.pieces (Wrote at w.bytes) (Wrote n bs) within) [
+        spared = λ place from less. All-push (Spares place) file.changes (Wrote at w.bytes) (holds.spared place from less) (free place from less);
+        handed = λ n bs within. elim (Contains-push_cases file.changes (Wrote at w.bytes) (Wrote n bs) within) [
           | inl old ↦ elim (holds.handed n bs old) [ inl front ↦ inl front | inr part ↦ inr (longer n bs part) ]
           | inr new ↦
               (let place : at ≡ n = cc in
@@ -183,32 +183,32 @@ module _ {R : Type 0} (IsFrame : List ℕ → R → Type 0) (start end : ℕ) wh
 
   -- a cut behind the durable records touches none of them
   pub holds_cut : (durable pending : List (Written R)) (size : ℕ) (content : List ℕ) (file : File) → start + length (spelled durable) ≤ size → HoldsChain IsFrame start end durable pending file
-      → HoldsChain IsFrame start end durable pending (with_piece (CutTo size) content file)
+      → HoldsChain IsFrame start end durable pending (with_change (ShortenedTo size) content file)
   holds_cut durable pending size content file behind holds = record {
     frames = holds.frames;
     synced = holds.synced;
-    spared = λ place from less. All-push (Spares place) file.pieces (CutTo size) (holds.spared place from less) (λ touched. absurd (omega (arith, touched)));
-    handed = λ n bs within. elim (Contains-push_cases file.pieces (CutTo size) (Wrote n bs) within) [ inl old ↦ holds.handed n bs old | inr new ↦ cc ];
+    spared = λ place from less. All-push (Spares place) file.changes (ShortenedTo size) (holds.spared place from less) (λ touched. absurd (omega (arith, touched)));
+    handed = λ n bs within. elim (Contains-push_cases file.changes (ShortenedTo size) (Wrote n bs) within) [ inl old ↦ holds.handed n bs old | inr new ↦ cc ];
   }
 
   -- nor does a growth
   pub holds_grown : (durable pending : List (Written R)) (size : ℕ) (content : List ℕ) (file : File) → HoldsChain IsFrame start end durable pending file
-      → HoldsChain IsFrame start end durable pending (with_piece (GrewTo size) content file)
+      → HoldsChain IsFrame start end durable pending (with_change (GrewTo size) content file)
   holds_grown durable pending size content file holds = record {
     frames = holds.frames;
     synced = holds.synced;
-    spared = λ place from less. All-push (Spares place) file.pieces (GrewTo size) (holds.spared place from less) (λ touched. touched);
-    handed = λ n bs within. elim (Contains-push_cases file.pieces (GrewTo size) (Wrote n bs) within) [ inl old ↦ holds.handed n bs old | inr new ↦ cc ];
+    spared = λ place from less. All-push (Spares place) file.changes (GrewTo size) (holds.spared place from less) (λ touched. touched);
+    handed = λ n bs within. elim (Contains-push_cases file.changes (GrewTo size) (Wrote n bs) within) [ inl old ↦ holds.handed n bs old | inr new ↦ cc ];
   }
 
   -- nor does a write that lies in front of the chain
   pub holds_in_front : (durable pending : List (Written R)) (at : ℕ) (bytes content : List ℕ) (file : File) → at + length bytes ≤ start → HoldsChain IsFrame start end durable pending file
-      → HoldsChain IsFrame start end durable pending (with_piece (Wrote at bytes) content file)
+      → HoldsChain IsFrame start end durable pending (with_change (Wrote at bytes) content file)
   holds_in_front durable pending at bytes content file front holds = record {
     frames = holds.frames;
     synced = holds.synced;
-    spared = λ place from less. All-push (Spares place) file.pieces (Wrote at bytes) (holds.spared place from less) (λ touched. absurd (omega (arith, touched.1)));
-    handed = λ n bs within. elim (Contains-push_cases file.pieces (Wrote at bytes) (Wrote n bs) within) [
+    spared = λ place from less. All-push (Spares place) file.changes (Wrote at bytes) (holds.spared place from less) (λ touched. absurd (omega (arith, touched.1)));
+    handed = λ n bs within. elim (Contains-push_cases file.changes (Wrote at bytes) (Wrote n bs) within) [
       | inl old ↦ holds.handed n bs old
       | inr new ↦
           (let place : at ≡ n = cc in
@@ -228,7 +228,7 @@ module _ {R : Type 0} (IsFrame : List ℕ → R → Type 0) (start end : ℕ) wh
 
 module _ {R : Type 0} (IsFrame : List ℕ → R → Type 0) where
   -- of a file that is used again nothing was written under its new number
-  pub holds_reused : IsPrefixFree IsFrame → (start : ℕ) (bytes : List ℕ) → HoldsChain IsFrame start start [] [] (at_rest bytes)
+  pub holds_reused : IsSelfDelimiting IsFrame → (start : ℕ) (bytes : List ℕ) → HoldsChain IsFrame start start [] [] (at_rest bytes)
   holds_reused free start bytes =
       let none : drop start (take start bytes) ≡ [] = drop_all start (take start bytes) (omega (arith, length-take start bytes)) in
       holds_at_rest IsFrame start start [] bytes (record { rest = []; splits = none; frames = tt; ends = nothing_refuses IsFrame free })

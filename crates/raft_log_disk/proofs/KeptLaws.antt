@@ -2,8 +2,8 @@
 use Rattle.std.specs.Prelude.{◌≡◌, ℕ, false, Some, None, List, Result, Ok, Err}
 use Rattle.std.specs.Result.{IfOk, IfErr, OnOk}
 use Rattle.std.proofs.Common.{sym, subst, inl, inr}
-use Rattle.raft_log_disk.specs.Disk.{Piece, File, Disk, with_file, HasDirectory}
-use Rattle.raft_log_disk.specs.Calls.{with_piece, after_piece, flushed, created, deleted, renamed, with_directory, counted, at_stop, InPart, Changes, Creates, Deletes, Renames, MakesDirectory, Refused, after_stop, wrong_argument, failed, stops, SomeOf, none, some, RefusedPiece, RefusedWhole}
+use Rattle.raft_log_disk.specs.Disk.{Change, File, Disk, with_file, HasDirectory}
+use Rattle.raft_log_disk.specs.Calls.{with_change, after_change, flushed, created, deleted, renamed, with_directory, counted, at_stop, InPart, Changes, Creates, Deletes, Renames, MakesDirectory, Refused, after_stop, wrong_argument, failed, stops, SomeOf, none, some, RefusedChange, RefusedWhole}
 use Rattle.raft_log_disk.proofs.ChangeLaws.{changed_in_part}
 
 -- neither a counted failure nor a stop touches it
@@ -21,18 +21,18 @@ kept_refused Q calm before in_part whole (stops runs left (inl is) same) = subst
 kept_refused Q calm before in_part whole (stops runs left (inr is) same) = subst Q (sym same) (calm.at_end left (whole left is))
 
 -- a write, a cut or a growth
-pub kept_piece : {T E : Type 0} {old new : Disk} (Q : Disk → Type 0) (wrong : E → Type 0) (result : Result T E) (id : ℕ) (piece : Piece) → IsCalm Q → Q old
-    → ((file : File) (content : List ℕ) → old.files id ≡ Some file → InPart piece file.content content → Q (with_file id (Some (with_piece piece content file)) old))
-    → OnOk result (Changes id (after_piece piece) old new) → IfErr result (λ e. RefusedPiece id piece (wrong e) old new) → Q new
-kept_piece Q wrong (Ok v) id piece calm before step ok err = subst Q (sym ok.done) (step ok.file _ ok.is (changed_in_part piece ok.file.content))
-kept_piece {old = old} Q wrong (Err e) id piece calm before step ok err = kept_refused Q calm before in_part whole err
+pub kept_change : {T E : Type 0} {old new : Disk} (Q : Disk → Type 0) (wrong : E → Type 0) (result : Result T E) (id : ℕ) (change : Change) → IsCalm Q → Q old
+    → ((file : File) (content : List ℕ) → old.files id ≡ Some file → InPart change file.content content → Q (with_file id (Some (with_change change content file)) old))
+    → OnOk result (Changes id (after_change change) old new) → IfErr result (λ e. RefusedChange id change (wrong e) old new) → Q new
+kept_change Q wrong (Ok v) id change calm before step ok err = subst Q (sym ok.done) (step ok.file _ ok.is (changed_in_part change ok.file.content))
+kept_change {old = old} Q wrong (Err e) id change calm before step ok err = kept_refused Q calm before in_part whole err
   where
-    in_part : (left : Disk) → SomeOf id piece old left → Q left
+    in_part : (left : Disk) → SomeOf id change old left → Q left
     in_part left (none same) = subst Q (sym same) before
     in_part left (some file content is part same) = subst Q (sym same) (step file content is part)
 
-    whole : (left : Disk) → Changes id (after_piece piece) old left → Q left
-    whole left is = subst Q (sym is.done) (step is.file _ is.is (changed_in_part piece is.file.content))
+    whole : (left : Disk) → Changes id (after_change change) old left → Q left
+    whole left is = subst Q (sym is.done) (step is.file _ is.is (changed_in_part change is.file.content))
 
 -- a sync
 pub kept_sync : {T E : Type 0} {old new : Disk} (Q : Disk → Type 0) (wrong : E → Type 0) (result : Result T E) (id : ℕ) → IsCalm Q → Q old

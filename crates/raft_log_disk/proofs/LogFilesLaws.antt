@@ -4,12 +4,12 @@ use Rattle.std.proofs.Math.Seq.{take-nil}
 use Rattle.std.proofs.lemmas.List.{append-nil, append_assoc}
 use Rattle.raft_log_disk.specs.Disk.{File, Disk}
 use Rattle.raft_log_disk.specs.Image.{IsImage, IsLeft}
-use Rattle.raft_log_disk.specs.Chains.{Written, IsPrefixFree}
+use Rattle.raft_log_disk.specs.Chains.{Written, IsSelfDelimiting}
 use Rattle.raft_log_disk.specs.KeepsSynced.{kept_records}
 use Rattle.raft_log_disk.specs.LogFiles.{LogFile, HoldsFile, ReadsFile, NoChanceInFile, HoldWhole, NoChanceInFiles, ReadsFiles, durable_of, LogKeepsSynced}
 use Rattle.raft_log_disk.proofs.KeepsSyncedLaws.{left_of_image, at_least_keeps}
 
-module _ {R : Type 0} (IsFrame : List ℕ → R → Type 0) (free : IsPrefixFree IsFrame) (d image : Disk) (is : IsImage d image) where
+module _ {R : Type 0} (IsFrame : List ℕ → R → Type 0) (free : IsSelfDelimiting IsFrame) (d image : Disk) (is : IsImage d image) where
   -- one file
   pub file_keeps : (f : LogFile R) (ws : List (Written R)) → HoldsFile IsFrame f d → NoChanceInFile IsFrame f d image → ReadsFile IsFrame f ws image
       → (count : ℕ) × (count ≤ length f.pending) × (ws ≡ kept_records f.durable f.pending count)

@@ -6,9 +6,9 @@ use Rattle.std.proofs.Common.{refl, sym, ◌∙◌, ap, subst, arith, inl, inr, 
 use Rattle.std.proofs.lemmas.List.Elements.{All-nil, All-push}
 use Rattle.std.proofs.lemmas.Bool.{cases_eq, cases_Bool}
 use Rattle.std.proofs.lemmas.Slice.Eq.{bytes_eq-Decides}
-use Rattle.raft_log_disk.specs.Disk.{Piece, File, Disk, at_rest, with_file, file_limit}
+use Rattle.raft_log_disk.specs.Disk.{Change, File, Disk, at_rest, with_file, file_limit}
 use Rattle.raft_log_disk.specs.Image.{end_of, IsSoundFile, IsSound}
-use Rattle.raft_log_disk.specs.Calls.{with_piece, after_piece, flushed, created, deleted, without, renamed, with_directory, with_marks, counted, at_stop, InPart}
+use Rattle.raft_log_disk.specs.Calls.{with_change, after_change, flushed, created, deleted, without, renamed, with_directory, with_marks, counted, at_stop, InPart}
 use Rattle.raft_log_disk.proofs.ImageLaws.{left_at_rest, rest_sound}
 use Rattle.raft_log_disk.proofs.ChangeLaws.{part_may, left_changed, changed_in_part}
 use Rattle.raft_log_disk.proofs.Updates.{name_case, file_case, file_here, file_apart}
@@ -17,17 +17,17 @@ pub empty_sound : IsSoundFile (at_rest [])
 empty_sound = record { stands = left_at_rest []; short = omega arith; ends = All-nil _ }
 
 -- a file is sound after a change in part, if the change is short of the limit
-pub sound_with_piece : (file : File) (piece : Piece) (content : List ℕ) → IsSoundFile file → InPart piece file.content content → end_of piece < file_limit
-    → IsSoundFile (with_piece piece content file)
-sound_with_piece file piece content sound part short = record {
-  stands = left_changed file piece content file.content content sound.stands (part_may piece file.content content part);
+pub sound_with_change : (file : File) (change : Change) (content : List ℕ) → IsSoundFile file → InPart change file.content content → end_of change < file_limit
+    → IsSoundFile (with_change change content file)
+sound_with_change file change content sound part short = record {
+  stands = left_changed file change content file.content content sound.stands (part_may change file.content content part);
   short = sound.short;
-  ends = All-push (λ p. end_of p < file_limit) file.pieces piece sound.ends short;
+  ends = All-push (λ p. end_of p < file_limit) file.changes change sound.ends short;
 }
 
 -- and after a whole one
-pub sound_after_piece : (file : File) (piece : Piece) → IsSoundFile file → end_of piece < file_limit → IsSoundFile (after_piece piece file)
-sound_after_piece file piece sound short = sound_with_piece file piece _ sound (changed_in_part piece file.content) short
+pub sound_after_change : (file : File) (change : Change) → IsSoundFile file → end_of change < file_limit → IsSoundFile (after_change change file)
+sound_after_change file change sound short = sound_with_change file change _ sound (changed_in_part change file.content) short
 
 -- and after a sync
 pub sound_flushed : (file : File) → IsSoundFile file → IsSoundFile (flushed file)

@@ -3,15 +3,15 @@ use Rattle.std.specs.Prelude.{◌≡◌, ℕ, ◌+◌, ◌<◌, ◌≤◌, ◌�
 use Rattle.std.specs.Map.{update}
 use Rattle.std.specs.Str.{bytes_eq}
 use Rattle.std.proofs.Common.{nat_eq, take}
-use Rattle.raft_log_disk.specs.Disk.{Piece, Wrote, CutTo, GrewTo, File, Disk, at_rest, zeros, changed, with_file, HasDirectory}
+use Rattle.raft_log_disk.specs.Disk.{Change, Wrote, ShortenedTo, GrewTo, File, Disk, at_rest, zeros, changed, with_file, HasDirectory}
 
 -- the file with a content, and a change that it isn't synced with
-abbrev pub with_piece : Piece → List ℕ → File → File
-with_piece piece content file = record { content = content; synced = file.synced; pieces = file.pieces ++ piece ∷ [] }
+abbrev pub with_change : Change → List ℕ → File → File
+with_change change content file = record { content = content; synced = file.synced; changes = file.changes ++ change ∷ [] }
 
 -- the file after a change
-abbrev pub after_piece : Piece → File → File
-after_piece piece file = with_piece piece (changed piece file.content) file
+abbrev pub after_change : Change → File → File
+after_change change file = with_change change (changed change file.content) file
 
 -- the file after a sync
 abbrev pub flushed : File → File
@@ -61,9 +61,9 @@ pub record IsTorn (at : ℕ) (bytes old new : List ℕ) : Type 0 where
   pub within : (size : ℕ) → length old ≤ size → at + length bytes ≤ size → length new ≤ size
 
 -- what a refused change may leave of a content: some of a write, the cut made or not, some of a growth's zeros
-abbrev pub InPart : Piece → List ℕ → List ℕ → Type 0
+abbrev pub InPart : Change → List ℕ → List ℕ → Type 0
 InPart (Wrote at bytes) old new = IsTorn at bytes old new
-InPart (CutTo size) old new = (new ≡ old) ⊎ (new ≡ take size old)
+InPart (ShortenedTo size) old new = (new ≡ old) ⊎ (new ≡ take size old)
 InPart (GrewTo size) old new = (count : ℕ) × (length old + count ≤ size ⊎ (count ≡ 0)) × (new ≡ old ++ zeros count)
 
 -- a call changed one file, and was answered before the file system stopped
@@ -119,14 +119,14 @@ abbrev pub Nothing : Disk → Disk → Type 0
 Nothing old left = left ≡ old
 
 -- what a refused write, cut or growth may leave: nothing, or a content with some of it, among the changes since the last sync
-pub data SomeOf (id : ℕ) (piece : Piece) (old left : Disk) : Type 0 where
-  none : left ≡ old → SomeOf id piece old left
-  some : (file : File) (content : List ℕ) → old.files id ≡ Some file → InPart piece file.content content
-      → left ≡ with_file id (Some (with_piece piece content file)) old → SomeOf id piece old left
+pub data SomeOf (id : ℕ) (change : Change) (old left : Disk) : Type 0 where
+  none : left ≡ old → SomeOf id change old left
+  some : (file : File) (content : List ℕ) → old.files id ≡ Some file → InPart change file.content content
+      → left ≡ with_file id (Some (with_change change content file)) old → SomeOf id change old left
 
 -- a refused write, cut or growth
-abbrev pub RefusedPiece : ℕ → Piece → Type 0 → Disk → Disk → Type 0
-RefusedPiece id piece wrong old new = Refused (SomeOf id piece old) (Changes id (after_piece piece) old) wrong old new
+abbrev pub RefusedChange : ℕ → Change → Type 0 → Disk → Disk → Type 0
+RefusedChange id change wrong old new = Refused (SomeOf id change old) (Changes id (after_change change) old) wrong old new
 
 -- a refused call that is done whole or not at all
 abbrev pub RefusedWhole : (Disk → Type 0) → Type 0 → Disk → Disk → Type 0

@@ -8,7 +8,7 @@ pub record Written (R : Type 0) : Type 0 where
   pub value : R
 
 -- no spelling begins another one or another record's, and none is empty
-pub record IsPrefixFree {R : Type 0} (IsFrame : List ℕ → R → Type 0) : Type 0 where
+pub record IsSelfDelimiting {R : Type 0} (IsFrame : List ℕ → R → Type 0) : Type 0 where
   pub apart : (a b x y : List ℕ) (r s : R) → IsFrame a r → IsFrame b s → a ++ x ≡ b ++ y → (a ≡ b) × (r ≡ s)
   pub filled : (r : R) → IsFrame [] r → ⊥
 

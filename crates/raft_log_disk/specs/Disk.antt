@@ -6,16 +6,16 @@ use Rattle.std.proofs.Common.{nat_eq, take, drop, replicate}
 
 -- A change of a file that isn't synced yet: a write, with all bytes that were handed in, also where the call was
 -- refused when some of them had landed; a cut to a size; a growth to a size by zeros.
-pub data Piece : Type 0 where
-  Wrote : (at : ℕ) (bytes : List ℕ) → Piece
-  CutTo : (size : ℕ) → Piece
-  GrewTo : (size : ℕ) → Piece
+pub data Change : Type 0 where
+  Wrote : (at : ℕ) (bytes : List ℕ) → Change
+  ShortenedTo : (size : ℕ) → Change
+  GrewTo : (size : ℕ) → Change
 
 -- A file: what a read gives now, what was synced, and the changes since then, the oldest first.
 pub record File : Type 0 where
   pub content : List ℕ
   pub synced : List ℕ
-  pub pieces : List Piece
+  pub changes : List Change
 
 -- A file system. A path names the file with a number; a number is given once and never again, so that a handle stays
 -- with its file. Whether a place of a file is unreadable is a mark on the file and outlives writes and renames.
@@ -30,7 +30,7 @@ pub record Disk : Type 0 where
 
 -- a file whose bytes are all synced
 abbrev pub at_rest : List ℕ → File
-at_rest bytes = record { content = bytes; synced = bytes; pieces = [] }
+at_rest bytes = record { content = bytes; synced = bytes; changes = [] }
 
 abbrev pub zeros : ℕ → List ℕ
 zeros n = replicate n 0
@@ -49,9 +49,9 @@ overwritten at [] old = old
 overwritten at (b ∷ bs) old = spliced at (b ∷ bs) old
 
 -- what a change makes of a content when it is carried out whole
-abbrev pub changed : Piece → List ℕ → List ℕ
+abbrev pub changed : Change → List ℕ → List ℕ
 changed (Wrote at bytes) old = overwritten at bytes old
-changed (CutTo size) old = take size old
+changed (ShortenedTo size) old = take size old
 changed (GrewTo size) old = grown size old
 
 -- each file is shorter than this

@@ -2,30 +2,30 @@
 use Rattle.std.specs.Prelude.{◌≡◌, ℕ, ◌+◌, ◌<◌, ◌≤◌, false, Option, Some, None, List, [], length, slice_index}
 use Rattle.std.specs.List.{All}
 use Rattle.std.specs.Option.{option_map}
-use Rattle.raft_log_disk.specs.Disk.{Piece, Wrote, CutTo, GrewTo, File, Disk, at_rest, file_limit}
+use Rattle.raft_log_disk.specs.Disk.{Change, Wrote, ShortenedTo, GrewTo, File, Disk, at_rest, file_limit}
 
 -- a change touches each place of a written range, and each place from which on it cuts
-abbrev pub Touches : Piece → ℕ → Type 0
+abbrev pub Touches : Change → ℕ → Type 0
 Touches (Wrote at bytes) place = (at ≤ place) × (place < at + length bytes)
-Touches (CutTo size) place = size ≤ place
+Touches (ShortenedTo size) place = size ≤ place
 Touches (GrewTo size) place = ⊥
 
-abbrev pub Spares : ℕ → Piece → Type 0
-Spares place piece = Touches piece place → ⊥
+abbrev pub Spares : ℕ → Change → Type 0
+Spares place change = Touches change place → ⊥
 
 -- how far a change may have grown the file
-abbrev pub end_of : Piece → ℕ
+abbrev pub end_of : Change → ℕ
 end_of (Wrote at bytes) = at + length bytes
-end_of (CutTo size) = 0
+end_of (ShortenedTo size) = 0
 end_of (GrewTo size) = size
 
 -- Bytes that a stop may leave of a file: a synced byte that no change touches stays, and the bytes end where the synced
 -- ones or some change ended at the latest. All else is open: any bytes stand in a written range, behind a cut and past
 -- the old end, and the file may end inside of these.
 pub record IsLeft (file : File) (bytes : List ℕ) : Type 0 where
-  pub kept : (place : ℕ) → place < length file.synced → All (Spares place) file.pieces
+  pub kept : (place : ℕ) → place < length file.synced → All (Spares place) file.changes
       → (place < length bytes) × (slice_index bytes place ≡ slice_index file.synced place)
-  pub within : (size : ℕ) → length file.synced ≤ size → All (λ piece. end_of piece ≤ size) file.pieces → length bytes ≤ size
+  pub within : (size : ℕ) → length file.synced ≤ size → All (λ change. end_of change ≤ size) file.changes → length bytes ≤ size
 
 -- the file after a restart, whose bytes are what was left
 abbrev pub IsFileImage : Option File → Option File → Type 0
@@ -49,7 +49,7 @@ pub record IsImage (d image : Disk) : Type 0 where
 pub record IsSoundFile (file : File) : Type 0 where
   pub stands : IsLeft file file.content
   pub short : length file.synced < file_limit
-  pub ends : All (λ piece. end_of piece < file_limit) file.pieces
+  pub ends : All (λ change. end_of change < file_limit) file.changes
 
 -- A disk is sound if a name has a file and no file has two names, no path is a file's and a directory's, a new file's
 -- number was never used, and each file is sound.
@@ -70,4 +70,4 @@ as_it_stands d = record d { files = λ id. option_map settled (d.files id); unre
 
 -- every file is synced
 abbrev pub IsAllSynced : Disk → Type 0
-IsAllSynced d = (id : ℕ) (file : File) → d.files id ≡ Some file → file.pieces ≡ []
+IsAllSynced d = (id : ℕ) (file : File) → d.files id ≡ Some file → file.changes ≡ []

@@ -8,3 +8,5 @@ pub mod KeepsSynced
 pub mod CrashExamples
 pub mod LogFiles
 pub mod Names
+pub mod Arguments
+pub mod Reading

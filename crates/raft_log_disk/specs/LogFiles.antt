@@ -2,7 +2,7 @@
 use Rattle.std.specs.Prelude.{◌≡◌, ℕ, ◌≤◌, Some, List, [], ◌∷◌, ◌++◌, length}
 use Rattle.raft_log_disk.specs.Disk.{File, Disk}
 use Rattle.raft_log_disk.specs.Image.{IsImage}
-use Rattle.raft_log_disk.specs.Chains.{Written, IsPrefixFree, Reads}
+use Rattle.raft_log_disk.specs.Chains.{Written, IsSelfDelimiting, Reads}
 use Rattle.raft_log_disk.specs.KeepsSynced.{NoChanceMatch, HoldsAtLeast, kept_records}
 
 -- A file of a log: its number; where its chain begins, and up to where its synced bytes are its own (behind that a file
@@ -53,7 +53,7 @@ durable_of (f ∷ fs) = f.durable ++ durable_of fs
 -- Whatever a stop leaves, if no checksum is met by chance in it: what is read of the files, one after the other, is a
 -- beginning of the records written, with all the synced ones.
 abbrev pub LogKeepsSynced : {R : Type 0} → (List ℕ → R → Type 0) → Type 0
-LogKeepsSynced {R} IsFrame = IsPrefixFree IsFrame → (whole : List (LogFile R)) (last : LogFile R) (d image : Disk) (ws : List (Written R))
+LogKeepsSynced {R} IsFrame = IsSelfDelimiting IsFrame → (whole : List (LogFile R)) (last : LogFile R) (d image : Disk) (ws : List (Written R))
     → HoldWhole IsFrame whole d → HoldsFile IsFrame last d → IsImage d image → NoChanceInFiles IsFrame whole d image → NoChanceInFile IsFrame last d image
     → ReadsFiles IsFrame (whole ++ last ∷ []) ws image
     → (count : ℕ) × (count ≤ length last.pending) × (ws ≡ durable_of whole ++ kept_records last.durable last.pending count)

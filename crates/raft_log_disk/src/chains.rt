@@ -1,7 +1,7 @@
 //! Laws of chains of records in a file, over any way to spell records in which no spelling begins another.
 
 ghost use Rattle.std.specs.Prelude.{ℕ, List};
-ghost use Rattle.raft_log_disk.specs.Chains.{IsPrefixFree, ReadsOneWay, ReadsSome, AgreesUpToEnd};
+ghost use Rattle.raft_log_disk.specs.Chains.{IsSelfDelimiting, ReadsOneWay, ReadsSome, AgreesUpToEnd};
 ghost use Rattle.raft_log_disk.specs.KeepsSynced.{ChainKeepsSynced, DurableIsRead, ChainSteps, ChainGrows, UntouchedPartStays};
 ghost use Rattle.raft_log_disk.specs.LogFiles.{LogKeepsSynced};
 ghost use Rattle.raft_log_disk.specs.CrashExamples.{TornRecordIsLost, ForeignRecordIsChance, SyncedFileHasNoChance};
@@ -16,12 +16,12 @@ pub trait Framing {
 
 /// Bytes are read in one way.
 pub fn one_reading<G: Framing>()
-    ensures { IsPrefixFree G.is_frame → ReadsOneWay G.is_frame }
+    ensures { IsSelfDelimiting G.is_frame → ReadsOneWay G.is_frame }
 {}
 
 /// Where it can be told whether a record begins, all bytes have a reading.
 pub fn some_reading<G: Framing>()
-    ensures { IsPrefixFree G.is_frame → ReadsSome G.is_frame }
+    ensures { IsSelfDelimiting G.is_frame → ReadsSome G.is_frame }
 {}
 
 /// Files that agree up to the end of a chain both begin with it.
@@ -36,7 +36,7 @@ pub fn chain_steps<G: Framing>()
 
 /// A record that is written at a chain's end is the next one, whatever an earlier use of the file left there.
 pub fn chain_grows<G: Framing>()
-    ensures { IsPrefixFree G.is_frame → (start : ℕ) → ChainGrows G.is_frame start }
+    ensures { IsSelfDelimiting G.is_frame → (start : ℕ) → ChainGrows G.is_frame start }
 {}
 
 /// A file that holds a chain keeps its synced records, whatever a stop leaves.

@@ -4,11 +4,11 @@ use Rattle.std.specs.List.{All}
 use Rattle.std.proofs.Common.{refl, sym, ◌∙◌, ap, arith, inl, inr, take, drop, get_or}
 use Rattle.std.proofs.lemmas.List.{ext_get_or, get_or_append_left, get_or-append_right, get_or-take, get_or-drop, take_all, length-take}
 use Rattle.std.proofs.lemmas.Bool.{cases_lt}
-use Rattle.raft_log_disk.specs.Disk.{Piece}
+use Rattle.raft_log_disk.specs.Disk.{Change}
 use Rattle.raft_log_disk.specs.Image.{Spares, IsLeft}
 use Rattle.raft_log_memory_disk.specs.Held.{file_at}
 
-fitted : (content synced : List ℕ) (pieces : List Piece) (place : ℕ) → IsLeft (file_at pieces (record { content = content; synced = synced })) content → place < length content
+fitted : (content synced : List ℕ) (pieces : List Change) (place : ℕ) → IsLeft (file_at pieces (record { content = content; synced = synced })) content → place < length content
     → All (Spares place) pieces → get_or (take (length content) synced ++ drop (length synced) content) place 0 ≡ get_or content place 0
 fitted content synced pieces place left below spared = elim (cases_lt place (length synced)) [
   | inl inside ↦
@@ -22,7 +22,7 @@ fitted content synced pieces place left below spared = elim (cases_lt place (len
       ∙ (get_or-drop (length synced) content (place - length synced) 0 ∙ ap (λ (n : ℕ). get_or content n 0) reached))
 ]
 
-pub flushed_same : (content synced fit new : List ℕ) (pieces : List Piece) → IsLeft (file_at pieces (record { content = content; synced = synced })) content
+pub flushed_same : (content synced fit new : List ℕ) (pieces : List Change) → IsLeft (file_at pieces (record { content = content; synced = synced })) content
     → fit ≡ take (length content) synced ++ drop (length synced) content → length new ≡ length content
     → ((place : ℕ) → place < length content → (All (Spares place) pieces → slice_index fit place ≡ slice_index content place) → slice_index new place ≡ slice_index content place)
     → new ≡ content

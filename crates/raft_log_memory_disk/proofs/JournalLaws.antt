@@ -6,7 +6,7 @@ use Rattle.std.proofs.lemmas.List.{append-nil, drop_more, map-append}
 use Rattle.std.proofs.lemmas.List.Elements.{filter-append}
 use Rattle.std.proofs.lemmas.Bool.{eq-eqb, cases_Bool, cases_eq}
 use Rattle.std.proofs.lemmas.Bool.Decides.{Decides-eqb}
-use Rattle.raft_log_disk.specs.Disk.{Piece}
+use Rattle.raft_log_disk.specs.Disk.{Change}
 use Rattle.raft_log_memory_disk.specs.declared.journal.Unsynced.{Unsynced}
 use Rattle.raft_log_memory_disk.specs.Pieces.{piece_of, pieces_of}
 
@@ -36,13 +36,13 @@ pub own_last : (id : ℕ) (journal : List Unsynced) (u : Unsynced) → u.file �
 own_last id journal u own =
     ap (map (λ v. piece_of v.change)) (filter-append (λ v. nat_eq v.file id) journal (u ∷ []))
     ∙ (map-append (λ v. piece_of v.change) (filter (λ v. nat_eq v.file id) journal) (filter (λ v. nat_eq v.file id) (u ∷ []))
-    ∙ ap (λ (xs : List Piece). pieces_of id journal ++ xs) (own_first id u [] own))
+    ∙ ap (λ (xs : List Change). pieces_of id journal ++ xs) (own_first id u [] own))
 
 pub other_last : (id : ℕ) (journal : List Unsynced) (u : Unsynced) → (u.file ≡ id → ⊥) → pieces_of id (journal ++ u ∷ []) ≡ pieces_of id journal
 other_last id journal u apart =
     ap (map (λ v. piece_of v.change)) (filter-append (λ v. nat_eq v.file id) journal (u ∷ []))
     ∙ (map-append (λ v. piece_of v.change) (filter (λ v. nat_eq v.file id) journal) (filter (λ v. nat_eq v.file id) (u ∷ []))
-    ∙ (ap (λ (xs : List Piece). pieces_of id journal ++ xs) (other_first id u [] apart) ∙ append-nil (pieces_of id journal)))
+    ∙ (ap (λ (xs : List Change). pieces_of id journal ++ xs) (other_first id u [] apart) ∙ append-nil (pieces_of id journal)))
 
 -- without a file's changes
 pub own_dropped : (id : ℕ) (journal : List Unsynced) → pieces_of id (filter (λ u. not (nat_eq u.file id)) journal) ≡ []
@@ -61,7 +61,7 @@ others_kept id q apart (u ∷ rest) = elim (cases_eq u.file id) [
   | inr other ↦ ap (λ (b : Bool). pieces_of q (cond (not b) (u ∷ filter (λ v. not (nat_eq v.file id)) rest) (filter (λ v. not (nat_eq v.file id)) rest))) (miss u.file id other)
       ∙ (elim (cases_eq u.file q) [
         | inl mine ↦ own_first q u (filter (λ v. not (nat_eq v.file id)) rest) mine
-            ∙ (ap (λ (xs : List Piece). piece_of u.change ∷ xs) (others_kept id q apart rest) ∙ sym (own_first q u rest mine))
+            ∙ (ap (λ (xs : List Change). piece_of u.change ∷ xs) (others_kept id q apart rest) ∙ sym (own_first q u rest mine))
         | inr not_mine ↦ other_first q u (filter (λ v. not (nat_eq v.file id)) rest) not_mine ∙ (others_kept id q apart rest ∙ sym (other_first q u rest not_mine))
       ])
 ]

@@ -10,7 +10,7 @@ use Rattle.std.proofs.Common.{refl, sym, ◌∙◌, ap, subst, arith, inl, inr, 
 use Rattle.std.proofs.lemmas.List.{append_assoc, append-nil, length-take}
 use Rattle.std.proofs.lemmas.List.Elements.{All-nil}
 use Rattle.std.proofs.lemmas.Bool.{cases_eq, eq-eqb}
-use Rattle.raft_log_disk.specs.Disk.{Wrote, CutTo, GrewTo, File, overwritten, changed, at_rest, file_limit}
+use Rattle.raft_log_disk.specs.Disk.{Wrote, ShortenedTo, GrewTo, File, overwritten, changed, at_rest, file_limit}
 use Rattle.raft_log_disk.specs.Disk as disk
 use Rattle.std.specs.Option.{option_map}
 use std.Path.{fun_ext}
@@ -46,10 +46,10 @@ left_other what place id u us old apart =
     ap (λ (b : Bool). left_of what (suc place) id us (cond b (left_by what place (piece_of u.change) old) old)) (miss u.file id apart)
     ∙ ap (λ (n : ℕ). left_of what n id us old) next
 
-stays : (piece : disk.Piece) (old : List ℕ) → MayBecome piece old old
+stays : (piece : disk.Change) (old : List ℕ) → MayBecome piece old old
 stays piece old = part_may piece old old (unchanged_in_part piece old)
 
-whole : (piece : disk.Piece) (old : List ℕ) → MayBecome piece old (changed piece old)
+whole : (piece : disk.Change) (old : List ℕ) → MayBecome piece old (changed piece old)
 whole piece old = part_may piece old (changed piece old) (changed_in_part piece old)
 
 -- a shorter write touches no more
@@ -61,52 +61,52 @@ shorter at bytes other old less =
       within = λ size fits ends. may.within size fits (omega (arith, ends, less));
     }
 
-front_may : (count : ℕ) (piece : disk.Piece) (old : List ℕ) → MayBecome piece old (left_front count piece old)
+front_may : (count : ℕ) (piece : disk.Change) (old : List ℕ) → MayBecome piece old (left_front count piece old)
 front_may count (Wrote at bytes) old = shorter at bytes (take count bytes) old (omega (arith, length-take count bytes))
-front_may count (CutTo size) old = stays (CutTo size) old
+front_may count (ShortenedTo size) old = stays (ShortenedTo size) old
 front_may count (GrewTo size) old = stays (GrewTo size) old
 
-as_may : (other : List ℕ) (piece : disk.Piece) (old : List ℕ) → MayBecome piece old (left_as other piece old)
+as_may : (other : List ℕ) (piece : disk.Change) (old : List ℕ) → MayBecome piece old (left_as other piece old)
 as_may other (Wrote at bytes) old = shorter at bytes (take (length bytes) other) old (omega (arith, length-take (length bytes) other))
-as_may other (CutTo size) old = whole (CutTo size) old
+as_may other (ShortenedTo size) old = whole (ShortenedTo size) old
 as_may other (GrewTo size) old = whole (GrewTo size) old
 
-said_may : (said : Option Piece) (piece : disk.Piece) (old : List ℕ) → MayBecome piece old (left_as_said said piece old)
+said_may : (said : Option Piece) (piece : disk.Change) (old : List ℕ) → MayBecome piece old (left_as_said said piece old)
 said_may None piece old = stays piece old
 said_may (Some Keep) piece old = whole piece old
 said_may (Some Lose) piece old = stays piece old
 said_may (Some (Bytes other)) piece old = as_may other.items piece old
 
-choice_may : (a b : Bool) (count : ℕ) (piece : disk.Piece) (old : List ℕ) → MayBecome piece old (cond a (changed piece old) (cond b (left_front count piece old) old))
+choice_may : (a b : Bool) (count : ℕ) (piece : disk.Change) (old : List ℕ) → MayBecome piece old (cond a (changed piece old) (cond b (left_front count piece old) old))
 choice_may true b count piece old = whole piece old
 choice_may false true count piece old = front_may count piece old
 choice_may false false count piece old = stays piece old
 
-by_may : (what : Remainder) (place : ℕ) (piece : disk.Piece) (old : List ℕ) → MayBecome piece old (left_by what place piece old)
+by_may : (what : Remainder) (place : ℕ) (piece : disk.Change) (old : List ℕ) → MayBecome piece old (left_by what place piece old)
 by_may LastSync place piece old = stays piece old
 by_may AllWritten place piece old = whole piece old
 by_may (First pieces bytes) place piece old = choice_may (nat_lt place pieces) (nat_eq place pieces) bytes piece old
 by_may (Pieces list) place piece old = said_may (slice_get list.items place) piece old
 
 -- from what may be left of the file with its first changes
-left_on : (what : Remainder) (place id : ℕ) (us : List Unsynced) (before : List disk.Piece) (content synced now : List ℕ)
-    → IsLeft (record { content = content; synced = synced; pieces = before }) now
-    → IsLeft (record { content = content; synced = synced; pieces = before ++ pieces_of id us }) (left_of what place id us now)
+left_on : (what : Remainder) (place id : ℕ) (us : List Unsynced) (before : List disk.Change) (content synced now : List ℕ)
+    → IsLeft (record { content = content; synced = synced; changes = before }) now
+    → IsLeft (record { content = content; synced = synced; changes = before ++ pieces_of id us }) (left_of what place id us now)
 left_on what place id [] before content synced now left =
-    subst (λ (ps : List disk.Piece). IsLeft (record { content = content; synced = synced; pieces = ps }) now) (sym (append-nil before)) left
+    subst (λ (ps : List disk.Change). IsLeft (record { content = content; synced = synced; changes = ps }) now) (sym (append-nil before)) left
 left_on what place id (u ∷ us) before content synced now left = elim (cases_eq u.file id) [
   | inl own ↦
       (let piece = piece_of u.change in
-      let next = left_changed (record { content = content; synced = synced; pieces = before }) piece content now (left_by what place piece now) left (by_may what place piece now) in
+      let next = left_changed (record { content = content; synced = synced; changes = before }) piece content now (left_by what place piece now) left (by_may what place piece now) in
       let rest = left_on what (place + 1) id us (before ++ piece ∷ []) content synced (left_by what place piece now) next in
-      subst (IsLeft (record { content = content; synced = synced; pieces = before ++ pieces_of id (u ∷ us) })) (sym (left_own what place id u us now own))
-      (subst (λ (ps : List disk.Piece). IsLeft (record { content = content; synced = synced; pieces = ps }) (left_of what (place + 1) id us (left_by what place piece now)))
-      (append_assoc before (piece ∷ []) (pieces_of id us) ∙ ap (λ (ps : List disk.Piece). before ++ ps) (sym (own_first id u us own))) rest))
+      subst (IsLeft (record { content = content; synced = synced; changes = before ++ pieces_of id (u ∷ us) })) (sym (left_own what place id u us now own))
+      (subst (λ (ps : List disk.Change). IsLeft (record { content = content; synced = synced; changes = ps }) (left_of what (place + 1) id us (left_by what place piece now)))
+      (append_assoc before (piece ∷ []) (pieces_of id us) ∙ ap (λ (ps : List disk.Change). before ++ ps) (sym (own_first id u us own))) rest))
   | inr apart ↦
       (let rest = left_on what (place + 1) id us before content synced now left in
-      subst (IsLeft (record { content = content; synced = synced; pieces = before ++ pieces_of id (u ∷ us) })) (sym (left_other what place id u us now apart))
-      (subst (λ (ps : List disk.Piece). IsLeft (record { content = content; synced = synced; pieces = ps }) (left_of what (place + 1) id us now))
-      (ap (λ (ps : List disk.Piece). before ++ ps) (sym (other_first id u us apart))) rest))
+      subst (IsLeft (record { content = content; synced = synced; changes = before ++ pieces_of id (u ∷ us) })) (sym (left_other what place id u us now apart))
+      (subst (λ (ps : List disk.Change). IsLeft (record { content = content; synced = synced; changes = ps }) (left_of what (place + 1) id us now))
+      (ap (λ (ps : List disk.Change). before ++ ps) (sym (other_first id u us apart))) rest))
 ]
 
 pub left_is_left : (what : Remainder) (id : ℕ) (journal : List Unsynced) (file : Held) → IsLeft (file_at (pieces_of id journal) file) (left_of what 0 id journal file.synced)

@@ -7,7 +7,7 @@ use Rattle.std.specs.Str.{bytes_eq}
 use Rattle.std.proofs.lemmas.List.{get_or_append_left, get_or_push, get_or_past, length-append}
 use Rattle.std.proofs.lemmas.Slice.Eq.{bytes_eq-Decides}
 use Rattle.std.proofs.lemmas.Bool.{cases_eq, cases_lt, cases_Bool}
-use Rattle.raft_log_disk.specs.Disk.{Piece, File, at_rest}
+use Rattle.raft_log_disk.specs.Disk.{Change, File, at_rest}
 use Rattle.raft_log_disk.proofs.Updates.{file_here, file_apart}
 use Rattle.raft_log_memory_disk.specs.declared.journal.Unsynced.{Unsynced}
 use Rattle.raft_log_memory_disk.specs.declared.files.Stored.{Stored}
@@ -15,7 +15,7 @@ use Rattle.raft_log_memory_disk.specs.declared.storage.Node.{Node}
 use Rattle.raft_log_memory_disk.specs.Pieces.{pieces_of}
 use Rattle.raft_log_memory_disk.specs.Held.{Held, held, held_of, no_bytes, file_at}
 
-step_of : (before after : List Piece) (step : Held → Held) (next : File → File) (o : Option Held) (file : File)
+step_of : (before after : List Change) (step : Held → Held) (next : File → File) (o : Option Held) (file : File)
     → ((h : Held) → file_at after (step h) ≡ next (file_at before h)) → option_map (file_at before) o ≡ Some file → option_map (file_at after) (option_map step o) ≡ Some (next file)
 step_of before after step next None file each is = absurd (cc)
 step_of before after step next (Some h) file each is = ap Some (each h ∙ ap next (let same : file_at before h ≡ file = cc in same))
@@ -33,7 +33,7 @@ stepped id journal after old new step next is each others file at q = elim (case
       ∙ sym (file_here (λ i. option_map (file_at (pieces_of i journal)) (old i)) id (Some (next file)))))
   | inr apart ↦
       ap (option_map (file_at (pieces_of q after))) (is q ∙ file_apart old id (option_map step (old id)) q apart)
-      ∙ (ap (λ (ps : List Piece). option_map (file_at ps) (old q)) (others q apart)
+      ∙ (ap (λ (ps : List Change). option_map (file_at ps) (old q)) (others q apart)
       ∙ sym (file_apart (λ i. option_map (file_at (pieces_of i journal)) (old i)) id (Some (next file)) q apart))
 ]
 
@@ -75,7 +75,7 @@ pub file_added : (journal : List Unsynced) (old new : ℕ → Option Held) (id :
 file_added journal old new id none is q = elim (cases_eq q id) [
   | inl same ↦ subst (λ (i : ℕ). option_map (file_at (pieces_of i journal)) (new i) ≡ update nat_eq (λ i. option_map (file_at (pieces_of i journal)) (old i)) id (Some (at_rest [])) i) (sym same)
       (ap (option_map (file_at (pieces_of id journal))) (is id ∙ file_here old id (Some no_bytes))
-      ∙ (ap (λ (ps : List Piece). Some (file_at ps no_bytes)) none
+      ∙ (ap (λ (ps : List Change). Some (file_at ps no_bytes)) none
       ∙ sym (file_here (λ i. option_map (file_at (pieces_of i journal)) (old i)) id (Some (at_rest [])))))
   | inr apart ↦ ap (option_map (file_at (pieces_of q journal))) (is q ∙ file_apart old id (Some no_bytes) q apart)
       ∙ sym (file_apart (λ i. option_map (file_at (pieces_of i journal)) (old i)) id (Some (at_rest [])) q apart)
@@ -89,6 +89,6 @@ file_dropped journal after old new id others is q = elim (cases_eq q id) [
   | inl same ↦ subst (λ (i : ℕ). option_map (file_at (pieces_of i after)) (new i) ≡ update nat_eq (λ i. option_map (file_at (pieces_of i journal)) (old i)) id None i) (sym same)
       (ap (option_map (file_at (pieces_of id after))) (is id ∙ file_here old id None) ∙ sym (file_here (λ i. option_map (file_at (pieces_of i journal)) (old i)) id None))
   | inr apart ↦ ap (option_map (file_at (pieces_of q after))) (is q ∙ file_apart old id None q apart)
-      ∙ (ap (λ (ps : List Piece). option_map (file_at ps) (old q)) (others q apart)
+      ∙ (ap (λ (ps : List Change). option_map (file_at ps) (old q)) (others q apart)
       ∙ sym (file_apart (λ i. option_map (file_at (pieces_of i journal)) (old i)) id None q apart))
 ]

@@ -2,7 +2,7 @@
 use Rattle.std.specs.Prelude.{ℕ, List, [], Option, None}
 use Rattle.std.specs.Option.{option_map}
 use Rattle.std.proofs.Common.{get_or}
-use Rattle.raft_log_disk.specs.Disk.{Piece, File}
+use Rattle.raft_log_disk.specs.Disk.{Change, File}
 use Rattle.raft_log_memory_disk.specs.declared.files.Stored.{Stored}
 
 -- a file's content and what is synced of it
@@ -30,5 +30,5 @@ abbrev pub all_synced : Held → Held
 all_synced file = record { content = file.content; synced = file.content }
 
 -- the file of a disk, with the changes that aren't synced
-abbrev pub file_at : List Piece → Held → File
-file_at pieces file = record { content = file.content; synced = file.synced; pieces = pieces }
+abbrev pub file_at : List Change → Held → File
+file_at pieces file = record { content = file.content; synced = file.synced; changes = pieces }

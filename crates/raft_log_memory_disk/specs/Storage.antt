@@ -3,7 +3,7 @@ use Rattle.std.specs.Prelude.{◌≡◌, ℕ, Bool, true, false, List, [], Optio
 use Rattle.std.specs.Option.{option_map}
 use Rattle.std.specs.BTreeMap.{get_by_text}
 use Rattle.std.proofs.Props.{props}
-use Rattle.raft_log_disk.proofs.Props.{Piece-set, IsSound-prop}
+use Rattle.raft_log_disk.proofs.Props.{Change-set, IsSound-prop}
 use Rattle.raft_log_disk.specs.Disk.{Disk}
 use Rattle.raft_log_disk.specs.Image.{IsSound}
 use Rattle.raft_log_memory_disk.specs.declared.storage.Node.{Node}
@@ -45,4 +45,4 @@ pub record IsWhole (storage : Storage) : Type 0 where
 
 -- it is whole in one way only, so that a type may keep the fact beside its fields
 pub IsWhole-prop : (storage : Storage) → IsProp (IsWhole storage)
-IsWhole-prop storage = hlevel (IsSound-prop, Piece-set, props)
+IsWhole-prop storage = hlevel (IsSound-prop, Change-set, props)

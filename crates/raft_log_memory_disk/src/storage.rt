@@ -39,9 +39,9 @@ pub struct Storage {
 impl Storage {
     ghost use Rattle.std.specs.List.{filter};
     ghost use Rattle.std.specs.Prelude.{not, nat_eq, ◌≡◌, ℕ, ◌+◌, ◌-◌, ◌++◌, min, take, drop, length, IsTrue, ◌↔◌, ◌⊎◌, ◌<◌, ◌≤◌, List, OnOk, OnErr, IfOk, IfErr, vec_len, is_some};
-    ghost use Rattle.raft_log_disk.specs.Disk.{Wrote, CutTo, GrewTo, File, with_file, file_limit, empty_disk, HasDirectory};
+    ghost use Rattle.raft_log_disk.specs.Disk.{Wrote, ShortenedTo, GrewTo, File, with_file, file_limit, empty_disk, HasDirectory};
     ghost use Rattle.raft_log_disk.specs.Image.{end_of, IsImage};
-    ghost use Rattle.raft_log_disk.specs.Calls.{after_piece, flushed, created, deleted, renamed, with_directory};
+    ghost use Rattle.raft_log_disk.specs.Calls.{after_change, flushed, created, deleted, renamed, with_directory};
     ghost use Rattle.std.specs.Prelude.{map};
     ghost use Rattle.std.specs.String.{string_bytes, string_cmp};
     ghost use Rattle.std.specs.BTreeMap.{IsOrdered};
@@ -169,7 +169,7 @@ impl Storage {
     pub fn write(&mut self, id: usize, offset: usize, bytes: &[u8]) -> Result<(), ErrorKind>
         requires there { (held_of self.old.files.items id ≡ None) → ⊥ }
         requires whole { IsWhole self.old }
-        ensures ok { OnOk result ((file : File) → (contents_of self.old).files id ≡ Some file → contents_of self.new ≡ with_file id (Some (after_piece (Wrote offset bytes.now) file)) (contents_of self.old)) }
+        ensures ok { OnOk result ((file : File) → (contents_of self.old).files id ≡ Some file → contents_of self.new ≡ with_file id (Some (after_change (Wrote offset bytes.now) file)) (contents_of self.old)) }
         ensures err { OnErr result (contents_of self.new ≡ contents_of self.old) }
         ensures kind { IfErr result (λ error. (error ≡ ErrorKind.OutOfMemory) ⊎ ((error ≡ ErrorKind.StorageFull) × (file_limit ≤ end_of (Wrote offset bytes.now)))) }
         ensures whole { IsWhole self.new }
@@ -188,7 +188,7 @@ impl Storage {
     pub fn cut(&mut self, id: usize, size: usize) -> Result<(), ErrorKind>
         requires there { (held_of self.old.files.items id ≡ None) → ⊥ }
         requires whole { IsWhole self.old }
-        ensures ok { OnOk result ((file : File) → (contents_of self.old).files id ≡ Some file → contents_of self.new ≡ with_file id (Some (after_piece (CutTo size) file)) (contents_of self.old)) }
+        ensures ok { OnOk result ((file : File) → (contents_of self.old).files id ≡ Some file → contents_of self.new ≡ with_file id (Some (after_change (ShortenedTo size) file)) (contents_of self.old)) }
         ensures err { OnErr result (contents_of self.new ≡ contents_of self.old) }
         ensures kind { IfErr result (λ error. error ≡ ErrorKind.OutOfMemory) }
         ensures whole { IsWhole self.new }
@@ -202,7 +202,7 @@ impl Storage {
     pub fn grow(&mut self, id: usize, offset: usize, size: usize) -> Result<(), ErrorKind>
         requires there { (held_of self.old.files.items id ≡ None) → ⊥ }
         requires whole { IsWhole self.old }
-        ensures ok { OnOk result ((file : File) → (contents_of self.old).files id ≡ Some file → contents_of self.new ≡ with_file id (Some (after_piece (GrewTo (offset + size)) file)) (contents_of self.old)) }
+        ensures ok { OnOk result ((file : File) → (contents_of self.old).files id ≡ Some file → contents_of self.new ≡ with_file id (Some (after_change (GrewTo (offset + size)) file)) (contents_of self.old)) }
         ensures err { OnErr result (contents_of self.new ≡ contents_of self.old) }
         ensures kind { IfErr result (λ error. (error ≡ ErrorKind.OutOfMemory) ⊎ ((error ≡ ErrorKind.StorageFull) × (file_limit ≤ end_of (GrewTo (offset + size))))) }
         ensures whole { IsWhole self.new }
@@ -220,7 +220,7 @@ impl Storage {
         requires there { (held_of self.old.files.items id ≡ None) → ⊥ }
         requires short { end_of (piece_of change) < file_limit }
         requires whole { IsWhole self.old }
-        ensures ok { OnOk result ((file : File) → (contents_of self.old).files id ≡ Some file → contents_of self.new ≡ with_file id (Some (after_piece (piece_of change) file)) (contents_of self.old)) }
+        ensures ok { OnOk result ((file : File) → (contents_of self.old).files id ≡ Some file → contents_of self.new ≡ with_file id (Some (after_change (piece_of change) file)) (contents_of self.old)) }
         ensures err { OnErr result (contents_of self.new ≡ contents_of self.old) }
         ensures whole { IsWhole self.new }
     {

@@ -4,14 +4,14 @@ use Rattle.std.specs.Result.{IfErr, OnOk, OnErr, MatchResult}
 use Rattle.std.specs.declared.io.ErrorKind.{ErrorKind}
 use Rattle.std.proofs.Common.{refl, sym, ◌∙◌, ap, inl, inr}
 use Rattle.std.proofs.lemmas.Bool.{false≢true}
-use Rattle.raft_log_disk.specs.Disk.{Piece, File, Disk, with_file, HasDirectory}
-use Rattle.raft_log_disk.specs.Calls.{after_piece, counted, at_stop, Changes, failed, stops, none, RefusedPiece, RefusedWhole}
+use Rattle.raft_log_disk.specs.Disk.{Change, File, Disk, with_file, HasDirectory}
+use Rattle.raft_log_disk.specs.Calls.{after_change, counted, at_stop, Changes, failed, stops, none, RefusedChange, RefusedWhole}
 use Rattle.raft_log_disk.proofs.ImageLaws.{some_file}
-use Rattle.raft_log_files.specs.declared.handle.Handle.{Handle}
-use Rattle.raft_log_files.specs.declared.handle.Permission.TheVariants.{ReadWrite}
+use Rattle.raft_log_disk.specs.declared.handle.Handle.{Handle}
+use Rattle.raft_log_disk.specs.declared.handle.Permission.TheVariants.{ReadWrite}
 use Rattle.raft_log_memory_files.specs.declared.memory.MemoryFileSystem.{MemoryFileSystem}
 use Rattle.raft_log_memory_disk.specs.declared.storage.Storage.{Storage}
-use Rattle.raft_log_files.specs.Arguments.{WrongCreate, WrongName, WrongRename, WrongDirectory, WrongHandle, WrongWriter}
+use Rattle.raft_log_disk.specs.Arguments.{WrongCreate, WrongName, WrongRename, WrongDirectory, WrongHandle, WrongWriter}
 use Rattle.std.specs.Option.{option_map}
 use Rattle.raft_log_memory_disk.specs.Held.{Held, file_at}
 use Rattle.raft_log_memory_disk.specs.Storage.{contents_of}
@@ -32,8 +32,8 @@ pub refused_whole : {done : Disk → Type 0} {wrong : Type 0} (old mid new : Dis
 refused_whole old mid new runs right same (inl is) = failed runs right old refl (is ∙ ap counted same)
 refused_whole old mid new runs right same (inr is) = stops runs old (inl refl) (is ∙ ap at_stop same)
 
-pub refused_piece : {id : ℕ} {piece : Piece} {wrong : Type 0} (old new : Disk) → old.stopped ≡ false → (wrong → ⊥)
-    → (new ≡ counted old) ⊎ (new ≡ at_stop old) → RefusedPiece id piece wrong old new
+pub refused_piece : {id : ℕ} {piece : Change} {wrong : Type 0} (old new : Disk) → old.stopped ≡ false → (wrong → ⊥)
+    → (new ≡ counted old) ⊎ (new ≡ at_stop old) → RefusedChange id piece wrong old new
 refused_piece old new runs right (inl is) = failed runs right old (none refl) is
 refused_piece old new runs right (inr is) = stops runs old (inl (none refl)) is
 
@@ -60,10 +60,10 @@ change_ok id next (Ok v) old mid new (Ok w) is ok = record { runs = is.runs; fil
 change_ok id next (Err e) old mid new (Ok w) is ok = absurd (ok.0)
 change_ok id next done old mid new (Err e) is ok = tt
 
-pub change_err : {T : Type 0} (id : ℕ) (piece : Piece) (wrong : ErrorKind → Type 0) (done : Result (Unit {0}) ErrorKind) (old mid new : Disk) (result : Result T ErrorKind)
+pub change_err : {T : Type 0} (id : ℕ) (piece : Change) (wrong : ErrorKind → Type 0) (done : Result (Unit {0}) ErrorKind) (old mid new : Disk) (result : Result T ErrorKind)
     → old.stopped ≡ false → ((e : ErrorKind) → wrong e → ⊥)
-    → MatchResult done (λ v. Changes id (after_piece piece) old mid) (λ e. mid ≡ old)
-    → OnErr result ((new ≡ at_stop mid) ⊎ (OnOk done ⊥ × (new ≡ counted mid))) → IfErr result (λ e. RefusedPiece id piece (wrong e) old new)
+    → MatchResult done (λ v. Changes id (after_change piece) old mid) (λ e. mid ≡ old)
+    → OnErr result ((new ≡ at_stop mid) ⊎ (OnOk done ⊥ × (new ≡ counted mid))) → IfErr result (λ e. RefusedChange id piece (wrong e) old new)
 change_err id piece wrong done old mid new (Ok w) runs right is err = tt
 change_err id piece wrong (Ok v) old mid new (Err e) runs right is (inl stop) = stops runs mid (inr is) stop
 change_err id piece wrong (Ok v) old mid new (Err e) runs right is (inr fail) = absurd (fail.0)
@@ -96,6 +96,6 @@ right_writer handle d there writes e (inl wrong) = there wrong.1
 right_writer handle d there writes e (inr (at, reads)) = cc (writes, reads)
 
 -- the bytes that are kept of a file that is there
-pub held_there : (pieces : List Piece) (o : Option Held) → (option_map (file_at pieces) o ≡ None → ⊥) → (file : Held) × (o ≡ Some file)
+pub held_there : (pieces : List Change) (o : Option Held) → (option_map (file_at pieces) o ≡ None → ⊥) → (file : Held) × (o ≡ Some file)
 held_there pieces None there = absurd (there refl)
 held_there pieces (Some file) there = (file, refl)

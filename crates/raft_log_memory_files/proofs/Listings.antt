@@ -16,7 +16,7 @@ use Rattle.raft_log_disk.specs.Disk.{Disk, IsPlain}
 use Rattle.raft_log_memory_disk.specs.declared.storage.Node.{Node}
 use Rattle.raft_log_memory_disk.specs.Storage.{file_named}
 use Rattle.raft_log_memory_disk.specs.Listing.{Names}
-use Rattle.raft_log_files.specs.Reading.{IsListing}
+use Rattle.raft_log_disk.specs.Reading.{IsListing}
 
 -- an entry of the map, by recursion
 abbrev pub Stands : List (String Global × Node) → List ℕ → Node → Type 0

@@ -5,9 +5,9 @@ use Rattle.std.specs.declared.io.ErrorKind.{ErrorKind}
 use Rattle.std.specs.declared.io.ErrorKind.TheVariants.{OutOfMemory, StorageFull}
 use Rattle.std.proofs.Common.{◌∙◌, ap, subst, inl, inr}
 use Rattle.std.proofs.lemmas.Bool.{cases_Bool}
-use Rattle.raft_log_disk.specs.Disk.{Piece, Disk, file_limit}
+use Rattle.raft_log_disk.specs.Disk.{Change, Disk, file_limit}
 use Rattle.raft_log_disk.specs.Image.{end_of}
-use Rattle.raft_log_disk.specs.Calls.{after_piece, counted, at_stop, Changes, Nothing}
+use Rattle.raft_log_disk.specs.Calls.{after_change, counted, at_stop, Changes, Nothing}
 use Rattle.raft_log_memory_files.specs.declared.memory.MemoryFileSystem.{MemoryFileSystem}
 use Rattle.raft_log_memory_files.specs.Memory.{disk_of}
 use Rattle.raft_log_memory_files.specs.Turns.{armed, call_later, IsSpared, IsCounted, IsAnswered, IsRefused, IsStopped, IsRefusedCall, stop_fell, refusal_fell, too_long, no_memory, MadeOrNot, IsRefusedChange}
@@ -30,12 +30,12 @@ pub change_turn : {T : Type 0} (result : Result T ErrorKind) (stops : Bool) (old
 change_turn (Ok v) stops old new next spared answered = record { spared = spared answered; next = next }
 change_turn (Err e) stops old new next spared answered = tt
 
-left_of_change : (id : ℕ) (piece : Piece) (done : Result (Unit {0}) ErrorKind) (old mid : Disk) → MatchResult done (λ v. Changes id (after_piece piece) old mid) (λ e. mid ≡ old)
+left_of_change : (id : ℕ) (piece : Change) (done : Result (Unit {0}) ErrorKind) (old mid : Disk) → MatchResult done (λ v. Changes id (after_change piece) old mid) (λ e. mid ≡ old)
     → MadeOrNot id piece old mid
 left_of_change id piece (Ok v) old mid made = inl made
 left_of_change id piece (Err e) old mid made = inr made
 
-short_of : {wrong : ErrorKind → Type 0} (id : ℕ) (piece : Piece) (done : Result (Unit {0}) ErrorKind) (error : ErrorKind) (old new : MemoryFileSystem) → IsCounted wrong old new → IsSpared (armed old)
+short_of : {wrong : ErrorKind → Type 0} (id : ℕ) (piece : Change) (done : Result (Unit {0}) ErrorKind) (error : ErrorKind) (old new : MemoryFileSystem) → IsCounted wrong old new → IsSpared (armed old)
     → IfErr done (λ e. (e ≡ OutOfMemory) ⊎ ((e ≡ StorageFull) × (file_limit ≤ end_of piece))) → done ≡ Err error → IsRefusedChange id piece wrong error old new
 short_of {wrong} id piece done error old new counts spared kind is =
     elim (subst (λ (r : Result (Unit {0}) ErrorKind). IfErr r (λ e. (e ≡ OutOfMemory) ⊎ ((e ≡ StorageFull) × (file_limit ≤ end_of piece)))) is kind) as (λ _. IsRefusedChange id piece wrong error old new) [
@@ -43,9 +43,9 @@ short_of {wrong} id piece done error old new counts spared kind is =
       | inr full ↦ too_long counts spared full.1 full.0
     ]
 
-pub change_cause : {T : Type 0} {wrong : ErrorKind → Type 0} (id : ℕ) (piece : Piece) (done : Result (Unit {0}) ErrorKind) (stops : Bool) (mid : Disk) (old new : MemoryFileSystem) (result : Result T ErrorKind)
+pub change_cause : {T : Type 0} {wrong : ErrorKind → Type 0} (id : ℕ) (piece : Change) (done : Result (Unit {0}) ErrorKind) (stops : Bool) (mid : Disk) (old new : MemoryFileSystem) (result : Result T ErrorKind)
     → IsCounted wrong old new → (IsTrue stops ↔ ((armed old).stop ≡ 1)) → (stops ≡ false → IsSpared (armed old))
-    → MatchResult done (λ v. Changes id (after_piece piece) (disk_of old) mid) (λ e. mid ≡ disk_of old)
+    → MatchResult done (λ v. Changes id (after_change piece) (disk_of old) mid) (λ e. mid ≡ disk_of old)
     → IfErr done (λ e. (e ≡ OutOfMemory) ⊎ ((e ≡ StorageFull) × (file_limit ≤ end_of piece)))
     → (stops ≡ true → disk_of new ≡ at_stop mid) → IfErr result (λ e. stops ≡ false → done ≡ Err e) → IfErr result (λ e. IsRefusedChange id piece wrong e old new)
 change_cause id piece done stops mid old new (Ok v) counts is spared made kind stopped same = tt

@@ -4,11 +4,11 @@ use Rattle.std.specs.List.{Contains, filter}
 use Rattle.std.proofs.Common.{map, nat_eq, nat_lt}
 use Rattle.std.specs.declared.io.ErrorKind.{ErrorKind}
 use Rattle.std.specs.declared.io.ErrorKind.TheVariants.{Other, OutOfMemory, StorageFull}
-use Rattle.raft_log_disk.specs.Disk.{Piece, Disk, file_limit}
+use Rattle.raft_log_disk.specs.Disk.{Change, Disk, file_limit}
 use Rattle.raft_log_disk.specs.Image.{end_of}
-use Rattle.raft_log_disk.specs.Calls.{after_piece, counted, at_stop, Changes, Nothing}
-use Rattle.raft_log_files.specs.declared.handle.Fault.{Fault}
-use Rattle.raft_log_files.specs.declared.handle.Fault.TheVariants.{Refuse, StopAt}
+use Rattle.raft_log_disk.specs.Calls.{after_change, counted, at_stop, Changes, Nothing}
+use Rattle.raft_log_disk.specs.declared.handle.Fault.{Fault}
+use Rattle.raft_log_disk.specs.declared.handle.Fault.TheVariants.{Refuse, StopAt}
 use Rattle.raft_log_memory_files.specs.declared.memory.MemoryFileSystem.{MemoryFileSystem}
 use Rattle.raft_log_memory_files.specs.Memory.{disk_of}
 
@@ -78,13 +78,13 @@ pub data IsRefusedCall (left : Disk → Type 0) (wrong : ErrorKind → Type 0) (
 
 -- what a stop leaves of the write, cut or growth that it falls at: the change is made and isn't synced, or, where the
 -- file would get too long or memory is short, it isn't made
-abbrev pub MadeOrNot : ℕ → Piece → Disk → Disk → Type 0
-MadeOrNot id piece old left = Changes id (after_piece piece) old left ⊎ Nothing old left
+abbrev pub MadeOrNot : ℕ → Change → Disk → Disk → Type 0
+MadeOrNot id piece old left = Changes id (after_change piece) old left ⊎ Nothing old left
 
 -- a refused call that is done whole or not at all
 abbrev pub IsRefusedWhole : (ErrorKind → Type 0) → ErrorKind → MemoryFileSystem → MemoryFileSystem → Type 0
 IsRefusedWhole wrong error old new = IsRefusedCall (Nothing (disk_of old)) wrong ⊥ error old new
 
 -- a refused write, cut or growth
-abbrev pub IsRefusedChange : ℕ → Piece → (ErrorKind → Type 0) → ErrorKind → MemoryFileSystem → MemoryFileSystem → Type 0
+abbrev pub IsRefusedChange : ℕ → Change → (ErrorKind → Type 0) → ErrorKind → MemoryFileSystem → MemoryFileSystem → Type 0
 IsRefusedChange id piece wrong error old new = IsRefusedCall (MadeOrNot id piece (disk_of old)) wrong (file_limit ≤ end_of piece) error old new

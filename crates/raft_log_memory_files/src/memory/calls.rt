@@ -1,13 +1,13 @@
 use super::MemoryFileSystem;
-use raft_log_files::{Fault, FileSystem, Handle, Permission};
+use raft_log_disk::{Fault, FileSystem, Handle, Permission};
 use raft_log_memory_disk::Node;
 use std::io::ErrorKind;
 
 impl FileSystem for MemoryFileSystem {
     ghost use Rattle.std.specs.Prelude.{◌≡◌, ℕ, ◌+◌, ◌⊎◌, Bool, true, OnOk, OnErr, IfOk, IfErr};
-    ghost use Rattle.raft_log_disk.specs.Disk.{Wrote, CutTo, GrewTo};
-    ghost use Rattle.raft_log_disk.specs.Calls.{Creates, Deletes, Renames, MakesDirectory, Changes, after_piece, flushed, with_marks, RefusedWhole, RefusedPiece};
-    ghost use Rattle.raft_log_files.specs.Arguments.{WrongCreate, WrongName, WrongRename, WrongDirectory, WrongHandle, WrongWriter};
+    ghost use Rattle.raft_log_disk.specs.Disk.{Wrote, ShortenedTo, GrewTo};
+    ghost use Rattle.raft_log_disk.specs.Calls.{Creates, Deletes, Renames, MakesDirectory, Changes, after_change, flushed, with_marks, RefusedWhole, RefusedChange};
+    ghost use Rattle.raft_log_disk.specs.Arguments.{WrongCreate, WrongName, WrongRename, WrongDirectory, WrongHandle, WrongWriter};
     ghost use Rattle.raft_log_memory_files.specs.Memory.{disk_of};
     ghost use Rattle.raft_log_memory_files.specs.Turns.{armed, armed_with, IsAnswered, IsRefusedWhole, IsRefusedChange};
 
@@ -102,9 +102,9 @@ impl FileSystem for MemoryFileSystem {
     }
 
     fn write_at(&mut self, handle: Handle, offset: usize, bytes: &[u8]) -> Result<(), ErrorKind>
-        ensures ok { OnOk result (Changes handle.file (after_piece (Wrote offset bytes.now)) (disk_of self.old) (disk_of self.new)) }
+        ensures ok { OnOk result (Changes handle.file (after_change (Wrote offset bytes.now)) (disk_of self.old) (disk_of self.new)) }
         ensures permitted { OnOk result (handle.permission ≡ Permission.ReadWrite) }
-        ensures err { IfErr result (λ error. RefusedPiece handle.file (Wrote offset bytes.now) (WrongWriter handle (disk_of self.old) error) (disk_of self.old) (disk_of self.new)) }
+        ensures err { IfErr result (λ error. RefusedChange handle.file (Wrote offset bytes.now) (WrongWriter handle (disk_of self.old) error) (disk_of self.old) (disk_of self.new)) }
         ensures turn { OnOk result (IsAnswered self.old self.new) }
         ensures cause { IfErr result (λ error. IsRefusedChange handle.file (Wrote offset bytes.now) (WrongWriter handle (disk_of self.old)) error self.old self.new) }
     {
@@ -115,11 +115,11 @@ impl FileSystem for MemoryFileSystem {
     }
 
     fn truncate(&mut self, handle: Handle, size: usize) -> Result<(), ErrorKind>
-        ensures ok { OnOk result (Changes handle.file (after_piece (CutTo size)) (disk_of self.old) (disk_of self.new)) }
+        ensures ok { OnOk result (Changes handle.file (after_change (ShortenedTo size)) (disk_of self.old) (disk_of self.new)) }
         ensures permitted { OnOk result (handle.permission ≡ Permission.ReadWrite) }
-        ensures err { IfErr result (λ error. RefusedPiece handle.file (CutTo size) (WrongWriter handle (disk_of self.old) error) (disk_of self.old) (disk_of self.new)) }
+        ensures err { IfErr result (λ error. RefusedChange handle.file (ShortenedTo size) (WrongWriter handle (disk_of self.old) error) (disk_of self.old) (disk_of self.new)) }
         ensures turn { OnOk result (IsAnswered self.old self.new) }
-        ensures cause { IfErr result (λ error. IsRefusedChange handle.file (CutTo size) (WrongWriter handle (disk_of self.old)) error self.old self.new) }
+        ensures cause { IfErr result (λ error. IsRefusedChange handle.file (ShortenedTo size) (WrongWriter handle (disk_of self.old)) error self.old self.new) }
     {
         self.check_writer(handle)?;
         let stops = self.begin_change()?;
@@ -128,9 +128,9 @@ impl FileSystem for MemoryFileSystem {
     }
 
     fn allocate(&mut self, handle: Handle, offset: usize, size: usize) -> Result<(), ErrorKind>
-        ensures ok { OnOk result (Changes handle.file (after_piece (GrewTo (offset + size))) (disk_of self.old) (disk_of self.new)) }
+        ensures ok { OnOk result (Changes handle.file (after_change (GrewTo (offset + size))) (disk_of self.old) (disk_of self.new)) }
         ensures permitted { OnOk result (handle.permission ≡ Permission.ReadWrite) }
-        ensures err { IfErr result (λ error. RefusedPiece handle.file (GrewTo (offset + size)) (WrongWriter handle (disk_of self.old) error) (disk_of self.old) (disk_of self.new)) }
+        ensures err { IfErr result (λ error. RefusedChange handle.file (GrewTo (offset + size)) (WrongWriter handle (disk_of self.old) error) (disk_of self.old) (disk_of self.new)) }
         ensures turn { OnOk result (IsAnswered self.old self.new) }
         ensures cause { IfErr result (λ error. IsRefusedChange handle.file (GrewTo (offset + size)) (WrongWriter handle (disk_of self.old)) error self.old self.new) }
     {

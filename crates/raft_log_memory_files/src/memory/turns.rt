@@ -4,7 +4,7 @@ ghost use Rattle.std.specs.List.{Contains};
 ghost use Rattle.raft_log_memory_files.specs.Turns.{nearer};
 
 use super::MemoryFileSystem;
-use raft_log_files::{Fault, Handle, Permission};
+use raft_log_disk::{Fault, Handle, Permission};
 use raft_log_memory_disk::Node;
 use std::alloc::AllocError;
 use std::io::ErrorKind;
@@ -12,7 +12,7 @@ use std::io::ErrorKind;
 impl MemoryFileSystem {
     ghost use Rattle.std.specs.Prelude.{◌≡◌, ◌⊎◌, ◌↔◌, true, false, None, OnOk, OnErr, IfErr, IsErr, IfOk, IsTrue};
     ghost use Rattle.raft_log_disk.specs.Calls.{counted, at_stop, Nothing};
-    ghost use Rattle.raft_log_files.specs.Arguments.{WrongHandle, WrongWriter, WrongListing};
+    ghost use Rattle.raft_log_disk.specs.Arguments.{WrongHandle, WrongWriter, WrongListing};
     ghost use Rattle.raft_log_memory_files.specs.Memory.{disk_of};
     ghost use Rattle.raft_log_memory_files.specs.Turns.{armed, armed_with, call_later, IsSpared, IsRefused, IsStopped};
 

@@ -1,6 +1,6 @@
 // A call doesn't cost what the file or the file system holds.
 use crate::{MemoryFileSystem, Remainder};
-use raft_log_files::{FileSystem, Permission};
+use raft_log_disk::{FileSystem, Permission};
 use std::test::Fail;
 
 // With copies of the whole file, or of all names, this would be some hundred gigabytes.

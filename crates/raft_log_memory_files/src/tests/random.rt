@@ -1,7 +1,7 @@
 // Random runs, each call's answer and the state after it compared with the model's.
 use super::model::{Edit, Model};
 use crate::{MemoryFileSystem, Piece, Remainder};
-use raft_log_files::{FileSystem, Handle, Permission};
+use raft_log_disk::{FileSystem, Handle, Permission};
 use std::alloc::Global;
 use std::io::ErrorKind;
 use std::process::Abort;

@@ -1,5 +1,5 @@
 use crate::{MemoryFileSystem, Piece, Remainder};
-use raft_log_files::{FileSystem, Handle, Permission};
+use raft_log_disk::{FileSystem, Handle, Permission};
 use std::io::ErrorKind;
 use std::test::Fail;
 

@@ -1,7 +1,7 @@
 // A call that finds no memory is refused as such and changes nothing; asked again, it is answered. Run it with each
 // allocation failing in turn.
 use crate::{MemoryFileSystem, Remainder};
-use raft_log_files::{FileSystem, Permission};
+use raft_log_disk::{FileSystem, Permission};
 use std::io::ErrorKind;
 use std::process::Abort;
 use std::test::Fail;

@@ -1,6 +1,6 @@
 use Rattle.std.proofs.Common.{subst, sym, take}
-use Rattle.raft_log_disk.proofs.KeptLaws.{kept_piece, kept_sync}
-use Rattle.raft_log_disk.specs.Disk.{CutTo}
+use Rattle.raft_log_disk.proofs.KeptLaws.{kept_change, kept_sync}
+use Rattle.raft_log_disk.specs.Disk.{ShortenedTo}
 use Rattle.raft_log_append_file.specs.Keeping.{IsKept, KeepsDurable}
 use Rattle.raft_log_append_file.proofs.OthersLaws.{touches_then, touches_piece, touches_sync}
 use Rattle.raft_log_append_file.proofs.KeepingLaws.{kept_calm, can_cut_kept, kept_cut, kept_settled, durable_calm, can_cut_read_keeps, read_cut_keeps, read_settled_keeps}
@@ -10,7 +10,7 @@ pub returns-in_err-truncate-clause-kept : goal.returns-in_err-truncate-clause-ke
 returns-in_err-truncate-clause-kept g c = λ durable pending count can.
     let D = g.F.FileSystem.disk in
     let id = c.args.handle.file in
-    kept_piece (IsKept id durable pending) _ c.truncate.result id (CutTo c.args.size) (kept_calm id durable pending) (can_cut_kept id c.args.size count durable pending (D c.args.file_system.now) can)
+    kept_change (IsKept id durable pending) _ c.truncate.result id (ShortenedTo c.args.size) (kept_calm id durable pending) (can_cut_kept id c.args.size count durable pending (D c.args.file_system.now) can)
     (λ file content is part. kept_cut id c.args.size count durable pending (D c.args.file_system.now) file content can is) c.truncate.ensures.ok c.truncate.ensures.err
 
 pub returns-clause-kept : goal.returns-clause-kept
@@ -31,7 +31,7 @@ returns-in_err-truncate-clause-durable g c = λ durable pending ws can.
     let id = c.args.handle.file in
     let size = c.args.size in
     let old = D c.args.file_system.now in
-    kept_piece (KeepsDurable id durable) _ c.truncate.result id (CutTo size) (durable_calm id durable) (can_cut_read_keeps id size durable pending ws old can)
+    kept_change (KeepsDurable id durable) _ c.truncate.result id (ShortenedTo size) (durable_calm id durable) (can_cut_read_keeps id size durable pending ws old can)
     (λ file content is part. read_cut_keeps id size durable pending ws old file content can is) c.truncate.ensures.ok c.truncate.ensures.err
 
 pub returns-clause-durable : goal.returns-clause-durable
@@ -47,11 +47,11 @@ returns-clause-durable g c = λ durable pending ws can.
     (λ file is. read_settled_keeps id size durable pending ws old mid file can cut is) c.sync.ensures.ok c.sync.ensures.err
 
 pub returns-in_err-truncate-clause-others : goal.returns-in_err-truncate-clause-others
-returns-in_err-truncate-clause-others g c = touches_piece _ c.truncate.result c.args.handle.file (CutTo c.args.size) c.truncate.ensures.ok c.truncate.ensures.err
+returns-in_err-truncate-clause-others g c = touches_piece _ c.truncate.result c.args.handle.file (ShortenedTo c.args.size) c.truncate.ensures.ok c.truncate.ensures.err
 
 pub returns-clause-others : goal.returns-clause-others
 returns-clause-others g c =
     let D = g.F.FileSystem.disk in
     let id = c.args.handle.file in
-    let cut = touches_piece _ c.truncate.result id (CutTo c.args.size) c.truncate.ensures.ok c.truncate.ensures.err in
+    let cut = touches_piece _ c.truncate.result id (ShortenedTo c.args.size) c.truncate.ensures.ok c.truncate.ensures.err in
     touches_then id (D c.args.file_system.now) (D c.truncate.new.self) (D c.sync.new.self) cut (touches_sync _ c.sync.result id c.sync.ensures.ok c.sync.ensures.err)

@@ -1,8 +1,8 @@
 use Rattle.std.proofs.Common.{◌+◌, ◌<◌, ◌++◌, ◌∷◌, [], false, refl, ap, ◌∙◌, length, take, inl, inr, arith, rules, ◌^◌}
 use Rattle.std.proofs.lemmas.Result.{err_from_is_err_and}
 use Rattle.raft_log_disk.specs.Disk.{Wrote}
-use Rattle.raft_log_disk.proofs.KeptLaws.{kept_piece}
-use Rattle.raft_log_disk.proofs.CauseLaws.{fails_piece, fails_still}
+use Rattle.raft_log_disk.proofs.KeptLaws.{kept_change}
+use Rattle.raft_log_disk.proofs.CauseLaws.{fails_change, fails_still}
 use Rattle.raft_log_disk.specs.Chains.{spelled}
 use Rattle.raft_log_append_file.specs.Frame.{framed}
 use Rattle.raft_log_append_file.specs.Keeping.{CanCut}
@@ -26,12 +26,12 @@ returns-in-Err-clause-err g c = λ bytes durable pending is_frame opened.
     let frame = c.args.frame.now in
     let id = log.handle.file in
     let more = pending ++ framed bytes ∷ [] in
-    let can = kept_piece (CanCut id log.written (length pending) durable more) _ c.write_at.result id (Wrote log.written frame) (cut_calm id log.written (length pending) durable more)
+    let can = kept_change (CanCut id log.written (length pending) durable more) _ c.write_at.result id (Wrote log.written frame) (cut_calm id log.written (length pending) durable more)
     (open_can_cut log durable pending bytes frame old opened is_frame) (λ file content is part. torn_can_cut log durable pending bytes frame old file content opened is_frame is part)
     c.write_at.ensures.ok c.write_at.ensures.err in
     let front = can.front ∙ ap spelled (front_records durable pending (framed bytes)) in
     let now = c.in_ok-cut_back.ensures.ok can.file can.is in (
-      fails_still old mid new (fails_piece (right_writer log durable pending old c.in-Err.kind opened) c.in-Err.ensures.err) c.cut_back.ensures.later,
+      fails_still old mid new (fails_change (right_writer log durable pending old c.in-Err.kind opened) c.in-Err.ensures.err) c.cut_back.ensures.later,
       inl (settled_open (record { handle = log.handle; written = log.written; failed = false }) (durable ++ pending) (take log.written can.file.content) new opened.holds.frames front now opened.permitted opened.written refl),
     )
 
@@ -47,10 +47,10 @@ returns-in_err-cut_back-clause-err g c =
     let frame = c.args.frame.now in
     let id = log.handle.file in
     let more = pending ++ framed bytes ∷ [] in
-    let can = kept_piece (CanCut id log.written (length pending) durable more) _ c.write_at.result id (Wrote log.written frame) (cut_calm id log.written (length pending) durable more)
+    let can = kept_change (CanCut id log.written (length pending) durable more) _ c.write_at.result id (Wrote log.written frame) (cut_calm id log.written (length pending) durable more)
     (open_can_cut log durable pending bytes frame old opened is_frame) (λ file content is part. torn_can_cut log durable pending bytes frame old file content opened is_frame is part)
     c.write_at.ensures.ok c.write_at.ensures.err in (
-      fails_still old mid new (fails_piece (right_writer log durable pending old c.in-Err.kind opened) c.in-Err.ensures.err) c.cut_back.ensures.later,
+      fails_still old mid new (fails_change (right_writer log durable pending old c.in-Err.kind opened) c.in-Err.ensures.err) c.cut_back.ensures.later,
       inr (refl, c.cut_back.ensures.kept durable more (length pending) can),
     )))
 

@@ -1,7 +1,7 @@
 use Rattle.std.proofs.Common.{refl, ap, sym, subst, ◌≡◌, ◌∙◌, List, Some}
 use Rattle.std.specs.Option.{option_map}
 use std.Path.{fun_ext}
-use Rattle.raft_log_disk.specs.Disk.{Piece}
+use Rattle.raft_log_disk.specs.Disk.{Change}
 use Rattle.raft_log_disk.specs.Calls.{flushed}
 use Rattle.raft_log_disk.specs.Image.{IsLeft}
 use Rattle.raft_log_disk.proofs.ImageLaws.{disk_ext}
@@ -31,7 +31,7 @@ returns-clause-ok c = λ file is.
     disk_ext _ _ refl refl
     (fun_ext (stepped id journal c.forget.new.journal.items (held_of c.args.self.now.files.items) (held_of c.flush_file.new.files.items) all_synced flushed
     c.in_ok-flush_file.ensures.ok
-    (λ h. ap (λ (ps : List Piece). file_at ps (all_synced h)) (ap (pieces_of id) kept ∙ own_dropped id journal))
+    (λ h. ap (λ (ps : List Change). file_at ps (all_synced h)) (ap (pieces_of id) kept ∙ own_dropped id journal))
     (λ q apart. ap (pieces_of q) kept ∙ others_kept id q apart journal)
     file is))
     c.flush_file.ensures.len refl refl refl

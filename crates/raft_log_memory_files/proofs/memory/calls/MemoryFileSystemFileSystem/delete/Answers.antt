@@ -1,6 +1,6 @@
 use Rattle.std.proofs.Common.{rules, refl, ap, ◌≡◌, Some}
 use Rattle.raft_log_disk.specs.Calls.{Deletes, RefusedWhole}
-use Rattle.raft_log_files.specs.Arguments.{WrongName}
+use Rattle.raft_log_disk.specs.Arguments.{WrongName}
 use Rattle.raft_log_memory_disk.specs.Storage.{node_at, file_named}
 use Rattle.raft_log_memory_files.specs.Memory.{disk_of}
 use Rattle.raft_log_memory_disk.specs.declared.storage.Node.TheVariants as node

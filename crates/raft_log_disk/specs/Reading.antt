@@ -4,9 +4,9 @@ use Rattle.std.specs.List.{Contains}
 use Rattle.std.specs.declared.io.ErrorKind.{ErrorKind}
 use Rattle.std.proofs.Common.{min, take, drop}
 use Rattle.raft_log_disk.specs.Disk.{File, Disk, IsPlain}
-use Rattle.raft_log_files.specs.declared.handle.Handle.{Handle}
-use Rattle.raft_log_files.specs.declared.handle.Permission.{Permission}
-use Rattle.raft_log_files.specs.Arguments.{WrongHandle}
+use Rattle.raft_log_disk.specs.declared.handle.Handle.{Handle}
+use Rattle.raft_log_disk.specs.declared.handle.Permission.{Permission}
+use Rattle.raft_log_disk.specs.Arguments.{WrongHandle}
 
 -- the handle is that of the file with the name
 pub record IsOpened (path : List ℕ) (permission : Permission) (handle : Handle) (d : Disk) : Type 0 where
@@ -15,7 +15,7 @@ pub record IsOpened (path : List ℕ) (permission : Permission) (handle : Handle
   pub permitted : handle.permission ≡ permission
 
 -- A read filled its room, up to the file's end, with the file's bytes from a place on; none of these is unreadable.
-pub record Reads (id at : ℕ) (d : Disk) (before after : List ℕ) (count : ℕ) : Type 0 where
+pub record FillsRoom (id at : ℕ) (d : Disk) (before after : List ℕ) (count : ℕ) : Type 0 where
   pub runs : d.stopped ≡ false
   pub file : File
   pub is : d.files id ≡ Some file

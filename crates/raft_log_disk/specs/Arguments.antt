@@ -3,8 +3,8 @@ use Rattle.std.specs.Prelude.{◌≡◌, ℕ, ◌⊎◌, true, false, None, List
 use Rattle.std.specs.declared.io.ErrorKind.{ErrorKind}
 use Rattle.std.specs.declared.io.ErrorKind.TheVariants.{NotFound, AlreadyExists, PermissionDenied, IsADirectory, InvalidInput, OutOfMemory}
 use Rattle.raft_log_disk.specs.Disk.{Disk, HasDirectory}
-use Rattle.raft_log_files.specs.declared.handle.Handle.{Handle}
-use Rattle.raft_log_files.specs.declared.handle.Permission.TheVariants.{ReadOnly}
+use Rattle.raft_log_disk.specs.declared.handle.Handle.{Handle}
+use Rattle.raft_log_disk.specs.declared.handle.Permission.TheVariants.{ReadOnly}
 
 -- a file or a directory has the path
 abbrev pub IsTaken : List ℕ → Disk → Type 0

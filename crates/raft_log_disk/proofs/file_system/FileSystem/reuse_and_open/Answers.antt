@@ -1,6 +1,6 @@
 use Rattle.std.proofs.Common.{inl}
 use Rattle.std.proofs.lemmas.Result.{err_from_is_err_and}
-use Rattle.raft_log_files.proofs.file_system.FileSystem.reuse_and_open.Goals as goal
+use Rattle.raft_log_disk.proofs.file_system.FileSystem.reuse_and_open.Goals as goal
 
 pub returns-in_err-reuse-clause-err : goal.returns-in_err-reuse-clause-err
 returns-in_err-reuse-clause-err g c =

@@ -1,10 +1,10 @@
 ghost use Rattle.std.specs.Prelude.{◌≡◌, ℕ, ◌+◌, ◌<◌, ◌⊎◌, Bool, true, length, IfOk, IfErr, OnOk, OnErr, map};
 ghost use Rattle.std.specs.String.{string_bytes};
-ghost use Rattle.raft_log_disk.specs.Disk.{Disk, Wrote, CutTo, GrewTo};
+ghost use Rattle.raft_log_disk.specs.Disk.{Disk, Wrote, ShortenedTo, GrewTo};
 ghost use Rattle.raft_log_disk.specs.Image.{IsSound};
-ghost use Rattle.raft_log_disk.specs.Calls.{Changes, Creates, Deletes, Renames, MakesDirectory, RefusedPiece, RefusedWhole, after_piece, flushed, with_marks};
-ghost use Rattle.raft_log_files.specs.Arguments.{WrongCreate, WrongName, WrongRename, WrongDirectory, WrongHandle, WrongWriter, WrongListing, IsDeclined};
-ghost use Rattle.raft_log_files.specs.Reading.{IsOpened, Reads, IsUnread, IsSize, IsListing};
+ghost use Rattle.raft_log_disk.specs.Calls.{Changes, Creates, Deletes, Renames, MakesDirectory, RefusedChange, RefusedWhole, after_change, flushed, with_marks};
+ghost use Rattle.raft_log_disk.specs.Arguments.{WrongCreate, WrongName, WrongRename, WrongDirectory, WrongHandle, WrongWriter, WrongListing, IsDeclined};
+ghost use Rattle.raft_log_disk.specs.Reading.{IsOpened, FillsRoom, IsUnread, IsSize, IsListing};
 
 use super::handle::{Fault, Handle, Permission};
 use std::io::ErrorKind;
@@ -74,23 +74,23 @@ pub trait FileSystem {
     /// Writes bytes into a file from an offset on; a gap behind the file's end is zeros. No bytes change nothing.
     /// `NotFound` where the file is gone, `PermissionDenied` for a handle that may only read.
     fn write_at(&mut self, handle: Handle, offset: usize, bytes: &[u8]) -> Result<(), ErrorKind>
-        ensures ok { OnOk result (Changes handle.file (after_piece (Wrote offset bytes.now)) (disk self.old) (disk self.new)) }
+        ensures ok { OnOk result (Changes handle.file (after_change (Wrote offset bytes.now)) (disk self.old) (disk self.new)) }
         ensures permitted { OnOk result (handle.permission ≡ Permission.ReadWrite) }
-        ensures err { IfErr result (λ error. RefusedPiece handle.file (Wrote offset bytes.now) (WrongWriter handle (disk self.old) error) (disk self.old) (disk self.new)) };
+        ensures err { IfErr result (λ error. RefusedChange handle.file (Wrote offset bytes.now) (WrongWriter handle (disk self.old) error) (disk self.old) (disk self.new)) };
 
     /// Cuts a file to a size, and never makes it longer. `NotFound` where the file is gone, `PermissionDenied` for a handle
     /// that may only read.
     fn truncate(&mut self, handle: Handle, size: usize) -> Result<(), ErrorKind>
-        ensures ok { OnOk result (Changes handle.file (after_piece (CutTo size)) (disk self.old) (disk self.new)) }
+        ensures ok { OnOk result (Changes handle.file (after_change (ShortenedTo size)) (disk self.old) (disk self.new)) }
         ensures permitted { OnOk result (handle.permission ≡ Permission.ReadWrite) }
-        ensures err { IfErr result (λ error. RefusedPiece handle.file (CutTo size) (WrongWriter handle (disk self.old) error) (disk self.old) (disk self.new)) };
+        ensures err { IfErr result (λ error. RefusedChange handle.file (ShortenedTo size) (WrongWriter handle (disk self.old) error) (disk self.old) (disk self.new)) };
 
     /// Grows a file with zeros until it has the bytes from an offset on that are asked for, and never makes it shorter.
     /// `NotFound` where the file is gone, `PermissionDenied` for a handle that may only read.
     fn allocate(&mut self, handle: Handle, offset: usize, size: usize) -> Result<(), ErrorKind>
-        ensures ok { OnOk result (Changes handle.file (after_piece (GrewTo (offset + size))) (disk self.old) (disk self.new)) }
+        ensures ok { OnOk result (Changes handle.file (after_change (GrewTo (offset + size))) (disk self.old) (disk self.new)) }
         ensures permitted { OnOk result (handle.permission ≡ Permission.ReadWrite) }
-        ensures err { IfErr result (λ error. RefusedPiece handle.file (GrewTo (offset + size)) (WrongWriter handle (disk self.old) error) (disk self.old) (disk self.new)) };
+        ensures err { IfErr result (λ error. RefusedChange handle.file (GrewTo (offset + size)) (WrongWriter handle (disk self.old) error) (disk self.old) (disk self.new)) };
 
     /// Makes a file's bytes durable: from then on a crash leaves them as they are. `NotFound` where the file is gone.
     fn sync(&mut self, handle: Handle) -> Result<(), ErrorKind>
@@ -118,10 +118,10 @@ pub trait FileSystem {
         ensures ok { OnOk result ((disk self.now).directories directory.now ≡ true) }
         ensures err { IfErr result (λ error. IsDeclined (WrongListing directory.now (disk self.now) error) (disk self.now) error) };
 
-    /// Reads bytes from an offset on until the room is full or the file ends, and answers how many. Refused where one of
+    /// FillsRoom bytes from an offset on until the room is full or the file ends, and answers how many. Refused where one of
     /// the places is unreadable; `NotFound` where the file is gone.
     fn read_at(&self, handle: Handle, offset: usize, room: &mut [u8]) -> Result<usize, ErrorKind>
-        ensures ok { IfOk result (λ count. Reads handle.file offset (disk self.now) room.old room.new count) }
+        ensures ok { IfOk result (λ count. FillsRoom handle.file offset (disk self.now) room.old room.new count) }
         ensures err { IfErr result (λ error. IsUnread handle offset (length room.old) (disk self.now) error) };
 
     /// The size of a file in bytes. `NotFound` where the file is gone.

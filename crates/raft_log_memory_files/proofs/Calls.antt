@@ -10,11 +10,11 @@ use Rattle.raft_log_disk.proofs.ImageLaws.{some_file}
 use Rattle.raft_log_disk.specs.declared.handle.Handle.{Handle}
 use Rattle.raft_log_disk.specs.declared.handle.Permission.TheVariants.{ReadWrite}
 use Rattle.raft_log_memory_files.specs.declared.memory.MemoryFileSystem.{MemoryFileSystem}
-use Rattle.raft_log_memory_storage.specs.declared.storage.Storage.{Storage}
+use Rattle.raft_log_memory_disk.specs.declared.storage.Storage.{Storage}
 use Rattle.raft_log_disk.specs.Arguments.{WrongCreate, WrongName, WrongRename, WrongDirectory, WrongHandle, WrongWriter}
 use Rattle.std.specs.Option.{option_map}
-use Rattle.raft_log_memory_storage.specs.Held.{Held, file_at}
-use Rattle.raft_log_memory_storage.specs.Storage.{contents_of}
+use Rattle.raft_log_memory_disk.specs.Held.{Held, file_at}
+use Rattle.raft_log_memory_disk.specs.Storage.{contents_of}
 use Rattle.raft_log_memory_files.specs.Memory.{disk_of}
 
 -- what holds of every error holds of this one

@@ -13,9 +13,9 @@ use Rattle.std.proofs.lemmas.List.{append_cancel_left}
 use Rattle.std.proofs.lemmas.Map.Text.{is_eq-slice_cmp}
 use Rattle.std.proofs.lemmas.Slice.Eq.{bytes_eq-Decides}
 use Rattle.raft_log_disk.specs.Disk.{Disk, IsPlain}
-use Rattle.raft_log_memory_storage.specs.declared.storage.Node.{Node}
-use Rattle.raft_log_memory_storage.specs.Storage.{file_named}
-use Rattle.raft_log_memory_storage.specs.Listing.{Names}
+use Rattle.raft_log_memory_disk.specs.declared.storage.Node.{Node}
+use Rattle.raft_log_memory_disk.specs.Storage.{file_named}
+use Rattle.raft_log_memory_disk.specs.Listing.{Names}
 use Rattle.raft_log_disk.specs.Reading.{IsListing}
 
 -- an entry of the map, by recursion

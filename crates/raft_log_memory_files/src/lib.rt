@@ -6,8 +6,8 @@
 pub mod memory;
 
 pub use memory::MemoryFileSystem;
-pub use raft_log_memory_storage::remainder;
-pub use raft_log_memory_storage::remainder::{Piece, Remainder};
+pub use raft_log_memory_disk::remainder;
+pub use raft_log_memory_disk::remainder::{Piece, Remainder};
 
 #[cfg(test)]
 mod tests;

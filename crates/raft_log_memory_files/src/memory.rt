@@ -3,9 +3,9 @@ mod calls;
 // Which calls fail.
 mod turns;
 
-ghost use Rattle.raft_log_memory_storage.specs.Storage.{IsWhole, IsWhole-prop};
+ghost use Rattle.raft_log_memory_disk.specs.Storage.{IsWhole, IsWhole-prop};
 
-use raft_log_memory_storage::{Remainder, Storage};
+use raft_log_memory_disk::{Remainder, Storage};
 use std::alloc::{AllocError, Global};
 
 /// A file system in memory, for tests and for simulated crashes. It has no directory at first.
@@ -23,7 +23,7 @@ pub struct MemoryFileSystem {
 impl MemoryFileSystem {
     ghost use Rattle.std.specs.Prelude.{◌≡◌, IfOk};
     ghost use Rattle.raft_log_disk.specs.Image.{IsImage};
-    ghost use Rattle.raft_log_memory_storage.specs.Remains.{left_disk};
+    ghost use Rattle.raft_log_memory_disk.specs.Remains.{left_disk};
     ghost use Rattle.raft_log_disk.specs.Disk.{empty_disk};
     ghost use Rattle.raft_log_memory_files.specs.Memory.{disk_of};
     ghost use Rattle.raft_log_memory_files.specs.Turns.{armed, nothing_armed};

@@ -1,6 +1,6 @@
 use super::MemoryFileSystem;
 use raft_log_disk::{Fault, FileSystem, Handle, Permission};
-use raft_log_memory_storage::Node;
+use raft_log_memory_disk::Node;
 use std::io::ErrorKind;
 
 impl FileSystem for MemoryFileSystem {

@@ -5,7 +5,7 @@ ghost use Rattle.raft_log_memory_files.specs.Turns.{nearer};
 
 use super::MemoryFileSystem;
 use raft_log_disk::{Fault, Handle, Permission};
-use raft_log_memory_storage::Node;
+use raft_log_memory_disk::Node;
 use std::alloc::AllocError;
 use std::io::ErrorKind;
 

@@ -2,7 +2,7 @@ use Rattle.std.proofs.Common.{◌∙◌, ◌+◌}
 use Rattle.raft_log_disk.specs.Disk.{GrewTo}
 use Rattle.raft_log_disk.specs.Calls.{after_change, RefusedChange}
 use Rattle.raft_log_disk.specs.Arguments.{WrongWriter}
-use Rattle.raft_log_memory_storage.specs.Storage.{contents_of}
+use Rattle.raft_log_memory_disk.specs.Storage.{contents_of}
 use Rattle.raft_log_memory_files.specs.Memory.{disk_of}
 use Rattle.raft_log_memory_files.proofs.Turns.{change_cause}
 use Rattle.raft_log_memory_files.proofs.Calls.{any_err, over, refused_piece, changed_or_not, change_ok, change_err, right_writer}

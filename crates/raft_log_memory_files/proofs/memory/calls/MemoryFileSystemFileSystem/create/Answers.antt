@@ -2,7 +2,7 @@ use Rattle.std.proofs.Common.{rules, refl, ap, ◌≡◌, ◌∙◌, None}
 use Rattle.raft_log_disk.specs.Disk.{HasDirectory}
 use Rattle.raft_log_disk.specs.Calls.{Creates, RefusedWhole}
 use Rattle.raft_log_disk.specs.Arguments.{WrongCreate}
-use Rattle.raft_log_memory_storage.specs.Storage.{contents_of, node_at, file_named, is_directory}
+use Rattle.raft_log_memory_disk.specs.Storage.{contents_of, node_at, file_named, is_directory}
 use Rattle.raft_log_memory_files.specs.Memory.{disk_of}
 use Rattle.raft_log_memory_files.proofs.Turns.{fallen}
 use Rattle.raft_log_memory_files.proofs.Calls.{any_err, over, refused_whole, right_create}

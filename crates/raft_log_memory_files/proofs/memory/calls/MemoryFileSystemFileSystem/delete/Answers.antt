@@ -1,9 +1,9 @@
 use Rattle.std.proofs.Common.{rules, refl, ap, ◌≡◌, Some}
 use Rattle.raft_log_disk.specs.Calls.{Deletes, RefusedWhole}
 use Rattle.raft_log_disk.specs.Arguments.{WrongName}
-use Rattle.raft_log_memory_storage.specs.Storage.{node_at, file_named}
+use Rattle.raft_log_memory_disk.specs.Storage.{node_at, file_named}
 use Rattle.raft_log_memory_files.specs.Memory.{disk_of}
-use Rattle.raft_log_memory_storage.specs.declared.storage.Node.TheVariants as node
+use Rattle.raft_log_memory_disk.specs.declared.storage.Node.TheVariants as node
 use Rattle.raft_log_memory_files.proofs.Turns.{fallen}
 use Rattle.raft_log_memory_files.proofs.Calls.{any_err, refused_whole, right_name}
 use Rattle.raft_log_memory_files.proofs.memory.calls.MemoryFileSystemFileSystem.delete.Goals as goal

@@ -1,7 +1,7 @@
 use Rattle.std.proofs.Common.{ap}
 use Rattle.std.specs.Option.{option_map}
-use Rattle.raft_log_memory_storage.specs.Held.{held_of, file_at}
-use Rattle.raft_log_memory_storage.specs.Pieces.{pieces_of}
+use Rattle.raft_log_memory_disk.specs.Held.{held_of, file_at}
+use Rattle.raft_log_memory_disk.specs.Pieces.{pieces_of}
 use Rattle.raft_log_memory_files.proofs.Calls.{held_there}
 use Rattle.raft_log_memory_files.proofs.memory.calls.MemoryFileSystemFileSystem.file_size.Goals as goal
 

@@ -2,9 +2,9 @@ use Rattle.std.proofs.Common.{rules, refl, ap, ◌≡◌, ◌∙◌, Some, false
 use Rattle.raft_log_disk.specs.Disk.{HasDirectory}
 use Rattle.raft_log_disk.specs.Calls.{Renames, RefusedWhole, renamed}
 use Rattle.raft_log_disk.specs.Arguments.{WrongRename}
-use Rattle.raft_log_memory_storage.specs.Storage.{contents_of, node_at, file_named, is_directory}
+use Rattle.raft_log_memory_disk.specs.Storage.{contents_of, node_at, file_named, is_directory}
 use Rattle.raft_log_memory_files.specs.Memory.{disk_of}
-use Rattle.raft_log_memory_storage.specs.declared.storage.Node.TheVariants as node
+use Rattle.raft_log_memory_disk.specs.declared.storage.Node.TheVariants as node
 use Rattle.raft_log_memory_files.proofs.Turns.{fallen}
 use Rattle.raft_log_memory_files.proofs.Calls.{any_err, over, refused_whole, right_rename}
 use Rattle.raft_log_memory_files.proofs.memory.calls.MemoryFileSystemFileSystem.rename.Goals as goal

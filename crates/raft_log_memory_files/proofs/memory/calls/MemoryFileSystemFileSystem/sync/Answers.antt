@@ -2,7 +2,7 @@ use Rattle.std.proofs.Common.{refl, ap, ◌∙◌, Some}
 use Rattle.raft_log_disk.specs.Disk.{Disk, with_file}
 use Rattle.raft_log_disk.specs.Calls.{Changes, RefusedWhole, flushed}
 use Rattle.raft_log_disk.specs.Arguments.{WrongHandle}
-use Rattle.raft_log_memory_storage.specs.Storage.{contents_of}
+use Rattle.raft_log_memory_disk.specs.Storage.{contents_of}
 use Rattle.raft_log_memory_files.specs.Memory.{disk_of}
 use Rattle.raft_log_memory_files.proofs.Turns.{fallen}
 use Rattle.raft_log_memory_files.proofs.Calls.{any_err, over, refused_whole, right_handle}

@@ -1,0 +1,21 @@
+-- Which names a directory's listing has.
+use Rattle.std.specs.Prelude.{◌≡◌, ℕ, ◌⊎◌, ◌++◌, List, [], ◌∷◌, Some, None}
+use Rattle.std.specs.declared.string.String.{String}
+use Rattle.std.specs.String.{string_bytes}
+use Rattle.std.proofs.Common.{Global}
+use Rattle.raft_log_disk.specs.Disk.{IsPlain}
+use Rattle.raft_log_memory_disk.specs.declared.storage.Node.{Node}
+use Rattle.raft_log_memory_disk.specs.Storage.{file_named}
+
+-- a file of the directory, and its name there
+pub record IsChild (directory path : List ℕ) (node : Node) (name : List ℕ) : Type 0 where
+  pub joined : path ≡ directory ++ 47 ∷ name
+  pub plain : IsPlain name
+  pub file : file_named (Some node) ≡ None → ⊥
+
+-- the names are those of the directory's files among the entries, in their order
+abbrev pub Names : List ℕ → List (String Global × Node) → List (List ℕ) → Type 0
+Names directory [] names = names ≡ []
+Names directory (e ∷ es) names =
+    ((name : List ℕ) × (rest : List (List ℕ)) × (names ≡ name ∷ rest) × IsChild directory (string_bytes e.0) e.1 name × Names directory es rest)
+    ⊎ (((name : List ℕ) → IsChild directory (string_bytes e.0) e.1 name → ⊥) × Names directory es names)

@@ -1,0 +1,32 @@
+-- The world of two empty queues.
+use Rattle.std.specs.Prelude.{[], false, None}
+use Rattle.raft_log_model.specs.Groups.{Map}
+use Rattle.raft_log_machine.specs.Queue.{Queue}
+use Rattle.raft_log_machine.specs.Table.{Table}
+use Rattle.raft_log_machine.specs.World.{World}
+
+abbrev pub empty_queue : {E V : Type 0} → Queue E V
+empty_queue = record { gone = []; live = []; pending = [] }
+
+-- the table of a group of which nothing was ever written
+abbrev pub empty_table : Table
+empty_table = record {
+  first = 0;
+  split = 0;
+  end = 0;
+  appended = λ k. false;
+  cleaned = false;
+  compacted = false;
+  deleted = λ k. false;
+}
+
+abbrev pub nothing_stands : {E V : Type 0} → Map E V
+nothing_stands g s = None
+
+abbrev pub fresh_world : {E V : Type 0} → World E V
+fresh_world = record {
+  store = record { rewrite = empty_queue; append = empty_queue };
+  map = nothing_stands;
+  tables = λ g. empty_table;
+  failed = false;
+}

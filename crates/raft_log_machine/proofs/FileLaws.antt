@@ -3,7 +3,7 @@ use Rattle.std.proofs.Common.{◌≡◌, ℕ, ◌+◌, ◌<◌, ◌≤◌, List,
 use Rattle.raft_log_model.specs.Item.{Record}
 use Rattle.raft_log_model.specs.Groups.{Map, directory_meaning}
 use Rattle.raft_log_machine.specs.Survival.{Survives}
-use Rattle.raft_log_machine.specs.Files.{File, FileQueue, records_of, span, NumberedFrom, AllBehind, IsNumbered, IsRead, queue_of, store_of, SurvivesOnDisk, FileEvent, FileStep, numbered_from}
+use Rattle.raft_log_machine.specs.Files.{File, FileQueue, records_of, span, NumberedFrom, AllBehind, IsNumbered, IsRead, queue_of, store_of, SurvivesInFiles, FileEvent, FileStep, numbered_from}
 use Rattle.raft_log_machine.specs.Files.FileEvent.{Grow, Sync, Rotate, Raise, Lose, Read}
 use Rattle.raft_log_machine.proofs.Starts.{cuts}
 
@@ -103,9 +103,9 @@ module _ {E V : Type 0} where
     ap records_of h.3 ∙ records_of-append h.1 (span q kept) ∙ ap (λ l. records_of h.1 ++ l) (span_records q kept),
   )
 
-  pub survives_on_disk : (n : ℕ) (r : FileQueue E V) (k : ℕ) (a : FileQueue E V) (m : Map E V) (batches : List (Record E V)) → IsNumbered n r → IsNumbered k a
-      → Survives (store_of r a) m batches → SurvivesOnDisk n r k a m batches
-  survives_on_disk n r k a m batches r_numbers a_numbers h r_kept r_lost a_kept a_lost r_image a_image =
+  pub survives_in_files : (n : ℕ) (r : FileQueue E V) (k : ℕ) (a : FileQueue E V) (m : Map E V) (batches : List (Record E V)) → IsNumbered n r → IsNumbered k a
+      → Survives (store_of r a) m batches → SurvivesInFiles n r k a m batches
+  survives_in_files n r k a m batches r_numbers a_numbers h r_kept r_lost a_kept a_lost r_image a_image =
       let cut = h r_kept r_lost a_kept a_lost r_image a_image in (
         cut.0,
         cut.1,

@@ -11,7 +11,7 @@ pub mod WorldWords
 pub mod WorldKeeps
 pub mod FreshKeeps
 pub mod FileLaws
-pub mod DiskLaws
+pub mod DirectoryLaws
 pub mod WrongRuleLaws
 pub mod PurgeLaws
 pub mod ReplayItems

@@ -30,8 +30,8 @@ records_of (f ∷ fs) = f.records ++ records_of fs
 abbrev pub span : {E V : Type 0} → FileQueue E V → List (Record E V) → List (File E V)
 span q kept = q.full ++ record { number = q.last; records = q.synced ++ kept } ∷ []
 
-abbrev pub on_disk : {E V : Type 0} → FileQueue E V → List (Record E V) → List (File E V)
-on_disk q kept = q.behind ++ (q.gone ++ span q kept)
+abbrev pub all_files : {E V : Type 0} → FileQueue E V → List (Record E V) → List (File E V)
+all_files q kept = q.behind ++ (q.gone ++ span q kept)
 
 -- the files have the numbers n, n + 1, ..
 abbrev pub NumberedFrom : {E V : Type 0} → ℕ → List (File E V) → Type 0
@@ -51,18 +51,18 @@ IsNumbered n q = NumberedFrom n (q.gone ++ span q []) × AllBehind n q.behind
 abbrev pub first_file : {E V : Type 0} → ℕ → FileQueue E V → ℕ
 first_file n q = n + length q.gone
 
--- Of the files on disk, where `first` is the first file of the span, a recovery may read these: those from some
+-- Of the files that are there, where `first` is the first file of the span, a recovery may read these: those from some
 -- place on, numbered without a gap from s on, where s is no higher than `first`
-pub record IsReadOf {E V : Type 0} (first : ℕ) (disk : List (File E V)) (s : ℕ) (files : List (File E V)) : Type 0 where
+pub record IsReadOf {E V : Type 0} (first : ℕ) (there : List (File E V)) (s : ℕ) (files : List (File E V)) : Type 0 where
   pub low : s ≤ first
   pub skipped : List (File E V)
-  pub rest : skipped ++ files ≡ disk
+  pub rest : skipped ++ files ≡ there
   pub numbered : NumberedFrom s files
   pub some : 0 < length files
 
 -- a recovery may read these files of an image that kept these of the unsynced records
 abbrev pub IsRead : {E V : Type 0} → ℕ → FileQueue E V → List (Record E V) → ℕ → List (File E V) → Type 0
-IsRead n q kept s files = IsReadOf (first_file n q) (on_disk q kept) s files
+IsRead n q kept s files = IsReadOf (first_file n q) (all_files q kept) s files
 
 -- the queue's records
 abbrev pub queue_of : {E V : Type 0} → FileQueue E V → Queue E V
@@ -74,9 +74,9 @@ store_of r a = record { rewrite = queue_of r; append = queue_of a }
 -- A crash takes back nothing but pending batches, told of the numbered files: whatever beginnings of the
 -- unsynced records an image has, there is ONE number of batches such that from every pair of starts that a
 -- recovery may take the directory means the map after that many of them
-abbrev pub SurvivesOnDisk : {E V : Type 0} → ℕ → FileQueue E V → ℕ → FileQueue E V → Map E V → List (Record E V)
+abbrev pub SurvivesInFiles : {E V : Type 0} → ℕ → FileQueue E V → ℕ → FileQueue E V → Map E V → List (Record E V)
     → Type 0
-SurvivesOnDisk {E} {V} n r k a m batches =
+SurvivesInFiles {E} {V} n r k a m batches =
     (r_kept r_lost a_kept a_lost : List (Record E V)) → r_kept ++ r_lost ≡ r.pending → a_kept ++ a_lost ≡ a.pending
     → (count : ℕ) × (count ≤ length batches) × ((s t : ℕ) (r_files a_files : List (File E V))
     → IsRead n r r_kept s r_files → IsRead k a a_kept t a_files

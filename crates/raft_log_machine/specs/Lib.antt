@@ -7,7 +7,7 @@ pub mod Recovery
 pub mod World
 pub mod Fresh
 pub mod Files
-pub mod Disk
+pub mod Directory
 pub mod WrongRules
 pub mod Purge
 pub mod Replay

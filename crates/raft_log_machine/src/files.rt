@@ -4,7 +4,7 @@
 ghost use Rattle.std.specs.Prelude.{◌≡◌, ℕ, ◌+◌, ◌∷◌, List, ◌++◌, []};
 ghost use Rattle.raft_log_model.specs.Groups.{Map};
 ghost use Rattle.raft_log_model.specs.Item.{Record};
-ghost use Rattle.raft_log_machine.specs.Disk.{fresh_disk, Disk, DiskEvent, DiskSteps, ReplaysOnDisk};
+ghost use Rattle.raft_log_machine.specs.Directory.{fresh_directory, Directory, DirectoryEvent, DirectorySteps, ReplaysInFiles};
 ghost use Rattle.raft_log_machine.specs.Files.{
   numbered_from,
   queue_of,
@@ -16,7 +16,7 @@ ghost use Rattle.raft_log_machine.specs.Files.{
   FileStep,
   IsNumbered,
   IsRead,
-  SurvivesOnDisk,
+  SurvivesInFiles,
 };
 ghost use Rattle.raft_log_machine.specs.Queue.{left, raised, reread, synced};
 ghost use Rattle.raft_log_machine.specs.Survival.{Survives};
@@ -31,10 +31,10 @@ pub fn reading_is_an_end<E, V>()
 {}
 
 /// What survives as records survives as numbered files, from every pair of files from which a recovery may read.
-pub fn records_survive_on_disk<E, V>()
+pub fn records_survive_in_files<E, V>()
     ensures { (n : ℕ) (r : FileQueue E V) (k : ℕ) (a : FileQueue E V) (m : Map E V) (batches : List (Record E V))
         → IsNumbered n r → IsNumbered k a
-        → Survives (store_of r a) m batches → SurvivesOnDisk n r k a m batches }
+        → Survives (store_of r a) m batches → SurvivesInFiles n r k a m batches }
 {}
 
 /// Numbers stay in order whatever happens to a queue's files, and the number from which they go on never falls:
@@ -88,15 +88,15 @@ pub fn reading_of_files<E, V>()
 
 /// Over every schedule of events and of changes of files, from two queues with an empty file 1 each, the
 /// directory survives as its map: from every pair of files from which a recovery may read.
-pub fn survives_on_disk_always<E, V>()
-    ensures { (events : List (DiskEvent E V)) (d : Disk E V) → DiskSteps fresh_disk events d
-        → SurvivesOnDisk d.rewrite_from d.rewrite d.append_from d.append d.world.map d.append.pending }
+pub fn survives_in_files_always<E, V>()
+    ensures { (events : List (DirectoryEvent E V)) (d : Directory E V) → DirectorySteps fresh_directory events d
+        → SurvivesInFiles d.rewrite_from d.rewrite d.append_from d.append d.world.map d.append.pending }
 {}
 
 /// Over every such schedule each reading gets through: whatever an image kept, from every file from which a
 /// recovery may read, numbers rise, no run leaves a hole in either queue, and Rewrite's atomic groups are
 /// unbroken.
-pub fn replays_on_disk_always<E, V>()
-    ensures { (events : List (DiskEvent E V)) (d : Disk E V) → DiskSteps fresh_disk events d
-        → ReplaysOnDisk d.rewrite_from d.rewrite d.append_from d.append }
+pub fn replays_in_files_always<E, V>()
+    ensures { (events : List (DirectoryEvent E V)) (d : Directory E V) → DirectorySteps fresh_directory events d
+        → ReplaysInFiles d.rewrite_from d.rewrite d.append_from d.append }
 {}

@@ -27,15 +27,15 @@ fn laws_of_machine() {
 #[test]
 fn laws_of_files() {
     files::reading_is_an_end::<u64, u64>();
-    files::records_survive_on_disk::<u64, u64>();
+    files::records_survive_in_files::<u64, u64>();
     files::numbers_stay_in_order::<u64, u64>();
     files::sync_of_files::<u64, u64>();
     files::rotation_of_files::<u64, u64>();
     files::rise_of_files::<u64, u64>();
     files::loss_of_files::<u64, u64>();
     files::reading_of_files::<u64, u64>();
-    files::survives_on_disk_always::<u64, u64>();
-    files::replays_on_disk_always::<u64, u64>();
+    files::survives_in_files_always::<u64, u64>();
+    files::replays_in_files_always::<u64, u64>();
 }
 
 #[test]

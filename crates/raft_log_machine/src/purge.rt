@@ -4,7 +4,7 @@ ghost use Rattle.std.specs.Prelude.{◌≡◌, ℕ, false, length, List, ◌++�
 ghost use Rattle.raft_log_model.specs.Groups.{directory_meaning, Map};
 ghost use Rattle.raft_log_model.specs.Meaning.{Slot};
 ghost use Rattle.raft_log_machine.specs.Files.FileEvent.{Raise};
-ghost use Rattle.raft_log_machine.specs.Files.{first_file, on_disk, queue_of, records_of, span, File, FileQueue, FileStep, IsReadOf, SurvivesOnDisk};
+ghost use Rattle.raft_log_machine.specs.Files.{first_file, all_files, queue_of, records_of, span, File, FileQueue, FileStep, IsReadOf, SurvivesInFiles};
 ghost use Rattle.raft_log_machine.specs.Purge.{meaning_there, AllOwn, IsRewritten, Reading};
 ghost use Rattle.raft_log_machine.specs.Queue.{raised, with_append};
 ghost use Rattle.raft_log_machine.specs.World.Event.{RaiseAppend};
@@ -34,11 +34,11 @@ pub fn full_rewrite_leaves_one_file<E, V>()
 /// from whatever start each of the two is read, both mean one map.
 pub fn fork_means_the_same<E, V>()
     ensures { (n : ℕ) (r : FileQueue E V) (k : ℕ) (a : FileQueue E V) (m : Map E V) → r.pending ≡ []
-        → a.pending ≡ [] → SurvivesOnDisk n r k a m []
+        → a.pending ≡ [] → SurvivesInFiles n r k a m []
         → (s t : ℕ) (r_files a_files r_copy a_copy : List (File E V))
-        → IsReadOf (first_file n r) (on_disk r []) s r_files → IsReadOf (first_file k a) (on_disk a []) t a_files
-        → (s' t' : ℕ) → IsReadOf (first_file n r) (on_disk r []) s' r_copy
-        → IsReadOf (first_file k a) (on_disk a []) t' a_copy
+        → IsReadOf (first_file n r) (all_files r []) s r_files → IsReadOf (first_file k a) (all_files a []) t a_files
+        → (s' t' : ℕ) → IsReadOf (first_file n r) (all_files r []) s' r_copy
+        → IsReadOf (first_file k a) (all_files a []) t' a_copy
         → (g : ℕ) (slot : Slot)
         → directory_meaning (records_of r_copy) (records_of a_copy) g slot
         ≡ directory_meaning (records_of r_files) (records_of a_files) g slot }

@@ -1,4 +1,4 @@
-use Rattle.raft_log_machine.proofs.DiskLaws.{raised_queue}
+use Rattle.raft_log_machine.proofs.DirectoryLaws.{raised_queue}
 use Rattle.raft_log_machine.proofs.files.rise_of_files.Goals as goal
 
 pub returns : goal.returns

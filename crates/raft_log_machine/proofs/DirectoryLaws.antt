@@ -4,9 +4,9 @@ use Rattle.raft_log_model.specs.Item.{Record}
 use Rattle.raft_log_machine.specs.Queue.{Queue, synced, raised, left, reread}
 use Rattle.raft_log_machine.specs.Survival.{Survives}
 use Rattle.raft_log_machine.specs.World.{Keeps}
-use Rattle.raft_log_machine.specs.Files.{File, FileQueue, records_of, IsNumbered, queue_of, store_of, SurvivesOnDisk, NumberedFrom}
-use Rattle.raft_log_machine.specs.Disk.{Disk, DiskEvent, DiskStep, DiskSteps, fresh_disk, IsRising, ReplaysOnDisk}
-use Rattle.raft_log_machine.proofs.FileLaws.{records_of-append, survives_on_disk, file_step_numbers, read_split, read_records}
+use Rattle.raft_log_machine.specs.Files.{File, FileQueue, records_of, IsNumbered, queue_of, store_of, SurvivesInFiles, NumberedFrom}
+use Rattle.raft_log_machine.specs.Directory.{Directory, DirectoryEvent, DirectoryStep, DirectorySteps, fresh_directory, IsRising, ReplaysInFiles}
+use Rattle.raft_log_machine.proofs.FileLaws.{records_of-append, survives_in_files, file_step_numbers, read_split, read_records}
 use Rattle.raft_log_machine.proofs.SurvivalSteps.{survives}
 use Rattle.raft_log_model.specs.Groups.{appended, rewritten}
 use Rattle.raft_log_model.specs.Holes.{nothing, NoHole}
@@ -18,15 +18,15 @@ use Rattle.raft_log_machine.proofs.FreshKeeps.{fresh_keeps}
 
 module _ {E V : Type 0} where
   -- the invariant of the machine on files
-  pub record DiskKeeps (d : Disk E V) : Type 0 where
+  pub record DirectoryKeeps (d : Directory E V) : Type 0 where
     pub world : Keeps d.world
     pub store : store_of d.rewrite d.append ≡ d.world.store
     pub rewrite : IsNumbered d.rewrite_from d.rewrite
     pub append : IsNumbered d.append_from d.append
     pub replay : KeepsReplay d.world
 
-  disk_step : (e : DiskEvent E V) (d n : Disk E V) → DiskStep e d n → DiskKeeps d → DiskKeeps n
-  disk_step e d n h k = record {
+  directory_step : (e : DirectoryEvent E V) (d n : Directory E V) → DirectoryStep e d n → DirectoryKeeps d → DirectoryKeeps n
+  directory_step e d n h k = record {
     world = step_keeps e.event d.world n.world h.step k.world;
     store = h.store;
     rewrite = subst (λ j. IsNumbered j n.rewrite) (sym h.rewrite_from) (file_step_numbers e.rewrite d.rewrite_from d.rewrite n.rewrite h.rewrite k.rewrite);
@@ -34,18 +34,18 @@ module _ {E V : Type 0} where
     replay = step_replays e.event d.world n.world h.step k.world k.replay;
   }
 
-  disk_steps : (es : List (DiskEvent E V)) (d n : Disk E V) → DiskSteps d es n → DiskKeeps d → DiskKeeps n
-  disk_steps [] d n h k = subst (λ x. DiskKeeps x) (sym h) k
-  disk_steps (e ∷ es) d n h k = disk_steps es h.0 n h.2 (disk_step e d h.0 h.1 k)
+  directory_steps : (es : List (DirectoryEvent E V)) (d n : Directory E V) → DirectorySteps d es n → DirectoryKeeps d → DirectoryKeeps n
+  directory_steps [] d n h k = subst (λ x. DirectoryKeeps x) (sym h) k
+  directory_steps (e ∷ es) d n h k = directory_steps es h.0 n h.2 (directory_step e d h.0 h.1 k)
 
-  fresh_disk_keeps : DiskKeeps fresh_disk
-  fresh_disk_keeps = record { world = fresh_keeps; store = refl; rewrite = ((refl, tt), tt); append = ((refl, tt), tt); replay = fresh_replays }
+  fresh_directory_keeps : DirectoryKeeps fresh_directory
+  fresh_directory_keeps = record { world = fresh_keeps; store = refl; rewrite = ((refl, tt), tt); append = ((refl, tt), tt); replay = fresh_replays }
 
-  pub schedule_survives_on_disk : (es : List (DiskEvent E V)) (d : Disk E V) → DiskSteps fresh_disk es d
-      → SurvivesOnDisk d.rewrite_from d.rewrite d.append_from d.append d.world.map d.append.pending
-  schedule_survives_on_disk es d h =
-      let k = disk_steps es fresh_disk d h fresh_disk_keeps in
-      survives_on_disk d.rewrite_from d.rewrite d.append_from d.append d.world.map d.append.pending k.rewrite k.append
+  pub schedule_survives_in_files : (es : List (DirectoryEvent E V)) (d : Directory E V) → DirectorySteps fresh_directory es d
+      → SurvivesInFiles d.rewrite_from d.rewrite d.append_from d.append d.world.map d.append.pending
+  schedule_survives_in_files es d h =
+      let k = directory_steps es fresh_directory d h fresh_directory_keeps in
+      survives_in_files d.rewrite_from d.rewrite d.append_from d.append d.world.map d.append.pending k.rewrite k.append
       (subst (λ q. Survives q d.world.map q.append.pending) (sym k.store) (survives d.world.store d.world.map k.world.holds))
 
   -- what changes of files are on the records
@@ -99,8 +99,8 @@ rising s (f ∷ []) h = tt
 rising s (f ∷ g ∷ fs) h = (let here : f.number ≡ s = h.0 in let next : g.number ≡ s + 1 = h.1.0 in omega arith, rising (s + 1) (g ∷ fs) h.1)
 
 module _ {E V : Type 0} where
-  pub replays_on_disk : (n : ℕ) (r : FileQueue E V) (k : ℕ) (a : FileQueue E V) → IsNumbered n r → IsNumbered k a → Replays (store_of r a) → ReplaysOnDisk n r k a
-  replays_on_disk n r k a r_numbers a_numbers h = record {
+  pub replays_in_files : (n : ℕ) (r : FileQueue E V) (k : ℕ) (a : FileQueue E V) → IsNumbered n r → IsNumbered k a → Replays (store_of r a) → ReplaysInFiles n r k a
+  replays_in_files n r k a r_numbers a_numbers h = record {
     append = λ kept lost image s files read.
         let of = read_records a kept files (read_split k a kept s files a_numbers read) in
         (rising s files read.numbered, λ g. subst (λ l. NoHole nothing (appended g l)) (sym of.3) (h.append g kept lost of.0 of.1 image of.2));
@@ -112,8 +112,8 @@ module _ {E V : Type 0} where
         );
   }
 
-  pub schedule_replays_on_disk : (es : List (DiskEvent E V)) (d : Disk E V) → DiskSteps fresh_disk es d → ReplaysOnDisk d.rewrite_from d.rewrite d.append_from d.append
-  schedule_replays_on_disk es d h =
-      let k = disk_steps es fresh_disk d h fresh_disk_keeps in
-      replays_on_disk d.rewrite_from d.rewrite d.append_from d.append k.rewrite k.append
+  pub schedule_replays_in_files : (es : List (DirectoryEvent E V)) (d : Directory E V) → DirectorySteps fresh_directory es d → ReplaysInFiles d.rewrite_from d.rewrite d.append_from d.append
+  schedule_replays_in_files es d h =
+      let k = directory_steps es fresh_directory d h fresh_directory_keeps in
+      replays_in_files d.rewrite_from d.rewrite d.append_from d.append k.rewrite k.append
       (subst (λ q. Replays q) (sym k.store) (replays d.world k.world k.replay))

@@ -9,7 +9,7 @@ use Rattle.raft_log_machine.specs.Fresh.{fresh_world}
 use Rattle.raft_log_machine.specs.Files.{File, FileQueue, FileEvent, FileStep, IsRead, records_of, numbered_from, store_of, fresh_files}
 
 -- a world, and the files of Rewrite and of Append, those that are not behind a gap numbered from these on
-pub record Disk (E V : Type 0) : Type 0 where
+pub record Directory (E V : Type 0) : Type 0 where
   pub world : World E V
   pub rewrite : FileQueue E V
   pub rewrite_from : ℕ
@@ -17,13 +17,13 @@ pub record Disk (E V : Type 0) : Type 0 where
   pub append_from : ℕ
 
 -- an event, and what happens at it to each queue's files
-pub record DiskEvent (E V : Type 0) : Type 0 where
+pub record DirectoryEvent (E V : Type 0) : Type 0 where
   pub event : Event E V
   pub rewrite : FileEvent E V
   pub append : FileEvent E V
 
 -- the event happens, the files change, and hold what the world says
-pub record DiskStep {E V : Type 0} (e : DiskEvent E V) (d n : Disk E V) : Type 0 where
+pub record DirectoryStep {E V : Type 0} (e : DirectoryEvent E V) (d n : Directory E V) : Type 0 where
   pub step : Step e.event d.world n.world
   pub rewrite : FileStep e.rewrite d.rewrite n.rewrite
   pub append : FileStep e.append d.append n.append
@@ -31,12 +31,12 @@ pub record DiskStep {E V : Type 0} (e : DiskEvent E V) (d n : Disk E V) : Type 0
   pub rewrite_from : n.rewrite_from ≡ numbered_from d.rewrite_from e.rewrite
   pub append_from : n.append_from ≡ numbered_from d.append_from e.append
 
-abbrev pub DiskSteps : {E V : Type 0} → Disk E V → List (DiskEvent E V) → Disk E V → Type 0
-DiskSteps d [] n = n ≡ d
-DiskSteps {E} {V} d (e ∷ es) n = (next : Disk E V) × DiskStep e d next × DiskSteps next es n
+abbrev pub DirectorySteps : {E V : Type 0} → Directory E V → List (DirectoryEvent E V) → Directory E V → Type 0
+DirectorySteps d [] n = n ≡ d
+DirectorySteps {E} {V} d (e ∷ es) n = (next : Directory E V) × DirectoryStep e d next × DirectorySteps next es n
 
-abbrev pub fresh_disk : {E V : Type 0} → Disk E V
-fresh_disk = record {
+abbrev pub fresh_directory : {E V : Type 0} → Directory E V
+fresh_directory = record {
   world = fresh_world;
   rewrite = fresh_files;
   rewrite_from = 1;
@@ -52,7 +52,7 @@ IsRising (f ∷ g ∷ fs) = (f.number < g.number) × IsRising (g ∷ fs)
 
 -- from every file from which a recovery may read, whatever the image kept of the unsynced records, the reading gets
 -- through: numbers rise, no run leaves a hole, and Rewrite's atomic groups are unbroken
-pub record ReplaysOnDisk {E V : Type 0} (n : ℕ) (r : FileQueue E V) (k : ℕ) (a : FileQueue E V) : Type 0 where
+pub record ReplaysInFiles {E V : Type 0} (n : ℕ) (r : FileQueue E V) (k : ℕ) (a : FileQueue E V) : Type 0 where
   pub append : (kept lost : List (Record E V)) → kept ++ lost ≡ a.pending → (s : ℕ) (files : List (File E V))
       → IsRead k a kept s files → IsRising files × ((g : ℕ) → NoHole nothing (appended g (records_of files)))
   pub rewrite : (kept lost : List (Record E V)) → kept ++ lost ≡ r.pending → (s : ℕ) (files : List (File E V))

@@ -4,7 +4,7 @@ use Rattle.raft_log_model.specs.Item.{Record}
 use Rattle.raft_log_machine.specs.Queue.{Queue, synced, raised, left, reread}
 use Rattle.raft_log_machine.specs.Survival.{Survives}
 use Rattle.raft_log_machine.specs.World.{Keeps}
-use Rattle.raft_log_machine.specs.Files.{File, FileQueue, records_of, IsNumbered, queue_of, store_of, SurvivesInFiles, NumberedFrom}
+use Rattle.raft_log_machine.specs.Files.{LogFile, FileQueue, records_of, IsNumbered, queue_of, store_of, SurvivesInFiles, NumberedFrom}
 use Rattle.raft_log_machine.specs.Directory.{Directory, DirectoryEvent, DirectoryStep, DirectorySteps, fresh_directory, IsRising, ReplaysInFiles}
 use Rattle.raft_log_machine.proofs.FileLaws.{records_of-append, survives_in_files, file_step_numbers, read_split, read_records}
 use Rattle.raft_log_machine.proofs.SurvivalSteps.{survives}
@@ -63,7 +63,7 @@ module _ {E V : Type 0} where
       queue : List (Record E V) → Queue E V
       queue l = record { gone = records_of q.gone; live = l; pending = [] }
 
-  pub raised_queue : (q : FileQueue E V) (out stay : List (File E V)) → out ++ stay ≡ q.full
+  pub raised_queue : (q : FileQueue E V) (out stay : List (LogFile E V)) → out ++ stay ≡ q.full
       → (queue_of (record q { gone = q.gone ++ out; full = stay }) ≡ raised (queue_of q) (records_of out) (records_of stay ++ q.synced))
       × (records_of out ++ (records_of stay ++ q.synced) ≡ (queue_of q).live)
   raised_queue q out stay e = (
@@ -74,13 +74,13 @@ module _ {E V : Type 0} where
       queue : List (Record E V) → Queue E V
       queue l = record { gone = l; live = records_of stay ++ q.synced; pending = q.pending }
 
-  pub lost_queue : (q : FileQueue E V) (before : List (File E V)) (file : File E V) (rest : List (File E V)) → before ++ file ∷ rest ≡ q.gone
+  pub lost_queue : (q : FileQueue E V) (before : List (LogFile E V)) (file : LogFile E V) (rest : List (LogFile E V)) → before ++ file ∷ rest ≡ q.gone
       → (queue_of (record q { behind = q.behind ++ before; gone = rest }) ≡ left (queue_of q) (records_of rest))
       × ((records_of before ++ file.records) ++ records_of rest ≡ (queue_of q).gone)
   lost_queue q before file rest e =
       (refl, append_assoc (records_of before) file.records (records_of rest) ∙ sym (records_of-append before (file ∷ rest)) ∙ ap records_of e)
 
-  pub read_queue : (q : FileQueue E V) (below again : List (File E V)) (kept : List (Record E V)) → below ++ again ≡ q.gone
+  pub read_queue : (q : FileQueue E V) (below again : List (LogFile E V)) (kept : List (Record E V)) → below ++ again ≡ q.gone
       → (queue_of (record q { gone = below; full = again ++ q.full; synced = q.synced ++ kept; pending = [] })
       ≡ reread (queue_of q) (records_of below) (records_of again) kept)
       × (records_of below ++ records_of again ≡ (queue_of q).gone)
@@ -93,7 +93,7 @@ module _ {E V : Type 0} where
       queue : List (Record E V) → Queue E V
       queue l = record { gone = records_of below; live = l; pending = [] }
 
-rising : {E V : Type 0} (s : ℕ) (files : List (File E V)) → NumberedFrom s files → IsRising files
+rising : {E V : Type 0} (s : ℕ) (files : List (LogFile E V)) → NumberedFrom s files → IsRising files
 rising s [] h = tt
 rising s (f ∷ []) h = tt
 rising s (f ∷ g ∷ fs) h = (let here : f.number ≡ s = h.0 in let next : g.number ≡ s + 1 = h.1.0 in omega arith, rising (s + 1) (g ∷ fs) h.1)

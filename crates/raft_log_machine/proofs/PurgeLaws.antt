@@ -5,7 +5,7 @@ use Rattle.raft_log_model.specs.Groups.{Map, directory_meaning, taken}
 use Rattle.raft_log_machine.specs.Queue.{raised, with_append}
 use Rattle.raft_log_machine.specs.World.{World, Event, Step, Steps, Keeps}
 use Rattle.raft_log_machine.specs.World.Event.{Take, SyncAppend, SyncRewrite, WritePlain, WriteBegin, WriteMiddle, WriteEnd, RaiseAppend, RaiseRewrite, LoseAppend, LoseRewrite, Fail, Reopen}
-use Rattle.raft_log_machine.specs.Files.{File, FileQueue, records_of, span, all_files, first_file, IsReadOf, queue_of, SurvivesInFiles, FileStep}
+use Rattle.raft_log_machine.specs.Files.{LogFile, FileQueue, records_of, span, all_files, first_file, IsReadOf, queue_of, SurvivesInFiles, FileStep}
 use Rattle.raft_log_machine.specs.Files.FileEvent.{Raise}
 use Rattle.raft_log_machine.specs.Purge.{IsOwn, AllOwn, Reading, meaning_there, IsRewritten}
 use Rattle.raft_log_machine.proofs.BookCarries.{differ}
@@ -67,7 +67,7 @@ module _ {E V : Type 0} where
   )
 
   pub fork_same : (n : ℕ) (r : FileQueue E V) (k : ℕ) (a : FileQueue E V) (m : Map E V) → r.pending ≡ [] → a.pending ≡ [] → SurvivesInFiles n r k a m []
-      → (s t : ℕ) (r_files a_files r_copy a_copy : List (File E V)) → IsReadOf (first_file n r) (all_files r []) s r_files → IsReadOf (first_file k a) (all_files a []) t a_files
+      → (s t : ℕ) (r_files a_files r_copy a_copy : List (LogFile E V)) → IsReadOf (first_file n r) (all_files r []) s r_files → IsReadOf (first_file k a) (all_files a []) t a_files
       → (s' t' : ℕ) → IsReadOf (first_file n r) (all_files r []) s' r_copy → IsReadOf (first_file k a) (all_files a []) t' a_copy
       → (g : ℕ) (slot : Slot) → directory_meaning (records_of r_copy) (records_of a_copy) g slot ≡ directory_meaning (records_of r_files) (records_of a_files) g slot
   fork_same n r k a m r_closed a_closed h s t r_files a_files r_copy a_copy r_read a_read s' t' r_read' a_read' g slot =

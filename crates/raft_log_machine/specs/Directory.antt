@@ -6,7 +6,7 @@ use Rattle.raft_log_model.specs.Holes.{nothing, NoHole}
 use Rattle.raft_log_machine.specs.Unbroken.{IsUnbroken}
 use Rattle.raft_log_machine.specs.World.{World, Event, Step}
 use Rattle.raft_log_machine.specs.Fresh.{fresh_world}
-use Rattle.raft_log_machine.specs.Files.{File, FileQueue, FileEvent, FileStep, IsRead, records_of, numbered_from, store_of, fresh_files}
+use Rattle.raft_log_machine.specs.Files.{LogFile, FileQueue, FileEvent, FileStep, IsRead, records_of, numbered_from, store_of, fresh_files}
 
 -- a world, and the files of Rewrite and of Append, those that are not behind a gap numbered from these on
 pub record Directory (E V : Type 0) : Type 0 where
@@ -45,7 +45,7 @@ fresh_directory = record {
 }
 
 -- the files' numbers rise
-abbrev pub IsRising : {E V : Type 0} → List (File E V) → Type 0
+abbrev pub IsRising : {E V : Type 0} → List (LogFile E V) → Type 0
 IsRising [] = Unit {0}
 IsRising (f ∷ []) = Unit {0}
 IsRising (f ∷ g ∷ fs) = (f.number < g.number) × IsRising (g ∷ fs)
@@ -53,8 +53,8 @@ IsRising (f ∷ g ∷ fs) = (f.number < g.number) × IsRising (g ∷ fs)
 -- from every file from which a recovery may read, whatever the image kept of the unsynced records, the reading gets
 -- through: numbers rise, no run leaves a hole, and Rewrite's atomic groups are unbroken
 pub record ReplaysInFiles {E V : Type 0} (n : ℕ) (r : FileQueue E V) (k : ℕ) (a : FileQueue E V) : Type 0 where
-  pub append : (kept lost : List (Record E V)) → kept ++ lost ≡ a.pending → (s : ℕ) (files : List (File E V))
+  pub append : (kept lost : List (Record E V)) → kept ++ lost ≡ a.pending → (s : ℕ) (files : List (LogFile E V))
       → IsRead k a kept s files → IsRising files × ((g : ℕ) → NoHole nothing (appended g (records_of files)))
-  pub rewrite : (kept lost : List (Record E V)) → kept ++ lost ≡ r.pending → (s : ℕ) (files : List (File E V))
+  pub rewrite : (kept lost : List (Record E V)) → kept ++ lost ≡ r.pending → (s : ℕ) (files : List (LogFile E V))
       → IsRead n r kept s files
       → IsRising files × IsUnbroken (records_of files) × ((g : ℕ) → NoHole nothing (rewritten g (records_of files)))

@@ -6,40 +6,40 @@ use Rattle.raft_log_model.specs.Groups.{Map, directory_meaning, taken}
 use Rattle.raft_log_machine.specs.Queue.{Queue, Store}
 
 -- a file: its number, and its records
-pub record File (E V : Type 0) : Type 0 where
+pub record LogFile (E V : Type 0) : Type 0 where
   pub number : ℕ
   pub records : List (Record E V)
 
 -- the files of a queue, oldest first
 pub record FileQueue (E V : Type 0) : Type 0 where
   -- left behind a gap: nothing reads them again
-  pub behind : List (File E V)
+  pub behind : List (LogFile E V)
   -- below the span and still on disk without a gap, as recycled ones are
-  pub gone : List (File E V)
+  pub gone : List (LogFile E V)
   -- the span: its files but the last one, and the last one's number, synced records and unsynced records
-  pub full : List (File E V)
+  pub full : List (LogFile E V)
   pub last : ℕ
   pub synced : List (Record E V)
   pub pending : List (Record E V)
 
-abbrev pub records_of : {E V : Type 0} → List (File E V) → List (Record E V)
+abbrev pub records_of : {E V : Type 0} → List (LogFile E V) → List (Record E V)
 records_of [] = []
 records_of (f ∷ fs) = f.records ++ records_of fs
 
 -- the files of the span in an image that kept these of the unsynced records
-abbrev pub span : {E V : Type 0} → FileQueue E V → List (Record E V) → List (File E V)
+abbrev pub span : {E V : Type 0} → FileQueue E V → List (Record E V) → List (LogFile E V)
 span q kept = q.full ++ record { number = q.last; records = q.synced ++ kept } ∷ []
 
-abbrev pub all_files : {E V : Type 0} → FileQueue E V → List (Record E V) → List (File E V)
+abbrev pub all_files : {E V : Type 0} → FileQueue E V → List (Record E V) → List (LogFile E V)
 all_files q kept = q.behind ++ (q.gone ++ span q kept)
 
 -- the files have the numbers n, n + 1, ..
-abbrev pub NumberedFrom : {E V : Type 0} → ℕ → List (File E V) → Type 0
+abbrev pub NumberedFrom : {E V : Type 0} → ℕ → List (LogFile E V) → Type 0
 NumberedFrom n [] = Unit {0}
 NumberedFrom n (f ∷ fs) = (f.number ≡ n) × NumberedFrom (n + 1) fs
 
 -- the files lie below n, with a gap to it
-abbrev pub AllBehind : {E V : Type 0} → ℕ → List (File E V) → Type 0
+abbrev pub AllBehind : {E V : Type 0} → ℕ → List (LogFile E V) → Type 0
 AllBehind n [] = Unit {0}
 AllBehind n (f ∷ fs) = (f.number + 1 < n) × AllBehind n fs
 
@@ -53,15 +53,15 @@ first_file n q = n + length q.gone
 
 -- Of the files that are there, where `first` is the first file of the span, a recovery may read these: those from some
 -- place on, numbered without a gap from s on, where s is no higher than `first`
-pub record IsReadOf {E V : Type 0} (first : ℕ) (there : List (File E V)) (s : ℕ) (files : List (File E V)) : Type 0 where
+pub record IsReadOf {E V : Type 0} (first : ℕ) (there : List (LogFile E V)) (s : ℕ) (files : List (LogFile E V)) : Type 0 where
   pub low : s ≤ first
-  pub skipped : List (File E V)
+  pub skipped : List (LogFile E V)
   pub rest : skipped ++ files ≡ there
   pub numbered : NumberedFrom s files
   pub some : 0 < length files
 
 -- a recovery may read these files of an image that kept these of the unsynced records
-abbrev pub IsRead : {E V : Type 0} → ℕ → FileQueue E V → List (Record E V) → ℕ → List (File E V) → Type 0
+abbrev pub IsRead : {E V : Type 0} → ℕ → FileQueue E V → List (Record E V) → ℕ → List (LogFile E V) → Type 0
 IsRead n q kept s files = IsReadOf (first_file n q) (all_files q kept) s files
 
 -- the queue's records
@@ -78,7 +78,7 @@ abbrev pub SurvivesInFiles : {E V : Type 0} → ℕ → FileQueue E V → ℕ �
     → Type 0
 SurvivesInFiles {E} {V} n r k a m batches =
     (r_kept r_lost a_kept a_lost : List (Record E V)) → r_kept ++ r_lost ≡ r.pending → a_kept ++ a_lost ≡ a.pending
-    → (count : ℕ) × (count ≤ length batches) × ((s t : ℕ) (r_files a_files : List (File E V))
+    → (count : ℕ) × (count ≤ length batches) × ((s t : ℕ) (r_files a_files : List (LogFile E V))
     → IsRead n r r_kept s r_files → IsRead k a a_kept t a_files
     → (g : ℕ) (slot : Slot) → directory_meaning (records_of r_files) (records_of a_files) g slot
     ≡ taken m (take count batches) g slot)
@@ -92,12 +92,12 @@ pub data FileEvent (E V : Type 0) : Type 0 where
   -- the last file is synced, and a new one, of the next number, becomes the last
   Rotate : FileEvent E V
   -- the span begins later: the first files leave it, the others stay
-  Raise : (out stay : List (File E V)) → FileEvent E V
+  Raise : (out stay : List (LogFile E V)) → FileEvent E V
   -- a file below the span is deleted or renamed: it was in the middle of those that could be read, and what
   -- lies before it is behind a gap from now on
-  Lose : (before : List (File E V)) (file : File E V) (rest : List (File E V)) → FileEvent E V
+  Lose : (before : List (LogFile E V)) (file : LogFile E V) (rest : List (LogFile E V)) → FileEvent E V
   -- an image that kept these of the unsynced records is read: some of the gone files, and the span
-  Read : (below again : List (File E V)) (kept : List (Record E V)) → FileEvent E V
+  Read : (below again : List (LogFile E V)) (kept : List (Record E V)) → FileEvent E V
 
 -- what each asks, and the files p that come of q
 abbrev pub FileStep : {E V : Type 0} → FileEvent E V → FileQueue E V → FileQueue E V → Type 0

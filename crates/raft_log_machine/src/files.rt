@@ -10,7 +10,7 @@ ghost use Rattle.raft_log_machine.specs.Files.{
   queue_of,
   records_of,
   store_of,
-  File,
+  LogFile,
   FileEvent,
   FileQueue,
   FileStep,
@@ -24,7 +24,7 @@ ghost use Rattle.raft_log_machine.specs.Survival.{Survives};
 /// From whatever file at or below the first of the span a recovery reads, as long as no number is missing: its
 /// records are an end of the gone ones, then all of the span. What lies behind a gap is never read.
 pub fn reading_is_an_end<E, V>()
-    ensures { (n : ℕ) (q : FileQueue E V) (kept : List (Record E V)) (s : ℕ) (files : List (File E V))
+    ensures { (n : ℕ) (q : FileQueue E V) (kept : List (Record E V)) (s : ℕ) (files : List (LogFile E V))
         → IsNumbered n q → IsRead n q kept s files
         → (cut back : List (Record E V)) × (cut ++ back ≡ (queue_of q).gone)
         × (records_of files ≡ back ++ ((queue_of q).live ++ kept)) }
@@ -64,7 +64,7 @@ pub fn rotation_of_files<E, V>()
 
 /// Where the first files leave the span, their records do.
 pub fn rise_of_files<E, V>()
-    ensures { (q : FileQueue E V) (out stay : List (File E V)) → out ++ stay ≡ q.full
+    ensures { (q : FileQueue E V) (out stay : List (LogFile E V)) → out ++ stay ≡ q.full
         → (queue_of (record q { gone = q.gone ++ out; full = stay })
         ≡ raised (queue_of q) (records_of out) (records_of stay ++ q.synced))
         × (records_of out ++ (records_of stay ++ q.synced) ≡ (queue_of q).live) }
@@ -72,7 +72,7 @@ pub fn rise_of_files<E, V>()
 
 /// Where a gone file is deleted or renamed, its records and all before them are lost, whichever gone file it is.
 pub fn loss_of_files<E, V>()
-    ensures { (q : FileQueue E V) (before : List (File E V)) (file : File E V) (rest : List (File E V))
+    ensures { (q : FileQueue E V) (before : List (LogFile E V)) (file : LogFile E V) (rest : List (LogFile E V))
         → before ++ file ∷ rest ≡ q.gone
         → (queue_of (record q { behind = q.behind ++ before; gone = rest }) ≡ left (queue_of q) (records_of rest))
         × ((records_of before ++ file.records) ++ records_of rest ≡ (queue_of q).gone) }
@@ -80,7 +80,7 @@ pub fn loss_of_files<E, V>()
 
 /// What an open reads of an image and syncs is, on the records, the reading of an image from a start.
 pub fn reading_of_files<E, V>()
-    ensures { (q : FileQueue E V) (below again : List (File E V)) (kept : List (Record E V)) → below ++ again ≡ q.gone
+    ensures { (q : FileQueue E V) (below again : List (LogFile E V)) (kept : List (Record E V)) → below ++ again ≡ q.gone
         → (queue_of (record q { gone = below; full = again ++ q.full; synced = q.synced ++ kept; pending = [] })
         ≡ reread (queue_of q) (records_of below) (records_of again) kept)
         × (records_of below ++ records_of again ≡ (queue_of q).gone) }

@@ -4,7 +4,7 @@ ghost use Rattle.std.specs.Prelude.{◌≡◌, ℕ, false, length, List, ◌++�
 ghost use Rattle.raft_log_model.specs.Groups.{directory_meaning, Map};
 ghost use Rattle.raft_log_model.specs.Meaning.{Slot};
 ghost use Rattle.raft_log_machine.specs.Files.FileEvent.{Raise};
-ghost use Rattle.raft_log_machine.specs.Files.{first_file, all_files, queue_of, records_of, span, File, FileQueue, FileStep, IsReadOf, SurvivesInFiles};
+ghost use Rattle.raft_log_machine.specs.Files.{first_file, all_files, queue_of, records_of, span, LogFile, FileQueue, FileStep, IsReadOf, SurvivesInFiles};
 ghost use Rattle.raft_log_machine.specs.Purge.{meaning_there, AllOwn, IsRewritten, Reading};
 ghost use Rattle.raft_log_machine.specs.Queue.{raised, with_append};
 ghost use Rattle.raft_log_machine.specs.World.Event.{RaiseAppend};
@@ -35,7 +35,7 @@ pub fn full_rewrite_leaves_one_file<E, V>()
 pub fn fork_means_the_same<E, V>()
     ensures { (n : ℕ) (r : FileQueue E V) (k : ℕ) (a : FileQueue E V) (m : Map E V) → r.pending ≡ []
         → a.pending ≡ [] → SurvivesInFiles n r k a m []
-        → (s t : ℕ) (r_files a_files r_copy a_copy : List (File E V))
+        → (s t : ℕ) (r_files a_files r_copy a_copy : List (LogFile E V))
         → IsReadOf (first_file n r) (all_files r []) s r_files → IsReadOf (first_file k a) (all_files a []) t a_files
         → (s' t' : ℕ) → IsReadOf (first_file n r) (all_files r []) s' r_copy
         → IsReadOf (first_file k a) (all_files a []) t' a_copy

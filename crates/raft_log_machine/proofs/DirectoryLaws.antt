@@ -3,7 +3,7 @@ use Rattle.std.proofs.Common.{ℕ, ◌≡◌, ◌+◌, List, [], ◌∷◌, ◌+
 use Rattle.raft_log_model.specs.Item.{Record}
 use Rattle.raft_log_machine.specs.Queue.{Queue, synced, raised, left, reread}
 use Rattle.raft_log_machine.specs.Survival.{Survives}
-use Rattle.raft_log_machine.specs.World.{Keeps}
+use Rattle.raft_log_machine.specs.Machine.{Keeps}
 use Rattle.raft_log_machine.specs.Files.{LogFile, FileQueue, records_of, IsNumbered, queue_of, store_of, SurvivesInFiles, NumberedFrom}
 use Rattle.raft_log_machine.specs.Directory.{Directory, DirectoryEvent, DirectoryStep, DirectorySteps, fresh_directory, IsRising, ReplaysInFiles}
 use Rattle.raft_log_machine.proofs.FileLaws.{records_of-append, survives_in_files, file_step_numbers, read_split, read_records}
@@ -12,26 +12,26 @@ use Rattle.raft_log_model.specs.Groups.{appended, rewritten}
 use Rattle.raft_log_model.specs.Holes.{nothing, NoHole}
 use Rattle.raft_log_machine.specs.Unbroken.{IsUnbroken}
 use Rattle.raft_log_machine.specs.Replay.{Replays, KeepsReplay}
-use Rattle.raft_log_machine.proofs.WorldKeeps.{step_keeps}
+use Rattle.raft_log_machine.proofs.MachineKeeps.{step_keeps}
 use Rattle.raft_log_machine.proofs.ReplayLaws.{replays, step_replays, fresh_replays}
 use Rattle.raft_log_machine.proofs.FreshKeeps.{fresh_keeps}
 
 module _ {E V : Type 0} where
   -- the invariant of the machine on files
   pub record DirectoryKeeps (d : Directory E V) : Type 0 where
-    pub world : Keeps d.world
-    pub store : store_of d.rewrite d.append ≡ d.world.store
+    pub machine : Keeps d.machine
+    pub store : store_of d.rewrite d.append ≡ d.machine.store
     pub rewrite : IsNumbered d.rewrite_from d.rewrite
     pub append : IsNumbered d.append_from d.append
-    pub replay : KeepsReplay d.world
+    pub replay : KeepsReplay d.machine
 
   directory_step : (e : DirectoryEvent E V) (d n : Directory E V) → DirectoryStep e d n → DirectoryKeeps d → DirectoryKeeps n
   directory_step e d n h k = record {
-    world = step_keeps e.event d.world n.world h.step k.world;
+    machine = step_keeps e.event d.machine n.machine h.step k.machine;
     store = h.store;
     rewrite = subst (λ j. IsNumbered j n.rewrite) (sym h.rewrite_from) (file_step_numbers e.rewrite d.rewrite_from d.rewrite n.rewrite h.rewrite k.rewrite);
     append = subst (λ j. IsNumbered j n.append) (sym h.append_from) (file_step_numbers e.append d.append_from d.append n.append h.append k.append);
-    replay = step_replays e.event d.world n.world h.step k.world k.replay;
+    replay = step_replays e.event d.machine n.machine h.step k.machine k.replay;
   }
 
   directory_steps : (es : List (DirectoryEvent E V)) (d n : Directory E V) → DirectorySteps d es n → DirectoryKeeps d → DirectoryKeeps n
@@ -39,14 +39,14 @@ module _ {E V : Type 0} where
   directory_steps (e ∷ es) d n h k = directory_steps es h.0 n h.2 (directory_step e d h.0 h.1 k)
 
   fresh_directory_keeps : DirectoryKeeps fresh_directory
-  fresh_directory_keeps = record { world = fresh_keeps; store = refl; rewrite = ((refl, tt), tt); append = ((refl, tt), tt); replay = fresh_replays }
+  fresh_directory_keeps = record { machine = fresh_keeps; store = refl; rewrite = ((refl, tt), tt); append = ((refl, tt), tt); replay = fresh_replays }
 
   pub schedule_survives_in_files : (es : List (DirectoryEvent E V)) (d : Directory E V) → DirectorySteps fresh_directory es d
-      → SurvivesInFiles d.rewrite_from d.rewrite d.append_from d.append d.world.map d.append.pending
+      → SurvivesInFiles d.rewrite_from d.rewrite d.append_from d.append d.machine.map d.append.pending
   schedule_survives_in_files es d h =
       let k = directory_steps es fresh_directory d h fresh_directory_keeps in
-      survives_in_files d.rewrite_from d.rewrite d.append_from d.append d.world.map d.append.pending k.rewrite k.append
-      (subst (λ q. Survives q d.world.map q.append.pending) (sym k.store) (survives d.world.store d.world.map k.world.holds))
+      survives_in_files d.rewrite_from d.rewrite d.append_from d.append d.machine.map d.append.pending k.rewrite k.append
+      (subst (λ q. Survives q d.machine.map q.append.pending) (sym k.store) (survives d.machine.store d.machine.map k.machine.holds))
 
   -- what changes of files are on the records
   pub rotated_queue : (q : FileQueue E V)
@@ -116,4 +116,4 @@ module _ {E V : Type 0} where
   schedule_replays_in_files es d h =
       let k = directory_steps es fresh_directory d h fresh_directory_keeps in
       replays_in_files d.rewrite_from d.rewrite d.append_from d.append k.rewrite k.append
-      (subst (λ q. Replays q) (sym k.store) (replays d.world k.world k.replay))
+      (subst (λ q. Replays q) (sym k.store) (replays d.machine k.machine k.replay))

@@ -15,8 +15,8 @@ use Rattle.raft_log_model.proofs.Windows.{Spans, one_run_fits}
 use Rattle.raft_log_machine.specs.Queue.{takes, synced, raised, reread, with_append, with_rewrite}
 use Rattle.raft_log_machine.specs.Table.{Table, top, with_key, GrowsBy, CarriesAll, OwesNothing, HasAppended}
 use Rattle.raft_log_machine.specs.Recovery.{IsRecovered}
-use Rattle.raft_log_machine.specs.Fresh.{empty_table, fresh_world}
-use Rattle.raft_log_machine.specs.World.{World, Steps}
+use Rattle.raft_log_machine.specs.Fresh.{empty_table, fresh_machine}
+use Rattle.raft_log_machine.specs.Machine.{Machine, Steps}
 use Rattle.raft_log_machine.specs.WrongRules.{of}
 use Rattle.raft_log_machine.specs.Example.{entries, compaction, only, two_purges, purged_twice, read_again}
 use Rattle.raft_log_machine.proofs.Words.{says_append, unwrap_or_option_or}
@@ -70,40 +70,40 @@ marked = record empty_table { first = 3; split = 4; end = 4; appended = with_key
 abbrev key_copied : Table
 key_copied = record empty_table { first = 3; split = 4; end = 4; appended = with_key (with_key (λ k. false) (5 ∷ []) true) (5 ∷ []) false }
 
-abbrev w1 : World ℕ ℕ
-w1 = record fresh_world { store = with_append fresh_world.store (takes fresh_world.store.append entries); tables = only entered }
+abbrev w1 : Machine ℕ ℕ
+w1 = record fresh_machine { store = with_append fresh_machine.store (takes fresh_machine.store.append entries); tables = only entered }
 
-abbrev w2 : World ℕ ℕ
+abbrev w2 : Machine ℕ ℕ
 w2 = record w1 { store = with_append w1.store (synced w1.store.append); map = taken w1.map w1.store.append.pending }
 
-abbrev w3 : World ℕ ℕ
+abbrev w3 : Machine ℕ ℕ
 w3 = record w2 { store = with_rewrite w2.store (takes w2.store.rewrite (Plain (of 1 (Run 1 (11 ∷ 12 ∷ 13 ∷ []) ∷ [])))); tables = only copied }
 
-abbrev w4 : World ℕ ℕ
+abbrev w4 : Machine ℕ ℕ
 w4 = record w3 { store = with_rewrite w3.store (synced w3.store.rewrite) }
 
-abbrev w5 : World ℕ ℕ
+abbrev w5 : Machine ℕ ℕ
 w5 = record w4 { store = with_append w4.store (raised w4.store.append (entries ∷ []) []) }
 
-abbrev w6 : World ℕ ℕ
+abbrev w6 : Machine ℕ ℕ
 w6 = record w5 { store = with_append w5.store (takes w5.store.append compaction); tables = only compacted_to_3 }
 
-abbrev w7 : World ℕ ℕ
+abbrev w7 : Machine ℕ ℕ
 w7 = record w6 { store = with_append w6.store (synced w6.store.append); map = taken w6.map w6.store.append.pending }
 
-abbrev w8 : World ℕ ℕ
+abbrev w8 : Machine ℕ ℕ
 w8 = record w7 { store = with_rewrite w7.store (takes w7.store.rewrite (Plain (of 1 (Compact 3 ∷ [])))); tables = only marked }
 
-abbrev w9 : World ℕ ℕ
+abbrev w9 : Machine ℕ ℕ
 w9 = record w8 { store = with_rewrite w8.store (takes w8.store.rewrite (Plain (of 1 (Put (5 ∷ []) 50 ∷ [])))); tables = only key_copied }
 
-abbrev w10 : World ℕ ℕ
+abbrev w10 : Machine ℕ ℕ
 w10 = record w9 { store = with_rewrite w9.store (synced w9.store.rewrite) }
 
-abbrev w11 : World ℕ ℕ
+abbrev w11 : Machine ℕ ℕ
 w11 = record w10 { store = with_append w10.store (raised w10.store.append (compaction ∷ []) []) }
 
-abbrev w12 : World ℕ ℕ
+abbrev w12 : Machine ℕ ℕ
 w12 = record {
   store = record { rewrite = reread w11.store.rewrite [] [] []; append = reread w11.store.append [] (entries ∷ compaction ∷ []) [] };
   map = taken w11.map [];
@@ -183,7 +183,7 @@ all_recovered = each (λ g. IsRecovered (taken w11.map [] g) (appended g (entrie
     (λ g e. subst (λ l. IsRecovered (taken w11.map [] g) l (only read_again g)) (sym (none_of g read_items e))
     (subst (λ t. IsRecovered (taken w11.map [] g) [] t) (sym (other_table read_again g e)) (recovered_elsewhere g e)))
 
-pub happens : (v : World ℕ ℕ) × Steps fresh_world two_purges v × (v.store ≡ purged_twice) × (v.tables 1 ≡ read_again)
+pub happens : (v : Machine ℕ ℕ) × Steps fresh_machine two_purges v × (v.store ≡ purged_twice) × (v.tables 1 ≡ read_again)
 happens = (
   w12,
   (

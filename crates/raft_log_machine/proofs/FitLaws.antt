@@ -11,7 +11,7 @@ use Rattle.raft_log_model.specs.Groups.{of_group, settle, settled, none_open, se
 use Rattle.raft_log_model.proofs.Cases.{at_bool, at_option}
 use Rattle.raft_log_model.proofs.Tests.{run_truncates}
 use Rattle.raft_log_machine.specs.Table.{top}
-use Rattle.raft_log_machine.specs.World.{Fits, AllFit, RecordsFit}
+use Rattle.raft_log_machine.specs.Machine.{Fits, AllFit, RecordsFit}
 use Rattle.raft_log_machine.proofs.BookRaises.{no_word}
 
 module _ {E V : Type 0} where

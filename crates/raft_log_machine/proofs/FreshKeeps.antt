@@ -1,23 +1,23 @@
--- The fresh world keeps the machine's invariant, so each world that a schedule leads to survives.
+-- The fresh machine keeps the machine's invariant, so each machine that a schedule leads to survives.
 use Rattle.std.proofs.Common.{ℕ, List, [], ◌++◌, None, refl, sym, ap, ◌∙◌, inl, arith}
 use Rattle.raft_log_model.specs.Groups.{directory_meaning, taken}
 use Rattle.raft_log_machine.specs.Survival.{Holds, Survives}
 use Rattle.raft_log_machine.specs.Book.{Book}
-use Rattle.raft_log_machine.specs.World.{World, Event, Steps, Keeps, said_of}
-use Rattle.raft_log_machine.specs.Fresh.{empty_table, nothing_stands, fresh_world}
+use Rattle.raft_log_machine.specs.Machine.{Machine, Event, Steps, Keeps, said_of}
+use Rattle.raft_log_machine.specs.Fresh.{empty_table, nothing_stands, fresh_machine}
 use Rattle.raft_log_machine.proofs.Starts.{no_front, no_back}
 use Rattle.raft_log_machine.proofs.BookCarries.{differ}
 use Rattle.raft_log_machine.proofs.SurvivalSteps.{survives}
-use Rattle.raft_log_machine.proofs.WorldKeeps.{steps_keep}
+use Rattle.raft_log_machine.proofs.MachineKeeps.{steps_keep}
 
 module _ {E V : Type 0} where
-  fresh_holds : Holds (fresh_world {E = E} {V = V}).store nothing_stands
+  fresh_holds : Holds (fresh_machine {E = E} {V = V}).store nothing_stands
   fresh_holds g s r_kept r_lost r_cut r_back a_cut a_back kept r_start a_start =
       ap (λ l. directory_meaning (l ++ r_kept) (a_back ++ []) g s) (no_back r_cut r_back r_start)
       ∙ ap (λ l. directory_meaning l (a_back ++ []) g s) (no_front r_kept r_lost kept)
       ∙ ap (λ l. directory_meaning [] (l ++ []) g s) (no_back a_cut a_back a_start)
 
-  fresh_book : (g : ℕ) → Book (said_of g (fresh_world {E = E} {V = V}).store) (taken nothing_stands [] g) empty_table
+  fresh_book : (g : ℕ) → Book (said_of g (fresh_machine {E = E} {V = V}).store) (taken nothing_stands [] g) empty_table
   fresh_book g = record {
     in_order = (omega arith, omega arith, omega arith);
     below = λ i h. refl;
@@ -33,8 +33,8 @@ module _ {E V : Type 0} where
     key = λ k. inl (refl, refl);
   }
 
-  pub fresh_keeps : Keeps (fresh_world {E = E} {V = V})
+  pub fresh_keeps : Keeps (fresh_machine {E = E} {V = V})
   fresh_keeps = record { holds = fresh_holds; unbroken = (None, tt); fits = tt; books = λ alive. fresh_book }
 
-  pub schedule_survives : (es : List (Event E V)) (v : World E V) → Steps fresh_world es v → Survives v.store v.map v.store.append.pending
-  schedule_survives es v h = survives v.store v.map (steps_keep es fresh_world v h fresh_keeps).holds
+  pub schedule_survives : (es : List (Event E V)) (v : Machine E V) → Steps fresh_machine es v → Survives v.store v.map v.store.append.pending
+  schedule_survives es v h = survives v.store v.map (steps_keep es fresh_machine v h fresh_keeps).holds

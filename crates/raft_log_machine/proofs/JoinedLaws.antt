@@ -12,7 +12,7 @@ use Rattle.raft_log_model.specs.Holes.{Window, next_window, window, NoHole}
 use Rattle.raft_log_model.proofs.Tests.{run_sets, run_leaves}
 use Rattle.raft_log_model.proofs.TableSteps.{get_front, get_back}
 use Rattle.raft_log_model.proofs.Holes.{no_hole_front, no_hole_end, no_hole_append}
-use Rattle.raft_log_machine.specs.World.{IsJoined}
+use Rattle.raft_log_machine.specs.Machine.{IsJoined}
 use Rattle.raft_log_machine.proofs.Words.{option_or_assoc, says_append}
 
 second_first : (wf we f n : ℕ) → 0 < n

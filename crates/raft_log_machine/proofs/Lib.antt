@@ -7,8 +7,8 @@ pub mod BookCarries
 pub mod BookRaises
 pub mod BookReread
 pub mod FitLaws
-pub mod WorldWords
-pub mod WorldKeeps
+pub mod MachineWords
+pub mod MachineKeeps
 pub mod FreshKeeps
 pub mod FileLaws
 pub mod DirectoryLaws

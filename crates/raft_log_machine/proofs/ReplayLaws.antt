@@ -11,15 +11,15 @@ use Rattle.raft_log_model.proofs.Holes.{no_hole_front, no_hole_end, no_hole_appe
 use Rattle.raft_log_machine.specs.Unbroken.{IsUnbroken, begun, joined}
 use Rattle.raft_log_machine.specs.Queue.{Queue, Store, all_records, takes, left, reread, with_append, with_rewrite}
 use Rattle.raft_log_machine.specs.Table.{Table, GrowsBy, CarriesAll}
-use Rattle.raft_log_machine.specs.World.{World, Event, Step, Steps, GoesOnWith, IsJoined, Keeps, said_of}
-use Rattle.raft_log_machine.specs.World.Event.{Take, SyncAppend, SyncRewrite, WritePlain, WriteBegin, WriteMiddle, WriteEnd, RaiseAppend, RaiseRewrite, LoseAppend, LoseRewrite, Fail, Reopen}
+use Rattle.raft_log_machine.specs.Machine.{Machine, Event, Step, Steps, GoesOnWith, IsJoined, Keeps, said_of}
+use Rattle.raft_log_machine.specs.Machine.Event.{Take, SyncAppend, SyncRewrite, WritePlain, WriteBegin, WriteMiddle, WriteEnd, RaiseAppend, RaiseRewrite, LoseAppend, LoseRewrite, Fail, Reopen}
 use Rattle.raft_log_machine.specs.Replay.{Replays, IsTopOf, KeepsReplay}
-use Rattle.raft_log_machine.specs.Fresh.{fresh_world}
+use Rattle.raft_log_machine.specs.Fresh.{fresh_machine}
 use Rattle.raft_log_machine.proofs.Words.{appended_append, settle_append, of_group_append, rewritten_more}
 use Rattle.raft_log_machine.proofs.UnbrokenLaws.{IsUnbroken-front, IsUnbroken-back, rewritten_end, opened-begun}
 use Rattle.raft_log_machine.proofs.BookCarries.{differ}
-use Rattle.raft_log_machine.proofs.WorldWords.{all_more}
-use Rattle.raft_log_machine.proofs.WorldKeeps.{step_keeps}
+use Rattle.raft_log_machine.proofs.MachineWords.{all_more}
+use Rattle.raft_log_machine.proofs.MachineKeeps.{step_keeps}
 use Rattle.raft_log_machine.proofs.FreshKeeps.{fresh_keeps}
 use Rattle.raft_log_machine.proofs.ReplayItems.{items_fit, all_written_fit, carries_all_ends, recovered_top}
 
@@ -72,7 +72,7 @@ module _ {E V : Type 0} where
       ∙ ap (λ l. cut ++ l) (append_assoc back (q.live ++ kept) lost ∙ ap (λ l. back ++ l) (append_assoc q.live kept lost ∙ ap (λ l. q.live ++ l) image))
       ∙ sym (append_assoc cut back (q.live ++ q.pending)) ∙ ap (λ l. l ++ (q.live ++ q.pending)) start
 
-  pub replays : (w : World E V) → Keeps w → KeepsReplay w → Replays w.store
+  pub replays : (w : Machine E V) → Keeps w → KeepsReplay w → Replays w.store
   replays w k p = record {
     append = λ g kept lost cut back image start.
         appended_back_fits g cut (back ++ (w.store.append.live ++ kept))
@@ -91,7 +91,7 @@ module _ {E V : Type 0} where
           IsUnbroken-front (cut ++ (back ++ (w.store.rewrite.live ++ kept))) lost
           (subst (λ l. IsUnbroken l) (sym (image_is w.store.rewrite kept lost cut back image start)) k.unbroken)
 
-module _ {E V : Type 0} (w : World E V) (k : Keeps w) (p : KeepsReplay w) where
+module _ {E V : Type 0} (w : Machine E V) (k : Keeps w) (p : KeepsReplay w) where
   replay_take : (y : Record E V) (tables : ℕ → Table) → w.failed ≡ false → ((g : ℕ) → GrowsBy (w.tables g) (of_group g (items_of y)) (tables g))
       → KeepsReplay (record w { store = with_append w.store (takes w.store.append y); tables = tables })
   replay_take y tables alive grow = record {
@@ -112,7 +112,7 @@ module _ {E V : Type 0} (w : World E V) (k : Keeps w) (p : KeepsReplay w) where
           (window nothing (appended g (all_records w.store.append))) (grow g) (k.books alive g) (p.top_part alive g)
 
   -- the same records of both queues, and tables that end where they did
-  replay_same : (v : World E V) → all_records v.store.append ≡ all_records w.store.append → all_records v.store.rewrite ≡ all_records w.store.rewrite
+  replay_same : (v : Machine E V) → all_records v.store.append ≡ all_records w.store.append → all_records v.store.rewrite ≡ all_records w.store.rewrite
       → (v.failed ≡ false → (w.failed ≡ false) × ((g : ℕ) → v.tables g ≡ w.tables g)) → KeepsReplay v
   replay_same v a r t = record {
     append_whole = λ g. subst (λ l. NoHole nothing (appended g l)) (sym a) (p.append_whole g);
@@ -216,7 +216,7 @@ module _ {E V : Type 0} (w : World E V) (k : Keeps w) (p : KeepsReplay w) where
           (ap (λ l. says (Index i) (appended g (a_cut ++ l))) (sym (append-nil (a_back ++ (w.store.append.live ++ a_kept)))) ∙ e)
 
 -- each event keeps it
-pub step_replays : {E V : Type 0} (e : Event E V) (w v : World E V) → Step e w v → Keeps w → KeepsReplay w → KeepsReplay v
+pub step_replays : {E V : Type 0} (e : Event E V) (w v : Machine E V) → Step e w v → Keeps w → KeepsReplay w → KeepsReplay v
 step_replays (Take y) w v h k p = subst (λ x. KeepsReplay x) (sym h.1.2) (replay_take w k p y h.1.0 h.0 h.1.1)
 step_replays SyncAppend w v h k p = replay_same w k p v
     (ap (λ x. all_records x.store.append) h.1 ∙ ap (λ l. w.store.append.gone ++ l) (append-nil (w.store.append.live ++ w.store.append.pending)))
@@ -247,12 +247,12 @@ step_replays (Reopen r_kept r_lost r_cut r_back a_kept a_lost a_cut a_back) w v 
     (replay_reopen w k p r_kept r_lost r_cut r_back a_kept a_lost a_cut a_back h.0 h.1 h.2 h.3 h.4.0
     (subst (λ x. Keeps x) h.4.2 (step_keeps (Reopen r_kept r_lost r_cut r_back a_kept a_lost a_cut a_back) w v h k)))
 
-pub steps_replay : {E V : Type 0} (es : List (Event E V)) (w v : World E V) → Steps w es v → Keeps w → KeepsReplay w → Keeps v × KeepsReplay v
+pub steps_replay : {E V : Type 0} (es : List (Event E V)) (w v : Machine E V) → Steps w es v → Keeps w → KeepsReplay w → Keeps v × KeepsReplay v
 steps_replay [] w v h k p = (subst (λ x. Keeps x) (sym h) k, subst (λ x. KeepsReplay x) (sym h) p)
 steps_replay (e ∷ es) w v h k p = steps_replay es h.0 v h.2 (step_keeps e w h.0 h.1 k) (step_replays e w h.0 h.1 k p)
 
-pub fresh_replays : {E V : Type 0} → KeepsReplay (fresh_world {E = E} {V = V})
+pub fresh_replays : {E V : Type 0} → KeepsReplay (fresh_machine {E = E} {V = V})
 fresh_replays = record { append_whole = λ g. tt; rewrite_whole = λ g. tt; top_part = λ alive g. inl (omega arith) }
 
-pub schedule_replays : {E V : Type 0} (es : List (Event E V)) (v : World E V) → Steps fresh_world es v → Replays v.store
-schedule_replays es v h = let both = steps_replay es fresh_world v h fresh_keeps fresh_replays in replays v both.0 both.1
+pub schedule_replays : {E V : Type 0} (es : List (Event E V)) (v : Machine E V) → Steps fresh_machine es v → Replays v.store
+schedule_replays es v h = let both = steps_replay es fresh_machine v h fresh_keeps fresh_replays in replays v both.0 both.1

@@ -12,7 +12,7 @@ use Rattle.raft_log_machine.proofs.Words.{says_append, rewritten_more}
 use Rattle.raft_log_machine.proofs.UnbrokenLaws.{opened-begun}
 use Rattle.raft_log_machine.proofs.Starts.{spoken_newer}
 use Rattle.raft_log_machine.proofs.BookGrows.{spoken_after}
-use Rattle.raft_log_machine.proofs.WorldWords.{says_end}
+use Rattle.raft_log_machine.proofs.MachineWords.{says_end}
 use Rattle.raft_log_machine.proofs.ReplayLaws.{rewritten_front}
 
 module _ {E V : Type 0} where

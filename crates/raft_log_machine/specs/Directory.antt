@@ -4,13 +4,13 @@ use Rattle.raft_log_model.specs.Item.{Record}
 use Rattle.raft_log_model.specs.Groups.{appended, rewritten}
 use Rattle.raft_log_model.specs.Holes.{nothing, NoHole}
 use Rattle.raft_log_machine.specs.Unbroken.{IsUnbroken}
-use Rattle.raft_log_machine.specs.World.{World, Event, Step}
-use Rattle.raft_log_machine.specs.Fresh.{fresh_world}
+use Rattle.raft_log_machine.specs.Machine.{Machine, Event, Step}
+use Rattle.raft_log_machine.specs.Fresh.{fresh_machine}
 use Rattle.raft_log_machine.specs.Files.{LogFile, FileQueue, FileEvent, FileStep, IsRead, records_of, numbered_from, store_of, fresh_files}
 
--- a world, and the files of Rewrite and of Append, those that are not behind a gap numbered from these on
+-- a machine, and the files of Rewrite and of Append, those that are not behind a gap numbered from these on
 pub record Directory (E V : Type 0) : Type 0 where
-  pub world : World E V
+  pub machine : Machine E V
   pub rewrite : FileQueue E V
   pub rewrite_from : ℕ
   pub append : FileQueue E V
@@ -22,12 +22,12 @@ pub record DirectoryEvent (E V : Type 0) : Type 0 where
   pub rewrite : FileEvent E V
   pub append : FileEvent E V
 
--- the event happens, the files change, and hold what the world says
+-- the event happens, the files change, and hold what the machine says
 pub record DirectoryStep {E V : Type 0} (e : DirectoryEvent E V) (d n : Directory E V) : Type 0 where
-  pub step : Step e.event d.world n.world
+  pub step : Step e.event d.machine n.machine
   pub rewrite : FileStep e.rewrite d.rewrite n.rewrite
   pub append : FileStep e.append d.append n.append
-  pub store : store_of n.rewrite n.append ≡ n.world.store
+  pub store : store_of n.rewrite n.append ≡ n.machine.store
   pub rewrite_from : n.rewrite_from ≡ numbered_from d.rewrite_from e.rewrite
   pub append_from : n.append_from ≡ numbered_from d.append_from e.append
 
@@ -37,7 +37,7 @@ DirectorySteps {E} {V} d (e ∷ es) n = (next : Directory E V) × DirectoryStep 
 
 abbrev pub fresh_directory : {E V : Type 0} → Directory E V
 fresh_directory = record {
-  world = fresh_world;
+  machine = fresh_machine;
   rewrite = fresh_files;
   rewrite_from = 1;
   append = fresh_files;

@@ -7,8 +7,8 @@ use Rattle.raft_log_model.specs.Item.Record.{Plain}
 use Rattle.raft_log_machine.specs.Queue.{Store}
 use Rattle.raft_log_machine.specs.Table.{Table, with_key}
 use Rattle.raft_log_machine.specs.Fresh.{empty_table}
-use Rattle.raft_log_machine.specs.World.{Event}
-use Rattle.raft_log_machine.specs.World.Event.{Take, SyncAppend, SyncRewrite, WritePlain, RaiseAppend, Reopen}
+use Rattle.raft_log_machine.specs.Machine.{Event}
+use Rattle.raft_log_machine.specs.Machine.Event.{Take, SyncAppend, SyncRewrite, WritePlain, RaiseAppend, Reopen}
 use Rattle.raft_log_machine.specs.WrongRules.{of}
 
 -- entries 1 to 3

@@ -1,9 +1,9 @@
--- The world of two empty queues.
+-- The machine of two empty queues.
 use Rattle.std.specs.Prelude.{[], false, None}
 use Rattle.raft_log_model.specs.Groups.{Map}
 use Rattle.raft_log_machine.specs.Queue.{Queue}
 use Rattle.raft_log_machine.specs.Table.{Table}
-use Rattle.raft_log_machine.specs.World.{World}
+use Rattle.raft_log_machine.specs.Machine.{Machine}
 
 abbrev pub empty_queue : {E V : Type 0} → Queue E V
 empty_queue = record { gone = []; live = []; pending = [] }
@@ -23,8 +23,8 @@ empty_table = record {
 abbrev pub nothing_stands : {E V : Type 0} → Map E V
 nothing_stands g s = None
 
-abbrev pub fresh_world : {E V : Type 0} → World E V
-fresh_world = record {
+abbrev pub fresh_machine : {E V : Type 0} → Machine E V
+fresh_machine = record {
   store = record { rewrite = empty_queue; append = empty_queue };
   map = nothing_stands;
   tables = λ g. empty_table;

@@ -1,8 +1,8 @@
 -- What was written, as its writers saw it: the batches that Append took and no crash lost.
 use Rattle.std.specs.Prelude.{List, [], ◌∷◌, ◌++◌}
 use Rattle.raft_log_model.specs.Item.{Record}
-use Rattle.raft_log_machine.specs.World.{Event}
-use Rattle.raft_log_machine.specs.World.Event.{Take, SyncAppend, SyncRewrite, WritePlain, WriteBegin, WriteMiddle, WriteEnd, RaiseAppend, RaiseRewrite, LoseAppend, LoseRewrite, Fail, Reopen}
+use Rattle.raft_log_machine.specs.Machine.{Event}
+use Rattle.raft_log_machine.specs.Machine.Event.{Take, SyncAppend, SyncRewrite, WritePlain, WriteBegin, WriteMiddle, WriteEnd, RaiseAppend, RaiseRewrite, LoseAppend, LoseRewrite, Fail, Reopen}
 
 -- the batches that are synced, and those that aren't yet, oldest first
 pub record History (E V : Type 0) : Type 0 where

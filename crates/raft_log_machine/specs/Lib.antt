@@ -4,7 +4,7 @@ pub mod Survival
 pub mod Table
 pub mod Book
 pub mod Recovery
-pub mod World
+pub mod Machine
 pub mod Fresh
 pub mod Files
 pub mod Directory

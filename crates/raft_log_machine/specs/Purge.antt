@@ -4,8 +4,8 @@ use Rattle.raft_log_model.specs.Item.{Record}
 use Rattle.raft_log_model.specs.Groups.{Map, directory_meaning}
 use Rattle.raft_log_machine.specs.Queue.{Store}
 use Rattle.raft_log_machine.specs.Table.{Table, OwesNothing}
-use Rattle.raft_log_machine.specs.World.{Event}
-use Rattle.raft_log_machine.specs.World.Event.{Take, SyncAppend, SyncRewrite, WritePlain, WriteBegin, WriteMiddle, WriteEnd, RaiseAppend, RaiseRewrite, LoseAppend, LoseRewrite, Fail, Reopen}
+use Rattle.raft_log_machine.specs.Machine.{Event}
+use Rattle.raft_log_machine.specs.Machine.Event.{Take, SyncAppend, SyncRewrite, WritePlain, WriteBegin, WriteMiddle, WriteEnd, RaiseAppend, RaiseRewrite, LoseAppend, LoseRewrite, Fail, Reopen}
 
 -- the event is the engine's own, as all are but a record that Append takes and an open
 abbrev pub IsOwn : {E V : Type 0} → Event E V → Type 0

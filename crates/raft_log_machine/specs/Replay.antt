@@ -7,7 +7,7 @@ use Rattle.raft_log_model.specs.Holes.{Window, nothing, window, NoHole}
 use Rattle.raft_log_machine.specs.Unbroken.{IsUnbroken}
 use Rattle.raft_log_machine.specs.Queue.{Store, all_records}
 use Rattle.raft_log_machine.specs.Table.{Table}
-use Rattle.raft_log_machine.specs.World.{World}
+use Rattle.raft_log_machine.specs.Machine.{Machine}
 
 -- from every start of each queue, with every beginning of its unsynced records, a reading gets through
 pub record Replays {E V : Type 0} (q : Store E V) : Type 0 where
@@ -26,7 +26,7 @@ abbrev pub IsTopOf : Window → Table → Type 0
 IsTopOf w t = (w.end ≤ w.first) ⊎ ((w.end ≡ t.end) × (t.first ≤ w.first))
 
 -- the invariant behind it
-pub record KeepsReplay {E V : Type 0} (w : World E V) : Type 0 where
+pub record KeepsReplay {E V : Type 0} (w : Machine E V) : Type 0 where
   pub append_whole : (g : ℕ) → NoHole nothing (appended g (all_records w.store.append))
   pub rewrite_whole : (g : ℕ) → NoHole nothing (rewritten g (all_records w.store.rewrite))
   pub top_part : w.failed ≡ false → (g : ℕ)

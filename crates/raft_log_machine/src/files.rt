@@ -90,7 +90,7 @@ pub fn reading_of_files<E, V>()
 /// directory survives as its map: from every pair of files from which a recovery may read.
 pub fn survives_in_files_always<E, V>()
     ensures { (events : List (DirectoryEvent E V)) (d : Directory E V) → DirectorySteps fresh_directory events d
-        → SurvivesInFiles d.rewrite_from d.rewrite d.append_from d.append d.world.map d.append.pending }
+        → SurvivesInFiles d.rewrite_from d.rewrite d.append_from d.append d.machine.map d.append.pending }
 {}
 
 /// Over every such schedule each reading gets through: whatever an image kept, from every file from which a

@@ -18,7 +18,7 @@ fn laws_of_survival() {
 
 #[test]
 fn laws_of_machine() {
-    machine::fresh_world_keeps::<u64, u64>();
+    machine::fresh_machine_keeps::<u64, u64>();
     machine::each_step_keeps::<u64, u64>();
     machine::survives_always::<u64, u64>();
     machine::map_is_what_was_taken::<u64, u64>();
@@ -47,9 +47,9 @@ fn laws_of_purge() {
 
 #[test]
 fn laws_of_replay() {
-    replay::fresh_world_replays::<u64, u64>();
+    replay::fresh_machine_replays::<u64, u64>();
     replay::each_step_replays::<u64, u64>();
-    replay::kept_world_replays::<u64, u64>();
+    replay::kept_machine_replays::<u64, u64>();
     replay::replays_always::<u64, u64>();
     replay::intervals_say_the_same::<u64, u64>();
     replay::runs_of_a_group_join::<u64, u64>();

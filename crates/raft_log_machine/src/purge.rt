@@ -7,13 +7,13 @@ ghost use Rattle.raft_log_machine.specs.Files.FileEvent.{Raise};
 ghost use Rattle.raft_log_machine.specs.Files.{first_file, all_files, queue_of, records_of, span, LogFile, FileQueue, FileStep, IsReadOf, SurvivesInFiles};
 ghost use Rattle.raft_log_machine.specs.Purge.{meaning_there, AllOwn, IsRewritten, Reading};
 ghost use Rattle.raft_log_machine.specs.Queue.{raised, with_append};
-ghost use Rattle.raft_log_machine.specs.World.Event.{RaiseAppend};
-ghost use Rattle.raft_log_machine.specs.World.{Event, Keeps, Step, Steps, World};
+ghost use Rattle.raft_log_machine.specs.Machine.Event.{RaiseAppend};
+ghost use Rattle.raft_log_machine.specs.Machine.{Event, Keeps, Step, Steps, Machine};
 
 /// A purge changes nothing, answered or refused wherever it stopped: after any events of the engine's own, and
 /// from any start of each queue, the files mean what they meant before them from any start.
 pub fn purge_is_invisible<E, V>()
-    ensures { (events : List (Event E V)) (w v : World E V) → AllOwn events → Steps w events v → Keeps w
+    ensures { (events : List (Event E V)) (w v : Machine E V) → AllOwn events → Steps w events v → Keeps w
         → (before : Reading w.store) (later : Reading v.store) (g : ℕ) (s : Slot)
         → meaning_there v.store later g s ≡ meaning_there w.store before g s }
 {}
@@ -21,7 +21,7 @@ pub fn purge_is_invisible<E, V>()
 /// A full rewrite leaves one file: once no table has anything in Append or owes a mark, and Append's last file
 /// is new and empty, all its other files may leave the span, which then is the last file alone.
 pub fn full_rewrite_leaves_one_file<E, V>()
-    ensures { (w : World E V) (a : FileQueue E V) → w.failed ≡ false → w.store.append.pending ≡ []
+    ensures { (w : Machine E V) (a : FileQueue E V) → w.failed ≡ false → w.store.append.pending ≡ []
         → w.store.rewrite.pending ≡ [] → queue_of a ≡ w.store.append
         → a.synced ≡ [] → ((g : ℕ) → IsRewritten (w.tables g))
         → Step (RaiseAppend (records_of a.full) []) w

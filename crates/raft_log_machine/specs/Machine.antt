@@ -30,7 +30,7 @@ abbrev pub RecordsFit : {E V : Type 0} → List (Record E V) → Type 0
 RecordsFit [] = Unit {0}
 RecordsFit (r ∷ rs) = AllFit (items_of r) × RecordsFit rs
 
-pub record World (E V : Type 0) : Type 0 where
+pub record Machine (E V : Type 0) : Type 0 where
   pub store : Store E V
   -- what is synced of Append means this map
   pub map : Map E V
@@ -73,9 +73,9 @@ pub record IsJoined {E V : Type 0} (parts items : List (Item E V)) : Type 0 wher
   pub same_words : (s : Slot) → says s parts ≡ says s items
   pub no_more_holes : (w : Window) → NoHole w items → NoHole w parts
 
--- What each event asks, and the world v that it leads to from w. All that is asked of groups is asked of their
+-- What each event asks, and the machine v that it leads to from w. All that is asked of groups is asked of their
 -- tables
-abbrev pub Step : {E V : Type 0} → Event E V → World E V → World E V → Type 0
+abbrev pub Step : {E V : Type 0} → Event E V → Machine E V → Machine E V → Type 0
 Step (Take y) w v =
     (w.failed ≡ false)
     × ((tables : ℕ → Table) × ((g : ℕ) → GrowsBy (w.tables g) (of_group g (items_of y)) (tables g))
@@ -133,9 +133,9 @@ Step (Reopen r_kept r_lost r_cut r_back a_kept a_lost a_cut a_back) w v =
     }))
 
 -- a whole schedule
-abbrev pub Steps : {E V : Type 0} → World E V → List (Event E V) → World E V → Type 0
+abbrev pub Steps : {E V : Type 0} → Machine E V → List (Event E V) → Machine E V → Type 0
 Steps w [] v = v ≡ w
-Steps {E} {V} w (e ∷ es) v = (next : World E V) × Step e w next × Steps next es v
+Steps {E} {V} w (e ∷ es) v = (next : Machine E V) × Step e w next × Steps next es v
 
 -- what is said of a group's slots in the directory
 abbrev pub said_of : {E V : Type 0} → ℕ → Store E V → Said E V
@@ -146,7 +146,7 @@ said_of g q = record {
 }
 
 -- the invariant of the machine
-pub record Keeps {E V : Type 0} (w : World E V) : Type 0 where
+pub record Keeps {E V : Type 0} (w : Machine E V) : Type 0 where
   pub holds : Holds w.store w.map
   pub unbroken : IsUnbroken (all_records w.store.rewrite)
   pub fits : RecordsFit (all_records w.store.rewrite)

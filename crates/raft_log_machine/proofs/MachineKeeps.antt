@@ -13,8 +13,8 @@ use Rattle.raft_log_machine.specs.Survival.{Holds, IsSpoken, IsHarmless, MayRewr
 use Rattle.raft_log_machine.specs.Table.{Table, top, GrowsBy, CarriesAll, OwesNothing, HasAppended, HasRewritten}
 use Rattle.raft_log_machine.specs.Book.{IsRight}
 use Rattle.raft_log_machine.specs.Recovery.{IsRecovered}
-use Rattle.raft_log_machine.specs.World.{AllFit, RecordsFit, World, Event, Step, Steps, GoesOnWith, IsJoined, said_of, Keeps}
-use Rattle.raft_log_machine.specs.World.Event.{Take, SyncAppend, SyncRewrite, WritePlain, WriteBegin, WriteMiddle, WriteEnd, RaiseAppend, RaiseRewrite, LoseAppend, LoseRewrite, Fail, Reopen}
+use Rattle.raft_log_machine.specs.Machine.{AllFit, RecordsFit, Machine, Event, Step, Steps, GoesOnWith, IsJoined, said_of, Keeps}
+use Rattle.raft_log_machine.specs.Machine.Event.{Take, SyncAppend, SyncRewrite, WritePlain, WriteBegin, WriteMiddle, WriteEnd, RaiseAppend, RaiseRewrite, LoseAppend, LoseRewrite, Fail, Reopen}
 use Rattle.raft_log_machine.proofs.UnbrokenLaws.{UnbrokenFrom-append, IsUnbroken-front, IsUnbroken-back, going_on-begun, opened-begun}
 use Rattle.raft_log_machine.proofs.SurvivalSteps.{holds_append_synced, holds_rewrite_synced, holds_rewrite_takes, holds_append_raised, holds_rewrite_raised, holds_append_left, holds_rewrite_left, holds_reread}
 use Rattle.raft_log_machine.proofs.BookGrows.{book_along, append_said_all, grows_by}
@@ -22,9 +22,9 @@ use Rattle.raft_log_machine.proofs.BookCarries.{differ, rewrite_said_all, carrie
 use Rattle.raft_log_machine.proofs.BookRaises.{append_raised, may_append, rewrite_raised, may_rewrite, rewrite_left, between_right}
 use Rattle.raft_log_machine.proofs.BookReread.{recovered_book}
 use Rattle.raft_log_machine.proofs.FitLaws.{RecordsFit-append, RecordsFit-front, RecordsFit-back, nothing_past}
-use Rattle.raft_log_machine.proofs.WorldWords.{appended_one, taken_one, rewritten_one, says_end, all_more, span_more}
+use Rattle.raft_log_machine.proofs.MachineWords.{appended_one, taken_one, rewritten_one, says_end, all_more, span_more}
 
-module _ {E V : Type 0} (w : World E V) (k : Keeps w) where
+module _ {E V : Type 0} (w : Machine E V) (k : Keeps w) where
   keeps_take : (y : Record E V) (tables : ℕ → Table) → ((g : ℕ) → GrowsBy (w.tables g) (of_group g (items_of y)) (tables g))
       → Keeps (record w { store = with_append w.store (takes w.store.append y); tables = tables })
   keeps_take y tables grow = record {
@@ -284,7 +284,7 @@ module _ {E V : Type 0} (w : World E V) (k : Keeps w) where
     }
 
 -- each event keeps the invariant
-pub step_keeps : {E V : Type 0} (e : Event E V) (w v : World E V) → Step e w v → Keeps w → Keeps v
+pub step_keeps : {E V : Type 0} (e : Event E V) (w v : Machine E V) → Step e w v → Keeps w → Keeps v
 step_keeps (Take y) w v h k = subst (λ x. Keeps x) (sym h.1.2) (keeps_take w k y h.1.0 h.1.1)
 step_keeps SyncAppend w v h k = subst (λ x. Keeps x) (sym h.1) (keeps_sync_append w k)
 step_keeps SyncRewrite w v h k = subst (λ x. Keeps x) (sym h.1) (keeps_sync_rewrite w k)
@@ -305,6 +305,6 @@ step_keeps (Reopen r_kept r_lost r_cut r_back a_kept a_lost a_cut a_back) w v h 
     subst (λ x. Keeps x) (sym h.4.2) (keeps_reopen w k r_kept r_lost r_cut r_back a_kept a_lost a_cut a_back h.0 h.1 h.2 h.3 h.4.0 h.4.1)
 
 -- so does each schedule
-pub steps_keep : {E V : Type 0} (es : List (Event E V)) (w v : World E V) → Steps w es v → Keeps w → Keeps v
+pub steps_keep : {E V : Type 0} (es : List (Event E V)) (w v : Machine E V) → Steps w es v → Keeps w → Keeps v
 steps_keep [] w v h k = subst (λ x. Keeps x) (sym h) k
 steps_keep (e ∷ es) w v h k = steps_keep es h.0 v h.2 (step_keeps e w h.0 h.1 k)

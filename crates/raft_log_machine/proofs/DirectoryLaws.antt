@@ -3,7 +3,7 @@ use Rattle.std.proofs.Common.{ℕ, ◌≡◌, ◌+◌, List, [], ◌∷◌, ◌+
 use Rattle.raft_log_model.specs.Item.{Record}
 use Rattle.raft_log_machine.specs.Queue.{Queue, synced, raised, left, reread}
 use Rattle.raft_log_machine.specs.Survival.{Survives}
-use Rattle.raft_log_machine.specs.Machine.{Keeps}
+use Rattle.raft_log_machine.specs.Machine.{IsKept}
 use Rattle.raft_log_machine.specs.Files.{LogFile, FileQueue, records_of, IsNumbered, queue_of, store_of, SurvivesInFiles, NumberedFrom}
 use Rattle.raft_log_machine.specs.Directory.{Directory, DirectoryEvent, DirectoryStep, DirectorySteps, fresh_directory, IsRising, ReplaysInFiles}
 use Rattle.raft_log_machine.proofs.FileLaws.{records_of-append, survives_in_files, file_step_numbers, read_split, read_records}
@@ -11,21 +11,21 @@ use Rattle.raft_log_machine.proofs.SurvivalSteps.{survives}
 use Rattle.raft_log_model.specs.Groups.{appended, rewritten}
 use Rattle.raft_log_model.specs.Holes.{nothing, NoHole}
 use Rattle.raft_log_machine.specs.Unbroken.{IsUnbroken}
-use Rattle.raft_log_machine.specs.Replay.{Replays, KeepsReplay}
+use Rattle.raft_log_machine.specs.Replay.{Replays, IsReplayable}
 use Rattle.raft_log_machine.proofs.MachineKeeps.{step_keeps}
 use Rattle.raft_log_machine.proofs.ReplayLaws.{replays, step_replays, fresh_replays}
 use Rattle.raft_log_machine.proofs.FreshKeeps.{fresh_keeps}
 
 module _ {E V : Type 0} where
   -- the invariant of the machine on files
-  pub record DirectoryKeeps (d : Directory E V) : Type 0 where
-    pub machine : Keeps d.machine
+  pub record IsKeptDirectory (d : Directory E V) : Type 0 where
+    pub machine : IsKept d.machine
     pub store : store_of d.rewrite d.append ≡ d.machine.store
     pub rewrite : IsNumbered d.rewrite_from d.rewrite
     pub append : IsNumbered d.append_from d.append
-    pub replay : KeepsReplay d.machine
+    pub replay : IsReplayable d.machine
 
-  directory_step : (e : DirectoryEvent E V) (d n : Directory E V) → DirectoryStep e d n → DirectoryKeeps d → DirectoryKeeps n
+  directory_step : (e : DirectoryEvent E V) (d n : Directory E V) → DirectoryStep e d n → IsKeptDirectory d → IsKeptDirectory n
   directory_step e d n h k = record {
     machine = step_keeps e.event d.machine n.machine h.step k.machine;
     store = h.store;
@@ -34,17 +34,17 @@ module _ {E V : Type 0} where
     replay = step_replays e.event d.machine n.machine h.step k.machine k.replay;
   }
 
-  directory_steps : (es : List (DirectoryEvent E V)) (d n : Directory E V) → DirectorySteps d es n → DirectoryKeeps d → DirectoryKeeps n
-  directory_steps [] d n h k = subst (λ x. DirectoryKeeps x) (sym h) k
+  directory_steps : (es : List (DirectoryEvent E V)) (d n : Directory E V) → DirectorySteps d es n → IsKeptDirectory d → IsKeptDirectory n
+  directory_steps [] d n h k = subst (λ x. IsKeptDirectory x) (sym h) k
   directory_steps (e ∷ es) d n h k = directory_steps es h.0 n h.2 (directory_step e d h.0 h.1 k)
 
-  fresh_directory_keeps : DirectoryKeeps fresh_directory
-  fresh_directory_keeps = record { machine = fresh_keeps; store = refl; rewrite = ((refl, tt), tt); append = ((refl, tt), tt); replay = fresh_replays }
+  fresh_directory_is_kept : IsKeptDirectory fresh_directory
+  fresh_directory_is_kept = record { machine = fresh_keeps; store = refl; rewrite = ((refl, tt), tt); append = ((refl, tt), tt); replay = fresh_replays }
 
   pub schedule_survives_in_files : (es : List (DirectoryEvent E V)) (d : Directory E V) → DirectorySteps fresh_directory es d
       → SurvivesInFiles d.rewrite_from d.rewrite d.append_from d.append d.machine.map d.append.pending
   schedule_survives_in_files es d h =
-      let k = directory_steps es fresh_directory d h fresh_directory_keeps in
+      let k = directory_steps es fresh_directory d h fresh_directory_is_kept in
       survives_in_files d.rewrite_from d.rewrite d.append_from d.append d.machine.map d.append.pending k.rewrite k.append
       (subst (λ q. Survives q d.machine.map q.append.pending) (sym k.store) (survives d.machine.store d.machine.map k.machine.holds))
 
@@ -114,6 +114,6 @@ module _ {E V : Type 0} where
 
   pub schedule_replays_in_files : (es : List (DirectoryEvent E V)) (d : Directory E V) → DirectorySteps fresh_directory es d → ReplaysInFiles d.rewrite_from d.rewrite d.append_from d.append
   schedule_replays_in_files es d h =
-      let k = directory_steps es fresh_directory d h fresh_directory_keeps in
+      let k = directory_steps es fresh_directory d h fresh_directory_is_kept in
       replays_in_files d.rewrite_from d.rewrite d.append_from d.append k.rewrite k.append
       (subst (λ q. Replays q) (sym k.store) (replays d.machine k.machine k.replay))

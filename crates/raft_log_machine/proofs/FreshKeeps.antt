@@ -3,7 +3,7 @@ use Rattle.std.proofs.Common.{ℕ, List, [], ◌++◌, None, refl, sym, ap, ◌�
 use Rattle.raft_log_model.specs.Groups.{directory_meaning, taken}
 use Rattle.raft_log_machine.specs.Survival.{Holds, Survives}
 use Rattle.raft_log_machine.specs.Book.{Book}
-use Rattle.raft_log_machine.specs.Machine.{Machine, Event, Steps, Keeps, said_of}
+use Rattle.raft_log_machine.specs.Machine.{Machine, Event, Steps, IsKept, said_of}
 use Rattle.raft_log_machine.specs.Fresh.{empty_table, nothing_stands, fresh_machine}
 use Rattle.raft_log_machine.proofs.Starts.{no_front, no_back}
 use Rattle.raft_log_machine.proofs.BookCarries.{differ}
@@ -33,7 +33,7 @@ module _ {E V : Type 0} where
     key = λ k. inl (refl, refl);
   }
 
-  pub fresh_keeps : Keeps (fresh_machine {E = E} {V = V})
+  pub fresh_keeps : IsKept (fresh_machine {E = E} {V = V})
   fresh_keeps = record { holds = fresh_holds; unbroken = (None, tt); fits = tt; books = λ alive. fresh_book }
 
   pub schedule_survives : (es : List (Event E V)) (v : Machine E V) → Steps fresh_machine es v → Survives v.store v.map v.store.append.pending

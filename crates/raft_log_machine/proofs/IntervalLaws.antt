@@ -8,13 +8,13 @@ use Rattle.raft_log_model.specs.Holes.{directory_by_intervals, IsSolid}
 use Rattle.raft_log_model.proofs.Intervals.{by_intervals_solid}
 use Rattle.raft_log_machine.specs.Book.{Book}
 use Rattle.raft_log_machine.specs.Purge.{Reading, meaning_there}
-use Rattle.raft_log_machine.specs.Replay.{KeepsReplay}
-use Rattle.raft_log_machine.specs.Machine.{Machine, Keeps, said_of}
+use Rattle.raft_log_machine.specs.Replay.{IsReplayable}
+use Rattle.raft_log_machine.specs.Machine.{Machine, IsKept, said_of}
 use Rattle.raft_log_machine.proofs.BookRaises.{no_word}
 use Rattle.raft_log_machine.proofs.PurgeLaws.{means_all}
 use Rattle.raft_log_machine.proofs.ReplayLaws.{replays}
 
-module _ {E V : Type 0} (w : Machine E V) (k : Keeps w) (p : KeepsReplay w) (alive : w.failed ≡ false) (r : Reading w.store) (g : ℕ) where
+module _ {E V : Type 0} (w : Machine E V) (k : IsKept w) (p : IsReplayable w) (alive : w.failed ≡ false) (r : Reading w.store) (g : ℕ) where
   group_map : Slot → Option (Content E V)
   group_map = taken w.map w.store.append.pending g
 

@@ -13,7 +13,7 @@ use Rattle.raft_log_machine.specs.Survival.{Holds, IsSpoken, IsHarmless, MayRewr
 use Rattle.raft_log_machine.specs.Table.{Table, top, GrowsBy, CarriesAll, OwesNothing, HasAppended, HasRewritten}
 use Rattle.raft_log_machine.specs.Book.{IsRight}
 use Rattle.raft_log_machine.specs.Recovery.{IsRecovered}
-use Rattle.raft_log_machine.specs.Machine.{AllFit, RecordsFit, Machine, Event, Step, Steps, GoesOnWith, IsJoined, said_of, Keeps}
+use Rattle.raft_log_machine.specs.Machine.{AllFit, RecordsFit, Machine, Event, Step, Steps, GoesOnWith, IsJoined, said_of, IsKept}
 use Rattle.raft_log_machine.specs.Machine.Event.{Take, SyncAppend, SyncRewrite, WritePlain, WriteBegin, WriteMiddle, WriteEnd, RaiseAppend, RaiseRewrite, LoseAppend, LoseRewrite, Fail, Reopen}
 use Rattle.raft_log_machine.proofs.UnbrokenLaws.{UnbrokenFrom-append, IsUnbroken-front, IsUnbroken-back, going_on-begun, opened-begun}
 use Rattle.raft_log_machine.proofs.SurvivalSteps.{holds_append_synced, holds_rewrite_synced, holds_rewrite_takes, holds_append_raised, holds_rewrite_raised, holds_append_left, holds_rewrite_left, holds_reread}
@@ -24,9 +24,9 @@ use Rattle.raft_log_machine.proofs.BookReread.{recovered_book}
 use Rattle.raft_log_machine.proofs.FitLaws.{RecordsFit-append, RecordsFit-front, RecordsFit-back, nothing_past}
 use Rattle.raft_log_machine.proofs.MachineWords.{appended_one, taken_one, rewritten_one, says_end, all_more, span_more}
 
-module _ {E V : Type 0} (w : Machine E V) (k : Keeps w) where
+module _ {E V : Type 0} (w : Machine E V) (k : IsKept w) where
   keeps_take : (y : Record E V) (tables : ℕ → Table) → ((g : ℕ) → GrowsBy (w.tables g) (of_group g (items_of y)) (tables g))
-      → Keeps (record w { store = with_append w.store (takes w.store.append y); tables = tables })
+      → IsKept (record w { store = with_append w.store (takes w.store.append y); tables = tables })
   keeps_take y tables grow = record {
     holds = k.holds;
     unbroken = k.unbroken;
@@ -40,7 +40,7 @@ module _ {E V : Type 0} (w : Machine E V) (k : Keeps w) where
         (grows_by (said_of g w.store) (taken w.map w.store.append.pending g) (w.tables g) (of_group g (items_of y)) (tables g) (grow g) (k.books alive g));
   }
 
-  keeps_sync_append : Keeps (record w { store = with_append w.store (synced w.store.append); map = taken w.map w.store.append.pending })
+  keeps_sync_append : IsKept (record w { store = with_append w.store (synced w.store.append); map = taken w.map w.store.append.pending })
   keeps_sync_append = record {
     holds = holds_append_synced w.store w.map k.holds;
     unbroken = k.unbroken;
@@ -51,7 +51,7 @@ module _ {E V : Type 0} (w : Machine E V) (k : Keeps w) where
         (λ s. refl) (k.books alive g);
   }
 
-  keeps_sync_rewrite : Keeps (record w { store = with_rewrite w.store (synced w.store.rewrite) })
+  keeps_sync_rewrite : IsKept (record w { store = with_rewrite w.store (synced w.store.rewrite) })
   keeps_sync_rewrite = record {
     holds = holds_rewrite_synced w.store w.map k.holds;
     unbroken = subst (λ l. IsUnbroken l) (sym all_same) k.unbroken;
@@ -88,7 +88,7 @@ module _ {E V : Type 0} (w : Machine E V) (k : Keeps w) where
   keeps_write : (y : Record E V) (items : ℕ → List (Item E V)) (tables : ℕ → Table) → MayRewrite w.store w.map y
       → UnbrokenFrom (going_on k.unbroken.0 (all_records w.store.rewrite)) (y ∷ []) → AllFit (items_of y) → ((g : ℕ) → CountsAs y g (items g))
       → ((g : ℕ) → CarriesAll (taken w.map w.store.append.pending g) (w.tables g) (items g) (tables g))
-      → Keeps (record w { store = with_rewrite w.store (takes w.store.rewrite y); tables = tables })
+      → IsKept (record w { store = with_rewrite w.store (takes w.store.rewrite y); tables = tables })
   keeps_write y items tables may unbroken fits counted carry = record {
     holds = holds_rewrite_takes w.store w.map y may k.holds;
     unbroken = (
@@ -109,7 +109,7 @@ module _ {E V : Type 0} (w : Machine E V) (k : Keeps w) where
 
   -- a part of a group that is no end: nothing counts by it
   keeps_part : (y : Record E V) → ((g : ℕ) → CountsAs y g []) → UnbrokenFrom (going_on k.unbroken.0 (all_records w.store.rewrite)) (y ∷ []) → AllFit (items_of y)
-      → Keeps (record w { store = with_rewrite w.store (takes w.store.rewrite y) })
+      → IsKept (record w { store = with_rewrite w.store (takes w.store.rewrite y) })
   keeps_part y counted unbroken fits =
       keeps_write y (λ g. []) w.tables (λ g s cut back start. inl (counted g cut back start s)) unbroken fits counted (λ g. refl)
 
@@ -127,7 +127,7 @@ module _ {E V : Type 0} (w : Machine E V) (k : Keeps w) where
   keeps_end : (n : ℕ) (xs : List (Tagged E V)) (first : List (Tagged E V)) (more : List (List (Tagged E V))) (tables : ℕ → Table)
       → w.failed ≡ false → w.store.append.pending ≡ [] → AllFit xs → GoesOnWith w.store.rewrite n first more
       → ((g : ℕ) → (items : List (Item E V)) × IsJoined (of_group g (joined first more ++ xs)) items × CarriesAll (w.map g) (w.tables g) items (tables g))
-      → Keeps (record w { store = with_rewrite w.store (takes w.store.rewrite (Part (End n) xs)); tables = tables })
+      → IsKept (record w { store = with_rewrite w.store (takes w.store.rewrite (Part (End n) xs)); tables = tables })
   keeps_end n xs first more tables alive nothing fits at_end carry =
       keeps_write (Part (End n) xs) (λ g. (carry g).0) tables (may_write (Part (End n) xs) (λ g. (carry g).0) tables alive nothing counted (λ g. (carry g).2))
       (may_go_on n first more at_end, tt) fits counted (pending_carries (λ g. (carry g).0) tables nothing (λ g. (carry g).2))
@@ -141,7 +141,7 @@ module _ {E V : Type 0} (w : Machine E V) (k : Keeps w) where
       counted g cut back start s = ap (λ o. says s (of_group g (unwrap_or (onto o xs) []))) (parts back) ∙ (carry g).1.same_words s
 
   keeps_raise_append : (out stay : List (Record E V)) → w.failed ≡ false → w.store.append.pending ≡ [] → w.store.rewrite.pending ≡ [] → out ++ stay ≡ w.store.append.live
-      → ((g : ℕ) → OwesNothing (w.tables g)) → ((g : ℕ) → HasAppended (w.tables g) (appended g stay)) → Keeps (record w { store = with_append w.store (raised w.store.append out stay) })
+      → ((g : ℕ) → OwesNothing (w.tables g)) → ((g : ℕ) → HasAppended (w.tables g) (appended g stay)) → IsKept (record w { store = with_append w.store (raised w.store.append out stay) })
   keeps_raise_append out stay alive nothing r_nothing whole owes has = record {
     holds = holds_append_raised w.store w.map out stay whole r_nothing may k.holds;
     unbroken = k.unbroken;
@@ -184,7 +184,7 @@ module _ {E V : Type 0} (w : Machine E V) (k : Keeps w) where
           [ inl spoken ↦ inl spoken | inr right ↦ inr (from_each_start g s right) ]
 
   keeps_raise_rewrite : (out stay : List (Record E V)) → w.failed ≡ false → w.store.append.pending ≡ [] → w.store.rewrite.pending ≡ [] → out ++ stay ≡ w.store.rewrite.live
-      → ((g : ℕ) → HasRewritten (w.map g) (w.tables g) (rewritten g stay)) → Keeps (record w { store = with_rewrite w.store (raised w.store.rewrite out stay) })
+      → ((g : ℕ) → HasRewritten (w.map g) (w.tables g) (rewritten g stay)) → IsKept (record w { store = with_rewrite w.store (raised w.store.rewrite out stay) })
   keeps_raise_rewrite out stay alive nothing r_nothing whole has = record {
     holds = holds_rewrite_raised w.store w.map out stay whole r_nothing (IsUnbroken-front (w.store.rewrite.gone ++ w.store.rewrite.live) w.store.rewrite.pending
         (subst (λ l. IsUnbroken l) (sym (append_assoc w.store.rewrite.gone w.store.rewrite.live w.store.rewrite.pending)) k.unbroken)) may k.holds;
@@ -222,10 +222,10 @@ module _ {E V : Type 0} (w : Machine E V) (k : Keeps w) where
           (subst (λ p. IsSpoken (says s (rewritten g stay)) ⊎ ((taken w.map p g s ≡ None) ⊎ IsSpoken (says s (appended g (w.store.append.live ++ p))))) nothing
           (may_rewrite (said_of g w.store) (taken w.map w.store.append.pending g) (w.tables g) (k.books alive g) (rewritten g stay) (λ s. (older g s).0) (λ s. (older g s).1) (pending_has g) s))
 
-  keeps_lose_append : (lost rest : List (Record E V)) → lost ++ rest ≡ w.store.append.gone → Keeps (record w { store = with_append w.store (left w.store.append rest) })
+  keeps_lose_append : (lost rest : List (Record E V)) → lost ++ rest ≡ w.store.append.gone → IsKept (record w { store = with_append w.store (left w.store.append rest) })
   keeps_lose_append lost rest e = record { holds = holds_append_left w.store w.map lost rest e k.holds; unbroken = k.unbroken; fits = k.fits; books = k.books }
 
-  keeps_lose_rewrite : (lost rest : List (Record E V)) → lost ++ rest ≡ w.store.rewrite.gone → Keeps (record w { store = with_rewrite w.store (left w.store.rewrite rest) })
+  keeps_lose_rewrite : (lost rest : List (Record E V)) → lost ++ rest ≡ w.store.rewrite.gone → IsKept (record w { store = with_rewrite w.store (left w.store.rewrite rest) })
   keeps_lose_rewrite lost rest e = record {
     holds = holds_rewrite_left w.store w.map lost rest e k.holds;
     unbroken = IsUnbroken-back lost (rest ++ span) all_unbroken;
@@ -250,7 +250,7 @@ module _ {E V : Type 0} (w : Machine E V) (k : Keeps w) where
       shorter : (g : ℕ) (s : Slot) → (older : Option (Option (Content E V))) × (says s (rewritten g (rest ++ span)) ≡ option_or (says s (rewritten g span)) older)
       shorter g s = says_end g s rest span (IsUnbroken-back lost (rest ++ span) all_unbroken)
 
-  keeps_fail : Keeps (record w { failed = true })
+  keeps_fail : IsKept (record w { failed = true })
   keeps_fail = record { holds = k.holds; unbroken = k.unbroken; fits = k.fits; books = λ alive. differ alive }
 
   module _ (r_kept r_lost r_cut r_back a_kept a_lost a_cut a_back : List (Record E V)) (r_image : r_kept ++ r_lost ≡ w.store.rewrite.pending)
@@ -270,7 +270,7 @@ module _ {E V : Type 0} (w : Machine E V) (k : Keeps w) where
         ∙ append_assoc w.store.rewrite.gone (w.store.rewrite.live ++ r_kept) r_lost
         ∙ ap (λ l. w.store.rewrite.gone ++ l) (append_assoc w.store.rewrite.live r_kept r_lost ∙ ap (λ l. w.store.rewrite.live ++ l) r_image)
 
-    keeps_reopen : Keeps (record { store = reopened; map = taken w.map a_kept; tables = tables; failed = false })
+    keeps_reopen : IsKept (record { store = reopened; map = taken w.map a_kept; tables = tables; failed = false })
     keeps_reopen = record {
       holds = still_holds;
       unbroken = IsUnbroken-front (all_records reopened.rewrite) r_lost (subst (λ l. IsUnbroken l) (sym all_before) k.unbroken);
@@ -284,27 +284,27 @@ module _ {E V : Type 0} (w : Machine E V) (k : Keeps w) where
     }
 
 -- each event keeps the invariant
-pub step_keeps : {E V : Type 0} (e : Event E V) (w v : Machine E V) → Step e w v → Keeps w → Keeps v
-step_keeps (Take y) w v h k = subst (λ x. Keeps x) (sym h.1.2) (keeps_take w k y h.1.0 h.1.1)
-step_keeps SyncAppend w v h k = subst (λ x. Keeps x) (sym h.1) (keeps_sync_append w k)
-step_keeps SyncRewrite w v h k = subst (λ x. Keeps x) (sym h.1) (keeps_sync_rewrite w k)
-step_keeps (WritePlain xs) w v h k = subst (λ x. Keeps x) (sym h.3.2)
+pub step_keeps : {E V : Type 0} (e : Event E V) (w v : Machine E V) → Step e w v → IsKept w → IsKept v
+step_keeps (Take y) w v h k = subst (λ x. IsKept x) (sym h.1.2) (keeps_take w k y h.1.0 h.1.1)
+step_keeps SyncAppend w v h k = subst (λ x. IsKept x) (sym h.1) (keeps_sync_append w k)
+step_keeps SyncRewrite w v h k = subst (λ x. IsKept x) (sym h.1) (keeps_sync_rewrite w k)
+step_keeps (WritePlain xs) w v h k = subst (λ x. IsKept x) (sym h.3.2)
     (keeps_write w k (Plain xs) (λ g. of_group g xs) h.3.0
     (may_write w k (Plain xs) (λ g. of_group g xs) h.3.0 h.0 h.1 (λ g cut back start s. refl) h.3.1) tt h.2 (λ g cut back start s. refl)
     (pending_carries w k (λ g. of_group g xs) h.3.0 h.1 h.3.1))
-step_keeps (WriteBegin n xs) w v h k = subst (λ x. Keeps x) (sym h.2) (keeps_part w k (Part (Begin n) xs) (λ g cut back start s. refl) tt h.1)
-step_keeps (WriteMiddle n xs) w v h k = subst (λ x. Keeps x) (sym h.2.3)
+step_keeps (WriteBegin n xs) w v h k = subst (λ x. IsKept x) (sym h.2) (keeps_part w k (Part (Begin n) xs) (λ g cut back start s. refl) tt h.1)
+step_keeps (WriteMiddle n xs) w v h k = subst (λ x. IsKept x) (sym h.2.3)
     (keeps_part w k (Part (Middle n) xs) (λ g cut back start s. refl) (may_go_on w k n h.2.0 h.2.1 h.2.2, tt) h.1)
-step_keeps (WriteEnd n xs) w v h k = subst (λ x. Keeps x) (sym h.3.3.2) (keeps_end w k n xs h.3.0 h.3.1 h.3.3.0 h.0 h.1 h.2 h.3.2 h.3.3.1)
-step_keeps (RaiseAppend out stay) w v h k = subst (λ x. Keeps x) (sym h.6) (keeps_raise_append w k out stay h.0 h.1 h.2 h.3 h.4 h.5)
-step_keeps (RaiseRewrite out stay) w v h k = subst (λ x. Keeps x) (sym h.5) (keeps_raise_rewrite w k out stay h.0 h.1 h.2 h.3 h.4)
-step_keeps (LoseAppend lost rest) w v h k = subst (λ x. Keeps x) (sym h.1) (keeps_lose_append w k lost rest h.0)
-step_keeps (LoseRewrite lost rest) w v h k = subst (λ x. Keeps x) (sym h.1) (keeps_lose_rewrite w k lost rest h.0)
-step_keeps Fail w v h k = subst (λ x. Keeps x) (sym h) (keeps_fail w k)
+step_keeps (WriteEnd n xs) w v h k = subst (λ x. IsKept x) (sym h.3.3.2) (keeps_end w k n xs h.3.0 h.3.1 h.3.3.0 h.0 h.1 h.2 h.3.2 h.3.3.1)
+step_keeps (RaiseAppend out stay) w v h k = subst (λ x. IsKept x) (sym h.6) (keeps_raise_append w k out stay h.0 h.1 h.2 h.3 h.4 h.5)
+step_keeps (RaiseRewrite out stay) w v h k = subst (λ x. IsKept x) (sym h.5) (keeps_raise_rewrite w k out stay h.0 h.1 h.2 h.3 h.4)
+step_keeps (LoseAppend lost rest) w v h k = subst (λ x. IsKept x) (sym h.1) (keeps_lose_append w k lost rest h.0)
+step_keeps (LoseRewrite lost rest) w v h k = subst (λ x. IsKept x) (sym h.1) (keeps_lose_rewrite w k lost rest h.0)
+step_keeps Fail w v h k = subst (λ x. IsKept x) (sym h) (keeps_fail w k)
 step_keeps (Reopen r_kept r_lost r_cut r_back a_kept a_lost a_cut a_back) w v h k =
-    subst (λ x. Keeps x) (sym h.4.2) (keeps_reopen w k r_kept r_lost r_cut r_back a_kept a_lost a_cut a_back h.0 h.1 h.2 h.3 h.4.0 h.4.1)
+    subst (λ x. IsKept x) (sym h.4.2) (keeps_reopen w k r_kept r_lost r_cut r_back a_kept a_lost a_cut a_back h.0 h.1 h.2 h.3 h.4.0 h.4.1)
 
 -- so does each schedule
-pub steps_keep : {E V : Type 0} (es : List (Event E V)) (w v : Machine E V) → Steps w es v → Keeps w → Keeps v
-steps_keep [] w v h k = subst (λ x. Keeps x) (sym h) k
+pub steps_keep : {E V : Type 0} (es : List (Event E V)) (w v : Machine E V) → Steps w es v → IsKept w → IsKept v
+steps_keep [] w v h k = subst (λ x. IsKept x) (sym h) k
 steps_keep (e ∷ es) w v h k = steps_keep es h.0 v h.2 (step_keeps e w h.0 h.1 k)

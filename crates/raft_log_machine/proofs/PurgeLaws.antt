@@ -3,7 +3,7 @@ use Rattle.std.proofs.Common.{◌≡◌, ℕ, false, List, [], ◌∷◌, ◌++�
 use Rattle.raft_log_model.specs.Meaning.{Slot}
 use Rattle.raft_log_model.specs.Groups.{Map, directory_meaning, taken}
 use Rattle.raft_log_machine.specs.Queue.{raised, with_append}
-use Rattle.raft_log_machine.specs.Machine.{Machine, Event, Step, Steps, Keeps}
+use Rattle.raft_log_machine.specs.Machine.{Machine, Event, Step, Steps, IsKept}
 use Rattle.raft_log_machine.specs.Machine.Event.{Take, SyncAppend, SyncRewrite, WritePlain, WriteBegin, WriteMiddle, WriteEnd, RaiseAppend, RaiseRewrite, LoseAppend, LoseRewrite, Fail, Reopen}
 use Rattle.raft_log_machine.specs.Files.{LogFile, FileQueue, records_of, span, all_files, first_file, IsReadOf, queue_of, SurvivesInFiles, FileStep}
 use Rattle.raft_log_machine.specs.Files.FileEvent.{Raise}
@@ -37,12 +37,12 @@ module _ {E V : Type 0} where
   own_steps (e ∷ es) w v own h g s = own_steps es h.0 v own.1 h.2 g s ∙ own_step e w h.0 own.0 h.1 g s
 
   -- from each start the files as they stand mean the map after all records
-  pub means_all : (w : Machine E V) → Keeps w → (r : Reading w.store) (g : ℕ) (s : Slot) → meaning_there w.store r g s ≡ after_all w g s
+  pub means_all : (w : Machine E V) → IsKept w → (r : Reading w.store) (g : ℕ) (s : Slot) → meaning_there w.store r g s ≡ after_all w g s
   means_all w k r g s =
       holds_more w.store w.map k.holds g s w.store.rewrite.pending [] r.r_cut r.r_back r.a_cut r.a_back w.store.append.pending
       (append-nil w.store.rewrite.pending) r.r_start r.a_start
 
-  pub invisible : (es : List (Event E V)) (w v : Machine E V) → AllOwn es → Steps w es v → Keeps w → (before : Reading w.store) (later : Reading v.store) (g : ℕ) (s : Slot)
+  pub invisible : (es : List (Event E V)) (w v : Machine E V) → AllOwn es → Steps w es v → IsKept w → (before : Reading w.store) (later : Reading v.store) (g : ℕ) (s : Slot)
       → meaning_there v.store later g s ≡ meaning_there w.store before g s
   invisible es w v own h k before later g s =
       means_all v (steps_keep es w v h k) later g s ∙ own_steps es w v own h g s ∙ sym (means_all w k before g s)

@@ -11,9 +11,9 @@ use Rattle.raft_log_model.proofs.Holes.{no_hole_front, no_hole_end, no_hole_appe
 use Rattle.raft_log_machine.specs.Unbroken.{IsUnbroken, begun, joined}
 use Rattle.raft_log_machine.specs.Queue.{Queue, Store, all_records, takes, left, reread, with_append, with_rewrite}
 use Rattle.raft_log_machine.specs.Table.{Table, GrowsBy, CarriesAll}
-use Rattle.raft_log_machine.specs.Machine.{Machine, Event, Step, Steps, GoesOnWith, IsJoined, Keeps, said_of}
+use Rattle.raft_log_machine.specs.Machine.{Machine, Event, Step, Steps, GoesOnWith, IsJoined, IsKept, said_of}
 use Rattle.raft_log_machine.specs.Machine.Event.{Take, SyncAppend, SyncRewrite, WritePlain, WriteBegin, WriteMiddle, WriteEnd, RaiseAppend, RaiseRewrite, LoseAppend, LoseRewrite, Fail, Reopen}
-use Rattle.raft_log_machine.specs.Replay.{Replays, IsTopOf, KeepsReplay}
+use Rattle.raft_log_machine.specs.Replay.{Replays, IsTopOf, IsReplayable}
 use Rattle.raft_log_machine.specs.Fresh.{fresh_machine}
 use Rattle.raft_log_machine.proofs.Words.{appended_append, settle_append, of_group_append, rewritten_more}
 use Rattle.raft_log_machine.proofs.UnbrokenLaws.{IsUnbroken-front, IsUnbroken-back, rewritten_end, opened-begun}
@@ -72,7 +72,7 @@ module _ {E V : Type 0} where
       ∙ ap (λ l. cut ++ l) (append_assoc back (q.live ++ kept) lost ∙ ap (λ l. back ++ l) (append_assoc q.live kept lost ∙ ap (λ l. q.live ++ l) image))
       ∙ sym (append_assoc cut back (q.live ++ q.pending)) ∙ ap (λ l. l ++ (q.live ++ q.pending)) start
 
-  pub replays : (w : Machine E V) → Keeps w → KeepsReplay w → Replays w.store
+  pub replays : (w : Machine E V) → IsKept w → IsReplayable w → Replays w.store
   replays w k p = record {
     append = λ g kept lost cut back image start.
         appended_back_fits g cut (back ++ (w.store.append.live ++ kept))
@@ -91,9 +91,9 @@ module _ {E V : Type 0} where
           IsUnbroken-front (cut ++ (back ++ (w.store.rewrite.live ++ kept))) lost
           (subst (λ l. IsUnbroken l) (sym (image_is w.store.rewrite kept lost cut back image start)) k.unbroken)
 
-module _ {E V : Type 0} (w : Machine E V) (k : Keeps w) (p : KeepsReplay w) where
+module _ {E V : Type 0} (w : Machine E V) (k : IsKept w) (p : IsReplayable w) where
   replay_take : (y : Record E V) (tables : ℕ → Table) → w.failed ≡ false → ((g : ℕ) → GrowsBy (w.tables g) (of_group g (items_of y)) (tables g))
-      → KeepsReplay (record w { store = with_append w.store (takes w.store.append y); tables = tables })
+      → IsReplayable (record w { store = with_append w.store (takes w.store.append y); tables = tables })
   replay_take y tables alive grow = record {
     append_whole = λ g. subst (λ l. NoHole nothing l) (sym (list_is g)) (no_hole_append nothing (appended g (all_records w.store.append)) (of_group g (items_of y)) (p.append_whole g) (fit g).0);
     rewrite_whole = p.rewrite_whole;
@@ -113,7 +113,7 @@ module _ {E V : Type 0} (w : Machine E V) (k : Keeps w) (p : KeepsReplay w) wher
 
   -- the same records of both queues, and tables that end where they did
   replay_same : (v : Machine E V) → all_records v.store.append ≡ all_records w.store.append → all_records v.store.rewrite ≡ all_records w.store.rewrite
-      → (v.failed ≡ false → (w.failed ≡ false) × ((g : ℕ) → v.tables g ≡ w.tables g)) → KeepsReplay v
+      → (v.failed ≡ false → (w.failed ≡ false) × ((g : ℕ) → v.tables g ≡ w.tables g)) → IsReplayable v
   replay_same v a r t = record {
     append_whole = λ g. subst (λ l. NoHole nothing (appended g l)) (sym a) (p.append_whole g);
     rewrite_whole = λ g. subst (λ l. NoHole nothing (rewritten g l)) (sym r) (p.rewrite_whole g);
@@ -124,7 +124,7 @@ module _ {E V : Type 0} (w : Machine E V) (k : Keeps w) (p : KeepsReplay w) wher
   replay_write : (y : Record E V) (tables : ℕ → Table) → w.failed ≡ false
       → ((g : ℕ) → NoHole (window nothing (rewritten g (all_records w.store.rewrite))) (of_group g (counts (opened none_open (all_records w.store.rewrite)) y)))
       → ((g : ℕ) → ((tables g).first ≡ (w.tables g).first) × ((tables g).end ≡ (w.tables g).end))
-      → KeepsReplay (record w { store = with_rewrite w.store (takes w.store.rewrite y); tables = tables })
+      → IsReplayable (record w { store = with_rewrite w.store (takes w.store.rewrite y); tables = tables })
   replay_write y tables alive fit ends = record {
     append_whole = p.append_whole;
     rewrite_whole = λ g. subst (λ l. NoHole nothing l) (sym (ap (rewritten g) (all_more w.store.rewrite y) ∙ rewritten_more g (all_records w.store.rewrite) y))
@@ -142,7 +142,7 @@ module _ {E V : Type 0} (w : Machine E V) (k : Keeps w) (p : KeepsReplay w) wher
   replay_end : (n : ℕ) (xs first : List (Tagged E V)) (more : List (List (Tagged E V))) (tables : ℕ → Table) → w.failed ≡ false → w.store.append.pending ≡ []
       → GoesOnWith w.store.rewrite n first more
       → ((g : ℕ) → (items : List (Item E V)) × IsJoined (of_group g (joined first more ++ xs)) items × CarriesAll (w.map g) (w.tables g) items (tables g))
-      → KeepsReplay (record w { store = with_rewrite w.store (takes w.store.rewrite (Part (End n) xs)); tables = tables })
+      → IsReplayable (record w { store = with_rewrite w.store (takes w.store.rewrite (Part (End n) xs)); tables = tables })
   replay_end n xs first more tables alive none at_end carry =
       replay_write (Part (End n) xs) tables alive
       (λ g. subst (λ o. NoHole (window nothing (rewritten g (all_records w.store.rewrite))) (of_group g (unwrap_or (onto o xs) []))) (sym parts)
@@ -155,7 +155,7 @@ module _ {E V : Type 0} (w : Machine E V) (k : Keeps w) (p : KeepsReplay w) wher
           ap (λ l. opened none_open l n) (ap (λ l. w.store.rewrite.gone ++ l) at_end.1 ∙ sym (append_assoc w.store.rewrite.gone at_end.0 (begun n first more)))
           ∙ opened-begun none_open (w.store.rewrite.gone ++ at_end.0) n first more
 
-  replay_lose_append : (lost rest : List (Record E V)) → lost ++ rest ≡ w.store.append.gone → KeepsReplay (record w { store = with_append w.store (left w.store.append rest) })
+  replay_lose_append : (lost rest : List (Record E V)) → lost ++ rest ≡ w.store.append.gone → IsReplayable (record w { store = with_append w.store (left w.store.append rest) })
   replay_lose_append lost rest e = record {
     append_whole = λ g. appended_back_fits g lost (rest ++ span) (whole g);
     rewrite_whole = p.rewrite_whole;
@@ -172,7 +172,7 @@ module _ {E V : Type 0} (w : Machine E V) (k : Keeps w) (p : KeepsReplay w) wher
       whole : (g : ℕ) → NoHole nothing (appended g (lost ++ (rest ++ span)))
       whole g = subst (λ l. NoHole nothing (appended g l)) (sym all_is) (p.append_whole g)
 
-  replay_lose_rewrite : (lost rest : List (Record E V)) → lost ++ rest ≡ w.store.rewrite.gone → KeepsReplay (record w { store = with_rewrite w.store (left w.store.rewrite rest) })
+  replay_lose_rewrite : (lost rest : List (Record E V)) → lost ++ rest ≡ w.store.rewrite.gone → IsReplayable (record w { store = with_rewrite w.store (left w.store.rewrite rest) })
   replay_lose_rewrite lost rest e = record {
     append_whole = p.append_whole;
     rewrite_whole = λ g. rewritten_back_fits g lost (rest ++ span) (subst (λ l. IsUnbroken l) (sym all_is) k.unbroken)
@@ -188,8 +188,8 @@ module _ {E V : Type 0} (w : Machine E V) (k : Keeps w) (p : KeepsReplay w) wher
 
   replay_reopen : (r_kept r_lost r_cut r_back a_kept a_lost a_cut a_back : List (Record E V)) → r_kept ++ r_lost ≡ w.store.rewrite.pending → r_cut ++ r_back ≡ w.store.rewrite.gone
       → a_kept ++ a_lost ≡ w.store.append.pending → a_cut ++ a_back ≡ w.store.append.gone → (tables : ℕ → Table)
-      → Keeps (record { store = record { rewrite = reread w.store.rewrite r_cut r_back r_kept; append = reread w.store.append a_cut a_back a_kept }; map = taken w.map a_kept; tables = tables; failed = false })
-      → KeepsReplay (record { store = record { rewrite = reread w.store.rewrite r_cut r_back r_kept; append = reread w.store.append a_cut a_back a_kept }; map = taken w.map a_kept; tables = tables; failed = false })
+      → IsKept (record { store = record { rewrite = reread w.store.rewrite r_cut r_back r_kept; append = reread w.store.append a_cut a_back a_kept }; map = taken w.map a_kept; tables = tables; failed = false })
+      → IsReplayable (record { store = record { rewrite = reread w.store.rewrite r_cut r_back r_kept; append = reread w.store.append a_cut a_back a_kept }; map = taken w.map a_kept; tables = tables; failed = false })
   replay_reopen r_kept r_lost r_cut r_back a_kept a_lost a_cut a_back r_image r_start a_image a_start tables next = record {
     append_whole = whole;
     rewrite_whole = λ g. rewritten_front_fits g (r_cut ++ ((r_back ++ (w.store.rewrite.live ++ r_kept)) ++ [])) r_lost
@@ -216,20 +216,20 @@ module _ {E V : Type 0} (w : Machine E V) (k : Keeps w) (p : KeepsReplay w) wher
           (ap (λ l. says (Index i) (appended g (a_cut ++ l))) (sym (append-nil (a_back ++ (w.store.append.live ++ a_kept)))) ∙ e)
 
 -- each event keeps it
-pub step_replays : {E V : Type 0} (e : Event E V) (w v : Machine E V) → Step e w v → Keeps w → KeepsReplay w → KeepsReplay v
-step_replays (Take y) w v h k p = subst (λ x. KeepsReplay x) (sym h.1.2) (replay_take w k p y h.1.0 h.0 h.1.1)
+pub step_replays : {E V : Type 0} (e : Event E V) (w v : Machine E V) → Step e w v → IsKept w → IsReplayable w → IsReplayable v
+step_replays (Take y) w v h k p = subst (λ x. IsReplayable x) (sym h.1.2) (replay_take w k p y h.1.0 h.0 h.1.1)
 step_replays SyncAppend w v h k p = replay_same w k p v
     (ap (λ x. all_records x.store.append) h.1 ∙ ap (λ l. w.store.append.gone ++ l) (append-nil (w.store.append.live ++ w.store.append.pending)))
     (ap (λ x. all_records x.store.rewrite) h.1) (λ alive. (h.0, λ g. ap (λ x. x.tables g) h.1))
 step_replays SyncRewrite w v h k p = replay_same w k p v (ap (λ x. all_records x.store.append) h.1)
     (ap (λ x. all_records x.store.rewrite) h.1 ∙ ap (λ l. w.store.rewrite.gone ++ l) (append-nil (w.store.rewrite.live ++ w.store.rewrite.pending)))
     (λ alive. (h.0, λ g. ap (λ x. x.tables g) h.1))
-step_replays (WritePlain xs) w v h k p = subst (λ x. KeepsReplay x) (sym h.3.2)
+step_replays (WritePlain xs) w v h k p = subst (λ x. IsReplayable x) (sym h.3.2)
     (replay_write w k p (Plain xs) h.3.0 h.0 (carried_fit w k p (λ g. of_group g xs) h.3.0 h.0 h.1 h.3.1)
     (λ g. carries_all_ends (w.map g) (w.tables g) (of_group g xs) (h.3.0 g) (h.3.1 g)))
-step_replays (WriteBegin n xs) w v h k p = subst (λ x. KeepsReplay x) (sym h.2) (replay_write w k p (Part (Begin n) xs) w.tables h.0 (λ g. tt) (λ g. (refl, refl)))
-step_replays (WriteMiddle n xs) w v h k p = subst (λ x. KeepsReplay x) (sym h.2.3) (replay_write w k p (Part (Middle n) xs) w.tables h.0 (λ g. tt) (λ g. (refl, refl)))
-step_replays (WriteEnd n xs) w v h k p = subst (λ x. KeepsReplay x) (sym h.3.3.2) (replay_end w k p n xs h.3.0 h.3.1 h.3.3.0 h.0 h.1 h.3.2 h.3.3.1)
+step_replays (WriteBegin n xs) w v h k p = subst (λ x. IsReplayable x) (sym h.2) (replay_write w k p (Part (Begin n) xs) w.tables h.0 (λ g. tt) (λ g. (refl, refl)))
+step_replays (WriteMiddle n xs) w v h k p = subst (λ x. IsReplayable x) (sym h.2.3) (replay_write w k p (Part (Middle n) xs) w.tables h.0 (λ g. tt) (λ g. (refl, refl)))
+step_replays (WriteEnd n xs) w v h k p = subst (λ x. IsReplayable x) (sym h.3.3.2) (replay_end w k p n xs h.3.0 h.3.1 h.3.3.0 h.0 h.1 h.3.2 h.3.3.1)
 step_replays (RaiseAppend out stay) w v h k p = replay_same w k p v
     (ap (λ x. all_records x.store.append) h.6 ∙ append_assoc w.store.append.gone out (stay ++ w.store.append.pending)
     ∙ ap (λ l. w.store.append.gone ++ l) (sym (append_assoc out stay w.store.append.pending) ∙ ap (λ l. l ++ w.store.append.pending) h.3))
@@ -238,20 +238,20 @@ step_replays (RaiseRewrite out stay) w v h k p = replay_same w k p v (ap (λ x. 
     (ap (λ x. all_records x.store.rewrite) h.5 ∙ append_assoc w.store.rewrite.gone out (stay ++ w.store.rewrite.pending)
     ∙ ap (λ l. w.store.rewrite.gone ++ l) (sym (append_assoc out stay w.store.rewrite.pending) ∙ ap (λ l. l ++ w.store.rewrite.pending) h.3))
     (λ alive. (h.0, λ g. ap (λ x. x.tables g) h.5))
-step_replays (LoseAppend lost rest) w v h k p = subst (λ x. KeepsReplay x) (sym h.1) (replay_lose_append w k p lost rest h.0)
-step_replays (LoseRewrite lost rest) w v h k p = subst (λ x. KeepsReplay x) (sym h.1) (replay_lose_rewrite w k p lost rest h.0)
+step_replays (LoseAppend lost rest) w v h k p = subst (λ x. IsReplayable x) (sym h.1) (replay_lose_append w k p lost rest h.0)
+step_replays (LoseRewrite lost rest) w v h k p = subst (λ x. IsReplayable x) (sym h.1) (replay_lose_rewrite w k p lost rest h.0)
 step_replays Fail w v h k p = replay_same w k p v (ap (λ x. all_records x.store.append) h) (ap (λ x. all_records x.store.rewrite) h)
     (λ alive. differ (sym (ap (λ x. x.failed) h) ∙ alive))
 step_replays (Reopen r_kept r_lost r_cut r_back a_kept a_lost a_cut a_back) w v h k p =
-    subst (λ x. KeepsReplay x) (sym h.4.2)
+    subst (λ x. IsReplayable x) (sym h.4.2)
     (replay_reopen w k p r_kept r_lost r_cut r_back a_kept a_lost a_cut a_back h.0 h.1 h.2 h.3 h.4.0
-    (subst (λ x. Keeps x) h.4.2 (step_keeps (Reopen r_kept r_lost r_cut r_back a_kept a_lost a_cut a_back) w v h k)))
+    (subst (λ x. IsKept x) h.4.2 (step_keeps (Reopen r_kept r_lost r_cut r_back a_kept a_lost a_cut a_back) w v h k)))
 
-pub steps_replay : {E V : Type 0} (es : List (Event E V)) (w v : Machine E V) → Steps w es v → Keeps w → KeepsReplay w → Keeps v × KeepsReplay v
-steps_replay [] w v h k p = (subst (λ x. Keeps x) (sym h) k, subst (λ x. KeepsReplay x) (sym h) p)
+pub steps_replay : {E V : Type 0} (es : List (Event E V)) (w v : Machine E V) → Steps w es v → IsKept w → IsReplayable w → IsKept v × IsReplayable v
+steps_replay [] w v h k p = (subst (λ x. IsKept x) (sym h) k, subst (λ x. IsReplayable x) (sym h) p)
 steps_replay (e ∷ es) w v h k p = steps_replay es h.0 v h.2 (step_keeps e w h.0 h.1 k) (step_replays e w h.0 h.1 k p)
 
-pub fresh_replays : {E V : Type 0} → KeepsReplay (fresh_machine {E = E} {V = V})
+pub fresh_replays : {E V : Type 0} → IsReplayable (fresh_machine {E = E} {V = V})
 fresh_replays = record { append_whole = λ g. tt; rewrite_whole = λ g. tt; top_part = λ alive g. inl (omega arith) }
 
 pub schedule_replays : {E V : Type 0} (es : List (Event E V)) (v : Machine E V) → Steps fresh_machine es v → Replays v.store

@@ -146,7 +146,7 @@ said_of g q = record {
 }
 
 -- the invariant of the machine
-pub record Keeps {E V : Type 0} (w : Machine E V) : Type 0 where
+pub record IsKept {E V : Type 0} (w : Machine E V) : Type 0 where
   pub holds : Holds w.store w.map
   pub unbroken : IsUnbroken (all_records w.store.rewrite)
   pub fits : RecordsFit (all_records w.store.rewrite)

@@ -26,7 +26,7 @@ abbrev pub IsTopOf : Window → Table → Type 0
 IsTopOf w t = (w.end ≤ w.first) ⊎ ((w.end ≡ t.end) × (t.first ≤ w.first))
 
 -- the invariant behind it
-pub record KeepsReplay {E V : Type 0} (w : Machine E V) : Type 0 where
+pub record IsReplayable {E V : Type 0} (w : Machine E V) : Type 0 where
   pub append_whole : (g : ℕ) → NoHole nothing (appended g (all_records w.store.append))
   pub rewrite_whole : (g : ℕ) → NoHole nothing (rewritten g (all_records w.store.rewrite))
   pub top_part : w.failed ≡ false → (g : ℕ)

@@ -18,7 +18,7 @@ fn laws_of_survival() {
 
 #[test]
 fn laws_of_machine() {
-    machine::fresh_machine_keeps::<u64, u64>();
+    machine::fresh_machine_is_kept::<u64, u64>();
     machine::each_step_keeps::<u64, u64>();
     machine::survives_always::<u64, u64>();
     machine::map_is_what_was_taken::<u64, u64>();

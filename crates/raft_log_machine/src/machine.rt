@@ -7,17 +7,17 @@ ghost use Rattle.raft_log_model.specs.Meaning.{Slot};
 ghost use Rattle.raft_log_machine.specs.Fresh.{fresh_machine, nothing_stands};
 ghost use Rattle.raft_log_machine.specs.History.{history};
 ghost use Rattle.raft_log_machine.specs.Survival.{Survives};
-ghost use Rattle.raft_log_machine.specs.Machine.{Event, Keeps, Step, Steps, Machine};
+ghost use Rattle.raft_log_machine.specs.Machine.{Event, IsKept, Step, Steps, Machine};
 
 /// A fresh directory with its empty tables keeps the invariant.
-pub fn fresh_machine_keeps<E, V>()
-    ensures { Keeps (fresh_machine {E = E} {V = V}) }
+pub fn fresh_machine_is_kept<E, V>()
+    ensures { IsKept (fresh_machine {E = E} {V = V}) }
 {}
 
 /// Each event keeps the invariant: a record in Append, syncs, marks and copies in Rewrite, parts of atomic
 /// groups, first files that rise, files that are lost, a failure, and an open of any image from any starts.
 pub fn each_step_keeps<E, V>()
-    ensures { (e : Event E V) (w v : Machine E V) → Step e w v → Keeps w → Keeps v }
+    ensures { (e : Event E V) (w v : Machine E V) → Step e w v → IsKept w → IsKept v }
 {}
 
 /// Over every schedule of events from a fresh directory, the directory survives as its map, Append's unsynced

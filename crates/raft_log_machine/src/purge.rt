@@ -8,12 +8,12 @@ ghost use Rattle.raft_log_machine.specs.Files.{first_file, all_files, queue_of, 
 ghost use Rattle.raft_log_machine.specs.Purge.{meaning_there, AllOwn, IsRewritten, Reading};
 ghost use Rattle.raft_log_machine.specs.Queue.{raised, with_append};
 ghost use Rattle.raft_log_machine.specs.Machine.Event.{RaiseAppend};
-ghost use Rattle.raft_log_machine.specs.Machine.{Event, Keeps, Step, Steps, Machine};
+ghost use Rattle.raft_log_machine.specs.Machine.{Event, IsKept, Step, Steps, Machine};
 
 /// A purge changes nothing, answered or refused wherever it stopped: after any events of the engine's own, and
 /// from any start of each queue, the files mean what they meant before them from any start.
 pub fn purge_is_invisible<E, V>()
-    ensures { (events : List (Event E V)) (w v : Machine E V) → AllOwn events → Steps w events v → Keeps w
+    ensures { (events : List (Event E V)) (w v : Machine E V) → AllOwn events → Steps w events v → IsKept w
         → (before : Reading w.store) (later : Reading v.store) (g : ℕ) (s : Slot)
         → meaning_there v.store later g s ≡ meaning_there w.store before g s }
 {}

@@ -10,24 +10,24 @@ ghost use Rattle.raft_log_model.specs.Meaning.Slot.{Index};
 ghost use Rattle.raft_log_model.specs.Tidy.{Tidy};
 ghost use Rattle.raft_log_machine.specs.Fresh.{fresh_machine};
 ghost use Rattle.raft_log_machine.specs.Purge.{meaning_there, Reading};
-ghost use Rattle.raft_log_machine.specs.Replay.{KeepsReplay, Replays};
+ghost use Rattle.raft_log_machine.specs.Replay.{IsReplayable, Replays};
 ghost use Rattle.raft_log_machine.specs.Unbroken.{IsUnbroken};
-ghost use Rattle.raft_log_machine.specs.Machine.{Event, IsJoined, Keeps, Step, Steps, Machine};
+ghost use Rattle.raft_log_machine.specs.Machine.{Event, IsJoined, IsKept, Step, Steps, Machine};
 
 /// A fresh directory replays.
 pub fn fresh_machine_replays<E, V>()
-    ensures { KeepsReplay (fresh_machine {E = E} {V = V}) }
+    ensures { IsReplayable (fresh_machine {E = E} {V = V}) }
 {}
 
 /// Each event keeps what replay asks.
 pub fn each_step_replays<E, V>()
-    ensures { (e : Event E V) (w v : Machine E V) → Step e w v → Keeps w → KeepsReplay w → KeepsReplay v }
+    ensures { (e : Event E V) (w v : Machine E V) → Step e w v → IsKept w → IsReplayable w → IsReplayable v }
 {}
 
 /// Where it is kept, each start of each queue and each beginning of its unsynced records can be read: no hole
 /// in Append, none in Rewrite, and no atomic group broken.
 pub fn kept_machine_replays<E, V>()
-    ensures { (w : Machine E V) → Keeps w → KeepsReplay w → Replays w.store }
+    ensures { (w : Machine E V) → IsKept w → IsReplayable w → Replays w.store }
 {}
 
 /// Over every schedule of events from a fresh directory, the directory replays.
@@ -39,7 +39,7 @@ pub fn replays_always<E, V>()
 /// Cleans, greatest Compact and least start of a run, and no gap) says what the last word says: no hole and no
 /// gap ever acts.
 pub fn intervals_say_the_same<E, V>()
-    ensures { (w : Machine E V) → Keeps w → KeepsReplay w → w.failed ≡ false → (r : Reading w.store) (g i : ℕ)
+    ensures { (w : Machine E V) → IsKept w → IsReplayable w → w.failed ≡ false → (r : Reading w.store) (g i : ℕ)
         → directory_by_intervals i (rewritten g (r.r_back ++ (w.store.rewrite.live ++ w.store.rewrite.pending)))
         (appended g (r.a_back ++ (w.store.append.live ++ w.store.append.pending)))
         ≡ meaning_there w.store r g (Index i) }

@@ -13,15 +13,15 @@ use Rattle.raft_log_model.proofs.Cases.{at_bool, if_false, from_eq_true}
 use Rattle.raft_log_model.proofs.Tests.{run_sets}
 use Rattle.raft_log_model.proofs.Windows.{Spans, one_run_fits}
 use Rattle.raft_log_machine.specs.Queue.{takes, synced, raised, reread, with_append, with_rewrite}
-use Rattle.raft_log_machine.specs.Table.{Table, top, with_key, GrowsBy, CarriesAll, OwesNothing, HasAppended}
+use Rattle.raft_log_machine.specs.Whereabouts.{Whereabouts, top, with_key, GrowsBy, CarriesAll, OwesNothing, HasAppended}
 use Rattle.raft_log_machine.specs.Recovery.{IsRecovered}
-use Rattle.raft_log_machine.specs.Fresh.{empty_table, fresh_machine}
+use Rattle.raft_log_machine.specs.Fresh.{nowhere, fresh_machine}
 use Rattle.raft_log_machine.specs.Machine.{Machine, Steps}
 use Rattle.raft_log_machine.specs.WrongRules.{of}
 use Rattle.raft_log_machine.specs.Example.{entries, compaction, only, two_purges, purged_twice, read_again}
 use Rattle.raft_log_machine.proofs.Words.{says_append, unwrap_or_option_or}
-use Rattle.raft_log_machine.proofs.BookCarries.{differ}
-use Rattle.raft_log_machine.proofs.BookRaises.{no_word}
+use Rattle.raft_log_machine.proofs.TruthCarries.{differ}
+use Rattle.raft_log_machine.proofs.TruthRaises.{no_word}
 
 four_fits : 4 ≤ top
 unfolding top
@@ -31,53 +31,53 @@ four_fits = omega arith
 each : (P : ℕ → Type 0) → P 1 → ((g : ℕ) → (1 == g) ≡ false → P g) → (g : ℕ) → P g
 each P here elsewhere g = elim (cases_Bool (1 == g)) [ inl e ↦ subst P (from_eq_true 1 g e) here | inr e ↦ elsewhere g e ]
 
-at_table : (P : Table → Type 0) (t : Table) → P t → P empty_table → (g : ℕ) → P (only t g)
-at_table P t here elsewhere g = at_bool (1 == g) (λ b. P (if b then t else empty_table)) (λ e. here) (λ e. elsewhere)
+at_whereabouts : (P : Whereabouts → Type 0) (t : Whereabouts) → P t → P nowhere → (g : ℕ) → P (only t g)
+at_whereabouts P t here elsewhere g = at_bool (1 == g) (λ b. P (if b then t else nowhere)) (λ e. here) (λ e. elsewhere)
 
 none_of : (g : ℕ) (xs : List (Item ℕ ℕ)) → (1 == g) ≡ false → of_group g (of 1 xs) ≡ []
 none_of g [] e = refl
 none_of g (x ∷ xs) e = if_false (1 == g) (x ∷ of_group g (of 1 xs)) (of_group g (of 1 xs)) e ∙ none_of g xs e
 
-other_table : (t : Table) (g : ℕ) → (1 == g) ≡ false → only t g ≡ empty_table
-other_table t g e = if_false (1 == g) t empty_table e
+other_whereabouts : (t : Whereabouts) (g : ℕ) → (1 == g) ≡ false → only t g ≡ nowhere
+other_whereabouts t g e = if_false (1 == g) t nowhere e
 
-all_grow : (t : Table) (xs : List (Item ℕ ℕ)) (u : Table) → GrowsBy t (of_group 1 (of 1 xs)) u → (g : ℕ) → GrowsBy (only t g) (of_group g (of 1 xs)) (only u g)
+all_grow : (t : Whereabouts) (xs : List (Item ℕ ℕ)) (u : Whereabouts) → GrowsBy t (of_group 1 (of 1 xs)) u → (g : ℕ) → GrowsBy (only t g) (of_group g (of 1 xs)) (only u g)
 all_grow t xs u here = each (λ g. GrowsBy (only t g) (of_group g (of 1 xs)) (only u g)) here
-    (λ g e. subst (λ l. GrowsBy (only t g) l (only u g)) (sym (none_of g xs e)) (other_table u g e ∙ sym (other_table t g e)))
+    (λ g e. subst (λ l. GrowsBy (only t g) l (only u g)) (sym (none_of g xs e)) (other_whereabouts u g e ∙ sym (other_whereabouts t g e)))
 
-first_grow : (xs : List (Item ℕ ℕ)) (u : Table) → GrowsBy empty_table (of_group 1 (of 1 xs)) u → (g : ℕ) → GrowsBy empty_table (of_group g (of 1 xs)) (only u g)
-first_grow xs u here = each (λ g. GrowsBy empty_table (of_group g (of 1 xs)) (only u g)) here
-    (λ g e. subst (λ l. GrowsBy empty_table l (only u g)) (sym (none_of g xs e)) (other_table u g e))
+first_grow : (xs : List (Item ℕ ℕ)) (u : Whereabouts) → GrowsBy nowhere (of_group 1 (of 1 xs)) u → (g : ℕ) → GrowsBy nowhere (of_group g (of 1 xs)) (only u g)
+first_grow xs u here = each (λ g. GrowsBy nowhere (of_group g (of 1 xs)) (only u g)) here
+    (λ g e. subst (λ l. GrowsBy nowhere l (only u g)) (sym (none_of g xs e)) (other_whereabouts u g e))
 
-all_carry : (m : Map ℕ ℕ) (t : Table) (xs : List (Item ℕ ℕ)) (u : Table) → CarriesAll (m 1) t (of_group 1 (of 1 xs)) u
+all_carry : (m : Map ℕ ℕ) (t : Whereabouts) (xs : List (Item ℕ ℕ)) (u : Whereabouts) → CarriesAll (m 1) t (of_group 1 (of 1 xs)) u
     → (g : ℕ) → CarriesAll (m g) (only t g) (of_group g (of 1 xs)) (only u g)
 all_carry m t xs u here = each (λ g. CarriesAll (m g) (only t g) (of_group g (of 1 xs)) (only u g)) here
-    (λ g e. subst (λ l. CarriesAll (m g) (only t g) l (only u g)) (sym (none_of g xs e)) (other_table u g e ∙ sym (other_table t g e)))
+    (λ g e. subst (λ l. CarriesAll (m g) (only t g) l (only u g)) (sym (none_of g xs e)) (other_whereabouts u g e ∙ sym (other_whereabouts t g e)))
 
--- the table after each event that moves it
-abbrev entered : Table
-entered = record empty_table { first = 1; split = 1; end = 4 }
+-- the whereabouts after each event that moves it
+abbrev entered : Whereabouts
+entered = record nowhere { first = 1; split = 1; end = 4 }
 
-abbrev copied : Table
-copied = record empty_table { first = 1; split = 4; end = 4 }
+abbrev copied : Whereabouts
+copied = record nowhere { first = 1; split = 4; end = 4 }
 
-abbrev compacted_to_3 : Table
-compacted_to_3 = record empty_table { first = 3; split = 4; end = 4; appended = with_key (λ k. false) (5 ∷ []) true; compacted = true }
+abbrev compacted_to_3 : Whereabouts
+compacted_to_3 = record nowhere { first = 3; split = 4; end = 4; appended = with_key (λ k. false) (5 ∷ []) true; compacted = true }
 
-abbrev marked : Table
-marked = record empty_table { first = 3; split = 4; end = 4; appended = with_key (λ k. false) (5 ∷ []) true }
+abbrev marked : Whereabouts
+marked = record nowhere { first = 3; split = 4; end = 4; appended = with_key (λ k. false) (5 ∷ []) true }
 
-abbrev key_copied : Table
-key_copied = record empty_table { first = 3; split = 4; end = 4; appended = with_key (with_key (λ k. false) (5 ∷ []) true) (5 ∷ []) false }
+abbrev key_copied : Whereabouts
+key_copied = record nowhere { first = 3; split = 4; end = 4; appended = with_key (with_key (λ k. false) (5 ∷ []) true) (5 ∷ []) false }
 
 abbrev w1 : Machine ℕ ℕ
-w1 = record fresh_machine { store = with_append fresh_machine.store (takes fresh_machine.store.append entries); tables = only entered }
+w1 = record fresh_machine { store = with_append fresh_machine.store (takes fresh_machine.store.append entries); whereabouts = only entered }
 
 abbrev w2 : Machine ℕ ℕ
 w2 = record w1 { store = with_append w1.store (synced w1.store.append); map = taken w1.map w1.store.append.pending }
 
 abbrev w3 : Machine ℕ ℕ
-w3 = record w2 { store = with_rewrite w2.store (takes w2.store.rewrite (Plain (of 1 (Run 1 (11 ∷ 12 ∷ 13 ∷ []) ∷ [])))); tables = only copied }
+w3 = record w2 { store = with_rewrite w2.store (takes w2.store.rewrite (Plain (of 1 (Run 1 (11 ∷ 12 ∷ 13 ∷ []) ∷ [])))); whereabouts = only copied }
 
 abbrev w4 : Machine ℕ ℕ
 w4 = record w3 { store = with_rewrite w3.store (synced w3.store.rewrite) }
@@ -86,16 +86,16 @@ abbrev w5 : Machine ℕ ℕ
 w5 = record w4 { store = with_append w4.store (raised w4.store.append (entries ∷ []) []) }
 
 abbrev w6 : Machine ℕ ℕ
-w6 = record w5 { store = with_append w5.store (takes w5.store.append compaction); tables = only compacted_to_3 }
+w6 = record w5 { store = with_append w5.store (takes w5.store.append compaction); whereabouts = only compacted_to_3 }
 
 abbrev w7 : Machine ℕ ℕ
 w7 = record w6 { store = with_append w6.store (synced w6.store.append); map = taken w6.map w6.store.append.pending }
 
 abbrev w8 : Machine ℕ ℕ
-w8 = record w7 { store = with_rewrite w7.store (takes w7.store.rewrite (Plain (of 1 (Compact 3 ∷ [])))); tables = only marked }
+w8 = record w7 { store = with_rewrite w7.store (takes w7.store.rewrite (Plain (of 1 (Compact 3 ∷ [])))); whereabouts = only marked }
 
 abbrev w9 : Machine ℕ ℕ
-w9 = record w8 { store = with_rewrite w8.store (takes w8.store.rewrite (Plain (of 1 (Put (5 ∷ []) 50 ∷ [])))); tables = only key_copied }
+w9 = record w8 { store = with_rewrite w8.store (takes w8.store.rewrite (Plain (of 1 (Put (5 ∷ []) 50 ∷ [])))); whereabouts = only key_copied }
 
 abbrev w10 : Machine ℕ ℕ
 w10 = record w9 { store = with_rewrite w9.store (synced w9.store.rewrite) }
@@ -107,14 +107,14 @@ abbrev w12 : Machine ℕ ℕ
 w12 = record {
   store = record { rewrite = reread w11.store.rewrite [] [] []; append = reread w11.store.append [] (entries ∷ compaction ∷ []) [] };
   map = taken w11.map [];
-  tables = only read_again;
+  whereabouts = only read_again;
   failed = false;
 }
 
 restated : (i : ℕ) → 1 ≤ i → i < 1 + length {A = ℕ} (11 ∷ 12 ∷ 13 ∷ []) → ◌≡◌ {A = Option (Content ℕ ℕ)} (option_map Entry (slice_get (11 ∷ 12 ∷ 13 ∷ []) (i - 1))) (w2.map 1 (Index i))
 restated i low high = sym (ap (λ w. unwrap_or w None) (run_sets i 1 (11 ∷ 12 ∷ 13 ∷ []) low (omega arith)))
 
-nothing_left : (t : Table) → t.split ≡ t.end → ((k : List ℕ) → t.appended k ≡ true → ⊥) → HasAppended {E = ℕ} {V = ℕ} t []
+nothing_left : (t : Whereabouts) → t.split ≡ t.end → ((k : List ℕ) → t.appended k ≡ true → ⊥) → HasAppended {E = ℕ} {V = ℕ} t []
 nothing_left t e none = ((λ i from high. absurd (omega arith)), (λ k h. absurd (none k h)))
 
 no_false : false ≡ true → ⊥
@@ -164,7 +164,7 @@ quiet g e s =
     ap (λ l. unwrap_or (says s l) (unwrap_or (says s (of_group g (of 1 (Run 1 (11 ∷ 12 ∷ 13 ∷ []) ∷ [])))) None)) (none_of g (Compact 3 ∷ Put (5 ∷ []) 50 ∷ []) e)
     ∙ ap (λ l. unwrap_or (says s l) None) (none_of g (Run 1 (11 ∷ 12 ∷ 13 ∷ []) ∷ []) e)
 
-recovered_elsewhere : (g : ℕ) → (1 == g) ≡ false → IsRecovered (w11.map g) [] empty_table
+recovered_elsewhere : (g : ℕ) → (1 == g) ≡ false → IsRecovered (w11.map g) [] nowhere
 recovered_elsewhere g e = record {
   in_order = (omega arith, omega arith, omega arith);
   below = λ i h. quiet g e (Index i);
@@ -181,9 +181,9 @@ recovered_elsewhere g e = record {
 all_recovered : (g : ℕ) → IsRecovered (taken w11.map [] g) (appended g (entries ∷ compaction ∷ [])) (only read_again g)
 all_recovered = each (λ g. IsRecovered (taken w11.map [] g) (appended g (entries ∷ compaction ∷ [])) (only read_again g)) recovered
     (λ g e. subst (λ l. IsRecovered (taken w11.map [] g) l (only read_again g)) (sym (none_of g read_items e))
-    (subst (λ t. IsRecovered (taken w11.map [] g) [] t) (sym (other_table read_again g e)) (recovered_elsewhere g e)))
+    (subst (λ t. IsRecovered (taken w11.map [] g) [] t) (sym (other_whereabouts read_again g e)) (recovered_elsewhere g e)))
 
-pub happens : (v : Machine ℕ ℕ) × Steps fresh_machine two_purges v × (v.store ≡ purged_twice) × (v.tables 1 ≡ read_again)
+pub happens : (v : Machine ℕ ℕ) × Steps fresh_machine two_purges v × (v.store ≡ purged_twice) × (v.whereabouts 1 ≡ read_again)
 happens = (
   w12,
   (
@@ -214,8 +214,8 @@ happens = (
               refl,
               refl,
               refl,
-              at_table (λ t. OwesNothing t) copied (refl, refl, λ k. refl) (refl, refl, λ k. refl),
-              at_table (λ t. HasAppended {E = ℕ} {V = ℕ} t []) copied (nothing_left copied refl (λ k. no_false)) (nothing_left empty_table refl (λ k. no_false)),
+              at_whereabouts (λ t. OwesNothing t) copied (refl, refl, λ k. refl) (refl, refl, λ k. refl),
+              at_whereabouts (λ t. HasAppended {E = ℕ} {V = ℕ} t []) copied (nothing_left copied refl (λ k. no_false)) (nothing_left nowhere refl (λ k. no_false)),
               refl,
             ),
             (
@@ -257,8 +257,8 @@ happens = (
                           refl,
                           refl,
                           refl,
-                          at_table (λ t. OwesNothing t) key_copied (refl, refl, λ k. refl) (refl, refl, λ k. refl),
-                          at_table (λ t. HasAppended {E = ℕ} {V = ℕ} t []) key_copied (nothing_left key_copied refl none_left) (nothing_left empty_table refl (λ k. no_false)),
+                          at_whereabouts (λ t. OwesNothing t) key_copied (refl, refl, λ k. refl) (refl, refl, λ k. refl),
+                          at_whereabouts (λ t. HasAppended {E = ℕ} {V = ℕ} t []) key_copied (nothing_left key_copied refl none_left) (nothing_left nowhere refl (λ k. no_false)),
                           refl,
                         ),
                         (

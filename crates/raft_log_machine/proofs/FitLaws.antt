@@ -10,9 +10,9 @@ use Rattle.raft_log_model.specs.Meaning.Slot.{Index}
 use Rattle.raft_log_model.specs.Groups.{of_group, settle, settled, none_open, set_open, onto, Open, rewritten}
 use Rattle.raft_log_model.proofs.Cases.{at_bool, at_option}
 use Rattle.raft_log_model.proofs.Tests.{run_truncates}
-use Rattle.raft_log_machine.specs.Table.{top}
+use Rattle.raft_log_machine.specs.Whereabouts.{top}
 use Rattle.raft_log_machine.specs.Machine.{Fits, AllFit, RecordsFit}
-use Rattle.raft_log_machine.proofs.BookRaises.{no_word}
+use Rattle.raft_log_machine.proofs.TruthRaises.{no_word}
 
 module _ {E V : Type 0} where
   AllFit-append : (xs ys : List (Tagged E V)) → AllFit xs → AllFit ys → AllFit (xs ++ ys)

@@ -2,11 +2,11 @@
 use Rattle.std.proofs.Common.{ℕ, List, [], ◌++◌, None, refl, sym, ap, ◌∙◌, inl, arith}
 use Rattle.raft_log_model.specs.Groups.{directory_meaning, taken}
 use Rattle.raft_log_machine.specs.Survival.{Holds, Survives}
-use Rattle.raft_log_machine.specs.Book.{Book}
+use Rattle.raft_log_machine.specs.Truth.{AreTrue}
 use Rattle.raft_log_machine.specs.Machine.{Machine, Event, Steps, IsKept, said_of}
-use Rattle.raft_log_machine.specs.Fresh.{empty_table, nothing_stands, fresh_machine}
+use Rattle.raft_log_machine.specs.Fresh.{nowhere, nothing_stands, fresh_machine}
 use Rattle.raft_log_machine.proofs.Starts.{no_front, no_back}
-use Rattle.raft_log_machine.proofs.BookCarries.{differ}
+use Rattle.raft_log_machine.proofs.TruthCarries.{differ}
 use Rattle.raft_log_machine.proofs.SurvivalSteps.{survives}
 use Rattle.raft_log_machine.proofs.MachineKeeps.{steps_keep}
 
@@ -17,8 +17,8 @@ module _ {E V : Type 0} where
       ∙ ap (λ l. directory_meaning l (a_back ++ []) g s) (no_front r_kept r_lost kept)
       ∙ ap (λ l. directory_meaning [] (l ++ []) g s) (no_back a_cut a_back a_start)
 
-  fresh_book : (g : ℕ) → Book (said_of g (fresh_machine {E = E} {V = V}).store) (taken nothing_stands [] g) empty_table
-  fresh_book g = record {
+  fresh_truth : (g : ℕ) → AreTrue (said_of g (fresh_machine {E = E} {V = V}).store) (taken nothing_stands [] g) nowhere
+  fresh_truth g = record {
     in_order = (omega arith, omega arith, omega arith);
     below = λ i h. refl;
     above = λ i h. refl;
@@ -34,7 +34,7 @@ module _ {E V : Type 0} where
   }
 
   pub fresh_keeps : IsKept (fresh_machine {E = E} {V = V})
-  fresh_keeps = record { holds = fresh_holds; unbroken = (None, tt); fits = tt; books = λ alive. fresh_book }
+  fresh_keeps = record { holds = fresh_holds; unbroken = (None, tt); fits = tt; whereabouts = λ alive. fresh_truth }
 
   pub schedule_survives : (es : List (Event E V)) (v : Machine E V) → Steps fresh_machine es v → Survives v.store v.map v.store.append.pending
   schedule_survives es v h = survives v.store v.map (steps_keep es fresh_machine v h fresh_keeps).holds

@@ -6,11 +6,11 @@ use Rattle.raft_log_model.specs.Meaning.Slot.{Index}
 use Rattle.raft_log_model.specs.Groups.{appended, rewritten, taken}
 use Rattle.raft_log_model.specs.Holes.{directory_by_intervals, IsSolid}
 use Rattle.raft_log_model.proofs.Intervals.{by_intervals_solid}
-use Rattle.raft_log_machine.specs.Book.{Book}
+use Rattle.raft_log_machine.specs.Truth.{AreTrue}
 use Rattle.raft_log_machine.specs.Purge.{Reading, meaning_there}
 use Rattle.raft_log_machine.specs.Replay.{IsReplayable}
 use Rattle.raft_log_machine.specs.Machine.{Machine, IsKept, said_of}
-use Rattle.raft_log_machine.proofs.BookRaises.{no_word}
+use Rattle.raft_log_machine.proofs.TruthRaises.{no_word}
 use Rattle.raft_log_machine.proofs.PurgeLaws.{means_all}
 use Rattle.raft_log_machine.proofs.ReplayLaws.{replays}
 
@@ -18,14 +18,14 @@ module _ {E V : Type 0} (w : Machine E V) (k : IsKept w) (p : IsReplayable w) (a
   group_map : Slot → Option (Content E V)
   group_map = taken w.map w.store.append.pending g
 
-  book : Book (said_of g w.store) (taken w.map w.store.append.pending g) (w.tables g)
-  book = k.books alive g
+  truth : AreTrue (said_of g w.store) (taken w.map w.store.append.pending g) (w.whereabouts g)
+  truth = k.whereabouts alive g
 
-  from_first : (i : ℕ) (c : Content E V) → taken w.map w.store.append.pending g (Index i) ≡ Some c → (w.tables g).first ≤ i
-  from_first i c e = elim (cases_lt i (w.tables g).first) [ inl before ↦ no_word c (sym ((k.books alive g).below i before) ∙ e) | inr from ↦ from ]
+  from_first : (i : ℕ) (c : Content E V) → taken w.map w.store.append.pending g (Index i) ≡ Some c → (w.whereabouts g).first ≤ i
+  from_first i c e = elim (cases_lt i (w.whereabouts g).first) [ inl before ↦ no_word c (sym ((k.whereabouts alive g).below i before) ∙ e) | inr from ↦ from ]
 
-  to_end : (i : ℕ) (c : Content E V) → taken w.map w.store.append.pending g (Index i) ≡ Some c → i < (w.tables g).end
-  to_end i c e = elim (cases_lt i (w.tables g).end) [ inl within ↦ within | inr past ↦ no_word c (sym ((k.books alive g).above i past) ∙ e) ]
+  to_end : (i : ℕ) (c : Content E V) → taken w.map w.store.append.pending g (Index i) ≡ Some c → i < (w.whereabouts g).end
+  to_end i c e = elim (cases_lt i (w.whereabouts g).end) [ inl within ↦ within | inr past ↦ no_word c (sym ((k.whereabouts alive g).above i past) ∙ e) ]
 
   means : (i : ℕ) → meaning_there w.store r g (Index i) ≡ taken w.map w.store.append.pending g (Index i)
   means i = means_all w k r g (Index i)
@@ -33,9 +33,9 @@ module _ {E V : Type 0} (w : Machine E V) (k : IsKept w) (p : IsReplayable w) (a
   solid : IsSolid (λ j. directory (Index j) (rewritten g (r.r_back ++ (w.store.rewrite.live ++ w.store.rewrite.pending)))
       (appended g (r.a_back ++ (w.store.append.live ++ w.store.append.pending))))
   solid i j l a b ij jl low high =
-      let from : (w.tables g).first ≤ i = from_first i a (sym (means i) ∙ low) in
-      let to : l < (w.tables g).end = to_end l b (sym (means l) ∙ high) in
-      let it = (k.books alive g).solid j (omega arith) (omega arith) in
+      let from : (w.whereabouts g).first ≤ i = from_first i a (sym (means i) ∙ low) in
+      let to : l < (w.whereabouts g).end = to_end l b (sym (means l) ∙ high) in
+      let it = (k.whereabouts alive g).solid j (omega arith) (omega arith) in
       (it.0, means j ∙ it.1)
 
   pub by_intervals : (i : ℕ) → directory_by_intervals i (rewritten g (r.r_back ++ (w.store.rewrite.live ++ w.store.rewrite.pending)))

@@ -2,10 +2,10 @@ pub mod Words
 pub mod UnbrokenLaws
 pub mod Starts
 pub mod SurvivalSteps
-pub mod BookGrows
-pub mod BookCarries
-pub mod BookRaises
-pub mod BookReread
+pub mod TruthGrows
+pub mod TruthCarries
+pub mod TruthRaises
+pub mod TruthReread
 pub mod FitLaws
 pub mod MachineWords
 pub mod MachineKeeps

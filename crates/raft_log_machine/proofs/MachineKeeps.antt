@@ -10,34 +10,34 @@ use Rattle.raft_log_model.specs.Groups.{of_group, counts, opened, none_open, ont
 use Rattle.raft_log_machine.specs.Unbroken.{going_on, UnbrokenFrom, IsUnbroken, begun, joined}
 use Rattle.raft_log_machine.specs.Queue.{Store, all_records, takes, synced, raised, left, reread, with_append, with_rewrite}
 use Rattle.raft_log_machine.specs.Survival.{Holds, IsSpoken, IsHarmless, MayRewrite, MayRaiseAppend, MayRaiseRewrite}
-use Rattle.raft_log_machine.specs.Table.{Table, top, GrowsBy, CarriesAll, OwesNothing, HasAppended, HasRewritten}
-use Rattle.raft_log_machine.specs.Book.{IsRight}
+use Rattle.raft_log_machine.specs.Whereabouts.{Whereabouts, top, GrowsBy, CarriesAll, OwesNothing, HasAppended, HasRewritten}
+use Rattle.raft_log_machine.specs.Truth.{IsRight}
 use Rattle.raft_log_machine.specs.Recovery.{IsRecovered}
 use Rattle.raft_log_machine.specs.Machine.{AllFit, RecordsFit, Machine, Event, Step, Steps, GoesOnWith, IsJoined, said_of, IsKept}
 use Rattle.raft_log_machine.specs.Machine.Event.{Take, SyncAppend, SyncRewrite, WritePlain, WriteBegin, WriteMiddle, WriteEnd, RaiseAppend, RaiseRewrite, LoseAppend, LoseRewrite, Fail, Reopen}
 use Rattle.raft_log_machine.proofs.UnbrokenLaws.{UnbrokenFrom-append, IsUnbroken-front, IsUnbroken-back, going_on-begun, opened-begun}
 use Rattle.raft_log_machine.proofs.SurvivalSteps.{holds_append_synced, holds_rewrite_synced, holds_rewrite_takes, holds_append_raised, holds_rewrite_raised, holds_append_left, holds_rewrite_left, holds_reread}
-use Rattle.raft_log_machine.proofs.BookGrows.{book_along, append_said_all, grows_by}
-use Rattle.raft_log_machine.proofs.BookCarries.{differ, rewrite_said_all, carries_all, all_harmless}
-use Rattle.raft_log_machine.proofs.BookRaises.{append_raised, may_append, rewrite_raised, may_rewrite, rewrite_left, between_right}
-use Rattle.raft_log_machine.proofs.BookReread.{recovered_book}
+use Rattle.raft_log_machine.proofs.TruthGrows.{true_along, append_said_all, grows_by}
+use Rattle.raft_log_machine.proofs.TruthCarries.{differ, rewrite_said_all, carries_all, all_harmless}
+use Rattle.raft_log_machine.proofs.TruthRaises.{append_raised, may_append, rewrite_raised, may_rewrite, rewrite_left, between_right}
+use Rattle.raft_log_machine.proofs.TruthReread.{recovered_truth}
 use Rattle.raft_log_machine.proofs.FitLaws.{RecordsFit-append, RecordsFit-front, RecordsFit-back, nothing_past}
 use Rattle.raft_log_machine.proofs.MachineWords.{appended_one, taken_one, rewritten_one, says_end, all_more, span_more}
 
 module _ {E V : Type 0} (w : Machine E V) (k : IsKept w) where
-  keeps_take : (y : Record E V) (tables : ℕ → Table) → ((g : ℕ) → GrowsBy (w.tables g) (of_group g (items_of y)) (tables g))
-      → IsKept (record w { store = with_append w.store (takes w.store.append y); tables = tables })
-  keeps_take y tables grow = record {
+  keeps_take : (y : Record E V) (whereabouts : ℕ → Whereabouts) → ((g : ℕ) → GrowsBy (w.whereabouts g) (of_group g (items_of y)) (whereabouts g))
+      → IsKept (record w { store = with_append w.store (takes w.store.append y); whereabouts = whereabouts })
+  keeps_take y whereabouts grow = record {
     holds = k.holds;
     unbroken = k.unbroken;
     fits = k.fits;
-    books = λ alive g. book_along (append_said_all (said_of g w.store) (of_group g (items_of y)))
+    whereabouts = λ alive g. true_along (append_said_all (said_of g w.store) (of_group g (items_of y)))
         (said_of g (with_append w.store (takes w.store.append y)))
-        (after (taken w.map w.store.append.pending g) (of_group g (items_of y))) (taken w.map (w.store.append.pending ++ y ∷ []) g) (tables g)
+        (after (taken w.map w.store.append.pending g) (of_group g (items_of y))) (taken w.map (w.store.append.pending ++ y ∷ []) g) (whereabouts g)
         (λ s. refl) (λ s. refl)
         (λ s. sym (ap (λ l. says s (appended g l)) (span_more w.store.append y) ∙ appended_one g s (w.store.append.live ++ w.store.append.pending) y))
         (λ s. sym (taken_one w.map g s w.store.append.pending y))
-        (grows_by (said_of g w.store) (taken w.map w.store.append.pending g) (w.tables g) (of_group g (items_of y)) (tables g) (grow g) (k.books alive g));
+        (grows_by (said_of g w.store) (taken w.map w.store.append.pending g) (w.whereabouts g) (of_group g (items_of y)) (whereabouts g) (grow g) (k.whereabouts alive g));
   }
 
   keeps_sync_append : IsKept (record w { store = with_append w.store (synced w.store.append); map = taken w.map w.store.append.pending })
@@ -45,10 +45,10 @@ module _ {E V : Type 0} (w : Machine E V) (k : IsKept w) where
     holds = holds_append_synced w.store w.map k.holds;
     unbroken = k.unbroken;
     fits = k.fits;
-    books = λ alive g. book_along (said_of g w.store) (said_of g (with_append w.store (synced w.store.append)))
-        (taken w.map w.store.append.pending g) (taken (taken w.map w.store.append.pending) [] g) (w.tables g)
+    whereabouts = λ alive g. true_along (said_of g w.store) (said_of g (with_append w.store (synced w.store.append)))
+        (taken w.map w.store.append.pending g) (taken (taken w.map w.store.append.pending) [] g) (w.whereabouts g)
         (λ s. refl) (λ s. refl) (λ s. ap (λ l. says s (appended g l)) (sym (append-nil (w.store.append.live ++ w.store.append.pending))))
-        (λ s. refl) (k.books alive g);
+        (λ s. refl) (k.whereabouts alive g);
   }
 
   keeps_sync_rewrite : IsKept (record w { store = with_rewrite w.store (synced w.store.rewrite) })
@@ -56,10 +56,10 @@ module _ {E V : Type 0} (w : Machine E V) (k : IsKept w) where
     holds = holds_rewrite_synced w.store w.map k.holds;
     unbroken = subst (λ l. IsUnbroken l) (sym all_same) k.unbroken;
     fits = subst (λ l. RecordsFit l) (sym all_same) k.fits;
-    books = λ alive g. book_along (said_of g w.store) (said_of g (with_rewrite w.store (synced w.store.rewrite)))
-        (taken w.map w.store.append.pending g) (taken w.map w.store.append.pending g) (w.tables g)
+    whereabouts = λ alive g. true_along (said_of g w.store) (said_of g (with_rewrite w.store (synced w.store.rewrite)))
+        (taken w.map w.store.append.pending g) (taken w.map w.store.append.pending g) (w.whereabouts g)
         (λ s. ap (λ l. says s (rewritten g l)) (sym all_same)) (λ s. ap (λ l. says s (rewritten g l)) (sym span_same)) (λ s. refl)
-        (λ s. refl) (k.books alive g);
+        (λ s. refl) (k.whereabouts alive g);
   }
     where
       span_same : (w.store.rewrite.live ++ w.store.rewrite.pending) ++ [] ≡ w.store.rewrite.live ++ w.store.rewrite.pending
@@ -74,22 +74,22 @@ module _ {E V : Type 0} (w : Machine E V) (k : IsKept w) where
       (cut back : List (Record E V)) → cut ++ back ≡ w.store.rewrite.gone → (s : Slot)
       → says s (of_group g (counts (opened none_open (back ++ (w.store.rewrite.live ++ w.store.rewrite.pending))) y)) ≡ says s items
 
-  may_write : (y : Record E V) (items : ℕ → List (Item E V)) (tables : ℕ → Table) → w.failed ≡ false → w.store.append.pending ≡ []
-      → ((g : ℕ) → CountsAs y g (items g)) → ((g : ℕ) → CarriesAll (w.map g) (w.tables g) (items g) (tables g)) → MayRewrite w.store w.map y
-  may_write y items tables alive nothing counted carry g s cut back start =
+  may_write : (y : Record E V) (items : ℕ → List (Item E V)) (whereabouts : ℕ → Whereabouts) → w.failed ≡ false → w.store.append.pending ≡ []
+      → ((g : ℕ) → CountsAs y g (items g)) → ((g : ℕ) → CarriesAll (w.map g) (w.whereabouts g) (items g) (whereabouts g)) → MayRewrite w.store w.map y
+  may_write y items whereabouts alive nothing counted carry g s cut back start =
       subst (λ word. IsHarmless word (w.map g s) (says s (appended g w.store.append.live))) (sym (counted g cut back start s))
       (subst (λ l. IsHarmless (says s (items g)) (w.map g s) (says s (appended g l))) (append-nil w.store.append.live)
       (subst (λ p. IsHarmless (says s (items g)) (taken w.map p g s) (says s (appended g (w.store.append.live ++ p)))) nothing
-      (all_harmless (said_of g w.store) (taken w.map w.store.append.pending g) (w.tables g) (items g) (tables g) (pending_carry g) (k.books alive g) s)))
+      (all_harmless (said_of g w.store) (taken w.map w.store.append.pending g) (w.whereabouts g) (items g) (whereabouts g) (pending_carry g) (k.whereabouts alive g) s)))
     where
-      pending_carry : (g : ℕ) → CarriesAll (taken w.map w.store.append.pending g) (w.tables g) (items g) (tables g)
-      pending_carry g = subst (λ p. CarriesAll (taken w.map p g) (w.tables g) (items g) (tables g)) (sym nothing) (carry g)
+      pending_carry : (g : ℕ) → CarriesAll (taken w.map w.store.append.pending g) (w.whereabouts g) (items g) (whereabouts g)
+      pending_carry g = subst (λ p. CarriesAll (taken w.map p g) (w.whereabouts g) (items g) (whereabouts g)) (sym nothing) (carry g)
 
-  keeps_write : (y : Record E V) (items : ℕ → List (Item E V)) (tables : ℕ → Table) → MayRewrite w.store w.map y
+  keeps_write : (y : Record E V) (items : ℕ → List (Item E V)) (whereabouts : ℕ → Whereabouts) → MayRewrite w.store w.map y
       → UnbrokenFrom (going_on k.unbroken.0 (all_records w.store.rewrite)) (y ∷ []) → AllFit (items_of y) → ((g : ℕ) → CountsAs y g (items g))
-      → ((g : ℕ) → CarriesAll (taken w.map w.store.append.pending g) (w.tables g) (items g) (tables g))
-      → IsKept (record w { store = with_rewrite w.store (takes w.store.rewrite y); tables = tables })
-  keeps_write y items tables may unbroken fits counted carry = record {
+      → ((g : ℕ) → CarriesAll (taken w.map w.store.append.pending g) (w.whereabouts g) (items g) (whereabouts g))
+      → IsKept (record w { store = with_rewrite w.store (takes w.store.rewrite y); whereabouts = whereabouts })
+  keeps_write y items whereabouts may unbroken fits counted carry = record {
     holds = holds_rewrite_takes w.store w.map y may k.holds;
     unbroken = (
       k.unbroken.0,
@@ -97,25 +97,25 @@ module _ {E V : Type 0} (w : Machine E V) (k : IsKept w) where
           (UnbrokenFrom-append k.unbroken.0 (all_records w.store.rewrite) (y ∷ []) k.unbroken.1 unbroken),
     );
     fits = subst (λ l. RecordsFit l) (sym (all_more w.store.rewrite y)) (RecordsFit-append (all_records w.store.rewrite) (y ∷ []) k.fits (fits, tt));
-    books = λ alive g. book_along (rewrite_said_all (said_of g w.store) (items g)) (said_of g (with_rewrite w.store (takes w.store.rewrite y)))
-        (taken w.map w.store.append.pending g) (taken w.map w.store.append.pending g) (tables g)
+    whereabouts = λ alive g. true_along (rewrite_said_all (said_of g w.store) (items g)) (said_of g (with_rewrite w.store (takes w.store.rewrite y)))
+        (taken w.map w.store.append.pending g) (taken w.map w.store.append.pending g) (whereabouts g)
         (λ s. sym (ap (λ l. says s (rewritten g l)) (all_more w.store.rewrite y)
         ∙ rewritten_one g s (all_records w.store.rewrite) y (items g) (counted g [] w.store.rewrite.gone refl s)))
         (λ s. sym (ap (λ l. says s (rewritten g l)) (span_more w.store.rewrite y)
         ∙ rewritten_one g s (w.store.rewrite.live ++ w.store.rewrite.pending) y (items g) (counted g w.store.rewrite.gone [] (append-nil w.store.rewrite.gone) s)))
         (λ s. refl) (λ s. refl)
-        (carries_all (said_of g w.store) (taken w.map w.store.append.pending g) (w.tables g) (items g) (tables g) (carry g) (k.books alive g));
+        (carries_all (said_of g w.store) (taken w.map w.store.append.pending g) (w.whereabouts g) (items g) (whereabouts g) (carry g) (k.whereabouts alive g));
   }
 
   -- a part of a group that is no end: nothing counts by it
   keeps_part : (y : Record E V) → ((g : ℕ) → CountsAs y g []) → UnbrokenFrom (going_on k.unbroken.0 (all_records w.store.rewrite)) (y ∷ []) → AllFit (items_of y)
       → IsKept (record w { store = with_rewrite w.store (takes w.store.rewrite y) })
   keeps_part y counted unbroken fits =
-      keeps_write y (λ g. []) w.tables (λ g s cut back start. inl (counted g cut back start s)) unbroken fits counted (λ g. refl)
+      keeps_write y (λ g. []) w.whereabouts (λ g s cut back start. inl (counted g cut back start s)) unbroken fits counted (λ g. refl)
 
-  pending_carries : (items : ℕ → List (Item E V)) (tables : ℕ → Table) → w.store.append.pending ≡ []
-      → ((g : ℕ) → CarriesAll (w.map g) (w.tables g) (items g) (tables g)) → (g : ℕ) → CarriesAll (taken w.map w.store.append.pending g) (w.tables g) (items g) (tables g)
-  pending_carries items tables nothing carry g = subst (λ p. CarriesAll (taken w.map p g) (w.tables g) (items g) (tables g)) (sym nothing) (carry g)
+  pending_carries : (items : ℕ → List (Item E V)) (whereabouts : ℕ → Whereabouts) → w.store.append.pending ≡ []
+      → ((g : ℕ) → CarriesAll (w.map g) (w.whereabouts g) (items g) (whereabouts g)) → (g : ℕ) → CarriesAll (taken w.map w.store.append.pending g) (w.whereabouts g) (items g) (whereabouts g)
+  pending_carries items whereabouts nothing carry g = subst (λ p. CarriesAll (taken w.map p g) (w.whereabouts g) (items g) (whereabouts g)) (sym nothing) (carry g)
 
   -- the group whose records are the last of the span may go on
   may_go_on : (n : ℕ) (first : List (Tagged E V)) (more : List (List (Tagged E V))) → GoesOnWith w.store.rewrite n first more
@@ -124,13 +124,13 @@ module _ {E V : Type 0} (w : Machine E V) (k : IsKept w) where
       ap (going_on k.unbroken.0) (ap (λ l. w.store.rewrite.gone ++ l) at_end.1 ∙ sym (append_assoc w.store.rewrite.gone at_end.0 (begun n first more)))
       ∙ going_on-begun k.unbroken.0 (w.store.rewrite.gone ++ at_end.0) n first more
 
-  keeps_end : (n : ℕ) (xs : List (Tagged E V)) (first : List (Tagged E V)) (more : List (List (Tagged E V))) (tables : ℕ → Table)
+  keeps_end : (n : ℕ) (xs : List (Tagged E V)) (first : List (Tagged E V)) (more : List (List (Tagged E V))) (whereabouts : ℕ → Whereabouts)
       → w.failed ≡ false → w.store.append.pending ≡ [] → AllFit xs → GoesOnWith w.store.rewrite n first more
-      → ((g : ℕ) → (items : List (Item E V)) × IsJoined (of_group g (joined first more ++ xs)) items × CarriesAll (w.map g) (w.tables g) items (tables g))
-      → IsKept (record w { store = with_rewrite w.store (takes w.store.rewrite (Part (End n) xs)); tables = tables })
-  keeps_end n xs first more tables alive nothing fits at_end carry =
-      keeps_write (Part (End n) xs) (λ g. (carry g).0) tables (may_write (Part (End n) xs) (λ g. (carry g).0) tables alive nothing counted (λ g. (carry g).2))
-      (may_go_on n first more at_end, tt) fits counted (pending_carries (λ g. (carry g).0) tables nothing (λ g. (carry g).2))
+      → ((g : ℕ) → (items : List (Item E V)) × IsJoined (of_group g (joined first more ++ xs)) items × CarriesAll (w.map g) (w.whereabouts g) items (whereabouts g))
+      → IsKept (record w { store = with_rewrite w.store (takes w.store.rewrite (Part (End n) xs)); whereabouts = whereabouts })
+  keeps_end n xs first more whereabouts alive nothing fits at_end carry =
+      keeps_write (Part (End n) xs) (λ g. (carry g).0) whereabouts (may_write (Part (End n) xs) (λ g. (carry g).0) whereabouts alive nothing counted (λ g. (carry g).2))
+      (may_go_on n first more at_end, tt) fits counted (pending_carries (λ g. (carry g).0) whereabouts nothing (λ g. (carry g).2))
     where
       parts : (back : List (Record E V)) → opened none_open (back ++ (w.store.rewrite.live ++ w.store.rewrite.pending)) n ≡ Some (joined first more)
       parts back =
@@ -141,16 +141,16 @@ module _ {E V : Type 0} (w : Machine E V) (k : IsKept w) where
       counted g cut back start s = ap (λ o. says s (of_group g (unwrap_or (onto o xs) []))) (parts back) ∙ (carry g).1.same_words s
 
   keeps_raise_append : (out stay : List (Record E V)) → w.failed ≡ false → w.store.append.pending ≡ [] → w.store.rewrite.pending ≡ [] → out ++ stay ≡ w.store.append.live
-      → ((g : ℕ) → OwesNothing (w.tables g)) → ((g : ℕ) → HasAppended (w.tables g) (appended g stay)) → IsKept (record w { store = with_append w.store (raised w.store.append out stay) })
+      → ((g : ℕ) → OwesNothing (w.whereabouts g)) → ((g : ℕ) → HasAppended (w.whereabouts g) (appended g stay)) → IsKept (record w { store = with_append w.store (raised w.store.append out stay) })
   keeps_raise_append out stay alive nothing r_nothing whole owes has = record {
     holds = holds_append_raised w.store w.map out stay whole r_nothing may k.holds;
     unbroken = k.unbroken;
     fits = k.fits;
-    books = λ still g. book_along (record { lowest = (said_of g w.store).lowest; rewrite = (said_of g w.store).rewrite; append = λ s. says s (appended g stay) })
+    whereabouts = λ still g. true_along (record { lowest = (said_of g w.store).lowest; rewrite = (said_of g w.store).rewrite; append = λ s. says s (appended g stay) })
         (said_of g (with_append w.store (raised w.store.append out stay)))
-        (taken w.map w.store.append.pending g) (taken w.map w.store.append.pending g) (w.tables g) (λ s. refl) (λ s. refl)
+        (taken w.map w.store.append.pending g) (taken w.map w.store.append.pending g) (w.whereabouts g) (λ s. refl) (λ s. refl)
         (λ s. ap (λ l. says s (appended g l)) (sym (ap (λ p. stay ++ p) nothing ∙ append-nil stay))) (λ s. refl)
-        (append_raised (said_of g w.store) (taken w.map w.store.append.pending g) (w.tables g) (k.books still g) (appended g stay) (has g));
+        (append_raised (said_of g w.store) (taken w.map w.store.append.pending g) (w.whereabouts g) (k.whereabouts still g) (appended g stay) (has g));
   }
     where
       span : List (Record E V)
@@ -180,21 +180,21 @@ module _ {E V : Type 0} (w : Machine E V) (k : IsKept w) where
           shorter = says_end g s back span (IsUnbroken-back cut (back ++ span) all_unbroken)
 
       may : MayRaiseAppend w.store w.map stay
-      may g s = elim (may_append (said_of g w.store) (taken w.map w.store.append.pending g) (w.tables g) (k.books alive g) (appended g stay) (has g) (owes g) (past g) s)
+      may g s = elim (may_append (said_of g w.store) (taken w.map w.store.append.pending g) (w.whereabouts g) (k.whereabouts alive g) (appended g stay) (has g) (owes g) (past g) s)
           [ inl spoken ↦ inl spoken | inr right ↦ inr (from_each_start g s right) ]
 
   keeps_raise_rewrite : (out stay : List (Record E V)) → w.failed ≡ false → w.store.append.pending ≡ [] → w.store.rewrite.pending ≡ [] → out ++ stay ≡ w.store.rewrite.live
-      → ((g : ℕ) → HasRewritten (w.map g) (w.tables g) (rewritten g stay)) → IsKept (record w { store = with_rewrite w.store (raised w.store.rewrite out stay) })
+      → ((g : ℕ) → HasRewritten (w.map g) (w.whereabouts g) (rewritten g stay)) → IsKept (record w { store = with_rewrite w.store (raised w.store.rewrite out stay) })
   keeps_raise_rewrite out stay alive nothing r_nothing whole has = record {
     holds = holds_rewrite_raised w.store w.map out stay whole r_nothing (IsUnbroken-front (w.store.rewrite.gone ++ w.store.rewrite.live) w.store.rewrite.pending
         (subst (λ l. IsUnbroken l) (sym (append_assoc w.store.rewrite.gone w.store.rewrite.live w.store.rewrite.pending)) k.unbroken)) may k.holds;
     unbroken = subst (λ l. IsUnbroken l) (sym all_same) k.unbroken;
     fits = subst (λ l. RecordsFit l) (sym all_same) k.fits;
-    books = λ still g. book_along (record { lowest = (said_of g w.store).lowest; rewrite = λ s. says s (rewritten g stay); append = (said_of g w.store).append })
+    whereabouts = λ still g. true_along (record { lowest = (said_of g w.store).lowest; rewrite = λ s. says s (rewritten g stay); append = (said_of g w.store).append })
         (said_of g (with_rewrite w.store (raised w.store.rewrite out stay)))
-        (taken w.map w.store.append.pending g) (taken w.map w.store.append.pending g) (w.tables g)
+        (taken w.map w.store.append.pending g) (taken w.map w.store.append.pending g) (w.whereabouts g)
         (λ s. ap (λ l. says s (rewritten g l)) (sym all_same)) (λ s. ap (λ l. says s (rewritten g l)) (sym stay_same)) (λ s. refl) (λ s. refl)
-        (rewrite_raised (said_of g w.store) (taken w.map w.store.append.pending g) (w.tables g) (k.books still g) (rewritten g stay) (λ s. (older g s).0) (λ s. (older g s).1) (pending_has g));
+        (rewrite_raised (said_of g w.store) (taken w.map w.store.append.pending g) (w.whereabouts g) (k.whereabouts still g) (rewritten g stay) (λ s. (older g s).0) (λ s. (older g s).1) (pending_has g));
   }
     where
       stay_same : stay ++ w.store.rewrite.pending ≡ stay
@@ -213,24 +213,24 @@ module _ {E V : Type 0} (w : Machine E V) (k : IsKept w) where
       older : (g : ℕ) (s : Slot) → (word : Option (Option (Content E V))) × (says s (rewritten g (w.store.rewrite.live ++ w.store.rewrite.pending)) ≡ option_or (says s (rewritten g stay)) word)
       older g s = let both = says_end g s out stay span_unbroken in (both.0, ap (λ l. says s (rewritten g l)) span_same ∙ both.1)
 
-      pending_has : (g : ℕ) → HasRewritten (taken w.map w.store.append.pending g) (w.tables g) (rewritten g stay)
-      pending_has g = subst (λ p. HasRewritten (taken w.map p g) (w.tables g) (rewritten g stay)) (sym nothing) (has g)
+      pending_has : (g : ℕ) → HasRewritten (taken w.map w.store.append.pending g) (w.whereabouts g) (rewritten g stay)
+      pending_has g = subst (λ p. HasRewritten (taken w.map p g) (w.whereabouts g) (rewritten g stay)) (sym nothing) (has g)
 
       may : MayRaiseRewrite w.store w.map stay
       may g s =
           subst (λ l. IsSpoken (says s (rewritten g stay)) ⊎ ((w.map g s ≡ None) ⊎ IsSpoken (says s (appended g l)))) (append-nil w.store.append.live)
           (subst (λ p. IsSpoken (says s (rewritten g stay)) ⊎ ((taken w.map p g s ≡ None) ⊎ IsSpoken (says s (appended g (w.store.append.live ++ p))))) nothing
-          (may_rewrite (said_of g w.store) (taken w.map w.store.append.pending g) (w.tables g) (k.books alive g) (rewritten g stay) (λ s. (older g s).0) (λ s. (older g s).1) (pending_has g) s))
+          (may_rewrite (said_of g w.store) (taken w.map w.store.append.pending g) (w.whereabouts g) (k.whereabouts alive g) (rewritten g stay) (λ s. (older g s).0) (λ s. (older g s).1) (pending_has g) s))
 
   keeps_lose_append : (lost rest : List (Record E V)) → lost ++ rest ≡ w.store.append.gone → IsKept (record w { store = with_append w.store (left w.store.append rest) })
-  keeps_lose_append lost rest e = record { holds = holds_append_left w.store w.map lost rest e k.holds; unbroken = k.unbroken; fits = k.fits; books = k.books }
+  keeps_lose_append lost rest e = record { holds = holds_append_left w.store w.map lost rest e k.holds; unbroken = k.unbroken; fits = k.fits; whereabouts = k.whereabouts }
 
   keeps_lose_rewrite : (lost rest : List (Record E V)) → lost ++ rest ≡ w.store.rewrite.gone → IsKept (record w { store = with_rewrite w.store (left w.store.rewrite rest) })
   keeps_lose_rewrite lost rest e = record {
     holds = holds_rewrite_left w.store w.map lost rest e k.holds;
     unbroken = IsUnbroken-back lost (rest ++ span) all_unbroken;
     fits = RecordsFit-back lost (rest ++ span) (subst (λ l. RecordsFit l) (sym all_is) k.fits);
-    books = λ alive g. rewrite_left (said_of g w.store) (taken w.map w.store.append.pending g) (w.tables g) (k.books alive g)
+    whereabouts = λ alive g. rewrite_left (said_of g w.store) (taken w.map w.store.append.pending g) (w.whereabouts g) (k.whereabouts alive g)
         (λ s. says s (rewritten g (rest ++ span))) (λ s. (longer g s).0) (λ s. (shorter g s).0)
         (λ s. ap (λ l. says s (rewritten g l)) (sym all_is) ∙ (longer g s).1) (λ s. (shorter g s).1);
   }
@@ -251,11 +251,11 @@ module _ {E V : Type 0} (w : Machine E V) (k : IsKept w) where
       shorter g s = says_end g s rest span (IsUnbroken-back lost (rest ++ span) all_unbroken)
 
   keeps_fail : IsKept (record w { failed = true })
-  keeps_fail = record { holds = k.holds; unbroken = k.unbroken; fits = k.fits; books = λ alive. differ alive }
+  keeps_fail = record { holds = k.holds; unbroken = k.unbroken; fits = k.fits; whereabouts = λ alive. differ alive }
 
   module _ (r_kept r_lost r_cut r_back a_kept a_lost a_cut a_back : List (Record E V)) (r_image : r_kept ++ r_lost ≡ w.store.rewrite.pending)
       (r_start : r_cut ++ r_back ≡ w.store.rewrite.gone) (a_image : a_kept ++ a_lost ≡ w.store.append.pending) (a_start : a_cut ++ a_back ≡ w.store.append.gone)
-      (tables : ℕ → Table) (recovered : (g : ℕ) → IsRecovered (taken w.map a_kept g) (appended g (a_back ++ (w.store.append.live ++ a_kept))) (tables g)) where
+      (whereabouts : ℕ → Whereabouts) (recovered : (g : ℕ) → IsRecovered (taken w.map a_kept g) (appended g (a_back ++ (w.store.append.live ++ a_kept))) (whereabouts g)) where
     abbrev reopened : Store E V
     reopened = record { rewrite = reread w.store.rewrite r_cut r_back r_kept; append = reread w.store.append a_cut a_back a_kept }
 
@@ -270,14 +270,14 @@ module _ {E V : Type 0} (w : Machine E V) (k : IsKept w) where
         ∙ append_assoc w.store.rewrite.gone (w.store.rewrite.live ++ r_kept) r_lost
         ∙ ap (λ l. w.store.rewrite.gone ++ l) (append_assoc w.store.rewrite.live r_kept r_lost ∙ ap (λ l. w.store.rewrite.live ++ l) r_image)
 
-    keeps_reopen : IsKept (record { store = reopened; map = taken w.map a_kept; tables = tables; failed = false })
+    keeps_reopen : IsKept (record { store = reopened; map = taken w.map a_kept; whereabouts = whereabouts; failed = false })
     keeps_reopen = record {
       holds = still_holds;
       unbroken = IsUnbroken-front (all_records reopened.rewrite) r_lost (subst (λ l. IsUnbroken l) (sym all_before) k.unbroken);
       fits = RecordsFit-front (all_records reopened.rewrite) r_lost (subst (λ l. RecordsFit l) (sym all_before) k.fits);
-      books = λ alive g. book_along (said_of g reopened) (said_of g reopened) (taken w.map a_kept g) (taken (taken w.map a_kept) [] g) (tables g)
+      whereabouts = λ alive g. true_along (said_of g reopened) (said_of g reopened) (taken w.map a_kept g) (taken (taken w.map a_kept) [] g) (whereabouts g)
           (λ s. refl) (λ s. refl) (λ s. refl) (λ s. refl)
-          (recovered_book (said_of g reopened) (taken w.map a_kept g) (tables g) (appended g (a_back ++ (w.store.append.live ++ a_kept))) (recovered g)
+          (recovered_truth (said_of g reopened) (taken w.map a_kept g) (whereabouts g) (appended g (a_back ++ (w.store.append.live ++ a_kept))) (recovered g)
           (λ s. still_holds g s [] [] [] r_cut a_cut [] refl refl (append-nil a_cut))
           (λ s. still_holds g s [] [] r_cut [] a_cut [] refl (append-nil r_cut) (append-nil a_cut))
           (λ s. ap (λ l. says s (appended g l)) (append-nil (a_back ++ (w.store.append.live ++ a_kept)))));

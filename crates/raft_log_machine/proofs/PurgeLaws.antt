@@ -8,7 +8,7 @@ use Rattle.raft_log_machine.specs.Machine.Event.{Take, SyncAppend, SyncRewrite, 
 use Rattle.raft_log_machine.specs.Files.{LogFile, FileQueue, records_of, span, all_files, first_file, IsReadOf, queue_of, SurvivesInFiles, FileStep}
 use Rattle.raft_log_machine.specs.Files.FileEvent.{Raise}
 use Rattle.raft_log_machine.specs.Purge.{IsOwn, AllOwn, Reading, meaning_there, IsRewritten}
-use Rattle.raft_log_machine.proofs.BookCarries.{differ}
+use Rattle.raft_log_machine.proofs.TruthCarries.{differ}
 use Rattle.raft_log_machine.proofs.SurvivalSteps.{holds_more}
 use Rattle.raft_log_machine.proofs.MachineKeeps.{steps_keep}
 
@@ -48,7 +48,7 @@ module _ {E V : Type 0} where
       means_all v (steps_keep es w v h k) later g s ∙ own_steps es w v own h g s ∙ sym (means_all w k before g s)
 
   pub one_file : (w : Machine E V) (a : FileQueue E V) → w.failed ≡ false → w.store.append.pending ≡ [] → w.store.rewrite.pending ≡ [] → queue_of a ≡ w.store.append
-      → a.synced ≡ [] → ((g : ℕ) → IsRewritten (w.tables g))
+      → a.synced ≡ [] → ((g : ℕ) → IsRewritten (w.whereabouts g))
       → Step (RaiseAppend (records_of a.full) []) w (record w { store = with_append w.store (raised w.store.append (records_of a.full) []) })
       × FileStep (Raise a.full []) a (record a { gone = a.gone ++ a.full; full = [] })
       × (length (span (record a { gone = a.gone ++ a.full; full = [] }) []) ≡ 1)

@@ -1,4 +1,4 @@
--- No item that a table allows leaves a hole in its queue.
+-- No item that the whereabouts allow leaves a hole in its queue.
 use Rattle.std.proofs.Common.{◌≡◌, ℕ, ◌+◌, ◌-◌, ◌<◌, ◌≤◌, ◌⊎◌, min, max, false, ◌&&◌, if◌then◌else◌, nat_lt, nat_le, List, [], ◌∷◌, ◌++◌, length, Option, Some, None, unwrap_or, refl, sym, ap, ◌∙◌, subst, inl, inr, arith, le_refl}
 use Rattle.std.proofs.lemmas.Bool.{cases_lt}
 use Rattle.std.proofs.lemmas.Bool.Decides.{nat_tests}
@@ -11,13 +11,13 @@ use Rattle.raft_log_model.specs.Meaning.Content.{Entry}
 use Rattle.raft_log_model.specs.Holes.{Window, nothing, next_window, window, FitsOn, NoHole}
 use Rattle.raft_log_model.proofs.Holes.{no_hole_append, window_append}
 use Rattle.raft_log_model.proofs.Windows.{Spans, one_run_fits}
-use Rattle.raft_log_machine.specs.Table.{Table, top, Grows, GrowsBy, Carries, CarriesAll}
-use Rattle.raft_log_machine.specs.Book.{Said, Book}
+use Rattle.raft_log_machine.specs.Whereabouts.{Whereabouts, top, Grows, GrowsBy, Carries, CarriesAll}
+use Rattle.raft_log_machine.specs.Truth.{Said, AreTrue}
 use Rattle.raft_log_machine.specs.Replay.{IsTopOf}
 use Rattle.raft_log_machine.proofs.Words.{says_append}
-use Rattle.raft_log_machine.proofs.BookGrows.{append_said, stepped, grows}
-use Rattle.raft_log_machine.proofs.BookCarries.{differ, rewrite_said, carries}
-use Rattle.raft_log_machine.proofs.BookRaises.{no_word, speaks_above}
+use Rattle.raft_log_machine.proofs.TruthGrows.{append_said, stepped, grows}
+use Rattle.raft_log_machine.proofs.TruthCarries.{differ, rewrite_said, carries}
+use Rattle.raft_log_machine.proofs.TruthRaises.{no_word, speaks_above}
 
 alone_fits : (wf we f tf te : ℕ) → tf ≤ te → (we ≤ wf) ⊎ ((we ≡ te) × (tf ≤ wf)) → (f ≤ tf) ⊎ (tf ≡ te) → (nat_lt wf we && nat_lt we f) ≡ false
 alone_fits wf we f tf te le (inl h) a = grind (arith, nat_tests)
@@ -41,8 +41,8 @@ compact_top : (wf we c tf te : ℕ) → (we ≤ wf) ⊎ ((we ≡ te) × (tf ≤ 
 compact_top wf we c tf te (inl h) = inl (omega arith)
 compact_top wf we c tf te (inr h) = inr (h.0, omega (arith, h.1))
 
--- an item that Append takes leaves no hole, and what stands in Append stays the upper part of the table's entries
-item_fits : {E V : Type 0} (w : Window) (t : Table) (x : Item E V) (u : Table) → t.first ≤ t.end → IsTopOf w t → Grows t x u
+-- an item that Append takes leaves no hole, and what stands in Append stays the upper part of the group's entries
+item_fits : {E V : Type 0} (w : Window) (t : Whereabouts) (x : Item E V) (u : Whereabouts) → t.first ≤ t.end → IsTopOf w t → Grows t x u
     → FitsOn w x × IsTopOf (next_window w x) u
 item_fits {E} {V} w t (Run f []) u le h g = (tt, subst (λ v. IsTopOf w v) (sym g) h)
 item_fits {E} {V} w t (Run f (e ∷ es)) u le h g = elim g.1 [
@@ -61,8 +61,8 @@ item_fits {E} {V} w t (Compact c) u le h g =
 item_fits {E} {V} w t (Put k v) u le h g = (tt, subst (λ a. IsTopOf w a) (sym g) h)
 item_fits {E} {V} w t (Del k) u le h g = (tt, subst (λ a. IsTopOf w a) (sym g.2) h)
 
-pub items_fit : {E V : Type 0} (said : Said E V) (m : Slot → Option (Content E V)) (t : Table) (xs : List (Item E V)) (u : Table) (w : Window)
-    → GrowsBy t xs u → Book said m t → IsTopOf w t → NoHole w xs × IsTopOf (window w xs) u
+pub items_fit : {E V : Type 0} (said : Said E V) (m : Slot → Option (Content E V)) (t : Whereabouts) (xs : List (Item E V)) (u : Whereabouts) (w : Window)
+    → GrowsBy t xs u → AreTrue said m t → IsTopOf w t → NoHole w xs × IsTopOf (window w xs) u
 items_fit said m t [] u w g b h = (tt, subst (λ v. IsTopOf w v) (sym g) h)
 items_fit said m t (x ∷ xs) u w g b h =
     let order : t.first ≤ t.end = (let parts = b.in_order in omega arith) in
@@ -77,7 +77,7 @@ not_past_empty wf we f h = grind (arith, nat_tests)
 not_past_within : (wf we f : ℕ) → f ≤ we → (nat_lt wf we && nat_lt we f) ≡ false
 not_past_within wf we f h = grind (arith, nat_tests)
 
-module _ {E V : Type 0} (said : Said E V) (m : Slot → Option (Content E V)) (t : Table) (b : Book said m t) (whole : List (Item E V))
+module _ {E V : Type 0} (said : Said E V) (m : Slot → Option (Content E V)) (t : Whereabouts) (b : AreTrue said m t) (whole : List (Item E V))
     (all : (s : Slot) → said.lowest s ≡ says s whole) (no_hole : NoHole nothing whole) where
   run : Window
   run = window nothing whole
@@ -126,7 +126,7 @@ module _ {E V : Type 0} (said : Said E V) (m : Slot → Option (Content E V)) (t
         | inr past ↦ omega (arith, b.in_order)
       ]
 
-  written_fits : (x : Item E V) (u : Table) → Carries m t x u → FitsOn (window nothing whole) x
+  written_fits : (x : Item E V) (u : Whereabouts) → Carries m t x u → FitsOn (window nothing whole) x
   written_fits (Run f []) u h = tt
   written_fits (Run f (e ∷ es)) u h = elim (cases_lt (window nothing whole).first (window nothing whole).end) [
     | inl stands ↦ not_past_within (window nothing whole).first (window nothing whole).end f (run_within f (e ∷ es) (omega arith) h.0 h.1 h.5 stands)
@@ -137,7 +137,7 @@ module _ {E V : Type 0} (said : Said E V) (m : Slot → Option (Content E V)) (t
   written_fits (Put k v) u h = tt
   written_fits (Del k) u h = tt
 
-pub all_written_fit : {E V : Type 0} (said : Said E V) (m : Slot → Option (Content E V)) (t : Table) (whole xs : List (Item E V)) (u : Table) → Book said m t
+pub all_written_fit : {E V : Type 0} (said : Said E V) (m : Slot → Option (Content E V)) (t : Whereabouts) (whole xs : List (Item E V)) (u : Whereabouts) → AreTrue said m t
     → ((s : Slot) → said.lowest s ≡ says s whole) → NoHole nothing whole → CarriesAll m t xs u → NoHole (window nothing whole) xs
 all_written_fit said m t whole [] u b all no_hole c = tt
 all_written_fit said m t whole (x ∷ xs) u b all no_hole c =
@@ -149,7 +149,7 @@ all_written_fit said m t whole (x ∷ xs) u b all no_hole c =
           (no_hole_append nothing whole (x ∷ []) no_hole (fits, tt)) c.2),
     )
 
-carries_ends : {E V : Type 0} (m : Slot → Option (Content E V)) (t : Table) (x : Item E V) (u : Table) → Carries m t x u → (u.first ≡ t.first) × (u.end ≡ t.end)
+carries_ends : {E V : Type 0} (m : Slot → Option (Content E V)) (t : Whereabouts) (x : Item E V) (u : Whereabouts) → Carries m t x u → (u.first ≡ t.first) × (u.end ≡ t.end)
 carries_ends m t (Run f []) u e = (ap (λ v. v.first) e, ap (λ v. v.end) e)
 carries_ends m t (Run f (e ∷ es)) u h = (ap (λ v. v.first) h.6, ap (λ v. v.end) h.6)
 carries_ends m t Clean u h = (ap (λ v. v.first) h.1, ap (λ v. v.end) h.1)
@@ -157,14 +157,14 @@ carries_ends m t (Compact c) u h = (ap (λ v. v.first) h.1, ap (λ v. v.end) h.1
 carries_ends m t (Put k v) u h = (ap (λ v. v.first) h.2, ap (λ v. v.end) h.2)
 carries_ends m t (Del k) u h = (ap (λ v. v.first) h.1, ap (λ v. v.end) h.1)
 
--- carrying and copying move neither end of a table's entries
-pub carries_all_ends : {E V : Type 0} (m : Slot → Option (Content E V)) (t : Table) (xs : List (Item E V)) (u : Table) → CarriesAll m t xs u → (u.first ≡ t.first) × (u.end ≡ t.end)
+-- carrying and copying move neither end of a group's entries
+pub carries_all_ends : {E V : Type 0} (m : Slot → Option (Content E V)) (t : Whereabouts) (xs : List (Item E V)) (u : Whereabouts) → CarriesAll m t xs u → (u.first ≡ t.first) × (u.end ≡ t.end)
 carries_all_ends m t [] u e = (ap (λ v. v.first) e, ap (λ v. v.end) e)
 carries_all_ends m t (x ∷ xs) u h =
     let one = carries_ends m t x h.0 h.1 in let rest = carries_all_ends m h.0 xs u h.2 in (rest.0 ∙ one.0, rest.1 ∙ one.1)
 
--- the table of what was read: its entries end where Append's run does, if that isn't empty
-pub recovered_top : {E V : Type 0} (said : Said E V) (m : Slot → Option (Content E V)) (t : Table) (xs : List (Item E V)) → Book said m t → NoHole nothing xs
+-- the whereabouts of what was read: its entries end where Append's run does, if that isn't empty
+pub recovered_top : {E V : Type 0} (said : Said E V) (m : Slot → Option (Content E V)) (t : Whereabouts) (xs : List (Item E V)) → AreTrue said m t → NoHole nothing xs
     → ((i : ℕ) (v : Option (Content E V)) → says (Index i) xs ≡ Some v → m (Index i) ≡ v) → IsTopOf (window nothing xs) t
 recovered_top {E} {V} said m t xs b no_hole means = elim (cases_lt (window nothing xs).first (window nothing xs).end) [ inl some ↦ inr (ends some, begins some) | inr none ↦ inl none ]
   where
@@ -178,8 +178,8 @@ recovered_top {E} {V} said m t xs b no_hole means = elim (cases_lt (window nothi
     stands : (i : ℕ) → (window nothing xs).first ≤ i → i < (window nothing xs).end → (c : Content E V) × (says (Index i) xs ≡ Some (Some c))
     stands i low high = let it = spans.stands i low high in (Entry it.0, word (says (Index i) xs) (Entry it.0) it.1)
 
-    in_table : (i : ℕ) → (window nothing xs).first ≤ i → i < (window nothing xs).end → (t.first ≤ i) × (i < t.end)
-    in_table i low high =
+    in_whereabouts : (i : ℕ) → (window nothing xs).first ≤ i → i < (window nothing xs).end → (t.first ≤ i) × (i < t.end)
+    in_whereabouts i low high =
         let it : (c : Content E V) × (says (Index i) xs ≡ Some (Some c)) = stands i low high in
         let there : m (Index i) ≡ Some it.0 = means i (Some it.0) it.1 in (
           elim (cases_lt i t.first) [ inl before ↦ no_word it.0 (sym (b.below i before) ∙ there) | inr from ↦ from ],
@@ -187,7 +187,7 @@ recovered_top {E} {V} said m t xs b no_hole means = elim (cases_lt (window nothi
         )
 
     begins : (window nothing xs).first < (window nothing xs).end → t.first ≤ (window nothing xs).first
-    begins some = (in_table (window nothing xs).first (le_refl (window nothing xs).first) some).0
+    begins some = (in_whereabouts (window nothing xs).first (le_refl (window nothing xs).first) some).0
 
     emptied : (w : Option (Option (Content E V))) (i : ℕ) → ((v : Option (Content E V)) → w ≡ Some v → m (Index i) ≡ v) → (v : Option (Content E V)) → w ≡ Some v → unwrap_or w None ≡ None
         → m (Index i) ≡ None
@@ -196,7 +196,7 @@ recovered_top {E} {V} said m t xs b no_hole means = elim (cases_lt (window nothi
     ends : (window nothing xs).first < (window nothing xs).end → (window nothing xs).end ≡ t.end
     ends some =
         let last : (t.first ≤ (window nothing xs).end - 1) × ((window nothing xs).end - 1 < t.end) =
-        in_table ((window nothing xs).end - 1) (omega arith) (omega arith) in
+        in_whereabouts ((window nothing xs).end - 1) (omega arith) (omega arith) in
         elim (cases_lt (window nothing xs).end t.end) [
           | inl more ↦
               (let first = stands (window nothing xs).first (le_refl (window nothing xs).first) some in

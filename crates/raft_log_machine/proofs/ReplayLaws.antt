@@ -10,26 +10,26 @@ use Rattle.raft_log_model.specs.Holes.{Window, nothing, window, NoHole}
 use Rattle.raft_log_model.proofs.Holes.{no_hole_front, no_hole_end, no_hole_append, window_append, no_hole_later, tail_no_hole, IsTail}
 use Rattle.raft_log_machine.specs.Unbroken.{IsUnbroken, begun, joined}
 use Rattle.raft_log_machine.specs.Queue.{Queue, Store, all_records, takes, left, reread, with_append, with_rewrite}
-use Rattle.raft_log_machine.specs.Table.{Table, GrowsBy, CarriesAll}
+use Rattle.raft_log_machine.specs.Whereabouts.{Whereabouts, GrowsBy, CarriesAll}
 use Rattle.raft_log_machine.specs.Machine.{Machine, Event, Step, Steps, GoesOnWith, IsJoined, IsKept, said_of}
 use Rattle.raft_log_machine.specs.Machine.Event.{Take, SyncAppend, SyncRewrite, WritePlain, WriteBegin, WriteMiddle, WriteEnd, RaiseAppend, RaiseRewrite, LoseAppend, LoseRewrite, Fail, Reopen}
 use Rattle.raft_log_machine.specs.Replay.{Replays, IsTopOf, IsReplayable}
 use Rattle.raft_log_machine.specs.Fresh.{fresh_machine}
 use Rattle.raft_log_machine.proofs.Words.{appended_append, settle_append, of_group_append, rewritten_more}
 use Rattle.raft_log_machine.proofs.UnbrokenLaws.{IsUnbroken-front, IsUnbroken-back, rewritten_end, opened-begun}
-use Rattle.raft_log_machine.proofs.BookCarries.{differ}
+use Rattle.raft_log_machine.proofs.TruthCarries.{differ}
 use Rattle.raft_log_machine.proofs.MachineWords.{all_more}
 use Rattle.raft_log_machine.proofs.MachineKeeps.{step_keeps}
 use Rattle.raft_log_machine.proofs.FreshKeeps.{fresh_keeps}
 use Rattle.raft_log_machine.proofs.ReplayItems.{items_fit, all_written_fit, carries_all_ends, recovered_top}
 
 -- what is upper part of an upper part
-top_of_tail : (a b : Window) (t : Table) → IsTail a b → IsTopOf b t → IsTopOf a t
+top_of_tail : (a b : Window) (t : Whereabouts) → IsTail a b → IsTopOf b t → IsTopOf a t
 top_of_tail a b t (inl h) k = inl h
 top_of_tail a b t (inr h) (inl k) = inl (omega (arith, h.0, h.1))
 top_of_tail a b t (inr h) (inr k) = inr (h.0 ∙ k.0, omega (arith, h.1, k.1))
 
-same_top : (w : Window) (t u : Table) → u.first ≡ t.first → u.end ≡ t.end → IsTopOf w t → IsTopOf w u
+same_top : (w : Window) (t u : Whereabouts) → u.first ≡ t.first → u.end ≡ t.end → IsTopOf w t → IsTopOf w u
 same_top w t u e f (inl h) = inl h
 same_top w t u e f (inr h) = inr (h.0 ∙ sym f, omega (arith, h.1))
 
@@ -56,7 +56,7 @@ module _ {E V : Type 0} where
       let front = rewritten_end g xs ys u in no_hole_later front.0 (rewritten g ys) (subst (λ l. NoHole nothing l) (sym front.1) h)
 
   -- the run that stands from a later start on
-  later_top : (g : ℕ) (xs ys : List (Record E V)) (t : Table) → NoHole nothing (appended g (xs ++ ys)) → IsTopOf (window nothing (appended g (xs ++ ys))) t
+  later_top : (g : ℕ) (xs ys : List (Record E V)) (t : Whereabouts) → NoHole nothing (appended g (xs ++ ys)) → IsTopOf (window nothing (appended g (xs ++ ys))) t
       → IsTopOf (window nothing (appended g ys)) t
   later_top g xs ys t h top =
       top_of_tail (window nothing (appended g ys)) (window (window nothing (appended g xs)) (appended g ys)) t
@@ -92,12 +92,12 @@ module _ {E V : Type 0} where
           (subst (λ l. IsUnbroken l) (sym (image_is w.store.rewrite kept lost cut back image start)) k.unbroken)
 
 module _ {E V : Type 0} (w : Machine E V) (k : IsKept w) (p : IsReplayable w) where
-  replay_take : (y : Record E V) (tables : ℕ → Table) → w.failed ≡ false → ((g : ℕ) → GrowsBy (w.tables g) (of_group g (items_of y)) (tables g))
-      → IsReplayable (record w { store = with_append w.store (takes w.store.append y); tables = tables })
-  replay_take y tables alive grow = record {
+  replay_take : (y : Record E V) (whereabouts : ℕ → Whereabouts) → w.failed ≡ false → ((g : ℕ) → GrowsBy (w.whereabouts g) (of_group g (items_of y)) (whereabouts g))
+      → IsReplayable (record w { store = with_append w.store (takes w.store.append y); whereabouts = whereabouts })
+  replay_take y whereabouts alive grow = record {
     append_whole = λ g. subst (λ l. NoHole nothing l) (sym (list_is g)) (no_hole_append nothing (appended g (all_records w.store.append)) (of_group g (items_of y)) (p.append_whole g) (fit g).0);
     rewrite_whole = p.rewrite_whole;
-    top_part = λ still g. subst (λ v. IsTopOf v (tables g))
+    top_part = λ still g. subst (λ v. IsTopOf v (whereabouts g))
         (sym (ap (window nothing) (list_is g) ∙ window_append nothing (appended g (all_records w.store.append)) (of_group g (items_of y)))) (fit g).1;
   }
     where
@@ -107,48 +107,48 @@ module _ {E V : Type 0} (w : Machine E V) (k : IsKept w) (p : IsReplayable w) wh
           ∙ ap (λ l. appended g (all_records w.store.append) ++ of_group g l) (append-nil (items_of y))
 
       fit : (g : ℕ) → NoHole (window nothing (appended g (all_records w.store.append))) (of_group g (items_of y))
-          × IsTopOf (window (window nothing (appended g (all_records w.store.append))) (of_group g (items_of y))) (tables g)
-      fit g = items_fit (said_of g w.store) (taken w.map w.store.append.pending g) (w.tables g) (of_group g (items_of y)) (tables g)
-          (window nothing (appended g (all_records w.store.append))) (grow g) (k.books alive g) (p.top_part alive g)
+          × IsTopOf (window (window nothing (appended g (all_records w.store.append))) (of_group g (items_of y))) (whereabouts g)
+      fit g = items_fit (said_of g w.store) (taken w.map w.store.append.pending g) (w.whereabouts g) (of_group g (items_of y)) (whereabouts g)
+          (window nothing (appended g (all_records w.store.append))) (grow g) (k.whereabouts alive g) (p.top_part alive g)
 
-  -- the same records of both queues, and tables that end where they did
+  -- the same records of both queues, and whereabouts that end where they did
   replay_same : (v : Machine E V) → all_records v.store.append ≡ all_records w.store.append → all_records v.store.rewrite ≡ all_records w.store.rewrite
-      → (v.failed ≡ false → (w.failed ≡ false) × ((g : ℕ) → v.tables g ≡ w.tables g)) → IsReplayable v
+      → (v.failed ≡ false → (w.failed ≡ false) × ((g : ℕ) → v.whereabouts g ≡ w.whereabouts g)) → IsReplayable v
   replay_same v a r t = record {
     append_whole = λ g. subst (λ l. NoHole nothing (appended g l)) (sym a) (p.append_whole g);
     rewrite_whole = λ g. subst (λ l. NoHole nothing (rewritten g l)) (sym r) (p.rewrite_whole g);
-    top_part = λ alive g. subst (λ l. IsTopOf (window nothing (appended g l)) (v.tables g)) (sym a)
+    top_part = λ alive g. subst (λ l. IsTopOf (window nothing (appended g l)) (v.whereabouts g)) (sym a)
         (subst (λ u. IsTopOf (window nothing (appended g (all_records w.store.append))) u) (sym ((t alive).1 g)) (p.top_part (t alive).0 g));
   }
 
-  replay_write : (y : Record E V) (tables : ℕ → Table) → w.failed ≡ false
+  replay_write : (y : Record E V) (whereabouts : ℕ → Whereabouts) → w.failed ≡ false
       → ((g : ℕ) → NoHole (window nothing (rewritten g (all_records w.store.rewrite))) (of_group g (counts (opened none_open (all_records w.store.rewrite)) y)))
-      → ((g : ℕ) → ((tables g).first ≡ (w.tables g).first) × ((tables g).end ≡ (w.tables g).end))
-      → IsReplayable (record w { store = with_rewrite w.store (takes w.store.rewrite y); tables = tables })
-  replay_write y tables alive fit ends = record {
+      → ((g : ℕ) → ((whereabouts g).first ≡ (w.whereabouts g).first) × ((whereabouts g).end ≡ (w.whereabouts g).end))
+      → IsReplayable (record w { store = with_rewrite w.store (takes w.store.rewrite y); whereabouts = whereabouts })
+  replay_write y whereabouts alive fit ends = record {
     append_whole = p.append_whole;
     rewrite_whole = λ g. subst (λ l. NoHole nothing l) (sym (ap (rewritten g) (all_more w.store.rewrite y) ∙ rewritten_more g (all_records w.store.rewrite) y))
         (no_hole_append nothing (rewritten g (all_records w.store.rewrite)) (of_group g (counts (opened none_open (all_records w.store.rewrite)) y)) (p.rewrite_whole g) (fit g));
-    top_part = λ still g. same_top (window nothing (appended g (all_records w.store.append))) (w.tables g) (tables g) (ends g).0 (ends g).1 (p.top_part alive g);
+    top_part = λ still g. same_top (window nothing (appended g (all_records w.store.append))) (w.whereabouts g) (whereabouts g) (ends g).0 (ends g).1 (p.top_part alive g);
   }
 
-  -- items that the tables allow leave no hole in Rewrite
-  carried_fit : (items : ℕ → List (Item E V)) (tables : ℕ → Table) → w.failed ≡ false → w.store.append.pending ≡ []
-      → ((g : ℕ) → CarriesAll (w.map g) (w.tables g) (items g) (tables g)) → (g : ℕ) → NoHole (window nothing (rewritten g (all_records w.store.rewrite))) (items g)
-  carried_fit items tables alive none carry g =
-      all_written_fit (said_of g w.store) (taken w.map w.store.append.pending g) (w.tables g) (rewritten g (all_records w.store.rewrite)) (items g) (tables g) (k.books alive g)
-      (λ s. refl) (p.rewrite_whole g) (subst (λ l. CarriesAll (taken w.map l g) (w.tables g) (items g) (tables g)) (sym none) (carry g))
+  -- items that the whereabouts allow leave no hole in Rewrite
+  carried_fit : (items : ℕ → List (Item E V)) (whereabouts : ℕ → Whereabouts) → w.failed ≡ false → w.store.append.pending ≡ []
+      → ((g : ℕ) → CarriesAll (w.map g) (w.whereabouts g) (items g) (whereabouts g)) → (g : ℕ) → NoHole (window nothing (rewritten g (all_records w.store.rewrite))) (items g)
+  carried_fit items whereabouts alive none carry g =
+      all_written_fit (said_of g w.store) (taken w.map w.store.append.pending g) (w.whereabouts g) (rewritten g (all_records w.store.rewrite)) (items g) (whereabouts g) (k.whereabouts alive g)
+      (λ s. refl) (p.rewrite_whole g) (subst (λ l. CarriesAll (taken w.map l g) (w.whereabouts g) (items g) (whereabouts g)) (sym none) (carry g))
 
-  replay_end : (n : ℕ) (xs first : List (Tagged E V)) (more : List (List (Tagged E V))) (tables : ℕ → Table) → w.failed ≡ false → w.store.append.pending ≡ []
+  replay_end : (n : ℕ) (xs first : List (Tagged E V)) (more : List (List (Tagged E V))) (whereabouts : ℕ → Whereabouts) → w.failed ≡ false → w.store.append.pending ≡ []
       → GoesOnWith w.store.rewrite n first more
-      → ((g : ℕ) → (items : List (Item E V)) × IsJoined (of_group g (joined first more ++ xs)) items × CarriesAll (w.map g) (w.tables g) items (tables g))
-      → IsReplayable (record w { store = with_rewrite w.store (takes w.store.rewrite (Part (End n) xs)); tables = tables })
-  replay_end n xs first more tables alive none at_end carry =
-      replay_write (Part (End n) xs) tables alive
+      → ((g : ℕ) → (items : List (Item E V)) × IsJoined (of_group g (joined first more ++ xs)) items × CarriesAll (w.map g) (w.whereabouts g) items (whereabouts g))
+      → IsReplayable (record w { store = with_rewrite w.store (takes w.store.rewrite (Part (End n) xs)); whereabouts = whereabouts })
+  replay_end n xs first more whereabouts alive none at_end carry =
+      replay_write (Part (End n) xs) whereabouts alive
       (λ g. subst (λ o. NoHole (window nothing (rewritten g (all_records w.store.rewrite))) (of_group g (unwrap_or (onto o xs) []))) (sym parts)
       ((carry g).1.no_more_holes (window nothing (rewritten g (all_records w.store.rewrite)))
-      (carried_fit (λ j. (carry j).0) tables alive none (λ j. (carry j).2) g)))
-      (λ g. carries_all_ends (w.map g) (w.tables g) (carry g).0 (tables g) (carry g).2)
+      (carried_fit (λ j. (carry j).0) whereabouts alive none (λ j. (carry j).2) g)))
+      (λ g. carries_all_ends (w.map g) (w.whereabouts g) (carry g).0 (whereabouts g) (carry g).2)
     where
       parts : opened none_open (all_records w.store.rewrite) n ≡ Some (joined first more)
       parts =
@@ -159,8 +159,8 @@ module _ {E V : Type 0} (w : Machine E V) (k : IsKept w) (p : IsReplayable w) wh
   replay_lose_append lost rest e = record {
     append_whole = λ g. appended_back_fits g lost (rest ++ span) (whole g);
     rewrite_whole = p.rewrite_whole;
-    top_part = λ alive g. later_top g lost (rest ++ span) (w.tables g) (whole g)
-        (subst (λ l. IsTopOf (window nothing (appended g l)) (w.tables g)) (sym all_is) (p.top_part alive g));
+    top_part = λ alive g. later_top g lost (rest ++ span) (w.whereabouts g) (whole g)
+        (subst (λ l. IsTopOf (window nothing (appended g l)) (w.whereabouts g)) (sym all_is) (p.top_part alive g));
   }
     where
       span : List (Record E V)
@@ -187,16 +187,16 @@ module _ {E V : Type 0} (w : Machine E V) (k : IsKept w) (p : IsReplayable w) wh
       all_is = sym (append_assoc lost rest span) ∙ ap (λ l. l ++ span) e
 
   replay_reopen : (r_kept r_lost r_cut r_back a_kept a_lost a_cut a_back : List (Record E V)) → r_kept ++ r_lost ≡ w.store.rewrite.pending → r_cut ++ r_back ≡ w.store.rewrite.gone
-      → a_kept ++ a_lost ≡ w.store.append.pending → a_cut ++ a_back ≡ w.store.append.gone → (tables : ℕ → Table)
-      → IsKept (record { store = record { rewrite = reread w.store.rewrite r_cut r_back r_kept; append = reread w.store.append a_cut a_back a_kept }; map = taken w.map a_kept; tables = tables; failed = false })
-      → IsReplayable (record { store = record { rewrite = reread w.store.rewrite r_cut r_back r_kept; append = reread w.store.append a_cut a_back a_kept }; map = taken w.map a_kept; tables = tables; failed = false })
-  replay_reopen r_kept r_lost r_cut r_back a_kept a_lost a_cut a_back r_image r_start a_image a_start tables next = record {
+      → a_kept ++ a_lost ≡ w.store.append.pending → a_cut ++ a_back ≡ w.store.append.gone → (whereabouts : ℕ → Whereabouts)
+      → IsKept (record { store = record { rewrite = reread w.store.rewrite r_cut r_back r_kept; append = reread w.store.append a_cut a_back a_kept }; map = taken w.map a_kept; whereabouts = whereabouts; failed = false })
+      → IsReplayable (record { store = record { rewrite = reread w.store.rewrite r_cut r_back r_kept; append = reread w.store.append a_cut a_back a_kept }; map = taken w.map a_kept; whereabouts = whereabouts; failed = false })
+  replay_reopen r_kept r_lost r_cut r_back a_kept a_lost a_cut a_back r_image r_start a_image a_start whereabouts next = record {
     append_whole = whole;
     rewrite_whole = λ g. rewritten_front_fits g (r_cut ++ ((r_back ++ (w.store.rewrite.live ++ r_kept)) ++ [])) r_lost
         (subst (λ l. NoHole nothing (rewritten g l)) (sym (ap (λ l. (r_cut ++ l) ++ r_lost) (append-nil (r_back ++ (w.store.rewrite.live ++ r_kept))) ∙ image_is w.store.rewrite r_kept r_lost r_cut r_back r_image r_start))
         (p.rewrite_whole g));
-    top_part = λ alive g. recovered_top (said_of g reopened) (taken (taken w.map a_kept) [] g) (tables g) (appended g (a_cut ++ ((a_back ++ (w.store.append.live ++ a_kept)) ++ [])))
-        (next.books alive g) (whole g)
+    top_part = λ alive g. recovered_top (said_of g reopened) (taken (taken w.map a_kept) [] g) (whereabouts g) (appended g (a_cut ++ ((a_back ++ (w.store.append.live ++ a_kept)) ++ [])))
+        (next.whereabouts alive g) (whole g)
         (λ i v e. sym (next.holds g (Index i) [] [] r_cut [] [] a_cut refl (append-nil r_cut) refl) ∙ tells g i v e);
   }
     where
@@ -220,24 +220,24 @@ pub step_replays : {E V : Type 0} (e : Event E V) (w v : Machine E V) → Step e
 step_replays (Take y) w v h k p = subst (λ x. IsReplayable x) (sym h.1.2) (replay_take w k p y h.1.0 h.0 h.1.1)
 step_replays SyncAppend w v h k p = replay_same w k p v
     (ap (λ x. all_records x.store.append) h.1 ∙ ap (λ l. w.store.append.gone ++ l) (append-nil (w.store.append.live ++ w.store.append.pending)))
-    (ap (λ x. all_records x.store.rewrite) h.1) (λ alive. (h.0, λ g. ap (λ x. x.tables g) h.1))
+    (ap (λ x. all_records x.store.rewrite) h.1) (λ alive. (h.0, λ g. ap (λ x. x.whereabouts g) h.1))
 step_replays SyncRewrite w v h k p = replay_same w k p v (ap (λ x. all_records x.store.append) h.1)
     (ap (λ x. all_records x.store.rewrite) h.1 ∙ ap (λ l. w.store.rewrite.gone ++ l) (append-nil (w.store.rewrite.live ++ w.store.rewrite.pending)))
-    (λ alive. (h.0, λ g. ap (λ x. x.tables g) h.1))
+    (λ alive. (h.0, λ g. ap (λ x. x.whereabouts g) h.1))
 step_replays (WritePlain xs) w v h k p = subst (λ x. IsReplayable x) (sym h.3.2)
     (replay_write w k p (Plain xs) h.3.0 h.0 (carried_fit w k p (λ g. of_group g xs) h.3.0 h.0 h.1 h.3.1)
-    (λ g. carries_all_ends (w.map g) (w.tables g) (of_group g xs) (h.3.0 g) (h.3.1 g)))
-step_replays (WriteBegin n xs) w v h k p = subst (λ x. IsReplayable x) (sym h.2) (replay_write w k p (Part (Begin n) xs) w.tables h.0 (λ g. tt) (λ g. (refl, refl)))
-step_replays (WriteMiddle n xs) w v h k p = subst (λ x. IsReplayable x) (sym h.2.3) (replay_write w k p (Part (Middle n) xs) w.tables h.0 (λ g. tt) (λ g. (refl, refl)))
+    (λ g. carries_all_ends (w.map g) (w.whereabouts g) (of_group g xs) (h.3.0 g) (h.3.1 g)))
+step_replays (WriteBegin n xs) w v h k p = subst (λ x. IsReplayable x) (sym h.2) (replay_write w k p (Part (Begin n) xs) w.whereabouts h.0 (λ g. tt) (λ g. (refl, refl)))
+step_replays (WriteMiddle n xs) w v h k p = subst (λ x. IsReplayable x) (sym h.2.3) (replay_write w k p (Part (Middle n) xs) w.whereabouts h.0 (λ g. tt) (λ g. (refl, refl)))
 step_replays (WriteEnd n xs) w v h k p = subst (λ x. IsReplayable x) (sym h.3.3.2) (replay_end w k p n xs h.3.0 h.3.1 h.3.3.0 h.0 h.1 h.3.2 h.3.3.1)
 step_replays (RaiseAppend out stay) w v h k p = replay_same w k p v
     (ap (λ x. all_records x.store.append) h.6 ∙ append_assoc w.store.append.gone out (stay ++ w.store.append.pending)
     ∙ ap (λ l. w.store.append.gone ++ l) (sym (append_assoc out stay w.store.append.pending) ∙ ap (λ l. l ++ w.store.append.pending) h.3))
-    (ap (λ x. all_records x.store.rewrite) h.6) (λ alive. (h.0, λ g. ap (λ x. x.tables g) h.6))
+    (ap (λ x. all_records x.store.rewrite) h.6) (λ alive. (h.0, λ g. ap (λ x. x.whereabouts g) h.6))
 step_replays (RaiseRewrite out stay) w v h k p = replay_same w k p v (ap (λ x. all_records x.store.append) h.5)
     (ap (λ x. all_records x.store.rewrite) h.5 ∙ append_assoc w.store.rewrite.gone out (stay ++ w.store.rewrite.pending)
     ∙ ap (λ l. w.store.rewrite.gone ++ l) (sym (append_assoc out stay w.store.rewrite.pending) ∙ ap (λ l. l ++ w.store.rewrite.pending) h.3))
-    (λ alive. (h.0, λ g. ap (λ x. x.tables g) h.5))
+    (λ alive. (h.0, λ g. ap (λ x. x.whereabouts g) h.5))
 step_replays (LoseAppend lost rest) w v h k p = subst (λ x. IsReplayable x) (sym h.1) (replay_lose_append w k p lost rest h.0)
 step_replays (LoseRewrite lost rest) w v h k p = subst (λ x. IsReplayable x) (sym h.1) (replay_lose_rewrite w k p lost rest h.0)
 step_replays Fail w v h k p = replay_same w k p v (ap (λ x. all_records x.store.append) h) (ap (λ x. all_records x.store.rewrite) h)

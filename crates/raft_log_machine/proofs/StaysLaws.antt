@@ -11,7 +11,7 @@ use Rattle.raft_log_machine.specs.Survival.{IsSpoken}
 use Rattle.raft_log_machine.proofs.Words.{says_append, rewritten_more}
 use Rattle.raft_log_machine.proofs.UnbrokenLaws.{opened-begun}
 use Rattle.raft_log_machine.proofs.Starts.{spoken_newer}
-use Rattle.raft_log_machine.proofs.BookGrows.{spoken_after}
+use Rattle.raft_log_machine.proofs.TruthGrows.{spoken_after}
 use Rattle.raft_log_machine.proofs.MachineWords.{says_end}
 use Rattle.raft_log_machine.proofs.ReplayLaws.{rewritten_front}
 

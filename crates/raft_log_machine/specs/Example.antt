@@ -5,8 +5,8 @@ use Rattle.raft_log_model.specs.Item.{Record}
 use Rattle.raft_log_model.specs.Item.Item.{Run, Compact, Put}
 use Rattle.raft_log_model.specs.Item.Record.{Plain}
 use Rattle.raft_log_machine.specs.Queue.{Store}
-use Rattle.raft_log_machine.specs.Table.{Table, with_key}
-use Rattle.raft_log_machine.specs.Fresh.{empty_table}
+use Rattle.raft_log_machine.specs.Whereabouts.{Whereabouts, with_key}
+use Rattle.raft_log_machine.specs.Fresh.{nowhere}
 use Rattle.raft_log_machine.specs.Machine.{Event}
 use Rattle.raft_log_machine.specs.Machine.Event.{Take, SyncAppend, SyncRewrite, WritePlain, RaiseAppend, Reopen}
 use Rattle.raft_log_machine.specs.WrongRules.{of}
@@ -19,9 +19,9 @@ entries = Plain (of 1 (Run 1 (11 ∷ 12 ∷ 13 ∷ []) ∷ []))
 abbrev pub compaction : Record ℕ ℕ
 compaction = Plain (of 1 (Compact 3 ∷ Put (5 ∷ []) 50 ∷ []))
 
--- this group has that table, every other group an empty one
-abbrev pub only : Table → ℕ → Table
-only t g = if 1 == g then t else empty_table
+-- of this group things stand there, of every other group nothing stands
+abbrev pub only : Whereabouts → ℕ → Whereabouts
+only t g = if 1 == g then t else nowhere
 
 -- the first purge copies the entries and lets the file go that had them; the second carries the mark, copies
 -- the key and lets the next file go. Then the engine stops, and both files, which were kept to be reused, are
@@ -48,8 +48,8 @@ purged_twice = record {
   append = record { gone = []; live = entries ∷ compaction ∷ []; pending = [] };
 }
 
--- and the group's table: entry 3 and the key stand in Append again, and a mark is owed again
-abbrev pub read_again : Table
+-- and the group's whereabouts: entry 3 and the key stand in Append again, and a mark is owed again
+abbrev pub read_again : Whereabouts
 read_again = record {
   first = 3;
   split = 3;

@@ -1,8 +1,8 @@
 pub mod Unbroken
 pub mod Queue
 pub mod Survival
-pub mod Table
-pub mod Book
+pub mod Whereabouts
+pub mod Truth
 pub mod Recovery
 pub mod Machine
 pub mod Fresh

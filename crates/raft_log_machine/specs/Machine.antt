@@ -1,4 +1,4 @@
--- The engine as a machine: its directory, its tables, and all that may happen to them.
+-- The engine as a machine: its directory, the whereabouts of each group, and all that may happen to them.
 use Rattle.std.specs.Prelude.{◌≡◌, ℕ, ◌+◌, ◌≤◌, Bool, true, false, List, [], ◌∷◌, ◌++◌, length}
 use Rattle.raft_log_model.specs.Item.{Item, Tagged, Record, items_of}
 use Rattle.raft_log_model.specs.Item.Item.{Run, Clean, Compact, Put, Del}
@@ -10,8 +10,8 @@ use Rattle.raft_log_model.specs.Holes.{Window, NoHole}
 use Rattle.raft_log_machine.specs.Unbroken.{IsUnbroken, begun, joined}
 use Rattle.raft_log_machine.specs.Queue.{Queue, Store, all_records, takes, synced, raised, left, reread, with_append, with_rewrite}
 use Rattle.raft_log_machine.specs.Survival.{Holds}
-use Rattle.raft_log_machine.specs.Table.{Table, top, GrowsBy, CarriesAll, OwesNothing, HasAppended, HasRewritten}
-use Rattle.raft_log_machine.specs.Book.{Said, Book}
+use Rattle.raft_log_machine.specs.Whereabouts.{Whereabouts, top, GrowsBy, CarriesAll, OwesNothing, HasAppended, HasRewritten}
+use Rattle.raft_log_machine.specs.Truth.{Said, AreTrue}
 use Rattle.raft_log_machine.specs.Recovery.{IsRecovered}
 
 -- the run ends at or below `top`
@@ -34,9 +34,9 @@ pub record Machine (E V : Type 0) : Type 0 where
   pub store : Store E V
   -- what is synced of Append means this map
   pub map : Map E V
-  -- the groups' tables, of all records, synced or not
-  pub tables : ℕ → Table
-  -- after a failure the tables mean nothing, until the directory is opened again
+  -- the groups' whereabouts, of all records, synced or not
+  pub whereabouts : ℕ → Whereabouts
+  -- after a failure the whereabouts mean nothing, until the directory is opened again
   pub failed : Bool
 
 pub data Event (E V : Type 0) : Type 0 where
@@ -74,20 +74,20 @@ pub record IsJoined {E V : Type 0} (parts items : List (Item E V)) : Type 0 wher
   pub no_more_holes : (w : Window) → NoHole w items → NoHole w parts
 
 -- What each event asks, and the machine v that it leads to from w. All that is asked of groups is asked of their
--- tables
+-- whereabouts
 abbrev pub Step : {E V : Type 0} → Event E V → Machine E V → Machine E V → Type 0
 Step (Take y) w v =
     (w.failed ≡ false)
-    × ((tables : ℕ → Table) × ((g : ℕ) → GrowsBy (w.tables g) (of_group g (items_of y)) (tables g))
-    × (v ≡ record w { store = with_append w.store (takes w.store.append y); tables = tables }))
+    × ((whereabouts : ℕ → Whereabouts) × ((g : ℕ) → GrowsBy (w.whereabouts g) (of_group g (items_of y)) (whereabouts g))
+    × (v ≡ record w { store = with_append w.store (takes w.store.append y); whereabouts = whereabouts }))
 Step SyncAppend w v =
     (w.failed ≡ false)
     × (v ≡ record w { store = with_append w.store (synced w.store.append); map = taken w.map w.store.append.pending })
 Step SyncRewrite w v = (w.failed ≡ false) × (v ≡ record w { store = with_rewrite w.store (synced w.store.rewrite) })
 Step (WritePlain xs) w v =
     (w.failed ≡ false) × (w.store.append.pending ≡ []) × AllFit xs
-    × ((tables : ℕ → Table) × ((g : ℕ) → CarriesAll (w.map g) (w.tables g) (of_group g xs) (tables g))
-    × (v ≡ record w { store = with_rewrite w.store (takes w.store.rewrite (Plain xs)); tables = tables }))
+    × ((whereabouts : ℕ → Whereabouts) × ((g : ℕ) → CarriesAll (w.map g) (w.whereabouts g) (of_group g xs) (whereabouts g))
+    × (v ≡ record w { store = with_rewrite w.store (takes w.store.rewrite (Plain xs)); whereabouts = whereabouts }))
 Step (WriteBegin n xs) w v =
     (w.failed ≡ false) × AllFit xs
     × (v ≡ record w { store = with_rewrite w.store (takes w.store.rewrite (Part (Begin n) xs)) })
@@ -98,19 +98,19 @@ Step {E} {V} (WriteMiddle n xs) w v =
 Step {E} {V} (WriteEnd n xs) w v =
     (w.failed ≡ false) × (w.store.append.pending ≡ []) × AllFit xs
     × ((first : List (Tagged E V)) × (more : List (List (Tagged E V))) × GoesOnWith w.store.rewrite n first more
-    × ((tables : ℕ → Table)
+    × ((whereabouts : ℕ → Whereabouts)
     × ((g : ℕ) → (items : List (Item E V)) × IsJoined (of_group g (joined first more ++ xs)) items
-    × CarriesAll (w.map g) (w.tables g) items (tables g))
-    × (v ≡ record w { store = with_rewrite w.store (takes w.store.rewrite (Part (End n) xs)); tables = tables })))
+    × CarriesAll (w.map g) (w.whereabouts g) items (whereabouts g))
+    × (v ≡ record w { store = with_rewrite w.store (takes w.store.rewrite (Part (End n) xs)); whereabouts = whereabouts })))
 Step (RaiseAppend out stay) w v =
     (w.failed ≡ false) × (w.store.append.pending ≡ []) × (w.store.rewrite.pending ≡ [])
     × (out ++ stay ≡ w.store.append.live)
-    × ((g : ℕ) → OwesNothing (w.tables g)) × ((g : ℕ) → HasAppended (w.tables g) (appended g stay))
+    × ((g : ℕ) → OwesNothing (w.whereabouts g)) × ((g : ℕ) → HasAppended (w.whereabouts g) (appended g stay))
     × (v ≡ record w { store = with_append w.store (raised w.store.append out stay) })
 Step (RaiseRewrite out stay) w v =
     (w.failed ≡ false) × (w.store.append.pending ≡ []) × (w.store.rewrite.pending ≡ [])
     × (out ++ stay ≡ w.store.rewrite.live)
-    × ((g : ℕ) → HasRewritten (w.map g) (w.tables g) (rewritten g stay))
+    × ((g : ℕ) → HasRewritten (w.map g) (w.whereabouts g) (rewritten g stay))
     × (v ≡ record w { store = with_rewrite w.store (raised w.store.rewrite out stay) })
 Step (LoseAppend lost rest) w v =
     (lost ++ rest ≡ w.store.append.gone) × (v ≡ record w { store = with_append w.store (left w.store.append rest) })
@@ -120,15 +120,15 @@ Step Fail w v = v ≡ record w { failed = true }
 Step (Reopen r_kept r_lost r_cut r_back a_kept a_lost a_cut a_back) w v =
     (r_kept ++ r_lost ≡ w.store.rewrite.pending) × (r_cut ++ r_back ≡ w.store.rewrite.gone)
     × (a_kept ++ a_lost ≡ w.store.append.pending) × (a_cut ++ a_back ≡ w.store.append.gone)
-    × ((tables : ℕ → Table)
-    × ((g : ℕ) → IsRecovered (taken w.map a_kept g) (appended g (a_back ++ (w.store.append.live ++ a_kept))) (tables g))
+    × ((whereabouts : ℕ → Whereabouts)
+    × ((g : ℕ) → IsRecovered (taken w.map a_kept g) (appended g (a_back ++ (w.store.append.live ++ a_kept))) (whereabouts g))
     × (v ≡ record {
       store = record {
         rewrite = reread w.store.rewrite r_cut r_back r_kept;
         append = reread w.store.append a_cut a_back a_kept;
       };
       map = taken w.map a_kept;
-      tables = tables;
+      whereabouts = whereabouts;
       failed = false;
     }))
 
@@ -150,4 +150,4 @@ pub record IsKept {E V : Type 0} (w : Machine E V) : Type 0 where
   pub holds : Holds w.store w.map
   pub unbroken : IsUnbroken (all_records w.store.rewrite)
   pub fits : RecordsFit (all_records w.store.rewrite)
-  pub books : w.failed ≡ false → (g : ℕ) → Book (said_of g w.store) (taken w.map w.store.append.pending g) (w.tables g)
+  pub whereabouts : w.failed ≡ false → (g : ℕ) → AreTrue (said_of g w.store) (taken w.map w.store.append.pending g) (w.whereabouts g)

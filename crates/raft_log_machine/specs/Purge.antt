@@ -3,7 +3,7 @@ use Rattle.std.specs.Prelude.{◌≡◌, ℕ, false, List, [], ◌∷◌, ◌++�
 use Rattle.raft_log_model.specs.Item.{Record}
 use Rattle.raft_log_model.specs.Groups.{Map, directory_meaning}
 use Rattle.raft_log_machine.specs.Queue.{Store}
-use Rattle.raft_log_machine.specs.Table.{Table, OwesNothing}
+use Rattle.raft_log_machine.specs.Whereabouts.{Whereabouts, OwesNothing}
 use Rattle.raft_log_machine.specs.Machine.{Event}
 use Rattle.raft_log_machine.specs.Machine.Event.{Take, SyncAppend, SyncRewrite, WritePlain, WriteBegin, WriteMiddle, WriteEnd, RaiseAppend, RaiseRewrite, LoseAppend, LoseRewrite, Fail, Reopen}
 
@@ -44,5 +44,5 @@ meaning_there q r =
     (r.a_back ++ (q.append.live ++ q.append.pending))
 
 -- nothing of the group is left in Append, and no mark is owed
-abbrev pub IsRewritten : Table → Type 0
+abbrev pub IsRewritten : Whereabouts → Type 0
 IsRewritten t = (t.split ≡ t.end) × ((k : List ℕ) → t.appended k ≡ false) × OwesNothing t

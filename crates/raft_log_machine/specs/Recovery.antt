@@ -1,11 +1,11 @@
--- What an open knows of a group's table that it made from the files it read.
+-- What an open knows of the whereabouts of a group that it made from the files it read.
 use Rattle.std.specs.Prelude.{◌≡◌, ℕ, ◌<◌, ◌≤◌, ◌⊎◌, Bool, true, false, ◌||◌, bytes_eq, List, [], ◌∷◌, Option, Some, None}
 use Rattle.raft_log_model.specs.Item.{Item}
 use Rattle.raft_log_model.specs.Item.Item.{Compact, Del}
 use Rattle.raft_log_model.specs.Meaning.{Slot, Content, says}
 use Rattle.raft_log_model.specs.Meaning.Slot.{Index, Key}
 use Rattle.raft_log_model.specs.Holes.{has_clean}
-use Rattle.raft_log_machine.specs.Table.{Table, top}
+use Rattle.raft_log_machine.specs.Whereabouts.{Whereabouts, top}
 
 -- the items have a Compact
 abbrev pub has_compact : {E V : Type 0} → List (Item E V) → Bool
@@ -19,9 +19,9 @@ has_del k [] = false
 has_del k (Del l ∷ xs) = bytes_eq l k || has_del k xs
 has_del k (x ∷ xs) = has_del k xs
 
--- m is what the directory means for the group, append what was read of the group from Append's files: the table
--- has each thing where it stands, and a mark that those files have counts as owed
-pub record IsRecovered {E V : Type 0} (m : Slot → Option (Content E V)) (append : List (Item E V)) (t : Table)
+-- m is what the directory means for the group, append what was read of the group from Append's files: the
+-- whereabouts have each thing where it stands, and a mark that those files have counts as owed
+pub record IsRecovered {E V : Type 0} (m : Slot → Option (Content E V)) (append : List (Item E V)) (t : Whereabouts)
     : Type 0 where
   pub in_order : (t.first ≤ t.split) × (t.split ≤ t.end) × (t.end ≤ top)
   pub below : (i : ℕ) → i < t.first → m (Index i) ≡ None

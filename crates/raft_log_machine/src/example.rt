@@ -8,8 +8,8 @@ ghost use Rattle.raft_log_machine.specs.Fresh.{fresh_machine};
 ghost use Rattle.raft_log_machine.specs.Machine.{Steps, Machine};
 
 /// The events of `two_purges` happen from a fresh directory, and lead to the directory `purged_twice`, where
-/// the group has the table `read_again`: what two purges had moved into Rewrite stands in Append again, and the
+/// the group's whereabouts are `read_again`: what two purges had moved into Rewrite stands in Append again, and the
 /// mark is owed again.
 pub fn two_purges_happen()
-    ensures { (v : Machine ℕ ℕ) × Steps fresh_machine two_purges v × (v.store ≡ purged_twice) × (v.tables 1 ≡ read_again) }
+    ensures { (v : Machine ℕ ℕ) × Steps fresh_machine two_purges v × (v.store ≡ purged_twice) × (v.whereabouts 1 ≡ read_again) }
 {}

@@ -3,7 +3,7 @@
 //! Each public function here is a law over the definitions of `specs/`: it does nothing, and its contract is
 //! what is proved.
 //! * [`survival`]: what a directory holds, step by step, on the records of the two queues alone;
-//! * [`machine`]: the engine's tables beside the queues, each event, and every schedule of them;
+//! * [`machine`]: the engine's whereabouts beside the queues, each event, and every schedule of them;
 //! * [`files`]: the same on numbered files, from every file from which a recovery may read;
 //! * [`replay`]: whatever a crash leaves can be read: no holes, and no broken atomic groups;
 //! * [`purge`]: a purge changes nothing, a full rewrite leaves one file, a fork means the same;

@@ -1,5 +1,5 @@
-//! The engine as a machine: its two queues, what they mean, and a table for each group, which says what stands
-//! where and which marks Rewrite is still owed. The premises of an event speak of the tables alone.
+//! The engine as a machine: its two queues, what they mean, and the whereabouts of each group, which say what
+//! stands where and which marks Rewrite is still owed. The premises of an event speak of the whereabouts alone.
 
 ghost use Rattle.std.specs.Prelude.{◌≡◌, ℕ, List};
 ghost use Rattle.raft_log_model.specs.Groups.{taken};
@@ -9,7 +9,7 @@ ghost use Rattle.raft_log_machine.specs.History.{history};
 ghost use Rattle.raft_log_machine.specs.Survival.{Survives};
 ghost use Rattle.raft_log_machine.specs.Machine.{Event, IsKept, Step, Steps, Machine};
 
-/// A fresh directory with its empty tables keeps the invariant.
+/// A fresh directory, where nothing stands anywhere, keeps the invariant.
 pub fn fresh_machine_is_kept<E, V>()
     ensures { IsKept (fresh_machine {E = E} {V = V}) }
 {}

@@ -18,12 +18,12 @@ pub fn purge_is_invisible<E, V>()
         → meaning_there v.store later g s ≡ meaning_there w.store before g s }
 {}
 
-/// A full rewrite leaves one file: once no table has anything in Append or owes a mark, and Append's last file
+/// A full rewrite leaves one file: once no group has anything in Append or owes a mark, and Append's last file
 /// is new and empty, all its other files may leave the span, which then is the last file alone.
 pub fn full_rewrite_leaves_one_file<E, V>()
     ensures { (w : Machine E V) (a : FileQueue E V) → w.failed ≡ false → w.store.append.pending ≡ []
         → w.store.rewrite.pending ≡ [] → queue_of a ≡ w.store.append
-        → a.synced ≡ [] → ((g : ℕ) → IsRewritten (w.tables g))
+        → a.synced ≡ [] → ((g : ℕ) → IsRewritten (w.whereabouts g))
         → Step (RaiseAppend (records_of a.full) []) w
         (record w { store = with_append w.store (raised w.store.append (records_of a.full) []) })
         × FileStep (Raise a.full []) a (record a { gone = a.gone ++ a.full; full = [] })

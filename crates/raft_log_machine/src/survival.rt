@@ -84,7 +84,7 @@ pub fn directory_reopens<E, V>()
         (taken m a_kept) }
 {}
 
-/// How a table shows what the records that stay in Rewrite say: a slot of which a plain record that stays
+/// How an engine shows what the records that stay in Rewrite say: a slot of which a plain record that stays
 /// speaks, or an atomic group that stays from its BEGIN on, is spoken of by what stays; and then what stays
 /// says of it what all of the span said.
 pub fn what_stays_in_rewrite_says<E, V>()

@@ -52,7 +52,7 @@ pub fn group_without_its_first_file()
     ensures { LosesByRewrite [] (group_begin ∷ []) (group_end ∷ []) (group_begin ∷ group_end ∷ []) }
 {}
 
-/// Places move before the group's end mark: the group was never finished, the table points into it, and the
+/// Places move before the group's end mark: the group was never finished, the whereabouts point into it, and the
 /// file with the old copies goes.
 pub fn places_before_end_mark()
     ensures { LosesByRewrite [] (first_run ∷ []) (group_begin ∷ []) (first_run ∷ group_begin ∷ []) }

@@ -1,4 +1,4 @@
--- The invariant of a group holds afresh for the table that an open makes.
+-- The invariant of a group holds afresh for the whereabouts that an open makes.
 use Rattle.std.proofs.Common.{◌≡◌, ℕ, ◌-◌, ◌<◌, ◌≤◌, ◌⊎◌, true, false, ◌||◌, if◌then◌else◌, bytes_eq, List, [], ◌∷◌, Option, Some, None, option_map, slice_get, unwrap_or, refl, sym, ap, ◌∙◌, inl, inr, arith, le_refl}
 use Rattle.std.proofs.lemmas.Bool.{cases_lt}
 use Rattle.std.specs.Option.{option_or}
@@ -11,14 +11,14 @@ use Rattle.raft_log_model.specs.Holes.{has_clean}
 use Rattle.raft_log_model.proofs.Cases.{at_bool, at_option}
 use Rattle.raft_log_model.proofs.Tests.{run_sets, run_leaves, compact_removes, compact_leaves}
 use Rattle.raft_log_machine.specs.Survival.{IsSpoken}
-use Rattle.raft_log_machine.specs.Table.{Table}
-use Rattle.raft_log_machine.specs.Book.{Said, Book, IsRight, IsSettledIndex, IsSettledKey}
+use Rattle.raft_log_machine.specs.Whereabouts.{Whereabouts}
+use Rattle.raft_log_machine.specs.Truth.{Said, AreTrue, IsRight, IsSettledIndex, IsSettledKey}
 use Rattle.raft_log_machine.specs.Recovery.{has_compact, has_del, IsRecovered}
 use Rattle.raft_log_machine.proofs.Words.{option_or_none}
 use Rattle.raft_log_machine.proofs.Starts.{spoken_newer}
-use Rattle.raft_log_machine.proofs.BookGrows.{spoken_after}
-use Rattle.raft_log_machine.proofs.BookCarries.{differ}
-use Rattle.raft_log_machine.proofs.BookRaises.{no_word, speaks_above}
+use Rattle.raft_log_machine.proofs.TruthGrows.{spoken_after}
+use Rattle.raft_log_machine.proofs.TruthCarries.{differ}
+use Rattle.raft_log_machine.proofs.TruthRaises.{no_word, speaks_above}
 
 -- from the index a on only runs speak, and they start there or above
 abbrev IsCalm : {E V : Type 0} → ℕ → Item E V → Type 0
@@ -142,7 +142,7 @@ module _ {E V : Type 0} where
       at_bool (bytes_eq l k) (λ b. option_or (says (Key k) xs) (if b then Some None else None) ≡ Some None → (has_clean xs ≡ true) ⊎ ((b || has_del k xs) ≡ true))
       (λ e j. inr refl) (λ e j. emptied_key xs k (sym (option_or_none (says (Key k) xs)) ∙ j)) h
 
-module _ {E V : Type 0} (said : Said E V) (m : Slot → Option (Content E V)) (t : Table) (append : List (Item E V)) (r : IsRecovered m append t)
+module _ {E V : Type 0} (said : Said E V) (m : Slot → Option (Content E V)) (t : Whereabouts) (append : List (Item E V)) (r : IsRecovered m append t)
     (lowest_means : (s : Slot) → unwrap_or (says s append) (unwrap_or (said.lowest s) None) ≡ m s)
     (means : (s : Slot) → unwrap_or (says s append) (unwrap_or (said.rewrite s) None) ≡ m s)
     (append_is : (s : Slot) → said.append s ≡ says s append) where
@@ -162,7 +162,7 @@ module _ {E V : Type 0} (said : Said E V) (m : Slot → Option (Content E V)) (t
   word_is : (s : Slot) → says s append ≡ None → (c : Content E V) → m s ≡ Some c → said.rewrite s ≡ Some (m s)
   word_is s quiet c e = its_word s (said.rewrite s) c ((right_if_quiet s quiet).1 ∙ e) ∙ ap Some (sym e)
 
-  -- an entry of Append stands in the table's appended part
+  -- an entry of Append stands in the appended part of the whereabouts
   is_appended : (j : ℕ) (c : Content E V) → says (Index j) append ≡ Some (Some c) → (t.split ≤ j) × (j < t.end)
   is_appended j c e = (not_below (cases_lt j t.split), not_past (cases_lt j t.end))
     where
@@ -212,8 +212,8 @@ module _ {E V : Type 0} (said : Said E V) (m : Slot → Option (Content E V)) (t
   quiet_clash : (s : Slot) → IsSpoken (says s append) → says s append ≡ None → ⊥
   quiet_clash s h e = no_word h.0 (sym e ∙ h.1)
 
-  pub recovered_book : Book said m t
-  recovered_book = record {
+  pub recovered_truth : AreTrue said m t
+  recovered_truth = record {
     in_order = r.in_order;
     below = r.below;
     above = r.above;

@@ -1,5 +1,5 @@
--- What the engine's table of one group knows, how it follows what is written, and which marks it still owes to
--- Rewrite.
+-- Where the engine knows the entries and values of a group to stand, how that follows what is written, and which
+-- marks are still owed to Rewrite.
 use Rattle.std.specs.Prelude.{◌≡◌, ℕ, ◌+◌, ◌-◌, ◌^◌, ◌<◌, ◌≤◌, ◌⊎◌, min, max, Bool, true, false, if◌then◌else◌, bytes_eq, List, [], ◌∷◌, length, Option, Some, None, option_map, slice_get}
 use Rattle.raft_log_model.specs.Item.{Item}
 use Rattle.raft_log_model.specs.Item.Item.{Run, Clean, Compact, Put, Del}
@@ -14,7 +14,7 @@ top = 2 ^ 64 - 1
 -- The entries first .. split stand in Rewrite, split .. end in Append; the keys `appended` stand in Append, the
 -- others in Rewrite. Since marks were carried last, Append has a Clean of the group (cleaned), a Compact
 -- (compacted), a Del of these keys (deleted).
-pub record Table : Type 0 where
+pub record Whereabouts : Type 0 where
   pub first : ℕ
   pub split : ℕ
   pub end : ℕ
@@ -28,20 +28,20 @@ abbrev pub with_key : (List ℕ → Bool) → List ℕ → Bool → List ℕ →
 with_key test key answer k = if bytes_eq key k then answer else test k
 
 -- a run stands alone: it starts at or below the first entry, or no entry stands
-abbrev pub Alone : Table → ℕ → Type 0
+abbrev pub Alone : Whereabouts → ℕ → Type 0
 Alone t f = (f ≤ t.first) ⊎ (t.first ≡ t.end)
 
 -- a run goes on with the entries: it starts above the first of them, and at most at the index after the last
-abbrev pub GoesOn : Table → ℕ → Type 0
+abbrev pub GoesOn : Whereabouts → ℕ → Type 0
 GoesOn t f = (t.first < f) × (f ≤ t.end)
 
 -- the first index after all entries below c went
-abbrev pub compacted_first : Table → ℕ → ℕ
+abbrev pub compacted_first : Whereabouts → ℕ → ℕ
 compacted_first t c = max t.first (min c t.end)
 
--- the table u follows t where Append takes the item. A Del may also count as a change of the group that asks
+-- the whereabouts u follow t where Append takes the item. A Del may also count as a change of the group that asks
 -- for a Compact, which does no harm
-abbrev pub Grows : {E V : Type 0} → Table → Item E V → Table → Type 0
+abbrev pub Grows : {E V : Type 0} → Whereabouts → Item E V → Whereabouts → Type 0
 Grows t (Run f []) u = u ≡ t
 Grows t (Run f (e ∷ es)) u =
     (f + length (e ∷ es) ≤ top)
@@ -61,19 +61,19 @@ Grows t (Del k) u =
     })
 
 -- item after item
-abbrev pub GrowsBy : {E V : Type 0} → Table → List (Item E V) → Table → Type 0
+abbrev pub GrowsBy : {E V : Type 0} → Whereabouts → List (Item E V) → Whereabouts → Type 0
 GrowsBy t [] u = u ≡ t
-GrowsBy t (x ∷ xs) u = (next : Table) × Grows t x next × GrowsBy next xs u
+GrowsBy t (x ∷ xs) u = (next : Whereabouts) × Grows t x next × GrowsBy next xs u
 
 -- the run's entries are what stands there
 abbrev pub Restates : {E V : Type 0} → (Slot → Option (Content E V)) → ℕ → List E → Type 0
 Restates m f es = (i : ℕ) → f ≤ i → i < f + length es → option_map Entry (slice_get es (i - f)) ≡ m (Index i)
 
--- the table has nothing of the group in Rewrite
-abbrev pub NothingRewritten : {E V : Type 0} → (Slot → Option (Content E V)) → Table → Type 0
+-- by these whereabouts nothing of the group stands in Rewrite
+abbrev pub NothingRewritten : {E V : Type 0} → (Slot → Option (Content E V)) → Whereabouts → Type 0
 NothingRewritten m t = (t.first ≡ t.split) × ((k : List ℕ) → t.appended k ≡ false → m (Key k) ≡ None)
 
--- Rewrite may take the item where the group's map is m and its table t, and then the table is u:
+-- Rewrite may take the item where the group's map is m and its whereabouts are t, and then they are u:
 -- * a run of what stands, from a rewritten index (or the first appended one) on, up to the last rewritten entry
 --   or past it; to go past it neither Clean nor Compact may be owed;
 -- * a Clean that is owed, or where nothing of the group stands in Rewrite, as where the last one may have been
@@ -82,7 +82,7 @@ NothingRewritten m t = (t.first ≡ t.split) × ((k : List ℕ) → t.appended k
 -- * a Put of a key's value; of an appended one neither Clean nor Del may be owed;
 -- * a Del that is owed, or where the key doesn't stand in Rewrite. So an engine may keep its sets of marks
 --   until they are synced, and carry a mark again where it isn't sure.
-abbrev pub Carries : {E V : Type 0} → (Slot → Option (Content E V)) → Table → Item E V → Table → Type 0
+abbrev pub Carries : {E V : Type 0} → (Slot → Option (Content E V)) → Whereabouts → Item E V → Whereabouts → Type 0
 Carries m t (Run f []) u = u ≡ t
 Carries m t (Run f (e ∷ es)) u =
     (t.first ≤ f) × (f ≤ t.split) × (t.split ≤ f + length (e ∷ es)) × (f + length (e ∷ es) ≤ t.end)
@@ -99,22 +99,22 @@ Carries m t (Del k) u =
     ((t.deleted k ≡ true) ⊎ (t.appended k ≡ false → m (Key k) ≡ None))
     × (u ≡ record t { deleted = with_key t.deleted k false })
 
-abbrev pub CarriesAll : {E V : Type 0} → (Slot → Option (Content E V)) → Table → List (Item E V) → Table → Type 0
+abbrev pub CarriesAll : {E V : Type 0} → (Slot → Option (Content E V)) → Whereabouts → List (Item E V) → Whereabouts → Type 0
 CarriesAll m t [] u = u ≡ t
-CarriesAll m t (x ∷ xs) u = (next : Table) × Carries m t x next × CarriesAll m next xs u
+CarriesAll m t (x ∷ xs) u = (next : Whereabouts) × Carries m t x next × CarriesAll m next xs u
 
 -- no mark is owed
-abbrev pub OwesNothing : Table → Type 0
+abbrev pub OwesNothing : Whereabouts → Type 0
 OwesNothing t = (t.cleaned ≡ false) × (t.compacted ≡ false) × ((k : List ℕ) → t.deleted k ≡ false)
 
--- these items of Append hold all that the table has in Append
-abbrev pub HasAppended : {E V : Type 0} → Table → List (Item E V) → Type 0
+-- these items of Append hold all that stands in Append by these whereabouts
+abbrev pub HasAppended : {E V : Type 0} → Whereabouts → List (Item E V) → Type 0
 HasAppended {E} {V} t kept =
     ((i : ℕ) → t.split ≤ i → i < t.end → (entry : Content E V) × (says (Index i) kept ≡ Some (Some entry)))
     × ((k : List ℕ) → t.appended k ≡ true → (value : Option (Content E V)) × (says (Key k) kept ≡ Some value))
 
--- these items of Rewrite hold all that the table has in Rewrite
-abbrev pub HasRewritten : {E V : Type 0} → (Slot → Option (Content E V)) → Table → List (Item E V) → Type 0
+-- these items of Rewrite hold all that stands in Rewrite by these whereabouts
+abbrev pub HasRewritten : {E V : Type 0} → (Slot → Option (Content E V)) → Whereabouts → List (Item E V) → Type 0
 HasRewritten m t kept =
     ((i : ℕ) → t.first ≤ i → i < t.split → says (Index i) kept ≡ Some (m (Index i)))
     × ((k : List ℕ) → t.appended k ≡ false → (m (Key k) ≡ None) ⊎ (says (Key k) kept ≡ Some (m (Key k))))

@@ -1,9 +1,9 @@
--- The invariant that ties a group's table to what the two queues say of the group.
+-- The invariant that ties a group's whereabouts to what the two queues say of the group.
 use Rattle.std.specs.Prelude.{◌≡◌, ℕ, ◌<◌, ◌≤◌, ◌⊎◌, true, false, List, Option, Some, None, unwrap_or}
 use Rattle.raft_log_model.specs.Meaning.{Slot, Content}
 use Rattle.raft_log_model.specs.Meaning.Slot.{Index, Key}
 use Rattle.raft_log_machine.specs.Survival.{IsSpoken}
-use Rattle.raft_log_machine.specs.Table.{Table, top}
+use Rattle.raft_log_machine.specs.Whereabouts.{Whereabouts, top}
 
 -- what is said of each slot of a group: by Rewrite from its lowest start and from its span alone, and by
 -- Append's span
@@ -18,7 +18,7 @@ IsRight said m s = (unwrap_or (said.lowest s) None ≡ m s) × (unwrap_or (said.
 
 -- an index is settled: Rewrite is right, or the Clean or the Compact that is owed makes it right, or an
 -- appended entry at or below it stands, whose run overrules Rewrite
-abbrev pub IsSettledIndex : {E V : Type 0} → Said E V → (Slot → Option (Content E V)) → Table → ℕ → Type 0
+abbrev pub IsSettledIndex : {E V : Type 0} → Said E V → (Slot → Option (Content E V)) → Whereabouts → ℕ → Type 0
 IsSettledIndex said m t i =
     IsRight said m (Index i)
     ⊎ ((t.cleaned ≡ true)
@@ -27,12 +27,12 @@ IsSettledIndex said m t i =
 
 -- a key is settled: Rewrite is right, or the Clean or the Del that is owed makes it right, or its value stands
 -- in Append
-abbrev pub IsSettledKey : {E V : Type 0} → Said E V → (Slot → Option (Content E V)) → Table → List ℕ → Type 0
+abbrev pub IsSettledKey : {E V : Type 0} → Said E V → (Slot → Option (Content E V)) → Whereabouts → List ℕ → Type 0
 IsSettledKey said m t k =
     IsRight said m (Key k) ⊎ ((t.cleaned ≡ true) ⊎ ((t.deleted k ≡ true) ⊎ (t.appended k ≡ true)))
 
--- m is the group's map, t its table
-pub record Book {E V : Type 0} (said : Said E V) (m : Slot → Option (Content E V)) (t : Table) : Type 0 where
+-- the whereabouts t are true of what is said, where the group's map is m
+pub record AreTrue {E V : Type 0} (said : Said E V) (m : Slot → Option (Content E V)) (t : Whereabouts) : Type 0 where
   pub in_order : (t.first ≤ t.split) × (t.split ≤ t.end) × (t.end ≤ top)
   pub below : (i : ℕ) → i < t.first → m (Index i) ≡ None
   pub above : (i : ℕ) → t.end ≤ i → m (Index i) ≡ None

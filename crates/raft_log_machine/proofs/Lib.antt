@@ -22,3 +22,4 @@ pub mod IntervalLaws
 pub mod HistoryLaws
 pub mod StaysLaws
 pub mod TidyLaws
+pub mod RunLaws

@@ -11,5 +11,6 @@ pub mod Directory
 pub mod WrongRules
 pub mod Purge
 pub mod Replay
+pub mod Runs
 pub mod Example
 pub mod History

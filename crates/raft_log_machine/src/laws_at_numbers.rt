@@ -1,5 +1,5 @@
 //! Each law once at a concrete type of content: numbers for entries and for values.
-use crate::{example, files, machine, purge, replay, survival, wrong_rules};
+use crate::{example, files, images, machine, purge, replay, survival, wrong_rules};
 
 #[test]
 fn laws_of_survival() {
@@ -36,6 +36,11 @@ fn laws_of_files() {
     files::reading_of_files::<u64, u64>();
     files::survives_in_files_always::<u64, u64>();
     files::replays_in_files_always::<u64, u64>();
+}
+
+#[test]
+fn laws_of_images() {
+    images::each_image_has_one_run::<u64, u64>();
 }
 
 #[test]

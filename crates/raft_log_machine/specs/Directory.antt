@@ -31,10 +31,14 @@ pub record DirectoryStep {E V : Type 0} (e : DirectoryEvent E V) (d n : Director
   pub rewrite_from : n.rewrite_from ≡ numbered_from d.rewrite_from e.rewrite
   pub append_from : n.append_from ≡ numbered_from d.append_from e.append
 
-abbrev pub DirectorySteps : {E V : Type 0} → Directory E V → List (DirectoryEvent E V) → Directory E V → Type 0
+-- a whole schedule
+abbrev pub DirectorySteps : {E V : Type 0} → Directory E V → List (DirectoryEvent E V) → Directory E V
+    → Type 0
 DirectorySteps d [] n = n ≡ d
-DirectorySteps {E} {V} d (e ∷ es) n = (next : Directory E V) × DirectoryStep e d next × DirectorySteps next es n
+DirectorySteps {E} {V} d (e ∷ es) n =
+    (next : Directory E V) × DirectoryStep e d next × DirectorySteps next es n
 
+-- a directory without records: of each queue an empty file 1
 abbrev pub fresh_directory : {E V : Type 0} → Directory E V
 fresh_directory = record {
   machine = fresh_machine;
@@ -50,8 +54,8 @@ IsRising [] = Unit {0}
 IsRising (f ∷ []) = Unit {0}
 IsRising (f ∷ g ∷ fs) = (f.number < g.number) × IsRising (g ∷ fs)
 
--- from every file from which a recovery may read, whatever the image kept of the unsynced records, the reading gets
--- through: numbers rise, no run leaves a hole, and Rewrite's atomic groups are unbroken
+-- from every file from which a recovery may read, whatever the image kept of the unsynced records, the reading
+-- gets through: numbers rise, no run leaves a hole, and Rewrite's atomic groups are unbroken
 pub record ReplaysInFiles {E V : Type 0} (n : ℕ) (r : FileQueue E V) (k : ℕ) (a : FileQueue E V) : Type 0 where
   pub append : (kept lost : List (Record E V)) → kept ++ lost ≡ a.pending → (s : ℕ) (files : List (LogFile E V))
       → IsRead k a kept s files → IsRising files × ((g : ℕ) → NoHole nothing (appended g (records_of files)))

@@ -22,6 +22,7 @@ pub record FileQueue (E V : Type 0) : Type 0 where
   pub synced : List (Record E V)
   pub pending : List (Record E V)
 
+-- all records of the files, in their order
 abbrev pub records_of : {E V : Type 0} → List (LogFile E V) → List (Record E V)
 records_of [] = []
 records_of (f ∷ fs) = f.records ++ records_of fs
@@ -30,6 +31,7 @@ records_of (f ∷ fs) = f.records ++ records_of fs
 abbrev pub span : {E V : Type 0} → FileQueue E V → List (Record E V) → List (LogFile E V)
 span q kept = q.full ++ record { number = q.last; records = q.synced ++ kept } ∷ []
 
+-- all files of the queue in such an image
 abbrev pub all_files : {E V : Type 0} → FileQueue E V → List (Record E V) → List (LogFile E V)
 all_files q kept = q.behind ++ (q.gone ++ span q kept)
 
@@ -68,6 +70,7 @@ IsRead n q kept s files = IsReadOf (first_file n q) (all_files q kept) s files
 abbrev pub queue_of : {E V : Type 0} → FileQueue E V → Queue E V
 queue_of q = record { gone = records_of q.gone; live = records_of q.full ++ q.synced; pending = q.pending }
 
+-- the records of both queues
 abbrev pub store_of : {E V : Type 0} → FileQueue E V → FileQueue E V → Store E V
 store_of r a = record { rewrite = queue_of r; append = queue_of a }
 

@@ -14,10 +14,11 @@ abbrev pub of : ℕ → List (Item ℕ ℕ) → List (Tagged ℕ ℕ)
 of g [] = []
 of g (x ∷ xs) = record { group = g; item = x } ∷ of g xs
 
--- a queue whose records are all synced and in its span, and a directory of two of them
+-- a queue whose records are all synced and in its span
 abbrev pub lone : List (Record ℕ ℕ) → Queue ℕ ℕ
 lone rs = record { gone = []; live = rs; pending = [] }
 
+-- a directory of two such queues
 abbrev pub lone_store : List (Record ℕ ℕ) → List (Record ℕ ℕ) → Store ℕ ℕ
 lone_store rewrite append = record { rewrite = lone rewrite; append = lone append }
 
@@ -37,9 +38,11 @@ LosesByRewrite append out stay all =
 abbrev pub first_run : Record ℕ ℕ
 first_run = Plain (of 1 (Run 1 (11 ∷ 12 ∷ 13 ∷ 14 ∷ []) ∷ []))
 
+-- the entries below 3 go
 abbrev pub compact_3 : Record ℕ ℕ
 compact_3 = Plain (of 1 (Compact 3 ∷ []))
 
+-- the entries below 4 go
 abbrev pub compact_4 : Record ℕ ℕ
 compact_4 = Plain (of 1 (Compact 4 ∷ []))
 
@@ -47,20 +50,23 @@ compact_4 = Plain (of 1 (Compact 4 ∷ []))
 abbrev pub all_compacted : Record ℕ ℕ
 all_compacted = Plain (of 1 (Run 3 (23 ∷ []) ∷ Compact 4 ∷ []))
 
--- a key of group 1, its removal, and a key of group 2
+-- a key of group 1
 abbrev pub one_key : Record ℕ ℕ
 one_key = Plain (of 1 (Put (5 ∷ []) 50 ∷ []))
 
+-- group 1 is removed
 abbrev pub removal : Record ℕ ℕ
 removal = Plain (of 1 (Clean ∷ []))
 
+-- a key of group 2
 abbrev pub other_key : Record ℕ ℕ
 other_key = Plain (of 2 (Put (7 ∷ []) 70 ∷ []))
 
--- an atomic group in two records
+-- the first record of an atomic group
 abbrev pub group_begin : Record ℕ ℕ
 group_begin = Part (Begin 1) (of 1 (Run 1 (11 ∷ 12 ∷ []) ∷ []))
 
+-- its second and last record
 abbrev pub group_end : Record ℕ ℕ
 group_end = Part (End 1) (of 1 (Run 3 (13 ∷ 14 ∷ []) ∷ []))
 
@@ -70,4 +76,7 @@ both = Plain (record { group = 1; item = Clean } ∷ record { group = 2; item = 
 
 -- the batch isn't synced, and Rewrite has these records
 abbrev pub unsynced_both : List (Record ℕ ℕ) → Store ℕ ℕ
-unsynced_both rewrite = record { rewrite = lone rewrite; append = record { gone = []; live = []; pending = both ∷ [] } }
+unsynced_both rewrite = record {
+  rewrite = lone rewrite;
+  append = record { gone = []; live = []; pending = both ∷ [] };
+}

@@ -5,7 +5,7 @@ use Rattle.raft_log_model.specs.Groups.{taken}
 use Rattle.raft_log_machine.specs.Machine.{Machine, Event, Step, Steps, IsKept}
 use Rattle.raft_log_machine.specs.Machine.Event.{Take, SyncAppend, SyncRewrite, WritePlain, WriteBegin, WriteMiddle, WriteEnd, RaiseAppend, RaiseRewrite, LoseAppend, LoseRewrite, Fail, Reopen}
 use Rattle.raft_log_machine.specs.Fresh.{fresh_machine}
-use Rattle.raft_log_machine.specs.Runs.{IsOneRun, HasRuns}
+use Rattle.raft_log_machine.specs.Images.{IsOneRun, HasRuns}
 use Rattle.raft_log_machine.proofs.Starts.{beginnings, no_front}
 use Rattle.raft_log_machine.proofs.MachineKeeps.{step_keeps}
 use Rattle.raft_log_machine.proofs.FreshKeeps.{fresh_keeps}

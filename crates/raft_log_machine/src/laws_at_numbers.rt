@@ -41,6 +41,8 @@ fn laws_of_files() {
 #[test]
 fn laws_of_images() {
     images::each_image_has_one_run::<u64, u64>();
+    images::each_image_can_be_opened::<u64, u64>();
+    images::intervals_say_the_same_of_images::<u64, u64>();
 }
 
 #[test]
@@ -56,7 +58,6 @@ fn laws_of_replay() {
     replay::each_step_replays::<u64, u64>();
     replay::kept_machine_replays::<u64, u64>();
     replay::replays_always::<u64, u64>();
-    replay::intervals_say_the_same::<u64, u64>();
     replay::runs_of_a_group_join::<u64, u64>();
     replay::unbroken_records_are_tidy::<u64, u64>();
 }

@@ -1,15 +1,11 @@
 //! What a reading asks beside the meaning: that no run leaves a hole in either queue, and that atomic groups
 //! are whole. So a recovery gets through whatever a crash leaves.
 
-ghost use Rattle.std.specs.Prelude.{◌≡◌, ℕ, ◌+◌, false, length, List, ◌∷◌, ◌++◌};
-ghost use Rattle.raft_log_model.specs.Groups.{appended, rewritten};
-ghost use Rattle.raft_log_model.specs.Holes.{directory_by_intervals};
+ghost use Rattle.std.specs.Prelude.{ℕ, ◌+◌, length, List, ◌∷◌, ◌++◌};
 ghost use Rattle.raft_log_model.specs.Item.Item.{Run};
 ghost use Rattle.raft_log_model.specs.Item.{Item, Record};
-ghost use Rattle.raft_log_model.specs.Meaning.Slot.{Index};
 ghost use Rattle.raft_log_model.specs.Tidy.{Tidy};
 ghost use Rattle.raft_log_machine.specs.Fresh.{fresh_machine};
-ghost use Rattle.raft_log_machine.specs.Purge.{meaning_there, Reading};
 ghost use Rattle.raft_log_machine.specs.Replay.{IsReplayable, Replays};
 ghost use Rattle.raft_log_machine.specs.Unbroken.{IsUnbroken};
 ghost use Rattle.raft_log_machine.specs.Machine.{Event, IsJoined, IsKept, Step, Steps, Machine};
@@ -33,16 +29,6 @@ pub fn kept_machine_replays<E, V>()
 /// Over every schedule of events from a fresh directory, the directory replays.
 pub fn replays_always<E, V>()
     ensures { (events : List (Event E V)) (v : Machine E V) → Steps fresh_machine events v → Replays v.store }
-{}
-
-/// Of the files as they stand, read from any start, the wording by intervals (what Rewrite keeps under Append's
-/// Cleans, greatest Compact and least start of a run, and no gap) says what the last word says: no hole and no
-/// gap ever acts.
-pub fn intervals_say_the_same<E, V>()
-    ensures { (w : Machine E V) → IsKept w → IsReplayable w → w.failed ≡ false → (r : Reading w.store) (g i : ℕ)
-        → directory_by_intervals i (rewritten g (r.r_back ++ (w.store.rewrite.live ++ w.store.rewrite.pending)))
-        (appended g (r.a_back ++ (w.store.append.live ++ w.store.append.pending)))
-        ≡ meaning_there w.store r g (Index i) }
 {}
 
 /// Two runs of an atomic group, the second at the end of the first, may be taken as one; and what may be taken

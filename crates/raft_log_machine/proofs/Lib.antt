@@ -23,3 +23,4 @@ pub mod StaysLaws
 pub mod TidyLaws
 pub mod RunLaws
 pub mod ImageLaws
+pub mod RenumberLaws

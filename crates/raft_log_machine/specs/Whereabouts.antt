@@ -123,3 +123,9 @@ abbrev pub HasRewritten : {E V : Type 0} → (Slot → Option (Content E V)) →
 HasRewritten m t kept =
     ((i : ℕ) → t.first ≤ i → i < t.split → says (Index i) kept ≡ Some (m (Index i)))
     × ((k : List ℕ) → t.appended k ≡ false → (m (Key k) ≡ None) ⊎ (says (Key k) kept ≡ Some (m (Key k))))
+
+-- the whereabouts u are t, but that no entry may stand at any other number
+abbrev pub IsRenumbered : Whereabouts → Whereabouts → Type 0
+IsRenumbered t u =
+    (u ≡ t)
+    ⊎ ((t.first ≡ t.end) × ((n : ℕ) × (n ≤ top) × (u ≡ record t { first = n; split = n; end = n })))

@@ -14,6 +14,7 @@ fn laws_of_survival() {
     survival::rewrite_loses::<u64, u64>();
     survival::directory_reopens::<u64, u64>();
     survival::what_stays_in_rewrite_says::<u64, u64>();
+    survival::what_stays_in_append_says::<u64, u64>();
 }
 
 #[test]
@@ -22,6 +23,7 @@ fn laws_of_machine() {
     machine::each_step_keeps::<u64, u64>();
     machine::survives_always::<u64, u64>();
     machine::map_is_what_was_taken::<u64, u64>();
+    machine::renumbered_sound::<u64, u64>();
 }
 
 #[test]

@@ -6,8 +6,11 @@ ghost use Rattle.raft_log_model.specs.Groups.{taken};
 ghost use Rattle.raft_log_model.specs.Meaning.{Slot};
 ghost use Rattle.raft_log_machine.specs.Fresh.{fresh_machine, nothing_stands};
 ghost use Rattle.raft_log_machine.specs.History.{history};
+ghost use Rattle.raft_log_machine.specs.Images.{HasRuns};
+ghost use Rattle.raft_log_machine.specs.Replay.{IsReplayable};
 ghost use Rattle.raft_log_machine.specs.Survival.{Survives};
-ghost use Rattle.raft_log_machine.specs.Machine.{Event, IsKept, Step, Steps, Machine};
+ghost use Rattle.raft_log_machine.specs.Whereabouts.{IsRenumbered, Whereabouts};
+ghost use Rattle.raft_log_machine.specs.Machine.{Event, IsKept, Machine, Step, Steps};
 
 /// A fresh directory, where nothing stands anywhere, keeps the invariant.
 pub fn fresh_machine_is_kept<E, V>()
@@ -33,4 +36,14 @@ pub fn map_is_what_was_taken<E, V>()
     ensures { (events : List (Event E V)) (v : Machine E V) → Steps fresh_machine events v
         → (v.store.append.pending ≡ (history events).pending)
         × ((g : ℕ) (s : Slot) → v.map g s ≡ taken nothing_stands (history events).synced g s) }
+{}
+
+/// Where a group has no entries, the number at which none stand is free: it may be any, at any time, and the
+/// invariants stay.
+pub fn renumbered_sound<E, V>()
+    ensures kept { (w : Machine E V) (next : ℕ → Whereabouts) → ((g : ℕ) → IsRenumbered (w.whereabouts g) (next g))
+        → IsKept w → IsKept (record w { whereabouts = next }) }
+    ensures replay { (w : Machine E V) (next : ℕ → Whereabouts) → ((g : ℕ) → IsRenumbered (w.whereabouts g) (next g))
+        → IsKept w → IsReplayable w → IsReplayable (record w { whereabouts = next }) }
+    ensures runs { (w : Machine E V) (next : ℕ → Whereabouts) → HasRuns w → HasRuns (record w { whereabouts = next }) }
 {}

@@ -3,10 +3,10 @@
 //! means the map m.
 
 ghost use Rattle.std.specs.Prelude.{◌≡◌, ℕ, List, [], ◌∷◌, ◌++◌};
-ghost use Rattle.raft_log_model.specs.Groups.{of_group, rewritten, taken, Map};
+ghost use Rattle.raft_log_model.specs.Groups.{appended, of_group, rewritten, taken, Map};
 ghost use Rattle.raft_log_model.specs.Item.Mark.{End};
 ghost use Rattle.raft_log_model.specs.Item.Record.{Part, Plain};
-ghost use Rattle.raft_log_model.specs.Item.{Record, Tagged};
+ghost use Rattle.raft_log_model.specs.Item.{items_of, Record, Tagged};
 ghost use Rattle.raft_log_model.specs.Meaning.{says, Slot};
 ghost use Rattle.raft_log_machine.specs.Queue.{left, raised, reread, synced, takes, with_append, with_rewrite, Store};
 ghost use Rattle.raft_log_machine.specs.Survival.{Holds, IsSpoken, MayRaiseAppend, MayRaiseRewrite, MayRewrite, Survives};
@@ -97,4 +97,13 @@ pub fn what_stays_in_rewrite_says<E, V>()
     ensures same { (g : ℕ) (s : Slot) (out stay : List (Record E V)) → IsUnbroken (out ++ stay)
         → IsSpoken (says s (rewritten g stay))
         → says s (rewritten g stay) ≡ says s (rewritten g (out ++ stay)) }
+{}
+
+/// How an engine shows what the records that stay in Append say: a slot of which a record that stays speaks is
+/// spoken of by what stays; and then what stays says of it what all of the span said.
+pub fn what_stays_in_append_says<E, V>()
+    ensures one { (g : ℕ) (s : Slot) (xs : List (Record E V)) (y : Record E V) (zs : List (Record E V))
+        → IsSpoken (says s (of_group g (items_of y))) → IsSpoken (says s (appended g (xs ++ y ∷ zs))) }
+    ensures same { (g : ℕ) (s : Slot) (out stay : List (Record E V)) → IsSpoken (says s (appended g stay))
+        → says s (appended g stay) ≡ says s (appended g (out ++ stay)) }
 {}

@@ -73,7 +73,8 @@ pub fn borders_of_two<E, V>()
 /// Consecutive segments of tidy records, each read by itself and merged in any bracketing, are the segment of all of
 /// them: nothing is lost where a border cuts an atomic group.
 pub fn any_bracketing_is_the_whole<E, V>()
-    ensures { (t : Bracketing (Record E V)) → Tidy (all_of t) → IsSameSegment (merge_all t) (segment (all_of t)) }
+    ensures { (t : Bracketing (Record E V))
+        → Tidy (all_of t) → IsSameSegment (merge_all t) (segment (all_of t)) }
 {}
 
 /// Why the records are to be tidy: where another record touches the raft group of an open atomic group, merging its

@@ -48,6 +48,7 @@ pub fn completed_group_last()
     ensures whole { value_in (begun ++ ended_then_newer) ≡ Some (Value 2) }
     ensures right { holds (Key voter) (of_group 1 (merge (segment begun) (segment ended_then_newer)).counted)
         ≡ Some (Value 2) }
-    ensures wrong { holds (Key voter) (rewritten 1 ended_then_newer ++ of_group 1 (completed (segment begun).left_open (segment ended_then_newer).heads))
+    ensures wrong { holds (Key voter) (rewritten 1 ended_then_newer
+        ++ of_group 1 (completed (segment begun).left_open (segment ended_then_newer).heads))
         ≡ Some (Value 1) }
 {}

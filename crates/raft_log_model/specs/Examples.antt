@@ -8,6 +8,7 @@ use Rattle.raft_log_model.specs.Meaning.{Content, holds, directory}
 use Rattle.raft_log_model.specs.Groups.{directory_meaning}
 use Rattle.raft_log_model.specs.Meaning.Slot.{Index, Key}
 use Rattle.raft_log_model.specs.Meaning.Content.{Entry}
+use Rattle.raft_log_model.specs.Table.{Table, content}
 use Rattle.raft_log_model.specs.Holes.{Window, nothing, window, holds_past, directory_by_intervals}
 
 -- n numbers, one after another
@@ -94,6 +95,22 @@ append_from_4 = Run 3 (3 ∷ 4 ∷ 5 ∷ []) ∷ Put voter 2 ∷ append_from_5
 -- what stands at the indexes 0 to 6: entries 4 and 5
 abbrev pub four_and_five : List (Option (Content ℕ ℕ))
 four_and_five = None ∷ None ∷ None ∷ None ∷ Some (Entry 4) ∷ Some (Entry 105) ∷ None ∷ []
+
+-- a directory whose Append begins past the end of Rewrite's entry and comes back to it: entry 6 in Rewrite
+abbrev pub six : List (Item ℕ ℕ)
+six = Run 6 (6 ∷ []) ∷ []
+
+-- and in Append's files that are still there entries 8 to 11, then 7 in their place
+abbrev pub eight_then_seven : List (Item ℕ ℕ)
+eight_then_seven = Run 8 (upward 8 4) ∷ Run 7 (7 ∷ []) ∷ []
+
+-- what a table has at n indexes, one after another
+abbrev pub shown_in : Table ℕ ℕ → ℕ → ℕ → List (Option (Content ℕ ℕ))
+shown_in t first n = map (λ i. content t (Index i)) (upward first n)
+
+-- what stands at the indexes 5 to 11 of that directory: entries 6 and 7
+abbrev pub six_and_seven : List (Option (Content ℕ ℕ))
+six_and_seven = None ∷ Some (Entry 6) ∷ Some (Entry 7) ∷ None ∷ None ∷ None ∷ None ∷ []
 
 -- an item of a group
 abbrev pub of : ℕ → Item ℕ ℕ → Tagged ℕ ℕ

@@ -1,8 +1,8 @@
 -- A table of one group, entries one after another and the values of keys, and what each item makes of it.
-use Rattle.std.specs.Prelude.{ℕ, ◌+◌, ◌-◌, min, ◌&&◌, List, [], ◌∷◌, ◌++◌, Option, Some, None, option_map, if◌then◌else◌, nat_le, nat_lt, slice_get, bytes_eq, length, take, drop}
+use Rattle.std.specs.Prelude.{◌≡◌, ℕ, ◌+◌, ◌-◌, min, ◌&&◌, List, [], ◌∷◌, ◌++◌, Option, Some, None, option_map, if◌then◌else◌, nat_le, nat_lt, slice_get, bytes_eq, length, take, drop}
 use Rattle.raft_log_model.specs.Item.{Item}
 use Rattle.raft_log_model.specs.Item.Item.{Run, Clean, Compact, Put, Del}
-use Rattle.raft_log_model.specs.Meaning.{Slot, Content}
+use Rattle.raft_log_model.specs.Meaning.{Slot, Content, holds}
 use Rattle.raft_log_model.specs.Meaning.Slot.{Index, Key}
 use Rattle.raft_log_model.specs.Meaning.Content.{Entry, Value}
 use Rattle.raft_log_model.specs.Holes.{Window, is_past}
@@ -82,3 +82,7 @@ table_step_past t (Del k) = delete t k
 abbrev pub table_after_past : {E V : Type 0} → Table E V → List (Item E V) → Table E V
 table_after_past t [] = t
 table_after_past t (x ∷ xs) = table_after_past (table_step_past t x) xs
+
+-- the table has in each slot what stands there after the items
+abbrev pub IsTableOf : {E V : Type 0} → Table E V → List (Item E V) → Type 0
+IsTableOf t xs = (s : Slot) → content t s ≡ holds s xs

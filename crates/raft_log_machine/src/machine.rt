@@ -1,0 +1,36 @@
+//! The engine as a machine: its two queues, what they mean, and the whereabouts of each group, which say what
+//! stands where and which marks Rewrite is still owed. The premises of an event speak of the whereabouts alone.
+
+ghost use Rattle.std.specs.Prelude.{◌≡◌, ℕ, List};
+ghost use Rattle.raft_log_model.specs.Groups.{taken};
+ghost use Rattle.raft_log_model.specs.Meaning.{Slot};
+ghost use Rattle.raft_log_machine.specs.Fresh.{fresh_machine, nothing_stands};
+ghost use Rattle.raft_log_machine.specs.History.{history};
+ghost use Rattle.raft_log_machine.specs.Survival.{Survives};
+ghost use Rattle.raft_log_machine.specs.Machine.{Event, IsKept, Step, Steps, Machine};
+
+/// A fresh directory, where nothing stands anywhere, keeps the invariant.
+pub fn fresh_machine_is_kept<E, V>()
+    ensures { IsKept (fresh_machine {E = E} {V = V}) }
+{}
+
+/// Each event keeps the invariant: a record in Append, syncs, marks and copies in Rewrite, parts of atomic
+/// groups, first files that rise, files that are lost, a failure, and an open of any image from any starts.
+pub fn each_step_keeps<E, V>()
+    ensures { (e : Event E V) (w v : Machine E V) → Step e w v → IsKept w → IsKept v }
+{}
+
+/// Over every schedule of events from a fresh directory, the directory survives as its map, Append's unsynced
+/// records being the pending batches.
+pub fn survives_always<E, V>()
+    ensures { (events : List (Event E V)) (v : Machine E V) → Steps fresh_machine events v
+        → Survives v.store v.map v.store.append.pending }
+{}
+
+/// The map as which a directory survives is what its batches make: those that Append took, synced or not, but
+/// for the ones that a crash lost. Purges, failures and losses of files leave no trace in it.
+pub fn map_is_what_was_taken<E, V>()
+    ensures { (events : List (Event E V)) (v : Machine E V) → Steps fresh_machine events v
+        → (v.store.append.pending ≡ (history events).pending)
+        × ((g : ℕ) (s : Slot) → v.map g s ≡ taken nothing_stands (history events).synced g s) }
+{}

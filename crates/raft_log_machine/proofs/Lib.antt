@@ -24,3 +24,4 @@ pub mod TidyLaws
 pub mod RunLaws
 pub mod ImageLaws
 pub mod RenumberLaws
+pub mod TooLittle

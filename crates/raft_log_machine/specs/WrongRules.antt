@@ -1,6 +1,6 @@
 -- For each wrong rule a directory that holds its map, and what the rule makes of it. Entries and values are
 -- numbers.
-use Rattle.std.specs.Prelude.{ℕ, List, [], ◌∷◌}
+use Rattle.std.specs.Prelude.{ℕ, true, List, [], ◌∷◌}
 use Rattle.raft_log_model.specs.Item.{Item, Tagged, Record}
 use Rattle.raft_log_model.specs.Item.Item.{Run, Clean, Compact, Put}
 use Rattle.raft_log_model.specs.Item.Record.{Plain, Part}
@@ -8,6 +8,8 @@ use Rattle.raft_log_model.specs.Item.Mark.{Begin, End}
 use Rattle.raft_log_model.specs.Groups.{directory_meaning}
 use Rattle.raft_log_machine.specs.Queue.{Queue, Store, raised, with_append, with_rewrite}
 use Rattle.raft_log_machine.specs.Survival.{Holds}
+use Rattle.raft_log_machine.specs.Machine.{Machine}
+use Rattle.raft_log_machine.specs.Fresh.{nowhere}
 
 -- items of a group
 abbrev pub of : ℕ → List (Item ℕ ℕ) → List (Tagged ℕ ℕ)
@@ -80,3 +82,20 @@ unsynced_both rewrite = record {
   rewrite = lone rewrite;
   append = record { gone = []; live = []; pending = both ∷ [] };
 }
+
+-- an engine that has failed on this directory
+abbrev pub failed_on : List (Record ℕ ℕ) → List (Record ℕ ℕ) → Machine ℕ ℕ
+failed_on rewrite append = record {
+  store = lone_store rewrite append;
+  map = directory_meaning rewrite append;
+  whereabouts = λ g. nowhere;
+  failed = true;
+}
+
+-- entry 1 of group 1
+abbrev pub entry_1 : Record ℕ ℕ
+entry_1 = Plain (of 1 (Run 1 (11 ∷ []) ∷ []))
+
+-- entry 3 of group 1
+abbrev pub entry_3 : Record ℕ ℕ
+entry_3 = Plain (of 1 (Run 3 (13 ∷ []) ∷ []))

@@ -67,6 +67,7 @@ fn laws_of_replay() {
 #[test]
 fn examples() {
     example::two_purges_happen();
+    images::meaning_and_reading_are_too_little();
     wrong_rules::append_files_before_marks();
     wrong_rules::marks_forgotten_before_written();
     wrong_rules::marks_after_copies();

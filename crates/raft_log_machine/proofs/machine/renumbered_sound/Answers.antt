@@ -1,4 +1,4 @@
-use Rattle.raft_log_machine.proofs.RenumberLaws.{renumbered_kept, renumbered_replays, renumbered_runs}
+use Rattle.raft_log_machine.proofs.RenumberLaws.{renumbered_kept, renumbered_replays}
 use Rattle.raft_log_machine.proofs.machine.renumbered_sound.Goals as goal
 
 pub returns : goal.returns

@@ -25,3 +25,4 @@ pub mod RunLaws
 pub mod ImageLaws
 pub mod RenumberLaws
 pub mod TooLittle
+pub mod RenamedWhereabouts

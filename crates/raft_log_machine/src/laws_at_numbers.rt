@@ -24,6 +24,7 @@ fn laws_of_machine() {
     machine::survives_always::<u64, u64>();
     machine::map_is_what_was_taken::<u64, u64>();
     machine::renumbered_sound::<u64, u64>();
+    machine::whereabouts_of_renamed::<u64, u64, u64>();
 }
 
 #[test]

@@ -54,11 +54,14 @@ IsRising [] = Unit {0}
 IsRising (f ∷ []) = Unit {0}
 IsRising (f ∷ g ∷ fs) = (f.number < g.number) × IsRising (g ∷ fs)
 
--- from every file from which a recovery may read, whatever the image kept of the unsynced records, the reading
--- gets through: numbers rise, no run leaves a hole, and Rewrite's atomic groups are unbroken
-pub record ReplaysInFiles {E V : Type 0} (n : ℕ) (r : FileQueue E V) (k : ℕ) (a : FileQueue E V) : Type 0 where
-  pub append : (kept lost : List (Record E V)) → kept ++ lost ≡ a.pending → (s : ℕ) (files : List (LogFile E V))
-      → IsRead k a kept s files → IsRising files × ((g : ℕ) → NoHole nothing (appended g (records_of files)))
-  pub rewrite : (kept lost : List (Record E V)) → kept ++ lost ≡ r.pending → (s : ℕ) (files : List (LogFile E V))
-      → IsRead n r kept s files
-      → IsRising files × IsUnbroken (records_of files) × ((g : ℕ) → NoHole nothing (rewritten g (records_of files)))
+-- from every file from which a recovery may read, whatever the image kept of the unsynced records, the
+-- reading gets through: numbers rise, no run leaves a hole, and Rewrite's atomic groups are unbroken
+pub record ReplaysInFiles {E V : Type 0} (n : ℕ) (r : FileQueue E V) (k : ℕ) (a : FileQueue E V)
+    : Type 0 where
+  pub append : (kept lost : List (Record E V)) → kept ++ lost ≡ a.pending
+      → (s : ℕ) (files : List (LogFile E V)) → IsRead k a kept s files
+      → IsRising files × ((g : ℕ) → NoHole nothing (appended g (records_of files)))
+  pub rewrite : (kept lost : List (Record E V)) → kept ++ lost ≡ r.pending
+      → (s : ℕ) (files : List (LogFile E V)) → IsRead n r kept s files
+      → IsRising files × IsUnbroken (records_of files)
+      × ((g : ℕ) → NoHole nothing (rewritten g (records_of files)))

@@ -46,7 +46,8 @@ pub record Machine (E V : Type 0) : Type 0 where
 pub data Event (E V : Type 0) : Type 0 where
   -- Append takes a record
   Take : Record E V → Event E V
-  -- all of a queue is synced: by a sync, by a rotation, or where a refused write was cut back and that was synced
+  -- all of a queue is synced: by a sync, by a rotation, or where a refused write was cut back and that was
+  -- synced
   SyncAppend : Event E V
   SyncRewrite : Event E V
   -- Rewrite takes a record: marks, copies of Append's entries and keys, rewritten ones again
@@ -63,13 +64,14 @@ pub data Event (E V : Type 0) : Type 0 where
   LoseRewrite : (lost rest : List (Record E V)) → Event E V
   -- the engine fails
   Fail : Event E V
-  -- a crash or a close, and an open. Of the unsynced records of both queues some beginning is kept. Of the gone
-  -- ones an end is read
+  -- a crash or a close, and an open. Of the unsynced records of both queues some beginning is kept. Of the
+  -- gone ones an end is read
   Reopen : (r_kept r_lost r_cut r_back a_kept a_lost a_cut a_back : List (Record E V)) → Event E V
 
 -- the records of an atomic group that has not ended are the last ones of Rewrite's span
 abbrev pub GoesOnWith : {E V : Type 0} → Queue E V → ℕ → List (Tagged E V) → List (List (Tagged E V)) → Type 0
-GoesOnWith {E} {V} q n first more = (front : List (Record E V)) × (q.live ++ q.pending ≡ front ++ begun n first more)
+GoesOnWith {E} {V} q n first more =
+    (front : List (Record E V)) × (q.live ++ q.pending ≡ front ++ begun n first more)
 
 -- The items of an atomic group may be taken as these: they say the same of each slot, and leave no hole where
 -- these leave none. So several runs, each at the end of the one before, may be taken as one
@@ -77,8 +79,8 @@ pub record IsJoined {E V : Type 0} (parts items : List (Item E V)) : Type 0 wher
   pub same_words : (s : Slot) → says s parts ≡ says s items
   pub no_more_holes : (w : Window) → NoHole w items → NoHole w parts
 
--- What each event asks, and the machine v that it leads to from w. All that is asked of groups is asked of their
--- whereabouts
+-- What each event asks, and the machine v that it leads to from w. All that is asked of groups is asked of
+-- their whereabouts
 abbrev pub Step : {E V : Type 0} → Event E V → Machine E V → Machine E V → Type 0
 Step (Take y) w v =
     (w.failed ≡ false)
@@ -102,11 +104,13 @@ Step (WriteBegin n xs) w v =
     × (v ≡ record w { store = with_rewrite w.store (takes w.store.rewrite (Part (Begin n) xs)) })
 Step {E} {V} (WriteMiddle n xs) w v =
     (w.failed ≡ false) × AllFit xs
-    × ((first : List (Tagged E V)) × (more : List (List (Tagged E V))) × GoesOnWith w.store.rewrite n first more
+    × ((first : List (Tagged E V)) × (more : List (List (Tagged E V)))
+    × GoesOnWith w.store.rewrite n first more
     × (v ≡ record w { store = with_rewrite w.store (takes w.store.rewrite (Part (Middle n) xs)) }))
 Step {E} {V} (WriteEnd n xs) w v =
     (w.failed ≡ false) × (w.store.append.pending ≡ []) × AllFit xs
-    × ((first : List (Tagged E V)) × (more : List (List (Tagged E V))) × GoesOnWith w.store.rewrite n first more
+    × ((first : List (Tagged E V)) × (more : List (List (Tagged E V)))
+    × GoesOnWith w.store.rewrite n first more
     × ((next : ℕ → Whereabouts)
     × ((g : ℕ) → (items : List (Item E V)) × IsJoined (of_group g (joined first more ++ xs)) items
     × CarriesAll (w.map g) (w.whereabouts g) items (next g))

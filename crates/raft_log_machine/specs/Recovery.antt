@@ -20,8 +20,8 @@ has_del k (Del l ∷ xs) = bytes_eq l k || has_del k xs
 has_del k (x ∷ xs) = has_del k xs
 
 -- m is what the directory means for the group, append what was read of the group from Append's files: the
--- whereabouts have each thing where it stands, and a mark that those files have counts as owed: a Clean always,
--- beside one none of the others need, and no Del that isn't there
+-- whereabouts have each thing where it stands, and a mark that those files have counts as owed: a Clean
+-- always, beside one none of the others need, and no Del that isn't there
 pub record IsRecovered {E V : Type 0} (m : Slot → Option (Content E V)) (append : List (Item E V))
     (t : Whereabouts) : Type 0 where
   pub in_order : (t.first ≤ t.split) × (t.split ≤ t.end) × (t.end ≤ top)

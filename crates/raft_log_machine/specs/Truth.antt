@@ -26,8 +26,8 @@ IsSettledIndex said m t i =
     ⊎ (((t.compacted ≡ true) × ((i < t.first) ⊎ (t.first ≡ t.split)))
     ⊎ ((t.split ≤ i) × (t.split < t.end))))
 
--- a key is settled: Rewrite is right, or the Clean or the Del that is owed makes it right, or its value stands
--- in Append
+-- a key is settled: Rewrite is right, or the Clean or the Del that is owed makes it right, or its value
+-- stands in Append
 abbrev pub IsSettledKey : {E V : Type 0} → Said E V → (Slot → Option (Content E V)) → Whereabouts → List ℕ
     → Type 0
 IsSettledKey said m t k =

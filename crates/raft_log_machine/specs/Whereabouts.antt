@@ -11,8 +11,8 @@ use Rattle.raft_log_model.specs.Meaning.Content.{Entry, Value}
 unfoldable pub top : ℕ
 top = 2 ^ 64 - 1
 
--- The entries first .. split stand in Rewrite, split .. end in Append; the keys `appended` stand in Append, the
--- others in Rewrite. Since marks were carried last, Append has a Clean of the group (cleaned), a Compact
+-- The entries first .. split stand in Rewrite, split .. end in Append; the keys `appended` stand in Append,
+-- the others in Rewrite. Since marks were carried last, Append has a Clean of the group (cleaned), a Compact
 -- (compacted), a Del of these keys (deleted).
 pub record Whereabouts : Type 0 where
   pub first : ℕ
@@ -74,10 +74,10 @@ abbrev pub NothingRewritten : {E V : Type 0} → (Slot → Option (Content E V))
 NothingRewritten m t = (t.first ≡ t.split) × ((k : List ℕ) → t.appended k ≡ false → m (Key k) ≡ None)
 
 -- Rewrite may take the item where the group's map is m and its whereabouts are t, and then they are u:
--- * a run of what stands, from a rewritten index (or the first appended one) on, up to the last rewritten entry
---   or past it; to go past it neither Clean nor Compact may be owed;
--- * a Clean that is owed, or where nothing of the group stands in Rewrite, as where the last one may have been
---   lost;
+-- * a run of what stands, from a rewritten index (or the first appended one) on, up to the last rewritten
+--   entry or past it; to go past it neither Clean nor Compact may be owed;
+-- * a Clean that is owed, or where nothing of the group stands in Rewrite, as where the last one may have
+--   been lost;
 -- * a Compact of the first index where rewritten entries stand, else of `top`;
 -- * a Put of a key's value; of an appended one neither Clean nor Del may be owed;
 -- * a Del that is owed, or where the key doesn't stand in Rewrite. So an engine may keep its sets of marks
@@ -102,8 +102,8 @@ Carries m t (Del k) u =
     × (u ≡ record t { deleted = with_key t.deleted k false })
 
 -- item after item
-abbrev pub CarriesAll : {E V : Type 0} → (Slot → Option (Content E V)) → Whereabouts → List (Item E V) → Whereabouts
-    → Type 0
+abbrev pub CarriesAll : {E V : Type 0} → (Slot → Option (Content E V)) → Whereabouts → List (Item E V)
+    → Whereabouts → Type 0
 CarriesAll m t [] u = u ≡ t
 CarriesAll m t (x ∷ xs) u = (next : Whereabouts) × Carries m t x next × CarriesAll m next xs u
 

@@ -28,13 +28,15 @@ lone_store rewrite append = record { rewrite = lone rewrite; append = lone appen
 abbrev pub LosesByAppend : (rewrite out stay all : List (Record ℕ ℕ)) → Type 0
 LosesByAppend rewrite out stay all =
     Holds (lone_store rewrite all) (directory_meaning rewrite all)
-    × (Holds (with_append (lone_store rewrite all) (raised (lone all) out stay)) (directory_meaning rewrite all) → ⊥)
+    × (Holds (with_append (lone_store rewrite all) (raised (lone all) out stay))
+    (directory_meaning rewrite all) → ⊥)
 
 -- the same, once its Rewrite does
 abbrev pub LosesByRewrite : (append out stay all : List (Record ℕ ℕ)) → Type 0
 LosesByRewrite append out stay all =
     Holds (lone_store all append) (directory_meaning all append)
-    × (Holds (with_rewrite (lone_store all append) (raised (lone all) out stay)) (directory_meaning all append) → ⊥)
+    × (Holds (with_rewrite (lone_store all append) (raised (lone all) out stay))
+    (directory_meaning all append) → ⊥)
 
 -- entries 1 to 4 of group 1
 abbrev pub first_run : Record ℕ ℕ

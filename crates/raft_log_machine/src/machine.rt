@@ -1,5 +1,6 @@
 //! The engine as a machine: its two queues, what they mean, and the whereabouts of each group, which say what
-//! stands where and which marks Rewrite is still owed. The premises of an event speak of the whereabouts alone.
+//! stands where and which marks Rewrite is still owed. The premises of an event speak of the whereabouts
+//! alone.
 
 ghost use Rattle.std.specs.Prelude.{◌≡◌, ℕ, List, map};
 ghost use Rattle.raft_log_model.specs.Groups.{taken, Map};
@@ -44,15 +45,19 @@ pub fn map_is_what_was_taken<E, V>()
 /// Where a group has no entries, the number at which none stand is free: it may be any, at any time, and the
 /// invariants stay.
 pub fn renumbered_sound<E, V>()
-    ensures kept { (w : Machine E V) (next : ℕ → Whereabouts) → ((g : ℕ) → IsRenumbered (w.whereabouts g) (next g))
+    ensures kept { (w : Machine E V) (next : ℕ → Whereabouts)
+        → ((g : ℕ) → IsRenumbered (w.whereabouts g) (next g))
         → IsKept w → IsKept (record w { whereabouts = next }) }
-    ensures replay { (w : Machine E V) (next : ℕ → Whereabouts) → ((g : ℕ) → IsRenumbered (w.whereabouts g) (next g))
+    ensures replay { (w : Machine E V) (next : ℕ → Whereabouts)
+        → ((g : ℕ) → IsRenumbered (w.whereabouts g) (next g))
         → IsKept w → IsReplayable w → IsReplayable (record w { whereabouts = next }) }
-    ensures runs { (w : Machine E V) (next : ℕ → Whereabouts) → HasRuns w → HasRuns (record w { whereabouts = next }) }
+    ensures runs { (w : Machine E V) (next : ℕ → Whereabouts) → HasRuns w
+        → HasRuns (record w { whereabouts = next }) }
 {}
 
-/// Whereabouts don't care what stands for an entry: they follow a batch of places as they follow one of bytes; what
-/// they allow Rewrite to take, and what an open makes of what it read as places, they do for the bytes too.
+/// Whereabouts don't care what stands for an entry: they follow a batch of places as they follow one of
+/// bytes; what they allow Rewrite to take, and what an open makes of what it read as places, they do for the
+/// bytes too.
 pub fn whereabouts_of_renamed<E, F, V>()
     ensures grows { (f : E → F) (t u : Whereabouts) (xs : List (Item E V)) → GrowsBy t xs u
         → GrowsBy t (map (renamed f) xs) u }

@@ -31,11 +31,12 @@ pub fn replays_always<E, V>()
     ensures { (events : List (Event E V)) (v : Machine E V) → Steps fresh_machine events v → Replays v.store }
 {}
 
-/// Two runs of an atomic group, the second at the end of the first, may be taken as one; and what may be taken
-/// as something else may be so behind other items, and in several steps.
+/// Two runs of an atomic group, the second at the end of the first, may be taken as one; and what may be
+/// taken as something else may be so behind other items, and in several steps.
 pub fn runs_of_a_group_join<E, V>()
     ensures runs { (f : ℕ) (e : E) (es : List E) (d : E) (ds : List E) (rest : List (Item E V))
-        → IsJoined (Run f (e ∷ es) ∷ Run (f + length (e ∷ es)) (d ∷ ds) ∷ rest) (Run f (e ∷ es ++ d ∷ ds) ∷ rest) }
+        → IsJoined (Run f (e ∷ es) ∷ Run (f + length (e ∷ es)) (d ∷ ds) ∷ rest)
+        (Run f (e ∷ es ++ d ∷ ds) ∷ rest) }
     ensures same { (xs : List (Item E V)) → IsJoined xs xs }
     ensures behind { (front xs ys : List (Item E V)) → IsJoined xs ys → IsJoined (front ++ xs) (front ++ ys) }
     ensures in_turn { (xs ys zs : List (Item E V)) → IsJoined xs ys → IsJoined ys zs → IsJoined xs zs }

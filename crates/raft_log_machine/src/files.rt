@@ -4,7 +4,7 @@
 ghost use Rattle.std.specs.Prelude.{◌≡◌, ℕ, ◌+◌, ◌∷◌, List, ◌++◌, []};
 ghost use Rattle.raft_log_model.specs.Groups.{Map};
 ghost use Rattle.raft_log_model.specs.Item.{Record};
-ghost use Rattle.raft_log_machine.specs.Directory.{fresh_directory, Directory, DirectoryEvent, DirectorySteps, ReplaysInFiles};
+ghost use Rattle.raft_log_machine.specs.Directory.{fresh_directory, Directory, DirectoryEvent, DirectorySteps, OpensInFiles, ReplaysInFiles};
 ghost use Rattle.raft_log_machine.specs.Files.{
   numbered_from,
   queue_of,
@@ -106,4 +106,11 @@ pub fn replays_in_files_always<E, V>()
     ensures { (events : List (DirectoryEvent E V)) (d : Directory E V)
         → DirectorySteps fresh_directory events d
         → ReplaysInFiles d.rewrite_from d.rewrite d.append_from d.append }
+{}
+
+/// Over every such schedule each reading can be opened: whatever an image kept, and from every pair of files
+/// from which a recovery may read, there is an open after which the files that were read are the spans.
+pub fn opens_in_files_always<E, V>()
+    ensures { (events : List (DirectoryEvent E V)) (d : Directory E V)
+        → DirectorySteps fresh_directory events d → OpensInFiles d }
 {}

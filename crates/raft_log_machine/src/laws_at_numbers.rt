@@ -39,6 +39,7 @@ fn laws_of_files() {
     files::reading_of_files::<u64, u64>();
     files::survives_in_files_always::<u64, u64>();
     files::replays_in_files_always::<u64, u64>();
+    files::opens_in_files_always::<u64, u64>();
 }
 
 #[test]

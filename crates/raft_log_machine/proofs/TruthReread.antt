@@ -12,7 +12,7 @@ use Rattle.raft_log_model.proofs.Cases.{at_bool, at_option}
 use Rattle.raft_log_model.proofs.Tests.{run_sets, run_leaves, compact_removes, compact_leaves}
 use Rattle.raft_log_machine.specs.Survival.{IsSpoken}
 use Rattle.raft_log_machine.specs.Whereabouts.{Whereabouts}
-use Rattle.raft_log_machine.specs.Truth.{Said, AreTrue, IsRight, IsSettledIndex, IsSettledKey}
+use Rattle.raft_log_machine.specs.Truth.{Said, AreTrue, IsRightInRewrite, IsSettledIndex, IsSettledKey}
 use Rattle.raft_log_machine.specs.Recovery.{has_compact, has_del, IsRecovered}
 use Rattle.raft_log_machine.proofs.Words.{option_or_none}
 use Rattle.raft_log_machine.proofs.Starts.{spoken_newer}
@@ -147,7 +147,7 @@ module _ {E V : Type 0} (said : Said E V) (m : Slot → Option (Content E V)) (t
     (means : (s : Slot) → unwrap_or (says s append) (unwrap_or (said.rewrite s) None) ≡ m s)
     (append_is : (s : Slot) → said.append s ≡ says s append) where
   -- where Append is silent, Rewrite is right
-  right_if_quiet : (s : Slot) → says s append ≡ None → IsRight said m s
+  right_if_quiet : (s : Slot) → says s append ≡ None → IsRightInRewrite said m s
   right_if_quiet s e =
       (sym (ap (λ w. unwrap_or w (unwrap_or (said.lowest s) None)) e) ∙ lowest_means s, sym (ap (λ w. unwrap_or w (unwrap_or (said.rewrite s) None)) e) ∙ means s)
 

@@ -211,7 +211,7 @@ key_says : {E V : Type 0} (w : Window) (k : List ℕ) (xs : List (Item E V)) →
 key_says w k [] = refl
 key_says w k (x ∷ xs) = ap₂ option_or (key_says (next_window w x) k xs) (key_word w k x)
 
-key_over : {E V : Type 0} (zv tv : Option V) (gone : Bool)
+pub key_over : {E V : Type 0} (zv tv : Option V) (gone : Bool)
     → ◌≡◌ {A = Option (Content E V)} (option_map Value (option_or zv (if gone then None else tv)))
     (unwrap_or (option_or (option_map (λ v. Some (Value v)) zv) (if gone then Some None else None)) (option_map Value tv))
 key_over (Some v) tv gone = refl

@@ -17,15 +17,15 @@ use Rattle.raft_log_model.proofs.Windows.{one_run_fits, inside}
 use Rattle.raft_log_model.proofs.TableSteps.{content_below, content_within, content_above}
 use Rattle.raft_log_model.proofs.Summaries.{JoinFits, sound_after, summary_says, content_word, content_kept, join_word, join_sound, bound_rises, not_left}
 
-by_left : {A : Type 0} (b : Bool) (c d : Option A) → unwrap_or (if b then None else Some c) d ≡ (if b then d else c)
+pub by_left : {A : Type 0} (b : Bool) (c d : Option A) → unwrap_or (if b then None else Some c) d ≡ (if b then d else c)
 by_left true c d = refl
 by_left false c d = refl
 
-some_kept : {A : Type 0} (b : Bool) (c : Option A) (x : A) → (if b then c else None) ≡ Some x → (b ≡ true) × (c ≡ Some x)
+pub some_kept : {A : Type 0} (b : Bool) (c : Option A) (x : A) → (if b then c else None) ≡ Some x → (b ≡ true) × (c ≡ Some x)
 some_kept true c x h = (refl, h)
 some_kept false c x h = cc
 
-none_either : {A : Type 0} (left kept : Bool) (c d : Option A) → left ≡ kept → (if kept then c else None) ≡ None → d ≡ None → (if left then c else d) ≡ None
+pub none_either : {A : Type 0} (left kept : Bool) (c d : Option A) → left ≡ kept → (if kept then c else None) ≡ None → d ≡ None → (if left then c else d) ≡ None
 none_either true true c d e h k = h
 none_either true false c d e h k = cc
 none_either false kept c d e h k = k
@@ -52,7 +52,7 @@ two_hold a z xs ys i p q =
     ∙ (ap₂ (λ o c. unwrap_or o c) (sym (q.says (Index i))) (sym (table_holds a xs (Index i) p))
     ∙ by_left (is_left z i) (content z.table (Index i)) (content a.table (Index i))))
 
-stands_in : {E V : Type 0} (t : Table E V) (i : ℕ) → t.first ≤ i → i < t.first + length t.entries → (e : E) × (content t (Index i) ≡ Some (Entry e))
+pub stands_in : {E V : Type 0} (t : Table E V) (i : ℕ) → t.first ≤ i → i < t.first + length t.entries → (e : E) × (content t (Index i) ≡ Some (Entry e))
 stands_in t i h k = ((inside i t.first t.entries h k).0, content_within t i h ∙ (inside i t.first t.entries h k).1)
 
 -- what stands in what is left of the earlier table is left alone by the later segment, and stands in both

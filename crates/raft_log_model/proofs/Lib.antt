@@ -13,6 +13,8 @@ pub mod Summaries
 pub mod Joins
 pub mod TableLaws
 pub mod DirectoryTable
+pub mod AnySummary
+pub mod RenamedLaws
 pub mod Holes
 pub mod Windows
 pub mod Intervals

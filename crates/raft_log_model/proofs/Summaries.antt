@@ -290,7 +290,7 @@ pub empty_content : {E V : Type 0} (t : Table E V) (i : ℕ) → length t.entrie
 empty_content t i h (inl below) = content_below t i below
 empty_content t i h (inr above) = content_above t i (omega arith)
 
-entries_content : {E V : Type 0} (t : Table E V) (z : Summary E V) (i : ℕ) → IsSound z → JoinFits t z
+pub entries_content : {E V : Type 0} (t : Table E V) (z : Summary E V) (i : ℕ) → IsSound z → JoinFits t z
     → content (entries_over t z) (Index i) ≡ (if is_left z i then content t (Index i) else content z.table (Index i))
 entries_content t z i sound fits =
     at_bool z.cleaned

@@ -53,7 +53,9 @@ next_unfinished us (Part (Begin n) xs) = without n us ++ (record { number = n; i
 next_unfinished us (Part (Middle n) xs) = more n xs us
 next_unfinished us (Part (End n) xs) = without n us
 
-abbrev pub unfinished_after : {E V : Type 0} → List (Unfinished E V) → List (Record E V) → List (Unfinished E V)
+-- the unfinished groups after more records
+abbrev pub unfinished_after : {E V : Type 0} → List (Unfinished E V) → List (Record E V)
+    → List (Unfinished E V)
 unfinished_after us [] = us
 unfinished_after us (r ∷ rs) = unfinished_after (next_unfinished us r) rs
 
@@ -61,12 +63,13 @@ unfinished_after us (r ∷ rs) = unfinished_after (next_unfinished us r) rs
 abbrev pub unfinished : {E V : Type 0} → List (Record E V) → List (Unfinished E V)
 unfinished rs = unfinished_after [] rs
 
--- what the unfinished group with these items brings in the next segment, and what goes on past it
+-- what the unfinished group with these items brings in the next segment
 abbrev pub finish : {E V : Type 0} → List (Tagged E V) → Head E V → List (Tagged E V)
 finish xs (GoesOn ys) = []
 finish xs (Ends ys) = xs ++ ys
 finish xs BeginsAnew = []
 
+-- what goes on of that group past the next segment
 abbrev pub go_on : {E V : Type 0} → ℕ → List (Tagged E V) → Head E V → List (Unfinished E V)
 go_on n xs (GoesOn ys) = record { number = n; items = xs ++ ys } ∷ []
 go_on n xs (Ends ys) = []
@@ -77,6 +80,7 @@ abbrev pub completed : {E V : Type 0} → List (Unfinished E V) → (ℕ → Hea
 completed [] heads = []
 completed (u ∷ us) heads = finish u.items (heads u.number) ++ completed us heads
 
+-- what goes on past the next segment of all groups that one leaves unfinished
 abbrev pub carried_on : {E V : Type 0} → List (Unfinished E V) → (ℕ → Head E V) → List (Unfinished E V)
 carried_on [] heads = []
 carried_on (u ∷ us) heads = go_on u.number u.items (heads u.number) ++ carried_on us heads

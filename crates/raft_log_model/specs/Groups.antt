@@ -19,9 +19,11 @@ contents (r ∷ rs) = items_of r ++ contents rs
 abbrev pub Open : Type 0 → Type 0 → Type 0
 Open E V = ℕ → Option (List (Tagged E V))
 
+-- no atomic group is open
 abbrev pub none_open : {E V : Type 0} → Open E V
 none_open n = None
 
+-- the same, but for the group of one number
 abbrev pub set_open : {E V : Type 0} → Open E V → ℕ → Option (List (Tagged E V)) → Open E V
 set_open o n v k = if n == k then v else o k
 
@@ -59,10 +61,11 @@ opened o (r ∷ rs) = opened (opens o r) rs
 abbrev pub settled : {E V : Type 0} → List (Record E V) → List (Tagged E V)
 settled rs = settle none_open rs
 
--- what the records of Append, and of Rewrite, say of a group
+-- what the records of Append say of a group
 abbrev pub appended : {E V : Type 0} → ℕ → List (Record E V) → List (Item E V)
 appended g rs = of_group g (contents rs)
 
+-- what the records of Rewrite say of a group
 abbrev pub rewritten : {E V : Type 0} → ℕ → List (Record E V) → List (Item E V)
 rewritten g rs = of_group g (settled rs)
 

@@ -12,6 +12,7 @@ pub record Window : Type 0 where
   pub first : ℕ
   pub end : ℕ
 
+-- no run stands
 abbrev pub nothing : Window
 nothing = record { first = 0; end = 0 }
 
@@ -29,6 +30,7 @@ next_window w (Compact c) = record w { first = max w.first c }
 next_window w (Put k v) = w
 next_window w (Del k) = w
 
+-- the standing run after more items
 abbrev pub window : {E V : Type 0} → Window → List (Item E V) → Window
 window w [] = w
 window w (x ∷ xs) = window (next_window w x) xs
@@ -36,9 +38,11 @@ window w (x ∷ xs) = window (next_window w x) xs
 -- the word of an item after that standing run: a run past its end drops what stood
 abbrev pub write_past : {E V : Type 0} → Window → Slot → Item E V → Option (Option (Content E V))
 write_past w (Index i) (Run f []) = None
-write_past w (Index i) (Run f (e ∷ es)) = if is_past w f && nat_lt i f then Some None else write (Index i) (Run f (e ∷ es))
+write_past w (Index i) (Run f (e ∷ es)) =
+    if is_past w f && nat_lt i f then Some None else write (Index i) (Run f (e ∷ es))
 write_past w s x = write s x
 
+-- the last word on the slot of items that come after that standing run
 abbrev pub says_past : {E V : Type 0} → Window → Slot → List (Item E V) → Option (Option (Content E V))
 says_past w s [] = None
 says_past w s (x ∷ xs) = option_or (says_past (next_window w x) s xs) (write_past w s x)
@@ -109,12 +113,16 @@ has_gap w append =
 
 -- what stands at an index of a directory, told by intervals: Append's entries, over what Rewrite keeps under Append's
 -- items, which is nothing where a gap would stay
-abbrev pub directory_by_intervals : {E V : Type 0} → ℕ → List (Item E V) → List (Item E V) → Option (Content E V)
+abbrev pub directory_by_intervals : {E V : Type 0} → ℕ → List (Item E V) → List (Item E V)
+    → Option (Content E V)
 directory_by_intervals i rewrite append =
     option_or (holds (Index i) append)
-    (if is_silent append i && not (has_gap (window nothing rewrite) append) then holds_past (Index i) rewrite else None)
+    (if is_silent append i && not (has_gap (window nothing rewrite) append)
+    then holds_past (Index i) rewrite
+    else None)
 
 -- what is between two entries that stand stands too
 abbrev pub IsSolid : {E V : Type 0} → (ℕ → Option (Content E V)) → Type 0
 IsSolid {E} {V} m =
-    (i j k : ℕ) (a b : Content E V) → i ≤ j → j ≤ k → m i ≡ Some a → m k ≡ Some b → (c : Content E V) × (m j ≡ Some c)
+    (i j k : ℕ) (a b : Content E V) → i ≤ j → j ≤ k → m i ≡ Some a → m k ≡ Some b
+    → (c : Content E V) × (m j ≡ Some c)

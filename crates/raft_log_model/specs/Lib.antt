@@ -8,4 +8,5 @@ pub mod Holes
 pub mod Stands
 pub mod Table
 pub mod Summary
+pub mod Renamed
 pub mod Examples

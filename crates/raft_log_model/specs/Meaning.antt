@@ -19,7 +19,8 @@ pub data Content (E V : Type 0) : Type 0 where
 -- says nothing.
 abbrev pub write : {E V : Type 0} → Slot → Item E V → Option (Option (Content E V))
 write (Index i) (Run f []) = None
-write (Index i) (Run f (e ∷ es)) = if nat_le f i then Some (option_map Entry (slice_get (e ∷ es) (i - f))) else None
+write (Index i) (Run f (e ∷ es)) =
+    if nat_le f i then Some (option_map Entry (slice_get (e ∷ es) (i - f))) else None
 write (Index i) Clean = Some None
 write (Index i) (Compact c) = if nat_lt i c then Some None else None
 write (Index i) (Put l v) = None
@@ -48,5 +49,6 @@ abbrev pub directory : {E V : Type 0} → Slot → List (Item E V) → List (Ite
 directory s rewrite append = unwrap_or (says s append) (holds s rewrite)
 
 -- what stands in each slot once more items came
-abbrev pub after : {E V : Type 0} → (Slot → Option (Content E V)) → List (Item E V) → Slot → Option (Content E V)
+abbrev pub after : {E V : Type 0} → (Slot → Option (Content E V)) → List (Item E V) → Slot
+    → Option (Content E V)
 after m xs s = unwrap_or (says s xs) (m s)

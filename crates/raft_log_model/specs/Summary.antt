@@ -19,6 +19,7 @@ pub record Summary (E V : Type 0) : Type 0 where
   pub high : Option ℕ
   pub deleted : List ℕ → Bool
 
+-- the summary of no items
 abbrev pub no_summary : {E V : Type 0} → Summary E V
 no_summary = record { table = no_table; cleaned = false; low = 0; high = None; deleted = λ k. false }
 
@@ -31,10 +32,12 @@ step z (Compact c) = record z { table = compacted z.table c; low = max c z.low }
 step z (Put k v) = record z { table = put z.table k v }
 step z (Del k) = record z { table = delete z.table k; deleted = λ j. bytes_eq k j || z.deleted j }
 
+-- the summary after more items
 abbrev pub summary_after : {E V : Type 0} → Summary E V → List (Item E V) → Summary E V
 summary_after z [] = z
 summary_after z (x ∷ xs) = summary_after (step z x) xs
 
+-- the summary of a list of items
 abbrev pub summary : {E V : Type 0} → List (Item E V) → Summary E V
 summary xs = summary_after no_summary xs
 
@@ -46,7 +49,8 @@ is_left z i = not z.cleaned && (nat_le z.low i && is_below i z.high)
 abbrev pub word : {E V : Type 0} → Summary E V → Slot → Option (Option (Content E V))
 word z (Index i) = if is_left z i then None else Some (content z.table (Index i))
 word z (Key k) =
-    option_or (option_map (λ v. Some (Value v)) (z.table.values k)) (if z.cleaned || z.deleted k then Some None else None)
+    option_or (option_map (λ v. Some (Value v)) (z.table.values k))
+    (if z.cleaned || z.deleted k then Some None else None)
 
 -- the values of a later summary over those of an earlier table
 abbrev pub values_over : {E V : Type 0} → Table E V → Summary E V → List ℕ → Option V

@@ -12,13 +12,15 @@ Apart xs ys = (g : ℕ) → (of_group g xs ≡ []) ⊎ (of_group g ys ≡ [])
 
 -- atomic group n has xs so far, `said` counted since its begin, and the groups o have begun since: if it ends, the
 -- two are apart. A group that never ends asks nothing.
-abbrev pub Undisturbed : {E V : Type 0} → ℕ → List (Tagged E V) → List (Tagged E V) → Open E V → List (Record E V) → Type 0
+abbrev pub Undisturbed : {E V : Type 0} → ℕ → List (Tagged E V) → List (Tagged E V) → Open E V
+    → List (Record E V) → Type 0
 Undisturbed n xs said o [] = ⊤
 Undisturbed n xs said o (Plain ys ∷ rs) = Undisturbed n xs (said ++ ys) o rs
 Undisturbed n xs said o (Part (Begin k) ys ∷ rs) =
     MatchBool (k == n) ⊤ (Undisturbed n xs said (opens o (Part (Begin k) ys)) rs)
 Undisturbed n xs said o (Part (Middle k) ys ∷ rs) =
-    MatchBool (k == n) (Undisturbed n (xs ++ ys) said o rs) (Undisturbed n xs said (opens o (Part (Middle k) ys)) rs)
+    MatchBool (k == n) (Undisturbed n (xs ++ ys) said o rs)
+    (Undisturbed n xs said (opens o (Part (Middle k) ys)) rs)
 Undisturbed n xs said o (Part (End k) ys ∷ rs) =
     MatchBool (k == n) (Apart (xs ++ ys) said)
     (Undisturbed n xs (said ++ counts o (Part (End k) ys)) (opens o (Part (End k) ys)) rs)
@@ -45,7 +47,8 @@ middles n [] = []
 middles n (xs ∷ xss) = Part (Middle n) xs ∷ middles n xss
 
 -- an atomic group as it is written: its records stand with none between
-abbrev pub whole_group : {E V : Type 0} → ℕ → List (Tagged E V) → List (List (Tagged E V)) → List (Tagged E V) → List (Record E V)
+abbrev pub whole_group : {E V : Type 0} → ℕ → List (Tagged E V) → List (List (Tagged E V)) → List (Tagged E V)
+    → List (Record E V)
 whole_group n first between last = Part (Begin n) first ∷ (middles n between ++ (Part (End n) last ∷ []))
 
 -- the items of such a group
@@ -53,5 +56,7 @@ abbrev pub joined : {E V : Type 0} → List (List (Tagged E V)) → List (Tagged
 joined [] = []
 joined (xs ∷ xss) = xs ++ joined xss
 
-abbrev pub group_items : {E V : Type 0} → List (Tagged E V) → List (List (Tagged E V)) → List (Tagged E V) → List (Tagged E V)
+-- all items of a group, from its first record to its last
+abbrev pub group_items : {E V : Type 0} → List (Tagged E V) → List (List (Tagged E V)) → List (Tagged E V)
+    → List (Tagged E V)
 group_items first between last = first ++ (joined between ++ last)

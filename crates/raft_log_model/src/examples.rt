@@ -43,7 +43,8 @@ pub fn overwritten_then_compacted_inside()
 /// the third.
 pub fn later_runs_cut()
     ensures entries { shown 9 27 three_files []
-        ≡ None ∷ (replicate 10 (Some (Entry 1)) ++ (replicate 5 (Some (Entry 2)) ++ (replicate 10 (Some (Entry 3)) ++ None ∷ []))) }
+        ≡ None ∷ (replicate 10 (Some (Entry 1)) ++ (replicate 5 (Some (Entry 2))
+        ++ (replicate 10 (Some (Entry 3)) ++ None ∷ []))) }
     ensures run { run_of three_files ≡ record { first = 10; end = 35 } }
 {}
 
@@ -62,7 +63,8 @@ pub fn one_purge()
 /// A compaction past the last entry leaves none; two compactions leave the entries above the greater index.
 pub fn compactions()
     ensures all { shown 0 120 (Run 1 (upward 1 10) ∷ Compact 100 ∷ []) [] ≡ replicate 120 None }
-    ensures some { run_of (Run 0 (upward 0 25) ∷ Compact 5 ∷ Compact 20 ∷ []) ≡ record { first = 20; end = 25 } }
+    ensures some { run_of (Run 0 (upward 0 25) ∷ Compact 5 ∷ Compact 20 ∷ [])
+        ≡ record { first = 20; end = 25 } }
 {}
 
 /// A key has its last value; a deleted key has none, and neither has a key of a group that was cleaned.

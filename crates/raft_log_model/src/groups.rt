@@ -23,7 +23,8 @@ pub fn unended_group_counts_not<E, V>()
 /// At its end all of an atomic group counts, behind all that counted before, also where an older group of its number
 /// is open.
 pub fn whole_group_counts<E, V>()
-    ensures { (rs : List (Record E V)) (n : ℕ) (first : List (Tagged E V)) (between : List (List (Tagged E V))) (last : List (Tagged E V))
+    ensures { (rs : List (Record E V)) (n : ℕ) (first : List (Tagged E V)) (between : List (List (Tagged E V)))
+        (last : List (Tagged E V))
         → settled (rs ++ whole_group n first between last) ≡ settled rs ++ group_items first between last }
 {}
 
@@ -42,7 +43,8 @@ pub fn parts_are_tidy<E, V>()
 
 /// A whole atomic group may be written behind tidy records, whatever its number.
 pub fn whole_group_is_tidy<E, V>()
-    ensures { (rs : List (Record E V)) (n : ℕ) (first : List (Tagged E V)) (between : List (List (Tagged E V))) (last : List (Tagged E V))
+    ensures { (rs : List (Record E V)) (n : ℕ) (first : List (Tagged E V)) (between : List (List (Tagged E V)))
+        (last : List (Tagged E V))
         → Tidy rs → Tidy (rs ++ whole_group n first between last) }
 {}
 

@@ -1,5 +1,5 @@
 //! Each law once at a concrete type of content: numbers for entries and for values.
-use crate::{groups, hostile, meaning, segments, tables};
+use crate::{groups, hostile, meaning, renaming, segments, tables};
 
 #[test]
 fn laws_of_groups() {
@@ -31,12 +31,15 @@ fn laws_of_meaning() {
     meaning::appended_of_two::<u64, u64>();
     meaning::append_takes_records::<u64, u64>();
     meaning::taken_in_turn::<u64, u64>();
+    renaming::meaning_of_renamed::<u64, u8, u64>();
+    renaming::renamed_twice::<u64, u16, u8, u64>();
 }
 
 #[test]
 fn laws_of_segments() {
     segments::summary_says_the_last_word::<u64, u64>();
     segments::joined_summaries::<u64, u64>();
+    segments::any_summary_makes_the_directory::<u64, u64>();
     segments::any_bracketing_says_the_whole::<u64, u64>();
     segments::joining_is_associative::<u64, u64>();
     segments::tidy_records_may_be_cut::<u64, u64>();

@@ -21,7 +21,8 @@ pub fn stands_by_the_last_that_speaks<E, V>()
 
 /// A directory means what one log would mean in which Rewrite's items stand before all of Append's.
 pub fn directory_is_one_log<E, V>()
-    ensures { (s : Slot) (rewrite append : List (Item E V)) → directory s rewrite append ≡ holds s (rewrite ++ append) }
+    ensures { (s : Slot) (rewrite append : List (Item E V))
+        → directory s rewrite append ≡ holds s (rewrite ++ append) }
 {}
 
 /// Items that Append takes are put on what the directory means.

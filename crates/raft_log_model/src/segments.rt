@@ -3,12 +3,12 @@
 ghost use Rattle.std.specs.Prelude.{◌≡◌, ℕ, List, [], ◌++◌, Some};
 ghost use Rattle.std.specs.Option.{option_or};
 ghost use Rattle.raft_log_model.specs.Item.{Item, Record};
-ghost use Rattle.raft_log_model.specs.Meaning.{Slot, says, holds};
+ghost use Rattle.raft_log_model.specs.Meaning.{Slot, says, holds, directory};
 ghost use Rattle.raft_log_model.specs.Meaning.Content.{Value};
-ghost use Rattle.raft_log_model.specs.Meaning.Slot.{Key};
+ghost use Rattle.raft_log_model.specs.Meaning.Slot.{Index, Key};
 ghost use Rattle.raft_log_model.specs.Groups.{of_group, rewritten};
 ghost use Rattle.raft_log_model.specs.Tidy.{Tidy};
-ghost use Rattle.raft_log_model.specs.Holes.{nothing, NoHole};
+ghost use Rattle.raft_log_model.specs.Holes.{nothing, IsSolid, NoHole};
 ghost use Rattle.raft_log_model.specs.Fragments.{
   head,
   then_head,
@@ -22,8 +22,8 @@ ghost use Rattle.raft_log_model.specs.Fragments.{
   all_of,
   merge_all,
 };
-ghost use Rattle.raft_log_model.specs.Table.{content};
-ghost use Rattle.raft_log_model.specs.Summary.{Summary, summary, word, join, join_all, IsSummary};
+ghost use Rattle.raft_log_model.specs.Table.{content, IsTableOf, Table};
+ghost use Rattle.raft_log_model.specs.Summary.{Summary, summary, word, join, join_all, directory_table, IsSummary};
 ghost use Rattle.raft_log_model.specs.Examples.{voter, begun, newer_then_ended, value_in};
 
 /// The summary of a list without holes says of each slot what the list says.
@@ -37,6 +37,14 @@ pub fn joined_summaries<E, V>()
     ensures { (a z : Summary E V) (xs ys : List (Item E V))
         → IsSummary a xs → IsSummary z ys → NoHole nothing (xs ++ ys)
         → IsSummary (join a z) (xs ++ ys) }
+{}
+
+/// Any table of what Rewrite means and any summary of Append, however their segments were joined, make the
+/// directory's table, where what lies between two entries of the directory stands too.
+pub fn any_summary_makes_the_directory<E, V>()
+    ensures { (t : Table E V) (z : Summary E V) (rewrite append : List (Item E V))
+        → IsTableOf t rewrite → IsSummary z append → IsSolid (λ i. directory (Index i) rewrite append)
+        → (s : Slot) → content (directory_table t z) s ≡ directory s rewrite append }
 {}
 
 /// Consecutive segments, each summed up by itself and then joined in any bracketing, say what the whole list says,
@@ -73,7 +81,8 @@ pub fn borders_of_two<E, V>()
 /// Consecutive segments of tidy records, each read by itself and merged in any bracketing, are the segment of all of
 /// them: nothing is lost where a border cuts an atomic group.
 pub fn any_bracketing_is_the_whole<E, V>()
-    ensures { (t : Bracketing (Record E V)) → Tidy (all_of t) → IsSameSegment (merge_all t) (segment (all_of t)) }
+    ensures { (t : Bracketing (Record E V))
+        → Tidy (all_of t) → IsSameSegment (merge_all t) (segment (all_of t)) }
 {}
 
 /// Why the records are to be tidy: where another record touches the raft group of an open atomic group, merging its

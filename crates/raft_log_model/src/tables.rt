@@ -35,7 +35,8 @@ pub fn hostile_table_takes_an_item<E, V>()
 pub fn table_holds_what_stands<E, V>()
     ensures without_holes { (xs : List (Item E V)) (s : Slot)
         → NoHole nothing xs → content (table_after no_table xs) s ≡ holds s xs }
-    ensures any { (xs : List (Item E V)) (s : Slot) → content (table_after_past no_table xs) s ≡ holds_past s xs }
+    ensures any { (xs : List (Item E V)) (s : Slot)
+        → content (table_after_past no_table xs) s ≡ holds_past s xs }
 {}
 
 /// The table of a directory whose Append has no hole: its entries are those of the wording by intervals, also in a

@@ -1,12 +1,15 @@
 //! Rules that a log store might follow, and short logs for which they are wrong: what the log means, what the right
 //! rule makes of it, and what the wrong one would.
 
-ghost use Rattle.std.specs.Prelude.{◌≡◌, ◌++◌, ◌∷◌, [], Some, None};
+ghost use Rattle.std.specs.Prelude.{◌≡◌, ◌++◌, ◌∷◌, [], Some, None, true};
 ghost use Rattle.raft_log_model.specs.Item.Item.{Put};
 ghost use Rattle.raft_log_model.specs.Meaning.{holds};
 ghost use Rattle.raft_log_model.specs.Meaning.Content.{Entry, Value};
 ghost use Rattle.raft_log_model.specs.Meaning.Slot.{Index, Key};
 ghost use Rattle.raft_log_model.specs.Groups.{of_group, rewritten};
+ghost use Rattle.raft_log_model.specs.Holes.{is_past, nothing, NoHole};
+ghost use Rattle.raft_log_model.specs.Table.{content, span_of, no_table, table_after, table_after_past};
+ghost use Rattle.raft_log_model.specs.Summary.{directory_table, summary};
 ghost use Rattle.raft_log_model.specs.Fragments.{segment, merge, completed};
 ghost use Rattle.raft_log_model.specs.Examples.{
   voter_in,
@@ -20,6 +23,11 @@ ghost use Rattle.raft_log_model.specs.Examples.{
   half,
   begun,
   ended_then_newer,
+  shown,
+  six,
+  eight_then_seven,
+  shown_in,
+  six_and_seven,
 };
 
 /// Rewritten keys go over appended ones: an old value is back.
@@ -48,6 +56,19 @@ pub fn completed_group_last()
     ensures whole { value_in (begun ++ ended_then_newer) ≡ Some (Value 2) }
     ensures right { holds (Key voter) (of_group 1 (merge (segment begun) (segment ended_then_newer)).counted)
         ≡ Some (Value 2) }
-    ensures wrong { holds (Key voter) (rewritten 1 ended_then_newer ++ of_group 1 (completed (segment begun).left_open (segment ended_then_newer).heads))
+    ensures wrong { holds (Key voter) (rewritten 1 ended_then_newer
+        ++ of_group 1 (completed (segment begun).left_open (segment ended_then_newer).heads))
         ≡ Some (Value 1) }
+{}
+
+/// Append's items are read on behind Rewrite's table, in their order: Rewrite has entry 6, the files that Append
+/// still has begin with 8 to 11 and then have 7. Neither queue has a hole and 6 and 7 stand, yet 8 would be past the
+/// end of Rewrite's entry, so that such an open is refused or drops entry 6.
+pub fn append_read_on_in_order()
+    ensures whole { NoHole nothing six × NoHole nothing eight_then_seven }
+    ensures means { shown 5 7 six eight_then_seven ≡ six_and_seven }
+    ensures right { shown_in (directory_table (table_after no_table six) (summary eight_then_seven)) 5 7
+        ≡ six_and_seven }
+    ensures refused { is_past (span_of (table_after no_table six)) 8 ≡ true }
+    ensures dropped { content (table_after_past (table_after_past no_table six) eight_then_seven) (Index 6) ≡ None }
 {}

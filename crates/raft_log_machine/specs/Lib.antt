@@ -1,0 +1,16 @@
+pub mod Unbroken
+pub mod Queue
+pub mod Survival
+pub mod Whereabouts
+pub mod Truth
+pub mod Recovery
+pub mod Machine
+pub mod Fresh
+pub mod Files
+pub mod Directory
+pub mod WrongRules
+pub mod Purge
+pub mod Replay
+pub mod Images
+pub mod Example
+pub mod History

@@ -1,0 +1,24 @@
+//! Why no step of the log's engine, and no crash, takes back what was written.
+//!
+//! Each public function here is a law over the definitions of `specs/`: it does nothing, and its contract is
+//! what is proved.
+//! * [`survival`]: what a directory holds, step by step, on the records of the two queues alone;
+//! * [`machine`]: the engine's whereabouts beside the queues, each event, and every schedule of them;
+//! * [`files`]: the same on numbered files, from every file from which a recovery may read;
+//! * [`replay`]: whatever a crash leaves can be read: no holes, and no broken atomic groups;
+//! * [`images`]: in whatever image a crash leaves the entries are one run, and it can be opened;
+//! * [`purge`]: a purge changes nothing, a full rewrite leaves one file, a fork means the same;
+//! * [`example`]: a schedule with two purges and a crash, step by step;
+//! * [`wrong_rules`]: rules that look right, and what each loses.
+#![tactic(auto)]
+
+pub mod example;
+pub mod files;
+pub mod images;
+#[cfg(test)]
+mod laws_at_numbers;
+pub mod machine;
+pub mod purge;
+pub mod replay;
+pub mod survival;
+pub mod wrong_rules;

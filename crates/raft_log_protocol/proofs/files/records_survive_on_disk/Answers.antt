@@ -1,5 +1,0 @@
-use Rattle.raft_log_protocol.proofs.FileLaws.{survives_on_disk}
-use Rattle.raft_log_protocol.proofs.files.records_survive_on_disk.Goals as goal
-
-pub returns : goal.returns
-returns g c = survives_on_disk

@@ -1,5 +1,0 @@
-use Rattle.raft_log_protocol.proofs.DiskLaws.{schedule_survives_on_disk}
-use Rattle.raft_log_protocol.proofs.files.survives_on_disk_always.Goals as goal
-
-pub returns : goal.returns
-returns g c = schedule_survives_on_disk

@@ -1,5 +1,0 @@
-use Rattle.raft_log_protocol.proofs.WorldKeeps.{step_keeps}
-use Rattle.raft_log_protocol.proofs.machine.each_step_keeps.Goals as goal
-
-pub returns : goal.returns
-returns g c = step_keeps

@@ -1,5 +1,0 @@
-use Rattle.raft_log_protocol.proofs.FreshKeeps.{fresh_keeps}
-use Rattle.raft_log_protocol.proofs.machine.fresh_world_keeps.Goals as goal
-
-pub returns : goal.returns
-returns g c = fresh_keeps

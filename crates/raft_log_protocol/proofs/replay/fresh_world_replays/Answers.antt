@@ -1,5 +1,0 @@
-use Rattle.raft_log_protocol.proofs.ReplayLaws.{fresh_replays}
-use Rattle.raft_log_protocol.proofs.replay.fresh_world_replays.Goals as goal
-
-pub returns : goal.returns
-returns g c = fresh_replays

@@ -1,5 +1,0 @@
-use Rattle.raft_log_protocol.proofs.SurvivalSteps.{holds_reread}
-use Rattle.raft_log_protocol.proofs.survival.directory_reopens.Goals as goal
-
-pub returns : goal.returns
-returns g c = holds_reread

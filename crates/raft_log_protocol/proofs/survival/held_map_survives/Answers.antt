@@ -1,5 +1,0 @@
-use Rattle.raft_log_protocol.proofs.SurvivalSteps.{survives}
-use Rattle.raft_log_protocol.proofs.survival.held_map_survives.Goals as goal
-
-pub returns : goal.returns
-returns g c = survives

@@ -1,0 +1,4 @@
+pub mod Sound
+pub mod SpanLaws
+pub mod AppendNotes
+pub mod RewriteNotes

@@ -3,3 +3,4 @@ pub mod Moves
 pub mod Notes
 pub mod Images
 pub mod Log
+pub mod Tables

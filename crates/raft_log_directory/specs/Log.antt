@@ -3,7 +3,8 @@ use Rattle.std.specs.Prelude.{◌≡◌, ℕ, Bool, List, [], ◌++◌}
 use Rattle.raft_log_model.specs.Item.{Record}
 use Rattle.raft_log_model.specs.Groups.{Map, taken}
 use Rattle.raft_log_machine.specs.Whereabouts.{Whereabouts}
-use Rattle.raft_log_directory.specs.Model.{Files, IsSound, running}
+use Rattle.raft_log_directory.specs.Model.{Files, IsSound, running, with_append}
+use Rattle.raft_log_directory.specs.Moves.{Moved}
 use Rattle.raft_log_directory.specs.Images.{Readings, Allows}
 use Rattle.raft_log_directory.specs.Notes.{Notes, AreNoted, AreNotedInRewrite}
 
@@ -38,6 +39,14 @@ pub record Stands {E V : Type 0} (v : View E V) (f : Files E V) (m : Map E V) (p
   pub map : v.map ≡ taken m pending
   pub noted : AreNoted v.whereabouts v.noted f.append
   pub noted_in_rewrite : AreNotedInRewrite v.map v.whereabouts v.noted_in_rewrite f.rewrite
+
+-- the view stays true of the files after quiet events of Append: of the batches some first ones are synced now
+pub record Follows {E V : Type 0} (v : View E V) (f : Files E V) (m : Map E V) (pending : List (Record E V))
+    (a : Moved f.append_from f.append) : Type 0 where
+  pub done : List (Record E V)
+  pub rest : List (Record E V)
+  pub splits : done ++ rest ≡ pending
+  pub stands : Stands v (with_append f a.from a.queue) (taken m done) rest
 
 -- the view is true of some files that a running pipe says are there
 pub record IsAt {E V : Type 0} (may_be : Files E V → Type 0) (v : View E V) (m : Map E V) (pending : List (Record E V))

@@ -1,20 +1,23 @@
 -- Over every schedule, the numbered files survive.
-use Rattle.std.proofs.Common.{ℕ, ◌≡◌, ◌+◌, List, [], ◌∷◌, ◌++◌, refl, sym, ap, ◌∙◌, subst, append_assoc, append-nil, arith}
+use Rattle.std.proofs.Common.{ℕ, ◌≡◌, ◌+◌, List, [], ◌∷◌, ◌++◌, refl, sym, ap, ap₂, ◌∙◌, subst, append_assoc, append-nil, arith}
 use Rattle.raft_log_model.specs.Item.{Record}
-use Rattle.raft_log_machine.specs.Queue.{Queue, synced, raised, left, reread}
+use Rattle.raft_log_machine.specs.Queue.{Queue, Store, synced, raised, left, reread}
 use Rattle.raft_log_machine.specs.Survival.{Survives}
 use Rattle.raft_log_machine.specs.Machine.{IsKept}
-use Rattle.raft_log_machine.specs.Files.{LogFile, FileQueue, records_of, IsNumbered, queue_of, store_of, SurvivesInFiles, NumberedFrom}
-use Rattle.raft_log_machine.specs.Directory.{Directory, DirectoryEvent, DirectoryStep, DirectorySteps, fresh_directory, IsRising, ReplaysInFiles}
-use Rattle.raft_log_machine.proofs.FileLaws.{records_of-append, survives_in_files, file_step_numbers, read_split, read_records}
+use Rattle.raft_log_machine.specs.Files.{LogFile, FileQueue, records_of, span, IsNumbered, queue_of, store_of, SurvivesInFiles, NumberedFrom}
+use Rattle.raft_log_machine.specs.Directory.{Directory, DirectoryEvent, DirectoryStep, DirectorySteps, fresh_directory, IsRising, ReplaysInFiles, CanBeOpened, OpensInFiles}
+use Rattle.raft_log_machine.proofs.FileLaws.{records_of-append, survives_in_files, file_step_numbers, IsEnd, read_split, read_records}
 use Rattle.raft_log_machine.proofs.SurvivalSteps.{survives}
 use Rattle.raft_log_model.specs.Groups.{appended, rewritten}
 use Rattle.raft_log_model.specs.Holes.{nothing, NoHole}
 use Rattle.raft_log_machine.specs.Unbroken.{IsUnbroken}
 use Rattle.raft_log_machine.specs.Replay.{Replays, IsReplayable}
+use Rattle.raft_log_machine.specs.Images.{HasRuns}
 use Rattle.raft_log_machine.proofs.MachineKeeps.{step_keeps}
 use Rattle.raft_log_machine.proofs.ReplayLaws.{replays, step_replays, fresh_replays}
 use Rattle.raft_log_machine.proofs.FreshKeeps.{fresh_keeps}
+use Rattle.raft_log_machine.proofs.RunLaws.{step_runs, fresh_runs}
+use Rattle.raft_log_machine.proofs.ImageLaws.{opens}
 
 module _ {E V : Type 0} where
   -- the invariant of the machine on files
@@ -24,6 +27,7 @@ module _ {E V : Type 0} where
     pub rewrite : IsNumbered d.rewrite_from d.rewrite
     pub append : IsNumbered d.append_from d.append
     pub replay : IsReplayable d.machine
+    pub runs : HasRuns d.machine
 
   directory_step : (e : DirectoryEvent E V) (d n : Directory E V) → DirectoryStep e d n → IsKeptDirectory d → IsKeptDirectory n
   directory_step e d n h k = record {
@@ -32,6 +36,7 @@ module _ {E V : Type 0} where
     rewrite = subst (λ j. IsNumbered j n.rewrite) (sym h.rewrite_from) (file_step_numbers e.rewrite d.rewrite_from d.rewrite n.rewrite h.rewrite k.rewrite);
     append = subst (λ j. IsNumbered j n.append) (sym h.append_from) (file_step_numbers e.append d.append_from d.append n.append h.append k.append);
     replay = step_replays e.event d.machine n.machine h.step k.machine k.replay;
+    runs = step_runs e.event d.machine n.machine h.step k.machine k.runs;
   }
 
   directory_steps : (es : List (DirectoryEvent E V)) (d n : Directory E V) → DirectorySteps d es n → IsKeptDirectory d → IsKeptDirectory n
@@ -39,7 +44,7 @@ module _ {E V : Type 0} where
   directory_steps (e ∷ es) d n h k = directory_steps es h.0 n h.2 (directory_step e d h.0 h.1 k)
 
   fresh_directory_is_kept : IsKeptDirectory fresh_directory
-  fresh_directory_is_kept = record { machine = fresh_keeps; store = refl; rewrite = ((refl, tt), tt); append = ((refl, tt), tt); replay = fresh_replays }
+  fresh_directory_is_kept = record { machine = fresh_keeps; store = refl; rewrite = ((refl, tt), tt); append = ((refl, tt), tt); replay = fresh_replays; runs = fresh_runs }
 
   pub schedule_survives_in_files : (es : List (DirectoryEvent E V)) (d : Directory E V) → DirectorySteps fresh_directory es d
       → SurvivesInFiles d.rewrite_from d.rewrite d.append_from d.append d.machine.map d.append.pending
@@ -117,3 +122,53 @@ module _ {E V : Type 0} where
       let k = directory_steps es fresh_directory d h fresh_directory_is_kept in
       replays_in_files d.rewrite_from d.rewrite d.append_from d.append k.rewrite k.append
       (subst (λ q. Replays q) (sym k.store) (replays d.machine k.machine k.replay))
+
+module _ {E V : Type 0} where
+  -- the files that were read are the span
+  read_span : (q : FileQueue E V) (again : List (LogFile E V)) (kept : List (Record E V))
+      → span (record q { full = again ++ q.full; synced = q.synced ++ kept; pending = [] }) [] ≡ again ++ span q kept
+  read_span q again kept =
+      ap (λ l. (again ++ q.full) ++ record { number = q.last; records = l } ∷ []) (append-nil (q.synced ++ kept))
+      ∙ append_assoc again q.full (record { number = q.last; records = q.synced ++ kept } ∷ [])
+
+  opens_of : (d : Directory E V) → IsKeptDirectory d → (r_kept r_lost a_kept a_lost : List (Record E V)) → r_kept ++ r_lost ≡ d.rewrite.pending → a_kept ++ a_lost ≡ d.append.pending
+      → (r_files a_files : List (LogFile E V)) → IsEnd d.rewrite r_kept r_files → IsEnd d.append a_kept a_files → CanBeOpened d r_kept r_lost a_kept a_lost r_files a_files
+  opens_of d k r_kept r_lost a_kept a_lost r_image a_image r_files a_files r a =
+      let r_read = read_queue d.rewrite r.0 r.1 r_kept r.2 in
+      let a_read = read_queue d.append a.0 a.1 a_kept a.2 in
+      let next = opens d.machine k.machine k.replay k.runs r_kept r_lost (records_of r.0) (records_of r.1) a_kept a_lost (records_of a.0) (records_of a.1)
+      (r_image ∙ ap (λ q. q.rewrite.pending) k.store) (r_read.1 ∙ ap (λ q. q.rewrite.gone) k.store)
+      (a_image ∙ ap (λ q. q.append.pending) k.store) (a_read.1 ∙ ap (λ q. q.append.gone) k.store) in
+      record {
+        r_below = r.0;
+        r_again = r.1;
+        a_below = a.0;
+        a_again = a.1;
+        opened = record {
+          machine = next.0;
+          rewrite = record d.rewrite { gone = r.0; full = r.1 ++ d.rewrite.full; synced = d.rewrite.synced ++ r_kept; pending = [] };
+          rewrite_from = d.rewrite_from;
+          append = record d.append { gone = a.0; full = a.1 ++ d.append.full; synced = d.append.synced ++ a_kept; pending = [] };
+          append_from = d.append_from;
+        };
+        step = record {
+          step = next.1;
+          rewrite = (r.2, refl);
+          append = (a.2, refl);
+          store = ap₂ store r_read.0 a_read.0 ∙ ap (λ q. store (reread q.rewrite (records_of r.0) (records_of r.1) r_kept) (reread q.append (records_of a.0) (records_of a.1) a_kept)) k.store
+              ∙ sym (ap (λ x. x.store) next.1.4.2);
+          rewrite_from = refl;
+          append_from = refl;
+        };
+        rewrite = read_span d.rewrite r.1 r_kept ∙ sym r.3;
+        append = read_span d.append a.1 a_kept ∙ sym a.3;
+      }
+    where
+      store : Queue E V → Queue E V → Store E V
+      store x y = record { rewrite = x; append = y }
+
+  pub schedule_opens_in_files : (es : List (DirectoryEvent E V)) (d : Directory E V) → DirectorySteps fresh_directory es d → OpensInFiles d
+  schedule_opens_in_files es d h r_kept r_lost a_kept a_lost r_image a_image s t r_files a_files r_read a_read =
+      let k = directory_steps es fresh_directory d h fresh_directory_is_kept in
+      opens_of d k r_kept r_lost a_kept a_lost r_image a_image r_files a_files
+      (read_split d.rewrite_from d.rewrite r_kept s r_files k.rewrite r_read) (read_split d.append_from d.append a_kept t a_files k.append a_read)

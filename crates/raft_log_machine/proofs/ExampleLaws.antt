@@ -155,8 +155,9 @@ recovered = record {
       → (w11.map 1 (Key k) ≡ None) ⊎ (◌≡◌ {A = Option (Option (Content ℕ ℕ))} (option_or (option_or (option_or None (if b then Some (Some (Value 50)) else None)) None) None) None))
       (λ e h. differ h) (λ e h. inr refl);
   cleaned = refl;
-  compacted = λ h. refl;
-  deleted = λ k. refl;
+  compacted = λ c h. refl;
+  deleted = λ k c h. differ (sym h);
+  was_deleted = λ k h. differ (sym h);
 }
 
 quiet : (g : ℕ) → (1 == g) ≡ false → (s : Slot) → w11.map g s ≡ None
@@ -174,8 +175,9 @@ recovered_elsewhere g e = record {
   key_newer = λ k h. differ (sym h);
   key_older = λ k h. inl (quiet g e (Key k));
   cleaned = refl;
-  compacted = λ h. differ (sym h);
-  deleted = λ k. refl;
+  compacted = λ c h. differ (sym h);
+  deleted = λ k c h. differ (sym h);
+  was_deleted = λ k h. differ (sym h);
 }
 
 all_recovered : (g : ℕ) → IsRecovered (taken w11.map [] g) (appended g (entries ∷ compaction ∷ [])) (only read_again g)

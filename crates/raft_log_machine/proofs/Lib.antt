@@ -18,8 +18,11 @@ pub mod ReplayItems
 pub mod ReplayLaws
 pub mod ExampleLaws
 pub mod JoinedLaws
-pub mod IntervalLaws
 pub mod HistoryLaws
 pub mod StaysLaws
 pub mod TidyLaws
 pub mod RunLaws
+pub mod ImageLaws
+pub mod RenumberLaws
+pub mod TooLittle
+pub mod RenamedWhereabouts

@@ -1,12 +1,11 @@
 -- In every image the entries of a group are one run.
-use Rattle.std.proofs.Common.{◌≡◌, ℕ, List, [], ◌∷◌, ◌++◌, false, refl, sym, ap, ◌∙◌, subst, inl, inr, append-nil, arith}
+use Rattle.std.proofs.Common.{◌≡◌, ℕ, List, [], ◌∷◌, ◌++◌, false, refl, sym, ap, ◌∙◌, subst, inl, inr, append-nil}
 use Rattle.raft_log_model.specs.Item.{Record}
 use Rattle.raft_log_model.specs.Groups.{taken}
-use Rattle.raft_log_machine.specs.Truth.{Said, AreTrue}
 use Rattle.raft_log_machine.specs.Machine.{Machine, Event, Step, Steps, IsKept}
 use Rattle.raft_log_machine.specs.Machine.Event.{Take, SyncAppend, SyncRewrite, WritePlain, WriteBegin, WriteMiddle, WriteEnd, RaiseAppend, RaiseRewrite, LoseAppend, LoseRewrite, Fail, Reopen}
 use Rattle.raft_log_machine.specs.Fresh.{fresh_machine}
-use Rattle.raft_log_machine.specs.Runs.{IsOneRun, HasRuns}
+use Rattle.raft_log_machine.specs.Images.{IsOneRun, HasRuns}
 use Rattle.raft_log_machine.proofs.Starts.{beginnings, no_front}
 use Rattle.raft_log_machine.proofs.MachineKeeps.{step_keeps}
 use Rattle.raft_log_machine.proofs.FreshKeeps.{fresh_keeps}

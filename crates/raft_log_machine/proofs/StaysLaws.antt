@@ -1,14 +1,14 @@
--- What the records that stay in Rewrite say.
+-- What the records that stay in a queue say.
 use Rattle.std.proofs.Common.{◌≡◌, ℕ, List, [], ◌∷◌, ◌++◌, unwrap_or, sym, ap, ◌∙◌, subst, append_assoc}
 use Rattle.std.specs.Option.{option_or}
-use Rattle.raft_log_model.specs.Item.{Tagged, Record}
+use Rattle.raft_log_model.specs.Item.{Tagged, Record, items_of}
 use Rattle.raft_log_model.specs.Item.Record.{Plain, Part}
 use Rattle.raft_log_model.specs.Item.Mark.{End}
 use Rattle.raft_log_model.specs.Meaning.{Slot, says}
-use Rattle.raft_log_model.specs.Groups.{of_group, counts, opened, none_open, onto, rewritten}
+use Rattle.raft_log_model.specs.Groups.{of_group, contents, counts, opened, none_open, onto, appended, rewritten}
 use Rattle.raft_log_machine.specs.Unbroken.{IsUnbroken, begun, joined}
 use Rattle.raft_log_machine.specs.Survival.{IsSpoken}
-use Rattle.raft_log_machine.proofs.Words.{says_append, rewritten_more}
+use Rattle.raft_log_machine.proofs.Words.{says_append, says_appended, of_group_append, rewritten_more}
 use Rattle.raft_log_machine.proofs.UnbrokenLaws.{opened-begun}
 use Rattle.raft_log_machine.proofs.Starts.{spoken_newer}
 use Rattle.raft_log_machine.proofs.TruthGrows.{spoken_after}
@@ -44,3 +44,17 @@ module _ {E V : Type 0} where
   group_stays g s xs n first more last zs spoken =
       counted_stays g s (xs ++ begun n first more) (Part (End n) last) zs
       (subst (λ o. IsSpoken (says s (of_group g (unwrap_or (onto o last) [])))) (sym (opened-begun none_open xs n first more)) spoken)
+
+  -- of Append: a record that stays and speaks of a slot makes what stays speak of it
+  pub record_stays : (g : ℕ) (s : Slot) (xs : List (Record E V)) (y : Record E V) (zs : List (Record E V))
+      → IsSpoken (says s (of_group g (items_of y))) → IsSpoken (says s (appended g (xs ++ y ∷ zs)))
+  record_stays g s xs y zs spoken =
+      spoken_newer (says s (appended g (y ∷ zs))) (says s (appended g xs)) (says s (appended g (xs ++ y ∷ zs))) (says_appended g s xs (y ∷ zs))
+      (subst (λ w. IsSpoken w) (sym (ap (says s) (of_group_append g (items_of y) (contents zs)) ∙ says_append s (of_group g (items_of y)) (appended g zs)))
+      (spoken_after (says s (appended g zs)) (says s (of_group g (items_of y))) spoken))
+
+  -- and what stays says what all of the span said
+  pub append_stay_says : (g : ℕ) (s : Slot) (out stay : List (Record E V)) → IsSpoken (says s (appended g stay))
+      → says s (appended g stay) ≡ says s (appended g (out ++ stay))
+  append_stay_says g s out stay spoken =
+      spoken.1 ∙ sym (says_appended g s out stay ∙ ap (λ w. option_or w (says s (appended g out))) spoken.1)

@@ -11,7 +11,7 @@ use Rattle.raft_log_machine.proofs.SurvivalSteps.{survives}
 use Rattle.raft_log_machine.proofs.Starts.{no_front, no_back}
 
 -- a directory with nothing gone and nothing of Rewrite unsynced holds what it means
-lone_holds : (rewrite append pending : List (Record ℕ ℕ))
+pub lone_holds : (rewrite append pending : List (Record ℕ ℕ))
     → Holds (record { rewrite = lone rewrite; append = record { gone = []; live = append; pending = pending } }) (directory_meaning rewrite append)
 lone_holds rewrite append pending g s r_kept r_lost r_cut r_back a_cut a_back kept r_start a_start =
     ap (λ l. directory_meaning (l ++ (rewrite ++ r_kept)) (a_back ++ append) g s) (no_back r_cut r_back r_start)

@@ -22,6 +22,7 @@ pub record FileQueue (E V : Type 0) : Type 0 where
   pub synced : List (Record E V)
   pub pending : List (Record E V)
 
+-- all records of the files, in their order
 abbrev pub records_of : {E V : Type 0} → List (LogFile E V) → List (Record E V)
 records_of [] = []
 records_of (f ∷ fs) = f.records ++ records_of fs
@@ -30,6 +31,7 @@ records_of (f ∷ fs) = f.records ++ records_of fs
 abbrev pub span : {E V : Type 0} → FileQueue E V → List (Record E V) → List (LogFile E V)
 span q kept = q.full ++ record { number = q.last; records = q.synced ++ kept } ∷ []
 
+-- all files of the queue in such an image
 abbrev pub all_files : {E V : Type 0} → FileQueue E V → List (Record E V) → List (LogFile E V)
 all_files q kept = q.behind ++ (q.gone ++ span q kept)
 
@@ -51,9 +53,10 @@ IsNumbered n q = NumberedFrom n (q.gone ++ span q []) × AllBehind n q.behind
 abbrev pub first_file : {E V : Type 0} → ℕ → FileQueue E V → ℕ
 first_file n q = n + length q.gone
 
--- Of the files that are there, where `first` is the first file of the span, a recovery may read these: those from some
--- place on, numbered without a gap from s on, where s is no higher than `first`
-pub record IsReadOf {E V : Type 0} (first : ℕ) (there : List (LogFile E V)) (s : ℕ) (files : List (LogFile E V)) : Type 0 where
+-- Of the files that are there, where `first` is the first file of the span, a recovery may read these: those
+-- from some place on, numbered without a gap from s on, where s is no higher than `first`
+pub record IsReadOf {E V : Type 0} (first : ℕ) (there : List (LogFile E V)) (s : ℕ)
+    (files : List (LogFile E V)) : Type 0 where
   pub low : s ≤ first
   pub skipped : List (LogFile E V)
   pub rest : skipped ++ files ≡ there
@@ -68,16 +71,18 @@ IsRead n q kept s files = IsReadOf (first_file n q) (all_files q kept) s files
 abbrev pub queue_of : {E V : Type 0} → FileQueue E V → Queue E V
 queue_of q = record { gone = records_of q.gone; live = records_of q.full ++ q.synced; pending = q.pending }
 
+-- the records of both queues
 abbrev pub store_of : {E V : Type 0} → FileQueue E V → FileQueue E V → Store E V
 store_of r a = record { rewrite = queue_of r; append = queue_of a }
 
 -- A crash takes back nothing but pending batches, told of the numbered files: whatever beginnings of the
 -- unsynced records an image has, there is ONE number of batches such that from every pair of starts that a
 -- recovery may take the directory means the map after that many of them
-abbrev pub SurvivesInFiles : {E V : Type 0} → ℕ → FileQueue E V → ℕ → FileQueue E V → Map E V → List (Record E V)
-    → Type 0
+abbrev pub SurvivesInFiles : {E V : Type 0} → ℕ → FileQueue E V → ℕ → FileQueue E V → Map E V
+    → List (Record E V) → Type 0
 SurvivesInFiles {E} {V} n r k a m batches =
-    (r_kept r_lost a_kept a_lost : List (Record E V)) → r_kept ++ r_lost ≡ r.pending → a_kept ++ a_lost ≡ a.pending
+    (r_kept r_lost a_kept a_lost : List (Record E V)) → r_kept ++ r_lost ≡ r.pending
+    → a_kept ++ a_lost ≡ a.pending
     → (count : ℕ) × (count ≤ length batches) × ((s t : ℕ) (r_files a_files : List (LogFile E V))
     → IsRead n r r_kept s r_files → IsRead k a a_kept t a_files
     → (g : ℕ) (slot : Slot) → directory_meaning (records_of r_files) (records_of a_files) g slot

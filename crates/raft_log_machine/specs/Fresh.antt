@@ -5,6 +5,7 @@ use Rattle.raft_log_machine.specs.Queue.{Queue}
 use Rattle.raft_log_machine.specs.Whereabouts.{Whereabouts}
 use Rattle.raft_log_machine.specs.Machine.{Machine}
 
+-- a queue without records
 abbrev pub empty_queue : {E V : Type 0} → Queue E V
 empty_queue = record { gone = []; live = []; pending = [] }
 
@@ -20,9 +21,11 @@ nowhere = record {
   deleted = λ k. false;
 }
 
+-- no entry and no value of any group
 abbrev pub nothing_stands : {E V : Type 0} → Map E V
 nothing_stands g s = None
 
+-- an engine on a directory without records
 abbrev pub fresh_machine : {E V : Type 0} → Machine E V
 fresh_machine = record {
   store = record { rewrite = empty_queue; append = empty_queue };

@@ -26,9 +26,11 @@ happened h Fail = h
 happened h (Reopen r_kept r_lost r_cut r_back a_kept a_lost a_cut a_back) =
     record { synced = h.synced ++ a_kept; pending = [] }
 
+-- after a schedule, from this history on
 abbrev pub history_from : {E V : Type 0} → History E V → List (Event E V) → History E V
 history_from h [] = h
 history_from h (e ∷ es) = history_from (happened h e) es
 
+-- after a schedule from a fresh directory on
 abbrev pub history : {E V : Type 0} → List (Event E V) → History E V
 history es = history_from (record { synced = []; pending = [] }) es

@@ -11,6 +11,6 @@ pub mod Directory
 pub mod WrongRules
 pub mod Purge
 pub mod Replay
-pub mod Runs
+pub mod Images
 pub mod Example
 pub mod History

@@ -22,14 +22,17 @@ Fits (Compact c) = Unit {0}
 Fits (Put k v) = Unit {0}
 Fits (Del k) = Unit {0}
 
+-- so does each run of these items
 abbrev pub AllFit : {E V : Type 0} → List (Tagged E V) → Type 0
 AllFit [] = Unit {0}
 AllFit (x ∷ xs) = Fits x.item × AllFit xs
 
+-- so does each run of these records
 abbrev pub RecordsFit : {E V : Type 0} → List (Record E V) → Type 0
 RecordsFit [] = Unit {0}
 RecordsFit (r ∷ rs) = AllFit (items_of r) × RecordsFit rs
 
+-- an engine on its directory
 pub record Machine (E V : Type 0) : Type 0 where
   pub store : Store E V
   -- what is synced of Append means this map
@@ -39,10 +42,12 @@ pub record Machine (E V : Type 0) : Type 0 where
   -- after a failure the whereabouts mean nothing, until the directory is opened again
   pub failed : Bool
 
+-- what may happen to an engine and its directory
 pub data Event (E V : Type 0) : Type 0 where
   -- Append takes a record
   Take : Record E V → Event E V
-  -- all of a queue is synced: by a sync, by a rotation, or where a refused write was cut back and that was synced
+  -- all of a queue is synced: by a sync, by a rotation, or where a refused write was cut back and that was
+  -- synced
   SyncAppend : Event E V
   SyncRewrite : Event E V
   -- Rewrite takes a record: marks, copies of Append's entries and keys, rewritten ones again
@@ -59,13 +64,14 @@ pub data Event (E V : Type 0) : Type 0 where
   LoseRewrite : (lost rest : List (Record E V)) → Event E V
   -- the engine fails
   Fail : Event E V
-  -- a crash or a close, and an open. Of the unsynced records of both queues some beginning is kept. Of the gone
-  -- ones an end is read
+  -- a crash or a close, and an open. Of the unsynced records of both queues some beginning is kept. Of the
+  -- gone ones an end is read
   Reopen : (r_kept r_lost r_cut r_back a_kept a_lost a_cut a_back : List (Record E V)) → Event E V
 
 -- the records of an atomic group that has not ended are the last ones of Rewrite's span
 abbrev pub GoesOnWith : {E V : Type 0} → Queue E V → ℕ → List (Tagged E V) → List (List (Tagged E V)) → Type 0
-GoesOnWith {E} {V} q n first more = (front : List (Record E V)) × (q.live ++ q.pending ≡ front ++ begun n first more)
+GoesOnWith {E} {V} q n first more =
+    (front : List (Record E V)) × (q.live ++ q.pending ≡ front ++ begun n first more)
 
 -- The items of an atomic group may be taken as these: they say the same of each slot, and leave no hole where
 -- these leave none. So several runs, each at the end of the one before, may be taken as one
@@ -73,35 +79,45 @@ pub record IsJoined {E V : Type 0} (parts items : List (Item E V)) : Type 0 wher
   pub same_words : (s : Slot) → says s parts ≡ says s items
   pub no_more_holes : (w : Window) → NoHole w items → NoHole w parts
 
--- What each event asks, and the machine v that it leads to from w. All that is asked of groups is asked of their
--- whereabouts
+-- What each event asks, and the machine v that it leads to from w. All that is asked of groups is asked of
+-- their whereabouts
 abbrev pub Step : {E V : Type 0} → Event E V → Machine E V → Machine E V → Type 0
 Step (Take y) w v =
     (w.failed ≡ false)
-    × ((whereabouts : ℕ → Whereabouts) × ((g : ℕ) → GrowsBy (w.whereabouts g) (of_group g (items_of y)) (whereabouts g))
-    × (v ≡ record w { store = with_append w.store (takes w.store.append y); whereabouts = whereabouts }))
+    × ((next : ℕ → Whereabouts) × ((g : ℕ) → GrowsBy (w.whereabouts g) (of_group g (items_of y)) (next g))
+    × (v ≡ record w { store = with_append w.store (takes w.store.append y); whereabouts = next }))
 Step SyncAppend w v =
     (w.failed ≡ false)
-    × (v ≡ record w { store = with_append w.store (synced w.store.append); map = taken w.map w.store.append.pending })
-Step SyncRewrite w v = (w.failed ≡ false) × (v ≡ record w { store = with_rewrite w.store (synced w.store.rewrite) })
+    × (v ≡ record w {
+      store = with_append w.store (synced w.store.append);
+      map = taken w.map w.store.append.pending;
+    })
+Step SyncRewrite w v =
+    (w.failed ≡ false) × (v ≡ record w { store = with_rewrite w.store (synced w.store.rewrite) })
 Step (WritePlain xs) w v =
     (w.failed ≡ false) × (w.store.append.pending ≡ []) × AllFit xs
-    × ((whereabouts : ℕ → Whereabouts) × ((g : ℕ) → CarriesAll (w.map g) (w.whereabouts g) (of_group g xs) (whereabouts g))
-    × (v ≡ record w { store = with_rewrite w.store (takes w.store.rewrite (Plain xs)); whereabouts = whereabouts }))
+    × ((next : ℕ → Whereabouts)
+    × ((g : ℕ) → CarriesAll (w.map g) (w.whereabouts g) (of_group g xs) (next g))
+    × (v ≡ record w { store = with_rewrite w.store (takes w.store.rewrite (Plain xs)); whereabouts = next }))
 Step (WriteBegin n xs) w v =
     (w.failed ≡ false) × AllFit xs
     × (v ≡ record w { store = with_rewrite w.store (takes w.store.rewrite (Part (Begin n) xs)) })
 Step {E} {V} (WriteMiddle n xs) w v =
     (w.failed ≡ false) × AllFit xs
-    × ((first : List (Tagged E V)) × (more : List (List (Tagged E V))) × GoesOnWith w.store.rewrite n first more
+    × ((first : List (Tagged E V)) × (more : List (List (Tagged E V)))
+    × GoesOnWith w.store.rewrite n first more
     × (v ≡ record w { store = with_rewrite w.store (takes w.store.rewrite (Part (Middle n) xs)) }))
 Step {E} {V} (WriteEnd n xs) w v =
     (w.failed ≡ false) × (w.store.append.pending ≡ []) × AllFit xs
-    × ((first : List (Tagged E V)) × (more : List (List (Tagged E V))) × GoesOnWith w.store.rewrite n first more
-    × ((whereabouts : ℕ → Whereabouts)
+    × ((first : List (Tagged E V)) × (more : List (List (Tagged E V)))
+    × GoesOnWith w.store.rewrite n first more
+    × ((next : ℕ → Whereabouts)
     × ((g : ℕ) → (items : List (Item E V)) × IsJoined (of_group g (joined first more ++ xs)) items
-    × CarriesAll (w.map g) (w.whereabouts g) items (whereabouts g))
-    × (v ≡ record w { store = with_rewrite w.store (takes w.store.rewrite (Part (End n) xs)); whereabouts = whereabouts })))
+    × CarriesAll (w.map g) (w.whereabouts g) items (next g))
+    × (v ≡ record w {
+      store = with_rewrite w.store (takes w.store.rewrite (Part (End n) xs));
+      whereabouts = next;
+    })))
 Step (RaiseAppend out stay) w v =
     (w.failed ≡ false) × (w.store.append.pending ≡ []) × (w.store.rewrite.pending ≡ [])
     × (out ++ stay ≡ w.store.append.live)
@@ -113,22 +129,25 @@ Step (RaiseRewrite out stay) w v =
     × ((g : ℕ) → HasRewritten (w.map g) (w.whereabouts g) (rewritten g stay))
     × (v ≡ record w { store = with_rewrite w.store (raised w.store.rewrite out stay) })
 Step (LoseAppend lost rest) w v =
-    (lost ++ rest ≡ w.store.append.gone) × (v ≡ record w { store = with_append w.store (left w.store.append rest) })
+    (lost ++ rest ≡ w.store.append.gone)
+    × (v ≡ record w { store = with_append w.store (left w.store.append rest) })
 Step (LoseRewrite lost rest) w v =
-    (lost ++ rest ≡ w.store.rewrite.gone) × (v ≡ record w { store = with_rewrite w.store (left w.store.rewrite rest) })
+    (lost ++ rest ≡ w.store.rewrite.gone)
+    × (v ≡ record w { store = with_rewrite w.store (left w.store.rewrite rest) })
 Step Fail w v = v ≡ record w { failed = true }
 Step (Reopen r_kept r_lost r_cut r_back a_kept a_lost a_cut a_back) w v =
     (r_kept ++ r_lost ≡ w.store.rewrite.pending) × (r_cut ++ r_back ≡ w.store.rewrite.gone)
     × (a_kept ++ a_lost ≡ w.store.append.pending) × (a_cut ++ a_back ≡ w.store.append.gone)
-    × ((whereabouts : ℕ → Whereabouts)
-    × ((g : ℕ) → IsRecovered (taken w.map a_kept g) (appended g (a_back ++ (w.store.append.live ++ a_kept))) (whereabouts g))
+    × ((next : ℕ → Whereabouts)
+    × ((g : ℕ)
+    → IsRecovered (taken w.map a_kept g) (appended g (a_back ++ (w.store.append.live ++ a_kept))) (next g))
     × (v ≡ record {
       store = record {
         rewrite = reread w.store.rewrite r_cut r_back r_kept;
         append = reread w.store.append a_cut a_back a_kept;
       };
       map = taken w.map a_kept;
-      whereabouts = whereabouts;
+      whereabouts = next;
       failed = false;
     }))
 
@@ -150,4 +169,5 @@ pub record IsKept {E V : Type 0} (w : Machine E V) : Type 0 where
   pub holds : Holds w.store w.map
   pub unbroken : IsUnbroken (all_records w.store.rewrite)
   pub fits : RecordsFit (all_records w.store.rewrite)
-  pub whereabouts : w.failed ≡ false → (g : ℕ) → AreTrue (said_of g w.store) (taken w.map w.store.append.pending g) (w.whereabouts g)
+  pub whereabouts : w.failed ≡ false → (g : ℕ)
+      → AreTrue (said_of g w.store) (taken w.map w.store.append.pending g) (w.whereabouts g)

@@ -39,12 +39,13 @@ left q back = record { gone = back; live = q.live; pending = q.pending }
 
 -- an image was read from a start and synced: below it lie the records of cut, read were back, all live ones,
 -- and kept of the pending ones
-abbrev pub reread : {E V : Type 0} → Queue E V → List (Record E V) → List (Record E V) → List (Record E V) → Queue E V
+abbrev pub reread : {E V : Type 0} → Queue E V → (cut back kept : List (Record E V)) → Queue E V
 reread q cut back kept = record { gone = cut; live = back ++ (q.live ++ kept); pending = [] }
 
--- the directory with another Append, and with another Rewrite
+-- the directory with another Append
 abbrev pub with_append : {E V : Type 0} → Store E V → Queue E V → Store E V
 with_append q append = record { rewrite = q.rewrite; append = append }
 
+-- the directory with another Rewrite
 abbrev pub with_rewrite : {E V : Type 0} → Store E V → Queue E V → Store E V
 with_rewrite q rewrite = record { rewrite = rewrite; append = q.append }

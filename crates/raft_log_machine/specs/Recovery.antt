@@ -20,17 +20,21 @@ has_del k (Del l ∷ xs) = bytes_eq l k || has_del k xs
 has_del k (x ∷ xs) = has_del k xs
 
 -- m is what the directory means for the group, append what was read of the group from Append's files: the
--- whereabouts have each thing where it stands, and a mark that those files have counts as owed
-pub record IsRecovered {E V : Type 0} (m : Slot → Option (Content E V)) (append : List (Item E V)) (t : Whereabouts)
-    : Type 0 where
+-- whereabouts have each thing where it stands, and a mark that those files have counts as owed: a Clean
+-- always, beside one none of the others need, and no Del that isn't there
+pub record IsRecovered {E V : Type 0} (m : Slot → Option (Content E V)) (append : List (Item E V))
+    (t : Whereabouts) : Type 0 where
   pub in_order : (t.first ≤ t.split) × (t.split ≤ t.end) × (t.end ≤ top)
   pub below : (i : ℕ) → i < t.first → m (Index i) ≡ None
   pub above : (i : ℕ) → t.end ≤ i → m (Index i) ≡ None
   pub rewritten : (i : ℕ) → t.first ≤ i → i < t.split
       → (says (Index i) append ≡ None) × ((entry : Content E V) × (m (Index i) ≡ Some entry))
-  pub newer : (i : ℕ) → t.split ≤ i → i < t.end → (entry : Content E V) × (says (Index i) append ≡ Some (Some entry))
-  pub key_newer : (k : List ℕ) → t.appended k ≡ true → (value : Content E V) × (says (Key k) append ≡ Some (Some value))
+  pub newer : (i : ℕ) → t.split ≤ i → i < t.end
+      → (entry : Content E V) × (says (Index i) append ≡ Some (Some entry))
+  pub key_newer : (k : List ℕ) → t.appended k ≡ true
+      → (value : Content E V) × (says (Key k) append ≡ Some (Some value))
   pub key_older : (k : List ℕ) → t.appended k ≡ false → (m (Key k) ≡ None) ⊎ (says (Key k) append ≡ None)
   pub cleaned : t.cleaned ≡ has_clean append
-  pub compacted : has_compact append ≡ true → t.compacted ≡ true
-  pub deleted : (k : List ℕ) → t.deleted k ≡ has_del k append
+  pub compacted : has_clean append ≡ false → has_compact append ≡ true → t.compacted ≡ true
+  pub deleted : (k : List ℕ) → has_clean append ≡ false → has_del k append ≡ true → t.deleted k ≡ true
+  pub was_deleted : (k : List ℕ) → t.deleted k ≡ true → has_del k append ≡ true

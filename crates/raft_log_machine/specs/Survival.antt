@@ -1,16 +1,18 @@
--- What a crash may leave of two queues of records, and that it means the same from every start of the reading.
+-- What a crash may leave of two queues of records, and that it means the same from every start of the
+-- reading.
 use Rattle.std.specs.Prelude.{◌≡◌, ℕ, ◌≤◌, ◌⊎◌, List, ◌++◌, length, take, Option, None, Some}
 use Rattle.raft_log_model.specs.Item.{Item, Record}
 use Rattle.raft_log_model.specs.Meaning.{Slot, says, holds}
 use Rattle.raft_log_model.specs.Groups.{of_group, counts, opened, none_open, appended, rewritten, Map, directory_meaning, taken}
 use Rattle.raft_log_machine.specs.Queue.{Queue, Store}
 
--- the directory holds the map m: from every start, and with every beginning of Rewrite's unsynced records, what
--- is synced of Append means m
+-- the directory holds the map m: from every start, and with every beginning of Rewrite's unsynced records,
+-- what is synced of Append means m
 abbrev pub Holds : {E V : Type 0} → Store E V → Map E V → Type 0
 Holds {E} {V} q m =
     (g : ℕ) (s : Slot) (r_kept r_lost r_cut r_back a_cut a_back : List (Record E V))
-    → r_kept ++ r_lost ≡ q.rewrite.pending → r_cut ++ r_back ≡ q.rewrite.gone → a_cut ++ a_back ≡ q.append.gone
+    → r_kept ++ r_lost ≡ q.rewrite.pending → r_cut ++ r_back ≡ q.rewrite.gone
+    → a_cut ++ a_back ≡ q.append.gone
     → directory_meaning (r_back ++ (q.rewrite.live ++ r_kept)) (a_back ++ q.append.live) g s ≡ m g s
 
 -- A crash takes back nothing but pending batches: whatever beginnings of the unsynced records are left, there
@@ -20,7 +22,8 @@ abbrev pub Survives : {E V : Type 0} → Store E V → Map E V → List (Record 
 Survives {E} {V} q m batches =
     (r_kept r_lost a_kept a_lost : List (Record E V)) → r_kept ++ r_lost ≡ q.rewrite.pending
     → a_kept ++ a_lost ≡ q.append.pending
-    → (count : ℕ) × (count ≤ length batches) × ((g : ℕ) (s : Slot) (r_cut r_back a_cut a_back : List (Record E V))
+    → (count : ℕ) × (count ≤ length batches)
+    × ((g : ℕ) (s : Slot) (r_cut r_back a_cut a_back : List (Record E V))
     → r_cut ++ r_back ≡ q.rewrite.gone → a_cut ++ a_back ≡ q.append.gone
     → directory_meaning (r_back ++ (q.rewrite.live ++ r_kept)) (a_back ++ (q.append.live ++ a_kept)) g s
     ≡ taken m (take count batches) g s)
@@ -37,22 +40,23 @@ IsHarmless word value append_word = (word ≡ None) ⊎ ((word ≡ Some value) �
 abbrev pub counting : {E V : Type 0} → Queue E V → List (Record E V) → Record E V → ℕ → List (Item E V)
 counting q back y g = of_group g (counts (opened none_open (back ++ (q.live ++ q.pending))) y)
 
--- Rewrite may take the record: from each start what comes to count by it is harmless, said against what is SYNCED
--- of Append
+-- Rewrite may take the record: from each start what comes to count by it is harmless, said against what is
+-- SYNCED of Append
 abbrev pub MayRewrite : {E V : Type 0} → Store E V → Map E V → Record E V → Type 0
 MayRewrite {E} {V} q m y =
     (g : ℕ) (s : Slot) (cut back : List (Record E V)) → cut ++ back ≡ q.rewrite.gone
     → IsHarmless (says s (counting q.rewrite back y g)) (m g s) (says s (appended g q.append.live))
 
--- Append's span may begin at the records n2: of each slot they speak, or Rewrite is right from each of its starts
+-- Append's span may begin at the records n2: of each slot they speak, or Rewrite is right from each of its
+-- starts
 abbrev pub MayRaiseAppend : {E V : Type 0} → Store E V → Map E V → List (Record E V) → Type 0
 MayRaiseAppend {E} {V} q m n2 =
     (g : ℕ) (s : Slot) → IsSpoken (says s (appended g n2))
     ⊎ ((cut back : List (Record E V)) → cut ++ back ≡ q.rewrite.gone
     → holds s (rewritten g (back ++ q.rewrite.live)) ≡ m g s)
 
--- Rewrite's span may begin at the records n2: of each slot what counts of them speaks, or nothing stands there,
--- or Append overrules it
+-- Rewrite's span may begin at the records n2: of each slot what counts of them speaks, or nothing stands
+-- there, or Append overrules it
 abbrev pub MayRaiseRewrite : {E V : Type 0} → Store E V → Map E V → List (Record E V) → Type 0
 MayRaiseRewrite {E} {V} q m n2 =
     (g : ℕ) (s : Slot) → IsSpoken (says s (rewritten g n2)) ⊎ ((m g s ≡ None)

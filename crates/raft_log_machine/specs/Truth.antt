@@ -18,21 +18,24 @@ IsRight said m s = (unwrap_or (said.lowest s) None ≡ m s) × (unwrap_or (said.
 
 -- an index is settled: Rewrite is right, or the Clean or the Compact that is owed makes it right, or an
 -- appended entry at or below it stands, whose run overrules Rewrite
-abbrev pub IsSettledIndex : {E V : Type 0} → Said E V → (Slot → Option (Content E V)) → Whereabouts → ℕ → Type 0
+abbrev pub IsSettledIndex : {E V : Type 0} → Said E V → (Slot → Option (Content E V)) → Whereabouts → ℕ
+    → Type 0
 IsSettledIndex said m t i =
     IsRight said m (Index i)
     ⊎ ((t.cleaned ≡ true)
     ⊎ (((t.compacted ≡ true) × ((i < t.first) ⊎ (t.first ≡ t.split)))
     ⊎ ((t.split ≤ i) × (t.split < t.end))))
 
--- a key is settled: Rewrite is right, or the Clean or the Del that is owed makes it right, or its value stands
--- in Append
-abbrev pub IsSettledKey : {E V : Type 0} → Said E V → (Slot → Option (Content E V)) → Whereabouts → List ℕ → Type 0
+-- a key is settled: Rewrite is right, or the Clean or the Del that is owed makes it right, or its value
+-- stands in Append
+abbrev pub IsSettledKey : {E V : Type 0} → Said E V → (Slot → Option (Content E V)) → Whereabouts → List ℕ
+    → Type 0
 IsSettledKey said m t k =
     IsRight said m (Key k) ⊎ ((t.cleaned ≡ true) ⊎ ((t.deleted k ≡ true) ⊎ (t.appended k ≡ true)))
 
 -- the whereabouts t are true of what is said, where the group's map is m
-pub record AreTrue {E V : Type 0} (said : Said E V) (m : Slot → Option (Content E V)) (t : Whereabouts) : Type 0 where
+pub record AreTrue {E V : Type 0} (said : Said E V) (m : Slot → Option (Content E V)) (t : Whereabouts)
+    : Type 0 where
   pub in_order : (t.first ≤ t.split) × (t.split ≤ t.end) × (t.end ≤ top)
   pub below : (i : ℕ) → i < t.first → m (Index i) ≡ None
   pub above : (i : ℕ) → t.end ≤ i → m (Index i) ≡ None
@@ -42,9 +45,11 @@ pub record AreTrue {E V : Type 0} (said : Said E V) (m : Slot → Option (Conten
   -- where an entry stands in Append, Append's span answers for its index and all above
   pub newer : (i : ℕ) → t.split ≤ i → t.split < t.end → IsSpoken (said.append (Index i))
   pub key_newer : (k : List ℕ) → t.appended k ≡ true → IsSpoken (said.append (Key k))
-  pub key_older : (k : List ℕ) → t.appended k ≡ false → (m (Key k) ≡ None) ⊎ (said.rewrite (Key k) ≡ Some (m (Key k)))
+  pub key_older : (k : List ℕ) → t.appended k ≡ false
+      → (m (Key k) ≡ None) ⊎ (said.rewrite (Key k) ≡ Some (m (Key k)))
   -- while a Clean is owed nothing stands in Rewrite
-  pub after_clean : t.cleaned ≡ true → (t.first ≡ t.split) × ((k : List ℕ) → t.appended k ≡ false → m (Key k) ≡ None)
+  pub after_clean : t.cleaned ≡ true
+      → (t.first ≡ t.split) × ((k : List ℕ) → t.appended k ≡ false → m (Key k) ≡ None)
   pub after_delete : (k : List ℕ) → t.deleted k ≡ true → t.appended k ≡ false → m (Key k) ≡ None
   pub index : (i : ℕ) → i < top → IsSettledIndex said m t i
   pub key : (k : List ℕ) → IsSettledKey said m t k

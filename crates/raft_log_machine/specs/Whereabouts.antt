@@ -1,5 +1,5 @@
--- Where the engine knows the entries and values of a group to stand, how that follows what is written, and which
--- marks are still owed to Rewrite.
+-- Where the engine knows the entries and values of a group to stand, how that follows what is written, and
+-- which marks are still owed to Rewrite.
 use Rattle.std.specs.Prelude.{◌≡◌, ℕ, ◌+◌, ◌-◌, ◌^◌, ◌<◌, ◌≤◌, ◌⊎◌, min, max, Bool, true, false, if◌then◌else◌, bytes_eq, List, [], ◌∷◌, length, Option, Some, None, option_map, slice_get}
 use Rattle.raft_log_model.specs.Item.{Item}
 use Rattle.raft_log_model.specs.Item.Item.{Run, Clean, Compact, Put, Del}
@@ -11,8 +11,8 @@ use Rattle.raft_log_model.specs.Meaning.Content.{Entry, Value}
 unfoldable pub top : ℕ
 top = 2 ^ 64 - 1
 
--- The entries first .. split stand in Rewrite, split .. end in Append; the keys `appended` stand in Append, the
--- others in Rewrite. Since marks were carried last, Append has a Clean of the group (cleaned), a Compact
+-- The entries first .. split stand in Rewrite, split .. end in Append; the keys `appended` stand in Append,
+-- the others in Rewrite. Since marks were carried last, Append has a Clean of the group (cleaned), a Compact
 -- (compacted), a Del of these keys (deleted).
 pub record Whereabouts : Type 0 where
   pub first : ℕ
@@ -39,8 +39,8 @@ GoesOn t f = (t.first < f) × (f ≤ t.end)
 abbrev pub compacted_first : Whereabouts → ℕ → ℕ
 compacted_first t c = max t.first (min c t.end)
 
--- the whereabouts u follow t where Append takes the item. A Del may also count as a change of the group that asks
--- for a Compact, which does no harm
+-- the whereabouts u follow t where Append takes the item. A Del may also count as a change of the group that
+-- asks for a Compact, which does no harm
 abbrev pub Grows : {E V : Type 0} → Whereabouts → Item E V → Whereabouts → Type 0
 Grows t (Run f []) u = u ≡ t
 Grows t (Run f (e ∷ es)) u =
@@ -74,15 +74,16 @@ abbrev pub NothingRewritten : {E V : Type 0} → (Slot → Option (Content E V))
 NothingRewritten m t = (t.first ≡ t.split) × ((k : List ℕ) → t.appended k ≡ false → m (Key k) ≡ None)
 
 -- Rewrite may take the item where the group's map is m and its whereabouts are t, and then they are u:
--- * a run of what stands, from a rewritten index (or the first appended one) on, up to the last rewritten entry
---   or past it; to go past it neither Clean nor Compact may be owed;
--- * a Clean that is owed, or where nothing of the group stands in Rewrite, as where the last one may have been
---   lost;
+-- * a run of what stands, from a rewritten index (or the first appended one) on, up to the last rewritten
+--   entry or past it; to go past it neither Clean nor Compact may be owed;
+-- * a Clean that is owed, or where nothing of the group stands in Rewrite, as where the last one may have
+--   been lost;
 -- * a Compact of the first index where rewritten entries stand, else of `top`;
 -- * a Put of a key's value; of an appended one neither Clean nor Del may be owed;
 -- * a Del that is owed, or where the key doesn't stand in Rewrite. So an engine may keep its sets of marks
 --   until they are synced, and carry a mark again where it isn't sure.
-abbrev pub Carries : {E V : Type 0} → (Slot → Option (Content E V)) → Whereabouts → Item E V → Whereabouts → Type 0
+abbrev pub Carries : {E V : Type 0} → (Slot → Option (Content E V)) → Whereabouts → Item E V → Whereabouts
+    → Type 0
 Carries m t (Run f []) u = u ≡ t
 Carries m t (Run f (e ∷ es)) u =
     (t.first ≤ f) × (f ≤ t.split) × (t.split ≤ f + length (e ∷ es)) × (f + length (e ∷ es) ≤ t.end)
@@ -91,7 +92,8 @@ Carries m t (Run f (e ∷ es)) u =
     × (u ≡ record t { split = f + length (e ∷ es) })
 Carries m t Clean u = ((t.cleaned ≡ true) ⊎ NothingRewritten m t) × (u ≡ record t { cleaned = false })
 Carries m t (Compact c) u =
-    (((t.first < t.split) × (c ≡ t.first)) ⊎ ((t.first ≡ t.split) × (c ≡ top))) × (u ≡ record t { compacted = false })
+    (((t.first < t.split) × (c ≡ t.first)) ⊎ ((t.first ≡ t.split) × (c ≡ top)))
+    × (u ≡ record t { compacted = false })
 Carries m t (Put k v) u =
     (m (Key k) ≡ Some (Value v)) × (t.appended k ≡ true → (t.cleaned ≡ false) × (t.deleted k ≡ false))
     × (u ≡ record t { appended = with_key t.appended k false })
@@ -99,7 +101,9 @@ Carries m t (Del k) u =
     ((t.deleted k ≡ true) ⊎ (t.appended k ≡ false → m (Key k) ≡ None))
     × (u ≡ record t { deleted = with_key t.deleted k false })
 
-abbrev pub CarriesAll : {E V : Type 0} → (Slot → Option (Content E V)) → Whereabouts → List (Item E V) → Whereabouts → Type 0
+-- item after item
+abbrev pub CarriesAll : {E V : Type 0} → (Slot → Option (Content E V)) → Whereabouts → List (Item E V)
+    → Whereabouts → Type 0
 CarriesAll m t [] u = u ≡ t
 CarriesAll m t (x ∷ xs) u = (next : Whereabouts) × Carries m t x next × CarriesAll m next xs u
 
@@ -114,7 +118,14 @@ HasAppended {E} {V} t kept =
     × ((k : List ℕ) → t.appended k ≡ true → (value : Option (Content E V)) × (says (Key k) kept ≡ Some value))
 
 -- these items of Rewrite hold all that stands in Rewrite by these whereabouts
-abbrev pub HasRewritten : {E V : Type 0} → (Slot → Option (Content E V)) → Whereabouts → List (Item E V) → Type 0
+abbrev pub HasRewritten : {E V : Type 0} → (Slot → Option (Content E V)) → Whereabouts → List (Item E V)
+    → Type 0
 HasRewritten m t kept =
     ((i : ℕ) → t.first ≤ i → i < t.split → says (Index i) kept ≡ Some (m (Index i)))
     × ((k : List ℕ) → t.appended k ≡ false → (m (Key k) ≡ None) ⊎ (says (Key k) kept ≡ Some (m (Key k))))
+
+-- the whereabouts u are t, but that no entry may stand at any other number
+abbrev pub IsRenumbered : Whereabouts → Whereabouts → Type 0
+IsRenumbered t u =
+    (u ≡ t)
+    ⊎ ((t.first ≡ t.end) × ((n : ℕ) × (n ≤ top) × (u ≡ record t { first = n; split = n; end = n })))

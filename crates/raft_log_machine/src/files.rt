@@ -4,7 +4,7 @@
 ghost use Rattle.std.specs.Prelude.{◌≡◌, ℕ, ◌+◌, ◌∷◌, List, ◌++◌, []};
 ghost use Rattle.raft_log_model.specs.Groups.{Map};
 ghost use Rattle.raft_log_model.specs.Item.{Record};
-ghost use Rattle.raft_log_machine.specs.Directory.{fresh_directory, Directory, DirectoryEvent, DirectorySteps, ReplaysInFiles};
+ghost use Rattle.raft_log_machine.specs.Directory.{fresh_directory, Directory, DirectoryEvent, DirectorySteps, OpensInFiles, ReplaysInFiles};
 ghost use Rattle.raft_log_machine.specs.Files.{
   numbered_from,
   queue_of,
@@ -21,8 +21,8 @@ ghost use Rattle.raft_log_machine.specs.Files.{
 ghost use Rattle.raft_log_machine.specs.Queue.{left, raised, reread, synced};
 ghost use Rattle.raft_log_machine.specs.Survival.{Survives};
 
-/// From whatever file at or below the first of the span a recovery reads, as long as no number is missing: its
-/// records are an end of the gone ones, then all of the span. What lies behind a gap is never read.
+/// From whatever file at or below the first of the span a recovery reads, as long as no number is missing:
+/// its records are an end of the gone ones, then all of the span. What lies behind a gap is never read.
 pub fn reading_is_an_end<E, V>()
     ensures { (n : ℕ) (q : FileQueue E V) (kept : List (Record E V)) (s : ℕ) (files : List (LogFile E V))
         → IsNumbered n q → IsRead n q kept s files
@@ -30,15 +30,16 @@ pub fn reading_is_an_end<E, V>()
         × (records_of files ≡ back ++ ((queue_of q).live ++ kept)) }
 {}
 
-/// What survives as records survives as numbered files, from every pair of files from which a recovery may read.
+/// What survives as records survives as numbered files, from every pair of files from which a recovery may
+/// read.
 pub fn records_survive_in_files<E, V>()
-    ensures { (n : ℕ) (r : FileQueue E V) (k : ℕ) (a : FileQueue E V) (m : Map E V) (batches : List (Record E V))
-        → IsNumbered n r → IsNumbered k a
+    ensures { (n : ℕ) (r : FileQueue E V) (k : ℕ) (a : FileQueue E V) (m : Map E V)
+        (batches : List (Record E V)) → IsNumbered n r → IsNumbered k a
         → Survives (store_of r a) m batches → SurvivesInFiles n r k a m batches }
 {}
 
-/// Numbers stay in order whatever happens to a queue's files, and the number from which they go on never falls:
-/// so a gap stays, and what lies behind it never comes back.
+/// Numbers stay in order whatever happens to a queue's files, and the number from which they go on never
+/// falls: so a gap stays, and what lies behind it never comes back.
 pub fn numbers_stay_in_order<E, V>()
     ensures { (e : FileEvent E V) (n : ℕ) (q p : FileQueue E V) → FileStep e q p → IsNumbered n q
         → IsNumbered (numbered_from n e) p }
@@ -70,18 +71,22 @@ pub fn rise_of_files<E, V>()
         × (records_of out ++ (records_of stay ++ q.synced) ≡ (queue_of q).live) }
 {}
 
-/// Where a gone file is deleted or renamed, its records and all before them are lost, whichever gone file it is.
+/// Where a gone file is deleted or renamed, its records and all before them are lost, whichever gone file it
+/// is.
 pub fn loss_of_files<E, V>()
-    ensures { (q : FileQueue E V) (before : List (LogFile E V)) (file : LogFile E V) (rest : List (LogFile E V))
-        → before ++ file ∷ rest ≡ q.gone
-        → (queue_of (record q { behind = q.behind ++ before; gone = rest }) ≡ left (queue_of q) (records_of rest))
+    ensures { (q : FileQueue E V) (before : List (LogFile E V)) (file : LogFile E V)
+        (rest : List (LogFile E V)) → before ++ file ∷ rest ≡ q.gone
+        → (queue_of (record q { behind = q.behind ++ before; gone = rest })
+        ≡ left (queue_of q) (records_of rest))
         × ((records_of before ++ file.records) ++ records_of rest ≡ (queue_of q).gone) }
 {}
 
 /// What an open reads of an image and syncs is, on the records, the reading of an image from a start.
 pub fn reading_of_files<E, V>()
-    ensures { (q : FileQueue E V) (below again : List (LogFile E V)) (kept : List (Record E V)) → below ++ again ≡ q.gone
-        → (queue_of (record q { gone = below; full = again ++ q.full; synced = q.synced ++ kept; pending = [] })
+    ensures { (q : FileQueue E V) (below again : List (LogFile E V)) (kept : List (Record E V))
+        → below ++ again ≡ q.gone
+        → (queue_of
+        (record q { gone = below; full = again ++ q.full; synced = q.synced ++ kept; pending = [] })
         ≡ reread (queue_of q) (records_of below) (records_of again) kept)
         × (records_of below ++ records_of again ≡ (queue_of q).gone) }
 {}
@@ -89,7 +94,8 @@ pub fn reading_of_files<E, V>()
 /// Over every schedule of events and of changes of files, from two queues with an empty file 1 each, the
 /// directory survives as its map: from every pair of files from which a recovery may read.
 pub fn survives_in_files_always<E, V>()
-    ensures { (events : List (DirectoryEvent E V)) (d : Directory E V) → DirectorySteps fresh_directory events d
+    ensures { (events : List (DirectoryEvent E V)) (d : Directory E V)
+        → DirectorySteps fresh_directory events d
         → SurvivesInFiles d.rewrite_from d.rewrite d.append_from d.append d.machine.map d.append.pending }
 {}
 
@@ -97,6 +103,14 @@ pub fn survives_in_files_always<E, V>()
 /// recovery may read, numbers rise, no run leaves a hole in either queue, and Rewrite's atomic groups are
 /// unbroken.
 pub fn replays_in_files_always<E, V>()
-    ensures { (events : List (DirectoryEvent E V)) (d : Directory E V) → DirectorySteps fresh_directory events d
+    ensures { (events : List (DirectoryEvent E V)) (d : Directory E V)
+        → DirectorySteps fresh_directory events d
         → ReplaysInFiles d.rewrite_from d.rewrite d.append_from d.append }
+{}
+
+/// Over every such schedule each reading can be opened: whatever an image kept, and from every pair of files
+/// from which a recovery may read, there is an open after which the files that were read are the spans.
+pub fn opens_in_files_always<E, V>()
+    ensures { (events : List (DirectoryEvent E V)) (d : Directory E V)
+        → DirectorySteps fresh_directory events d → OpensInFiles d }
 {}

@@ -1,15 +1,54 @@
-//! Whatever image a crash leaves: the entries of a group are one run in it, it can be opened, and the wording by
-//! intervals says of it what the last word says.
+//! Whatever image a crash leaves: the entries of a group are one run in it, it can be opened, and the wording
+//! by intervals says of it what the last word says.
 
-ghost use Rattle.std.specs.Prelude.{List};
+ghost use Rattle.std.specs.Prelude.{◌≡◌, ℕ, List, [], ◌∷◌, None, Some};
+ghost use Rattle.raft_log_model.specs.Groups.{appended, directory_meaning, rewritten, taken};
+ghost use Rattle.raft_log_model.specs.Holes.{directory_by_intervals};
+ghost use Rattle.raft_log_model.specs.Meaning.Content.{Entry};
+ghost use Rattle.raft_log_model.specs.Meaning.Slot.{Index};
 ghost use Rattle.raft_log_machine.specs.Fresh.{fresh_machine};
+ghost use Rattle.raft_log_machine.specs.Machine.Event.{Reopen};
 ghost use Rattle.raft_log_machine.specs.Machine.{Event, IsKept, Machine, Step, Steps};
-ghost use Rattle.raft_log_machine.specs.Runs.{HasRuns};
+ghost use Rattle.raft_log_machine.specs.Images.{append_read, reopening, rewrite_read, HasRuns, Recovery};
+ghost use Rattle.raft_log_machine.specs.Replay.{IsReplayable};
+ghost use Rattle.raft_log_machine.specs.WrongRules.{entry_1, entry_3, failed_on};
 
-/// In each image the entries of a group are one run, and none has the index 2^64 - 1: after each beginning of the
-/// pending batches they are. Each event keeps it, a failure and an open too, so it is true over every schedule.
+/// In each image the entries of a group are one run, and none has the index 2^64 - 1: after each beginning of
+/// the pending batches they are. Each event keeps it, a failure and an open too, so it is true over every
+/// schedule.
 pub fn each_image_has_one_run<E, V>()
     ensures fresh { HasRuns (fresh_machine {E = E} {V = V}) }
     ensures step { (e : Event E V) (w v : Machine E V) → Step e w v → IsKept w → HasRuns w → HasRuns v }
-    ensures always { (events : List (Event E V)) (v : Machine E V) → Steps fresh_machine events v → HasRuns v }
+    ensures always { (events : List (Event E V)) (v : Machine E V) → Steps fresh_machine events v
+        → HasRuns v }
+{}
+
+/// Each image can be opened: whatever beginnings of the unsynced records a crash left, and from whatever
+/// files the two queues are read, what was read tells where each group's entries and values stand, so there
+/// is a step that opens it. No directory that the engine left is ever refused for what its records mean.
+pub fn each_image_can_be_opened<E, V>()
+    ensures { (w : Machine E V) (r : Recovery w.store) → IsKept w → IsReplayable w → HasRuns w
+        → (v : Machine E V) × Step (reopening w.store r) w v }
+{}
+
+/// Of each image, read from any starts, of a failed engine too, the wording by intervals (what Rewrite keeps
+/// under Append's Cleans, greatest Compact and least start of a run, and no gap) says the map after the
+/// batches that were kept: no hole and no gap ever acts.
+pub fn intervals_say_the_same_of_images<E, V>()
+    ensures { (w : Machine E V) (r : Recovery w.store) → IsKept w → IsReplayable w → HasRuns w → (g i : ℕ)
+        → directory_by_intervals i (rewritten g (rewrite_read w.store r)) (appended g (append_read w.store r))
+        ≡ taken w.map r.a_kept g (Index i) }
+{}
+
+/// What the directory means and that it can be read don't suffice for an open: Rewrite has entry 1, Append
+/// entry 3. Neither has a hole, nothing was lost, and 1 and 3 stand, but no step opens it: no whereabouts
+/// tell of an index between two entries at which nothing stands. The wording by intervals would drop entry 1.
+pub fn meaning_and_reading_are_too_little()
+    ensures kept { IsKept (failed_on (entry_1 ∷ []) (entry_3 ∷ [])) }
+    ensures replay { IsReplayable (failed_on (entry_1 ∷ []) (entry_3 ∷ [])) }
+    ensures closed { (v : Machine ℕ ℕ)
+        → Step (Reopen [] [] [] [] [] [] [] []) (failed_on (entry_1 ∷ []) (entry_3 ∷ [])) v → ⊥ }
+    ensures means { directory_meaning (entry_1 ∷ []) (entry_3 ∷ []) 1 (Index 1) ≡ Some (Entry 11) }
+    ensures dropped { directory_by_intervals 1 (rewritten 1 (entry_1 ∷ [])) (appended 1 (entry_3 ∷ []))
+        ≡ None }
 {}

@@ -14,6 +14,7 @@ fn laws_of_survival() {
     survival::rewrite_loses::<u64, u64>();
     survival::directory_reopens::<u64, u64>();
     survival::what_stays_in_rewrite_says::<u64, u64>();
+    survival::what_stays_in_append_says::<u64, u64>();
 }
 
 #[test]
@@ -22,6 +23,8 @@ fn laws_of_machine() {
     machine::each_step_keeps::<u64, u64>();
     machine::survives_always::<u64, u64>();
     machine::map_is_what_was_taken::<u64, u64>();
+    machine::renumbered_sound::<u64, u64>();
+    machine::whereabouts_of_renamed::<u64, u64, u64>();
 }
 
 #[test]
@@ -36,11 +39,14 @@ fn laws_of_files() {
     files::reading_of_files::<u64, u64>();
     files::survives_in_files_always::<u64, u64>();
     files::replays_in_files_always::<u64, u64>();
+    files::opens_in_files_always::<u64, u64>();
 }
 
 #[test]
 fn laws_of_images() {
     images::each_image_has_one_run::<u64, u64>();
+    images::each_image_can_be_opened::<u64, u64>();
+    images::intervals_say_the_same_of_images::<u64, u64>();
 }
 
 #[test]
@@ -56,7 +62,6 @@ fn laws_of_replay() {
     replay::each_step_replays::<u64, u64>();
     replay::kept_machine_replays::<u64, u64>();
     replay::replays_always::<u64, u64>();
-    replay::intervals_say_the_same::<u64, u64>();
     replay::runs_of_a_group_join::<u64, u64>();
     replay::unbroken_records_are_tidy::<u64, u64>();
 }
@@ -64,6 +69,7 @@ fn laws_of_replay() {
 #[test]
 fn examples() {
     example::two_purges_happen();
+    images::meaning_and_reading_are_too_little();
     wrong_rules::append_files_before_marks();
     wrong_rules::marks_forgotten_before_written();
     wrong_rules::marks_after_copies();

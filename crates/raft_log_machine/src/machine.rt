@@ -1,13 +1,20 @@
 //! The engine as a machine: its two queues, what they mean, and the whereabouts of each group, which say what
-//! stands where and which marks Rewrite is still owed. The premises of an event speak of the whereabouts alone.
+//! stands where and which marks Rewrite is still owed. The premises of an event speak of the whereabouts
+//! alone.
 
-ghost use Rattle.std.specs.Prelude.{◌≡◌, ℕ, List};
-ghost use Rattle.raft_log_model.specs.Groups.{taken};
+ghost use Rattle.std.specs.Prelude.{◌≡◌, ℕ, List, map};
+ghost use Rattle.raft_log_model.specs.Groups.{taken, Map};
+ghost use Rattle.raft_log_model.specs.Item.{Item};
 ghost use Rattle.raft_log_model.specs.Meaning.{Slot};
+ghost use Rattle.raft_log_model.specs.Renamed.{renamed, renamed_map};
 ghost use Rattle.raft_log_machine.specs.Fresh.{fresh_machine, nothing_stands};
 ghost use Rattle.raft_log_machine.specs.History.{history};
+ghost use Rattle.raft_log_machine.specs.Images.{HasRuns};
+ghost use Rattle.raft_log_machine.specs.Recovery.{IsRecovered};
+ghost use Rattle.raft_log_machine.specs.Replay.{IsReplayable};
 ghost use Rattle.raft_log_machine.specs.Survival.{Survives};
-ghost use Rattle.raft_log_machine.specs.Machine.{Event, IsKept, Step, Steps, Machine};
+ghost use Rattle.raft_log_machine.specs.Whereabouts.{CarriesAll, GrowsBy, IsRenumbered, Whereabouts};
+ghost use Rattle.raft_log_machine.specs.Machine.{Event, IsKept, Machine, Step, Steps};
 
 /// A fresh directory, where nothing stands anywhere, keeps the invariant.
 pub fn fresh_machine_is_kept<E, V>()
@@ -33,4 +40,31 @@ pub fn map_is_what_was_taken<E, V>()
     ensures { (events : List (Event E V)) (v : Machine E V) → Steps fresh_machine events v
         → (v.store.append.pending ≡ (history events).pending)
         × ((g : ℕ) (s : Slot) → v.map g s ≡ taken nothing_stands (history events).synced g s) }
+{}
+
+/// Where a group has no entries, the number at which none stand is free: it may be any, at any time, and the
+/// invariants stay.
+pub fn renumbered_sound<E, V>()
+    ensures kept { (w : Machine E V) (next : ℕ → Whereabouts)
+        → ((g : ℕ) → IsRenumbered (w.whereabouts g) (next g))
+        → IsKept w → IsKept (record w { whereabouts = next }) }
+    ensures replay { (w : Machine E V) (next : ℕ → Whereabouts)
+        → ((g : ℕ) → IsRenumbered (w.whereabouts g) (next g))
+        → IsKept w → IsReplayable w → IsReplayable (record w { whereabouts = next }) }
+    ensures runs { (w : Machine E V) (next : ℕ → Whereabouts) → HasRuns w
+        → HasRuns (record w { whereabouts = next }) }
+{}
+
+/// Whereabouts don't care what stands for an entry: they follow a batch of places as they follow one of
+/// bytes; what they allow Rewrite to take, and what an open makes of what it read as places, they do for the
+/// bytes too.
+pub fn whereabouts_of_renamed<E, F, V>()
+    ensures grows { (f : E → F) (t u : Whereabouts) (xs : List (Item E V)) → GrowsBy t xs u
+        → GrowsBy t (map (renamed f) xs) u }
+    ensures grew { (f : E → F) (t u : Whereabouts) (xs : List (Item E V)) → GrowsBy t (map (renamed f) xs) u
+        → GrowsBy t xs u }
+    ensures carries { (f : E → F) (m : Map E V) (g : ℕ) (t u : Whereabouts) (xs : List (Item E V))
+        → CarriesAll (m g) t xs u → CarriesAll (renamed_map f m g) t (map (renamed f) xs) u }
+    ensures recovered { (f : E → F) (m : Map E V) (g : ℕ) (xs : List (Item E V)) (t : Whereabouts)
+        → IsRecovered (m g) xs t → IsRecovered (renamed_map f m g) (map (renamed f) xs) t }
 {}

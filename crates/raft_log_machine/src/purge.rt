@@ -10,16 +10,16 @@ ghost use Rattle.raft_log_machine.specs.Queue.{raised, with_append};
 ghost use Rattle.raft_log_machine.specs.Machine.Event.{RaiseAppend};
 ghost use Rattle.raft_log_machine.specs.Machine.{Event, IsKept, Step, Steps, Machine};
 
-/// A purge changes nothing, answered or refused wherever it stopped: after any events of the engine's own, and
-/// from any start of each queue, the files mean what they meant before them from any start.
+/// A purge changes nothing, answered or refused wherever it stopped: after any events of the engine's own,
+/// and from any start of each queue, the files mean what they meant before them from any start.
 pub fn purge_is_invisible<E, V>()
     ensures { (events : List (Event E V)) (w v : Machine E V) → AllOwn events → Steps w events v → IsKept w
         → (before : Reading w.store) (later : Reading v.store) (g : ℕ) (s : Slot)
         → meaning_there v.store later g s ≡ meaning_there w.store before g s }
 {}
 
-/// A full rewrite leaves one file: once no group has anything in Append or owes a mark, and Append's last file
-/// is new and empty, all its other files may leave the span, which then is the last file alone.
+/// A full rewrite leaves one file: once no group has anything in Append or owes a mark, and Append's last
+/// file is new and empty, all its other files may leave the span, which then is the last file alone.
 pub fn full_rewrite_leaves_one_file<E, V>()
     ensures { (w : Machine E V) (a : FileQueue E V) → w.failed ≡ false → w.store.append.pending ≡ []
         → w.store.rewrite.pending ≡ [] → queue_of a ≡ w.store.append

@@ -1,15 +1,11 @@
 //! What a reading asks beside the meaning: that no run leaves a hole in either queue, and that atomic groups
 //! are whole. So a recovery gets through whatever a crash leaves.
 
-ghost use Rattle.std.specs.Prelude.{◌≡◌, ℕ, ◌+◌, false, length, List, ◌∷◌, ◌++◌};
-ghost use Rattle.raft_log_model.specs.Groups.{appended, rewritten};
-ghost use Rattle.raft_log_model.specs.Holes.{directory_by_intervals};
+ghost use Rattle.std.specs.Prelude.{ℕ, ◌+◌, length, List, ◌∷◌, ◌++◌};
 ghost use Rattle.raft_log_model.specs.Item.Item.{Run};
 ghost use Rattle.raft_log_model.specs.Item.{Item, Record};
-ghost use Rattle.raft_log_model.specs.Meaning.Slot.{Index};
 ghost use Rattle.raft_log_model.specs.Tidy.{Tidy};
 ghost use Rattle.raft_log_machine.specs.Fresh.{fresh_machine};
-ghost use Rattle.raft_log_machine.specs.Purge.{meaning_there, Reading};
 ghost use Rattle.raft_log_machine.specs.Replay.{IsReplayable, Replays};
 ghost use Rattle.raft_log_machine.specs.Unbroken.{IsUnbroken};
 ghost use Rattle.raft_log_machine.specs.Machine.{Event, IsJoined, IsKept, Step, Steps, Machine};
@@ -35,21 +31,12 @@ pub fn replays_always<E, V>()
     ensures { (events : List (Event E V)) (v : Machine E V) → Steps fresh_machine events v → Replays v.store }
 {}
 
-/// Of the files as they stand, read from any start, the wording by intervals (what Rewrite keeps under Append's
-/// Cleans, greatest Compact and least start of a run, and no gap) says what the last word says: no hole and no
-/// gap ever acts.
-pub fn intervals_say_the_same<E, V>()
-    ensures { (w : Machine E V) → IsKept w → IsReplayable w → w.failed ≡ false → (r : Reading w.store) (g i : ℕ)
-        → directory_by_intervals i (rewritten g (r.r_back ++ (w.store.rewrite.live ++ w.store.rewrite.pending)))
-        (appended g (r.a_back ++ (w.store.append.live ++ w.store.append.pending)))
-        ≡ meaning_there w.store r g (Index i) }
-{}
-
-/// Two runs of an atomic group, the second at the end of the first, may be taken as one; and what may be taken
-/// as something else may be so behind other items, and in several steps.
+/// Two runs of an atomic group, the second at the end of the first, may be taken as one; and what may be
+/// taken as something else may be so behind other items, and in several steps.
 pub fn runs_of_a_group_join<E, V>()
     ensures runs { (f : ℕ) (e : E) (es : List E) (d : E) (ds : List E) (rest : List (Item E V))
-        → IsJoined (Run f (e ∷ es) ∷ Run (f + length (e ∷ es)) (d ∷ ds) ∷ rest) (Run f (e ∷ es ++ d ∷ ds) ∷ rest) }
+        → IsJoined (Run f (e ∷ es) ∷ Run (f + length (e ∷ es)) (d ∷ ds) ∷ rest)
+        (Run f (e ∷ es ++ d ∷ ds) ∷ rest) }
     ensures same { (xs : List (Item E V)) → IsJoined xs xs }
     ensures behind { (front xs ys : List (Item E V)) → IsJoined xs ys → IsJoined (front ++ xs) (front ++ ys) }
     ensures in_turn { (xs ys zs : List (Item E V)) → IsJoined xs ys → IsJoined ys zs → IsJoined xs zs }

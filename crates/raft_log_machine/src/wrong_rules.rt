@@ -1,6 +1,6 @@
 //! Rules that look right and lose something, each with a small directory that holds its map until the rule is
-//! followed. `LosesByAppend` and `LosesByRewrite` say that a directory holds what it means, and no longer once
-//! the queue's first file is raised past the records that stand second among the arguments.
+//! followed. `LosesByAppend` and `LosesByRewrite` say that a directory holds what it means, and no longer
+//! once the queue's first file is raised past the records that stand second among the arguments.
 
 ghost use Rattle.std.specs.Prelude.{[], ◌∷◌};
 ghost use Rattle.raft_log_model.specs.Groups.{directory_meaning};
@@ -28,13 +28,14 @@ pub fn append_files_before_marks()
 {}
 
 /// The set of marks is emptied before they are written: the write is refused, the next purge finds the set
-/// empty and lets the file with the Clean go, though the file after it stays. The removed group's key is back.
+/// empty and lets the file with the Clean go, though the file after it stays. The removed group's key is
+/// back.
 pub fn marks_forgotten_before_written()
     ensures { LosesByAppend (one_key ∷ []) (removal ∷ []) (other_key ∷ []) (removal ∷ other_key ∷ []) }
 {}
 
-/// Marks are carried after the copies: the key that was written since the removal was copied, and then the mark
-/// of the removal falls on the copy.
+/// Marks are carried after the copies: the key that was written since the removal was copied, and then the
+/// mark of the removal falls on the copy.
 pub fn marks_after_copies()
     ensures { LosesByAppend (one_key ∷ removal ∷ []) (removal ∷ one_key ∷ []) [] (removal ∷ one_key ∷ []) }
 {}
@@ -52,16 +53,18 @@ pub fn group_without_its_first_file()
     ensures { LosesByRewrite [] (group_begin ∷ []) (group_end ∷ []) (group_begin ∷ group_end ∷ []) }
 {}
 
-/// Places move before the group's end mark: the group was never finished, the whereabouts point into it, and the
-/// file with the old copies goes.
+/// Places move before the group's end mark: the group was never finished, the whereabouts point into it, and
+/// the file with the old copies goes.
 pub fn places_before_end_mark()
     ensures { LosesByRewrite [] (first_run ∷ []) (group_begin ∷ []) (first_run ∷ group_begin ∷ []) }
 {}
 
-/// Rewrite is ahead of Append's sync: a batch removes group 1 and gives group 2 a key, and Rewrite has the mark
-/// of the removal before Append synced the batch. An image without the batch is the map after neither no batch,
-/// since group 1's key is gone, nor one, since group 2's key isn't there.
+/// Rewrite is ahead of Append's sync: a batch removes group 1 and gives group 2 a key, and Rewrite has the
+/// mark of the removal before Append synced the batch. An image without the batch is the map after neither no
+/// batch, since group 1's key is gone, nor one, since group 2's key isn't there.
 pub fn rewrite_ahead_of_append()
-    ensures before { Survives (unsynced_both (one_key ∷ [])) (directory_meaning (one_key ∷ []) []) (both ∷ []) }
-    ensures ahead { Survives (unsynced_both (one_key ∷ removal ∷ [])) (directory_meaning (one_key ∷ []) []) (both ∷ []) → ⊥ }
+    ensures before { Survives (unsynced_both (one_key ∷ [])) (directory_meaning (one_key ∷ []) [])
+        (both ∷ []) }
+    ensures ahead { Survives (unsynced_both (one_key ∷ removal ∷ [])) (directory_meaning (one_key ∷ []) [])
+        (both ∷ []) → ⊥ }
 {}

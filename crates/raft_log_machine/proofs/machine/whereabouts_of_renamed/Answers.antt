@@ -1,0 +1,10 @@
+use Rattle.raft_log_machine.proofs.RenamedWhereabouts.{carries_all_renamed, grew_by_renamed, grows_by_renamed, recovered_renamed}
+use Rattle.raft_log_machine.proofs.machine.whereabouts_of_renamed.Goals as goal
+
+pub returns : goal.returns
+returns g c = record {
+  grows = λ f t u xs h. grows_by_renamed f t xs u h;
+  grew = λ f t u xs h. grew_by_renamed f t xs u h;
+  carries = λ f m group t u xs h. carries_all_renamed f m group t xs u h;
+  recovered = recovered_renamed;
+}

@@ -1,0 +1,6 @@
+pub mod Model
+pub mod Moves
+pub mod Notes
+pub mod Images
+pub mod Log
+pub mod Tables

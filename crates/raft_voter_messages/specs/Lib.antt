@@ -1,3 +1,4 @@
 pub mod Ranges
 pub mod StoredForms
+pub mod StateHeads
 pub mod ReplyText

@@ -13,11 +13,12 @@ abbrev pub vote_word : Option ℕ → List ℕ
 vote_word None = codes "-"
 vote_word (Some candidate) = decimal candidate
 
--- a voter's state: its term and vote, and the index and the term of the base and of the last entry
+-- a voter's state: its term and vote, the index and the term of the base and of the last entry, and its commit
 unfoldable pub state_words : VoterState → List ℕ
 state_words s =
     decimal s.term ++ codes " " ++ vote_word s.vote ++ codes " " ++ decimal s.base_index ++ codes " " ++ decimal s.base_term
     ++ codes " " ++ decimal s.last_index ++ codes " " ++ decimal s.last_term
+    ++ codes " " ++ decimal s.commit
 
 -- an entry, `index:term:hex`
 unfoldable pub entry_word : Entry → List ℕ

@@ -36,18 +36,18 @@ impl fmt::Display for Reply {
     }
 }
 
-/// The term, the vote (`-` where there is none), and the index and the term of the base and of the last entry.
+/// The term, the vote (`-` where there is none), the index and the term of the base and of the last entry, the commit.
 impl fmt::Display for VoterState {
     ghost output = { λ state. Some (state_words state) };
 
     #[tactic(auto, unfolding(crate::specs::ReplyText::state_words))]
     fn fmt<W: fmt::Write>(&self, f: &mut fmt::Formatter<W>) -> fmt::Result {
         let (term, base_index, base_term) = (self.term, self.base_index, self.base_term);
-        let (last_index, last_term) = (self.last_index, self.last_term);
+        let (last_index, last_term, commit) = (self.last_index, self.last_term, self.commit);
         write!(f, "{term} ")?;
         write_vote(f, self.vote)?;
         write!(f, " {base_index} {base_term}")?;
-        write!(f, " {last_index} {last_term}")
+        write!(f, " {last_index} {last_term} {commit}")
     }
 }
 

@@ -10,6 +10,7 @@ fn append_behind(prev_index: u64, entries: Items<(u64, Items<u8>)>) -> Request {
         term: 1,
         prev_index,
         prev_term: 0,
+        commit: 0,
         entries,
     }
 }
@@ -73,51 +74,91 @@ fn limits_of_an_entry(rt: HostRuntime) -> Result<(), Fail> {
 }
 
 /// The state of a voter that granted its vote in term 5 to candidate 2 and has taken nothing else.
+const VOTED: VoterState = VoterState {
+    term: 5,
+    vote: Some(2),
+    base_index: 0,
+    base_term: 0,
+    last_index: 0,
+    last_term: 0,
+    commit: 0,
+};
+
 #[test]
 fn stored_state(rt: HostRuntime) -> Result<(), Fail> {
     let alloc = rt.alloc();
-    let state = VoterState {
-        term: 5,
-        vote: Some(2),
-        base_index: 0,
-        base_term: 0,
-        last_index: 0,
-        last_term: 0,
-    };
-    let bytes = state_bytes(alloc, &state)?;
-    let stored = b"\x01\0\0\0\0\0\0\0\x05\x01\0\0\0\0\0\0\0\x02\0\0\0\0\0\0\0\0\0\0\0\0\0\0\0\0";
+    let bytes = state_bytes(alloc, &VOTED)?;
+    let stored =
+        b"\x02\0\0\0\0\0\0\0\x05\x01\0\0\0\0\0\0\0\x02\0\0\0\0\0\0\0\0\0\0\0\0\0\0\0\0\0\0\0\0\0\0\0\0";
     assert!(rt; bytes.as_slice() == stored.as_slice());
-    assert_eq!(rt; read_state(bytes.as_slice()), Ok(state));
+    assert!(rt; read_state(bytes.as_slice()) == Ok(VOTED));
     Ok(())
 }
 
+/// A state of form 1 has no commit; it is read with the base's index in its place.
+#[test]
+fn stored_state_of_form_1(rt: HostRuntime) -> Result<(), Fail> {
+    let compacted = VoterState {
+        base_index: 7,
+        base_term: 3,
+        last_index: 7,
+        last_term: 3,
+        commit: 7,
+        ..VOTED
+    };
+    let stored =
+        b"\x01\0\0\0\0\0\0\0\x05\x01\0\0\0\0\0\0\0\x02\0\0\0\0\0\0\0\x07\0\0\0\0\0\0\0\x03";
+    assert!(rt; read_state(stored.as_slice()) == Ok(compacted));
+    Ok(())
+}
+
+/// Bytes that are no state, with their first fault.
+const NO_STATES: [(&[u8], StoredFault); 11] = [
+    (b"", StoredFault::Length),
+    (
+        b"\x03\0\0\0\0\0\0\0\x05\x01\0\0\0\0\0\0\0\x02\0\0\0\0\0\0\0\0\0\0\0\0\0\0\0\0",
+        StoredFault::Form,
+    ),
+    (
+        b"\x01\0\0\0\0\0\0\0\x05\x01\0\0\0\0\0\0\0\x02\0\0\0\0\0\0\0\0\0\0\0\0\0\0\0\0\0",
+        StoredFault::Length,
+    ),
+    (
+        b"\x02\0\0\0\0\0\0\0\x05\x01\0\0\0\0\0\0\0\x02\0\0\0\0\0\0\0\0\0\0\0\0\0\0\0\0",
+        StoredFault::Length,
+    ),
+    (
+        b"\x01\0\0\0\0\0\0\0\x05\x02\0\0\0\0\0\0\0\x02\0\0\0\0\0\0\0\0\0\0\0\0\0\0\0\0",
+        StoredFault::Range,
+    ),
+    (
+        b"\x01\0\0\0\0\0\0\0\x05\0\0\0\0\0\0\0\0\x02\0\0\0\0\0\0\0\0\0\0\0\0\0\0\0\0",
+        StoredFault::Range,
+    ),
+    (
+        b"\x01\x80\0\0\0\0\0\0\x05\x01\0\0\0\0\0\0\0\x02\0\0\0\0\0\0\0\0\0\0\0\0\0\0\0\0",
+        StoredFault::Range,
+    ),
+    (
+        b"\x02\0\0\0\0\0\0\0\x05\x01\0\0\0\0\0\0\0\x02\0\0\0\0\0\0\0\x01\0\0\0\0\0\0\0\0\0\0\0\0\0\0\0\0",
+        StoredFault::Range,
+    ),
+    (
+        b"\x02\0\0\0\0\0\0\0\x05\x01\0\0\0\0\0\0\0\x02\0\0\0\0\0\0\0\0\0\0\0\0\0\0\0\0\x80\0\0\0\0\0\0\0",
+        StoredFault::Range,
+    ),
+    (
+        b"\x02\0\0\0\0\0\0\0\x05\x01\0\0\0\0\0\0\0\x02\0\0\0\0\0\0\0\0\0\0\0\0\0\0\0\0\0\0\0\0\0\0\0",
+        StoredFault::Length,
+    ),
+    (b"\x01", StoredFault::Length),
+];
+
 #[test]
 fn faults_of_a_stored_state(rt: HostRuntime) -> Result<(), Fail> {
-    assert_eq!(rt; read_state(&[]), Err(StoredFault::Length));
-    assert_eq!(rt;
-        read_state(b"\x02\0\0\0\0\0\0\0\x05\x01\0\0\0\0\0\0\0\x02\0\0\0\0\0\0\0\0\0\0\0\0\0\0\0\0"),
-        Err(StoredFault::Form)
-    );
-    assert_eq!(rt;
-        read_state(
-            b"\x01\0\0\0\0\0\0\0\x05\x01\0\0\0\0\0\0\0\x02\0\0\0\0\0\0\0\0\0\0\0\0\0\0\0\0\0"
-        ),
-        Err(StoredFault::Length)
-    );
-    assert_eq!(rt;
-        read_state(b"\x01\0\0\0\0\0\0\0\x05\x02\0\0\0\0\0\0\0\x02\0\0\0\0\0\0\0\0\0\0\0\0\0\0\0\0"),
-        Err(StoredFault::Range)
-    );
-    assert_eq!(rt;
-        read_state(b"\x01\0\0\0\0\0\0\0\x05\0\0\0\0\0\0\0\0\x02\0\0\0\0\0\0\0\0\0\0\0\0\0\0\0\0"),
-        Err(StoredFault::Range)
-    );
-    assert_eq!(rt;
-        read_state(
-            b"\x01\x80\0\0\0\0\0\0\x05\x01\0\0\0\0\0\0\0\x02\0\0\0\0\0\0\0\0\0\0\0\0\0\0\0\0"
-        ),
-        Err(StoredFault::Range)
-    );
+    for (bytes, fault) in NO_STATES.iter() {
+        assert!(rt; read_state(bytes) == Err(*fault), "of {bytes:?}");
+    }
     Ok(())
 }
 
@@ -179,14 +220,15 @@ fn texts_of_states(rt: HostRuntime) -> Result<(), Fail> {
         base_term: 2,
         last_index: 18_446_744_073_709_551_615,
         last_term: 8,
+        commit: 4,
     };
     let voted = VoterState {
         vote: Some(7),
         ..state
     };
     for (state, text) in [
-        (state, "Status 9 - 3 2 18446744073709551615 8"),
-        (voted, "Status 9 7 3 2 18446744073709551615 8"),
+        (state, "Status 9 - 3 2 18446744073709551615 8 4"),
+        (voted, "Status 9 7 3 2 18446744073709551615 8 4"),
     ] {
         assert!(rt; Reply::Status(state).to_string(alloc)?.as_str() == text);
     }

@@ -11,11 +11,12 @@ use Rattle.raft_voter.specs.Rules.{next, reply}
 use Rattle.raft_voter.specs.Rounds.{World, Explains, Leads}
 use Rattle.raft_voter.specs.Accounts.{group_account, NoRetire, requests_of, voter_after}
 
--- how many rounds were cut off
+-- one round that was cut off counts once
 abbrev pub cut_count_of : Outcome → ℕ
 cut_count_of (Answered replies) = 0
 cut_count_of Cut = 1
 
+-- how many of these rounds were cut off
 abbrev pub cut_count : List Round → ℕ
 cut_count [] = 0
 cut_count (r ∷ rounds) = cut_count_of r.outcome + cut_count rounds

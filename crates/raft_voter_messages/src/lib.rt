@@ -22,6 +22,3 @@ pub use round::{Outcome, Round, Transcript};
 pub use stored::{
     StoredFault, entry_bytes, read_entry, read_state, state_bytes, state_fits, stored_entry_fits,
 };
-
-#[cfg(test)]
-mod tests;

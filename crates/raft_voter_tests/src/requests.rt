@@ -19,6 +19,7 @@ pub fn append_behind(prev_index: u64, entries: Items<(u64, Items<u8>)>) -> Reque
         term: 1,
         prev_index,
         prev_term: 0,
+        commit: 0,
         entries,
     }
 }

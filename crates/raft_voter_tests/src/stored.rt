@@ -12,20 +12,29 @@ const GRANTED: VoterState = VoterState {
     base_term: 0,
     last_index: 0,
     last_term: 0,
+    commit: 0,
 };
 
 const GRANTED_BYTES: &[u8] =
-    b"\x01\0\0\0\0\0\0\0\x05\x01\0\0\0\0\0\0\0\x02\0\0\0\0\0\0\0\0\0\0\0\0\0\0\0\0";
+    b"\x02\0\0\0\0\0\0\0\x05\x01\0\0\0\0\0\0\0\x02\0\0\0\0\0\0\0\0\0\0\0\0\0\0\0\0\0\0\0\0\0\0\0\0";
+
+/// What was written before states had a commit: the base stands at index 7 of term 3, and so does the commit.
+const FORM_1_BYTES: &[u8] =
+    b"\x01\0\0\0\0\0\0\0\x05\x01\0\0\0\0\0\0\0\x02\0\0\0\0\0\0\0\x07\0\0\0\0\0\0\0\x03";
 
 /// Bytes of no state, and what is wrong with them.
-const NO_STATES: [(&[u8], StoredFault); 6] = [
+const NO_STATES: [(&[u8], StoredFault); 11] = [
     (b"", StoredFault::Length),
     (
-        b"\x02\0\0\0\0\0\0\0\x05\x01\0\0\0\0\0\0\0\x02\0\0\0\0\0\0\0\0\0\0\0\0\0\0\0\0",
+        b"\x03\0\0\0\0\0\0\0\x05\x01\0\0\0\0\0\0\0\x02\0\0\0\0\0\0\0\0\0\0\0\0\0\0\0\0",
         StoredFault::Form,
     ),
     (
         b"\x01\0\0\0\0\0\0\0\x05\x01\0\0\0\0\0\0\0\x02\0\0\0\0\0\0\0\0\0\0\0\0\0\0\0\0\0",
+        StoredFault::Length,
+    ),
+    (
+        b"\x02\0\0\0\0\0\0\0\x05\x01\0\0\0\0\0\0\0\x02\0\0\0\0\0\0\0\0\0\0\0\0\0\0\0\0",
         StoredFault::Length,
     ),
     (
@@ -40,6 +49,19 @@ const NO_STATES: [(&[u8], StoredFault); 6] = [
         b"\x01\x80\0\0\0\0\0\0\x05\x01\0\0\0\0\0\0\0\x02\0\0\0\0\0\0\0\0\0\0\0\0\0\0\0\0",
         StoredFault::Range,
     ),
+    (
+        b"\x02\0\0\0\0\0\0\0\x05\x01\0\0\0\0\0\0\0\x02\0\0\0\0\0\0\0\x01\0\0\0\0\0\0\0\0\0\0\0\0\0\0\0\0",
+        StoredFault::Range,
+    ),
+    (
+        b"\x02\0\0\0\0\0\0\0\x05\x01\0\0\0\0\0\0\0\x02\0\0\0\0\0\0\0\0\0\0\0\0\0\0\0\0\x80\0\0\0\0\0\0\0",
+        StoredFault::Range,
+    ),
+    (
+        b"\x02\0\0\0\0\0\0\0\x05\x01\0\0\0\0\0\0\0\x02\0\0\0\0\0\0\0\0\0\0\0\0\0\0\0\0\0\0\0\0\0\0\0",
+        StoredFault::Length,
+    ),
+    (b"\x01", StoredFault::Length),
 ];
 
 #[test]
@@ -48,6 +70,19 @@ fn stored_state(rt: HostRuntime) -> Result<(), Fail> {
     assert!(rt; bytes.as_slice() == GRANTED_BYTES);
     assert!(rt; read_state(GRANTED_BYTES) == Ok(GRANTED));
     Ok(())
+}
+
+#[test]
+fn stored_state_of_form_1(rt: HostRuntime) {
+    let compacted = VoterState {
+        base_index: 7,
+        base_term: 3,
+        last_index: 7,
+        last_term: 3,
+        commit: 7,
+        ..GRANTED
+    };
+    assert!(rt; read_state(FORM_1_BYTES) == Ok(compacted));
 }
 
 #[test]

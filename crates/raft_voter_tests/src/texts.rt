@@ -19,8 +19,8 @@ const NUMBERED: [(Reply, &str); 10] = [
 
 /// Without and with a vote.
 const STATES: [(Option<u64>, &str); 2] = [
-    (None, "Status 9 - 3 2 18446744073709551615 8"),
-    (Some(7), "Status 9 7 3 2 18446744073709551615 8"),
+    (None, "Status 9 - 3 2 18446744073709551615 8 4"),
+    (Some(7), "Status 9 7 3 2 18446744073709551615 8 4"),
 ];
 
 /// Lengths of entries round those of the parts in which they are written, and the greatest one.
@@ -60,6 +60,7 @@ fn texts_of_states(rt: HostRuntime) -> Result<(), Fail> {
             base_term: 2,
             last_index: 18_446_744_073_709_551_615,
             last_term: 8,
+            commit: 4,
         };
         assert!(rt; Reply::Status(state).to_string(rt.alloc())?.as_str() == *text);
     }

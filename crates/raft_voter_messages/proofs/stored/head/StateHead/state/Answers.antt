@@ -1,6 +1,6 @@
 use Rattle.std.proofs.Common.{◌≡◌, ℕ, ◌<◌, ◌^◌, Some, sym, ◌∙◌}
 use Rattle.raft_voter_messages.proofs.Bytes.{no_state}
-use Rattle.raft_voter_messages.proofs.stored.state.StateHead.state.Goals as goal
+use Rattle.raft_voter_messages.proofs.stored.head.StateHead.state.Goals as goal
 
 pub returns-then-not-state_fits-clause-none : goal.returns-then-not-state_fits-clause-none
 returns-then-not-state_fits-clause-none c =

@@ -72,7 +72,7 @@ length-vote_bytes f c = omega (arith, length-number_text c)
 pub fits-below : (n : ℕ) → fits n ≡ true → n < 2 ^ 64
 fits-below n fit = grind (arith, nat_tests)
 
-vote_fits-below : (v : Option ℕ) (w : ℕ) → vote_fits v ≡ true → v ≡ Some w → w < 2 ^ 64
+pub vote_fits-below : (v : Option ℕ) (w : ℕ) → vote_fits v ≡ true → v ≡ Some w → w < 2 ^ 64
 vote_fits-below None w fit is = absurd (cc)
 vote_fits-below (Some c) w fit is = let same : c ≡ w = cc in grind (arith, nat_tests)
 
@@ -132,7 +132,7 @@ entry_in_range i t own fit short = grind (arith, nat_tests)
 pub vote_in_range : (s : VoterState) → state_fits s ≡ true → vote_fits s.vote ≡ true
 vote_in_range s fit = grind (arith, nat_tests)
 
-state_numbers_small :
+pub state_numbers_small :
     (s : VoterState) → state_fits s ≡ true
     → (s.term < 2 ^ 64) × (s.base_index < 2 ^ 64) × (s.base_term < 2 ^ 64) × (s.commit < 2 ^ 64)
 state_numbers_small s fit = grind (arith, nat_tests)

@@ -8,6 +8,7 @@
 
 mod display;
 mod items;
+pub mod laws;
 mod memory;
 mod reply;
 mod request;

@@ -1,7 +1,7 @@
 use Rattle.std.proofs.Common.{rules, ◌≡◌, ◌∙◌, Some, sym}
 use Rattle.raft_voter_session.specs.Words.{word_at}
 use Rattle.raft_voter_session.proofs.WordLists.{entries_at-word, goes_on, stops}
-use Rattle.raft_voter_session.proofs.requests.entries_at.Goals as goal
+use Rattle.raft_voter_session.proofs.requests.read_entries.Goals as goal
 
 pub returns-in_default-2 : goal.returns-in_default-2
 returns-in_default-2 c =

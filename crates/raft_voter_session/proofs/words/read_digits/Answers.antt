@@ -1,7 +1,7 @@
 use Rattle.std.proofs.Common.{◌≡◌, ◌^◌, ◌*◌, ◌+◌, ◌≤◌, get_or, true, sym, ◌∙◌, arith, rules}
 use Rattle.std.specs.Char.{digit_value, is_ascii_digit}
 use Rattle.raft_voter_session.proofs.Digits.{value_from-overflow, value_from-all, digit_value-ascii}
-use Rattle.raft_voter_session.proofs.words.value_of.Goals as goal
+use Rattle.raft_voter_session.proofs.words.read_digits.Goals as goal
 
 pub returns-in_err-checked_mul : goal.returns-in_err-checked_mul
 returns-in_err-checked_mul c =

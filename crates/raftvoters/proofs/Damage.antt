@@ -134,15 +134,15 @@ voter_there bytes one x group r a small h same =
 
 -- the state, and what stands behind it
 state_there : (bytes one state two x : List ℕ) (group : ℕ) (r : ℕ × State) → bytes ≡ number_text group ++ one → group < 2 ^ 64 → one ≡ state ++ two
-    → length state ≡ 34 → IsStorable r → bytes ≡ record_bytes r ++ x
+    → length state ≡ 42 → IsStorable r → bytes ≡ record_bytes r ++ x
     → (state ≡ state_text (state_of r.1)) × (two ≡ number_text (length r.1.log) ++ (flat_map stored_entry (numbered (r.1.base_index + 1) r.1.log) ++ x))
 state_there bytes one state two x group r a small b long h same =
-    split_same state (state_text (state_of r.1)) two _ 34 long (length-state_text (state_of r.1)) (sym b ∙ voter_there bytes one x group r a small h same)
+    split_same state (state_text (state_of r.1)) two _ 42 long (length-state_text (state_of r.1)) (sym b ∙ voter_there bytes one x group r a small h same)
 
 pub no_group : (bytes : List ℕ) → length bytes < 8 → HasNoRecord bytes
 no_group bytes short = λ r x h same. omega (arith, length-record r x, ap length same)
 
-pub no_state : (bytes one : List ℕ) (group : ℕ) → bytes ≡ number_text group ++ one → group < 2 ^ 64 → length one < 34 → HasNoRecord bytes
+pub no_state : (bytes one : List ℕ) (group : ℕ) → bytes ≡ number_text group ++ one → group < 2 ^ 64 → length one < 42 → HasNoRecord bytes
 no_state bytes one group a small short = λ r x h same.
     let there = voter_there bytes one x group r a small h same in
     omega (
@@ -153,13 +153,13 @@ no_state bytes one group a small short = λ r x h same.
     )
 
 pub no_state_read : (bytes one state two : List ℕ) (group : ℕ) (given : StoredFault) → bytes ≡ number_text group ++ one → group < 2 ^ 64 → one ≡ state ++ two
-    → length state ≡ 34 → StateFault given state → HasNoRecord bytes
+    → length state ≡ 42 → StateFault given state → HasNoRecord bytes
 no_state_read bytes one state two group given a small b long fault = λ r x h same.
     let there = state_there bytes one state two x group r a small b long h same in
     state_no_fault given (state_of r.1) (state_in_range r.1 h.in_range) (subst (StateFault given) there.0 fault)
 
 pub no_count : (bytes one state two : List ℕ) (group : ℕ) → bytes ≡ number_text group ++ one → group < 2 ^ 64 → one ≡ state ++ two
-    → length state ≡ 34 → length two < 8 → HasNoRecord bytes
+    → length state ≡ 42 → length two < 8 → HasNoRecord bytes
 no_count bytes one state two group a small b long short = λ r x h same.
     let there = state_there bytes one state two x group r a small b long h same in
     omega (
@@ -174,7 +174,7 @@ numbered_in_order i [] = refl
 numbered_in_order i (e ∷ es) = let others = numbered_in_order (i + 1) es in grind (arith, nat_tests)
 
 pub no_entries_read : (bytes one state two three : List ℕ) (group count : ℕ) (s : VoterState) → bytes ≡ number_text group ++ one → group < 2 ^ 64
-    → one ≡ state ++ two → length state ≡ 34 → IsState state s → two ≡ number_text count ++ three → count < 2 ^ 64
+    → one ≡ state ++ two → length state ≡ 42 → IsState state s → two ≡ number_text count ++ three → count < 2 ^ 64
     → HasNoEntries (s.base_index + 1) count three → HasNoRecord bytes
 no_entries_read bytes one state two three group count s a small b long is c few none = λ r x h same.
     let v = r.1 in

@@ -1,5 +1,5 @@
 -- The records of a file, and the voters that they mean.
-use Rattle.std.specs.Prelude.{◌≡◌, ℕ, ◌+◌, ◌<◌, ◌^◌, Bool, true, false, List, [], ◌∷◌, ◌++◌, length, unwrap_or}
+use Rattle.std.specs.Prelude.{◌≡◌, ℕ, ◌+◌, ◌<◌, ◌≤◌, ◌^◌, Bool, true, false, List, [], ◌∷◌, ◌++◌, length, unwrap_or}
 use Rattle.std.specs.BTreeMap.{get}
 use Rattle.std.specs.List.{flat_map, list_all}
 use Rattle.std.specs.Option.{option_map_or}
@@ -42,6 +42,8 @@ pub record IsInRange (v : State) : Type 0 where
   pub vote : option_map_or fits v.vote true ≡ true
   pub base_index : fits v.base_index ≡ true
   pub base_term : fits v.base_term ≡ true
+  pub commit : fits v.commit ≡ true
+  pub committed : v.base_index ≤ v.commit
   pub log : list_all entry_fits v.log ≡ true
 
 -- a request that may change its voter

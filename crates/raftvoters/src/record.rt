@@ -42,7 +42,7 @@ impl From<StoredFault> for OpenFault {
 }
 
 /// How many bytes a stored state has.
-const STATE_BYTES: usize = 34;
+const STATE_BYTES: usize = 42;
 
 /// The first byte of a stored entry.
 const ENTRY_FORM: u8 = 1;

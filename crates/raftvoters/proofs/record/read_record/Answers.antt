@@ -4,7 +4,7 @@ use Rattle.raftvoters.proofs.record.read_record.Goals as goal
 
 pub returns-clause-ok : goal.returns-clause-ok
 returns-clause-ok c =
-    record_read _ _ _ _ _ _ _ _ _ _ _ c.in_ok-group.ensures.ok.0 c.in_ok-group.ensures.ok.1 c.in_ok-state.ensures.ok.1 c.in_ok-state-2.ensures.ok c.in_ok-count.ensures.ok.1
+    record_read _ _ _ _ _ _ _ _ _ _ _ c.in_ok-group.ensures.ok.0 c.in_ok-group.ensures.ok.1 c.in_ok-state.ensures.ok.1 c.in_ok-state.ensures.ok.0 c.in_ok-state-2.ensures.ok c.in_ok-count.ensures.ok.1
     c.in_ok-entries.ensures.ok.0 c.in_ok-entries.ensures.ok.1 c.in_ok-entries.ensures.ok.2 c.in_ok-voter.ensures.ok
 
 pub returns-in_err-group-clause-err : goal.returns-in_err-group-clause-err

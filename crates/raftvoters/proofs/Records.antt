@@ -14,7 +14,7 @@ use Rattle.raft_voter_messages.specs.Ranges.{entry_fits, fits}
 use Rattle.raft_voter.specs.State.{State, state_of}
 use Rattle.raft_voter.specs.Restoring.{are_in_order, restored}
 use Rattle.raft_voter_messages.specs.StoredForms.{IsEntry, IsState, entry_form_1, entry_text, number_text, state_fits, state_text, stored_entry_fits, vote_text}
-use Rattle.raftvoters.specs.Records.{AreEntries, AreStorable, IsInRange, IsStorable, record_bytes, stored_entry, voter_bytes}
+use Rattle.raftvoters.specs.Records.{AreEntries, AreStorable, IsInRange, IsStorable, voter_record, stored_entry, voter_bytes}
 
 -- Entries.
 
@@ -99,30 +99,30 @@ voter_same r s x y hr hs same =
     let logs : v.log ≡ w.log = sym (unnumbered (v.base_index + 1) v.log) ∙ ap (map (λ e. (e.term, e.bytes))) entries.0 ∙ unnumbered (w.base_index + 1) w.log in
     (state_with-same _ _ _ _ _ _ _ _ _ _ _ _ known.0 known.1 known.2 known.3 known.4 logs, entries.1)
 
-pub record_same : (r s : ℕ × State) (x y : List ℕ) → IsStorable r → IsStorable s → record_bytes r ++ x ≡ record_bytes s ++ y → (r ≡ s) × (x ≡ y)
-unfolding record_bytes
+pub record_same : (r s : ℕ × State) (x y : List ℕ) → IsStorable r → IsStorable s → voter_record r ++ x ≡ voter_record s ++ y → (r ≡ s) × (x ≡ y)
+unfolding voter_record
 record_same r s x y hr hs same =
     let grouped = sym (append_assoc (number_text r.0) (voter_bytes r.1) x) ∙ same ∙ append_assoc (number_text s.0) (voter_bytes s.1) y in
     let groups = number_first r.0 s.0 (voter_bytes r.1 ++ x) (voter_bytes s.1 ++ y) hr.group hs.group grouped in
     let voters = voter_same r s x y hr hs groups.1 in
     (ap (λ g. (g, r.1)) groups.0 ∙ ap (λ v. (s.0, v)) voters.0, voters.1)
 
-pub length-record : (r : ℕ × State) (x : List ℕ) → 8 ≤ length (record_bytes r ++ x)
-unfolding record_bytes
+pub length-record : (r : ℕ × State) (x : List ℕ) → 8 ≤ length (voter_record r ++ x)
+unfolding voter_record
 length-record r x = omega (arith, length-number_text r.0, length-append (number_text r.0) (voter_bytes r.1), length-append (number_text r.0 ++ voter_bytes r.1) x)
 
-pub records_same : (rs ss : List (ℕ × State)) → AreStorable rs → AreStorable ss → flat_map record_bytes rs ≡ flat_map record_bytes ss → rs ≡ ss
+pub records_same : (rs ss : List (ℕ × State)) → AreStorable rs → AreStorable ss → flat_map voter_record rs ≡ flat_map voter_record ss → rs ≡ ss
 records_same [] [] hr hs same = refl
-records_same [] (s ∷ ss) hr hs same = absurd (omega (arith, ap length same, length-record s (flat_map record_bytes ss)))
-records_same (r ∷ rs) [] hr hs same = absurd (omega (arith, ap length same, length-record r (flat_map record_bytes rs)))
+records_same [] (s ∷ ss) hr hs same = absurd (omega (arith, ap length same, length-record s (flat_map voter_record ss)))
+records_same (r ∷ rs) [] hr hs same = absurd (omega (arith, ap length same, length-record r (flat_map voter_record rs)))
 records_same (r ∷ rs) (s ∷ ss) hr hs same =
-    let one = record_same r s (flat_map record_bytes rs) (flat_map record_bytes ss) hr.0 hs.0 same in
+    let one = record_same r s (flat_map voter_record rs) (flat_map voter_record ss) hr.0 hs.0 same in
     let first = one.0 in
     let others = records_same rs ss hr.1 hs.1 one.1 in
     cc
 
-pub shorter : (bytes rest : List ℕ) (r : ℕ × State) → bytes ≡ record_bytes r ++ rest → length rest < length bytes
-unfolding record_bytes
+pub shorter : (bytes rest : List ℕ) (r : ℕ × State) → bytes ≡ voter_record r ++ rest → length rest < length bytes
+unfolding voter_record
 shorter bytes rest r e =
     rw e (omega (arith, length-append (number_text r.0 ++ voter_bytes r.1) rest, length-append (number_text r.0) (voter_bytes r.1), length-number_text r.0))
 
@@ -180,8 +180,8 @@ regroup g s n e r = simp append_assoc
 
 pub record_read : (bytes one state two three rest : List ℕ) (group count : ℕ) (s : VoterState) (es : List Entry) (v : State) → group < 2 ^ 64
     → bytes ≡ number_text group ++ one → one ≡ state ++ two → length state ≡ 42 → IsState state s → two ≡ number_text count ++ three → AreEntries (s.base_index + 1) es
-    → length es ≡ count → three ≡ flat_map stored_entry es ++ rest → restored s es ≡ Ok v → IsStorable (group, v) × (bytes ≡ record_bytes (group, v) ++ rest)
-unfolding record_bytes voter_bytes
+    → length es ≡ count → three ≡ flat_map stored_entry es ++ rest → restored s es ≡ Ok v → IsStorable (group, v) × (bytes ≡ voter_record (group, v) ++ rest)
+unfolding voter_record voter_bytes
 record_read bytes one state two three rest group count s es v small a b wide is c entries long d made =
     let fit = is.1.in_range in
     let built = state_with s.term s.vote s.base_index s.base_term s.commit (map (λ e. (e.term, e.bytes)) es) in
@@ -195,8 +195,8 @@ record_read bytes one state two three rest group count s es v small a b wide is 
       in_range = record { term = facts.0; vote = vote_in_range s fit; base_index = facts.1; base_term = facts.2; commit = facts.3; committed = facts.4; log = unnumbered_fit es entries.fit };
       end_fits = omega (arith, sized, ends);
     } in
-    let P : State → Type 0 = λ w. IsStorable (group, w) × (bytes ≡ record_bytes (group, w) ++ rest) in
-    let text : bytes ≡ record_bytes (group, built) ++ rest =
+    let P : State → Type 0 = λ w. IsStorable (group, w) × (bytes ≡ voter_record (group, w) ++ rest) in
+    let text : bytes ≡ voter_record (group, built) ++ rest =
     rw (in_order (s.base_index + 1) es entries.ordered, sized, long) (a ∙ ap (λ bs. number_text group ++ bs) (b ∙ ap (λ bs. bs ++ two) (as_written state s wide is) ∙ ap (λ bs. state_text s ++ bs) (c ∙ ap (λ bs. number_text count ++ bs) d))
     ∙ regroup (number_text group) (state_text s) (number_text count) (flat_map stored_entry es) rest) in
     subst P (sym same) (storable, text)

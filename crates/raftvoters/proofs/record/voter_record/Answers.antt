@@ -1,9 +1,9 @@
 use Rattle.std.proofs.Common.{append_assoc}
-use Rattle.raftvoters.specs.Records.{record_bytes, voter_bytes}
-use Rattle.raftvoters.proofs.record.record_bytes.Goals as goal
+use Rattle.raftvoters.specs.Records.{voter_record, voter_bytes}
+use Rattle.raftvoters.proofs.record.voter_record.Goals as goal
 
 pub returns-clause-bytes : goal.returns-clause-bytes
-unfolding record_bytes voter_bytes
+unfolding voter_record voter_bytes
 returns-clause-bytes c =
     rw (
       c.in_ok-put_entries.ensures,

@@ -1,6 +1,6 @@
 use Rattle.raftvoters.proofs.Damage.{any_err, handed_on, no_count, no_entries_read, no_group, no_state, no_state_read, stored_fault}
 use Rattle.raftvoters.proofs.Records.{record_read}
-use Rattle.raftvoters.proofs.record.read_record.Goals as goal
+use Rattle.raftvoters.proofs.record.read_voter_record.Goals as goal
 
 pub returns-clause-ok : goal.returns-clause-ok
 returns-clause-ok c =

@@ -8,23 +8,23 @@ use Rattle.std.proofs.lemmas.Option.{slice_get_within}
 use Rattle.raft_voter_messages.specs.declared.reply.Reply.TheVariants.{Matched, Mismatch, Stale, Base, Refused}
 use Rattle.raft_voter_messages.specs.declared.request.Request.TheVariants.{Append}
 use Rattle.raft_voter.specs.State.{State, adopt_term, entry_at, last_index, term_at}
-use Rattle.raft_voter.specs.Rules.{agrees_at, appended, matching, merged, next, reply}
+use Rattle.raft_voter.specs.Rules.{agrees_at, appended, matching, merged, merged_log, next, reply}
 use Rattle.raft_voter_messages.specs.Ranges.{in_range}
 use Rattle.raft_voter.specs.Laws.{BringsOther, MatchedAppend, sent_at}
 use Rattle.raft_voter.proofs.Indexes.{get_back, get_drop, get_front, get_merged_back, get_merged_front, matches_before, matching-le, other_there, Pair, term_of}
 use Rattle.raft_voter.proofs.VoterSteps.{by_test}
 
 -- What a matched Append had to meet.
-pub record Matches (v : State) (t p u last : ℕ) (sent : List Pair) : Type 0 where
-  pub fit : in_range (Append t p u sent) ≡ true
+pub record Matches (v : State) (t p u commit last : ℕ) (sent : List Pair) : Type 0 where
+  pub fit : in_range (Append t p u commit sent) ≡ true
   pub current : nat_lt t v.term ≡ false
   pub above : v.base_index ≤ p
   pub agrees : agrees_at v p u ≡ true
   pub ends : last ≡ p + length sent
 
 pub matches_of :
-    (v : State) (t p u last : ℕ) (sent : List Pair) → reply v (Append t p u sent) ≡ Matched last → Matches v t p u last sent
-matches_of v t p u last sent is = elim (cases_Bool (in_range (Append t p u sent))) [
+    (v : State) (t p u commit last : ℕ) (sent : List Pair) → reply v (Append t p u commit sent) ≡ Matched last → Matches v t p u commit last sent
+matches_of v t p u commit last sent is = elim (cases_Bool (in_range (Append t p u commit sent))) [
   | inr out ↦ let whole : Refused ≡ Matched last = rw out at is in absurd (cc)
   | inl fit ↦ elim (cases_Bool (nat_lt t v.term)) [
     | inl stale ↦ let whole : Stale v.term ≡ Matched last = rw (fit, stale) at is in absurd (cc)
@@ -49,9 +49,9 @@ matches_of v t p u last sent is = elim (cases_Bool (in_range (Append t p u sent)
 ]
 
 pub next_matched :
-    (v : State) (t p u last : ℕ) (sent : List Pair) → Matches v t p u last sent
-    → next v (Append t p u sent) ≡ appended (adopt_term v t) p sent
-next_matched v t p u last sent m = rw (m.fit, m.current, m.agrees) refl
+    (v : State) (t p u commit last : ℕ) (sent : List Pair) → Matches v t p u commit last sent
+    → next v (Append t p u commit sent) ≡ appended (adopt_term v t) p commit sent
+next_matched v t p u commit last sent m = rw (m.fit, m.current, m.agrees) refl
 
 -- a term that is taken over moves no entry
 pub base-adopt_term : (v : State) (t : ℕ) → (adopt_term v t).base_index ≡ v.base_index
@@ -66,27 +66,24 @@ log-adopt_term v t =
 abbrev pub entry_in : ℕ → List Pair → ℕ → Option Pair
 entry_in base log i = if nat_lt base i then slice_get log (i - base - 1) else None
 
-abbrev pub merged_log : State → ℕ → List Pair → List Pair
-merged_log v p sent = take (p - v.base_index) v.log ++ merged (drop (p - v.base_index) v.log) sent
-
 pub base-next_matched :
-    (v : State) (t p u last : ℕ) (sent : List Pair) → Matches v t p u last sent
-    → (next v (Append t p u sent)).base_index ≡ v.base_index
-base-next_matched v t p u last sent m =
-    ap (λ (w : State). w.base_index) (next_matched v t p u last sent m) ∙ base-adopt_term v t
+    (v : State) (t p u commit last : ℕ) (sent : List Pair) → Matches v t p u commit last sent
+    → (next v (Append t p u commit sent)).base_index ≡ v.base_index
+base-next_matched v t p u commit last sent m =
+    ap (λ (w : State). w.base_index) (next_matched v t p u commit last sent m) ∙ base-adopt_term v t
 
 pub log-next_matched :
-    (v : State) (t p u last : ℕ) (sent : List Pair) → Matches v t p u last sent
-    → (next v (Append t p u sent)).log ≡ merged_log v p sent
-log-next_matched v t p u last sent m =
-    ap (λ (w : State). w.log) (next_matched v t p u last sent m) ∙ rw (base-adopt_term v t, log-adopt_term v t) refl
+    (v : State) (t p u commit last : ℕ) (sent : List Pair) → Matches v t p u commit last sent
+    → (next v (Append t p u commit sent)).log ≡ merged_log v p sent
+log-next_matched v t p u commit last sent m =
+    ap (λ (w : State). w.log) (next_matched v t p u commit last sent m) ∙ rw (base-adopt_term v t, log-adopt_term v t) refl
 
 pub entry-next_matched :
-    (v : State) (t p u last i : ℕ) (sent : List Pair) → Matches v t p u last sent
-    → entry_at (next v (Append t p u sent)) i ≡ entry_in v.base_index (merged_log v p sent) i
-entry-next_matched v t p u last i sent m =
-    ap (λ (b : ℕ). entry_in b (next v (Append t p u sent)).log i) (base-next_matched v t p u last sent m)
-    ∙ ap (λ (l : List Pair). entry_in v.base_index l i) (log-next_matched v t p u last sent m)
+    (v : State) (t p u commit last i : ℕ) (sent : List Pair) → Matches v t p u commit last sent
+    → entry_at (next v (Append t p u commit sent)) i ≡ entry_in v.base_index (merged_log v p sent) i
+entry-next_matched v t p u commit last i sent m =
+    ap (λ (b : ℕ). entry_in b (next v (Append t p u commit sent)).log i) (base-next_matched v t p u commit last sent m)
+    ∙ ap (λ (l : List Pair). entry_in v.base_index l i) (log-next_matched v t p u commit last sent m)
 
 -- the log reaches up to the entry before those sent
 some_there : (o : Option Pair) (u : ℕ) → option_map_or (λ t. t == u) (term_of o) false ≡ true → (e : Pair) × (o ≡ Some e)
@@ -184,14 +181,14 @@ sent_within p i sent e here = elim (cases_Bool (nat_lt p i)) [
 
 -- entries before the first other one stay
 pub entry_kept :
-    (v : State) (t p u last i : ℕ) (sent : List Pair) → Matches v t p u last sent
+    (v : State) (t p u commit last i : ℕ) (sent : List Pair) → Matches v t p u commit last sent
     → i < p + 1 + matching (drop (p - v.base_index) v.log) sent
-    → entry_at (next v (Append t p u sent)) i ≡ entry_at v i
-entry_kept v t p u last i sent m before =
+    → entry_at (next v (Append t p u commit sent)) i ≡ entry_at v i
+entry_kept v t p u commit last i sent m before =
     let b = v.base_index in
     let old = drop (p - b) v.log in
     let within = reaches v p u m.above m.agrees in
-    entry-next_matched v t p u last i sent m ∙ elim (cases_lt p i) as (λ x. entry_in b (merged_log v p sent) i ≡ entry_in b v.log i) [
+    entry-next_matched v t p u commit last i sent m ∙ elim (cases_lt p i) as (λ x. entry_in b (merged_log v p sent) i ≡ entry_in b v.log i) [
       | inr front ↦ entry_before b p i v.log (merged old sent) m.above within front
       | inl behind ↦
           entry_behind b p i v.log (merged old sent) m.above within behind
@@ -201,29 +198,29 @@ entry_kept v t p u last i sent m before =
 
 -- from there on they are those sent
 pub entry_brought :
-    (v : State) (t p u last i : ℕ) (sent : List Pair) → Matches v t p u last sent
+    (v : State) (t p u commit last i : ℕ) (sent : List Pair) → Matches v t p u commit last sent
     → matching (drop (p - v.base_index) v.log) sent < length sent
     → p + 1 + matching (drop (p - v.base_index) v.log) sent ≤ i
-    → entry_at (next v (Append t p u sent)) i ≡ sent_at p sent i
-entry_brought v t p u last i sent m less past =
+    → entry_at (next v (Append t p u commit sent)) i ≡ sent_at p sent i
+entry_brought v t p u commit last i sent m less past =
     let b = v.base_index in
     let old = drop (p - b) v.log in
     let within = reaches v p u m.above m.agrees in
     let behind : p < i = omega (arith, past) in
     let inside : nat_lt p i ≡ true = grind (arith, nat_tests) in
-    entry-next_matched v t p u last i sent m
+    entry-next_matched v t p u commit last i sent m
     ∙ entry_behind b p i v.log (merged old sent) m.above within behind
     ∙ get_merged_back old sent (i - p - 1) less (omega (arith, past))
     ∙ rw inside refl
 
 -- where all match the log is the old one
 pub log_kept :
-    (v : State) (t p u last : ℕ) (sent : List Pair) → Matches v t p u last sent
-    → length sent ≤ matching (drop (p - v.base_index) v.log) sent → (next v (Append t p u sent)).log ≡ v.log
-log_kept v t p u last sent m all =
+    (v : State) (t p u commit last : ℕ) (sent : List Pair) → Matches v t p u commit last sent
+    → length sent ≤ matching (drop (p - v.base_index) v.log) sent → (next v (Append t p u commit sent)).log ≡ v.log
+log_kept v t p u commit last sent m all =
     let old = drop (p - v.base_index) v.log in
     let whole : (matching old sent == length sent) ≡ true = eq-eqb (matching old sent) (length sent) (omega (arith, (matching-le old sent).1)) in
-    log-next_matched v t p u last sent m ∙ rw whole (take-append-drop (p - v.base_index) v.log)
+    log-next_matched v t p u commit last sent m ∙ rw whole (take-append-drop (p - v.base_index) v.log)
 
 -- the least index of another term is right behind what matches
 first_other :
@@ -248,23 +245,23 @@ first_other v p f sent above brings least =
     (less, omega (arith, late, early))
 
 pub matched_append : MatchedAppend
-matched_append v t p u last sent is =
-    let m = matches_of v t p u last sent is in (
+matched_append v t p u commit last sent is =
+    let m = matches_of v t p u commit last sent is in (
       λ f brings least i. let first = first_other v p f sent m.above brings least in (
-        λ before. entry_kept v t p u last i sent m (omega (arith, first.1, before)),
-        λ past. entry_brought v t p u last i sent m first.0 (omega (arith, first.1, past)),
+        λ before. entry_kept v t p u commit last i sent m (omega (arith, first.1, before)),
+        λ past. entry_brought v t p u commit last i sent m first.0 (omega (arith, first.1, past)),
       ),
       λ none. elim (cases_lt (matching (drop (p - v.base_index) v.log) sent) (length sent)) [
         | inl less ↦ absurd (none (p + 1 + matching (drop (p - v.base_index) v.log) sent) (brings_first v p sent m.above less))
-        | inr all ↦ log_kept v t p u last sent m all
+        | inr all ↦ log_kept v t p u commit last sent m all
       ],
     )
 
 -- A matched entry is there ..
 pub matched_there :
-    (v : State) (t p u last i : ℕ) (sent : List Pair) (e : Pair) → Matches v t p u last sent → sent_at p sent i ≡ Some e
-    → (bytes : List ℕ) × (entry_at (next v (Append t p u sent)) i ≡ Some (e.0, bytes))
-matched_there v t p u last i sent e m here =
+    (v : State) (t p u commit last i : ℕ) (sent : List Pair) (e : Pair) → Matches v t p u commit last sent → sent_at p sent i ≡ Some e
+    → (bytes : List ℕ) × (entry_at (next v (Append t p u commit sent)) i ≡ Some (e.0, bytes))
+matched_there v t p u commit last i sent e m here =
     let b = v.base_index in
     let old = drop (p - b) v.log in
     let inside = sent_within p i sent e here in
@@ -274,10 +271,10 @@ matched_there v t p u last i sent e m here =
           let one : same.1 ≡ e = let found : Some same.1 ≡ Some e = sym same.3 ∙ inside.2 in cc in
           let stands : entry_at v i ≡ Some same.0 = entry_own b p i v.log m.above inside.0 ∙ same.2 in (
             same.0.1,
-            entry_kept v t p u last i sent m (omega (arith, before)) ∙ stands
+            entry_kept v t p u commit last i sent m (omega (arith, before)) ∙ stands
                 ∙ ap (λ (k : ℕ). let made : Option Pair = Some (k, same.0.1) in made) (same.4 ∙ ap (λ (x : Pair). x.0) one),
           )
       | inr past ↦
           let less : matching old sent < length sent = omega (arith, inside.1, past) in
-          (e.1, entry_brought v t p u last i sent m less (omega (arith, inside.0, past)) ∙ here)
+          (e.1, entry_brought v t p u commit last i sent m less (omega (arith, inside.0, past)) ∙ here)
     ]

@@ -9,3 +9,4 @@ pub mod Indexes
 pub mod Appends
 pub mod Standing
 pub mod Repeating
+mod Commits

@@ -24,6 +24,7 @@ pub restored_ok :
       vote = s.vote;
       base_index = s.base_index;
       base_term = s.base_term;
+      commit = s.commit;
       log = map (λ e. (e.term, e.bytes)) es;
     })
 restored_ok s es fit each order = rw (fit, each, order) refl

@@ -1,15 +1,16 @@
 use Rattle.std.proofs.Common.{◌≡◌, ℕ, suc, ◌+◌, ◌-◌, ◌≤◌, ◌==◌, ◌&&◌, List, [], ◌∷◌, ◌++◌, length, take, drop, true, false, Option, None, Some, refl, sym, ap, ◌∙◌, inl, inr, arith}
-use Rattle.std.specs.Prelude.{nat_lt, nat_le, if◌then◌else◌, min}
+use Rattle.std.specs.Prelude.{nat_lt, nat_le, if◌then◌else◌, max, min}
 use Rattle.std.specs.Option.{option_map_or}
 use Rattle.std.proofs.lemmas.Bool.{and_parts, cases_Bool, eq-eqb, eqb-true, ltb-false, false≢true}
 use Rattle.std.proofs.lemmas.Bool.Decides.{nat_tests}
 use Rattle.std.proofs.lemmas.List.{length-take-le, take_at, drop_at}
+use Rattle.std.proofs.Math.Nat.{le-max_right, max-eq_left}
 use Rattle.raft_voter_messages.specs.declared.reply.Reply.{Reply}
 use Rattle.raft_voter_messages.specs.declared.reply.Reply.TheVariants.{Granted, Denied, Matched, Mismatch, Base}
 use Rattle.raft_voter_messages.specs.declared.request.Request.{Request}
 use Rattle.raft_voter_messages.specs.declared.request.Request.TheVariants.{Vote, Append, Compact, Install, Read, Status, Retire}
 use Rattle.raft_voter.specs.State.{State, adopt_term, fresh, last_index, term_at}
-use Rattle.raft_voter.specs.Rules.{agrees_at, appended, can_compact, compacted, grants, installed, is_up_to_date, matching, may_vote, merged, next, reply}
+use Rattle.raft_voter.specs.Rules.{agrees_at, appended, can_compact, compacted, grants, installed, is_up_to_date, matching, may_vote, merged, merged_log, next, reply}
 use Rattle.raft_voter_messages.specs.Ranges.{in_range}
 use Rattle.raft_voter.specs.Accounts.{voter_after}
 use Rattle.raft_voter.specs.Laws.{is_repeatable, RepeatIsIdempotent}
@@ -208,6 +209,9 @@ log_again k log sent within =
     let back : drop k (take k log ++ merged (drop k log) sent) ≡ merged (drop k log) sent = drop_at (take k log) (merged (drop k log) sent) k size in
     rw (front, back, merged-merged (drop k log) sent) refl
 
+max_again : (a b : ℕ) → max (max a b) b ≡ max a b
+max_again a b = max-eq_left (le-max_right a b)
+
 agrees-adopt_term : (v : State) (t p u : ℕ) → agrees_at (adopt_term v t) p u ≡ agrees_at v p u
 agrees-adopt_term v t p u =
     by_test (λ (w : State). agrees_at w p u ≡ agrees_at v p u) (nat_lt v.term t) (record v { term = t; vote = None }) v (λ h. refl) (λ h. refl)
@@ -218,10 +222,10 @@ last-adopt_term v t =
 
 -- an Append that doesn't match takes the term over at most
 unmatched_again :
-    (v : State) (t p u : ℕ) (sent : List Pair) → in_range (Append t p u sent) ≡ true → nat_lt t v.term ≡ false
-    → agrees_at v p u ≡ false → Again v (Append t p u sent)
-unmatched_again v t p u sent fit current differs =
-    let q = Append t p u sent in
+    (v : State) (t p u commit : ℕ) (sent : List Pair) → in_range (Append t p u commit sent) ≡ true → nat_lt t v.term ≡ false
+    → agrees_at v p u ≡ false → Again v (Append t p u commit sent)
+unmatched_again v t p u commit sent fit current differs =
+    let q = Append t p u commit sent in
     let w = adopt_term v t in
     let became : next v q ≡ w = rw (fit, current, differs) refl in
     let now : nat_lt t w.term ≡ false = current_adopted v t current in
@@ -249,12 +253,12 @@ unmatched_again v t p u sent fit current differs =
 
 -- one that does finds its own entries
 matched_again :
-    (v : State) (t p u : ℕ) (sent : List Pair) → in_range (Append t p u sent) ≡ true → nat_lt t v.term ≡ false
-    → agrees_at v p u ≡ true → Again v (Append t p u sent)
-matched_again v t p u sent fit current agrees =
-    let q = Append t p u sent in
+    (v : State) (t p u commit : ℕ) (sent : List Pair) → in_range (Append t p u commit sent) ≡ true → nat_lt t v.term ≡ false
+    → agrees_at v p u ≡ true → Again v (Append t p u commit sent)
+matched_again v t p u commit sent fit current agrees =
+    let q = Append t p u commit sent in
     let a = adopt_term v t in
-    let w = appended a p sent in
+    let w = appended a p commit sent in
     let k = p - a.base_index in
     let became : next v q ≡ w = rw (fit, current, agrees) refl in
     let now : nat_lt t w.term ≡ false = current_adopted v t current in
@@ -269,35 +273,37 @@ matched_again v t p u sent fit current agrees =
     let told : reply w q ≡ Matched (p + length sent) = rw (fit, now, above_a, agrees_w) refl in
     let above_v : nat_lt p v.base_index ≡ false = agrees_above v p u agrees in
     let told_first : reply v q ≡ Matched (p + length sent) = rw (fit, current, above_v, agrees) refl in
-    let moved : next w q ≡ appended (adopt_term w t) p sent = rw (fit, now, agrees_w) refl in
+    let moved : next w q ≡ appended (adopt_term w t) p commit sent = rw (fit, now, agrees_w) refl in
     let reached : adopt_term w t ≡ w = adopt_reached w t (adopted_term v t) in
-    let stays : appended w p sent ≡ w =
-    ap (λ (l : List Pair). let x : State = record a { log = l } in x) (log_again k a.log sent within) in
+    let known = min commit (p + length sent) in
+    let stays : appended w p commit sent ≡ w =
+    ap (λ (l : List Pair). let x : State = record a { log = l; commit = max w.commit known } in x) (log_again k a.log sent within)
+    ∙ ap (λ (c : ℕ). let x : State = record a { log = merged_log a p sent; commit = c } in x) (max_again a.commit known) in
     record {
       same_reply = ap (λ (x : State). reply x q) became ∙ told ∙ sym told_first;
-      same_voter = ap (λ (x : State). next x q) became ∙ moved ∙ ap (λ (x : State). appended x p sent) reached ∙ stays ∙ sym became;
+      same_voter = ap (λ (x : State). next x q) became ∙ moved ∙ ap (λ (x : State). appended x p commit sent) reached ∙ stays ∙ sym became;
     }
 
-append_again : (v : State) (t p u : ℕ) (sent : List Pair) → Again v (Append t p u sent)
-append_again v t p u sent = elim (cases_Bool (in_range (Append t p u sent))) [
+append_again : (v : State) (t p u commit : ℕ) (sent : List Pair) → Again v (Append t p u commit sent)
+append_again v t p u commit sent = elim (cases_Bool (in_range (Append t p u commit sent))) [
   | inr out ↦ record { same_reply = rw out refl; same_voter = rw out refl }
   | inl fit ↦ elim (cases_Bool (nat_lt t v.term)) [
     | inl stale ↦
-        let became : next v (Append t p u sent) ≡ v = rw (fit, stale) refl in
+        let became : next v (Append t p u commit sent) ≡ v = rw (fit, stale) refl in
         record {
-          same_reply = ap (λ (x : State). reply x (Append t p u sent)) became;
-          same_voter = ap (λ (x : State). next x (Append t p u sent)) became;
+          same_reply = ap (λ (x : State). reply x (Append t p u commit sent)) became;
+          same_voter = ap (λ (x : State). next x (Append t p u commit sent)) became;
         }
     | inr current ↦ elim (cases_Bool (agrees_at v p u)) [
-      | inr differs ↦ unmatched_again v t p u sent fit current differs
-      | inl agrees ↦ matched_again v t p u sent fit current agrees
+      | inr differs ↦ unmatched_again v t p u commit sent fit current differs
+      | inl agrees ↦ matched_again v t p u commit sent fit current agrees
     ]
   ]
 ]
 
 pub again : (q : Request) (v : State) → is_repeatable q ≡ true → Again v q
 again (Vote t c i u) v may = vote_again v t c i u
-again (Append t p u sent) v may = append_again v t p u sent
+again (Append t p u commit sent) v may = append_again v t p u commit sent
 again (Compact c) v may = compact_again v c
 again (Install t c u) v may = install_again v t c u
 again (Read a b) v may = absurd (false≢true may)

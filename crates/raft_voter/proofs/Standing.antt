@@ -23,16 +23,16 @@ entry-adopt_term v t i =
 
 -- an Append that brings no other term at or below an index leaves its entry
 matched_spares :
-    (v : State) (t p u last i : ℕ) (sent : List Pair) → Matches v t p u last sent
-    → ((j : ℕ) → j ≤ i → ¬ BringsOther v p sent j) → entry_at (next v (Append t p u sent)) i ≡ entry_at v i
-matched_spares v t p u last i sent m none = elim (cases_lt (matching (drop (p - v.base_index) v.log) sent) (length sent)) [
+    (v : State) (t p u commit last i : ℕ) (sent : List Pair) → Matches v t p u commit last sent
+    → ((j : ℕ) → j ≤ i → ¬ BringsOther v p sent j) → entry_at (next v (Append t p u commit sent)) i ≡ entry_at v i
+matched_spares v t p u commit last i sent m none = elim (cases_lt (matching (drop (p - v.base_index) v.log) sent) (length sent)) [
   | inr all ↦
-      ap (λ (b : ℕ). entry_in b (next v (Append t p u sent)).log i) (base-next_matched v t p u last sent m)
-      ∙ ap (λ (l : List Pair). entry_in v.base_index l i) (log_kept v t p u last sent m all)
+      ap (λ (b : ℕ). entry_in b (next v (Append t p u commit sent)).log i) (base-next_matched v t p u commit last sent m)
+      ∙ ap (λ (l : List Pair). entry_in v.base_index l i) (log_kept v t p u commit last sent m all)
   | inl less ↦
       let first = p + 1 + matching (drop (p - v.base_index) v.log) sent in
       elim (cases_lt i first) [
-        | inl before ↦ entry_kept v t p u last i sent m before
+        | inl before ↦ entry_kept v t p u commit last i sent m before
         | inr past ↦ absurd (none first past (brings_first v p sent m.above less))
       ]
 ]
@@ -49,17 +49,17 @@ agrees_above v p u agrees = elim (cases_Bool (nat_lt p v.base_index)) [
 ]
 
 append_spares :
-    (v : State) (t p u i : ℕ) (sent : List Pair) → Spares v i (Append t p u sent)
-    → entry_at (next v (Append t p u sent)) i ≡ entry_at v i
-append_spares v t p u i sent spares = elim (cases_Bool (in_range (Append t p u sent))) [
+    (v : State) (t p u commit i : ℕ) (sent : List Pair) → Spares v i (Append t p u commit sent)
+    → entry_at (next v (Append t p u commit sent)) i ≡ entry_at v i
+append_spares v t p u commit i sent spares = elim (cases_Bool (in_range (Append t p u commit sent))) [
   | inr out ↦ rw out refl
   | inl fit ↦ elim (cases_Bool (nat_lt t v.term)) [
     | inl stale ↦ rw (fit, stale) refl
     | inr current ↦ elim (cases_Bool (agrees_at v p u)) [
       | inr differs ↦ rw (fit, current, differs) (entry-adopt_term v t i)
       | inl agrees ↦
-          let is : reply v (Append t p u sent) ≡ Matched (p + length sent) = rw (fit, current, agrees_above v p u agrees, agrees) refl in
-          matched_spares v t p u (p + length sent) i sent (matches_of v t p u (p + length sent) sent is) (spares (p + length sent) is)
+          let is : reply v (Append t p u commit sent) ≡ Matched (p + length sent) = rw (fit, current, agrees_above v p u agrees, agrees) refl in
+          matched_spares v t p u commit (p + length sent) i sent (matches_of v t p u commit (p + length sent) sent is) (spares (p + length sent) is)
     ]
   ]
 ]
@@ -115,7 +115,7 @@ entry_spared (Vote t c x y) v i spares =
     by_test (λ (w : State). entry_at w i ≡ entry_at v i) (in_range (Vote t c x y)) (next_in_range v (Vote t c x y)) v
     (λ h. vote_next (λ (w : State). entry_at w i ≡ entry_at v i) v t c x y (λ k. entry-adopt_term v t i) (entry-adopt_term v t i))
     (λ h. refl)
-entry_spared (Append t p u sent) v i spares = append_spares v t p u i sent spares
+entry_spared (Append t p u commit sent) v i spares = append_spares v t p u commit i sent spares
 entry_spared (Compact c) v i spares = compact_spares v c i spares
 entry_spared (Install t c u) v i spares = install_spares v t c u i spares
 entry_spared (Read a b) v i spares =
@@ -131,15 +131,15 @@ entry_all_spared (t ∷ ts) v i spares =
     entry_all_spared ts (next v t.0) i spares.1 ∙ entry_spared t.0 v i spares.0
 
 pub matched_entries_stand : MatchedEntriesStand
-matched_entries_stand rounds cuts g ex before between later t p u last i sent e is here spares =
-    let q = Append t p u sent in
+matched_entries_stand rounds cuts g ex before between later t p u commit last i sent e is here spares =
+    let q = Append t p u commit sent in
     let x : Request × Option Reply = (q, Some (Matched last)) in
     let v = voter_after before in
     let runs = rw is at (group_runs rounds cuts g ex) in
     let first = runs_append (before ++ x ∷ between) later fresh runs in
     let start = runs_append before (x ∷ between) fresh first.0 in
-    let m = matches_of v t p u last sent (sym start.1.0) in
-    let stands = matched_there v t p u last i sent e m here in
+    let m = matches_of v t p u commit last sent (sym start.1.0) in
+    let stands = matched_there v t p u commit last i sent e m here in
     let right_behind : voter_after (before ++ x ∷ []) ≡ next v q = voter_from-append before (x ∷ []) fresh in
     let there : voter_after (before ++ x ∷ between) ≡ voter_from (next v q) between = voter_from-append before (x ∷ between) fresh in
     let spared : AllSpare (next v q) i between = rw right_behind at spares in (

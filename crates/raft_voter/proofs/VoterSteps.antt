@@ -23,17 +23,17 @@ pub vote_next :
 vote_next P v t c i u granted denied =
     by_test P (grants v t c i u) (record (adopt_term v t) { vote = Some c }) (adopt_term v t) granted (λ h. denied)
 
-append_next :
-    (P : State → Type 0) (v : State) (t p u : ℕ) (es : List (ℕ × List ℕ)) → P v → P (appended (adopt_term v t) p es)
-    → P (adopt_term v t) → P (next_in_range v (Append t p u es))
-append_next P v t p u es stale matched adopted =
-    by_test P (nat_lt t v.term) v (if agrees_at v p u then appended (adopt_term v t) p es else adopt_term v t) (λ h. stale)
-    (λ h. by_test P (agrees_at v p u) (appended (adopt_term v t) p es) (adopt_term v t) (λ k. matched) (λ k. adopted))
+pub append_next :
+    (P : State → Type 0) (v : State) (t p u commit : ℕ) (es : List (ℕ × List ℕ)) → P v → P (appended (adopt_term v t) p commit es)
+    → P (adopt_term v t) → P (next_in_range v (Append t p u commit es))
+append_next P v t p u commit es stale matched adopted =
+    by_test P (nat_lt t v.term) v (if agrees_at v p u then appended (adopt_term v t) p commit es else adopt_term v t) (λ h. stale)
+    (λ h. by_test P (agrees_at v p u) (appended (adopt_term v t) p commit es) (adopt_term v t) (λ k. matched) (λ k. adopted))
 
-compact_next : (P : State → Type 0) (v : State) (i : ℕ) → P v → P (compacted v i) → P (next_in_range v (Compact i))
+pub compact_next : (P : State → Type 0) (v : State) (i : ℕ) → P v → P (compacted v i) → P (next_in_range v (Compact i))
 compact_next P v i same moved = by_test P (can_compact v i) (compacted v i) v (λ h. moved) (λ h. same)
 
-install_next :
+pub install_next :
     (P : State → Type 0) (v : State) (t i u : ℕ) → P v → P (adopt_term v t) → P (installed (adopt_term v t) i u)
     → P (next_in_range v (Install t i u))
 install_next P v t i u stale adopted moved =
@@ -51,8 +51,8 @@ term-adopt_term v t =
 term-next_in_range : (q : Request) (v : State) → is_retire q ≡ false → v.term ≤ (next_in_range v q).term
 term-next_in_range (Vote t c i u) v stays =
     vote_next (λ (w : State). v.term ≤ w.term) v t c i u (λ h. term-adopt_term v t) (term-adopt_term v t)
-term-next_in_range (Append t p u es) v stays =
-    append_next (λ (w : State). v.term ≤ w.term) v t p u es (term-same v) (term-adopt_term v t) (term-adopt_term v t)
+term-next_in_range (Append t p u commit es) v stays =
+    append_next (λ (w : State). v.term ≤ w.term) v t p u commit es (term-same v) (term-adopt_term v t) (term-adopt_term v t)
 term-next_in_range (Compact i) v stays = compact_next (λ (w : State). v.term ≤ w.term) v i (term-same v) (term-same v)
 term-next_in_range (Install t i u) v stays =
     install_next (λ (w : State). v.term ≤ w.term) v t i u (term-same v) (term-adopt_term v t) (term-adopt_term v t)
@@ -105,9 +105,9 @@ gave_next_in_range (Vote term d i u) v t c stays g =
     let adopted = gave_adopt v term t c g in
     vote_next (λ (w : State). Gave w t c) v term d i u
     (λ h. gave_voted (adopt_term v term) t c d adopted (grants_may v term d i u h)) adopted
-gave_next_in_range (Append term p u es) v t c stays g =
+gave_next_in_range (Append term p u commit es) v t c stays g =
     let adopted = gave_adopt v term t c g in
-    append_next (λ (w : State). Gave w t c) v term p u es g (record { reached = adopted.reached; given = adopted.given }) adopted
+    append_next (λ (w : State). Gave w t c) v term p u commit es g (record { reached = adopted.reached; given = adopted.given }) adopted
 gave_next_in_range (Compact i) v t c stays g =
     compact_next (λ (w : State). Gave w t c) v i g (record { reached = g.reached; given = g.given })
 gave_next_in_range (Install term i u) v t c stays g =

@@ -64,6 +64,7 @@ abbrev pub requests_of : List (Request × Option Reply) → List Request
 requests_of [] = []
 requests_of (t ∷ ts) = t.0 ∷ requests_of ts
 
+-- a request to retire the group
 abbrev pub is_retire : Request → Bool
 is_retire Retire = true
 is_retire q = false

@@ -11,11 +11,12 @@ use Rattle.raft_voter.specs.Rules.{next, reply}
 use Rattle.raft_voter.specs.Rounds.{World, Explains, Leads}
 use Rattle.raft_voter.specs.Accounts.{group_account, NoRetire, requests_of, voter_after}
 
--- how many rounds were cut off
+-- one round that was cut off counts once
 abbrev pub cut_count_of : Outcome → ℕ
 cut_count_of (Answered replies) = 0
 cut_count_of Cut = 1
 
+-- how many of these rounds were cut off
 abbrev pub cut_count : List Round → ℕ
 cut_count [] = 0
 cut_count (r ∷ rounds) = cut_count_of r.outcome + cut_count rounds
@@ -48,6 +49,18 @@ TermsNeverFall =
     (W X : World) (rounds : List Round) (cuts : List ℕ) (group : ℕ) → Leads W rounds cuts X
     → NoRetire (group_account group rounds cuts) → (W group).term ≤ (X group).term
 
+-- A group's commit never goes down, unless a request to retire it came.
+abbrev pub CommitNeverFalls : Type 0
+CommitNeverFalls =
+    (W X : World) (rounds : List Round) (cuts : List ℕ) (group : ℕ) → Leads W rounds cuts X
+    → NoRetire (group_account group rounds cuts) → (W group).commit ≤ (X group).commit
+
+-- A base that isn't above its group's commit never comes to stand above it.
+abbrev pub BaseIsCommitted : Type 0
+BaseIsCommitted =
+    (W X : World) (rounds : List Round) (cuts : List ℕ) (group : ℕ) → Leads W rounds cuts X
+    → (W group).base_index ≤ (W group).commit → (X group).base_index ≤ (X group).commit
+
 -- the entry that an Append brings for an index, if any
 abbrev pub sent_at : ℕ → List (ℕ × List ℕ) → ℕ → Option (ℕ × List ℕ)
 sent_at prev sent i = if nat_lt prev i then slice_get sent (i - prev - 1) else None
@@ -61,23 +74,23 @@ BringsOther v prev sent i = IsSomeAnd (sent_at prev sent i) (λ e. term_at v i �
 -- none the log is the old one.
 abbrev pub MatchedAppend : Type 0
 MatchedAppend =
-    (v : State) (term prev prev_term last : ℕ) (sent : List (ℕ × List ℕ))
-    → reply v (Append term prev prev_term sent) ≡ Matched last
+    (v : State) (term prev prev_term commit last : ℕ) (sent : List (ℕ × List ℕ))
+    → reply v (Append term prev prev_term commit sent) ≡ Matched last
     → (
     (f : ℕ) → BringsOther v prev sent f → ((j : ℕ) → j < f → ¬ BringsOther v prev sent j)
-    → (i : ℕ) → (i < f → entry_at (next v (Append term prev prev_term sent)) i ≡ entry_at v i)
-    × (f ≤ i → entry_at (next v (Append term prev prev_term sent)) i ≡ sent_at prev sent i)
+    → (i : ℕ) → (i < f → entry_at (next v (Append term prev prev_term commit sent)) i ≡ entry_at v i)
+    × (f ≤ i → entry_at (next v (Append term prev prev_term commit sent)) i ≡ sent_at prev sent i)
     )
     × (
-    ((j : ℕ) → ¬ BringsOther v prev sent j) → (next v (Append term prev prev_term sent)).log ≡ v.log
+    ((j : ℕ) → ¬ BringsOther v prev sent j) → (next v (Append term prev prev_term commit sent)).log ≡ v.log
     )
 
 -- A request that voter v takes leaves the entry at index i: a matched Append brings no other term at or below i; the base
 -- stays below i; an Install whose snapshot goes up to an entry below i holds the very entry that the log has there; and
 -- it isn't a request to retire.
 abbrev pub Spares : State → ℕ → Request → Type 0
-Spares v i (Append term prev prev_term sent) =
-    (last : ℕ) → reply v (Append term prev prev_term sent) ≡ Matched last → (j : ℕ) → j ≤ i → ¬ BringsOther v prev sent j
+Spares v i (Append term prev prev_term commit sent) =
+    (last : ℕ) → reply v (Append term prev prev_term commit sent) ≡ Matched last → (j : ℕ) → j ≤ i → ¬ BringsOther v prev sent j
 Spares v i (Compact index) = (next v (Compact index)).base_index < i
 Spares v i (Install term index entry_term) =
     ((next v (Install term index entry_term)).base_index < i)
@@ -97,20 +110,20 @@ AllSpare v i (t ∷ ts) = Spares v i t.0 × AllSpare (next v t.0) i ts
 abbrev pub MatchedEntriesStand : Type 0
 MatchedEntriesStand =
     (rounds : List Round) (cuts : List ℕ) (group : ℕ) → Explains rounds cuts
-    → (before between later : List (Request × Option Reply)) (term prev prev_term last i : ℕ) (sent : List (ℕ × List ℕ))
+    → (before between later : List (Request × Option Reply)) (term prev prev_term commit last i : ℕ) (sent : List (ℕ × List ℕ))
     (e : ℕ × List ℕ)
     → group_account group rounds cuts
-    ≡ before ++ (Append term prev prev_term sent, Some (Matched last)) ∷ between ++ later
+    ≡ before ++ (Append term prev prev_term commit sent, Some (Matched last)) ∷ between ++ later
     → sent_at prev sent i ≡ Some e
-    → AllSpare (voter_after (before ++ (Append term prev prev_term sent, Some (Matched last)) ∷ [])) i between
+    → AllSpare (voter_after (before ++ (Append term prev prev_term commit sent, Some (Matched last)) ∷ [])) i between
     → (bytes : List ℕ)
-    × (entry_at (voter_after (before ++ (Append term prev prev_term sent, Some (Matched last)) ∷ [])) i ≡ Some (e.0, bytes))
-    × (entry_at (voter_after (before ++ (Append term prev prev_term sent, Some (Matched last)) ∷ between)) i ≡ Some (e.0, bytes))
+    × (entry_at (voter_after (before ++ (Append term prev prev_term commit sent, Some (Matched last)) ∷ [])) i ≡ Some (e.0, bytes))
+    × (entry_at (voter_after (before ++ (Append term prev prev_term commit sent, Some (Matched last)) ∷ between)) i ≡ Some (e.0, bytes))
 
 -- the requests that a leader or a node may repeat
 abbrev pub is_repeatable : Request → Bool
 is_repeatable (Vote term candidate index last) = true
-is_repeatable (Append term prev prev_term sent) = true
+is_repeatable (Append term prev prev_term commit sent) = true
 is_repeatable (Compact index) = true
 is_repeatable (Install term index entry_term) = true
 is_repeatable (Read from to) = false

@@ -23,6 +23,7 @@ restored s es =
       vote = s.vote;
       base_index = s.base_index;
       base_term = s.base_term;
+      commit = s.commit;
       log = map (λ e. (e.term, e.bytes)) es;
     })
     else Err Order)

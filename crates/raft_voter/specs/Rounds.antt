@@ -58,6 +58,7 @@ replies_from place refused W (q ∷ qs) =
     if is_among refused place then Refused ∷ replies_from (place + 1) refused W qs
     else reply (W q.0) q.1 ∷ replies_from (place + 1) refused (after_one W q) qs
 
+-- the replies to a round
 abbrev pub replies_of : World → Round → List Reply
 replies_of W r = replies_from 0 r.refused W r.requests
 

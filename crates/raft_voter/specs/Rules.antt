@@ -1,4 +1,4 @@
-use Rattle.std.specs.Prelude.{ℕ, ◌+◌, ◌-◌, ◌==◌, ◌&&◌, ◌||◌, nat_lt, nat_le, min, Bool, true, false, if◌then◌else◌, List, [], ◌∷◌, ◌++◌, length, take, drop, Some, unwrap_or}
+use Rattle.std.specs.Prelude.{ℕ, ◌+◌, ◌-◌, ◌==◌, ◌&&◌, ◌||◌, nat_lt, nat_le, max, min, Bool, true, false, if◌then◌else◌, List, [], ◌∷◌, ◌++◌, length, take, drop, Some, unwrap_or}
 use Rattle.std.specs.List.{common_prefix_len}
 use Rattle.std.specs.Option.{option_map_or}
 use Rattle.raft_voter_messages.specs.declared.reply.Entry.{Entry}
@@ -41,25 +41,32 @@ merged old sent =
     else take (matching old sent) old ++ drop (matching old sent) sent
 
 -- the log once the entries that follow index `prev` are merged in
-abbrev pub appended : State → ℕ → List (ℕ × List ℕ) → State
-appended v prev sent =
-    record v { log = take (prev - v.base_index) v.log ++ merged (drop (prev - v.base_index) v.log) sent }
+abbrev pub merged_log : State → ℕ → List (ℕ × List ℕ) → List (ℕ × List ℕ)
+merged_log v prev sent = take (prev - v.base_index) v.log ++ merged (drop (prev - v.base_index) v.log) sent
 
--- the log can be compacted up to an entry that it holds
+-- The entries that follow index `prev` are merged in. The commit rises to the leader's, but not past the last entry that
+-- the leader is now known to share.
+abbrev pub appended : State → ℕ → ℕ → List (ℕ × List ℕ) → State
+appended v prev commit sent =
+    record v { log = merged_log v prev sent; commit = max v.commit (min commit (prev + length sent)) }
+
+-- the log can be compacted up to an entry that it holds and that is committed
 abbrev pub can_compact : State → ℕ → Bool
-can_compact v index = nat_lt v.base_index index && nat_le index (last_index v)
+can_compact v index = nat_lt v.base_index index && nat_le index (last_index v) && nat_le index v.commit
 
 -- that entry is the base, and what follows it stays
 abbrev pub compacted : State → ℕ → State
 compacted v index =
     record v { base_index = index; base_term = unwrap_or (term_at v index) 0; log = drop (index - v.base_index) v.log }
 
--- a snapshot's last entry is the base; what follows stays where the log held that very entry, and else goes
+-- A snapshot's last entry is the base, and committed. What follows stays where the log held that very entry, and else
+-- goes.
 abbrev pub installed : State → ℕ → ℕ → State
 installed v index entry_term =
     record v {
       base_index = index;
       base_term = entry_term;
+      commit = max v.commit index;
       log = if agrees_at v index entry_term then drop (index - v.base_index) v.log else [];
     }
 
@@ -78,7 +85,7 @@ entries_between v from to = numbered from (take (to - from) (drop (from - v.base
 abbrev pub reply_in_range : State → Request → Reply
 reply_in_range v (Vote term candidate index last) =
     if grants v term candidate index last then Granted term else Denied (adopt_term v term).term
-reply_in_range v (Append term prev prev_term sent) =
+reply_in_range v (Append term prev prev_term commit sent) =
     if nat_lt term v.term then Stale v.term
     else if nat_lt prev v.base_index then Base v.base_index
     else if agrees_at v prev prev_term then Matched (prev + length sent)
@@ -100,9 +107,9 @@ reply_in_range v Retire = Retired
 abbrev pub next_in_range : State → Request → State
 next_in_range v (Vote term candidate index last) =
     if grants v term candidate index last then record (adopt_term v term) { vote = Some candidate } else adopt_term v term
-next_in_range v (Append term prev prev_term sent) =
+next_in_range v (Append term prev prev_term commit sent) =
     if nat_lt term v.term then v
-    else if agrees_at v prev prev_term then appended (adopt_term v term) prev sent
+    else if agrees_at v prev prev_term then appended (adopt_term v term) prev commit sent
     else adopt_term v term
 next_in_range v (Compact index) = if can_compact v index then compacted v index else v
 next_in_range v (Install term index entry_term) =

@@ -3,17 +3,19 @@ use Rattle.std.specs.Option.{option_map}
 use Rattle.raft_voter_messages.specs.declared.reply.VoterState.{VoterState}
 
 -- What a Raft server keeps of a group: the current term, whom it voted for in it, the index up to which its log
--- was compacted with the term of the entry there, and the entries above, each its term and its bytes.
+-- was compacted with the term of the entry there, the index up to which it knows entries to be committed, and the
+-- entries above the base, each its term and its bytes.
 pub record State : Type 0 where
   pub term : ℕ
   pub vote : Option ℕ
   pub base_index : ℕ
   pub base_term : ℕ
+  pub commit : ℕ
   pub log : List (ℕ × List ℕ)
 
 -- a voter that has taken nothing yet
 abbrev pub fresh : State
-fresh = record { term = 0; vote = None; base_index = 0; base_term = 0; log = [] }
+fresh = record { term = 0; vote = None; base_index = 0; base_term = 0; commit = 0; log = [] }
 
 -- the entry at an index above the base, if there is one: the k-th of the log, counted from 1, stands at base + k
 abbrev pub entry_at : State → ℕ → Option (ℕ × List ℕ)
@@ -44,4 +46,5 @@ state_of v = record {
   base_term = v.base_term;
   last_index = last_index v;
   last_term = last_term v;
+  commit = v.commit;
 }

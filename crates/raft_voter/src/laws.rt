@@ -1,5 +1,5 @@
 //! What follows from the definitions alone: laws over whole runs, each the contract of a function that does nothing.
-ghost use Rattle.raft_voter.specs.Laws.{GroupIsolation, MatchedAppend, MatchedEntriesStand, OneVotePerTerm, RepeatIsIdempotent, RoundsJoin, RoundsPart, TermsNeverFall};
+ghost use Rattle.raft_voter.specs.Laws.{BaseIsCommitted, CommitNeverFalls, GroupIsolation, MatchedAppend, MatchedEntriesStand, OneVotePerTerm, RepeatIsIdempotent, RoundsJoin, RoundsPart, TermsNeverFall};
 
 /// Rounds that lead from one world to a second and rounds that lead from there to a third are, one behind the other,
 /// rounds that lead from the first to the third, with their cuts one behind the other.
@@ -21,6 +21,16 @@ pub fn one_vote_per_term()
 /// A group's term never falls, unless a request to retire it came.
 pub fn terms_never_fall()
     ensures { TermsNeverFall }
+{}
+
+/// A group's commit never goes down, unless a request to retire it came.
+pub fn commit_never_falls()
+    ensures { CommitNeverFalls }
+{}
+
+/// A base that isn't above its group's commit never comes to stand above it. A fresh voter's isn't.
+pub fn base_is_committed()
+    ensures { BaseIsCommitted }
 {}
 
 /// The reply to a request depends on the requests alone that its own group took before it, whatever other groups do.

@@ -20,6 +20,3 @@ pub use raft_voter_messages::{
 };
 pub use voter::Voter;
 pub use voters::Voters;
-
-#[cfg(test)]
-mod tests;

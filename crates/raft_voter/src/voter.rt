@@ -21,6 +21,7 @@ pub struct Voter {
     vote: Option<u64>,
     base_index: u64,
     base_term: u64,
+    commit: u64,
     log: Vec<(u64, Items<u8>)>,
 }
 
@@ -30,7 +31,7 @@ impl Model for Voter {
 
     ghost Value = { State };
 
-    ghost view = { λ v. record { term = v.term; vote = v.vote; base_index = v.base_index; base_term = v.base_term; log = v.log.items } };
+    ghost view = { λ v. record { term = v.term; vote = v.vote; base_index = v.base_index; base_term = v.base_term; commit = v.commit; log = v.log.items } };
 
     ghost invariant = { λ v. v.base_index + length v.log.items < 2 ^ 63 };
 }
@@ -45,6 +46,7 @@ impl Voter {
             vote: None,
             base_index: 0,
             base_term: 0,
+            commit: 0,
             log: Vec::new(alloc),
         }
     }
@@ -60,6 +62,7 @@ impl Voter {
             base_term: self.base_term,
             last_index: self.last_index(),
             last_term: self.last_term(),
+            commit: self.commit,
         }
     }
 
@@ -92,8 +95,9 @@ impl Voter {
                 term,
                 prev_index,
                 prev_term,
+                commit,
                 entries,
-            } => self.append(*term, *prev_index, *prev_term, entries.as_slice()),
+            } => self.append(*term, *prev_index, *prev_term, *commit, entries.as_slice()),
             Request::Compact { index } => Ok(self.compact(*index)),
             Request::Install {
                 term,

@@ -8,16 +8,25 @@ use Rattle.raft_voter_messages.specs.declared.request.Request.TheVariants.{Vote,
 abbrev pub fits : ℕ → Bool
 fits n = nat_lt n (2 ^ 63)
 
--- an entry has a term and at most 65,535 bytes
+-- an entry has a term in range and at most 65,535 bytes
 abbrev pub entry_fits : ℕ × List ℕ → Bool
 entry_fits e = fits e.0 && nat_le (length e.1) 65535
 
--- a request in range is taken; an Append brings at most 1,024 entries with 1,048,576 bytes in all
+-- how many bytes entries have together
+abbrev pub total_bytes : List (ℕ × List ℕ) → ℕ
+total_bytes sent = sum_by (λ e. length e.1) sent
+
+-- An Append brings at most 1,024 entries with 1,048,576 bytes in all, and the last has an index in range.
+abbrev pub entries_fit : ℕ → List (ℕ × List ℕ) → Bool
+entries_fit prev sent =
+    fits (prev + length sent) && nat_le (length sent) 1024 && list_all entry_fits sent
+    && nat_le (total_bytes sent) 1048576
+
+-- a voter takes the requests in range
 abbrev pub in_range : Request → Bool
 in_range (Vote term candidate index last) = list_all fits (term ∷ candidate ∷ index ∷ last ∷ [])
-in_range (Append term prev prev_term sent) =
-    list_all fits (term ∷ prev_term ∷ (prev + length sent) ∷ []) && nat_le (length sent) 1024 && list_all entry_fits sent
-    && nat_le (sum_by (λ e. length e.1) sent) 1048576
+in_range (Append term prev prev_term commit sent) =
+    list_all fits (term ∷ prev_term ∷ commit ∷ []) && entries_fit prev sent
 in_range (Compact index) = fits index
 in_range (Install term index entry_term) = list_all fits (term ∷ index ∷ entry_term ∷ [])
 in_range (Read from to) = list_all fits (from ∷ to ∷ [])

@@ -11,7 +11,7 @@ use std::{fmt, str};
 /// How many bytes are written as hex digits at once.
 const CHUNK_BYTES: usize = 128;
 
-/// The reply's name and what it says, as `Granted 5`. Entries are each written behind a space; of a state see there.
+/// The reply's name and what it says, as `Granted 5`. Entries are each written behind a space.
 impl fmt::Display for Reply {
     ghost output = { λ reply. Some (reply_text reply) };
 
@@ -36,18 +36,19 @@ impl fmt::Display for Reply {
     }
 }
 
-/// The term, the vote (`-` where there is none), and the index and the term of the base and of the last entry.
+/// The term, the vote (`-` where there is none), the index and the term of the base and of the last entry, the
+/// commit.
 impl fmt::Display for VoterState {
     ghost output = { λ state. Some (state_words state) };
 
     #[tactic(auto, unfolding(crate::specs::ReplyText::state_words))]
     fn fmt<W: fmt::Write>(&self, f: &mut fmt::Formatter<W>) -> fmt::Result {
         let (term, base_index, base_term) = (self.term, self.base_index, self.base_term);
-        let (last_index, last_term) = (self.last_index, self.last_term);
+        let (last_index, last_term, commit) = (self.last_index, self.last_term, self.commit);
         write!(f, "{term} ")?;
         write_vote(f, self.vote)?;
         write!(f, " {base_index} {base_term}")?;
-        write!(f, " {last_index} {last_term}")
+        write!(f, " {last_index} {last_term} {commit}")
     }
 }
 

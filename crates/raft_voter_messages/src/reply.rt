@@ -27,6 +27,8 @@ pub struct VoterState {
     pub last_index: u64,
     /// The term of the last entry, or the base's.
     pub last_term: u64,
+    /// The index up to which entries are known to be committed, 0 at first.
+    pub commit: u64,
 }
 
 /// What a voter answers to a request.

@@ -1,7 +1,7 @@
 //! What a voter may be asked.
-ghost use Rattle.std.specs.Prelude.{◌≡◌, ◌+◌, ◌^◌, ◌<◌, ◌≤◌, ◌&&◌, nat_le, [], ◌∷◌, length, sum_by};
+ghost use Rattle.std.specs.Prelude.{◌≡◌, ◌^◌, ◌<◌};
 ghost use Rattle.std.specs.List.{list_all};
-ghost use Rattle.raft_voter_messages.specs.Ranges.{entry_fits, fits, in_range};
+ghost use Rattle.raft_voter_messages.specs.Ranges.{entries_fit, entry_fits, fits, in_range, total_bytes};
 
 use crate::Items;
 
@@ -39,6 +39,8 @@ pub enum Request {
         prev_index: u64,
         /// The term of the leader's entry at that index.
         prev_term: u64,
+        /// The index up to which the leader knows entries to be committed.
+        commit: u64,
         /// The term and the bytes of each entry, from `prev_index + 1` on.
         entries: Items<(u64, Items<u8>)>,
     },
@@ -70,8 +72,8 @@ pub enum Request {
 }
 
 impl Request {
-    /// Whether a voter takes this request: all its numbers, and the index of the last entry that it brings, are at most
-    /// `MAX_NUMBER`, and an `Append` keeps the limits on entries and bytes. A voter answers `Refused` to any other.
+    /// Whether a voter takes this request: all its numbers, and the index of the last entry that it brings, are at
+    /// most `MAX_NUMBER`, and an `Append` keeps the limits on entries and bytes. A voter answers `Refused` to any other.
     pub fn in_range(&self) -> bool
         ensures { result ≡ in_range self.now }
     {
@@ -86,8 +88,12 @@ impl Request {
                 term,
                 prev_index,
                 prev_term,
+                commit,
                 entries,
-            } => append_fits(*term, *prev_index, *prev_term, entries.as_slice()),
+            } => {
+                all_fit(&[*term, *prev_term, *commit])
+                    && entries_fit(*prev_index, entries.as_slice())
+            }
             Request::Compact { index } => fits(*index),
             Request::Install {
                 term,
@@ -100,53 +106,49 @@ impl Request {
     }
 }
 
+/// Whether a number is at most `MAX_NUMBER`.
 pub(crate) fn fits(number: u64) -> bool
     ensures { result ≡ fits number }
 {
     number <= MAX_NUMBER
 }
 
+/// Whether each of these numbers is.
 pub(crate) fn all_fit(numbers: &[u64]) -> bool
     ensures { result ≡ list_all fits numbers.now }
 {
     numbers.iter().all(|number| fits(*number))
 }
 
-fn append_fits(term: u64, prev_index: u64, prev_term: u64, entries: &[(u64, Items<u8>)]) -> bool
-    ensures { result ≡ (list_all fits (term ∷ prev_term ∷ (prev_index + length entries.now) ∷ []) && nat_le (length entries.now) 1024 && list_all entry_fits entries.now && nat_le (sum_by (λ e. length e.1) entries.now) 1048576) }
+/// Whether the entries that an `Append` brings behind this index keep the limits.
+fn entries_fit(prev_index: u64, entries: &[(u64, Items<u8>)]) -> bool
+    ensures { result ≡ entries_fit prev_index entries.now }
 {
-    if entries.len() > MAX_APPEND_ENTRIES || !fits(prev_index) {
+    if entries.len() > MAX_APPEND_ENTRIES || !fits(prev_index) || !each_fits(entries) {
         return false;
     }
     let last = prev_index + entries.len() as u64;
-    all_fit(&[term, prev_term, last]) && entries_fit(entries)
+    fits(last) && total_bytes(entries) <= MAX_APPEND_BYTES
 }
 
-fn entries_fit(entries: &[(u64, Items<u8>)]) -> bool
-    requires { length entries.now ≤ 1024 }
-    ensures { result ≡ (list_all entry_fits entries.now && nat_le (sum_by (λ e. length e.1) entries.now) 1048576) }
-{
-    if !each_fits(entries) {
-        return false;
-    }
-    total_bytes(entries) <= MAX_APPEND_BYTES
-}
-
+/// Whether each of these entries has a term in range and isn't too long.
 fn each_fits(entries: &[(u64, Items<u8>)]) -> bool
     ensures { result ≡ list_all entry_fits entries.now }
 {
     entries.iter().all(|entry| entry_fits(entry))
 }
 
+/// Whether an entry does.
 fn entry_fits(entry: &(u64, Items<u8>)) -> bool
     ensures { result ≡ entry_fits entry.now }
 {
     fits(entry.0) && entry.1.len() <= MAX_ENTRY_BYTES
 }
 
+/// How many bytes these entries have together.
 fn total_bytes(entries: &[(u64, Items<u8>)]) -> usize
-    requires { sum_by (λ e. length e.1) entries.now < 2 ^ 64 }
-    ensures { result ≡ sum_by (λ e. length e.1) entries.now }
+    requires { total_bytes entries.now < 2 ^ 64 }
+    ensures { result ≡ total_bytes entries.now }
 {
     entries.iter().map(|entry| entry.1.len()).sum()
 }

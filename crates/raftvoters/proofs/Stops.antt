@@ -5,7 +5,7 @@ use Rattle.raft_voter_messages.specs.declared.reply.Reply.{Reply}
 use Rattle.raft_voter_messages.specs.declared.request.Request.{Request}
 use Rattle.raft_voter.specs.Rounds.{World, after, after_one}
 use Rattle.raftvoters.specs.declared.store.PlainStore.{PlainStore}
-use Rattle.raftvoters.specs.Records.{Holds}
+use Rattle.raftvoters.specs.Records.{StandsFor}
 use Rattle.raftvoters.specs.Service.{Stopped}
 use Rattle.raftvoters.specs.Store.{IsRefused, IsStopped, IsStored, Takes, world_of}
 
@@ -42,8 +42,8 @@ reply_refused old now next asked i d q told few here before synced took = record
 }
 
 -- what was stored before is still there
-pub still_held : (old new : PlainStore) → new.file.synced ≡ old.file.synced → IsStored old → Holds new.file.synced (world_of old)
-still_held old new same stored = let P : List ℕ → Type 0 = λ bs. Holds bs (world_of old) in subst P (sym same) stored.synced
+pub still_held : (old new : PlainStore) → new.file.synced ≡ old.file.synced → IsStored old → StandsFor new.file.synced (world_of old)
+still_held old new same stored = let P : List ℕ → Type 0 = λ bs. StandsFor bs (world_of old) in subst P (sym same) stored.synced
 
 -- nothing is taken
 pub none_taken : (W : World) (asked : List (ℕ × Request)) → Stopped W asked W

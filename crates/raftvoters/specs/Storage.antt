@@ -7,7 +7,7 @@ use Rattle.raft_voter_messages.specs.declared.round.Round.{Round}
 use Rattle.raft_voter.specs.Rounds.{World, RoundHolds, after_round, cuts_after}
 use Rattle.raftvoters.specs.declared.storage.Storage.{Storage}
 use Rattle.raftvoters.specs.declared.storage.Storage.TheVariants.{Closed, Open}
-use Rattle.raftvoters.specs.Records.{Holds}
+use Rattle.raftvoters.specs.Records.{StandsFor}
 use Rattle.raftvoters.specs.Service.{out_of_range}
 use Rattle.raftvoters.specs.Store.{IsStored, world_of}
 
@@ -17,7 +17,7 @@ is_open (Open store) = true
 
 -- these are the voters that an open finds, or that an open store serves
 abbrev pub IsAt : Storage → World → Type 0
-IsAt (Closed file) W = Holds file.synced W × (file.unsynced ≡ [])
+IsAt (Closed file) W = StandsFor file.synced W × (file.unsynced ≡ [])
 IsAt (Open store) W = IsStored store × (world_of store ≡ W)
 
 -- some voters are stored

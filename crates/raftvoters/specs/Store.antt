@@ -5,7 +5,7 @@ use Rattle.raft_voter_messages.specs.declared.request.Request.{Request}
 use Rattle.raft_voter.specs.Rounds.{World, after, after_one}
 use Rattle.raft_voter.specs.Rules.{reply}
 use Rattle.raftvoters.specs.declared.store.PlainStore.{PlainStore}
-use Rattle.raftvoters.specs.Records.{AllInRange, Holds, LeadTo, world_in}
+use Rattle.raftvoters.specs.Records.{AllInRange, StandsFor, LeadTo, world_in}
 use Rattle.raftvoters.specs.Service.{Stopped}
 
 -- the voter of each group: the one in memory, or a fresh one
@@ -14,7 +14,7 @@ world_of store = world_in store.voters
 
 -- what was synced holds the voters, and nothing else was written
 pub record IsStored (store : PlainStore) : Type 0 where
-  pub synced : Holds store.file.synced (world_of store)
+  pub synced : StandsFor store.file.synced (world_of store)
   pub settled : store.file.unsynced ≡ []
 
 -- one request is taken: what it changed is written

@@ -3,13 +3,13 @@ ghost use Rattle.std.specs.Prelude.{◌≡◌, ◌+◌, ◌^◌, ◌<◌, ◌↔
 ghost use Rattle.raft_voter.specs.Rounds.{after_one, put};
 ghost use Rattle.raftvoters.specs.Content.{whole};
 ghost use Rattle.raft_voter.specs.Rules.{reply};
-ghost use Rattle.raftvoters.specs.Damage.{HoldsNothing, TellsDamage};
-ghost use Rattle.raftvoters.specs.Records.{Holds, may_change, record_bytes, world_in};
+ghost use Rattle.raftvoters.specs.Damage.{StandsForNothing, TellsDamage};
+ghost use Rattle.raftvoters.specs.Records.{StandsFor, may_change, voter_record, world_in};
 ghost use Rattle.raftvoters.specs.Service.{Answers, out_of_range, refused_from, Stopped};
 ghost use Rattle.raftvoters.specs.Store.{IsRefused, IsStopped, IsStored, Takes, TakesAll, world_of};
 
 use crate::file::PlainFile;
-use crate::record::{OpenFault, read_record, record_bytes};
+use crate::record::{OpenFault, read_voter_record, voter_record};
 use crate::service::{MOST_REQUESTS, RoundFault, RoundService};
 use raft_voter::{Items, Memory, Reply, Request, Voter};
 use std::alloc::Global;
@@ -28,8 +28,8 @@ impl PlainStore {
     /// the bytes aren't those of records, so never of what a store wrote.
     pub fn open(alloc: Global, file: PlainFile) -> Result<PlainStore, OpenFault>
         ensures same { IfOk result (λ store. store.file ≡ file) }
-        ensures voters { IfOk result (λ store. Holds (whole file) (world_of store)) }
-        ensures err { IfErr result (TellsDamage (HoldsNothing (whole file))) }
+        ensures voters { IfOk result (λ store. StandsFor (whole file) (world_of store)) }
+        ensures err { IfErr result (TellsDamage (StandsForNothing (whole file))) }
     {
         let voters = read_voters(alloc, file.bytes())?;
         Ok(PlainStore {
@@ -91,7 +91,7 @@ impl RoundService for PlainStore {
         ensures too_long { (result ≡ Err RoundFault.TooLong) ↔ (4096 < length requests.now) }
         ensures kept { result ≡ Err RoundFault.TooLong → world_of self.new ≡ world_of self.old }
         ensures stored { OnOk result (IsStored self.old → IsStored self.new) }
-        ensures held { OnErr result (IsStored self.old → Holds self.new.file.synced (world_of self.old)) }
+        ensures held { OnErr result (IsStored self.old → StandsFor self.new.file.synced (world_of self.old)) }
         ensures same { result ≡ Err RoundFault.TooLong → self.new ≡ self.old }
     {
         if requests.len() > MOST_REQUESTS {
@@ -120,12 +120,12 @@ fn step(
 
 /// The record of a group's voter.
 fn record_of(alloc: Global, voters: &BTreeMap<u64, Voter>, group: u64) -> Result<Vec<u8>, Memory>
-    ensures bytes { IfOk result (λ bytes. bytes.items ≡ record_bytes (group, world_in voters.now group)) }
+    ensures bytes { IfOk result (λ bytes. bytes.items ≡ voter_record (group, world_in voters.now group)) }
     ensures small { (world_in voters.now group).base_index + length (world_in voters.now group).log < 2 ^ 63 }
 {
     match voters.get(&group) {
-        Some(voter) => record_bytes(alloc, group, voter),
-        None => record_bytes(alloc, group, &Voter::new(alloc)),
+        Some(voter) => voter_record(alloc, group, voter),
+        None => voter_record(alloc, group, &Voter::new(alloc)),
     }
 }
 
@@ -141,13 +141,13 @@ fn may_change(request: &Request) -> bool
 
 /// The voters that a file's bytes hold.
 fn read_voters(alloc: Global, bytes: &[u8]) -> Result<BTreeMap<u64, Voter>, OpenFault>
-    ensures ok { IfOk result (λ voters. Holds bytes.now (world_in voters)) }
-    ensures err { IfErr result (TellsDamage (HoldsNothing bytes.now)) }
+    ensures ok { IfOk result (λ voters. StandsFor bytes.now (world_in voters)) }
+    ensures err { IfErr result (TellsDamage (StandsForNothing bytes.now)) }
 {
     let mut voters = BTreeMap::new(alloc);
     let mut left = bytes;
     while !left.is_empty() {
-        let (group, voter, rest) = read_record(alloc, left)?;
+        let (group, voter, rest) = read_voter_record(alloc, left)?;
         set_voter(&mut voters, group, voter)?;
         left = rest;
     }

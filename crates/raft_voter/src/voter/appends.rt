@@ -1,7 +1,7 @@
 //! A leader's entries (Raft paper, AppendEntries receiver).
 ghost use Rattle.std.specs.Prelude.{◌≡◌, ◌+◌, ◌^◌, ◌<◌, ◌≤◌, length, IfOk, OnOk, OnErr};
 ghost use Rattle.raft_voter_messages.specs.declared.request.Request.TheVariants.{Append};
-ghost use Rattle.raft_voter.specs.Rules.{appended, next_in_range, reply_in_range};
+ghost use Rattle.raft_voter.specs.Rules.{merged_log, next_in_range, reply_in_range};
 ghost use Rattle.raft_voter.specs.State.{last_index};
 
 use super::Voter;
@@ -14,11 +14,12 @@ impl Voter {
         term: u64,
         prev_index: u64,
         prev_term: u64,
+        commit: u64,
         entries: &[(u64, Items<u8>)],
     ) -> Result<Reply, Memory>
         requires { prev_index + length entries.now < 2 ^ 63 }
-        ensures replies { IfOk result (λ given. given ≡ reply_in_range self.old (Append term prev_index prev_term entries.now)) }
-        ensures changes { OnOk result (self.new ≡ next_in_range self.old (Append term prev_index prev_term entries.now)) }
+        ensures replies { IfOk result (λ given. given ≡ reply_in_range self.old (Append term prev_index prev_term commit entries.now)) }
+        ensures changes { OnOk result (self.new ≡ next_in_range self.old (Append term prev_index prev_term commit entries.now)) }
         ensures err { OnErr result (self.new ≡ self.old) }
     {
         if term < self.term {
@@ -35,7 +36,9 @@ impl Voter {
         }
         self.merge(prev_index, entries)?;
         self.adopt_term(term);
-        Ok(Reply::Matched(prev_index + entries.len() as u64))
+        let last = prev_index + entries.len() as u64;
+        self.commit = self.commit.max(commit.min(last));
+        Ok(Reply::Matched(last))
     }
 
     /// Takes in the entries that follow index `prev_index`: those that match stay as they are, and from the first other
@@ -44,7 +47,7 @@ impl Voter {
         requires above_base { self.old.base_index ≤ prev_index }
         requires within { prev_index ≤ last_index self.old }
         requires fits { prev_index + length entries.now < 2 ^ 63 }
-        ensures ok { OnOk result (self.new ≡ appended self.old prev_index entries.now) }
+        ensures ok { OnOk result (self.new ≡ record self.old { log = merged_log self.old prev_index entries.now }) }
         ensures err { OnErr result (self.new ≡ self.old) }
     {
         let start = (prev_index - self.base_index) as usize;

@@ -35,6 +35,7 @@ impl Voter {
             vote: state.vote,
             base_index: state.base_index,
             base_term: state.base_term,
+            commit: state.commit,
             log,
         })
     }

@@ -13,7 +13,7 @@ impl Voter {
         ensures replies { result ≡ reply_in_range self.old (Compact index) }
         ensures changes { self.new ≡ next_in_range self.old (Compact index) }
     {
-        if index <= self.base_index {
+        if index <= self.base_index || index > self.commit {
             return Reply::Base(self.base_index);
         }
         let Some(term) = self.term_at(index) else {
@@ -44,6 +44,7 @@ impl Voter {
         }
         self.base_index = index;
         self.base_term = entry_term;
+        self.commit = self.commit.max(index);
         Reply::Base(index)
     }
 
@@ -54,6 +55,7 @@ impl Voter {
         self.vote = None;
         self.base_index = 0;
         self.base_term = 0;
+        self.commit = 0;
         self.log.clear();
     }
 }

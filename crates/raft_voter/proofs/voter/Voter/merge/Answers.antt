@@ -11,6 +11,7 @@ returns-clause-ok c = rw (← c.self.view_is) (ap
       vote = c.self.inside.vote;
       base_index = c.self.inside.base_index;
       base_term = c.self.inside.base_term;
+      commit = c.self.inside.commit;
       log = log;
     } in v)
     (merged_brings c.self.inside.log.items c.args.entries.now c.replace_tail.new.log.items c.in_ok-brought.brought.items

@@ -1,0 +1,101 @@
+use Rattle.std.proofs.Common.{◌≡◌, ℕ, ◌+◌, ◌≤◌, ◌&&◌, List, [], ◌∷◌, length, nat_lt, nat_le, false, None, Option, sym, ap, ◌∙◌, arith}
+use Rattle.std.specs.Prelude.{max, min}
+use Rattle.std.proofs.Math.Nat.{le-max_left, le-max_right}
+use Rattle.std.proofs.lemmas.Bool.{and_parts, leb-true}
+use Rattle.raft_voter_messages.specs.declared.reply.Reply.{Reply}
+use Rattle.raft_voter_messages.specs.declared.request.Request.{Request}
+use Rattle.raft_voter_messages.specs.declared.request.Request.TheVariants.{Vote, Append, Compact, Install, Read, Status, Retire}
+use Rattle.raft_voter_messages.specs.declared.round.Round.{Round}
+use Rattle.raft_voter_messages.specs.Ranges.{in_range}
+use Rattle.raft_voter.specs.State.{State, adopt_term, last_index}
+use Rattle.raft_voter.specs.Rules.{can_compact, compacted, next, next_in_range}
+use Rattle.raft_voter.specs.Rounds.{Leads, World, after_rounds}
+use Rattle.raft_voter.specs.Accounts.{account, group_account, is_retire, NoRetire, voter_from}
+use Rattle.raft_voter.specs.Laws.{BaseIsCommitted, CommitNeverFalls}
+use Rattle.raft_voter.proofs.Following.{account_follows, own_runs}
+use Rattle.raft_voter.proofs.VoterSteps.{append_next, by_test, compact_next, install_next, vote_next}
+
+-- The commit only rises.
+
+same : (v : State) → v.commit ≤ v.commit
+same v = omega arith
+
+commit-adopt_term : (v : State) (t : ℕ) → v.commit ≤ (adopt_term v t).commit
+commit-adopt_term v t =
+    by_test (λ (w : State). v.commit ≤ w.commit) (nat_lt v.term t) (record v { term = t; vote = None }) v (λ h. same v) (λ h. same v)
+
+-- what is raised from a commit that was at least as high is above it
+raised : (a b c : ℕ) → a ≤ b → a ≤ max b c
+raised a b c le = let up : b ≤ max b c = le-max_left b c in omega (arith, up)
+
+commit-next_in_range : (q : Request) (v : State) → is_retire q ≡ false → v.commit ≤ (next_in_range v q).commit
+commit-next_in_range (Vote t c i u) v stays =
+    vote_next (λ (w : State). v.commit ≤ w.commit) v t c i u (λ h. commit-adopt_term v t) (commit-adopt_term v t)
+commit-next_in_range (Append t p u commit es) v stays =
+    append_next (λ (w : State). v.commit ≤ w.commit) v t p u commit es (same v)
+    (raised v.commit (adopt_term v t).commit (min commit (p + length es)) (commit-adopt_term v t)) (commit-adopt_term v t)
+commit-next_in_range (Compact i) v stays = compact_next (λ (w : State). v.commit ≤ w.commit) v i (same v) (same v)
+commit-next_in_range (Install t i u) v stays =
+    install_next (λ (w : State). v.commit ≤ w.commit) v t i u (same v) (commit-adopt_term v t)
+    (raised v.commit (adopt_term v t).commit i (commit-adopt_term v t))
+commit-next_in_range (Read a b) v stays = same v
+commit-next_in_range Status v stays = same v
+commit-next_in_range Retire v stays = absurd (cc)
+
+commit-next : (q : Request) (v : State) → is_retire q ≡ false → v.commit ≤ (next v q).commit
+commit-next q v stays =
+    by_test (λ (w : State). v.commit ≤ w.commit) (in_range q) (next_in_range v q) v (λ h. commit-next_in_range q v stays) (λ h. same v)
+
+commit-voter_from :
+    (ts : List (Request × Option Reply)) (v : State) → NoRetire ts → v.commit ≤ (voter_from v ts).commit
+commit-voter_from [] v stays = omega arith
+commit-voter_from (t ∷ ts) v stays = omega (arith, commit-next t.0 v stays.0, commit-voter_from ts (next v t.0) stays.1)
+
+-- The base stays at or below it.
+
+abbrev pub HasCommittedBase : State → Type 0
+HasCommittedBase v = v.base_index ≤ v.commit
+
+adopted : (v : State) (t : ℕ) → HasCommittedBase v → HasCommittedBase (adopt_term v t)
+adopted v t h = by_test HasCommittedBase (nat_lt v.term t) (record v { term = t; vote = None }) v (λ k. h) (λ k. h)
+
+base_next_in_range : (q : Request) (v : State) → HasCommittedBase v → HasCommittedBase (next_in_range v q)
+base_next_in_range (Vote t c i u) v h = vote_next HasCommittedBase v t c i u (λ k. adopted v t h) (adopted v t h)
+base_next_in_range (Append t p u commit es) v h =
+    append_next HasCommittedBase v t p u commit es h
+    (raised (adopt_term v t).base_index (adopt_term v t).commit (min commit (p + length es)) (adopted v t h)) (adopted v t h)
+base_next_in_range (Compact i) v h =
+    by_test HasCommittedBase (can_compact v i) (compacted v i) v
+    (λ can. leb-true i v.commit (and_parts (nat_lt v.base_index i && nat_le i (last_index v)) (nat_le i v.commit) can).1) (λ cannot. h)
+base_next_in_range (Install t i u) v h =
+    install_next HasCommittedBase v t i u h (adopted v t h) (le-max_right (adopt_term v t).commit i)
+base_next_in_range (Read a b) v h = h
+base_next_in_range Status v h = h
+base_next_in_range Retire v h = omega arith
+
+pub base_next : (q : Request) (v : State) → HasCommittedBase v → HasCommittedBase (next v q)
+base_next q v h = by_test HasCommittedBase (in_range q) (next_in_range v q) v (λ k. base_next_in_range q v h) (λ k. h)
+
+base_voter_from :
+    (ts : List (Request × Option Reply)) (v : State) → HasCommittedBase v → HasCommittedBase (voter_from v ts)
+base_voter_from [] v h = h
+base_voter_from (t ∷ ts) v h = base_voter_from ts (next v t.0) (base_next t.0 v h)
+
+-- Over rounds.
+
+became :
+    (W X : World) (rounds : List Round) (cuts : List ℕ) (g : ℕ) → Leads W rounds cuts X
+    → X g ≡ voter_from (W g) (group_account g rounds cuts)
+became W X rounds cuts g leads =
+    let follows = account_follows rounds W cuts leads.explained in
+    let moved = (own_runs (account rounds cuts) W g follows.0).1 in
+    let reached : after_rounds W rounds cuts g ≡ X g = ap (λ (V : World). V g) leads.reached in
+    sym reached ∙ sym (ap (λ (V : World). V g) follows.1) ∙ moved
+
+pub commit_never_falls : CommitNeverFalls
+commit_never_falls W X rounds cuts g leads stays =
+    rw (became W X rounds cuts g leads) (commit-voter_from (group_account g rounds cuts) (W g) stays)
+
+pub base_is_committed : BaseIsCommitted
+base_is_committed W X rounds cuts g leads h =
+    rw (became W X rounds cuts g leads) (base_voter_from (group_account g rounds cuts) (W g) h)

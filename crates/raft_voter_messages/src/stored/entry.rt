@@ -1,0 +1,69 @@
+//! The bytes of an entry: the form, its index, its term, and its own bytes.
+ghost use Rattle.std.specs.Prelude.{◌≡◌, IfOk, IfErr};
+ghost use Rattle.raft_voter_messages.specs.StoredForms.{entry_text, EntryFault, EntryForm1Fault, IsEntry, IsEntryForm1, stored_entry_fits};
+
+use super::{NUMBER_BYTES, StoredFault, append_number, split_number};
+use crate::request::{MAX_ENTRY_BYTES, all_fit, fits};
+use crate::{Entry, Items, Memory};
+use std::alloc::Global;
+
+/// The form byte of entry form 1.
+const FORM_1: u8 = 1;
+
+/// How many bytes stand between the form byte and the entry's own bytes.
+const FORM_1_NUMBERS: usize = 2 * NUMBER_BYTES;
+
+/// The bytes of an entry, in form 1.
+pub fn entry_bytes(alloc: Global, entry: &Entry) -> Result<Items<u8>, Memory>
+    ensures { IfOk result (λ bytes. bytes ≡ entry_text entry.now) }
+{
+    let own = entry.bytes.as_slice();
+    let mut bytes = Vec::with_capacity(alloc, own.len().saturating_add(1 + FORM_1_NUMBERS))?;
+    bytes.push(FORM_1)?;
+    append_number(&mut bytes, entry.index)?;
+    append_number(&mut bytes, entry.term)?;
+    bytes.extend_from_slice(own)?;
+    Ok(Items::from_vec(bytes))
+}
+
+/// The entry at this index that these bytes are; else the first fault: no bytes, another form, another length, a
+/// number out of range, another index.
+pub fn read_entry(alloc: Global, bytes: &[u8], index: u64) -> Result<Entry, StoredFault>
+    ensures ok { IfOk result (λ entry. IsEntry bytes.now index entry) }
+    ensures err { IfErr result (λ fault. EntryFault fault bytes.now index) }
+{
+    let Some((form, body)) = bytes.split_first() else {
+        return Err(StoredFault::Length);
+    };
+    match *form {
+        FORM_1 => read_form_1(alloc, body, index),
+        _ => Err(StoredFault::Form),
+    }
+}
+
+/// Whether an entry's numbers are in range, and it isn't too long.
+pub fn stored_entry_fits(entry: &Entry) -> bool
+    ensures { result ≡ stored_entry_fits entry.now }
+{
+    fits(entry.index) && fits(entry.term) && entry.bytes.len() <= MAX_ENTRY_BYTES
+}
+
+/// The entry at this index that the bytes behind form byte 1 are, or their first fault.
+fn read_form_1(alloc: Global, body: &[u8], index: u64) -> Result<Entry, StoredFault>
+    ensures ok { IfOk result (λ entry. IsEntryForm1 body.now entry × (entry.index ≡ index)) }
+    ensures err { IfErr result (λ fault. EntryForm1Fault fault body.now index) }
+{
+    if body.len() < FORM_1_NUMBERS || body.len() > FORM_1_NUMBERS + MAX_ENTRY_BYTES {
+        return Err(StoredFault::Length);
+    }
+    let (own_index, rest) = split_number(body);
+    let (term, own) = split_number(rest);
+    if !all_fit(&[own_index, term]) {
+        return Err(StoredFault::Range);
+    }
+    if own_index != index {
+        return Err(StoredFault::Index);
+    }
+    let bytes = Items::from_slice(alloc, own)?;
+    Ok(Entry { index, term, bytes })
+}

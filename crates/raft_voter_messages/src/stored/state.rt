@@ -1,0 +1,97 @@
+//! The bytes of a voter's state: the form, the term, whether there is a vote, the candidate, the base's index and
+//! term, and in form 2 the commit. What is known of the last entry isn't written.
+ghost use Rattle.std.specs.Prelude.{◌≡◌, IfOk, IfErr};
+ghost use Rattle.raft_voter_messages.specs.StoredForms.{IsBare, IsState, IsStateForm1, state_fits, state_form_2, state_text, StateFault, StateForm1Fault, StateForm2Fault};
+
+use super::head::StateHead;
+use super::{NUMBER_BYTES, StoredFault, append_number, split_number};
+use crate::request::fits;
+use crate::{Items, Memory, VoterState};
+use std::alloc::Global;
+
+/// The form byte of state form 1, which has no commit.
+const FORM_1: u8 = 1;
+
+/// The form byte of state form 2.
+const FORM_2: u8 = 2;
+
+/// How many bytes follow the form byte in form 1: four numbers and the byte of the vote.
+const FORM_1_BYTES: usize = 4 * NUMBER_BYTES + 1;
+
+/// How many bytes follow the form byte in form 2.
+const FORM_2_BYTES: usize = FORM_1_BYTES + NUMBER_BYTES;
+
+/// The bytes of a state, in form 2.
+pub fn state_bytes(alloc: Global, state: &VoterState) -> Result<Items<u8>, Memory>
+    ensures { IfOk result (λ bytes. bytes ≡ state_text state.now) }
+{
+    let mut bytes = Vec::with_capacity(alloc, 1 + FORM_2_BYTES)?;
+    bytes.push(FORM_2)?;
+    append_number(&mut bytes, state.term)?;
+    bytes.push(state.vote.is_some() as u8)?;
+    append_number(&mut bytes, state.vote.unwrap_or(0))?;
+    append_number(&mut bytes, state.base_index)?;
+    append_number(&mut bytes, state.base_term)?;
+    append_number(&mut bytes, state.commit)?;
+    Ok(Items::from_vec(bytes))
+}
+
+/// The state that these bytes are, with the base in place of the last entry, and in form 1 of the commit; else the
+/// first fault: no bytes, another form, another length, a value out of range.
+pub fn read_state(bytes: &[u8]) -> Result<VoterState, StoredFault>
+    ensures ok { IfOk result (λ state. IsState bytes.now state) }
+    ensures err { IfErr result (λ fault. StateFault fault bytes.now) }
+{
+    let Some((form, body)) = bytes.split_first() else {
+        return Err(StoredFault::Length);
+    };
+    match *form {
+        FORM_1 => read_form_1(body),
+        FORM_2 => read_form_2(body),
+        _ => Err(StoredFault::Form),
+    }
+}
+
+/// Whether a state's numbers are in range, and its base doesn't stand above its commit.
+pub fn state_fits(state: &VoterState) -> bool
+    ensures { result ≡ state_fits state.now }
+{
+    fits(state.term)
+        && state.vote.is_none_or(|candidate| fits(candidate))
+        && fits(state.base_index)
+        && fits(state.base_term)
+        && fits(state.commit)
+        && state.base_index <= state.commit
+}
+
+/// The state that the bytes behind form byte 1 are, or their first fault.
+fn read_form_1(body: &[u8]) -> Result<VoterState, StoredFault>
+    ensures ok { IfOk result (λ state. IsStateForm1 body.now state × IsBare state) }
+    ensures err { IfErr result (λ fault. StateForm1Fault fault body.now) }
+{
+    if body.len() != FORM_1_BYTES {
+        return Err(StoredFault::Length);
+    }
+    let (head, _end) = StateHead::split(body);
+    let commit = head.base_index();
+    let Some(state) = head.state(commit) else {
+        return Err(StoredFault::Range);
+    };
+    Ok(state)
+}
+
+/// The state that the bytes behind form byte 2 are, or their first fault.
+fn read_form_2(body: &[u8]) -> Result<VoterState, StoredFault>
+    ensures ok { IfOk result (λ state. (body.now ≡ state_form_2 state) × IsBare state) }
+    ensures err { IfErr result (λ fault. StateForm2Fault fault body.now) }
+{
+    if body.len() != FORM_2_BYTES {
+        return Err(StoredFault::Length);
+    }
+    let (head, rest) = StateHead::split(body);
+    let (commit, _end) = split_number(rest);
+    let Some(state) = head.state(commit) else {
+        return Err(StoredFault::Range);
+    };
+    Ok(state)
+}

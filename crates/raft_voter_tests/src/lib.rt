@@ -1,0 +1,18 @@
+//! Tests of `raft_voter_messages` and `raft_voter`: what no contract says, and each public call once with memory at hand. They
+//! stand above the libraries, so that these aren't proved again for them. The crate itself has nothing.
+#![tactic(auto)]
+
+#[cfg(test)]
+mod judging;
+#[cfg(test)]
+mod memory;
+#[cfg(test)]
+mod requests;
+#[cfg(test)]
+mod restoring;
+#[cfg(test)]
+mod stored;
+#[cfg(test)]
+mod texts;
+#[cfg(test)]
+mod voters;

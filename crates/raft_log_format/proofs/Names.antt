@@ -6,12 +6,16 @@ use Rattle.std.specs.Str.{IsCharBoundary}
 use Rattle.std.specs.Str.Parse.{AllDigits, IsNumeral, ParsesUnsigned, digits_value, digits_value_after, without_leading_plus}
 use Rattle.std.specs.Fmt.{decimal, padded_integral, format_spec, char_count}
 use Rattle.std.proofs.Math.Seq.{take-append_seam}
-use Rattle.std.proofs.lemmas.List.{append-nil, length-take-le, length-append, length-replicate, get_or_append_left, get_or-take, take_all}
+use Rattle.std.proofs.lemmas.List.{append-nil, length-take-le, length-append, length-replicate, get_or-append-add, get_or-take, take_all}
 use Rattle.std.proofs.lemmas.Str.{IsCharBoundary-after_ascii}
 use Rattle.std.proofs.lemmas.Str.Parse.{IsNumeralModel, numerals_by_value, tells_digits, digit_at, digits_value_short, without_leading_plus_none}
 use Rattle.std.proofs.lemmas.Option.{same_Some, none-some}
 use Rattle.std.proofs.lemmas.Fmt.{decimal_is_IsNumeral, length-decimal-le}
-use Rattle.raft_log_format.specs.Name.{EndsWith, IsNumbered, IsNamed, sixteen_digits}
+use Rattle.std.specs.Prelude.{codes}
+use Rattle.raft_log_base.specs.declared.pipe_log.LogQueue.{LogQueue}
+use Rattle.raft_log_base.specs.declared.pipe_log.LogQueue.TheVariants.{Append, Rewrite}
+use Rattle.raft_log_base.specs.declared.pipe_log.FileId.{FileId}
+use Rattle.raft_log_format.specs.Name.{EndsWith, IsNumbered, IsNamed, sixteen_digits, suffix_of}
 
 own : IsNumeralModel (AllDigits 10) (digits_value 10)
 own = numerals_by_value (AllDigits 10) tells_digits
@@ -86,3 +90,40 @@ written_number suffix n fit some =
       digits = subst (IsNumeral 10) (sym whole) digits.0;
       value = sym (ap (digits_value 10) whole ∙ digits.1);
     }
+
+-- ---- names of the two queues
+
+-- the eighth byte from the end is a point in both queues' names, and the last one differs
+pub one_queue : (name : List ℕ) → EndsWith (codes ".raftlog") name → EndsWith (codes ".rewrite") name → ⊥
+one_queue name (a, append) (b, rewrite) =
+    let same : length a ≡ length b = omega (arith, ap length append, ap length rewrite, length-append a (codes ".raftlog"), length-append b (codes ".rewrite")) in
+    let letter_g : get_or name (length a + 7) 0 ≡ 103 = ap (λ (l : List ℕ). get_or l (length a + 7) 0) append ∙ get_or-append-add a (codes ".raftlog") 7 0 in
+    let letter_e : get_or name (length b + 7) 0 ≡ 101 = ap (λ (l : List ℕ). get_or l (length b + 7) 0) rewrite ∙ get_or-append-add b (codes ".rewrite") 7 0 in
+    let one = sym (ap (λ (k : ℕ). get_or name (k + 7) 0) same) ∙ letter_g in
+    absurd (omega (arith, one, letter_e))
+
+pub one_number : (name : List ℕ) (m n : ℕ) → IsNumbered name m → IsNumbered name n → m ≡ n
+one_number name m n a b = a.value ∙ sym b.value
+
+same_file : (p q : LogQueue) (m n : ℕ) → p ≡ q → m ≡ n → ◌≡◌ {A = FileId} (record { queue = p; seq = m }) (record { queue = q; seq = n })
+same_file p q m n e f = ap (λ (r : LogQueue). record { queue = r; seq = m }) e ∙ ap (λ (k : ℕ). record { queue = q; seq = k }) f
+
+pub file_found : (q : LogQueue) (name : List ℕ) (seq : ℕ) → IsNamed (suffix_of q) name seq → (id : FileId)
+    → (Some (record { queue = q; seq = seq }) ≡ Some id → IsNamed (suffix_of id.queue) name id.seq)
+    × (IsNamed (suffix_of id.queue) name id.seq → Some (record { queue = q; seq = seq }) ≡ Some id)
+file_found q name seq named id =
+    ((λ same. subst (λ (f : FileId). IsNamed (suffix_of f.queue) name f.seq) (same_Some _ id same) named), λ other. ap Some (same_file q id.queue seq id.seq (same_queue q id.queue named.1 other.1) (one_number name seq id.seq named.0 other.0)))
+  where
+    same_queue : (p r : LogQueue) → EndsWith (suffix_of p) name → EndsWith (suffix_of r) name → p ≡ r
+    same_queue Append Append a b = refl
+    same_queue Rewrite Rewrite a b = refl
+    same_queue Append Rewrite a b = absurd (one_queue name a b)
+    same_queue Rewrite Append a b = absurd (one_queue name b a)
+
+pub none_found : (name : List ℕ) → ((n : ℕ) → IsNamed (codes ".raftlog") name n → ⊥) → ((n : ℕ) → IsNamed (codes ".rewrite") name n → ⊥)
+    → (id : FileId) → (None ≡ Some id → IsNamed (suffix_of id.queue) name id.seq) × (IsNamed (suffix_of id.queue) name id.seq → None ≡ Some id)
+none_found name append rewrite id = ((λ same. absurd (none-some id same)), λ named. absurd (in_queue id.queue id.seq named))
+  where
+    in_queue : (q : LogQueue) (n : ℕ) → IsNamed (suffix_of q) name n → ⊥
+    in_queue Append n named = append n named
+    in_queue Rewrite n named = rewrite n named

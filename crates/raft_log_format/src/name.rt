@@ -60,6 +60,16 @@ fn parse_seq(name: &str) -> Option<FileSeq>
     front.parse::<u64>().ok()
 }
 
+/// The number of a name with this end.
+fn parse_seq_before(name: &str, suffix: &str) -> Option<FileSeq>
+    ensures { (n : ℕ) → (result ≡ Some n) ↔ IsNamed suffix.now name.now n }
+{
+    if has_suffix(name, suffix) {
+        return parse_seq(name);
+    }
+    None
+}
+
 /// The name with this number and this end.
 fn name_with(alloc: Global, seq: FileSeq, suffix: &str) -> Result<String>
     ensures ok { IfOk result (λ name. string_bytes name ≡ sixteen_digits seq ++ suffix.now) }
@@ -91,13 +101,10 @@ impl FileNameExt for FileId {
     ghost number = { λ id. id.seq };
 
     fn parse_file_name(file_name: &str) -> Option<FileId> {
-        let Some(seq) = parse_seq(file_name) else {
-            return None;
-        };
-        if has_suffix(file_name, LOG_APPEND_SUFFIX) {
+        if let Some(seq) = parse_seq_before(file_name, LOG_APPEND_SUFFIX) {
             return Some(FileId::new(LogQueue::Append, seq));
         }
-        if has_suffix(file_name, LOG_REWRITE_SUFFIX) {
+        if let Some(seq) = parse_seq_before(file_name, LOG_REWRITE_SUFFIX) {
             return Some(FileId::new(LogQueue::Rewrite, seq));
         }
         None
@@ -117,13 +124,7 @@ impl FileNameExt for FileId {
 pub fn parse_reserved_file_name(file_name: &str) -> Option<FileSeq>
     ensures { (n : ℕ) → (result ≡ Some n) ↔ IsNamed reserved_suffix file_name.now n }
 {
-    let Some(seq) = parse_seq(file_name) else {
-        return None;
-    };
-    if has_suffix(file_name, LOG_APPEND_RESERVED_SUFFIX) {
-        return Some(seq);
-    }
-    None
+    parse_seq_before(file_name, LOG_APPEND_RESERVED_SUFFIX)
 }
 
 /// The name of a file that is kept to be used. A number of more than sixteen digits is refused as `NumberRange`.

@@ -1,11 +1,11 @@
 -- Refusals that are passed on, and decoders that give what a reader reads.
 use Rattle.std.proofs.Common.{◌≡◌, ℕ, List, Result, Ok, Err, refl, sym, ap, ◌∙◌}
 use Rattle.std.specs.Global.{Vec}
-use Rattle.raft_log_codec.specs.Grammar.{Reader, IsReader}
-use Rattle.raft_log_codec.proofs.Grammar.{ok_is}
+use Rattle.raft_log_base.specs.Grammar.{Reader, IsReader}
+use Rattle.raft_log_base.proofs.Grammar.{ok_is}
 use Rattle.raft_log_base.specs.declared.errors.Error.{Error}
 use Rattle.raft_log_base.specs.declared.errors.Error.TheVariants as errors
-use Rattle.raft_log_base.specs.Fault.{Fault, Fails, Answers, AnswersItems, Decodes, DecodesItems}
+use Rattle.raft_log_base.specs.Fault.{Fault, Fails, ReadsOrMemory, ReadsItemsOrMemory, DecodesOrMemory, DecodesItemsOrMemory}
 use Rattle.raft_log_base.specs.Fault.Fault.{number}
 
 -- where each fault of one reading is a fault of another, so is the refusal
@@ -42,7 +42,7 @@ fails_of_ok errors.Failed r x h p = absurd p
 fails_of_ok errors.Hole r x h p = absurd p
 fails_of_ok errors.NumberRange r x h p = absurd p
 
-pub decodes : {X : Type 0} (result : Result X Error) (old new : List ℕ) {read : Reader X Fault} {P : List ℕ → X → Type 0} → IsReader read P → Answers result old new (read old) → Decodes P result old new
+pub decodes : {X : Type 0} (result : Result X Error) (old new : List ℕ) {read : Reader X Fault} {P : List ℕ → X → Type 0} → IsReader read P → ReadsOrMemory result old new (read old) → DecodesOrMemory P result old new
 decodes {X = X} (Ok y) old new {read = read} h t = record {
   found = h.takes old (y, new) t;
   only = λ text rest x p e.
@@ -54,7 +54,7 @@ decodes {X = X} (Err d) old new {read = read} h t = record {
   only = λ text rest x p e. fails_of_ok d (read old) (x, rest) (ap read e ∙ h.again text rest x p) t.0;
 }
 
-pub decodes_items : {X : Type 0} (result : Result (Vec X) Error) (old new : List ℕ) {read : Reader (List X) Fault} {P : List ℕ → List X → Type 0} → IsReader read P → AnswersItems result old new (read old) → DecodesItems P result old new
+pub decodes_items : {X : Type 0} (result : Result (Vec X) Error) (old new : List ℕ) {read : Reader (List X) Fault} {P : List ℕ → List X → Type 0} → IsReader read P → ReadsItemsOrMemory result old new (read old) → DecodesItemsOrMemory P result old new
 decodes_items {X = X} (Ok ys) old new {read = read} h t = record {
   found = h.takes old (ys.items, new) t;
   only = λ text rest xs p e.

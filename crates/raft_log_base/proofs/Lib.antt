@@ -1,1 +1,7 @@
+pub mod Fixed
+pub mod Grammar
+pub mod Sizes
+pub mod Var
+pub mod VarLoop
+pub mod VarSpelling
 pub mod Faults

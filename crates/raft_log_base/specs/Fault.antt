@@ -3,8 +3,8 @@ use Rattle.std.specs.Prelude.{◌≡◌, ◌⊎◌, ◌++◌, ℕ, List, Result,
 use Rattle.std.specs.String.{string_bytes}
 use Rattle.std.specs.Global.{Vec, Box}
 use Rattle.anyhow.specs.declared.error.Error.{Error as AnyhowError}
-use Rattle.raft_log_codec.specs.declared.codec.error.Error.{Error as CodecError}
-use Rattle.raft_log_codec.specs.Grammar.{Reader}
+use Rattle.raft_log_base.specs.declared.codec.error.Error.{Error as CodecError}
+use Rattle.raft_log_base.specs.Grammar.{Reader}
 use Rattle.raft_log_base.specs.declared.errors.Error.{Error}
 use Rattle.raft_log_base.specs.declared.errors.Error.TheVariants as errors
 
@@ -43,27 +43,27 @@ abbrev pub IsOtherOf : AnyhowError → Error → Type 0
 IsOtherOf error e = (e ≡ errors.Memory) ⊎ ((kept : Box AnyhowError) × (e ≡ errors.Other kept) × (kept.value ≡ error))
 
 -- What a decoder answered and what it left is what the reading of the bytes gives, unless memory ran out. A refusal leaves all.
-abbrev pub Answers : {X : Type 0} → Result X Error → List ℕ → List ℕ → Result (X × List ℕ) Fault → Type 0
-Answers (Ok x) old new reading = reading ≡ Ok (x, new)
-Answers (Err e) old new reading = Fails e reading × (new ≡ old)
+abbrev pub ReadsOrMemory : {X : Type 0} → Result X Error → List ℕ → List ℕ → Result (X × List ℕ) Fault → Type 0
+ReadsOrMemory (Ok x) old new reading = reading ≡ Ok (x, new)
+ReadsOrMemory (Err e) old new reading = Fails e reading × (new ≡ old)
 
 -- The same of a decoder that takes all of its bytes.
-abbrev pub Gives : {X : Type 0} → Result X Error → Result X Fault → Type 0
-Gives (Ok x) reading = reading ≡ Ok x
-Gives (Err e) reading = Fails e reading
+abbrev pub GivesOrMemory : {X : Type 0} → Result X Error → Result X Fault → Type 0
+GivesOrMemory (Ok x) reading = reading ≡ Ok x
+GivesOrMemory (Err e) reading = Fails e reading
 
 -- A decoder of this grammar: what it answers is spelled by the bytes that it took, what is spelled so at the front is
 -- answered and just that taken, unless memory ran out, and a refusal takes nothing.
-pub record Decodes {X : Type 0} (P : List ℕ → X → Type 0) (result : Result X Error) (old new : List ℕ) : Type 0 where
+pub record DecodesOrMemory {X : Type 0} (P : List ℕ → X → Type 0) (result : Result X Error) (old new : List ℕ) : Type 0 where
   pub found : MatchResult result (λ x. (text : List ℕ) × P text x × (old ≡ text ++ new)) (λ e. new ≡ old)
   pub only : (text rest : List ℕ) (x : X) → P text x → old ≡ text ++ rest → MatchResult result (λ y. (y ≡ x) × (new ≡ rest)) (λ e. e ≡ errors.Memory)
 
 -- The same of a decoder that answers a vector.
-abbrev pub AnswersItems : {X : Type 0} → Result (Vec X) Error → List ℕ → List ℕ → Result (List X × List ℕ) Fault → Type 0
-AnswersItems (Ok x) old new reading = reading ≡ Ok (x.items, new)
-AnswersItems (Err e) old new reading = Fails e reading × (new ≡ old)
+abbrev pub ReadsItemsOrMemory : {X : Type 0} → Result (Vec X) Error → List ℕ → List ℕ → Result (List X × List ℕ) Fault → Type 0
+ReadsItemsOrMemory (Ok x) old new reading = reading ≡ Ok (x.items, new)
+ReadsItemsOrMemory (Err e) old new reading = Fails e reading × (new ≡ old)
 
 -- A decoder that answers a vector whose items are of this grammar.
-pub record DecodesItems {X : Type 0} (P : List ℕ → List X → Type 0) (result : Result (Vec X) Error) (old new : List ℕ) : Type 0 where
+pub record DecodesItemsOrMemory {X : Type 0} (P : List ℕ → List X → Type 0) (result : Result (Vec X) Error) (old new : List ℕ) : Type 0 where
   pub found : MatchResult result (λ xs. (text : List ℕ) × P text xs.items × (old ≡ text ++ new)) (λ e. new ≡ old)
   pub only : (text rest : List ℕ) (xs : List X) → P text xs → old ≡ text ++ rest → MatchResult result (λ ys. (ys.items ≡ xs) × (new ≡ rest)) (λ e. e ≡ errors.Memory)

@@ -2,7 +2,7 @@
 ghost use Rattle.std.specs.Prelude.{◌≡◌};
 ghost use Rattle.raft_log_base.specs.declared.errors.Error.TheVariants as errors;
 
-use raft_log_codec::codec;
+use crate::codec;
 use std::alloc::{AllocError, AllocFailed, Global};
 use std::io::ErrorKind;
 use thiserror::Error;

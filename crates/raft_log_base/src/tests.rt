@@ -1,6 +1,6 @@
 //! Texts of errors, and what a file signs with.
 use crate::{Error, FileId, LogFileContext, LogQueue, Version};
-use raft_log_codec::codec;
+use crate::codec;
 use std::io::ErrorKind;
 use std::test::Fail;
 

@@ -6,8 +6,8 @@ use Rattle.std.specs.Int.{w32, from_le_bytes}
 use Rattle.std.proofs.lemmas.Bool.{eq-eqb, eqb-true, ne_eqb, le-ltb, ltb-false}
 use Rattle.std.proofs.lemmas.List.{take_at, drop_at, take-append-drop, length-drop, length-append}
 use Rattle.raft_log_checksum.specs.Checksum.{crc32_of}
-use Rattle.raft_log_codec.specs.Number.{IsU32Le}
-use Rattle.raft_log_codec.proofs.Grammar.{ok_is, chosen}
+use Rattle.raft_log_base.specs.Number.{IsU32Le}
+use Rattle.raft_log_base.proofs.Grammar.{ok_is, chosen}
 use Rattle.raft_log_base.specs.declared.errors.Error.{Error}
 use Rattle.raft_log_base.specs.Fault.{Fault}
 use Rattle.raft_log_base.specs.Fault.Fault.{corrupt}

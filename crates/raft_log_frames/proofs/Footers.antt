@@ -5,8 +5,8 @@ use Rattle.raft_log_checksum.specs.Checksum.{crc32_of}
 use Rattle.std.specs.Int.{w32, from_le_bytes}
 use Rattle.std.proofs.lemmas.Bool.{eq-eqb, eqb-true, le-ltb, lt-ltb, ltb-true, ltb-false, ne_eqb}
 use Rattle.std.proofs.lemmas.List.{append-nil, take_at, drop_at, take-append-drop, length-drop, length-append}
-use Rattle.raft_log_codec.specs.Number.{IsVarU64}
-use Rattle.raft_log_codec.proofs.Grammar.{bind_ok, ok_is, chosen}
+use Rattle.raft_log_base.specs.Number.{IsVarU64}
+use Rattle.raft_log_base.proofs.Grammar.{bind_ok, ok_is, chosen}
 use Rattle.raft_log_items.specs.declared.item.LogItem.{LogItem}
 use Rattle.raft_log_base.specs.Fault.{Fault}
 use Rattle.raft_log_base.specs.Fault.Fault.{corrupt}

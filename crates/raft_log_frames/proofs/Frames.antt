@@ -3,7 +3,7 @@ use Rattle.std.proofs.Common.{◌≡◌, ℕ, ◌+◌, ◌-◌, ◌*◌, ◌≤�
 use Rattle.std.specs.Prelude.{slice_range}
 use Rattle.std.specs.Int.{w64, from_be_bytes}
 use Rattle.std.proofs.lemmas.List.{take_at, drop_at, take-append-drop, length-take-le, length-drop, length-append}
-use Rattle.raft_log_codec.proofs.Grammar.{ok_is, prefix_free}
+use Rattle.raft_log_base.proofs.Grammar.{ok_is, prefix_free}
 use Rattle.raft_log_items.specs.declared.item.LogItem.{LogItem}
 use Rattle.raft_log_items.specs.declared.entry.CompressionType.TheVariants as kinds
 use Rattle.raft_log_base.specs.Fault.{Fault}

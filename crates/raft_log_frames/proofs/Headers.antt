@@ -4,12 +4,12 @@ use Rattle.std.specs.Int.{w64, from_be_bytes}
 use Rattle.std.proofs.lemmas.Bool.{ltb-false, le-ltb, eqb-true, eq-eqb}
 use Rattle.std.proofs.lemmas.List.{take_at, drop_at, take-append-drop, length-take-le, length-drop, length-append}
 use Rattle.std.specs.Prelude.{IsOk, OnOk}
-use Rattle.raft_log_codec.specs.Grammar.{Reader, IsReader, Decodes, ◌>>=◌}
-use Rattle.raft_log_codec.proofs.Grammar.{bind_ok, ok_is, chosen}
+use Rattle.raft_log_base.specs.Grammar.{Reader, IsReader, Decodes, ◌>>=◌}
+use Rattle.raft_log_base.proofs.Grammar.{bind_ok, ok_is, chosen}
 use Rattle.raft_log_items.specs.declared.entry.CompressionType.{CompressionType}
 use Rattle.raft_log_items.specs.declared.entry.CompressionType.TheVariants as kinds
 use Rattle.raft_log_base.specs.declared.errors.Error.{Error}
-use Rattle.raft_log_base.specs.Fault.{Fault, Answers}
+use Rattle.raft_log_base.specs.Fault.{Fault, ReadsOrMemory}
 use Rattle.raft_log_base.specs.Fault.Fault.{corrupt}
 use Rattle.raft_log_items.specs.Reading.{unsupported_compression}
 use Rattle.raft_log_frames.specs.Record.{IsHeader, IsSoundHeader, header_of, header_at, header_too_short, offset_in_header, offset_past_end}
@@ -112,7 +112,7 @@ is_sound_header = record { takes = header_takes; again = header_again }
 
 -- ---- decoders that refuse only where the reading does
 
-pub decodes_surely : {X : Type 0} (result : Result X Error) (old new : List ℕ) {read : Reader X Fault} {P : List ℕ → X → Type 0} → IsReader read P → Answers result old new (read old) → (IsOk (read old) → IsOk result) → Decodes P result old new
+pub decodes_surely : {X : Type 0} (result : Result X Error) (old new : List ℕ) {read : Reader X Fault} {P : List ℕ → X → Type 0} → IsReader read P → ReadsOrMemory result old new (read old) → (IsOk (read old) → IsOk result) → Decodes P result old new
 decodes_surely {X = X} (Ok y) old new {read = read} h t sure = record {
   found = h.takes old (y, new) t;
   only = λ text rest x p e.

@@ -2,7 +2,7 @@
 use Rattle.std.proofs.Common.{◌≡◌, ℕ, ◌+◌, ◌≤◌, List, [], ◌∷◌, ◌++◌, length, take, drop, Option, None, refl, sym, ap, subst, ◌∙◌, append_assoc, arith}
 use Rattle.std.proofs.Math.Seq.{take-append_seam}
 use Rattle.std.proofs.lemmas.List.{length-append, length-take-le, take-append-drop, drop_at}
-use Rattle.raft_log_codec.specs.Number.{u32_le_bytes, u64_bytes}
+use Rattle.raft_log_base.specs.Number.{u32_le_bytes, u64_bytes}
 use Rattle.raft_log_checksum.specs.Checksum.{crc32_of}
 use Rattle.raft_log_items.specs.declared.item.LogItem.{LogItem}
 use Rattle.raft_log_items.specs.Writing.{items_bytes, KeepsFront}

@@ -4,7 +4,7 @@ use Rattle.std.proofs.lemmas.Nat.{xor_of_32, from_le_bytes-to_le_bytes_4, from_b
 use Rattle.std.proofs.lemmas.List.{length-append}
 use Rattle.std.proofs.lemmas.List.Sums.{sum_by-append}
 use Rattle.raft_log_checksum.specs.Checksum.{crc_bit, crc_bits, crc_after, crc32_of}
-use Rattle.raft_log_codec.specs.Number.{IsU64, IsU32Le, u32_le_bytes, u64_bytes}
+use Rattle.raft_log_base.specs.Number.{IsU64, IsU32Le, u32_le_bytes, u64_bytes}
 use Rattle.raft_log_items.specs.declared.item.LogItem.{LogItem}
 use Rattle.raft_log_items.specs.declared.item.LogItemContent.{LogItemContent}
 use Rattle.raft_log_items.specs.declared.item.LogItemContent.TheVariants as contents

@@ -4,7 +4,7 @@
 use Rattle.std.specs.Prelude.{◌≡◌, ◌↔◌, ℕ, ◌+◌, ◌-◌, ◌≤◌, List, ◌++◌, length, take, slice_range, Option, Ok}
 use Rattle.raft_log_items.specs.declared.entry.CompressionType.TheVariants as kinds
 use Rattle.raft_log_items.specs.declared.item.LogItem.{LogItem}
-use Rattle.raft_log_codec.specs.Grammar.{IsPrefixFree}
+use Rattle.raft_log_base.specs.Grammar.{IsPrefixFree}
 use Rattle.raft_log_frames.specs.Record.{IsSoundHeader, IsBlock, IsFooter, IsFrame, IsRecord, header_at, block_of, footer_of}
 
 -- ---- at one place there is one record only

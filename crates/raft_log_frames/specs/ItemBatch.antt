@@ -1,6 +1,6 @@
 -- Lists of items: about how many bytes they have, all their entries, and what a footer says with its places.
 use Rattle.std.specs.Prelude.{◌≡◌, ℕ, ◌+◌, ◌*◌, List, [], length, flat_map, sum_by, Option, Result, Ok}
-use Rattle.raft_log_codec.specs.Grammar.{◌>>=◌}
+use Rattle.raft_log_base.specs.Grammar.{◌>>=◌}
 use Rattle.raft_log_base.specs.declared.pipe_log.FileBlockHandle.{FileBlockHandle}
 use Rattle.raft_log_items.specs.declared.entry.EntryIndex.{EntryIndex}
 use Rattle.raft_log_items.specs.declared.item.LogItemContent.{LogItemContent}

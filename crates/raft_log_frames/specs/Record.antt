@@ -2,8 +2,8 @@
 use Rattle.std.specs.Prelude.{◌≡◌, ◌⊎◌, ℕ, ◌+◌, ◌-◌, ◌*◌, ◌/◌, ◌%◌, ◌<◌, ◌≤◌, ◌^◌, List, [], ◌∷◌, ◌++◌, length, take, drop, Option, Result, Ok, Err, unwrap_or, nat_lt, ◌==◌, if◌then◌else◌, codes, bit_xor, Bool, ◌&&◌}
 use Rattle.std.specs.Fmt.{decimal}
 use Rattle.std.specs.Int.{w32, w64, from_be_bytes, from_le_bytes}
-use Rattle.raft_log_codec.specs.Grammar.{Reader, ◌>>=◌}
-use Rattle.raft_log_codec.specs.Number.{IsU64, IsU32Le, u64_bytes, u32_le_bytes}
+use Rattle.raft_log_base.specs.Grammar.{Reader, ◌>>=◌}
+use Rattle.raft_log_base.specs.Number.{IsU64, IsU32Le, u64_bytes, u32_le_bytes}
 use Rattle.raft_log_checksum.specs.Checksum.{crc32_of}
 use Rattle.raft_log_items.specs.declared.entry.CompressionType.{CompressionType}
 use Rattle.raft_log_items.specs.declared.entry.CompressionType.TheVariants as kinds

@@ -6,7 +6,8 @@ ghost use Rattle.raft_log_base.specs.declared.errors.Error.TheVariants as errors
 ghost use Rattle.raft_log_items.specs.declared.item.LogItem.{LogItem};
 
 use crate::header::LOG_BATCH_CHECKSUM_LEN;
-use raft_log_codec::{codec, crc32};
+use raft_log_base::codec;
+use raft_log_checksum::crc32;
 use raft_log_items::decode::decode_items;
 use raft_log_items::{EntryIndex, Error, LogItem, LogItemContent, Result};
 use std::alloc::Global;

@@ -1,11 +1,12 @@
 //! The header of a record, and its entry block.
 ghost use Rattle.std.specs.Prelude.{◌≡◌, ℕ, List, drop, IsOk, IsOkAnd, IfOk, OnOk};
-ghost use Rattle.raft_log_codec.specs.Grammar.{Decodes};
-ghost use Rattle.raft_log_base.specs.Fault.{Gives, Answers};
+ghost use Rattle.raft_log_base.specs.Grammar.{Decodes};
+ghost use Rattle.raft_log_base.specs.Fault.{GivesOrMemory, ReadsOrMemory};
 ghost use Rattle.raft_log_frames.specs.Record.{IsSoundHeader, IsBlock, header_of, header_at, block_of, GivesSlice};
 
-use raft_log_codec::codec::BytesSlice;
-use raft_log_codec::{codec, crc32};
+use raft_log_base::codec::BytesSlice;
+use raft_log_base::codec;
+use raft_log_checksum::crc32;
 use raft_log_items::{CompressionType, Error, Result};
 use std::alloc::Global;
 
@@ -18,7 +19,7 @@ pub(crate) const LOG_BATCH_CHECKSUM_LEN: usize = 4;
 /// What the two words of a header say.
 #[tactic(auto, unfolding(crate::specs::Record::header_of))]
 fn read_words(alloc: Global, word: u64, offset: u64) -> Result<(usize, CompressionType, usize)>
-    ensures exact { Gives result (header_of word offset) }
+    ensures exact { GivesOrMemory result (header_of word offset) }
     ensures sure { IsOk (header_of word offset) → IsOk result }
 {
     let kind = (word % 256) as u8;
@@ -44,7 +45,7 @@ fn take_header(
     alloc: Global,
     source: &mut BytesSlice<'_>,
 ) -> Result<(usize, CompressionType, usize)>
-    ensures exact { Answers result source.old.now source.new.now (header_at source.old.now) }
+    ensures exact { ReadsOrMemory result source.old.now source.new.now (header_at source.old.now) }
     ensures sure { IsOk (header_at source.old.now) → IsOk result }
 {
     let mut rest: &[u8] = *source;
@@ -70,7 +71,7 @@ pub fn decode_header(
 ) -> Result<(usize, CompressionType, usize)>
     ensures decodes { Decodes IsSoundHeader result source.old.now source.new.now }
     ensures taken { OnOk result (source.new.now ≡ drop 16 source.old.now) }
-    ensures exact { Answers result source.old.now source.new.now (header_at source.old.now) }
+    ensures exact { ReadsOrMemory result source.old.now source.new.now (header_at source.old.now) }
 {
     take_header(alloc, source)
 }

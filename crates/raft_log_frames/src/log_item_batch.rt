@@ -99,7 +99,7 @@ impl LogItemBatch {
     ghost use Rattle.std.specs.Prelude.{List, MatchResult};
     ghost use Rattle.raft_log_base.specs.declared.errors.Error.TheVariants as errors;
     ghost use Rattle.raft_log_items.specs.declared.item.LogItem.{LogItem};
-    ghost use Rattle.raft_log_base.specs.Fault.{Gives};
+    ghost use Rattle.raft_log_base.specs.Fault.{GivesOrMemory};
     ghost use Rattle.raft_log_base.specs.Files.{signature_of};
     ghost use Rattle.raft_log_frames.specs.Record.{IsFooter, AddsUp};
     ghost use Rattle.raft_log_frames.specs.ItemBatch.{items_size, all_entries, IsPlacedFooter, batch_of};
@@ -262,7 +262,7 @@ impl LogItemBatch {
     ) -> raft_log_items::Result<Self>
         ensures found { IfOk result (λ batch. IsPlacedFooter (signature_of context.now) entries bytes.now batch) }
         ensures only { (items : List LogItem) → IsFooter (signature_of context.now) bytes.now items → AddsUp items entries.len → MatchResult result (λ batch. batch ≡ placed entries items) (λ e. e ≡ errors.Memory) }
-        ensures exact { Gives result (batch_of (signature_of context.now) entries bytes.now) }
+        ensures exact { GivesOrMemory result (batch_of (signature_of context.now) entries bytes.now) }
     {
         let CompressionType::None = compression_type;
         let mut items = decode_footer(alloc, bytes, entries.len, context.get_signature())?;

@@ -1,6 +1,6 @@
 //! The bytes of a record, made in the buffer that holds the entries' bytes behind room for a header.
 ghost use Rattle.std.specs.Prelude.{◌≡◌, ◌+◌, ◌-◌, ◌*◌, ◌≤◌, ◌<◌, ◌^◌, ◌++◌, length, take, drop, map, None, OnOk, OnErr, IfOk, IfErr};
-ghost use Rattle.raft_log_codec.specs.Number.{u32_le_bytes};
+ghost use Rattle.raft_log_base.specs.Number.{u32_le_bytes};
 ghost use Rattle.raft_log_checksum.specs.Checksum.{crc32_of};
 ghost use Rattle.raft_log_items.specs.Items.{AreItems};
 ghost use Rattle.raft_log_items.specs.Writing.{KeepsFront, items_bytes, plain_item};
@@ -9,8 +9,8 @@ ghost use Rattle.raft_log_frames.specs.Made.{Holds, IsMemoryOrFull};
 ghost use Rattle.raft_log_frames.specs.Written.{AreBytes};
 
 use crate::header::LOG_BATCH_HEADER_LEN;
-use raft_log_codec::codec::append_u32_le;
-use raft_log_codec::crc32;
+use raft_log_base::codec::append_u32_le;
+use raft_log_checksum::crc32;
 use raft_log_items::encode::append_items;
 use raft_log_items::{Error, LogItem, Result};
 use std::alloc::AllocError;
@@ -21,7 +21,7 @@ pub fn are_bytes(bytes: &[u8])
 {}
 
 /// Overwrites the first sixteen bytes by a header.
-#[tactic(auto, unfolding(crate::specs::Record::header_bytes, raft_log_codec::specs::Number::u64_bytes))]
+#[tactic(auto, unfolding(crate::specs::Record::header_bytes, raft_log_base::specs::Number::u64_bytes))]
 fn write_header(bytes: &mut [u8], len: u64, offset: u64)
     requires long { 16 ≤ length bytes.old }
     requires fits { 256 * len < 2 ^ 64 }
@@ -34,7 +34,7 @@ fn write_header(bytes: &mut [u8], len: u64, offset: u64)
 }
 
 /// Overwrites the last four bytes by a checksum.
-#[tactic(auto, unfolding(raft_log_codec::specs::Number::u32_le_bytes))]
+#[tactic(auto, unfolding(raft_log_base::specs::Number::u32_le_bytes))]
 pub fn write_checksum(bytes: &mut [u8], checksum: u32)
     requires { 4 ≤ length bytes.old }
     ensures { bytes.new ≡ take (length bytes.old - 4) bytes.old ++ u32_le_bytes checksum }

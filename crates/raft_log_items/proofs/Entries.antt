@@ -1,8 +1,8 @@
 -- Reading entries one after another, and runs that grow at the end.
 use Rattle.std.proofs.Common.{◌≡◌, ℕ, zero, suc, ◌+◌, ◌-◌, ◌<◌, ◌^◌, List, [], ◌∷◌, ◌++◌, length, Result, Ok, Err, refl, sym, subst, ◌∙◌, append_assoc, arith}
 use Rattle.std.proofs.lemmas.List.{append-nil}
-use Rattle.raft_log_codec.specs.Grammar.{◌>>=◌}
-use Rattle.raft_log_codec.proofs.Grammar.{with_front}
+use Rattle.raft_log_base.specs.Grammar.{◌>>=◌}
+use Rattle.raft_log_base.proofs.Grammar.{with_front}
 use Rattle.raft_log_items.specs.declared.entry.EntryIndex.{EntryIndex}
 use Rattle.raft_log_base.specs.Fault.{Fault}
 use Rattle.raft_log_items.specs.Reading.{entry_len_at, entries_from_at}

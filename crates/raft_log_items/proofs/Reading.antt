@@ -2,14 +2,14 @@
 use Rattle.std.proofs.Common.{◌≡◌, ℕ, zero, suc, ◌+◌, ◌≤◌, Bool, false, cond, List, [], ◌++◌, length, take, drop, Result, Ok, Err, refl, sym, ap, ◌∙◌, inl, inr, arith, ltb, eqb, IsTrue}
 use Rattle.std.proofs.lemmas.Bool.{ltb-false, le-ltb}
 use Rattle.std.proofs.lemmas.List.{take_at, drop_at, take-append-drop, length-take, length-append}
-use Rattle.raft_log_codec.specs.Grammar.{Reader, IsReader}
-use Rattle.raft_log_codec.specs.Number.{IsVarU64, IsByte}
-use Rattle.raft_log_codec.specs.declared.codec.error.Error.{Error as CodecError}
-use Rattle.raft_log_codec.specs.declared.codec.error.Error.TheVariants.{Io}
+use Rattle.raft_log_base.specs.Grammar.{Reader, IsReader}
+use Rattle.raft_log_base.specs.Number.{IsVarU64, IsByte}
+use Rattle.raft_log_base.specs.declared.codec.error.Error.{Error as CodecError}
+use Rattle.raft_log_base.specs.declared.codec.error.Error.TheVariants.{Io}
 use Rattle.std.specs.declared.io.ErrorKind.TheVariants.{UnexpectedEof}
-use Rattle.raft_log_codec.proofs.Grammar.{bind_ok, done, ok_is, chosen, is_known, is_then, is_times, is_choice}
-use Rattle.raft_log_codec.proofs.Fixed.{is_byte}
-use Rattle.raft_log_codec.proofs.Var.{is_var_u64}
+use Rattle.raft_log_base.proofs.Grammar.{bind_ok, done, ok_is, chosen, is_known, is_then, is_times, is_choice}
+use Rattle.raft_log_base.proofs.Fixed.{is_byte}
+use Rattle.raft_log_base.proofs.Var.{is_var_u64}
 use Rattle.raft_log_base.specs.Fault.{Fault, lifted, lifted_at}
 use Rattle.raft_log_base.specs.Fault.Fault.{number, corrupt}
 use Rattle.raft_log_items.specs.Items.{Never, never_at, Passing, passing_at, number_at, kind_at, IsBytesOf, IsBytes, is_entry_len, IsEntryLen, AreEntriesFrom, is_first_of, IsEntriesOf, IsEntries, IsCommandOf, IsCommand, IsKeyValueOf, IsKeyValue, IsContentOf, IsItem, AreItems}

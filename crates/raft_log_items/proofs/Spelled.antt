@@ -1,10 +1,10 @@
 -- What is written is in the grammar.
 use Rattle.std.proofs.Common.{◌≡◌, ℕ, ◌+◌, ◌<◌, ◌^◌, List, [], ◌∷◌, ◌++◌, length, map, refl, sym, ap, subst, append_assoc, arith, Bool, true, false, eqb}
-use Rattle.raft_log_codec.specs.Grammar.{Then, Choice, IsKnown}
+use Rattle.raft_log_base.specs.Grammar.{Then, Choice, IsKnown}
 use Rattle.std.proofs.lemmas.Bool.{lt-ltb, ne_eqb}
 use Rattle.std.proofs.lemmas.List.{append-nil}
-use Rattle.raft_log_codec.specs.Number.{IsVarU64, var_u64_bytes}
-use Rattle.raft_log_codec.proofs.VarSpelling.{var_u64_shortest}
+use Rattle.raft_log_base.specs.Number.{IsVarU64, var_u64_bytes}
+use Rattle.raft_log_base.proofs.VarSpelling.{var_u64_shortest}
 use Rattle.raft_log_items.specs.declared.entry.EntryIndex.{EntryIndex}
 use Rattle.raft_log_items.specs.Run.{FollowsFrom, IsRun, unplaced, unplaced_entry}
 use Rattle.raft_log_items.specs.Items.{IsEntries, AreEntriesFrom, IsEntryLen, is_first_of, Passing, IsBytes, IsCommand, IsKeyValue, IsItem, put_of, del_of}

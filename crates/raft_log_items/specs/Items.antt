@@ -1,7 +1,7 @@
 -- How items are spelled, and the functions that read them from the front of a list. A number is a var_u64.
 use Rattle.std.specs.Prelude.{◌≡◌, ℕ, zero, suc, ◌+◌, ◌^◌, Bool, List, [], ◌∷◌, length, Some, None, Ok, Err, nat_lt, ◌==◌, if◌then◌else◌, IsTrue}
-use Rattle.raft_log_codec.specs.Grammar.{Reader, IsKnown, Then, Times, Choice, ◌>>=◌}
-use Rattle.raft_log_codec.specs.Number.{IsVarU64, IsByte, var_u64_at, byte_at_front}
+use Rattle.raft_log_base.specs.Grammar.{Reader, IsKnown, Then, Times, Choice, ◌>>=◌}
+use Rattle.raft_log_base.specs.Number.{IsVarU64, IsByte, var_u64_at, byte_at_front}
 use Rattle.raft_log_items.specs.declared.entry.EntryIndex.{EntryIndex}
 use Rattle.raft_log_items.specs.declared.item.OpType.TheVariants as ops
 use Rattle.raft_log_items.specs.declared.item.Command.{Command}

@@ -2,8 +2,8 @@
 use Rattle.std.specs.Prelude.{Result, ℕ, zero, suc, ◌+◌, List, [], ◌∷◌, ◌++◌, length, take, drop, Ok, Err, nat_lt, ◌==◌, if◌then◌else◌, codes}
 use Rattle.std.specs.Fmt.{decimal}
 use Rattle.std.specs.declared.io.ErrorKind.TheVariants.{UnexpectedEof}
-use Rattle.raft_log_codec.specs.declared.codec.error.Error.TheVariants.{Io}
-use Rattle.raft_log_codec.specs.Grammar.{Reader, times_at, choice_at, ◌>>=◌}
+use Rattle.raft_log_base.specs.declared.codec.error.Error.TheVariants.{Io}
+use Rattle.raft_log_base.specs.Grammar.{Reader, times_at, choice_at, ◌>>=◌}
 use Rattle.raft_log_items.specs.declared.entry.EntryIndex.{EntryIndex}
 use Rattle.raft_log_items.specs.declared.entry.CompressionType.{CompressionType}
 use Rattle.raft_log_items.specs.declared.entry.CompressionType.TheVariants as kinds

@@ -1,6 +1,6 @@
 -- The one spelling of an item that is written: each number in its shortest form.
 use Rattle.std.specs.Prelude.{◌≡◌, ℕ, List, [], ◌∷◌, ◌++◌, length, take, flat_map, map, unwrap_or}
-use Rattle.raft_log_codec.specs.Number.{var_u64_bytes}
+use Rattle.raft_log_base.specs.Number.{var_u64_bytes}
 use Rattle.raft_log_items.specs.declared.entry.EntryIndex.{EntryIndex}
 use Rattle.raft_log_items.specs.declared.item.OpType.{OpType}
 use Rattle.raft_log_items.specs.declared.item.OpType.TheVariants.{Put, Del}
@@ -11,8 +11,8 @@ use Rattle.raft_log_items.specs.declared.item.LogItemContent.{LogItemContent}
 use Rattle.raft_log_items.specs.declared.item.LogItemContent.TheVariants as contents
 use Rattle.raft_log_items.specs.declared.item.LogItem.{LogItem}
 use Rattle.raft_log_items.specs.Run.{unplaced}
-use Rattle.raft_log_codec.specs.Grammar.{Then}
-use Rattle.raft_log_codec.specs.Number.{IsByte}
+use Rattle.raft_log_base.specs.Grammar.{Then}
+use Rattle.raft_log_base.specs.Number.{IsByte}
 use Rattle.raft_log_items.specs.Items.{put_of, del_of, IsContentOf}
 
 -- a length, and as many bytes

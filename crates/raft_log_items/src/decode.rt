@@ -3,9 +3,9 @@
 //! Each function takes just the bytes of what it answers, and only where it answers. It refuses only where no beginning of
 //! the bytes is in the grammar, and tells the first fault in the format's order.
 ghost use Rattle.std.specs.Prelude.{◌≡◌, ◌+◌, ◌<◌, ◌^◌, length, IfOk};
-ghost use Rattle.raft_log_codec.specs.Grammar.{times_at};
+ghost use Rattle.raft_log_base.specs.Grammar.{times_at};
 ghost use Rattle.raft_log_items.specs.Run.{FollowsFrom};
-ghost use Rattle.raft_log_base.specs.Fault.{Answers, AnswersItems, Decodes, DecodesItems};
+ghost use Rattle.raft_log_base.specs.Fault.{ReadsOrMemory, ReadsItemsOrMemory, DecodesOrMemory, DecodesItemsOrMemory};
 ghost use Rattle.raft_log_items.specs.Items.{IsEntries, IsCommand, IsKeyValue, IsItem, AreItems};
 ghost use Rattle.raft_log_items.specs.Reading.{
   bytes_at,
@@ -27,8 +27,8 @@ use crate::bytes::Bytes;
 use crate::entry::{EntryIndex, EntryIndexes};
 use crate::item::{Command, KeyValue, LogItem, LogItemContent, OpType};
 use raft_log_base::{Error, Result};
-use raft_log_codec::codec;
-use raft_log_codec::codec::BytesSlice;
+use raft_log_base::codec;
+use raft_log_base::codec::BytesSlice;
 use std::alloc::Global;
 
 /// The kind byte of an item with entries.
@@ -52,7 +52,7 @@ pub const MAX_ENTRY_INDEX: u64 = u64::MAX - 1;
 /// Reads a length and as many bytes.
 #[tactic(auto, unfolding(crate::specs::Reading::bytes_at))]
 fn take_bytes(alloc: Global, source: &mut BytesSlice<'_>) -> Result<Bytes>
-    ensures { Answers result source.old.now source.new.now (bytes_at source.old.now) }
+    ensures { ReadsOrMemory result source.old.now source.new.now (bytes_at source.old.now) }
 {
     let mut rest: &[u8] = *source;
     let len = codec::decode_var_u64(&mut rest)?;
@@ -68,7 +68,7 @@ fn take_bytes(alloc: Global, source: &mut BytesSlice<'_>) -> Result<Bytes>
 /// Reads the length of an entry.
 #[tactic(auto, unfolding(crate::specs::Reading::entry_len_at))]
 fn take_entry_len(alloc: Global, source: &mut BytesSlice<'_>) -> Result<u32>
-    ensures { Answers result source.old.now source.new.now (entry_len_at source.old.now) }
+    ensures { ReadsOrMemory result source.old.now source.new.now (entry_len_at source.old.now) }
 {
     let mut rest: &[u8] = *source;
     let len = codec::decode_var_u64(&mut rest)?;
@@ -82,7 +82,7 @@ fn take_entry_len(alloc: Global, source: &mut BytesSlice<'_>) -> Result<u32>
 /// Reads the first of so many indexes.
 #[tactic(auto, unfolding(crate::specs::Reading::first_index_at))]
 fn take_first_index(alloc: Global, source: &mut BytesSlice<'_>, count: u64) -> Result<u64>
-    ensures read { Answers result source.old.now source.new.now (first_index_at count source.old.now) }
+    ensures read { ReadsOrMemory result source.old.now source.new.now (first_index_at count source.old.now) }
     ensures fits { IfOk result (λ first. first + count < 2 ^ 64) }
 {
     let mut rest: &[u8] = *source;
@@ -102,7 +102,7 @@ fn take_entries(
     count: u64,
 ) -> Result<Vec<EntryIndex>>
     requires { first + count < 2 ^ 64 }
-    ensures read { AnswersItems result source.old.now source.new.now (entries_from_at first count source.old.now) }
+    ensures read { ReadsItemsOrMemory result source.old.now source.new.now (entries_from_at first count source.old.now) }
     ensures run { IfOk result (λ entries. FollowsFrom first entries.items × (length entries.items ≡ count)) }
 {
     let mut rest: &[u8] = *source;
@@ -124,7 +124,7 @@ fn take_counted_entries(
     source: &mut BytesSlice<'_>,
     count: u64,
 ) -> Result<EntryIndexes>
-    ensures { Answers result source.old.now source.new.now (entries_of_at count source.old.now) }
+    ensures { ReadsOrMemory result source.old.now source.new.now (entries_of_at count source.old.now) }
 {
     if count == 0 {
         return Ok(EntryIndexes::new(Vec::new(alloc)));
@@ -139,7 +139,7 @@ fn take_counted_entries(
 /// Reads the entries of an item.
 #[tactic(auto, unfolding(crate::specs::Reading::entries_at))]
 fn take_entry_indexes(alloc: Global, source: &mut BytesSlice<'_>) -> Result<EntryIndexes>
-    ensures { Answers result source.old.now source.new.now (entries_at source.old.now) }
+    ensures { ReadsOrMemory result source.old.now source.new.now (entries_at source.old.now) }
 {
     let mut rest: &[u8] = *source;
     let count = codec::decode_var_u64(&mut rest)?;
@@ -151,7 +151,7 @@ fn take_entry_indexes(alloc: Global, source: &mut BytesSlice<'_>) -> Result<Entr
 /// Reads the command of this kind.
 #[tactic(auto, unfolding(crate::specs::Reading::command_of_at))]
 fn take_command_of(alloc: Global, source: &mut BytesSlice<'_>, kind: u8) -> Result<Command>
-    ensures { Answers result source.old.now source.new.now (command_of_at kind source.old.now) }
+    ensures { ReadsOrMemory result source.old.now source.new.now (command_of_at kind source.old.now) }
 {
     if kind == COMMAND_CLEAN {
         return Ok(Command::Clean);
@@ -166,7 +166,7 @@ fn take_command_of(alloc: Global, source: &mut BytesSlice<'_>, kind: u8) -> Resu
 /// Reads a command.
 #[tactic(auto, unfolding(crate::specs::Reading::command_at))]
 fn take_command(alloc: Global, source: &mut BytesSlice<'_>) -> Result<Command>
-    ensures { Answers result source.old.now source.new.now (command_at source.old.now) }
+    ensures { ReadsOrMemory result source.old.now source.new.now (command_at source.old.now) }
 {
     let mut rest: &[u8] = *source;
     let kind = codec::read_u8(&mut rest)?;
@@ -178,7 +178,7 @@ fn take_command(alloc: Global, source: &mut BytesSlice<'_>) -> Result<Command>
 /// Reads the key, and for a put the value.
 #[tactic(auto, unfolding(crate::specs::Reading::key_value_of_at))]
 fn take_key_value_of(alloc: Global, source: &mut BytesSlice<'_>, op: u8) -> Result<KeyValue>
-    ensures { Answers result source.old.now source.new.now (key_value_of_at op source.old.now) }
+    ensures { ReadsOrMemory result source.old.now source.new.now (key_value_of_at op source.old.now) }
 {
     let mut rest: &[u8] = *source;
     if op == OP_PUT {
@@ -198,7 +198,7 @@ fn take_key_value_of(alloc: Global, source: &mut BytesSlice<'_>, op: u8) -> Resu
 /// Reads a key that is put or deleted.
 #[tactic(auto, unfolding(crate::specs::Reading::key_value_at))]
 fn take_key_value(alloc: Global, source: &mut BytesSlice<'_>) -> Result<KeyValue>
-    ensures { Answers result source.old.now source.new.now (key_value_at source.old.now) }
+    ensures { ReadsOrMemory result source.old.now source.new.now (key_value_at source.old.now) }
 {
     let mut rest: &[u8] = *source;
     let op = codec::read_u8(&mut rest)?;
@@ -210,7 +210,7 @@ fn take_key_value(alloc: Global, source: &mut BytesSlice<'_>) -> Result<KeyValue
 /// Reads the content of this kind.
 #[tactic(auto, unfolding(crate::specs::Reading::content_of_at))]
 fn take_content_of(alloc: Global, source: &mut BytesSlice<'_>, kind: u8) -> Result<LogItemContent>
-    ensures { Answers result source.old.now source.new.now (content_of_at kind source.old.now) }
+    ensures { ReadsOrMemory result source.old.now source.new.now (content_of_at kind source.old.now) }
 {
     match kind {
         TYPE_ENTRIES => Ok(LogItemContent::EntryIndexes(take_entry_indexes(alloc, source)?)),
@@ -223,7 +223,7 @@ fn take_content_of(alloc: Global, source: &mut BytesSlice<'_>, kind: u8) -> Resu
 /// Reads an item.
 #[tactic(auto, unfolding(crate::specs::Reading::item_at))]
 fn take_item(alloc: Global, source: &mut BytesSlice<'_>) -> Result<LogItem>
-    ensures { Answers result source.old.now source.new.now (item_at source.old.now) }
+    ensures { ReadsOrMemory result source.old.now source.new.now (item_at source.old.now) }
 {
     let mut rest: &[u8] = *source;
     let raft_group_id = codec::decode_var_u64(&mut rest)?;
@@ -238,7 +238,7 @@ fn take_item(alloc: Global, source: &mut BytesSlice<'_>) -> Result<LogItem>
 
 /// Reads so many items.
 fn take_items(alloc: Global, source: &mut BytesSlice<'_>, count: u64) -> Result<Vec<LogItem>>
-    ensures { AnswersItems result source.old.now source.new.now (times_at item_at count source.old.now) }
+    ensures { ReadsItemsOrMemory result source.old.now source.new.now (times_at item_at count source.old.now) }
 {
     let mut rest: &[u8] = *source;
     // Each item takes a byte at least.
@@ -255,7 +255,7 @@ fn take_items(alloc: Global, source: &mut BytesSlice<'_>, count: u64) -> Result<
 /// Reads as many items as are counted.
 #[tactic(auto, unfolding(crate::specs::Reading::items_at))]
 fn take_counted_items(alloc: Global, source: &mut BytesSlice<'_>) -> Result<Vec<LogItem>>
-    ensures { AnswersItems result source.old.now source.new.now (items_at source.old.now) }
+    ensures { ReadsItemsOrMemory result source.old.now source.new.now (items_at source.old.now) }
 {
     let mut rest: &[u8] = *source;
     let count = codec::decode_var_u64(&mut rest)?;
@@ -268,15 +268,15 @@ fn take_counted_items(alloc: Global, source: &mut BytesSlice<'_>) -> Result<Vec<
 ///
 /// No more room is made than for one item a byte, whatever the count says.
 pub fn decode_items(alloc: Global, source: &mut BytesSlice<'_>) -> Result<Vec<LogItem>>
-    ensures decodes { DecodesItems AreItems result source.old.now source.new.now }
-    ensures exact { AnswersItems result source.old.now source.new.now (items_at source.old.now) }
+    ensures decodes { DecodesItemsOrMemory AreItems result source.old.now source.new.now }
+    ensures exact { ReadsItemsOrMemory result source.old.now source.new.now (items_at source.old.now) }
 {
     take_counted_items(alloc, source)
 }
 
 impl EntryIndexes {
     ghost use Rattle.std.specs.Prelude.{◌≡◌};
-    ghost use Rattle.raft_log_base.specs.Fault.{Answers, Decodes};
+    ghost use Rattle.raft_log_base.specs.Fault.{ReadsOrMemory, DecodesOrMemory};
     ghost use Rattle.raft_log_items.specs.Items.{IsEntries};
     ghost use Rattle.raft_log_items.specs.Reading.{entries_at};
 
@@ -284,8 +284,8 @@ impl EntryIndexes {
     ///
     /// Refuses an index of 2^64 - 1 and a length of more than 32 bits as a corruption.
     pub fn decode(alloc: Global, source: &mut BytesSlice<'_>) -> Result<EntryIndexes>
-        ensures decodes { Decodes IsEntries result source.old.now source.new.now }
-        ensures exact { Answers result source.old.now source.new.now (entries_at source.old.now) }
+        ensures decodes { DecodesOrMemory IsEntries result source.old.now source.new.now }
+        ensures exact { ReadsOrMemory result source.old.now source.new.now (entries_at source.old.now) }
     {
         take_entry_indexes(alloc, source)
     }
@@ -293,14 +293,14 @@ impl EntryIndexes {
 
 impl Command {
     ghost use Rattle.std.specs.Prelude.{◌≡◌};
-    ghost use Rattle.raft_log_base.specs.Fault.{Answers, Decodes};
+    ghost use Rattle.raft_log_base.specs.Fault.{ReadsOrMemory, DecodesOrMemory};
     ghost use Rattle.raft_log_items.specs.Items.{IsCommand};
     ghost use Rattle.raft_log_items.specs.Reading.{command_at};
 
     /// Reads a command. An unknown one is refused with its number.
     pub fn decode(alloc: Global, source: &mut BytesSlice<'_>) -> Result<Command>
-        ensures decodes { Decodes IsCommand result source.old.now source.new.now }
-        ensures exact { Answers result source.old.now source.new.now (command_at source.old.now) }
+        ensures decodes { DecodesOrMemory IsCommand result source.old.now source.new.now }
+        ensures exact { ReadsOrMemory result source.old.now source.new.now (command_at source.old.now) }
     {
         take_command(alloc, source)
     }
@@ -308,14 +308,14 @@ impl Command {
 
 impl KeyValue {
     ghost use Rattle.std.specs.Prelude.{◌≡◌};
-    ghost use Rattle.raft_log_base.specs.Fault.{Answers, Decodes};
+    ghost use Rattle.raft_log_base.specs.Fault.{ReadsOrMemory, DecodesOrMemory};
     ghost use Rattle.raft_log_items.specs.Items.{IsKeyValue};
     ghost use Rattle.raft_log_items.specs.Reading.{key_value_at};
 
     /// Reads a key that is put, with its value, or deleted.
     pub fn decode(alloc: Global, source: &mut BytesSlice<'_>) -> Result<KeyValue>
-        ensures decodes { Decodes IsKeyValue result source.old.now source.new.now }
-        ensures exact { Answers result source.old.now source.new.now (key_value_at source.old.now) }
+        ensures decodes { DecodesOrMemory IsKeyValue result source.old.now source.new.now }
+        ensures exact { ReadsOrMemory result source.old.now source.new.now (key_value_at source.old.now) }
     {
         take_key_value(alloc, source)
     }
@@ -323,14 +323,14 @@ impl KeyValue {
 
 impl LogItem {
     ghost use Rattle.std.specs.Prelude.{◌≡◌};
-    ghost use Rattle.raft_log_base.specs.Fault.{Answers, Decodes};
+    ghost use Rattle.raft_log_base.specs.Fault.{ReadsOrMemory, DecodesOrMemory};
     ghost use Rattle.raft_log_items.specs.Items.{IsItem};
     ghost use Rattle.raft_log_items.specs.Reading.{item_at};
 
     /// Reads an item. Where its entries lie, and in which file it stands, is not told by it.
     pub fn decode(alloc: Global, source: &mut BytesSlice<'_>) -> Result<LogItem>
-        ensures decodes { Decodes IsItem result source.old.now source.new.now }
-        ensures exact { Answers result source.old.now source.new.now (item_at source.old.now) }
+        ensures decodes { DecodesOrMemory IsItem result source.old.now source.new.now }
+        ensures exact { ReadsOrMemory result source.old.now source.new.now (item_at source.old.now) }
     {
         take_item(alloc, source)
     }

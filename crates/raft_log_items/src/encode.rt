@@ -1,6 +1,6 @@
 //! Writing items at the end of a buffer that the caller keeps.
 ghost use Rattle.std.specs.Prelude.{◌≡◌, ◌++◌, flat_map, map, length, OnOk, OnErr};
-ghost use Rattle.raft_log_codec.specs.Grammar.{Times};
+ghost use Rattle.raft_log_base.specs.Grammar.{Times};
 ghost use Rattle.raft_log_items.specs.Run.{IsRun, unplaced};
 ghost use Rattle.raft_log_items.specs.Items.{IsBytes, IsEntries, IsCommand, IsKeyValue, IsItem, AreItems};
 ghost use Rattle.raft_log_items.specs.Writing.{
@@ -26,7 +26,7 @@ use crate::decode::{
 };
 use crate::entry::{EntryIndex, EntryIndexes};
 use crate::item::{Command, KeyValue, LogItem, LogItemContent, OpType};
-use raft_log_codec::codec::append_var_u64;
+use raft_log_base::codec::append_var_u64;
 use std::alloc::AllocError;
 
 /// Appends a length and as many bytes.

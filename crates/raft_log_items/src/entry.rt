@@ -15,12 +15,12 @@ pub enum CompressionType {
 
 impl CompressionType {
     ghost use Rattle.std.specs.Prelude.{◌≡◌};
-    ghost use Rattle.raft_log_base.specs.Fault.{Gives};
+    ghost use Rattle.raft_log_base.specs.Fault.{GivesOrMemory};
     ghost use Rattle.raft_log_items.specs.Reading.{compression_of};
 
     /// The kind of this byte. Any but 0 is refused as a corruption.
     pub fn from_u8(alloc: Global, byte: u8) -> Result<CompressionType>
-        ensures { Gives result (compression_of byte) }
+        ensures { GivesOrMemory result (compression_of byte) }
     {
         if byte != 0 {
             return Err(Error::Corruption(format!(in alloc;

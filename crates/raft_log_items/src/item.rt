@@ -17,13 +17,13 @@ pub enum OpType {
 
 impl OpType {
     ghost use Rattle.std.specs.Prelude.{◌≡◌};
-    ghost use Rattle.raft_log_base.specs.Fault.{Gives};
+    ghost use Rattle.raft_log_base.specs.Fault.{GivesOrMemory};
     ghost use Rattle.raft_log_items.specs.Reading.{operation_of};
     ghost use Rattle.raft_log_items.specs.Writing.{operation_number};
 
     /// The operation of this byte. An unknown one is refused as a corruption.
     pub fn from_u8(alloc: Global, byte: u8) -> Result<OpType>
-        ensures { Gives result (operation_of byte) }
+        ensures { GivesOrMemory result (operation_of byte) }
     {
         match byte {
             1 => Ok(OpType::Put),

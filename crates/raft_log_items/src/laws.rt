@@ -1,6 +1,6 @@
 //! Laws of the definitions that contracts cite, each the contract of an empty function.
 ghost use Rattle.std.specs.Prelude.{◌≡◌, ◌↔◌, List, IsTrue};
-ghost use Rattle.raft_log_codec.specs.Grammar.{IsPrefixFree};
+ghost use Rattle.raft_log_base.specs.Grammar.{IsPrefixFree};
 ghost use Rattle.raft_log_items.specs.declared.entry.EntryIndex.{EntryIndex as Entry};
 ghost use Rattle.raft_log_items.specs.declared.item.LogItem.{LogItem as Item};
 ghost use Rattle.raft_log_items.specs.Items.{IsBytes, IsEntries, IsCommand, IsKeyValue, IsItem, AreItems};

@@ -2,7 +2,7 @@
 use Rattle.std.proofs.Common.{◌≡◌, ℕ, ◌+◌, ◌-◌, ◌≤◌, ◌<◌, ◌^◌, List, [], ◌∷◌, ◌++◌, length, take, drop, Option, None, unwrap_or, refl, sym, ap, subst, ◌∙◌, append_assoc, arith, bit_xor}
 use Rattle.std.proofs.Math.Seq.{take-length}
 use Rattle.std.proofs.lemmas.List.{length-append, length-take-le, length-drop, drop_at, take_at}
-use Rattle.raft_log_codec.specs.Number.{u32_le_bytes}
+use Rattle.raft_log_base.specs.Number.{u32_le_bytes}
 use Rattle.raft_log_items.specs.declared.item.LogItem.{LogItem}
 use Rattle.raft_log_items.specs.Writing.{items_bytes}
 use Rattle.raft_log_records.specs.declared.log_batch.BatchState.{BatchState}

@@ -3,7 +3,7 @@ use Rattle.std.proofs.Common.{◌≡◌, ℕ, ◌≤◌, false, List, ◌++◌, 
 use Rattle.std.specs.Int.{w64, from_be_bytes}
 use Rattle.std.proofs.lemmas.Bool.{le-ltb}
 use Rattle.std.proofs.lemmas.List.{take_at, drop_at, length-append}
-use Rattle.raft_log_codec.specs.Number.{IsU64}
+use Rattle.raft_log_base.specs.Number.{IsU64}
 
 -- eight bytes of a number and what stands behind them are read back
 pub number_first : {M : Type 0} (text rest : List ℕ) (n : ℕ) (make : ℕ → List ℕ → M) → IsU64 text n

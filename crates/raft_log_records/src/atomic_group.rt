@@ -1,11 +1,11 @@
 //! Atomic groups: several batches that count together or not at all. A mark in each batch tells which part it is.
 ghost use Rattle.std.specs.Prelude.{◌≡◌, ◌∷◌, ◌++◌, Some, IfSome, OnOk, IfOk, option_and_then};
-ghost use Rattle.raft_log_codec.specs.Number.{IsU64, u64_bytes};
+ghost use Rattle.raft_log_base.specs.Number.{IsU64, u64_bytes};
 ghost use Rattle.raft_log_records.specs.Meaning.{ReadMeansWritten, UserBatchesArePlain};
 ghost use Rattle.raft_log_records.specs.AtomicGroup.{status_number, status_of, mark_key, mark_value, mark_in, mark_of_value, mark_of, UserItemsAreNoMarks};
 
 use crate::log_batch::LogBatch;
-use raft_log_codec::codec;
+use raft_log_base::codec;
 use raft_log_items::{Bytes, KeyValue, LogItem, LogItemContent, OpType};
 use std::alloc::{AllocError, Global};
 use std::marker::Model;

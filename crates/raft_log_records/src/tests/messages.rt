@@ -1,6 +1,6 @@
 //! A small message: an index, eight bytes with the highest first, and data.
 use crate::{Bytes, Error, LogItemBatch, Message, MessageExt, Result};
-use raft_log_codec::codec;
+use raft_log_base::codec;
 use std::alloc::{AllocError, Global};
 use std::test::Fail;
 
@@ -14,7 +14,7 @@ pub(crate) struct TestEntry {
 impl Message for TestEntry {
     ghost use Rattle.std.specs.Prelude.{◌++◌, None, Some, length, take, drop, nat_lt, if◌then◌else◌};
     ghost use Rattle.std.specs.Int.{w64, from_be_bytes};
-    ghost use Rattle.raft_log_codec.specs.Number.{u64_bytes};
+    ghost use Rattle.raft_log_base.specs.Number.{u64_bytes};
 
     ghost spelling = { λ m. u64_bytes m.index ++ m.bytes };
 

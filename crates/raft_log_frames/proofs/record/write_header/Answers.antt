@@ -1,7 +1,7 @@
 use Rattle.std.proofs.Common.{◌≡◌, List, ℕ, ◌*◌, drop, ap, sym, ◌∙◌, append_assoc}
 use Rattle.std.specs.Int.{w64, to_be_bytes}
 use Rattle.std.proofs.lemmas.List.{drop-drop}
-use Rattle.raft_log_codec.specs.Number.{u64_bytes}
+use Rattle.raft_log_base.specs.Number.{u64_bytes}
 use Rattle.raft_log_frames.specs.Record.{header_bytes}
 use Rattle.raft_log_frames.proofs.record.write_header.Goals as goal
 

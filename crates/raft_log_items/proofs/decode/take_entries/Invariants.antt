@@ -1,5 +1,5 @@
 use Rattle.std.proofs.Common.{◌≡◌, ◌+◌, ◌-◌, length}
-use Rattle.raft_log_codec.proofs.Grammar.{with_front}
+use Rattle.raft_log_base.proofs.Grammar.{with_front}
 use Rattle.raft_log_items.specs.Run.{FollowsFrom}
 use Rattle.raft_log_items.specs.Reading.{entries_from_at}
 use Rattle.raft_log_items.proofs.decode.take_entries.Given as goal

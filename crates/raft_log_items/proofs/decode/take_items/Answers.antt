@@ -1,7 +1,7 @@
 use Rattle.std.proofs.Common.{◌<◌, arith, refl}
 use Rattle.std.proofs.lemmas.Result.{err_from_is_err_and}
-use Rattle.raft_log_codec.specs.Grammar.{times_at}
-use Rattle.raft_log_codec.proofs.Grammar.{times_go_on, times_fail, times_done}
+use Rattle.raft_log_base.specs.Grammar.{times_at}
+use Rattle.raft_log_base.proofs.Grammar.{times_go_on, times_fail, times_done}
 use Rattle.raft_log_items.specs.Reading.{item_at}
 use Rattle.raft_log_base.proofs.Faults.{fails_through}
 use Rattle.raft_log_items.proofs.decode.take_items.Goals as goal

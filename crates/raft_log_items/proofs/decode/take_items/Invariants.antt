@@ -1,6 +1,6 @@
 use Rattle.std.proofs.Common.{◌≡◌, ◌-◌}
-use Rattle.raft_log_codec.specs.Grammar.{times_at}
-use Rattle.raft_log_codec.proofs.Grammar.{with_front}
+use Rattle.raft_log_base.specs.Grammar.{times_at}
+use Rattle.raft_log_base.proofs.Grammar.{with_front}
 use Rattle.raft_log_items.specs.Reading.{item_at}
 use Rattle.raft_log_items.proofs.decode.take_items.Given as goal
 

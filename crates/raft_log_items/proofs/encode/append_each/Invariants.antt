@@ -1,5 +1,5 @@
 use Rattle.std.proofs.Common.{◌≡◌, ◌++◌, take, flat_map, map}
-use Rattle.raft_log_codec.specs.Grammar.{Times}
+use Rattle.raft_log_base.specs.Grammar.{Times}
 use Rattle.raft_log_items.specs.Items.{IsItem}
 use Rattle.raft_log_items.specs.Writing.{item_bytes, plain_item}
 use Rattle.raft_log_items.proofs.encode.append_each.Given as goal

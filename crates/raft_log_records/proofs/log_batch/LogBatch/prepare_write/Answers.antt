@@ -1,6 +1,6 @@
 use Rattle.std.proofs.Common.{◌≡◌, ◌≢◌, ℕ, List, ◌-◌, ◌<◌, ◌^◌, ◌++◌, length, take, drop, Option, unwrap_or, bit_xor, sym, ap, subst, ◌∙◌, arith}
 use Rattle.std.proofs.lemmas.Bool.{eqb-false}
-use Rattle.raft_log_codec.specs.Number.{u32_le_bytes}
+use Rattle.raft_log_base.specs.Number.{u32_le_bytes}
 use Rattle.raft_log_records.specs.declared.log_batch.BatchState.{BatchState}
 use Rattle.raft_log_records.specs.declared.log_batch.BatchState.TheVariants.{Signed}
 use Rattle.raft_log_records.specs.Batch.{Batch, IsMade}

@@ -1,4 +1,4 @@
-use Rattle.raft_log_codec.specs.Number.{u64_bytes}
+use Rattle.raft_log_base.specs.Number.{u64_bytes}
 use Rattle.raft_log_records.proofs.Messages.{number_first}
 use Rattle.raft_log_records.proofs.tests.messages.TestEntryMessage.write.Goals as goal
 

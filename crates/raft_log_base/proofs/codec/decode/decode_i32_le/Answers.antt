@@ -1,0 +1,8 @@
+use Rattle.std.proofs.Common.{Ok, rules}
+use Rattle.std.specs.Int.{w32, cast_signed, cast_unsigned}
+use Rattle.raft_log_base.proofs.Grammar.{decodes}
+use Rattle.raft_log_base.proofs.Fixed.{is_i32_le}
+use Rattle.raft_log_base.proofs.codec.decode.decode_i32_le.Goals as goal
+
+pub returns-clause-decodes : goal.returns-clause-decodes
+returns-clause-decodes c = decodes (Ok (cast_signed w32 (cast_unsigned w32 c.cast_signed.result))) c.args.source.now.now c.decode_u32_le.new.source.now is_i32_le (search rules)

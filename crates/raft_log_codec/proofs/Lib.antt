@@ -1,6 +1,0 @@
-pub mod Fixed
-pub mod Grammar
-pub mod Sizes
-pub mod Var
-pub mod VarLoop
-pub mod VarSpelling

@@ -1,8 +1,0 @@
-use Rattle.std.proofs.Common.{Ok, rules}
-use Rattle.std.specs.Int.{w64, cast_signed, cast_unsigned}
-use Rattle.raft_log_codec.proofs.Grammar.{decodes}
-use Rattle.raft_log_codec.proofs.Fixed.{is_i64_desc}
-use Rattle.raft_log_codec.proofs.codec.decode.decode_i64_desc.Goals as goal
-
-pub returns-clause-decodes : goal.returns-clause-decodes
-returns-clause-decodes c = decodes (Ok (cast_signed w64 (cast_unsigned w64 c.from_order.result))) c.args.source.now.now c.decode_u64_desc.new.source.now is_i64_desc (search rules)

@@ -1,4 +1,0 @@
-pub mod Fault
-pub mod Grammar
-pub mod Number
-pub mod Size

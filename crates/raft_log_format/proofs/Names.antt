@@ -1,12 +1,12 @@
 -- A name's number: that it is found where it is, and that the one that is written is read back.
-use Rattle.std.proofs.Common.{◌≡◌, ℕ, zero, suc, ◌+◌, ◌-◌, ◌*◌, ◌^◌, ◌<◌, ◌≤◌, Bool, true, false, eqb, cond, List, [], ◌∷◌, ◌++◌, length, get_or, take, drop, replicate, Option, Some, None, Result, Ok, Err, refl, sym, ap, subst, ◌∙◌, arith}
+use Rattle.std.proofs.Common.{◌≡◌, ℕ, zero, suc, ◌+◌, ◌-◌, ◌^◌, ◌<◌, ◌≤◌, Bool, true, false, eqb, cond, List, [], ◌∷◌, ◌++◌, length, get_or, take, drop, replicate, Some, None, Result, Ok, Err, refl, sym, ap, subst, ◌∙◌, arith}
 use Rattle.std.specs.Result.{result_ok}
 use Rattle.std.specs.Prelude.{IsUtf8}
 use Rattle.std.specs.Str.{IsCharBoundary}
-use Rattle.std.specs.Str.Parse.{AllDigits, IsNumeral, ParsesUnsigned, digits_value, digits_value_after, without_leading_plus}
+use Rattle.std.specs.Str.Parse.{AllDigits, IsNumeral, ParsesUnsigned, digits_value, without_leading_plus}
 use Rattle.std.specs.Fmt.{decimal, padded_integral, format_spec, char_count}
 use Rattle.std.proofs.Math.Seq.{take-append_seam}
-use Rattle.std.proofs.lemmas.List.{append-nil, length-take-le, length-append, length-replicate, get_or-append-add, get_or-take, take_all}
+use Rattle.std.proofs.lemmas.List.{append-nil, length-take-le, length-append, length-replicate, get_or-append-add, get_or-take}
 use Rattle.std.proofs.lemmas.Str.{IsCharBoundary-after_ascii}
 use Rattle.std.proofs.lemmas.Str.Parse.{IsNumeralModel, numerals_by_value, tells_digits, digit_at, digits_value_short, without_leading_plus_none}
 use Rattle.std.proofs.lemmas.Option.{same_Some, none-some}
@@ -105,20 +105,26 @@ one_queue name (a, append) (b, rewrite) =
 pub one_number : (name : List ℕ) (m n : ℕ) → IsNumbered name m → IsNumbered name n → m ≡ n
 one_number name m n a b = a.value ∙ sym b.value
 
-same_file : (p q : LogQueue) (m n : ℕ) → p ≡ q → m ≡ n → ◌≡◌ {A = FileId} (record { queue = p; seq = m }) (record { queue = q; seq = n })
-same_file p q m n e f = ap (λ (r : LogQueue). record { queue = r; seq = m }) e ∙ ap (λ (k : ℕ). record { queue = q; seq = k }) f
+same_file : (f g : FileId) → f.queue ≡ g.queue → f.seq ≡ g.seq → f ≡ g
+same_file f g queue seq = ap (λ (q : LogQueue). record f { queue = q }) queue ∙ ap (λ (n : ℕ). record g { seq = n }) seq
 
-pub file_found : (q : LogQueue) (name : List ℕ) (seq : ℕ) → IsNamed (suffix_of q) name seq → (id : FileId)
-    → (Some (record { queue = q; seq = seq }) ≡ Some id → IsNamed (suffix_of id.queue) name id.seq)
-    × (IsNamed (suffix_of id.queue) name id.seq → Some (record { queue = q; seq = seq }) ≡ Some id)
-file_found q name seq named id =
-    ((λ same. subst (λ (f : FileId). IsNamed (suffix_of f.queue) name f.seq) (same_Some _ id same) named), λ other. ap Some (same_file q id.queue seq id.seq (same_queue q id.queue named.1 other.1) (one_number name seq id.seq named.0 other.0)))
+named_file : (name : List ℕ) (f : FileId) → IsNamed (suffix_of f.queue) name f.seq → (id : FileId)
+    → (Some f ≡ Some id → IsNamed (suffix_of id.queue) name id.seq) × (IsNamed (suffix_of id.queue) name id.seq → Some f ≡ Some id)
+named_file name f named id =
+    ((λ same. subst (λ (g : FileId). IsNamed (suffix_of g.queue) name g.seq) (same_Some f id same) named),
+      λ other. ap Some (same_file f id (same_queue f.queue id.queue named.1 other.1) (one_number name f.seq id.seq named.0 other.0)))
   where
     same_queue : (p r : LogQueue) → EndsWith (suffix_of p) name → EndsWith (suffix_of r) name → p ≡ r
     same_queue Append Append a b = refl
     same_queue Rewrite Rewrite a b = refl
     same_queue Append Rewrite a b = absurd (one_queue name a b)
     same_queue Rewrite Append a b = absurd (one_queue name b a)
+
+-- the file that is made of a name is the one that is named so
+pub file_found : (name : List ℕ) (f : FileId) (q : LogQueue) (seq : ℕ) → f.queue ≡ q → f.seq ≡ seq → IsNamed (suffix_of q) name seq → (id : FileId)
+    → (Some f ≡ Some id → IsNamed (suffix_of id.queue) name id.seq) × (IsNamed (suffix_of id.queue) name id.seq → Some f ≡ Some id)
+file_found name f q seq queue number named id =
+    named_file name f (subst (λ (p : LogQueue). IsNamed (suffix_of p) name f.seq) (sym queue) (subst (λ (n : ℕ). IsNamed (suffix_of q) name n) (sym number) named)) id
 
 pub none_found : (name : List ℕ) → ((n : ℕ) → IsNamed (codes ".raftlog") name n → ⊥) → ((n : ℕ) → IsNamed (codes ".rewrite") name n → ⊥)
     → (id : FileId) → (None ≡ Some id → IsNamed (suffix_of id.queue) name id.seq) × (IsNamed (suffix_of id.queue) name id.seq → None ≡ Some id)

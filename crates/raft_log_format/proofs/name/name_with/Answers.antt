@@ -1,7 +1,7 @@
-use Rattle.std.proofs.Common.{◌≡◌, ◌<◌, ◌++◌, ℕ, length, List, ap, refl, ◌∙◌, arith}
+use Rattle.std.proofs.Common.{◌≡◌, ◌++◌, ℕ, List, ap, refl, ◌∙◌, arith}
 use Rattle.std.specs.Fmt.{styled_decimal}
 use Rattle.std.specs.String.{string_bytes}
-use Rattle.raft_log_format.specs.Name.{IsNumbered, sixteen_digits}
+use Rattle.raft_log_format.specs.Name.{sixteen_digits}
 use Rattle.raft_log_format.proofs.Names.{padded_sixteen, written_number}
 use Rattle.raft_log_format.proofs.name.name_with.Goals as goal
 

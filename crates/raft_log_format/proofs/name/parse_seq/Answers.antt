@@ -1,7 +1,6 @@
-use Rattle.std.proofs.Common.{◌≡◌, ◌<◌, ◌+◌, ℕ, length, Some, None, ◌≢◌, IsSome, subst, sym, ◌∙◌, arith}
+use Rattle.std.proofs.Common.{◌<◌, length, ◌≢◌, IsSome, subst, sym, ◌∙◌, arith}
 use Rattle.std.proofs.lemmas.Bool.{eqb-false, false≢true}
 use Rattle.std.proofs.lemmas.Option.{none-some}
-use Rattle.raft_log_format.specs.Name.{IsNumbered}
 use Rattle.raft_log_format.proofs.Names.{numbered_boundary, parsed_number}
 use Rattle.raft_log_format.proofs.name.parse_seq.Goals as goal
 

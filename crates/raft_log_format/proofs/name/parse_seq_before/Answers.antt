@@ -1,4 +1,3 @@
-use Rattle.std.proofs.Common.{◌≡◌, ℕ, Some}
 use Rattle.raft_log_format.proofs.name.parse_seq_before.Goals as goal
 
 -- src/name.rt:68:9

@@ -15,7 +15,7 @@ use Rattle.std.specs.Prelude.{codes}
 use Rattle.raft_log_base.specs.declared.pipe_log.LogQueue.{LogQueue}
 use Rattle.raft_log_base.specs.declared.pipe_log.LogQueue.TheVariants.{Append, Rewrite}
 use Rattle.raft_log_base.specs.declared.pipe_log.FileId.{FileId}
-use Rattle.raft_log_format.specs.Name.{EndsWith, IsNumbered, IsNamed, sixteen_digits, suffix_of}
+use Rattle.raft_log_format.specs.Name.{EndsWith, IsNumbered, IsNamed, sixteen_digits, suffix_of, OneQueueAName}
 
 own : IsNumeralModel (AllDigits 10) (digits_value 10)
 own = numerals_by_value (AllDigits 10) tells_digits
@@ -102,6 +102,12 @@ one_queue name (a, append) (b, rewrite) =
     let one = sym (ap (λ (k : ℕ). get_or name (k + 7) 0) same) ∙ letter_g in
     absurd (omega (arith, one, letter_e))
 
+pub same_queue : OneQueueAName
+same_queue name Append Append a b = refl
+same_queue name Rewrite Rewrite a b = refl
+same_queue name Append Rewrite a b = absurd (one_queue name a b)
+same_queue name Rewrite Append a b = absurd (one_queue name b a)
+
 pub one_number : (name : List ℕ) (m n : ℕ) → IsNumbered name m → IsNumbered name n → m ≡ n
 one_number name m n a b = a.value ∙ sym b.value
 
@@ -110,15 +116,10 @@ same_file f g queue seq = ap (λ (q : LogQueue). record f { queue = q }) queue �
 
 named_file : (name : List ℕ) (f : FileId) → IsNamed (suffix_of f.queue) name f.seq → (id : FileId)
     → (Some f ≡ Some id → IsNamed (suffix_of id.queue) name id.seq) × (IsNamed (suffix_of id.queue) name id.seq → Some f ≡ Some id)
-named_file name f named id =
-    ((λ same. subst (λ (g : FileId). IsNamed (suffix_of g.queue) name g.seq) (same_Some f id same) named),
-      λ other. ap Some (same_file f id (same_queue f.queue id.queue named.1 other.1) (one_number name f.seq id.seq named.0 other.0)))
-  where
-    same_queue : (p r : LogQueue) → EndsWith (suffix_of p) name → EndsWith (suffix_of r) name → p ≡ r
-    same_queue Append Append a b = refl
-    same_queue Rewrite Rewrite a b = refl
-    same_queue Append Rewrite a b = absurd (one_queue name a b)
-    same_queue Rewrite Append a b = absurd (one_queue name b a)
+named_file name f named id = (
+  (λ same. subst (λ (g : FileId). IsNamed (suffix_of g.queue) name g.seq) (same_Some f id same) named),
+  λ other. ap Some (same_file f id (same_queue name f.queue id.queue named.1 other.1) (one_number name f.seq id.seq named.0 other.0)),
+)
 
 -- the file that is made of a name is the one that is named so
 pub file_found : (name : List ℕ) (f : FileId) (q : LogQueue) (seq : ℕ) → f.queue ≡ q → f.seq ≡ seq → IsNamed (suffix_of q) name seq → (id : FileId)

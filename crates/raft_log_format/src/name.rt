@@ -98,6 +98,7 @@ impl FileNameExt for FileId {
     ghost use Rattle.raft_log_format.specs.Name.{IsNamed, suffix_of};
 
     ghost named = { λ name id. IsNamed (suffix_of id.queue) name id.seq };
+
     ghost number = { λ id. id.seq };
 
     fn parse_file_name(file_name: &str) -> Option<FileId> {

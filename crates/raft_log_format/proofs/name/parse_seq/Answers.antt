@@ -6,11 +6,12 @@ use Rattle.raft_log_format.proofs.name.parse_seq.Goals as goal
 
 -- src/name.rt:55:9
 pub returns-in_default : goal.returns-in_default
-returns-in_default c n =
-    ((λ same. absurd (none-some n same)),
-      λ numbered.
-        let some = subst (λ o. IsSome o) c.in_default.is (c.split_at_checked.ensures.variant.1 (numbered_boundary c.args.name.now n c.utf8.name numbered)) in
-        absurd (false≢true some))
+returns-in_default c n = (
+  (λ same. absurd (none-some n same)),
+  λ numbered.
+      let some = subst (λ o. IsSome o) c.in_default.is (c.split_at_checked.ensures.variant.1 (numbered_boundary c.args.name.now n c.utf8.name numbered)) in
+      absurd (false≢true some),
+)
 
 -- src/name.rt:51:1
 pub returns : goal.returns

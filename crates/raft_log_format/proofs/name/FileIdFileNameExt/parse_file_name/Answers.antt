@@ -14,6 +14,6 @@ returns-in-Some-parse_seq_before c id = file_found c.args.file_name.now c.new-in
 pub returns : goal.returns
 returns c id =
     none_found c.args.file_name.now
-      (λ n named. c.in_default.not-Some n ((c.parse_seq_before.ensures n).1 named))
-      (λ n named. c.in_default-parse_seq_before.not-Some n ((c.parse_seq_before-2.ensures n).1 named))
-      id
+    (λ n named. c.in_default.not-Some n ((c.parse_seq_before.ensures n).1 named))
+    (λ n named. c.in_default-parse_seq_before.not-Some n ((c.parse_seq_before-2.ensures n).1 named))
+    id

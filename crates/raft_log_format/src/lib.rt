@@ -1,0 +1,9 @@
+//! One log file: its name, its header, what is written behind it and how that is read again.
+#![tactic(auto)]
+
+pub mod header;
+pub mod laws;
+pub mod name;
+
+pub use header::LogFileFormat;
+pub use name::{FileNameExt, build_reserved_file_name, parse_reserved_file_name};

@@ -1,0 +1,3 @@
+pub mod Sanitized
+pub mod Settings
+pub mod Text

@@ -1,0 +1,248 @@
+//! The settings of a log: what may be set, and what is made of it.
+ghost use Rattle.std.specs.Prelude.{◌≡◌, ◌↔◌, IsTrue, IfNone, IfSome, IfErr, OnOk, OnErr, List, length};
+ghost use Rattle.std.specs.String.{string_bytes};
+ghost use Rattle.raft_log_settings.specs.Sanitized.{IsFileName, IsFileIn, Clash, files_within};
+
+use super::fault::ConfigFault;
+use super::recovery_mode::RecoveryMode;
+use log::{Log, info, warn};
+use raft_log_base::{Error, FileId, ReadableSize, Result, Version};
+use raft_log_format::{FileNameExt, parse_reserved_file_name};
+use std::alloc::{AllocError, Global};
+
+/// The least block that a recovery reads at a time.
+const MIN_RECOVERY_READ_BLOCK_SIZE: u64 = 512;
+
+/// The settings of a log. `default` has the usual ones; `sanitize` refuses what can't be and makes the rest whole.
+#[derive(Debug, Drop)]
+pub struct Config {
+    /// The main directory of log files; made at an open where it isn't there.
+    pub dir: String,
+    /// A second directory, for new files where the main one has no room.
+    pub spill_dir: Option<String>,
+    /// What an open does about damaged files.
+    pub recovery_mode: RecoveryMode,
+    /// How much of a file is read at a time at an open; 512 bytes at least.
+    pub recovery_read_block_size: ReadableSize,
+    /// How many workers read files at an open; one at least.
+    pub recovery_threads: usize,
+    /// Without effect.
+    pub bytes_per_sync: Option<ReadableSize>,
+    /// The format of new files.
+    pub format_version: Version,
+    /// From which size on a file is full.
+    pub target_file_size: ReadableSize,
+    /// Above which size of Append a purge takes files from it.
+    pub purge_threshold: ReadableSize,
+    /// Above which size of Rewrite a purge may rewrite it; by default a tenth of `purge_threshold`, and one file at least.
+    pub purge_rewrite_threshold: Option<ReadableSize>,
+    /// Above which share of garbage, in thousandths, a purge rewrites Rewrite.
+    pub purge_rewrite_garbage_ratio: u64,
+    /// Without effect.
+    pub memory_limit: Option<ReadableSize>,
+    /// Whether files that are purged from Append are kept to be used again.
+    pub enable_log_recycle: bool,
+    /// Whether an open fills files with zeros to be used.
+    pub prefill_for_recycle: bool,
+    /// How many bytes of such files there are at most; by default `purge_threshold`.
+    pub prefill_limit: Option<ReadableSize>,
+}
+
+impl Config {
+    ghost use Rattle.raft_log_settings.specs.Settings.{settings_of, default_settings};
+    ghost use Rattle.raft_log_settings.specs.Sanitized.{IsFirstFault, IsSound, sanitized, IsRefusedFor, recycle_capacity, prefill_capacity};
+
+    /// The usual settings: an empty `dir`, files of 128 MiB, a purge from 10 GiB on, four workers.
+    pub fn default(alloc: Global) -> Config
+        ensures { settings_of result ≡ default_settings }
+    {
+        Config {
+            dir: String::new(alloc),
+            spill_dir: None,
+            recovery_mode: RecoveryMode::TolerateTailCorruption,
+            recovery_read_block_size: ReadableSize::kb(16),
+            recovery_threads: 4,
+            bytes_per_sync: None,
+            format_version: Version::V2,
+            target_file_size: ReadableSize::mb(128),
+            purge_threshold: ReadableSize::gb(10),
+            purge_rewrite_threshold: None,
+            purge_rewrite_garbage_ratio: 600,
+            memory_limit: None,
+            enable_log_recycle: true,
+            prefill_for_recycle: false,
+            prefill_limit: None,
+        }
+    }
+
+    /// Refuses settings that can't be, the first fault in the order of `ConfigFault`, and leaves them as they were;
+    /// else makes them whole, and warns of what has no effect.
+    pub fn sanitize<L: Log>(&mut self, rt: &L, alloc: Global) -> Result<()>
+        ensures ok { OnOk result (IsSound (settings_of self.old)) }
+        ensures whole { OnOk result (settings_of self.new ≡ sanitized (settings_of self.old)) }
+        ensures err { OnErr result (settings_of self.new ≡ settings_of self.old) }
+        ensures errors { IfErr result (λ error. IsRefusedFor (settings_of self.old) error) }
+    {
+        if let Some(fault) = self.fault() {
+            return Err(Error::other(alloc, anyhow::Error::msg(fault)));
+        }
+        self.warn_of_ignored(rt);
+        self.make_whole();
+        Ok(())
+    }
+
+    /// How many files are kept to be used again.
+    pub fn recycle_capacity(&self) -> usize
+        ensures { result ≡ recycle_capacity (settings_of self.now) }
+    {
+        if self.can_recycle() && self.purge_threshold.0 >= self.target_file_size.0 {
+            files_within(self.purge_threshold.0, self.target_file_size.0)
+        } else {
+            0
+        }
+    }
+
+    /// How many files an open fills with zeros to be used.
+    pub fn prefill_capacity(&self) -> usize
+        ensures { result ≡ prefill_capacity (settings_of self.now) }
+    {
+        let limit = self.prefill_limit.unwrap_or(ReadableSize(0));
+        if self.can_recycle() && self.prefill_for_recycle && limit.0 >= self.target_file_size.0 {
+            files_within(limit.0, self.target_file_size.0)
+        } else {
+            0
+        }
+    }
+}
+
+impl Config {
+    ghost use Rattle.raft_log_settings.specs.Settings.{settings_of};
+    ghost use Rattle.raft_log_settings.specs.Sanitized.{HasFault, IsFirstFault, IsSound, sanitized, can_recycle};
+    ghost use Rattle.raft_log_settings.specs.declared.fault.ConfigFault.TheVariants.{DirectoriesClash};
+
+    /// The first fault.
+    fn fault(&self) -> Option<ConfigFault>
+        ensures some { IfSome result (IsFirstFault (settings_of self.now)) }
+        ensures none { IfNone result (IsSound (settings_of self.now)) }
+    {
+        if self.has(ConfigFault::PurgeBelowTarget) {
+            return Some(ConfigFault::PurgeBelowTarget);
+        }
+        if self.has(ConfigFault::NoTargetSize) {
+            return Some(ConfigFault::NoTargetSize);
+        }
+        if self.has(ConfigFault::DirectoriesClash) {
+            return Some(ConfigFault::DirectoriesClash);
+        }
+        if self.has(ConfigFault::RecycleUnsigned) {
+            return Some(ConfigFault::RecycleUnsigned);
+        }
+        if self.has(ConfigFault::PrefillWithoutRecycle) {
+            return Some(ConfigFault::PrefillWithoutRecycle);
+        }
+        None
+    }
+
+    /// Whether the settings have this fault.
+    fn has(&self, fault: ConfigFault) -> bool
+        ensures { IsTrue result ↔ HasFault (settings_of self.now) fault }
+    {
+        match fault {
+            ConfigFault::PurgeBelowTarget => self.purge_threshold.0 < self.target_file_size.0,
+            ConfigFault::NoTargetSize => self.target_file_size.0 == 0,
+            ConfigFault::DirectoriesClash => self.directories_clash(),
+            ConfigFault::RecycleUnsigned => {
+                self.enable_log_recycle && !self.format_version.has_log_signing()
+            }
+            ConfigFault::PrefillWithoutRecycle => {
+                self.prefill_for_recycle && !self.enable_log_recycle
+            }
+        }
+    }
+
+    /// Whether the spill directory can't stand beside the main one.
+    fn directories_clash(&self) -> bool
+        ensures { IsTrue result ↔ HasFault (settings_of self.now) DirectoriesClash }
+    {
+        match &self.spill_dir {
+            Some(spill) => clash(self.dir.as_str(), spill.as_str()),
+            None => false,
+        }
+    }
+
+    /// Warns of settings that have no effect.
+    fn warn_of_ignored<L: Log>(&self, rt: &L) {
+        if self.bytes_per_sync.is_some() {
+            warn!(rt; "bytes-per-sync has no effect");
+        }
+        if self.memory_limit.is_some() {
+            warn!(rt; "memory-limit has no effect");
+        }
+        if self.prefill_limit.is_some() && !self.prefill_for_recycle {
+            warn!(rt; "prefill-limit has no effect without prefill-for-recycle");
+        }
+    }
+
+    /// Sets what is left open, and raises what is too small.
+    fn make_whole(&mut self)
+        ensures { settings_of self.new ≡ sanitized (settings_of self.old) }
+    {
+        if self.purge_rewrite_threshold.is_none() {
+            let tenth = self.purge_threshold.0 / 10;
+            self.purge_rewrite_threshold = Some(ReadableSize(tenth.max(self.target_file_size.0)));
+        }
+        self.recovery_read_block_size = ReadableSize(
+            self.recovery_read_block_size
+                .0
+                .max(MIN_RECOVERY_READ_BLOCK_SIZE),
+        );
+        self.recovery_threads = self.recovery_threads.max(1);
+        if !self.prefill_for_recycle {
+            self.prefill_limit = None;
+        } else if self.prefill_limit.is_none() {
+            self.prefill_limit = Some(self.purge_threshold);
+        }
+    }
+
+    /// Whether files that are purged may be used again.
+    fn can_recycle(&self) -> bool
+        ensures { result ≡ can_recycle (settings_of self.now) }
+    {
+        self.enable_log_recycle && self.format_version.has_log_signing()
+    }
+}
+
+/// Half as many files again as fit so many bytes.
+fn files_within(limit: u64, target: u64) -> usize
+    ensures { result ≡ files_within limit target }
+{
+    let files = limit.checked_div(target).unwrap_or(0) as u128;
+    (files * 3 / 2).min(u32::MAX as u128) as usize
+}
+
+/// Whether two directories are one, or one has the path of a log file in the other.
+fn clash(dir: &str, spill: &str) -> bool
+    ensures { IsTrue result ↔ Clash dir.now spill.now }
+{
+    dir == spill || is_file_in(dir, spill) || is_file_in(spill, dir)
+}
+
+/// Whether a path is one that a file of the log in this directory may have.
+fn is_file_in(directory: &str, path: &str) -> bool
+    ensures { IsTrue result ↔ IsFileIn directory.now path.now }
+{
+    let Some(rest) = path.strip_prefix(directory) else {
+        return false;
+    };
+    let Some(name) = rest.strip_prefix('/') else {
+        return false;
+    };
+    is_file_name(name)
+}
+
+/// Whether a name is a log file's, or that of a file that is kept to be used.
+fn is_file_name(name: &str) -> bool
+    ensures { IsTrue result ↔ IsFileName name.now }
+{
+    FileId::parse_file_name(name).is_some() || parse_reserved_file_name(name).is_some()
+}

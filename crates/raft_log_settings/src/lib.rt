@@ -1,0 +1,10 @@
+//! The settings of a log.
+#![tactic(auto)]
+
+pub mod config;
+pub mod fault;
+pub mod recovery_mode;
+
+pub use config::Config;
+pub use fault::ConfigFault;
+pub use recovery_mode::RecoveryMode;

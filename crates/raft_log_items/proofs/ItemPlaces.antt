@@ -1,15 +1,15 @@
 -- Items whose entries get their places, one item after another.
-use Rattle.std.proofs.Common.{◌≡◌, ℕ, suc, ◌+◌, ◌<◌, ◌≤◌, List, [], ◌∷◌, ◌++◌, length, take, drop, map, get_or, refl, sym, ap, ◌∙◌, arith}
+use Rattle.std.proofs.Common.{◌≡◌, ℕ, suc, ◌+◌, ◌-◌, ◌<◌, ◌≤◌, ◌^◌, min, List, [], ◌∷◌, ◌++◌, length, take, drop, map, get_or, refl, sym, ap, ◌∙◌, arith}
 use Rattle.std.proofs.Math.ListN.{set}
 use Rattle.std.proofs.lemmas.List.{take_more, map-append, length-take-le, length-map, take-append-drop}
 use Rattle.std.proofs.lemmas.List.Sums.{sum_by-cons, sum_by-append}
 use Rattle.raft_log_base.specs.declared.pipe_log.FileBlockHandle.{FileBlockHandle}
 use Rattle.raft_log_items.specs.declared.item.LogItemContent.{LogItemContent}
 use Rattle.raft_log_items.specs.declared.item.LogItem.{LogItem}
-use Rattle.raft_log_items.specs.Placed.{content_len, entries_len, laid_content, laid_out, written_content, written_item}
+use Rattle.raft_log_items.specs.Placed.{content_len, entries_len, laid_content, laid_out, written_content, written_item, placed, placed_item, ArePlaced}
 use Rattle.raft_log_items.proofs.Places.{inner_get, inner_set}
 
--- ---- laying out
+-- Laying out.
 
 pub laid_out-append : (offset : ℕ) (a b : List LogItem) → laid_out offset (a ++ b) ≡ laid_out offset a ++ laid_out (offset + entries_len a) b
 laid_out-append offset [] b = ap (λ (o : ℕ). laid_out o b) (omega arith)
@@ -59,7 +59,7 @@ entries_len-take i xs =
     ap (λ (l : List LogItem). entries_len l) (sym (take-append-drop i xs)) ∙ sum_by-append (λ (y : LogItem). content_len y.content) (take i xs) (drop i xs) in
     omega (arith, whole)
 
--- ---- written items
+-- Written items.
 
 pub written_step : (handle : FileBlockHandle) (old xs : List LogItem) (i : ℕ) (d : LogItem) (new : LogItemContent) → i < length old → xs ≡ map (written_item handle) (take i old) ++ drop i old
     → new ≡ written_content handle (get_or xs i d).content → set xs i (record (get_or xs i d) { content = new }) ≡ map (written_item handle) (take (i + 1) old) ++ drop (i + 1) old
@@ -75,3 +75,35 @@ written_step handle old xs i d new lt h is =
     ∙ ap (λ (l : List LogItem). set l i (f x)) h
     ∙ inner_set front old i d (f x) len lt
     ∙ ap (λ (l : List LogItem). l ++ drop (i + 1) old) (sym more)
+
+-- Items that get their places as they are read.
+
+-- no item has no place
+pub placed_none : (handle : FileBlockHandle) → ArePlaced handle [] [] 0
+placed_none handle = record { sum = refl; places = λ fits. refl }
+
+entries_len-push : (front : List LogItem) (x : LogItem) → entries_len (front ++ x ∷ []) ≡ entries_len front + content_len x.content
+entries_len-push front x = sum_by-append (λ (y : LogItem). content_len y.content) front (x ∷ []) ∙ omega arith
+
+placed-push : (handle : FileBlockHandle) (front : List LogItem) (x : LogItem) → placed handle (front ++ x ∷ []) ≡ placed handle front ++ placed_item handle (entries_len front) x ∷ []
+placed-push handle front x =
+    let start : 0 + entries_len front ≡ entries_len front = omega arith in
+    ap (λ (l : List LogItem). map (written_item handle) l) (laid_out-append 0 front (x ∷ []) ∙ ap (λ (o : ℕ). laid_out 0 front ++ laid_out o (x ∷ [])) start)
+    ∙ map-append (written_item handle) (laid_out 0 front) (laid_out (entries_len front) (x ∷ []))
+
+-- one more item gets its places
+pub placed_more : (handle : FileBlockHandle) (front items : List LogItem) (x y : LogItem) (len end : ℕ) → ArePlaced handle front items len
+    → end ≡ min (len + content_len x.content) (2 ^ 64 - 1) → (end < 2 ^ 32 → y ≡ placed_item handle len x) → ArePlaced handle (front ++ x ∷ []) (items ++ y ∷ []) end
+placed_more handle front items x y len end h is place =
+    let sum = entries_len-push front x in
+    let whole : end ≡ min (entries_len (front ++ x ∷ [])) (2 ^ 64 - 1) = omega (arith, is, h.sum, sum) in
+    record {
+      sum = whole;
+      places = λ fits.
+          let short : entries_len front < 2 ^ 32 = omega (arith, fits, sum) in
+          let same : len ≡ entries_len front = omega (arith, h.sum, short) in
+          let near : end < 2 ^ 32 = omega (arith, whole, fits) in
+          ap (λ (l : List LogItem). l ++ y ∷ []) (h.places short)
+          ∙ ap (λ (z : LogItem). placed handle front ++ z ∷ []) (place near ∙ ap (λ (o : ℕ). placed_item handle o x) same)
+          ∙ sym (placed-push handle front x);
+    }

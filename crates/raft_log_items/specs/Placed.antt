@@ -1,5 +1,8 @@
 -- How many bytes the entries of items have, and where each lies in its entry block.
-use Rattle.std.specs.Prelude.{ℕ, ◌+◌, List, [], ◌∷◌, Some, map, sum_by}
+use Rattle.std.specs.Prelude.{◌≡◌, ℕ, ◌+◌, ◌-◌, ◌<◌, ◌^◌, List, [], ◌∷◌, Some, map, min, sum_by, Result, Ok, Err}
+use Rattle.std.specs.Global.{Vec}
+use Rattle.raft_log_base.specs.declared.errors.Error.{Error}
+use Rattle.raft_log_base.specs.Fault.{Fault, Fails}
 use Rattle.raft_log_base.specs.declared.pipe_log.FileBlockHandle.{FileBlockHandle}
 use Rattle.raft_log_items.specs.declared.entry.EntryIndex.{EntryIndex}
 use Rattle.raft_log_items.specs.declared.item.LogItemContent.{LogItemContent}
@@ -58,3 +61,21 @@ written handle xs = map (written_item handle) xs
 -- the items with their places: their entries lie one after another in the block at this place
 abbrev pub placed : FileBlockHandle → List LogItem → List LogItem
 placed handle items = written handle (laid_out 0 items)
+
+-- the item with its places: its entries lie in the block at this place, from this offset on
+abbrev pub placed_item : FileBlockHandle → ℕ → LogItem → LogItem
+placed_item handle offset x = written_item handle (record x { content = laid_content offset x.content })
+
+-- The items with their places, and how many bytes their entries have, or 2 ^ 64 - 1 where they have more. Where these
+-- are too many for a block, nothing is said of where they lie.
+pub record ArePlaced (handle : FileBlockHandle) (plain items : List LogItem) (len : ℕ) : Type 0 where
+  pub sum : len ≡ min (entries_len plain) (2 ^ 64 - 1)
+  pub places : entries_len plain < 2 ^ 32 → items ≡ placed handle plain
+
+-- What a decoder answered and what it left is what the reading of the bytes gives, with the places of the items, unless
+-- memory ran out. A refusal leaves all.
+abbrev pub ReadsPlaced :
+    FileBlockHandle → Result (Vec LogItem × ℕ) Error → List ℕ → List ℕ → Result (List LogItem × List ℕ) Fault → Type 0
+ReadsPlaced handle (Ok found) old new reading =
+    (plain : List LogItem) × (reading ≡ Ok (plain, new)) × ArePlaced handle plain found.0.items found.1
+ReadsPlaced handle (Err e) old new reading = Fails e reading × (new ≡ old)

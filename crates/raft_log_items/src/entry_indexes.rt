@@ -1,5 +1,5 @@
 //! Runs of entries of one group: their count, the first index, and the length of each.
-ghost use Rattle.std.specs.Prelude.{◌≡◌, ◌+◌, ◌<◌, ◌^◌, ◌++◌, [], length, map, min, vec_capacity, IfOk, OnOk, OnErr, IsTrue, ◌↔◌};
+ghost use Rattle.std.specs.Prelude.{◌≡◌, ◌+◌, ◌-◌, ◌<◌, ◌^◌, ◌++◌, [], length, map, min, vec_capacity, IfOk, OnOk, OnErr, IsTrue, ◌↔◌};
 ghost use Rattle.raft_log_base.specs.Fault.{ReadsOrMemory, ReadsItemsOrMemory, DecodesOrMemory};
 ghost use Rattle.raft_log_items.specs.Run.{IsRun, FollowsFrom, unplaced};
 ghost use Rattle.raft_log_items.specs.Items.{IsEntries};
@@ -85,6 +85,18 @@ impl EntryIndexes {
         ensures { IsTrue result ↔ (self.now ≡ []) }
     {
         self.entries.is_empty()
+    }
+
+    /// How many bytes the entries have, or 2^64 - 1 where they have more.
+    pub fn bytes_len(&self) -> u64
+        ensures { result ≡ min (run_len self.now) (2 ^ 64 - 1) }
+    {
+        let entries = self.as_slice();
+        let mut len: u64 = 0;
+        for entry in entries {
+            len = len.saturating_add(entry.entry_len as u64);
+        }
+        len
     }
 
     /// Lays the entries out one after another from this offset in their block on, and answers where the next one goes.

@@ -1,8 +1,8 @@
 //! Items: what a batch says of a group.
-ghost use Rattle.std.specs.Prelude.{◌≡◌, ◌+◌, ◌<◌, ◌^◌, ◌++◌, OnOk, OnErr};
+ghost use Rattle.std.specs.Prelude.{◌≡◌, ◌+◌, ◌-◌, ◌<◌, ◌^◌, ◌++◌, min, OnOk, OnErr};
 ghost use Rattle.raft_log_base.specs.Fault.{ReadsOrMemory, DecodesOrMemory};
 ghost use Rattle.raft_log_items.specs.Items.{IsItem, item_of, new_key};
-ghost use Rattle.raft_log_items.specs.Placed.{content_len, laid_content, written_content};
+ghost use Rattle.raft_log_items.specs.Placed.{content_len, laid_content, written_content, placed_item};
 ghost use Rattle.raft_log_items.specs.Reading.{content_of_at, item_at};
 ghost use Rattle.raft_log_items.specs.Writing.{content_bytes, item_bytes, plain_item, IsSpelledContent, KeepsFront};
 
@@ -70,6 +70,30 @@ impl LogItem {
             raft_group_id,
             content: LogItemContent::Kv(KeyValue::new(op_type, key, value)),
         }
+    }
+
+    /// How many bytes the entries of the item have, or 2^64 - 1 where they have more.
+    pub fn entries_len(&self) -> u64
+        ensures { result ≡ min (content_len self.now.content) (2 ^ 64 - 1) }
+    {
+        match &self.content {
+            LogItemContent::EntryIndexes(entries) => entries.bytes_len(),
+            _ => 0,
+        }
+    }
+
+    /// The item is written, and its entries lie one after another in the block at this place, from this offset on. Answers
+    /// where the next entry goes, or 2^64 - 1 where that is further. Entries that no block holds get no place.
+    pub fn place(&mut self, block: FileBlockHandle, offset: u64) -> u64
+        ensures end { result ≡ min (offset + content_len self.old.content) (2 ^ 64 - 1) }
+        ensures places { result < 2 ^ 32 → self.new ≡ placed_item block offset self.old }
+    {
+        let end = offset.saturating_add(self.entries_len());
+        if end <= u32::MAX as u64 {
+            lay_out_content(&mut self.content, offset as u32);
+            set_content_written(&mut self.content, block);
+        }
+        end
     }
 
     /// Reads an item. Where its entries lie, and in which file it stands, is not told by it.

@@ -3,7 +3,7 @@ ghost use Rattle.std.specs.Prelude.{◌≡◌, ◌+◌, ◌/◌, ◌<◌, ◌^�
 ghost use Rattle.raft_log_base.specs.Grammar.{times_at};
 ghost use Rattle.raft_log_base.specs.Fault.{ReadsItemsOrMemory, DecodesItemsOrMemory};
 ghost use Rattle.raft_log_items.specs.Items.{AreItems};
-ghost use Rattle.raft_log_items.specs.Placed.{entries_len, laid_out, written, placed};
+ghost use Rattle.raft_log_items.specs.Placed.{entries_len, laid_out, written, placed, ReadsPlaced};
 ghost use Rattle.raft_log_items.specs.Reading.{item_at, items_at};
 ghost use Rattle.raft_log_items.specs.Writing.{item_bytes, items_bytes, plain_item, AreSpelled, KeepsFront};
 
@@ -96,6 +96,46 @@ fn split_items(alloc: Global, source: &mut BytesSlice<'_>, count: u64) -> Result
     }
     *source = rest;
     Ok(items)
+}
+
+/// Reads a list of items whose entries lie one after another in the block at this place, and answers with it how many
+/// bytes they have, or 2^64 - 1 where they have more. Each item gets its places as it is read.
+///
+/// Of entries that no block holds, with 2^32 bytes or more, the places are not told.
+#[tactic(auto, unfolding(crate::specs::Reading::items_at))]
+pub fn decode_placed_items(
+    alloc: Global,
+    source: &mut BytesSlice<'_>,
+    block: FileBlockHandle,
+) -> Result<(Vec<LogItem>, u64)>
+    ensures { ReadsPlaced block result source.old.now source.new.now (items_at source.old.now) }
+{
+    let mut rest: &[u8] = *source;
+    let count = decode_var_u64(&mut rest)?;
+    let found = split_placed_items(alloc, &mut rest, count, block)?;
+    *source = rest;
+    Ok(found)
+}
+
+/// Reads so many items with their places.
+fn split_placed_items(
+    alloc: Global,
+    source: &mut BytesSlice<'_>,
+    count: u64,
+    block: FileBlockHandle,
+) -> Result<(Vec<LogItem>, u64)>
+    ensures { ReadsPlaced block result source.old.now source.new.now (times_at item_at count source.old.now) }
+{
+    let mut rest: &[u8] = *source;
+    let mut items = room_for_items(alloc, count, rest.len())?;
+    let mut len: u64 = 0;
+    for _ in 0..count {
+        let mut item = LogItem::decode(alloc, &mut rest)?;
+        len = item.place(block, len);
+        items.push(item)?;
+    }
+    *source = rest;
+    Ok((items, len))
 }
 
 /// Room for so many items, but for no more than so many bytes can hold.

@@ -5,3 +5,4 @@ pub mod Entries
 pub mod Marks
 pub mod Meanings
 pub mod Moves
+pub mod ItemBatches

@@ -1,3 +1,4 @@
+pub mod ItemBatch
 pub mod Batch
 pub mod Entries
 pub mod Key

@@ -1,7 +1,7 @@
 use Rattle.std.proofs.Common.{List, ap, ◌∙◌, slice_get}
 use Rattle.raft_log_items.specs.declared.entry.EntryIndex.{EntryIndex}
-use Rattle.raft_log_frames.proofs.ItemBatches.{first_of_all}
-use Rattle.raft_log_frames.proofs.log_item_batch.first_entry.Goals as goal
+use Rattle.raft_log_records.proofs.ItemBatches.{first_of_all}
+use Rattle.raft_log_records.proofs.log_item_batch.first_entry.Goals as goal
 
 pub returns-in-Some : goal.returns-in-Some
 returns-in-Some c =

@@ -5,3 +5,4 @@ pub mod Footers
 pub mod Frames
 pub mod Made
 pub mod Written
+pub mod Fronts

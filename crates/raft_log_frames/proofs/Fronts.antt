@@ -1,9 +1,9 @@
 -- What stands at the front of any bytes.
-use Rattle.std.specs.Prelude.{slice_range, replicate, ◌↔◌, ◌⊎◌}
+use Rattle.std.specs.Prelude.{slice_range, ◌⊎◌}
 use Rattle.std.specs.Int.{w64, from_be_bytes}
-use Rattle.std.proofs.Common.{◌≡◌, ℕ, ◌+◌, ◌-◌, ◌*◌, ◌≤◌, Bool, ltb, cond, false, List, ◌++◌, length, take, drop, Option, Result, Ok, Err, inl, inr, refl, sym, ap, subst, ◌∙◌, append_assoc, arith}
+use Rattle.std.proofs.Common.{◌≡◌, ℕ, ◌+◌, ◌-◌, ◌*◌, ltb, List, ◌++◌, length, take, drop, Option, Result, Ok, Err, inl, inr, refl, sym, ap, subst, ◌∙◌, append_assoc, arith}
 use Rattle.std.proofs.lemmas.Bool.{le-ltb, ltb-false}
-use Rattle.std.proofs.lemmas.List.{take-append-drop, length-take-le, take_at}
+use Rattle.std.proofs.lemmas.List.{take-append-drop, length-take-le}
 use Rattle.raft_log_base.specs.Grammar.{◌>>=◌}
 use Rattle.raft_log_base.specs.Fault.{Fault}
 use Rattle.raft_log_base.specs.Fault.Fault.{corrupt}
@@ -11,7 +11,7 @@ use Rattle.raft_log_base.proofs.Grammar.{done, ok_is, bind_ok, chosen}
 use Rattle.raft_log_items.specs.declared.item.LogItem.{LogItem}
 use Rattle.raft_log_items.specs.declared.entry.CompressionType.{CompressionType}
 use Rattle.raft_log_items.specs.declared.entry.CompressionType.TheVariants as kinds
-use Rattle.raft_log_frames.specs.Record.{IsFrame, IsRecord, Front, header_at, block_of, footer_of, frame_of, frame_at, record_at, past_input}
+use Rattle.raft_log_frames.specs.Record.{IsFrame, Front, header_at, block_of, footer_of, frame_of, frame_at, record_at, past_input}
 use Rattle.raft_log_frames.specs.Frames.{ReadsFrame, FrameIsRead, RecordIsRead, RecordIsTold, BeginsRecord, NoFrameInZeros}
 use Rattle.raft_log_frames.proofs.Headers.{header_words}
 use Rattle.raft_log_frames.proofs.Blocks.{block_found, block_again}
@@ -54,16 +54,16 @@ frame_parts signature input front e =
 pub frame_is_read : FrameIsRead
 frame_is_read signature input front = (
   λ e.
-    let p = frame_parts signature input front e in
-    (p.1.whole, subst (λ (l : List ℕ). IsFrame signature (take front.len input) front.items l) p.2 (frame_read signature input p.0 front.len front.items p.1)),
+      let p = frame_parts signature input front e in
+      (p.1.whole, subst (λ (l : List ℕ). IsFrame signature (take front.len input) front.items l) p.2 (frame_read signature input p.0 front.len front.items p.1)),
   λ h.
-    let back = frame_back signature (take front.len input) front.bytes (drop front.len input) front.items h.1 in
-    let whole : take front.len input ++ drop front.len input ≡ input = take-append-drop front.len input in
-    let size : length (take front.len input) ≡ front.len = length-take-le front.len input h.0 in
-    let offset : ℕ = 16 + length front.bytes in
-    let reads : ReadsFrame signature input offset front.len front.items = subst (λ (n : ℕ). ReadsFrame signature input offset n front.items) size (subst (λ (l : List ℕ). ReadsFrame signature l offset (length (take front.len input)) front.items) whole back.0) in
-    let inner : slice_range input 16 offset ≡ front.bytes = ap (λ (l : List ℕ). slice_range l 16 offset) (sym whole) ∙ back.1 in
-    frame_made signature input offset front.len front.items reads ∙ ap (λ (l : List ℕ). done {E = Fault} (record { len = front.len; items = front.items; bytes = l })) inner,
+      let back = frame_back signature (take front.len input) front.bytes (drop front.len input) front.items h.1 in
+      let whole : take front.len input ++ drop front.len input ≡ input = take-append-drop front.len input in
+      let size : length (take front.len input) ≡ front.len = length-take-le front.len input h.0 in
+      let offset : ℕ = 16 + length front.bytes in
+      let reads : ReadsFrame signature input offset front.len front.items = subst (λ (n : ℕ). ReadsFrame signature input offset n front.items) size (subst (λ (l : List ℕ). ReadsFrame signature l offset (length (take front.len input)) front.items) whole back.0) in
+      let inner : slice_range input 16 offset ≡ front.bytes = ap (λ (l : List ℕ). slice_range l 16 offset) (sym whole) ∙ back.1 in
+      frame_made signature input offset front.len front.items reads ∙ ap (λ (l : List ℕ). done {E = Fault} (record { len = front.len; items = front.items; bytes = l })) inner,
 )
 
 -- the record of a frame whose block is read
@@ -85,21 +85,21 @@ record_parts signature input front e =
 pub record_is_read : RecordIsRead
 record_is_read signature input front = (
   λ e.
-    let p = record_parts signature input front e in
-    let frame = (frame_is_read signature input p.0).0 p.1 in
-    let len : p.0.len ≡ front.len = ap (λ (x : Front). x.len) p.3 in
-    let items : p.0.items ≡ front.items = ap (λ (x : Front). x.items) p.3 in (
-      omega (arith, frame.0, len),
-      record {
-        block = p.0.bytes;
-        frame = subst (λ (n : ℕ). IsFrame signature (take n input) front.items p.0.bytes) len (subst (λ (xs : List LogItem). IsFrame signature (take p.0.len input) xs p.0.bytes) items frame.1);
-        block_spelled = block_found p.0.bytes front.bytes p.2;
-      },
-    ),
+      let p = record_parts signature input front e in
+      let frame = (frame_is_read signature input p.0).0 p.1 in
+      let len : p.0.len ≡ front.len = ap (λ (x : Front). x.len) p.3 in
+      let items : p.0.items ≡ front.items = ap (λ (x : Front). x.items) p.3 in (
+        omega (arith, frame.0, len),
+        record {
+          block = p.0.bytes;
+          frame = subst (λ (n : ℕ). IsFrame signature (take n input) front.items p.0.bytes) len (subst (λ (xs : List LogItem). IsFrame signature (take p.0.len input) xs p.0.bytes) items frame.1);
+          block_spelled = block_found p.0.bytes front.bytes p.2;
+        },
+      ),
   λ h.
-    let frame : Front = record { len = front.len; items = front.items; bytes = h.1.block } in
-    let taken : frame_at signature input ≡ Ok frame = (frame_is_read signature input frame).1 (h.0, h.1.frame) in
-    record_made signature input frame front.bytes taken (block_again h.1.block front.bytes h.1.block_spelled),
+      let frame : Front = record { len = front.len; items = front.items; bytes = h.1.block } in
+      let taken : frame_at signature input ≡ Ok frame = (frame_is_read signature input frame).1 (h.0, h.1.frame) in
+      record_made signature input frame front.bytes taken (block_again h.1.block front.bytes h.1.block_spelled),
 )
 
 told : (signature : Option ℕ) (input : List ℕ) (r : Result Front Fault) → record_at signature input ≡ r → BeginsRecord signature input ⊎ (BeginsRecord signature input → ⊥)

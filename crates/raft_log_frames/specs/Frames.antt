@@ -104,14 +104,14 @@ abbrev pub FrameIsRead : Type 0
 FrameIsRead =
     (signature : Option ℕ) (input : List ℕ) (front : Front)
     → ((frame_at signature input ≡ Ok front)
-      ↔ ((front.len ≤ length input) × IsFrame signature (take front.len input) front.items front.bytes))
+    ↔ ((front.len ≤ length input) × IsFrame signature (take front.len input) front.items front.bytes))
 
 -- The same of a record and its entries' bytes.
 abbrev pub RecordIsRead : Type 0
 RecordIsRead =
     (signature : Option ℕ) (input : List ℕ) (front : Front)
     → ((record_at signature input ≡ Ok front)
-      ↔ ((front.len ≤ length input) × IsRecord signature (take front.len input) front.items front.bytes))
+    ↔ ((front.len ≤ length input) × IsRecord signature (take front.len input) front.items front.bytes))
 
 -- a record of a file with this signature stands at the front of these bytes
 abbrev pub BeginsRecord : Option ℕ → List ℕ → Type 0

@@ -235,7 +235,7 @@ unfoldable pub frame_of : Option ℕ → List ℕ → ℕ → ℕ → Result Fro
 frame_of signature input offset len =
     if nat_lt (length input) len then Err (corrupt (past_input len))
     else (footer_of signature (offset - 16) (slice_range input offset len)
-        >>= λ items. Ok (record { len = len; items = items; bytes = slice_range input 16 offset }))
+    >>= λ items. Ok (record { len = len; items = items; bytes = slice_range input 16 offset }))
 
 -- the frame at the front of these bytes, with its block: first its header
 unfoldable pub frame_at : Option ℕ → List ℕ → Result Front Fault

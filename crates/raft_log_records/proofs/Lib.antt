@@ -6,3 +6,4 @@ pub mod Marks
 pub mod Meanings
 pub mod Moves
 pub mod ItemBatches
+pub mod Places

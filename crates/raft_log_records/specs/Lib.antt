@@ -4,3 +4,4 @@ pub mod Entries
 pub mod Key
 pub mod AtomicGroup
 pub mod Meaning
+pub mod Places

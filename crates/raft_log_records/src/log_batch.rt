@@ -75,7 +75,8 @@ impl LogBatch {
     ghost use Rattle.raft_log_records.specs.AtomicGroup.{mark_key, marking_of_items};
     ghost use Rattle.raft_log_records.specs.ItemBatch.{command_item};
     ghost use Rattle.raft_log_records.specs.Key.{is_internal, IsKeyRefusal};
-    ghost use Rattle.raft_log_records.specs.Batch.{batch_bytes, batch_size, empty_batch, with_item, written_at, Becomes, HasNoEntries, IsMade, IsSigned, IsReadyForEach, IsRecordOf, signature_in};
+    ghost use Rattle.raft_log_records.specs.Batch.{batch_bytes, batch_size, empty_batch, with_item, written_at, Becomes, HasNoEntries, IsMade, IsSigned, IsReadyForEach, IsRecordOf, block_place, signature_in};
+    ghost use Rattle.raft_log_records.specs.Places.{AllLieIn, HasBytesInBlock};
 
     /// An empty batch, which is being filled.
     pub fn default(alloc: Global) -> std::result::Result<Self, AllocError>
@@ -327,6 +328,8 @@ impl LogBatch {
         requires signed { IsSigned self.old.state }
         requires place { handle.offset + 16 < 2 ^ 64 }
         ensures written { self.new ≡ written_at handle self.old }
+        ensures inside { AllLieIn (block_place handle self.old.entries) self.new.items }
+        ensures bytes { HasBytesInBlock self.old self.new }
         ensures laid { laid_out 0 self.new.items ≡ self.new.items }
         ensures adds { entries_len self.new.items ≡ length self.new.entries }
     {

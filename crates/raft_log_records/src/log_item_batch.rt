@@ -57,6 +57,7 @@ impl LogItemBatch {
     ghost use Rattle.raft_log_base.specs.Files.{signature_of};
     ghost use Rattle.raft_log_frames.specs.Record.{footer_bytes};
     ghost use Rattle.raft_log_records.specs.ItemBatch.{no_items, AddsItems, TakesItems, HasRoom, run_item, command_item, items_size, all_entries, IsPlacedFooter, OnlyPlaced, GivesPlaced, batch_of};
+    ghost use Rattle.raft_log_records.specs.Places.{AllLieIn};
 
     /// An empty batch, which has no room yet.
     pub fn default(alloc: Global) -> Self
@@ -317,6 +318,7 @@ impl LogItemBatch {
         context: &LogFileContext,
     ) -> raft_log_items::Result<Self>
         ensures found { IfOk result (λ b. IsPlacedFooter (signature_of context.now) entries bytes.now b.items) }
+        ensures inside { IfOk result (λ b. AllLieIn entries b.items) }
         ensures only { OnlyPlaced result (signature_of context.now) entries bytes.now }
         ensures exact { GivesPlaced result (batch_of (signature_of context.now) entries bytes.now) }
     {

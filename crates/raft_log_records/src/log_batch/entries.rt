@@ -12,6 +12,7 @@ impl LogBatch {
     ghost use Rattle.std.specs.Prelude.{◌≡◌, ◌+◌, ◌≤◌, length, OnOk, OnErr, IfErr};
     ghost use Rattle.raft_log_records.specs.declared.log_batch.BatchState.TheVariants.{Filling};
     ghost use Rattle.raft_log_records.specs.Batch.{max_entries_len, Becomes};
+    ghost use Rattle.raft_log_records.specs.Places.{AddsBytes};
     ghost use Rattle.raft_log_records.specs.Entries.{IsRunOf, indexes_of, bytes_len, AddsEntries, IsEntriesRefusal};
 
     /// Adds entries of a group, each given by its index and its bytes. Of the entries in `entry_indexes` only the index is
@@ -29,6 +30,7 @@ impl LogBatch {
     ) -> Result<()>
         requires { self.old.state ≡ Filling }
         ensures ok { OnOk result (AddsEntries self.old self.new raft_group_id (indexes_of entry_indexes.now) entries.now) }
+        ensures bytes { OnOk result (AddsBytes self.old self.new entries.now) }
         ensures run { OnOk result (IsRunOf (indexes_of entry_indexes.now) entries.now) }
         ensures room { OnOk result (length self.old.entries + bytes_len entries.now ≤ max_entries_len) }
         ensures err { OnErr result (Becomes self.old self.new) }

@@ -15,6 +15,7 @@ impl LogBatch {
     ghost use Rattle.std.specs.Prelude.{◌≡◌, ◌+◌, ◌≤◌, length, map, OnOk, OnErr, IfErr};
     ghost use Rattle.raft_log_records.specs.declared.log_batch.BatchState.TheVariants.{Filling};
     ghost use Rattle.raft_log_records.specs.Batch.{max_entries_len, Becomes};
+    ghost use Rattle.raft_log_records.specs.Places.{AddsBytes};
     ghost use Rattle.raft_log_records.specs.Entries.{IsRunOf, bytes_len, AddsEntries, IsEntriesRefusal};
 
     /// Adds entries of a group, each with its index. No entries add nothing.
@@ -29,6 +30,7 @@ impl LogBatch {
     ) -> Result<()>
         requires { self.old.state ≡ Filling }
         ensures ok { OnOk result (AddsEntries self.old self.new raft_group_id (map M.index entries.now) (map M.Entry.spelling entries.now)) }
+        ensures bytes { OnOk result (AddsBytes self.old self.new (map M.Entry.spelling entries.now)) }
         ensures run { OnOk result (IsRunOf (map M.index entries.now) (map M.Entry.spelling entries.now)) }
         ensures room { OnOk result (length self.old.entries + bytes_len (map M.Entry.spelling entries.now) ≤ max_entries_len) }
         ensures err { OnErr result (Becomes self.old self.new) }

@@ -8,6 +8,7 @@ use Rattle.raft_log_records.specs.Batch.{Batch, max_entries_len}
 use Rattle.raft_log_records.specs.Entries.{entries_item, bytes_len, with_entries}
 use Rattle.raft_log_records.proofs.Entries.{out_len}
 use Rattle.raft_log_records.proofs.Items.{pushed_items, more_room, with_none, filling_size, entries_added, entries_seen}
+use Rattle.raft_log_records.proofs.Places.{view_laid, added_bytes}
 use Rattle.raft_log_records.proofs.log_batch.LogBatch.add_entries.Goals as goal
 
 pub returns-then-is_empty-clause-ok : goal.returns-then-is_empty-clause-ok
@@ -54,3 +55,18 @@ returns-clause-ok g c =
           ∙ ap (λ (b : Batch). record (with_entries b c.args.raft_group_id indexes entries) { capacity = c.push_reserved.new.self.capacity }) c.self.view_is,
       more_room c.self.inside.items c.reserve.new.self c.push_reserved.new.self c.new_entry_indexes.result c.args.self.now.capacity (ap (λ (b : Batch). b.capacity) c.self.view_is) c.in_ok-reserve.ensures.ok.0 c.push_reserved.ensures,
     )
+
+pub returns-then-is_empty-clause-bytes : goal.returns-then-is_empty-clause-bytes
+returns-then-is_empty-clause-bytes g c =
+    let indexes : List ℕ = map g.M.MessageExt.index c.args.entries.now in
+    let entries : List (List ℕ) = map g.M.Entry.Message.spelling c.args.entries.now in
+    let seen = view_laid c.self.inside.state c.self.inside.buf.items c.self.inside.entries_len c.self.inside.checksum c.self.inside.items.capacity c.self.inside.items.items c.args.self.now c.self.view_is c.self.invariant in
+    let same : length indexes ≡ length entries = length-map c.args.entries.now g.M.MessageExt.index ∙ sym (length-map c.args.entries.now g.M.Entry.Message.spelling) in
+    added_bytes c.args.self.now _ c.args.raft_group_id indexes entries seen.0 seen.1 same (returns-then-is_empty-clause-ok g c)
+
+pub returns-clause-bytes : goal.returns-clause-bytes
+returns-clause-bytes g c =
+    let indexes : List ℕ = map g.M.MessageExt.index c.args.entries.now in
+    let entries : List (List ℕ) = map g.M.Entry.Message.spelling c.args.entries.now in
+    let seen = view_laid c.self.inside.state c.self.inside.buf.items c.self.inside.entries_len c.self.inside.checksum c.self.inside.items.capacity c.self.inside.items.items c.args.self.now c.self.view_is c.self.invariant in
+    added_bytes c.args.self.now _ c.args.raft_group_id indexes entries seen.0 seen.1 c.in_ok-placed.ensures.run.0 (returns-clause-ok g c)

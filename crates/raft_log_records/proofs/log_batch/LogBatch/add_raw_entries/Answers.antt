@@ -9,6 +9,7 @@ use Rattle.raft_log_records.specs.Batch.{Batch, max_entries_len}
 use Rattle.raft_log_records.specs.Entries.{entries_of, entries_item, bytes_len, with_entries}
 use Rattle.raft_log_records.proofs.Entries.{indexes_of}
 use Rattle.raft_log_records.proofs.Items.{pushed_items, more_room, with_none, entries_added, entries_seen}
+use Rattle.raft_log_records.proofs.Places.{view_laid, added_bytes}
 use Rattle.raft_log_records.proofs.log_batch.LogBatch.add_raw_entries.Goals as goal
 
 pub returns-then-is_empty-clause-ok : goal.returns-then-is_empty-clause-ok
@@ -56,3 +57,15 @@ returns-clause-ok c =
           ∙ ap (λ (b : Batch). record (with_entries b c.args.raft_group_id indexes entries) { capacity = c.push_reserved.new.self.capacity }) c.self.view_is,
       more_room c.self.inside.items c.reserve.new.self c.push_reserved.new.self c.new_entry_indexes.result c.args.self.now.capacity (ap (λ (b : Batch). b.capacity) c.self.view_is) c.in_ok-reserve.ensures.ok.0 c.push_reserved.ensures,
     )
+
+pub returns-then-is_empty-clause-bytes : goal.returns-then-is_empty-clause-bytes
+returns-then-is_empty-clause-bytes c =
+    let seen = view_laid c.self.inside.state c.self.inside.buf.items c.self.inside.entries_len c.self.inside.checksum c.self.inside.items.capacity c.self.inside.items.items c.args.self.now c.self.view_is c.self.invariant in
+    let same = length-map c.args.entry_indexes.now (λ (e : EntryIndex). e.index) ∙ c.in_ok-check_run.ensures.ok in
+    added_bytes c.args.self.now _ c.args.raft_group_id (indexes_of c.args.entry_indexes.now) c.args.entries.now seen.0 seen.1 same (returns-then-is_empty-clause-ok c)
+
+pub returns-clause-bytes : goal.returns-clause-bytes
+returns-clause-bytes c =
+    let seen = view_laid c.self.inside.state c.self.inside.buf.items c.self.inside.entries_len c.self.inside.checksum c.self.inside.items.capacity c.self.inside.items.items c.args.self.now c.self.view_is c.self.invariant in
+    let same = length-map c.args.entry_indexes.now (λ (e : EntryIndex). e.index) ∙ c.in_ok-check_run.ensures.ok in
+    added_bytes c.args.self.now _ c.args.raft_group_id (indexes_of c.args.entry_indexes.now) c.args.entries.now seen.0 seen.1 same (returns-clause-ok c)

@@ -5,6 +5,7 @@ use Rattle.raft_log_items.specs.Placed.{entries_len, laid_out, written}
 use Rattle.raft_log_records.specs.declared.log_batch.BatchState.TheVariants.{Written}
 use Rattle.raft_log_records.specs.Batch.{Batch, IsBatch, block_place, written_at}
 use Rattle.raft_log_records.proofs.Moves.{written_batch, block_size_at, entries_count}
+use Rattle.raft_log_records.proofs.Places.{view_laid, batch_lies, batch_written}
 use Rattle.raft_log_records.proofs.log_batch.LogBatch.finish_write.Goals as goal
 
 pub invariant_of-self : goal.invariant_of-self
@@ -48,3 +49,13 @@ returns-clause-adds c =
     subst (λ (l : List LogItem). entries_len l ≡ length entries) (sym is)
     ((written_batch c.self.inside.state c.self.inside.buf.items c.self.inside.entries_len c.self.inside.checksum old block c.self.invariant).adds
     ∙ sym (entries_count c.self.inside.buf.items c.self.inside.entries_len c.self.invariant.room))
+
+pub returns-clause-inside : goal.returns-clause-inside
+returns-clause-inside c =
+    let seen = view_laid c.self.inside.state c.self.inside.buf.items c.self.inside.entries_len c.self.inside.checksum c.self.inside.items.capacity c.self.inside.items.items c.args.self.now c.self.view_is c.self.invariant in
+    batch_lies c.args.handle c.args.self.now _ seen.0 seen.1 (returns-clause-written c)
+
+pub returns-clause-bytes : goal.returns-clause-bytes
+returns-clause-bytes c =
+    let seen = view_laid c.self.inside.state c.self.inside.buf.items c.self.inside.entries_len c.self.inside.checksum c.self.inside.items.capacity c.self.inside.items.items c.args.self.now c.self.view_is c.self.invariant in
+    batch_written c.args.handle c.args.self.now _ seen.0 seen.1 (returns-clause-written c)

@@ -3,6 +3,7 @@ use Rattle.raft_log_items.specs.declared.item.LogItem.{LogItem}
 use Rattle.raft_log_items.specs.Placed.{laid_out}
 use Rattle.raft_log_records.specs.Batch.{Batch, IsBatch, max_entries_len}
 use Rattle.raft_log_records.proofs.Moves.{behind_header, moved_items, merged, merged_seen, entries_count}
+use Rattle.raft_log_records.proofs.Places.{view_laid, merge_bytes}
 use Rattle.raft_log_records.proofs.log_batch.LogBatch.merge.Goals as goal
 
 pub invariant_of-self-2 : goal.invariant_of-self-2
@@ -42,3 +43,9 @@ returns-clause-ok c =
           ∙ ap (λ (b : Batch). record { state = c.args.self.now.state; items = c.args.self.now.items ++ laid_out (length c.args.self.now.entries) b.items; entries = c.args.self.now.entries ++ b.entries; capacity = cap }) c.rhs.view_is,
       omega (arith, c.lay_out_rest.ensures.room, c.in_ok-move_parts.ensures.items.0.1, ap (λ (b : Batch). b.capacity) c.self.view_is),
     )
+
+pub returns-clause-bytes : goal.returns-clause-bytes
+returns-clause-bytes c =
+    let seen = view_laid c.self.inside.state c.self.inside.buf.items c.self.inside.entries_len c.self.inside.checksum c.self.inside.items.capacity c.self.inside.items.items c.args.self.now c.self.view_is c.self.invariant in
+    let other = view_laid c.rhs.inside.state c.rhs.inside.buf.items c.rhs.inside.entries_len c.rhs.inside.checksum c.rhs.inside.items.capacity c.rhs.inside.items.items c.args.rhs.now c.rhs.view_is c.rhs.invariant in
+    merge_bytes c.args.self.now _ c.args.rhs.now seen.0 seen.1 other.0 (returns-clause-ok c)

@@ -5,4 +5,4 @@ pub mod Footers
 pub mod Frames
 pub mod Made
 pub mod Written
-pub mod ItemBatches
+pub mod Fronts

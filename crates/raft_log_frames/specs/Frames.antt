@@ -1,11 +1,11 @@
 -- Laws of records. A frame is what a reader takes that looks at the header and the footer alone; a record is a frame
 -- whose entry block is read too. Records of a file stand one behind the other with nothing between them, so what
 -- stands at a place must be one record only, and what a writer put there must be what the decoders make of it.
-use Rattle.std.specs.Prelude.{◌≡◌, ◌↔◌, ℕ, ◌+◌, ◌-◌, ◌≤◌, List, ◌++◌, length, take, slice_range, Option, Ok}
+use Rattle.std.specs.Prelude.{replicate, ◌⊎◌, ◌≡◌, ◌↔◌, ℕ, ◌+◌, ◌-◌, ◌≤◌, List, ◌++◌, length, take, slice_range, Option, Ok}
 use Rattle.raft_log_items.specs.declared.compression.CompressionType.TheVariants as kinds
 use Rattle.raft_log_items.specs.declared.item.LogItem.{LogItem}
 use Rattle.raft_log_base.specs.Grammar.{IsPrefixFree}
-use Rattle.raft_log_frames.specs.Record.{IsSoundHeader, IsBlock, IsFooter, IsFrame, IsRecord, header_at, block_of, footer_of}
+use Rattle.raft_log_frames.specs.Record.{IsSoundHeader, IsBlock, IsFooter, IsFrame, IsRecord, Front, header_at, block_of, footer_of, frame_at, record_at}
 
 -- At one place there is one record only.
 
@@ -96,3 +96,34 @@ WhatIsReadIsARecord =
     (signature : Option ℕ) (input entries : List ℕ) (offset len : ℕ) (items : List LogItem)
     → ReadsRecord signature input offset len items entries
     → IsRecord signature (take len input) items entries
+
+-- What begins at the front of any bytes.
+
+-- A frame begins at the front exactly if it is read there: the reading tells all of it.
+abbrev pub FrameIsRead : Type 0
+FrameIsRead =
+    (signature : Option ℕ) (input : List ℕ) (front : Front)
+    → ((frame_at signature input ≡ Ok front)
+    ↔ ((front.len ≤ length input) × IsFrame signature (take front.len input) front.items front.bytes))
+
+-- The same of a record and its entries' bytes.
+abbrev pub RecordIsRead : Type 0
+RecordIsRead =
+    (signature : Option ℕ) (input : List ℕ) (front : Front)
+    → ((record_at signature input ≡ Ok front)
+    ↔ ((front.len ≤ length input) × IsRecord signature (take front.len input) front.items front.bytes))
+
+-- a record of a file with this signature stands at the front of these bytes
+abbrev pub BeginsRecord : Option ℕ → List ℕ → Type 0
+BeginsRecord signature input =
+    (front : Front) × (front.len ≤ length input) × IsRecord signature (take front.len input) front.items front.bytes
+
+-- Of any bytes it can be told whether a record stands at their front.
+abbrev pub RecordIsTold : Type 0
+RecordIsTold = (signature : Option ℕ) (input : List ℕ) → BeginsRecord signature input ⊎ (BeginsRecord signature input → ⊥)
+
+-- No frame, and so no record, begins with eight bytes of zero: none lies within zeros.
+abbrev pub NoFrameInZeros : Type 0
+NoFrameInZeros =
+    (signature : Option ℕ) (bytes block : List ℕ) (items : List LogItem) → take 8 bytes ≡ replicate 8 0
+    → IsFrame signature bytes items block → ⊥

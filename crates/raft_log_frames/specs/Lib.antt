@@ -3,4 +3,3 @@ pub mod Signatures
 pub mod Frames
 pub mod Written
 pub mod Made
-pub mod ItemBatch

@@ -1,6 +1,6 @@
 -- Whole records: a header, the entry block, and the footer with the items. A record is signed with the number of
 -- its file.
-use Rattle.std.specs.Prelude.{◌≡◌, ◌⊎◌, ℕ, ◌+◌, ◌-◌, ◌*◌, ◌/◌, ◌%◌, ◌<◌, ◌≤◌, ◌^◌, List, [], ◌∷◌, ◌++◌, length, take, drop, Option, Result, Ok, Err, unwrap_or, nat_lt, ◌==◌, if◌then◌else◌, codes, bit_xor, Bool, ◌&&◌, MatchResult, IsOkAnd}
+use Rattle.std.specs.Prelude.{◌≡◌, ◌⊎◌, ℕ, ◌+◌, ◌-◌, ◌*◌, ◌/◌, ◌%◌, ◌<◌, ◌≤◌, ◌^◌, List, [], ◌∷◌, ◌++◌, length, take, drop, slice_range, Option, Result, Ok, Err, unwrap_or, nat_lt, ◌==◌, if◌then◌else◌, codes, bit_xor, Bool, ◌&&◌, MatchResult, IsOkAnd}
 use Rattle.std.specs.Fmt.{decimal}
 use Rattle.std.specs.Int.{w32, w64, from_be_bytes, from_le_bytes}
 use Rattle.raft_log_base.specs.Grammar.{Reader, ◌>>=◌}
@@ -217,3 +217,36 @@ unfoldable pub record_bytes : Option ℕ → List LogItem → List ℕ → List 
 record_bytes signature items entries =
     header_bytes (record_len items entries) (16 + length (block_bytes entries)) ++ block_bytes entries
     ++ footer_bytes signature items
+
+-- Frames and records at the front of any bytes.
+
+-- what a reader takes at the front of bytes: how long it is, its items, and the bytes of its block or of its entries
+pub record Front : Type 0 where
+  pub len : ℕ
+  pub items : List LogItem
+  pub bytes : List ℕ
+
+-- the text that tells that a record of so many bytes doesn't end within the input
+abbrev pub past_input : ℕ → List ℕ
+past_input n = codes "Log batch past the end of the input: " ++ decimal n
+
+-- the frame of this length whose footer begins at this offset: first its end, then its footer
+unfoldable pub frame_of : Option ℕ → List ℕ → ℕ → ℕ → Result Front Fault
+frame_of signature input offset len =
+    if nat_lt (length input) len then Err (corrupt (past_input len))
+    else (footer_of signature (offset - 16) (slice_range input offset len)
+    >>= λ items. Ok (record { len = len; items = items; bytes = slice_range input 16 offset }))
+
+-- the frame at the front of these bytes, with its block: first its header
+unfoldable pub frame_at : Option ℕ → List ℕ → Result Front Fault
+frame_at signature input = header_at input >>= λ r. frame_of signature input r.0.0 r.0.2
+
+-- the record at the front of these bytes, with its entries' bytes: first its frame, then its block
+unfoldable pub record_at : Option ℕ → List ℕ → Result Front Fault
+record_at signature input =
+    frame_at signature input >>= λ front. block_of front.bytes >>= λ entries. Ok (record front { bytes = entries })
+
+-- what a decoder answered at the front of bytes is what the reading gives, unless memory ran out
+abbrev pub GivesFront : Result (ℕ × Vec LogItem × Bor (List ℕ)) Error → Result Front Fault → Type 0
+GivesFront (Ok x) reading = reading ≡ Ok (record { len = x.0; items = x.1.items; bytes = x.2.now })
+GivesFront (Err e) reading = Fails e reading

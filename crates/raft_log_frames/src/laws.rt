@@ -11,6 +11,10 @@ ghost use Rattle.raft_log_frames.specs.Frames.{
   WhatIsReadIsAFrame,
   RecordsAreReadBack,
   WhatIsReadIsARecord,
+  FrameIsRead,
+  RecordIsRead,
+  RecordIsTold,
+  NoFrameInZeros,
 };
 ghost use Rattle.raft_log_frames.specs.Signatures.{SignatureSeparatesFiles};
 ghost use Rattle.raft_log_frames.specs.Written.{WrittenIsRecord};
@@ -54,4 +58,13 @@ pub fn what_is_read_is_a_record()
 /// lengths add up to the bytes.
 pub fn written_is_record()
     ensures { WrittenIsRecord }
+{}
+
+/// At the front of any bytes a frame or a record stands exactly if it is read there, so it can be told of any bytes; and
+/// none begins within zeros.
+pub fn what_stands_at_the_front_is_told()
+    ensures frames { FrameIsRead }
+    ensures records { RecordIsRead }
+    ensures told { RecordIsTold }
+    ensures zeros { NoFrameInZeros }
 {}

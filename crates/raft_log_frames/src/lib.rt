@@ -1,13 +1,12 @@
-//! The form of whole records: a header, an entry block and a footer that is signed for one file, read and written; and
-//! the lists of items that footers hold.
+//! The form of whole records: a header, an entry block and a footer that is signed for one file, read and written.
 #![tactic(auto)]
 
 pub mod footer;
+pub mod front;
 pub mod header;
 pub mod laws;
-pub mod log_item_batch;
 pub mod record;
 
 pub use footer::decode_footer;
+pub use front::{decode_frame, decode_record};
 pub use header::{LOG_BATCH_HEADER_LEN, decode_entries_block, decode_header};
-pub use log_item_batch::LogItemBatch;

@@ -59,9 +59,10 @@ fn close_block(buf: &mut Vec<u8>) -> std::result::Result<(), AllocError>
     Ok(())
 }
 
-/// Puts the items and their checksum, which is answered, behind the block.
+/// Appends the footer of these items, not signed, and answers their checksum. A refusal may leave a part of it behind what
+/// was there.
 #[tactic(auto, unfolding(crate::specs::Record::footer_bytes))]
-fn append_footer(buf: &mut Vec<u8>, items: &[LogItem]) -> std::result::Result<u32, AllocError>
+pub fn append_footer(buf: &mut Vec<u8>, items: &[LogItem]) -> std::result::Result<u32, AllocError>
     ensures ok { OnOk result (buf.new.items ≡ buf.old.items ++ footer_bytes None items.now) }
     ensures sum { IfOk result (λ checksum. checksum ≡ crc32_of (items_bytes items.now)) }
     ensures spelled { OnOk result (AreItems (items_bytes items.now) (map plain_item items.now)) }

@@ -1,5 +1,5 @@
 -- The bytes of a batch that is signed are a record.
-use Rattle.std.proofs.Common.{◌≡◌, ℕ, ◌+◌, ◌<◌, ◌^◌, List, [], ◌∷◌, ◌++◌, length, take, drop, map, Option, refl, sym, subst, arith}
+use Rattle.std.proofs.Common.{◌≡◌, ℕ, ◌+◌, ◌<◌, ◌^◌, List, [], ◌∷◌, ◌++◌, length, take, drop, map, Option, refl, sym, ap, ◌∙◌, subst, arith}
 use Rattle.std.proofs.lemmas.List.{length-take-le, length-drop}
 use Rattle.raft_log_items.specs.declared.item.LogItem.{LogItem}
 use Rattle.raft_log_items.specs.Placed.{entries_len}
@@ -9,9 +9,10 @@ use Rattle.raft_log_records.specs.declared.log_batch.BatchState.{BatchState}
 use Rattle.raft_log_records.specs.declared.log_batch.BatchState.TheVariants.{Filling, Populated, Signed, Written}
 use Rattle.raft_log_frames.specs.Record.{signed, header_bytes, block_bytes, footer_bytes, record_len, record_bytes, IsRecord}
 use Rattle.raft_log_frames.specs.Made.{HoldsRecordBytes}
-use Rattle.raft_log_records.specs.Batch.{HoldsIn, IsBatch, IsSigned, signature_in}
+use Rattle.raft_log_records.specs.Batch.{HoldsIn, IsBatch, IsMade, IsSigned, IsReadyForEach, signature_in}
 use Rattle.raft_log_frames.specs.Written.{AreBytes}
-use Rattle.raft_log_frames.proofs.Made.{block_more}
+use Rattle.raft_log_records.proofs.Buffer.{made_holds, batch_record as bytes_of_some}
+use Rattle.raft_log_frames.proofs.Made.{block_more, record-length}
 use Rattle.raft_log_frames.proofs.Written.{written_is_record}
 
 front_bytes : (a b : List ℕ) → AreBytes (a ++ b) → AreBytes a
@@ -55,3 +56,20 @@ batch_record state buffer len sum items h some b all =
     let entries : List ℕ = take len (drop 16 buffer) in
     let count : length entries ≡ len = length-take-le len (drop 16 buffer) (omega (arith, b.room, length-drop 16 buffer)) in
     held_record (signature_in state) buffer sum items entries (signed_holds state buffer sum items entries h some b.holds) (omega (arith, b.adds, count)) (omega (arith, b.fits, count)) all
+
+-- the bytes of a batch that is made are a record of it in each file
+pub batch_ready : (state : BatchState) (buffer : List ℕ) (len sum : ℕ) (items : List LogItem) → IsMade state → 0 < length items → IsBatch state buffer len sum items → AreBytes buffer
+    → IsReadyForEach (length buffer) items (take len (drop 16 buffer))
+batch_ready state buffer len sum items made some b all =
+    let entries : List ℕ = take len (drop 16 buffer) in
+    let count : length entries ≡ len = length-take-le len (drop 16 buffer) (omega (arith, b.room, length-drop 16 buffer)) in
+    let held = made_holds state buffer sum items entries made some b.holds in
+    let h = held.1 in
+    let all' : AreBytes (record_bytes held.0 items entries) = subst (λ (l : List ℕ). AreBytes l) h.bytes all in
+    let size : length buffer ≡ record_len items entries = ap (λ (l : List ℕ). length l) h.bytes ∙ record-length held.0 items entries in
+    record {
+      size = λ signature. ap (λ (l : List ℕ). length l) (bytes_of_some signature items entries some) ∙ record-length signature items entries ∙ sym size;
+      whole = λ signature fits not_empty.
+          subst (λ (l : List ℕ). IsRecord signature l (map plain_item items) entries) (sym (bytes_of_some signature items entries some))
+          (written_is_record signature items entries fits h.spelled (item_part held.0 items entries all') (entry_part held.0 items entries all') (omega (arith, b.adds, count)) (omega (arith, b.fits, count)) h.short);
+    }

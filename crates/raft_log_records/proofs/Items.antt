@@ -1,4 +1,5 @@
 -- Items that are added to a batch.
+use Rattle.std.specs.Prelude.{Bool, true, false, IsTrue, ◌↔◌, Result, Ok, Err, OnOk, OnErr}
 use Rattle.std.proofs.Common.{◌≡◌, ℕ, ◌+◌, ◌<◌, ◌≤◌, List, [], ◌∷◌, ◌++◌, length, take, drop, refl, sym, ap, subst, ◌∙◌, arith}
 use Rattle.std.proofs.Math.Seq.{take-length}
 use Rattle.std.proofs.lemmas.List.{append-nil, length-append, length-take-le, length-drop, drop-append-le}
@@ -12,7 +13,8 @@ use Rattle.raft_log_items.proofs.ItemPlaces.{laid_out-append}
 use Rattle.raft_log_items.specs.Placed.{run_len, content_len, entries_len, laid_run, laid_content, laid_out}
 use Rattle.raft_log_records.specs.declared.log_batch.BatchState.{BatchState}
 use Rattle.raft_log_records.specs.declared.log_batch.BatchState.TheVariants.{Filling, Populated, Signed, Written}
-use Rattle.raft_log_records.specs.Batch.{Batch, IsBatch, HasNoEntries, HoldsIn, max_entries_len}
+use Rattle.raft_log_records.specs.ItemBatch.{ItemBatch, AddsItems}
+use Rattle.raft_log_records.specs.Batch.{Batch, IsBatch, IsMade, IsSigned, HasNoEntries, HoldsIn, max_entries_len}
 use Rattle.raft_log_records.specs.Entries.{entries_of, entries_item, entries_items, joined, bytes_len, with_entries}
 use Rattle.raft_log_records.proofs.Buffer.{in_filling}
 use Rattle.raft_log_records.proofs.Entries.{run_len-entries_of}
@@ -120,15 +122,56 @@ with_none b group indexes [] none = ap (λ (l : List LogItem). record b { items 
 with_none b group indexes (x ∷ xs) none = absurd (omega arith)
 
 -- what callers see of the batch then
-pub entries_seen : (state : BatchState) (buffer new : List ℕ) (len added sum group : ℕ) (items : List LogItem) (indexes : List ℕ) (entries : List (List ℕ)) → state ≡ Filling
+pub entries_seen : (state : BatchState) (buffer new : List ℕ) (len added sum group : ℕ) (items : List LogItem) (indexes : List ℕ) (entries : List (List ℕ)) (before after : ℕ) → state ≡ Filling
     → 0 < length entries → bytes_len entries ≡ added → new ≡ buffer ++ joined entries → IsBatch state buffer len sum items
-    → record { state = state; items = items ++ entries_item group len indexes entries ∷ []; entries = take (len + added) (drop 16 new) }
-    ≡ with_entries (record { state = state; items = items; entries = take len (drop 16 buffer) }) group indexes entries
-entries_seen state buffer new len added sum group items indexes entries e some count grown h =
+    → record { state = state; items = items ++ entries_item group len indexes entries ∷ []; entries = take (len + added) (drop 16 new); capacity = after }
+    ≡ record (with_entries (record { state = state; items = items; entries = take len (drop 16 buffer); capacity = before }) group indexes entries) { capacity = after }
+entries_seen state buffer new len added sum group items indexes entries before after e some count grown h =
     let size : length buffer ≡ 16 + len = filling_size state buffer len sum items e h in
     let more : length (joined entries) ≡ added = length-flat_map (λ (x : List ℕ). x) entries ∙ count in
     let seen : take (len + added) (drop 16 new) ≡ take len (drop 16 buffer) ++ joined entries = ap (λ (l : List ℕ). take (len + added) (drop 16 l)) grown ∙ more_bytes buffer (joined entries) len added size more in
     let at : len ≡ length (take len (drop 16 buffer)) = sym (length-take-le len (drop 16 buffer) (omega (arith, size, length-drop 16 buffer))) in
-    ap (λ (l : List ℕ). record { state = state; items = items ++ entries_item group len indexes entries ∷ []; entries = l }) seen
-    ∙ ap (λ (n : ℕ). record { state = state; items = items ++ entries_item group n indexes entries ∷ []; entries = take len (drop 16 buffer) ++ joined entries }) at
-    ∙ ap (λ (l : List LogItem). record { state = state; items = items ++ l; entries = take len (drop 16 buffer) ++ joined entries }) (sym (one_item group (length (take len (drop 16 buffer))) indexes entries some))
+    ap (λ (l : List ℕ). record { state = state; items = items ++ entries_item group len indexes entries ∷ []; entries = l; capacity = after }) seen
+    ∙ ap (λ (n : ℕ). record { state = state; items = items ++ entries_item group n indexes entries ∷ []; entries = take len (drop 16 buffer) ++ joined entries; capacity = after }) at
+    ∙ ap (λ (l : List LogItem). record { state = state; items = items ++ l; entries = take len (drop 16 buffer) ++ joined entries; capacity = after }) (sym (one_item group (length (take len (drop 16 buffer))) indexes entries some))
+
+-- a batch whose items are not empty, as told by the test
+pub some_items : (b : Bool) (xs : List LogItem) → (IsTrue b ↔ (xs ≡ [])) → b ≡ false → 0 < length xs
+some_items true [] h e = absurd cc
+some_items false [] h e = let told : IsTrue false = h.1 refl in absurd cc
+some_items b (x ∷ xs) h e = omega arith
+
+pub no_items_left : (b : Bool) (xs : List LogItem) → (IsTrue b ↔ (xs ≡ [])) → b ≡ true → length xs ≡ 0
+no_items_left true xs h e = ap (λ (l : List LogItem). length l) (h.0 refl)
+no_items_left false xs h e = absurd cc
+
+-- an item that was added where there was room for it
+pub pushed_items : (old roomy new : ItemBatch) (given item : LogItem) → AddsItems old roomy [] → new ≡ record roomy { items = roomy.items ++ given ∷ [] } → given ≡ item → new.items ≡ old.items ++ item ∷ []
+pushed_items old roomy new given item h e is =
+    ap (λ (b : ItemBatch). b.items) e ∙ ap (λ (l : List LogItem). l ++ given ∷ []) (h.0 ∙ append-nil old.items) ∙ ap (λ (x : LogItem). old.items ++ x ∷ []) is
+
+-- and the room is no less
+pub more_room : (old roomy new : ItemBatch) (given : LogItem) (capacity : ℕ) → old.capacity ≡ capacity → AddsItems old roomy [] → new ≡ record roomy { items = roomy.items ++ given ∷ [] } → capacity ≤ new.capacity
+more_room old roomy new given capacity c h e = omega (arith, c, h.1, ap (λ (b : ItemBatch). b.capacity) e)
+
+-- an item without entries that was added, or refused with the items as they were
+pub added_or_not : {A E : Type 0} (result : Result A E) (state : BatchState) (buffer : List ℕ) (len sum : ℕ) (old new : ItemBatch) (item : LogItem) → state ≡ Filling → HasNoEntries item.content → IsBatch state buffer len sum old.items
+    → OnOk result (AddsItems old new (item ∷ [])) → OnErr result (new.items ≡ old.items) → IsBatch state buffer len sum new.items
+added_or_not (Ok x) state buffer len sum old new item e plain h ok err = subst (λ (l : List LogItem). IsBatch state buffer len sum l) (sym ok.0) (pushed state buffer len sum old.items item e plain h)
+added_or_not (Err x) state buffer len sum old new item e plain h ok err = subst (λ (l : List LogItem). IsBatch state buffer len sum l) (sym err) h
+
+-- a refusal that left the batch as it was, and one that made room alone, left its items
+pub same_items : {A E : Type 0} (result : Result A E) (old new : ItemBatch) → OnErr result (new ≡ old) → OnErr result (new.items ≡ old.items)
+same_items (Ok x) old new h = tt
+same_items (Err x) old new h = ap (λ (b : ItemBatch). b.items) h
+
+pub room_alone : {A E : Type 0} (result : Result A E) (old new : ItemBatch) → OnErr result (AddsItems old new []) → OnErr result (new.items ≡ old.items)
+room_alone (Ok x) old new h = tt
+room_alone (Err x) old new h = h.0 ∙ append-nil old.items
+
+-- what is signed is made
+pub signed_is_made : (state : BatchState) → IsSigned state → IsMade state
+signed_is_made Filling h = absurd h
+signed_is_made Populated h = absurd h
+signed_is_made (Signed s) h = tt
+signed_is_made Written h = absurd h

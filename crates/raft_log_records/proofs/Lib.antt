@@ -5,3 +5,5 @@ pub mod Entries
 pub mod Marks
 pub mod Meanings
 pub mod Moves
+pub mod ItemBatches
+pub mod Places

@@ -1,6 +1,6 @@
 -- Reading a mark is what a mark is.
-use Rattle.std.proofs.Common.{◌≡◌, ℕ, ◌≤◌, false, cond, ltb, eqb, List, [], ◌∷◌, ◌++◌, length, take, drop, Option, Some, None, inl, inr, refl, sym, ap, ◌∙◌, arith}
-use Rattle.std.specs.Prelude.{bytes_eq, option_map, option_and_then, IfSome}
+use Rattle.std.proofs.Common.{◌≡◌, ◌↔◌, ℕ, ◌≤◌, Bool, true, false, cond, ltb, eqb, List, [], ◌∷◌, ◌++◌, length, take, drop, Option, Some, None, inl, inr, refl, sym, ap, ◌∙◌, arith}
+use Rattle.std.specs.Prelude.{bytes_eq, option_map, option_and_then}
 use Rattle.std.specs.Cmp.Lexicographic.{same_text}
 use Rattle.std.specs.Int.{w64, from_be_bytes}
 use Rattle.std.proofs.lemmas.Bool.{le-ltb, ltb-false, eqb-true}
@@ -14,7 +14,8 @@ use Rattle.raft_log_items.specs.declared.item.LogItemContent.TheVariants as cont
 use Rattle.raft_log_items.specs.declared.item.LogItem.{LogItem}
 use Rattle.raft_log_records.specs.declared.atomic_group.AtomicGroupStatus.{AtomicGroupStatus}
 use Rattle.raft_log_records.specs.declared.atomic_group.AtomicGroupStatus.TheVariants.{Begin, Middle, End}
-use Rattle.raft_log_records.specs.AtomicGroup.{mark_key, status_number, IsMark, mark_value, mark_item, status_of, status_at, mark_in, mark_of_value, mark_of_content, mark_of}
+use Rattle.raft_log_records.specs.AtomicGroup.{mark_key, status_number, IsMark, mark_value, mark_item, status_of, status_at, mark_in, mark_of_value, mark_of_content, mark_of, puts_mark_key, content_has_mark_key, has_mark_key, part_or_broken, marking_of}
+use Rattle.raft_log_records.specs.declared.atomic_group.Marking.TheVariants.{Unmarked, Part}
 
 -- ---- what is a mark is read as one
 
@@ -120,7 +121,33 @@ mark_found item m e =
       | inr q ↦ absurd cc
     ]
 
--- the same of an answer
-pub answer_found : (item : LogItem) (answer : Option (ℕ × AtomicGroupStatus)) → answer ≡ mark_of item → IfSome answer (λ m. IsMark item m.0 m.1)
-answer_found item None e = tt
-answer_found item (Some m) e = mark_found item m (sym e)
+-- ---- items with the key of marks
+
+-- a mark has that key
+pub mark_has_key : (item : LogItem) (id : ℕ) (status : AtomicGroupStatus) → IsMark item id status → has_mark_key item ≡ true
+unfolding has_mark_key
+mark_has_key item id status h =
+    let kv = h.key_value in
+    let in_group : has_mark_key item ≡ content_has_mark_key item.content = rw h.group refl in
+    in_group ∙ ap (λ (c : LogItemContent). content_has_mark_key c) h.content
+    ∙ ap (λ (o : OpType). puts_mark_key o kv.key) h.put ∙ ap (λ (k : List ℕ). puts_mark_key Put k) h.key
+
+part_is : (m : ℕ × AtomicGroupStatus) (id : ℕ) (status : AtomicGroupStatus) → Part m.0 m.1 ≡ Part id status → (m.0 ≡ id) × (m.1 ≡ status)
+part_is m id status e = (cc, cc)
+
+part_told : (o : Option (ℕ × AtomicGroupStatus)) (id : ℕ) (status : AtomicGroupStatus) → part_or_broken o ≡ Part id status → o ≡ Some (id, status)
+part_told None id status e = absurd cc
+part_told (Some m) id status e =
+    let p = part_is m id status e in
+    ap (λ (n : ℕ). Some (n, m.1)) p.0 ∙ ap (λ (t : AtomicGroupStatus). Some (id, t)) p.1
+
+-- what is told as a part is a mark, and a mark is told so
+pub tells_mark : (item : LogItem) (id : ℕ) (status : AtomicGroupStatus) → ((marking_of item ≡ Part id status) ↔ IsMark item id status)
+unfolding marking_of
+tells_mark item id status = (
+  λ e. elim (chosen (has_mark_key item) (part_or_broken (mark_of item)) Unmarked (Part id status) e) [
+    | inl p ↦ mark_found item (id, status) (part_told (mark_of item) id status p.1)
+    | inr q ↦ absurd cc
+  ],
+  λ h. ap (λ (b : Bool). cond b (part_or_broken (mark_of item)) Unmarked) (mark_has_key item id status h) ∙ ap (λ (o : Option (ℕ × AtomicGroupStatus)). part_or_broken o) (mark_again item id status h),
+)

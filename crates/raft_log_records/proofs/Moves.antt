@@ -1,7 +1,7 @@
 -- Batches that are written, and batches that become one.
 use Rattle.std.proofs.Common.{◌≡◌, ℕ, ◌+◌, ◌-◌, ◌<◌, ◌≤◌, List, [], ◌∷◌, ◌++◌, length, take, drop, map, Bool, eqb, cond, refl, sym, ap, subst, ◌∙◌, arith}
 use Rattle.std.proofs.Math.Dec.{eqb-suc-zero}
-use Rattle.std.proofs.Math.Seq.{take-length}
+use Rattle.std.proofs.Math.Seq.{take-length, take-add}
 use Rattle.std.proofs.lemmas.List.{length-append, length-take-le, length-drop, take_at, drop_at}
 use Rattle.std.proofs.lemmas.List.Sums.{sum_by-cons}
 use Rattle.raft_log_checksum.specs.Checksum.{crc32_of}
@@ -16,7 +16,7 @@ use Rattle.raft_log_records.specs.declared.log_batch.BatchState.{BatchState}
 use Rattle.raft_log_records.specs.declared.log_batch.BatchState.TheVariants.{Filling, Written}
 use Rattle.raft_log_frames.specs.Record.{block_bytes}
 use Rattle.raft_log_records.specs.Batch.{IsBatch, max_entries_len, batch_size}
-use Rattle.raft_log_frames.specs.ItemBatch.{items_size}
+use Rattle.raft_log_records.specs.ItemBatch.{items_size}
 use Rattle.raft_log_frames.proofs.Made.{four_bytes}
 use Rattle.raft_log_records.proofs.Buffer.{all_entries, in_filling}
 use Rattle.raft_log_records.proofs.Items.{run_len-laid, laid_twice, filling_size, more_bytes, items_added, still_filling}
@@ -148,3 +148,12 @@ emptied state buffer sum e room =
       laid = refl;
       holds = still_filling state (take 16 buffer) (take 0 (drop 16 (take 16 buffer))) sum [] e size;
     }
+
+-- the entries' bytes stand in a buffer without what stood behind them
+pub kept_entries : (buffer : List ℕ) (len : ℕ) → 16 + len ≤ length buffer → take len (drop 16 (take (16 + len) buffer)) ≡ take len (drop 16 buffer)
+kept_entries buffer len room =
+    let head : length (take 16 buffer) ≡ 16 = length-take-le 16 buffer (omega arith) in
+    let front : take (16 + len) buffer ≡ take 16 buffer ++ take len (drop 16 buffer) = take-add 16 len buffer in
+    let size : length (take len (drop 16 buffer)) ≡ len = entries_count buffer len room in
+    ap (λ (l : List ℕ). take len (drop 16 l)) front ∙ ap (λ (l : List ℕ). take len l) (drop_at (take 16 buffer) (take len (drop 16 buffer)) 16 head)
+    ∙ ap (λ (n : ℕ). take n (take len (drop 16 buffer))) (sym size) ∙ take-length (take len (drop 16 buffer))

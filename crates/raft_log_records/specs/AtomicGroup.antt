@@ -1,6 +1,6 @@
 -- Marks of atomic groups: items of the log's own, which say that a batch is a part of several that count together or
 -- not at all.
-use Rattle.std.specs.Prelude.{◌≡◌, ℕ, true, ◌==◌, if◌then◌else◌, List, [], ◌∷◌, ◌++◌, length, take, drop, Option, Some, None, nat_lt, bytes_eq, option_map, option_and_then}
+use Rattle.std.specs.Prelude.{◌≡◌, ◌↔◌, ℕ, Bool, true, false, ◌&&◌, ◌==◌, if◌then◌else◌, List, [], ◌∷◌, ◌++◌, length, take, drop, Option, Some, None, nat_lt, bytes_eq, option_map, option_and_then}
 use Rattle.std.specs.Int.{w64, from_be_bytes}
 use Rattle.raft_log_base.specs.Number.{IsU64, u64_bytes}
 use Rattle.raft_log_items.specs.declared.op_type.OpType.{OpType}
@@ -11,7 +11,10 @@ use Rattle.raft_log_items.specs.declared.item.LogItemContent.TheVariants as cont
 use Rattle.raft_log_items.specs.declared.item.LogItem.{LogItem}
 use Rattle.raft_log_records.specs.declared.atomic_group.AtomicGroupStatus.{AtomicGroupStatus}
 use Rattle.raft_log_records.specs.declared.atomic_group.AtomicGroupStatus.TheVariants.{Begin, Middle, End}
+use Rattle.raft_log_records.specs.declared.atomic_group.Marking.{Marking}
+use Rattle.raft_log_records.specs.declared.atomic_group.Marking.TheVariants.{Unmarked, Part, Broken}
 use Rattle.raft_log_items.specs.Items.{put_item}
+use Rattle.raft_log_records.specs.Batch.{Batch, with_item, Becomes}
 use Rattle.raft_log_records.specs.Key.{is_internal}
 
 -- the key of a mark: two underscores and a 1
@@ -79,6 +82,46 @@ mark_of_content (contents.Kv kv) = mark_of_value kv.op_type kv.key kv.value
 unfoldable pub mark_of : LogItem → Option (ℕ × AtomicGroupStatus)
 mark_of item = if item.raft_group_id == 0 then mark_of_content item.content else None
 
+-- whether a key is that of marks, and gets a value
+abbrev pub puts_mark_key : OpType → List ℕ → Bool
+puts_mark_key Put key = bytes_eq key mark_key
+puts_mark_key Del key = false
+
+-- the same of a content
+abbrev pub content_has_mark_key : LogItemContent → Bool
+content_has_mark_key (contents.EntryIndexes es) = false
+content_has_mark_key (contents.Command c) = false
+content_has_mark_key (contents.Kv kv) = puts_mark_key kv.op_type kv.key
+
+-- whether the item says that it is a mark: it puts the key of marks in group 0
+unfoldable pub has_mark_key : LogItem → Bool
+has_mark_key item = (item.raft_group_id == 0) && content_has_mark_key item.content
+
+-- this part of this group, and if there is none a broken mark
+abbrev pub part_or_broken : Option (ℕ × AtomicGroupStatus) → Marking
+part_or_broken None = Broken
+part_or_broken (Some m) = Part m.0 m.1
+
+-- what an item says as a mark: nothing, for it is none; a part of a group; or it is broken
+unfoldable pub marking_of : LogItem → Marking
+marking_of item = if has_mark_key item then part_or_broken (mark_of item) else Unmarked
+
+-- what two parts of a batch say, of which one at most may have a mark
+abbrev pub joined_marking : Marking → Marking → Marking
+joined_marking Unmarked marking = marking
+joined_marking (Part id status) Unmarked = Part id status
+joined_marking _ _ = Broken
+
+-- what the items of a batch say: of two marks it is broken
+abbrev pub marking_of_items : List LogItem → Marking
+marking_of_items [] = Unmarked
+marking_of_items (x ∷ xs) = joined_marking (marking_of x) (marking_of_items xs)
+
+-- what is told as a part of a group is so exactly of its marks
+abbrev pub MarksAreTold : Type 0
+MarksAreTold =
+    (item : LogItem) (id : ℕ) (status : AtomicGroupStatus) → ((marking_of item ≡ Part id status) ↔ IsMark item id status)
+
 -- The builder.
 
 -- the number of the group, and the last mark that was written
@@ -92,6 +135,11 @@ IsOpen None = ⊥
 IsOpen (Some Begin) = Unit {0}
 IsOpen (Some Middle) = Unit {0}
 IsOpen (Some End) = ⊥
+
+-- the builder's last mark is this one, and the batch has it as its last item
+abbrev pub Marks : AtomicGroup → AtomicGroup → Batch → Batch → AtomicGroupStatus → Type 0
+Marks old new batch marked status =
+    (new ≡ record old { status = Some status }) × Becomes (with_item batch (mark_item old.id status)) marked
 
 -- what users add is no mark: their keys don't begin with two underscores
 abbrev pub UserItemsAreNoMarks : Type 0

@@ -1,21 +1,40 @@
 -- A batch as callers see it: what was added, and how far it is on its way to a file.
-use Rattle.std.specs.Prelude.{◌≡◌, ℕ, ◌+◌, ◌≤◌, List, [], ◌∷◌, length, take, drop, Option, None}
+use Rattle.std.specs.Prelude.{◌≡◌, ℕ, ◌+◌, ◌≤◌, ◌<◌, ◌^◌, List, [], ◌∷◌, ◌++◌, length, map, take, drop, Option, None, unwrap_or}
 use Rattle.raft_log_base.specs.declared.pipe_log.FileBlockHandle.{FileBlockHandle}
 use Rattle.raft_log_items.specs.declared.item.LogItem.{LogItem}
 use Rattle.raft_log_items.specs.declared.item.LogItemContent.{LogItemContent}
 use Rattle.raft_log_items.specs.declared.item.LogItemContent.TheVariants as contents
-use Rattle.raft_log_items.specs.Placed.{entries_len, laid_out}
+use Rattle.raft_log_items.specs.Placed.{entries_len, laid_out, written}
 use Rattle.raft_log_records.specs.declared.log_batch.BatchState.{BatchState}
 use Rattle.raft_log_records.specs.declared.log_batch.BatchState.TheVariants.{Filling, Populated, Signed, Written}
-use Rattle.raft_log_frames.specs.Record.{block_bytes, record_bytes}
-use Rattle.raft_log_frames.specs.ItemBatch.{items_size}
+use Rattle.raft_log_items.specs.Writing.{plain_item}
+use Rattle.raft_log_frames.specs.Record.{block_bytes, record_bytes, IsRecord}
+use Rattle.raft_log_records.specs.ItemBatch.{items_size}
 use Rattle.raft_log_frames.specs.Made.{HoldsRecordBytes}
 
--- the state, the items, and the bytes of their entries
+-- the state, the items, the bytes of their entries, and how many items there is room for before memory is asked for
 pub record Batch : Type 0 where
   pub state : BatchState
   pub items : List LogItem
   pub entries : List ℕ
+  pub capacity : ℕ
+
+-- a batch that is being filled, to which nothing was added, with room for so many items
+abbrev pub empty_batch : ℕ → Batch
+empty_batch capacity = record { state = Filling; items = []; entries = []; capacity = capacity }
+
+-- the batch with one more item, which has no entries
+abbrev pub with_item : Batch → LogItem → Batch
+with_item b item = record b { items = b.items ++ item ∷ [] }
+
+-- the batch with what was added to the other one behind its own
+abbrev pub with_batch : Batch → Batch → Batch
+with_batch b other =
+    record b { items = b.items ++ laid_out (length b.entries) other.items; entries = b.entries ++ other.entries }
+
+-- the batch is this one but for its room, which is no less
+abbrev pub Becomes : Batch → Batch → Type 0
+Becomes wanted new = (new ≡ record wanted { capacity = new.capacity }) × (wanted.capacity ≤ new.capacity)
 
 -- the most bytes that the entries of a batch may have
 abbrev pub max_entries_len : ℕ
@@ -82,3 +101,18 @@ signature_in Filling = None
 signature_in Populated = None
 signature_in (Signed signature) = signature
 signature_in Written = None
+
+-- The bytes of the batch are so many for whatever file it is signed, and unless it is empty they are a record of its items
+-- and entries.
+pub record IsReadyForEach (len : ℕ) (items : List LogItem) (entries : List ℕ) : Type 0 where
+  pub size : (signature : Option ℕ) → length (batch_bytes signature items entries) ≡ len
+  pub whole : (signature : Option ℕ) → unwrap_or signature 0 < 2 ^ 32 → (items ≡ [] → ⊥)
+      → IsRecord signature (batch_bytes signature items entries) (map plain_item items) entries
+
+-- these bytes are a record of the batch in the file for which it is signed, unless it is empty
+abbrev pub IsRecordOf : Batch → List ℕ → Type 0
+IsRecordOf b bytes = (b.items ≡ [] → ⊥) → IsRecord (signature_in b.state) bytes (map plain_item b.items) b.entries
+
+-- the batch once its record is written at this place
+abbrev pub written_at : FileBlockHandle → Batch → Batch
+written_at handle b = record b { state = Written; items = written (block_place handle b.entries) b.items }

@@ -1,5 +1,5 @@
 -- Entries that are added to a batch, by their indexes and their bytes.
-use Rattle.std.specs.Prelude.{◌≡◌, ◌⊎◌, ℕ, ◌+◌, ◌<◌, ◌^◌, ◌==◌, if◌then◌else◌, codes, List, [], ◌∷◌, ◌++◌, length, sum_by, flat_map}
+use Rattle.std.specs.Prelude.{◌≡◌, ◌⊎◌, ℕ, ◌+◌, ◌<◌, ◌^◌, ◌==◌, if◌then◌else◌, codes, List, [], ◌∷◌, ◌++◌, length, map, sum_by, flat_map}
 use Rattle.std.specs.Fmt.{decimal}
 use Rattle.std.specs.String.{string_bytes}
 use Rattle.raft_log_items.specs.declared.entry.EntryIndex.{EntryIndex}
@@ -9,7 +9,7 @@ use Rattle.raft_log_items.specs.declared.item.LogItemContent.TheVariants as cont
 use Rattle.raft_log_items.specs.declared.item.LogItem.{LogItem}
 use Rattle.raft_log_items.specs.Run.{unplaced_entry}
 use Rattle.raft_log_items.specs.Placed.{laid_run}
-use Rattle.raft_log_records.specs.Batch.{Batch, max_entries_len}
+use Rattle.raft_log_records.specs.Batch.{Batch, Becomes, max_entries_len}
 
 -- the indexes rise by one from this one on
 abbrev pub RisesFrom : ℕ → List ℕ → Type 0
@@ -48,7 +48,14 @@ entries_items group offset indexes (x ∷ xs) = entries_item group offset indexe
 -- the batch with these entries of a group
 abbrev pub with_entries : Batch → ℕ → List ℕ → List (List ℕ) → Batch
 with_entries b group indexes entries =
-    record b { items = b.items ++ entries_items group (length b.entries) indexes entries; entries = b.entries ++ joined entries }
+    record b {
+      items = b.items ++ entries_items group (length b.entries) indexes entries;
+      entries = b.entries ++ joined entries;
+    }
+
+-- these entries of a group were added, and there is no less room
+abbrev pub AddsEntries : Batch → Batch → ℕ → List ℕ → List (List ℕ) → Type 0
+AddsEntries old new group indexes entries = Becomes (with_entries old group indexes entries) new
 
 -- how many bytes these entries have
 abbrev pub bytes_len : List (List ℕ) → ℕ
@@ -80,3 +87,11 @@ IsRunRefusal _ indexes count = ⊥
 -- why bytes are refused: memory ran out, or they would be more than this
 abbrev pub IsRoomRefusal : Error → ℕ → ℕ → Type 0
 IsRoomRefusal e most len = (e ≡ errors.Memory) ⊎ ((e ≡ errors.Full) × (most < len))
+
+-- the indexes of these entries
+abbrev pub indexes_of : List EntryIndex → List ℕ
+indexes_of entries = map (λ e. e.index) entries
+
+-- why two batches with these bytes of entries don't become one: memory ran out, or they would be too many
+abbrev pub IsMergeRefusal : Error → List ℕ → List ℕ → Type 0
+IsMergeRefusal e entries others = IsRoomRefusal e max_entries_len (length entries + length others)

@@ -1,5 +1,7 @@
+pub mod ItemBatch
 pub mod Batch
 pub mod Entries
 pub mod Key
 pub mod AtomicGroup
 pub mod Meaning
+pub mod Places

@@ -1,6 +1,5 @@
 -- What a batch means, as plain data: what it says of each group, and which part of an atomic group it is.
-use Rattle.std.specs.Prelude.{◌≡◌, ℕ, List, [], ◌∷◌, map, Option, Some, None, false, All}
-use Rattle.std.specs.Option.{option_or}
+use Rattle.std.specs.Prelude.{◌≡◌, ℕ, Bool, true, false, List, [], ◌∷◌, ◌++◌, map, Option, Some, None, All}
 use Rattle.raft_log_model.specs.Item.{Item, Tagged, Mark, Record}
 use Rattle.raft_log_model.specs.Item.Item.{Run, Clean, Compact, Put, Del}
 use Rattle.raft_log_model.specs.Item.Mark.{Begin, Middle, End}
@@ -16,7 +15,9 @@ use Rattle.raft_log_items.specs.Writing.{value_of, plain_item}
 use Rattle.raft_log_records.specs.declared.atomic_group.AtomicGroupStatus.{AtomicGroupStatus}
 use Rattle.raft_log_records.specs.declared.atomic_group.AtomicGroupStatus.TheVariants as statuses
 use Rattle.raft_log_records.specs.Key.{is_internal}
-use Rattle.raft_log_records.specs.AtomicGroup.{mark_of}
+use Rattle.raft_log_records.specs.declared.atomic_group.Marking.{Marking}
+use Rattle.raft_log_records.specs.declared.atomic_group.Marking.TheVariants as markings
+use Rattle.raft_log_records.specs.AtomicGroup.{has_mark_key, marking_of_items}
 
 -- what is said of a key
 abbrev pub key_meaning : {E : Type 0} → OpType → List ℕ → List ℕ → Item E (List ℕ)
@@ -36,19 +37,14 @@ abbrev pub tagged : {E : Type 0} → (EntryIndex → E) → LogItem → Tagged E
 tagged entry x = record { group = x.raft_group_id; item = meaning entry x.content }
 
 -- the item in front of these, if it is no mark
-abbrev pub unless_mark : {X M : Type 0} → Option M → X → List X → List X
-unless_mark None x xs = x ∷ xs
-unless_mark (Some m) x xs = xs
+abbrev pub unless_mark : {X : Type 0} → Bool → X → List X → List X
+unless_mark false x xs = x ∷ xs
+unless_mark true x xs = xs
 
--- what the items say of their groups; a mark says nothing
+-- what the items say of their groups; a mark, also a broken one, says nothing
 abbrev pub tagged_items : {E : Type 0} → (EntryIndex → E) → List LogItem → List (Tagged E (List ℕ))
 tagged_items entry [] = []
-tagged_items entry (x ∷ xs) = unless_mark (mark_of x) (tagged entry x) (tagged_items entry xs)
-
--- the first mark among the items
-abbrev pub first_mark : List LogItem → Option (ℕ × AtomicGroupStatus)
-first_mark [] = None
-first_mark (x ∷ xs) = option_or (mark_of x) (first_mark xs)
+tagged_items entry (x ∷ xs) = unless_mark (has_mark_key x) (tagged entry x) (tagged_items entry xs)
 
 -- the part of the atomic group of this number
 abbrev pub part_of : ℕ → AtomicGroupStatus → Mark
@@ -56,19 +52,21 @@ part_of id statuses.Begin = Begin id
 part_of id statuses.Middle = Middle id
 part_of id statuses.End = End id
 
--- the record of these items with the mark, if there is one
-abbrev pub marked : {E : Type 0} → Option (ℕ × AtomicGroupStatus) → List (Tagged E (List ℕ)) → Record E (List ℕ)
-marked None xs = Plain xs
-marked (Some m) xs = Part (part_of m.0 m.1) xs
+-- the record of these items with this mark; of a broken one there is none
+abbrev pub marked : {E : Type 0} → Marking → List (Tagged E (List ℕ)) → Option (Record E (List ℕ))
+marked markings.Unmarked xs = Some (Plain xs)
+marked (markings.Part id status) xs = Some (Part (part_of id status) xs)
+marked markings.Broken xs = None
 
--- what the items of one batch mean: the first mark among them makes them a part of an atomic group
-abbrev pub record_of : {E : Type 0} → (EntryIndex → E) → List LogItem → Record E (List ℕ)
-record_of entry xs = marked (first_mark xs) (tagged_items entry xs)
+-- what the items of one batch mean: a mark among them makes them a part of an atomic group, and two or a broken one mean
+-- that the record is broken
+abbrev pub record_of : {E : Type 0} → (EntryIndex → E) → List LogItem → Option (Record E (List ℕ))
+record_of entry xs = marked (marking_of_items xs) (tagged_items entry xs)
 
--- these items became those: they say the same, and now are this part of an atomic group, if they were none
+-- these items became those: they say the same, and are this part of an atomic group
 abbrev pub BecomesPart : List LogItem → List LogItem → ℕ → AtomicGroupStatus → Type 0
 BecomesPart old new id status =
-    first_mark old ≡ None → record_of (λ e. e) new ≡ Part (part_of id status) (tagged_items (λ e. e) old)
+    record_of (λ e. e) new ≡ Some (Part (part_of id status) (tagged_items (λ e. e) old))
 
 -- What is read of a written batch means the same as the batch, where an entry's length stands for it: the entries'
 -- places are told by where the batch is.
@@ -86,4 +84,10 @@ IsUsers (contents.Kv kv) = is_internal kv.key ≡ false
 abbrev pub UserBatchesArePlain : Type 0
 UserBatchesArePlain =
     (items : List LogItem) → All (λ x. IsUsers x.content) items
-    → record_of (λ e. e) items ≡ Plain (map (tagged (λ e. e)) items)
+    → record_of (λ e. e) items ≡ Some (Plain (map (tagged (λ e. e)) items))
+
+-- what users add doesn't change which part of an atomic group a batch is
+abbrev pub UserItemsKeepTheMark : Type 0
+UserItemsKeepTheMark =
+    (items : List LogItem) (item : LogItem) → IsUsers item.content
+    → marking_of_items (items ++ item ∷ []) ≡ marking_of_items items

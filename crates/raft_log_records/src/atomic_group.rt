@@ -1,19 +1,19 @@
 //! Atomic groups: several batches that count together or not at all. A mark in each batch tells which part it is.
 ghost use Rattle.std.specs.Prelude.{◌≡◌, ◌∷◌, ◌++◌, Some, IfSome, OnOk, IfOk, option_and_then};
 ghost use Rattle.raft_log_base.specs.Number.{IsU64, u64_bytes};
-ghost use Rattle.raft_log_records.specs.AtomicGroup.{status_number, status_of, mark_key, mark_value, mark_in, mark_of_value, mark_of};
+ghost use Rattle.raft_log_records.specs.AtomicGroup.{status_number, status_of, mark_key, mark_value, mark_in, mark_of_value, mark_of, has_mark_key};
 
 use crate::log_batch::LogBatch;
 use raft_log_base::codec;
-use raft_log_items::{Bytes, KeyValue, LogItem, LogItemContent, OpType};
+use raft_log_items::{KeyValue, LogItem, LogItemContent, OpType};
 use std::alloc::{AllocError, Global};
 use std::marker::Model;
 
 /// The group of all marks.
-const MARK_GROUP: u64 = 0;
+pub(crate) const MARK_GROUP: u64 = 0;
 
 /// The key of all marks, which no user's item has.
-const MARK_KEY: [u8; 3] = [b'_', b'_', 1];
+pub(crate) const MARK_KEY: [u8; 3] = [b'_', b'_', 1];
 
 /// Which part of an atomic group a batch is.
 #[derive(Clone, Copy, Debug, PartialEq, Eq)]
@@ -76,31 +76,84 @@ fn parse_item(item: &LogItem) -> Option<(u64, AtomicGroupStatus)>
     }
 }
 
-impl AtomicGroupStatus {
-    ghost use Rattle.std.specs.Prelude.{◌≡◌, ℕ, Some, IfSome};
-    ghost use Rattle.raft_log_records.specs.declared.atomic_group.AtomicGroupStatus.{AtomicGroupStatus};
-    ghost use Rattle.raft_log_records.specs.AtomicGroup.{IsMark, mark_of};
+/// Whether an item says that it is a mark.
+#[tactic(auto, unfolding(crate::specs::AtomicGroup::has_mark_key))]
+fn has_mark_key(item: &LogItem) -> bool
+    ensures { result ≡ has_mark_key item.now }
+{
+    match &item.content {
+        LogItemContent::Kv(key_value) => match key_value.op_type {
+            OpType::Put => {
+                item.raft_group_id == MARK_GROUP && key_value.key.as_slice() == MARK_KEY.as_slice()
+            }
+            OpType::Del => false,
+        },
+        _ => false,
+    }
+}
 
-    /// The number of the atomic group and which part of it the item marks. Any item but a mark gives nothing.
-    pub fn parse(item: &LogItem) -> Option<(u64, AtomicGroupStatus)>
-        ensures found { IfSome result (λ m. IsMark item.now m.0 m.1) }
-        ensures only { (id : ℕ) (status : AtomicGroupStatus) → IsMark item.now id status → result ≡ Some (id, status) }
-        ensures exact { result ≡ mark_of item.now }
+/// What an item, or all items of a batch, say as a mark.
+#[derive(Clone, Copy, Debug, PartialEq, Eq)]
+pub enum Marking {
+    /// There is no mark.
+    Unmarked,
+    /// The batch is this part of the atomic group of this number.
+    Part(u64, AtomicGroupStatus),
+    /// There are two marks, or one with a value that is none: the record is broken.
+    Broken,
+}
+
+impl Marking {
+    ghost use Rattle.std.specs.Prelude.{◌≡◌};
+    ghost use Rattle.raft_log_records.specs.AtomicGroup.{marking_of, marking_of_items, joined_marking};
+
+    /// What an item says as a mark.
+    #[tactic(auto, unfolding(crate::specs::AtomicGroup::marking_of))]
+    pub fn parse(item: &LogItem) -> Marking
+        ensures { result ≡ marking_of item.now }
     {
-        parse_item(item)
+        if !has_mark_key(item) {
+            return Marking::Unmarked;
+        }
+        match parse_item(item) {
+            Some((id, status)) => Marking::Part(id, status),
+            None => Marking::Broken,
+        }
+    }
+
+    /// What two parts of a batch say together: of two marks it is broken.
+    fn join(self, other: Marking) -> Marking
+        ensures { result ≡ joined_marking self other }
+    {
+        match (self, other) {
+            (Marking::Unmarked, marking) => marking,
+            (Marking::Part(id, status), Marking::Unmarked) => Marking::Part(id, status),
+            _ => Marking::Broken,
+        }
+    }
+
+    /// What the items of a batch say.
+    pub fn parse_all(items: &[LogItem]) -> Marking
+        ensures { result ≡ marking_of_items items.now }
+    {
+        let mut marking = Marking::Unmarked;
+        for item in items {
+            marking = marking.join(Marking::parse(item));
+        }
+        marking
     }
 }
 
 /// The value of a mark.
 #[tactic(auto, unfolding(crate::specs::AtomicGroup::mark_value))]
-fn mark_bytes(alloc: Global, id: u64, status: AtomicGroupStatus) -> Result<Bytes, AllocError>
-    ensures value { IfOk result (λ bytes. bytes ≡ mark_value id status) }
+fn mark_bytes(alloc: Global, id: u64, status: AtomicGroupStatus) -> Result<Vec<u8>, AllocError>
+    ensures value { IfOk result (λ bytes. bytes.items ≡ mark_value id status) }
     ensures spelled { OnOk result (IsU64 (u64_bytes id) id) }
 {
     let mut value = Vec::with_capacity(alloc, 9)?;
     codec::append_u64(&mut value, id)?;
     value.push(status as u8)?;
-    Ok(Bytes::new(value))
+    Ok(value)
 }
 
 /// Marks the batches of one atomic group, the first, those between, and the last.
@@ -121,10 +174,12 @@ impl Model for AtomicGroupBuilder {
 }
 
 impl AtomicGroupBuilder {
-    ghost use Rattle.std.specs.Prelude.{◌≡◌, ◌∷◌, ◌++◌, [], Some, None, OnOk, OnErr};
+    ghost use Rattle.std.specs.Prelude.{◌≡◌, Some, None, OnOk, OnErr};
     ghost use Rattle.raft_log_records.specs.declared.atomic_group.AtomicGroupStatus.TheVariants.{Begin, Middle, End};
+    ghost use Rattle.raft_log_records.specs.declared.atomic_group.Marking.TheVariants.{Unmarked};
     ghost use Rattle.raft_log_records.specs.declared.log_batch.BatchState.TheVariants.{Filling};
-    ghost use Rattle.raft_log_records.specs.AtomicGroup.{IsOpen, mark_item, mark_of};
+    ghost use Rattle.raft_log_records.specs.AtomicGroup.{IsOpen, Marks, marking_of_items};
+    ghost use Rattle.raft_log_records.specs.Batch.{Becomes, with_item};
     ghost use Rattle.raft_log_records.specs.Meaning.{BecomesPart};
 
     /// A builder for the group of this number, which has not begun.
@@ -141,58 +196,57 @@ impl AtomicGroupBuilder {
         self.status
     }
 
-    /// Adds a mark of the group. A refusal changes nothing.
+    /// Adds a mark of the group to a batch that has none. A refusal changes no item.
     fn mark(
         &mut self,
         alloc: Global,
         batch: &mut LogBatch,
         status: AtomicGroupStatus,
     ) -> Result<(), AllocError>
-        requires { batch.old.state ≡ Filling }
-        ensures ok { OnOk result ((self.new ≡ record self.old { status = Some status }) × (batch.new ≡ record batch.old { items = batch.old.items ++ mark_item self.old.id status ∷ [] })) }
-        ensures parsed { OnOk result (mark_of (mark_item self.old.id status) ≡ Some (self.old.id, status)) }
+        requires filling { batch.old.state ≡ Filling }
+        requires unmarked { marking_of_items batch.old.items ≡ Unmarked }
+        ensures ok { OnOk result (Marks self.old self.new batch.old batch.new status) }
         ensures part { OnOk result (BecomesPart batch.old.items batch.new.items self.old.id status) }
-        ensures err { OnErr result ((self.new ≡ self.old) × (batch.new ≡ batch.old)) }
+        ensures err { OnErr result ((self.new ≡ self.old) × Becomes batch.old batch.new) }
     {
-        let key = Bytes::from_slice(alloc, &MARK_KEY)?;
         let value = mark_bytes(alloc, self.id, status)?;
-        batch.push_item(LogItem::new_kv(MARK_GROUP, OpType::Put, key, Some(value)))?;
+        batch.put_mark(alloc, value.as_slice())?;
         self.status = Some(status);
         Ok(())
     }
 
-    /// Marks the first batch of the group. A refusal changes nothing.
+    /// Marks the first batch of the group, which has no mark yet. A refusal changes no item.
     pub fn begin(&mut self, alloc: Global, batch: &mut LogBatch) -> Result<(), AllocError>
         requires filling { batch.old.state ≡ Filling }
+        requires unmarked { marking_of_items batch.old.items ≡ Unmarked }
         requires unbegun { self.old.status ≡ None }
-        ensures ok { OnOk result ((self.new ≡ record self.old { status = Some Begin }) × (batch.new ≡ record batch.old { items = batch.old.items ++ mark_item self.old.id Begin ∷ [] })) }
-        ensures parsed { OnOk result (mark_of (mark_item self.old.id Begin) ≡ Some (self.old.id, Begin)) }
+        ensures ok { OnOk result (Marks self.old self.new batch.old batch.new Begin) }
         ensures part { OnOk result (BecomesPart batch.old.items batch.new.items self.old.id Begin) }
-        ensures err { OnErr result ((self.new ≡ self.old) × (batch.new ≡ batch.old)) }
+        ensures err { OnErr result ((self.new ≡ self.old) × Becomes batch.old batch.new) }
     {
         self.mark(alloc, batch, AtomicGroupStatus::Begin)
     }
 
-    /// Marks a batch between the first and the last of the group. A refusal changes nothing.
+    /// Marks a batch between the first and the last of the group, which has no mark yet. A refusal changes no item.
     pub fn add(&mut self, alloc: Global, batch: &mut LogBatch) -> Result<(), AllocError>
         requires filling { batch.old.state ≡ Filling }
+        requires unmarked { marking_of_items batch.old.items ≡ Unmarked }
         requires open { IsOpen self.old.status }
-        ensures ok { OnOk result ((self.new ≡ record self.old { status = Some Middle }) × (batch.new ≡ record batch.old { items = batch.old.items ++ mark_item self.old.id Middle ∷ [] })) }
-        ensures parsed { OnOk result (mark_of (mark_item self.old.id Middle) ≡ Some (self.old.id, Middle)) }
+        ensures ok { OnOk result (Marks self.old self.new batch.old batch.new Middle) }
         ensures part { OnOk result (BecomesPart batch.old.items batch.new.items self.old.id Middle) }
-        ensures err { OnErr result ((self.new ≡ self.old) × (batch.new ≡ batch.old)) }
+        ensures err { OnErr result ((self.new ≡ self.old) × Becomes batch.old batch.new) }
     {
         self.mark(alloc, batch, AtomicGroupStatus::Middle)
     }
 
-    /// Marks the last batch of the group. A refusal changes nothing.
+    /// Marks the last batch of the group, which has no mark yet. A refusal changes no item.
     pub fn end(&mut self, alloc: Global, batch: &mut LogBatch) -> Result<(), AllocError>
         requires filling { batch.old.state ≡ Filling }
+        requires unmarked { marking_of_items batch.old.items ≡ Unmarked }
         requires open { IsOpen self.old.status }
-        ensures ok { OnOk result ((self.new ≡ record self.old { status = Some End }) × (batch.new ≡ record batch.old { items = batch.old.items ++ mark_item self.old.id End ∷ [] })) }
-        ensures parsed { OnOk result (mark_of (mark_item self.old.id End) ≡ Some (self.old.id, End)) }
+        ensures ok { OnOk result (Marks self.old self.new batch.old batch.new End) }
         ensures part { OnOk result (BecomesPart batch.old.items batch.new.items self.old.id End) }
-        ensures err { OnErr result ((self.new ≡ self.old) × (batch.new ≡ batch.old)) }
+        ensures err { OnErr result ((self.new ≡ self.old) × Becomes batch.old batch.new) }
     {
         self.mark(alloc, batch, AtomicGroupStatus::End)
     }

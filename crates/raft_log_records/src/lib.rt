@@ -4,11 +4,13 @@
 pub mod atomic_group;
 pub mod laws;
 pub mod log_batch;
+pub mod log_item_batch;
 
-pub use atomic_group::{AtomicGroupBuilder, AtomicGroupStatus};
+pub use atomic_group::{AtomicGroupBuilder, AtomicGroupStatus, Marking};
 pub use log_batch::{BatchState, LogBatch};
+pub use log_item_batch::LogItemBatch;
 pub use raft_log_frames::{
-    LOG_BATCH_HEADER_LEN, LogItemBatch, decode_entries_block, decode_footer, decode_header,
+    LOG_BATCH_HEADER_LEN, decode_entries_block, decode_footer, decode_header,
 };
 pub use raft_log_items::{
     Bytes, Command, CompressionType, EntryIndex, EntryIndexes, Error, FileBlockHandle, FileId,

@@ -1,16 +1,13 @@
 //! A batch on its way to a file: it is filled, populated, signed for a file, and written.
-ghost use Rattle.std.specs.Prelude.{◌≡◌, ◌+◌, ◌≤◌, ◌==◌, if◌then◌else◌, false, OnOk, IfOk, IfErr};
+ghost use Rattle.std.specs.Prelude.{◌≡◌, ◌+◌, ◌≤◌, ◌==◌, if◌then◌else◌, false, take, OnOk, IfErr};
 ghost use Rattle.raft_log_records.specs.Batch.{max_entries_len};
 ghost use Rattle.raft_log_records.specs.Key.{is_internal, IsKeyRefusal};
 
+use crate::atomic_group::{MARK_GROUP, MARK_KEY, Marking};
+use crate::log_item_batch::{LogItemBatch, items_size};
 use raft_log_frames::LOG_BATCH_HEADER_LEN;
-use raft_log_frames::log_item_batch::items_size;
 use raft_log_frames::record::{are_bytes, fill_record, write_checksum};
-use raft_log_items::items::copied;
-use raft_log_items::items::set_written;
-use raft_log_items::{
-    Bytes, Command, Error, FileBlockHandle, LogFileContext, LogItem, OpType, Result,
-};
+use raft_log_items::{Command, Error, FileBlockHandle, LogFileContext, LogItem, Message, Result};
 use std::alloc::{AllocError, Global};
 use std::marker::Model;
 
@@ -23,6 +20,9 @@ const CHECKSUM_LEN: usize = 4;
 
 /// The most bytes that the entries of a batch may have.
 const MAX_ENTRIES_LEN: usize = 2_147_483_647;
+
+/// The most bytes of a buffer that an empty batch keeps.
+const MAX_KEPT_LEN: usize = 8 << 20;
 
 /// How far a batch is on its way to a file.
 #[derive(Clone, Copy, Debug, PartialEq, Eq)]
@@ -39,10 +39,10 @@ pub enum BatchState {
 
 /// Items and the bytes of their entries, and the record of these.
 ///
-/// Contracts see a batch as its state, its items and the bytes of their entries.
+/// Contracts see a batch as its state, its items, the bytes of their entries, and how many items it has room for.
 #[derive(Debug, Drop)]
 pub struct LogBatch {
-    items: Vec<LogItem>,
+    items: LogItemBatch,
     /// Room for the header, the entries' bytes, and once it is populated the rest of the record.
     buf: Vec<u8>,
     /// How many bytes the entries have.
@@ -50,6 +50,335 @@ pub struct LogBatch {
     /// The checksum of the items, once the batch is populated.
     checksum: u32,
     state: BatchState,
+}
+
+impl Model for LogBatch {
+    ghost use Rattle.std.specs.Prelude.{take, drop};
+    ghost use Rattle.raft_log_records.specs.Batch.{Batch, IsBatch};
+
+    ghost Value = { Batch };
+
+    ghost view = { λ b. record { state = b.state; items = b.items.items; entries = take b.entries_len (drop 16 b.buf.items); capacity = b.items.capacity } };
+
+    ghost invariant = { λ b. IsBatch b.state b.buf.items b.entries_len b.checksum b.items.items };
+}
+
+impl LogBatch {
+    ghost use Rattle.std.specs.Prelude.{◌≡◌, ◌+◌, ◌-◌, ◌≤◌, ◌<◌, ◌^◌, ◌++◌, ◌↔◌, [], length, min, IfOk, IfErr, IsErr, IsOk, OnOk, OnErr, IsTrue};
+    ghost use Rattle.std.specs.Vec.{vec_len, vec_capacity};
+    ghost use Rattle.raft_log_base.specs.Files.{signature_of};
+    ghost use Rattle.raft_log_items.specs.Items.{put_item, del_item};
+    ghost use Rattle.raft_log_items.specs.Placed.{entries_len, laid_out};
+    ghost use Rattle.raft_log_frames.specs.Record.{record_len};
+    ghost use Rattle.raft_log_frames.specs.Made.{IsMemoryOrFull};
+    ghost use Rattle.raft_log_records.specs.declared.log_batch.BatchState.TheVariants.{Filling, Populated, Signed, Written};
+    ghost use Rattle.raft_log_records.specs.AtomicGroup.{mark_key, marking_of_items};
+    ghost use Rattle.raft_log_records.specs.ItemBatch.{command_item};
+    ghost use Rattle.raft_log_records.specs.Key.{is_internal, IsKeyRefusal};
+    ghost use Rattle.raft_log_records.specs.Batch.{batch_bytes, batch_size, empty_batch, with_item, written_at, Becomes, HasNoEntries, IsMade, IsSigned, IsReadyForEach, IsRecordOf, block_place, signature_in};
+    ghost use Rattle.raft_log_records.specs.Places.{AllLieIn, HasBytesInBlock};
+
+    /// An empty batch, which is being filled.
+    pub fn default(alloc: Global) -> std::result::Result<Self, AllocError>
+        ensures { IfOk result (λ b. b ≡ empty_batch b.capacity) }
+    {
+        Ok(LogBatch {
+            items: LogItemBatch::default(alloc),
+            buf: vec![in alloc; 0; 16]?,
+            entries_len: 0,
+            checksum: 0,
+            state: BatchState::Filling,
+        })
+    }
+
+    /// An empty batch with room for so many items.
+    pub fn with_capacity(alloc: Global, capacity: usize) -> std::result::Result<Self, AllocError>
+        ensures { IfOk result (λ b. b ≡ empty_batch capacity) }
+    {
+        Ok(LogBatch {
+            items: LogItemBatch::with_capacity(alloc, capacity)?,
+            buf: vec![in alloc; 0; 16]?,
+            entries_len: 0,
+            checksum: 0,
+            state: BatchState::Filling,
+        })
+    }
+
+    /// A copy of the batch, as far on its way as this one.
+    pub fn clone(&self, alloc: Global) -> std::result::Result<Self, AllocError>
+        ensures { IfOk result (λ b. b ≡ record self.now { capacity = b.capacity }) }
+    {
+        let items = self.items.clone(alloc)?;
+        let buf = self.buf.as_slice().to_vec(alloc)?;
+        Ok(LogBatch {
+            items,
+            buf,
+            entries_len: self.entries_len,
+            checksum: self.checksum,
+            state: self.state,
+        })
+    }
+
+    /// Whether nothing was added.
+    pub fn is_empty(&self) -> bool
+        ensures { IsTrue result ↔ (self.now.items ≡ []) }
+    {
+        self.items.is_empty()
+    }
+
+    /// How many items there are.
+    pub fn len(&self) -> usize
+        ensures { result ≡ length self.now.items }
+    {
+        self.items.len()
+    }
+
+    /// The items; once the batch is written, with their places.
+    pub fn items(&self) -> &[LogItem]
+        ensures { result.now ≡ self.now.items }
+    {
+        self.items.as_slice()
+    }
+
+    /// Which part of an atomic group the batch is.
+    pub fn marking(&self) -> Marking
+        ensures { result ≡ marking_of_items self.now.items }
+    {
+        Marking::parse_all(self.items.as_slice())
+    }
+
+    /// How far the batch is.
+    pub fn state(&self) -> BatchState
+        ensures { result ≡ self.now.state }
+    {
+        self.state
+    }
+
+    /// Adds a mark of an atomic group. A refusal changes no item.
+    pub(crate) fn put_mark(
+        &mut self,
+        alloc: Global,
+        value: &[u8],
+    ) -> std::result::Result<(), AllocError>
+        requires { self.old.state ≡ Filling }
+        ensures ok { OnOk result (Becomes (with_item self.old (put_item 0 mark_key value.now)) self.new) }
+        ensures err { OnErr result (Becomes self.old self.new) }
+    {
+        self.items.put(alloc, MARK_GROUP, &MARK_KEY, value)
+    }
+
+    /// Adds a command of a group. A refusal changes nothing.
+    pub fn add_command(
+        &mut self,
+        raft_group_id: u64,
+        command: Command,
+    ) -> std::result::Result<(), AllocError>
+        requires { self.old.state ≡ Filling }
+        ensures ok { OnOk result (Becomes (with_item self.old (command_item raft_group_id command)) self.new) }
+        ensures err { OnErr result (self.new ≡ self.old) }
+        ensures succeeds { length self.old.items < self.old.capacity → IsOk result }
+    {
+        self.items.add_command(raft_group_id, command)
+    }
+
+    /// Adds a key that gets a value. A key that begins with two underscores is refused as an invalid argument. A refusal
+    /// changes no item.
+    pub fn put(&mut self, alloc: Global, raft_group_id: u64, key: &[u8], value: &[u8]) -> Result<()>
+        requires { self.old.state ≡ Filling }
+        ensures ok { OnOk result (Becomes (with_item self.old (put_item raft_group_id key.now value.now)) self.new) }
+        ensures internal { IsTrue (is_internal key.now) → IsErr result }
+        ensures err { OnErr result (Becomes self.old self.new) }
+        ensures errors { IfErr result (λ e. IsKeyRefusal e key.now) }
+    {
+        check_key(alloc, key)?;
+        self.items.put(alloc, raft_group_id, key, value)?;
+        Ok(())
+    }
+
+    /// Adds a key that loses its value. A key that begins with two underscores is refused as an invalid argument. A
+    /// refusal changes no item.
+    pub fn delete(&mut self, alloc: Global, raft_group_id: u64, key: &[u8]) -> Result<()>
+        requires { self.old.state ≡ Filling }
+        ensures ok { OnOk result (Becomes (with_item self.old (del_item raft_group_id key.now)) self.new) }
+        ensures internal { IsTrue (is_internal key.now) → IsErr result }
+        ensures err { OnErr result (Becomes self.old self.new) }
+        ensures errors { IfErr result (λ e. IsKeyRefusal e key.now) }
+    {
+        check_key(alloc, key)?;
+        self.items.delete(alloc, raft_group_id, key)?;
+        Ok(())
+    }
+
+    /// Adds a key that gets the bytes of a message. A key that begins with two underscores is refused as an invalid argument.
+    /// A refusal changes no item.
+    pub fn put_message<M: Message>(
+        &mut self,
+        alloc: Global,
+        raft_group_id: u64,
+        key: &[u8],
+        message: &M,
+    ) -> Result<()>
+        requires { self.old.state ≡ Filling }
+        ensures ok { OnOk result (Becomes (with_item self.old (put_item raft_group_id key.now (M.spelling message.now))) self.new) }
+        ensures internal { IsTrue (is_internal key.now) → IsErr result }
+        ensures err { OnErr result (Becomes self.old self.new) }
+        ensures errors { IfErr result (λ e. IsKeyRefusal e key.now) }
+    {
+        check_key(alloc, key)?;
+        self.items.put_message(alloc, raft_group_id, key, message)?;
+        Ok(())
+    }
+
+    /// Makes the record, and answers how many bytes it has, for whatever file it will be signed. An empty batch has none.
+    ///
+    /// Refused as full is a record whose length needs more than 56 bits. A refusal changes nothing.
+    pub fn finish_populate(&mut self) -> Result<usize>
+        requires { self.old.state ≡ Filling }
+        ensures ok { OnOk result (self.new ≡ record self.old { state = Populated }) }
+        ensures ready { IfOk result (λ len. IsReadyForEach len self.old.items self.old.entries) }
+        ensures err { OnErr result (self.new ≡ self.old) }
+        ensures errors { IfErr result (λ e. IsMemoryOrFull e (record_len self.old.items self.old.entries)) }
+    {
+        if self.items.is_empty() {
+            self.state = BatchState::Populated;
+            return Ok(0);
+        }
+        let filled = self.buf.len();
+        match fill_record(&mut self.buf, self.items.as_slice()) {
+            Ok(checksum) => {
+                self.checksum = checksum;
+                self.state = BatchState::Populated;
+                Ok(self.encoded_len())
+            }
+            Err(error) => {
+                self.buf.truncate(filled);
+                Err(error)
+            }
+        }
+    }
+
+    /// How many bytes the record has, for whatever file it is signed. An empty batch has none.
+    pub fn encoded_len(&self) -> usize
+        requires { IsMade self.now.state }
+        ensures { IsReadyForEach result self.now.items self.now.entries }
+    {
+        if self.items.is_empty() {
+            return 0;
+        }
+        are_bytes(self.buf.as_slice());
+        self.buf.len()
+    }
+
+    /// Signs the record for a file. It may be signed again for another one.
+    pub fn prepare_write(&mut self, context: &LogFileContext)
+        requires { IsMade self.old.state }
+        ensures { self.new ≡ record self.old { state = Signed (signature_of context.now) } }
+    {
+        let signature = context.get_signature();
+        if self.items.is_empty() {
+            self.state = BatchState::Signed(signature);
+            return;
+        }
+        write_checksum(
+            self.buf.as_mut_slice(),
+            self.checksum ^ signature.unwrap_or(0),
+        );
+        self.state = BatchState::Signed(signature);
+    }
+
+    /// Takes the signature back: the record was not written, and may be signed anew.
+    pub fn unsign(&mut self)
+        requires { IsSigned self.old.state }
+        ensures { self.new ≡ record self.old { state = Populated } }
+    {
+        if self.items.is_empty() {
+            self.state = BatchState::Populated;
+            return;
+        }
+        write_checksum(self.buf.as_mut_slice(), self.checksum);
+        self.state = BatchState::Populated;
+    }
+
+    /// Takes the record back: the batch is being filled again, with all that was added.
+    pub fn unpopulate(&mut self)
+        requires { self.old.state ≡ Populated }
+        ensures { self.new ≡ record self.old { state = Filling } }
+    {
+        self.buf.truncate(LOG_BATCH_HEADER_LEN + self.entries_len);
+        self.state = BatchState::Filling;
+    }
+
+    /// The bytes of the record for the file for which it was signed. An empty batch has none.
+    pub fn encoded_bytes(&self) -> &[u8]
+        requires { IsSigned self.now.state }
+        ensures whole { IsRecordOf self.now result.now }
+        ensures exact { result.now ≡ batch_bytes (signature_in self.now.state) self.now.items self.now.entries }
+    {
+        if self.items.is_empty() {
+            return &self.buf[self.buf.len()..];
+        }
+        let bytes = self.buf.as_slice();
+        are_bytes(bytes);
+        bytes
+    }
+
+    /// The record is written at this place. Each entry gets the place of the entry block, which begins behind the header,
+    /// and each key gets the file.
+    pub fn finish_write(&mut self, handle: FileBlockHandle)
+        requires signed { IsSigned self.old.state }
+        requires place { handle.offset + 16 < 2 ^ 64 }
+        ensures written { self.new ≡ written_at handle self.old }
+        ensures inside { AllLieIn (block_place handle self.old.entries) self.new.items }
+        ensures bytes { HasBytesInBlock self.old self.new }
+        ensures laid { laid_out 0 self.new.items ≡ self.new.items }
+        ensures adds { entries_len self.new.items ≡ length self.new.entries }
+    {
+        let len = block_len(self.entries_len);
+        let block = FileBlockHandle {
+            id: handle.id,
+            offset: handle.offset + LOG_BATCH_HEADER_LEN as u64,
+            len,
+        };
+        self.items.set_written(block);
+        self.state = BatchState::Written;
+    }
+
+    /// About how many bytes the record has: those of the header and of the entry block, and of the footer with each number
+    /// counted as eight bytes; 2^64 - 1 where there are more. An empty batch has none.
+    pub fn approximate_size(&self) -> usize
+        ensures { result ≡ min (batch_size self.now.items self.now.entries) (2 ^ 64 - 1) }
+    {
+        if self.items.is_empty() {
+            return 0;
+        }
+        items_size(self.items.as_slice()).saturating_add(28 + block_len(self.entries_len))
+    }
+
+    /// Gives the items back, behind what is there, and leaves an empty batch that is being filled, with its room. Only where
+    /// there is no room for the items it may be refused, and then changes nothing.
+    pub fn drain(&mut self, into: &mut Vec<LogItem>) -> std::result::Result<(), AllocError>
+        ensures items { OnOk result (into.new.items ≡ into.old.items ++ self.old.items) }
+        ensures emptied { OnOk result (self.new ≡ empty_batch self.old.capacity) }
+        ensures err { OnErr result ((into.new.items ≡ into.old.items) × (self.new ≡ self.old)) }
+        ensures succeeds { vec_len into.old + length self.old.items ≤ vec_capacity into.old → IsOk result }
+    {
+        self.items.drain(into)?;
+        empty(&mut self.buf);
+        self.entries_len = 0;
+        self.state = BatchState::Filling;
+        Ok(())
+    }
+
+    /// Drops what was added, and leaves an empty batch that is being filled, with its room for items. The buffer is kept, but
+    /// for what it has above 8 MiB.
+    pub fn clear(&mut self)
+        ensures { self.new ≡ empty_batch self.old.capacity }
+    {
+        self.items.clear();
+        empty(&mut self.buf);
+        self.entries_len = 0;
+        self.state = BatchState::Filling;
+    }
 }
 
 /// Whether the key begins with two underscores.
@@ -83,236 +412,12 @@ fn block_len(len: usize) -> usize
     if len == 0 { 0 } else { len + CHECKSUM_LEN }
 }
 
-impl Model for LogBatch {
-    ghost use Rattle.std.specs.Prelude.{take, drop};
-    ghost use Rattle.raft_log_records.specs.Batch.{Batch, IsBatch};
-
-    ghost Value = { Batch };
-
-    ghost view = { λ b. record { state = b.state; items = b.items.items; entries = take b.entries_len (drop 16 b.buf.items) } };
-
-    ghost invariant = { λ b. IsBatch b.state b.buf.items b.entries_len b.checksum b.items.items };
-}
-
-impl LogBatch {
-    ghost use Rattle.std.specs.Prelude.{length, None, IfErr, IsErr};
-    ghost use Rattle.raft_log_records.specs.Key.{is_internal, IsKeyRefusal};
-    ghost use Rattle.raft_log_items.specs.Items.{put_item, del_item};
-    ghost use Rattle.raft_log_base.specs.Files.{signature_of};
-    ghost use Rattle.raft_log_items.specs.Writing.{plain_item};
-    ghost use Rattle.raft_log_items.specs.Placed.{entries_len, laid_out, written};
-    ghost use Rattle.raft_log_frames.specs.Record.{record_len, IsRecord};
-    ghost use Rattle.raft_log_frames.specs.Made.{IsMemoryOrFull};
-    ghost use Rattle.raft_log_records.specs.Batch.{batch_bytes, batch_size, block_place, HasNoEntries, IsMade, IsSigned, signature_in};
-    ghost use Rattle.std.specs.Prelude.{◌≡◌, ◌+◌, ◌-◌, ◌<◌, ◌^◌, ◌++◌, ◌∷◌, ◌↔◌, [], map, min, IfOk, OnOk, OnErr, IsTrue};
-    ghost use Rattle.raft_log_records.specs.declared.log_batch.BatchState.TheVariants.{Filling, Populated, Signed, Written};
-    ghost use Rattle.raft_log_items.specs.declared.item.LogItemContent.TheVariants as contents;
-
-    /// An empty batch, which is being filled.
-    pub fn default(alloc: Global) -> std::result::Result<Self, AllocError>
-        ensures { IfOk result (λ b. b ≡ record { state = Filling; items = []; entries = [] }) }
-    {
-        Ok(LogBatch {
-            items: Vec::new(alloc),
-            buf: vec![in alloc; 0; 16]?,
-            entries_len: 0,
-            checksum: 0,
-            state: BatchState::Filling,
-        })
-    }
-
-    /// An empty batch with room for so many items.
-    pub fn with_capacity(alloc: Global, capacity: usize) -> std::result::Result<Self, AllocError>
-        ensures { IfOk result (λ b. b ≡ record { state = Filling; items = []; entries = [] }) }
-    {
-        Ok(LogBatch {
-            items: Vec::with_capacity(alloc, capacity)?,
-            buf: vec![in alloc; 0; 16]?,
-            entries_len: 0,
-            checksum: 0,
-            state: BatchState::Filling,
-        })
-    }
-
-    /// A copy of the batch, as far on its way as this one.
-    pub fn clone(&self, alloc: Global) -> std::result::Result<Self, AllocError>
-        ensures { IfOk result (λ b. b ≡ self.now) }
-    {
-        let items = copied(alloc, self.items.as_slice())?;
-        let buf = self.buf.as_slice().to_vec(alloc)?;
-        Ok(LogBatch {
-            items,
-            buf,
-            entries_len: self.entries_len,
-            checksum: self.checksum,
-            state: self.state,
-        })
-    }
-
-    /// Whether nothing was added.
-    pub fn is_empty(&self) -> bool
-        ensures { IsTrue result ↔ (self.now.items ≡ []) }
-    {
-        self.items.is_empty()
-    }
-
-    /// How far the batch is.
-    pub fn state(&self) -> BatchState
-        ensures { result ≡ self.now.state }
-    {
-        self.state
-    }
-
-    /// Adds an item that is no run of entries. A refusal changes nothing.
-    pub(crate) fn push_item(&mut self, item: LogItem) -> std::result::Result<(), AllocError>
-        requires filling { self.old.state ≡ Filling }
-        requires plain { HasNoEntries item.content }
-        ensures ok { OnOk result (self.new ≡ record self.old { items = self.old.items ++ item ∷ [] }) }
-        ensures err { OnErr result (self.new ≡ self.old) }
-    {
-        self.items.push(item)?;
-        Ok(())
-    }
-
-    /// Adds a command of a group. A refusal changes nothing.
-    pub fn add_command(
-        &mut self,
-        raft_group_id: u64,
-        command: Command,
-    ) -> std::result::Result<(), AllocError>
-        requires { self.old.state ≡ Filling }
-        ensures ok { OnOk result (self.new ≡ record self.old { items = self.old.items ++ record { raft_group_id = raft_group_id; content = contents.Command command } ∷ [] }) }
-        ensures err { OnErr result (self.new ≡ self.old) }
-    {
-        self.push_item(LogItem::new_command(raft_group_id, command))
-    }
-
-    /// Adds a key that gets a value. A key that begins with two underscores is refused as an invalid argument. A refusal
-    /// changes nothing.
-    pub fn put(&mut self, alloc: Global, raft_group_id: u64, key: Bytes, value: Bytes) -> Result<()>
-        requires { self.old.state ≡ Filling }
-        ensures ok { OnOk result (self.new ≡ record self.old { items = self.old.items ++ put_item raft_group_id key value ∷ [] }) }
-        ensures internal { IsTrue (is_internal key) → IsErr result }
-        ensures err { OnErr result (self.new ≡ self.old) }
-        ensures errors { IfErr result (λ e. IsKeyRefusal e key) }
-    {
-        check_key(alloc, key.as_slice())?;
-        self.push_item(LogItem::new_kv(raft_group_id, OpType::Put, key, Some(value)))?;
-        Ok(())
-    }
-
-    /// Adds a key that loses its value. A key that begins with two underscores is refused as an invalid argument. A
-    /// refusal changes nothing.
-    pub fn delete(&mut self, alloc: Global, raft_group_id: u64, key: Bytes) -> Result<()>
-        requires { self.old.state ≡ Filling }
-        ensures ok { OnOk result (self.new ≡ record self.old { items = self.old.items ++ del_item raft_group_id key ∷ [] }) }
-        ensures internal { IsTrue (is_internal key) → IsErr result }
-        ensures err { OnErr result (self.new ≡ self.old) }
-        ensures errors { IfErr result (λ e. IsKeyRefusal e key) }
-    {
-        check_key(alloc, key.as_slice())?;
-        self.push_item(LogItem::new_kv(raft_group_id, OpType::Del, key, None))?;
-        Ok(())
-    }
-
-    /// Makes the record, and answers how many bytes it has. An empty batch has none.
-    ///
-    /// Refused as full is a record whose length needs more than 56 bits. A refusal changes nothing.
-    pub fn finish_populate(&mut self) -> Result<usize>
-        requires { self.old.state ≡ Filling }
-        ensures ok { IfOk result (λ len. (self.new ≡ record self.old { state = Populated }) × (len ≡ length (batch_bytes None self.old.items self.old.entries))) }
-        ensures err { OnErr result (self.new ≡ self.old) }
-        ensures errors { IfErr result (λ e. IsMemoryOrFull e (record_len self.old.items self.old.entries)) }
-    {
-        if self.items.is_empty() {
-            self.state = BatchState::Populated;
-            return Ok(0);
-        }
-        let filled = self.buf.len();
-        match fill_record(&mut self.buf, self.items.as_slice()) {
-            Ok(checksum) => {
-                self.checksum = checksum;
-                self.state = BatchState::Populated;
-                Ok(self.buf.len())
-            }
-            Err(error) => {
-                self.buf.truncate(filled);
-                Err(error)
-            }
-        }
-    }
-
-    /// Signs the record for a file. It may be signed again for another one.
-    pub fn prepare_write(&mut self, context: &LogFileContext)
-        requires { IsMade self.old.state }
-        ensures { self.new ≡ record self.old { state = Signed (signature_of context.now) } }
-    {
-        let signature = context.get_signature();
-        if self.items.is_empty() {
-            self.state = BatchState::Signed(signature);
-            return;
-        }
-        write_checksum(
-            self.buf.as_mut_slice(),
-            self.checksum ^ signature.unwrap_or(0),
-        );
-        self.state = BatchState::Signed(signature);
-    }
-
-    /// The bytes of the record for the file for which it was signed. An empty batch has none.
-    pub fn encoded_bytes(&self) -> &[u8]
-        requires { IsSigned self.now.state }
-        ensures whole { (self.now.items ≡ [] → ⊥) → IsRecord (signature_in self.now.state) result.now (map plain_item self.now.items) self.now.entries }
-        ensures exact { result.now ≡ batch_bytes (signature_in self.now.state) self.now.items self.now.entries }
-    {
-        if self.items.is_empty() {
-            return &self.buf[self.buf.len()..];
-        }
-        let bytes = self.buf.as_slice();
-        are_bytes(bytes);
-        bytes
-    }
-
-    /// The record is written at this place. Each entry gets the place of the entry block, which begins behind the header,
-    /// and each key gets the file.
-    pub fn finish_write(&mut self, handle: FileBlockHandle)
-        requires signed { IsSigned self.old.state }
-        requires place { handle.offset + 16 < 2 ^ 64 }
-        ensures written { self.new ≡ record self.old { state = Written; items = written (block_place handle self.old.entries) self.old.items } }
-        ensures laid { laid_out 0 self.new.items ≡ self.new.items }
-        ensures adds { entries_len self.new.items ≡ length self.new.entries }
-    {
-        let len = block_len(self.entries_len);
-        let block = FileBlockHandle {
-            id: handle.id,
-            offset: handle.offset + LOG_BATCH_HEADER_LEN as u64,
-            len,
-        };
-        set_written(self.items.as_mut_slice(), block);
-        self.state = BatchState::Written;
-    }
-
-    /// About how many bytes the record has: those of the header and of the entry block, and of the footer with each number
-    /// counted as eight bytes; 2^64 - 1 where there are more. An empty batch has none.
-    pub fn approximate_size(&self) -> usize
-        ensures { result ≡ min (batch_size self.now.items self.now.entries) (2 ^ 64 - 1) }
-    {
-        if self.items.is_empty() {
-            return 0;
-        }
-        items_size(self.items.as_slice()).saturating_add(28 + block_len(self.entries_len))
-    }
-
-    /// Gives the items back, behind what is there, and leaves an empty batch that is being filled. Its buffer is kept.
-    /// A refusal changes nothing.
-    pub fn drain(&mut self, into: &mut Vec<LogItem>) -> std::result::Result<(), AllocError>
-        ensures ok { OnOk result ((into.new.items ≡ into.old.items ++ self.old.items) × (self.new ≡ record { state = Filling; items = []; entries = [] })) }
-        ensures err { OnErr result ((into.new.items ≡ into.old.items) × (self.new ≡ self.old)) }
-    {
-        into.append(&mut self.items)?;
-        self.buf.truncate(LOG_BATCH_HEADER_LEN);
-        self.entries_len = 0;
-        self.state = BatchState::Filling;
-        Ok(())
+/// Leaves of a buffer the room for the header, and gives back what it has above the most that is kept.
+fn empty(buf: &mut Vec<u8>)
+    ensures { buf.new.items ≡ take 16 buf.old.items }
+{
+    buf.truncate(LOG_BATCH_HEADER_LEN);
+    if buf.capacity() > MAX_KEPT_LEN {
+        buf.shrink_to(MAX_KEPT_LEN);
     }
 }

@@ -1,26 +1,19 @@
 //! Marks of atomic groups: their bytes, and what is no mark.
-ghost use Rattle.std.specs.Prelude.{◌≡◌, OnOk};
-ghost use Rattle.raft_log_records.specs.declared.log_batch.BatchState.TheVariants.{Filling};
+ghost use Rattle.std.specs.Prelude.{◌≡◌};
+ghost use Rattle.raft_log_records.specs.Batch.{empty_batch};
 
 use crate::context;
 use raft_log_items::{Bytes, Command, LogItem, OpType, Version};
-use raft_log_records::{AtomicGroupBuilder, AtomicGroupStatus, LogBatch};
-use std::alloc::{AllocError, Global};
+use raft_log_records::{AtomicGroupBuilder, AtomicGroupStatus, LogBatch, LogItemBatch, Marking};
 use std::test::Fail;
 
-/// The only item of a batch, as a mark. The batch is emptied.
-fn only_mark(
-    alloc: Global,
-    batch: &mut LogBatch,
-) -> Result<Option<(u64, AtomicGroupStatus)>, AllocError>
-    ensures { OnOk result (batch.new.state ≡ Filling) }
+/// What a batch says as a mark. The batch is emptied.
+fn marking(batch: &mut LogBatch) -> Marking
+    ensures { batch.new ≡ empty_batch batch.old.capacity }
 {
-    let mut items = Vec::new(alloc);
-    batch.drain(&mut items)?;
-    match items.as_slice() {
-        [item] => Ok(AtomicGroupStatus::parse(item)),
-        _ => Ok(None),
-    }
+    let marking = batch.marking();
+    batch.clear();
+    marking
 }
 
 #[test]
@@ -28,11 +21,9 @@ fn a_group_is_marked(rt: HostRuntime) -> Result<(), Fail> {
     let mut builder = AtomicGroupBuilder::with_id(258);
     let mut batch = LogBatch::default(rt.alloc())?;
     builder.begin(rt.alloc(), &mut batch)?;
-    let begin = only_mark(rt.alloc(), &mut batch)?;
+    assert!(rt; marking(&mut batch) == Marking::Part(258, AtomicGroupStatus::Begin));
     builder.add(rt.alloc(), &mut batch)?;
-    let middle = only_mark(rt.alloc(), &mut batch)?;
-    assert!(rt; begin == Some((258, AtomicGroupStatus::Begin)));
-    assert!(rt; middle == Some((258, AtomicGroupStatus::Middle)));
+    assert!(rt; marking(&mut batch) == Marking::Part(258, AtomicGroupStatus::Middle));
     Ok(())
 }
 
@@ -40,11 +31,10 @@ fn a_group_is_marked(rt: HostRuntime) -> Result<(), Fail> {
 fn a_group_is_ended(rt: HostRuntime) -> Result<(), Fail> {
     let mut builder = AtomicGroupBuilder::with_id(258);
     let mut batch = LogBatch::default(rt.alloc())?;
-    assert!(rt; builder.status() == None);
     builder.begin(rt.alloc(), &mut batch)?;
-    only_mark(rt.alloc(), &mut batch)?;
+    batch.clear();
     builder.end(rt.alloc(), &mut batch)?;
-    assert!(rt; only_mark(rt.alloc(), &mut batch)? == Some((258, AtomicGroupStatus::End)));
+    assert!(rt; batch.marking() == Marking::Part(258, AtomicGroupStatus::End));
     assert!(rt; builder.status() == Some(AtomicGroupStatus::End));
     Ok(())
 }
@@ -61,36 +51,31 @@ fn a_mark_is_a_key_of_group_zero(rt: HostRuntime) -> Result<(), Fail> {
     Ok(())
 }
 
-/// Items that put or delete: the group, what is done, the key, the value, and whether it is the end of group 5.
-const ITEMS: [(u64, OpType, &[u8], &[u8], bool); 9] = [
-    (0, OpType::Put, b"__\x01", b"\0\0\0\0\0\0\0\x05\x02", true),
-    (1, OpType::Put, b"__\x01", b"\0\0\0\0\0\0\0\x05\x02", false),
-    (0, OpType::Del, b"__\x01", b"\0\0\0\0\0\0\0\x05\x02", false),
-    (0, OpType::Put, b"__\x02", b"\0\0\0\0\0\0\0\x05\x02", false),
-    (0, OpType::Put, b"__", b"\0\0\0\0\0\0\0\x05\x02", false),
-    (0, OpType::Put, b"__\x01", b"\0\0\0\0\0\0\0\x05\x03", false),
-    (0, OpType::Put, b"__\x01", b"\0\0\0\0\0\0\0\x05", false),
-    (
-        0,
-        OpType::Put,
-        b"__\x01",
-        b"\0\0\0\0\0\0\0\x05\x02\0",
-        false,
-    ),
-    (0, OpType::Put, b"__\x01", b"", false),
+/// What an item may say as a mark.
+const UNMARKED: Marking = Marking::Unmarked;
+const BROKEN: Marking = Marking::Broken;
+const END: Marking = Marking::Part(5, AtomicGroupStatus::End);
+
+/// Items that put or delete: the group, what is done, the key, the value, and what it says as a mark.
+const ITEMS: [(u64, OpType, &[u8], &[u8], Marking); 9] = [
+    (0, OpType::Put, b"__\x01", b"\0\0\0\0\0\0\0\x05\x02", END),
+    (1, OpType::Put, b"__\x01", b"\0\0\0\0\0\0\0\x05\x02", UNMARKED),
+    (0, OpType::Del, b"__\x01", b"\0\0\0\0\0\0\0\x05\x02", UNMARKED),
+    (0, OpType::Put, b"__\x02", b"\0\0\0\0\0\0\0\x05\x02", UNMARKED),
+    (0, OpType::Put, b"__", b"\0\0\0\0\0\0\0\x05\x02", UNMARKED),
+    (0, OpType::Put, b"__\x01", b"\0\0\0\0\0\0\0\x05\x03", BROKEN),
+    (0, OpType::Put, b"__\x01", b"\0\0\0\0\0\0\0\x05", BROKEN),
+    (0, OpType::Put, b"__\x01", b"\0\0\0\0\0\0\0\x05\x02\0", BROKEN),
+    (0, OpType::Put, b"__\x01", b"", BROKEN),
 ];
 
 #[test]
-fn other_items_are_no_marks(rt: HostRuntime) -> Result<(), Fail> {
-    for (group, op_type, key, value, is_mark) in ITEMS.iter() {
+fn items_tell_their_mark(rt: HostRuntime) -> Result<(), Fail> {
+    for (group, op_type, key, value, marking) in ITEMS.iter() {
         let key = Bytes::from_slice(rt.alloc(), key)?;
         let value = Bytes::from_slice(rt.alloc(), value)?;
         let item = LogItem::new_kv(*group, *op_type, key, Some(value));
-        let end = Some((5, AtomicGroupStatus::End));
-        assert!(rt;
-            (AtomicGroupStatus::parse(&item) == end) == *is_mark,
-            "{item:?}"
-        );
+        assert!(rt; Marking::parse(&item) == *marking, "{item:?}");
     }
     Ok(())
 }
@@ -99,8 +84,18 @@ fn other_items_are_no_marks(rt: HostRuntime) -> Result<(), Fail> {
 fn items_without_a_value_are_no_marks(rt: HostRuntime) -> Result<(), Fail> {
     let key = Bytes::from_slice(rt.alloc(), b"__\x01")?;
     let valueless = LogItem::new_kv(0, OpType::Put, key, None);
-    assert!(rt; AtomicGroupStatus::parse(&valueless) == None);
+    assert!(rt; Marking::parse(&valueless) == BROKEN);
     let clean = LogItem::new_command(0, Command::Clean);
-    assert!(rt; AtomicGroupStatus::parse(&clean) == None);
+    assert!(rt; Marking::parse(&clean) == UNMARKED);
+    Ok(())
+}
+
+#[test]
+fn two_marks_are_broken(rt: HostRuntime) -> Result<(), Fail> {
+    let mut batch = LogItemBatch::default(rt.alloc());
+    batch.put(rt.alloc(), 0, b"__\x01", b"\0\0\0\0\0\0\0\x05\x02")?;
+    assert!(rt; Marking::parse_all(batch.as_slice()) == END);
+    batch.put(rt.alloc(), 0, b"__\x01", b"\0\0\0\0\0\0\0\x05\x02")?;
+    assert!(rt; Marking::parse_all(batch.as_slice()) == BROKEN);
     Ok(())
 }

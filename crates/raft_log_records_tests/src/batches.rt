@@ -1,6 +1,6 @@
 //! Batches: what is put in, and the bytes that come out.
 use crate::{CLEAN_SIGNED, CLEAN_UNSIGNED, context};
-use raft_log_items::{Bytes, Command, Version};
+use raft_log_items::{Command, Version};
 use raft_log_records::LogBatch;
 use std::test::Fail;
 
@@ -19,8 +19,7 @@ fn clean_of_group_one_is_written(rt: HostRuntime) -> Result<(), Fail> {
 #[test]
 fn internal_keys_are_refused(rt: HostRuntime) -> Result<(), Fail> {
     let mut batch = LogBatch::default(rt.alloc())?;
-    let key = Bytes::from_slice(rt.alloc(), b"__x")?;
-    let Err(error) = batch.delete(rt.alloc(), 1, key) else {
+    let Err(error) = batch.delete(rt.alloc(), 1, b"__x") else {
         assert!(rt; false, "a key of the log");
         return Ok(());
     };
@@ -32,9 +31,7 @@ fn internal_keys_are_refused(rt: HostRuntime) -> Result<(), Fail> {
 #[test]
 fn keys_with_one_underscore_are_taken(rt: HostRuntime) -> Result<(), Fail> {
     let mut batch = LogBatch::default(rt.alloc())?;
-    let key = Bytes::from_slice(rt.alloc(), b"_x")?;
-    let value = Bytes::from_slice(rt.alloc(), b"v")?;
-    batch.put(rt.alloc(), 1, key, value)?;
+    batch.put(rt.alloc(), 1, b"_x", b"v")?;
     assert!(rt; batch.finish_populate()? == 16 + 4 + 4 + 5);
     Ok(())
 }
@@ -45,5 +42,20 @@ fn an_empty_batch_has_no_bytes(rt: HostRuntime) -> Result<(), Fail> {
     assert!(rt; batch.finish_populate()? == 0);
     batch.prepare_write(&context(Version::V2, 1));
     assert!(rt; batch.encoded_bytes().is_empty());
+    Ok(())
+}
+
+#[test]
+fn a_batch_goes_back(rt: HostRuntime) -> Result<(), Fail> {
+    let mut batch = LogBatch::with_capacity(rt.alloc(), 2)?;
+    batch.add_command(1, Command::Clean)?;
+    batch.finish_populate()?;
+    batch.prepare_write(&context(Version::V2, 1));
+    batch.unsign();
+    batch.unpopulate();
+    assert!(rt; (batch.len(), batch.items().len()) == (1, 1));
+    assert!(rt; batch.finish_populate()? == batch.encoded_len());
+    batch.clear();
+    assert!(rt; batch.is_empty());
     Ok(())
 }

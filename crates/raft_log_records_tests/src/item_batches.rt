@@ -1,7 +1,7 @@
 //! Lists of items: each call, the bytes of a list, and a footer with its places.
 use crate::context;
 use raft_log_items::{
-    Bytes, Command, CompressionType, EntryIndex, EntryIndexes, FileBlockHandle, FileId, LogItem,
+    Command, CompressionType, EntryIndex, EntryIndexes, Error, FileBlockHandle, FileId, LogItem,
     LogItemContent, LogQueue, Result, Version,
 };
 use raft_log_records::LogItemBatch;
@@ -14,19 +14,17 @@ const FOOTER: [u8; 23] = [
     3, 1, 1, 2, 7, 3, 4, 2, 1, 1, 1, 2, 2, 3, 1, 1, b'k', 1, b'v', 0xd5, 0x82, 0xd2, 0x56,
 ];
 
-fn text(alloc: Global, bytes: &[u8]) -> std::result::Result<Bytes, AllocError> {
-    Bytes::from_slice(alloc, bytes)
-}
-
 /// Clean of group 1, a put and a deletion of group 2, and entries 7 and 8 of group 3.
 fn some_items(alloc: Global) -> Result<LogItemBatch> {
     let mut batch = LogItemBatch::with_capacity(alloc, 4)?;
     batch.add_command(1, Command::Clean)?;
-    batch.put(2, text(alloc, b"k")?, text(alloc, b"v")?)?;
-    batch.delete(2, text(alloc, b"k")?)?;
+    batch.put(alloc, 2, b"k", b"v")?;
+    batch.delete(alloc, 2, b"k")?;
     let entries = EntryIndexes::decode(alloc, &mut [2u8, 7, 3, 4].as_slice())?;
-    batch.add_entry_indexes(3, entries)?;
-    Ok(batch)
+    match batch.add_entry_indexes(3, entries) {
+        Ok(()) => Ok(batch),
+        Err(_) => Err(Error::Memory),
+    }
 }
 
 /// The bytes of these items.
@@ -39,16 +37,36 @@ fn a_list_is_encoded(rt: HostRuntime) -> std::result::Result<(), Fail> {
     let batch = some_items(rt.alloc())?;
     let mut out = vec![in rt.alloc(); 9u8]?;
     batch.encode(&mut out)?;
-    assert!(rt; out.get(1..) == Some(ITEMS.as_slice()));
+    assert!(rt; out.get(1..23) == Some(ITEMS.as_slice()));
     // A footer of twelve bytes, and the group and the numbers of each item at eight bytes each.
     assert!(rt; batch.approximate_size() == 12 + (8 + 8) + (8 + 16 + 2) + (8 + 16 + 1) + (8 + 32));
     Ok(())
 }
 
 #[test]
+fn what_is_encoded_is_decoded(rt: HostRuntime) -> std::result::Result<(), Fail> {
+    let batch = some_items(rt.alloc())?;
+    let mut out = Vec::new(rt.alloc());
+    batch.encode(&mut out)?;
+    let file = context(Version::V1, 1);
+    let read = LogItemBatch::decode(rt.alloc(), &out, block(11), CompressionType::None, &file)?;
+    assert!(rt; (read.len(), read.capacity() >= 4) == (4, true));
+    Ok(())
+}
+
+#[test]
+fn lists_are_cleared(rt: HostRuntime) -> std::result::Result<(), Fail> {
+    let mut batch = some_items(rt.alloc())?;
+    batch.reserve(9)?;
+    batch.clear();
+    assert!(rt; batch.is_empty() && batch.capacity() >= 9);
+    Ok(())
+}
+
+#[test]
 fn lists_are_compared(rt: HostRuntime) -> std::result::Result<(), Fail> {
     let batch = some_items(rt.alloc())?;
-    let copy = batch.clone()?;
+    let copy = batch.clone(rt.alloc())?;
     assert!(rt; copy == batch);
     let empty = LogItemBatch::default(rt.alloc());
     assert!(rt; empty.is_empty() && empty != batch);
@@ -70,7 +88,7 @@ fn lists_are_merged(rt: HostRuntime) -> std::result::Result<(), Fail> {
 #[test]
 fn lists_are_drained(rt: HostRuntime) -> std::result::Result<(), Fail> {
     let mut batch = some_items(rt.alloc())?;
-    let copy = batch.clone()?.into_items();
+    let copy = batch.clone(rt.alloc())?.into_items();
     let mut items: Vec<LogItem> = Vec::new(rt.alloc());
     batch.drain(&mut items)?;
     assert!(rt; batch.is_empty());

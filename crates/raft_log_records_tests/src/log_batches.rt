@@ -60,7 +60,7 @@ fn add(
     for entry in entries {
         bytes.push(Bytes::from_slice(alloc, entry)?)?;
     }
-    batch.add_raw_entries(alloc, group, given, bytes.as_slice())
+    batch.add_raw_entries(alloc, group, given.as_slice(), bytes.as_slice())
 }
 
 /// A batch of the two entries, for file 1.
@@ -207,10 +207,8 @@ fn messages_are_entries(rt: HostRuntime) -> std::result::Result<(), Fail> {
 fn messages_are_values(rt: HostRuntime) -> std::result::Result<(), Fail> {
     let mut batch = LogBatch::default(rt.alloc())?;
     let value = entry(rt.alloc(), 8, b"")?;
-    let key = Bytes::from_slice(rt.alloc(), b"__k")?;
-    let refused = batch.put_message(rt.alloc(), 1, key, &value).is_err();
-    let key = Bytes::from_slice(rt.alloc(), b"k")?;
-    batch.put_message(rt.alloc(), 1, key, &value)?;
+    let refused = batch.put_message(rt.alloc(), 1, b"__k", &value).is_err();
+    batch.put_message(rt.alloc(), 1, b"k", &value)?;
     // Header, one item of 14 bytes, and the footer's count and checksum.
     assert!(rt; refused && batch.finish_populate()? == 16 + 1 + 14 + 4);
     Ok(())

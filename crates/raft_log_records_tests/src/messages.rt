@@ -106,11 +106,10 @@ fn a_message_is_put(rt: HostRuntime) -> std::result::Result<(), Fail> {
         bytes: Bytes::from_slice(rt.alloc(), b"x")?,
     };
     let mut batch = LogItemBatch::default(rt.alloc());
-    let key = Bytes::from_slice(rt.alloc(), b"k")?;
-    batch.put_message(rt.alloc(), 2, key, &entry)?;
+    batch.put_message(rt.alloc(), 2, b"k", &entry)?;
     let mut out = Vec::new(rt.alloc());
     batch.encode(&mut out)?;
     let bytes = [1, 2, 3, 1, 1, b'k', 9, 0, 0, 0, 0, 0, 0, 0, 1, b'x'];
-    assert!(rt; out.as_slice() == bytes.as_slice());
+    assert!(rt; out.get(..16) == Some(bytes.as_slice()));
     Ok(())
 }

@@ -1,17 +1,64 @@
 //! Entries that are added to a batch: their bytes stand one after another behind those that it has.
-ghost use Rattle.std.specs.Prelude.{◌≡◌, ◌+◌, ◌-◌, ◌<◌, ◌^◌, ◌++◌, ◌↔◌, length, map, min, IsTrue, OnOk, OnErr, IfErr};
+ghost use Rattle.std.specs.Prelude.{◌≡◌, ◌+◌, ◌-◌, ◌<◌, ◌^◌, ◌++◌, ◌↔◌, length, min, IsTrue, OnOk, OnErr, IfErr};
 ghost use Rattle.raft_log_items.specs.Writing.{KeepsFront};
 ghost use Rattle.raft_log_items.specs.Placed.{laid_run};
-ghost use Rattle.raft_log_records.specs.Entries.{RisesFrom, IsIndexRun, entries_of, joined, bytes_len, IsRunRefusal};
+ghost use Rattle.raft_log_records.specs.Entries.{RisesFrom, IsIndexRun, entries_of, indexes_of, joined, bytes_len, IsRunRefusal};
 
 use super::{LogBatch, MAX_ENTRIES_LEN};
 use raft_log_items::{Bytes, EntryIndex, EntryIndexes, Error, LogItem, Result};
 use std::alloc::{AllocError, Global};
 
+impl LogBatch {
+    ghost use Rattle.std.specs.Prelude.{◌≡◌, ◌+◌, ◌≤◌, length, OnOk, OnErr, IfErr};
+    ghost use Rattle.raft_log_records.specs.declared.log_batch.BatchState.TheVariants.{Filling};
+    ghost use Rattle.raft_log_records.specs.Batch.{max_entries_len, Becomes};
+    ghost use Rattle.raft_log_records.specs.Places.{AddsBytes};
+    ghost use Rattle.raft_log_records.specs.Entries.{IsRunOf, indexes_of, bytes_len, AddsEntries, IsEntriesRefusal};
+
+    /// Adds entries of a group, each given by its index and its bytes. Of the entries in `entry_indexes` only the index is
+    /// taken: the length is that of the bytes, and the place comes when the batch is written. No entries add nothing.
+    ///
+    /// Refused, in this order: as an invalid argument, indexes that are not as many as the entries, that don't rise by one,
+    /// or of which one is 2^64 - 1; as full, more than 2,147,483,647 bytes of entries in the batch. A refusal
+    /// changes no item.
+    pub fn add_raw_entries(
+        &mut self,
+        alloc: Global,
+        raft_group_id: u64,
+        entry_indexes: &[EntryIndex],
+        entries: &[Bytes],
+    ) -> Result<()>
+        requires { self.old.state ≡ Filling }
+        ensures ok { OnOk result (AddsEntries self.old self.new raft_group_id (indexes_of entry_indexes.now) entries.now) }
+        ensures bytes { OnOk result (AddsBytes self.old self.new entries.now) }
+        ensures run { OnOk result (IsRunOf (indexes_of entry_indexes.now) entries.now) }
+        ensures room { OnOk result (length self.old.entries + bytes_len entries.now ≤ max_entries_len) }
+        ensures err { OnErr result (Becomes self.old self.new) }
+        ensures errors { IfErr result (λ e. IsEntriesRefusal e (length self.old.entries) (indexes_of entry_indexes.now) entries.now) }
+    {
+        check_run(alloc, entry_indexes, entries.len())?;
+        let added = bytes_len(entries);
+        if added > (MAX_ENTRIES_LEN - self.entries_len) as u64 {
+            return Err(Error::Full);
+        }
+        if entries.is_empty() {
+            return Ok(());
+        }
+        self.items.reserve(1)?;
+        let indexes = Vec::from_slice(alloc, entry_indexes)?;
+        append_entries(&mut self.buf, entries, added as usize)?;
+        let placed = place_entries(indexes, entries, self.entries_len as u32);
+        self.items
+            .push_reserved(LogItem::new_entry_indexes(raft_group_id, placed));
+        self.entries_len += added as usize;
+        Ok(())
+    }
+}
+
 /// Whether the indexes rise by one from this one on.
 fn rises_from(entries: &[EntryIndex], first: u64) -> bool
     requires { first + length entries.now < 2 ^ 64 }
-    ensures { IsTrue result ↔ RisesFrom first (map (λ e. e.index) entries.now) }
+    ensures { IsTrue result ↔ RisesFrom first (indexes_of entries.now) }
 {
     let mut next = first;
     for entry in entries {
@@ -25,7 +72,7 @@ fn rises_from(entries: &[EntryIndex], first: u64) -> bool
 
 /// Whether the indexes rise by one, and none is 2^64 - 1.
 fn is_run(entries: &[EntryIndex]) -> bool
-    ensures { IsTrue result ↔ IsIndexRun (map (λ e. e.index) entries.now) }
+    ensures { IsTrue result ↔ IsIndexRun (indexes_of entries.now) }
 {
     match entries {
         [first, ..] => {
@@ -37,8 +84,9 @@ fn is_run(entries: &[EntryIndex]) -> bool
 
 /// Refuses indexes that are not so many, that don't rise by one, or of which one is 2^64 - 1.
 pub(super) fn check_run(alloc: Global, entries: &[EntryIndex], count: usize) -> Result<()>
-    ensures ok { OnOk result ((length entries.now ≡ count) × IsIndexRun (map (λ e. e.index) entries.now)) }
-    ensures errors { IfErr result (λ e. IsRunRefusal e (map (λ e. e.index) entries.now) count) }
+    ensures ok { OnOk result (length entries.now ≡ count) }
+    ensures run { OnOk result (IsIndexRun (indexes_of entries.now)) }
+    ensures errors { IfErr result (λ e. IsRunRefusal e (indexes_of entries.now) count) }
 {
     let indexes = entries.len();
     if indexes != count {
@@ -98,7 +146,7 @@ fn append_entries(
 fn set_lengths(indexes: &mut [EntryIndex], entries: &[Bytes])
     requires same { length indexes.old ≡ length entries.now }
     requires fits { bytes_len entries.now < 2 ^ 32 }
-    ensures { indexes.new ≡ entries_of (map (λ e. e.index) indexes.old) entries.now }
+    ensures { indexes.new ≡ entries_of (indexes_of indexes.old) entries.now }
 {
     for i in 0..indexes.len() {
         indexes[i] = EntryIndex::unplaced(indexes[i].index, entries[i].len() as u32);
@@ -108,57 +156,13 @@ fn set_lengths(indexes: &mut [EntryIndex], entries: &[Bytes])
 /// The entries with these indexes and bytes, laid out from this offset on.
 fn place_entries(indexes: Vec<EntryIndex>, entries: &[Bytes], offset: u32) -> EntryIndexes
     requires same { length indexes.items ≡ length entries.now }
-    requires run { IsIndexRun (map (λ e. e.index) indexes.items) }
+    requires run { IsIndexRun (indexes_of indexes.items) }
     requires fits { offset + bytes_len entries.now < 2 ^ 32 }
-    ensures { result ≡ laid_run offset (entries_of (map (λ e. e.index) indexes.items) entries.now) }
+    ensures { result ≡ laid_run offset (entries_of (indexes_of indexes.items) entries.now) }
 {
     let mut indexes = indexes;
     set_lengths(indexes.as_mut_slice(), entries);
     let mut placed = EntryIndexes::new(indexes);
     placed.lay_out(offset);
     placed
-}
-
-impl LogBatch {
-    ghost use Rattle.std.specs.Prelude.{◌≡◌, ◌+◌, ◌≤◌, length, map, OnOk, OnErr, IfErr};
-    ghost use Rattle.raft_log_records.specs.declared.log_batch.BatchState.TheVariants.{Filling};
-    ghost use Rattle.raft_log_records.specs.Batch.{max_entries_len};
-    ghost use Rattle.raft_log_records.specs.Entries.{IsRunOf, bytes_len, with_entries, IsEntriesRefusal};
-
-    /// Adds entries of a group, each given by its index and its bytes. Of the entries in `entry_indexes` only the index is
-    /// taken: the length is that of the bytes, and the place comes when the batch is written. No entries add nothing.
-    ///
-    /// Refused, in this order: as an invalid argument, indexes that are not as many as the entries, that don't rise by one,
-    /// or of which one is 2^64 - 1; as full, more than 2,147,483,647 bytes of entries in the batch. A refusal
-    /// changes nothing.
-    pub fn add_raw_entries(
-        &mut self,
-        alloc: Global,
-        raft_group_id: u64,
-        entry_indexes: Vec<EntryIndex>,
-        entries: &[Bytes],
-    ) -> Result<()>
-        requires { self.old.state ≡ Filling }
-        ensures ok { OnOk result (self.new ≡ with_entries self.old raft_group_id (map (λ e. e.index) entry_indexes.items) entries.now) }
-        ensures run { OnOk result (IsRunOf (map (λ e. e.index) entry_indexes.items) entries.now) }
-        ensures room { OnOk result (length self.old.entries + bytes_len entries.now ≤ max_entries_len) }
-        ensures err { OnErr result (self.new ≡ self.old) }
-        ensures errors { IfErr result (λ e. IsEntriesRefusal e (length self.old.entries) (map (λ e. e.index) entry_indexes.items) entries.now) }
-    {
-        check_run(alloc, entry_indexes.as_slice(), entries.len())?;
-        let added = bytes_len(entries);
-        if added > (MAX_ENTRIES_LEN - self.entries_len) as u64 {
-            return Err(Error::Full);
-        }
-        if entries.is_empty() {
-            return Ok(());
-        }
-        self.items.reserve(1)?;
-        append_entries(&mut self.buf, entries, added as usize)?;
-        let placed = place_entries(entry_indexes, entries, self.entries_len as u32);
-        self.items
-            .push_reserved(LogItem::new_entry_indexes(raft_group_id, placed));
-        self.entries_len += added as usize;
-        Ok(())
-    }
 }

@@ -1,4 +1,4 @@
-//! Messages that are added to a batch, as entries and as values of keys.
+//! Messages that are added to a batch as entries.
 ghost use Rattle.std.specs.Prelude.{◌≡◌, ◌+◌, ◌≤◌, ◌<◌, ◌^◌, ◌++◌, length, map, IfOk, OnOk, OnErr, IfErr};
 ghost use Rattle.raft_log_items.specs.Writing.{KeepsFront};
 ghost use Rattle.raft_log_items.specs.Placed.{laid_run};
@@ -6,12 +6,48 @@ ghost use Rattle.raft_log_records.specs.Batch.{max_entries_len};
 ghost use Rattle.raft_log_records.specs.Entries.{entries_of, joined, bytes_len, IsRunOf, IsEntriesRefusal, IsRoomRefusal};
 
 use super::entries::check_run;
-use super::{LogBatch, MAX_ENTRIES_LEN, check_key};
+use super::{LogBatch, MAX_ENTRIES_LEN};
 use raft_log_frames::LOG_BATCH_HEADER_LEN;
-use raft_log_items::{
-    Bytes, EntryIndex, EntryIndexes, Error, LogItem, Message, MessageExt, OpType, Result,
-};
+use raft_log_items::{EntryIndex, EntryIndexes, Error, LogItem, Message, MessageExt, Result};
 use std::alloc::{AllocError, Global};
+
+impl LogBatch {
+    ghost use Rattle.std.specs.Prelude.{◌≡◌, ◌+◌, ◌≤◌, length, map, OnOk, OnErr, IfErr};
+    ghost use Rattle.raft_log_records.specs.declared.log_batch.BatchState.TheVariants.{Filling};
+    ghost use Rattle.raft_log_records.specs.Batch.{max_entries_len, Becomes};
+    ghost use Rattle.raft_log_records.specs.Places.{AddsBytes};
+    ghost use Rattle.raft_log_records.specs.Entries.{IsRunOf, bytes_len, AddsEntries, IsEntriesRefusal};
+
+    /// Adds entries of a group, each with its index. No entries add nothing.
+    ///
+    /// Refused, in this order: as an invalid argument, indexes that don't rise by one, or of which one is 2^64 - 1; as full,
+    /// more than 2,147,483,647 bytes of entries in the batch. A refusal changes no item.
+    pub fn add_entries<M: MessageExt>(
+        &mut self,
+        alloc: Global,
+        raft_group_id: u64,
+        entries: &[M::Entry],
+    ) -> Result<()>
+        requires { self.old.state ≡ Filling }
+        ensures ok { OnOk result (AddsEntries self.old self.new raft_group_id (map M.index entries.now) (map M.Entry.spelling entries.now)) }
+        ensures bytes { OnOk result (AddsBytes self.old self.new (map M.Entry.spelling entries.now)) }
+        ensures run { OnOk result (IsRunOf (map M.index entries.now) (map M.Entry.spelling entries.now)) }
+        ensures room { OnOk result (length self.old.entries + bytes_len (map M.Entry.spelling entries.now) ≤ max_entries_len) }
+        ensures err { OnErr result (Becomes self.old self.new) }
+        ensures errors { IfErr result (λ e. IsEntriesRefusal e (length self.old.entries) (map M.index entries.now) (map M.Entry.spelling entries.now)) }
+    {
+        let start = self.buf.len();
+        if entries.is_empty() {
+            return Ok(());
+        }
+        self.items.reserve(1)?;
+        let placed = append_run::<M>(alloc, &mut self.buf, entries, self.entries_len as u32)?;
+        self.items
+            .push_reserved(LogItem::new_entry_indexes(raft_group_id, placed));
+        self.entries_len += self.buf.len() - start;
+        Ok(())
+    }
+}
 
 /// Entries with the indexes of these, and no lengths yet.
 fn indexes_of<M: MessageExt>(
@@ -107,64 +143,4 @@ fn append_run<M: MessageExt>(
     let mut placed = EntryIndexes::new(indexes);
     placed.lay_out(offset);
     Ok(placed)
-}
-
-impl LogBatch {
-    ghost use Rattle.std.specs.Prelude.{◌≡◌, ◌+◌, ◌≤◌, ◌++◌, ◌∷◌, [], length, map, OnOk, OnErr, IfErr, IsErr, IsTrue};
-    ghost use Rattle.raft_log_records.specs.declared.log_batch.BatchState.TheVariants.{Filling};
-    ghost use Rattle.raft_log_items.specs.Items.{put_item};
-    ghost use Rattle.raft_log_records.specs.Key.{is_internal, IsKeyRefusal};
-    ghost use Rattle.raft_log_records.specs.Batch.{max_entries_len};
-    ghost use Rattle.raft_log_records.specs.Entries.{IsRunOf, bytes_len, with_entries, IsEntriesRefusal};
-
-    /// Adds entries of a group, each with its index. No entries add nothing.
-    ///
-    /// Refused, in this order: as an invalid argument, indexes that don't rise by one, or of which one is 2^64 - 1; as full,
-    /// more than 2,147,483,647 bytes of entries in the batch. A refusal changes nothing.
-    pub fn add_entries<M: MessageExt>(
-        &mut self,
-        alloc: Global,
-        raft_group_id: u64,
-        entries: &[M::Entry],
-    ) -> Result<()>
-        requires { self.old.state ≡ Filling }
-        ensures ok { OnOk result (self.new ≡ with_entries self.old raft_group_id (map M.index entries.now) (map M.Entry.spelling entries.now)) }
-        ensures run { OnOk result (IsRunOf (map M.index entries.now) (map M.Entry.spelling entries.now)) }
-        ensures room { OnOk result (length self.old.entries + bytes_len (map M.Entry.spelling entries.now) ≤ max_entries_len) }
-        ensures err { OnErr result (self.new ≡ self.old) }
-        ensures errors { IfErr result (λ e. IsEntriesRefusal e (length self.old.entries) (map M.index entries.now) (map M.Entry.spelling entries.now)) }
-    {
-        let start = self.buf.len();
-        if entries.is_empty() {
-            return Ok(());
-        }
-        self.items.reserve(1)?;
-        let placed = append_run::<M>(alloc, &mut self.buf, entries, self.entries_len as u32)?;
-        self.items
-            .push_reserved(LogItem::new_entry_indexes(raft_group_id, placed));
-        self.entries_len += self.buf.len() - start;
-        Ok(())
-    }
-
-    /// Adds a key that gets the bytes of a message. A key that begins with two underscores is refused as an invalid argument.
-    /// A refusal changes nothing.
-    pub fn put_message<M: Message>(
-        &mut self,
-        alloc: Global,
-        raft_group_id: u64,
-        key: Bytes,
-        message: &M,
-    ) -> Result<()>
-        requires { self.old.state ≡ Filling }
-        ensures ok { OnOk result (self.new ≡ record self.old { items = self.old.items ++ put_item raft_group_id key (M.spelling message.now) ∷ [] }) }
-        ensures internal { IsTrue (is_internal key) → IsErr result }
-        ensures err { OnErr result (self.new ≡ self.old) }
-        ensures errors { IfErr result (λ e. IsKeyRefusal e key) }
-    {
-        check_key(alloc, key.as_slice())?;
-        let mut value = Vec::new(alloc);
-        message.write(&mut value)?;
-        self.push_item(LogItem::new_kv(raft_group_id, OpType::Put, key, Some(Bytes::new(value))))?;
-        Ok(())
-    }
 }

@@ -7,13 +7,14 @@ use Rattle.raft_log_items.specs.declared.item.LogItemContent.TheVariants as cont
 use Rattle.raft_log_records.specs.Batch.{Batch, max_entries_len}
 use Rattle.raft_log_records.specs.Entries.{entries_item, bytes_len, with_entries}
 use Rattle.raft_log_records.proofs.Entries.{out_len}
-use Rattle.raft_log_records.proofs.Items.{with_none, filling_size, entries_added, entries_seen}
+use Rattle.raft_log_records.proofs.Items.{pushed_items, more_room, with_none, filling_size, entries_added, entries_seen}
+use Rattle.raft_log_records.proofs.Places.{view_laid, added_bytes}
 use Rattle.raft_log_records.proofs.log_batch.LogBatch.add_entries.Goals as goal
 
 pub returns-then-is_empty-clause-ok : goal.returns-then-is_empty-clause-ok
 returns-then-is_empty-clause-ok g c =
     let none : length c.args.entries.now ≡ 0 = eqb-true _ _ (sym c.is_empty.ensures ∙ c.if-is_empty.true) in
-    with_none c.args.self.now c.args.raft_group_id (map g.M.MessageExt.index c.args.entries.now) (map g.M.Entry.Message.spelling c.args.entries.now) (omega (arith, none, length-map c.args.entries.now g.M.Entry.Message.spelling))
+    (with_none c.args.self.now c.args.raft_group_id (map g.M.MessageExt.index c.args.entries.now) (map g.M.Entry.Message.spelling c.args.entries.now) (omega (arith, none, length-map c.args.entries.now g.M.Entry.Message.spelling)), omega arith)
 
 pub invariant_of-self-2 : goal.invariant_of-self-2
 invariant_of-self-2 g c =
@@ -29,7 +30,7 @@ invariant_of-self-2 g c =
     let item : c.new_entry_indexes.result ≡ entries_item c.args.raft_group_id len indexes entries =
     c.new_entry_indexes.ensures ∙ ap (λ (l : List EntryIndex). record { raft_group_id = c.args.raft_group_id; content = contents.EntryIndexes l }) c.in_ok-placed.ensures.placed in
     let items : c.push_reserved.new.self.items ≡ c.self.inside.items.items ++ entries_item c.args.raft_group_id len indexes entries ∷ [] =
-    c.push_reserved.ensures.items ∙ ap (λ (l : List LogItem). l ++ c.new_entry_indexes.result ∷ []) c.reserve.ensures.items ∙ ap (λ (x : LogItem). c.self.inside.items.items ++ x ∷ []) item in
+    pushed_items c.self.inside.items c.reserve.new.self c.push_reserved.new.self c.new_entry_indexes.result _ c.in_ok-reserve.ensures.ok.0 c.push_reserved.ensures item in
     rw items (entries_added c.self.inside.state c.self.inside.buf.items c.append_run.new.out.items len added c.self.inside.checksum c.args.raft_group_id c.self.inside.items.items indexes entries
     filling c.in_ok-placed.ensures.run.0 count fits c.in_ok-placed.ensures.bytes c.self.invariant)
 
@@ -47,8 +48,25 @@ returns-clause-ok g c =
     let item : c.new_entry_indexes.result ≡ entries_item c.args.raft_group_id len indexes entries =
     c.new_entry_indexes.ensures ∙ ap (λ (l : List EntryIndex). record { raft_group_id = c.args.raft_group_id; content = contents.EntryIndexes l }) c.in_ok-placed.ensures.placed in
     let items : c.push_reserved.new.self.items ≡ c.self.inside.items.items ++ entries_item c.args.raft_group_id len indexes entries ∷ [] =
-    c.push_reserved.ensures.items ∙ ap (λ (l : List LogItem). l ++ c.new_entry_indexes.result ∷ []) c.reserve.ensures.items ∙ ap (λ (x : LogItem). c.self.inside.items.items ++ x ∷ []) item in
-    ap (λ (l : List LogItem). record { state = c.self.inside.state; items = l; entries = take (len + added) (drop 16 c.append_run.new.out.items) }) items
-    ∙ entries_seen c.self.inside.state c.self.inside.buf.items c.append_run.new.out.items len added c.self.inside.checksum c.args.raft_group_id c.self.inside.items.items indexes entries
-    filling some count c.in_ok-placed.ensures.bytes c.self.invariant
-    ∙ ap (λ (b : Batch). with_entries b c.args.raft_group_id indexes entries) c.self.view_is
+    pushed_items c.self.inside.items c.reserve.new.self c.push_reserved.new.self c.new_entry_indexes.result _ c.in_ok-reserve.ensures.ok.0 c.push_reserved.ensures item in (
+      ap (λ (l : List LogItem). record { state = c.self.inside.state; items = l; entries = take (len + added) (drop 16 c.append_run.new.out.items); capacity = c.push_reserved.new.self.capacity }) items
+          ∙ entries_seen c.self.inside.state c.self.inside.buf.items c.append_run.new.out.items len added c.self.inside.checksum c.args.raft_group_id c.self.inside.items.items indexes entries c.self.inside.items.capacity c.push_reserved.new.self.capacity
+          filling some count c.in_ok-placed.ensures.bytes c.self.invariant
+          ∙ ap (λ (b : Batch). record (with_entries b c.args.raft_group_id indexes entries) { capacity = c.push_reserved.new.self.capacity }) c.self.view_is,
+      more_room c.self.inside.items c.reserve.new.self c.push_reserved.new.self c.new_entry_indexes.result c.args.self.now.capacity (ap (λ (b : Batch). b.capacity) c.self.view_is) c.in_ok-reserve.ensures.ok.0 c.push_reserved.ensures,
+    )
+
+pub returns-then-is_empty-clause-bytes : goal.returns-then-is_empty-clause-bytes
+returns-then-is_empty-clause-bytes g c =
+    let indexes : List ℕ = map g.M.MessageExt.index c.args.entries.now in
+    let entries : List (List ℕ) = map g.M.Entry.Message.spelling c.args.entries.now in
+    let seen = view_laid c.self.inside.state c.self.inside.buf.items c.self.inside.entries_len c.self.inside.checksum c.self.inside.items.capacity c.self.inside.items.items c.args.self.now c.self.view_is c.self.invariant in
+    let same : length indexes ≡ length entries = length-map c.args.entries.now g.M.MessageExt.index ∙ sym (length-map c.args.entries.now g.M.Entry.Message.spelling) in
+    added_bytes c.args.self.now _ c.args.raft_group_id indexes entries seen.0 seen.1 same (returns-then-is_empty-clause-ok g c)
+
+pub returns-clause-bytes : goal.returns-clause-bytes
+returns-clause-bytes g c =
+    let indexes : List ℕ = map g.M.MessageExt.index c.args.entries.now in
+    let entries : List (List ℕ) = map g.M.Entry.Message.spelling c.args.entries.now in
+    let seen = view_laid c.self.inside.state c.self.inside.buf.items c.self.inside.entries_len c.self.inside.checksum c.self.inside.items.capacity c.self.inside.items.items c.args.self.now c.self.view_is c.self.invariant in
+    added_bytes c.args.self.now _ c.args.raft_group_id indexes entries seen.0 seen.1 c.in_ok-placed.ensures.run.0 (returns-clause-ok g c)

@@ -1,9 +1,9 @@
-use Rattle.std.proofs.Common.{◌≡◌, ◌≢◌, ℕ, List, ◌-◌, ◌<◌, ◌^◌, ◌++◌, length, take, drop, Option, unwrap_or, bit_xor, sym, ap, subst, ◌∙◌, arith}
-use Rattle.std.proofs.lemmas.Bool.{eqb-false}
+use Rattle.std.proofs.Common.{◌≡◌, ℕ, List, ◌-◌, ◌<◌, ◌^◌, ◌++◌, length, take, drop, Option, unwrap_or, bit_xor, sym, ap, subst, ◌∙◌, arith}
 use Rattle.raft_log_base.specs.Number.{u32_le_bytes}
 use Rattle.raft_log_records.specs.declared.log_batch.BatchState.{BatchState}
 use Rattle.raft_log_records.specs.declared.log_batch.BatchState.TheVariants.{Signed}
 use Rattle.raft_log_records.specs.Batch.{Batch, IsMade}
+use Rattle.raft_log_records.proofs.Items.{some_items}
 use Rattle.raft_log_records.proofs.Buffer.{signed_populates}
 use Rattle.raft_log_records.proofs.log_batch.LogBatch.prepare_write.Goals as goal
 
@@ -11,8 +11,7 @@ pub invariant_of-self-2 : goal.invariant_of-self-2
 invariant_of-self-2 c =
     let buffer : List ℕ = c.self.inside.buf.items in
     let next : Option ℕ = c.get_signature-signature.result in
-    let none : c.self.inside.items.len ≢ 0 = eqb-false _ _ (sym c.is_empty.ensures ∙ c.if-is_empty.false) in
-    let some : 0 < length c.self.inside.items.items = omega (arith, none, c.self.inside.items.ok.0) in
+    let some : 0 < length c.self.inside.items.items = some_items c.is_empty.result c.self.inside.items.items c.is_empty.ensures c.if-is_empty.false in
     let made : IsMade c.self.inside.state = subst (λ (s : BatchState). IsMade s) (sym (ap (λ (b : Batch). b.state) c.self.view_is)) c.requires in
     let new : c.write_checksum.new.bytes ≡ take (length buffer - 4) buffer ++ u32_le_bytes (bit_xor c.self.inside.checksum (unwrap_or next 0)) =
     c.write_checksum.ensures ∙ ap (λ (l : List ℕ). take (length l - 4) l ++ u32_le_bytes (bit_xor c.self.inside.checksum c.unwrap_or.result)) c.as_mut_slice.ensures.value
@@ -27,8 +26,7 @@ pub returns : goal.returns
 returns c =
     let buffer : List ℕ = c.self.inside.buf.items in
     let next : Option ℕ = c.get_signature-signature.result in
-    let none : c.self.inside.items.len ≢ 0 = eqb-false _ _ (sym c.is_empty.ensures ∙ c.if-is_empty.false) in
-    let some : 0 < length c.self.inside.items.items = omega (arith, none, c.self.inside.items.ok.0) in
+    let some : 0 < length c.self.inside.items.items = some_items c.is_empty.result c.self.inside.items.items c.is_empty.ensures c.if-is_empty.false in
     let made : IsMade c.self.inside.state = subst (λ (s : BatchState). IsMade s) (sym (ap (λ (b : Batch). b.state) c.self.view_is)) c.requires in
     let new : c.write_checksum.new.bytes ≡ take (length buffer - 4) buffer ++ u32_le_bytes (bit_xor c.self.inside.checksum (unwrap_or next 0)) =
     c.write_checksum.ensures ∙ ap (λ (l : List ℕ). take (length l - 4) l ++ u32_le_bytes (bit_xor c.self.inside.checksum c.unwrap_or.result)) c.as_mut_slice.ensures.value
@@ -37,6 +35,6 @@ returns c =
     let kept : length c.write_checksum.new.bytes ≡ c.self.inside.buf.len = c.write_checksum.auto.bytes ∙ c.as_mut_slice.ensures.len in
     let all = signed_populates c.self.inside.entries_len next buffer c.write_checksum.new.bytes (drop (length c.write_checksum.new.bytes) buffer) c.self.inside.buf.len c.self.inside.checksum c.self.inside.state c.self.inside.items.items
     fits made some c.self.invariant.room c.self.invariant.holds new kept in
-    ap (λ (e : List ℕ). record { state = Signed next; items = c.self.inside.items.items; entries = e }) all.same
+    ap (λ (e : List ℕ). record { state = Signed next; items = c.self.inside.items.items; entries = e; capacity = c.self.inside.items.capacity }) all.same
     ∙ ap (λ (b : Batch). record b { state = Signed next }) c.self.view_is
-    ∙ ap (λ (s : Option ℕ). record { state = Signed s; items = c.args.self.now.items; entries = c.args.self.now.entries }) c.get_signature-signature.ensures
+    ∙ ap (λ (s : Option ℕ). record { state = Signed s; items = c.args.self.now.items; entries = c.args.self.now.entries; capacity = c.args.self.now.capacity }) c.get_signature-signature.ensures

@@ -1,0 +1,18 @@
+use Rattle.std.proofs.Common.{◌≡◌, ◌<◌, ℕ, List, length, take, drop, sym, ap, subst, ◌∙◌}
+use Rattle.raft_log_frames.specs.Written.{AreBytes}
+use Rattle.raft_log_records.specs.declared.log_batch.BatchState.{BatchState}
+use Rattle.raft_log_records.specs.Batch.{Batch, IsMade, IsReadyForEach}
+use Rattle.raft_log_records.proofs.Items.{some_items}
+use Rattle.raft_log_records.proofs.Encoded.{batch_ready}
+use Rattle.raft_log_records.proofs.log_batch.LogBatch.encoded_len.Goals as goal
+
+pub returns : goal.returns
+returns c =
+    let buffer : List ℕ = c.self.inside.buf.items in
+    let some : 0 < length c.self.inside.items.items = some_items c.is_empty.result c.self.inside.items.items c.is_empty.ensures c.if-is_empty.false in
+    let made : IsMade c.self.inside.state = subst (λ (s : BatchState). IsMade s) (sym (ap (λ (b : Batch). b.state) c.self.view_is)) c.requires in
+    let all : AreBytes buffer = subst (λ (l : List ℕ). AreBytes l) c.as_slice.ensures.value c.are_bytes.ensures in
+    let len : c.len.result ≡ length buffer = c.len.ensures ∙ c.self.inside.buf.ok.0 in
+    subst (λ (b : Batch). IsReadyForEach c.len.result b.items b.entries) c.self.view_is
+    (subst (λ (n : ℕ). IsReadyForEach n c.self.inside.items.items (take c.self.inside.entries_len (drop 16 buffer))) (sym len)
+    (batch_ready c.self.inside.state buffer c.self.inside.entries_len c.self.inside.checksum c.self.inside.items.items made some c.self.invariant all))

@@ -1,0 +1,92 @@
+-- Lists of items: what callers see of one, about how many bytes it has, its entries, and what a footer says with its places.
+use Rattle.std.specs.Prelude.{◌≡◌, ℕ, ◌+◌, ◌*◌, ◌≤◌, List, [], ◌++◌, length, flat_map, sum_by, Option, Result, Ok, Err, MatchResult}
+use Rattle.raft_log_base.specs.Grammar.{◌>>=◌}
+use Rattle.raft_log_base.specs.declared.errors.Error.{Error}
+use Rattle.raft_log_base.specs.declared.errors.Error.TheVariants as errors
+use Rattle.raft_log_base.specs.declared.pipe_log.FileBlockHandle.{FileBlockHandle}
+use Rattle.raft_log_items.specs.declared.entry.EntryIndex.{EntryIndex}
+use Rattle.raft_log_items.specs.declared.item.LogItemContent.{LogItemContent}
+use Rattle.raft_log_items.specs.declared.item.LogItemContent.TheVariants as contents
+use Rattle.raft_log_items.specs.declared.command.Command.{Command}
+use Rattle.raft_log_items.specs.declared.item.LogItem.{LogItem}
+use Rattle.raft_log_base.specs.Fault.{Fault, Fails}
+use Rattle.raft_log_items.specs.Placed.{placed}
+use Rattle.raft_log_items.specs.Writing.{value_of}
+use Rattle.raft_log_frames.specs.Record.{IsFooter, IsFooterOf, AddsUp, footer_of}
+
+-- the items, and how many there is room for before memory is asked for
+pub record ItemBatch : Type 0 where
+  pub items : List LogItem
+  pub capacity : ℕ
+
+-- no items, and room for so many
+abbrev pub no_items : ℕ → ItemBatch
+no_items capacity = record { items = []; capacity = capacity }
+
+-- these items were added, and there is no less room
+abbrev pub AddsItems : ItemBatch → ItemBatch → List LogItem → Type 0
+AddsItems old new items = (new.items ≡ old.items ++ items) × (old.capacity ≤ new.capacity)
+
+-- so many items more need no memory
+abbrev pub HasRoom : ItemBatch → ℕ → Type 0
+HasRoom b count = length b.items + count ≤ b.capacity
+
+-- the items of the other batch were added, and it is empty now
+abbrev pub TakesItems : ItemBatch → ItemBatch → ItemBatch → ItemBatch → Type 0
+TakesItems old new other emptied = AddsItems old new other.items × (emptied ≡ no_items other.capacity)
+
+-- the item of these entries of a group
+abbrev pub run_item : ℕ → List EntryIndex → LogItem
+run_item group entries = record { raft_group_id = group; content = contents.EntryIndexes entries }
+
+-- the item of a command of a group
+abbrev pub command_item : ℕ → Command → LogItem
+command_item group command = record { raft_group_id = group; content = contents.Command command }
+
+-- about how many bytes a content has: each number is counted as eight
+abbrev pub content_size : LogItemContent → ℕ
+content_size (contents.EntryIndexes es) = 16 + 8 * length es
+content_size (contents.Command c) = 8
+content_size (contents.Kv kv) = 16 + length kv.key + length (value_of kv)
+
+-- about how many bytes an item has
+abbrev pub item_size : LogItem → ℕ
+item_size x = 8 + content_size x.content
+
+-- about how many bytes these items have
+abbrev pub items_size : List LogItem → ℕ
+items_size xs = sum_by item_size xs
+
+-- the entries of a content
+abbrev pub content_entries : LogItemContent → List EntryIndex
+content_entries (contents.EntryIndexes es) = es
+content_entries (contents.Command c) = []
+content_entries (contents.Kv kv) = []
+
+-- the entries of these items, one after another
+abbrev pub all_entries : List LogItem → List EntryIndex
+all_entries xs = flat_map (λ x. content_entries x.content) xs
+
+-- the bytes are a footer that is signed with this, its entries fill the block at this place, and these are its items
+-- with their places
+pub record IsPlacedFooter (signature : Option ℕ) (handle : FileBlockHandle) (bytes : List ℕ) (batch : List LogItem)
+    : Type 0 where
+  pub items : List LogItem
+  pub footer : IsFooter signature bytes items
+  pub adds_up : AddsUp items handle.len
+  pub places : batch ≡ placed handle items
+
+-- what a whole footer says, whose entries lie in the block at this place
+unfoldable pub batch_of : Option ℕ → FileBlockHandle → List ℕ → Result (List LogItem) Fault
+batch_of signature handle bytes = footer_of signature handle.len bytes >>= λ items. Ok (placed handle items)
+
+-- where the bytes are such a footer of some items, these with their places are answered, or memory ran out
+abbrev pub OnlyPlaced : Result ItemBatch Error → Option ℕ → FileBlockHandle → List ℕ → Type 0
+OnlyPlaced result signature handle bytes =
+    (items : List LogItem) → IsFooterOf signature handle.len bytes items
+    → MatchResult result (λ batch. batch.items ≡ placed handle items) (λ e. e ≡ errors.Memory)
+
+-- what was answered is what the footer says, unless memory ran out
+abbrev pub GivesPlaced : Result ItemBatch Error → Result (List LogItem) Fault → Type 0
+GivesPlaced (Ok batch) reading = reading ≡ Ok batch.items
+GivesPlaced (Err e) reading = Fails e reading

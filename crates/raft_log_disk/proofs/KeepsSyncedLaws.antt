@@ -1,5 +1,5 @@
 -- How a file keeps its chain of records through calls, and what follows for what a stop leaves.
-use Rattle.std.specs.List.{All}
+use Rattle.std.specs.List.{All, Contains}
 use Rattle.std.proofs.Common.{Option, Some, ◌≡◌, ◌⊎◌, ℕ, ◌+◌, ◌-◌, ◌<◌, ◌≤◌, List, [], ◌∷◌, ◌++◌, length, take, drop, get_or, refl, sym, ◌∙◌, ap, subst, inl, inr, arith, length-append, length-drop}
 use Rattle.std.proofs.Math.Seq.{take-nil, drop-nil}
 use Rattle.std.proofs.lemmas.List.{append-nil, append_assoc, drop-drop, drop-take, drop_at, ext_get_or, get_or-drop, get_or-take, length-take-le, nil_from_length, take-append-drop, take-take, take_at}
@@ -277,6 +277,25 @@ module _ {R : Type 0} (IsFrame : List ℕ → R → Type 0) (start : ℕ) where
   pub holds_used_again : (bytes : List ℕ) → HoldsChain IsFrame start bytes [] [] (at_rest bytes)
   holds_used_again bytes = at_rest_holds bytes [] bytes (record { rest = drop start bytes; splits = refl; frames = tt }) (λ at w meets. inl (met_stands IsFrame start at w bytes meets))
 
+  -- a file in which no record stands, synced or not
+  pub holds_prefilled : (stale : List ℕ) (file : File) → HoldsNoFrame IsFrame file.synced → ((at : ℕ) (bytes : List ℕ) → Contains file.changes (Wrote at bytes) → HoldsNoFrame IsFrame bytes)
+      → HoldsChain IsFrame start stale [] [] file
+  holds_prefilled stale file blank writes = record {
+    frames = tt;
+    synced = record { rest = drop start file.synced; splits = refl; frames = tt };
+    others = λ at w meets.
+        (let front = take start file.synced in
+        let before = spelled meets.before in
+        let rest = meets.begins.rest in
+        let tail : drop start file.synced ≡ before ++ (w.bytes ++ rest) =
+        meets.begins.splits ∙ ap (λ (b : List ℕ). b ++ rest) (spelled-append meets.before (w ∷ []) ∙ ap (λ (b : List ℕ). before ++ b) (append-nil w.bytes)) ∙ append_assoc before w.bytes rest in
+        let whole : file.synced ≡ (front ++ before) ++ (w.bytes ++ rest) =
+        sym (take-append-drop start file.synced) ∙ ap (λ (b : List ℕ). front ++ b) tail ∙ sym (append_assoc front before (w.bytes ++ rest)) in
+        absurd (blank (front ++ before) w.bytes rest w.value whole (frames_back IsFrame meets.before (w ∷ []) meets.begins.frames).0));
+    spared = λ place from less. absurd (omega (arith, from, less));
+    handed = λ at bytes is. inr (inr (writes at bytes is));
+  }
+
   module _ (free : IsSelfDelimiting IsFrame) where
     -- a file at rest holds what is read of it, after a sync or a restart
     pub holds_read : (stale : List ℕ) (ws : List (Written R)) (bytes : List ℕ) → Reads IsFrame start ws bytes → HoldsChain IsFrame start stale ws [] (at_rest bytes)
@@ -328,4 +347,4 @@ module _ {R : Type 0} (IsFrame : List ℕ → R → Type 0) where
   }
 
   pub chain_at_rest : IsSelfDelimiting IsFrame → (start : ℕ) → ChainAtRest IsFrame start
-  chain_at_rest free start = record { used_again = holds_used_again IsFrame start; read = holds_read IsFrame start free; synced = holds_synced IsFrame start free }
+  chain_at_rest free start = record { used_again = holds_used_again IsFrame start; read = holds_read IsFrame start free; synced = holds_synced IsFrame start free; prefilled = holds_prefilled IsFrame start }

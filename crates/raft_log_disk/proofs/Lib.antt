@@ -12,3 +12,4 @@ pub mod NamesLaws
 pub mod ChainContentLaws
 pub mod TouchingLaws
 pub mod ShorteningLaws
+pub mod LogQueueLaws

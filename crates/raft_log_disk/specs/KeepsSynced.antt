@@ -112,13 +112,17 @@ ChainGoesOn {R} IsFrame = (start : ℕ) (stale : List ℕ) (durable pending : Li
 
 -- How a chain begins, and what holds of a file at rest. One that is used again holds the empty chain, whatever stands in it,
 -- and so does a new one. What is read of a file at rest is held, all durable, with any stale bytes: this is a restart. A
--- chain that was written over stale bytes, and synced, is held, and these may stand behind it.
+-- chain that was written over stale bytes, and synced, is held, and these may stand behind it. So is the empty chain in a
+-- file in which no record stands, synced or not: one that was filled with zeros ahead of its use.
 pub record ChainAtRest {R : Type 0} (IsFrame : List ℕ → R → Type 0) (start : ℕ) : Type 0 where
   pub used_again : (bytes : List ℕ) → HoldsChain IsFrame start bytes [] [] (at_rest bytes)
   pub read : (stale : List ℕ) (ws : List (Written R)) (bytes : List ℕ) → Reads IsFrame start ws bytes
       → HoldsChain IsFrame start stale ws [] (at_rest bytes)
   pub synced : (stale : List ℕ) (ws : List (Written R)) (bytes : List ℕ) → BeginsWith IsFrame start ws bytes
       → StandsBehind (start + length (spelled ws)) stale bytes → HoldsChain IsFrame start stale ws [] (at_rest bytes)
+  pub prefilled : (stale : List ℕ) (file : File) → HoldsNoFrame IsFrame file.synced
+      → ((at : ℕ) (bytes : List ℕ) → Contains file.changes (Wrote at bytes) → HoldsNoFrame IsFrame bytes)
+      → HoldsChain IsFrame start stale [] [] file
 
 -- What a write makes of a content that begins with a chain, whatever an earlier use of the file left behind it: a record
 -- written at the chain's end is the next one.

@@ -12,3 +12,5 @@ pub mod Reading
 pub mod Exits
 pub mod Touching
 pub mod Shortening
+pub mod LogFormat
+pub mod LogQueue

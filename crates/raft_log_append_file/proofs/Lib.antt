@@ -3,4 +3,3 @@ pub mod Causes
 pub mod KeepingLaws
 pub mod OpenLaws
 pub mod RecordsLaws
-pub mod OthersLaws

@@ -3,29 +3,39 @@ use Rattle.std.proofs.Common.{◌≡◌, ℕ, ◌+◌, ◌-◌, ◌^◌, ◌<◌
 use Rattle.std.specs.Result.{OnOk, IfErr}
 use Rattle.std.proofs.lemmas.List.{append-nil, append_assoc, take_all, take_at, take-append-le, length-take-le, get_or-take, ext_get_or, take-append-drop}
 use Rattle.std.proofs.lemmas.List.Elements.{All-weaker}
+use Rattle.std.specs.declared.io.ErrorKind.{ErrorKind}
 use Rattle.raft_log_disk.specs.Disk.{file_limit, Change, Wrote, File, Disk, with_file, at_rest, overwritten}
 use Rattle.raft_log_disk.specs.Image.{IsSound, IsSoundFile, end_of, IsLeft}
-use Rattle.raft_log_disk.specs.Calls.{IsRight, with_change, after_change, flushed, Changes, IsTorn}
+use Rattle.raft_log_disk.specs.Calls.{IsRight, with_change, after_change, flushed, Changes, RefusedChange, RefusedWhole, IsTorn}
 use Rattle.raft_log_disk.specs.Chains.{Written, spelled, AreFrames, Reads}
-use Rattle.raft_log_disk.specs.KeepsSynced.{NoChanceMatch, HoldsChain, kept_records}
+use Rattle.raft_log_disk.specs.KeepsSynced.{NoChanceMatch, HoldsChain, HoldsAtLeast, kept_records}
 use Rattle.raft_log_disk.proofs.ImageLaws.{left_at_rest}
 use Rattle.raft_log_disk.proofs.ChangeLaws.{overwritten_at_end}
 use Rattle.raft_log_disk.proofs.Updates.{file_here}
-use Rattle.raft_log_disk.proofs.KeptLaws.{IsCalm}
-use Rattle.raft_log_disk.proofs.ChainLaws.{spelled-append, frames_front, nothing_refuses, reads_some}
-use Rattle.raft_log_disk.proofs.KeepsSyncedLaws.{left_of_image, take_over, keeps_synced, at_least_keeps, durable_is_read, holds_written, holds_more, holds_at_rest, holds_at_least}
+use Rattle.raft_log_disk.proofs.KeptLaws.{kept_change}
+use Rattle.raft_log_disk.proofs.ChainLaws.{spelled-append, frames_front, reads_some}
+use Rattle.raft_log_disk.proofs.KeepsSyncedLaws.{left_of_image, take_over, keeps_synced, at_least_keeps, durable_is_read, holds_written, holds_more, holds_read, holds_at_least}
+use Rattle.raft_log_disk.specs.Shortening.{CanShorten}
+use Rattle.raft_log_disk.proofs.TouchingLaws.{same_file, has_calm, has_synced}
+use Rattle.raft_log_disk.proofs.ShorteningLaws.{reads_whole, settled_at_least, at_least_fewer}
 use Rattle.raft_log_disk.proofs.CrashExampleLaws.{synced_file_has_no_chance}
 use Rattle.raft_log_disk.specs.declared.handle.Handle.{Handle}
 use Rattle.raft_log_disk.specs.declared.handle.Permission.TheVariants.{ReadWrite}
 use Rattle.raft_log_disk.specs.Arguments.{WrongHandle, WrongWriter}
 use Rattle.raft_log_append_file.specs.Frame.{IsFrame, Records, framed}
-use Rattle.raft_log_append_file.specs.Keeping.{IsKept, CanCut, CanCutRead, KeepsDurable, NoChanceNow, KeepsRecords, KeptKeeps, KeptThroughRestart}
+use Rattle.raft_log_append_file.specs.Keeping.{IsKept, CanShortenTo, CanShortenToRead, KeepsDurable, NoChanceNow, KeepsRecords, KeptKeeps, KeptThroughRestart}
 use Rattle.raft_log_append_file.specs.AppendFile.{IsOpen, AppendRefused}
 use Rattle.raft_log_append_file.specs.declared.append_file.AppendFile.{AppendFile}
 use Rattle.raft_log_append_file.specs.declared.error.AppendError.{AppendError}
 use Rattle.raft_log_append_file.specs.declared.error.AppendError.TheVariants.{Memory, TooLong, Failed, FileSystem}
 use Rattle.raft_log_append_file.proofs.Frames.{prefix_free, can_tell}
-use Rattle.raft_log_append_file.proofs.KeepingLaws.{same_file, settled_at_least}
+
+-- a sum with no start
+from_zero : (n m : ℕ) → n ≡ m → n ≡ 0 + m
+from_zero n m e = omega (arith, e)
+
+to_zero : (n m : ℕ) → n ≡ 0 + m → n ≡ m
+to_zero n m e = omega (arith, e)
 
 pub kept_keeps : KeptKeeps
 kept_keeps id durable pending d kept image after is there chance =
@@ -33,7 +43,7 @@ kept_keeps id durable pending d kept image after is there chance =
     let left = left_of_image d image id file after is kept.is there in
     let left_now = subst (IsLeft file) (sym (ap (λ (f : File). f.content) left.1)) left.2 in
     let reads = reads_some IsFrame prefix_free can_tell 0 after.content in
-    let keeps = at_least_keeps IsFrame 0 (length file.synced) durable pending file prefix_free kept.holds after.content left_now (chance file kept.is) reads.0 reads.1 in
+    let keeps = at_least_keeps IsFrame 0 [] durable pending file prefix_free kept.has after.content left_now (chance file kept.is) reads.0 reads.1 in
     (keeps.0, keeps.1, subst (λ (ws : Records). Reads IsFrame 0 ws after.content) keeps.2 reads.1)
 
 -- a file at rest that reads as these records is kept with them
@@ -41,15 +51,14 @@ rest_kept : (id : ℕ) (ws : Records) (d : Disk) (bytes : List ℕ) → d.files 
 rest_kept id ws d bytes is reads = record {
   file = at_rest bytes;
   is = is;
-  holds = holds_at_least IsFrame 0 (length bytes) ws [] (at_rest bytes)
-      (holds_at_rest IsFrame 0 (length bytes) ws bytes (subst (Reads IsFrame 0 ws) (sym (take_all (length bytes) bytes (omega arith))) reads));
+  has = holds_at_least IsFrame 0 [] ws [] (at_rest bytes) (holds_read IsFrame 0 prefix_free [] ws bytes reads);
 }
 
 -- and no checksum in it is met by chance
 rest_no_chance : (id : ℕ) (d : Disk) (bytes : List ℕ) → d.files id ≡ Some (at_rest bytes) → NoChanceNow id d
 rest_no_chance id d bytes is file there =
     let same = same_file d id (at_rest bytes) file is there in
-    subst (λ (f : File). NoChanceMatch IsFrame 0 (length f.synced) f f.content) same (synced_file_has_no_chance IsFrame 0 (at_rest bytes) bytes refl (left_at_rest bytes))
+    subst (λ (f : File). NoChanceMatch IsFrame 0 [] f f.content) same (synced_file_has_no_chance IsFrame prefix_free 0 (at_rest bytes) bytes refl (left_at_rest bytes))
 
 pub kept_through_restart : KeptThroughRestart
 kept_through_restart id durable pending d image after kept is there chance =
@@ -62,22 +71,11 @@ kept_through_restart id durable pending d image after kept is there chance =
 
 -- an open file is kept
 pub open_kept : (log : AppendFile) (durable pending : Records) (d : Disk) → IsOpen log durable pending d → IsKept log.handle.file durable pending d
-open_kept log durable pending d opened = record { file = opened.file; is = opened.is; holds = holds_at_least IsFrame 0 (length opened.file.synced) durable pending opened.file opened.holds }
+open_kept log durable pending d opened = record { file = opened.file; is = opened.is; has = holds_at_least IsFrame 0 [] durable pending opened.file opened.holds }
 
 -- more may be counted on than is durable
 pub kept_fewer : (id : ℕ) (durable more rest : Records) (d : Disk) → IsKept id (durable ++ more) rest d → IsKept id durable (more ++ rest) d
-kept_fewer id durable more rest d kept =
-    let least = kept.holds in
-    record {
-      file = kept.file;
-      is = kept.is;
-      holds = record {
-        more = more ++ least.more;
-        rest = least.rest;
-        splits = ap (λ (vs : Records). more ++ vs) least.splits ∙ sym (append_assoc more least.more least.rest);
-        holds = subst (λ (vs : Records). HoldsChain IsFrame 0 (length kept.file.synced) vs least.rest kept.file) (append_assoc durable more least.more) least.holds;
-      };
-    }
+kept_fewer id durable more rest d kept = record { file = kept.file; is = kept.is; has = at_least_fewer IsFrame 0 [] durable more rest kept.file kept.has }
 
 -- what is kept is kept where more may follow
 pub keeps_longer : (id : ℕ) (durable pending more : Records) (d : Disk) → KeepsRecords id durable pending d → KeepsRecords id durable (pending ++ more) d
@@ -107,12 +105,12 @@ open_appended log next durable pending bytes frame old new opened is_frame handl
     let now : new.files next.handle.file ≡ Some next_file =
     ap (λ (h : Handle). new.files h.file) handle ∙ ap (λ (d : Disk). d.files log.handle.file) changes.done ∙ file_here old.files log.handle.file (Some (after_change (Wrote log.written frame) changes.file))
     ∙ ap (λ (f : File). Some (after_change (Wrote log.written frame) f)) same in
-    let holds = holds_written IsFrame 0 (length file.synced) durable pending w (overwritten log.written frame file.content) file (is_frame.0, refl) opened.holds in
+    let holds = holds_written IsFrame 0 [] durable pending w (overwritten log.written frame file.content) file (is_frame.0, refl) opened.holds in
     record {
       file = next_file;
       is = now;
       permitted = ap (λ (h : Handle). h.permission) handle ∙ opened.permitted;
-      holds = subst (λ (p : Change). HoldsChain IsFrame 0 (length file.synced) durable (pending ++ w ∷ []) (with_change p (overwritten log.written frame file.content) file)) (sym change) holds;
+      holds = subst (λ (p : Change). HoldsChain IsFrame 0 [] durable (pending ++ w ∷ []) (with_change p (overwritten log.written frame file.content) file)) (sym change) holds;
       content = content ∙ sym total;
       written = written ∙ omega (arith, opened.written, ap length total, length-append (spelled all) frame);
       runs = runs;
@@ -133,7 +131,7 @@ torn_front at bytes old new torn long =
 -- after a refused write the file can be cut back
 pub torn_can_cut : (log : AppendFile) (durable pending : Records) (bytes frame : List ℕ) (d : Disk) (file : File) (content : List ℕ) → IsOpen log durable pending d → IsFrame frame bytes
     → d.files log.handle.file ≡ Some file → IsTorn log.written frame file.content content
-    → CanCut log.handle.file log.written (length pending) durable (pending ++ framed bytes ∷ []) (with_file log.handle.file (Some (with_change (Wrote log.written frame) content file)) d)
+    → CanShortenTo log.handle.file log.written (length pending) durable (pending ++ framed bytes ∷ []) (with_file log.handle.file (Some (with_change (Wrote log.written frame) content file)) d)
 torn_can_cut log durable pending bytes frame d file content opened is_frame is torn =
     let w = framed bytes in
     let all = durable ++ pending in
@@ -143,21 +141,23 @@ torn_can_cut log durable pending bytes frame d file content opened is_frame is t
     let change : Wrote log.written frame ≡ Wrote (0 + length (spelled all)) w.bytes = λ i. Wrote (at i) (is_bytes i) in
     let was : file.content ≡ spelled all = ap (λ (f : File). f.content) (sym same) ∙ opened.content in
     let front = front_records durable pending w in
-    let before = subst (λ (f : File). HoldsChain IsFrame 0 (length f.synced) durable pending f) same opened.holds in
-    let holds = holds_written IsFrame 0 (length file.synced) durable pending w content file (is_frame.0, refl) before in
+    let before = subst (λ (f : File). HoldsChain IsFrame 0 [] durable pending f) same opened.holds in
+    let holds = holds_written IsFrame 0 [] durable pending w content file (is_frame.0, refl) before in
     let torn_file = with_change (Wrote log.written frame) content file in
     record {
       file = torn_file;
       is = file_here d.files log.handle.file (Some torn_file);
-      holds = subst (λ (p : Change). HoldsChain IsFrame 0 (length file.synced) durable (pending ++ w ∷ []) (with_change p content file)) (sym change) holds;
-      within = omega (arith, length-append pending (w ∷ []));
-      front = torn_front log.written frame file.content content torn (ap length was ∙ sym opened.written) ∙ was ∙ ap spelled (sym front);
-      end = opened.written ∙ ap (λ (vs : Records). length (spelled vs)) (sym front);
+      has = record {
+        holds = subst (λ (p : Change). HoldsChain IsFrame 0 [] durable (pending ++ w ∷ []) (with_change p content file)) (sym change) holds;
+        within = omega (arith, length-append pending (w ∷ []));
+        front = torn_front log.written frame file.content content torn (ap length was ∙ sym opened.written) ∙ was ∙ ap spelled (sym front);
+        end = from_zero _ _ (opened.written ∙ ap (λ (vs : Records). length (spelled vs)) (sym front));
+      };
     }
 
 -- also where nothing of it was written
 pub open_can_cut : (log : AppendFile) (durable pending : Records) (bytes frame : List ℕ) (d : Disk) → IsOpen log durable pending d → IsFrame frame bytes
-    → CanCut log.handle.file log.written (length pending) durable (pending ++ framed bytes ∷ []) d
+    → CanShortenTo log.handle.file log.written (length pending) durable (pending ++ framed bytes ∷ []) d
 open_can_cut log durable pending bytes frame d opened is_frame =
     let w = framed bytes in
     let all = durable ++ pending in
@@ -165,47 +165,56 @@ open_can_cut log durable pending bytes frame d opened is_frame =
     record {
       file = opened.file;
       is = opened.is;
-      holds = holds_more IsFrame 0 (length opened.file.synced) durable pending (w ∷ []) opened.file ((is_frame.0, refl), tt) opened.holds;
-      within = omega (arith, length-append pending (w ∷ []));
-      front = take_all log.written opened.file.content (omega (arith, opened.written, ap length opened.content)) ∙ opened.content ∙ ap spelled (sym front);
-      end = opened.written ∙ ap (λ (vs : Records). length (spelled vs)) (sym front);
+      has = record {
+        holds = holds_more IsFrame 0 [] durable pending (w ∷ []) opened.file ((is_frame.0, refl), tt) opened.holds;
+        within = omega (arith, length-append pending (w ∷ []));
+        front = take_all log.written opened.file.content (omega (arith, opened.written, ap length opened.content)) ∙ opened.content ∙ ap spelled (sym front);
+        end = from_zero _ _ (opened.written ∙ ap (λ (vs : Records). length (spelled vs)) (sym front));
+      };
     }
 
-pub cut_calm : (id size count : ℕ) (durable pending : Records) → IsCalm (CanCut id size count durable pending)
-cut_calm id size count durable pending = record {
-  at_count = λ d can. record { file = can.file; is = can.is; holds = can.holds; within = can.within; front = can.front; end = can.end };
-  at_end = λ d can. record { file = can.file; is = can.is; holds = can.holds; within = can.within; front = can.front; end = can.end };
-}
+-- so after a write of the next frame, answered or refused
+pub write_can_shorten : {T : Type 0} {new : Disk} (wrong : ErrorKind → Type 0) (result : Result T ErrorKind) (log : AppendFile) (durable pending : Records) (bytes frame : List ℕ) (old : Disk)
+    → IsOpen log durable pending old → IsFrame frame bytes → OnOk result (Changes log.handle.file (after_change (Wrote log.written frame)) old new)
+    → IfErr result (λ e. RefusedChange log.handle.file (Wrote log.written frame) wrong e old new)
+    → CanShortenTo log.handle.file log.written (length pending) durable (pending ++ framed bytes ∷ []) new
+write_can_shorten wrong result log durable pending bytes frame old opened is_frame ok err =
+    let id = log.handle.file in
+    let more = pending ++ framed bytes ∷ [] in
+    kept_change (CanShortenTo id log.written (length pending) durable more) wrong result id (Wrote log.written frame) (has_calm id (CanShorten IsFrame 0 [] log.written (length pending) durable more))
+    (open_can_cut log durable pending bytes frame old opened is_frame) (λ file content is part. torn_can_cut log durable pending bytes frame old file content opened is_frame is part) ok err
 
 -- a file that was cut, or synced, is open with all its records durable
 pub settled_open : (log : AppendFile) (ws : Records) (bytes : List ℕ) (d : Disk) → AreFrames IsFrame ws → bytes ≡ spelled ws → d.files log.handle.file ≡ Some (at_rest bytes)
     → log.handle.permission ≡ ReadWrite → log.written ≡ length (spelled ws) → log.failed ≡ false → IsOpen log ws [] d
 settled_open log ws bytes d frames is here permitted written runs =
     let none = append-nil ws in
-    let reads : Reads IsFrame 0 ws (take (length bytes) bytes) = record {
-      rest = [];
-      splits = take_all (length bytes) bytes (omega arith) ∙ is ∙ sym (append-nil (spelled ws));
-      frames = frames;
-      ends = nothing_refuses IsFrame prefix_free;
-    } in
+    let reads = reads_whole IsFrame 0 [] prefix_free ws bytes frames is in
     record {
       file = at_rest bytes;
       is = here;
       permitted = permitted;
-      holds = holds_at_rest IsFrame 0 (length bytes) ws bytes reads;
+      holds = holds_read IsFrame 0 prefix_free [] ws bytes reads;
       content = is ∙ ap spelled (sym none);
       written = written ∙ ap (λ (vs : Records). length (spelled vs)) (sym none);
       runs = runs;
     }
 
 -- a sync that is carried out, answered or not, keeps the file
-pub synced_kept : (log : AppendFile) (durable pending : Records) (d : Disk) (file : File) → IsOpen log durable pending d → d.files log.handle.file ≡ Some file
-    → IsKept log.handle.file durable pending (with_file log.handle.file (Some (flushed file)) d)
-synced_kept log durable pending d file opened is =
-    let same = same_file d log.handle.file opened.file file opened.is is in
+pub synced_kept : (durable pending : Records) (file : File) → HoldsChain IsFrame 0 [] durable pending file → file.content ≡ spelled (durable ++ pending)
+    → HoldsAtLeast IsFrame 0 [] durable pending (flushed file)
+synced_kept durable pending file holds content =
     let all : kept_records durable pending (length pending) ≡ durable ++ pending = ap (λ (vs : Records). durable ++ vs) (take_all (length pending) pending (omega arith)) in
-    let content : file.content ≡ spelled (kept_records durable pending (length pending)) = ap (λ (f : File). f.content) (sym same) ∙ opened.content ∙ ap spelled (sym all) in
-    record { file = flushed file; is = file_here d.files log.handle.file (Some (flushed file)); holds = settled_at_least durable pending (length pending) file.content opened.holds.frames content }
+    settled_at_least IsFrame 0 [] prefix_free durable pending (length pending) file.content holds.frames (content ∙ ap spelled (sym all))
+
+-- so a sync keeps an open file, answered or refused
+pub sync_keeps : {T : Type 0} {new : Disk} (wrong : ErrorKind → Type 0) (result : Result T ErrorKind) (log : AppendFile) (durable pending : Records) (old : Disk) → IsOpen log durable pending old
+    → OnOk result (Changes log.handle.file flushed old new) → IfErr result (λ e. RefusedWhole (Changes log.handle.file flushed old) wrong e old new) → IsKept log.handle.file durable pending new
+sync_keeps wrong result log durable pending old opened ok err =
+    let P : File → Type 0 = λ file. HoldsChain IsFrame 0 [] durable pending file × (file.content ≡ spelled (durable ++ pending)) in
+    has_synced P (HoldsAtLeast IsFrame 0 [] durable pending) wrong result log.handle.file
+    (record { file = opened.file; is = opened.is; has = (opened.holds, opened.content) })
+    (λ file is. holds_at_least IsFrame 0 [] durable pending file is.0) (λ file is. synced_kept durable pending file is.0 is.1) ok err
 
 -- what is appended, or refused, keeps the durable records
 pub refused_keeps : (error : AppendError) (bytes : List ℕ) (log : AppendFile) (durable pending : Records) (old new : Disk) → AppendRefused error bytes log durable pending old new
@@ -222,7 +231,7 @@ refused_keeps (FileSystem kind) bytes log durable pending old new (why, inl open
     let kept = kept_fewer id durable pending [] new (open_kept log (durable ++ pending) [] new opened) in
     let all = subst (λ (vs : Records). KeepsRecords id durable vs new) (append-nil pending) (kept_keeps id durable (pending ++ []) new kept) in
     keeps_longer id durable pending (framed bytes ∷ []) new all
-refused_keeps (FileSystem kind) bytes log durable pending old new (why, inr left) = kept_keeps log.handle.file durable (pending ++ framed bytes ∷ []) new left.1
+refused_keeps (FileSystem kind) bytes log durable pending old new (why, inr left) = kept_keeps log.handle.file durable (pending ++ framed bytes ∷ []) new left.2
 
 -- the arguments of an open file's calls are right
 pub right_writer : (log : AppendFile) (durable pending : Records) (d : Disk) → IsOpen log durable pending d → IsRight (WrongWriter log.handle d)
@@ -253,43 +262,40 @@ appended_keeps (Err error) bytes log next durable pending old new same ok err =
 -- what opening finds: of the records that the file was to keep these are read, and it can be cut behind them
 pub record FindsEnd (id end : ℕ) (durable pending ws : Records) (d : Disk) (kept : IsKept id durable pending d) : Type 0 where
   pub count : ℕ
-  pub can : CanCut id end count (durable ++ kept.holds.more) kept.holds.rest d
-  pub same : ws ≡ kept_records (durable ++ kept.holds.more) kept.holds.rest count
+  pub can : CanShortenTo id end count (durable ++ kept.has.more) kept.has.rest d
+  pub same : ws ≡ kept_records (durable ++ kept.has.more) kept.has.rest count
 
 pub finds_end : (id end : ℕ) (durable pending ws : Records) (bytes : List ℕ) (d : Disk) (kept : IsKept id durable pending d) → IsSound d → NoChanceNow id d → bytes ≡ kept.file.content
     → Reads IsFrame 0 ws bytes → end ≡ length (spelled ws) → FindsEnd id end durable pending ws d kept
 finds_end id end durable pending ws bytes d kept sound chance content reads_bytes ends =
     let file = kept.file in
-    let least = kept.holds in
+    let least = kept.has in
     let all = durable ++ least.more in
     let reads = subst (Reads IsFrame 0 ws) content reads_bytes in
     let stands = (sound.files id file kept.is).stands in
-    let keeps = keeps_synced IsFrame 0 (length file.synced) prefix_free all least.rest file least.holds file.content stands (chance file kept.is) ws reads in
+    let keeps = keeps_synced IsFrame 0 prefix_free [] all least.rest file least.holds file.content stands (chance file kept.is) ws reads in
     let front : take end file.content ≡ spelled ws = ap (λ (b : List ℕ). take end b) reads.splits ∙ take_at (spelled ws) reads.rest end (sym ends) in
     record {
       count = keeps.0;
       can = record {
         file = file;
         is = kept.is;
-        holds = least.holds;
-        within = keeps.1;
-        front = front ∙ ap spelled keeps.2;
-        end = ends ∙ ap (λ (vs : Records). length (spelled vs)) keeps.2;
+        has = record { holds = least.holds; within = keeps.1; front = front ∙ ap spelled keeps.2; end = from_zero _ _ (ends ∙ ap (λ (vs : Records). length (spelled vs)) keeps.2) };
       };
       same = keeps.2;
     }
 
 -- what is kept of these is kept of those that were to be kept
-pub found_kept : (id : ℕ) (durable pending : Records) (old new : Disk) (kept : IsKept id durable pending old) → IsKept id (durable ++ kept.holds.more) kept.holds.rest new → IsKept id durable pending new
+pub found_kept : (id : ℕ) (durable pending : Records) (old new : Disk) (kept : IsKept id durable pending old) → IsKept id (durable ++ kept.has.more) kept.has.rest new → IsKept id durable pending new
 found_kept id durable pending old new kept after =
-    subst (λ (vs : Records). IsKept id durable vs new) (sym kept.holds.splits) (kept_fewer id durable kept.holds.more kept.holds.rest new after)
+    subst (λ (vs : Records). IsKept id durable vs new) (sym kept.has.splits) (kept_fewer id durable kept.has.more kept.has.rest new after)
 
 -- after the cut and the sync the file is open, with the records that were read
 pub found_open : (log : AppendFile) (durable pending ws : Records) (old new : Disk) (kept : IsKept log.handle.file durable pending old) → (found : FindsEnd log.handle.file log.written durable pending ws old kept)
     → new.files log.handle.file ≡ Some (at_rest (take log.written kept.file.content)) → log.handle.permission ≡ ReadWrite → log.failed ≡ false
     → (count : ℕ) × (count ≤ length pending) × IsOpen log (kept_records durable pending count) [] new
 found_open log durable pending ws old new kept found now permitted runs =
-    let least = kept.holds in
+    let least = kept.has in
     let all = durable ++ least.more in
     let count = length least.more + found.count in
     let front : take count pending ≡ least.more ++ take found.count least.rest = ap (λ (vs : Records). take count vs) least.splits ∙ take_over least.more least.rest found.count in
@@ -297,40 +303,46 @@ found_open log durable pending ws old new kept found now permitted runs =
     let can = found.can in
     let same_one = same_file old log.handle.file can.file kept.file can.is kept.is in
     let bytes : take log.written kept.file.content ≡ spelled (kept_records durable pending count) =
-    ap (λ (f : File). take log.written f.content) (sym same_one) ∙ can.front ∙ ap spelled records in
+    ap (λ (f : File). take log.written f.content) (sym same_one) ∙ can.has.front ∙ ap spelled records in
     let parts : durable ++ pending ≡ kept_records durable pending count ++ drop count pending =
     ap (λ (vs : Records). durable ++ vs) (sym (take-append-drop count pending)) ∙ sym (append_assoc durable (take count pending) (drop count pending)) in
     let whole : all ++ least.rest ≡ durable ++ pending = append_assoc durable least.more least.rest ∙ ap (λ (vs : Records). durable ++ vs) (sym least.splits) in
     let frames = frames_front IsFrame (kept_records durable pending count) (drop count pending) (subst (AreFrames IsFrame) (whole ∙ parts) least.holds.frames) in
     let room = ap length least.splits in (
       count,
-      omega (arith, can.within, length-append least.more least.rest),
-      settled_open log (kept_records durable pending count) (take log.written kept.file.content) new frames bytes now permitted (can.end ∙ ap (λ (vs : Records). length (spelled vs)) records) runs,
+      omega (arith, can.has.within, length-append least.more least.rest),
+      settled_open log (kept_records durable pending count) (take log.written kept.file.content) new frames bytes now permitted (to_zero _ _ can.has.end ∙ ap (λ (vs : Records). length (spelled vs)) records) runs,
     )
 
 -- what opening finds, with no premise: of the records that are read the durable ones are the first, and the file can be cut
 -- behind them
 pub finds_durable : (id end : ℕ) (durable pending ws : Records) (bytes : List ℕ) (d : Disk) (kept : IsKept id durable pending d) → IsSound d → bytes ≡ kept.file.content
-    → Reads IsFrame 0 ws bytes → end ≡ length (spelled ws) → CanCutRead id end (durable ++ kept.holds.more) kept.holds.rest ws d
+    → Reads IsFrame 0 ws bytes → end ≡ length (spelled ws) → CanShortenToRead id end (durable ++ kept.has.more) kept.has.rest ws d
 finds_durable id end durable pending ws bytes d kept sound content reads_bytes ends =
     let file = kept.file in
-    let least = kept.holds in
+    let least = kept.has in
     let all = durable ++ least.more in
     let reads = subst (Reads IsFrame 0 ws) content reads_bytes in
     let stands = (sound.files id file kept.is).stands in
-    let whole = holds_at_least IsFrame 0 (length file.synced) all least.rest file least.holds in
-    let begins = durable_is_read IsFrame 0 (length file.synced) all least.rest file file.content prefix_free whole stands ws reads in
+    let whole = holds_at_least IsFrame 0 [] all least.rest file least.holds in
+    let begins = durable_is_read IsFrame 0 [] all least.rest file file.content prefix_free whole stands ws reads in
     record {
       file = file;
       is = kept.is;
-      holds = least.holds;
-      more = begins.0;
-      splits = begins.1;
-      frames = reads.frames;
-      front = ap (λ (b : List ℕ). take end b) reads.splits ∙ take_at (spelled ws) reads.rest end (sym ends);
-      end = ends;
+      has = record {
+        holds = least.holds;
+        more = begins.0;
+        splits = begins.1;
+        frames = reads.frames;
+        front = ap (λ (b : List ℕ). take end b) reads.splits ∙ take_at (spelled ws) reads.rest end (sym ends);
+        end = from_zero _ _ ends;
+      };
     }
 
 -- what is kept of all that is durable is kept of what was to be
-pub found_durable : (id : ℕ) (durable pending : Records) (old new : Disk) (kept : IsKept id durable pending old) → KeepsDurable id (durable ++ kept.holds.more) new → KeepsDurable id durable new
-found_durable id durable pending old new kept keeps = (kept.holds.more ++ keeps.0, kept_fewer id durable kept.holds.more keeps.0 new keeps.1)
+pub found_durable : (id : ℕ) (durable pending : Records) (old new : Disk) (kept : IsKept id durable pending old) → KeepsDurable id (durable ++ kept.has.more) new → KeepsDurable id durable new
+found_durable id durable pending old new kept keeps = record {
+  file = keeps.file;
+  is = keeps.is;
+  has = (kept.has.more ++ keeps.has.0, at_least_fewer IsFrame 0 [] durable kept.has.more keeps.has.0 keeps.file keeps.has.1);
+}

@@ -9,7 +9,7 @@ use Rattle.raft_log_disk.specs.KeepsSynced.{kept_records}
 use Rattle.raft_log_disk.proofs.ChainLaws.{nothing_refuses, reads_unique}
 use Rattle.raft_log_disk.proofs.KeepsSyncedLaws.{left_of_image, durable_is_read}
 use Rattle.raft_log_append_file.specs.Frame.{IsFrame, Records, values}
-use Rattle.raft_log_append_file.specs.Keeping.{IsKept, NoChanceNow, NoChanceLeft, AreKept, BeginWithDurable}
+use Rattle.raft_log_append_file.specs.Keeping.{IsKept, NoChanceNow, NoChanceLeft, AreReadBack, BeginWithDurable}
 use Rattle.raft_log_append_file.specs.AppendFile.{IsOpen}
 use Rattle.raft_log_append_file.specs.declared.append_file.AppendFile.{AppendFile}
 use Rattle.raft_log_append_file.proofs.Frames.{prefix_free}
@@ -35,7 +35,7 @@ kept_values durable pending count =
     map-append says durable (take count pending) ∙ ap (λ (vs : List (List ℕ)). values durable ++ vs) (sym (take-map says count pending))
 
 -- records that are kept of the kept ones are kept
-pub kept_of_kept : (durable pending : Records) (count : ℕ) (found : List (List ℕ)) → count ≤ length pending → AreKept (kept_records durable pending count) [] found → AreKept durable pending found
+pub kept_of_kept : (durable pending : Records) (count : ℕ) (found : List (List ℕ)) → count ≤ length pending → AreReadBack (kept_records durable pending count) [] found → AreReadBack durable pending found
 kept_of_kept durable pending count found within (more, few, same) =
     let ws = values (kept_records durable pending count) in
     (count, within, same ∙ ap (λ (vs : List (List ℕ)). ws ++ vs) (take-nil more) ∙ append-nil ws ∙ kept_values durable pending count)
@@ -50,7 +50,7 @@ image_there d image id file is here = there (image.files id) (subst (λ (o : Opt
 
 -- what is kept in place, of what a stop left, is kept of what stood before
 pub kept_after_stop : (id : ℕ) (durable pending : Records) (before image : Disk) (found : List (List ℕ)) → IsKept id durable pending before → IsImage before image → NoChanceLeft id before image
-    → ((front : Records) → IsKept id front [] image → NoChanceNow id image → AreKept front [] found) → AreKept durable pending found
+    → ((front : Records) → IsKept id front [] image → NoChanceNow id image → AreReadBack front [] found) → AreReadBack durable pending found
 kept_after_stop id durable pending before image found kept is chance in_place =
     let (after, there) = image_there before image id kept.file is kept.is in
     let (count, within, again, quiet) = kept_through_restart id durable pending before image after kept is there (chance after there) in
@@ -64,5 +64,5 @@ durable_first id durable pending before image found kept is reading =
     let (bytes, same, left) = left_of_image before image id kept.file after is kept.is there in
     let (ws, reads, says) = reading after there in
     let stands = subst (IsLeft kept.file) (sym (ap (λ (f : File). f.content) same)) left in
-    let (more, splits) = durable_is_read IsFrame 0 (length kept.file.synced) durable pending kept.file after.content prefix_free kept.holds stands ws reads in
+    let (more, splits) = durable_is_read IsFrame 0 [] durable pending kept.file after.content prefix_free kept.has stands ws reads in
     (values more, says ∙ ap (λ (vs : Records). values vs) splits ∙ map-append (λ (w : Written (List ℕ)). w.value) durable more)

@@ -1,10 +1,14 @@
+//! Opening, appending and syncing.
+
 ghost use Rattle.std.specs.Prelude.{◌≡◌, ℕ, ◌+◌, ◌<◌, ◌≤◌, ◌^◌, ◌⊎◌, Some, None, false, List, [], ◌∷◌, ◌++◌, length, take, map, vec_items, IsTrue, IfOk, IfErr, OnOk, OnErr};
 ghost use Rattle.raft_log_disk.specs.Disk.{Disk, File};
 ghost use Rattle.raft_log_disk.specs.Image.{IsImage};
+ghost use Rattle.raft_log_disk.specs.Causes.{IsLater};
+ghost use Rattle.raft_log_disk.specs.Touching.{TouchesOnly};
 ghost use Rattle.raft_log_disk.specs.Chains.{Reads};
 ghost use Rattle.raft_log_disk.specs.KeepsSynced.{kept_records};
 ghost use Rattle.raft_log_append_file.specs.Frame.{IsFrame, Records, framed, values};
-ghost use Rattle.raft_log_append_file.specs.Keeping.{IsKept, NoChanceNow, NoChanceLeft, AreKept, BeginWithDurable, KeepsDurable, KeepsRecords, TouchesOnly};
+ghost use Rattle.raft_log_append_file.specs.Keeping.{IsKept, NoChanceNow, NoChanceLeft, AreReadBack, BeginWithDurable, KeepsRecords, KeepsDurableAt, KeepsAllAt, TouchesOnlyAt};
 
 use super::error::AppendError;
 use super::frame::{MAX_LEN, make_frame};
@@ -21,13 +25,14 @@ pub struct AppendFile {
 }
 
 impl AppendFile {
-    ghost use Rattle.raft_log_append_file.specs.AppendFile.{IsOpen, IsInDoubt, CreateRefused, AppendRefused, SyncRefused, ReadRefused, OpenRefused};
+    ghost use Rattle.raft_log_append_file.specs.AppendFile.{IsOpen, IsInDoubt, CreateRefused, AppendRefused, SyncRefused, ReadRefused, OpenRefusedAt, MissingRefused};
 
     /// Makes an empty file.
     pub fn create<F: FileSystem>(file_system: &mut F, path: &str) -> Result<AppendFile, AppendError>
         ensures ok { IfOk result (λ log. IsOpen log [] [] (F.disk file_system.new)) }
         ensures named { IfOk result (λ log. (F.disk file_system.new).names path.now ≡ Some log.handle.file) }
         ensures err { IfErr result (λ error. CreateRefused error path.now (F.disk file_system.old) (F.disk file_system.new)) }
+        ensures later { IsLater (F.disk file_system.old) (F.disk file_system.new) }
     {
         let handle = file_system.create(path)?;
         Ok(AppendFile {
@@ -55,15 +60,16 @@ impl AppendFile {
             → (count : ℕ) × (count ≤ length pending) × IsOpen log (kept_records durable pending count) [] (F.disk file_system.new)) }
 
         // Answered or refused: the synced records stay, and where no checksum is met by chance the others do.
-        ensures durable { (id : ℕ) (durable pending : Records) → (F.disk file_system.old).names path.now ≡ Some id
-            → IsKept id durable pending (F.disk file_system.old) → KeepsDurable id durable (F.disk file_system.new) }
-        ensures kept { (id : ℕ) (durable pending : Records) → (F.disk file_system.old).names path.now ≡ Some id
-            → IsKept id durable pending (F.disk file_system.old) → NoChanceNow id (F.disk file_system.old)
-            → IsKept id durable pending (F.disk file_system.new) }
-        ensures err { IfErr result (λ error. (id : ℕ) (file : File) → (F.disk file_system.old).names path.now ≡ Some id
-            → (F.disk file_system.old).files id ≡ Some file → OpenRefused error id (F.disk file_system.old) (F.disk file_system.new)) }
-        ensures others { (id : ℕ) → (F.disk file_system.old).names path.now ≡ Some id → TouchesOnly id (F.disk file_system.old) (F.disk file_system.new) }
+        ensures durable { KeepsDurableAt path.now (F.disk file_system.old) (F.disk file_system.new) }
+        ensures kept { KeepsAllAt path.now (F.disk file_system.old) (F.disk file_system.new) }
+        ensures err { IfErr result (λ error. OpenRefusedAt error path.now (F.disk file_system.old) (F.disk file_system.new)) }
+        ensures others { TouchesOnlyAt path.now (F.disk file_system.old) (F.disk file_system.new) }
+        ensures later { IsLater (F.disk file_system.old) (F.disk file_system.new) }
+
+        // A file that isn't there: nothing changes, and the error says so.
         ensures missing { (F.disk file_system.old).names path.now ≡ None → F.disk file_system.new ≡ F.disk file_system.old }
+        ensures absent { (F.disk file_system.old).names path.now ≡ None
+            → IfErr result (λ error. MissingRefused error path.now (F.disk file_system.old)) }
     {
         let handle = file_system.open(path, Permission::ReadWrite)?;
         let bytes = read_file(alloc, file_system, handle)?;
@@ -92,12 +98,12 @@ impl AppendFile {
         ensures after_stop { IfOk result (λ recovered. (before : Disk) (durable pending : Records)
             → IsKept recovered.0.handle.file durable pending before → IsImage before (F.disk file_system.old)
             → NoChanceLeft recovered.0.handle.file before (F.disk file_system.old)
-            → AreKept durable pending (map vec_items recovered.1.items)) }
+            → AreReadBack durable pending (map vec_items recovered.1.items)) }
 
         // So too where nothing stopped, but the file was in doubt.
         ensures in_place { IfOk result (λ recovered. (durable pending : Records)
             → IsKept recovered.0.handle.file durable pending (F.disk file_system.old) → NoChanceNow recovered.0.handle.file (F.disk file_system.old)
-            → AreKept durable pending (map vec_items recovered.1.items)) }
+            → AreReadBack durable pending (map vec_items recovered.1.items)) }
 
         // Whatever stands in the file: these records are read of it, they are durable, and nothing else is left.
         ensures found { IfOk result (λ recovered. (file : File) → (F.disk file_system.old).files recovered.0.handle.file ≡ Some file
@@ -105,15 +111,16 @@ impl AppendFile {
         ensures named { IfOk result (λ recovered. (F.disk file_system.old).names path.now ≡ Some recovered.0.handle.file) }
 
         // Answered or refused: the synced records stay, and where no checksum is met by chance the others do.
-        ensures durable { (id : ℕ) (durable pending : Records) → (F.disk file_system.old).names path.now ≡ Some id
-            → IsKept id durable pending (F.disk file_system.old) → KeepsDurable id durable (F.disk file_system.new) }
-        ensures kept { (id : ℕ) (durable pending : Records) → (F.disk file_system.old).names path.now ≡ Some id
-            → IsKept id durable pending (F.disk file_system.old) → NoChanceNow id (F.disk file_system.old)
-            → IsKept id durable pending (F.disk file_system.new) }
-        ensures err { IfErr result (λ error. (id : ℕ) (file : File) → (F.disk file_system.old).names path.now ≡ Some id
-            → (F.disk file_system.old).files id ≡ Some file → OpenRefused error id (F.disk file_system.old) (F.disk file_system.new)) }
-        ensures others { (id : ℕ) → (F.disk file_system.old).names path.now ≡ Some id → TouchesOnly id (F.disk file_system.old) (F.disk file_system.new) }
+        ensures durable { KeepsDurableAt path.now (F.disk file_system.old) (F.disk file_system.new) }
+        ensures kept { KeepsAllAt path.now (F.disk file_system.old) (F.disk file_system.new) }
+        ensures err { IfErr result (λ error. OpenRefusedAt error path.now (F.disk file_system.old) (F.disk file_system.new)) }
+        ensures others { TouchesOnlyAt path.now (F.disk file_system.old) (F.disk file_system.new) }
+        ensures later { IsLater (F.disk file_system.old) (F.disk file_system.new) }
+
+        // A file that isn't there: nothing changes, and the error says so.
         ensures missing { (F.disk file_system.old).names path.now ≡ None → F.disk file_system.new ≡ F.disk file_system.old }
+        ensures absent { (F.disk file_system.old).names path.now ≡ None
+            → IfErr result (λ error. MissingRefused error path.now (F.disk file_system.old)) }
     {
         let log = AppendFile::open(alloc, file_system, path)?;
         let records = log.records(alloc, file_system)?;
@@ -157,6 +164,7 @@ impl AppendFile {
         ensures doubt { IsInDoubt self.old → (result ≡ Err AppendError.Failed) × (self.new ≡ self.old) × (F.disk file_system.new ≡ F.disk file_system.old) }
         ensures handle { self.new.handle ≡ self.old.handle }
         ensures others { TouchesOnly self.old.handle.file (F.disk file_system.old) (F.disk file_system.new) }
+        ensures later { IsLater (F.disk file_system.old) (F.disk file_system.new) }
     {
         if self.failed {
             return Err(AppendError::Failed);
@@ -179,6 +187,7 @@ impl AppendFile {
         ensures doubt { IsInDoubt self.old → (result ≡ Err AppendError.Failed) × (self.new ≡ self.old) × (F.disk file_system.new ≡ F.disk file_system.old) }
         ensures handle { self.new.handle ≡ self.old.handle }
         ensures others { TouchesOnly self.old.handle.file (F.disk file_system.old) (F.disk file_system.new) }
+        ensures later { IsLater (F.disk file_system.old) (F.disk file_system.new) }
     {
         if self.failed {
             return Err(AppendError::Failed);
@@ -198,13 +207,16 @@ impl AppendFile {
             → AppendRefused error bytes self.new durable pending (F.disk file_system.old) (F.disk file_system.new)) }
         ensures handle { self.new.handle ≡ self.old.handle }
         ensures others { TouchesOnly self.old.handle.file (F.disk file_system.old) (F.disk file_system.new) }
+        ensures later { IsLater (F.disk file_system.old) (F.disk file_system.new) }
     {
         let Some(end) = self.written.checked_add(frame.len()) else {
             return Err(AppendError::TooLong);
         };
         self.failed = true;
         if let Err(kind) = file_system.write_at(self.handle, self.written, frame) {
-            cut_back(file_system, self.handle, self.written)?;
+            let Ok(()) = cut_back(file_system, self.handle, self.written) else {
+                return Err(AppendError::FileSystem(kind));
+            };
             self.failed = false;
             return Err(AppendError::FileSystem(kind));
         }

@@ -1,9 +1,12 @@
+//! Reading a file whole, and shortening it behind its last record.
+
 ghost use Rattle.std.specs.Prelude.{◌≡◌, ℕ, ◌+◌, ◌<◌, ◌≤◌, Some, None, List, [], ◌∷◌, ◌++◌, length, take, map, vec_items, IfOk, IfErr, OnOk, OnErr};
 ghost use Rattle.raft_log_disk.specs.Disk.{File, at_rest};
-ghost use Rattle.raft_log_disk.specs.Causes.{HasCause, Fails, IsLater};
+ghost use Rattle.raft_log_disk.specs.Causes.{Fails, IsLater};
+ghost use Rattle.raft_log_disk.specs.Touching.{TouchesOnly};
 ghost use Rattle.raft_log_disk.specs.Chains.{Reads, spelled};
 ghost use Rattle.raft_log_append_file.specs.Frame.{IsFrame, Records, values};
-ghost use Rattle.raft_log_append_file.specs.Keeping.{IsKept, CanCut, CanCutRead, KeepsDurable, TouchesOnly};
+ghost use Rattle.raft_log_append_file.specs.Keeping.{IsKept, CanShortenTo, CanShortenToRead, KeepsDurable};
 ghost use Rattle.raft_log_append_file.specs.AppendFile.{ReadRefused};
 
 use super::error::AppendError;
@@ -51,7 +54,7 @@ pub fn whole_records(alloc: Global, bytes: &[u8]) -> Result<Vec<Vec<u8>>, AllocE
     Ok(records)
 }
 
-/// Cuts a file to a size and syncs it.
+/// Shortens a file to a size and syncs it.
 pub fn cut_back<F: FileSystem>(
     file_system: &mut F,
     handle: Handle,
@@ -59,9 +62,9 @@ pub fn cut_back<F: FileSystem>(
 ) -> Result<(), ErrorKind>
     ensures ok { OnOk result ((file : File) → (F.disk file_system.old).files handle.file ≡ Some file
         → (F.disk file_system.new).files handle.file ≡ Some (at_rest (take size file.content))) }
-    ensures kept { (durable pending : Records) (count : ℕ) → CanCut handle.file size count durable pending (F.disk file_system.old)
+    ensures kept { (durable pending : Records) (count : ℕ) → CanShortenTo handle.file size count durable pending (F.disk file_system.old)
         → IsKept handle.file durable pending (F.disk file_system.new) }
-    ensures durable { (durable pending ws : Records) → CanCutRead handle.file size durable pending ws (F.disk file_system.old)
+    ensures durable { (durable pending ws : Records) → CanShortenToRead handle.file size durable pending ws (F.disk file_system.old)
         → KeepsDurable handle.file durable (F.disk file_system.new) }
     ensures err { OnErr result ((file : File) → (F.disk file_system.old).files handle.file ≡ Some file → handle.permission ≡ Permission.ReadWrite
         → Fails (F.disk file_system.old) (F.disk file_system.new)) }

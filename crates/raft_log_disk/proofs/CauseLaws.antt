@@ -8,7 +8,7 @@ use Rattle.raft_log_disk.specs.Disk.{Change, Disk}
 use Rattle.raft_log_disk.specs.Laws.{UndisturbedHasNoCause, OtherFilesAreNoCause}
 use Rattle.raft_log_disk.specs.Exits.{LeavesAll}
 use Rattle.raft_log_disk.specs.Calls.{IsRight, after_change, flushed, Changes, Creates, Deletes, Renames, MakesDirectory, Refused, after_stop, wrong_argument, failed, stops, SomeOf, none, some, RefusedChange, RefusedWhole}
-use Rattle.raft_log_disk.specs.Causes.{HasCause, stopped, counted_one, unreadable_place, Fails, has_stopped, has_failed, IsLater}
+use Rattle.raft_log_disk.specs.Causes.{HasCause, stopped, counted_one, unreadable_place, Fails, has_stopped, has_failed, FailsTwice, has_stopped_since, has_failed_twice, IsLater}
 use Rattle.raft_log_disk.proofs.KeptLaws.{IsCalm, kept_change, kept_sync, kept_create, kept_delete, kept_rename, kept_directory, kept_arm}
 
 -- no cause stands behind a refusal on an undisturbed disk
@@ -43,6 +43,12 @@ fails_after a b c first (has_failed rises) = has_failed (omega (arith, first.fai
 pub fails_still : (a b c : Disk) → Fails a b → IsLater b c → Fails a c
 fails_still a b c (has_stopped is) next = has_stopped (next.stopped is)
 fails_still a b c (has_failed rises) next = has_failed (omega (arith, next.failures, rises))
+
+-- a failure, and then one more
+pub fails_twice : (a b c : Disk) → Fails a b → Fails b c → IsLater b c → FailsTwice a c
+fails_twice a b c (has_stopped is) next later = has_stopped_since (later.stopped is)
+fails_twice a b c (has_failed rises) (has_stopped is) later = has_stopped_since is
+fails_twice a b c (has_failed rises) (has_failed again) later = has_failed_twice (omega (arith, rises, again))
 
 -- a refused call whose argument was right has failed
 pub fails : {part done : Disk → Type 0} {wrong : ErrorKind → Type 0} {error : ErrorKind} {old new : Disk} → IsRight wrong → ((left : Disk) → part left → left.failures ≡ old.failures)

@@ -1,12 +1,11 @@
--- What a write and a sync make of a content that begins with a chain.
+-- What a write makes of a content that begins with a chain.
 use Rattle.std.proofs.Common.{◌≡◌, ℕ, ◌+◌, ◌-◌, ◌≤◌, List, [], ◌∷◌, ◌++◌, length, take, drop, refl, sym, ◌∙◌, ap, arith}
 use Rattle.std.proofs.lemmas.List.{append-nil, append_assoc, drop-append-le, drop-take, length-take-le, take-append-le, take_at}
-use Rattle.raft_log_disk.specs.Disk.{at_rest, grown, zeros, overwritten}
+use Rattle.raft_log_disk.specs.Disk.{grown, zeros, overwritten}
 use Rattle.raft_log_disk.specs.Chains.{Written, IsSelfDelimiting, spelled, BeginsWith}
-use Rattle.raft_log_disk.specs.KeepsSynced.{HoldsChain, ChainGrows}
+use Rattle.raft_log_disk.specs.KeepsSynced.{ChainGrows}
 use Rattle.raft_log_disk.proofs.ChangeLaws.{overwritten_some}
-use Rattle.raft_log_disk.proofs.ChainLaws.{frame_filled, frames_append, reads_to_end, spelled-append}
-use Rattle.raft_log_disk.proofs.KeepsSyncedLaws.{holds_at_rest}
+use Rattle.raft_log_disk.proofs.ChainLaws.{frame_filled, frames_append, spelled-append}
 
 module _ {R : Type 0} (IsFrame : List ℕ → R → Type 0) (free : IsSelfDelimiting IsFrame) (start : ℕ) where
   -- a record written at the chain's end is the next one, whatever stood there
@@ -30,9 +29,5 @@ module _ {R : Type 0} (IsFrame : List ℕ → R → Type 0) (free : IsSelfDelimi
         frames = frames_append IsFrame ws (w ∷ []) begins.frames (framed, tt);
       }
 
-  -- and once the content is synced the chain is durable
-  pub begins_synced : (ws : List (Written R)) (content : List ℕ) → BeginsWith IsFrame start ws content → HoldsChain IsFrame start (start + length (spelled ws)) ws [] (at_rest content)
-  begins_synced ws content begins = holds_at_rest IsFrame start (start + length (spelled ws)) ws content (reads_to_end IsFrame free start ws content begins)
-
   pub chain_grows : ChainGrows IsFrame start
-  chain_grows = record { written = begins_written; synced = begins_synced }
+  chain_grows = begins_written

@@ -8,6 +8,8 @@ pub mod Props
 pub mod ChainLaws
 pub mod KeepsSyncedLaws
 pub mod CrashExampleLaws
-pub mod LogFilesLaws
 pub mod NamesLaws
 pub mod ChainContentLaws
+pub mod TouchingLaws
+pub mod ShorteningLaws
+pub mod LogQueueLaws

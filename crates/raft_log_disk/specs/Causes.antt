@@ -1,5 +1,5 @@
 -- Why a call was refused.
-use Rattle.std.specs.Prelude.{◌≡◌, ℕ, ◌<◌, ◌≤◌, true, false}
+use Rattle.std.specs.Prelude.{◌≡◌, ℕ, ◌+◌, ◌<◌, ◌≤◌, true, false}
 use Rattle.raft_log_disk.specs.Disk.{Disk}
 
 -- Why a call on these files was refused: a stop, a failure that was counted during the call, or an unreadable place of one
@@ -23,3 +23,8 @@ pub record IsLater (old new : Disk) : Type 0 where
 pub record IsUndisturbed (d : Disk) : Type 0 where
   pub runs : d.stopped ≡ false
   pub readable : (id place : ℕ) → d.unreadable id place ≡ false
+
+-- a stop, or two failures that were counted: the cause where a call was refused, and then one that was to mend it
+pub data FailsTwice (old new : Disk) : Type 0 where
+  has_stopped_since : new.stopped ≡ true → FailsTwice old new
+  has_failed_twice : old.failures + 2 ≤ new.failures → FailsTwice old new

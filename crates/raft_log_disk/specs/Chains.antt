@@ -26,6 +26,10 @@ AreFrames IsFrame (w ∷ ws) = IsFrame w.bytes w.value × AreFrames IsFrame ws
 abbrev pub Refuses : {R : Type 0} → (List ℕ → R → Type 0) → List ℕ → Type 0
 Refuses {R} IsFrame bytes = (w : Written R) (rest : List ℕ) → IsFrame w.bytes w.value → bytes ≡ w.bytes ++ rest → ⊥
 
+-- no part of these bytes is a record
+abbrev pub HoldsNoFrame : {R : Type 0} → (List ℕ → R → Type 0) → List ℕ → Type 0
+HoldsNoFrame {R} IsFrame bytes = (ahead inside behind : List ℕ) (r : R) → bytes ≡ ahead ++ (inside ++ behind) → IsFrame inside r → ⊥
+
 -- from `start` on the bytes begin with these records
 pub record BeginsWith {R : Type 0} (IsFrame : List ℕ → R → Type 0) (start : ℕ) (ws : List (Written R)) (bytes : List ℕ) : Type 0 where
   pub rest : List ℕ

@@ -6,8 +6,11 @@ pub mod Laws
 pub mod Chains
 pub mod KeepsSynced
 pub mod CrashExamples
-pub mod LogFiles
 pub mod Names
 pub mod Arguments
 pub mod Reading
 pub mod Exits
+pub mod Touching
+pub mod Shortening
+pub mod LogFormat
+pub mod LogQueue

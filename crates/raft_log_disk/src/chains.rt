@@ -2,9 +2,9 @@
 
 ghost use Rattle.std.specs.Prelude.{ℕ, List};
 ghost use Rattle.raft_log_disk.specs.Chains.{IsSelfDelimiting, ReadsOneWay, ReadsSome, AgreesUpToEnd};
-ghost use Rattle.raft_log_disk.specs.KeepsSynced.{ChainKeepsSynced, DurableIsRead, ChainSteps, ChainGrows, UntouchedPartStays};
-ghost use Rattle.raft_log_disk.specs.LogFiles.{LogKeepsSynced};
-ghost use Rattle.raft_log_disk.specs.CrashExamples.{TornRecordIsLost, ForeignRecordIsChance, SyncedFileHasNoChance};
+ghost use Rattle.raft_log_disk.specs.KeepsSynced.{ChainKeepsSynced, DurableIsRead, ChainGoesOn, ChainAtRest, ChainGrows, UntouchedPartStays};
+ghost use Rattle.raft_log_disk.specs.Shortening.{ShortenedIsKept};
+ghost use Rattle.raft_log_disk.specs.CrashExamples.{TornRecordIsLost, ForeignRecordIsChance, ForeignRecordBehindIsRefused, RecycledFileMeetsIt, SyncedFileHasNoChance};
 
 /// Says which bytes spell which record.
 pub trait Framing {
@@ -29,9 +29,15 @@ pub fn agreement<G: Framing>()
     ensures { AgreesUpToEnd G.is_frame }
 {}
 
-/// A file goes on holding its chain through writes, cuts, growths, syncs and restarts.
-pub fn chain_steps<G: Framing>()
-    ensures { (start end : ℕ) → ChainSteps G.is_frame start end }
+/// A file goes on holding its chain through writes, growths and shortenings.
+pub fn chain_goes_on<G: Framing>()
+    ensures { ChainGoesOn G.is_frame }
+{}
+
+/// A file that is used again holds the empty chain, one at rest what is read of it, and one whose chain was written over the
+/// bytes that stood there, and synced, holds that chain.
+pub fn chain_at_rest<G: Framing>()
+    ensures { IsSelfDelimiting G.is_frame → (start : ℕ) → ChainAtRest G.is_frame start }
 {}
 
 /// A record that is written at a chain's end is the next one, whatever an earlier use of the file left there.
@@ -49,12 +55,6 @@ pub fn durable_records_are_read<G: Framing>()
     ensures { DurableIsRead G.is_frame }
 {}
 
-/// What is read of a log of several files, of which all but the last are synced whole, is a beginning of the records
-/// written, with all the synced ones.
-pub fn log_of_files_is_kept<G: Framing>()
-    ensures { LogKeepsSynced G.is_frame }
-{}
-
 /// A stop that leaves a beginning of a record which isn't synced meets no checksum by chance, and loses the record.
 pub fn torn_record_is_lost<G: Framing>()
     ensures { TornRecordIsLost G.is_frame }
@@ -65,9 +65,24 @@ pub fn foreign_record_is_chance<G: Framing>()
     ensures { ForeignRecordIsChance G.is_frame }
 {}
 
+/// A file with another record synced behind its chain, which isn't what stood there before, doesn't hold the chain.
+pub fn foreign_record_behind_is_refused<G: Framing>()
+    ensures { ForeignRecordBehindIsRefused G.is_frame }
+{}
+
+/// A file that is used again meets the premise in what a stop leaves of it once its new records are synced.
+pub fn recycled_file_meets_the_premise<G: Framing>()
+    ensures { RecycledFileMeetsIt G.is_frame }
+{}
+
 /// A stop leaves nothing to chance of a file whose bytes are all synced.
 pub fn synced_file_has_no_chance<G: Framing>()
     ensures { SyncedFileHasNoChance G.is_frame }
+{}
+
+/// A file that is shortened behind some of its records, and synced, keeps them through both calls, answered or refused.
+pub fn shortened_file_is_kept<G: Framing>()
+    ensures { ShortenedIsKept G.is_frame }
 {}
 
 /// A part of the synced bytes that no change touches stays: so does a header in front of the records.

@@ -9,6 +9,7 @@ pub mod chains;
 pub mod file_system;
 pub mod handle;
 pub mod images;
+pub mod logs;
 pub mod names;
 
 pub use file_system::FileSystem;

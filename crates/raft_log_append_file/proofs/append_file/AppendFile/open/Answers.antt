@@ -41,7 +41,7 @@ returns-in_err-cut_back-clause-durable g c = λ id durable pending named kept_id
     let read = c.good_end-end.ensures in
     let found = finds_durable handle.file c.good_end-end.result durable pending read.0 c.deref.result.now old kept (g.met.F.FileSystem.sound c.args.file_system.now) (c.deref.ensures.value ∙ bytes) read.1 read.2 in
     subst (λ (n : ℕ). KeepsDurable n durable new) (sym same)
-    (found_durable handle.file durable pending old new kept (c.cut_back.ensures.durable (durable ++ kept.holds.more) kept.holds.rest read.0 found))
+    (found_durable handle.file durable pending old new kept (c.cut_back.ensures.durable (durable ++ kept.has.more) kept.has.rest read.0 found))
 
 pub returns-clause-durable : goal.returns-clause-durable
 returns-clause-durable g c = λ id durable pending named kept_id.
@@ -55,7 +55,7 @@ returns-clause-durable g c = λ id durable pending named kept_id.
     let read = c.good_end-end.ensures in
     let found = finds_durable handle.file c.good_end-end.result durable pending read.0 c.deref.result.now old kept (g.met.F.FileSystem.sound c.args.file_system.now) (c.deref.ensures.value ∙ bytes) read.1 read.2 in
     subst (λ (n : ℕ). KeepsDurable n durable new) (sym same)
-    (found_durable handle.file durable pending old new kept (c.cut_back.ensures.durable (durable ++ kept.holds.more) kept.holds.rest read.0 found))
+    (found_durable handle.file durable pending old new kept (c.cut_back.ensures.durable (durable ++ kept.has.more) kept.has.rest read.0 found))
 
 pub returns-in_err-cut_back-clause-kept : goal.returns-in_err-cut_back-clause-kept
 returns-in_err-cut_back-clause-kept g c = λ id durable pending named kept_id chance_id.
@@ -70,7 +70,7 @@ returns-in_err-cut_back-clause-kept g c = λ id durable pending named kept_id ch
     let read = c.good_end-end.ensures in
     let found = finds_end handle.file c.good_end-end.result durable pending read.0 c.deref.result.now old kept (g.met.F.FileSystem.sound c.args.file_system.now) chance (c.deref.ensures.value ∙ bytes) read.1 read.2 in
     subst (λ (n : ℕ). IsKept n durable pending new) (sym same)
-    (found_kept handle.file durable pending old new kept (c.cut_back.ensures.kept (durable ++ kept.holds.more) kept.holds.rest found.count found.can))
+    (found_kept handle.file durable pending old new kept (c.cut_back.ensures.kept (durable ++ kept.has.more) kept.has.rest found.count found.can))
 
 pub returns-clause-kept : goal.returns-clause-kept
 returns-clause-kept g c = λ id durable pending named kept_id chance_id.
@@ -85,7 +85,7 @@ returns-clause-kept g c = λ id durable pending named kept_id chance_id.
     let read = c.good_end-end.ensures in
     let found = finds_end handle.file c.good_end-end.result durable pending read.0 c.deref.result.now old kept (g.met.F.FileSystem.sound c.args.file_system.now) chance (c.deref.ensures.value ∙ bytes) read.1 read.2 in
     subst (λ (n : ℕ). IsKept n durable pending new) (sym same)
-    (found_kept handle.file durable pending old new kept (c.cut_back.ensures.kept (durable ++ kept.holds.more) kept.holds.rest found.count found.can))
+    (found_kept handle.file durable pending old new kept (c.cut_back.ensures.kept (durable ++ kept.has.more) kept.has.rest found.count found.can))
 
 pub returns-clause-ok : goal.returns-clause-ok
 returns-clause-ok g c = λ durable pending kept chance.

@@ -1,13 +1,10 @@
 use Rattle.std.proofs.Common.{◌+◌, ◌<◌, ◌++◌, ◌∷◌, [], false, refl, ap, ◌∙◌, length, take, inl, inr, arith, rules, ◌^◌}
-use Rattle.std.proofs.lemmas.Result.{err_from_is_err_and}
 use Rattle.raft_log_disk.specs.Disk.{Wrote}
-use Rattle.raft_log_disk.proofs.KeptLaws.{kept_change}
-use Rattle.raft_log_disk.proofs.CauseLaws.{fails_change, fails_still}
+use Rattle.raft_log_disk.proofs.CauseLaws.{fails_change, fails_still, fails_twice}
 use Rattle.raft_log_disk.specs.Chains.{spelled}
 use Rattle.raft_log_append_file.specs.Frame.{framed}
-use Rattle.raft_log_append_file.specs.Keeping.{CanCut}
-use Rattle.raft_log_append_file.proofs.OthersLaws.{touches_same, touches_then, touches_change}
-use Rattle.raft_log_append_file.proofs.OpenLaws.{content_short, front_records, open_can_cut, torn_can_cut, cut_calm, settled_open, open_appended, right_writer}
+use Rattle.raft_log_disk.proofs.TouchingLaws.{touches_same, touches_then, touches_change}
+use Rattle.raft_log_append_file.proofs.OpenLaws.{content_short, front_records, write_can_shorten, settled_open, open_appended, right_writer}
 use Rattle.raft_log_append_file.proofs.append_file.AppendFile.put.Goals as goal
 
 pub returns-clause-ok : goal.returns-clause-ok
@@ -23,36 +20,27 @@ returns-in-Err-clause-err g c = λ bytes durable pending is_frame opened.
     let mid = D c.write_at.new.self in
     let new = D c.cut_back.new.file_system in
     let log = c.args.self.now in
-    let frame = c.args.frame.now in
-    let id = log.handle.file in
-    let more = pending ++ framed bytes ∷ [] in
-    let can = kept_change (CanCut id log.written (length pending) durable more) _ c.write_at.result id (Wrote log.written frame) (cut_calm id log.written (length pending) durable more)
-    (open_can_cut log durable pending bytes frame old opened is_frame) (λ file content is part. torn_can_cut log durable pending bytes frame old file content opened is_frame is part)
-    c.write_at.ensures.ok c.write_at.ensures.err in
-    let front = can.front ∙ ap spelled (front_records durable pending (framed bytes)) in
-    let now = c.in_ok-cut_back.ensures.ok can.file can.is in (
+    let can = write_can_shorten _ c.write_at.result log durable pending bytes c.args.frame.now old opened is_frame c.write_at.ensures.ok c.write_at.ensures.err in
+    let front = can.has.front ∙ ap spelled (front_records durable pending (framed bytes)) in
+    let now = c.in-Ok.ensures.ok can.file can.is in (
       fails_still old mid new (fails_change (right_writer log durable pending old opened) c.in-Err.ensures.err) c.cut_back.ensures.later,
       inl (settled_open (record { handle = log.handle; written = log.written; failed = false }) (durable ++ pending) (take log.written can.file.content) new opened.holds.frames front now opened.permitted opened.written refl),
     )
 
-pub returns-in_err-cut_back-clause-err : goal.returns-in_err-cut_back-clause-err
-returns-in_err-cut_back-clause-err g c =
-    let gave = err_from_is_err_and c.from_residual.result c.from_residual.ensures.1 in
-    rw (gave.1, gave.2) (λ bytes durable pending is_frame opened.
-    (let D = g.F.FileSystem.disk in
+pub returns-in_default-cut_back-clause-err : goal.returns-in_default-cut_back-clause-err
+returns-in_default-cut_back-clause-err g c = λ bytes durable pending is_frame opened.
+    let D = g.F.FileSystem.disk in
     let old = D c.args.file_system.now in
     let mid = D c.write_at.new.self in
     let new = D c.cut_back.new.file_system in
     let log = c.args.self.now in
-    let frame = c.args.frame.now in
-    let id = log.handle.file in
     let more = pending ++ framed bytes ∷ [] in
-    let can = kept_change (CanCut id log.written (length pending) durable more) _ c.write_at.result id (Wrote log.written frame) (cut_calm id log.written (length pending) durable more)
-    (open_can_cut log durable pending bytes frame old opened is_frame) (λ file content is part. torn_can_cut log durable pending bytes frame old file content opened is_frame is part)
-    c.write_at.ensures.ok c.write_at.ensures.err in (
-      fails_still old mid new (fails_change (right_writer log durable pending old opened) c.in-Err.ensures.err) c.cut_back.ensures.later,
-      inr (refl, c.cut_back.ensures.kept durable more (length pending) can),
-    )))
+    let can = write_can_shorten _ c.write_at.result log durable pending bytes c.args.frame.now old opened is_frame c.write_at.ensures.ok c.write_at.ensures.err in
+    let first = fails_change (right_writer log durable pending old opened) c.in-Err.ensures.err in
+    let again = c.in_default-cut_back.ensures.err can.file can.is opened.permitted in (
+      fails_still old mid new first c.cut_back.ensures.later,
+      inr (refl, fails_twice old mid new first again c.cut_back.ensures.later, c.cut_back.ensures.kept durable more (length pending) can),
+    )
 
 pub returns-in_default-clause-err : goal.returns-in_default-clause-err
 returns-in_default-clause-err g c = λ bytes durable pending is_frame opened.
@@ -68,8 +56,8 @@ returns-in_default-clause-err g c = λ bytes durable pending is_frame opened.
 pub returns-in_default-clause-others : goal.returns-in_default-clause-others
 returns-in_default-clause-others g c = touches_same c.args.self.now.handle.file (g.F.FileSystem.disk c.args.file_system.now)
 
-pub returns-in_err-cut_back-clause-others : goal.returns-in_err-cut_back-clause-others
-returns-in_err-cut_back-clause-others g c =
+pub returns-in_default-cut_back-clause-others : goal.returns-in_default-cut_back-clause-others
+returns-in_default-cut_back-clause-others g c =
     let D = g.F.FileSystem.disk in
     let id = c.args.self.now.handle.file in
     let write = touches_change _ c.write_at.result id (Wrote c.args.self.now.written c.args.frame.now) c.write_at.ensures.ok c.write_at.ensures.err in

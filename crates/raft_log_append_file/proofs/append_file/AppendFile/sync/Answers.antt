@@ -2,13 +2,10 @@ use Rattle.std.proofs.Common.{◌++◌, Some, false, refl, ap, ◌∙◌}
 use Rattle.std.proofs.lemmas.Result.{err_from_is_err_and}
 use Rattle.raft_log_disk.specs.Disk.{File}
 use Rattle.raft_log_disk.specs.Calls.{flushed}
-use Rattle.raft_log_disk.proofs.KeptLaws.{kept_sync}
 use Rattle.raft_log_disk.proofs.CauseLaws.{fails_whole}
 use Rattle.raft_log_disk.proofs.Updates.{file_here}
-use Rattle.raft_log_append_file.specs.Keeping.{IsKept}
-use Rattle.raft_log_append_file.proofs.OthersLaws.{touches_sync}
-use Rattle.raft_log_append_file.proofs.KeepingLaws.{kept_calm, same_file}
-use Rattle.raft_log_append_file.proofs.OpenLaws.{kept_keeps, open_kept, synced_kept, settled_open, right_handle}
+use Rattle.raft_log_disk.proofs.TouchingLaws.{same_file, touches_sync}
+use Rattle.raft_log_append_file.proofs.OpenLaws.{kept_keeps, sync_keeps, settled_open, right_handle}
 use Rattle.raft_log_append_file.proofs.append_file.AppendFile.sync.Goals as goal
 
 pub returns-in_err-sync-clause-err : goal.returns-in_err-sync-clause-err
@@ -19,8 +16,7 @@ returns-in_err-sync-clause-err g c =
     let old = D c.args.file_system.now in
     let log = c.args.self.now in
     let id = log.handle.file in
-    let kept = kept_sync (IsKept id durable pending) _ c.sync.result id (kept_calm id durable pending) (open_kept log durable pending old opened)
-    (λ file is. synced_kept log durable pending old file opened is) c.sync.ensures.ok c.sync.ensures.err in
+    let kept = sync_keeps _ c.sync.result log durable pending old opened c.sync.ensures.ok c.sync.ensures.err in
     (fails_whole (right_handle log durable pending old opened) c.in_err-sync.ensures.err, refl, kept)))
 
 pub returns-in_err-sync-clause-kept : goal.returns-in_err-sync-clause-kept
@@ -29,8 +25,7 @@ returns-in_err-sync-clause-kept g c = λ durable pending opened.
     let old = D c.args.file_system.now in
     let log = c.args.self.now in
     let id = log.handle.file in
-    kept_keeps id durable pending (D c.sync.new.self) (kept_sync (IsKept id durable pending) _ c.sync.result id (kept_calm id durable pending) (open_kept log durable pending old opened)
-    (λ file is. synced_kept log durable pending old file opened is) c.sync.ensures.ok c.sync.ensures.err)
+    kept_keeps id durable pending (D c.sync.new.self) (sync_keeps _ c.sync.result log durable pending old opened c.sync.ensures.ok c.sync.ensures.err)
 
 pub returns-clause-kept : goal.returns-clause-kept
 returns-clause-kept g c = λ durable pending opened.
@@ -38,8 +33,7 @@ returns-clause-kept g c = λ durable pending opened.
     let old = D c.args.file_system.now in
     let log = c.args.self.now in
     let id = log.handle.file in
-    kept_keeps id durable pending (D c.sync.new.self) (kept_sync (IsKept id durable pending) _ c.sync.result id (kept_calm id durable pending) (open_kept log durable pending old opened)
-    (λ file is. synced_kept log durable pending old file opened is) c.sync.ensures.ok c.sync.ensures.err)
+    kept_keeps id durable pending (D c.sync.new.self) (sync_keeps _ c.sync.result log durable pending old opened c.sync.ensures.ok c.sync.ensures.err)
 
 pub returns-clause-ok : goal.returns-clause-ok
 returns-clause-ok g c = λ durable pending opened.

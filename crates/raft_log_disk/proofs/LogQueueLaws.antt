@@ -1,0 +1,248 @@
+-- A log of several files keeps its synced records, and goes through a restart.
+use Rattle.std.proofs.Common.{◌≡◌, ℕ, ◌+◌, ◌-◌, ◌<◌, ◌≤◌, zero, suc, Option, Some, None, List, [], ◌∷◌, ◌++◌, length, take, drop, refl, sym, ◌∙◌, ap, subst, inl, inr, arith}
+use Rattle.std.proofs.lemmas.List.{append-nil, drop_at, take-append-drop, take_all, length-take}
+use Rattle.raft_log_disk.specs.Disk.{File, Disk, at_rest}
+use Rattle.raft_log_disk.specs.Image.{IsLeft, IsFileImage, IsImage, IsSound}
+use Rattle.raft_log_disk.specs.Chains.{Written, spelled, Reads}
+use Rattle.raft_log_disk.specs.KeepsSynced.{kept_records, AreKept}
+use Rattle.raft_log_disk.specs.LogFormat.{Format, IsFormat, CanTellFormat, HasHeader, ReadsFile, NoChanceInFile}
+use Rattle.raft_log_disk.specs.LogQueue.{Past, LogFiles, recent, kept_to, HeaderStands, HoldsLast, IsPast, IsLeftover, HasLogFiles, Found, ReadsNamed, ReadsFiles, past_from, NoChanceInLast, KeepsLast, KeepsQueue, QueueIsKept, QueueIsReadable, QueueRestarts, RotatedHoldsNothing, Anything}
+use Rattle.raft_log_disk.specs.Touching.{HasFile, HasNamed}
+use Rattle.raft_log_disk.proofs.ImageLaws.{left_at_rest, only_at_rest, image_is_sound, some_file}
+use Rattle.raft_log_disk.proofs.ChainLaws.{reads_unique, reads_some}
+use Rattle.raft_log_disk.proofs.KeepsSyncedLaws.{left_of_image, left_keeps_part, at_least_keeps, holds_at_least, holds_used_again}
+use Rattle.raft_log_disk.proofs.CrashExampleLaws.{synced_file_has_no_chance}
+use Rattle.raft_log_disk.proofs.ShorteningLaws.{reads_whole}
+use Rattle.raft_log_disk.proofs.TouchingLaws.{same_file}
+
+front_nil : {X : Type 0} (xs ys : List X) → xs ++ ys ≡ [] → xs ≡ []
+front_nil [] ys e = refl
+front_nil (x ∷ xs) ys e = cc e
+
+-- a file that is there is there in an image
+there : (file : File) (o : Option File) → IsFileImage (Some file) o → (after : File) × (o ≡ Some after)
+there file None none = absurd none
+there file (Some after) left = (after, refl)
+
+pub image_there : (d image : Disk) (id : ℕ) (file : File) → IsImage d image → d.files id ≡ Some file → (after : File) × (image.files id ≡ Some after)
+image_there d image id file is here = there file (image.files id) (subst (λ (o : Option File). IsFileImage o (image.files id)) here (is.files id))
+
+-- and one that is at rest is as it was
+rest_image : (d image : Disk) (id : ℕ) (bytes : List ℕ) → IsImage d image → d.files id ≡ Some (at_rest bytes) → image.files id ≡ Some (at_rest bytes)
+rest_image d image id bytes is here =
+    let (after, at) = image_there d image id (at_rest bytes) is here in
+    let (left, same, stands) = left_of_image d image id (at_rest bytes) after is here at in
+    at ∙ ap Some (same ∙ ap at_rest (only_at_rest (at_rest bytes) left refl stands))
+
+module _ {R : Type 0} (F : Format R) (lawful : IsFormat F) where
+  one_header : (a b bytes : List ℕ) → HasHeader F a bytes → HasHeader F b bytes → a ≡ b
+  one_header a b bytes x y = lawful.headers a b x.rest y.rest x.is y.is (sym x.splits ∙ y.splits)
+
+  -- what is read behind a header
+  reads_behind : (n : ℕ) (header : List ℕ) (ws : List (Written R)) (bytes : List ℕ) → HasHeader F header bytes → ReadsFile F n ws bytes → Reads (F.IsFrame n) (length header) ws bytes
+  reads_behind n header ws bytes has (inl (none, no_header)) = absurd (no_header header has)
+  reads_behind n header ws bytes has (inr (other, has_other, reads)) = subst (λ (h : List ℕ). Reads (F.IsFrame n) (length h) ws bytes) (one_header other header bytes has_other has) reads
+
+  -- a file is read in one way
+  reads_once : (n : ℕ) (vs ws : List (Written R)) (bytes : List ℕ) → ReadsFile F n vs bytes → ReadsFile F n ws bytes → ws ≡ vs
+  reads_once n vs ws bytes (inl (none, no_header)) (inl (none_too, nor_header)) = none_too ∙ sym none
+  reads_once n vs ws bytes (inl (none, no_header)) (inr (header, has, reads)) = absurd (no_header header has)
+  reads_once n vs ws bytes (inr (header, has, reads)) other = reads_unique (F.IsFrame n) (lawful.free n) (length header) vs ws bytes reads (reads_behind n header ws bytes has other)
+
+  -- and can be read
+  reads_some_file : CanTellFormat F → (n : ℕ) (bytes : List ℕ) → (ws : List (Written R)) × ReadsFile F n ws bytes
+  reads_some_file tell n bytes = elim (tell.headers bytes) [
+    | inl (header, has) ↦ (let some = reads_some (F.IsFrame n) (lawful.free n) (tell.frames n) (length header) bytes in (some.0, inr (header, has, some.1)))
+    | inr none ↦ ([], inl (refl, none))
+  ]
+
+  -- a header that stands is there after a stop
+  header_left : (header : List ℕ) (file : File) (bytes : List ℕ) → F.IsHeader header → HeaderStands header file → IsLeft file bytes → HasHeader F header bytes
+  header_left header file bytes is stands left =
+      let n = length header in
+      let long : n ≤ length file.synced = omega (arith, ap length stands.front, length-take n file.synced) in
+      let same : take n bytes ≡ header = left_keeps_part 0 n file bytes (omega (arith, long)) (λ place from below. stands.spared place (omega (arith, below))) left ∙ stands.front in
+      record { is = is; rest = drop n bytes; splits = sym (take-append-drop n bytes) ∙ ap (λ (b : List ℕ). b ++ drop n bytes) same }
+
+  holds_keeps : (q : LogFiles R) → F.IsHeader q.header → KeepsLast F q (HoldsLast F q)
+  holds_keeps q is file holds bytes left chance ws reads =
+      let keeps : HasHeader F q.header bytes → AreKept q.durable q.pending ws = λ has.
+      at_least_keeps (F.IsFrame q.last) (length q.header) q.stale q.durable q.pending file (lawful.free q.last) holds.chain bytes left chance.records ws (reads_behind q.last q.header ws bytes has reads) in
+      elim holds.headed [
+        | inl stands ↦ keeps (header_left q.header file bytes is stands left)
+        | inr empty ↦ elim reads [
+          | inl (none, no_header) ↦ (0, omega arith, none ∙ sym (append-nil q.durable ∙ front_nil q.durable q.pending empty))
+          | inr (other, has, more) ↦ keeps (subst (λ (h : List ℕ). HasHeader F h bytes) (chance.headers other has) has)
+        ]
+      ]
+
+  leftover_keeps : (q : LogFiles R) → KeepsLast F q (IsLeftover F q)
+  leftover_keeps q file over bytes left chance ws reads =
+      let same : bytes ≡ over.bytes = only_at_rest (at_rest over.bytes) bytes refl (subst (λ (f : File). IsLeft f bytes) over.is left) in
+      let all = reads_once q.last (recent q) ws over.bytes over.reads (subst (ReadsFile F q.last ws) same reads) in
+      (length q.pending, omega arith, all ∙ ap (λ (vs : List (Written R)). q.durable ++ vs) (sym (take_all (length q.pending) q.pending (omega arith))))
+
+  -- of a file before the last one its records are read, whatever a stop leaves
+  past_reads : (n : ℕ) (past : Past R) (ws : List (Written R)) → F.IsHeader past.header → IsPast F n past (at_rest (past.header ++ spelled past.records))
+      → ReadsFile F n ws (past.header ++ spelled past.records) → ws ≡ past.records
+  past_reads n past ws is whole reads =
+      let bytes = past.header ++ spelled past.records in
+      let has : HasHeader F past.header bytes = record { is = is; rest = spelled past.records; splits = refl } in
+      let all = reads_whole (F.IsFrame n) (length past.header) [] (lawful.free n) past.records bytes whole.frames (drop_at past.header (spelled past.records) (length past.header) refl) in
+      reads_unique (F.IsFrame n) (lawful.free n) (length past.header) past.records ws bytes all (reads_behind n past.header ws bytes has reads)
+
+  -- a file before the last one, in an image
+  past_image : (q : LogFiles R) (P : File → Type 0) (d image : Disk) → HasLogFiles F q P d → IsImage d image → (m id : ℕ) → m < q.last → image.names (F.path m) ≡ Some id
+      → HasFile id (IsPast F m (q.older m)) image
+  past_image q P d image files is m id below named =
+      let old = files.older m id below (ap (λ (f : List ℕ → Option ℕ). f (F.path m)) (sym is.names) ∙ named) in
+      let rests = old.is ∙ ap Some old.has.is in
+      let bytes = (q.older m).header ++ spelled (q.older m).records in
+      record { file = at_rest bytes; is = rest_image d image id bytes is rests; has = record { is = refl; header = old.has.header; frames = old.has.frames } }
+
+  module _ (q : LogFiles R) (P : File → Type 0) (d image : Disk) (files : HasLogFiles F q P d) (is : IsImage d image) where
+    name_of : (path : List ℕ) (o : Option ℕ) → d.names path ≡ o → image.names path ≡ o
+    name_of path o at = ap (λ (f : List ℕ → Option ℕ). f path) is.names ∙ at
+
+    last_named : image.names (F.path q.last) ≡ None → ⊥
+    last_named none = let some = name_of (F.path q.last) (Some files.last.id) files.last.named in cc (none, some)
+
+    -- what is read of the last file
+    last_read : KeepsLast F q P → NoChanceInLast F q d image → (ws : List (Written R)) → ReadsNamed F image q.last ws → AreKept q.durable q.pending ws
+    last_read keeps chance ws reads =
+        let id = files.last.id in
+        let there_id : image.names (F.path q.last) ≡ Some id = name_of (F.path q.last) (Some id) files.last.named in
+        let same : reads.id ≡ id = (let at = reads.named in cc (at, there_id)) in
+        let at = ap image.files (sym same) ∙ reads.file.is in
+        let old = files.last.file in
+        let (bytes, after, left) = left_of_image d image id old.file reads.file.file is old.is at in
+        let here : reads.file.file.content ≡ bytes = ap (λ (f : File). f.content) after in
+        keeps old.file old.has reads.file.file.content (subst (IsLeft old.file) (sym here) left) (chance id old.file reads.file.file files.last.named old.is at) ws reads.file.has
+
+    older_read : (s : ℕ) (ws : List (Written R)) → s < q.last → ReadsNamed F image s ws → ws ≡ (q.older s).records
+    older_read s ws below reads =
+        let past = past_image q P d image files is s reads.id below reads.named in
+        let same = same_file image reads.id reads.file.file past.file reads.file.is past.is in
+        let content : reads.file.file.content ≡ (q.older s).header ++ spelled (q.older s).records = ap (λ (f : File). f.content) (same ∙ past.has.is) in
+        past_reads s (q.older s) ws past.has.header (record { is = refl; header = past.has.header; frames = past.has.frames }) (subst (ReadsFile F s ws) content reads.file.has)
+
+    last_found : ℕ → List (Found R)
+    last_found count = record { number = q.last; records = kept_records q.durable q.pending count } ∷ []
+
+    files_read : KeepsLast F q P → NoChanceInLast F q d image → (c s k : ℕ) (found : List (Found R)) → s + c ≡ q.last → ReadsFiles F image s k found
+        → (count : ℕ) × (count ≤ length q.pending) × (found ≡ past_from q.older s c ++ (record { number = q.last; records = kept_records q.durable q.pending count } ∷ []))
+    files_read keeps chance c s zero found at (none, behind) = absurd (last_named (behind q.last (omega (arith, at)) files.bound))
+    files_read keeps chance zero s (suc zero) found at (ws, more, below, reads, (none, behind), is_found) =
+        let here : s ≡ q.last = omega (arith, at) in
+        let (count, within, same) = last_read keeps chance ws (subst (λ (n : ℕ). ReadsNamed F image n ws) here reads) in
+        let one : record { number = s; records = ws } ≡ record { number = q.last; records = kept_records q.durable q.pending count } = λ i. record { number = here i; records = same i } in
+        (count, within, is_found ∙ (λ i. one i ∷ none i))
+    files_read keeps chance zero s (suc (suc k)) found at (ws, more, below, reads, (vs, rest, next_below, next, others, is_more), is_found) =
+        let here : s ≡ q.last = omega (arith, at) in
+        let gone : image.names (F.path (suc s)) ≡ None = name_of (F.path (suc s)) None (files.none (suc s) (omega (arith, here)) next_below) in
+        let named = next.named in
+        absurd (cc (gone, named))
+    files_read keeps chance (suc c) s (suc k) found at (ws, more, below, reads, others, is_found) =
+        let first = older_read s ws (omega (arith, at)) reads in
+        let (count, within, rest) = files_read keeps chance c (suc s) k more (omega (arith, at)) others in
+        (count, within, is_found ∙ (λ i. record { number = s; records = first i } ∷ rest i))
+
+    -- the file of a name in a sound image, and some reading of it
+    some_named : CanTellFormat F → IsSound image → (s : ℕ) → (image.names (F.path s) ≡ None → ⊥) → (ws : List (Written R)) × ReadsNamed F image s ws
+    some_named tell sound s there_is =
+        let (id, named) = some_number (image.names (F.path s)) there_is in
+        let (file, at) = some_file (image.files id) (sound.named (F.path s) id named) in
+        let (ws, reads) = reads_some_file tell s file.content in
+        (ws, record { id = id; named = named; file = record { file = file; is = at; has = reads } })
+      where
+        some_number : (o : Option ℕ) → (o ≡ None → ⊥) → (id : ℕ) × (o ≡ Some id)
+        some_number None none = absurd (none refl)
+        some_number (Some id) none = (id, refl)
+
+    some_files : CanTellFormat F → IsSound image → (c s : ℕ) → s + c ≡ q.last → ((n : ℕ) → s ≤ n → n ≤ q.last → image.names (F.path n) ≡ None → ⊥)
+        → (found : List (Found R)) × ReadsFiles F image s (suc c) found
+    some_files tell sound zero s at all =
+        let (ws, reads) = some_named tell sound s (all s (omega arith) (omega (arith, at))) in
+        let bound = files.bound in
+        let behind : (m : ℕ) → suc s ≤ m → m < F.limit → image.names (F.path m) ≡ None = λ m above less. name_of (F.path m) None (files.none m (omega (arith, at, above)) less) in
+        (record { number = s; records = ws } ∷ [], (ws, [], omega (arith, bound, at), reads, (refl, behind), refl))
+    some_files tell sound (suc c) s at all =
+        let (ws, reads) = some_named tell sound s (all s (omega arith) (omega (arith, at))) in
+        let (more, rest) = some_files tell sound c (suc s) (omega (arith, at)) (λ n above below. all n (omega (arith, above)) below) in
+        let bound = files.bound in
+        (record { number = s; records = ws } ∷ more, (ws, more, omega (arith, bound, at), reads, rest, refl))
+
+  queue_kept : (q : LogFiles R) (P : File → Type 0) (d : Disk) → KeepsLast F q P → HasLogFiles F q P d → KeepsQueue F q d
+  queue_kept q P d keeps files image is chance s below found (k, reads) = files_read q P d image files is keeps chance (q.last - s) s k found (omega (arith, below)) reads
+
+  pub queue_is_kept : QueueIsKept F
+  queue_is_kept = record {
+    holding = holds_keeps;
+    left_over = leftover_keeps;
+    kept = λ q d files is. queue_kept q (HoldsLast F q) d (holds_keeps q is) files;
+    restarted = λ q d files. queue_kept q (IsLeftover F q) d (leftover_keeps q) files;
+  }
+
+  pub queue_is_readable : QueueIsReadable F
+  queue_is_readable tell q d sound files image is s below no_gap =
+      let last = last_named q Anything d image files is in
+      let bound = files.bound in
+      let (found, reads) = some_files q Anything d image files is tell (image_is_sound d image sound is) (q.last - s) s (omega (arith, below))
+      (λ n above under. no_gap n q.last above under bound last) in
+      (found, (suc (q.last - s), reads))
+
+  pub queue_restarts : QueueRestarts F
+  queue_restarts tell q d image files header is chance =
+      let id = files.last.id in
+      let old = files.last.file in
+      let named = name_of q (HoldsLast F q) d image files is (F.path q.last) (Some id) files.last.named in
+      let (after, at) = image_there d image id old.file is old.is in
+      let (bytes, same, left) = left_of_image d image id old.file after is old.is at in
+      let rests : image.files id ≡ Some (at_rest bytes) = at ∙ ap Some same in
+      let (ws, reads) = reads_some_file tell q.last bytes in
+      let meets = subst (NoChanceInFile F q.last q.header q.stale old.file) (ap (λ (f : File). f.content) same) (chance id old.file after files.last.named old.is at) in
+      let (count, within, kept) = holds_keeps q header old.file old.has bytes left meets ws reads in
+      let next = kept_to count q in
+      let whole : ws ≡ recent next = kept ∙ sym (append-nil (kept_records q.durable q.pending count)) in
+      let over : IsLeftover F next (at_rest bytes) = record { bytes = bytes; is = refl; reads = subst (λ (vs : List (Written R)). ReadsFile F q.last vs bytes) whole reads } in
+      let last : HasNamed (F.path q.last) (IsLeftover F next) image = record { id = id; named = named; file = record { file = at_rest bytes; is = rests; has = over } } in
+      let now : HasLogFiles F next (IsLeftover F next) image = record {
+        bound = files.bound;
+        last = last;
+        none = λ m above less. name_of q (HoldsLast F q) d image files is (F.path m) None (files.none m above less);
+        older = λ m j below at_m. past_image q (HoldsLast F q) d image files is m j below at_m;
+      } in (
+        count,
+        within,
+        now,
+        λ later is_later other file next_file at_last here there_now.
+            (let one : other ≡ id = cc at_last in
+            let here_id : image.files id ≡ Some file = ap image.files (sym one) ∙ here in
+            let rest : file ≡ at_rest bytes = same_file image id file (at_rest bytes) here_id rests in
+            let again = rest_image image later id bytes is_later rests in
+            let then_rest : next_file ≡ at_rest bytes = same_file later id next_file (at_rest bytes) (ap later.files (sym one) ∙ there_now) again in
+            subst (λ (f : File). NoChanceInFile F q.last q.header [] f next_file.content) (sym rest)
+            (subst (λ (f : File). NoChanceInFile F q.last q.header [] (at_rest bytes) f.content) (sym then_rest)
+            (record {
+              headers = λ x has. meets.headers x has;
+              records = synced_file_has_no_chance (F.IsFrame q.last) (lawful.free q.last) (length q.header) (at_rest bytes) bytes refl (left_at_rest bytes);
+            }))),
+      )
+
+pub rotated_holds_nothing : {R : Type 0} (F : Format R) → RotatedHoldsNothing F
+rotated_holds_nothing F q header stale = record {
+  chain = holds_at_least (F.IsFrame (suc q.last)) (length header) stale [] [] (at_rest stale) (holds_used_again (F.IsFrame (suc q.last)) (length header) stale);
+  headed = inr refl;
+}
+
+-- what is known of the last file may be weakened
+pub log_files_weaker : {R : Type 0} (F : Format R) (q : LogFiles R) (P Q : File → Type 0) (d : Disk) → ((file : File) → P file → Q file) → HasLogFiles F q P d → HasLogFiles F q Q d
+log_files_weaker F q P Q d weaker files =
+    let last = files.last in
+    let file = last.file in
+    record {
+      bound = files.bound;
+      last = record { id = last.id; named = last.named; file = record { file = file.file; is = file.is; has = weaker file.file file.has } };
+      none = files.none;
+      older = files.older;
+    }

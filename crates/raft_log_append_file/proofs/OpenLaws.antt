@@ -3,10 +3,9 @@ use Rattle.std.proofs.Common.{◌≡◌, ℕ, ◌+◌, ◌-◌, ◌^◌, ◌<◌
 use Rattle.std.specs.Result.{OnOk, IfErr}
 use Rattle.std.proofs.lemmas.List.{append-nil, append_assoc, take_all, take_at, take-append-le, length-take-le, get_or-take, ext_get_or, take-append-drop}
 use Rattle.std.proofs.lemmas.List.Elements.{All-weaker}
-use Rattle.std.specs.declared.io.ErrorKind.{ErrorKind}
 use Rattle.raft_log_disk.specs.Disk.{file_limit, Change, Wrote, File, Disk, with_file, at_rest, overwritten}
 use Rattle.raft_log_disk.specs.Image.{IsSound, IsSoundFile, end_of, IsLeft}
-use Rattle.raft_log_disk.specs.Calls.{with_change, after_change, flushed, Changes, IsTorn}
+use Rattle.raft_log_disk.specs.Calls.{IsRight, with_change, after_change, flushed, Changes, IsTorn}
 use Rattle.raft_log_disk.specs.Chains.{Written, spelled, AreFrames, Reads}
 use Rattle.raft_log_disk.specs.KeepsSynced.{NoChanceMatch, HoldsChain, kept_records}
 use Rattle.raft_log_disk.proofs.ImageLaws.{left_at_rest}
@@ -226,12 +225,12 @@ refused_keeps (FileSystem kind) bytes log durable pending old new (why, inl open
 refused_keeps (FileSystem kind) bytes log durable pending old new (why, inr left) = kept_keeps log.handle.file durable (pending ++ framed bytes ∷ []) new left.1
 
 -- the arguments of an open file's calls are right
-pub right_writer : (log : AppendFile) (durable pending : Records) (d : Disk) (kind : ErrorKind) → IsOpen log durable pending d → WrongWriter log.handle d kind → ⊥
-right_writer log durable pending d kind opened (inl (why, none)) = let here = opened.is in cc
-right_writer log durable pending d kind opened (inr (why, only)) = let both = opened.permitted in cc
+pub right_writer : (log : AppendFile) (durable pending : Records) (d : Disk) → IsOpen log durable pending d → IsRight (WrongWriter log.handle d)
+right_writer log durable pending d opened kind (inl (why, none)) = let here = opened.is in cc
+right_writer log durable pending d opened kind (inr (why, only)) = let both = opened.permitted in cc
 
-pub right_handle : (log : AppendFile) (durable pending : Records) (d : Disk) (kind : ErrorKind) → IsOpen log durable pending d → WrongHandle log.handle d kind → ⊥
-right_handle log durable pending d kind opened (why, none) = let here = opened.is in cc
+pub right_handle : (log : AppendFile) (durable pending : Records) (d : Disk) → IsOpen log durable pending d → IsRight (WrongHandle log.handle d)
+right_handle log durable pending d opened kind (why, none) = let here = opened.is in cc
 
 -- a file's content is short
 pub content_short : (file : File) → IsSoundFile file → length file.content < 2 ^ 63

@@ -48,11 +48,11 @@ ReadRefused Memory id d = Unit {0}
 ReadRefused (FileSystem kind) id d = (d.stopped ≡ true) ⊎ ((place : ℕ) × (d.unreadable id place ≡ true))
 ReadRefused _ id d = ⊥
 
--- why a file that is there was not opened: a failure, an unreadable place, or memory
-abbrev pub OpenRefused : AppendError → Disk → Disk → Type 0
-OpenRefused Memory old new = Unit {0}
-OpenRefused (FileSystem kind) old new = HasCause old new ⊎ (kind ≡ OutOfMemory)
-OpenRefused _ old new = ⊥
+-- why a file that is there was not opened: a failure, an unreadable place of it, or memory
+abbrev pub OpenRefused : AppendError → ℕ → Disk → Disk → Type 0
+OpenRefused Memory id old new = Unit {0}
+OpenRefused (FileSystem kind) id old new = HasCause (λ other. other ≡ id) old new ⊎ (kind ≡ OutOfMemory)
+OpenRefused _ id old new = ⊥
 
 -- a file that is open is kept
 abbrev pub OpenIsKept : Type 0

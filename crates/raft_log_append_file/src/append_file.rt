@@ -61,7 +61,7 @@ impl AppendFile {
             → IsKept id durable pending (F.disk file_system.old) → NoChanceNow id (F.disk file_system.old)
             → IsKept id durable pending (F.disk file_system.new) }
         ensures err { IfErr result (λ error. (id : ℕ) (file : File) → (F.disk file_system.old).names path.now ≡ Some id
-            → (F.disk file_system.old).files id ≡ Some file → OpenRefused error (F.disk file_system.old) (F.disk file_system.new)) }
+            → (F.disk file_system.old).files id ≡ Some file → OpenRefused error id (F.disk file_system.old) (F.disk file_system.new)) }
         ensures others { (id : ℕ) → (F.disk file_system.old).names path.now ≡ Some id → TouchesOnly id (F.disk file_system.old) (F.disk file_system.new) }
         ensures missing { (F.disk file_system.old).names path.now ≡ None → F.disk file_system.new ≡ F.disk file_system.old }
     {
@@ -111,7 +111,7 @@ impl AppendFile {
             → IsKept id durable pending (F.disk file_system.old) → NoChanceNow id (F.disk file_system.old)
             → IsKept id durable pending (F.disk file_system.new) }
         ensures err { IfErr result (λ error. (id : ℕ) (file : File) → (F.disk file_system.old).names path.now ≡ Some id
-            → (F.disk file_system.old).files id ≡ Some file → OpenRefused error (F.disk file_system.old) (F.disk file_system.new)) }
+            → (F.disk file_system.old).files id ≡ Some file → OpenRefused error id (F.disk file_system.old) (F.disk file_system.new)) }
         ensures others { (id : ℕ) → (F.disk file_system.old).names path.now ≡ Some id → TouchesOnly id (F.disk file_system.old) (F.disk file_system.new) }
         ensures missing { (F.disk file_system.old).names path.now ≡ None → F.disk file_system.new ≡ F.disk file_system.old }
     {

@@ -1,23 +1,32 @@
 -- Causes, chained along calls.
 use Rattle.std.specs.Prelude.{◌≡◌, ℕ, List, Result}
-use Rattle.std.specs.Result.{IfOk, IfErr, OnOk}
+use Rattle.std.specs.Result.{IfOk, IfErr, OnOk, OnErr}
+use Rattle.std.specs.declared.io.ErrorKind.{ErrorKind}
 use Rattle.std.proofs.Common.{refl, sym, ◌∙◌, ap, arith}
 use Rattle.std.proofs.lemmas.Bool.{false≢true}
 use Rattle.raft_log_disk.specs.Disk.{Change, Disk}
-use Rattle.raft_log_disk.specs.Calls.{after_change, flushed, Changes, Creates, Deletes, Renames, MakesDirectory, Refused, after_stop, wrong_argument, failed, stops, SomeOf, none, some, RefusedChange, RefusedWhole}
-use Rattle.raft_log_disk.specs.Causes.{HasCause, stopped, counted_one, unreadable_place, Fails, has_stopped, has_failed, IsLater, IsUndisturbed}
-use Rattle.raft_log_disk.proofs.KeptLaws.{IsCalm, kept_change, kept_sync, kept_create, kept_delete, kept_rename, kept_directory}
+use Rattle.raft_log_disk.specs.Laws.{UndisturbedHasNoCause, OtherFilesAreNoCause}
+use Rattle.raft_log_disk.specs.Exits.{LeavesAll}
+use Rattle.raft_log_disk.specs.Calls.{IsRight, after_change, flushed, Changes, Creates, Deletes, Renames, MakesDirectory, Refused, after_stop, wrong_argument, failed, stops, SomeOf, none, some, RefusedChange, RefusedWhole}
+use Rattle.raft_log_disk.specs.Causes.{HasCause, stopped, counted_one, unreadable_place, Fails, has_stopped, has_failed, IsLater}
+use Rattle.raft_log_disk.proofs.KeptLaws.{IsCalm, kept_change, kept_sync, kept_create, kept_delete, kept_rename, kept_directory, kept_arm}
 
 -- no cause stands behind a refusal on an undisturbed disk
-pub undisturbed_has_no_cause : (old new : Disk) → IsUndisturbed new → new.failures ≡ old.failures → HasCause old new → ⊥
-undisturbed_has_no_cause old new quiet same (stopped is) = false≢true (sym quiet.runs ∙ is)
-undisturbed_has_no_cause old new quiet same (counted_one rises) = omega arith
-undisturbed_has_no_cause old new quiet same (unreadable_place id place is) = false≢true (sym (quiet.readable id place) ∙ is)
+pub undisturbed_has_no_cause : (files : ℕ → Type 0) → UndisturbedHasNoCause files
+undisturbed_has_no_cause files old new quiet same (stopped is) = false≢true (sym quiet.runs ∙ is)
+undisturbed_has_no_cause files old new quiet same (counted_one rises) = omega arith
+undisturbed_has_no_cause files old new quiet same (unreadable_place id place one is) = false≢true (sym (quiet.readable id place) ∙ is)
+
+-- a place of another file is none
+pub other_files_are_no_cause : (files : ℕ → Type 0) → OtherFilesAreNoCause files
+other_files_are_no_cause files old new readable (stopped is) = has_stopped is
+other_files_are_no_cause files old new readable (counted_one rises) = has_failed rises
+other_files_are_no_cause files old new readable (unreadable_place id place one is) = absurd (false≢true (sym (readable id place one) ∙ is))
 
 -- a counted failure or a stop is a cause
-pub fails_has_cause : (old new : Disk) → Fails old new → HasCause old new
-fails_has_cause old new (has_stopped is) = stopped is
-fails_has_cause old new (has_failed rises) = counted_one rises
+pub fails_has_cause : (files : ℕ → Type 0) (old new : Disk) → Fails old new → HasCause files old new
+fails_has_cause files old new (has_stopped is) = stopped is
+fails_has_cause files old new (has_failed rises) = counted_one rises
 
 pub later_same : (d : Disk) → IsLater d d
 later_same d = record { failures = omega arith; stopped = λ is. is }
@@ -36,22 +45,22 @@ fails_still a b c (has_stopped is) next = has_stopped (next.stopped is)
 fails_still a b c (has_failed rises) next = has_failed (omega (arith, next.failures, rises))
 
 -- a refused call whose argument was right has failed
-pub fails : {part done : Disk → Type 0} {wrong : Type 0} {old new : Disk} → (wrong → ⊥) → ((left : Disk) → part left → left.failures ≡ old.failures)
-    → Refused part done wrong old new → Fails old new
+pub fails : {part done : Disk → Type 0} {wrong : ErrorKind → Type 0} {error : ErrorKind} {old new : Disk} → IsRight wrong → ((left : Disk) → part left → left.failures ≡ old.failures)
+    → Refused part done wrong error old new → Fails old new
 fails {old = old} right keeps (after_stop is same) = has_stopped (ap (λ (d : Disk). d.stopped) same ∙ is)
-fails right keeps (wrong_argument runs why same) = absurd (right why)
+fails {error = error} right keeps (wrong_argument runs why same) = absurd (right error why)
 fails {old = old} right keeps (failed runs fine left is same) =
     has_failed (let count : left.failures ≡ old.failures = keeps left is in omega (arith, ap (λ (d : Disk). d.failures) same, count))
 fails right keeps (stops runs left is same) = has_stopped (ap (λ (d : Disk). d.stopped) same)
 
-pub fails_change : {id : ℕ} {change : Change} {wrong : Type 0} {old new : Disk} → (wrong → ⊥) → RefusedChange id change wrong old new → Fails old new
+pub fails_change : {id : ℕ} {change : Change} {wrong : ErrorKind → Type 0} {error : ErrorKind} {old new : Disk} → IsRight wrong → RefusedChange id change wrong error old new → Fails old new
 fails_change {id = id} {change = change} {old = old} right refused = fails right keeps refused
   where
     keeps : (left : Disk) → SomeOf id change old left → left.failures ≡ old.failures
     keeps left (none same) = ap (λ (d : Disk). d.failures) same
     keeps left (some file content is part same) = ap (λ (d : Disk). d.failures) same
 
-pub fails_whole : {done : Disk → Type 0} {wrong : Type 0} {old new : Disk} → (wrong → ⊥) → RefusedWhole done wrong old new → Fails old new
+pub fails_whole : {done : Disk → Type 0} {wrong : ErrorKind → Type 0} {error : ErrorKind} {old new : Disk} → IsRight wrong → RefusedWhole done wrong error old new → Fails old new
 fails_whole right refused = fails right (λ left same. ap (λ (d : Disk). d.failures) same) refused
 
 -- to be later is calm
@@ -62,32 +71,35 @@ later_calm old = record {
 }
 
 -- each call, answered or refused, leaves a later disk
-pub later_change : {T E : Type 0} {old new : Disk} (wrong : E → Type 0) (result : Result T E) (id : ℕ) (change : Change)
-    → OnOk result (Changes id (after_change change) old new) → IfErr result (λ e. RefusedChange id change (wrong e) old new) → IsLater old new
+pub later_change : {T : Type 0} {old new : Disk} (wrong : ErrorKind → Type 0) (result : Result T ErrorKind) (id : ℕ) (change : Change)
+    → OnOk result (Changes id (after_change change) old new) → IfErr result (λ e. RefusedChange id change wrong e old new) → IsLater old new
 later_change {old = old} wrong result id change ok err =
     kept_change (IsLater old) wrong result id change (later_calm old) (later_same old) (λ file content is part. record { failures = omega arith; stopped = λ is. is }) ok err
 
-pub later_sync : {T E : Type 0} {old new : Disk} (wrong : E → Type 0) (result : Result T E) (id : ℕ)
-    → OnOk result (Changes id flushed old new) → IfErr result (λ e. RefusedWhole (Changes id flushed old) (wrong e) old new) → IsLater old new
+pub later_sync : {T : Type 0} {old new : Disk} (wrong : ErrorKind → Type 0) (result : Result T ErrorKind) (id : ℕ)
+    → OnOk result (Changes id flushed old new) → IfErr result (λ e. RefusedWhole (Changes id flushed old) wrong e old new) → IsLater old new
 later_sync {old = old} wrong result id ok err =
     kept_sync (IsLater old) wrong result id (later_calm old) (later_same old) (λ file is. record { failures = omega arith; stopped = λ is. is }) ok err
 
-pub later_create : {T E : Type 0} {old new : Disk} (number : T → ℕ) (wrong : E → Type 0) (result : Result T E) (path : List ℕ)
-    → IfOk result (λ v. Creates path (number v) old new) → IfErr result (λ e. RefusedWhole (Creates path old.unused old) (wrong e) old new) → IsLater old new
+pub later_create : {T : Type 0} {old new : Disk} (number : T → ℕ) (wrong : ErrorKind → Type 0) (result : Result T ErrorKind) (path : List ℕ)
+    → IfOk result (λ v. Creates path (number v) old new) → IfErr result (λ e. RefusedWhole (Creates path old.unused old) wrong e old new) → IsLater old new
 later_create {old = old} number wrong result path ok err =
     kept_create (IsLater old) number wrong result path (later_calm old) (later_same old) (λ free apart home. record { failures = omega arith; stopped = λ is. is }) ok err
 
-pub later_delete : {T E : Type 0} {old new : Disk} (wrong : E → Type 0) (result : Result T E) (path : List ℕ)
-    → OnOk result (Deletes path old new) → IfErr result (λ e. RefusedWhole (Deletes path old) (wrong e) old new) → IsLater old new
+pub later_delete : {T : Type 0} {old new : Disk} (wrong : ErrorKind → Type 0) (result : Result T ErrorKind) (path : List ℕ)
+    → OnOk result (Deletes path old new) → IfErr result (λ e. RefusedWhole (Deletes path old) wrong e old new) → IsLater old new
 later_delete {old = old} wrong result path ok err =
     kept_delete (IsLater old) wrong result path (later_calm old) (later_same old) (λ id is. record { failures = omega arith; stopped = λ is. is }) ok err
 
-pub later_rename : {T E : Type 0} {old new : Disk} (wrong : E → Type 0) (result : Result T E) (from to : List ℕ)
-    → OnOk result (Renames from to old new) → IfErr result (λ e. RefusedWhole (Renames from to old) (wrong e) old new) → IsLater old new
+pub later_rename : {T : Type 0} {old new : Disk} (wrong : ErrorKind → Type 0) (result : Result T ErrorKind) (from to : List ℕ)
+    → OnOk result (Renames from to old new) → IfErr result (λ e. RefusedWhole (Renames from to old) wrong e old new) → IsLater old new
 later_rename {old = old} wrong result from to ok err =
     kept_rename (IsLater old) wrong result from to (later_calm old) (later_same old) (λ id is apart home. record { failures = omega arith; stopped = λ is. is }) ok err
 
-pub later_directory : {T E : Type 0} {old new : Disk} (wrong : E → Type 0) (result : Result T E) (path : List ℕ)
-    → OnOk result (MakesDirectory path old new) → IfErr result (λ e. RefusedWhole (MakesDirectory path old) (wrong e) old new) → IsLater old new
+pub later_directory : {T : Type 0} {old new : Disk} (wrong : ErrorKind → Type 0) (result : Result T ErrorKind) (path : List ℕ)
+    → OnOk result (MakesDirectory path old new) → IfErr result (λ e. RefusedWhole (MakesDirectory path old) wrong e old new) → IsLater old new
 later_directory {old = old} wrong result path ok err =
     kept_directory (IsLater old) wrong result path (later_calm old) (later_same old) (λ free apart. record { failures = omega arith; stopped = λ is. is }) ok err
+
+pub later_arm : {T E : Type 0} {old new : Disk} (result : Result T E) → OnOk result (LeavesAll old new) → OnErr result (new ≡ old) → IsLater old new
+later_arm {old = old} result ok err = kept_arm (IsLater old) result (later_same old) ok err

@@ -10,7 +10,8 @@ use Rattle.std.proofs.lemmas.List.Elements.{All-nil, All-contains, All-weaker}
 use Rattle.std.proofs.lemmas.Bool.{cases_lt}
 use std.Path.{fun_ext}
 use Rattle.raft_log_disk.specs.Disk.{Change, File, Disk, at_rest, file_limit}
-use Rattle.raft_log_disk.specs.Laws.{SyncedFileHasOneImage}
+use Rattle.raft_log_disk.specs.Laws.{SyncedFileHasOneImage, NamedIsUsed, ImagesStay}
+use Rattle.raft_log_disk.specs.Calls.{with_marks, counted, at_stop}
 use Rattle.raft_log_disk.specs.Image.{Touches, Spares, end_of, IsLeft, IsFileImage, IsImage, IsSoundFile, IsSound, settled, as_it_stands, IsAllSynced}
 
 -- bytes at rest are what is left of them
@@ -160,3 +161,29 @@ image_is_sound d image sound is = record {
   where
     name_of : (path : List ℕ) (id : ℕ) → image.names path ≡ Some id → d.names path ≡ Some id
     name_of path id at = ap (λ (f : List ℕ → Option ℕ). f path) (sym is.names) ∙ at
+
+-- a name leads to a number that was given
+pub named_is_used : NamedIsUsed
+named_is_used d path id sound at = elim (cases_lt id d.unused) [ inl less ↦ less | inr above ↦ absurd (sound.named path id at (sound.fresh id above)) ]
+
+-- what a stop may leave doesn't depend on marks, counts and stops
+images_alike : (d e image : Disk) → d.directories ≡ e.directories → d.names ≡ e.names → d.files ≡ e.files → d.unused ≡ e.unused → IsImage d image → IsImage e image
+images_alike d e image directories names files unused is = record {
+  directories = is.directories ∙ directories;
+  names = is.names ∙ names;
+  unused = is.unused ∙ unused;
+  files = λ id. subst (λ (f : ℕ → Option File). IsFileImage (f id) (image.files id)) files (is.files id);
+  readable = is.readable;
+  running = is.running;
+  uncounted = is.uncounted;
+}
+
+pub images_stay : ImagesStay
+images_stay = record {
+  marks = λ d image unreadable. images_alike d (with_marks unreadable d) image refl refl refl refl;
+  failure = λ d image. images_alike d (counted d) image refl refl refl refl;
+  stop = λ d image. images_alike d (at_stop d) image refl refl refl refl;
+  failure_back = λ d image. images_alike (counted d) d image refl refl refl refl;
+  marks_back = λ d image unreadable. images_alike (with_marks unreadable d) d image refl refl refl refl;
+  stop_back = λ d image. images_alike (at_stop d) d image refl refl refl refl;
+}

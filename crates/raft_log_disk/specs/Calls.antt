@@ -3,6 +3,7 @@ use Rattle.std.specs.Prelude.{◌≡◌, ℕ, ◌+◌, ◌<◌, ◌≤◌, ◌�
 use Rattle.std.specs.Map.{update}
 use Rattle.std.specs.Str.{bytes_eq}
 use Rattle.std.proofs.Common.{nat_eq, take}
+use Rattle.std.specs.declared.io.ErrorKind.{ErrorKind}
 use Rattle.raft_log_disk.specs.Disk.{Change, Wrote, ShortenedTo, GrewTo, File, Disk, at_rest, zeros, changed, with_file, HasDirectory}
 
 -- the file with a content, and a change that it isn't synced with
@@ -60,7 +61,7 @@ pub record IsTorn (at : ℕ) (bytes old new : List ℕ) : Type 0 where
   pub longer : length old ≤ length new
   pub within : (size : ℕ) → length old ≤ size → at + length bytes ≤ size → length new ≤ size
 
--- what a refused change may leave of a content: some of a write, the cut made or not, some of a growth's zeros
+-- what a refused change may leave of a content: some of a write, a shortening or nothing, some of a growth's zeros
 abbrev pub InPart : Change → List ℕ → List ℕ → Type 0
 InPart (Wrote at bytes) old new = IsTorn at bytes old new
 InPart (ShortenedTo size) old new = (new ≡ old) ⊎ (new ≡ take size old)
@@ -105,29 +106,36 @@ pub record MakesDirectory (path : List ℕ) (old new : Disk) : Type 0 where
   pub apart : old.directories path ≡ false
   pub done : new ≡ with_directory path old
 
--- A refused call. After a stop nothing changes. Nor does it for an argument that the state shows to be wrong, and no
--- failure is counted for it. Else a failure is counted, and the call may have been done in part; or the file system
--- stopped at this call, which may have been done in part or whole.
-pub data Refused (part done : Disk → Type 0) (wrong : Type 0) (old new : Disk) : Type 0 where
-  after_stop : old.stopped ≡ true → new ≡ old → Refused part done wrong old new
-  wrong_argument : old.stopped ≡ false → wrong → new ≡ old → Refused part done wrong old new
-  failed : old.stopped ≡ false → (wrong → ⊥) → (left : Disk) → part left → new ≡ counted left → Refused part done wrong old new
-  stops : old.stopped ≡ false → (left : Disk) → part left ⊎ done left → new ≡ at_stop left → Refused part done wrong old new
+-- none of a call's arguments is wrong as things stand
+abbrev pub IsRight : (ErrorKind → Type 0) → Type 0
+IsRight wrong = (error : ErrorKind) → wrong error → ⊥
+
+-- A refused call. After a stop nothing changes. Nor does it for an argument that is wrong as things stand, and no failure is
+-- counted for it; the error says which. Where no argument is wrong, a failure is counted, and the call may have been done
+-- in part. Or the file system stopped at this call: nothing was done, or, of a call with the right arguments, a part or all.
+-- (On a counted refusal, and from a stop on, the error may be any.)
+pub data Refused (part done : Disk → Type 0) (wrong : ErrorKind → Type 0) (error : ErrorKind) (old new : Disk) : Type 0 where
+  after_stop : old.stopped ≡ true → new ≡ old → Refused part done wrong error old new
+  wrong_argument : old.stopped ≡ false → wrong error → new ≡ old → Refused part done wrong error old new
+  failed : old.stopped ≡ false → IsRight wrong → (left : Disk) → part left → new ≡ counted left → Refused part done wrong error old new
+  stops : old.stopped ≡ false → (left : Disk) → (left ≡ old) ⊎ (IsRight wrong × (part left ⊎ done left)) → new ≡ at_stop left
+      → Refused part done wrong error old new
 
 -- what a refused call that is done whole or not at all may leave: a call on names, or a sync
 abbrev pub Nothing : Disk → Disk → Type 0
 Nothing old left = left ≡ old
 
--- what a refused write, cut or growth may leave: nothing, or a content with some of it, among the changes since the last sync
+-- what a refused write, shortening or growth may leave: nothing, or a content with some of it, and the change among those
+-- since the last sync
 pub data SomeOf (id : ℕ) (change : Change) (old left : Disk) : Type 0 where
   none : left ≡ old → SomeOf id change old left
   some : (file : File) (content : List ℕ) → old.files id ≡ Some file → InPart change file.content content
       → left ≡ with_file id (Some (with_change change content file)) old → SomeOf id change old left
 
--- a refused write, cut or growth
-abbrev pub RefusedChange : ℕ → Change → Type 0 → Disk → Disk → Type 0
-RefusedChange id change wrong old new = Refused (SomeOf id change old) (Changes id (after_change change) old) wrong old new
+-- a refused write, shortening or growth
+abbrev pub RefusedChange : ℕ → Change → (ErrorKind → Type 0) → ErrorKind → Disk → Disk → Type 0
+RefusedChange id change wrong error old new = Refused (SomeOf id change old) (Changes id (after_change change) old) wrong error old new
 
 -- a refused call that is done whole or not at all
-abbrev pub RefusedWhole : (Disk → Type 0) → Type 0 → Disk → Disk → Type 0
-RefusedWhole done wrong old new = Refused (Nothing old) done wrong old new
+abbrev pub RefusedWhole : (Disk → Type 0) → (ErrorKind → Type 0) → ErrorKind → Disk → Disk → Type 0
+RefusedWhole done wrong error old new = Refused (Nothing old) done wrong error old new

@@ -2,12 +2,12 @@
 use Rattle.std.specs.Prelude.{◌≡◌, ℕ, ◌<◌, ◌≤◌, true, false}
 use Rattle.raft_log_disk.specs.Disk.{Disk}
 
--- Nothing else may stand behind a refusal than a stop, a failure that was counted during the call, or an unreadable
--- place. (A refused read says more: which place of what was asked for.)
-pub data HasCause (old new : Disk) : Type 0 where
-  stopped : new.stopped ≡ true → HasCause old new
-  counted_one : old.failures < new.failures → HasCause old new
-  unreadable_place : (id place : ℕ) → new.unreadable id place ≡ true → HasCause old new
+-- Why a call on these files was refused: a stop, a failure that was counted during the call, or an unreadable place of one
+-- of them; nothing else may stand behind a refusal. (A refused read says more: which place of what was asked for.)
+pub data HasCause (files : ℕ → Type 0) (old new : Disk) : Type 0 where
+  stopped : new.stopped ≡ true → HasCause files old new
+  counted_one : old.failures < new.failures → HasCause files old new
+  unreadable_place : (id place : ℕ) → files id → new.unreadable id place ≡ true → HasCause files old new
 
 -- a stop, or a failure that was counted during the call: the cause of a refused changing call
 pub data Fails (old new : Disk) : Type 0 where

@@ -1,15 +1,17 @@
 -- The laws of the definitions, as the public functions without a body state them.
-use Rattle.std.specs.Prelude.{◌≡◌, ℕ, ◌<◌, false, Some, None, List, []}
+use Rattle.std.specs.Prelude.{◌≡◌, ℕ, ◌<◌, Bool, false, Some, None, List, []}
 use Rattle.std.specs.List.{Contains}
 use Rattle.std.proofs.Math.ListN.{set}
 use Rattle.raft_log_disk.specs.Disk.{Change, File, Disk, at_rest, with_file, file_limit}
 use Rattle.raft_log_disk.specs.Image.{Touches, end_of, IsLeft, IsImage, IsSound, as_it_stands, IsAllSynced}
-use Rattle.raft_log_disk.specs.Calls.{with_change, flushed, created, deleted, renamed, with_directory, counted, at_stop, InPart}
-use Rattle.raft_log_disk.specs.Causes.{HasCause, IsUndisturbed}
+use Rattle.raft_log_disk.specs.Calls.{with_change, flushed, created, deleted, renamed, with_directory, with_marks, counted, at_stop, InPart}
+use Rattle.raft_log_disk.specs.Causes.{HasCause, Fails, IsUndisturbed}
 
+-- the files as they stand are an image
 abbrev pub StandsIsImage : Type 0
 StandsIsImage = (d : Disk) → IsSound d → IsImage d (as_it_stands d)
 
+-- and the only one where every file is synced
 abbrev pub SyncedIsOnlyImage : Type 0
 SyncedIsOnlyImage = (d image : Disk) → IsSound d → IsAllSynced d → IsImage d image → image ≡ as_it_stands d
 
@@ -18,20 +20,28 @@ abbrev pub SyncedFileHasOneImage : Type 0
 SyncedFileHasOneImage = (d image : Disk) (id : ℕ) (file : File) → IsSound d → d.files id ≡ Some file → file.changes ≡ [] → IsImage d image
     → image.files id ≡ Some (at_rest file.content)
 
+-- what a second stop leaves of what a first one left, the first one could have left
 abbrev pub ImageOfImage : Type 0
 ImageOfImage = (d image later : Disk) → IsImage d image → IsImage image later → IsImage d later
 
+-- what a stop leaves of a sound disk is sound
 abbrev pub ImageIsSound : Type 0
 ImageIsSound = (d image : Disk) → IsSound d → IsImage d image → IsSound image
 
--- whatever byte is put into a written range, or behind a cut, of what may be left: that may be left too
+-- whatever byte is put into a written range, or behind where the file was shortened, of what may be left: that may be left too
 abbrev pub AnyByteLeft : Type 0
 AnyByteLeft = (file : File) (bytes : List ℕ) (change : Change) (place byte : ℕ) → Contains file.changes change → Touches change place
     → IsLeft file bytes → IsLeft file (set bytes place byte)
 
 -- where no failure was counted since, and the disk runs and can be read, there is no cause
-abbrev pub UndisturbedHasNoCause : Type 0
-UndisturbedHasNoCause = (old new : Disk) → IsUndisturbed new → new.failures ≡ old.failures → HasCause old new → ⊥
+abbrev pub UndisturbedHasNoCause : (ℕ → Type 0) → Type 0
+UndisturbedHasNoCause files = (old new : Disk) → IsUndisturbed new → new.failures ≡ old.failures → HasCause files old new → ⊥
+
+-- A place of another file is no cause: where each place of the files in question can be read, a refusal was counted, or the
+-- file system has stopped.
+abbrev pub OtherFilesAreNoCause : (ℕ → Type 0) → Type 0
+OtherFilesAreNoCause files = (old new : Disk) → ((id place : ℕ) → files id → new.unreadable id place ≡ false)
+    → HasCause files old new → Fails old new
 
 -- what a call may leave of a sound disk is sound
 pub record CallsKeepSound : Type 0 where
@@ -44,3 +54,16 @@ pub record CallsKeepSound : Type 0 where
   pub directory : (d : Disk) (path : List ℕ) → IsSound d → d.names path ≡ None → IsSound (with_directory path d)
   pub failure : (d : Disk) → IsSound d → IsSound (counted d)
   pub stop : (d : Disk) → IsSound d → IsSound (at_stop d)
+
+-- a name leads to a number that was given
+abbrev pub NamedIsUsed : Type 0
+NamedIsUsed = (d : Disk) (path : List ℕ) (id : ℕ) → IsSound d → d.names path ≡ Some id → id < d.unused
+
+-- What a stop may leave doesn't depend on marks, on counted failures, nor on whether the file system has stopped.
+pub record ImagesStay : Type 0 where
+  pub marks : (d image : Disk) (unreadable : ℕ → ℕ → Bool) → IsImage d image → IsImage (with_marks unreadable d) image
+  pub failure : (d image : Disk) → IsImage d image → IsImage (counted d) image
+  pub stop : (d image : Disk) → IsImage d image → IsImage (at_stop d) image
+  pub failure_back : (d image : Disk) → IsImage (counted d) image → IsImage d image
+  pub marks_back : (d image : Disk) (unreadable : ℕ → ℕ → Bool) → IsImage (with_marks unreadable d) image → IsImage d image
+  pub stop_back : (d image : Disk) → IsImage (at_stop d) image → IsImage d image

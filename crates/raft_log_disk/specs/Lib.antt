@@ -10,3 +10,4 @@ pub mod LogFiles
 pub mod Names
 pub mod Arguments
 pub mod Reading
+pub mod Exits

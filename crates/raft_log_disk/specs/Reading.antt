@@ -1,12 +1,12 @@
 -- What the calls that change nothing answer.
-use Rattle.std.specs.Prelude.{◌≡◌, ℕ, ◌+◌, ◌-◌, ◌<◌, ◌≤◌, ◌++◌, true, false, Some, None, List, [], ◌∷◌, length, slice_index_or}
+use Rattle.std.specs.Prelude.{◌≡◌, ℕ, ◌+◌, ◌-◌, ◌<◌, ◌≤◌, ◌⊎◌, ◌++◌, true, false, Some, None, List, [], ◌∷◌, length, slice_index_or}
 use Rattle.std.specs.List.{Contains}
 use Rattle.std.specs.declared.io.ErrorKind.{ErrorKind}
 use Rattle.std.proofs.Common.{min, take, drop}
 use Rattle.raft_log_disk.specs.Disk.{File, Disk, IsPlain}
 use Rattle.raft_log_disk.specs.declared.handle.Handle.{Handle}
 use Rattle.raft_log_disk.specs.declared.handle.Permission.{Permission}
-use Rattle.raft_log_disk.specs.Arguments.{WrongHandle}
+use Rattle.raft_log_disk.specs.Arguments.{WrongHandle, WrongName, WrongListing, IsDeclined}
 
 -- the handle is that of the file with the name
 pub record IsOpened (path : List ℕ) (permission : Permission) (handle : Handle) (d : Disk) : Type 0 where
@@ -45,3 +45,15 @@ pub record IsListing (directory : List ℕ) (d : Disk) (names : List (List ℕ))
   pub listed : (name : List ℕ) → Contains names name → (d.names (directory ++ 47 ∷ name) ≡ None → ⊥) × IsPlain name
   pub all : (name : List ℕ) → IsPlain name → (d.names (directory ++ 47 ∷ name) ≡ None → ⊥) → Contains names name
   pub once : (j k : ℕ) → j < k → k < length names → slice_index_or names j [] ≡ slice_index_or names k [] → ⊥
+
+-- why a file wasn't opened
+abbrev pub IsNotOpened : List ℕ → Disk → ErrorKind → Type 0
+IsNotOpened path d error = IsDeclined (WrongName path d error) d error
+
+-- why a directory wasn't listed, or its space not told
+abbrev pub IsNotListed : List ℕ → Disk → ErrorKind → Type 0
+IsNotListed directory d error = IsDeclined (WrongListing directory d error) d error
+
+-- why a file's size wasn't told
+abbrev pub IsNotMeasured : Handle → Disk → ErrorKind → Type 0
+IsNotMeasured handle d error = (d.stopped ≡ true) ⊎ WrongHandle handle d error

@@ -1,3 +1,5 @@
+//! Laws of what calls leave.
+
 ghost use Rattle.raft_log_disk.specs.Laws.{CallsKeepSound};
 
 /// Whatever a call leaves, whole or in part, of a sound disk is sound.

@@ -1,3 +1,5 @@
+//! What a file is opened for, and how calls are made to fail.
+
 /// What a handle may do.
 #[derive(Clone, Copy, Debug, PartialEq, Eq)]
 pub enum Permission {

@@ -1,4 +1,6 @@
-ghost use Rattle.raft_log_disk.specs.Laws.{StandsIsImage, SyncedIsOnlyImage, SyncedFileHasOneImage, ImageOfImage, ImageIsSound, AnyByteLeft};
+//! Laws of what a crash may leave.
+
+ghost use Rattle.raft_log_disk.specs.Laws.{StandsIsImage, SyncedIsOnlyImage, SyncedFileHasOneImage, ImageOfImage, ImageIsSound, AnyByteLeft, ImagesStay, NamedIsUsed};
 
 /// A crash may leave the files as they stand.
 pub fn stands_is_an_image()
@@ -25,7 +27,17 @@ pub fn image_of_a_sound_disk_is_sound()
     ensures { ImageIsSound }
 {}
 
-/// Any byte may stand in a written range or behind a cut.
+/// Any byte may stand in a written range, or behind where a file was shortened.
 pub fn any_byte_may_be_left()
     ensures { AnyByteLeft }
+{}
+
+/// What a crash may leave doesn't depend on marks of unreadable places, on counted failures or on a stop.
+pub fn images_stay()
+    ensures { ImagesStay }
+{}
+
+/// A name leads to a number that was given, so a new file's number is none that a name leads to.
+pub fn names_lead_to_used_numbers()
+    ensures { NamedIsUsed }
 {}

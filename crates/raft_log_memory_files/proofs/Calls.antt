@@ -5,7 +5,7 @@ use Rattle.std.specs.declared.io.ErrorKind.{ErrorKind}
 use Rattle.std.proofs.Common.{refl, sym, ◌∙◌, ap, inl, inr}
 use Rattle.std.proofs.lemmas.Bool.{false≢true}
 use Rattle.raft_log_disk.specs.Disk.{Change, File, Disk, with_file, HasDirectory}
-use Rattle.raft_log_disk.specs.Calls.{after_change, counted, at_stop, Changes, failed, stops, none, RefusedChange, RefusedWhole}
+use Rattle.raft_log_disk.specs.Calls.{IsRight, after_change, counted, at_stop, Changes, failed, stops, none, RefusedChange, RefusedWhole}
 use Rattle.raft_log_disk.proofs.ImageLaws.{some_file}
 use Rattle.raft_log_disk.specs.declared.handle.Handle.{Handle}
 use Rattle.raft_log_disk.specs.declared.handle.Permission.TheVariants.{ReadWrite}
@@ -27,15 +27,15 @@ abbrev pub over : MemoryFileSystem → Disk → Disk
 over system d = record d { stopped = system.stopped; failures = system.failures }
 
 -- a refused call that did nothing
-pub refused_whole : {done : Disk → Type 0} {wrong : Type 0} (old mid new : Disk) → old.stopped ≡ false → (wrong → ⊥) → mid ≡ old
-    → (new ≡ counted mid) ⊎ (new ≡ at_stop mid) → RefusedWhole done wrong old new
+pub refused_whole : {done : Disk → Type 0} {wrong : ErrorKind → Type 0} {error : ErrorKind} (old mid new : Disk) → old.stopped ≡ false → IsRight wrong → mid ≡ old
+    → (new ≡ counted mid) ⊎ (new ≡ at_stop mid) → RefusedWhole done wrong error old new
 refused_whole old mid new runs right same (inl is) = failed runs right old refl (is ∙ ap counted same)
 refused_whole old mid new runs right same (inr is) = stops runs old (inl refl) (is ∙ ap at_stop same)
 
-pub refused_piece : {id : ℕ} {piece : Change} {wrong : Type 0} (old new : Disk) → old.stopped ≡ false → (wrong → ⊥)
-    → (new ≡ counted old) ⊎ (new ≡ at_stop old) → RefusedChange id piece wrong old new
+pub refused_piece : {id : ℕ} {piece : Change} {wrong : ErrorKind → Type 0} {error : ErrorKind} (old new : Disk) → old.stopped ≡ false → IsRight wrong
+    → (new ≡ counted old) ⊎ (new ≡ at_stop old) → RefusedChange id piece wrong error old new
 refused_piece old new runs right (inl is) = failed runs right old (none refl) is
-refused_piece old new runs right (inr is) = stops runs old (inl (none refl)) is
+refused_piece old new runs right (inr is) = stops runs old (inl refl) is
 
 -- what stands after the storage made a change, or didn't
 pub changed_or_not : (id : ℕ) (next : File → File) (done : Result (Unit {0}) ErrorKind) (begun : MemoryFileSystem) (after : Storage) (old : Disk) → disk_of begun ≡ old
@@ -61,14 +61,14 @@ change_ok id next (Err e) old mid new (Ok w) is ok = absurd (ok.0)
 change_ok id next done old mid new (Err e) is ok = tt
 
 pub change_err : {T : Type 0} (id : ℕ) (piece : Change) (wrong : ErrorKind → Type 0) (done : Result (Unit {0}) ErrorKind) (old mid new : Disk) (result : Result T ErrorKind)
-    → old.stopped ≡ false → ((e : ErrorKind) → wrong e → ⊥)
+    → old.stopped ≡ false → IsRight wrong
     → MatchResult done (λ v. Changes id (after_change piece) old mid) (λ e. mid ≡ old)
-    → OnErr result ((new ≡ at_stop mid) ⊎ (OnOk done ⊥ × (new ≡ counted mid))) → IfErr result (λ e. RefusedChange id piece (wrong e) old new)
+    → OnErr result ((new ≡ at_stop mid) ⊎ (OnOk done ⊥ × (new ≡ counted mid))) → IfErr result (λ e. RefusedChange id piece wrong e old new)
 change_err id piece wrong done old mid new (Ok w) runs right is err = tt
-change_err id piece wrong (Ok v) old mid new (Err e) runs right is (inl stop) = stops runs mid (inr is) stop
+change_err id piece wrong (Ok v) old mid new (Err e) runs right is (inl stop) = stops runs mid (inr (right, inr is)) stop
 change_err id piece wrong (Ok v) old mid new (Err e) runs right is (inr fail) = absurd (fail.0)
-change_err id piece wrong (Err k) old mid new (Err e) runs right is (inl stop) = stops runs mid (inl (none is)) stop
-change_err id piece wrong (Err k) old mid new (Err e) runs right is (inr fail) = failed runs (right e) mid (none is) fail.1
+change_err id piece wrong (Err k) old mid new (Err e) runs right is (inl stop) = stops runs mid (inl is) stop
+change_err id piece wrong (Err k) old mid new (Err e) runs right is (inr fail) = failed runs right mid (none is) fail.1
 
 -- arguments that are right
 pub right_name : (path : List ℕ) (d : Disk) (id : ℕ) → d.names path ≡ Some id → (e : ErrorKind) → WrongName path d e → ⊥

@@ -4,9 +4,10 @@ use raft_log_memory_disk::Node;
 use std::io::ErrorKind;
 
 impl FileSystem for MemoryFileSystem {
-    ghost use Rattle.std.specs.Prelude.{◌≡◌, ℕ, ◌+◌, ◌⊎◌, Bool, true, OnOk, OnErr, IfOk, IfErr};
+    ghost use Rattle.std.specs.Prelude.{◌≡◌, ◌+◌, ◌⊎◌, true, OnOk, OnErr, IfOk, IfErr};
     ghost use Rattle.raft_log_disk.specs.Disk.{Wrote, ShortenedTo, GrewTo};
-    ghost use Rattle.raft_log_disk.specs.Calls.{Creates, Deletes, Renames, MakesDirectory, Changes, after_change, flushed, with_marks, RefusedWhole, RefusedChange};
+    ghost use Rattle.raft_log_disk.specs.Calls.{Creates, Deletes, Renames, MakesDirectory};
+    ghost use Rattle.raft_log_disk.specs.Exits.{FailsToCreate, FailsToDelete, FailsToRename, FailsToMakeDirectory, Writes, FailsToWrite, Shortens, FailsToShorten, Grows, FailsToGrow, Syncs, FailsToSync, Arms};
     ghost use Rattle.raft_log_disk.specs.Arguments.{WrongCreate, WrongName, WrongRename, WrongDirectory, WrongHandle, WrongWriter};
     ghost use Rattle.raft_log_memory_files.specs.Memory.{disk_of};
     ghost use Rattle.raft_log_memory_files.specs.Turns.{armed, armed_with, IsAnswered, IsRefusedWhole, IsRefusedChange};
@@ -16,7 +17,7 @@ impl FileSystem for MemoryFileSystem {
     fn create(&mut self, path: &str) -> Result<Handle, ErrorKind>
         ensures ok { IfOk result (λ handle. Creates path.now handle.file (disk_of self.old) (disk_of self.new)) }
         ensures permission { IfOk result (λ handle. handle.permission ≡ Permission.ReadWrite) }
-        ensures err { IfErr result (λ error. RefusedWhole (Creates path.now (disk_of self.old).unused (disk_of self.old)) (WrongCreate path.now (disk_of self.old) error) (disk_of self.old) (disk_of self.new)) }
+        ensures err { IfErr result (λ error. FailsToCreate path.now error (disk_of self.old) (disk_of self.new)) }
         ensures turn { OnOk result (IsAnswered self.old self.new) }
         ensures cause { IfErr result (λ error. IsRefusedWhole (WrongCreate path.now (disk_of self.old)) error self.old self.new) }
     {
@@ -39,7 +40,7 @@ impl FileSystem for MemoryFileSystem {
 
     fn delete(&mut self, path: &str) -> Result<(), ErrorKind>
         ensures ok { OnOk result (Deletes path.now (disk_of self.old) (disk_of self.new)) }
-        ensures err { IfErr result (λ error. RefusedWhole (Deletes path.now (disk_of self.old)) (WrongName path.now (disk_of self.old) error) (disk_of self.old) (disk_of self.new)) }
+        ensures err { IfErr result (λ error. FailsToDelete path.now error (disk_of self.old) (disk_of self.new)) }
         ensures turn { OnOk result (IsAnswered self.old self.new) }
         ensures cause { IfErr result (λ error. IsRefusedWhole (WrongName path.now (disk_of self.old)) error self.old self.new) }
     {
@@ -54,7 +55,7 @@ impl FileSystem for MemoryFileSystem {
 
     fn rename(&mut self, from: &str, to: &str) -> Result<(), ErrorKind>
         ensures ok { OnOk result (Renames from.now to.now (disk_of self.old) (disk_of self.new)) }
-        ensures err { IfErr result (λ error. RefusedWhole (Renames from.now to.now (disk_of self.old)) (WrongRename from.now to.now (disk_of self.old) error) (disk_of self.old) (disk_of self.new)) }
+        ensures err { IfErr result (λ error. FailsToRename from.now to.now error (disk_of self.old) (disk_of self.new)) }
         ensures turn { OnOk result (IsAnswered self.old self.new) }
         ensures cause { IfErr result (λ error. IsRefusedWhole (WrongRename from.now to.now (disk_of self.old)) error self.old self.new) }
     {
@@ -77,7 +78,7 @@ impl FileSystem for MemoryFileSystem {
 
     fn reuse(&mut self, from: &str, to: &str) -> Result<(), ErrorKind>
         ensures ok { OnOk result (Renames from.now to.now (disk_of self.old) (disk_of self.new)) }
-        ensures err { IfErr result (λ error. RefusedWhole (Renames from.now to.now (disk_of self.old)) (WrongRename from.now to.now (disk_of self.old) error) (disk_of self.old) (disk_of self.new)) }
+        ensures err { IfErr result (λ error. FailsToRename from.now to.now error (disk_of self.old) (disk_of self.new)) }
         ensures turn { OnOk result (IsAnswered self.old self.new) }
         ensures cause { IfErr result (λ error. IsRefusedWhole (WrongRename from.now to.now (disk_of self.old)) error self.old self.new) }
     {
@@ -86,7 +87,7 @@ impl FileSystem for MemoryFileSystem {
 
     fn create_dir(&mut self, path: &str) -> Result<(), ErrorKind>
         ensures ok { OnOk result (MakesDirectory path.now (disk_of self.old) (disk_of self.new)) }
-        ensures err { IfErr result (λ error. RefusedWhole (MakesDirectory path.now (disk_of self.old)) (WrongDirectory path.now (disk_of self.old) error) (disk_of self.old) (disk_of self.new)) }
+        ensures err { IfErr result (λ error. FailsToMakeDirectory path.now error (disk_of self.old) (disk_of self.new)) }
         ensures turn { OnOk result (IsAnswered self.old self.new) }
         ensures cause { IfErr result (λ error. IsRefusedWhole (WrongDirectory path.now (disk_of self.old)) error self.old self.new) }
     {
@@ -102,9 +103,9 @@ impl FileSystem for MemoryFileSystem {
     }
 
     fn write_at(&mut self, handle: Handle, offset: usize, bytes: &[u8]) -> Result<(), ErrorKind>
-        ensures ok { OnOk result (Changes handle.file (after_change (Wrote offset bytes.now)) (disk_of self.old) (disk_of self.new)) }
+        ensures ok { OnOk result (Writes handle offset bytes.now (disk_of self.old) (disk_of self.new)) }
         ensures permitted { OnOk result (handle.permission ≡ Permission.ReadWrite) }
-        ensures err { IfErr result (λ error. RefusedChange handle.file (Wrote offset bytes.now) (WrongWriter handle (disk_of self.old) error) (disk_of self.old) (disk_of self.new)) }
+        ensures err { IfErr result (λ error. FailsToWrite handle offset bytes.now error (disk_of self.old) (disk_of self.new)) }
         ensures turn { OnOk result (IsAnswered self.old self.new) }
         ensures cause { IfErr result (λ error. IsRefusedChange handle.file (Wrote offset bytes.now) (WrongWriter handle (disk_of self.old)) error self.old self.new) }
     {
@@ -115,9 +116,9 @@ impl FileSystem for MemoryFileSystem {
     }
 
     fn truncate(&mut self, handle: Handle, size: usize) -> Result<(), ErrorKind>
-        ensures ok { OnOk result (Changes handle.file (after_change (ShortenedTo size)) (disk_of self.old) (disk_of self.new)) }
+        ensures ok { OnOk result (Shortens handle size (disk_of self.old) (disk_of self.new)) }
         ensures permitted { OnOk result (handle.permission ≡ Permission.ReadWrite) }
-        ensures err { IfErr result (λ error. RefusedChange handle.file (ShortenedTo size) (WrongWriter handle (disk_of self.old) error) (disk_of self.old) (disk_of self.new)) }
+        ensures err { IfErr result (λ error. FailsToShorten handle size error (disk_of self.old) (disk_of self.new)) }
         ensures turn { OnOk result (IsAnswered self.old self.new) }
         ensures cause { IfErr result (λ error. IsRefusedChange handle.file (ShortenedTo size) (WrongWriter handle (disk_of self.old)) error self.old self.new) }
     {
@@ -128,9 +129,9 @@ impl FileSystem for MemoryFileSystem {
     }
 
     fn allocate(&mut self, handle: Handle, offset: usize, size: usize) -> Result<(), ErrorKind>
-        ensures ok { OnOk result (Changes handle.file (after_change (GrewTo (offset + size))) (disk_of self.old) (disk_of self.new)) }
+        ensures ok { OnOk result (Grows handle (offset + size) (disk_of self.old) (disk_of self.new)) }
         ensures permitted { OnOk result (handle.permission ≡ Permission.ReadWrite) }
-        ensures err { IfErr result (λ error. RefusedChange handle.file (GrewTo (offset + size)) (WrongWriter handle (disk_of self.old) error) (disk_of self.old) (disk_of self.new)) }
+        ensures err { IfErr result (λ error. FailsToGrow handle (offset + size) error (disk_of self.old) (disk_of self.new)) }
         ensures turn { OnOk result (IsAnswered self.old self.new) }
         ensures cause { IfErr result (λ error. IsRefusedChange handle.file (GrewTo (offset + size)) (WrongWriter handle (disk_of self.old)) error self.old self.new) }
     {
@@ -141,8 +142,8 @@ impl FileSystem for MemoryFileSystem {
     }
 
     fn sync(&mut self, handle: Handle) -> Result<(), ErrorKind>
-        ensures ok { OnOk result (Changes handle.file flushed (disk_of self.old) (disk_of self.new)) }
-        ensures err { IfErr result (λ error. RefusedWhole (Changes handle.file flushed (disk_of self.old)) (WrongHandle handle (disk_of self.old) error) (disk_of self.old) (disk_of self.new)) }
+        ensures ok { OnOk result (Syncs handle (disk_of self.old) (disk_of self.new)) }
+        ensures err { IfErr result (λ error. FailsToSync handle error (disk_of self.old) (disk_of self.new)) }
         ensures turn { OnOk result (IsAnswered self.old self.new) }
         ensures cause { IfErr result (λ error. IsRefusedWhole (WrongHandle handle (disk_of self.old)) error self.old self.new) }
     {
@@ -185,8 +186,12 @@ impl FileSystem for MemoryFileSystem {
         Ok(self.storage.size(handle.file))
     }
 
+    fn has_stopped(&self) -> bool {
+        self.stopped
+    }
+
     fn arm(&mut self, fault: &Fault) -> Result<(), ErrorKind>
-        ensures ok { OnOk result ((marks : ℕ → ℕ → Bool) × (disk_of self.new ≡ with_marks marks (disk_of self.old))) }
+        ensures ok { OnOk result (Arms fault.now (disk_of self.old) (disk_of self.new)) }
         ensures err { OnErr result (disk_of self.new ≡ disk_of self.old) }
         ensures armed { OnOk result (armed self.new ≡ armed_with fault.now (armed self.old)) }
         ensures cause { IfErr result (λ error. ((disk_of self.old).stopped ≡ true) ⊎ (error ≡ ErrorKind.OutOfMemory)) }

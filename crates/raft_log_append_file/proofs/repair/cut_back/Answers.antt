@@ -2,7 +2,7 @@ use Rattle.std.proofs.Common.{subst, sym, take}
 use Rattle.raft_log_disk.proofs.KeptLaws.{kept_change, kept_sync}
 use Rattle.raft_log_disk.specs.Disk.{ShortenedTo}
 use Rattle.raft_log_append_file.specs.Keeping.{IsKept, KeepsDurable}
-use Rattle.raft_log_append_file.proofs.OthersLaws.{touches_then, touches_piece, touches_sync}
+use Rattle.raft_log_append_file.proofs.OthersLaws.{touches_then, touches_change, touches_sync}
 use Rattle.raft_log_append_file.proofs.KeepingLaws.{kept_calm, can_cut_kept, kept_cut, kept_settled, durable_calm, can_cut_read_keeps, read_cut_keeps, read_settled_keeps}
 use Rattle.raft_log_append_file.proofs.repair.cut_back.Goals as goal
 
@@ -47,11 +47,11 @@ returns-clause-durable g c = λ durable pending ws can.
     (λ file is. read_settled_keeps id size durable pending ws old mid file can cut is) c.sync.ensures.ok c.sync.ensures.err
 
 pub returns-in_err-truncate-clause-others : goal.returns-in_err-truncate-clause-others
-returns-in_err-truncate-clause-others g c = touches_piece _ c.truncate.result c.args.handle.file (ShortenedTo c.args.size) c.truncate.ensures.ok c.truncate.ensures.err
+returns-in_err-truncate-clause-others g c = touches_change _ c.truncate.result c.args.handle.file (ShortenedTo c.args.size) c.truncate.ensures.ok c.truncate.ensures.err
 
 pub returns-clause-others : goal.returns-clause-others
 returns-clause-others g c =
     let D = g.F.FileSystem.disk in
     let id = c.args.handle.file in
-    let cut = touches_piece _ c.truncate.result id (ShortenedTo c.args.size) c.truncate.ensures.ok c.truncate.ensures.err in
+    let cut = touches_change _ c.truncate.result id (ShortenedTo c.args.size) c.truncate.ensures.ok c.truncate.ensures.err in
     touches_then id (D c.args.file_system.now) (D c.truncate.new.self) (D c.sync.new.self) cut (touches_sync _ c.sync.result id c.sync.ensures.ok c.sync.ensures.err)

@@ -5,6 +5,7 @@ use Rattle.raft_log_disk.specs.Chains.{spelled, Reads}
 use Rattle.raft_log_append_file.specs.Frame.{IsFrame}
 use Rattle.raft_log_append_file.specs.Keeping.{IsKept, KeepsDurable, NoChanceNow}
 use Rattle.raft_log_append_file.proofs.OpenLaws.{finds_durable, found_durable, finds_end, found_kept, found_open, settled_open}
+use Rattle.raft_log_append_file.specs.AppendFile.{OpenRefused}
 use Rattle.raft_log_append_file.proofs.Causes.{read_open_refused}
 use Rattle.raft_log_append_file.proofs.append_file.AppendFile.open.Goals as goal
 
@@ -15,7 +16,8 @@ returns-in_err-bytes-clause-err g c =
     let gave = err_from_is_err_and c.from_residual-in_err-bytes.result c.from_residual-in_err-bytes.ensures.1 in
     rw (gave.1, gave.2) (λ id file named is.
     (let same : id ≡ handle.file = (let there = c.in_ok-handle.ensures.ok.is in cc) in
-    read_open_refused c.in_err-bytes.field-0.0 handle.file d d (c.in_err-bytes.ensures.err file (ap d.files (sym same) ∙ is))))
+    subst (λ (n : ℕ). OpenRefused c.in_err-bytes.field-0.0 n d d) (sym same)
+    (read_open_refused c.in_err-bytes.field-0.0 handle.file d d (c.in_err-bytes.ensures.err file (ap d.files (sym same) ∙ is)))))
 
 pub returns-clause-found : goal.returns-clause-found
 returns-clause-found g c = λ file is.

@@ -6,7 +6,7 @@ use Rattle.raft_log_disk.proofs.CauseLaws.{fails_change, fails_still}
 use Rattle.raft_log_disk.specs.Chains.{spelled}
 use Rattle.raft_log_append_file.specs.Frame.{framed}
 use Rattle.raft_log_append_file.specs.Keeping.{CanCut}
-use Rattle.raft_log_append_file.proofs.OthersLaws.{touches_same, touches_then, touches_piece}
+use Rattle.raft_log_append_file.proofs.OthersLaws.{touches_same, touches_then, touches_change}
 use Rattle.raft_log_append_file.proofs.OpenLaws.{content_short, front_records, open_can_cut, torn_can_cut, cut_calm, settled_open, open_appended, right_writer}
 use Rattle.raft_log_append_file.proofs.append_file.AppendFile.put.Goals as goal
 
@@ -31,7 +31,7 @@ returns-in-Err-clause-err g c = λ bytes durable pending is_frame opened.
     c.write_at.ensures.ok c.write_at.ensures.err in
     let front = can.front ∙ ap spelled (front_records durable pending (framed bytes)) in
     let now = c.in_ok-cut_back.ensures.ok can.file can.is in (
-      fails_still old mid new (fails_change (right_writer log durable pending old c.in-Err.kind opened) c.in-Err.ensures.err) c.cut_back.ensures.later,
+      fails_still old mid new (fails_change (right_writer log durable pending old opened) c.in-Err.ensures.err) c.cut_back.ensures.later,
       inl (settled_open (record { handle = log.handle; written = log.written; failed = false }) (durable ++ pending) (take log.written can.file.content) new opened.holds.frames front now opened.permitted opened.written refl),
     )
 
@@ -50,7 +50,7 @@ returns-in_err-cut_back-clause-err g c =
     let can = kept_change (CanCut id log.written (length pending) durable more) _ c.write_at.result id (Wrote log.written frame) (cut_calm id log.written (length pending) durable more)
     (open_can_cut log durable pending bytes frame old opened is_frame) (λ file content is part. torn_can_cut log durable pending bytes frame old file content opened is_frame is part)
     c.write_at.ensures.ok c.write_at.ensures.err in (
-      fails_still old mid new (fails_change (right_writer log durable pending old c.in-Err.kind opened) c.in-Err.ensures.err) c.cut_back.ensures.later,
+      fails_still old mid new (fails_change (right_writer log durable pending old opened) c.in-Err.ensures.err) c.cut_back.ensures.later,
       inr (refl, c.cut_back.ensures.kept durable more (length pending) can),
     )))
 
@@ -72,17 +72,17 @@ pub returns-in_err-cut_back-clause-others : goal.returns-in_err-cut_back-clause-
 returns-in_err-cut_back-clause-others g c =
     let D = g.F.FileSystem.disk in
     let id = c.args.self.now.handle.file in
-    let write = touches_piece _ c.write_at.result id (Wrote c.args.self.now.written c.args.frame.now) c.write_at.ensures.ok c.write_at.ensures.err in
+    let write = touches_change _ c.write_at.result id (Wrote c.args.self.now.written c.args.frame.now) c.write_at.ensures.ok c.write_at.ensures.err in
     touches_then id (D c.args.file_system.now) (D c.write_at.new.self) (D c.cut_back.new.file_system) write c.cut_back.ensures.others
 
 pub returns-in-Err-clause-others : goal.returns-in-Err-clause-others
 returns-in-Err-clause-others g c =
     let D = g.F.FileSystem.disk in
     let id = c.args.self.now.handle.file in
-    let write = touches_piece _ c.write_at.result id (Wrote c.args.self.now.written c.args.frame.now) c.write_at.ensures.ok c.write_at.ensures.err in
+    let write = touches_change _ c.write_at.result id (Wrote c.args.self.now.written c.args.frame.now) c.write_at.ensures.ok c.write_at.ensures.err in
     touches_then id (D c.args.file_system.now) (D c.write_at.new.self) (D c.cut_back.new.file_system) write c.cut_back.ensures.others
 
 pub returns-clause-others : goal.returns-clause-others
 returns-clause-others g c =
     let id = c.args.self.now.handle.file in
-    touches_piece _ c.write_at.result id (Wrote c.args.self.now.written c.args.frame.now) c.write_at.ensures.ok c.write_at.ensures.err
+    touches_change _ c.write_at.result id (Wrote c.args.self.now.written c.args.frame.now) c.write_at.ensures.ok c.write_at.ensures.err

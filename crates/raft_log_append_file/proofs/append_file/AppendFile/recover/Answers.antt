@@ -1,9 +1,10 @@
 use Rattle.std.specs.Prelude.{map, vec_items}
-use Rattle.std.proofs.Common.{◌≡◌, [], ap, sym, ◌∙◌}
+use Rattle.std.proofs.Common.{◌≡◌, ℕ, [], ap, sym, subst, ◌∙◌}
 use Rattle.std.proofs.lemmas.List.{append-nil}
 use Rattle.std.proofs.lemmas.Result.{err_from_is_err_and}
 use Rattle.raft_log_disk.specs.KeepsSynced.{kept_records}
 use Rattle.raft_log_append_file.specs.Frame.{Records, values}
+use Rattle.raft_log_append_file.specs.AppendFile.{OpenRefused}
 use Rattle.raft_log_append_file.proofs.Causes.{read_open_refused}
 use Rattle.raft_log_append_file.proofs.RecordsLaws.{kept_values, kept_after_stop, durable_first}
 use Rattle.raft_log_append_file.proofs.append_file.AppendFile.recover.Goals as goal
@@ -18,7 +19,8 @@ returns-in_err-records-clause-err g c =
     rw (gave.1, gave.2) (λ id file named is.
     (let same : id ≡ log.handle.file = (let there = c.in_ok-log.ensures.named in cc) in
     let (ws, reads, opened) = c.in_ok-log.ensures.found file (ap old.files (sym same) ∙ is) in
-    read_open_refused c.in_err-records.field-0.0 log.handle.file old new (c.in_err-records.ensures.err opened.file opened.runs opened.is)))
+    subst (λ (n : ℕ). OpenRefused c.in_err-records.field-0.0 n old new) (sym same)
+    (read_open_refused c.in_err-records.field-0.0 log.handle.file old new (c.in_err-records.ensures.err opened.file opened.runs opened.is))))
 
 pub returns-clause-synced : goal.returns-clause-synced
 returns-clause-synced g c = λ before durable pending kept is.

@@ -21,7 +21,7 @@ returns-in_err-sync-clause-err g c =
     let id = log.handle.file in
     let kept = kept_sync (IsKept id durable pending) _ c.sync.result id (kept_calm id durable pending) (open_kept log durable pending old opened)
     (λ file is. synced_kept log durable pending old file opened is) c.sync.ensures.ok c.sync.ensures.err in
-    (fails_whole (right_handle log durable pending old c.in_err-sync.field-0.0 opened) c.in_err-sync.ensures.err, refl, kept)))
+    (fails_whole (right_handle log durable pending old opened) c.in_err-sync.ensures.err, refl, kept)))
 
 pub returns-in_err-sync-clause-kept : goal.returns-in_err-sync-clause-kept
 returns-in_err-sync-clause-kept g c = λ durable pending opened.

@@ -11,14 +11,14 @@ pub returns-in_err-begin-clause-err : goal.returns-in_err-begin-clause-err
 returns-in_err-begin-clause-err c =
     let old = disk_of c.args.self.now in
     let free : node_at c.args.self.now.storage c.args.path.now ≡ None = search rules in
-    any_err c.from_residual-in_err-begin.result (λ e. RefusedWhole (MakesDirectory c.args.path.now old) (WrongDirectory c.args.path.now old e) old (disk_of c.begin.new.self))
-    (λ e. refused_whole old old (disk_of c.begin.new.self) c.in_ok-check_runs.ensures.ok (right_directory c.args.path.now old (ap file_named free) (ap is_directory free) e) refl (fallen c.in_err-begin.ensures.err))
+    any_err c.from_residual-in_err-begin.result (λ e. RefusedWhole (MakesDirectory c.args.path.now old) (WrongDirectory c.args.path.now old) e old (disk_of c.begin.new.self))
+    (λ e. refused_whole old old (disk_of c.begin.new.self) c.in_ok-check_runs.ensures.ok (right_directory c.args.path.now old (ap file_named free) (ap is_directory free)) refl (fallen c.in_err-begin.ensures.err))
 
 pub returns-in-Err-clause-err : goal.returns-in-Err-clause-err
 returns-in-Err-clause-err c =
     let old = disk_of c.args.self.now in
     let free : node_at c.args.self.now.storage c.args.path.now ≡ None = search rules in
-    refused_whole old (over c.begin.new.self (contents_of c.add_directory.new.self)) (disk_of c.fail.new.self) c.in_ok-check_runs.ensures.ok (right_directory c.args.path.now old (ap file_named free) (ap is_directory free) c.fail.result)
+    refused_whole old (over c.begin.new.self (contents_of c.add_directory.new.self)) (disk_of c.fail.new.self) c.in_ok-check_runs.ensures.ok (right_directory c.args.path.now old (ap file_named free) (ap is_directory free))
     (ap (over c.begin.new.self) c.in-Err.ensures.err ∙ c.in_ok-begin.ensures.ok) c.fail.ensures.failed
 
 pub returns-in-Ok-clause-ok : goal.returns-in-Ok-clause-ok

@@ -15,8 +15,8 @@ returns-in_err-begin-clause-err c =
     let is : node_at c.args.self.now.storage c.args.from.now ≡ Some (node.File c.in-Some-File.id) = search rules in
     let apart : is_directory (node_at c.args.self.now.storage c.args.to.now) ≡ false = search rules in
     let home : HasDirectory c.args.to.now old = search rules in
-    any_err c.from_residual-in_err-begin.result (λ e. RefusedWhole (Renames c.args.from.now c.args.to.now old) (WrongRename c.args.from.now c.args.to.now old e) old (disk_of c.begin.new.self))
-    (λ e. refused_whole old old (disk_of c.begin.new.self) c.in_ok-check_runs.ensures.ok (right_rename c.args.from.now c.args.to.now old c.in-Some-File.id (ap file_named is) apart home e) refl (fallen c.in_err-begin.ensures.err))
+    any_err c.from_residual-in_err-begin.result (λ e. RefusedWhole (Renames c.args.from.now c.args.to.now old) (WrongRename c.args.from.now c.args.to.now old) e old (disk_of c.begin.new.self))
+    (λ e. refused_whole old old (disk_of c.begin.new.self) c.in_ok-check_runs.ensures.ok (right_rename c.args.from.now c.args.to.now old c.in-Some-File.id (ap file_named is) apart home) refl (fallen c.in_err-begin.ensures.err))
 
 pub returns-in-Err-clause-err : goal.returns-in-Err-clause-err
 returns-in-Err-clause-err c =
@@ -24,7 +24,7 @@ returns-in-Err-clause-err c =
     let is : node_at c.args.self.now.storage c.args.from.now ≡ Some (node.File c.in-Some-File.id) = search rules in
     let apart : is_directory (node_at c.args.self.now.storage c.args.to.now) ≡ false = search rules in
     let home : HasDirectory c.args.to.now old = search rules in
-    refused_whole old (over c.begin.new.self (contents_of c.rename_file.new.self)) (disk_of c.fail.new.self) c.in_ok-check_runs.ensures.ok (right_rename c.args.from.now c.args.to.now old c.in-Some-File.id (ap file_named is) apart home c.fail.result)
+    refused_whole old (over c.begin.new.self (contents_of c.rename_file.new.self)) (disk_of c.fail.new.self) c.in_ok-check_runs.ensures.ok (right_rename c.args.from.now c.args.to.now old c.in-Some-File.id (ap file_named is) apart home)
     (ap (over c.begin.new.self) c.in-Err.ensures.err ∙ c.in_ok-begin.ensures.ok) c.fail.ensures.failed
 
 pub returns-in-Ok-clause-ok : goal.returns-in-Ok-clause-ok

@@ -12,13 +12,13 @@ use Rattle.raft_log_memory_files.proofs.memory.calls.MemoryFileSystemFileSystem.
 pub returns-in_err-begin-clause-err : goal.returns-in_err-begin-clause-err
 returns-in_err-begin-clause-err c =
     let old = disk_of c.args.self.now in
-    any_err c.from_residual-in_err-begin.result (λ e. RefusedWhole (Changes c.args.handle.file flushed old) (WrongHandle c.args.handle old e) old (disk_of c.begin.new.self))
-    (λ e. refused_whole old old (disk_of c.begin.new.self) c.in_ok-check_handle.ensures.ok.0 (right_handle c.args.handle old c.in_ok-check_handle.ensures.ok.1 e) refl (fallen c.in_err-begin.ensures.err))
+    any_err c.from_residual-in_err-begin.result (λ e. RefusedWhole (Changes c.args.handle.file flushed old) (WrongHandle c.args.handle old) e old (disk_of c.begin.new.self))
+    (λ e. refused_whole old old (disk_of c.begin.new.self) c.in_ok-check_handle.ensures.ok.0 (right_handle c.args.handle old c.in_ok-check_handle.ensures.ok.1) refl (fallen c.in_err-begin.ensures.err))
 
 pub returns-in-Err-clause-err : goal.returns-in-Err-clause-err
 returns-in-Err-clause-err c =
     let old = disk_of c.args.self.now in
-    refused_whole old (over c.begin.new.self (contents_of c.flush.new.self)) (disk_of c.fail.new.self) c.in_ok-check_handle.ensures.ok.0 (right_handle c.args.handle old c.in_ok-check_handle.ensures.ok.1 c.fail.result)
+    refused_whole old (over c.begin.new.self (contents_of c.flush.new.self)) (disk_of c.fail.new.self) c.in_ok-check_handle.ensures.ok.0 (right_handle c.args.handle old c.in_ok-check_handle.ensures.ok.1)
     (ap (over c.begin.new.self) c.in-Err.ensures.err ∙ c.in_ok-begin.ensures.ok) c.fail.ensures.failed
 
 pub returns-in-Ok-clause-ok : goal.returns-in-Ok-clause-ok

@@ -12,8 +12,8 @@ pub returns-in_err-stops-clause-err : goal.returns-in_err-stops-clause-err
 returns-in_err-stops-clause-err c =
     let old = disk_of c.args.self.now in
     let checked = c.in_ok-check_writer.ensures.ok in
-    any_err c.from_residual-in_err-stops.result (λ e. RefusedChange c.args.handle.file (Wrote c.args.offset c.args.bytes.now) (WrongWriter c.args.handle old e) old (disk_of c.begin_change.new.self))
-    (λ e. refused_piece old (disk_of c.begin_change.new.self) checked.0 (right_writer c.args.handle old checked.1 checked.2 e) c.in_err-stops.ensures.err.left)
+    any_err c.from_residual-in_err-stops.result (λ e. RefusedChange c.args.handle.file (Wrote c.args.offset c.args.bytes.now) (WrongWriter c.args.handle old) e old (disk_of c.begin_change.new.self))
+    (λ e. refused_piece old (disk_of c.begin_change.new.self) checked.0 (right_writer c.args.handle old checked.1 checked.2) c.in_err-stops.ensures.err.left)
 
 pub returns-clause-ok : goal.returns-clause-ok
 returns-clause-ok c =

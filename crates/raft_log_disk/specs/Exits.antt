@@ -1,0 +1,86 @@
+-- Each changing call of a file system: what stands when it was answered, and when it was refused. The state before it comes
+-- first, then the one after it.
+use Rattle.std.specs.Prelude.{◌≡◌, ℕ, ◌⊎◌, false, List}
+use Rattle.std.specs.declared.io.ErrorKind.{ErrorKind}
+use Rattle.std.specs.declared.io.ErrorKind.TheVariants.{OutOfMemory}
+use Rattle.raft_log_disk.specs.Disk.{Wrote, ShortenedTo, GrewTo, Disk}
+use Rattle.raft_log_disk.specs.Calls.{Changes, Creates, Deletes, Renames, MakesDirectory, after_change, flushed, RefusedChange, RefusedWhole}
+use Rattle.raft_log_disk.specs.Arguments.{WrongCreate, WrongName, WrongRename, WrongDirectory, WrongHandle, WrongWriter}
+use Rattle.raft_log_disk.specs.Reading.{IsOpened}
+use Rattle.raft_log_disk.specs.declared.handle.Fault.{Fault}
+use Rattle.raft_log_disk.specs.declared.handle.Handle.{Handle}
+use Rattle.raft_log_disk.specs.declared.handle.Permission.TheVariants.{ReadWrite}
+
+-- Calls on names.
+
+-- why no file was made, and what stands then: the path is wrong, a failure, or a stop at which it may have been made
+abbrev pub FailsToCreate : List ℕ → ErrorKind → Disk → Disk → Type 0
+FailsToCreate path error old new = RefusedWhole (Creates path old.unused old) (WrongCreate path old) error old new
+
+-- why a file wasn't deleted, and what stands then
+abbrev pub FailsToDelete : List ℕ → ErrorKind → Disk → Disk → Type 0
+FailsToDelete path error old new = RefusedWhole (Deletes path old) (WrongName path old) error old new
+
+-- why a file wasn't renamed, and what stands then
+abbrev pub FailsToRename : List ℕ → List ℕ → ErrorKind → Disk → Disk → Type 0
+FailsToRename from to error old new = RefusedWhole (Renames from to old) (WrongRename from to old) error old new
+
+-- a file got another name, and this is a handle that may write it
+abbrev pub RenamesAndOpens : List ℕ → List ℕ → Handle → Disk → Disk → Type 0
+RenamesAndOpens from to handle old new = Renames from to old new × IsOpened to ReadWrite handle new
+
+-- why a file wasn't renamed and opened: as for a renaming, or it was renamed, and memory was short for opening it
+abbrev pub FailsToRenameAndOpen : List ℕ → List ℕ → ErrorKind → Disk → Disk → Type 0
+FailsToRenameAndOpen from to error old new = FailsToRename from to error old new ⊎ (Renames from to old new × (error ≡ OutOfMemory))
+
+-- why a directory wasn't made, and what stands then
+abbrev pub FailsToMakeDirectory : List ℕ → ErrorKind → Disk → Disk → Type 0
+FailsToMakeDirectory path error old new = RefusedWhole (MakesDirectory path old) (WrongDirectory path old) error old new
+
+-- a call that changes nothing on the disk was answered before the file system stopped
+pub record LeavesAll (old new : Disk) : Type 0 where
+  pub runs : old.stopped ≡ false
+  pub same : new ≡ old
+
+-- why such a call was refused: a failure, or a stop
+abbrev pub FailsWithoutChange : ErrorKind → Disk → Disk → Type 0
+FailsWithoutChange error old new = RefusedWhole (LeavesAll old) (λ kind. ⊥) error old new
+
+-- Calls on a file.
+
+-- bytes were written from an offset on
+abbrev pub Writes : Handle → ℕ → List ℕ → Disk → Disk → Type 0
+Writes handle offset bytes old new = Changes handle.file (after_change (Wrote offset bytes)) old new
+
+-- why they weren't, and what stands then: the handle is wrong, or some may have been written
+abbrev pub FailsToWrite : Handle → ℕ → List ℕ → ErrorKind → Disk → Disk → Type 0
+FailsToWrite handle offset bytes error old new = RefusedChange handle.file (Wrote offset bytes) (WrongWriter handle old) error old new
+
+-- a file was shortened to a size
+abbrev pub Shortens : Handle → ℕ → Disk → Disk → Type 0
+Shortens handle size old new = Changes handle.file (after_change (ShortenedTo size)) old new
+
+-- why it wasn't, and what stands then: the handle is wrong, or it may have been shortened
+abbrev pub FailsToShorten : Handle → ℕ → ErrorKind → Disk → Disk → Type 0
+FailsToShorten handle size error old new = RefusedChange handle.file (ShortenedTo size) (WrongWriter handle old) error old new
+
+-- a file was grown by zeros up to a size
+abbrev pub Grows : Handle → ℕ → Disk → Disk → Type 0
+Grows handle size old new = Changes handle.file (after_change (GrewTo size)) old new
+
+-- why it wasn't, and what stands then: the handle is wrong, or it may have grown by some of the zeros
+abbrev pub FailsToGrow : Handle → ℕ → ErrorKind → Disk → Disk → Type 0
+FailsToGrow handle size error old new = RefusedChange handle.file (GrewTo size) (WrongWriter handle old) error old new
+
+-- a file's bytes were made durable
+abbrev pub Syncs : Handle → Disk → Disk → Type 0
+Syncs handle old new = Changes handle.file flushed old new
+
+-- why they weren't, and what stands then
+abbrev pub FailsToSync : Handle → ErrorKind → Disk → Disk → Type 0
+FailsToSync handle error old new = RefusedWhole (Changes handle.file flushed old) (WrongHandle handle old) error old new
+
+-- What arming a fault changes of the disk: nothing, as what will be refused doesn't stand on it. (A fault that marks a place
+-- as unreadable would be a case of its own, and set that mark alone.)
+abbrev pub Arms : Fault → Disk → Disk → Type 0
+Arms fault old new = LeavesAll old new

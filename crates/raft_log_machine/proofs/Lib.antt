@@ -22,6 +22,7 @@ pub mod HistoryLaws
 pub mod StaysLaws
 pub mod TidyLaws
 pub mod RunLaws
+pub mod RecoveryLaws
 pub mod ImageLaws
 pub mod RenumberLaws
 pub mod TooLittle

@@ -1,10 +1,12 @@
 -- What an open knows of the whereabouts of a group that it made from the files it read.
-use Rattle.std.specs.Prelude.{◌≡◌, ℕ, ◌<◌, ◌≤◌, ◌⊎◌, Bool, true, false, ◌||◌, bytes_eq, List, [], ◌∷◌, Option, Some, None}
+use Rattle.std.specs.Prelude.{◌≡◌, ℕ, ◌+◌, ◌<◌, ◌≤◌, ◌⊎◌, nat_lt, Bool, true, false, ◌||◌, if◌then◌else◌, bytes_eq, List, [], ◌∷◌, length, Option, Some, None, is_some}
 use Rattle.raft_log_model.specs.Item.{Item}
 use Rattle.raft_log_model.specs.Item.Item.{Compact, Del}
 use Rattle.raft_log_model.specs.Meaning.{Slot, Content, says}
 use Rattle.raft_log_model.specs.Meaning.Slot.{Index, Key}
 use Rattle.raft_log_model.specs.Holes.{has_clean}
+use Rattle.raft_log_model.specs.Table.{Table}
+use Rattle.raft_log_model.specs.Summary.{Summary, directory_table}
 use Rattle.raft_log_machine.specs.Whereabouts.{Whereabouts, top}
 
 -- the items have a Compact
@@ -38,3 +40,18 @@ pub record IsRecovered {E V : Type 0} (m : Slot → Option (Content E V)) (appen
   pub compacted : has_clean append ≡ false → has_compact append ≡ true → t.compacted ≡ true
   pub deleted : (k : List ℕ) → has_clean append ≡ false → has_del k append ≡ true → t.deleted k ≡ true
   pub was_deleted : (k : List ℕ) → t.deleted k ≡ true → has_del k append ≡ true
+
+-- these marks count as owed, where that was read of Append
+pub record HasMarks {E V : Type 0} (append : List (Item E V)) (t : Whereabouts) : Type 0 where
+  pub cleaned : t.cleaned ≡ has_clean append
+  pub compacted : has_clean append ≡ false → has_compact append ≡ true → t.compacted ≡ true
+  pub deleted : (k : List ℕ) → has_clean append ≡ false → has_del k append ≡ true → t.deleted k ≡ true
+  pub was_deleted : (k : List ℕ) → t.deleted k ≡ true → has_del k append ≡ true
+
+-- the whereabouts are those of the directory's table, made of a table of Rewrite and a summary of Append:
+-- what the summary's table has stands in Append, all else in Rewrite
+pub record IsReadOff {E V : Type 0} (rewrite : Table E V) (append : Summary E V) (t : Whereabouts) : Type 0 where
+  pub first : t.first ≡ (directory_table rewrite append).first
+  pub end : t.end ≡ (directory_table rewrite append).first + length (directory_table rewrite append).entries
+  pub split : t.split ≡ (if nat_lt 0 (length append.table.entries) then append.table.first else t.end)
+  pub appended : (k : List ℕ) → t.appended k ≡ is_some (append.table.values k)

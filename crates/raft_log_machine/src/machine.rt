@@ -55,9 +55,9 @@ pub fn renumbered_sound<E, V>()
         → HasRuns (record w { whereabouts = next }) }
 {}
 
-/// Whereabouts don't care what stands for an entry: they follow a batch of places as they follow one of bytes;
-/// what they allow Rewrite to take, what an open makes of what it read as places, and what they ask of the
-/// records that stay, they do for the bytes too.
+/// Whereabouts don't care what stands for an entry: they follow a batch of places as they follow one of
+/// bytes; what they allow Rewrite to take, what an open makes of what it read as places, and what they ask of
+/// the records that stay, they do for the bytes too.
 pub fn whereabouts_of_renamed<E, F, V>()
     ensures grows { (f : E → F) (t u : Whereabouts) (xs : List (Item E V)) → GrowsBy t xs u
         → GrowsBy t (map (renamed f) xs) u }

@@ -50,7 +50,8 @@ pub record HasMarks {E V : Type 0} (append : List (Item E V)) (t : Whereabouts) 
 
 -- the whereabouts are those of the directory's table, made of a table of Rewrite and a summary of Append:
 -- what the summary's table has stands in Append, all else in Rewrite
-pub record IsReadOff {E V : Type 0} (rewrite : Table E V) (append : Summary E V) (t : Whereabouts) : Type 0 where
+pub record IsReadOff {E V : Type 0} (rewrite : Table E V) (append : Summary E V) (t : Whereabouts)
+    : Type 0 where
   pub first : t.first ≡ (directory_table rewrite append).first
   pub end : t.end ≡ (directory_table rewrite append).first + length (directory_table rewrite append).entries
   pub split : t.split ≡ (if nat_lt 0 (length append.table.entries) then append.table.first else t.end)

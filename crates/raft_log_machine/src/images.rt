@@ -42,7 +42,8 @@ pub fn each_image_can_be_opened<E, V>()
 /// table has stands in Append, all else in Rewrite.
 pub fn tables_tell_the_whereabouts<E, V>()
     ensures { (t : Table E V) (z : Summary E V) (rewrite append : List (Item E V)) → IsTableOf t rewrite
-        → IsSummary z append → (m : Slot → Option (Content E V)) → ((s : Slot) → directory s rewrite append ≡ m s)
+        → IsSummary z append → (m : Slot → Option (Content E V))
+        → ((s : Slot) → directory s rewrite append ≡ m s)
         → IsSolid (λ i. m (Index i)) → (u : Whereabouts) → IsReadOff t z u → u.end ≤ top → HasMarks append u
         → IsRecovered m append u }
 {}

@@ -154,10 +154,7 @@ recovered = record {
       (λ b. (if b then true else false) ≡ false
       → (w11.map 1 (Key k) ≡ None) ⊎ (◌≡◌ {A = Option (Option (Content ℕ ℕ))} (option_or (option_or (option_or None (if b then Some (Some (Value 50)) else None)) None) None) None))
       (λ e h. differ h) (λ e h. inr refl);
-  cleaned = refl;
-  compacted = λ c h. refl;
-  deleted = λ k c h. differ (sym h);
-  was_deleted = λ k h. differ (sym h);
+  marks = record { cleaned = refl; compacted = λ c h. refl; deleted = λ k c h. differ (sym h); was_deleted = λ k h. differ (sym h) };
 }
 
 quiet : (g : ℕ) → (1 == g) ≡ false → (s : Slot) → w11.map g s ≡ None
@@ -174,10 +171,7 @@ recovered_elsewhere g e = record {
   newer = λ i from high. absurd (omega arith);
   key_newer = λ k h. differ (sym h);
   key_older = λ k h. inl (quiet g e (Key k));
-  cleaned = refl;
-  compacted = λ c h. differ (sym h);
-  deleted = λ k c h. differ (sym h);
-  was_deleted = λ k h. differ (sym h);
+  marks = record { cleaned = refl; compacted = λ c h. differ (sym h); deleted = λ k c h. differ (sym h); was_deleted = λ k h. differ (sym h) };
 }
 
 all_recovered : (g : ℕ) → IsRecovered (taken w11.map [] g) (appended g (entries ∷ compaction ∷ [])) (only read_again g)

@@ -16,6 +16,7 @@ use Rattle.raft_log_model.proofs.Summaries.{content_word}
 use Rattle.raft_log_model.proofs.Joins.{stands_in}
 use Rattle.raft_log_model.proofs.AnySummary.{directory_of_any}
 use Rattle.raft_log_machine.specs.Whereabouts.{Whereabouts, top}
+use Rattle.raft_log_machine.specs.Truth.{Said, AreTrue}
 use Rattle.raft_log_machine.specs.Recovery.{has_compact, has_del, IsRecovered, HasMarks, IsReadOff}
 use Rattle.raft_log_machine.specs.Images.{IsOneRun}
 use Rattle.raft_log_machine.proofs.TruthRaises.{no_word, speaks_above}
@@ -48,6 +49,10 @@ in_run m run i c e = (
   elim (cases_lt i run.end) [ inl within ↦ within | inr past ↦ no_word c (sym (run.above i past) ∙ e) ],
 )
 
+-- true whereabouts tell the run
+abbrev pub run_told : {E V : Type 0} (said : Said E V) (m : Slot → Option (Content E V)) (t : Whereabouts) → AreTrue said m t → IsOneRun m
+run_told said m t b = record { first = t.first; end = t.end; in_range = b.in_order.2; below = b.below; above = b.above; solid = b.solid }
+
 -- Of what was read of Append, and of what the directory means for the group, an open makes the whereabouts. Append's
 -- entries are one run, w
 module _ {E V : Type 0} (m : Slot → Option (Content E V)) (append : List (Item E V)) (run : IsOneRun m) (w : Window)
@@ -74,14 +79,11 @@ module _ {E V : Type 0} (m : Slot → Option (Content E V)) (append : List (Item
     newer = newer;
     key_newer = λ k h. put_word (says (Key k) append) (sym (keys k) ∙ h);
     key_older = λ k h. elim (no_put_word (says (Key k) append) (sym (keys k) ∙ h)) [ inl gone ↦ inl (means (Key k) None gone) | inr none ↦ inr none ];
-    cleaned = marks.cleaned;
-    compacted = marks.compacted;
-    deleted = marks.deleted;
-    was_deleted = marks.was_deleted;
+    marks = marks;
   }
 
   -- Append's run, where it isn't empty, is the upper part of what stands
-  ends_alike : w.first < w.end → (run.first ≤ w.first) × (w.end ≡ run.end)
+  pub ends_alike : w.first < w.end → (run.first ≤ w.first) × (w.end ≡ run.end)
   ends_alike some =
       let first = in_append w.first (le_refl w.first) some in
       let last = in_append (w.end - 1) (omega arith) (omega arith) in

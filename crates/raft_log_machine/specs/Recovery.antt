@@ -21,9 +21,16 @@ has_del k [] = false
 has_del k (Del l ∷ xs) = bytes_eq l k || has_del k xs
 has_del k (x ∷ xs) = has_del k xs
 
+-- the marks that count as owed, where that was read of Append: a Clean that is there, beside one none of the
+-- others need, and no Del that isn't there
+pub record HasMarks {E V : Type 0} (append : List (Item E V)) (t : Whereabouts) : Type 0 where
+  pub cleaned : t.cleaned ≡ has_clean append
+  pub compacted : has_clean append ≡ false → has_compact append ≡ true → t.compacted ≡ true
+  pub deleted : (k : List ℕ) → has_clean append ≡ false → has_del k append ≡ true → t.deleted k ≡ true
+  pub was_deleted : (k : List ℕ) → t.deleted k ≡ true → has_del k append ≡ true
+
 -- m is what the directory means for the group, append what was read of the group from Append's files: the
--- whereabouts have each thing where it stands, and a mark that those files have counts as owed: a Clean
--- always, beside one none of the others need, and no Del that isn't there
+-- whereabouts have each thing where it stands, and the marks that those files have count as owed
 pub record IsRecovered {E V : Type 0} (m : Slot → Option (Content E V)) (append : List (Item E V))
     (t : Whereabouts) : Type 0 where
   pub in_order : (t.first ≤ t.split) × (t.split ≤ t.end) × (t.end ≤ top)
@@ -36,17 +43,7 @@ pub record IsRecovered {E V : Type 0} (m : Slot → Option (Content E V)) (appen
   pub key_newer : (k : List ℕ) → t.appended k ≡ true
       → (value : Content E V) × (says (Key k) append ≡ Some (Some value))
   pub key_older : (k : List ℕ) → t.appended k ≡ false → (m (Key k) ≡ None) ⊎ (says (Key k) append ≡ None)
-  pub cleaned : t.cleaned ≡ has_clean append
-  pub compacted : has_clean append ≡ false → has_compact append ≡ true → t.compacted ≡ true
-  pub deleted : (k : List ℕ) → has_clean append ≡ false → has_del k append ≡ true → t.deleted k ≡ true
-  pub was_deleted : (k : List ℕ) → t.deleted k ≡ true → has_del k append ≡ true
-
--- these marks count as owed, where that was read of Append
-pub record HasMarks {E V : Type 0} (append : List (Item E V)) (t : Whereabouts) : Type 0 where
-  pub cleaned : t.cleaned ≡ has_clean append
-  pub compacted : has_clean append ≡ false → has_compact append ≡ true → t.compacted ≡ true
-  pub deleted : (k : List ℕ) → has_clean append ≡ false → has_del k append ≡ true → t.deleted k ≡ true
-  pub was_deleted : (k : List ℕ) → t.deleted k ≡ true → has_del k append ≡ true
+  pub marks : HasMarks append t
 
 -- the whereabouts are those of the directory's table, made of a table of Rewrite and a summary of Append:
 -- what the summary's table has stands in Append, all else in Rewrite

@@ -53,8 +53,6 @@ fn laws_of_images() {
 #[test]
 fn laws_of_purge() {
     purge::purge_is_invisible::<u64, u64>();
-    purge::full_rewrite_leaves_one_file::<u64, u64>();
-    purge::fork_means_the_same::<u64, u64>();
 }
 
 #[test]

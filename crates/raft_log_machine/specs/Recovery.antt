@@ -21,8 +21,8 @@ has_del k [] = false
 has_del k (Del l ∷ xs) = bytes_eq l k || has_del k xs
 has_del k (x ∷ xs) = has_del k xs
 
--- the marks that count as owed, where that was read of Append: a Clean that is there, beside one none of the
--- others need, and no Del that isn't there
+-- The marks that count as owed, where that was read of Append: a Clean that is there, without one each
+-- Compact and each Del, and no Del that isn't there. A Compact more does no harm
 pub record HasMarks {E V : Type 0} (append : List (Item E V)) (t : Whereabouts) : Type 0 where
   pub cleaned : t.cleaned ≡ has_clean append
   pub compacted : has_clean append ≡ false → has_compact append ≡ true → t.compacted ≡ true
@@ -53,3 +53,11 @@ pub record IsReadOff {E V : Type 0} (rewrite : Table E V) (append : Summary E V)
   pub end : t.end ≡ (directory_table rewrite append).first + length (directory_table rewrite append).entries
   pub split : t.split ≡ (if nat_lt 0 (length append.table.entries) then append.table.first else t.end)
   pub appended : (k : List ℕ) → t.appended k ≡ is_some (append.table.values k)
+
+-- things stand alike by both: they differ only in the number of a group without entries, and in marks that
+-- may count or not
+pub record StandAlike (t u : Whereabouts) : Type 0 where
+  pub entries : t.first < t.end → (u.first ≡ t.first) × (u.split ≡ t.split) × (u.end ≡ t.end)
+  pub no_entries : t.first ≡ t.end → u.first ≡ u.end
+  pub appended : (k : List ℕ) → u.appended k ≡ t.appended k
+  pub cleaned : u.cleaned ≡ t.cleaned

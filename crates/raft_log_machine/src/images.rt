@@ -7,14 +7,14 @@ ghost use Rattle.raft_log_model.specs.Holes.{directory_by_intervals, IsSolid};
 ghost use Rattle.raft_log_model.specs.Item.{Item};
 ghost use Rattle.raft_log_model.specs.Meaning.Content.{Entry};
 ghost use Rattle.raft_log_model.specs.Meaning.Slot.{Index};
-ghost use Rattle.raft_log_model.specs.Meaning.{directory, Content, Slot};
+ghost use Rattle.raft_log_model.specs.Meaning.{directory, says, Content, Slot};
 ghost use Rattle.raft_log_model.specs.Summary.{IsSummary, Summary};
 ghost use Rattle.raft_log_model.specs.Table.{IsTableOf, Table};
 ghost use Rattle.raft_log_machine.specs.Fresh.{fresh_machine};
+ghost use Rattle.raft_log_machine.specs.Images.{append_read, reopening, rewrite_read, HasRuns, Recovery};
 ghost use Rattle.raft_log_machine.specs.Machine.Event.{Reopen};
 ghost use Rattle.raft_log_machine.specs.Machine.{Event, IsKept, Machine, Step, Steps};
-ghost use Rattle.raft_log_machine.specs.Images.{append_read, reopening, rewrite_read, HasRuns, Recovery};
-ghost use Rattle.raft_log_machine.specs.Recovery.{HasMarks, IsReadOff, IsRecovered};
+ghost use Rattle.raft_log_machine.specs.Recovery.{HasMarks, IsReadOff, IsRecovered, StandAlike};
 ghost use Rattle.raft_log_machine.specs.Replay.{IsReplayable};
 ghost use Rattle.raft_log_machine.specs.Whereabouts.{top, Whereabouts};
 ghost use Rattle.raft_log_machine.specs.WrongRules.{entry_1, entry_3, failed_on};
@@ -46,6 +46,15 @@ pub fn tables_tell_the_whereabouts<E, V>()
         → ((s : Slot) → directory s rewrite append ≡ m s)
         → IsSolid (λ i. m (Index i)) → (u : Whereabouts) → IsReadOff t z u → u.end ≤ top → HasMarks append u
         → IsRecovered m append u }
+{}
+
+/// What it read leaves an open no choice: any two whereabouts that it may make have the same entries in
+/// Rewrite and in Append, and the same keys. Free are the number of a group without entries, marks beside a
+/// Clean, and a Compact more.
+pub fn an_open_has_no_choice<E, V>()
+    ensures { (m : Slot → Option (Content E V)) (append : List (Item E V))
+        → ((s : Slot) (v : Option (Content E V)) → says s append ≡ Some v → m s ≡ v)
+        → (t u : Whereabouts) → IsRecovered m append t → IsRecovered m append u → StandAlike t u }
 {}
 
 /// Of each image, read from any starts, of a failed engine too, the wording by intervals (what Rewrite keeps

@@ -47,6 +47,7 @@ fn laws_of_images() {
     images::each_image_has_one_run::<u64, u64>();
     images::each_image_can_be_opened::<u64, u64>();
     images::tables_tell_the_whereabouts::<u64, u64>();
+    images::an_open_has_no_choice::<u64, u64>();
     images::intervals_say_the_same_of_images::<u64, u64>();
 }
 

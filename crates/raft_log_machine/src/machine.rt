@@ -10,11 +10,11 @@ ghost use Rattle.raft_log_model.specs.Renamed.{renamed, renamed_map};
 ghost use Rattle.raft_log_machine.specs.Fresh.{fresh_machine, nothing_stands};
 ghost use Rattle.raft_log_machine.specs.History.{history};
 ghost use Rattle.raft_log_machine.specs.Images.{HasRuns, IsOneRun};
+ghost use Rattle.raft_log_machine.specs.Machine.{Event, IsKept, Machine, Step, Steps};
 ghost use Rattle.raft_log_machine.specs.Recovery.{IsRecovered};
 ghost use Rattle.raft_log_machine.specs.Replay.{IsReplayable};
 ghost use Rattle.raft_log_machine.specs.Survival.{Survives};
 ghost use Rattle.raft_log_machine.specs.Whereabouts.{CarriesAll, GrowsBy, HasAppended, HasRewritten, IsRenumbered, Whereabouts};
-ghost use Rattle.raft_log_machine.specs.Machine.{Event, IsKept, Machine, Step, Steps};
 
 /// A fresh directory, where nothing stands anywhere, keeps the invariant.
 pub fn fresh_machine_is_kept<E, V>()

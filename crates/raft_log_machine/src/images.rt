@@ -1,7 +1,7 @@
 //! Whatever image a crash leaves: the entries of a group are one run in it, it can be opened, and the wording
 //! by intervals says of it what the last word says.
 
-ghost use Rattle.std.specs.Prelude.{◌≡◌, ℕ, ◌≤◌, List, [], ◌∷◌, None, Option, Some};
+ghost use Rattle.std.specs.Prelude.{◌≡◌, ℕ, ◌≤◌, false, List, [], ◌∷◌, None, Option, Some};
 ghost use Rattle.raft_log_model.specs.Groups.{appended, directory_meaning, rewritten, taken};
 ghost use Rattle.raft_log_model.specs.Holes.{directory_by_intervals, IsSolid};
 ghost use Rattle.raft_log_model.specs.Item.{Item};
@@ -61,7 +61,12 @@ pub fn an_open_has_no_choice<E, V>()
 /// under Append's Cleans, greatest Compact and least start of a run, and no gap) says the map after the
 /// batches that were kept: no hole and no gap ever acts.
 pub fn intervals_say_the_same_of_images<E, V>()
-    ensures { (w : Machine E V) (r : Recovery w.store) → IsKept w → IsReplayable w → HasRuns w → (g i : ℕ)
+    ensures all { (w : Machine E V) (r : Recovery w.store) → IsKept w → IsReplayable w → HasRuns w → (g i : ℕ)
+        → directory_by_intervals i (rewritten g (rewrite_read w.store r)) (appended g (append_read w.store r))
+        ≡ taken w.map r.a_kept g (Index i) }
+    // of an engine that runs, where nothing of Append is lost, its whereabouts are enough
+    ensures running { (w : Machine E V) (r : Recovery w.store) → IsKept w → IsReplayable w → w.failed ≡ false
+        → r.a_kept ≡ w.store.append.pending → (g i : ℕ)
         → directory_by_intervals i (rewritten g (rewrite_read w.store r)) (appended g (append_read w.store r))
         ≡ taken w.map r.a_kept g (Index i) }
 {}

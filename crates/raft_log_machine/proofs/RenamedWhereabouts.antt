@@ -125,10 +125,12 @@ module _ {E F V : Type 0} (f : E → F) where
       | inl none ↦ inl (ap (option_map (renamed_content f)) none)
       | inr quiet ↦ inr (says_renamed f (Key k) xs ∙ ap (renamed_word f) quiet)
     ];
-    cleaned = r.cleaned ∙ sym (clean_renamed xs);
-    compacted = λ c h. r.compacted (sym (clean_renamed xs) ∙ c) (sym (compact_renamed xs) ∙ h);
-    deleted = λ k c h. r.deleted k (sym (clean_renamed xs) ∙ c) (sym (del_renamed k xs) ∙ h);
-    was_deleted = λ k h. del_renamed k xs ∙ r.was_deleted k h;
+    marks = record {
+      cleaned = r.marks.cleaned ∙ sym (clean_renamed xs);
+      compacted = λ c h. r.marks.compacted (sym (clean_renamed xs) ∙ c) (sym (compact_renamed xs) ∙ h);
+      deleted = λ k c h. r.marks.deleted k (sym (clean_renamed xs) ∙ c) (sym (del_renamed k xs) ∙ h);
+      was_deleted = λ k h. del_renamed k xs ∙ r.marks.was_deleted k h;
+    };
   }
 
   pub has_appended_renamed : (t : Whereabouts) (xs : List (Item E V)) → HasAppended t xs → HasAppended t (map (renamed f) xs)

@@ -10,11 +10,11 @@ ghost use Rattle.raft_log_model.specs.Renamed.{renamed, renamed_map};
 ghost use Rattle.raft_log_machine.specs.Fresh.{fresh_machine, nothing_stands};
 ghost use Rattle.raft_log_machine.specs.History.{history};
 ghost use Rattle.raft_log_machine.specs.Images.{HasRuns, IsOneRun};
+ghost use Rattle.raft_log_machine.specs.Machine.{Event, IsKept, Machine, Step, Steps};
 ghost use Rattle.raft_log_machine.specs.Recovery.{IsRecovered};
 ghost use Rattle.raft_log_machine.specs.Replay.{IsReplayable};
 ghost use Rattle.raft_log_machine.specs.Survival.{Survives};
 ghost use Rattle.raft_log_machine.specs.Whereabouts.{CarriesAll, GrowsBy, HasAppended, HasRewritten, IsRenumbered, Whereabouts};
-ghost use Rattle.raft_log_machine.specs.Machine.{Event, IsKept, Machine, Step, Steps};
 
 /// A fresh directory, where nothing stands anywhere, keeps the invariant.
 pub fn fresh_machine_is_kept<E, V>()
@@ -55,9 +55,9 @@ pub fn renumbered_sound<E, V>()
         → HasRuns (record w { whereabouts = next }) }
 {}
 
-/// Whereabouts don't care what stands for an entry: they follow a batch of places as they follow one of bytes;
-/// what they allow Rewrite to take, what an open makes of what it read as places, and what they ask of the
-/// records that stay, they do for the bytes too.
+/// Whereabouts don't care what stands for an entry: they follow a batch of places as they follow one of
+/// bytes; what they allow Rewrite to take, what an open makes of what it read as places, and what they ask of
+/// the records that stay, they do for the bytes too.
 pub fn whereabouts_of_renamed<E, F, V>()
     ensures grows { (f : E → F) (t u : Whereabouts) (xs : List (Item E V)) → GrowsBy t xs u
         → GrowsBy t (map (renamed f) xs) u }

@@ -1,20 +1,19 @@
 -- Notes of Append stay true while its files change.
-use Rattle.std.proofs.Common.{◌≡◌, ℕ, ◌<◌, ◌≤◌, ◌⊎◌, true, false, List, [], ◌∷◌, ◌++◌, Option, Some, None, unwrap_or, refl, sym, ap, ◌∙◌, subst, inl, inr, append_assoc, append-nil, arith}
+use Rattle.std.proofs.Common.{◌≡◌, ℕ, ◌⊎◌, List, [], ◌∷◌, ◌++◌, Option, Some, None, unwrap_or, refl, sym, ap, ◌∙◌, subst, inl, inr, append_assoc, append-nil, arith}
 use Rattle.std.specs.Option.{option_or}
 use Rattle.raft_log_model.specs.Item.{Record, items_of}
 use Rattle.raft_log_model.specs.Meaning.{Slot, Content, says, holds}
 use Rattle.raft_log_model.specs.Meaning.Slot.{Index, Key}
 use Rattle.raft_log_model.specs.Groups.{Map, of_group, appended, rewritten, directory_meaning, taken}
-use Rattle.raft_log_machine.specs.Survival.{Holds, IsSpoken}
+use Rattle.raft_log_machine.specs.Survival.{IsSpoken}
 use Rattle.raft_log_machine.specs.Whereabouts.{Whereabouts, HasAppended}
-use Rattle.raft_log_machine.specs.Files.{LogFile, FileQueue, FileEvent, FileStep, records_of, span}
-use Rattle.raft_log_machine.specs.Machine.{IsKept}
+use Rattle.raft_log_machine.specs.Files.{LogFile, FileQueue, records_of, span}
 use Rattle.raft_log_machine.proofs.Words.{says_appended}
 use Rattle.raft_log_machine.proofs.FileLaws.{records_of-append}
-use Rattle.raft_log_directory.specs.Model.{Files, running, machine_of, IsSound}
-use Rattle.raft_log_directory.specs.Moves.{IsQuiet, grown, raised_files}
+use Rattle.raft_log_directory.specs.Model.{Files, running, IsSound}
+use Rattle.raft_log_directory.specs.Moves.{grown, raised_files}
 use Rattle.raft_log_directory.specs.Notes.{Notes, IsAmong, LiesIn, SpeaksIn, IsAppended, AreNoted, AppendStandsFrom, AllBelow}
-use Rattle.raft_log_directory.proofs.SpanLaws.{last_file, GoesOnQuietly, quiet_span, LiesIn-front, LiesIn-above, lies_grown, lies_last, lies_among, among_speaks, span_records}
+use Rattle.raft_log_directory.proofs.SpanLaws.{last_file, GoesOnQuietly, LiesIn-front, LiesIn-above, lies_grown, lies_last, lies_among, among_speaks, span_records}
 
 module _ {E V : Type 0} where
   -- a quiet event

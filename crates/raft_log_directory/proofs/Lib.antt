@@ -6,3 +6,4 @@ pub mod GrowsLaws
 pub mod Follows
 pub mod Renumbered
 pub mod StandsLaws
+pub mod LogLaws

@@ -1,5 +1,5 @@
 -- The files that an engine notes for each slot: a queue may begin at the least of them, and no later.
-use Rattle.std.specs.Prelude.{◌≡◌, ℕ, ◌<◌, ◌≤◌, ◌⊎◌, true, false, List, [], ◌∷◌, ◌++◌, Option, Some, None}
+use Rattle.std.specs.Prelude.{◌≡◌, ℕ, ◌<◌, ◌≤◌, ◌⊎◌, true, false, List, [], ◌∷◌, ◌++◌, None}
 use Rattle.raft_log_model.specs.Item.{Record, Tagged, items_of}
 use Rattle.raft_log_model.specs.Meaning.{Slot, says}
 use Rattle.raft_log_model.specs.Meaning.Slot.{Index, Key}

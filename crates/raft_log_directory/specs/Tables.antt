@@ -1,11 +1,11 @@
 -- What an engine's tables promise of a record before it is written: how the view goes on once it is.
-use Rattle.std.specs.Prelude.{◌≡◌, ℕ, ◌<◌, ◌≤◌, ◌⊎◌, List, [], ◌∷◌, ◌++◌}
+use Rattle.std.specs.Prelude.{◌≡◌, ℕ, ◌≤◌, ◌⊎◌, List, [], ◌∷◌, ◌++◌}
 use Rattle.raft_log_model.specs.Item.{Item, Tagged, Record, items_of}
 use Rattle.raft_log_model.specs.Meaning.{Slot, says}
 use Rattle.raft_log_model.specs.Groups.{of_group, taken}
 use Rattle.raft_log_machine.specs.Survival.{IsSpoken}
 use Rattle.raft_log_machine.specs.Unbroken.{joined}
-use Rattle.raft_log_machine.specs.Whereabouts.{Whereabouts, top, GrowsBy, CarriesAll}
+use Rattle.raft_log_machine.specs.Whereabouts.{GrowsBy, CarriesAll}
 use Rattle.raft_log_machine.specs.Machine.{AllFit, IsJoined}
 use Rattle.raft_log_directory.specs.Notes.{IsAppended, IsInRewrite}
 use Rattle.raft_log_directory.specs.Log.{View}
@@ -61,8 +61,3 @@ pub record EndsGroupTo {E V : Type 0} (first : List (Tagged E V)) (more : List (
   pub map : new.map ≡ old.map
   pub noted : NotesShrink old new
   pub noted_in_rewrite : NotesCarry (joined first more ++ xs) n old new
-
--- the same whereabouts, or those of a group without entries at another number
-abbrev pub IsRenumbered : Whereabouts → Whereabouts → Type 0
-IsRenumbered t u =
-    (u ≡ t) ⊎ ((n : ℕ) × (n ≤ top) × (t.first ≡ t.end) × (u ≡ record t { first = n; split = n; end = n }))

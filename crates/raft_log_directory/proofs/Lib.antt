@@ -7,3 +7,6 @@ pub mod Follows
 pub mod Renumbered
 pub mod StandsLaws
 pub mod LogLaws
+pub mod CallLaws
+pub mod GroupCalls
+pub mod OpenLaws

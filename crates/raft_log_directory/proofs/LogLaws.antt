@@ -43,6 +43,13 @@ log_of may might v m pending less h = record {
   there = less h.files h.there;
 }
 
+-- some first batches
+pub kept_first : {E V : Type 0} (kept lost pending : List (Record E V)) → kept ++ lost ≡ pending → (length kept ≤ length pending) × (take (length kept) pending ≡ kept)
+kept_first kept lost pending e = (
+  omega (arith, length-append kept lost, ap (λ l. length l) e),
+  ap (λ l. take (length kept) l) (sym e) ∙ take-append_seam kept lost,
+)
+
 module _ {D E V : Type 0} (r : Readings D E V) where
   allowed_part : (f : Files E V) (image other : D) → ReadsAsPartOf r image other → IsAllowed r f other → IsAllowed r f image
   allowed_part f image other part h = record {
@@ -81,13 +88,6 @@ module _ {D E V : Type 0} (r : Readings D E V) where
       ∙ ap (λ l. directory_meaning (of_rewrite.1 ++ ((queue_of d.files.rewrite).live ++ h.rewrite_kept)) l g slot) of_append.3
       ∙ means_kept (machine_of d) k.kept k.replay k.runs h.rewrite_kept h.rewrite_lost of_rewrite.0 of_rewrite.1 h.append_kept h.append_lost of_append.0 of_append.1
       h.rewrite_image of_rewrite.2 h.append_image of_append.2 g slot
-
-  -- some first batches
-  kept_first : (kept lost pending : List (Record E V)) → kept ++ lost ≡ pending → (length kept ≤ length pending) × (take (length kept) pending ≡ kept)
-  kept_first kept lost pending e = (
-    omega (arith, length-append kept lost, ap (λ l. length l) e),
-    ap (λ l. take (length kept) l) (sym e) ∙ take-append_seam kept lost,
-  )
 
   pub promise : (d : D) (m : Map E V) (pending : List (Record E V)) (image : D) → IsLogOf r d m pending → r.leaves d image
       → (k : ℕ) × (k ≤ length pending) × Means r image (taken m (take k pending))

@@ -7,13 +7,18 @@
 //! * [`moves`]: syncs, rotations and lost files, in any order;
 //! * [`writes`]: a batch, marks, copies, an atomic group;
 //! * [`notes`]: the files noted for each slot, and why a queue may begin at the least of them;
-//! * [`log`]: what a log promises of the images that a crash may leave.
+//! * [`log`]: what a log promises of the images that a crash may leave;
+//! * [`append_calls`], [`rewrite_calls`], [`open`]: what an engine says of its log, after each call of a pipe, answered
+//!   or refused, over any pipes ([`pipes`]) and any file system ([`file_system`]).
 #![tactic(auto)]
 
+pub mod append_calls;
 pub mod file_system;
 pub mod log;
 pub mod model;
 pub mod moves;
 pub mod notes;
+pub mod open;
 pub mod pipes;
+pub mod rewrite_calls;
 pub mod writes;

@@ -1,13 +1,15 @@
 -- An engine in the middle of an atomic group, and its raises that fail.
-use Rattle.std.proofs.Common.{◌≡◌, ℕ, List, [], ◌∷◌, ◌++◌, inl, inr}
+use Rattle.std.proofs.Common.{◌≡◌, ℕ, ◌+◌, List, [], ◌∷◌, ◌++◌, length, ap, ◌∙◌, inl, inr}
 use Rattle.raft_log_model.specs.Item.{Record, Tagged}
 use Rattle.raft_log_model.specs.Item.Record.{Part}
 use Rattle.raft_log_model.specs.Item.Mark.{Middle, End}
 use Rattle.raft_log_model.specs.Groups.{Map, taken}
 use Rattle.raft_log_machine.specs.Whereabouts.{OwesNothing}
+use Rattle.raft_log_machine.specs.Files.{FileEvent, FileQueue}
+use Rattle.raft_log_machine.specs.Files.FileEvent.{Grow, Sync, Rotate, Raise, Lose, Read}
 use Rattle.raft_log_machine.specs.Machine.{AllFit}
 use Rattle.raft_log_directory.specs.Model.{Files, with_append, with_rewrite}
-use Rattle.raft_log_directory.specs.Moves.{Moved, grown, raised_files}
+use Rattle.raft_log_directory.specs.Moves.{Moves, Moved, grown, raised_files}
 use Rattle.raft_log_directory.specs.Notes.{AppendStandsFrom, RewriteStandsFrom, GoesOnFrom}
 use Rattle.raft_log_directory.specs.Log.{View, Stands, Follows, IsLog, IsAt, IsSettled}
 use Rattle.raft_log_directory.specs.Tables.{EndsGroupTo}
@@ -108,6 +110,31 @@ module _ {S E V : Type 0} (ties become : S → Files E V → Type 0) (s t : S) (
         stands = rewrite_follows v (with_rewrite f f.rewrite_from (raised_files f.rewrite c.0 c.1)) m [] c.4.0
             (rewrite_stands_raised v f m n c.0 c.1 h.rewrite c.2 c.3 from h.at.stands);
         there = c.4.1;
+      }
+
+  -- nothing is pending in Rewrite then, where nothing was
+  nothing_moved : (es : List (FileEvent E V)) (from : ℕ) (q : FileQueue E V) (to : ℕ) (p : FileQueue E V) → Moves from q es to p → q.pending ≡ [] → p.pending ≡ []
+  nothing_moved [] from q to p moves nothing = ap (λ x. x.pending) moves.1 ∙ nothing
+  nothing_moved (Grow ys ∷ es) from q to p moves nothing = absurd moves.1
+  nothing_moved (Sync ∷ es) from q to p moves nothing = nothing_moved es from moves.0 to p moves.3 (ap (λ x. x.pending) moves.2)
+  nothing_moved (Rotate ∷ es) from q to p moves nothing = nothing_moved es from moves.0 to p moves.3 (ap (λ x. x.pending) moves.2)
+  nothing_moved (Raise out stay ∷ es) from q to p moves nothing = absurd moves.1
+  nothing_moved (Lose before file rest ∷ es) from q to p moves nothing =
+      nothing_moved es (from + (length before + 1)) moves.0 to p moves.3 (ap (λ x. x.pending) moves.2.1 ∙ nothing)
+  nothing_moved (Read below again kept ∷ es) from q to p moves nothing = absurd moves.1
+
+  pub append_raise_settled : Raises ties become InAppend n s t → ((g : ℕ) → OwesNothing (v.whereabouts g)) → AppendStandsFrom n v.whereabouts v.noted
+      → IsSettled (become t) v m
+  unfolding append_raised_to
+  append_raise_settled call owes from = record { at = append_raised_to call owes from; rewrite = h.rewrite }
+
+  pub rewrite_raise_settled : Raises ties become InRewrite n s t → RewriteStandsFrom n v.map v.whereabouts v.noted_in_rewrite → IsSettled (become t) v m
+  unfolding rewrite_raised_to
+  rewrite_raise_settled call from =
+      let f : Files E V = h.at.files in
+      let c = call f h.at.there in record {
+        at = rewrite_raised_to call from;
+        rewrite = nothing_moved c.4.0.events f.rewrite_from (raised_files f.rewrite c.0 c.1) c.4.0.from c.4.0.queue c.4.0.moves h.rewrite;
       }
 
   -- a raise that failed: what the images allow is a log still

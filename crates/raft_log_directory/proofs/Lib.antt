@@ -10,3 +10,5 @@ pub mod LogLaws
 pub mod CallLaws
 pub mod GroupCalls
 pub mod OpenLaws
+pub mod SettledLaws
+pub mod ExactPipe

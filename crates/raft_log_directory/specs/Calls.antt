@@ -63,6 +63,12 @@ abbrev pub Syncs : {S E V : Type 0} → (S → Files E V → Type 0) → Which �
 Syncs {S} {E} {V} ties which s t =
     (f : Files E V) → ties s f → ties t (put which f (from_at which f) (settled_files (queue_at which f)))
 
+-- all that was written to the queue is synced: by a sync, by a rotation, or where a refused record was cut back
+abbrev pub Settles : {S E V : Type 0} → (S → Files E V → Type 0) → Which → S → S → Type 0
+Settles {S} {E} {V} ties which s t =
+    (f : Files E V) → ties s f
+    → (a : MovedIn which f) × (a.queue.pending ≡ []) × ties t (put which f a.from a.queue)
+
 -- the pipe failed, and what was there is what may be there
 abbrev pub FailsWhole : {S E V : Type 0} → (S → Files E V → Type 0) → (S → Files E V → Type 0) → S → S → Type 0
 FailsWhole {S} {E} {V} ties allows s t = (f : Files E V) → ties s f → allows t f
@@ -110,6 +116,10 @@ Replays {S} {E} {V} allows ties v s t =
     × (((g : ℕ) → IsOneRun (directory_meaning (records_read f.rewrite r) (records_read f.append a) g))
     → IsMadeOf v (records_read f.rewrite r) (records_read f.append a)
     (record f { rewrite = read_files f.rewrite r; append = read_files f.append a }))
+
+-- a pipe that is nothing but its files: the ones that it has are there, and no others
+abbrev pub IsExactly : {E V : Type 0} → Files E V → Files E V → Type 0
+IsExactly s f = f ≡ s
 
 -- the view is true, and Rewrite ends with an atomic group that has begun in file `from` and not ended
 pub record IsInGroup {E V : Type 0} (may_be : Files E V → Type 0) (v : View E V) (m : Map E V)

@@ -7,7 +7,7 @@ ghost use Rattle.raft_log_model.specs.Item.Record.{Part, Plain};
 ghost use Rattle.raft_log_model.specs.Item.{Record, Tagged};
 ghost use Rattle.raft_log_machine.specs.Machine.{AllFit};
 ghost use Rattle.raft_log_directory.specs.Calls.Which.{InRewrite};
-ghost use Rattle.raft_log_directory.specs.Calls.{Appends, CutsBack, IsInGroup, LeavesOut, MayAppend, Raises, Syncs};
+ghost use Rattle.raft_log_directory.specs.Calls.{Appends, CutsBack, IsInGroup, LeavesOut, MayAppend, Raises, Settles, Syncs};
 ghost use Rattle.raft_log_directory.specs.Log.{IsAt, IsLog, IsSettled, View};
 ghost use Rattle.raft_log_directory.specs.Notes.{RewriteStandsFrom};
 ghost use Rattle.raft_log_directory.specs.Tables.{CarriesTo, EndsGroupTo};
@@ -19,6 +19,8 @@ pub fn refused_record_of_rewrite_changes_nothing<P: TiedFiles>()
     ensures sync { (s t : P) (v : View P.Entry P.Value) (m : Map P.Entry P.Value)
         (pending : List (Record P.Entry P.Value)) → IsAt (P.ties s) v m pending
         → Syncs P.ties InRewrite s t → IsAt (P.ties t) v m pending }
+    ensures settled { (s t : P) (v : View P.Entry P.Value) (m : Map P.Entry P.Value)
+        → Settles P.ties InRewrite s t → IsAt (P.ties s) v m [] → IsSettled (P.ties t) v m }
     ensures cut_back { (s t : P) (v : View P.Entry P.Value) (m : Map P.Entry P.Value)
         (pending : List (Record P.Entry P.Value)) → IsAt (P.ties s) v m pending
         → CutsBack P.ties InRewrite s t → IsAt (P.ties t) v m pending }
@@ -93,7 +95,7 @@ pub fn ended_group_keeps_the_map<P: TiedFiles>()
 pub fn raised_rewrite_keeps_the_map<P: TiedFiles>()
     ensures answered { (s t : P) (v : View P.Entry P.Value) (m : Map P.Entry P.Value) (n : ℕ)
         → IsSettled (P.ties s) v m → Raises P.ties P.ties InRewrite n s t
-        → RewriteStandsFrom n v.map v.whereabouts v.noted_in_rewrite → IsAt (P.ties t) v m [] }
+        → RewriteStandsFrom n v.map v.whereabouts v.noted_in_rewrite → IsSettled (P.ties t) v m }
     ensures failed { (s t : P) (v : View P.Entry P.Value) (m : Map P.Entry P.Value) (n : ℕ)
         → IsSettled (P.ties s) v m → Raises P.ties P.allows InRewrite n s t
         → RewriteStandsFrom n v.map v.whereabouts v.noted_in_rewrite → IsLog (P.allows t) m [] }

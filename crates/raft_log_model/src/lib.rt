@@ -12,8 +12,6 @@
 pub mod examples;
 pub mod groups;
 pub mod hostile;
-#[cfg(test)]
-mod laws_at_numbers;
 pub mod meaning;
 pub mod renaming;
 pub mod segments;

@@ -1,5 +1,5 @@
--- What the calls of a pipe do, told of the numbered files alone. `Ties` says which files may be there while the pipe
--- runs, `allows` which the images allow; a pipe's own model of its files meets these words.
+-- What the calls of a pipe do, told of the numbered files alone. `Ties` says which files may be there while
+-- the pipe runs, `allows` which the images allow; a pipe's own model of its files meets these words.
 use Rattle.std.specs.Prelude.{◌≡◌, ℕ, ◌⊎◌, List, [], ◌++◌}
 use Rattle.raft_log_model.specs.Item.{Record, Tagged}
 use Rattle.raft_log_model.specs.Groups.{Map, appended, directory_meaning}
@@ -52,25 +52,28 @@ LeavesOut {S} {E} {V} ties which s t =
     (f : Files E V) → ties s f → (a : MovedIn which f) × ties t (put which f a.from a.queue)
 
 -- the pipe failed, and the record may be there or not
-abbrev pub MayAppend : {S E V : Type 0} → (S → Files E V → Type 0) → (S → Files E V → Type 0) → Which → Record E V
-    → S → S → Type 0
+abbrev pub MayAppend : {S E V : Type 0} → (S → Files E V → Type 0) → (S → Files E V → Type 0) → Which
+    → Record E V → S → S → Type 0
 MayAppend {S} {E} {V} ties allows which y s t =
     (f : Files E V) → ties s f
-    → (a : MovedIn which f) × (allows t (put which f a.from a.queue) ⊎ allows t (put which f a.from (grown a.queue y)))
+    → (a : MovedIn which f)
+    × (allows t (put which f a.from a.queue) ⊎ allows t (put which f a.from (grown a.queue y)))
 
 -- the queue's last file is synced
 abbrev pub Syncs : {S E V : Type 0} → (S → Files E V → Type 0) → Which → S → S → Type 0
 Syncs {S} {E} {V} ties which s t =
     (f : Files E V) → ties s f → ties t (put which f (from_at which f) (settled_files (queue_at which f)))
 
--- all that was written to the queue is synced: by a sync, by a rotation, or where a refused record was cut back
+-- all that was written to the queue is synced: by a sync, by a rotation, or where a refused record was cut
+-- back
 abbrev pub Settles : {S E V : Type 0} → (S → Files E V → Type 0) → Which → S → S → Type 0
 Settles {S} {E} {V} ties which s t =
     (f : Files E V) → ties s f
     → (a : MovedIn which f) × (a.queue.pending ≡ []) × ties t (put which f a.from a.queue)
 
 -- the pipe failed, and what was there is what may be there
-abbrev pub FailsWhole : {S E V : Type 0} → (S → Files E V → Type 0) → (S → Files E V → Type 0) → S → S → Type 0
+abbrev pub FailsWhole : {S E V : Type 0} → (S → Files E V → Type 0) → (S → Files E V → Type 0) → S → S
+    → Type 0
 FailsWhole {S} {E} {V} ties allows s t = (f : Files E V) → ties s f → allows t f
 
 -- the span begins at file n, or before it, and of the files below some may be lost
@@ -79,10 +82,11 @@ abbrev pub Raises : {S E V : Type 0} → (S → Files E V → Type 0) → (S →
 Raises {S} {E} {V} ties become which n s t =
     (f : Files E V) → ties s f
     → (out stay : List (LogFile E V)) × (out ++ stay ≡ (queue_at which f).full) × AllBelow n out
-    × ((a : Moved (from_at which f) (raised_files (queue_at which f) out stay)) × become t (put which f a.from a.queue))
+    × ((a : Moved (from_at which f) (raised_files (queue_at which f) out stay))
+    × become t (put which f a.from a.queue))
 
--- what an open reads of a queue: which of the gone files are in the span again, and which of the unsynced records an
--- image kept
+-- what an open reads of a queue: which of the gone files are in the span again, and which of the unsynced
+-- records an image kept
 pub record ReadAgain {E V : Type 0} (q : FileQueue E V) : Type 0 where
   pub below : List (LogFile E V)
   pub again : List (LogFile E V)
@@ -93,22 +97,26 @@ pub record ReadAgain {E V : Type 0} (q : FileQueue E V) : Type 0 where
 
 -- the files once that is synced
 abbrev pub read_files : {E V : Type 0} → (q : FileQueue E V) → ReadAgain q → FileQueue E V
-read_files q r = record q { gone = r.below; full = r.again ++ q.full; synced = q.synced ++ r.kept; pending = [] }
+read_files q r =
+    record q { gone = r.below; full = r.again ++ q.full; synced = q.synced ++ r.kept; pending = [] }
 
 -- the records that are read
 abbrev pub records_read : {E V : Type 0} → (q : FileQueue E V) → ReadAgain q → List (Record E V)
 records_read q r = records_of r.again ++ ((queue_of q).live ++ r.kept)
 
 -- the view is made of what was read of both queues, now in these files
-pub record IsMadeOf {E V : Type 0} (v : View E V) (rewrite append : List (Record E V)) (f : Files E V) : Type 0 where
+pub record IsMadeOf {E V : Type 0} (v : View E V) (rewrite append : List (Record E V)) (f : Files E V)
+    : Type 0 where
   pub map : v.map ≡ directory_meaning rewrite append
-  pub whereabouts : (g : ℕ) → IsRecovered (directory_meaning rewrite append g) (appended g append) (v.whereabouts g)
+  pub whereabouts : (g : ℕ)
+      → IsRecovered (directory_meaning rewrite append g) (appended g append) (v.whereabouts g)
   pub noted : AreNoted v.whereabouts v.noted f.append
   pub noted_in_rewrite : AreNotedInRewrite v.map v.whereabouts v.noted_in_rewrite f.rewrite
 
--- an open: whichever files may have been there, it read some image of them and synced what it read; and where the
--- entries of each group were one run, the view is made of it
-abbrev pub Replays : {S E V : Type 0} → (S → Files E V → Type 0) → (S → Files E V → Type 0) → View E V → S → S → Type 0
+-- an open: whichever files may have been there, it read some image of them and synced what it read; and where
+-- the entries of each group were one run, the view is made of it
+abbrev pub Replays : {S E V : Type 0} → (S → Files E V → Type 0) → (S → Files E V → Type 0) → View E V → S → S
+    → Type 0
 Replays {S} {E} {V} allows ties v s t =
     (f : Files E V) → allows s f
     → (r : ReadAgain f.rewrite) × (a : ReadAgain f.append)

@@ -1,5 +1,5 @@
--- What a file system shows of a log: which images a crash may leave, what a recovery may read of each, and what a
--- model allows.
+-- What a file system shows of a log: which images a crash may leave, what a recovery may read of each, and
+-- what a model allows.
 use Rattle.std.specs.Prelude.{◌≡◌, ℕ, List, [], ◌∷◌, ◌++◌}
 use Rattle.raft_log_model.specs.Item.{Record}
 use Rattle.raft_log_model.specs.Meaning.{Slot}
@@ -7,15 +7,15 @@ use Rattle.raft_log_model.specs.Groups.{Map, directory_meaning}
 use Rattle.raft_log_machine.specs.Files.{LogFile, IsRead, records_of}
 use Rattle.raft_log_directory.specs.Model.{Files}
 
--- Of a file system D: a crash of the one may leave the other (checksums met by chance aside); and from a file of
--- that number on a recovery may read these files of Rewrite, and of Append
+-- Of a file system D: a crash of the one may leave the other (checksums met by chance aside); and from a file
+-- of that number on a recovery may read these files of Rewrite, and of Append
 pub record Readings (D E V : Type 0) : Type 1 where
   pub leaves : D → D → Type 0
   pub rewrite : D → ℕ → List (LogFile E V) → Type 0
   pub append : D → ℕ → List (LogFile E V) → Type 0
 
--- the image may be one of these files: of what isn't synced some beginnings are kept, and whatever is read, from
--- whatever start, is of the files with these
+-- the image may be one of these files: of what isn't synced some beginnings are kept, and whatever is read,
+-- from whatever start, is of the files with these
 pub record IsAllowed {D E V : Type 0} (r : Readings D E V) (f : Files E V) (image : D) : Type 0 where
   pub rewrite_kept : List (Record E V)
   pub rewrite_lost : List (Record E V)
@@ -58,10 +58,13 @@ abbrev pub ShowsNoMore : {D E V : Type 0} → Readings D E V → D → D → Typ
 ShowsNoMore {D} r old new =
     (image : D) → r.leaves new image → (before : D) × r.leaves old before × ReadsAsPartOf r image before
 
--- a file system that shows nothing of a log: of each queue an empty file 1 is read, as it is where no file is there
+-- a file system that shows nothing of a log: of each queue an empty file 1 is read, as it is where no file is
+-- there
 pub record ReadsNothing {D E V : Type 0} (r : Readings D E V) (image : D) : Type 0 where
-  pub rewrite : (s : ℕ) (files : List (LogFile E V)) → r.rewrite image s files → (s ≡ 1) × (files ≡ empty_file ∷ [])
-  pub append : (s : ℕ) (files : List (LogFile E V)) → r.append image s files → (s ≡ 1) × (files ≡ empty_file ∷ [])
+  pub rewrite : (s : ℕ) (files : List (LogFile E V)) → r.rewrite image s files
+      → (s ≡ 1) × (files ≡ empty_file ∷ [])
+  pub append : (s : ℕ) (files : List (LogFile E V)) → r.append image s files
+      → (s ≡ 1) × (files ≡ empty_file ∷ [])
 
 -- the file system is its own only image, as it is where all is synced
 abbrev pub IsAtRest : {D E V : Type 0} → Readings D E V → D → Type 0

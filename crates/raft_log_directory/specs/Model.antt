@@ -1,4 +1,5 @@
--- The model of a whole directory: the numbered files of both queues, what they mean, and where each thing stands.
+-- The model of a whole directory: the numbered files of both queues, what they mean, and where each thing
+-- stands.
 use Rattle.std.specs.Prelude.{ℕ, Bool, false}
 use Rattle.raft_log_model.specs.Groups.{Map}
 use Rattle.raft_log_machine.specs.Whereabouts.{Whereabouts}

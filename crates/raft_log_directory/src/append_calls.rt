@@ -12,7 +12,8 @@ ghost use Rattle.raft_log_directory.specs.Tables.{GrowsTo};
 
 use crate::pipes::TiedFiles;
 
-/// A batch that is written is pending behind the others, or behind those of them that a rotation left pending.
+/// A batch that is written is pending behind the others, or behind those of them that a rotation left
+/// pending.
 pub fn written_batch_is_pending<P: TiedFiles>()
     ensures { (s t : P) (v : View P.Entry P.Value) (m : Map P.Entry P.Value)
         (pending : List (Record P.Entry P.Value)) → IsAt (P.ties s) v m pending
@@ -20,7 +21,8 @@ pub fn written_batch_is_pending<P: TiedFiles>()
         → Appends P.ties InAppend y n s t → GrowsTo y n v u → EndsAt (P.ties t) u m (pending ++ y ∷ []) }
 {}
 
-/// A batch that is refused leaves no trace: cut back, all batches before it are synced; left out, some first ones are.
+/// A batch that is refused leaves no trace: cut back, all batches before it are synced; left out, some first
+/// ones are.
 pub fn refused_batch_leaves_no_trace<P: TiedFiles>()
     ensures cut_back { (s t : P) (v : View P.Entry P.Value) (m : Map P.Entry P.Value)
         (pending : List (Record P.Entry P.Value)) → IsAt (P.ties s) v m pending
@@ -49,8 +51,8 @@ pub fn synced_batches_are_in_the_map<P: TiedFiles>()
         → FailsWhole P.ties P.allows s t → IsLog (P.allows t) m pending }
 {}
 
-/// Once all that was written to Append is synced, by a sync, a rotation or a cut back, all batches are in the map, and
-/// what was settled in Rewrite stays so.
+/// Once all that was written to Append is synced, by a sync, a rotation or a cut back, all batches are in the
+/// map, and what was settled in Rewrite stays so.
 pub fn settled_append_has_all_batches<P: TiedFiles>()
     ensures batches { (s t : P) (v : View P.Entry P.Value) (m : Map P.Entry P.Value)
         (pending : List (Record P.Entry P.Value)) → Settles P.ties InAppend s t
@@ -61,8 +63,8 @@ pub fn settled_append_has_all_batches<P: TiedFiles>()
     ensures cut_back { (s t : P) (which : Which) → CutsBack P.ties which s t → Settles P.ties which s t }
 {}
 
-/// Calls one after another: where some first batches are synced and then some of the others, some first ones of all
-/// are; and where none is pending in the end, all are in the map.
+/// Calls one after another: where some first batches are synced and then some of the others, some first ones
+/// of all are; and where none is pending in the end, all are in the map.
 pub fn ends_of_calls_compose<P: TiedFiles>()
     ensures view { (t : P) (m : Map P.Entry P.Value) (v : View P.Entry P.Value)
         (done rest more pending : List (Record P.Entry P.Value)) → done ++ rest ≡ pending
@@ -75,8 +77,8 @@ pub fn ends_of_calls_compose<P: TiedFiles>()
         → IsAt (P.ties t) v (taken (taken m done) rest) [] → IsAt (P.ties t) v (taken m pending) [] }
 {}
 
-/// Append may begin at the least file noted for it, or before it, once nothing is pending in either queue and no mark
-/// is owed: the map stays, whether the files below are lost, kept, or their deletion fails half way.
+/// Append may begin at the least file noted for it, or before it, once nothing is pending in either queue and
+/// no mark is owed: the map stays, whether the files below are lost, kept, or their deletion fails half way.
 pub fn raised_append_keeps_the_map<P: TiedFiles>()
     ensures answered { (s t : P) (v : View P.Entry P.Value) (m : Map P.Entry P.Value) (n : ℕ)
         → IsSettled (P.ties s) v m → Raises P.ties P.ties InAppend n s t

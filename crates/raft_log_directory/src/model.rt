@@ -1,4 +1,5 @@
-//! The model of a directory is sound from a fresh one on, and doesn't care where a group without entries counts on.
+//! The model of a directory is sound from a fresh one on, and doesn't care where a group without entries
+//! counts on.
 
 ghost use Rattle.std.specs.Prelude.{ℕ, List};
 ghost use Rattle.raft_log_model.specs.Groups.{Map};
@@ -12,8 +13,8 @@ pub fn fresh_model_is_sound<E, V>()
     ensures { IsSound (fresh_model {E = E} {V = V}) }
 {}
 
-/// The table of a group without entries may take any number at any time: the model stays sound, and what an engine
-/// knows stays true.
+/// The table of a group without entries may take any number at any time: the model stays sound, and what an
+/// engine knows stays true.
 pub fn renumbered_groups_are_sound<E, V>()
     ensures model { (f : Files E V) (m : Map E V) (whereabouts next : ℕ → Whereabouts)
         → ((g : ℕ) → IsRenumbered (whereabouts g) (next g))

@@ -1,4 +1,5 @@
-//! The files noted for each slot: a queue may begin at the least of them, for what stays says all that stands there.
+//! The files noted for each slot: a queue may begin at the least of them, for what stays says all that stands
+//! there.
 
 ghost use Rattle.std.specs.Prelude.{◌≡◌, ◌⊎◌, ℕ, List, ◌++◌, [], Option};
 ghost use Rattle.raft_log_model.specs.Groups.{appended, rewritten, Map};
@@ -22,8 +23,8 @@ ghost use Rattle.raft_log_directory.specs.Notes.{
   SpeaksFrom,
 };
 
-/// What counts of Rewrite from a file on and speaks of a slot goes on speaking of it: behind each record, be it a
-/// begin, a middle or an end, and through syncs, rotations and losses.
+/// What counts of Rewrite from a file on and speaks of a slot goes on speaking of it: behind each record, be
+/// it a begin, a middle or an end, and through syncs, rotations and losses.
 pub fn what_speaks_goes_on<E, V>()
     ensures grown { (q : FileQueue E V) (y : Record E V) (g n : ℕ) (s : Slot)
         → SpeaksFrom q g n s → SpeaksFrom (grown q y) g n s }
@@ -31,8 +32,8 @@ pub fn what_speaks_goes_on<E, V>()
         → SpeaksFrom q g n s → SpeaksFrom p.queue g n s }
 {}
 
-/// Where Append begins at the least file noted for it, or before it, the records that stay hold all that stands in
-/// Append: so its first files may leave the span.
+/// Where Append begins at the least file noted for it, or before it, the records that stay hold all that
+/// stands in Append: so its first files may leave the span.
 pub fn noted_files_have_what_is_appended<E, V>()
     ensures { (f : Files E V) (m : Map E V) (whereabouts : ℕ → Whereabouts) (notes : Notes) (n : ℕ)
         (out stay : List (LogFile E V)) → IsSound (running f m whereabouts) → f.append.pending ≡ []
@@ -41,8 +42,8 @@ pub fn noted_files_have_what_is_appended<E, V>()
         → (g : ℕ) → HasAppended (whereabouts g) (appended g (records_of stay ++ f.append.synced)) }
 {}
 
-/// Where Rewrite begins at the least file noted for it, or before it, what counts of the records that stay holds all
-/// that stands in Rewrite, atomic groups too.
+/// Where Rewrite begins at the least file noted for it, or before it, what counts of the records that stay
+/// holds all that stands in Rewrite, atomic groups too.
 pub fn noted_files_have_what_is_rewritten<E, V>()
     ensures { (f : Files E V) (m : Map E V) (whereabouts : ℕ → Whereabouts) (notes : Notes) (n : ℕ)
         (out stay : List (LogFile E V)) → IsSound (running f m whereabouts) → f.append.pending ≡ []
@@ -51,8 +52,8 @@ pub fn noted_files_have_what_is_rewritten<E, V>()
         → (g : ℕ) → HasRewritten (m g) (whereabouts g) (rewritten g (records_of stay ++ f.rewrite.synced)) }
 {}
 
-/// A raise of either queue to a file at or below the least noted one is followed: of Append where nothing is pending
-/// in either queue and no mark is owed, of Rewrite where nothing is pending.
+/// A raise of either queue to a file at or below the least noted one is followed: of Append where nothing is
+/// pending in either queue and no mark is owed, of Rewrite where nothing is pending.
 pub fn raises_are_followed<E, V>()
     ensures append { (v : View E V) (f : Files E V) (m : Map E V) (n : ℕ) (out stay : List (LogFile E V))
         → f.rewrite.pending ≡ [] → out ++ stay ≡ f.append.full → AllBelow n out
@@ -64,8 +65,8 @@ pub fn raises_are_followed<E, V>()
         → Stands v f m [] → Stands v (with_rewrite f f.rewrite_from (raised_files f.rewrite out stay)) m [] }
 {}
 
-/// What comes to stand in a queue by a list of items, the items speak of: so the file of their record may be noted
-/// for it. What Rewrite takes brings nothing into Append.
+/// What comes to stand in a queue by a list of items, the items speak of: so the file of their record may be
+/// noted for it. What Rewrite takes brings nothing into Append.
 pub fn items_speak_of_what_they_bring<E, V>()
     ensures append { (t u : Whereabouts) (xs : List (Item E V)) (s : Slot)
         → GrowsBy t xs u → IsAppended u s → IsAppended t s ⊎ IsSpoken (says s xs) }

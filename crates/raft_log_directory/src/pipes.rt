@@ -20,8 +20,8 @@ ghost use Rattle.raft_log_directory.specs.Model.{Files};
 ghost use Rattle.raft_log_directory.specs.Moves.{grown, raised_files, rotated, settled_files};
 ghost use Rattle.raft_log_directory.specs.Notes.{AllBelow};
 
-/// Says which numbered files may be there: while the pipes run, by what they keep of them, and always, by what the
-/// images allow.
+/// Says which numbered files may be there: while the pipes run, by what they keep of them, and always, by
+/// what the images allow.
 pub trait TiedFiles {
     /// What stands for an entry.
     type Entry;
@@ -46,7 +46,8 @@ pub fn words_on_pipes_can_be_met<E, V>()
     ensures rotates { (which : Which) (f : Files E V)
         → LeavesOut IsExactly which f (put which f (from_at which f) (rotated (queue_at which f))) }
     ensures fails { (which : Which) (f : Files E V) (y : Record E V)
-        → MayAppend IsExactly IsExactly which y f (put which f (from_at which f) (grown (queue_at which f) y)) }
+        → MayAppend IsExactly IsExactly which y f
+        (put which f (from_at which f) (grown (queue_at which f) y)) }
     ensures syncs { (which : Which) (f : Files E V)
         → Syncs IsExactly which f (put which f (from_at which f) (settled_files (queue_at which f))) }
     ensures raises { (which : Which) (f : Files E V) (n : ℕ) (out stay : List (LogFile E V))

@@ -1,4 +1,5 @@
-//! What an engine says of its log goes on with each call on Rewrite, answered or refused: the map never changes.
+//! What an engine says of its log goes on with each call on Rewrite, answered or refused: the map never
+//! changes.
 
 ghost use Rattle.std.specs.Prelude.{◌∷◌, ℕ, List, ◌++◌, []};
 ghost use Rattle.raft_log_model.specs.Groups.{Map};
@@ -46,14 +47,16 @@ pub fn begun_group_keeps_the_map<P: TiedFiles>()
     ensures answered { (s t : P) (v : View P.Entry P.Value) (m : Map P.Entry P.Value)
         (pending : List (Record P.Entry P.Value)) → IsAt (P.ties s) v m pending
         → (n from : ℕ) (xs : List (Tagged P.Entry P.Value)) → AllFit xs
-        → Appends P.ties InRewrite (Part (Begin n) xs) from s t → IsInGroup (P.ties t) v m pending from n xs [] }
+        → Appends P.ties InRewrite (Part (Begin n) xs) from s t
+        → IsInGroup (P.ties t) v m pending from n xs [] }
     ensures failed { (s t : P) (v : View P.Entry P.Value) (m : Map P.Entry P.Value)
         (pending : List (Record P.Entry P.Value)) → IsAt (P.ties s) v m pending
         → (n : ℕ) (xs : List (Tagged P.Entry P.Value)) → AllFit xs
         → MayAppend P.ties P.allows InRewrite (Part (Begin n) xs) s t → IsLog (P.allows t) m pending }
 {}
 
-/// A middle of an atomic group, rotations between its records, and a group that is given up: nothing of it counts.
+/// A middle of an atomic group, rotations between its records, and a group that is given up: nothing of it
+/// counts.
 pub fn unended_group_keeps_the_map<P: TiedFiles>()
     ensures answered { (s t : P) (v : View P.Entry P.Value) (m : Map P.Entry P.Value) (from n : ℕ)
         (first : List (Tagged P.Entry P.Value)) (more : List (List (Tagged P.Entry P.Value)))

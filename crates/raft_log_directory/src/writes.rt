@@ -19,8 +19,8 @@ pub fn batch_is_followed<E, V>()
         → Stands u (with_append f f.append_from (grown f.append y)) m (pending ++ y ∷ []) }
 {}
 
-/// Marks, copies out of Append and what is rewritten again, in one record of Rewrite, while no batch is pending: the
-/// map stays, and what comes to stand in Rewrite is noted in its last file.
+/// Marks, copies out of Append and what is rewritten again, in one record of Rewrite, while no batch is
+/// pending: the map stays, and what comes to stand in Rewrite is noted in its last file.
 pub fn copies_are_followed<E, V>()
     ensures { (v u : View E V) (f : Files E V) (m : Map E V) (xs : List (Tagged E V))
         → CarriesTo xs f.rewrite.last v u → Stands v f m []
@@ -38,8 +38,8 @@ pub fn unended_group_is_followed<E, V>()
         → Stands v (with_rewrite f f.rewrite_from (grown f.rewrite (Part (Middle n) xs))) m pending }
 {}
 
-/// At its end an atomic group counts as one record would, and what comes to stand in Rewrite by it is noted in the
-/// file of its begin.
+/// At its end an atomic group counts as one record would, and what comes to stand in Rewrite by it is noted
+/// in the file of its begin.
 pub fn ended_group_is_followed<E, V>()
     ensures { (v u : View E V) (f : Files E V) (m : Map E V) (from n : ℕ) (first : List (Tagged E V))
         (more : List (List (Tagged E V))) (xs : List (Tagged E V))
@@ -47,15 +47,15 @@ pub fn ended_group_is_followed<E, V>()
         → Stands u (with_rewrite f f.rewrite_from (grown f.rewrite (Part (End n) xs))) m [] }
 {}
 
-/// From its begin on an atomic group lies in files from the begin's on: with each middle, and through rotations,
-/// syncs and losses between its records.
+/// From its begin on an atomic group lies in files from the begin's on: with each middle, and through
+/// rotations, syncs and losses between its records.
 pub fn group_goes_on_from_its_begin<E, V>()
     ensures begin { (f : Files E V) (n : ℕ) (xs : List (Tagged E V))
         → GoesOnFrom (grown f.rewrite (Part (Begin n) xs)) f.rewrite.last n xs [] }
-    ensures middle { (f : Files E V) (from n : ℕ) (first : List (Tagged E V)) (more : List (List (Tagged E V)))
-        (xs : List (Tagged E V)) → GoesOnFrom f.rewrite from n first more
+    ensures middle { (f : Files E V) (from n : ℕ) (first : List (Tagged E V))
+        (more : List (List (Tagged E V))) (xs : List (Tagged E V)) → GoesOnFrom f.rewrite from n first more
         → GoesOnFrom (grown f.rewrite (Part (Middle n) xs)) from n first (more ++ xs ∷ []) }
-    ensures moves { (f : Files E V) (r : Moved f.rewrite_from f.rewrite) (from n : ℕ) (first : List (Tagged E V))
-        (more : List (List (Tagged E V)))
+    ensures moves { (f : Files E V) (r : Moved f.rewrite_from f.rewrite) (from n : ℕ)
+        (first : List (Tagged E V)) (more : List (List (Tagged E V)))
         → GoesOnFrom f.rewrite from n first more → GoesOnFrom r.queue from n first more }
 {}

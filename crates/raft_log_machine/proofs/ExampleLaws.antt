@@ -17,7 +17,7 @@ use Rattle.raft_log_machine.specs.Whereabouts.{Whereabouts, top, with_key, Grows
 use Rattle.raft_log_machine.specs.Recovery.{IsRecovered}
 use Rattle.raft_log_machine.specs.Fresh.{nowhere, fresh_machine}
 use Rattle.raft_log_machine.specs.Machine.{Machine, Steps}
-use Rattle.raft_log_machine.specs.WrongRules.{of}
+use Rattle.raft_log_machine.specs.WrongRules.{tagged}
 use Rattle.raft_log_machine.specs.Example.{entries, compaction, only, two_purges, purged_twice, read_again}
 use Rattle.raft_log_machine.proofs.Words.{says_append, unwrap_or_option_or}
 use Rattle.raft_log_machine.proofs.TruthCarries.{differ}
@@ -34,24 +34,24 @@ each P here elsewhere g = elim (cases_Bool (1 == g)) [ inl e ↦ subst P (from_e
 at_whereabouts : (P : Whereabouts → Type 0) (t : Whereabouts) → P t → P nowhere → (g : ℕ) → P (only t g)
 at_whereabouts P t here elsewhere g = at_bool (1 == g) (λ b. P (if b then t else nowhere)) (λ e. here) (λ e. elsewhere)
 
-none_of : (g : ℕ) (xs : List (Item ℕ ℕ)) → (1 == g) ≡ false → of_group g (of 1 xs) ≡ []
+none_of : (g : ℕ) (xs : List (Item ℕ ℕ)) → (1 == g) ≡ false → of_group g (tagged 1 xs) ≡ []
 none_of g [] e = refl
-none_of g (x ∷ xs) e = if_false (1 == g) (x ∷ of_group g (of 1 xs)) (of_group g (of 1 xs)) e ∙ none_of g xs e
+none_of g (x ∷ xs) e = if_false (1 == g) (x ∷ of_group g (tagged 1 xs)) (of_group g (tagged 1 xs)) e ∙ none_of g xs e
 
 other_whereabouts : (t : Whereabouts) (g : ℕ) → (1 == g) ≡ false → only t g ≡ nowhere
 other_whereabouts t g e = if_false (1 == g) t nowhere e
 
-all_grow : (t : Whereabouts) (xs : List (Item ℕ ℕ)) (u : Whereabouts) → GrowsBy t (of_group 1 (of 1 xs)) u → (g : ℕ) → GrowsBy (only t g) (of_group g (of 1 xs)) (only u g)
-all_grow t xs u here = each (λ g. GrowsBy (only t g) (of_group g (of 1 xs)) (only u g)) here
+all_grow : (t : Whereabouts) (xs : List (Item ℕ ℕ)) (u : Whereabouts) → GrowsBy t (of_group 1 (tagged 1 xs)) u → (g : ℕ) → GrowsBy (only t g) (of_group g (tagged 1 xs)) (only u g)
+all_grow t xs u here = each (λ g. GrowsBy (only t g) (of_group g (tagged 1 xs)) (only u g)) here
     (λ g e. subst (λ l. GrowsBy (only t g) l (only u g)) (sym (none_of g xs e)) (other_whereabouts u g e ∙ sym (other_whereabouts t g e)))
 
-first_grow : (xs : List (Item ℕ ℕ)) (u : Whereabouts) → GrowsBy nowhere (of_group 1 (of 1 xs)) u → (g : ℕ) → GrowsBy nowhere (of_group g (of 1 xs)) (only u g)
-first_grow xs u here = each (λ g. GrowsBy nowhere (of_group g (of 1 xs)) (only u g)) here
+first_grow : (xs : List (Item ℕ ℕ)) (u : Whereabouts) → GrowsBy nowhere (of_group 1 (tagged 1 xs)) u → (g : ℕ) → GrowsBy nowhere (of_group g (tagged 1 xs)) (only u g)
+first_grow xs u here = each (λ g. GrowsBy nowhere (of_group g (tagged 1 xs)) (only u g)) here
     (λ g e. subst (λ l. GrowsBy nowhere l (only u g)) (sym (none_of g xs e)) (other_whereabouts u g e))
 
-all_carry : (m : Map ℕ ℕ) (t : Whereabouts) (xs : List (Item ℕ ℕ)) (u : Whereabouts) → CarriesAll (m 1) t (of_group 1 (of 1 xs)) u
-    → (g : ℕ) → CarriesAll (m g) (only t g) (of_group g (of 1 xs)) (only u g)
-all_carry m t xs u here = each (λ g. CarriesAll (m g) (only t g) (of_group g (of 1 xs)) (only u g)) here
+all_carry : (m : Map ℕ ℕ) (t : Whereabouts) (xs : List (Item ℕ ℕ)) (u : Whereabouts) → CarriesAll (m 1) t (of_group 1 (tagged 1 xs)) u
+    → (g : ℕ) → CarriesAll (m g) (only t g) (of_group g (tagged 1 xs)) (only u g)
+all_carry m t xs u here = each (λ g. CarriesAll (m g) (only t g) (of_group g (tagged 1 xs)) (only u g)) here
     (λ g e. subst (λ l. CarriesAll (m g) (only t g) l (only u g)) (sym (none_of g xs e)) (other_whereabouts u g e ∙ sym (other_whereabouts t g e)))
 
 -- the whereabouts after each event that moves it
@@ -77,7 +77,7 @@ abbrev w2 : Machine ℕ ℕ
 w2 = record w1 { store = with_append w1.store (synced w1.store.append); map = taken w1.map w1.store.append.pending }
 
 abbrev w3 : Machine ℕ ℕ
-w3 = record w2 { store = with_rewrite w2.store (takes w2.store.rewrite (Plain (of 1 (Run 1 (11 ∷ 12 ∷ 13 ∷ []) ∷ [])))); whereabouts = only copied }
+w3 = record w2 { store = with_rewrite w2.store (takes w2.store.rewrite (Plain (tagged 1 (Run 1 (11 ∷ 12 ∷ 13 ∷ []) ∷ [])))); whereabouts = only copied }
 
 abbrev w4 : Machine ℕ ℕ
 w4 = record w3 { store = with_rewrite w3.store (synced w3.store.rewrite) }
@@ -92,10 +92,10 @@ abbrev w7 : Machine ℕ ℕ
 w7 = record w6 { store = with_append w6.store (synced w6.store.append); map = taken w6.map w6.store.append.pending }
 
 abbrev w8 : Machine ℕ ℕ
-w8 = record w7 { store = with_rewrite w7.store (takes w7.store.rewrite (Plain (of 1 (Compact 3 ∷ [])))); whereabouts = only marked }
+w8 = record w7 { store = with_rewrite w7.store (takes w7.store.rewrite (Plain (tagged 1 (Compact 3 ∷ [])))); whereabouts = only marked }
 
 abbrev w9 : Machine ℕ ℕ
-w9 = record w8 { store = with_rewrite w8.store (takes w8.store.rewrite (Plain (of 1 (Put (5 ∷ []) 50 ∷ [])))); whereabouts = only key_copied }
+w9 = record w8 { store = with_rewrite w8.store (takes w8.store.rewrite (Plain (tagged 1 (Put (5 ∷ []) 50 ∷ [])))); whereabouts = only key_copied }
 
 abbrev w10 : Machine ℕ ℕ
 w10 = record w9 { store = with_rewrite w9.store (synced w9.store.rewrite) }
@@ -154,15 +154,12 @@ recovered = record {
       (λ b. (if b then true else false) ≡ false
       → (w11.map 1 (Key k) ≡ None) ⊎ (◌≡◌ {A = Option (Option (Content ℕ ℕ))} (option_or (option_or (option_or None (if b then Some (Some (Value 50)) else None)) None) None) None))
       (λ e h. differ h) (λ e h. inr refl);
-  cleaned = refl;
-  compacted = λ c h. refl;
-  deleted = λ k c h. differ (sym h);
-  was_deleted = λ k h. differ (sym h);
+  marks = record { cleaned = refl; compacted = λ c h. refl; deleted = λ k c h. differ (sym h); was_deleted = λ k h. differ (sym h) };
 }
 
 quiet : (g : ℕ) → (1 == g) ≡ false → (s : Slot) → w11.map g s ≡ None
 quiet g e s =
-    ap (λ l. unwrap_or (says s l) (unwrap_or (says s (of_group g (of 1 (Run 1 (11 ∷ 12 ∷ 13 ∷ []) ∷ [])))) None)) (none_of g (Compact 3 ∷ Put (5 ∷ []) 50 ∷ []) e)
+    ap (λ l. unwrap_or (says s l) (unwrap_or (says s (of_group g (tagged 1 (Run 1 (11 ∷ 12 ∷ 13 ∷ []) ∷ [])))) None)) (none_of g (Compact 3 ∷ Put (5 ∷ []) 50 ∷ []) e)
     ∙ ap (λ l. unwrap_or (says s l) None) (none_of g (Run 1 (11 ∷ 12 ∷ 13 ∷ []) ∷ []) e)
 
 recovered_elsewhere : (g : ℕ) → (1 == g) ≡ false → IsRecovered (w11.map g) [] nowhere
@@ -174,10 +171,7 @@ recovered_elsewhere g e = record {
   newer = λ i from high. absurd (omega arith);
   key_newer = λ k h. differ (sym h);
   key_older = λ k h. inl (quiet g e (Key k));
-  cleaned = refl;
-  compacted = λ c h. differ (sym h);
-  deleted = λ k c h. differ (sym h);
-  was_deleted = λ k h. differ (sym h);
+  marks = record { cleaned = refl; compacted = λ c h. differ (sym h); deleted = λ k c h. differ (sym h); was_deleted = λ k h. differ (sym h) };
 }
 
 all_recovered : (g : ℕ) → IsRecovered (taken w11.map [] g) (appended g (entries ∷ compaction ∷ [])) (only read_again g)

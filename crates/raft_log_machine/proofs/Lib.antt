@@ -22,6 +22,8 @@ pub mod HistoryLaws
 pub mod StaysLaws
 pub mod TidyLaws
 pub mod RunLaws
+pub mod RecoveryLaws
+pub mod OneRecovery
 pub mod ImageLaws
 pub mod RenumberLaws
 pub mod TooLittle

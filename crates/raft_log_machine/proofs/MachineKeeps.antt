@@ -11,7 +11,7 @@ use Rattle.raft_log_machine.specs.Unbroken.{going_on, UnbrokenFrom, IsUnbroken, 
 use Rattle.raft_log_machine.specs.Queue.{Store, all_records, takes, synced, raised, left, reread, with_append, with_rewrite}
 use Rattle.raft_log_machine.specs.Survival.{Holds, IsSpoken, IsHarmless, MayRewrite, MayRaiseAppend, MayRaiseRewrite}
 use Rattle.raft_log_machine.specs.Whereabouts.{Whereabouts, top, GrowsBy, CarriesAll, OwesNothing, HasAppended, HasRewritten}
-use Rattle.raft_log_machine.specs.Truth.{IsRight}
+use Rattle.raft_log_machine.specs.Truth.{IsRightInRewrite}
 use Rattle.raft_log_machine.specs.Recovery.{IsRecovered}
 use Rattle.raft_log_machine.specs.Machine.{AllFit, RecordsFit, Machine, Event, Step, Steps, GoesOnWith, IsJoined, said_of, IsKept}
 use Rattle.raft_log_machine.specs.Machine.Event.{Take, SyncAppend, SyncRewrite, WritePlain, WriteBegin, WriteMiddle, WriteEnd, RaiseAppend, RaiseRewrite, LoseAppend, LoseRewrite, Fail, Reopen}
@@ -159,7 +159,7 @@ module _ {E V : Type 0} (w : Machine E V) (k : IsKept w) where
       past : (g i : ℕ) → top ≤ i → (unwrap_or (says (Index i) (rewritten g (all_records w.store.rewrite))) None ≡ None) × (unwrap_or (says (Index i) (rewritten g span)) None ≡ None)
       past g i high = (nothing_past g (all_records w.store.rewrite) i k.fits high, nothing_past g span i (RecordsFit-back w.store.rewrite.gone span k.fits) high)
 
-      from_each_start : (g : ℕ) (s : Slot) → IsRight (said_of g w.store) (taken w.map w.store.append.pending g) s → (cut back : List (Record E V))
+      from_each_start : (g : ℕ) (s : Slot) → IsRightInRewrite (said_of g w.store) (taken w.map w.store.append.pending g) s → (cut back : List (Record E V))
           → cut ++ back ≡ w.store.rewrite.gone → holds s (rewritten g (back ++ w.store.rewrite.live)) ≡ w.map g s
       from_each_start g s right cut back start =
           ap (λ l. holds s (rewritten g (back ++ l))) (sym (ap (λ p. w.store.rewrite.live ++ p) r_nothing ∙ append-nil w.store.rewrite.live))

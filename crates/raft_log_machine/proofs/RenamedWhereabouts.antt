@@ -11,8 +11,9 @@ use Rattle.raft_log_model.specs.Groups.{Map}
 use Rattle.raft_log_model.specs.Holes.{has_clean}
 use Rattle.raft_log_model.specs.Renamed.{renamed, renamed_content, renamed_word, renamed_map}
 use Rattle.raft_log_model.proofs.RenamedLaws.{says_renamed}
-use Rattle.raft_log_machine.specs.Whereabouts.{Whereabouts, top, Alone, GoesOn, Grows, GrowsBy, Restates, NothingRewritten, Carries, CarriesAll}
+use Rattle.raft_log_machine.specs.Whereabouts.{Whereabouts, top, Alone, GoesOn, Grows, GrowsBy, Restates, NothingRewritten, Carries, CarriesAll, HasAppended, HasRewritten}
 use Rattle.raft_log_machine.specs.Recovery.{has_compact, has_del, IsRecovered}
+use Rattle.raft_log_machine.specs.Images.{IsOneRun}
 
 same_length : {E F : Type 0} (f : E → F) (e : E) (es : List E) → length (map f (e ∷ es)) ≡ length (e ∷ es)
 same_length f e es = length-map (e ∷ es) f
@@ -124,8 +125,35 @@ module _ {E F V : Type 0} (f : E → F) where
       | inl none ↦ inl (ap (option_map (renamed_content f)) none)
       | inr quiet ↦ inr (says_renamed f (Key k) xs ∙ ap (renamed_word f) quiet)
     ];
-    cleaned = r.cleaned ∙ sym (clean_renamed xs);
-    compacted = λ c h. r.compacted (sym (clean_renamed xs) ∙ c) (sym (compact_renamed xs) ∙ h);
-    deleted = λ k c h. r.deleted k (sym (clean_renamed xs) ∙ c) (sym (del_renamed k xs) ∙ h);
-    was_deleted = λ k h. del_renamed k xs ∙ r.was_deleted k h;
+    marks = record {
+      cleaned = r.marks.cleaned ∙ sym (clean_renamed xs);
+      compacted = λ c h. r.marks.compacted (sym (clean_renamed xs) ∙ c) (sym (compact_renamed xs) ∙ h);
+      deleted = λ k c h. r.marks.deleted k (sym (clean_renamed xs) ∙ c) (sym (del_renamed k xs) ∙ h);
+      was_deleted = λ k h. del_renamed k xs ∙ r.marks.was_deleted k h;
+    };
+  }
+
+  pub has_appended_renamed : (t : Whereabouts) (xs : List (Item E V)) → HasAppended t xs → HasAppended t (map (renamed f) xs)
+  has_appended_renamed t xs h = (
+    λ i from to. let it = h.0 i from to in (renamed_content f it.0, says_renamed f (Index i) xs ∙ ap (renamed_word f) it.1),
+    λ k a. let it = h.1 k a in (option_map (renamed_content f) it.0, says_renamed f (Key k) xs ∙ ap (renamed_word f) it.1),
+  )
+
+  pub has_rewritten_renamed : (m : Map E V) (g : ℕ) (t : Whereabouts) (xs : List (Item E V)) → HasRewritten (m g) t xs → HasRewritten (renamed_map f m g) t (map (renamed f) xs)
+  has_rewritten_renamed m g t xs h = (
+    λ i from to. says_renamed f (Index i) xs ∙ ap (renamed_word f) (h.0 i from to),
+    λ k a. elim (h.1 k a) [
+      | inl none ↦ inl (ap (option_map (renamed_content f)) none)
+      | inr there ↦ inr (says_renamed f (Key k) xs ∙ ap (renamed_word f) there)
+    ],
+  )
+
+  pub run_renamed : (m : Map E V) (g : ℕ) → IsOneRun (m g) → IsOneRun (renamed_map f m g)
+  run_renamed m g r = record {
+    first = r.first;
+    end = r.end;
+    in_range = r.in_range;
+    below = λ i h. ap (option_map (renamed_content f)) (r.below i h);
+    above = λ i h. ap (option_map (renamed_content f)) (r.above i h);
+    solid = λ i from to. let it = r.solid i from to in (renamed_content f it.0, ap (option_map (renamed_content f)) it.1);
   }

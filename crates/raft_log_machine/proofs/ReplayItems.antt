@@ -13,11 +13,12 @@ use Rattle.raft_log_model.proofs.Holes.{no_hole_append, window_append}
 use Rattle.raft_log_model.proofs.Windows.{Spans, one_run_fits}
 use Rattle.raft_log_machine.specs.Whereabouts.{Whereabouts, top, Grows, GrowsBy, Carries, CarriesAll}
 use Rattle.raft_log_machine.specs.Truth.{Said, AreTrue}
+use Rattle.raft_log_machine.proofs.RecoveryLaws.{ends_alike, run_told}
 use Rattle.raft_log_machine.specs.Replay.{IsTopOf}
 use Rattle.raft_log_machine.proofs.Words.{says_append}
 use Rattle.raft_log_machine.proofs.TruthGrows.{append_said, stepped, grows}
 use Rattle.raft_log_machine.proofs.TruthCarries.{differ, rewrite_said, carries}
-use Rattle.raft_log_machine.proofs.TruthRaises.{no_word, speaks_above}
+use Rattle.raft_log_machine.proofs.TruthRaises.{no_word}
 
 alone_fits : (wf we f tf te : ℕ) → tf ≤ te → (we ≤ wf) ⊎ ((we ≡ te) × (tf ≤ wf)) → (f ≤ tf) ⊎ (tf ≡ te) → (nat_lt wf we && nat_lt we f) ≡ false
 alone_fits wf we f tf te le (inl h) a = grind (arith, nat_tests)
@@ -165,45 +166,8 @@ carries_all_ends m t (x ∷ xs) u h =
 
 -- the whereabouts of what was read: its entries end where Append's run does, if that isn't empty
 pub recovered_top : {E V : Type 0} (said : Said E V) (m : Slot → Option (Content E V)) (t : Whereabouts) (xs : List (Item E V)) → AreTrue said m t → NoHole nothing xs
-    → ((i : ℕ) (v : Option (Content E V)) → says (Index i) xs ≡ Some v → m (Index i) ≡ v) → IsTopOf (window nothing xs) t
-recovered_top {E} {V} said m t xs b no_hole means = elim (cases_lt (window nothing xs).first (window nothing xs).end) [ inl some ↦ inr (ends some, begins some) | inr none ↦ inl none ]
-  where
-    spans : Spans (window nothing xs).first (window nothing xs).end (λ i. holds (Index i) xs)
-    spans = one_run_fits xs no_hole
-
-    word : (w : Option (Option (Content E V))) (c : Content E V) → unwrap_or w None ≡ Some c → w ≡ Some (Some c)
-    word None c e = no_word c e
-    word (Some v) c e = ap Some e
-
-    stands : (i : ℕ) → (window nothing xs).first ≤ i → i < (window nothing xs).end → (c : Content E V) × (says (Index i) xs ≡ Some (Some c))
-    stands i low high = let it = spans.stands i low high in (Entry it.0, word (says (Index i) xs) (Entry it.0) it.1)
-
-    in_whereabouts : (i : ℕ) → (window nothing xs).first ≤ i → i < (window nothing xs).end → (t.first ≤ i) × (i < t.end)
-    in_whereabouts i low high =
-        let it : (c : Content E V) × (says (Index i) xs ≡ Some (Some c)) = stands i low high in
-        let there : m (Index i) ≡ Some it.0 = means i (Some it.0) it.1 in (
-          elim (cases_lt i t.first) [ inl before ↦ no_word it.0 (sym (b.below i before) ∙ there) | inr from ↦ from ],
-          elim (cases_lt i t.end) [ inl within ↦ within | inr past ↦ no_word it.0 (sym (b.above i past) ∙ there) ],
-        )
-
-    begins : (window nothing xs).first < (window nothing xs).end → t.first ≤ (window nothing xs).first
-    begins some = (in_whereabouts (window nothing xs).first (le_refl (window nothing xs).first) some).0
-
-    emptied : (w : Option (Option (Content E V))) (i : ℕ) → ((v : Option (Content E V)) → w ≡ Some v → m (Index i) ≡ v) → (v : Option (Content E V)) → w ≡ Some v → unwrap_or w None ≡ None
-        → m (Index i) ≡ None
-    emptied w i tells v e none = tells v e ∙ sym (ap (λ o. unwrap_or o None) e) ∙ none
-
-    ends : (window nothing xs).first < (window nothing xs).end → (window nothing xs).end ≡ t.end
-    ends some =
-        let last : (t.first ≤ (window nothing xs).end - 1) × ((window nothing xs).end - 1 < t.end) =
-        in_whereabouts ((window nothing xs).end - 1) (omega arith) (omega arith) in
-        elim (cases_lt (window nothing xs).end t.end) [
-          | inl more ↦
-              (let first = stands (window nothing xs).first (le_refl (window nothing xs).first) some in
-              let loud = speaks_above xs (window nothing xs).first (t.end - 1) first.0 (omega arith) first.1 in
-              let gone : m (Index (t.end - 1)) ≡ None = emptied (says (Index (t.end - 1)) xs) (t.end - 1) (means (t.end - 1)) loud.0 loud.1
-              (spans.none_above (t.end - 1) (omega arith)) in
-              let there = b.solid (t.end - 1) (omega arith) (omega arith) in
-              no_word there.0 (sym gone ∙ there.1))
-          | inr fewer ↦ omega arith
-        ]
+    → ((s : Slot) (v : Option (Content E V)) → says s xs ≡ Some v → m s ≡ v) → IsTopOf (window nothing xs) t
+recovered_top said m t xs b no_hole means = elim (cases_lt (window nothing xs).first (window nothing xs).end) [
+  | inl some ↦ (let ends = ends_alike m xs (run_told said m t b) (window nothing xs) (one_run_fits xs no_hole) means some in inr (ends.1, ends.0))
+  | inr none ↦ inl none
+]

@@ -3,8 +3,7 @@ use Rattle.std.proofs.Common.{◌≡◌, ℕ, false, List, [], ◌∷◌, ◌++�
 use Rattle.raft_log_model.specs.Item.{Item, Tagged, Record, items_of}
 use Rattle.raft_log_model.specs.Item.Record.{Plain, Part}
 use Rattle.raft_log_model.specs.Item.Mark.{Begin, Middle, End}
-use Rattle.raft_log_model.specs.Meaning.{Content, says}
-use Rattle.raft_log_model.specs.Meaning.Slot.{Index}
+use Rattle.raft_log_model.specs.Meaning.{Slot, Content, says}
 use Rattle.raft_log_model.specs.Groups.{of_group, counts, settle, settled, opened, none_open, onto, appended, rewritten, taken}
 use Rattle.raft_log_model.specs.Holes.{Window, nothing, window, NoHole}
 use Rattle.raft_log_model.proofs.Holes.{no_hole_front, no_hole_end, no_hole_append, window_append, no_hole_later, tail_no_hole, IsTail}
@@ -197,7 +196,7 @@ module _ {E V : Type 0} (w : Machine E V) (k : IsKept w) (p : IsReplayable w) wh
         (p.rewrite_whole g));
     top_part = λ alive g. recovered_top (said_of g reopened) (taken (taken w.map a_kept) [] g) (whereabouts g) (appended g (a_cut ++ ((a_back ++ (w.store.append.live ++ a_kept)) ++ [])))
         (next.whereabouts alive g) (whole g)
-        (λ i v e. sym (next.holds g (Index i) [] [] r_cut [] [] a_cut refl (append-nil r_cut) refl) ∙ tells g i v e);
+        (λ s v e. sym (next.holds g s [] [] r_cut [] [] a_cut refl (append-nil r_cut) refl) ∙ tells g s v e);
   }
     where
       reopened : Store E V
@@ -208,12 +207,12 @@ module _ {E V : Type 0} (w : Machine E V) (k : IsKept w) (p : IsReplayable w) wh
           (subst (λ l. NoHole nothing (appended g l)) (sym (ap (λ l. (a_cut ++ l) ++ a_lost) (append-nil (a_back ++ (w.store.append.live ++ a_kept))) ∙ image_is w.store.append a_kept a_lost a_cut a_back a_image a_start))
           (p.append_whole g))
 
-      tells : (g i : ℕ) (v : Option (Content E V)) → says (Index i) (appended g (a_cut ++ ((a_back ++ (w.store.append.live ++ a_kept)) ++ []))) ≡ Some v
-          → unwrap_or (says (Index i) (appended g (a_cut ++ (a_back ++ (w.store.append.live ++ a_kept)))))
-          (unwrap_or (says (Index i) (rewritten g ([] ++ ((r_back ++ (w.store.rewrite.live ++ r_kept)) ++ [])))) None) ≡ v
-      tells g i v e =
-          ap (λ o. unwrap_or o (unwrap_or (says (Index i) (rewritten g ([] ++ ((r_back ++ (w.store.rewrite.live ++ r_kept)) ++ [])))) None))
-          (ap (λ l. says (Index i) (appended g (a_cut ++ l))) (sym (append-nil (a_back ++ (w.store.append.live ++ a_kept)))) ∙ e)
+      tells : (g : ℕ) (s : Slot) (v : Option (Content E V)) → says s (appended g (a_cut ++ ((a_back ++ (w.store.append.live ++ a_kept)) ++ []))) ≡ Some v
+          → unwrap_or (says s (appended g (a_cut ++ (a_back ++ (w.store.append.live ++ a_kept)))))
+          (unwrap_or (says s (rewritten g ([] ++ ((r_back ++ (w.store.rewrite.live ++ r_kept)) ++ [])))) None) ≡ v
+      tells g s v e =
+          ap (λ o. unwrap_or o (unwrap_or (says s (rewritten g ([] ++ ((r_back ++ (w.store.rewrite.live ++ r_kept)) ++ [])))) None))
+          (ap (λ l. says s (appended g (a_cut ++ l))) (sym (append-nil (a_back ++ (w.store.append.live ++ a_kept)))) ∙ e)
 
 -- each event keeps it
 pub step_replays : {E V : Type 0} (e : Event E V) (w v : Machine E V) → Step e w v → IsKept w → IsReplayable w → IsReplayable v

@@ -2,10 +2,11 @@
 use Rattle.std.proofs.Common.{◌≡◌, ℕ, List, [], ◌∷◌, ◌++◌, false, refl, sym, ap, ◌∙◌, subst, inl, inr, append-nil}
 use Rattle.raft_log_model.specs.Item.{Record}
 use Rattle.raft_log_model.specs.Groups.{taken}
-use Rattle.raft_log_machine.specs.Machine.{Machine, Event, Step, Steps, IsKept}
+use Rattle.raft_log_machine.specs.Machine.{Machine, Event, Step, Steps, IsKept, said_of}
 use Rattle.raft_log_machine.specs.Machine.Event.{Take, SyncAppend, SyncRewrite, WritePlain, WriteBegin, WriteMiddle, WriteEnd, RaiseAppend, RaiseRewrite, LoseAppend, LoseRewrite, Fail, Reopen}
 use Rattle.raft_log_machine.specs.Fresh.{fresh_machine}
 use Rattle.raft_log_machine.specs.Images.{IsOneRun, HasRuns}
+use Rattle.raft_log_machine.proofs.RecoveryLaws.{run_told}
 use Rattle.raft_log_machine.proofs.Starts.{beginnings, no_front}
 use Rattle.raft_log_machine.proofs.MachineKeeps.{step_keeps}
 use Rattle.raft_log_machine.proofs.FreshKeeps.{fresh_keeps}
@@ -13,14 +14,7 @@ use Rattle.raft_log_machine.proofs.FreshKeeps.{fresh_keeps}
 module _ {E V : Type 0} where
   -- after all pending batches the whereabouts of an engine that hasn't failed tell the run
   pub run_of_all : (w : Machine E V) → IsKept w → w.failed ≡ false → (g : ℕ) → IsOneRun (taken w.map w.store.append.pending g)
-  run_of_all w k alive g = record {
-    first = (w.whereabouts g).first;
-    end = (w.whereabouts g).end;
-    in_range = (k.whereabouts alive g).in_order.2;
-    below = (k.whereabouts alive g).below;
-    above = (k.whereabouts alive g).above;
-    solid = (k.whereabouts alive g).solid;
-  }
+  run_of_all w k alive g = run_told (said_of g w.store) (taken w.map w.store.append.pending g) (w.whereabouts g) (k.whereabouts alive g)
 
   -- the same map with the same batches pending
   runs_same : (w v : Machine E V) → HasRuns w → v.map ≡ w.map → v.store.append.pending ≡ w.store.append.pending → HasRuns v

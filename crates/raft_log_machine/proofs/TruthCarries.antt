@@ -11,7 +11,7 @@ use Rattle.raft_log_model.proofs.Cases.{at_bool}
 use Rattle.raft_log_model.proofs.Tests.{run_sets, run_truncates, run_leaves, compact_removes, compact_leaves, from_same_key}
 use Rattle.raft_log_machine.specs.Survival.{IsSpoken, IsHarmless}
 use Rattle.raft_log_machine.specs.Whereabouts.{Whereabouts, top, with_key, Restates, Carries, CarriesAll, NothingRewritten}
-use Rattle.raft_log_machine.specs.Truth.{Said, AreTrue, IsRight, IsSettledKey}
+use Rattle.raft_log_machine.specs.Truth.{Said, AreTrue, IsRightInRewrite, IsSettledKey}
 use Rattle.raft_log_machine.proofs.Words.{option_or_assoc}
 use Rattle.raft_log_machine.proofs.TruthGrows.{true_along}
 
@@ -23,11 +23,11 @@ word_right : {C : Type 0} (w older : Option (Option C)) (v c : Option C) → w �
 word_right w older v c e f = ap (λ w. unwrap_or (option_or w older) None) e ∙ f
 
 right_now : {E V : Type 0} (said : Said E V) (m : Slot → Option (Content E V)) (x : Item E V) (s : Slot) (v : Option (Content E V))
-    → write s x ≡ Some v → v ≡ m s → IsRight (rewrite_said said x) m s
+    → write s x ≡ Some v → v ≡ m s → IsRightInRewrite (rewrite_said said x) m s
 right_now said m x s v e f = (word_right (write s x) (said.lowest s) v (m s) e f, word_right (write s x) (said.rewrite s) v (m s) e f)
 
 right_still : {E V : Type 0} (said : Said E V) (m : Slot → Option (Content E V)) (x : Item E V) (s : Slot)
-    → write s x ≡ None → IsRight said m s → IsRight (rewrite_said said x) m s
+    → write s x ≡ None → IsRightInRewrite said m s → IsRightInRewrite (rewrite_said said x) m s
 right_still said m x s e h =
     (ap (λ w. unwrap_or (option_or w (said.lowest s)) None) e ∙ h.0, ap (λ w. unwrap_or (option_or w (said.rewrite s)) None) e ∙ h.1)
 

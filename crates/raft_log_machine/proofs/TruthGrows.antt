@@ -14,7 +14,7 @@ use Rattle.raft_log_model.proofs.Tests.{run_sets, run_truncates, run_leaves, com
 use Rattle.raft_log_machine.specs.Survival.{IsSpoken}
 use Rattle.raft_log_machine.specs.Whereabouts.{Whereabouts, top, with_key, Alone, GoesOn, compacted_first, Grows, GrowsBy}
 use Rattle.raft_log_machine.proofs.Words.{option_or_assoc, unwrap_or_option_or}
-use Rattle.raft_log_machine.specs.Truth.{Said, AreTrue, IsRight}
+use Rattle.raft_log_machine.specs.Truth.{Said, AreTrue, IsRightInRewrite}
 
 pub spoken_after : {C : Type 0} (newer older : Option (Option C)) → IsSpoken older → IsSpoken (option_or newer older)
 spoken_after None older h = h
@@ -38,7 +38,7 @@ append_said said x = record { lowest = said.lowest; rewrite = said.rewrite; appe
 abbrev pub stepped : {E V : Type 0} → (Slot → Option (Content E V)) → Item E V → Slot → Option (Content E V)
 stepped m x s = unwrap_or (write s x) (m s)
 
-pub right_along : {E V : Type 0} (said : Said E V) (m n : Slot → Option (Content E V)) (s : Slot) → n s ≡ m s → IsRight said m s → IsRight said n s
+pub right_along : {E V : Type 0} (said : Said E V) (m n : Slot → Option (Content E V)) (s : Slot) → n s ≡ m s → IsRightInRewrite said m s → IsRightInRewrite said n s
 right_along said m n s e h = (h.0 ∙ sym e, h.1 ∙ sym e)
 
 module _ {E V : Type 0} (said : Said E V) (m : Slot → Option (Content E V)) (t : Whereabouts) (b : AreTrue said m t) where

@@ -11,7 +11,7 @@ use Rattle.raft_log_model.proofs.Cases.{at_bool, at_option}
 use Rattle.raft_log_model.proofs.Tests.{run_sets, run_leaves}
 use Rattle.raft_log_machine.specs.Survival.{IsSpoken}
 use Rattle.raft_log_machine.specs.Whereabouts.{Whereabouts, top, OwesNothing, HasAppended, HasRewritten}
-use Rattle.raft_log_machine.specs.Truth.{Said, AreTrue, IsRight, IsSettledKey}
+use Rattle.raft_log_machine.specs.Truth.{Said, AreTrue, IsRightInRewrite, IsSettledKey}
 use Rattle.raft_log_machine.proofs.Starts.{spoken_newer}
 use Rattle.raft_log_machine.proofs.TruthGrows.{spoken_after}
 use Rattle.raft_log_machine.proofs.TruthCarries.{differ}
@@ -79,7 +79,7 @@ module _ {E V : Type 0} (said : Said E V) (m : Slot → Option (Content E V)) (t
 
   pub may_append : (kept : List (Item E V)) → HasAppended t kept → OwesNothing t
       → ((i : ℕ) → top ≤ i → (unwrap_or (said.lowest (Index i)) None ≡ None) × (unwrap_or (said.rewrite (Index i)) None ≡ None))
-      → (s : Slot) → IsSpoken (says s kept) ⊎ IsRight said m s
+      → (s : Slot) → IsSpoken (says s kept) ⊎ IsRightInRewrite said m s
   may_append kept h owes past (Index i) = elim (cases_lt i top) [
     | inl high ↦ elim (b.index i high) [
       | inl right ↦ inr right
@@ -99,8 +99,8 @@ module _ {E V : Type 0} (said : Said E V) (m : Slot → Option (Content E V)) (t
   -- Rewrite's span begins at these items, the others of it said `older`
   module _ (kept : List (Item E V)) (older : Slot → Option (Option (Content E V))) (all : (s : Slot) → said.rewrite s ≡ option_or (says s kept) (older s))
       (h : HasRewritten m t kept) where
-    still_right : (s : Slot) → (says s kept ≡ None → m s ≡ None) → IsRight said m s
-        → IsRight (record { lowest = said.lowest; rewrite = λ s. says s kept; append = said.append }) m s
+    still_right : (s : Slot) → (says s kept ≡ None → m s ≡ None) → IsRightInRewrite said m s
+        → IsRightInRewrite (record { lowest = said.lowest; rewrite = λ s. says s kept; append = said.append }) m s
     still_right s none right = (right.0, fewer_right (said.rewrite s) (says s kept) (older s) (m s) (all s) right.1 none)
 
     pub rewrite_raised : AreTrue (record { lowest = said.lowest; rewrite = λ s. says s kept; append = said.append }) m t
@@ -166,7 +166,7 @@ module _ {E V : Type 0} (said : Said E V) (m : Slot → Option (Content E V)) (t
     key = λ k. elim (b.key k) [ inl right ↦ inl (still (Key k) right) | inr others ↦ inr others ];
   }
     where
-      still : (s : Slot) → IsRight said m s → IsRight (record { lowest = lowest; rewrite = said.rewrite; append = said.append }) m s
+      still : (s : Slot) → IsRightInRewrite said m s → IsRightInRewrite (record { lowest = lowest; rewrite = said.rewrite; append = said.append }) m s
       still s right = (
         fewer_right (said.lowest s) (lowest s) (lost s) (m s) (all s) right.0
             (λ e. sym right.1 ∙ ap (λ w. unwrap_or w None) (says_none (said.rewrite s) (between s) (sym (shorter s) ∙ e))),

@@ -12,7 +12,7 @@ use Rattle.raft_log_model.proofs.Cases.{at_bool, at_option}
 use Rattle.raft_log_model.proofs.Tests.{run_sets, run_leaves, compact_removes, compact_leaves}
 use Rattle.raft_log_machine.specs.Survival.{IsSpoken}
 use Rattle.raft_log_machine.specs.Whereabouts.{Whereabouts}
-use Rattle.raft_log_machine.specs.Truth.{Said, AreTrue, IsRight, IsSettledIndex, IsSettledKey}
+use Rattle.raft_log_machine.specs.Truth.{Said, AreTrue, IsRightInRewrite, IsSettledIndex, IsSettledKey}
 use Rattle.raft_log_machine.specs.Recovery.{has_compact, has_del, IsRecovered}
 use Rattle.raft_log_machine.proofs.Words.{option_or_none}
 use Rattle.raft_log_machine.proofs.Starts.{spoken_newer}
@@ -147,7 +147,7 @@ module _ {E V : Type 0} (said : Said E V) (m : Slot → Option (Content E V)) (t
     (means : (s : Slot) → unwrap_or (says s append) (unwrap_or (said.rewrite s) None) ≡ m s)
     (append_is : (s : Slot) → said.append s ≡ says s append) where
   -- where Append is silent, Rewrite is right
-  right_if_quiet : (s : Slot) → says s append ≡ None → IsRight said m s
+  right_if_quiet : (s : Slot) → says s append ≡ None → IsRightInRewrite said m s
   right_if_quiet s e =
       (sym (ap (λ w. unwrap_or w (unwrap_or (said.lowest s) None)) e) ∙ lowest_means s, sym (ap (λ w. unwrap_or w (unwrap_or (said.rewrite s) None)) e) ∙ means s)
 
@@ -186,12 +186,12 @@ module _ {E V : Type 0} (said : Said E V) (m : Slot → Option (Content E V)) (t
     where
       unmarked : IsSpoken (says (Index i) append) → has_clean append ≡ false → (i < t.first) ⊎ (t.first ≡ t.split) → IsSettledIndex said m t i
       unmarked h no_clean place = at_bool (has_compact append) (λ b. IsSettledIndex said m t i)
-          (λ c. inr (inr (inl (r.compacted no_clean c, place))))
+          (λ c. inr (inr (inl (r.marks.compacted no_clean c, place))))
           (λ c. inr (inr (inr (overruled i (low_entry append 0 (calm_unmarked append no_clean c) i (omega arith) h)))))
 
       loud : IsSpoken (says (Index i) append) → IsSettledIndex said m t i
       loud h = at_bool (has_clean append) (λ b. IsSettledIndex said m t i)
-          (λ c. inr (inl (r.cleaned ∙ c)))
+          (λ c. inr (inl (r.marks.cleaned ∙ c)))
           (λ c. elim (cases_lt i t.first) [
             | inl before ↦ unmarked h c (inl before)
             | inr from ↦ elim (cases_lt t.first t.split) [
@@ -206,7 +206,7 @@ module _ {E V : Type 0} (said : Said E V) (m : Slot → Option (Content E V)) (t
     | inr quiet ↦ inl (right_if_quiet (Key k) quiet)
     | inl nothing ↦ at_option (says (Key k) append) (λ w. IsSettledKey said m t k) (λ e. inl (right_if_quiet (Key k) e))
         (λ w e. elim (emptied_key append k (e ∙ ap Some (sym (ap (λ w. unwrap_or w (unwrap_or (said.rewrite (Key k)) None)) e) ∙ means (Key k) ∙ nothing)))
-        [ inl c ↦ inr (inl (r.cleaned ∙ c)) | inr d ↦ at_bool (has_clean append) (λ b. IsSettledKey said m t k) (λ c. inr (inl (r.cleaned ∙ c))) (λ c. inr (inr (inl (r.deleted k c d)))) ])
+        [ inl c ↦ inr (inl (r.marks.cleaned ∙ c)) | inr d ↦ at_bool (has_clean append) (λ b. IsSettledKey said m t k) (λ c. inr (inl (r.marks.cleaned ∙ c))) (λ c. inr (inr (inl (r.marks.deleted k c d)))) ])
   ])
 
   quiet_clash : (s : Slot) → IsSpoken (says s append) → says s append ≡ None → ⊥
@@ -232,16 +232,16 @@ module _ {E V : Type 0} (said : Said E V) (m : Slot → Option (Content E V)) (t
     after_clean = λ c. (
       no_entries c,
       λ k a. elim (r.key_older k a)
-          [ inl nothing ↦ nothing | inr quiet ↦ absurd (quiet_clash (Key k) (clean_speaks append (Key k) (sym r.cleaned ∙ c)) quiet) ],
+          [ inl nothing ↦ nothing | inr quiet ↦ absurd (quiet_clash (Key k) (clean_speaks append (Key k) (sym r.marks.cleaned ∙ c)) quiet) ],
     );
     after_delete = λ k d a. elim (r.key_older k a)
-        [ inl nothing ↦ nothing | inr quiet ↦ absurd (quiet_clash (Key k) (del_speaks append k (r.was_deleted k d)) quiet) ];
+        [ inl nothing ↦ nothing | inr quiet ↦ absurd (quiet_clash (Key k) (del_speaks append k (r.marks.was_deleted k d)) quiet) ];
     index = λ i high. settled_index i;
     key = settled_key;
   }
     where
       no_entries : t.cleaned ≡ true → t.first ≡ t.split
       no_entries c = elim (cases_lt t.first t.split) [
-        | inl some ↦ absurd (quiet_clash (Index t.first) (clean_speaks append (Index t.first) (sym r.cleaned ∙ c)) (r.rewritten t.first (le_refl t.first) some).0)
+        | inl some ↦ absurd (quiet_clash (Index t.first) (clean_speaks append (Index t.first) (sym r.marks.cleaned ∙ c)) (r.rewritten t.first (le_refl t.first) some).0)
         | inr none ↦ (let order = r.in_order in omega arith)
       ]

@@ -68,8 +68,8 @@ pub record ReplaysInFiles {E V : Type 0} (n : ℕ) (r : FileQueue E V) (k : ℕ)
       → IsRising files × IsUnbroken (records_of files)
       × ((g : ℕ) → NoHole nothing (rewritten g (records_of files)))
 
--- a crash that kept these of the unsynced records, and an open that reads these of the gone files again: of each
--- queue those below stay gone
+-- a crash that kept these of the unsynced records, and an open that reads these of the gone files again: of
+-- each queue those below stay gone
 abbrev pub opening : {E V : Type 0} → (r_kept r_lost a_kept a_lost : List (Record E V))
     → (r_below r_again a_below a_again : List (LogFile E V)) → DirectoryEvent E V
 opening r_kept r_lost a_kept a_lost r_below r_again a_below a_again = record {
@@ -80,7 +80,8 @@ opening r_kept r_lost a_kept a_lost r_below r_again a_below a_again = record {
   append = Read a_below a_again a_kept;
 }
 
--- these files can be opened after such a crash: there is an open after which they are the spans of both queues
+-- these files can be opened after such a crash: there is an open after which they are the spans of both
+-- queues
 pub record CanBeOpened {E V : Type 0} (d : Directory E V) (r_kept r_lost a_kept a_lost : List (Record E V))
     (r_files a_files : List (LogFile E V)) : Type 0 where
   pub r_below : List (LogFile E V)
@@ -92,8 +93,8 @@ pub record CanBeOpened {E V : Type 0} (d : Directory E V) (r_kept r_lost a_kept 
   pub rewrite : span opened.rewrite [] ≡ r_files
   pub append : span opened.append [] ≡ a_files
 
--- from every file from which a recovery may read, whatever the image kept of the unsynced records, what is read
--- can be opened
+-- from every file from which a recovery may read, whatever the image kept of the unsynced records, what is
+-- read can be opened
 abbrev pub OpensInFiles : {E V : Type 0} → Directory E V → Type 0
 OpensInFiles {E} {V} d =
     (r_kept r_lost a_kept a_lost : List (Record E V)) → r_kept ++ r_lost ≡ d.rewrite.pending

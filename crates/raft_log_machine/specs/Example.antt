@@ -9,15 +9,15 @@ use Rattle.raft_log_machine.specs.Whereabouts.{Whereabouts, with_key}
 use Rattle.raft_log_machine.specs.Fresh.{nowhere}
 use Rattle.raft_log_machine.specs.Machine.{Event}
 use Rattle.raft_log_machine.specs.Machine.Event.{Take, SyncAppend, SyncRewrite, WritePlain, RaiseAppend, Reopen}
-use Rattle.raft_log_machine.specs.WrongRules.{of}
+use Rattle.raft_log_machine.specs.WrongRules.{tagged}
 
 -- entries 1 to 3
 abbrev pub entries : Record ℕ ℕ
-entries = Plain (of 1 (Run 1 (11 ∷ 12 ∷ 13 ∷ []) ∷ []))
+entries = Plain (tagged 1 (Run 1 (11 ∷ 12 ∷ 13 ∷ []) ∷ []))
 
 -- the entries below 3 go, and a key comes
 abbrev pub compaction : Record ℕ ℕ
-compaction = Plain (of 1 (Compact 3 ∷ Put (5 ∷ []) 50 ∷ []))
+compaction = Plain (tagged 1 (Compact 3 ∷ Put (5 ∷ []) 50 ∷ []))
 
 -- of this group things stand there, of every other group nothing stands
 abbrev pub only : Whereabouts → ℕ → Whereabouts
@@ -29,9 +29,9 @@ only t g = if 1 == g then t else nowhere
 abbrev pub two_purges : List (Event ℕ ℕ)
 two_purges =
     Take entries ∷ SyncAppend
-    ∷ WritePlain (of 1 (Run 1 (11 ∷ 12 ∷ 13 ∷ []) ∷ [])) ∷ SyncRewrite ∷ RaiseAppend (entries ∷ []) []
+    ∷ WritePlain (tagged 1 (Run 1 (11 ∷ 12 ∷ 13 ∷ []) ∷ [])) ∷ SyncRewrite ∷ RaiseAppend (entries ∷ []) []
     ∷ Take compaction ∷ SyncAppend
-    ∷ WritePlain (of 1 (Compact 3 ∷ [])) ∷ WritePlain (of 1 (Put (5 ∷ []) 50 ∷ [])) ∷ SyncRewrite
+    ∷ WritePlain (tagged 1 (Compact 3 ∷ [])) ∷ WritePlain (tagged 1 (Put (5 ∷ []) 50 ∷ [])) ∷ SyncRewrite
     ∷ RaiseAppend (compaction ∷ []) []
     ∷ Reopen [] [] [] [] [] [] [] (entries ∷ compaction ∷ []) ∷ []
 
@@ -41,8 +41,8 @@ purged_twice = record {
   rewrite = record {
     gone = [];
     live =
-        Plain (of 1 (Run 1 (11 ∷ 12 ∷ 13 ∷ []) ∷ [])) ∷ Plain (of 1 (Compact 3 ∷ []))
-        ∷ Plain (of 1 (Put (5 ∷ []) 50 ∷ [])) ∷ [];
+        Plain (tagged 1 (Run 1 (11 ∷ 12 ∷ 13 ∷ []) ∷ [])) ∷ Plain (tagged 1 (Compact 3 ∷ []))
+        ∷ Plain (tagged 1 (Put (5 ∷ []) 50 ∷ [])) ∷ [];
     pending = [];
   };
   append = record { gone = []; live = entries ∷ compaction ∷ []; pending = [] };

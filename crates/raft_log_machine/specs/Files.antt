@@ -124,12 +124,8 @@ FileStep (Read below again kept) q p =
 
 -- the number from which the files that are not behind a gap go on, after the event
 abbrev pub numbered_from : {E V : Type 0} → ℕ → FileEvent E V → ℕ
-numbered_from n (Grow ys) = n
-numbered_from n Sync = n
-numbered_from n Rotate = n
-numbered_from n (Raise out stay) = n
 numbered_from n (Lose before file rest) = n + (length before + 1)
-numbered_from n (Read below again kept) = n
+numbered_from n _ = n
 
 -- a queue without records in its file 1
 abbrev pub fresh_files : {E V : Type 0} → FileQueue E V

@@ -2,7 +2,7 @@
 use Rattle.std.specs.Prelude.{List, [], ◌∷◌, ◌++◌}
 use Rattle.raft_log_model.specs.Item.{Record}
 use Rattle.raft_log_machine.specs.Machine.{Event}
-use Rattle.raft_log_machine.specs.Machine.Event.{Take, SyncAppend, SyncRewrite, WritePlain, WriteBegin, WriteMiddle, WriteEnd, RaiseAppend, RaiseRewrite, LoseAppend, LoseRewrite, Fail, Reopen}
+use Rattle.raft_log_machine.specs.Machine.Event.{Take, SyncAppend, Reopen}
 
 -- the batches that are synced, and those that aren't yet, oldest first
 pub record History (E V : Type 0) : Type 0 where
@@ -13,18 +13,9 @@ pub record History (E V : Type 0) : Type 0 where
 abbrev pub happened : {E V : Type 0} → History E V → Event E V → History E V
 happened h (Take y) = record { synced = h.synced; pending = h.pending ++ y ∷ [] }
 happened h SyncAppend = record { synced = h.synced ++ h.pending; pending = [] }
-happened h SyncRewrite = h
-happened h (WritePlain xs) = h
-happened h (WriteBegin n xs) = h
-happened h (WriteMiddle n xs) = h
-happened h (WriteEnd n xs) = h
-happened h (RaiseAppend out stay) = h
-happened h (RaiseRewrite out stay) = h
-happened h (LoseAppend lost rest) = h
-happened h (LoseRewrite lost rest) = h
-happened h Fail = h
 happened h (Reopen r_kept r_lost r_cut r_back a_kept a_lost a_cut a_back) =
     record { synced = h.synced ++ a_kept; pending = [] }
+happened h _ = h
 
 -- after a schedule, from this history on
 abbrev pub history_from : {E V : Type 0} → History E V → List (Event E V) → History E V

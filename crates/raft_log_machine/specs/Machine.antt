@@ -1,7 +1,7 @@
 -- The engine as a machine: its directory, the whereabouts of each group, and all that may happen to them.
 use Rattle.std.specs.Prelude.{◌≡◌, ℕ, ◌+◌, ◌≤◌, Bool, true, false, List, [], ◌∷◌, ◌++◌, length}
 use Rattle.raft_log_model.specs.Item.{Item, Tagged, Record, items_of}
-use Rattle.raft_log_model.specs.Item.Item.{Run, Clean, Compact, Put, Del}
+use Rattle.raft_log_model.specs.Item.Item.{Run}
 use Rattle.raft_log_model.specs.Item.Record.{Plain, Part}
 use Rattle.raft_log_model.specs.Item.Mark.{Begin, Middle, End}
 use Rattle.raft_log_model.specs.Meaning.{Slot, says}
@@ -17,10 +17,7 @@ use Rattle.raft_log_machine.specs.Recovery.{IsRecovered}
 -- the run ends at or below `top`
 abbrev pub Fits : {E V : Type 0} → Item E V → Type 0
 Fits (Run f es) = f + length es ≤ top
-Fits Clean = Unit {0}
-Fits (Compact c) = Unit {0}
-Fits (Put k v) = Unit {0}
-Fits (Del k) = Unit {0}
+Fits _ = Unit {0}
 
 -- so does each run of these items
 abbrev pub AllFit : {E V : Type 0} → List (Tagged E V) → Type 0

@@ -13,15 +13,15 @@ pub record Said (E V : Type 0) : Type 0 where
   pub append : Slot → Option (Option (Content E V))
 
 -- Rewrite alone is right about the slot, from both ends of its starts
-abbrev pub IsRight : {E V : Type 0} → Said E V → (Slot → Option (Content E V)) → Slot → Type 0
-IsRight said m s = (unwrap_or (said.lowest s) None ≡ m s) × (unwrap_or (said.rewrite s) None ≡ m s)
+abbrev pub IsRightInRewrite : {E V : Type 0} → Said E V → (Slot → Option (Content E V)) → Slot → Type 0
+IsRightInRewrite said m s = (unwrap_or (said.lowest s) None ≡ m s) × (unwrap_or (said.rewrite s) None ≡ m s)
 
 -- an index is settled: Rewrite is right, or the Clean or the Compact that is owed makes it right, or an
 -- appended entry at or below it stands, whose run overrules Rewrite
 abbrev pub IsSettledIndex : {E V : Type 0} → Said E V → (Slot → Option (Content E V)) → Whereabouts → ℕ
     → Type 0
 IsSettledIndex said m t i =
-    IsRight said m (Index i)
+    IsRightInRewrite said m (Index i)
     ⊎ ((t.cleaned ≡ true)
     ⊎ (((t.compacted ≡ true) × ((i < t.first) ⊎ (t.first ≡ t.split)))
     ⊎ ((t.split ≤ i) × (t.split < t.end))))
@@ -31,7 +31,7 @@ IsSettledIndex said m t i =
 abbrev pub IsSettledKey : {E V : Type 0} → Said E V → (Slot → Option (Content E V)) → Whereabouts → List ℕ
     → Type 0
 IsSettledKey said m t k =
-    IsRight said m (Key k) ⊎ ((t.cleaned ≡ true) ⊎ ((t.deleted k ≡ true) ⊎ (t.appended k ≡ true)))
+    IsRightInRewrite said m (Key k) ⊎ ((t.cleaned ≡ true) ⊎ ((t.deleted k ≡ true) ⊎ (t.appended k ≡ true)))
 
 -- the whereabouts t are true of what is said, where the group's map is m
 pub record AreTrue {E V : Type 0} (said : Said E V) (m : Slot → Option (Content E V)) (t : Whereabouts)

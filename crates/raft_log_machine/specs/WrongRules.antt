@@ -12,9 +12,9 @@ use Rattle.raft_log_machine.specs.Machine.{Machine}
 use Rattle.raft_log_machine.specs.Fresh.{nowhere}
 
 -- items of a group
-abbrev pub of : ℕ → List (Item ℕ ℕ) → List (Tagged ℕ ℕ)
-of g [] = []
-of g (x ∷ xs) = record { group = g; item = x } ∷ of g xs
+abbrev pub tagged : ℕ → List (Item ℕ ℕ) → List (Tagged ℕ ℕ)
+tagged g [] = []
+tagged g (x ∷ xs) = record { group = g; item = x } ∷ tagged g xs
 
 -- a queue whose records are all synced and in its span
 abbrev pub lone : List (Record ℕ ℕ) → Queue ℕ ℕ
@@ -40,39 +40,39 @@ LosesByRewrite append out stay all =
 
 -- entries 1 to 4 of group 1
 abbrev pub first_run : Record ℕ ℕ
-first_run = Plain (of 1 (Run 1 (11 ∷ 12 ∷ 13 ∷ 14 ∷ []) ∷ []))
+first_run = Plain (tagged 1 (Run 1 (11 ∷ 12 ∷ 13 ∷ 14 ∷ []) ∷ []))
 
 -- the entries below 3 go
 abbrev pub compact_3 : Record ℕ ℕ
-compact_3 = Plain (of 1 (Compact 3 ∷ []))
+compact_3 = Plain (tagged 1 (Compact 3 ∷ []))
 
 -- the entries below 4 go
 abbrev pub compact_4 : Record ℕ ℕ
-compact_4 = Plain (of 1 (Compact 4 ∷ []))
+compact_4 = Plain (tagged 1 (Compact 4 ∷ []))
 
 -- entry 3 anew, which cuts 4 off, and then a Compact that leaves nothing
 abbrev pub all_compacted : Record ℕ ℕ
-all_compacted = Plain (of 1 (Run 3 (23 ∷ []) ∷ Compact 4 ∷ []))
+all_compacted = Plain (tagged 1 (Run 3 (23 ∷ []) ∷ Compact 4 ∷ []))
 
 -- a key of group 1
 abbrev pub one_key : Record ℕ ℕ
-one_key = Plain (of 1 (Put (5 ∷ []) 50 ∷ []))
+one_key = Plain (tagged 1 (Put (5 ∷ []) 50 ∷ []))
 
 -- group 1 is removed
 abbrev pub removal : Record ℕ ℕ
-removal = Plain (of 1 (Clean ∷ []))
+removal = Plain (tagged 1 (Clean ∷ []))
 
 -- a key of group 2
 abbrev pub other_key : Record ℕ ℕ
-other_key = Plain (of 2 (Put (7 ∷ []) 70 ∷ []))
+other_key = Plain (tagged 2 (Put (7 ∷ []) 70 ∷ []))
 
 -- the first record of an atomic group
 abbrev pub group_begin : Record ℕ ℕ
-group_begin = Part (Begin 1) (of 1 (Run 1 (11 ∷ 12 ∷ []) ∷ []))
+group_begin = Part (Begin 1) (tagged 1 (Run 1 (11 ∷ 12 ∷ []) ∷ []))
 
 -- its second and last record
 abbrev pub group_end : Record ℕ ℕ
-group_end = Part (End 1) (of 1 (Run 3 (13 ∷ 14 ∷ []) ∷ []))
+group_end = Part (End 1) (tagged 1 (Run 3 (13 ∷ 14 ∷ []) ∷ []))
 
 -- group 1 is removed, and group 2 gets a key: one batch
 abbrev pub both : Record ℕ ℕ
@@ -96,8 +96,8 @@ failed_on rewrite append = record {
 
 -- entry 1 of group 1
 abbrev pub entry_1 : Record ℕ ℕ
-entry_1 = Plain (of 1 (Run 1 (11 ∷ []) ∷ []))
+entry_1 = Plain (tagged 1 (Run 1 (11 ∷ []) ∷ []))
 
 -- entry 3 of group 1
 abbrev pub entry_3 : Record ℕ ℕ
-entry_3 = Plain (of 1 (Run 3 (13 ∷ []) ∷ []))
+entry_3 = Plain (tagged 1 (Run 3 (13 ∷ []) ∷ []))

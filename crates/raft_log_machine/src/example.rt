@@ -5,7 +5,7 @@
 ghost use Rattle.std.specs.Prelude.{◌≡◌, ℕ};
 ghost use Rattle.raft_log_machine.specs.Example.{purged_twice, read_again, two_purges};
 ghost use Rattle.raft_log_machine.specs.Fresh.{fresh_machine};
-ghost use Rattle.raft_log_machine.specs.Machine.{Steps, Machine};
+ghost use Rattle.raft_log_machine.specs.Machine.{Machine, Steps};
 
 /// The events of `two_purges` happen from a fresh directory, and lead to the directory `purged_twice`, where
 /// the group's whereabouts are `read_again`: what two purges had moved into Rewrite stands in Append again,

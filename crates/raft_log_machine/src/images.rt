@@ -1,16 +1,22 @@
 //! Whatever image a crash leaves: the entries of a group are one run in it, it can be opened, and the wording
 //! by intervals says of it what the last word says.
 
-ghost use Rattle.std.specs.Prelude.{◌≡◌, ℕ, List, [], ◌∷◌, None, Some};
+ghost use Rattle.std.specs.Prelude.{◌≡◌, ℕ, ◌≤◌, false, List, [], ◌∷◌, None, Option, Some};
 ghost use Rattle.raft_log_model.specs.Groups.{appended, directory_meaning, rewritten, taken};
-ghost use Rattle.raft_log_model.specs.Holes.{directory_by_intervals};
+ghost use Rattle.raft_log_model.specs.Holes.{directory_by_intervals, IsSolid};
+ghost use Rattle.raft_log_model.specs.Item.{Item};
 ghost use Rattle.raft_log_model.specs.Meaning.Content.{Entry};
 ghost use Rattle.raft_log_model.specs.Meaning.Slot.{Index};
+ghost use Rattle.raft_log_model.specs.Meaning.{directory, says, Content, Slot};
+ghost use Rattle.raft_log_model.specs.Summary.{IsSummary, Summary};
+ghost use Rattle.raft_log_model.specs.Table.{IsTableOf, Table};
 ghost use Rattle.raft_log_machine.specs.Fresh.{fresh_machine};
+ghost use Rattle.raft_log_machine.specs.Images.{append_read, reopening, rewrite_read, HasRuns, Recovery};
 ghost use Rattle.raft_log_machine.specs.Machine.Event.{Reopen};
 ghost use Rattle.raft_log_machine.specs.Machine.{Event, IsKept, Machine, Step, Steps};
-ghost use Rattle.raft_log_machine.specs.Images.{append_read, reopening, rewrite_read, HasRuns, Recovery};
+ghost use Rattle.raft_log_machine.specs.Recovery.{HasMarks, IsReadOff, IsRecovered, StandAlike};
 ghost use Rattle.raft_log_machine.specs.Replay.{IsReplayable};
+ghost use Rattle.raft_log_machine.specs.Whereabouts.{top, Whereabouts};
 ghost use Rattle.raft_log_machine.specs.WrongRules.{entry_1, entry_3, failed_on};
 
 /// In each image the entries of a group are one run, and none has the index 2^64 - 1: after each beginning of
@@ -31,11 +37,36 @@ pub fn each_image_can_be_opened<E, V>()
         → (v : Machine E V) × Step (reopening w.store r) w v }
 {}
 
+/// Which whereabouts an open may make: those of the directory's table, made of any table of Rewrite and any
+/// summary of Append, however their segments were joined, with the marks that were read. What the summary's
+/// table has stands in Append, all else in Rewrite.
+pub fn tables_tell_the_whereabouts<E, V>()
+    ensures { (t : Table E V) (z : Summary E V) (rewrite append : List (Item E V)) → IsTableOf t rewrite
+        → IsSummary z append → (m : Slot → Option (Content E V))
+        → ((s : Slot) → directory s rewrite append ≡ m s)
+        → IsSolid (λ i. m (Index i)) → (u : Whereabouts) → IsReadOff t z u → u.end ≤ top → HasMarks append u
+        → IsRecovered m append u }
+{}
+
+/// What it read leaves an open no choice: any two whereabouts that it may make have the same entries in
+/// Rewrite and in Append, and the same keys. Free are the number of a group without entries, marks beside a
+/// Clean, and a Compact more.
+pub fn an_open_has_no_choice<E, V>()
+    ensures { (m : Slot → Option (Content E V)) (append : List (Item E V))
+        → ((s : Slot) (v : Option (Content E V)) → says s append ≡ Some v → m s ≡ v)
+        → (t u : Whereabouts) → IsRecovered m append t → IsRecovered m append u → StandAlike t u }
+{}
+
 /// Of each image, read from any starts, of a failed engine too, the wording by intervals (what Rewrite keeps
 /// under Append's Cleans, greatest Compact and least start of a run, and no gap) says the map after the
 /// batches that were kept: no hole and no gap ever acts.
 pub fn intervals_say_the_same_of_images<E, V>()
-    ensures { (w : Machine E V) (r : Recovery w.store) → IsKept w → IsReplayable w → HasRuns w → (g i : ℕ)
+    ensures all { (w : Machine E V) (r : Recovery w.store) → IsKept w → IsReplayable w → HasRuns w → (g i : ℕ)
+        → directory_by_intervals i (rewritten g (rewrite_read w.store r)) (appended g (append_read w.store r))
+        ≡ taken w.map r.a_kept g (Index i) }
+    // of an engine that runs, where nothing of Append is lost, its whereabouts are enough
+    ensures running { (w : Machine E V) (r : Recovery w.store) → IsKept w → IsReplayable w → w.failed ≡ false
+        → r.a_kept ≡ w.store.append.pending → (g i : ℕ)
         → directory_by_intervals i (rewritten g (rewrite_read w.store r)) (appended g (append_read w.store r))
         ≡ taken w.map r.a_kept g (Index i) }
 {}

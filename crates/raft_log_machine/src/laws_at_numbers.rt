@@ -46,14 +46,14 @@ fn laws_of_files() {
 fn laws_of_images() {
     images::each_image_has_one_run::<u64, u64>();
     images::each_image_can_be_opened::<u64, u64>();
+    images::tables_tell_the_whereabouts::<u64, u64>();
+    images::an_open_has_no_choice::<u64, u64>();
     images::intervals_say_the_same_of_images::<u64, u64>();
 }
 
 #[test]
 fn laws_of_purge() {
     purge::purge_is_invisible::<u64, u64>();
-    purge::full_rewrite_leaves_one_file::<u64, u64>();
-    purge::fork_means_the_same::<u64, u64>();
 }
 
 #[test]

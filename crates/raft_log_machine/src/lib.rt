@@ -7,7 +7,7 @@
 //! * [`files`]: the same on numbered files, from every file from which a recovery may read;
 //! * [`replay`]: whatever a crash leaves can be read: no holes, and no broken atomic groups;
 //! * [`images`]: in whatever image a crash leaves the entries are one run, and it can be opened;
-//! * [`purge`]: a purge changes nothing, a full rewrite leaves one file, a fork means the same;
+//! * [`purge`]: a purge changes nothing of what the directory means;
 //! * [`example`]: a schedule with two purges and a crash, step by step;
 //! * [`wrong_rules`]: rules that look right, and what each loses.
 #![tactic(auto)]

@@ -9,12 +9,12 @@ ghost use Rattle.raft_log_model.specs.Meaning.{Slot};
 ghost use Rattle.raft_log_model.specs.Renamed.{renamed, renamed_map};
 ghost use Rattle.raft_log_machine.specs.Fresh.{fresh_machine, nothing_stands};
 ghost use Rattle.raft_log_machine.specs.History.{history};
-ghost use Rattle.raft_log_machine.specs.Images.{HasRuns};
+ghost use Rattle.raft_log_machine.specs.Images.{HasRuns, IsOneRun};
+ghost use Rattle.raft_log_machine.specs.Machine.{Event, IsKept, Machine, Step, Steps};
 ghost use Rattle.raft_log_machine.specs.Recovery.{IsRecovered};
 ghost use Rattle.raft_log_machine.specs.Replay.{IsReplayable};
 ghost use Rattle.raft_log_machine.specs.Survival.{Survives};
-ghost use Rattle.raft_log_machine.specs.Whereabouts.{CarriesAll, GrowsBy, IsRenumbered, Whereabouts};
-ghost use Rattle.raft_log_machine.specs.Machine.{Event, IsKept, Machine, Step, Steps};
+ghost use Rattle.raft_log_machine.specs.Whereabouts.{CarriesAll, GrowsBy, HasAppended, HasRewritten, IsRenumbered, Whereabouts};
 
 /// A fresh directory, where nothing stands anywhere, keeps the invariant.
 pub fn fresh_machine_is_kept<E, V>()
@@ -56,8 +56,8 @@ pub fn renumbered_sound<E, V>()
 {}
 
 /// Whereabouts don't care what stands for an entry: they follow a batch of places as they follow one of
-/// bytes; what they allow Rewrite to take, and what an open makes of what it read as places, they do for the
-/// bytes too.
+/// bytes; what they allow Rewrite to take, what an open makes of what it read as places, and what they ask of
+/// the records that stay, they do for the bytes too.
 pub fn whereabouts_of_renamed<E, F, V>()
     ensures grows { (f : E → F) (t u : Whereabouts) (xs : List (Item E V)) → GrowsBy t xs u
         → GrowsBy t (map (renamed f) xs) u }
@@ -67,4 +67,9 @@ pub fn whereabouts_of_renamed<E, F, V>()
         → CarriesAll (m g) t xs u → CarriesAll (renamed_map f m g) t (map (renamed f) xs) u }
     ensures recovered { (f : E → F) (m : Map E V) (g : ℕ) (xs : List (Item E V)) (t : Whereabouts)
         → IsRecovered (m g) xs t → IsRecovered (renamed_map f m g) (map (renamed f) xs) t }
+    ensures appended { (f : E → F) (t : Whereabouts) (xs : List (Item E V)) → HasAppended t xs
+        → HasAppended t (map (renamed f) xs) }
+    ensures rewritten { (f : E → F) (m : Map E V) (g : ℕ) (t : Whereabouts) (xs : List (Item E V))
+        → HasRewritten (m g) t xs → HasRewritten (renamed_map f m g) t (map (renamed f) xs) }
+    ensures run { (f : E → F) (m : Map E V) (g : ℕ) → IsOneRun (m g) → IsOneRun (renamed_map f m g) }
 {}

@@ -6,9 +6,9 @@ ghost use Rattle.raft_log_model.specs.Item.Item.{Run};
 ghost use Rattle.raft_log_model.specs.Item.{Item, Record};
 ghost use Rattle.raft_log_model.specs.Tidy.{Tidy};
 ghost use Rattle.raft_log_machine.specs.Fresh.{fresh_machine};
+ghost use Rattle.raft_log_machine.specs.Machine.{Event, IsJoined, IsKept, Machine, Step, Steps};
 ghost use Rattle.raft_log_machine.specs.Replay.{IsReplayable, Replays};
 ghost use Rattle.raft_log_machine.specs.Unbroken.{IsUnbroken};
-ghost use Rattle.raft_log_machine.specs.Machine.{Event, IsJoined, IsKept, Step, Steps, Machine};
 
 /// A fresh directory replays.
 pub fn fresh_machine_replays<E, V>()

@@ -1,4 +1,4 @@
-use Rattle.raft_log_machine.proofs.RenamedWhereabouts.{carries_all_renamed, grew_by_renamed, grows_by_renamed, recovered_renamed}
+use Rattle.raft_log_machine.proofs.RenamedWhereabouts.{carries_all_renamed, grew_by_renamed, grows_by_renamed, has_appended_renamed, has_rewritten_renamed, recovered_renamed, run_renamed}
 use Rattle.raft_log_machine.proofs.machine.whereabouts_of_renamed.Goals as goal
 
 pub returns : goal.returns
@@ -7,4 +7,7 @@ returns g c = record {
   grew = λ f t u xs h. grew_by_renamed f t xs u h;
   carries = λ f m group t u xs h. carries_all_renamed f m group t xs u h;
   recovered = recovered_renamed;
+  appended = has_appended_renamed;
+  rewritten = has_rewritten_renamed;
+  run = run_renamed;
 }

@@ -1,20 +1,18 @@
 -- Notes of Append stay true while its files change.
-use Rattle.std.proofs.Common.{◌≡◌, ℕ, ◌<◌, ◌≤◌, ◌⊎◌, true, false, List, [], ◌∷◌, ◌++◌, Option, Some, None, unwrap_or, refl, sym, ap, ◌∙◌, subst, inl, inr, append_assoc, append-nil, arith}
-use Rattle.std.specs.Option.{option_or}
+use Rattle.std.proofs.Common.{◌≡◌, ℕ, ◌⊎◌, List, [], ◌∷◌, ◌++◌, Option, Some, None, unwrap_or, refl, sym, ap, ◌∙◌, subst, inl, inr, append_assoc, append-nil, arith}
 use Rattle.raft_log_model.specs.Item.{Record, items_of}
 use Rattle.raft_log_model.specs.Meaning.{Slot, Content, says, holds}
 use Rattle.raft_log_model.specs.Meaning.Slot.{Index, Key}
 use Rattle.raft_log_model.specs.Groups.{Map, of_group, appended, rewritten, directory_meaning, taken}
-use Rattle.raft_log_machine.specs.Survival.{Holds, IsSpoken}
+use Rattle.raft_log_machine.specs.Survival.{IsSpoken}
 use Rattle.raft_log_machine.specs.Whereabouts.{Whereabouts, HasAppended}
-use Rattle.raft_log_machine.specs.Files.{LogFile, FileQueue, FileEvent, FileStep, records_of, span}
-use Rattle.raft_log_machine.specs.Machine.{IsKept}
-use Rattle.raft_log_machine.proofs.Words.{says_appended}
+use Rattle.raft_log_machine.specs.Files.{LogFile, FileQueue, records_of, span}
+use Rattle.raft_log_machine.proofs.StaysLaws.{append_stay_says}
 use Rattle.raft_log_machine.proofs.FileLaws.{records_of-append}
-use Rattle.raft_log_directory.specs.Model.{Files, running, machine_of, IsSound}
-use Rattle.raft_log_directory.specs.Moves.{IsQuiet, grown, raised_files}
+use Rattle.raft_log_directory.specs.Model.{Files, running, IsSound}
+use Rattle.raft_log_directory.specs.Moves.{grown, raised_files}
 use Rattle.raft_log_directory.specs.Notes.{Notes, IsAmong, LiesIn, SpeaksIn, IsAppended, AreNoted, AppendStandsFrom, AllBelow}
-use Rattle.raft_log_directory.proofs.SpanLaws.{last_file, GoesOnQuietly, quiet_span, LiesIn-front, LiesIn-above, lies_grown, lies_last, lies_among, among_speaks, span_records}
+use Rattle.raft_log_directory.proofs.SpanLaws.{last_file, GoesOnQuietly, LiesIn-front, LiesIn-above, lies_grown, lies_last, lies_among, among_speaks, span_records}
 
 module _ {E V : Type 0} where
   -- a quiet event
@@ -60,17 +58,7 @@ spoken_value : {C : Type 0} (word : Option (Option C)) (rest value : Option C) �
 spoken_value (Some x) rest value e h = ap Some e
 spoken_value None rest value e h = let none : None ≡ Some h.0 = h.1 in cc
 
-older_hidden : {C : Type 0} (newer older : Option (Option C)) → IsSpoken newer → option_or newer older ≡ newer
-older_hidden (Some x) older h = refl
-older_hidden None older h = let none : None ≡ Some h.0 = h.1 in cc
-
 module _ {E V : Type 0} where
-  -- what stays of Append, where it speaks of a slot, says what all of it said, and that is the map's
-  pub append_stay_says : (g : ℕ) (s : Slot) (out stay : List (Record E V)) → IsSpoken (says s (appended g stay))
-      → says s (appended g stay) ≡ says s (appended g (out ++ stay))
-  append_stay_says g s out stay spoken =
-      sym (says_appended g s out stay ∙ older_hidden (says s (appended g stay)) (says s (appended g out)) spoken)
-
   stays_as_map : (f : Files E V) (m : Map E V) (ws : ℕ → Whereabouts) (out stay : List (LogFile E V)) → IsSound (running f m ws) → out ++ stay ≡ f.append.full
       → (g : ℕ) (s : Slot) → IsSpoken (says s (appended g (records_of stay ++ f.append.synced)))
       → says s (appended g (records_of stay ++ f.append.synced)) ≡ Some (m g s)

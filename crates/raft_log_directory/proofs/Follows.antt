@@ -4,12 +4,11 @@ use Rattle.std.proofs.Math.Path.{fun_ext}
 use Rattle.raft_log_model.specs.Item.{Record}
 use Rattle.raft_log_model.specs.Groups.{Map, taken}
 use Rattle.raft_log_model.proofs.Steps.{taken_append}
-use Rattle.raft_log_machine.specs.Whereabouts.{Whereabouts}
 use Rattle.raft_log_machine.specs.Files.{LogFile, FileQueue, FileEvent, FileStep, numbered_from}
 use Rattle.raft_log_machine.specs.Files.FileEvent.{Grow, Sync, Rotate, Raise, Lose, Read}
 use Rattle.raft_log_directory.specs.Model.{Files, running, IsSound, with_append, with_rewrite}
 use Rattle.raft_log_directory.specs.Moves.{IsQuiet, Moves, Moved, settled_files, rotated}
-use Rattle.raft_log_directory.specs.Notes.{AreNoted, AreNotedInRewrite}
+use Rattle.raft_log_directory.specs.Notes.{AreNoted}
 use Rattle.raft_log_directory.specs.Log.{View, Stands, Follows}
 use Rattle.raft_log_directory.proofs.Sound.{append_settled, append_rotated, append_lost, rewrite_settled, rewrite_rotated, rewrite_lost}
 use Rattle.raft_log_directory.proofs.SpanLaws.{quiet_span}

@@ -1,5 +1,5 @@
 -- Which slots come to stand in a queue by an item, and which stay.
-use Rattle.std.proofs.Common.{◌≡◌, ℕ, ◌+◌, ◌<◌, ◌≤◌, ◌⊎◌, min, max, true, false, Bool, List, [], ◌∷◌, ◌++◌, length, Option, Some, None, unwrap_or, bytes_eq, if◌then◌else◌, refl, sym, ap, ◌∙◌, subst, inl, inr, arith}
+use Rattle.std.proofs.Common.{◌≡◌, ℕ, ◌+◌, ◌<◌, ◌≤◌, ◌⊎◌, min, max, true, false, Bool, List, [], ◌∷◌, length, Option, Some, None, unwrap_or, bytes_eq, if◌then◌else◌, refl, sym, ap, ◌∙◌, subst, inl, inr, arith}
 use Rattle.std.proofs.lemmas.Bool.{cases_lt}
 use Rattle.std.specs.Option.{option_or}
 use Rattle.raft_log_model.specs.Item.{Item}
@@ -10,7 +10,7 @@ use Rattle.raft_log_model.specs.Meaning.Content.{Value}
 use Rattle.raft_log_model.proofs.Tests.{run_sets, run_leaves}
 use Rattle.raft_log_model.proofs.Words.{unwrap_or_option_or}
 use Rattle.raft_log_machine.specs.Survival.{IsSpoken}
-use Rattle.raft_log_machine.specs.Whereabouts.{Whereabouts, with_key, Grows, GrowsBy, Carries, CarriesAll}
+use Rattle.raft_log_machine.specs.Whereabouts.{Whereabouts, Grows, GrowsBy, Carries, CarriesAll}
 use Rattle.raft_log_machine.proofs.Starts.{spoken_newer}
 use Rattle.raft_log_machine.proofs.TruthGrows.{spoken_after}
 use Rattle.raft_log_directory.specs.Notes.{IsAppended, IsInRewrite}
@@ -68,9 +68,9 @@ module _ {E V : Type 0} where
           )
   run_was t u m f e es h (Key k) at =
       elim h.1 [
-    | inl alone ↦ inr (subst (λ b. b ≡ false) (ap (λ x. x.appended k) alone.1) at, λ none. none)
-    | inr on ↦ inr (subst (λ b. b ≡ false) (ap (λ x. x.appended k) on.1) at, λ none. none)
-  ]
+        | inl alone ↦ inr (subst (λ b. b ≡ false) (ap (λ x. x.appended k) alone.1) at, λ none. none)
+        | inr on ↦ inr (subst (λ b. b ≡ false) (ap (λ x. x.appended k) on.1) at, λ none. none)
+      ]
 
   pub item_was : (t u : Whereabouts) (m : Slot → Option (Content E V)) (x : Item E V) → Grows t x u → WasInRewrite t m u (after m (x ∷ []))
   item_was t u m (Run f []) h (Index i) at = inr (subst (λ x. IsInRewrite x (Index i)) h at, λ none. none)

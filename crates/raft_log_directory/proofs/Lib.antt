@@ -6,3 +6,9 @@ pub mod GrowsLaws
 pub mod Follows
 pub mod Renumbered
 pub mod StandsLaws
+pub mod LogLaws
+pub mod CallLaws
+pub mod GroupCalls
+pub mod OpenLaws
+pub mod SettledLaws
+pub mod ExactPipe

@@ -1,29 +1,29 @@
 -- Notes of Rewrite stay true while its files change.
-use Rattle.std.proofs.Common.{◌≡◌, ℕ, ◌<◌, ◌≤◌, ◌⊎◌, true, false, List, [], ◌∷◌, ◌++◌, Option, Some, None, unwrap_or, refl, sym, ap, ◌∙◌, subst, inl, inr, append_assoc, append-nil, arith}
+use Rattle.std.proofs.Common.{◌≡◌, ℕ, ◌<◌, ◌≤◌, ◌⊎◌, false, List, [], ◌∷◌, ◌++◌, Option, Some, None, refl, sym, ap, ◌∙◌, subst, inl, inr, append_assoc, append-nil, arith}
 use Rattle.std.proofs.lemmas.List.{map-append}
 use Rattle.std.specs.Option.{option_or}
-use Rattle.raft_log_model.specs.Item.{Item, Record, Tagged, items_of}
+use Rattle.raft_log_model.specs.Item.{Record, Tagged}
 use Rattle.raft_log_model.specs.Item.Record.{Plain, Part}
 use Rattle.raft_log_model.specs.Item.Mark.{Begin, Middle, End}
-use Rattle.raft_log_model.specs.Meaning.{Slot, Content, says, holds}
+use Rattle.raft_log_model.specs.Meaning.{Slot, Content, says}
 use Rattle.raft_log_model.specs.Meaning.Slot.{Index, Key}
 use Rattle.raft_log_model.specs.Groups.{Map, of_group, counts, opened, none_open, rewritten, taken}
 use Rattle.raft_log_machine.specs.Unbroken.{IsUnbroken, begun, joined}
 use Rattle.raft_log_machine.specs.Survival.{IsSpoken}
 use Rattle.raft_log_machine.specs.Whereabouts.{Whereabouts, HasRewritten}
-use Rattle.raft_log_machine.specs.Files.{LogFile, FileQueue, queue_of, records_of, span}
+use Rattle.raft_log_machine.specs.Files.{LogFile, FileEvent, FileQueue, numbered_from, queue_of, records_of, span}
 use Rattle.raft_log_machine.specs.Machine.{GoesOnWith}
 use Rattle.raft_log_machine.proofs.Words.{says_append, rewritten_more}
 use Rattle.raft_log_machine.proofs.Starts.{no_back, spoken_newer}
 use Rattle.raft_log_machine.proofs.MachineWords.{says_end}
 use Rattle.raft_log_machine.proofs.TruthGrows.{spoken_after}
-use Rattle.raft_log_machine.proofs.UnbrokenLaws.{IsUnbroken-back, IsUnbroken-front}
+use Rattle.raft_log_machine.proofs.UnbrokenLaws.{IsUnbroken-back}
 use Rattle.raft_log_machine.proofs.StaysLaws.{stay_says, plain_stays, group_stays}
 use Rattle.raft_log_machine.proofs.FileLaws.{records_of-append}
-use Rattle.raft_log_directory.specs.Model.{Files, running, machine_of, IsSound}
-use Rattle.raft_log_directory.specs.Moves.{IsQuiet, grown, raised_files}
+use Rattle.raft_log_directory.specs.Model.{Files, running, IsSound}
+use Rattle.raft_log_directory.specs.Moves.{Moves, Moved, grown, raised_files}
 use Rattle.raft_log_directory.specs.Notes.{Notes, AllFrom, AllBelow, SpeaksFrom, IsInRewrite, AreNotedInRewrite, RewriteStandsFrom, GoesOnFrom}
-use Rattle.raft_log_directory.proofs.SpanLaws.{last_file, GoesOnQuietly, AllFrom-append, AllFrom-front, AllFrom-back, AllFrom-lower, IsEndOf, end_of_span, end_stays, span_records}
+use Rattle.raft_log_directory.proofs.SpanLaws.{last_file, GoesOnQuietly, quiet_span, AllFrom-append, AllFrom-back, AllFrom-lower, end_of_span, end_stays, span_records}
 
 module _ {E V : Type 0} where
   nothing_spoken : (g : ℕ) (s : Slot) (back : List (LogFile E V)) → back ≡ [] → IsSpoken (says s (rewritten g (records_of back))) → ⊥
@@ -93,6 +93,16 @@ module _ {E V : Type 0} where
         spoken = subst (λ l. IsSpoken (says s (rewritten g l))) (more_behind q y w.0)
             (spoken_more g s (records_of (w.0 ++ last_file q q.pending ∷ [])) y (subst (λ l. IsSpoken (says s (rewritten g (records_of l)))) w.2 h.spoken));
       }
+
+  -- any number of quiet events
+  moved_many : (P : FileQueue E V → Type 0) → ((q p : FileQueue E V) → GoesOnQuietly q p → P q → P p) → (es : List (FileEvent E V)) (from : ℕ) (q : FileQueue E V)
+      (to : ℕ) (p : FileQueue E V) → Moves from q es to p → P q → P p
+  moved_many P step [] from q to p moves h = subst P (sym moves.1) h
+  moved_many P step (e ∷ es) from q to p moves h =
+      moved_many P step es (numbered_from from e) moves.0 to p moves.3 (step q moves.0 (quiet_span e q moves.0 moves.1 moves.2) h)
+
+  pub speaks_moved_on : (from : ℕ) (q : FileQueue E V) (p : Moved from q) (g n : ℕ) (s : Slot) → SpeaksFrom q g n s → SpeaksFrom p.queue g n s
+  speaks_moved_on from q p g n s h = moved_many (λ x. SpeaksFrom x g n s) (λ x y. speaks_moved x y g n s) p.events from q p.from p.queue p.moves h
 
   -- the span begins at the noted file, or before it
   pub speaks_raised : (q : FileQueue E V) (g k n : ℕ) (s : Slot) (out stay : List (LogFile E V)) → out ++ stay ≡ q.full → AllBelow k out → k ≤ n
@@ -212,6 +222,11 @@ module _ {E V : Type 0} where
         before = h.before;
         ends = records_of-append h.back on.0 ∙ ap (λ l. records_of h.back ++ l) on.2 ∙ append-nil (records_of h.back) ∙ h.ends;
       }
+
+  pub group_moves_on : (from : ℕ) (q : FileQueue E V) (p : Moved from q) (b n : ℕ) (first : List (Tagged E V)) (more : List (List (Tagged E V)))
+      → GoesOnFrom q b n first more → GoesOnFrom p.queue b n first more
+  group_moves_on from q p b n first more h =
+      moved_many (λ x. GoesOnFrom x b n first more) (λ x y. group_moves x y b n first more) p.events from q p.from p.queue p.moves h
 
   -- its end: all of it counts from the file of its begin on
   pub group_speaks : (q : FileQueue E V) (b n : ℕ) (first : List (Tagged E V)) (more : List (List (Tagged E V))) (xs : List (Tagged E V)) (g k : ℕ) (s : Slot)

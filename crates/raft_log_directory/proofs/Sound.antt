@@ -1,5 +1,5 @@
 -- Each change of a directory's files, as a step of the machine, keeps its model sound.
-use Rattle.std.proofs.Common.{◌≡◌, ℕ, ◌+◌, ◌≤◌, ◌⊎◌, false, List, [], ◌∷◌, ◌++◌, length, refl, sym, ap, ◌∙◌, subst}
+use Rattle.std.proofs.Common.{◌≡◌, ℕ, ◌+◌, false, List, [], ◌∷◌, ◌++◌, length, refl, ap}
 use Rattle.raft_log_model.specs.Item.{Item, Record, Tagged, items_of}
 use Rattle.raft_log_model.specs.Item.Record.{Plain, Part}
 use Rattle.raft_log_model.specs.Item.Mark.{Begin, Middle, End}
@@ -7,9 +7,9 @@ use Rattle.raft_log_model.specs.Groups.{Map, of_group, taken, appended, rewritte
 use Rattle.raft_log_machine.specs.Queue.{Queue, with_append as store_with_append, with_rewrite as store_with_rewrite}
 use Rattle.raft_log_machine.specs.Unbroken.{joined}
 use Rattle.raft_log_machine.specs.Whereabouts.{Whereabouts, GrowsBy, CarriesAll, OwesNothing, HasAppended, HasRewritten}
-use Rattle.raft_log_machine.specs.Files.{LogFile, FileQueue, FileEvent, FileStep, IsNumbered, numbered_from, queue_of, records_of}
+use Rattle.raft_log_machine.specs.Files.{LogFile, FileQueue, IsNumbered, queue_of, records_of}
 use Rattle.raft_log_machine.specs.Files.FileEvent.{Grow, Sync, Rotate, Raise, Lose}
-use Rattle.raft_log_machine.specs.Machine.{AllFit, Event, GoesOnWith, IsJoined, IsKept, Machine, Step}
+use Rattle.raft_log_machine.specs.Machine.{AllFit, Event, GoesOnWith, IsJoined, Machine, Step}
 use Rattle.raft_log_machine.specs.Machine.Event.{Take, SyncAppend, SyncRewrite, WritePlain, WriteBegin, WriteMiddle, WriteEnd, RaiseAppend, RaiseRewrite, LoseAppend, LoseRewrite}
 use Rattle.raft_log_machine.proofs.MachineKeeps.{step_keeps}
 use Rattle.raft_log_machine.proofs.ReplayLaws.{step_replays, fresh_replays}

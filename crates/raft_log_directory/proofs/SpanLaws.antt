@@ -1,16 +1,16 @@
 -- The files of a span as they change, and what lies in them.
-use Rattle.std.proofs.Common.{◌≡◌, ℕ, ◌+◌, ◌<◌, ◌≤◌, ◌⊎◌, List, [], ◌∷◌, ◌++◌, length, Option, Some, None, refl, sym, ap, ◌∙◌, subst, inl, inr, append_assoc, append-nil, arith}
+use Rattle.std.proofs.Common.{◌≡◌, ℕ, ◌+◌, ◌<◌, ◌≤◌, ◌⊎◌, List, [], ◌∷◌, ◌++◌, refl, sym, ap, ◌∙◌, subst, inl, inr, append_assoc, append-nil, arith}
 use Rattle.raft_log_model.specs.Item.{Record, items_of}
 use Rattle.raft_log_model.specs.Meaning.{Slot, says}
-use Rattle.raft_log_model.specs.Groups.{of_group, appended, rewritten}
+use Rattle.raft_log_model.specs.Groups.{of_group, appended}
 use Rattle.raft_log_machine.specs.Survival.{IsSpoken}
 use Rattle.raft_log_machine.specs.Files.{LogFile, FileQueue, FileEvent, FileStep, records_of, span}
 use Rattle.raft_log_machine.specs.Files.FileEvent.{Grow, Sync, Rotate, Raise, Lose, Read}
 use Rattle.raft_log_machine.proofs.Starts.{cuts, no_back, spoken_newer}
 use Rattle.raft_log_machine.proofs.FileLaws.{records_of-append}
-use Rattle.raft_log_machine.proofs.Words.{says_append, says_appended, appended_append}
+use Rattle.raft_log_machine.proofs.Words.{says_appended}
 use Rattle.raft_log_machine.proofs.TruthGrows.{spoken_after}
-use Rattle.raft_log_directory.specs.Moves.{IsQuiet, grown, settled_files, rotated, raised_files}
+use Rattle.raft_log_directory.specs.Moves.{IsQuiet, grown, settled_files, rotated}
 use Rattle.raft_log_directory.specs.Notes.{IsAmong, LiesIn, AllFrom, AllBelow}
 
 module _ {E V : Type 0} where

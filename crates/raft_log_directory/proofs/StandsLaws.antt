@@ -1,13 +1,13 @@
 -- A view goes on with the files: where a record is written, and where a queue begins later.
-use Rattle.std.proofs.Common.{◌≡◌, ℕ, ◌+◌, ◌<◌, ◌≤◌, ◌⊎◌, List, [], ◌∷◌, ◌++◌, length, Option, Some, None, refl, sym, ap, ◌∙◌, subst, inl, inr, append_assoc, append-nil, arith}
+use Rattle.std.proofs.Common.{◌≡◌, ℕ, ◌≤◌, ◌⊎◌, List, [], ◌∷◌, ◌++◌, None, sym, ap, ◌∙◌, subst, inl, inr, append-nil, arith}
 use Rattle.raft_log_model.specs.Item.{Item, Record, Tagged, items_of}
 use Rattle.raft_log_model.specs.Item.Record.{Plain, Part}
 use Rattle.raft_log_model.specs.Item.Mark.{Begin, Middle, End}
-use Rattle.raft_log_model.specs.Meaning.{Slot, Content, says, after}
+use Rattle.raft_log_model.specs.Meaning.{Slot, after}
 use Rattle.raft_log_model.specs.Groups.{Map, of_group, taken}
 use Rattle.raft_log_machine.specs.Unbroken.{joined}
-use Rattle.raft_log_machine.specs.Whereabouts.{Whereabouts, OwesNothing, CarriesAll}
-use Rattle.raft_log_machine.specs.Files.{LogFile, FileQueue}
+use Rattle.raft_log_machine.specs.Whereabouts.{OwesNothing, CarriesAll}
+use Rattle.raft_log_machine.specs.Files.{LogFile}
 use Rattle.raft_log_machine.specs.Machine.{AllFit, IsJoined}
 use Rattle.raft_log_directory.specs.Model.{Files, running, IsSound, with_append, with_rewrite}
 use Rattle.raft_log_directory.specs.Moves.{grown, raised_files}
@@ -16,7 +16,7 @@ use Rattle.raft_log_directory.specs.Tables.{GrowsTo, CarriesTo, EndsGroupTo}
 use Rattle.raft_log_directory.specs.Log.{View, Stands}
 use Rattle.raft_log_directory.proofs.Sound.{append_grown, append_raised, rewrite_grown, group_begun, group_goes_on, group_ended, rewrite_raised}
 use Rattle.raft_log_directory.proofs.AppendNotes.{noted_takes, noted_less, noted_raised, noted_has}
-use Rattle.raft_log_directory.proofs.RewriteNotes.{speaks_grown, rewrite_noted_less, rewrite_noted_takes, rewrite_noted_raised, plain_speaks, group_speaks, group_at_end, noted_rewritten_has}
+use Rattle.raft_log_directory.proofs.RewriteNotes.{rewrite_noted_less, rewrite_noted_takes, rewrite_noted_raised, plain_speaks, group_speaks, group_at_end, noted_rewritten_has}
 use Rattle.raft_log_directory.proofs.GrowsLaws.{items_were}
 use Rattle.raft_log_directory.proofs.Follows.{taken_twice}
 

@@ -4,3 +4,4 @@ pub mod Notes
 pub mod Images
 pub mod Log
 pub mod Tables
+pub mod Calls

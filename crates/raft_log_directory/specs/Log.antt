@@ -18,20 +18,21 @@ pub record IsLog {E V : Type 0} (may_be : Files E V → Type 0) (m : Map E V) (p
   pub ends : files.append.pending ≡ pending
   pub there : may_be files
 
--- the log of a file system is the map, with the batches pending behind it: some files that hold this allow each image
+-- the log of a file system is the map, with the batches pending behind it: some files that hold this allow
+-- each image
 abbrev pub IsLogOf : {D E V : Type 0} → Readings D E V → D → Map E V → List (Record E V) → Type 0
 IsLogOf r d m pending = IsLog (Allows r d) m pending
 
--- what an engine knows: where each thing stands, the files noted for it in Append and in Rewrite, and what is read
--- through its tables
+-- what an engine knows: where each thing stands, the files noted for it in Append and in Rewrite, and what is
+-- read through its tables
 pub record View (E V : Type 0) : Type 0 where
   pub whereabouts : ℕ → Whereabouts
   pub noted : Notes
   pub noted_in_rewrite : Notes
   pub map : Map E V
 
--- the view is true of the files: they hold the map m and have the batches pending, the view's map is the one after
--- these, and each thing stands in the file noted for it
+-- the view is true of the files: they hold the map m and have the batches pending, the view's map is the one
+-- after these, and each thing stands in the file noted for it
 pub record Stands {E V : Type 0} (v : View E V) (f : Files E V) (m : Map E V) (pending : List (Record E V))
     : Type 0 where
   pub sound : IsSound (running f m v.whereabouts)
@@ -40,7 +41,8 @@ pub record Stands {E V : Type 0} (v : View E V) (f : Files E V) (m : Map E V) (p
   pub noted : AreNoted v.whereabouts v.noted f.append
   pub noted_in_rewrite : AreNotedInRewrite v.map v.whereabouts v.noted_in_rewrite f.rewrite
 
--- the view stays true of the files after quiet events of Append: of the batches some first ones are synced now
+-- the view stays true of the files after quiet events of Append: of the batches some first ones are synced
+-- now
 pub record Follows {E V : Type 0} (v : View E V) (f : Files E V) (m : Map E V) (pending : List (Record E V))
     (a : Moved f.append_from f.append) : Type 0 where
   pub done : List (Record E V)
@@ -49,15 +51,15 @@ pub record Follows {E V : Type 0} (v : View E V) (f : Files E V) (m : Map E V) (
   pub stands : Stands v (with_append f a.from a.queue) (taken m done) rest
 
 -- the view is true of some files that a running pipe says are there
-pub record IsAt {E V : Type 0} (may_be : Files E V → Type 0) (v : View E V) (m : Map E V) (pending : List (Record E V))
-    : Type 0 where
+pub record IsAt {E V : Type 0} (may_be : Files E V → Type 0) (v : View E V) (m : Map E V)
+    (pending : List (Record E V)) : Type 0 where
   pub files : Files E V
   pub stands : Stands v files m pending
   pub there : may_be files
 
 -- of the batches some first ones are synced, the others pending
-pub record EndsAt {E V : Type 0} (may_be : Files E V → Type 0) (v : View E V) (m : Map E V) (pending : List (Record E V))
-    : Type 0 where
+pub record EndsAt {E V : Type 0} (may_be : Files E V → Type 0) (v : View E V) (m : Map E V)
+    (pending : List (Record E V)) : Type 0 where
   pub done : List (Record E V)
   pub rest : List (Record E V)
   pub splits : done ++ rest ≡ pending

@@ -1,12 +1,12 @@
--- The model of a whole directory: the numbered files of both queues, what they mean, and where each thing stands.
-use Rattle.std.specs.Prelude.{ℕ, Bool, false, List}
-use Rattle.raft_log_model.specs.Item.{Record}
+-- The model of a whole directory: the numbered files of both queues, what they mean, and where each thing
+-- stands.
+use Rattle.std.specs.Prelude.{ℕ, Bool, false}
 use Rattle.raft_log_model.specs.Groups.{Map}
 use Rattle.raft_log_machine.specs.Whereabouts.{Whereabouts}
 use Rattle.raft_log_machine.specs.Files.{FileQueue, IsNumbered, fresh_files, store_of}
 use Rattle.raft_log_machine.specs.Machine.{IsKept, Machine}
 use Rattle.raft_log_machine.specs.Replay.{IsReplayable}
-use Rattle.raft_log_machine.specs.Runs.{HasRuns}
+use Rattle.raft_log_machine.specs.Images.{HasRuns}
 use Rattle.raft_log_machine.specs.Fresh.{nothing_stands, nowhere}
 
 -- the numbered files of both queues: those that are not behind a gap are numbered from these on

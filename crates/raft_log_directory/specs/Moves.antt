@@ -44,5 +44,6 @@ rotated q = record q {
 }
 
 -- the span begins later: its first files leave it, the others stay
-abbrev pub raised_files : {E V : Type 0} → FileQueue E V → List (LogFile E V) → List (LogFile E V) → FileQueue E V
+abbrev pub raised_files : {E V : Type 0} → FileQueue E V → List (LogFile E V) → List (LogFile E V)
+    → FileQueue E V
 raised_files q out stay = record q { gone = q.gone ++ out; full = stay }

@@ -1,5 +1,5 @@
 -- The files that an engine notes for each slot: a queue may begin at the least of them, and no later.
-use Rattle.std.specs.Prelude.{◌≡◌, ℕ, ◌<◌, ◌≤◌, ◌⊎◌, true, false, List, [], ◌∷◌, ◌++◌, Option, Some, None}
+use Rattle.std.specs.Prelude.{◌≡◌, ℕ, ◌<◌, ◌≤◌, ◌⊎◌, true, false, List, [], ◌∷◌, ◌++◌, None}
 use Rattle.raft_log_model.specs.Item.{Record, Tagged, items_of}
 use Rattle.raft_log_model.specs.Meaning.{Slot, says}
 use Rattle.raft_log_model.specs.Meaning.Slot.{Index, Key}
@@ -51,8 +51,8 @@ abbrev pub AllBelow : {E V : Type 0} → ℕ → List (LogFile E V) → Type 0
 AllBelow n [] = Unit {0}
 AllBelow n (f ∷ fs) = (f.number < n) × AllBelow n fs
 
--- what counts of the span's files from that number on speaks of the slot: a plain record there, or an atomic group
--- that is whole there
+-- what counts of the span's files from that number on speaks of the slot: a plain record there, or an atomic
+-- group that is whole there
 pub record SpeaksFrom {E V : Type 0} (q : FileQueue E V) (g n : ℕ) (s : Slot) : Type 0 where
   pub front : List (LogFile E V)
   pub back : List (LogFile E V)
@@ -65,8 +65,8 @@ abbrev pub IsInRewrite : Whereabouts → Slot → Type 0
 IsInRewrite t (Index i) = (t.first ≤ i) × (i < t.split)
 IsInRewrite t (Key k) = t.appended k ≡ false
 
--- of each slot that stands in Rewrite, what counts from the noted file on speaks; of a key of which nothing stands
--- nothing need be noted
+-- of each slot that stands in Rewrite, what counts from the noted file on speaks; of a key of which nothing
+-- stands nothing need be noted
 abbrev pub AreNotedInRewrite : {E V : Type 0} → Map E V → (ℕ → Whereabouts) → Notes → FileQueue E V → Type 0
 AreNotedInRewrite m whereabouts notes q =
     (g : ℕ) (s : Slot) → IsInRewrite (whereabouts g) s → (m g s ≡ None) ⊎ SpeaksFrom q g (notes g s) s
@@ -76,7 +76,8 @@ abbrev pub RewriteStandsFrom : {E V : Type 0} → ℕ → Map E V → (ℕ → W
 RewriteStandsFrom n m whereabouts notes =
     (g : ℕ) (s : Slot) → IsInRewrite (whereabouts g) s → (m g s ≡ None) ⊎ (n ≤ notes g s)
 
--- the records of an atomic group that has not ended are the last of the span, all of them in files from that number on
+-- the records of an atomic group that has not ended are the last of the span, all of them in files from that
+-- number on
 pub record GoesOnFrom {E V : Type 0} (q : FileQueue E V) (from n : ℕ) (first : List (Tagged E V))
     (more : List (List (Tagged E V))) : Type 0 where
   pub front : List (LogFile E V)

@@ -1,4 +1,5 @@
--- Short logs for the worked examples and for the rules that are wrong. An entry is told by a number, and so is a value.
+-- Short logs for the worked examples and for the rules that are wrong. An entry is told by a number, and so
+-- is a value.
 use Rattle.std.specs.Prelude.{ℕ, zero, suc, List, [], ◌∷◌, ◌++◌, Option, map, Some, None}
 use Rattle.raft_log_model.specs.Item.{Item, Tagged, Record}
 use Rattle.raft_log_model.specs.Item.Item.{Run, Compact, Put}

@@ -1,4 +1,5 @@
--- A segment of a queue, read by itself: what counts in it, and the pieces of atomic groups that its borders cut.
+-- A segment of a queue, read by itself: what counts in it, and the pieces of atomic groups that its borders
+-- cut.
 use Rattle.std.specs.Prelude.{ℕ, ◌≡◌, ◌==◌, List, [], ◌∷◌, ◌++◌, if◌then◌else◌}
 use Rattle.raft_log_model.specs.Item.{Tagged, Record}
 use Rattle.raft_log_model.specs.Item.Record.{Plain, Part}
@@ -85,8 +86,8 @@ abbrev pub carried_on : {E V : Type 0} → List (Unfinished E V) → (ℕ → He
 carried_on [] heads = []
 carried_on (u ∷ us) heads = go_on u.number u.items (heads u.number) ++ carried_on us heads
 
--- what a segment comes to: what counts in it, what it does with groups that are open before it, what it leaves
--- unfinished
+-- what a segment comes to: what counts in it, what it does with groups that are open before it, what it
+-- leaves unfinished
 pub record Segment (E V : Type 0) : Type 0 where
   pub counted : List (Tagged E V)
   pub heads : ℕ → Head E V
@@ -96,7 +97,8 @@ pub record Segment (E V : Type 0) : Type 0 where
 abbrev pub segment : {E V : Type 0} → List (Record E V) → Segment E V
 segment rs = record { counted = settled rs; heads = λ n. head n [] rs; left_open = unfinished rs }
 
--- two consecutive segments as one: what the later one completes comes after all of the earlier, before all of its own
+-- two consecutive segments as one: what the later one completes comes after all of the earlier, before all of
+-- its own
 abbrev pub merge : {E V : Type 0} → Segment E V → Segment E V → Segment E V
 merge a b = record {
   counted = a.counted ++ (completed a.left_open b.heads ++ b.counted);

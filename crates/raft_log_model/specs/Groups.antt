@@ -56,8 +56,8 @@ abbrev pub opened : {E V : Type 0} → Open E V → List (Record E V) → Open E
 opened o [] = o
 opened o (r ∷ rs) = opened (opens o r) rs
 
--- what the records of Rewrite say: an atomic group counts at its end, and without begin or end, or cut short by a new
--- begin of its own number, not at all
+-- what the records of Rewrite say: an atomic group counts at its end, and without begin or end, or cut short
+-- by a new begin of its own number, not at all
 abbrev pub settled : {E V : Type 0} → List (Record E V) → List (Tagged E V)
 settled rs = settle none_open rs
 

@@ -1,4 +1,5 @@
--- The hostile cases: a run past the end of the standing run, and a gap between Rewrite's entries and Append's.
+-- The hostile cases: a run past the end of the standing run, and a gap between Rewrite's entries and
+-- Append's.
 use Rattle.std.specs.Prelude.{ℕ, ◌≡◌, ◌<◌, ◌≤◌, ◌+◌, max, min, Bool, true, false, ◌&&◌, not, List, [], ◌∷◌, Option, Some, None, unwrap_or, if◌then◌else◌, nat_le, nat_lt, length, IsFalse, ⊤}
 use Rattle.std.specs.Option.{option_or}
 use Rattle.raft_log_model.specs.Item.{Item}
@@ -7,7 +8,8 @@ use Rattle.raft_log_model.specs.Meaning.{Slot, Content, write, holds}
 use Rattle.raft_log_model.specs.Meaning.Slot.{Index}
 use Rattle.raft_log_model.specs.Meaning.Content.{Entry}
 
--- the standing run: its first index, and the index after its last; it is empty where the second isn't above the first
+-- the standing run: its first index, and the index after its last; it is empty where the second isn't above
+-- the first
 pub record Window : Type 0 where
   pub first : ℕ
   pub end : ℕ
@@ -20,7 +22,8 @@ nothing = record { first = 0; end = 0 }
 abbrev pub is_past : Window → ℕ → Bool
 is_past w f = nat_lt w.first w.end && nat_lt w.end f
 
--- the standing run after an item: a run that starts inside or at the end goes on with it, any other run stands alone
+-- the standing run after an item: a run that starts inside or at the end goes on with it, any other run
+-- stands alone
 abbrev pub next_window : {E V : Type 0} → Window → Item E V → Window
 next_window w (Run f []) = w
 next_window w (Run f (e ∷ es)) =
@@ -100,7 +103,8 @@ abbrev pub is_below : ℕ → Option ℕ → Bool
 is_below i None = true
 is_below i (Some b) = nat_lt i b
 
--- the items say nothing of an index: no Clean, at or above the greatest Compact index, below the least start of a run
+-- the items say nothing of an index: no Clean, at or above the greatest Compact index, below the least start
+-- of a run
 abbrev pub is_silent : {E V : Type 0} → List (Item E V) → ℕ → Bool
 is_silent xs i = not (has_clean xs) && (nat_le (low xs) i && is_below i (high xs))
 
@@ -111,8 +115,8 @@ has_gap w append =
     && (nat_lt (window nothing append).first (window nothing append).end
     && nat_lt (least w.end (high append)) (window nothing append).first)
 
--- what stands at an index of a directory, told by intervals: Append's entries, over what Rewrite keeps under Append's
--- items, which is nothing where a gap would stay
+-- what stands at an index of a directory, told by intervals: Append's entries, over what Rewrite keeps under
+-- Append's items, which is nothing where a gap would stay
 abbrev pub directory_by_intervals : {E V : Type 0} → ℕ → List (Item E V) → List (Item E V)
     → Option (Content E V)
 directory_by_intervals i rewrite append =

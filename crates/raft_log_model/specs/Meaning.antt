@@ -14,9 +14,9 @@ pub data Content (E V : Type 0) : Type 0 where
   Entry : E → Content E V
   Value : V → Content E V
 
--- the word of one item on a slot: None, it says nothing; Some None, nothing stands there from now on; Some (Some x),
--- x stands there. A run speaks of each index from its first on, so also of those past its last; a run without entries
--- says nothing.
+-- the word of one item on a slot: None, it says nothing; Some None, nothing stands there from now on; Some
+-- (Some x), x stands there. A run speaks of each index from its first on, so also of those past its last; a
+-- run without entries says nothing.
 abbrev pub write : {E V : Type 0} → Slot → Item E V → Option (Option (Content E V))
 write (Index i) (Run f []) = None
 write (Index i) (Run f (e ∷ es)) =

@@ -1,5 +1,5 @@
--- The same log with something else in the place of each entry: a table holds the places of entries, a writer their
--- bytes.
+-- The same log with something else in the place of each entry: a table holds the places of entries, a writer
+-- their bytes.
 use Rattle.std.specs.Prelude.{map, Option, option_map}
 use Rattle.raft_log_model.specs.Item.{Item, Tagged, Record}
 use Rattle.raft_log_model.specs.Item.Item.{Run, Clean, Compact, Put, Del}
@@ -31,7 +31,8 @@ renamed_content f (Entry e) = Entry (f e)
 renamed_content f (Value v) = Value v
 
 -- the same of what items say of a slot
-abbrev pub renamed_word : {E F V : Type 0} → (E → F) → Option (Option (Content E V)) → Option (Option (Content F V))
+abbrev pub renamed_word : {E F V : Type 0} → (E → F) → Option (Option (Content E V))
+    → Option (Option (Content F V))
 renamed_word f word = option_map (option_map (renamed_content f)) word
 
 -- the same of all that stands

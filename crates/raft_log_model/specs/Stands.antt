@@ -6,7 +6,8 @@ use Rattle.raft_log_model.specs.Meaning.{Slot, Content}
 use Rattle.raft_log_model.specs.Meaning.Slot.{Index, Key}
 use Rattle.raft_log_model.specs.Meaning.Content.{Entry, Value}
 
--- the item speaks of the slot: a run of each index from its first on, a Compact of each below it, a Clean of all
+-- the item speaks of the slot: a run of each index from its first on, a Compact of each below it, a Clean of
+-- all
 abbrev pub Speaks : {E V : Type 0} → Slot → Item E V → Type 0
 Speaks (Index i) (Run f []) = ⊥
 Speaks (Index i) (Run f (e ∷ es)) = f ≤ i
@@ -20,7 +21,8 @@ Speaks (Key k) (Compact c) = ⊥
 Speaks (Key k) (Put l v) = l ≡ k
 Speaks (Key k) (Del l) = l ≡ k
 
--- the item puts the content into the slot: a run an entry at an index that it covers, a Put the value of its key
+-- the item puts the content into the slot: a run an entry at an index that it covers, a Put the value of its
+-- key
 abbrev pub Gives : {E V : Type 0} → Slot → Content E V → Item E V → Type 0
 Gives (Index i) (Entry e) (Run f es) = (f ≤ i) × (slice_get es (i - f) ≡ Some e)
 Gives (Index i) (Entry e) x = ⊥

@@ -1,4 +1,5 @@
--- A segment's items of one group in short: a table of what stands, and what the items do to what stood before them.
+-- A segment's items of one group in short: a table of what stands, and what the items do to what stood before
+-- them.
 use Rattle.std.specs.Prelude.{ℕ, ◌≡◌, ◌<◌, max, Bool, true, false, ◌&&◌, ◌||◌, not, List, [], ◌∷◌, Option, Some, None, option_map, if◌then◌else◌, nat_le, nat_lt, bytes_eq, length}
 use Rattle.std.specs.Option.{option_or}
 use Rattle.raft_log_model.specs.Item.{Item}
@@ -11,7 +12,8 @@ use Rattle.raft_log_model.specs.Table.{Table, content, span_of, no_table, compac
 use Rattle.raft_log_model.specs.Fragments.{Bracketing}
 use Rattle.raft_log_model.specs.Fragments.Bracketing.{One, Both}
 
--- the table; whether the items had a Clean; their greatest Compact index, least start of a run, and deleted keys
+-- the table; whether the items had a Clean; their greatest Compact index, least start of a run, and deleted
+-- keys
 pub record Summary (E V : Type 0) : Type 0 where
   pub table : Table E V
   pub cleaned : Bool

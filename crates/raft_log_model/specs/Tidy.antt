@@ -1,5 +1,5 @@
--- Atomic groups that nothing disturbs: what counts between a group's begin and its end touches no raft group that it
--- touches.
+-- Atomic groups that nothing disturbs: what counts between a group's begin and its end touches no raft group
+-- that it touches.
 use Rattle.std.specs.Prelude.{ℕ, List, [], ◌∷◌, ◌++◌, ◌≡◌, ◌⊎◌, ◌==◌, MatchBool, ⊤}
 use Rattle.raft_log_model.specs.Item.{Tagged, Record}
 use Rattle.raft_log_model.specs.Item.Record.{Plain, Part}
@@ -10,8 +10,8 @@ use Rattle.raft_log_model.specs.Groups.{of_group, Open, none_open, counts, opens
 abbrev pub Apart : {E V : Type 0} → List (Tagged E V) → List (Tagged E V) → Type 0
 Apart xs ys = (g : ℕ) → (of_group g xs ≡ []) ⊎ (of_group g ys ≡ [])
 
--- atomic group n has xs so far, `said` counted since its begin, and the groups o have begun since: if it ends, the
--- two are apart. A group that never ends asks nothing.
+-- atomic group n has xs so far, `said` counted since its begin, and the groups o have begun since: if it
+-- ends, the two are apart. A group that never ends asks nothing.
 abbrev pub Undisturbed : {E V : Type 0} → ℕ → List (Tagged E V) → List (Tagged E V) → Open E V
     → List (Record E V) → Type 0
 Undisturbed n xs said o [] = ⊤

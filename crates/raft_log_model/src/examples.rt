@@ -24,8 +24,9 @@ ghost use Rattle.raft_log_model.specs.Examples.{
   four_and_five,
 };
 
-/// Entries 1 to 20, all rewritten; then two entries in place of the 15th and all behind it, and a compaction below
-/// 17: nothing stands, before the purge, after it, and from a start that still reads the old Append file.
+/// Entries 1 to 20, all rewritten; then two entries in place of the 15th and all behind it, and a compaction
+/// below 17: nothing stands, before the purge, after it, and from a start that still reads the old Append
+/// file.
 pub fn overwritten_then_compacted()
     ensures before { shown 0 25 twenty overwritten ≡ replicate 25 None }
     ensures after { shown 0 25 (twenty ++ Compact top ∷ []) [] ≡ replicate 25 None }
@@ -39,8 +40,8 @@ pub fn overwritten_then_compacted_inside()
         ≡ None ∷ None ∷ Some (Entry 116) ∷ None ∷ [] }
 {}
 
-/// Three runs of which each later one cuts the earlier off: ten entries of the first file, five of the second, ten of
-/// the third.
+/// Three runs of which each later one cuts the earlier off: ten entries of the first file, five of the
+/// second, ten of the third.
 pub fn later_runs_cut()
     ensures entries { shown 9 27 three_files []
         ≡ None ∷ (replicate 10 (Some (Entry 1)) ++ (replicate 5 (Some (Entry 2))
@@ -48,7 +49,8 @@ pub fn later_runs_cut()
     ensures run { run_of three_files ≡ record { first = 10; end = 35 } }
 {}
 
-/// One purge, step by step: entries 4 and 5 stand, whatever is written so far and from whichever file Append is read.
+/// One purge, step by step: entries 4 and 5 stand, whatever is written so far and from whichever file Append
+/// is read.
 pub fn one_purge()
     ensures before { shown 0 7 rewrite_before append_from_4 ≡ four_and_five }
     ensures marked { shown 0 7 rewrite_marked append_from_4 ≡ four_and_five }

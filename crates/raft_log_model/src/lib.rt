@@ -1,8 +1,8 @@
 //! What a log means, as mathematics: definitions in `specs/`, and here the laws on them.
 //!
-//! Each law is a function without a body. What it ensures is proved, and holds for every kind of content: `E` is what
-//! stands for an entry, as its bytes, its length in a record or its place in a file, and `V` is what stands for a
-//! key's value.
+//! Each law is a function without a body. What it ensures is proved, and holds for every kind of content: `E`
+//! is what stands for an entry, as its bytes, its length in a record or its place in a file, and `V` is what
+//! stands for a key's value.
 //! * [`meaning`]: of each slot the last word stands; [`renaming`]: whatever stands for an entry;
 //! * [`groups`]: many groups in one queue, and atomic groups of records;
 //! * [`segments`], [`tables`]: what is read apart and joined, and kept in memory, means the same;
@@ -12,8 +12,6 @@
 pub mod examples;
 pub mod groups;
 pub mod hostile;
-#[cfg(test)]
-mod laws_at_numbers;
 pub mod meaning;
 pub mod renaming;
 pub mod segments;

@@ -7,14 +7,14 @@ ghost use Rattle.raft_log_model.specs.Meaning.{Slot, Content, says, holds, direc
 ghost use Rattle.raft_log_model.specs.Groups.{Map, appended, directory_meaning, taken};
 ghost use Rattle.raft_log_model.specs.Stands.{StandsIn};
 
-/// The last word of two lists, one after the other, is that of the later list, and where that says nothing of the
-/// earlier.
+/// The last word of two lists, one after the other, is that of the later list, and where that says nothing of
+/// the earlier.
 pub fn last_word_of_two<E, V>()
     ensures { (s : Slot) (xs ys : List (Item E V)) → says s (xs ++ ys) ≡ option_or (says s ys) (says s xs) }
 {}
 
-/// An entry stands at an index exactly where the last item that speaks of the index is a run that covers it; a value
-/// stands under a key exactly where the last item that speaks of the key is a Put of it.
+/// An entry stands at an index exactly where the last item that speaks of the index is a run that covers it;
+/// a value stands under a key exactly where the last item that speaks of the key is a Put of it.
 pub fn stands_by_the_last_that_speaks<E, V>()
     ensures { (s : Slot) (c : Content E V) (xs : List (Item E V)) → (holds s xs ≡ Some c) ↔ StandsIn s c xs }
 {}

@@ -1,5 +1,5 @@
-//! Tables: entries one after another and values by key, as a store keeps them in memory; each holds what stands after
-//! its items.
+//! Tables: entries one after another and values by key, as a store keeps them in memory; each holds what
+//! stands after its items.
 
 ghost use Rattle.std.specs.Prelude.{◌≡◌, ℕ, List, unwrap_or};
 ghost use Rattle.raft_log_model.specs.Item.{Item};
@@ -30,8 +30,8 @@ pub fn hostile_table_takes_an_item<E, V>()
         → content (table_step_past t x) s ≡ unwrap_or (write_past (span_of t) s x) (content t s) }
 {}
 
-/// A table that took all items of a list holds what stands after the list: without holes by the last word, and in
-/// every list by the last word with the rule on runs past the end.
+/// A table that took all items of a list holds what stands after the list: without holes by the last word,
+/// and in every list by the last word with the rule on runs past the end.
 pub fn table_holds_what_stands<E, V>()
     ensures without_holes { (xs : List (Item E V)) (s : Slot)
         → NoHole nothing xs → content (table_after no_table xs) s ≡ holds s xs }
@@ -39,8 +39,8 @@ pub fn table_holds_what_stands<E, V>()
         → content (table_after_past no_table xs) s ≡ holds_past s xs }
 {}
 
-/// The table of a directory whose Append has no hole: its entries are those of the wording by intervals, also in a
-/// hostile directory, and its values those of the last word.
+/// The table of a directory whose Append has no hole: its entries are those of the wording by intervals, also
+/// in a hostile directory, and its values those of the last word.
 pub fn directory_table_holds_what_stands<E, V>()
     ensures entries { (rewrite append : List (Item E V)) (i : ℕ) → NoHole nothing append
         → content (directory_table (table_after_past no_table rewrite) (summary append)) (Index i)

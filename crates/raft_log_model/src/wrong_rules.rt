@@ -1,5 +1,5 @@
-//! Rules that a log store might follow, and short logs for which they are wrong: what the log means, what the right
-//! rule makes of it, and what the wrong one would.
+//! Rules that a log store might follow, and short logs for which they are wrong: what the log means, what the
+//! right rule makes of it, and what the wrong one would.
 
 ghost use Rattle.std.specs.Prelude.{◌≡◌, ◌++◌, ◌∷◌, [], Some, None, true};
 ghost use Rattle.raft_log_model.specs.Item.Item.{Put};
@@ -36,8 +36,8 @@ pub fn rewritten_key_overrides()
     ensures wrong { voter_if_rewrite_last (Put voter 1 ∷ []) (Put voter 2 ∷ []) ≡ Some (Value 1) }
 {}
 
-/// Rewritten entries are written again in two records with no atomic group: after the first of them the second half
-/// is gone.
+/// Rewritten entries are written again in two records with no atomic group: after the first of them the
+/// second half is gone.
 pub fn half_a_rewrite()
     ensures right { entry_in 3 (old_file ++ first_part) ≡ Some (Entry 3) }
     ensures wrong { entry_in 3 (old_file ++ half) ≡ None }
@@ -61,14 +61,15 @@ pub fn completed_group_last()
         ≡ Some (Value 1) }
 {}
 
-/// Append's items are read on behind Rewrite's table, in their order: Rewrite has entry 6, the files that Append
-/// still has begin with 8 to 11 and then have 7. Neither queue has a hole and 6 and 7 stand, yet 8 would be past the
-/// end of Rewrite's entry, so that such an open is refused or drops entry 6.
+/// Append's items are read on behind Rewrite's table, in their order: Rewrite has entry 6, the files that
+/// Append still has begin with 8 to 11 and then have 7. Neither queue has a hole and 6 and 7 stand, yet 8
+/// would be past the end of Rewrite's entry, so that such an open is refused or drops entry 6.
 pub fn append_read_on_in_order()
     ensures whole { NoHole nothing six × NoHole nothing eight_then_seven }
     ensures means { shown 5 7 six eight_then_seven ≡ six_and_seven }
     ensures right { shown_in (directory_table (table_after no_table six) (summary eight_then_seven)) 5 7
         ≡ six_and_seven }
     ensures refused { is_past (span_of (table_after no_table six)) 8 ≡ true }
-    ensures dropped { content (table_after_past (table_after_past no_table six) eight_then_seven) (Index 6) ≡ None }
+    ensures dropped { content (table_after_past (table_after_past no_table six) eight_then_seven) (Index 6)
+        ≡ None }
 {}

@@ -1,5 +1,5 @@
 use Rattle.raft_log_directory.proofs.Sound.{fresh_sound}
-use Rattle.raft_log_directory.proofs.fresh_model_is_sound.Goals as goal
+use Rattle.raft_log_directory.proofs.model.fresh_model_is_sound.Goals as goal
 
 pub returns : goal.returns
 returns g c = fresh_sound

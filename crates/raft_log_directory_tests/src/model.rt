@@ -1,5 +1,5 @@
-//! Each law once at a concrete type of content: numbers for entries and for values.
-use crate::{groups, hostile, meaning, renaming, segments, tables};
+//! What a log means.
+use raft_log_model::{groups, hostile, meaning, renaming, segments, tables};
 
 #[test]
 fn laws_of_groups() {

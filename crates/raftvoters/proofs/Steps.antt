@@ -11,9 +11,11 @@ use Rattle.raft_voter_session.specs.declared.event.Event.{Event}
 use Rattle.raft_voter_session.specs.declared.event.Event.TheVariants.{Round}
 use Rattle.raftvoters.specs.declared.storage.Storage.{Storage}
 use Rattle.raftvoters.specs.declared.storage.Storage.TheVariants.{Closed, Open}
-use Rattle.raftvoters.specs.declared.store.PlainStore.{PlainStore}
+use Rattle.raftvoters.specs.declared.store.PlainVoters.{PlainVoters}
 use Rattle.raftvoters.specs.Content.{Content}
-use Rattle.raftvoters.specs.Service.{Answers, out_of_range, refused_from}
+use Rattle.raftvoters.specs.declared.service.Cause.{Cause}
+use Rattle.raftvoters.specs.declared.service.Cause.TheVariants.{TooLong}
+use Rattle.raftvoters.specs.Service.{Answers, FailsAs, TakesNothing, out_of_range, refused_from}
 use Rattle.raftvoters.specs.Store.{IsStored, world_of}
 use Rattle.raftvoters.specs.Storage.{Serves, Served, cuts_of, is_open}
 use Rattle.raftvoters.specs.Play.{AreRoundsOf, Sure, IsUnderWay, IsPlayed, cuts_in}
@@ -39,7 +41,7 @@ cut_served storage requests round e cause =
       serves = λ W at. (record { holds = λ cuts. (refl, omega arith); reached = λ cuts. ap (after W) (none_taken 0 [] requests); left = λ cuts. refl }, at);
     })
 
-pub answered_served : (store new : PlainStore) (requests : List (ℕ × Request)) (replies : List Reply) (round : RoundRecord)
+pub answered_served : (store new : PlainVoters) (requests : List (ℕ × Request)) (replies : List Reply) (round : RoundRecord)
     → round ≡ record { requests = requests; refused = refused_from 0 replies; outcome = Answered replies }
     → Answers (world_of store) requests replies (world_of new) → refused_from 0 replies ≡ out_of_range 0 requests → (IsStored store → IsStored new) → Served (Open store) (Open new) requests round
 answered_served store new requests replies round e told refused stored =
@@ -104,8 +106,17 @@ ends events left storage rounds cuts s e =
       explained = simp append-nil at (s.sure.explained [] [] refl);
     }
 
-pub too_long_served : (store new : PlainStore) (requests : List (ℕ × Request)) (round : RoundRecord) → round ≡ record { requests = requests; refused = []; outcome = Cut }
+pub too_long_served : (store new : PlainVoters) (requests : List (ℕ × Request)) (round : RoundRecord) → round ≡ record { requests = requests; refused = []; outcome = Cut }
     → 4096 < length requests → new ≡ store → Served (Open store) (Open new) requests round
 too_long_served store new requests round e long same =
-    let P : PlainStore → Type 0 = λ s. Served (Open store) (Open s) requests round in
+    let P : PlainVoters → Type 0 = λ s. Served (Open store) (Open s) requests round in
     subst P (sym same) (cut_served (Open store) requests round e (inr long))
+
+-- the same, where the fault says so
+pub cut_too_long : (store new : PlainVoters) (requests : List (ℕ × Request)) (round : RoundRecord) (cause : Cause) → cause ≡ TooLong
+    → round ≡ record { requests = requests; refused = []; outcome = Cut } → FailsAs cause (length requests) store.failed new.failed
+    → (TakesNothing cause → new ≡ store) → Served (Open store) (Open new) requests round
+cut_too_long store new requests round cause is e fails same =
+    let P : Cause → Type 0 = λ c. FailsAs c (length requests) store.failed new.failed in
+    let Q : Cause → Type 0 = λ c. TakesNothing c → new ≡ store in
+    too_long_served store new requests round e (subst P is fails).0 (subst Q is same tt)

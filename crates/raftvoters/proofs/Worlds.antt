@@ -6,10 +6,11 @@ use Rattle.raft_voter_messages.specs.declared.request.Request.{Request}
 use Rattle.raft_voter.specs.Rounds.{World, fresh_world, after, after_one, put}
 use Rattle.raft_voter.specs.Rules.{next, reply}
 use Rattle.raft_voter.specs.State.{State}
-use Rattle.raftvoters.specs.declared.store.PlainStore.{PlainStore}
+use Rattle.raftvoters.specs.declared.store.PlainVoters.{PlainVoters}
 use Rattle.raftvoters.specs.Content.{Content, whole}
 use Rattle.raftvoters.specs.Records.{AllInRange, AreStorable, StandsFor, IsInRange, IsStorable, LeadTo, may_change, voter_record, with_records}
-use Rattle.raftvoters.specs.Store.{IsAmidst, IsStored, Takes, TakesAll, replies_in_turn, world_of}
+use Rattle.raftvoters.specs.Service.{LeavesAlone}
+use Rattle.raftvoters.specs.Store.{HoldsVoters, IsAmidst, IsStored, Takes, TakesAll, replies_in_turn, world_of}
 use Rattle.raftvoters.proofs.Ranges.{fresh_in_range, put_in_range, put_there, stays, taken_in_range}
 use Rattle.raftvoters.proofs.Records.{records_same}
 
@@ -65,10 +66,14 @@ one_world bytes V W v w =
     let same = records_same v.records w.records v.storable w.storable (sym v.text ∙ w.text) in
     v.world ∙ ap (with_records fresh_world) same ∙ sym w.world
 
+-- where all is stored a crash leaves the voters that are served
+pub stored_alone : (store : PlainVoters) → IsStored store → LeavesAlone (HoldsVoters store) (world_of store)
+stored_alone store stored = record { left = stored.synced; alone = λ X other. one_world store.file.synced X (world_of store) other stored.synced }
+
 -- Requests that are taken.
 
 -- one that changes nothing, and of which nothing is written
-pub nothing_written : (old new : PlainStore) (asked : ℕ × Request) (told : Reply) → told ≡ reply (world_of old asked.0) asked.1
+pub nothing_written : (old new : PlainVoters) (asked : ℕ × Request) (told : Reply) → told ≡ reply (world_of old asked.0) asked.1
     → world_of new ≡ after_one (world_of old) asked → new.file ≡ old.file → may_change asked.1 ≡ false → Takes old asked told new
 nothing_written old new asked told e taken file same = record {
   told_is = e;
@@ -80,7 +85,7 @@ nothing_written old new asked told e taken file same = record {
 }
 
 -- one of which the voter's record is written
-pub record_written : (old new : PlainStore) (group : ℕ) (q : Request) (told : Reply) (more : List ℕ) → told ≡ reply (world_of old group) q
+pub record_written : (old new : PlainVoters) (group : ℕ) (q : Request) (told : Reply) (more : List ℕ) → told ≡ reply (world_of old group) q
     → world_of new ≡ after_one (world_of old) (group, q) → group < 2 ^ 64 → (world_of new group).base_index + length (world_of new group).log < 2 ^ 63
     → more ≡ voter_record (group, world_of new group) → new.file.synced ≡ old.file.synced → new.file.unsynced ≡ old.file.unsynced ++ more → Takes old (group, q) told new
 record_written old new group q told more e taken small fit text synced all = record {
@@ -90,7 +95,7 @@ record_written old new group q told more e taken small fit text synced all = rec
   written = λ W range here. one_written W (world_of old) (world_of new) group q old.file.unsynced new.file.unsynced more taken small fit text all range here;
 }
 
-pub amidst_next : (old now next : PlainStore) (asked left rest : List (ℕ × Request)) (told told_now : List Reply) (q : ℕ × Request) (r : Reply)
+pub amidst_next : (old now next : PlainVoters) (asked left rest : List (ℕ × Request)) (told told_now : List Reply) (q : ℕ × Request) (r : Reply)
     → IsAmidst old asked left told now → left ≡ q ∷ rest → Takes now q r next → told_now ≡ told ++ r ∷ [] → IsAmidst old asked rest told_now next
 amidst_next old now next asked left rest told told_now q r so_far here took e =
     let one : replies_in_turn (world_of now) (q ∷ rest) ≡ r ∷ replies_in_turn (world_of next) rest =
@@ -104,7 +109,7 @@ amidst_next old now next asked left rest told told_now q r so_far here took e =
           (subst AllInRange (sym took.taken) (taken_in_range (world_of now) q before.0), λ W h. took.written W before.0 (before.1 W h));
     }
 
-pub amidst_all : (old now : PlainStore) (asked left : List (ℕ × Request)) (told : List Reply) → IsAmidst old asked left told now → left ≡ [] → TakesAll old asked told now
+pub amidst_all : (old now : PlainVoters) (asked left : List (ℕ × Request)) (told : List Reply) → IsAmidst old asked left told now → left ≡ [] → TakesAll old asked told now
 amidst_all old now asked left told so_far e = record {
   told_is = sym (append-nil told) ∙ ap (λ ls. told ++ replies_in_turn (world_of now) ls) (sym e) ∙ so_far.told_is;
   taken = ap (after (world_of now)) (sym e) ∙ so_far.taken;
@@ -113,7 +118,7 @@ amidst_all old now asked left told so_far e = record {
 }
 
 -- what was written and then synced is stored
-pub all_stored : (old taken new : PlainStore) (asked : List (ℕ × Request)) (told : List Reply) → TakesAll old asked told taken → world_of new ≡ world_of taken
+pub all_stored : (old taken new : PlainVoters) (asked : List (ℕ × Request)) (told : List Reply) → TakesAll old asked told taken → world_of new ≡ world_of taken
     → new.file.synced ≡ whole taken.file → new.file.unsynced ≡ [] → IsStored old → IsStored new
 all_stored old taken new asked told took same synced settled stored =
     let W = world_of old in
@@ -148,7 +153,7 @@ pub whole_synced : (file : Content) → file.unsynced ≡ [] → whole file ≡ 
 whole_synced file e = rw e (append-nil file.synced)
 
 -- an open finds the voters that are stored
-pub found : (file : Content) (store : PlainStore) → store.file ≡ file → StandsFor (whole file) (world_of store)
+pub found : (file : Content) (store : PlainVoters) → store.file ≡ file → StandsFor (whole file) (world_of store)
     → (W : World) → StandsFor file.synced W → file.unsynced ≡ [] → IsStored store × (world_of store ≡ W)
 found file store same held W stored settled =
     let P : List ℕ → Type 0 = λ bytes. StandsFor bytes (world_of store) in

@@ -8,13 +8,16 @@ ghost use Rattle.raftvoters.specs.Records.{AreEntries, IsStorable, voter_record,
 
 use raft_voter::{Entry, Items, Memory, StoredFault, Voter, read_entry, read_state, state_bytes};
 use std::alloc::Global;
+use thiserror::Error;
 
 /// Why a file couldn't be opened.
-#[derive(Clone, Copy, Debug, PartialEq, Eq)]
+#[derive(Clone, Copy, Debug, PartialEq, Eq, Error)]
 pub enum OpenFault {
     /// Its bytes aren't those of records.
+    #[error("damaged file")]
     Damaged,
     /// An allocation was refused.
+    #[error("out of memory")]
     Memory,
 }
 

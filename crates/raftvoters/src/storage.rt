@@ -5,8 +5,8 @@ ghost use Rattle.raftvoters.specs.Service.{is_refused, refused_from};
 
 use crate::file::PlainFile;
 use crate::record::OpenFault;
-use crate::service::{RoundFault, RoundService};
-use crate::store::PlainStore;
+use crate::service::{Cause, RoundService};
+use crate::store::PlainVoters;
 use raft_voter::{Items, Memory, Outcome, Reply, Request, Round};
 use std::alloc::Global;
 
@@ -16,7 +16,7 @@ pub enum Storage {
     /// No store is open.
     Closed(PlainFile),
     /// A store is open.
-    Open(PlainStore),
+    Open(PlainVoters),
 }
 
 impl Storage {
@@ -37,7 +37,7 @@ impl Storage {
         ensures open { IfOk result (λ next. is_open next ≡ true) }
         ensures keeps { IfOk result (Keeps self) }
     {
-        match PlainStore::open(alloc, self.into_file()) {
+        match PlainVoters::open(alloc, self.into_file()) {
             Ok(store) => Ok(Storage::Open(store)),
             Err(OpenFault::Memory) => Err(Memory),
             Err(OpenFault::Damaged) => unreachable!(),
@@ -71,8 +71,10 @@ impl Storage {
         };
         match store.serve(requests.as_slice()) {
             Ok(replies) => answered(alloc, requests, replies),
-            Err(RoundFault::TooLong) => Ok(cut_off(alloc, requests)),
-            Err(RoundFault::Memory) => Err(Memory),
+            Err(fault) => match fault.cause {
+                Cause::TooLong => Ok(cut_off(alloc, requests)),
+                _ => Err(Memory),
+            },
         }
     }
 }

@@ -1,5 +1,5 @@
 use Rattle.raftvoters.proofs.Damage.{handed_on}
-use Rattle.raftvoters.proofs.store.PlainStore.open.Goals as goal
+use Rattle.raftvoters.proofs.store.PlainVoters.open.Goals as goal
 
 pub returns-in_err-voters-clause-err : goal.returns-in_err-voters-clause-err
 returns-in_err-voters-clause-err c =

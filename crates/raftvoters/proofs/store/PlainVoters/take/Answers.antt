@@ -1,6 +1,6 @@
 use Rattle.std.proofs.Common.{◌++◌, refl, sym, ap, ◌∙◌, arith}
 use Rattle.raftvoters.proofs.Worlds.{nothing_written, record_written}
-use Rattle.raftvoters.proofs.store.PlainStore.take.Goals as goal
+use Rattle.raftvoters.proofs.store.PlainVoters.take.Goals as goal
 
 pub returns-then-not-may_change-clause-ok : goal.returns-then-not-may_change-clause-ok
 returns-then-not-may_change-clause-ok c = nothing_written _ _ _ _ c.in_ok-reply.ensures.replies c.in_ok-reply.ensures.changes refl (sym c.if-not-may_change.ensures)

@@ -10,3 +10,5 @@ pub mod Appends
 pub mod Standing
 pub mod Repeating
 mod Commits
+mod Unrolling
+mod Planning

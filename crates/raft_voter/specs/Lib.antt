@@ -1,9 +1,12 @@
 pub mod State
+pub mod Runs
 pub mod Rules
 pub mod Rounds
 pub mod Voters
 pub mod Restoring
 pub mod Accounts
+pub mod Outlines
+pub mod Plans
 pub mod Laws
 pub use Rattle.raft_voter_messages.specs.Ranges
 pub use Rattle.raft_voter_messages.specs.StoredForms

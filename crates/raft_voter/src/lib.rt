@@ -8,7 +8,9 @@
 #![tactic(auto)]
 
 mod judging;
+mod outline;
 pub mod laws;
+mod list;
 mod voter;
 mod voters;
 

@@ -1,5 +1,5 @@
 //! Lists of entries, each its term and its bytes.
-ghost use Rattle.std.specs.Prelude.{◌≡◌, ◌+◌, ◌^◌, ◌<◌, ◌≤◌, ◌++◌, take, drop, length, vec_len, IfOk, OnOk, OnErr};
+ghost use Rattle.std.specs.Prelude.{◌≡◌, ◌+◌, ◌^◌, ◌<◌, ◌≤◌, ◌++◌, take, length, IfOk, OnOk, OnErr};
 ghost use Rattle.raft_voter.specs.Rules.{matching, numbered};
 
 use crate::{Entry, Items, Memory};
@@ -67,12 +67,4 @@ pub fn replace_tail(
         Ok(()) => Ok(()),
         Err(_refused) => unreachable!(),
     }
-}
-
-/// Drops the first entries of the log.
-pub fn drop_front(log: &mut Vec<(u64, Items<u8>)>, count: usize)
-    requires { count ≤ vec_len log.old }
-    ensures { log.new.items ≡ drop count log.old.items }
-{
-    drop(log.drain(..count));
 }

@@ -5,8 +5,8 @@ ghost use Rattle.raft_voter.specs.Rules.{next_in_range, reply_in_range};
 ghost use Rattle.raft_voter.specs.State.{fresh};
 
 use super::Voter;
-use super::log::drop_front;
 use crate::Reply;
+use crate::list::drop_front;
 
 impl Voter {
     pub(super) fn compact(&mut self, index: u64) -> Reply

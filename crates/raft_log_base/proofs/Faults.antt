@@ -13,34 +13,14 @@ pub fails_through : {X Y : Type 0} (e : Error) (r : Result X Fault) (s : Result 
 fails_through errors.Memory r s h p = tt
 fails_through (errors.Codec c) r s h p = h (number c) p
 fails_through (errors.Corruption text) r s h p = h _ p
-fails_through (errors.InvalidArgument text) r s h p = absurd p
-fails_through (errors.Io kind) r s h p = absurd p
-fails_through (errors.Message text) r s h p = absurd p
-fails_through (errors.TryAgain text) r s h p = absurd p
-fails_through errors.EntryCompacted r s h p = absurd p
-fails_through errors.EntryNotFound r s h p = absurd p
-fails_through errors.Full r s h p = absurd p
-fails_through (errors.Other o) r s h p = absurd p
-fails_through errors.Failed r s h p = absurd p
-fails_through errors.Hole r s h p = absurd p
-fails_through errors.NumberRange r s h p = absurd p
+fails_through _ r s h p = absurd p
 
 -- a refusal of what is read is memory
 pub fails_of_ok : {X : Type 0} (e : Error) (r : Result X Fault) (x : X) → r ≡ Ok x → Fails e r → e ≡ errors.Memory
 fails_of_ok errors.Memory r x h p = refl
 fails_of_ok (errors.Codec c) r x h p = let k = sym h ∙ p in absurd cc
 fails_of_ok (errors.Corruption text) r x h p = let k = sym h ∙ p in absurd cc
-fails_of_ok (errors.InvalidArgument text) r x h p = absurd p
-fails_of_ok (errors.Io kind) r x h p = absurd p
-fails_of_ok (errors.Message text) r x h p = absurd p
-fails_of_ok (errors.TryAgain text) r x h p = absurd p
-fails_of_ok errors.EntryCompacted r x h p = absurd p
-fails_of_ok errors.EntryNotFound r x h p = absurd p
-fails_of_ok errors.Full r x h p = absurd p
-fails_of_ok (errors.Other o) r x h p = absurd p
-fails_of_ok errors.Failed r x h p = absurd p
-fails_of_ok errors.Hole r x h p = absurd p
-fails_of_ok errors.NumberRange r x h p = absurd p
+fails_of_ok _ r x h p = absurd p
 
 pub decodes : {X : Type 0} (result : Result X Error) (old new : List ℕ) {read : Reader X Fault} {P : List ℕ → X → Type 0} → IsReader read P → ReadsOrMemory result old new (read old) → DecodesOrMemory P result old new
 decodes {X = X} (Ok y) old new {read = read} h t = record {

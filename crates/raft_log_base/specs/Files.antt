@@ -41,5 +41,6 @@ abbrev pub signature : Version → ℕ → Option ℕ
 signature V1 number = None
 signature V2 number = Some (number % 2 ^ 32)
 
+-- what records are signed with in this file
 abbrev pub signature_of : LogFileContext → Option ℕ
 signature_of context = signature context.version context.id.seq

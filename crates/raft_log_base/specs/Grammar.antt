@@ -9,7 +9,8 @@ Reader X E = List ℕ → Result (X × List ℕ) E
 -- The reader reads this grammar: what it takes is a spelling of what it gives, and each spelling is read, whatever
 -- follows it. So it refuses only bytes no beginning of which is a spelling.
 pub record IsReader {X E : Type 0} (read : Reader X E) (P : List ℕ → X → Type 0) : Type 0 where
-  pub takes : (bytes : List ℕ) (y : X × List ℕ) → read bytes ≡ Ok y → (text : List ℕ) × P text y.0 × (bytes ≡ text ++ y.1)
+  pub takes : (bytes : List ℕ) (y : X × List ℕ) → read bytes ≡ Ok y
+      → (text : List ℕ) × P text y.0 × (bytes ≡ text ++ y.1)
   pub again : (text rest : List ℕ) (x : X) → P text x → read (text ++ rest) ≡ Ok (x, rest)
 
 -- no spelling begins another one, and none spells two values
@@ -28,12 +29,14 @@ IsKnown x bytes y = (bytes ≡ []) × (y ≡ x)
 
 -- one spelling after another, where the second kind may depend on the first value
 abbrev pub Then : {A B : Type 0} → (List ℕ → A → Type 0) → (A → List ℕ → B → Type 0) → List ℕ → B → Type 0
-Then {A = A} P Q bytes y = (x : A) × (front : List ℕ) × (back : List ℕ) × P front x × Q x back y × (bytes ≡ front ++ back)
+Then {A = A} P Q bytes y = (x : A) × (front : List ℕ) × (back : List ℕ)
+    × P front x × Q x back y × (bytes ≡ front ++ back)
 
 -- the bytes spell a value of which this one is made
 abbrev pub Mapped : {A B : Type 0} → (A → B) → (List ℕ → A → Type 0) → List ℕ → B → Type 0
 Mapped {A = A} f P bytes y = (x : A) × P bytes x × (y ≡ f x)
 
+-- reads a value, and gives what is made of it
 abbrev pub mapped_at : {A B E : Type 0} → (A → B) → Reader A E → Reader B E
 mapped_at f read bytes = read bytes >>= λ r. Ok (f r.0, r.1)
 
@@ -42,6 +45,7 @@ unfoldable pub Times : {A : Type 0} → (List ℕ → A → Type 0) → ℕ → 
 Times P zero = IsKnown []
 Times P (suc n) = Then P (λ x. Then (Times P n) (λ xs. IsKnown (x ∷ xs)))
 
+-- reads that many, one after another
 unfoldable pub times_at : {A E : Type 0} → Reader A E → ℕ → Reader (List A) E
 times_at read zero bytes = Ok ([], bytes)
 times_at read (suc n) bytes = do
@@ -53,6 +57,7 @@ times_at read (suc n) bytes = do
 abbrev pub Choice : {A : Type 0} → Bool → (List ℕ → A → Type 0) → (List ℕ → A → Type 0) → List ℕ → A → Type 0
 Choice b P Q bytes x = MatchBool b (P bytes x) (Q bytes x)
 
+-- reads the one kind or the other, by a test
 abbrev pub choice_at : {A E : Type 0} → Bool → Reader A E → Reader A E → Reader A E
 choice_at b p q bytes = if b then p bytes else q bytes
 
@@ -63,6 +68,7 @@ ReadsAs (Err e) old new reading = (reading ≡ Err e) × (new ≡ old)
 
 -- A decoder of this grammar: what it answers is spelled by the bytes that it took, what is spelled so at the front is
 -- answered and just that taken, and a refusal takes nothing.
-pub record Decodes {X E : Type 0} (P : List ℕ → X → Type 0) (result : Result X E) (old new : List ℕ) : Type 0 where
+pub record Decodes {X E : Type 0} (P : List ℕ → X → Type 0)
+    (result : Result X E) (old new : List ℕ) : Type 0 where
   pub found : MatchResult result (λ x. (text : List ℕ) × P text x × (old ≡ text ++ new)) (λ e. new ≡ old)
   pub only : (text rest : List ℕ) (x : X) → P text x → old ≡ text ++ rest → (result ≡ Ok x) × (new ≡ rest)

@@ -7,7 +7,7 @@ use Rattle.raft_log_base.specs.declared.size.ReadableSize.{ReadableSize}
 use Rattle.raft_log_base.specs.declared.size.ParseSizeError.{ParseSizeError}
 use Rattle.raft_log_base.specs.declared.size.ParseSizeError.TheVariants.{NoNumber, UnknownUnit, TooLarge}
 
--- ---- printing
+-- Printing.
 
 -- the greatest unit that divides the size, and how many of it there are
 unfoldable pub size_text : ℕ → List ℕ
@@ -20,18 +20,19 @@ size_text n =
     else (if n % 2 ^ 10 == 0 then decimal (n / 2 ^ 10) ++ codes "KiB"
     else decimal n ++ codes "B")))))
 
--- ---- reading
+-- Reading.
 
 -- the number that digits at the front go on to spell, and what stands after them
 unfoldable pub number_in : ℕ → List ℕ → ℕ × List ℕ
 number_in n [] = (n, [])
 number_in n (c ∷ cs) = if is_ascii_digit c then number_in (n * 10 + (c - 48)) cs else (n, c ∷ cs)
 
+-- whether the text begins with a digit
 abbrev pub starts_with_digit : List ℕ → Bool
 starts_with_digit [] = false
 starts_with_digit (c ∷ cs) = is_ascii_digit c
 
--- K, M, G, T and P
+-- how many bytes the unit of K, M, G, T or P has
 abbrev pub power_of : ℕ → Option ℕ
 power_of letter =
     if letter == 75 then Some (2 ^ 10)
@@ -58,9 +59,11 @@ sized n (Some unit) = if nat_lt (n * unit) (2 ^ 64) then Ok (n * unit) else Err 
 unfoldable pub size_in : List ℕ → Result ℕ ParseSizeError
 size_in text =
     if starts_with_digit text
-    then (if nat_lt (number_in 0 text).0 (2 ^ 64) then sized (number_in 0 text).0 (unit_size (number_in 0 text).1) else Err TooLarge)
+    then (if nat_lt (number_in 0 text).0 (2 ^ 64)
+    then sized (number_in 0 text).0 (unit_size (number_in 0 text).1) else Err TooLarge)
     else Err NoNumber
 
+-- what a reader of sizes answered is this size, or this fault
 abbrev pub GivesSize : Result ReadableSize ParseSizeError → Result ℕ ParseSizeError → Type 0
 GivesSize result size = MatchResult result (λ s. size ≡ Ok s.0) (λ e. size ≡ Err e)
 

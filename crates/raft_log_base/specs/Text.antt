@@ -5,13 +5,14 @@ use Rattle.raft_log_base.specs.declared.codec.error.Error.TheVariants.{Io, KeyLe
 use Rattle.raft_log_base.specs.declared.size.ParseSizeError.{ParseSizeError}
 use Rattle.raft_log_base.specs.declared.size.ParseSizeError.TheVariants.{NoNumber, UnknownUnit, TooLarge}
 
--- no contract says how a kind is printed
+-- the text of a number's fault; no contract says how a kind is printed
 abbrev pub codec_fault_text : Error → Option (List ℕ)
 codec_fault_text (Io kind) = None
 codec_fault_text KeyLength = Some (codes "wrong length of a key")
 codec_fault_text KeyPadding = Some (codes "wrong padding of a key")
 codec_fault_text KeyNotFound = Some (codes "key not found")
 
+-- the text of a fault of a size
 abbrev pub size_fault_text : ParseSizeError → Option (List ℕ)
 size_fault_text NoNumber = Some (codes "a size begins with a whole number")
 size_fault_text UnknownUnit = Some (codes "the unit of a size is B, KiB, MiB, GiB, TiB or PiB")

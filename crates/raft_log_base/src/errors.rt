@@ -3,6 +3,7 @@ ghost use Rattle.std.specs.Prelude.{◌≡◌};
 ghost use Rattle.raft_log_base.specs.declared.errors.Error.TheVariants as errors;
 
 use crate::codec;
+use crate::size::ParseSizeError;
 use std::alloc::{AllocError, AllocFailed, Global};
 use std::io::ErrorKind;
 use thiserror::Error;
@@ -55,10 +56,10 @@ pub enum Error {
 }
 
 /// What a call on the log answers.
-pub type Result<T> = std::result::Result<T, Error>;
+pub type Result<T, E = Error> = std::result::Result<T, E>;
 
 impl Error {
-    ghost use Rattle.raft_log_base.specs.Fault.{IsOtherOf};
+    ghost use Rattle.raft_log_base.specs.Fault.{IsOtherOf, IsInvalidSize};
 
     /// Anything else that went wrong, or `Memory` where there is no room to keep it.
     pub fn other(alloc: Global, error: anyhow::Error) -> Error
@@ -66,6 +67,16 @@ impl Error {
     {
         match Box::new(alloc, error) {
             Ok(error) => Error::Other(error),
+            Err(_) => Error::Memory,
+        }
+    }
+
+    /// A text that is no size, as an invalid argument, or `Memory` where there is no room for what is wrong with it.
+    pub fn invalid_size(alloc: Global, fault: ParseSizeError) -> Error
+        ensures { IsInvalidSize fault result }
+    {
+        match fault.to_string(alloc) {
+            Ok(text) => Error::InvalidArgument(text),
             Err(_) => Error::Memory,
         }
     }

@@ -13,6 +13,3 @@ pub use errors::{Error, Result};
 pub use pipe_log::{FileBlockHandle, FileId, FileSeq, LogFileContext, LogQueue, Version};
 pub use rounding::{round_down, round_up};
 pub use size::{ParseSizeError, ReadableSize};
-
-#[cfg(test)]
-mod tests;

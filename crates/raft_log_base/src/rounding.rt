@@ -24,21 +24,3 @@ pub fn round_down(offset: usize, alignment: usize) -> usize
 {
     offset / alignment * alignment
 }
-
-#[cfg(test)]
-mod tests {
-    use super::*;
-
-    #[test]
-    fn multiples_of_a_page(rt: HostRuntime) {
-        for (offset, up, down) in [
-            (0, 0, 0),
-            (1, 4096, 0),
-            (4096, 4096, 4096),
-            (4097, 8192, 4096),
-        ] {
-            assert_eq!(rt; round_up(offset, 4096), up, "at {offset}");
-            assert_eq!(rt; round_down(offset, 4096), down, "at {offset}");
-        }
-    }
-}

@@ -163,6 +163,3 @@ impl FromStr for ReadableSize {
         text::size_in(text.trim().as_bytes())
     }
 }
-
-#[cfg(test)]
-mod tests;

@@ -5,6 +5,7 @@ use Rattle.std.specs.Prelude.{ℕ, zero, suc, ◌/◌, ◌%◌, List, [], ◌∷
 abbrev pub crc_bit : ℕ → ℕ
 crc_bit register = if register % 2 == 1 then bit_xor (register / 2) 0xEDB88320 else register / 2
 
+-- so many bits leave the register
 unfoldable pub crc_bits : ℕ → ℕ → ℕ
 crc_bits zero register = register
 crc_bits (suc n) register = crc_bits n (crc_bit register)

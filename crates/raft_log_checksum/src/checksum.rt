@@ -109,6 +109,3 @@ fn after_many(zeros: usize, byte: u8) -> u32
 {
     AFTER[1][zeros][byte as usize]
 }
-
-#[cfg(test)]
-mod tests;

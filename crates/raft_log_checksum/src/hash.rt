@@ -43,16 +43,3 @@ fn unfold_down(folded: u64, bits: u32) -> u64
 {
     folded ^ (folded >> bits) ^ (folded >> (2 * bits))
 }
-
-#[cfg(test)]
-mod tests {
-    use super::*;
-
-    #[test]
-    fn first_numbers_of_splitmix64(rt: HostRuntime) {
-        assert_eq!(rt; hash_u64(0x9E3779B97F4A7C15), 0xE220A8397B1DCDAF);
-        assert_eq!(rt; hash_u64(0x3C6EF372FE94F82A), 0x6E789E6AA1B965F4);
-        assert_eq!(rt; hash_u64(0), 0);
-        assert_eq!(rt; unhash_u64(0xE220A8397B1DCDAF), 0x9E3779B97F4A7C15);
-    }
-}

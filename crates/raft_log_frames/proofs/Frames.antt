@@ -5,7 +5,7 @@ use Rattle.std.specs.Int.{w64, from_be_bytes}
 use Rattle.std.proofs.lemmas.List.{take_at, drop_at, take-append-drop, length-take-le, length-drop, length-append}
 use Rattle.raft_log_base.proofs.Grammar.{ok_is, prefix_free}
 use Rattle.raft_log_items.specs.declared.item.LogItem.{LogItem}
-use Rattle.raft_log_items.specs.declared.entry.CompressionType.TheVariants as kinds
+use Rattle.raft_log_items.specs.declared.compression.CompressionType.TheVariants as kinds
 use Rattle.raft_log_base.specs.Fault.{Fault}
 use Rattle.raft_log_items.proofs.Reading.{are_items}
 use Rattle.raft_log_frames.specs.Record.{IsHeader, IsSoundHeader, IsFrame, AddsUp, header_at, block_of, footer_of}

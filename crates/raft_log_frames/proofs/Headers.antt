@@ -6,8 +6,8 @@ use Rattle.std.proofs.lemmas.List.{take_at, drop_at, take-append-drop, length-ta
 use Rattle.std.specs.Prelude.{IsOk, OnOk}
 use Rattle.raft_log_base.specs.Grammar.{Reader, IsReader, Decodes, ◌>>=◌}
 use Rattle.raft_log_base.proofs.Grammar.{bind_ok, ok_is, chosen}
-use Rattle.raft_log_items.specs.declared.entry.CompressionType.{CompressionType}
-use Rattle.raft_log_items.specs.declared.entry.CompressionType.TheVariants as kinds
+use Rattle.raft_log_items.specs.declared.compression.CompressionType.{CompressionType}
+use Rattle.raft_log_items.specs.declared.compression.CompressionType.TheVariants as kinds
 use Rattle.raft_log_base.specs.declared.errors.Error.{Error}
 use Rattle.raft_log_base.specs.Fault.{Fault, ReadsOrMemory}
 use Rattle.raft_log_base.specs.Fault.Fault.{corrupt}

@@ -2,7 +2,7 @@
 -- entry block is read too. Records of a file stand one behind the other with nothing between them, so what stands at a
 -- place must be one record only, and what a writer put there must be what the decoders make of it.
 use Rattle.std.specs.Prelude.{◌≡◌, ◌↔◌, ℕ, ◌+◌, ◌-◌, ◌≤◌, List, ◌++◌, length, take, slice_range, Option, Ok}
-use Rattle.raft_log_items.specs.declared.entry.CompressionType.TheVariants as kinds
+use Rattle.raft_log_items.specs.declared.compression.CompressionType.TheVariants as kinds
 use Rattle.raft_log_items.specs.declared.item.LogItem.{LogItem}
 use Rattle.raft_log_base.specs.Grammar.{IsPrefixFree}
 use Rattle.raft_log_frames.specs.Record.{IsSoundHeader, IsBlock, IsFooter, IsFrame, IsRecord, header_at, block_of, footer_of}

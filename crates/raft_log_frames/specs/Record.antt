@@ -5,8 +5,8 @@ use Rattle.std.specs.Int.{w32, w64, from_be_bytes, from_le_bytes}
 use Rattle.raft_log_base.specs.Grammar.{Reader, ◌>>=◌}
 use Rattle.raft_log_base.specs.Number.{IsU64, IsU32Le, u64_bytes, u32_le_bytes}
 use Rattle.raft_log_checksum.specs.Checksum.{crc32_of}
-use Rattle.raft_log_items.specs.declared.entry.CompressionType.{CompressionType}
-use Rattle.raft_log_items.specs.declared.entry.CompressionType.TheVariants as kinds
+use Rattle.raft_log_items.specs.declared.compression.CompressionType.{CompressionType}
+use Rattle.raft_log_items.specs.declared.compression.CompressionType.TheVariants as kinds
 use Rattle.raft_log_items.specs.declared.item.LogItem.{LogItem}
 use Rattle.std.specs.Borrow.{Bor}
 use Rattle.std.specs.Global.{Vec}

@@ -8,7 +8,7 @@ ghost use Rattle.raft_log_items.specs.declared.item.LogItem.{LogItem};
 use crate::header::LOG_BATCH_CHECKSUM_LEN;
 use raft_log_base::codec;
 use raft_log_checksum::crc32;
-use raft_log_items::decode::decode_items;
+use raft_log_items::items::decode_items;
 use raft_log_items::{EntryIndex, Error, LogItem, LogItemContent, Result};
 use std::alloc::Global;
 

@@ -3,8 +3,8 @@ ghost use Rattle.std.specs.Prelude.{◌≡◌, ◌-◌, ◌^◌, min, slice_get}
 ghost use Rattle.raft_log_frames.specs.ItemBatch.{content_size, items_size, all_entries};
 
 use crate::footer::decode_footer;
-use raft_log_items::encode::append_items;
-use raft_log_items::item::place::place;
+use raft_log_items::items::append_items;
+use raft_log_items::items::place;
 use raft_log_items::{
     Bytes, Command, CompressionType, EntryIndex, EntryIndexes, FileBlockHandle, LogFileContext,
     LogItem, LogItemContent, Message, OpType,

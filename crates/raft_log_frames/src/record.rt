@@ -11,7 +11,7 @@ ghost use Rattle.raft_log_frames.specs.Written.{AreBytes};
 use crate::header::LOG_BATCH_HEADER_LEN;
 use raft_log_base::codec::append_u32_le;
 use raft_log_checksum::crc32;
-use raft_log_items::encode::append_items;
+use raft_log_items::items::append_items;
 use raft_log_items::{Error, LogItem, Result};
 use std::alloc::AllocError;
 

@@ -8,10 +8,10 @@ use Rattle.raft_log_base.proofs.VarSpelling.{var_u64_shortest}
 use Rattle.raft_log_items.specs.declared.entry.EntryIndex.{EntryIndex}
 use Rattle.raft_log_items.specs.Run.{FollowsFrom, IsRun, unplaced, unplaced_entry}
 use Rattle.raft_log_items.specs.Items.{IsEntries, AreEntriesFrom, IsEntryLen, is_first_of, Passing, IsBytes, IsCommand, IsKeyValue, IsItem, put_of, del_of}
-use Rattle.raft_log_items.specs.declared.item.OpType.TheVariants.{Put, Del}
-use Rattle.raft_log_items.specs.declared.item.Command.{Command}
-use Rattle.raft_log_items.specs.declared.item.Command.TheVariants.{Compact}
-use Rattle.raft_log_items.specs.declared.item.KeyValue.{KeyValue}
+use Rattle.raft_log_items.specs.declared.op_type.OpType.TheVariants.{Put, Del}
+use Rattle.raft_log_items.specs.declared.command.Command.{Command}
+use Rattle.raft_log_items.specs.declared.command.Command.TheVariants.{Compact}
+use Rattle.raft_log_items.specs.declared.key_value.KeyValue.{KeyValue}
 use Rattle.raft_log_items.specs.declared.item.LogItemContent.TheVariants as contents
 use Rattle.raft_log_items.specs.declared.item.LogItem.{LogItem}
 use Rattle.raft_log_items.specs.Writing.{bytes_bytes, lengths_bytes, entries_bytes, command_bytes, operation_bytes, key_value_bytes, content_bytes, item_bytes, value_of, plain_operation, plain_key_value, plain_content, plain_item, IsSpelledContent}

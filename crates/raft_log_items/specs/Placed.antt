@@ -10,6 +10,7 @@ use Rattle.raft_log_items.specs.declared.item.LogItem.{LogItem}
 abbrev pub run_len : List EntryIndex → ℕ
 run_len es = sum_by (λ e. e.entry_len) es
 
+-- how many bytes the entries of this content have
 abbrev pub content_len : LogItemContent → ℕ
 content_len (contents.EntryIndexes es) = run_len es
 content_len (contents.Command c) = 0
@@ -24,27 +25,33 @@ abbrev pub laid_run : ℕ → List EntryIndex → List EntryIndex
 laid_run offset [] = []
 laid_run offset (e ∷ es) = record e { entry_offset = offset } ∷ laid_run (offset + e.entry_len) es
 
+-- the entries of this content lie one after another, from this offset on
 abbrev pub laid_content : ℕ → LogItemContent → LogItemContent
 laid_content offset (contents.EntryIndexes es) = contents.EntryIndexes (laid_run offset es)
 laid_content offset (contents.Command c) = contents.Command c
 laid_content offset (contents.Kv kv) = contents.Kv kv
 
+-- the entries of these items lie one after another, from this offset on
 abbrev pub laid_out : ℕ → List LogItem → List LogItem
 laid_out offset [] = []
-laid_out offset (x ∷ xs) = record x { content = laid_content offset x.content } ∷ laid_out (offset + content_len x.content) xs
+laid_out offset (x ∷ xs) =
+    record x { content = laid_content offset x.content } ∷ laid_out (offset + content_len x.content) xs
 
--- the items once their entry block is written at this place
+-- the entry once its block is written at this place
 abbrev pub written_entry : FileBlockHandle → EntryIndex → EntryIndex
 written_entry handle e = record e { entries = Some handle }
 
+-- the content once its entry block is written at this place
 abbrev pub written_content : FileBlockHandle → LogItemContent → LogItemContent
 written_content handle (contents.EntryIndexes es) = contents.EntryIndexes (map (written_entry handle) es)
 written_content handle (contents.Command c) = contents.Command c
 written_content handle (contents.Kv kv) = contents.Kv (record kv { file_id = Some handle.id })
 
+-- the item once its entry block is written at this place
 abbrev pub written_item : FileBlockHandle → LogItem → LogItem
 written_item handle x = record x { content = written_content handle x.content }
 
+-- the items once their entry block is written at this place
 abbrev pub written : FileBlockHandle → List LogItem → List LogItem
 written handle xs = map (written_item handle) xs
 

@@ -1,7 +1,7 @@
 -- Runs of entries: indexes that rise by one.
 use Rattle.std.specs.Prelude.{◌≡◌, ℕ, ◌+◌, ◌<◌, ◌^◌, List, [], ◌∷◌, length, None}
 use Rattle.raft_log_items.specs.declared.entry.EntryIndex.{EntryIndex}
-use Rattle.raft_log_items.specs.declared.entry.CompressionType.TheVariants as kinds
+use Rattle.raft_log_items.specs.declared.compression.CompressionType.TheVariants as kinds
 
 -- the indexes rise by one from this one on, and each length has 32 bits
 abbrev pub FollowsFrom : ℕ → List EntryIndex → Type 0
@@ -15,7 +15,8 @@ IsRun (e ∷ es) = FollowsFrom e.index (e ∷ es) × (e.index + length (e ∷ es
 
 -- an entry of which only the index and the length are known
 abbrev pub unplaced_entry : ℕ → ℕ → EntryIndex
-unplaced_entry index len = record { index = index; entries = None; compression_type = kinds.None; entry_offset = 0; entry_len = len }
+unplaced_entry index len =
+    record { index = index; entries = None; compression_type = kinds.None; entry_offset = 0; entry_len = len }
 
 -- the entry without its place
 abbrev pub unplaced : EntryIndex → EntryIndex

@@ -5,7 +5,7 @@ ghost use Rattle.raft_log_items.specs.declared.entry.EntryIndex.{EntryIndex as E
 ghost use Rattle.raft_log_items.specs.declared.item.LogItem.{LogItem as Item};
 ghost use Rattle.raft_log_items.specs.Items.{IsBytes, IsEntries, IsCommand, IsKeyValue, IsItem, AreItems};
 
-use crate::entry::EntryIndexes;
+use crate::entry_indexes::EntryIndexes;
 use crate::item::LogItem;
 
 /// Runs and items are equal by `==` exactly where they are the same: also where they lie has to agree.

@@ -2,20 +2,26 @@
 #![tactic(auto)]
 
 pub mod bytes;
-pub mod decode;
-pub mod encode;
+pub mod command;
+pub mod compression;
 pub mod entry;
+pub mod entry_indexes;
 pub mod item;
+pub mod items;
+pub mod key_value;
 pub mod laws;
 pub mod message;
+pub mod op_type;
 
 pub use bytes::Bytes;
-pub use entry::{CompressionType, EntryIndex, EntryIndexes};
-pub use item::{Command, KeyValue, LogItem, LogItemContent, OpType};
+pub use command::Command;
+pub use compression::CompressionType;
+pub use entry::EntryIndex;
+pub use entry_indexes::EntryIndexes;
+pub use item::{LogItem, LogItemContent};
+pub use key_value::KeyValue;
 pub use message::{Message, MessageExt};
+pub use op_type::OpType;
 pub use raft_log_base::{
     Error, FileBlockHandle, FileId, FileSeq, LogFileContext, LogQueue, Result, Version,
 };
-
-#[cfg(test)]
-mod tests;

@@ -7,8 +7,8 @@ use Rattle.std.proofs.lemmas.Bool.{le-ltb, ltb-false, eqb-true}
 use Rattle.std.proofs.lemmas.List.{take_at, drop_at, take-append-drop, length-append, length-take-le}
 use Rattle.raft_log_base.specs.Number.{IsU64, u64_bytes}
 use Rattle.raft_log_base.proofs.Grammar.{chosen}
-use Rattle.raft_log_items.specs.declared.item.OpType.{OpType}
-use Rattle.raft_log_items.specs.declared.item.OpType.TheVariants.{Put, Del}
+use Rattle.raft_log_items.specs.declared.op_type.OpType.{OpType}
+use Rattle.raft_log_items.specs.declared.op_type.OpType.TheVariants.{Put, Del}
 use Rattle.raft_log_items.specs.declared.item.LogItemContent.{LogItemContent}
 use Rattle.raft_log_items.specs.declared.item.LogItemContent.TheVariants as contents
 use Rattle.raft_log_items.specs.declared.item.LogItem.{LogItem}

@@ -6,9 +6,9 @@ use Rattle.raft_log_model.specs.Item.{Item, Tagged}
 use Rattle.raft_log_model.specs.Item.Item.{Run}
 use Rattle.raft_log_model.specs.Item.Record.{Plain}
 use Rattle.raft_log_items.specs.declared.entry.EntryIndex.{EntryIndex}
-use Rattle.raft_log_items.specs.declared.item.OpType.{OpType}
-use Rattle.raft_log_items.specs.declared.item.OpType.TheVariants as ops
-use Rattle.raft_log_items.specs.declared.item.Command.TheVariants as commands
+use Rattle.raft_log_items.specs.declared.op_type.OpType.{OpType}
+use Rattle.raft_log_items.specs.declared.op_type.OpType.TheVariants as ops
+use Rattle.raft_log_items.specs.declared.command.Command.TheVariants as commands
 use Rattle.raft_log_items.specs.declared.item.LogItemContent.{LogItemContent}
 use Rattle.raft_log_items.specs.declared.item.LogItemContent.TheVariants as contents
 use Rattle.raft_log_items.specs.declared.item.LogItem.{LogItem}

@@ -3,9 +3,9 @@
 use Rattle.std.specs.Prelude.{◌≡◌, ℕ, true, ◌==◌, if◌then◌else◌, List, [], ◌∷◌, ◌++◌, length, take, drop, Option, Some, None, nat_lt, bytes_eq, option_map, option_and_then}
 use Rattle.std.specs.Int.{w64, from_be_bytes}
 use Rattle.raft_log_base.specs.Number.{IsU64, u64_bytes}
-use Rattle.raft_log_items.specs.declared.item.OpType.{OpType}
-use Rattle.raft_log_items.specs.declared.item.OpType.TheVariants.{Put, Del}
-use Rattle.raft_log_items.specs.declared.item.KeyValue.{KeyValue}
+use Rattle.raft_log_items.specs.declared.op_type.OpType.{OpType}
+use Rattle.raft_log_items.specs.declared.op_type.OpType.TheVariants.{Put, Del}
+use Rattle.raft_log_items.specs.declared.key_value.KeyValue.{KeyValue}
 use Rattle.raft_log_items.specs.declared.item.LogItemContent.{LogItemContent}
 use Rattle.raft_log_items.specs.declared.item.LogItemContent.TheVariants as contents
 use Rattle.raft_log_items.specs.declared.item.LogItem.{LogItem}

@@ -6,8 +6,8 @@ ghost use Rattle.raft_log_records.specs.Key.{is_internal, IsKeyRefusal};
 use raft_log_frames::LOG_BATCH_HEADER_LEN;
 use raft_log_frames::log_item_batch::items_size;
 use raft_log_frames::record::{are_bytes, fill_record, write_checksum};
-use raft_log_items::item::copied;
-use raft_log_items::item::place::set_written;
+use raft_log_items::items::copied;
+use raft_log_items::items::set_written;
 use raft_log_items::{
     Bytes, Command, Error, FileBlockHandle, LogFileContext, LogItem, OpType, Result,
 };

@@ -1,6 +1,6 @@
 //! Numbers at the end of a buffer that the caller keeps: where memory runs out, the buffer is as it was.
 
-ghost use Rattle.std.specs.Prelude.{◌≡◌, ◌++◌, ◌+◌, ◌≤◌, vec_len, vec_capacity, OnOk, OnErr};
+ghost use Rattle.std.specs.Prelude.{◌≡◌, ◌++◌, ◌+◌, ◌≤◌, take, vec_len, vec_capacity, OnOk, OnErr};
 ghost use Rattle.raft_log_base.specs.Number.{
   IsU64,
   IsU32Le,
@@ -63,4 +63,18 @@ pub fn append_var_u64(out: &mut Vec<u8>, number: u64) -> Result<(), AllocError>
     out.reserve(MAX_VAR_U64_LEN)?;
     push_digits(out, number);
     Ok(())
+}
+
+/// The answer of an addition to the buffer. Where it is a refusal, what stands behind the first `len` bytes is taken
+/// away: where the addition left these as they were, the buffer is as it was.
+#[inline]
+pub fn or_cut_back<E>(appended: Result<(), E>, out: &mut Vec<u8>, len: usize) -> Result<(), E>
+    ensures value { result ≡ appended }
+    ensures ok { OnOk appended (out.new ≡ out.old) }
+    ensures err { OnErr appended (out.new.items ≡ take len out.old.items) }
+{
+    if appended.is_err() {
+        out.truncate(len);
+    }
+    appended
 }

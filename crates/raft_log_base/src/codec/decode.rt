@@ -37,7 +37,7 @@ use super::signed::from_order;
 
 /// The next bytes, as many as the array holds.
 #[inline]
-fn take_front<const N: usize>(source: &mut BytesSlice<'_>) -> Result<[u8; N]>
+fn split_front<const N: usize>(source: &mut BytesSlice<'_>) -> Result<[u8; N]>
     ensures { ReadsAs result source.old.now source.new.now (front_at N source.old.now) }
 {
     match source.split_first_chunk::<N>() {
@@ -73,7 +73,7 @@ pub fn decode_u64(source: &mut BytesSlice<'_>) -> Result<u64>
     ensures short { IsShort result ↔ (length source.old.now < 8) }
     ensures exact { ReadsAs result source.old.now source.new.now (high_first_at w64 source.old.now) }
 {
-    Ok(u64::from_be_bytes(take_front(source)?))
+    Ok(u64::from_be_bytes(split_front(source)?))
 }
 
 /// Reads what `encode_u64_desc` writes: the complement of every bit.
@@ -113,7 +113,7 @@ pub fn decode_u32(source: &mut BytesSlice<'_>) -> Result<u32>
     ensures short { IsShort result ↔ (length source.old.now < 4) }
     ensures exact { ReadsAs result source.old.now source.new.now (high_first_at w32 source.old.now) }
 {
-    Ok(u32::from_be_bytes(take_front(source)?))
+    Ok(u32::from_be_bytes(split_front(source)?))
 }
 
 /// Reads a number of two bytes, the highest first.
@@ -123,7 +123,7 @@ pub fn decode_u16(source: &mut BytesSlice<'_>) -> Result<u16>
     ensures short { IsShort result ↔ (length source.old.now < 2) }
     ensures exact { ReadsAs result source.old.now source.new.now (high_first_at w16 source.old.now) }
 {
-    Ok(u16::from_be_bytes(take_front(source)?))
+    Ok(u16::from_be_bytes(split_front(source)?))
 }
 
 /// Reads a number of eight bytes, the lowest first.
@@ -133,7 +133,7 @@ pub fn decode_u64_le(source: &mut BytesSlice<'_>) -> Result<u64>
     ensures short { IsShort result ↔ (length source.old.now < 8) }
     ensures exact { ReadsAs result source.old.now source.new.now (low_first_at w64 source.old.now) }
 {
-    Ok(u64::from_le_bytes(take_front(source)?))
+    Ok(u64::from_le_bytes(split_front(source)?))
 }
 
 /// Reads a number of four bytes, the lowest first.
@@ -143,7 +143,7 @@ pub fn decode_u32_le(source: &mut BytesSlice<'_>) -> Result<u32>
     ensures short { IsShort result ↔ (length source.old.now < 4) }
     ensures exact { ReadsAs result source.old.now source.new.now (low_first_at w32 source.old.now) }
 {
-    Ok(u32::from_le_bytes(take_front(source)?))
+    Ok(u32::from_le_bytes(split_front(source)?))
 }
 
 /// Reads a number of two bytes, the lowest first.
@@ -153,7 +153,7 @@ pub fn decode_u16_le(source: &mut BytesSlice<'_>) -> Result<u16>
     ensures short { IsShort result ↔ (length source.old.now < 2) }
     ensures exact { ReadsAs result source.old.now source.new.now (low_first_at w16 source.old.now) }
 {
-    Ok(u16::from_le_bytes(take_front(source)?))
+    Ok(u16::from_le_bytes(split_front(source)?))
 }
 
 /// Reads a signed number of eight bytes in two's complement, the lowest first.

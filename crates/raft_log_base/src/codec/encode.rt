@@ -1,7 +1,6 @@
 //! Writing numbers to any writer.
 
-ghost use Rattle.std.specs.Prelude.{OnOk, IfErr};
-ghost use Rattle.std.specs.Io.KnownBytes.{Appends};
+ghost use Rattle.std.specs.Prelude.{IfErr};
 ghost use Rattle.raft_log_base.specs.Number.{
   IsU16,
   IsU16Le,
@@ -18,6 +17,7 @@ ghost use Rattle.raft_log_base.specs.Number.{
   IsVarI64,
   IsShortest,
   IsWriteFault,
+  Adds,
   u16_bytes,
   u16_le_bytes,
   u32_bytes,
@@ -45,7 +45,7 @@ pub trait NumberEncoder: Write {
     final fn encode_i64(&mut self, v: i64) -> Result<()>
     where
         Self: Sized,
-        ensures ok { OnOk result (Appends (Self.contents self.old) (Self.contents self.new) (i64_bytes v)) }
+        ensures ok { Adds result (Self.contents self.old) (Self.contents self.new) (i64_bytes v) }
         ensures err { IfErr result IsWriteFault }
         ensures spelled { IsI64 (i64_bytes v) v }
     {
@@ -58,7 +58,7 @@ pub trait NumberEncoder: Write {
     final fn encode_i64_desc(&mut self, v: i64) -> Result<()>
     where
         Self: Sized,
-        ensures ok { OnOk result (Appends (Self.contents self.old) (Self.contents self.new) (i64_desc_bytes v)) }
+        ensures ok { Adds result (Self.contents self.old) (Self.contents self.new) (i64_desc_bytes v) }
         ensures err { IfErr result IsWriteFault }
         ensures spelled { IsI64Desc (i64_desc_bytes v) v }
     {
@@ -71,7 +71,7 @@ pub trait NumberEncoder: Write {
     final fn encode_u64(&mut self, v: u64) -> Result<()>
     where
         Self: Sized,
-        ensures ok { OnOk result (Appends (Self.contents self.old) (Self.contents self.new) (u64_bytes v)) }
+        ensures ok { Adds result (Self.contents self.old) (Self.contents self.new) (u64_bytes v) }
         ensures err { IfErr result IsWriteFault }
         ensures spelled { IsU64 (u64_bytes v) v }
     {
@@ -84,7 +84,7 @@ pub trait NumberEncoder: Write {
     final fn encode_u64_desc(&mut self, v: u64) -> Result<()>
     where
         Self: Sized,
-        ensures ok { OnOk result (Appends (Self.contents self.old) (Self.contents self.new) (u64_desc_bytes v)) }
+        ensures ok { Adds result (Self.contents self.old) (Self.contents self.new) (u64_desc_bytes v) }
         ensures err { IfErr result IsWriteFault }
         ensures spelled { IsU64Desc (u64_desc_bytes v) v }
     {
@@ -97,7 +97,7 @@ pub trait NumberEncoder: Write {
     final fn encode_u32(&mut self, v: u32) -> Result<()>
     where
         Self: Sized,
-        ensures ok { OnOk result (Appends (Self.contents self.old) (Self.contents self.new) (u32_bytes v)) }
+        ensures ok { Adds result (Self.contents self.old) (Self.contents self.new) (u32_bytes v) }
         ensures err { IfErr result IsWriteFault }
         ensures spelled { IsU32 (u32_bytes v) v }
     {
@@ -110,7 +110,7 @@ pub trait NumberEncoder: Write {
     final fn encode_u16(&mut self, v: u16) -> Result<()>
     where
         Self: Sized,
-        ensures ok { OnOk result (Appends (Self.contents self.old) (Self.contents self.new) (u16_bytes v)) }
+        ensures ok { Adds result (Self.contents self.old) (Self.contents self.new) (u16_bytes v) }
         ensures err { IfErr result IsWriteFault }
         ensures spelled { IsU16 (u16_bytes v) v }
     {
@@ -123,7 +123,7 @@ pub trait NumberEncoder: Write {
     final fn encode_u16_le(&mut self, v: u16) -> Result<()>
     where
         Self: Sized,
-        ensures ok { OnOk result (Appends (Self.contents self.old) (Self.contents self.new) (u16_le_bytes v)) }
+        ensures ok { Adds result (Self.contents self.old) (Self.contents self.new) (u16_le_bytes v) }
         ensures err { IfErr result IsWriteFault }
         ensures spelled { IsU16Le (u16_le_bytes v) v }
     {
@@ -136,7 +136,7 @@ pub trait NumberEncoder: Write {
     final fn encode_u32_le(&mut self, v: u32) -> Result<()>
     where
         Self: Sized,
-        ensures ok { OnOk result (Appends (Self.contents self.old) (Self.contents self.new) (u32_le_bytes v)) }
+        ensures ok { Adds result (Self.contents self.old) (Self.contents self.new) (u32_le_bytes v) }
         ensures err { IfErr result IsWriteFault }
         ensures spelled { IsU32Le (u32_le_bytes v) v }
     {
@@ -149,7 +149,7 @@ pub trait NumberEncoder: Write {
     final fn encode_i32_le(&mut self, v: i32) -> Result<()>
     where
         Self: Sized,
-        ensures ok { OnOk result (Appends (Self.contents self.old) (Self.contents self.new) (i32_le_bytes v)) }
+        ensures ok { Adds result (Self.contents self.old) (Self.contents self.new) (i32_le_bytes v) }
         ensures err { IfErr result IsWriteFault }
         ensures spelled { IsI32Le (i32_le_bytes v) v }
     {
@@ -162,7 +162,7 @@ pub trait NumberEncoder: Write {
     final fn encode_i64_le(&mut self, v: i64) -> Result<()>
     where
         Self: Sized,
-        ensures ok { OnOk result (Appends (Self.contents self.old) (Self.contents self.new) (i64_le_bytes v)) }
+        ensures ok { Adds result (Self.contents self.old) (Self.contents self.new) (i64_le_bytes v) }
         ensures err { IfErr result IsWriteFault }
         ensures spelled { IsI64Le (i64_le_bytes v) v }
     {
@@ -175,7 +175,7 @@ pub trait NumberEncoder: Write {
     final fn encode_u64_le(&mut self, v: u64) -> Result<()>
     where
         Self: Sized,
-        ensures ok { OnOk result (Appends (Self.contents self.old) (Self.contents self.new) (u64_le_bytes v)) }
+        ensures ok { Adds result (Self.contents self.old) (Self.contents self.new) (u64_le_bytes v) }
         ensures err { IfErr result IsWriteFault }
         ensures spelled { IsU64Le (u64_le_bytes v) v }
     {
@@ -187,7 +187,7 @@ pub trait NumberEncoder: Write {
     final fn encode_var_u64(&mut self, v: u64) -> Result<()>
     where
         Self: Sized,
-        ensures ok { OnOk result (Appends (Self.contents self.old) (Self.contents self.new) (var_u64_bytes v)) }
+        ensures ok { Adds result (Self.contents self.old) (Self.contents self.new) (var_u64_bytes v) }
         ensures err { IfErr result IsWriteFault }
         ensures spelled { IsShortest IsVarU64 (var_u64_bytes v) v }
     {
@@ -200,7 +200,7 @@ pub trait NumberEncoder: Write {
     final fn encode_var_i64(&mut self, v: i64) -> Result<()>
     where
         Self: Sized,
-        ensures ok { OnOk result (Appends (Self.contents self.old) (Self.contents self.new) (var_i64_bytes v)) }
+        ensures ok { Adds result (Self.contents self.old) (Self.contents self.new) (var_i64_bytes v) }
         ensures err { IfErr result IsWriteFault }
         ensures spelled { IsShortest IsVarI64 (var_i64_bytes v) v }
     {

@@ -56,7 +56,7 @@ impl From<io::Error> for Error {
 }
 
 /// What a codec answers.
-pub type Result<T> = std::result::Result<T, Error>;
+pub type Result<T, E = Error> = std::result::Result<T, E>;
 
 /// Bytes that are read from the front.
 pub type BytesSlice<'a> = &'a [u8];

@@ -41,12 +41,12 @@ pub fn decode_var_u64(source: &mut BytesSlice<'_>) -> Result<u64>
     ensures invalid { IsInvalid result ↔ RunsOver source.old.now }
     ensures exact { ReadsAs result source.old.now source.new.now (var_u64_at source.old.now) }
 {
-    take_var_u64(source)
+    split_var_u64(source)
 }
 
-/// Takes the number at the front, and where there is none nothing. Numbers of one and two bytes are read in place.
+/// Splits the number off the front, and where there is none nothing. Numbers of one and two bytes are read in place.
 #[inline(always)]
-fn take_var_u64(source: &mut BytesSlice<'_>) -> Result<u64>
+fn split_var_u64(source: &mut BytesSlice<'_>) -> Result<u64>
     ensures { ReadsAs result source.old.now source.new.now (var_u64_at source.old.now) }
 {
     match *source {

@@ -4,7 +4,7 @@ ghost use Rattle.raft_log_items.specs.Placed.{entries_len, laid_out};
 
 use super::{LogBatch, MAX_ENTRIES_LEN};
 use raft_log_frames::LOG_BATCH_HEADER_LEN;
-use raft_log_items::item::place::lay_out;
+use raft_log_items::items::lay_out;
 use raft_log_items::{Error, LogItem, Result};
 use std::alloc::AllocError;
 

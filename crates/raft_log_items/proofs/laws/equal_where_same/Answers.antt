@@ -3,7 +3,7 @@ use Rattle.std.specs.Cmp.Lexicographic.{pointwise_decides}
 use Rattle.raft_log_items.specs.declared.entry.EntryIndex.{EntryIndex}
 use Rattle.raft_log_items.specs.declared.item.LogItemContent.{LogItemContent}
 use Rattle.raft_log_items.specs.declared.item.LogItemContent.TheVariants as contents
-use Rattle.raft_log_items.specs.contracts.entry.EntryIndexesPartialEq.TheImpl.{ghosts as of_runs}
+use Rattle.raft_log_items.specs.contracts.entry_indexes.EntryIndexesPartialEq.TheImpl.{ghosts as of_runs}
 use Rattle.raft_log_items.specs.contracts.item.LogItemContentPartialEq.TheImpl.{ghosts as of_contents}
 use Rattle.raft_log_items.proofs.laws.equal_where_same.Goals as goal
 

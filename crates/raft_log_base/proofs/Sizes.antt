@@ -3,7 +3,7 @@ use Rattle.std.proofs.Common.{◌≡◌, ℕ, ◌+◌, ◌-◌, ◌*◌, ◌/◌
 use Rattle.std.specs.Prelude.{codes}
 use Rattle.std.specs.Char.{is_ascii_digit}
 use Rattle.std.specs.Fmt.{decimal}
-use Rattle.std.specs.Str.{all_ascii_digits, IsTrim}
+use Rattle.std.specs.Str.{all_ascii_digits, IsTrim, trim}
 use Rattle.std.proofs.Math.Seq.{drop-cons}
 use Rattle.std.proofs.lemmas.Bool.{cases_Bool, and_parts, eqb-true, lt-ltb}
 use Rattle.std.proofs.lemmas.List.{drop_all, take_all, length-drop, get_or_append_left, get_or-append-add, length-append}
@@ -181,9 +181,10 @@ given : (result : Result ReadableSize ParseSizeError) (n : ℕ) (size : Result �
 given (Ok s) n size h e = let same : n ≡ s.0 = cc in ap (λ k. of_size k) (sym same)
 given (Err d) n size h e = absurd cc
 
-pub reads_size : (text core : List ℕ) (result : Result ReadableSize ParseSizeError) → IsTrim text core → GivesSize result (size_in core) → ReadsSize text result
-reads_size text core result trimmed h = record {
-  exact = (core, trimmed, h);
+pub reads_size : (text core : List ℕ) (result : Result ReadableSize ParseSizeError) → IsTrim text core → core ≡ trim text → GivesSize result (size_in core) → ReadsSize text result
+reads_size text core result trimmed is h = record {
+  exact = subst (λ (l : List ℕ). GivesSize result (size_in l)) is h;
+  trimmed = subst (λ (l : List ℕ). IsTrim text l) is trimmed;
   printed = λ n lt e.
       let P : List ℕ → Type 0 = λ t. IsPrinted n t in
       let shape = subst P (sym e) (printed n lt) in

@@ -2,7 +2,7 @@
 use Rattle.std.specs.Prelude.{◌≡◌, ℕ, ◌+◌, ◌-◌, ◌*◌, ◌/◌, ◌%◌, ◌^◌, ◌<◌, List, [], ◌∷◌, ◌++◌, Option, Some, None, Result, Ok, Err, Bool, false, MatchResult, nat_lt, ◌==◌, ◌&&◌, if◌then◌else◌, codes}
 use Rattle.std.specs.Char.{is_ascii_digit}
 use Rattle.std.specs.Fmt.{decimal}
-use Rattle.std.specs.Str.{IsTrim}
+use Rattle.std.specs.Str.{IsTrim, trim}
 use Rattle.raft_log_base.specs.declared.size.ReadableSize.{ReadableSize}
 use Rattle.raft_log_base.specs.declared.size.ParseSizeError.{ParseSizeError}
 use Rattle.raft_log_base.specs.declared.size.ParseSizeError.TheVariants.{NoNumber, UnknownUnit, TooLarge}
@@ -69,5 +69,6 @@ GivesSize result size = MatchResult result (λ s. size ≡ Ok s.0) (λ e. size �
 
 -- White space before and after is dropped. A printed size is read as itself.
 pub record ReadsSize (text : List ℕ) (result : Result ReadableSize ParseSizeError) : Type 0 where
-  pub exact : (core : List ℕ) × IsTrim text core × GivesSize result (size_in core)
+  pub exact : GivesSize result (size_in (trim text))
+  pub trimmed : IsTrim text (trim text)
   pub printed : (n : ℕ) → n < 2 ^ 64 → text ≡ size_text n → result ≡ Ok (record { 0 = n })

@@ -1,1 +1,2 @@
 mod Directories
+mod Readings

@@ -1,3 +1,4 @@
+pub mod Reading
 pub mod Sanitized
 pub mod Settings
 pub mod Text

@@ -4,6 +4,7 @@ ghost use Rattle.std.specs.String.{string_bytes};
 ghost use Rattle.raft_log_settings.specs.Sanitized.{IsFileName, IsFileIn, Clash, files_within};
 
 use super::fault::ConfigFault;
+use super::reading::{from_table, no_toml};
 use super::recovery_mode::RecoveryMode;
 use log::{Log, info, warn};
 use raft_log_base::{Error, FileId, ReadableSize, Result, Version};
@@ -50,6 +51,7 @@ pub struct Config {
 
 impl Config {
     ghost use Rattle.raft_log_settings.specs.Settings.{settings_of, default_settings};
+    ghost use Rattle.raft_log_settings.specs.Reading.{GivesSettingsOf};
     ghost use Rattle.raft_log_settings.specs.Sanitized.{IsFirstFault, IsSound, sanitized, IsRefusedFor, recycle_capacity, prefill_capacity};
 
     /// The usual settings: an empty `dir`, files of 128 MiB, a purge from 10 GiB on, four workers.
@@ -72,6 +74,19 @@ impl Config {
             enable_log_recycle: true,
             prefill_for_recycle: false,
             prefill_limit: None,
+        }
+    }
+
+    /// The settings that a TOML text says; an absent key has its usual value, and keys that aren't known are left out.
+    /// A size is a number of bytes or a text as `ReadableSize` reads it, the garbage ratio a number of thousandths. Text
+    /// that is no TOML is refused as an invalid argument, a wrong value by one that names the first such key.
+    pub fn from_toml(alloc: Global, text: &str) -> Result<Config>
+        ensures { GivesSettingsOf result text.now }
+    {
+        match toml::table_from_str(alloc, text) {
+            Ok(table) => from_table(alloc, &table),
+            Err(error) if error.is_memory() => Err(Error::Memory),
+            Err(_) => Err(no_toml(alloc)),
         }
     }
 

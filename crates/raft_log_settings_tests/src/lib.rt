@@ -1,0 +1,11 @@
+//! Tests of names, headers and settings: worked rows, printed text, and each call once.
+#![tactic(auto)]
+
+#[cfg(test)]
+mod config;
+#[cfg(test)]
+mod headers;
+#[cfg(test)]
+mod names;
+#[cfg(test)]
+mod toml_text;

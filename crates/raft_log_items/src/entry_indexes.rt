@@ -226,15 +226,22 @@ fn split_entries(
     ensures run { IfOk result (λ entries. FollowsFrom first entries.items × (length entries.items ≡ count)) }
 {
     let mut rest: &[u8] = *source;
-    // Each length takes a byte at least.
-    let room = (rest.len() as u64).min(count);
-    let mut entries = Vec::with_capacity(alloc, room as usize)?;
+    let mut entries = room_for_entries(alloc, count, rest.len())?;
     for i in 0..count {
         let entry_len = split_entry_len(alloc, &mut rest)?;
         entries.push(EntryIndex::unplaced(first + i, entry_len))?;
     }
     *source = rest;
     Ok(entries)
+}
+
+/// Room for so many entries, but for no more than so many bytes can hold: each length takes a byte at least.
+fn room_for_entries(alloc: Global, count: u64, len: usize) -> Result<Vec<EntryIndex>, AllocError>
+    ensures empty { IfOk result (λ entries. entries.items ≡ []) }
+    ensures room { IfOk result (λ entries. vec_capacity entries ≡ min count len) }
+{
+    let room = (len as u64).min(count);
+    Vec::with_capacity(alloc, room as usize)
 }
 
 /// Reads the length of an entry.

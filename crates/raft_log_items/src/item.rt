@@ -1,5 +1,5 @@
 //! Items: what a batch says of a group.
-ghost use Rattle.std.specs.Prelude.{◌≡◌, ◌+◌, ◌-◌, ◌<◌, ◌^◌, ◌++◌, min, OnOk, OnErr};
+ghost use Rattle.std.specs.Prelude.{◌≡◌, ◌+◌, ◌-◌, ◌<◌, ◌≤◌, ◌^◌, ◌++◌, min, OnOk, OnErr};
 ghost use Rattle.raft_log_base.specs.Fault.{ReadsOrMemory, DecodesOrMemory};
 ghost use Rattle.raft_log_items.specs.Items.{IsItem, item_of, new_key};
 ghost use Rattle.raft_log_items.specs.Placed.{content_len, laid_content, written_content, placed_item};
@@ -87,6 +87,7 @@ impl LogItem {
     pub fn place(&mut self, block: FileBlockHandle, offset: u64) -> u64
         ensures end { result ≡ min (offset + content_len self.old.content) (2 ^ 64 - 1) }
         ensures places { result < 2 ^ 32 → self.new ≡ placed_item block offset self.old }
+        ensures kept { 2 ^ 32 ≤ result → self.new ≡ self.old }
     {
         let end = offset.saturating_add(self.entries_len());
         if end <= u32::MAX as u64 {

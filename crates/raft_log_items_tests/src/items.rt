@@ -1,9 +1,9 @@
 //! Items as values: their places, copies and comparisons, and the texts of refusals.
 use super::items_both_ways::{some_deletion, some_entries, some_put};
-use raft_log_items::items::copied;
+use raft_log_items::items::{copied, decode_placed_items};
 use raft_log_items::{
     Bytes, Command, CompressionType, EntryIndex, EntryIndexes, Error, FileBlockHandle, FileId,
-    LogItem, LogQueue, OpType,
+    LogItem, LogItemContent, LogQueue, OpType,
 };
 use std::alloc::{AllocError, Global};
 use std::test::Fail;
@@ -101,5 +101,27 @@ fn runs_are_copied(rt: HostRuntime) -> Result<(), Fail> {
     let run = [LogItem::new_entry_indexes(1, some_entries(rt.alloc())?)];
     let copy = copied(rt.alloc(), &run)?;
     assert!(rt; copy.as_slice() == run.as_slice());
+    Ok(())
+}
+
+/// Where the second entry of the only item lies.
+fn second_offset(items: &[LogItem]) -> Option<u32> {
+    match items {
+        [item] => match &item.content {
+            LogItemContent::EntryIndexes(entries) => {
+                entries.as_slice().get(1).map(|entry| entry.entry_offset)
+            }
+            _ => None,
+        },
+        _ => None,
+    }
+}
+
+#[test]
+fn items_get_their_places_as_they_are_read(rt: HostRuntime) -> Result<(), Fail> {
+    let mut rest: &[u8] = &[1, 1, 1, 2, 7, 3, 4];
+    let (items, len) = decode_placed_items(rt.alloc(), &mut rest, some_place())?;
+    assert!(rt; (second_offset(items.as_slice()), len) == (Some(3), 7));
+    assert!(rt; rest.is_empty());
     Ok(())
 }

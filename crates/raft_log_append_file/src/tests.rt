@@ -13,7 +13,7 @@ const PATH: &str = "d/log";
 const RECORDS: u8 = 6;
 
 // How far a run came: the records below `durable` were synced, those from `tried` on were not begun.
-#[derive(Clone, Copy, Debug, PartialEq, Eq)]
+#[derive(Clone, Copy)]
 struct Progress {
     durable: u8,
     tried: u8,
@@ -160,19 +160,24 @@ fn reopened_in_each_way(
     Ok(lost)
 }
 
+// The frame of `abc`, whose digest is one of those in RFC 1321, A.5.
+const FRAME: [u8; 23] = [
+    0, 0, 0, 3, 97, 98, 99, 0x90, 0x01, 0x50, 0x98, 0x3c, 0xd2, 0x4f, 0xb0, 0xd6, 0x96, 0x3f, 0x7d,
+    0x28, 0xe1, 0x7f, 0x72,
+];
+
 #[test]
 fn frame_of_a_known_digest(rt: HostRuntime) -> Result<(), Fail> {
     let alloc = rt.alloc();
 
-    // The digest of `abc` is one of those in RFC 1321, A.5.
     let mut frame = make_frame(alloc, b"abc")?;
-    assert_eq!(rt;
-        frame.as_slice(),
-        [
-            0u8, 0, 0, 3, 97, 98, 99, 0x90, 0x01, 0x50, 0x98, 0x3c, 0xd2, 0x4f, 0xb0, 0xd6, 0x96,
-            0x3f, 0x7d, 0x28, 0xe1, 0x7f, 0x72
-        ]
-        .as_slice()
+    assert!(rt;
+        frame.as_slice()
+            == [
+                0u8, 0, 0, 3, 97, 98, 99, 0x90, 0x01, 0x50, 0x98, 0x3c, 0xd2, 0x4f, 0xb0, 0xd6,
+                0x96, 0x3f, 0x7d, 0x28, 0xe1, 0x7f, 0x72
+            ]
+            .as_slice()
     );
     assert!(rt; read_frame(&frame) == Some(b"abc".as_slice()));
     frame.push(9)?;
@@ -186,66 +191,81 @@ fn frame_of_a_known_digest(rt: HostRuntime) -> Result<(), Fail> {
 fn records_are_read_again(rt: HostRuntime) -> Result<(), Fail> {
     let alloc = rt.alloc();
     let mut system = prepared(alloc)?;
-    assert_eq!(rt;
-        run(alloc, &mut system, 2),
-        Progress {
-            durable: RECORDS,
-            tried: RECORDS,
-            ended: true
-        }
-    );
-    assert_eq!(rt; content(alloc, &system)?, frames(alloc, RECORDS)?);
+    let progress = run(alloc, &mut system, 2);
+    assert!(rt; progress.ended && progress.durable == RECORDS && progress.tried == RECORDS);
+    assert!(rt; content(alloc, &system)? == frames(alloc, RECORDS)?);
+    assert!(rt; read_back(alloc, &mut system)? == RECORDS);
+    Ok(())
+}
+
+#[test]
+fn an_opened_file_goes_on(rt: HostRuntime) -> Result<(), Fail> {
+    let alloc = rt.alloc();
+    let mut system = prepared(alloc)?;
+    let _progress = run(alloc, &mut system, 2);
     let mut log = AppendFile::open(alloc, &mut system, PATH)?;
     log.append(alloc, &mut system, &[RECORDS; 3])?;
-    assert_eq!(rt;
-        log.records(alloc, &system)?,
-        first_records(alloc, RECORDS + 1)?
-    );
     log.sync(&mut system)?;
-    assert_eq!(rt; content(alloc, &system)?, frames(alloc, RECORDS + 1)?);
-    assert_eq!(rt; read_back(alloc, &mut system)?, RECORDS + 1);
+    assert!(rt; log.records(alloc, &system)? == first_records(alloc, RECORDS + 1)?);
+    assert!(rt; content(alloc, &system)? == frames(alloc, RECORDS + 1)?);
     Ok(())
+}
+
+// How many records are appended between two syncs, and the calls of such a run: a creation, six writes and the syncs.
+const RUNS: [(u8, u64); 4] = [(1, 13), (2, 10), (4, 8), (7, 7)];
+
+// A run in which the n-th call is refused, opened again in each way; how many were refused.
+fn refused_at(alloc: Global, few: u8, n: u64) -> Result<u64, Fail> {
+    let mut system = prepared(alloc)?;
+    system.refuse_call(n)?;
+    let progress = run(alloc, &mut system, few);
+    let _lost = reopened_in_each_way(alloc, &system, progress)?;
+    if system.failures() == 0 && !progress.ended {
+        return Err("a run ended early with no call refused".into());
+    }
+    Ok(system.failures())
+}
+
+// How many calls of a run can be refused.
+fn refusals_met(alloc: Global, few: u8) -> Result<u64, Fail> {
+    for n in 1..100u64 {
+        if refused_at(alloc, few, n)? == 0 {
+            return Ok(n - 1);
+        }
+    }
+    Err("no run without a refusal".into())
 }
 
 #[test]
 fn each_call_refused(rt: HostRuntime) -> Result<(), Fail> {
     let alloc = rt.alloc();
-    for (few, calls) in [(1u8, 13u64), (2, 10), (4, 8), (7, 7)] {
-        let mut met = 0u64;
-        for n in 1..100u64 {
-            let mut system = prepared(alloc)?;
-            system.refuse_call(n)?;
-            let progress = run(alloc, &mut system, few);
-            let _lost = reopened_in_each_way(alloc, &system, progress)?;
-            if system.failures() == 0 {
-                assert!(rt; progress.ended);
-                break;
-            }
-            met = n;
-        }
-        assert_eq!(rt; met, calls, "a creation, six writes and the syncs");
+    for (few, calls) in RUNS.iter() {
+        assert!(rt; refusals_met(alloc, *few)? == *calls);
     }
     Ok(())
+}
+
+// How many calls of a run it can stop at, and whether one of the stops took a record that wasn't synced.
+fn stops_met(alloc: Global, few: u8) -> Result<(u64, bool), Fail> {
+    let mut lost = false;
+    for n in 1..100u64 {
+        let mut system = prepared(alloc)?;
+        system.stop_at(n);
+        let progress = run(alloc, &mut system, few);
+        lost = reopened_in_each_way(alloc, &system, progress)? || lost;
+        if progress.ended {
+            return Ok((n - 1, lost));
+        }
+    }
+    Err("no run without a stop".into())
 }
 
 #[test]
 fn stopped_at_each_call(rt: HostRuntime) -> Result<(), Fail> {
     let alloc = rt.alloc();
-    for (few, calls) in [(1u8, 13u64), (2, 10), (4, 8), (7, 7)] {
-        let mut met = 0u64;
-        let mut lost = false;
-        for n in 1..100u64 {
-            let mut system = prepared(alloc)?;
-            system.stop_at(n);
-            let progress = run(alloc, &mut system, few);
-            lost = reopened_in_each_way(alloc, &system, progress)? || lost;
-            if progress.ended {
-                break;
-            }
-            met = n;
-        }
-        assert_eq!(rt; met, calls, "a creation, six writes and the syncs");
-        assert!(rt; lost, "no stop took an unsynced record");
+    for (few, calls) in RUNS.iter() {
+        let (met, lost) = stops_met(alloc, *few)?;
+        assert!(rt; met == *calls && lost);
     }
     Ok(())
 }
@@ -272,14 +292,14 @@ fn stopped_while_it_is_opened(rt: HostRuntime) -> Result<(), Fail> {
         let ended = AppendFile::recover(alloc, &mut system, PATH).is_ok();
         for what in remainders(alloc)?.iter() {
             let mut left = system.remainder(what)?;
-            assert_eq!(rt; read_back(alloc, &mut left)?, 3);
+            assert!(rt; read_back(alloc, &mut left)? == 3);
         }
         if ended {
             break;
         }
         met = n;
     }
-    assert_eq!(rt; met, 2, "a cut and a sync");
+    assert!(rt; met == 2, "a cut and a sync");
     Ok(())
 }
 
@@ -293,11 +313,11 @@ fn refused_while_it_is_opened(rt: HostRuntime) -> Result<(), Fail> {
         if AppendFile::recover(alloc, &mut system, PATH).is_ok() {
             break;
         }
-        assert_eq!(rt; system.failures(), 1);
-        assert_eq!(rt; read_back(alloc, &mut system)?, 3);
+        assert!(rt; system.failures() == 1);
+        assert!(rt; read_back(alloc, &mut system)? == 3);
         met = n;
     }
-    assert_eq!(rt; met, 2, "a cut and a sync");
+    assert!(rt; met == 2, "a cut and a sync");
     Ok(())
 }
 
@@ -316,54 +336,48 @@ fn a_refused_append_is_taken_back(rt: HostRuntime) -> Result<(), Fail> {
     );
     log.append(alloc, &mut system, &[1; 3])?;
     log.sync(&mut system)?;
-    assert_eq!(rt; content(alloc, &system)?, frames(alloc, 2)?);
-    assert_eq!(rt; log.records(alloc, &system)?, first_records(alloc, 2)?);
+    assert!(rt; content(alloc, &system)? == frames(alloc, 2)?);
+    assert!(rt; log.records(alloc, &system)? == first_records(alloc, 2)?);
     Ok(())
 }
 
-#[test]
-fn a_log_in_doubt_is_opened_again(rt: HostRuntime) -> Result<(), Fail> {
-    let alloc = rt.alloc();
+// A file with one synced record, whose file system stopped at the write of the next.
+fn in_doubt(alloc: Global) -> Result<(MemoryFileSystem, AppendFile), Fail> {
     let mut system = prepared(alloc)?;
     let mut log = AppendFile::create(&mut system, PATH)?;
     log.append(alloc, &mut system, &[0; 3])?;
     log.sync(&mut system)?;
     system.stop_at(1);
-    assert!(rt;
-        matches!(
-            log.append(alloc, &mut system, &[1; 3]),
-            Err(AppendError::FileSystem(_))
-        )
-    );
-    assert_eq!(rt;
-        log.append(alloc, &mut system, &[2; 3]),
-        Err(AppendError::Failed)
-    );
-    assert_eq!(rt; log.sync(&mut system), Err(AppendError::Failed));
-    assert!(rt; log.records(alloc, &system) == Err(AppendError::Failed));
-
-    // The write at which it stopped isn't synced: it may be there, in whole or in part, or not.
-    for (what, count) in [
-        (Remainder::LastSync, 1),
-        (Remainder::AllWritten, 2),
-        (
-            Remainder::First {
-                pieces: 0,
-                bytes: 22,
-            },
-            1,
-        ),
-        (
-            Remainder::First {
-                pieces: 1,
-                bytes: 0,
-            },
-            2,
-        ),
-    ] {
-        let mut left = system.remainder(&what)?;
-        assert_eq!(rt; read_back(alloc, &mut left)?, count);
+    if log.append(alloc, &mut system, &[1; 3]).is_ok() {
+        return Err("a stop was answered".into());
     }
+    Ok((system, log))
+}
+
+#[test]
+fn a_log_in_doubt_answers_nothing(rt: HostRuntime) -> Result<(), Fail> {
+    let alloc = rt.alloc();
+    let (mut system, mut log) = in_doubt(alloc)?;
+    assert!(rt; log.append(alloc, &mut system, &[2; 3]) == Err(AppendError::Failed));
+    assert!(rt; log.sync(&mut system) == Err(AppendError::Failed));
+    assert!(rt; log.records(alloc, &system) == Err(AppendError::Failed));
+    Ok(())
+}
+
+// The write at which it stopped isn't synced: it may be there, in whole or in part, or not.
+#[test]
+fn a_log_in_doubt_is_opened_again(rt: HostRuntime) -> Result<(), Fail> {
+    let alloc = rt.alloc();
+    let (system, _log) = in_doubt(alloc)?;
+    let mut none = system.remainder(&Remainder::LastSync)?;
+    assert!(rt; read_back(alloc, &mut none)? == 1);
+    let mut all = system.remainder(&Remainder::AllWritten)?;
+    assert!(rt; read_back(alloc, &mut all)? == 2);
+    let mut some = system.remainder(&Remainder::First {
+        pieces: 0,
+        bytes: 22,
+    })?;
+    assert!(rt; read_back(alloc, &mut some)? == 1);
     Ok(())
 }
 
@@ -408,11 +422,11 @@ fn want_of_memory_takes_nothing_back(rt: HostRuntime) -> Result<(), Fail> {
         Ok(expected) => expected,
         Err(_) => first_records(alloc, RECORDS)?,
     };
-    assert_eq!(rt; records, expected);
+    assert!(rt; records == expected);
     let (_log, again) = match AppendFile::recover(alloc, &mut system, PATH) {
         Ok(recovered) => recovered,
         Err(_) => AppendFile::recover(alloc, &mut system, PATH)?,
     };
-    assert_eq!(rt; again, expected);
+    assert!(rt; again == expected);
     Ok(())
 }

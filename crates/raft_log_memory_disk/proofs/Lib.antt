@@ -1,7 +1,12 @@
-pub mod JournalLaws
+pub mod Items
+pub mod CountLaws
 pub mod Flushed
-pub mod StorageLaws
-pub mod Whole
 pub mod Names
 pub mod Paths
+pub mod RisingLaws
+pub mod OrderLaws
+pub mod LeftLaws
+pub mod StorageLaws
+pub mod Whole
 pub mod RemainsLaws
+pub mod Exits

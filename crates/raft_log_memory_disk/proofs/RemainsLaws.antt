@@ -1,117 +1,30 @@
--- What a remainder leaves is an image.
-use Rattle.std.specs.Prelude.{◌≡◌, ℕ, ◌+◌, ◌<◌, ◌≤◌, Bool, true, false, cond, List, [], ◌∷◌, ◌++◌, Option, Some, None, length, suc, slice_get, vec_len}
+-- What a remainder leaves of a storage is an image, and the order of the calls says what.
+use Rattle.std.specs.Prelude.{◌≡◌, ℕ, ◌<◌, cond, Option, Some, None, List, [], ◌∷◌, length, vec_len}
 use Rattle.std.specs.List.{All, AllZip}
+use Rattle.std.specs.List.Sorted.{IsPermutation}
 use Rattle.std.specs.Map.{lookup}
 use Rattle.std.specs.BTreeMap.{is_at}
 use Rattle.std.specs.Cmp.Lexicographic.{slice_cmp}
+use Rattle.std.specs.Option.{option_map}
 use Rattle.std.specs.Ordering.{nat_cmp, is_eq}
 use Rattle.std.specs.String.{string_bytes}
-use Rattle.std.proofs.Common.{refl, sym, ◌∙◌, ap, subst, arith, inl, inr, take, nat_eq, nat_lt, String, Global}
-use Rattle.std.proofs.lemmas.List.{append_assoc, append-nil, length-take}
-use Rattle.std.proofs.lemmas.List.Elements.{All-nil}
-use Rattle.std.proofs.lemmas.Bool.{cases_eq, eq-eqb}
-use Rattle.raft_log_disk.specs.Disk.{Wrote, ShortenedTo, GrewTo, File, overwritten, changed, at_rest, file_limit}
-use Rattle.raft_log_disk.specs.Disk as disk
-use Rattle.std.specs.Option.{option_map}
+use Rattle.std.proofs.Common.{refl, sym, ◌∙◌, ap, subst, arith, inl, inr, String, Global}
+use Rattle.std.proofs.lemmas.Bool.{cases_lt}
+use Rattle.std.proofs.lemmas.List.{get_or_past}
 use std.Path.{fun_ext}
+use Rattle.raft_log_disk.specs.Disk.{at_rest, file_limit}
 use Rattle.raft_log_disk.specs.Image.{end_of, IsLeft, IsFileImage, IsImage}
 use Rattle.raft_log_disk.proofs.ImageLaws.{disk_ext}
-use Rattle.raft_log_disk.proofs.ChangeLaws.{MayBecome, part_may, changed_in_part, unchanged_in_part, left_changed}
+use Rattle.raft_log_memory_disk.specs.declared.files.Stored.{Stored}
 use Rattle.raft_log_memory_disk.specs.declared.remainder.Remainder.{Remainder}
-use Rattle.raft_log_memory_disk.specs.declared.remainder.Remainder.TheVariants.{LastSync, AllWritten, First, Pieces}
-use Rattle.raft_log_memory_disk.specs.declared.remainder.Piece.{Piece}
-use Rattle.raft_log_memory_disk.specs.declared.remainder.Piece.TheVariants.{Keep, Lose, Bytes}
-use Rattle.raft_log_memory_disk.specs.declared.journal.Unsynced.{Unsynced}
 use Rattle.raft_log_memory_disk.specs.declared.storage.Node.{Node}
-use Rattle.raft_log_memory_disk.specs.Pieces.{piece_of, pieces_of}
 use Rattle.raft_log_memory_disk.specs.declared.storage.Storage.{Storage}
-use Rattle.raft_log_memory_disk.specs.Held.{Held, held_of, file_at}
-use Rattle.raft_log_memory_disk.specs.Storage.{node_at, file_named, is_directory, contents_of, IsWhole}
-use Rattle.raft_log_memory_disk.specs.Remains.{left_disk}
-use Rattle.raft_log_memory_disk.specs.Left.{left_front, left_as, left_as_said, left_by, left_of, left_held}
-use Rattle.raft_log_memory_disk.proofs.JournalLaws.{miss, own_first, other_first}
-
--- one step
-pub left_own : (what : Remainder) (place id : ℕ) (u : Unsynced) (us : List Unsynced) (old : List ℕ) → u.file ≡ id
-    → left_of what place id (u ∷ us) old ≡ left_of what (place + 1) id us (left_by what place (piece_of u.change) old)
-left_own what place id u us old own =
-    let next : suc place ≡ place + 1 = omega arith in
-    ap (λ (b : Bool). left_of what (suc place) id us (cond b (left_by what place (piece_of u.change) old) old)) (eq-eqb u.file id own)
-    ∙ ap (λ (n : ℕ). left_of what n id us (left_by what place (piece_of u.change) old)) next
-
-pub left_other : (what : Remainder) (place id : ℕ) (u : Unsynced) (us : List Unsynced) (old : List ℕ) → (u.file ≡ id → ⊥)
-    → left_of what place id (u ∷ us) old ≡ left_of what (place + 1) id us old
-left_other what place id u us old apart =
-    let next : suc place ≡ place + 1 = omega arith in
-    ap (λ (b : Bool). left_of what (suc place) id us (cond b (left_by what place (piece_of u.change) old) old)) (miss u.file id apart)
-    ∙ ap (λ (n : ℕ). left_of what n id us old) next
-
-stays : (piece : disk.Change) (old : List ℕ) → MayBecome piece old old
-stays piece old = part_may piece old old (unchanged_in_part piece old)
-
-whole : (piece : disk.Change) (old : List ℕ) → MayBecome piece old (changed piece old)
-whole piece old = part_may piece old (changed piece old) (changed_in_part piece old)
-
--- a shorter write touches no more
-shorter : (at : ℕ) (bytes other old : List ℕ) → length other ≤ length bytes → MayBecome (Wrote at bytes) old (overwritten at other old)
-shorter at bytes other old less =
-    let may = whole (Wrote at other) old in
-    record {
-      kept = λ place below spared. may.kept place below (λ touched. spared (touched.0, omega (arith, touched.1, less)));
-      within = λ size fits ends. may.within size fits (omega (arith, ends, less));
-    }
-
-front_may : (count : ℕ) (piece : disk.Change) (old : List ℕ) → MayBecome piece old (left_front count piece old)
-front_may count (Wrote at bytes) old = shorter at bytes (take count bytes) old (omega (arith, length-take count bytes))
-front_may count (ShortenedTo size) old = stays (ShortenedTo size) old
-front_may count (GrewTo size) old = stays (GrewTo size) old
-
-as_may : (other : List ℕ) (piece : disk.Change) (old : List ℕ) → MayBecome piece old (left_as other piece old)
-as_may other (Wrote at bytes) old = shorter at bytes (take (length bytes) other) old (omega (arith, length-take (length bytes) other))
-as_may other (ShortenedTo size) old = whole (ShortenedTo size) old
-as_may other (GrewTo size) old = whole (GrewTo size) old
-
-said_may : (said : Option Piece) (piece : disk.Change) (old : List ℕ) → MayBecome piece old (left_as_said said piece old)
-said_may None piece old = stays piece old
-said_may (Some Keep) piece old = whole piece old
-said_may (Some Lose) piece old = stays piece old
-said_may (Some (Bytes other)) piece old = as_may other.items piece old
-
-choice_may : (a b : Bool) (count : ℕ) (piece : disk.Change) (old : List ℕ) → MayBecome piece old (cond a (changed piece old) (cond b (left_front count piece old) old))
-choice_may true b count piece old = whole piece old
-choice_may false true count piece old = front_may count piece old
-choice_may false false count piece old = stays piece old
-
-by_may : (what : Remainder) (place : ℕ) (piece : disk.Change) (old : List ℕ) → MayBecome piece old (left_by what place piece old)
-by_may LastSync place piece old = stays piece old
-by_may AllWritten place piece old = whole piece old
-by_may (First pieces bytes) place piece old = choice_may (nat_lt place pieces) (nat_eq place pieces) bytes piece old
-by_may (Pieces list) place piece old = said_may (slice_get list.items place) piece old
-
--- from what may be left of the file with its first changes
-left_on : (what : Remainder) (place id : ℕ) (us : List Unsynced) (before : List disk.Change) (content synced now : List ℕ)
-    → IsLeft (record { content = content; synced = synced; changes = before }) now
-    → IsLeft (record { content = content; synced = synced; changes = before ++ pieces_of id us }) (left_of what place id us now)
-left_on what place id [] before content synced now left =
-    subst (λ (ps : List disk.Change). IsLeft (record { content = content; synced = synced; changes = ps }) now) (sym (append-nil before)) left
-left_on what place id (u ∷ us) before content synced now left = elim (cases_eq u.file id) [
-  | inl own ↦
-      (let piece = piece_of u.change in
-      let next = left_changed (record { content = content; synced = synced; changes = before }) piece content now (left_by what place piece now) left (by_may what place piece now) in
-      let rest = left_on what (place + 1) id us (before ++ piece ∷ []) content synced (left_by what place piece now) next in
-      subst (IsLeft (record { content = content; synced = synced; changes = before ++ pieces_of id (u ∷ us) })) (sym (left_own what place id u us now own))
-      (subst (λ (ps : List disk.Change). IsLeft (record { content = content; synced = synced; changes = ps }) (left_of what (place + 1) id us (left_by what place piece now)))
-      (append_assoc before (piece ∷ []) (pieces_of id us) ∙ ap (λ (ps : List disk.Change). before ++ ps) (sym (own_first id u us own))) rest))
-  | inr apart ↦
-      (let rest = left_on what (place + 1) id us before content synced now left in
-      subst (IsLeft (record { content = content; synced = synced; changes = before ++ pieces_of id (u ∷ us) })) (sym (left_other what place id u us now apart))
-      (subst (λ (ps : List disk.Change). IsLeft (record { content = content; synced = synced; changes = ps }) (left_of what (place + 1) id us now))
-      (ap (λ (ps : List disk.Change). before ++ ps) (sym (other_first id u us apart))) rest))
-]
-
-pub left_is_left : (what : Remainder) (id : ℕ) (journal : List Unsynced) (file : Held) → IsLeft (file_at (pieces_of id journal) file) (left_of what 0 id journal file.synced)
-left_is_left what id journal file = left_on what 0 id journal [] file.content file.synced file.synced
-    (record { kept = λ place below spared. (below, refl); within = λ size fits ends. fits })
+use Rattle.raft_log_memory_disk.specs.Held.{Held, held, held_of, changes_in, file_of}
+use Rattle.raft_log_memory_disk.specs.Left.{left_of, left_file, left_disk}
+use Rattle.raft_log_memory_disk.specs.Order.{with_stamp, in_order, Rises, AreStamped}
+use Rattle.raft_log_memory_disk.specs.Stamps.{stamps_of, place_in, left_held}
+use Rattle.raft_log_memory_disk.specs.Storage.{file_named, is_directory, node_at, contents_of, unsynced_of, IsWhole}
+use Rattle.raft_log_memory_disk.proofs.LeftLaws.{place_sorted, left_in_order, left_is_left}
 
 -- a clone of the paths names the same
 pub cloned : (es fs : List (String Global × Node)) → AllZip (λ p q. (string_bytes q.0 ≡ string_bytes p.0) × (q.1 ≡ p.1)) es fs → (path : List ℕ)
@@ -124,42 +37,77 @@ cloned (e ∷ es) (f ∷ fs) (here, more) path =
     ∙ (ap (λ (n : Node). cond (is_at (λ (q : String Global). slice_cmp nat_cmp path (string_bytes q)) e.0) (Some n) (lookup (is_at (λ (q : String Global). slice_cmp nat_cmp path (string_bytes q))) fs)) here.1
     ∙ ap (λ (o : Option Node). cond (is_at (λ (q : String Global). slice_cmp nat_cmp path (string_bytes q)) e.0) (Some e.1) o) (cloned es fs more path))
 
-ends_at : (storage : Storage) → IsWhole storage → (id : ℕ) (o : Option Held) → held_of storage.files.items id ≡ o → All (λ p. end_of p < file_limit) (pieces_of id storage.journal.items)
-ends_at storage is_whole id None none = subst (All (λ p. end_of p < file_limit)) (sym (is_whole.gone id none)) (All-nil _)
-ends_at storage is_whole id (Some file) some =
-    (is_whole.sound.files id (file_at (pieces_of id storage.journal.items) file) (ap (option_map (file_at (pieces_of id storage.journal.items))) some)).ends
+-- a file that is there has a node number below the next one
+below : (files : List (Option Stored)) (id : ℕ) (file : Held) → held_of files id ≡ Some file → id < length files
+below files id file is = elim (cases_lt id (length files)) [
+  | inl less ↦ less
+  | inr past ↦ absurd (no_file (sym (ap (option_map held) (get_or_past files id None past)) ∙ is))
+]
+  where
+    no_file : None ≡ Some file → ⊥
+    no_file e = cc
 
 -- each change of a whole storage is short of the limit
-pub ends_short : (storage : Storage) → IsWhole storage → (id : ℕ) → All (λ p. end_of p < file_limit) (pieces_of id storage.journal.items)
-ends_short storage is_whole id = ends_at storage is_whole id (held_of storage.files.items id) refl
+pub ends_short : (storage : Storage) → IsWhole storage → (id : ℕ) (file : Held) → held_of storage.files.items id ≡ Some file → All (λ c. end_of c < file_limit) (changes_in file.changes)
+ends_short storage whole id file is = (whole.sound.files id (file_of file) (ap (option_map file_of) is)).ends
 
-rest_of : (what : Remainder) (id : ℕ) (journal : List Unsynced) (o : Option Held)
-    → option_map (file_at []) (option_map (left_held what id journal) o) ≡ option_map (λ (file : Held). at_rest (left_of what 0 id journal file.synced)) o
-rest_of what id journal None = refl
-rest_of what id journal (Some file) = refl
+-- what is left of a file by the places that its stamps tell is what the order of the calls says
+file_left : (what : Remainder) (storage : Storage) (place : ℕ → ℕ) → AreStamped storage.made (held_of storage.files.items)
+    → ((s : ℕ) → place s ≡ length (in_order s (held_of storage.files.items) (vec_len storage.files)))
+    → (id : ℕ) (o : Option Held) → held_of storage.files.items id ≡ o
+    → option_map file_of (option_map (left_held what place) o) ≡ option_map (left_file what (unsynced_of storage) id) (option_map file_of o)
+file_left what storage place are places id None is = refl
+file_left what storage place are places id (Some file) is =
+    let inside : id < vec_len storage.files = omega (arith, below storage.files.items id file is, storage.files.ok) in
+    ap (λ (bytes : List ℕ). Some (at_rest bytes))
+    (left_in_order what place storage.made (vec_len storage.files) id (held_of storage.files.items) file file.synced are inside is places)
 
-pub contents_left : (what : Remainder) (old new : Storage) → ((q : List ℕ) → node_at new q ≡ node_at old q)
-    → ((q : ℕ) → held_of new.files.items q ≡ option_map (left_held what q old.journal.items) (held_of old.files.items q))
-    → new.journal.items ≡ [] → vec_len new.files ≡ vec_len old.files → contents_of new ≡ left_disk what old
-contents_left what old new nodes files journal len =
-    disk_ext (contents_of new) (left_disk what old)
+pub left_contents : (what : Remainder) (old new : Storage) (stamps : List ℕ) → IsWhole old
+    → IsPermutation (stamps_of (held_of old.files.items) (vec_len old.files)) stamps
+    → ((q : List ℕ) → node_at new q ≡ node_at old q)
+    → ((q : ℕ) → held_of new.files.items q ≡ option_map (left_held what (place_in stamps)) (held_of old.files.items q))
+    → vec_len new.files ≡ vec_len old.files → contents_of new ≡ left_disk what (unsynced_of old) (contents_of old)
+left_contents what old new stamps whole perm nodes files len =
+    disk_ext (contents_of new) (left_disk what (unsynced_of old) (contents_of old))
     (fun_ext (λ q. ap is_directory (nodes q))) (fun_ext (λ q. ap file_named (nodes q)))
-    (fun_ext (λ q. ap (λ (us : List Unsynced). option_map (file_at (pieces_of q us)) (held_of new.files.items q)) journal
-    ∙ (ap (option_map (file_at [])) (files q) ∙ rest_of what q old.journal.items (held_of old.files.items q))))
+    (fun_ext (λ q. ap (option_map file_of) (files q)
+    ∙ file_left what old (place_in stamps) whole.stamped (place_sorted (held_of old.files.items) (vec_len old.files) stamps perm) q (held_of old.files.items q) refl))
     len refl refl refl
 
-file_left : (what : Remainder) (id : ℕ) (journal : List Unsynced) (o : Option Held)
-    → IsFileImage (option_map (file_at (pieces_of id journal)) o) (option_map (λ (file : Held). at_rest (left_of what 0 id journal file.synced)) o)
-file_left what id journal None = tt
-file_left what id journal (Some file) = (left_of what 0 id journal file.synced, refl, left_is_left what id journal file)
+left_image : (what : Remainder) (storage : Storage) → AreStamped storage.made (held_of storage.files.items) → (id : ℕ) (o : Option Held) → held_of storage.files.items id ≡ o
+    → IsFileImage (option_map file_of o) (option_map (left_file what (unsynced_of storage) id) (option_map file_of o))
+left_image what storage are id None is = tt
+left_image what storage are id (Some file) is =
+    let inside : id < vec_len storage.files = omega (arith, below storage.files.items id file is, storage.files.ok) in
+    let place : ℕ → ℕ = λ s. length (in_order s (held_of storage.files.items) (vec_len storage.files)) in (
+      left_of what 0 id (unsynced_of storage) file.synced,
+      refl,
+      subst (IsLeft (file_of file)) (left_in_order what place storage.made (vec_len storage.files) id (held_of storage.files.items) file file.synced are inside is (λ s. refl))
+          (left_is_left what place file),
+    )
 
-pub left_is_image : (what : Remainder) (storage : Storage) → IsImage (contents_of storage) (left_disk what storage)
-left_is_image what storage = record {
+pub left_is_image : (what : Remainder) (storage : Storage) → IsWhole storage → IsImage (contents_of storage) (left_disk what (unsynced_of storage) (contents_of storage))
+left_is_image what storage whole = record {
   directories = refl;
   names = refl;
   unused = refl;
-  files = λ id. file_left what id storage.journal.items (held_of storage.files.items id);
+  files = λ id. left_image what storage whole.stamped id (held_of storage.files.items id) refl;
   readable = λ id place. refl;
   running = refl;
   uncounted = refl;
+}
+
+no_stamp : (what : Remainder) (place : ℕ → ℕ) (stamp id : ℕ) (o : Option Held) → with_stamp stamp id (option_map (left_held what place) o) ≡ []
+no_stamp what place stamp id None = refl
+no_stamp what place stamp id (Some file) = refl
+
+no_changes : (what : Remainder) (place : ℕ → ℕ) (o : Option Held) (file : Held) → option_map (left_held what place) o ≡ Some file → file.changes ≡ []
+no_changes what place None file is = absurd (cc)
+no_changes what place (Some old) file is = let same : left_held what place old ≡ file = cc in subst (λ (h : Held). h.changes ≡ []) same refl
+
+-- files at rest need no stamps
+pub left_stamped : (what : Remainder) (place : ℕ → ℕ) (old new : ℕ → Option Held) → ((q : ℕ) → new q ≡ option_map (left_held what place) (old q)) → AreStamped 0 new
+left_stamped what place old new files = record {
+  rise = λ id file is. subst (Rises 0 0) (sym (no_changes what place (old id) file (sym (files id) ∙ is))) tt;
+  alone = λ a b stamp has_a has_b. absurd (has_a (ap (with_stamp stamp a) (files a) ∙ no_stamp what place stamp a (old a)));
 }

@@ -1,41 +1,36 @@
--- A step of one file's bytes and of the list of unsynced changes is a step of one file of the disk.
+-- A step of one file's bytes is a step of one file of the disk, and of a name a step of the names.
 use Rattle.std.specs.Prelude.{◌≡◌, ℕ, ◌≤◌, Bool, cond, Option, Some, None, List, [], ◌∷◌, ◌++◌, length}
 use Rattle.std.specs.Option.{option_map}
 use Rattle.std.specs.Map.{update}
 use Rattle.std.proofs.Common.{sym, ◌∙◌, ap, subst, arith, inl, inr, nat_eq}
 use Rattle.std.specs.Str.{bytes_eq}
-use Rattle.std.proofs.lemmas.List.{get_or_append_left, get_or_push, get_or_past, length-append}
+use Rattle.std.proofs.lemmas.List.{get_or_append_left, get_or_push, get_or_past, length-append, map-append}
 use Rattle.std.proofs.lemmas.Slice.Eq.{bytes_eq-Decides}
 use Rattle.std.proofs.lemmas.Bool.{cases_eq, cases_lt, cases_Bool}
-use Rattle.raft_log_disk.specs.Disk.{Change, File, at_rest}
+use Rattle.raft_log_disk.specs.Disk.{Change, File, changed}
+use Rattle.raft_log_disk.specs.Calls.{after_change}
 use Rattle.raft_log_disk.proofs.Updates.{file_here, file_apart}
-use Rattle.raft_log_memory_disk.specs.declared.journal.Unsynced.{Unsynced}
 use Rattle.raft_log_memory_disk.specs.declared.files.Stored.{Stored}
 use Rattle.raft_log_memory_disk.specs.declared.storage.Node.{Node}
-use Rattle.raft_log_memory_disk.specs.Pieces.{pieces_of}
-use Rattle.raft_log_memory_disk.specs.Held.{Held, held, held_of, no_bytes, file_at}
+use Rattle.raft_log_memory_disk.specs.Changes.{Made}
+use Rattle.raft_log_memory_disk.specs.Held.{Held, held, held_of, with_made, file_of}
 
-step_of : (before after : List Change) (step : Held → Held) (next : File → File) (o : Option Held) (file : File)
-    → ((h : Held) → file_at after (step h) ≡ next (file_at before h)) → option_map (file_at before) o ≡ Some file → option_map (file_at after) (option_map step o) ≡ Some (next file)
-step_of before after step next None file each is = absurd (cc)
-step_of before after step next (Some h) file each is = ap Some (each h ∙ ap next (let same : file_at before h ≡ file = cc in same))
-
-pub stepped : (id : ℕ) (journal after : List Unsynced) (old new : ℕ → Option Held) (step : Held → Held) (next : File → File)
-    → ((q : ℕ) → new q ≡ update nat_eq old id (option_map step (old id)) q)
-    → ((h : Held) → file_at (pieces_of id after) (step h) ≡ next (file_at (pieces_of id journal) h))
-    → ((q : ℕ) → (q ≡ id → ⊥) → pieces_of q after ≡ pieces_of q journal)
-    → (file : File) → option_map (file_at (pieces_of id journal)) (old id) ≡ Some file
-    → (q : ℕ) → option_map (file_at (pieces_of q after)) (new q) ≡ update nat_eq (λ i. option_map (file_at (pieces_of i journal)) (old i)) id (Some (next file)) q
-stepped id journal after old new step next is each others file at q = elim (cases_eq q id) [
-  | inl same ↦ subst (λ (i : ℕ). option_map (file_at (pieces_of i after)) (new i) ≡ update nat_eq (λ i. option_map (file_at (pieces_of i journal)) (old i)) id (Some (next file)) i) (sym same)
-      (ap (option_map (file_at (pieces_of id after))) (is id ∙ file_here old id (option_map step (old id)))
-      ∙ (step_of (pieces_of id journal) (pieces_of id after) step next (old id) file each at
-      ∙ sym (file_here (λ i. option_map (file_at (pieces_of i journal)) (old i)) id (Some (next file)))))
+-- another state of one file
+pub updated : (id : ℕ) (old new : ℕ → Option Held) (w : Option Held) → ((q : ℕ) → new q ≡ update nat_eq old id w q) → (q : ℕ)
+    → option_map file_of (new q) ≡ update nat_eq (λ i. option_map file_of (old i)) id (option_map file_of w) q
+updated id old new w is q = elim (cases_eq q id) [
+  | inl same ↦ subst (λ (i : ℕ). option_map file_of (new i) ≡ update nat_eq (λ j. option_map file_of (old j)) id (option_map file_of w) i) (sym same)
+      (ap (option_map file_of) (is id ∙ file_here old id w) ∙ sym (file_here (λ i. option_map file_of (old i)) id (option_map file_of w)))
   | inr apart ↦
-      ap (option_map (file_at (pieces_of q after))) (is q ∙ file_apart old id (option_map step (old id)) q apart)
-      ∙ (ap (λ (ps : List Change). option_map (file_at ps) (old q)) (others q apart)
-      ∙ sym (file_apart (λ i. option_map (file_at (pieces_of i journal)) (old i)) id (Some (next file)) q apart))
+      ap (option_map file_of) (is q ∙ file_apart old id w q apart)
+      ∙ sym (file_apart (λ i. option_map file_of (old i)) id (option_map file_of w) q apart)
 ]
+
+-- a file with one more change, as the disk has it
+pub file_of-with_made : (stamp : ℕ) (change : Change) (file : Held) → file_of (with_made stamp change file) ≡ after_change change (file_of file)
+file_of-with_made stamp change file =
+    ap (λ (cs : List Change). let f : File = record { content = changed change file.content; synced = file.synced; changes = cs } in f)
+    (map-append (λ (m : Made). m.change) file.changes (record { stamp = stamp; change = change } ∷ []))
 
 -- A function of what stands at a key, after an update
 pub mapped : {X : Type 0} (f : Option Node → X) (N : List ℕ → Option Node) (path : List ℕ) (w : Option Node) (q : List ℕ)
@@ -53,7 +48,7 @@ same_there f N path w same q = mapped f N path w q ∙ elim (cases_Bool (bytes_e
   | inr lost ↦ ap (λ (b : Bool). cond b (f w) (f (N q))) lost
 ]
 
--- the numbers with one more file
+-- the node numbers with one more file
 pub held_pushed : (files : List (Option Stored)) (empty : Stored) (count : ℕ) → count ≡ length files → (q : ℕ)
     → held_of (files ++ Some empty ∷ []) q ≡ update nat_eq (held_of files) count (Some (held empty)) q
 held_pushed files empty count is q = elim (cases_lt q (length files)) [
@@ -69,26 +64,9 @@ held_pushed files empty count is q = elim (cases_lt q (length files)) [
   ]
 ]
 
--- where a file with no changes is put at a number, so it is on the disk
-pub file_added : (journal : List Unsynced) (old new : ℕ → Option Held) (id : ℕ) → pieces_of id journal ≡ [] → ((q : ℕ) → new q ≡ update nat_eq old id (Some no_bytes) q) → (q : ℕ)
-    → option_map (file_at (pieces_of q journal)) (new q) ≡ update nat_eq (λ i. option_map (file_at (pieces_of i journal)) (old i)) id (Some (at_rest [])) q
-file_added journal old new id none is q = elim (cases_eq q id) [
-  | inl same ↦ subst (λ (i : ℕ). option_map (file_at (pieces_of i journal)) (new i) ≡ update nat_eq (λ i. option_map (file_at (pieces_of i journal)) (old i)) id (Some (at_rest [])) i) (sym same)
-      (ap (option_map (file_at (pieces_of id journal))) (is id ∙ file_here old id (Some no_bytes))
-      ∙ (ap (λ (ps : List Change). Some (file_at ps no_bytes)) none
-      ∙ sym (file_here (λ i. option_map (file_at (pieces_of i journal)) (old i)) id (Some (at_rest [])))))
-  | inr apart ↦ ap (option_map (file_at (pieces_of q journal))) (is q ∙ file_apart old id (Some no_bytes) q apart)
-      ∙ sym (file_apart (λ i. option_map (file_at (pieces_of i journal)) (old i)) id (Some (at_rest [])) q apart)
-]
-
--- and where a file goes with its changes
-pub file_dropped : (journal after : List Unsynced) (old new : ℕ → Option Held) (id : ℕ) → ((q : ℕ) → (q ≡ id → ⊥) → pieces_of q after ≡ pieces_of q journal)
-    → ((q : ℕ) → new q ≡ update nat_eq old id None q) → (q : ℕ)
-    → option_map (file_at (pieces_of q after)) (new q) ≡ update nat_eq (λ i. option_map (file_at (pieces_of i journal)) (old i)) id None q
-file_dropped journal after old new id others is q = elim (cases_eq q id) [
-  | inl same ↦ subst (λ (i : ℕ). option_map (file_at (pieces_of i after)) (new i) ≡ update nat_eq (λ i. option_map (file_at (pieces_of i journal)) (old i)) id None i) (sym same)
-      (ap (option_map (file_at (pieces_of id after))) (is id ∙ file_here old id None) ∙ sym (file_here (λ i. option_map (file_at (pieces_of i journal)) (old i)) id None))
-  | inr apart ↦ ap (option_map (file_at (pieces_of q after))) (is q ∙ file_apart old id None q apart)
-      ∙ (ap (λ (ps : List Change). option_map (file_at ps) (old q)) (others q apart)
-      ∙ sym (file_apart (λ i. option_map (file_at (pieces_of i journal)) (old i)) id None q apart))
+-- a file put back where it was
+pub put_back : {X : Type 0} (files : ℕ → Option X) (id : ℕ) (w : Option X) → files id ≡ w → (q : ℕ) → update nat_eq files id w q ≡ files q
+put_back files id w is q = elim (cases_eq q id) [
+  | inl same ↦ subst (λ (i : ℕ). update nat_eq files id w i ≡ files i) (sym same) (file_here files id w ∙ sym is)
+  | inr apart ↦ file_apart files id w q apart
 ]

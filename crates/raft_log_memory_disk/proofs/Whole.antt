@@ -1,140 +1,292 @@
--- Each step of the storage keeps it whole.
-use Rattle.std.specs.Prelude.{◌≡◌, ℕ, false, cond, not, Option, Some, None, List, [], suc, vec_len}
-use Rattle.std.specs.List.{filter}
+-- What each step of the storage makes of its disk and of the order of all changes, and that it stays whole.
+use Rattle.std.specs.Prelude.{◌≡◌, ℕ, ◌<◌, Bool, false, cond, Option, Some, None, List, [], suc, vec_len}
 use Rattle.std.specs.Option.{option_map}
 use Rattle.std.specs.Map.{update}
 use Rattle.std.specs.Str.{bytes_eq}
 use Rattle.std.proofs.Common.{refl, sym, ◌∙◌, ap, subst, arith, inl, inr, nat_eq}
-use Rattle.std.proofs.lemmas.Bool.{cases_eq, cases_Bool}
+use Rattle.std.proofs.lemmas.Bool.{cases_eq, cases_lt, cases_Bool, eq-eqb}
+use Rattle.std.proofs.lemmas.List.{get_or_past}
 use Rattle.std.proofs.lemmas.Slice.Eq.{bytes_eq-Decides}
 use Rattle.std.proofs.lemmas.Map.{update_same, update_other}
 use std.Path.{fun_ext}
-use Rattle.raft_log_disk.specs.Disk.{File}
-use Rattle.raft_log_disk.specs.Image.{IsSound}
-use Rattle.raft_log_disk.specs.Calls.{created, deleted, without, renamed, with_directory}
+use Rattle.raft_log_disk.specs.Disk.{Change, File, with_file, file_limit}
+use Rattle.raft_log_disk.specs.Image.{end_of, IsSound}
+use Rattle.raft_log_disk.specs.Calls.{after_change, flushed, created, deleted, without, renamed, with_directory}
 use Rattle.raft_log_disk.proofs.ImageLaws.{disk_ext}
-use Rattle.raft_log_disk.proofs.Updates.{file_case, name_apart, file_here, file_apart}
-use Rattle.raft_log_memory_disk.specs.declared.journal.Unsynced.{Unsynced}
+use Rattle.raft_log_disk.proofs.SoundLaws.{sound_with_file, sound_after_change, sound_flushed, sound_created, sound_deleted, sound_renamed, sound_with_directory}
+use Rattle.raft_log_disk.proofs.Updates.{name_apart, file_here, file_apart}
 use Rattle.raft_log_memory_disk.specs.declared.storage.Storage.{Storage}
 use Rattle.raft_log_memory_disk.specs.declared.storage.Node.{Node}
 use Rattle.raft_log_memory_disk.specs.declared.storage.Node.TheVariants as node
-use Rattle.raft_log_memory_disk.specs.Pieces.{pieces_of}
-use Rattle.raft_log_memory_disk.specs.Held.{Held, held_of, no_bytes, file_at}
-use Rattle.raft_log_memory_disk.specs.Storage.{file_named, is_directory, node_at, contents_of, IsWhole}
-use Rattle.raft_log_memory_disk.proofs.JournalLaws.{own_dropped, others_kept}
-use Rattle.raft_log_memory_disk.proofs.StorageLaws.{mapped, same_there, file_added, file_dropped}
+use Rattle.raft_log_memory_disk.specs.Held.{Held, held, held_of, resting, with_made, all_synced, file_of}
+use Rattle.raft_log_memory_disk.specs.Order.{with_stamp, in_order, without_file, Rises, AreStamped}
+use Rattle.raft_log_memory_disk.specs.Storage.{file_named, is_directory, node_at, contents_of, unsynced_of, IsWhole}
+use Rattle.raft_log_memory_disk.specs.Steps.{IsSame, Makes, Syncs, Adds, Drops, Moves, without_replaced}
+use Rattle.raft_log_memory_disk.proofs.RisingLaws.{miss}
+use Rattle.raft_log_memory_disk.proofs.OrderLaws.{order_pushed, stamped_pushed, order_dropped, order_added, still_stamped}
+use Rattle.raft_log_memory_disk.proofs.StorageLaws.{updated, file_of-with_made, mapped, same_there, put_back}
 
--- what the storage holds, from what its parts do
-pub contents_same : (old new : Storage) → ((q : List ℕ) → node_at new q ≡ node_at old q) → ((q : ℕ) → held_of new.files.items q ≡ held_of old.files.items q)
-    → new.journal.items ≡ old.journal.items → vec_len new.files ≡ vec_len old.files → contents_of new ≡ contents_of old
-contents_same old new nodes files journal len =
-    disk_ext (contents_of new) (contents_of old)
-    (fun_ext (λ q. ap is_directory (nodes q))) (fun_ext (λ q. ap file_named (nodes q)))
-    (fun_ext (λ q. ap (option_map (file_at (pieces_of q new.journal.items))) (files q) ∙ ap (λ (us : List Unsynced). option_map (file_at (pieces_of q us)) (held_of old.files.items q)) journal))
-    len refl refl refl
+-- The same files.
 
-pub whole_same : (old new : Storage) → IsWhole old → ((q : List ℕ) → node_at new q ≡ node_at old q) → ((q : ℕ) → held_of new.files.items q ≡ held_of old.files.items q)
-    → new.journal.items ≡ old.journal.items → vec_len new.files ≡ vec_len old.files → IsWhole new
-whole_same old new whole nodes files journal len = record {
-  sound = subst IsSound (sym (contents_same old new nodes files journal len)) whole.sound;
-  gone = λ id none. ap (pieces_of id) journal ∙ whole.gone id (sym (files id) ∙ none);
+pub order_kept : (old new : Storage) → ((q : ℕ) → held_of new.files.items q ≡ held_of old.files.items q) → new.made ≡ old.made → vec_len new.files ≡ vec_len old.files
+    → unsynced_of new ≡ unsynced_of old
+order_kept old new files made len =
+    ap (λ (n : ℕ). in_order n (held_of new.files.items) (vec_len new.files)) made
+    ∙ (ap (λ (n : ℕ). in_order old.made (held_of new.files.items) n) len
+    ∙ ap (λ (F : ℕ → Option Held). in_order old.made F (vec_len old.files)) (fun_ext files))
+
+pub stamped_kept : (old new : Storage) → ((q : ℕ) → held_of new.files.items q ≡ held_of old.files.items q) → new.made ≡ old.made
+    → AreStamped old.made (held_of old.files.items) → AreStamped new.made (held_of new.files.items)
+stamped_kept old new files made are =
+    subst (λ (n : ℕ). AreStamped n (held_of new.files.items)) (sym made) (subst (AreStamped old.made) (sym (fun_ext files)) are)
+
+pub is_same : (old new : Storage) → ((q : List ℕ) → node_at new q ≡ node_at old q) → ((q : ℕ) → held_of new.files.items q ≡ held_of old.files.items q)
+    → new.made ≡ old.made → vec_len new.files ≡ vec_len old.files → IsSame old new
+is_same old new nodes files made len = record {
+  contents = disk_ext (contents_of new) (contents_of old)
+      (fun_ext (λ q. ap is_directory (nodes q))) (fun_ext (λ q. ap file_named (nodes q)))
+      (fun_ext (λ q. ap (option_map file_of) (files q))) len refl refl refl;
+  order = order_kept old new files made len;
 }
 
-no_more : {X Y : Type 0} (f : X → Y) (o : Option X) → option_map f o ≡ None → o ≡ None
-no_more f None none = refl
-no_more f (Some x) none = absurd (cc)
+pub whole_same : (old new : Storage) → IsWhole old → ((q : List ℕ) → node_at new q ≡ node_at old q) → ((q : ℕ) → held_of new.files.items q ≡ held_of old.files.items q)
+    → new.made ≡ old.made → vec_len new.files ≡ vec_len old.files → IsWhole new
+whole_same old new whole nodes files made len = record {
+  sound = subst IsSound (sym (is_same old new nodes files made len).contents) whole.sound;
+  stamped = stamped_kept old new files made whole.stamped;
+}
 
 pub some_file_held : (o : Option Held) → (o ≡ None → ⊥) → (file : Held) × (o ≡ Some file)
 some_file_held None there = absurd (there refl)
 some_file_held (Some file) there = (file, refl)
 
--- a step of a file that is there
-pub whole_stepped : (old new : Storage) (id : ℕ) (step : Held → Held) → IsWhole old → (held_of old.files.items id ≡ None → ⊥) → IsSound (contents_of new)
+-- a file that is there has a node number below the next one
+below_unused : (storage : Storage) (id : ℕ) → (held_of storage.files.items id ≡ None → ⊥) → id < vec_len storage.files
+below_unused storage id there = elim (cases_lt id (vec_len storage.files)) [
+  | inl below ↦ below
+  | inr past ↦ absurd (there (ap (option_map held) (get_or_past storage.files.items id None (omega (arith, past, storage.files.ok)))))
+]
+
+-- Another state of one file.
+
+made_contents : (old new : Storage) (id : ℕ) (step : Held → Held) (next : File → File) → ((h : Held) → file_of (step h) ≡ next (file_of h))
+    → ((q : List ℕ) → node_at new q ≡ node_at old q)
     → ((q : ℕ) → held_of new.files.items q ≡ update nat_eq (held_of old.files.items) id (option_map step (held_of old.files.items id)) q)
-    → ((q : ℕ) → (q ≡ id → ⊥) → pieces_of q new.journal.items ≡ pieces_of q old.journal.items) → IsWhole new
-whole_stepped old new id step whole there sound files others = record {
-  sound = sound;
-  gone = λ q none. elim (file_case (held_of old.files.items) id (option_map step (held_of old.files.items id)) q None (sym (files q) ∙ none)) [
-    | inl same ↦ absurd (there (no_more step (held_of old.files.items id) same.1))
-    | inr apart ↦ others q apart.0 ∙ whole.gone q apart.1
-  ];
+    → vec_len new.files ≡ vec_len old.files
+    → (file : File) → (contents_of old).files id ≡ Some file → contents_of new ≡ with_file id (Some (next file)) (contents_of old)
+made_contents old new id step next each nodes files len file is =
+    disk_ext (contents_of new) (with_file id (Some (next file)) (contents_of old))
+    (fun_ext (λ q. ap is_directory (nodes q))) (fun_ext (λ q. ap file_named (nodes q)))
+    (fun_ext (λ q. updated id (held_of old.files.items) (held_of new.files.items) (option_map step (held_of old.files.items id)) files q
+    ∙ ap (λ (o : Option File). update nat_eq (contents_of old).files id o q) (stepped (held_of old.files.items id) is)))
+    len refl refl refl
+  where
+    stepped : (o : Option Held) → option_map file_of o ≡ Some file → option_map file_of (option_map step o) ≡ Some (next file)
+    stepped None at = absurd (cc)
+    stepped (Some h) at = ap Some (each h ∙ ap next (let same : file_of h ≡ file = cc in same))
+
+-- the state of the file after the step, and of the others
+now_here : (old new : ℕ → Option Held) (id : ℕ) (step : Held → Held) (file : Held) → ((q : ℕ) → new q ≡ update nat_eq old id (option_map step (old id)) q)
+    → old id ≡ Some file → new id ≡ Some (step file)
+now_here old new id step file files is = files id ∙ (file_here old id (option_map step (old id)) ∙ ap (option_map step) is)
+
+now_apart : (old new : ℕ → Option Held) (id : ℕ) (w : Option Held) → ((q : ℕ) → new q ≡ update nat_eq old id w q) → (q : ℕ) → (q ≡ id → ⊥) → new q ≡ old q
+now_apart old new id w files q apart = files q ∙ file_apart old id w q apart
+
+-- a change
+pub makes : (old new : Storage) (id : ℕ) (change : Change) → IsWhole old → (held_of old.files.items id ≡ None → ⊥) → ((q : List ℕ) → node_at new q ≡ node_at old q)
+    → ((q : ℕ) → held_of new.files.items q ≡ update nat_eq (held_of old.files.items) id (option_map (with_made old.made change) (held_of old.files.items id)) q)
+    → new.made ≡ suc old.made → vec_len new.files ≡ vec_len old.files → Makes id change old new
+makes old new id change whole there nodes files made len =
+    let F = held_of old.files.items in
+    let G = held_of new.files.items in
+    let file = some_file_held (F id) there in
+    record {
+      contents = made_contents old new id (with_made old.made change) (after_change change) (file_of-with_made old.made change) nodes files len;
+      order = ap (λ (n : ℕ). in_order n G (vec_len new.files)) made ∙ (ap (λ (n : ℕ). in_order (suc old.made) G n) len
+          ∙ order_pushed old.made (vec_len old.files) id change F G file.0 whole.stamped (below_unused old id there) file.1
+          (now_here F G id (with_made old.made change) file.0 files file.1) (now_apart F G id (option_map (with_made old.made change) (F id)) files));
+    }
+
+pub whole_makes : (old new : Storage) (id : ℕ) (change : Change) → IsWhole old → (held_of old.files.items id ≡ None → ⊥) → end_of change < file_limit → Makes id change old new
+    → ((q : ℕ) → held_of new.files.items q ≡ update nat_eq (held_of old.files.items) id (option_map (with_made old.made change) (held_of old.files.items id)) q)
+    → new.made ≡ suc old.made → IsWhole new
+whole_makes old new id change whole there short made_it files made =
+    let F = held_of old.files.items in
+    let G = held_of new.files.items in
+    let file = some_file_held (F id) there in
+    let is : option_map file_of (F id) ≡ Some (file_of file.0) = ap (option_map file_of) file.1 in
+    record {
+      sound = subst IsSound (sym (made_it.contents (file_of file.0) is))
+          (sound_with_file (contents_of old) id (file_of file.0) (after_change change (file_of file.0)) whole.sound is
+          (sound_after_change (file_of file.0) change (whole.sound.files id (file_of file.0) is) short));
+      stamped = subst (λ (n : ℕ). AreStamped n G) (sym made)
+          (stamped_pushed old.made id change F G file.0 whole.stamped file.1 (now_here F G id (with_made old.made change) file.0 files file.1)
+          (now_apart F G id (option_map (with_made old.made change) (F id)) files));
+    }
+
+-- a sync
+pub syncs : (old new : Storage) (id : ℕ) → ((q : List ℕ) → node_at new q ≡ node_at old q) → (held_of old.files.items id ≡ None → ⊥)
+    → ((q : ℕ) → held_of new.files.items q ≡ update nat_eq (held_of old.files.items) id (option_map all_synced (held_of old.files.items id)) q)
+    → new.made ≡ old.made → vec_len new.files ≡ vec_len old.files → Syncs id old new
+syncs old new id nodes there files made len =
+    let F = held_of old.files.items in
+    let G = held_of new.files.items in
+    let file = some_file_held (F id) there in
+    record {
+      contents = made_contents old new id all_synced flushed (λ h. refl) nodes files len;
+      order = ap (λ (n : ℕ). in_order n G (vec_len new.files)) made ∙ (ap (λ (n : ℕ). in_order old.made G n) len
+          ∙ order_dropped old.made (vec_len old.files) id F G (now_apart F G id (option_map all_synced (F id)) files)
+          (λ s. ap (with_stamp s id) (now_here F G id all_synced file.0 files file.1)));
+    }
+
+-- where a file's changes are gone
+emptied : (next id : ℕ) (old new : ℕ → Option Held) → AreStamped next old → ((q : ℕ) → (q ≡ id → ⊥) → new q ≡ old q) → ((s : ℕ) → with_stamp s id (new id) ≡ [])
+    → ((file : Held) → new id ≡ Some file → file.changes ≡ []) → AreStamped next new
+emptied next id old new are others none empty =
+    still_stamped next old new are
+    (λ q file at. elim (cases_eq q id) [
+      | inl same ↦ subst (Rises 0 next) (sym (empty file (ap new (sym same) ∙ at))) tt
+      | inr apart ↦ are.rise q file (sym (others q apart) ∙ at)
+    ])
+    (λ a stamp had. elim (cases_eq a id) [
+      | inl same ↦ subst (λ (i : ℕ). with_stamp stamp i (new i) ≡ []) (sym same) (none stamp)
+      | inr apart ↦ ap (with_stamp stamp a) (others a apart) ∙ had
+    ])
+
+same_changes : (a b : Held) → Some a ≡ Some b → a.changes ≡ [] → b.changes ≡ []
+same_changes a b is none = let same : a ≡ b = cc in subst (λ (h : Held). h.changes ≡ []) same none
+
+pub whole_syncs : (old new : Storage) (id : ℕ) → IsWhole old → (held_of old.files.items id ≡ None → ⊥) → Syncs id old new
+    → ((q : ℕ) → held_of new.files.items q ≡ update nat_eq (held_of old.files.items) id (option_map all_synced (held_of old.files.items id)) q)
+    → new.made ≡ old.made → IsWhole new
+whole_syncs old new id whole there synced files made =
+    let F = held_of old.files.items in
+    let G = held_of new.files.items in
+    let file = some_file_held (F id) there in
+    let is : option_map file_of (F id) ≡ Some (file_of file.0) = ap (option_map file_of) file.1 in
+    let now = now_here F G id all_synced file.0 files file.1 in
+    record {
+      sound = subst IsSound (sym (synced.contents (file_of file.0) is))
+          (sound_with_file (contents_of old) id (file_of file.0) (flushed (file_of file.0)) whole.sound is (sound_flushed (file_of file.0) (whole.sound.files id (file_of file.0) is)));
+      stamped = subst (λ (n : ℕ). AreStamped n G) (sym made)
+          (emptied old.made id F G whole.stamped (now_apart F G id (option_map all_synced (F id)) files) (λ s. ap (with_stamp s id) now)
+          (λ after at. same_changes (all_synced file.0) after (sym now ∙ at) refl));
+    }
+
+-- Names.
+
+none_of : (o : Option Held) → option_map file_of o ≡ None → o ≡ None
+none_of None none = refl
+none_of (Some file) none = absurd (cc)
+
+-- the next node number has no file
+fresh_of : (storage : Storage) → IsWhole storage → held_of storage.files.items (vec_len storage.files) ≡ None
+fresh_of storage whole = none_of (held_of storage.files.items (vec_len storage.files)) (whole.sound.fresh (vec_len storage.files) (omega arith))
+
+-- a new file's changes, and those of the others
+added_stamps : (old new : ℕ → Option Held) (id : ℕ) → old id ≡ None → ((q : ℕ) → new q ≡ update nat_eq old id (Some (resting [])) q)
+    → (stamp q : ℕ) → with_stamp stamp q (new q) ≡ with_stamp stamp q (old q)
+added_stamps old new id none files stamp q = elim (cases_eq q id) [
+  | inl same ↦ subst (λ (i : ℕ). with_stamp stamp i (new i) ≡ with_stamp stamp i (old i)) (sym same)
+      (ap (with_stamp stamp id) (files id ∙ file_here old id (Some (resting []))) ∙ sym (ap (with_stamp stamp id) none))
+  | inr apart ↦ ap (with_stamp stamp q) (now_apart old new id (Some (resting [])) files q apart)
+]
+
+pub adds_file : (old new : Storage) (path : List ℕ) → IsWhole old → node_at old path ≡ None
+    → ((q : List ℕ) → node_at new q ≡ update bytes_eq (node_at old) path (Some (node.File (vec_len old.files))) q)
+    → ((q : ℕ) → held_of new.files.items q ≡ update nat_eq (held_of old.files.items) (vec_len old.files) (Some (resting [])) q)
+    → new.made ≡ old.made → vec_len new.files ≡ suc (vec_len old.files) → Adds (created path) old new
+adds_file old new path whole free nodes files made len =
+    let F = held_of old.files.items in
+    let G = held_of new.files.items in
+    let id = vec_len old.files in
+    record {
+      contents = disk_ext (contents_of new) (created path (contents_of old))
+          (fun_ext (λ q. ap is_directory (nodes q) ∙ same_there is_directory (node_at old) path (Some (node.File id)) (sym (ap is_directory free)) q))
+          (fun_ext (λ q. ap file_named (nodes q) ∙ mapped file_named (node_at old) path (Some (node.File id)) q))
+          (fun_ext (updated id F G (Some (resting [])) files))
+          len refl refl refl;
+      order = ap (λ (n : ℕ). in_order n G (vec_len new.files)) made ∙ (ap (λ (n : ℕ). in_order old.made G n) len
+          ∙ order_added old.made id F G (added_stamps F G id (fresh_of old whole) files)
+          (λ s. ap (with_stamp s id) (files id ∙ file_here F id (Some (resting [])))));
+    }
+
+pub whole_adds_file : (old new : Storage) (path : List ℕ) → IsWhole old → node_at old path ≡ None → Adds (created path) old new
+    → ((q : ℕ) → held_of new.files.items q ≡ update nat_eq (held_of old.files.items) (vec_len old.files) (Some (resting [])) q)
+    → new.made ≡ old.made → IsWhole new
+whole_adds_file old new path whole free added files made =
+    let F = held_of old.files.items in
+    let G = held_of new.files.items in
+    let id = vec_len old.files in
+    let now = files id ∙ file_here F id (Some (resting [])) in
+    record {
+      sound = subst IsSound (sym added.contents) (sound_created (contents_of old) path whole.sound (ap file_named free) (ap is_directory free));
+      stamped = subst (λ (n : ℕ). AreStamped n G) (sym made)
+          (emptied old.made id F G whole.stamped (now_apart F G id (Some (resting [])) files) (λ s. ap (with_stamp s id) now)
+          (λ after at. same_changes (resting []) after (sym now ∙ at) refl));
+    }
+
+pub adds_directory : (old new : Storage) (path : List ℕ) → node_at old path ≡ None
+    → ((q : List ℕ) → node_at new q ≡ update bytes_eq (node_at old) path (Some node.Directory) q)
+    → ((q : ℕ) → held_of new.files.items q ≡ held_of old.files.items q) → new.made ≡ old.made → vec_len new.files ≡ vec_len old.files
+    → Adds (with_directory path) old new
+adds_directory old new path free nodes files made len = record {
+  contents = disk_ext (contents_of new) (with_directory path (contents_of old))
+      (fun_ext (λ q. ap is_directory (nodes q) ∙ mapped is_directory (node_at old) path (Some node.Directory) q))
+      (fun_ext (λ q. ap file_named (nodes q) ∙ same_there file_named (node_at old) path (Some node.Directory) (sym (ap file_named free)) q))
+      (fun_ext (λ q. ap (option_map file_of) (files q)))
+      len refl refl refl;
+  order = order_kept old new files made len;
 }
 
--- the same files
-pub whole_kept : (old new : Storage) → IsWhole old → IsSound (contents_of new) → ((q : ℕ) → held_of new.files.items q ≡ held_of old.files.items q)
-    → new.journal.items ≡ old.journal.items → IsWhole new
-whole_kept old new whole sound files journal = record {
-  sound = sound;
-  gone = λ q none. ap (pieces_of q) journal ∙ whole.gone q (sym (files q) ∙ none);
-}
-
--- a new file
-pub whole_added : (old new : Storage) → IsWhole old → IsSound (contents_of new)
-    → ((q : ℕ) → held_of new.files.items q ≡ update nat_eq (held_of old.files.items) (vec_len old.files) (Some no_bytes) q)
-    → new.journal.items ≡ old.journal.items → IsWhole new
-whole_added old new whole sound files journal = record {
-  sound = sound;
-  gone = λ q none. elim (file_case (held_of old.files.items) (vec_len old.files) (Some no_bytes) q None (sym (files q) ∙ none)) [
-    | inl same ↦ cc (same.1)
-    | inr apart ↦ ap (pieces_of q) journal ∙ whole.gone q apart.1
-  ];
+pub whole_adds_directory : (old new : Storage) (path : List ℕ) → IsWhole old → node_at old path ≡ None → Adds (with_directory path) old new
+    → ((q : ℕ) → held_of new.files.items q ≡ held_of old.files.items q) → new.made ≡ old.made → IsWhole new
+whole_adds_directory old new path whole free added files made = record {
+  sound = subst IsSound (sym added.contents) (sound_with_directory (contents_of old) path whole.sound (ap file_named free));
+  stamped = stamped_kept old new files made whole.stamped;
 }
 
 -- a file that goes
-pub whole_dropped : (old new : Storage) (id : ℕ) → IsWhole old → IsSound (contents_of new)
-    → ((q : ℕ) → held_of new.files.items q ≡ update nat_eq (held_of old.files.items) id None q)
-    → new.journal.items ≡ filter (λ u. not (nat_eq u.file id)) old.journal.items → IsWhole new
-whole_dropped old new id whole sound files journal = record {
-  sound = sound;
-  gone = λ q none. elim (cases_eq q id) [
-    | inl same ↦ ap (pieces_of q) journal ∙ subst (λ (i : ℕ). pieces_of i (filter (λ u. not (nat_eq u.file id)) old.journal.items) ≡ []) (sym same) (own_dropped id old.journal.items)
-    | inr apart ↦ ap (pieces_of q) journal ∙ (others_kept id q apart old.journal.items
-        ∙ whole.gone q (sym (files q ∙ file_apart (held_of old.files.items) id None q apart) ∙ none))
-  ];
-}
+gone_order : (old new : Storage) (id : ℕ) → ((q : ℕ) → held_of new.files.items q ≡ update nat_eq (held_of old.files.items) id None q)
+    → new.made ≡ old.made → vec_len new.files ≡ vec_len old.files → unsynced_of new ≡ without_file id (unsynced_of old)
+gone_order old new id files made len =
+    let F = held_of old.files.items in
+    let G = held_of new.files.items in
+    ap (λ (n : ℕ). in_order n G (vec_len new.files)) made ∙ (ap (λ (n : ℕ). in_order old.made G n) len
+    ∙ order_dropped old.made (vec_len old.files) id F G (now_apart F G id None files) (λ s. ap (with_stamp s id) (files id ∙ file_here F id None)))
 
--- the number that the next file gets has no file, and no changes
-pub unused_free : (storage : Storage) → IsWhole storage → pieces_of (vec_len storage.files) storage.journal.items ≡ []
-unused_free storage whole = whole.gone (vec_len storage.files) (no_more (file_at (pieces_of (vec_len storage.files) storage.journal.items)) (held_of storage.files.items (vec_len storage.files)) (whole.sound.fresh (vec_len storage.files) (omega arith)))
+gone_stamped : (old new : Storage) (id : ℕ) → IsWhole old → ((q : ℕ) → held_of new.files.items q ≡ update nat_eq (held_of old.files.items) id None q)
+    → new.made ≡ old.made → AreStamped new.made (held_of new.files.items)
+gone_stamped old new id whole files made =
+    let F = held_of old.files.items in
+    let G = held_of new.files.items in
+    let now = files id ∙ file_here F id None in
+    subst (λ (n : ℕ). AreStamped n G) (sym made)
+    (emptied old.made id F G whole.stamped (now_apart F G id None files) (λ s. ap (with_stamp s id) now) (λ after at. absurd (no_file after (sym now ∙ at))))
+  where
+    no_file : (after : Held) → None ≡ Some after → ⊥
+    no_file after e = cc
 
--- the disk with a new file
-pub contents_added : (old new : Storage) (path : List ℕ) → IsWhole old → node_at old path ≡ None
-    → ((q : List ℕ) → node_at new q ≡ update bytes_eq (node_at old) path (Some (node.File (vec_len old.files))) q)
-    → ((q : ℕ) → held_of new.files.items q ≡ update nat_eq (held_of old.files.items) (vec_len old.files) (Some no_bytes) q)
-    → new.journal.items ≡ old.journal.items → vec_len new.files ≡ suc (vec_len old.files) → contents_of new ≡ created path (contents_of old)
-contents_added old new path whole free nodes files journal len =
-    disk_ext (contents_of new) (created path (contents_of old))
-    (fun_ext (λ q. ap is_directory (nodes q) ∙ same_there is_directory (node_at old) path (Some (node.File (vec_len old.files))) (sym (ap is_directory free)) q))
-    (fun_ext (λ q. ap file_named (nodes q) ∙ mapped file_named (node_at old) path (Some (node.File (vec_len old.files))) q))
-    (fun_ext (λ q. ap (λ (us : List Unsynced). option_map (file_at (pieces_of q us)) (held_of new.files.items q)) journal
-    ∙ file_added old.journal.items (held_of old.files.items) (held_of new.files.items) (vec_len old.files) (unused_free old whole) files q))
-    len refl refl refl
-
--- the disk with a new directory
-pub contents_with_directory : (old new : Storage) (path : List ℕ) → node_at old path ≡ None
-    → ((q : List ℕ) → node_at new q ≡ update bytes_eq (node_at old) path (Some node.Directory) q)
-    → ((q : ℕ) → held_of new.files.items q ≡ held_of old.files.items q) → new.journal.items ≡ old.journal.items → vec_len new.files ≡ vec_len old.files
-    → contents_of new ≡ with_directory path (contents_of old)
-contents_with_directory old new path free nodes files journal len =
-    disk_ext (contents_of new) (with_directory path (contents_of old))
-    (fun_ext (λ q. ap is_directory (nodes q) ∙ mapped is_directory (node_at old) path (Some node.Directory) q))
-    (fun_ext (λ q. ap file_named (nodes q) ∙ same_there file_named (node_at old) path (Some node.Directory) (sym (ap file_named free)) q))
-    (fun_ext (λ q. ap (option_map (file_at (pieces_of q new.journal.items))) (files q) ∙ ap (λ (us : List Unsynced). option_map (file_at (pieces_of q us)) (held_of old.files.items q)) journal))
-    len refl refl refl
-
--- the disk without a name and its file
-pub contents_deleted : (old new : Storage) (path : List ℕ) (id : ℕ) → node_at old path ≡ Some (node.File id)
+pub drops : (old new : Storage) (path : List ℕ) (id : ℕ) → node_at old path ≡ Some (node.File id)
     → ((q : List ℕ) → node_at new q ≡ update bytes_eq (node_at old) path None q)
     → ((q : ℕ) → held_of new.files.items q ≡ update nat_eq (held_of old.files.items) id None q)
-    → new.journal.items ≡ filter (λ u. not (nat_eq u.file id)) old.journal.items → vec_len new.files ≡ vec_len old.files
-    → contents_of new ≡ deleted path id (contents_of old)
-contents_deleted old new path id is nodes files journal len =
-    disk_ext (contents_of new) (deleted path id (contents_of old))
-    (fun_ext (λ q. ap is_directory (nodes q) ∙ same_there is_directory (node_at old) path None (sym (ap is_directory is)) q))
-    (fun_ext (λ q. ap file_named (nodes q) ∙ mapped file_named (node_at old) path None q))
-    (fun_ext (λ q. file_dropped old.journal.items new.journal.items (held_of old.files.items) (held_of new.files.items) id
-    (λ j apart. ap (pieces_of j) journal ∙ others_kept id j apart old.journal.items) files q))
-    len refl refl refl
+    → new.made ≡ old.made → vec_len new.files ≡ vec_len old.files → Drops path id old new
+drops old new path id is nodes files made len = record {
+  contents = disk_ext (contents_of new) (deleted path id (contents_of old))
+      (fun_ext (λ q. ap is_directory (nodes q) ∙ same_there is_directory (node_at old) path None (sym (ap is_directory is)) q))
+      (fun_ext (λ q. ap file_named (nodes q) ∙ mapped file_named (node_at old) path None q))
+      (fun_ext (updated id (held_of old.files.items) (held_of new.files.items) None files))
+      len refl refl refl;
+  order = gone_order old new id files made len;
+}
+
+pub whole_drops : (old new : Storage) (path : List ℕ) (id : ℕ) → IsWhole old → node_at old path ≡ Some (node.File id) → Drops path id old new
+    → ((q : ℕ) → held_of new.files.items q ≡ update nat_eq (held_of old.files.items) id None q) → new.made ≡ old.made → IsWhole new
+whole_drops old new path id whole is gone files made = record {
+  sound = subst IsSound (sym gone.contents) (sound_deleted (contents_of old) path id whole.sound (ap file_named is));
+  stamped = gone_stamped old new id whole files made;
+}
 
 -- which node a file's name has
 pub named_file : (o : Option Node) (id : ℕ) → file_named o ≡ Some id → o ≡ Some (node.File id)
@@ -146,13 +298,6 @@ pub not_directory : (o : Option Node) → (o ≡ Some node.Directory → ⊥) �
 not_directory None apart = refl
 not_directory (Some node.Directory) apart = absurd (apart refl)
 not_directory (Some (node.File id)) apart = refl
-
--- a file put back where it was
-put_back : (files : ℕ → Option File) (id : ℕ) (w : Option File) → files id ≡ w → (q : ℕ) → update nat_eq files id w q ≡ files q
-put_back files id w is q = elim (cases_eq q id) [
-  | inl same ↦ subst (λ (i : ℕ). update nat_eq files id w i ≡ files i) (sym same) (file_here files id w ∙ sym is)
-  | inr apart ↦ file_apart files id w q apart
-]
 
 -- the names after a renaming to another name
 moved_names : (N : List ℕ → Option Node) (from to : List ℕ) (id : ℕ) → (from ≡ to → ⊥) → (q : List ℕ)
@@ -176,39 +321,84 @@ moved_directories N from to id apart is other q =
     (sym (ap is_directory (name_apart N to (Some (node.File id)) from apart ∙ is))) q
     ∙ same_there is_directory N to (Some (node.File id)) (sym (not_directory (N to) other)) q
 
--- the disk with a file under another name, which nothing had
-pub contents_moved : (old new : Storage) (from to : List ℕ) (id : ℕ) → (from ≡ to → ⊥) → node_at old from ≡ Some (node.File id) → (node_at old to ≡ Some node.Directory → ⊥)
+-- a file gets another name, which nothing had
+pub moves : (old new : Storage) (from to : List ℕ) (id : ℕ) → (from ≡ to → ⊥) → node_at old from ≡ Some (node.File id) → (node_at old to ≡ Some node.Directory → ⊥)
     → ((q : List ℕ) → node_at new q ≡ update bytes_eq (update bytes_eq (node_at old) to (Some (node.File id))) from None q)
     → file_named (node_at old to) ≡ None
-    → ((q : ℕ) → held_of new.files.items q ≡ held_of old.files.items q) → new.journal.items ≡ old.journal.items → vec_len new.files ≡ vec_len old.files
-    → contents_of new ≡ renamed from to id (contents_of old)
-contents_moved old new from to id apart is other nodes none files journal len =
+    → ((q : ℕ) → held_of new.files.items q ≡ held_of old.files.items q) → new.made ≡ old.made → vec_len new.files ≡ vec_len old.files
+    → Moves from to id old new
+moves old new from to id apart is other nodes none files made len =
     let F = (contents_of old).files in
-    disk_ext (contents_of new) (renamed from to id (contents_of old))
-    (fun_ext (λ q. ap is_directory (nodes q) ∙ moved_directories (node_at old) from to id apart is other q))
-    (fun_ext (λ q. ap file_named (nodes q) ∙ moved_names (node_at old) from to id apart q))
-    (fun_ext (λ q. ap (option_map (file_at (pieces_of q new.journal.items))) (files q)
-    ∙ (ap (λ (us : List Unsynced). option_map (file_at (pieces_of q us)) (held_of old.files.items q)) journal
-    ∙ (sym (put_back F id (F id) refl q) ∙ ap (λ (o : Option ℕ). update nat_eq (without o F) id (F id) q) (sym none)))))
-    len refl refl refl
+    record {
+      contents = disk_ext (contents_of new) (renamed from to id (contents_of old))
+          (fun_ext (λ q. ap is_directory (nodes q) ∙ moved_directories (node_at old) from to id apart is other q))
+          (fun_ext (λ q. ap file_named (nodes q) ∙ moved_names (node_at old) from to id apart q))
+          (fun_ext (λ q. ap (option_map file_of) (files q)
+          ∙ (sym (put_back F id (F id) refl q) ∙ ap (λ (o : Option ℕ). update nat_eq (without o F) id (F id) q) (sym none))))
+          len refl refl refl;
+      order = order_kept old new files made len ∙ ap (λ (o : Option ℕ). without_replaced id o (unsynced_of old)) (sym none);
+    }
 
 -- or which another file had
-pub contents_moved_over : (old new : Storage) (from to : List ℕ) (id gone : ℕ) → IsWhole old → (from ≡ to → ⊥) → node_at old from ≡ Some (node.File id) → node_at old to ≡ Some (node.File gone)
+pub moves_over : (old new : Storage) (from to : List ℕ) (id gone : ℕ) → IsWhole old → (from ≡ to → ⊥) → node_at old from ≡ Some (node.File id) → node_at old to ≡ Some (node.File gone)
     → ((q : List ℕ) → node_at new q ≡ update bytes_eq (update bytes_eq (node_at old) to (Some (node.File id))) from None q)
     → ((q : ℕ) → held_of new.files.items q ≡ update nat_eq (held_of old.files.items) gone None q)
-    → new.journal.items ≡ filter (λ u. not (nat_eq u.file gone)) old.journal.items → vec_len new.files ≡ vec_len old.files
-    → contents_of new ≡ renamed from to id (contents_of old)
-contents_moved_over old new from to id gone whole apart is over nodes files journal len =
+    → new.made ≡ old.made → vec_len new.files ≡ vec_len old.files → Moves from to id old new
+moves_over old new from to id gone whole apart is over nodes files made len =
     let F = (contents_of old).files in
     let other : id ≡ gone → ⊥ = λ same. apart (whole.sound.one_name from to id (ap file_named is) (ap file_named over ∙ ap Some (sym same))) in
-    disk_ext (contents_of new) (renamed from to id (contents_of old))
-    (fun_ext (λ q. ap is_directory (nodes q) ∙ moved_directories (node_at old) from to id apart is (λ directory. directory_file (sym directory ∙ over)) q))
-    (fun_ext (λ q. ap file_named (nodes q) ∙ moved_names (node_at old) from to id apart q))
-    (fun_ext (λ q. file_dropped old.journal.items new.journal.items (held_of old.files.items) (held_of new.files.items) gone
-    (λ j far. ap (pieces_of j) journal ∙ others_kept gone j far old.journal.items) files q
-    ∙ (sym (put_back (update nat_eq F gone None) id (F id) (file_apart F gone None id other) q)
-    ∙ ap (λ (o : Option ℕ). update nat_eq (without o F) id (F id) q) (sym (ap file_named over)))))
-    len refl refl refl
+    record {
+      contents = disk_ext (contents_of new) (renamed from to id (contents_of old))
+          (fun_ext (λ q. ap is_directory (nodes q) ∙ moved_directories (node_at old) from to id apart is (λ directory. directory_file (sym directory ∙ over)) q))
+          (fun_ext (λ q. ap file_named (nodes q) ∙ moved_names (node_at old) from to id apart q))
+          (fun_ext (λ q. updated gone (held_of old.files.items) (held_of new.files.items) None files q
+          ∙ (sym (put_back (update nat_eq F gone None) id (F id) (file_apart F gone None id other) q)
+          ∙ ap (λ (o : Option ℕ). update nat_eq (without o F) id (F id) q) (sym (ap file_named over)))))
+          len refl refl refl;
+      order = gone_order old new gone files made len
+          ∙ (sym (ap (λ (b : Bool). cond b (unsynced_of old) (without_file gone (unsynced_of old))) (miss gone id (λ same. other (sym same))))
+          ∙ ap (λ (o : Option ℕ). without_replaced id o (unsynced_of old)) (sym (ap file_named over)));
+    }
   where
     directory_file : Some node.Directory ≡ Some (node.File gone) → ⊥
     directory_file e = cc
+
+-- to its own name
+pub stays_there : (old : Storage) (from to : List ℕ) (id : ℕ) → from ≡ to → node_at old from ≡ Some (node.File id) → Moves from to id old old
+stays_there old from to id same is = record {
+  contents = subst (λ (p : List ℕ). contents_of old ≡ renamed from p id (contents_of old)) same
+      (disk_ext (contents_of old) (renamed from from id (contents_of old)) refl
+      (fun_ext (λ q. sym (back q)))
+      (fun_ext (λ q. sym (own q)))
+      refl refl refl refl);
+  order = sym (ap (λ (o : Option ℕ). without_replaced id o (unsynced_of old)) (ap (λ (p : List ℕ). file_named (node_at old p)) (sym same) ∙ ap file_named is)
+      ∙ ap (λ (b : Bool). cond b (unsynced_of old) (without_file id (unsynced_of old))) (eq-eqb id id refl));
+}
+  where
+    back : (q : List ℕ) → update bytes_eq (update bytes_eq (contents_of old).names from None) from (Some id) q ≡ (contents_of old).names q
+    back q = elim (cases_Bool (bytes_eq from q)) [
+      | inl hit ↦ update_same bytes_eq (update bytes_eq (contents_of old).names from None) from (Some id) q hit
+          ∙ (sym (ap file_named is) ∙ ap (contents_of old).names ((bytes_eq-Decides from q).0 hit))
+      | inr lost ↦ update_other bytes_eq (update bytes_eq (contents_of old).names from None) from (Some id) q lost ∙ update_other bytes_eq (contents_of old).names from None q lost
+    ]
+
+    own : (q : ℕ) → update nat_eq (without ((contents_of old).names from) (contents_of old).files) id ((contents_of old).files id) q ≡ (contents_of old).files q
+    own q =
+        ap (λ (o : Option ℕ). update nat_eq (without o (contents_of old).files) id ((contents_of old).files id) q) (ap file_named is)
+        ∙ (elim (cases_eq q id) [
+          | inl same_id ↦ subst (λ (i : ℕ). update nat_eq (update nat_eq (contents_of old).files id None) id ((contents_of old).files id) i ≡ (contents_of old).files i) (sym same_id)
+              (file_here (update nat_eq (contents_of old).files id None) id ((contents_of old).files id))
+          | inr apart ↦ file_apart (update nat_eq (contents_of old).files id None) id ((contents_of old).files id) q apart ∙ file_apart (contents_of old).files id None q apart
+        ])
+
+pub whole_moves : (old new : Storage) (from to : List ℕ) (id : ℕ) → IsWhole old → node_at old from ≡ Some (node.File id) → (node_at old to ≡ Some node.Directory → ⊥)
+    → Moves from to id old new → AreStamped new.made (held_of new.files.items) → IsWhole new
+whole_moves old new from to id whole is apart moved are = record {
+  sound = subst IsSound (sym moved.contents)
+      (sound_renamed (contents_of old) from to id whole.sound (ap file_named is) (not_directory (node_at old to) apart));
+  stamped = are;
+}
+
+pub whole_moves_over : (old new : Storage) (from to : List ℕ) (id gone : ℕ) → IsWhole old → node_at old from ≡ Some (node.File id) → (node_at old to ≡ Some node.Directory → ⊥)
+    → Moves from to id old new → ((q : ℕ) → held_of new.files.items q ≡ update nat_eq (held_of old.files.items) gone None q) → new.made ≡ old.made → IsWhole new
+whole_moves_over old new from to id gone whole is apart moved files made = whole_moves old new from to id whole is apart moved (gone_stamped old new gone whole files made)

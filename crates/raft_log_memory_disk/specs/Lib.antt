@@ -1,6 +1,8 @@
-pub mod Pieces
+pub mod Changes
 pub mod Held
+pub mod Order
 pub mod Storage
 pub mod Listing
 pub mod Left
-pub mod Remains
+pub mod Stamps
+pub mod Steps

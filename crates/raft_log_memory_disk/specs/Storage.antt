@@ -1,16 +1,17 @@
 -- What a file system in memory holds, as a disk.
-use Rattle.std.specs.Prelude.{◌≡◌, ℕ, Bool, true, false, List, [], Option, Some, None, vec_len}
+use Rattle.std.specs.Prelude.{ℕ, Bool, true, false, List, [], ◌∷◌, Option, Some, None, suc, vec_len}
 use Rattle.std.specs.Option.{option_map}
 use Rattle.std.specs.BTreeMap.{get_by_text}
 use Rattle.std.proofs.Props.{props}
 use Rattle.raft_log_disk.proofs.Props.{Change-set, IsSound-prop}
-use Rattle.raft_log_disk.specs.Disk.{Disk}
+use Rattle.raft_log_disk.specs.Disk.{Change, Disk}
 use Rattle.raft_log_disk.specs.Image.{IsSound}
 use Rattle.raft_log_memory_disk.specs.declared.storage.Node.{Node}
 use Rattle.raft_log_memory_disk.specs.declared.storage.Node.TheVariants.{Directory, File}
 use Rattle.raft_log_memory_disk.specs.declared.storage.Storage.{Storage}
-use Rattle.raft_log_memory_disk.specs.Pieces.{pieces_of}
-use Rattle.raft_log_memory_disk.specs.Held.{held_of, file_at}
+use Rattle.raft_log_memory_disk.specs.Changes.{Made}
+use Rattle.raft_log_memory_disk.specs.Held.{held_of, file_of}
+use Rattle.raft_log_memory_disk.specs.Order.{in_order, Rises, AreStamped}
 
 -- the file that a path names
 abbrev pub file_named : Option Node → Option ℕ
@@ -18,11 +19,13 @@ file_named None = None
 file_named (Some Directory) = None
 file_named (Some (File id)) = Some id
 
+-- whether a path names a directory
 abbrev pub is_directory : Option Node → Bool
 is_directory None = false
 is_directory (Some Directory) = true
 is_directory (Some (File id)) = false
 
+-- what a path names
 abbrev pub node_at : Storage → List ℕ → Option Node
 node_at storage path = get_by_text storage.paths path
 
@@ -31,18 +34,27 @@ abbrev pub contents_of : Storage → Disk
 contents_of storage = record {
   directories = λ path. is_directory (node_at storage path);
   names = λ path. file_named (node_at storage path);
-  files = λ id. option_map (file_at (pieces_of id storage.journal.items)) (held_of storage.files.items id);
+  files = λ id. option_map file_of (held_of storage.files.items id);
   unused = vec_len storage.files;
   unreadable = λ id place. false;
   stopped = false;
   failures = 0;
 }
 
--- The disk is sound, and a file that is gone has no unsynced changes.
+-- the changes of all files that aren't synced, in the order of the calls
+abbrev pub unsynced_of : Storage → List (ℕ × Change)
+unsynced_of storage = in_order storage.made (held_of storage.files.items) (vec_len storage.files)
+
+-- the disk is sound, and the stamps say in which order the changes were made
 pub record IsWhole (storage : Storage) : Type 0 where
   pub sound : IsSound (contents_of storage)
-  pub gone : (id : ℕ) → held_of storage.files.items id ≡ None → pieces_of id storage.journal.items ≡ []
+  pub stamped : AreStamped storage.made (held_of storage.files.items)
+
+-- stamps rise in one way only
+pub Rises-prop : (low next : ℕ) (made : List Made) → IsProp (Rises low next made)
+Rises-prop low next [] = hlevel props
+Rises-prop low next (m ∷ ms) = hlevel (Rises-prop (suc m.stamp) next ms, props)
 
 -- it is whole in one way only, so that a type may keep the fact beside its fields
 pub IsWhole-prop : (storage : Storage) → IsProp (IsWhole storage)
-IsWhole-prop storage = hlevel (IsSound-prop, Change-set, props)
+IsWhole-prop storage = hlevel (IsSound-prop, Rises-prop, Change-set, props)

@@ -1,4 +1,4 @@
-// Changes of a file's bytes in place.
+//! Changes of a file's bytes in place.
 ghost use Rattle.std.specs.Prelude.{◌≡◌, ℕ, ◌+◌, ◌-◌, ◌++◌, min, take, drop, ◌<◌, ◌≤◌, ◌⊎◌, ◌^◌, length, slice_index, is_ok, if◌then◌else◌, OnOk, OnErr, vec_len};
 ghost use Rattle.raft_log_disk.specs.Disk.{grown, overwritten};
 

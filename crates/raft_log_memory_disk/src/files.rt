@@ -1,16 +1,16 @@
-// The files by their numbers; none at a number whose file is gone.
-ghost use Rattle.std.specs.Prelude.{◌≡◌, ℕ, ◌<◌, ◌++◌, length, take, drop, slice_index, OnOk, OnErr, vec_len};
+//! The files by their node numbers; none at a number whose file is gone.
+ghost use Rattle.std.specs.Prelude.{◌≡◌, ℕ, ◌<◌, ◌++◌, [], length, map, take, drop, slice_index, IfOk, OnOk, OnErr, vec_len};
 ghost use Rattle.std.specs.List.{All};
 ghost use Rattle.std.specs.Map.{update};
 ghost use Rattle.std.specs.Bool.{nat_eq};
 ghost use Rattle.std.specs.Option.{option_map};
-ghost use Rattle.raft_log_disk.specs.Disk.{changed, file_limit};
+ghost use Rattle.raft_log_disk.specs.Disk.{file_limit};
 ghost use Rattle.raft_log_disk.specs.Image.{end_of, Spares, IsLeft};
-ghost use Rattle.raft_log_memory_disk.specs.Pieces.{piece_of, pieces_of};
-ghost use Rattle.raft_log_memory_disk.specs.Held.{Held, held, held_of, with_content, all_synced, file_at, no_bytes};
+ghost use Rattle.raft_log_memory_disk.specs.Changes.{change_of, made_of};
+ghost use Rattle.raft_log_memory_disk.specs.Held.{Held, held_of, with_made, all_synced, changes_in, file_of};
 
 use crate::bytes::copy_range;
-use crate::journal::{Change, Unsynced};
+use crate::change::{Change, Stamped};
 use std::alloc::{AllocError, Global};
 
 /// A file's bytes.
@@ -20,14 +20,58 @@ pub struct Stored {
     pub content: Vec<u8>,
     /// As they were synced.
     pub synced: Vec<u8>,
+    /// What was changed since then, the oldest first.
+    pub changes: Vec<Stamped>,
 }
 
-pub(crate) fn empty(alloc: Global) -> Stored
-    ensures { held result ≡ no_bytes }
-{
-    Stored {
-        content: Vec::new(alloc),
-        synced: Vec::new(alloc),
+impl Stored {
+    ghost use Rattle.raft_log_memory_disk.specs.Held.{held, resting};
+
+    // A new file.
+    pub(crate) fn empty(alloc: Global) -> Stored
+        ensures { held result ≡ resting [] }
+    {
+        Stored {
+            content: Vec::new(alloc),
+            synced: Vec::new(alloc),
+            changes: Vec::new(alloc),
+        }
+    }
+
+    // A file whose bytes are all synced.
+    pub(crate) fn at_rest(alloc: Global, content: Vec<u8>) -> Result<Stored, AllocError>
+        ensures { IfOk result (λ stored. held stored ≡ resting content.items) }
+    {
+        let synced = Vec::from_slice(alloc, &content)?;
+        Ok(Stored {
+            content,
+            synced,
+            changes: Vec::new(alloc),
+        })
+    }
+
+    // Makes a change. Without memory nothing changes.
+    fn make(&mut self, stamp: u64, change: Change) -> Result<(), AllocError>
+        requires { end_of (change_of change) < file_limit }
+        ensures ok { OnOk result (held self.new ≡ with_made stamp (change_of change) (held self.old)) }
+        ensures err { OnErr result (held self.new ≡ held self.old) }
+    {
+        self.changes.reserve(1)?;
+        change.carry_out(&mut self.content)?;
+        self.changes.push(Stamped { stamp, change }).unwrap();
+        Ok(())
+    }
+
+    // Makes what is synced the content, at the cost of what isn't. Without memory nothing changes.
+    fn flush(&mut self) -> Result<(), AllocError>
+        requires { IsLeft (file_of (held self.old)) self.old.content.items }
+        ensures ok { OnOk result (held self.new ≡ all_synced (held self.old)) }
+        ensures err { OnErr result (held self.new ≡ held self.old) }
+    {
+        fit_size(&mut self.synced, &self.content)?;
+        copy_touched(&mut self.synced, &self.content, &self.changes);
+        self.changes.clear();
+        Ok(())
     }
 }
 
@@ -45,47 +89,30 @@ fn fit_size(synced: &mut Vec<u8>, content: &[u8]) -> Result<(), AllocError>
     }
 }
 
-// Copies the content at each place that a change of the file touches.
-fn copy_touched(synced: &mut Vec<u8>, content: &[u8], id: usize, journal: &[Unsynced])
+// Copies the content at each place that a change touches.
+fn copy_touched(synced: &mut Vec<u8>, content: &[u8], changes: &[Stamped])
     requires { vec_len synced.old ≡ length content.now }
     ensures len { vec_len synced.new ≡ length content.now }
     ensures same { (place : ℕ) → place < length content.now
-        → (All (Spares place) (pieces_of id journal.now) → slice_index synced.old.items place ≡ slice_index content.now place)
+        → (All (Spares place) (changes_in (map made_of changes.now)) → slice_index synced.old.items place ≡ slice_index content.now place)
         → slice_index synced.new.items place ≡ slice_index content.now place }
 {
-    for unsynced in journal {
-        if unsynced.file == id {
-            let (start, end) = unsynced.change.touched();
-            copy_range(synced, content, start, end);
-        }
+    for stamped in changes {
+        let (start, end) = stamped.change.touched();
+        copy_range(synced, content, start, end);
     }
 }
 
-// Makes what is synced of a file its content, at the cost of what isn't. Without memory nothing changes.
-fn flush(stored: &mut Stored, id: usize, journal: &[Unsynced]) -> Result<(), AllocError>
-    requires { IsLeft (file_at (pieces_of id journal.now) (held stored.old)) stored.old.content.items }
-    ensures ok { OnOk result (held stored.new ≡ all_synced (held stored.old)) }
-    ensures err { OnErr result (held stored.new ≡ held stored.old) }
-{
-    fit_size(&mut stored.synced, &stored.content)?;
-    copy_touched(&mut stored.synced, &stored.content, id, journal);
-    Ok(())
-}
-
 // Makes what is synced of one file its content. Without memory nothing changes.
-pub(crate) fn flush_file(
-    files: &mut Vec<Option<Stored>>,
-    id: usize,
-    journal: &[Unsynced],
-) -> Result<(), AllocError>
+pub(crate) fn flush_file(files: &mut Vec<Option<Stored>>, id: usize) -> Result<(), AllocError>
     requires there { id < vec_len files.old }
-    requires sound { (file : Held) → held_of files.old.items id ≡ Some file → IsLeft (file_at (pieces_of id journal.now) file) file.content }
+    requires sound { (file : Held) → held_of files.old.items id ≡ Some file → IsLeft (file_of file) file.content }
     ensures len { vec_len files.new ≡ vec_len files.old }
     ensures ok { OnOk result ((q : ℕ) → held_of files.new.items q ≡ update nat_eq (held_of files.old.items) id (option_map all_synced (held_of files.old.items id)) q) }
     ensures err { OnErr result ((q : ℕ) → held_of files.new.items q ≡ held_of files.old.items q) }
 {
     if let Some(stored) = &mut files[id] {
-        flush(stored, id, journal)
+        stored.flush()
     } else {
         Ok(())
     }
@@ -95,16 +122,17 @@ pub(crate) fn flush_file(
 pub(crate) fn change_file(
     files: &mut Vec<Option<Stored>>,
     id: usize,
-    change: &Change,
+    stamp: u64,
+    change: Change,
 ) -> Result<(), AllocError>
     requires there { id < vec_len files.old }
-    requires short { end_of (piece_of change.now) < file_limit }
+    requires short { end_of (change_of change) < file_limit }
     ensures len { vec_len files.new ≡ vec_len files.old }
-    ensures ok { OnOk result ((q : ℕ) → held_of files.new.items q ≡ update nat_eq (held_of files.old.items) id (option_map (with_content (changed (piece_of change.now))) (held_of files.old.items id)) q) }
+    ensures ok { OnOk result ((q : ℕ) → held_of files.new.items q ≡ update nat_eq (held_of files.old.items) id (option_map (with_made stamp (change_of change)) (held_of files.old.items id)) q) }
     ensures err { OnErr result ((q : ℕ) → held_of files.new.items q ≡ held_of files.old.items q) }
 {
     if let Some(stored) = &mut files[id] {
-        change.carry_out(&mut stored.content)
+        stored.make(stamp, change)
     } else {
         Ok(())
     }

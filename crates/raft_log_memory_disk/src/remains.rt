@@ -1,15 +1,18 @@
-// What a crash leaves of the file system.
+//! What a crash leaves of the files.
 ghost use Rattle.std.specs.Prelude.{◌≡◌, ℕ, ◌<◌, length, IfOk, OnOk, vec_len};
 ghost use Rattle.std.specs.List.{All};
+ghost use Rattle.std.specs.List.Sorted.{IsNonDecreasing};
 ghost use Rattle.std.specs.Option.{option_map};
 ghost use Rattle.raft_log_disk.specs.Disk.{file_limit};
 ghost use Rattle.raft_log_disk.specs.Image.{end_of};
-ghost use Rattle.raft_log_memory_disk.specs.Pieces.{piece_of, pieces_of};
-ghost use Rattle.raft_log_memory_disk.specs.Held.{held, held_of};
-ghost use Rattle.raft_log_memory_disk.specs.Left.{left_by, left_of, left_held};
+ghost use Rattle.raft_log_memory_disk.specs.Changes.{change_of};
+ghost use Rattle.raft_log_memory_disk.specs.Held.{Held, held, held_of, changes_in};
+ghost use Rattle.raft_log_memory_disk.specs.Left.{left_by};
+ghost use Rattle.raft_log_memory_disk.specs.Stamps.{left_own, left_held, place_in};
 
+use crate::change::Change;
 use crate::files::Stored;
-use crate::journal::{Change, Unsynced};
+use crate::order::place_of;
 use crate::remainder::{Piece, Remainder};
 use std::alloc::{AllocError, Global};
 
@@ -20,8 +23,8 @@ fn carry_out(
     change: &Change,
     content: &mut Vec<u8>,
 ) -> Result<(), AllocError>
-    requires { end_of (piece_of change.now) < file_limit }
-    ensures { OnOk result (content.new.items ≡ left_by what.now place (piece_of change.now) content.old.items) }
+    requires { end_of (change_of change.now) < file_limit }
+    ensures { OnOk result (content.new.items ≡ left_by what.now place (change_of change.now) content.old.items) }
 {
     match what {
         Remainder::LastSync => Ok(()),
@@ -43,57 +46,44 @@ fn carry_out(
     }
 }
 
-// What is left of a file's bytes.
+// What is left of a file's bytes, where the stamps of all changes are these.
 fn left_bytes(
     alloc: Global,
     what: &Remainder,
-    id: usize,
-    journal: &[Unsynced],
-    synced: &[u8],
+    stamps: &[u64],
+    stored: &Stored,
 ) -> Result<Vec<u8>, AllocError>
-    requires { All (λ p. end_of p < file_limit) (pieces_of id journal.now) }
-    ensures { IfOk result (λ bytes. bytes.items ≡ left_of what.now 0 id journal.now synced.now) }
+    requires sorted { IsNonDecreasing stamps.now }
+    requires short { All (λ c. end_of c < file_limit) (changes_in (held stored.now).changes) }
+    ensures { IfOk result (λ bytes. bytes.items ≡ left_own what.now (place_in stamps.now) (held stored.now).changes stored.now.synced.items) }
 {
-    let mut bytes = Vec::from_slice(alloc, synced)?;
-    for (place, unsynced) in journal.iter().enumerate() {
-        if unsynced.file == id {
-            carry_out(what, place, &unsynced.change, &mut bytes)?;
-        }
+    let mut bytes = Vec::from_slice(alloc, &stored.synced)?;
+    for stamped in &stored.changes {
+        let place = place_of(stamps, stamped.stamp);
+        carry_out(what, place, &stamped.change, &mut bytes)?;
     }
     Ok(bytes)
 }
 
-// What is left of a file.
-fn left_file(
-    alloc: Global,
-    what: &Remainder,
-    id: usize,
-    journal: &[Unsynced],
-    stored: &Stored,
-) -> Result<Stored, AllocError>
-    requires { All (λ p. end_of p < file_limit) (pieces_of id journal.now) }
-    ensures { IfOk result (λ after. held after ≡ left_held what.now id journal.now (held stored.now)) }
-{
-    let content = left_bytes(alloc, what, id, journal, &stored.synced)?;
-    let synced = Vec::from_slice(alloc, &content)?;
-    Ok(Stored { content, synced })
-}
-
-// What is left of all files.
+// What is left of all files, where the stamps of all changes are these.
 pub(crate) fn left_files(
     alloc: Global,
     what: &Remainder,
-    journal: &[Unsynced],
+    stamps: &[u64],
     files: &[Option<Stored>],
 ) -> Result<Vec<Option<Stored>>, AllocError>
-    requires { (id : ℕ) → All (λ p. end_of p < file_limit) (pieces_of id journal.now) }
+    requires sorted { IsNonDecreasing stamps.now }
+    requires short { (id : ℕ) (file : Held) → held_of files.now id ≡ Some file → All (λ c. end_of c < file_limit) (changes_in file.changes) }
     ensures len { IfOk result (λ after. vec_len after ≡ length files.now) }
-    ensures files { IfOk result (λ after. (q : ℕ) → held_of after.items q ≡ option_map (left_held what.now q journal.now) (held_of files.now q)) }
+    ensures files { IfOk result (λ after. (q : ℕ) → held_of after.items q ≡ option_map (left_held what.now (place_in stamps.now)) (held_of files.now q)) }
 {
     let mut left = Vec::with_capacity(alloc, files.len())?;
-    for (id, slot) in files.iter().enumerate() {
+    for slot in files {
         let after = match slot {
-            Some(stored) => Some(left_file(alloc, what, id, journal, stored)?),
+            Some(stored) => {
+                let bytes = left_bytes(alloc, what, stamps, stored)?;
+                Some(Stored::at_rest(alloc, bytes)?)
+            }
             None => None,
         };
         left.push(after)?;

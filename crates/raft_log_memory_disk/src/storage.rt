@@ -1,10 +1,11 @@
-// What a file system in memory holds. Each change is made whole, or without memory not at all.
+//! What a file system in memory holds. Each change is made whole, or without memory not at all.
 ghost use Rattle.std.specs.Prelude.{ℕ, List, MatchOption};
 ghost use Rattle.raft_log_memory_disk.specs.Listing.{IsChild};
 
 use crate::bytes::copy_out;
-use crate::files::{Stored, change_file, empty, flush_file};
-use crate::journal::{Change, Unsynced, forget};
+use crate::change::Change;
+use crate::files::{Stored, change_file, flush_file};
+use crate::order::sorted_stamps;
 use crate::remainder::Remainder;
 use crate::remains::left_files;
 use std::alloc::{AllocError, Global};
@@ -19,7 +20,7 @@ const LIMIT: usize = 1 << 63;
 pub enum Node {
     /// A directory.
     Directory,
-    /// The file with this number.
+    /// The file with this node number.
     File(usize),
 }
 
@@ -30,39 +31,39 @@ pub struct Storage {
     pub alloc: Global,
     /// What each path names.
     pub paths: BTreeMap<String, Node>,
-    /// The files by their numbers; none at a number whose file is gone.
+    /// The files by their node numbers; none at a number whose file is gone.
     pub files: Vec<Option<Stored>>,
-    /// The changes that aren't synced, in the order of the calls.
-    pub journal: Vec<Unsynced>,
+    /// How many changes of files were made so far. Each one's stamp says how many were made before it.
+    pub made: u64,
 }
 
 impl Storage {
-    ghost use Rattle.std.specs.List.{filter};
-    ghost use Rattle.std.specs.Prelude.{not, nat_eq, ◌≡◌, ℕ, ◌+◌, ◌-◌, ◌++◌, min, take, drop, length, IsTrue, ◌↔◌, ◌⊎◌, ◌<◌, ◌≤◌, List, OnOk, OnErr, IfOk, IfErr, vec_len, is_some};
-    ghost use Rattle.raft_log_disk.specs.Disk.{Wrote, ShortenedTo, GrewTo, File, with_file, file_limit, empty_disk, HasDirectory};
-    ghost use Rattle.raft_log_disk.specs.Image.{end_of, IsImage};
-    ghost use Rattle.raft_log_disk.specs.Calls.{after_change, flushed, created, deleted, renamed, with_directory};
-    ghost use Rattle.std.specs.Prelude.{map};
+    ghost use Rattle.std.specs.Prelude.{nat_eq, ◌≡◌, ℕ, ◌+◌, ◌-◌, ◌++◌, [], min, take, drop, length, IsTrue, ◌↔◌, ◌⊎◌, ◌<◌, ◌≤◌, List, OnOk, OnErr, IfOk, IfErr, vec_len, is_some, map};
     ghost use Rattle.std.specs.String.{string_bytes, string_cmp};
     ghost use Rattle.std.specs.BTreeMap.{IsOrdered};
-    ghost use Rattle.raft_log_memory_disk.specs.Pieces.{piece_of};
-    ghost use Rattle.raft_log_memory_disk.specs.Listing.{Names};
     ghost use Rattle.std.specs.Map.{update};
     ghost use Rattle.std.specs.Str.{bytes_eq};
+    ghost use Rattle.raft_log_disk.specs.Disk.{Wrote, ShortenedTo, GrewTo, file_limit, empty_disk, HasDirectory};
+    ghost use Rattle.raft_log_disk.specs.Image.{end_of, IsImage};
+    ghost use Rattle.raft_log_disk.specs.Calls.{created, with_directory};
+    ghost use Rattle.raft_log_memory_disk.specs.Changes.{change_of};
+    ghost use Rattle.raft_log_memory_disk.specs.Listing.{Names};
     ghost use Rattle.raft_log_memory_disk.specs.Held.{Held, held_of};
-    ghost use Rattle.raft_log_memory_disk.specs.Storage.{file_named, is_directory, node_at, contents_of, IsWhole};
-    ghost use Rattle.raft_log_memory_disk.specs.Remains.{left_disk};
+    ghost use Rattle.raft_log_memory_disk.specs.Storage.{file_named, is_directory, node_at, contents_of, unsynced_of, IsWhole};
+    ghost use Rattle.raft_log_memory_disk.specs.Left.{left_disk};
+    ghost use Rattle.raft_log_memory_disk.specs.Steps.{IsSame, Makes, Syncs, Adds, Drops, Moves, IsRoomFault};
 
     /// With no directory and no file.
     pub fn new(alloc: Global) -> Storage
         ensures contents { contents_of result ≡ empty_disk }
+        ensures order { unsynced_of result ≡ [] }
         ensures whole { IsWhole result }
     {
         Storage {
             alloc,
             paths: BTreeMap::new(alloc),
             files: Vec::new(alloc),
-            journal: Vec::new(alloc),
+            made: 0,
         }
     }
 
@@ -73,7 +74,7 @@ impl Storage {
         self.paths.get(path).copied()
     }
 
-    /// The number of the file that has a name.
+    /// The node number of the file that has a name.
     pub fn file(&self, path: &str) -> Option<usize>
         ensures { result ≡ file_named (node_at self.now path.now) }
     {
@@ -150,17 +151,19 @@ impl Storage {
     /// What a crash leaves. It is refused for want of memory alone.
     pub fn left(&self, what: &Remainder) -> Result<Storage, AllocError>
         requires { IsWhole self.now }
-        ensures contents { IfOk result (λ after. contents_of after ≡ left_disk what.now self.now) }
+        ensures contents { IfOk result (λ after. contents_of after ≡ left_disk what.now (unsynced_of self.now) (contents_of self.now)) }
+        ensures order { IfOk result (λ after. unsynced_of after ≡ []) }
         ensures image { IfOk result (λ after. IsImage (contents_of self.now) (contents_of after)) }
         ensures whole { IfOk result (λ after. IsWhole after) }
     {
-        let files = left_files(self.alloc, what, &self.journal, &self.files)?;
+        let stamps = sorted_stamps(self.alloc, &self.files)?;
+        let files = left_files(self.alloc, what, &stamps, &self.files)?;
         let paths = self.paths.clone()?;
         Ok(Storage {
             alloc: self.alloc,
             paths,
             files,
-            journal: Vec::new(self.alloc),
+            made: 0,
         })
     }
 
@@ -169,9 +172,9 @@ impl Storage {
     pub fn write(&mut self, id: usize, offset: usize, bytes: &[u8]) -> Result<(), ErrorKind>
         requires there { (held_of self.old.files.items id ≡ None) → ⊥ }
         requires whole { IsWhole self.old }
-        ensures ok { OnOk result ((file : File) → (contents_of self.old).files id ≡ Some file → contents_of self.new ≡ with_file id (Some (after_change (Wrote offset bytes.now) file)) (contents_of self.old)) }
-        ensures err { OnErr result (contents_of self.new ≡ contents_of self.old) }
-        ensures kind { IfErr result (λ error. (error ≡ ErrorKind.OutOfMemory) ⊎ ((error ≡ ErrorKind.StorageFull) × (file_limit ≤ end_of (Wrote offset bytes.now)))) }
+        ensures ok { OnOk result (Makes id (Wrote offset bytes.now) self.old self.new) }
+        ensures err { OnErr result (IsSame self.old self.new) }
+        ensures errors { IfErr result (IsRoomFault (Wrote offset bytes.now)) }
         ensures whole { IsWhole self.new }
     {
         if LIMIT <= offset || LIMIT - offset <= bytes.len() {
@@ -184,16 +187,16 @@ impl Storage {
             .map_err(|_| ErrorKind::OutOfMemory)
     }
 
-    /// Cuts a file that is there to a size in bytes. It is refused as `OutOfMemory` alone.
-    pub fn cut(&mut self, id: usize, size: usize) -> Result<(), ErrorKind>
+    /// Shortens a file that is there to a size in bytes. It is refused as `OutOfMemory` alone.
+    pub fn shorten(&mut self, id: usize, size: usize) -> Result<(), ErrorKind>
         requires there { (held_of self.old.files.items id ≡ None) → ⊥ }
         requires whole { IsWhole self.old }
-        ensures ok { OnOk result ((file : File) → (contents_of self.old).files id ≡ Some file → contents_of self.new ≡ with_file id (Some (after_change (ShortenedTo size) file)) (contents_of self.old)) }
-        ensures err { OnErr result (contents_of self.new ≡ contents_of self.old) }
-        ensures kind { IfErr result (λ error. error ≡ ErrorKind.OutOfMemory) }
+        ensures ok { OnOk result (Makes id (ShortenedTo size) self.old self.new) }
+        ensures err { OnErr result (IsSame self.old self.new) }
+        ensures errors { IfErr result (λ error. error ≡ ErrorKind.OutOfMemory) }
         ensures whole { IsWhole self.new }
     {
-        self.change(id, Change::Cut { size })
+        self.change(id, Change::Shortening { size })
             .map_err(|_| ErrorKind::OutOfMemory)
     }
 
@@ -202,9 +205,9 @@ impl Storage {
     pub fn grow(&mut self, id: usize, offset: usize, size: usize) -> Result<(), ErrorKind>
         requires there { (held_of self.old.files.items id ≡ None) → ⊥ }
         requires whole { IsWhole self.old }
-        ensures ok { OnOk result ((file : File) → (contents_of self.old).files id ≡ Some file → contents_of self.new ≡ with_file id (Some (after_change (GrewTo (offset + size)) file)) (contents_of self.old)) }
-        ensures err { OnErr result (contents_of self.new ≡ contents_of self.old) }
-        ensures kind { IfErr result (λ error. (error ≡ ErrorKind.OutOfMemory) ⊎ ((error ≡ ErrorKind.StorageFull) × (file_limit ≤ end_of (GrewTo (offset + size))))) }
+        ensures ok { OnOk result (Makes id (GrewTo (offset + size)) self.old self.new) }
+        ensures err { OnErr result (IsSame self.old self.new) }
+        ensures errors { IfErr result (IsRoomFault (GrewTo (offset + size))) }
         ensures whole { IsWhole self.new }
     {
         if LIMIT <= offset || LIMIT - offset <= size {
@@ -215,48 +218,47 @@ impl Storage {
             .map_err(|_| ErrorKind::OutOfMemory)
     }
 
-    // Makes a change of a file that is there.
+    // Makes a change of a file that is there. The 2^64-th one finds no stamp, and is refused as for want of memory.
     fn change(&mut self, id: usize, change: Change) -> Result<(), AllocError>
         requires there { (held_of self.old.files.items id ≡ None) → ⊥ }
-        requires short { end_of (piece_of change) < file_limit }
+        requires short { end_of (change_of change) < file_limit }
         requires whole { IsWhole self.old }
-        ensures ok { OnOk result ((file : File) → (contents_of self.old).files id ≡ Some file → contents_of self.new ≡ with_file id (Some (after_change (piece_of change) file)) (contents_of self.old)) }
-        ensures err { OnErr result (contents_of self.new ≡ contents_of self.old) }
+        ensures ok { OnOk result (Makes id (change_of change) self.old self.new) }
+        ensures err { OnErr result (IsSame self.old self.new) }
         ensures whole { IsWhole self.new }
     {
-        self.journal.reserve(1)?;
-        change_file(&mut self.files, id, &change)?;
-        let unsynced = Unsynced { file: id, change };
-        self.journal.push(unsynced).unwrap();
+        if self.made == u64::MAX {
+            return Err(AllocError);
+        }
+        change_file(&mut self.files, id, self.made, change)?;
+        self.made += 1;
         Ok(())
     }
 
-    /// Syncs a file that is there. It is refused for want of memory alone.
+    /// Makes a file's bytes durable, at the cost of its own changes. It is refused for want of memory alone.
     pub fn flush(&mut self, id: usize) -> Result<(), AllocError>
         requires there { (held_of self.old.files.items id ≡ None) → ⊥ }
         requires whole { IsWhole self.old }
-        ensures ok { OnOk result ((file : File) → (contents_of self.old).files id ≡ Some file → contents_of self.new ≡ with_file id (Some (flushed file)) (contents_of self.old)) }
-        ensures err { OnErr result (contents_of self.new ≡ contents_of self.old) }
+        ensures ok { OnOk result (Syncs id self.old self.new) }
+        ensures err { OnErr result (IsSame self.old self.new) }
         ensures whole { IsWhole self.new }
     {
-        flush_file(&mut self.files, id, &self.journal)?;
-        forget(&mut self.journal, id);
-        Ok(())
+        flush_file(&mut self.files, id)
     }
 
-    /// Adds an empty file under a new name, and answers its number. It is refused for want of memory alone.
+    /// Adds an empty file under a new name, and answers its node number. It is refused for want of memory alone.
     pub fn add_file(&mut self, path: &str) -> Result<usize, AllocError>
         requires free { node_at self.old path.now ≡ None }
         requires whole { IsWhole self.old }
         ensures number { IfOk result (λ id. id ≡ (contents_of self.old).unused) }
-        ensures ok { OnOk result (contents_of self.new ≡ created path.now (contents_of self.old)) }
-        ensures err { OnErr result (contents_of self.new ≡ contents_of self.old) }
+        ensures ok { OnOk result (Adds (created path.now) self.old self.new) }
+        ensures err { OnErr result (IsSame self.old self.new) }
         ensures whole { IsWhole self.new }
     {
         let id = self.files.len();
         self.files.reserve(1)?;
         self.name(path, Node::File(id))?;
-        let empty = Some(empty(self.alloc));
+        let empty = Some(Stored::empty(self.alloc));
         self.files.push(empty).unwrap();
         Ok(id)
     }
@@ -265,8 +267,8 @@ impl Storage {
     pub fn add_directory(&mut self, path: &str) -> Result<(), AllocError>
         requires free { node_at self.old path.now ≡ None }
         requires whole { IsWhole self.old }
-        ensures ok { OnOk result (contents_of self.new ≡ with_directory path.now (contents_of self.old)) }
-        ensures err { OnErr result (contents_of self.new ≡ contents_of self.old) }
+        ensures ok { OnOk result (Adds (with_directory path.now) self.old self.new) }
+        ensures err { OnErr result (IsSame self.old self.new) }
         ensures whole { IsWhole self.new }
     {
         self.name(path, Node::Directory)?;
@@ -277,7 +279,7 @@ impl Storage {
     pub fn remove_file(&mut self, path: &str, id: usize)
         requires is { node_at self.old path.now ≡ Some (Node.File id) }
         requires whole { IsWhole self.old }
-        ensures ok { contents_of self.new ≡ deleted path.now id (contents_of self.old) }
+        ensures ok { Drops path.now id self.old self.new }
         ensures whole { IsWhole self.new }
     {
         self.unname(path);
@@ -289,8 +291,8 @@ impl Storage {
         requires is { node_at self.old from.now ≡ Some (Node.File id) }
         requires apart { node_at self.old to.now ≡ Some Node.Directory → ⊥ }
         requires whole { IsWhole self.old }
-        ensures ok { OnOk result (contents_of self.new ≡ renamed from.now to.now id (contents_of self.old)) }
-        ensures err { OnErr result (contents_of self.new ≡ contents_of self.old) }
+        ensures ok { OnOk result (Moves from.now to.now id self.old self.new) }
+        ensures err { OnErr result (IsSame self.old self.new) }
         ensures whole { IsWhole self.new }
     {
         if from == to {
@@ -313,18 +315,17 @@ impl Storage {
         ensures nodes { (q : List ℕ) → node_at self.new q ≡ node_at self.old q }
         ensures len { vec_len self.new.files ≡ vec_len self.old.files }
         ensures files { (q : ℕ) → held_of self.new.files.items q ≡ update nat_eq (held_of self.old.files.items) id None q }
-        ensures journal { self.new.journal.items ≡ filter (λ u. not (nat_eq u.file id)) self.old.journal.items }
+        ensures made { self.new.made ≡ self.old.made }
     {
         if id < self.files.len() {
             self.files[id] = None;
         }
-        forget(&mut self.journal, id);
     }
 
     // Takes away a name.
     fn unname(&mut self, path: &str)
         ensures files { self.new.files ≡ self.old.files }
-        ensures journal { self.new.journal ≡ self.old.journal }
+        ensures made { self.new.made ≡ self.old.made }
         ensures nodes { (q : List ℕ) → node_at self.new q ≡ update bytes_eq (node_at self.old) path.now None q }
     {
         self.paths.remove(path);
@@ -333,7 +334,7 @@ impl Storage {
     // Puts a name.
     fn name(&mut self, path: &str, node: Node) -> Result<(), AllocError>
         ensures files { self.new.files ≡ self.old.files }
-        ensures journal { self.new.journal ≡ self.old.journal }
+        ensures made { self.new.made ≡ self.old.made }
         ensures ok { OnOk result ((q : List ℕ) → node_at self.new q ≡ update bytes_eq (node_at self.old) path.now (Some node) q) }
         ensures err { OnErr result ((q : List ℕ) → node_at self.new q ≡ node_at self.old q) }
     {

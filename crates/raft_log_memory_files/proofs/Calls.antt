@@ -1,5 +1,5 @@
 -- The exits of the calls of the file system in memory.
-use Rattle.std.specs.Prelude.{◌≡◌, ℕ, ◌⊎◌, false, Option, Some, None, List, Result, Ok, Err}
+use Rattle.std.specs.Prelude.{◌≡◌, ℕ, ◌⊎◌, Bool, false, Option, Some, None, List, Result, Ok, Err}
 use Rattle.std.specs.Result.{IfErr, OnOk, OnErr, MatchResult}
 use Rattle.std.specs.declared.io.ErrorKind.{ErrorKind}
 use Rattle.std.proofs.Common.{refl, sym, ◌∙◌, ap, inl, inr}
@@ -13,9 +13,12 @@ use Rattle.raft_log_memory_files.specs.declared.memory.MemoryFileSystem.{MemoryF
 use Rattle.raft_log_memory_disk.specs.declared.storage.Storage.{Storage}
 use Rattle.raft_log_disk.specs.Arguments.{WrongCreate, WrongName, WrongRename, WrongDirectory, WrongHandle, WrongWriter}
 use Rattle.std.specs.Option.{option_map}
-use Rattle.raft_log_memory_disk.specs.Held.{Held, file_at}
+use Rattle.raft_log_memory_disk.specs.Held.{Held, file_of}
 use Rattle.raft_log_memory_disk.specs.Storage.{contents_of}
+use Rattle.raft_log_memory_disk.specs.Steps.{IsSame, Makes}
 use Rattle.raft_log_memory_files.specs.Memory.{disk_of}
+use Rattle.raft_log_memory_files.specs.Turns.{IsEnded, at_the_stop, not_made}
+use Rattle.raft_log_memory_files.proofs.Turns.{counted_or_stop}
 
 -- what holds of every error holds of this one
 pub any_err : {T E : Type 0} (r : Result T E) (P : E → Type 0) → ((e : E) → P e) → IfErr r P
@@ -53,22 +56,36 @@ changed_or_not id next (Ok v) begun after old same ok err runs there =
     }
 changed_or_not id next (Err e) begun after old same ok err runs there = ap (over begun) err ∙ same
 
-pub change_ok : {T : Type 0} (id : ℕ) (next : File → File) (done : Result (Unit {0}) ErrorKind) (old mid new : Disk) (result : Result T ErrorKind)
-    → MatchResult done (λ v. Changes id next old mid) (λ e. mid ≡ old)
-    → OnOk result (OnErr done ⊥ × (new ≡ mid)) → OnOk result (Changes id next old new)
-change_ok id next (Ok v) old mid new (Ok w) is ok = record { runs = is.runs; file = is.file; is = is.is; done = ok.1 ∙ is.done }
-change_ok id next (Err e) old mid new (Ok w) is ok = absurd (ok.0)
-change_ok id next done old mid new (Err e) is ok = tt
+-- the same from what the storage says of a change
+pub made_or_not : (id : ℕ) (change : Change) (done : Result (Unit {0}) ErrorKind) (begun : MemoryFileSystem) (after : Storage) (old : Disk) → disk_of begun ≡ old
+    → OnOk done (Makes id change begun.storage after) → OnErr done (IsSame begun.storage after)
+    → old.stopped ≡ false → (old.files id ≡ None → ⊥)
+    → MatchResult done (λ v. Changes id (after_change change) old (over begun (contents_of after))) (λ e. over begun (contents_of after) ≡ old)
+made_or_not id change (Ok v) begun after old same ok err runs there = changed_or_not id (after_change change) (Ok v) begun after old same ok.contents err runs there
+made_or_not id change (Err e) begun after old same ok err runs there = changed_or_not id (after_change change) (Err e) begun after old same ok err.contents runs there
 
-pub change_err : {T : Type 0} (id : ℕ) (piece : Change) (wrong : ErrorKind → Type 0) (done : Result (Unit {0}) ErrorKind) (old mid new : Disk) (result : Result T ErrorKind)
+pub change_ok : {T : Type 0} (id : ℕ) (next : File → File) (done : Result (Unit {0}) ErrorKind) (ends : Bool) (old mid new : Disk) (result : Result T ErrorKind)
+    → MatchResult done (λ v. Changes id next old mid) (λ e. mid ≡ old)
+    → OnOk result ((ends ≡ false) × OnErr done ⊥ × (new ≡ mid)) → OnOk result (Changes id next old new)
+change_ok id next (Ok v) ends old mid new (Ok w) is ok = record { runs = is.runs; file = is.file; is = is.is; done = ok.2 ∙ is.done }
+change_ok id next (Err e) ends old mid new (Ok w) is ok = absurd (ok.1)
+change_ok id next done ends old mid new (Err e) is ok = tt
+
+pub change_err : {T : Type 0} (id : ℕ) (change : Change) (wrong : ErrorKind → Type 0) (done : Result (Unit {0}) ErrorKind) (ends : Bool) (old mid new : Disk) (result : Result T ErrorKind)
     → old.stopped ≡ false → IsRight wrong
-    → MatchResult done (λ v. Changes id (after_change piece) old mid) (λ e. mid ≡ old)
-    → OnErr result ((new ≡ at_stop mid) ⊎ (OnOk done ⊥ × (new ≡ counted mid))) → IfErr result (λ e. RefusedChange id piece wrong e old new)
-change_err id piece wrong done old mid new (Ok w) runs right is err = tt
-change_err id piece wrong (Ok v) old mid new (Err e) runs right is (inl stop) = stops runs mid (inr (right, inr is)) stop
-change_err id piece wrong (Ok v) old mid new (Err e) runs right is (inr fail) = absurd (fail.0)
-change_err id piece wrong (Err k) old mid new (Err e) runs right is (inl stop) = stops runs mid (inl is) stop
-change_err id piece wrong (Err k) old mid new (Err e) runs right is (inr fail) = failed runs right mid (none is) fail.1
+    → MatchResult done (λ v. Changes id (after_change change) old mid) (λ e. mid ≡ old)
+    → IfErr result (λ error. IsEnded ends done error mid new) → IfErr result (λ error. RefusedChange id change wrong error old new)
+change_err id change wrong done ends old mid new (Ok w) runs right is ended = tt
+change_err id change wrong (Ok v) ends old mid new (Err e) runs right is (at_the_stop falls kind stop) = stops runs mid (inr (right, inr is)) stop
+change_err id change wrong (Err k) ends old mid new (Err e) runs right is (at_the_stop falls kind stop) = stops runs mid (inl is) stop
+change_err id change wrong (Ok v) ends old mid new (Err e) runs right is (not_made past same fail) = absurd (ok_not same)
+  where
+    ok_not : Ok v ≡ Err e → ⊥
+    ok_not p = cc
+change_err id change wrong (Err k) ends old mid new (Err e) runs right is (not_made past same fail) = elim (counted_or_stop mid new fail) [
+  | inl one ↦ failed runs right mid (none is) one
+  | inr stop ↦ stops runs mid (inl is) stop
+]
 
 -- arguments that are right
 pub right_name : (path : List ℕ) (d : Disk) (id : ℕ) → d.names path ≡ Some id → (e : ErrorKind) → WrongName path d e → ⊥
@@ -95,7 +112,7 @@ pub right_writer : (handle : Handle) (d : Disk) → (d.files handle.file ≡ Non
 right_writer handle d there writes e (inl wrong) = there wrong.1
 right_writer handle d there writes e (inr (at, reads)) = cc (writes, reads)
 
--- the bytes that are kept of a file that is there
-pub held_there : (pieces : List Change) (o : Option Held) → (option_map (file_at pieces) o ≡ None → ⊥) → (file : Held) × (o ≡ Some file)
-held_there pieces None there = absurd (there refl)
-held_there pieces (Some file) there = (file, refl)
+-- what is kept of a file that is there
+pub held_there : (o : Option Held) → (option_map file_of o ≡ None → ⊥) → (file : Held) × (o ≡ Some file)
+held_there None there = absurd (there refl)
+held_there (Some file) there = (file, refl)

@@ -1,8 +1,9 @@
-pub use Rattle.raft_log_memory_disk.specs.Pieces
+pub use Rattle.raft_log_memory_disk.specs.Changes
 pub use Rattle.raft_log_memory_disk.specs.Held
+pub use Rattle.raft_log_memory_disk.specs.Order
 pub use Rattle.raft_log_memory_disk.specs.Storage
 pub use Rattle.raft_log_memory_disk.specs.Listing
 pub use Rattle.raft_log_memory_disk.specs.Left
-pub use Rattle.raft_log_memory_disk.specs.Remains
+pub use Rattle.raft_log_memory_disk.specs.Steps
 pub mod Memory
 pub mod Turns

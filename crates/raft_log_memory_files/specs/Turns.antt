@@ -1,16 +1,17 @@
 -- Which changing calls of a file system in memory fail, and how.
-use Rattle.std.specs.Prelude.{◌≡◌, ℕ, ◌-◌, ◌≤◌, ◌⊎◌, true, false, cond, List, [], ◌∷◌, ◌++◌}
+use Rattle.std.specs.Prelude.{◌≡◌, ℕ, ◌-◌, ◌⊎◌, Bool, true, false, cond, List, [], ◌∷◌, ◌++◌, Result, Err}
+use Rattle.std.specs.Result.{MatchResult}
 use Rattle.std.specs.List.{Contains, filter}
 use Rattle.std.proofs.Common.{map, nat_eq, nat_lt}
 use Rattle.std.specs.declared.io.ErrorKind.{ErrorKind}
-use Rattle.std.specs.declared.io.ErrorKind.TheVariants.{Other, OutOfMemory, StorageFull}
-use Rattle.raft_log_disk.specs.Disk.{Change, Disk, file_limit}
-use Rattle.raft_log_disk.specs.Image.{end_of}
-use Rattle.raft_log_disk.specs.Calls.{after_change, counted, at_stop, Changes, Nothing}
+use Rattle.std.specs.declared.io.ErrorKind.TheVariants.{Other, OutOfMemory}
+use Rattle.raft_log_disk.specs.Disk.{Change, Disk}
+use Rattle.raft_log_disk.specs.Calls.{after_change, at_stop, Changes}
 use Rattle.raft_log_disk.specs.declared.handle.Fault.{Fault}
 use Rattle.raft_log_disk.specs.declared.handle.Fault.TheVariants.{Refuse, StopAt}
 use Rattle.raft_log_memory_files.specs.declared.memory.MemoryFileSystem.{MemoryFileSystem}
-use Rattle.raft_log_memory_files.specs.Memory.{disk_of}
+use Rattle.raft_log_memory_files.specs.Memory.{disk_of, Kept, kept, failed_once}
+use Rattle.raft_log_memory_disk.specs.Steps.{IsRoomFault}
 
 -- how many changing calls there are up to each one that is refused, and up to the one at which the file system stops,
 -- or 0 where no stop is armed
@@ -53,38 +54,64 @@ pub record IsAnswered (old new : MemoryFileSystem) : Type 0 where
   pub spared : IsSpared (armed old)
   pub next : armed new ≡ call_later (armed old)
 
--- An armed refusal fell, and nothing was done. (One failure more, and where no more can be counted, a stop.)
+-- an armed refusal fell, and nothing was done
 pub record IsRefused (error : ErrorKind) (old new : MemoryFileSystem) : Type 0 where
   pub falls : Contains (armed old).refusals 1
   pub no_stop : (armed old).stop ≡ 1 → ⊥
   pub kind : error ≡ Other
-  pub left : (disk_of new ≡ counted (disk_of old)) ⊎ (disk_of new ≡ at_stop (disk_of old))
+  pub left : disk_of new ≡ failed_once (disk_of old)
 
--- the armed stop fell, and this is left
-pub record IsStopped (left : Disk → Type 0) (old new : MemoryFileSystem) : Type 0 where
+-- the armed stop fell, and nothing was done
+pub record IsStopped (error : ErrorKind) (old new : MemoryFileSystem) : Type 0 where
   pub falls : (armed old).stop ≡ 1
-  pub disk : Disk
-  pub leaves : left disk
-  pub done : disk_of new ≡ at_stop disk
+  pub kind : error ≡ Other
+  pub left : disk_of new ≡ at_stop (disk_of old)
 
--- Why a changing call was refused: it doesn't count, as the file system has stopped or the argument is wrong; or the
--- armed stop fell, or an armed refusal; or nothing fell, and the file would get too long or memory is short.
-pub data IsRefusedCall (left : Disk → Type 0) (wrong : ErrorKind → Type 0) (long : Type 0) (error : ErrorKind) (old new : MemoryFileSystem) : Type 0 where
-  uncounted : ((disk_of old).stopped ≡ true) ⊎ wrong error → armed new ≡ armed old → IsRefusedCall left wrong long error old new
-  stop_fell : IsCounted wrong old new → IsStopped left old new → IsRefusedCall left wrong long error old new
-  refusal_fell : IsCounted wrong old new → IsRefused error old new → IsRefusedCall left wrong long error old new
-  too_long : IsCounted wrong old new → IsSpared (armed old) → long → error ≡ StorageFull → IsRefusedCall left wrong long error old new
-  no_memory : IsCounted wrong old new → IsSpared (armed old) → error ≡ OutOfMemory → IsRefusedCall left wrong long error old new
+-- what holds after a failure: nothing was done, and it was counted, or is a stop where no more can be counted
+abbrev pub after_failure : Kept → Kept
+after_failure k = record k { disk = failed_once k.disk }
 
--- what a stop leaves of the write, cut or growth that it falls at: the change is made and isn't synced, or, where the
--- file would get too long or memory is short, it isn't made
-abbrev pub MadeOrNot : ℕ → Change → Disk → Disk → Type 0
-MadeOrNot id piece old left = Changes id (after_change piece) old left ⊎ Nothing old left
+-- what holds after a stop that left this
+abbrev pub after_stop : Kept → Kept
+after_stop k = record k { disk = at_stop k.disk }
+
+-- Why a changing call was refused, and what it left. It doesn't count, as the file system has stopped or the argument is
+-- wrong, and nothing changed; or the armed stop fell; or an armed refusal fell; or nothing fell, and there was no room for
+-- what was asked. A failure is counted, and a stop comes in its place only where the count would reach 2^64 - 1.
+pub data IsRefusedCall (left_at_stop : ErrorKind → Kept → Type 0) (wrong no_room : ErrorKind → Type 0) (error : ErrorKind) (old new : MemoryFileSystem) : Type 0 where
+  uncounted : ((disk_of old).stopped ≡ true) ⊎ wrong error → armed new ≡ armed old → kept new ≡ kept old
+      → IsRefusedCall left_at_stop wrong no_room error old new
+  stop_fell : IsCounted wrong old new → (armed old).stop ≡ 1 → (left : Kept) → left_at_stop error left → kept new ≡ after_stop left
+      → IsRefusedCall left_at_stop wrong no_room error old new
+  refusal_fell : IsCounted wrong old new → IsRefused error old new → kept new ≡ after_failure (kept old)
+      → IsRefusedCall left_at_stop wrong no_room error old new
+  room_short : IsCounted wrong old new → IsSpared (armed old) → no_room error → kept new ≡ after_failure (kept old)
+      → IsRefusedCall left_at_stop wrong no_room error old new
+
+-- what a stop leaves of a call that is done whole or not at all: nothing was done
+abbrev pub Untouched : Kept → ErrorKind → Kept → Type 0
+Untouched old error left = (error ≡ Other) × (left ≡ old)
+
+-- a change was made, and is the last one of all
+pub record IsMade (id : ℕ) (change : Change) (old left : Kept) : Type 0 where
+  pub disk : Changes id (after_change change) old.disk left.disk
+  pub order : left.unsynced ≡ old.unsynced ++ (id, change) ∷ []
+
+-- What a stop leaves of the write, shortening or growth that it falls at: the change is made, and isn't synced; it isn't
+-- made only where there is no room for it, and then the error says so.
+abbrev pub MadeUnlessShort : ℕ → Change → Kept → ErrorKind → Kept → Type 0
+MadeUnlessShort id change old error left = ((error ≡ Other) × IsMade id change old left) ⊎ (IsRoomFault change error × (left ≡ old))
 
 -- a refused call that is done whole or not at all
 abbrev pub IsRefusedWhole : (ErrorKind → Type 0) → ErrorKind → MemoryFileSystem → MemoryFileSystem → Type 0
-IsRefusedWhole wrong error old new = IsRefusedCall (Nothing (disk_of old)) wrong ⊥ error old new
+IsRefusedWhole wrong error old new = IsRefusedCall (Untouched (kept old)) wrong (λ e. e ≡ OutOfMemory) error old new
 
--- a refused write, cut or growth
+-- a refused write, shortening or growth
 abbrev pub IsRefusedChange : ℕ → Change → (ErrorKind → Type 0) → ErrorKind → MemoryFileSystem → MemoryFileSystem → Type 0
-IsRefusedChange id piece wrong error old new = IsRefusedCall (MadeOrNot id piece (disk_of old)) wrong (file_limit ≤ end_of piece) error old new
+IsRefusedChange id change wrong error old new = IsRefusedCall (MadeUnlessShort id change (kept old)) wrong (IsRoomFault change) error old new
+
+-- How a change ended, of which it is told whether the file system stops at it and whether it was made: at a stop the error
+-- says why it wasn't made, where it wasn't; else it wasn't made, and that is a failure.
+pub data IsEnded (stops : Bool) (done : Result (Unit {0}) ErrorKind) (error : ErrorKind) (old new : Disk) : Type 0 where
+  at_the_stop : stops ≡ true → MatchResult done (λ v. error ≡ Other) (λ kind. error ≡ kind) → new ≡ at_stop old → IsEnded stops done error old new
+  not_made : stops ≡ false → done ≡ Err error → new ≡ failed_once old → IsEnded stops done error old new

@@ -2,12 +2,8 @@
 //! tells what a crash then leaves.
 #![tactic(auto)]
 
-/// A file system in memory.
 pub mod memory;
 
 pub use memory::MemoryFileSystem;
 pub use raft_log_memory_disk::remainder;
 pub use raft_log_memory_disk::remainder::{Piece, Remainder};
-
-#[cfg(test)]
-mod tests;

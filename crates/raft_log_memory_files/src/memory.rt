@@ -1,6 +1,6 @@
-// The calls.
+//! A file system in memory: its parts, how it is made, and what a crash leaves of it.
+
 mod calls;
-// Which calls fail.
 mod turns;
 
 ghost use Rattle.raft_log_memory_disk.specs.Storage.{IsWhole, IsWhole-prop};
@@ -21,16 +21,17 @@ pub struct MemoryFileSystem {
 }
 
 impl MemoryFileSystem {
-    ghost use Rattle.std.specs.Prelude.{◌≡◌, IfOk};
+    ghost use Rattle.std.specs.Prelude.{◌≡◌, [], IfOk};
     ghost use Rattle.raft_log_disk.specs.Image.{IsImage};
-    ghost use Rattle.raft_log_memory_disk.specs.Remains.{left_disk};
+    ghost use Rattle.raft_log_memory_disk.specs.Left.{left_disk};
     ghost use Rattle.raft_log_disk.specs.Disk.{empty_disk};
-    ghost use Rattle.raft_log_memory_files.specs.Memory.{disk_of};
+    ghost use Rattle.raft_log_memory_files.specs.Memory.{disk_of, unsynced};
     ghost use Rattle.raft_log_memory_files.specs.Turns.{armed, nothing_armed};
 
     /// A file system with no directory and no file.
     pub fn new(alloc: Global) -> MemoryFileSystem
         ensures empty { disk_of result ≡ empty_disk }
+        ensures synced { unsynced result ≡ [] }
         ensures unarmed { armed result ≡ nothing_armed }
     {
         MemoryFileSystem {
@@ -53,7 +54,8 @@ impl MemoryFileSystem {
     /// what is said. The names are as they stand, a gap before what is left of a write is zeros, no fault is armed and no
     /// failure is counted. It is refused for want of memory alone.
     pub fn remainder(&self, what: &Remainder) -> Result<MemoryFileSystem, AllocError>
-        ensures exact { IfOk result (λ after. disk_of after ≡ left_disk what.now self.now.storage) }
+        ensures exact { IfOk result (λ after. disk_of after ≡ left_disk what.now (unsynced self.now) (disk_of self.now)) }
+        ensures synced { IfOk result (λ after. unsynced after ≡ []) }
         ensures image { IfOk result (λ after. IsImage (disk_of self.now) (disk_of after)) }
         ensures unarmed { IfOk result (λ after. armed after ≡ nothing_armed) }
     {

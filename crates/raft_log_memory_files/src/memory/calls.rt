@@ -1,15 +1,18 @@
+//! The calls.
 use super::MemoryFileSystem;
 use raft_log_disk::{Fault, FileSystem, Handle, Permission};
 use raft_log_memory_disk::Node;
 use std::io::ErrorKind;
 
 impl FileSystem for MemoryFileSystem {
-    ghost use Rattle.std.specs.Prelude.{◌≡◌, ◌+◌, ◌⊎◌, true, OnOk, OnErr, IfOk, IfErr};
+    ghost use Rattle.std.specs.Prelude.{◌≡◌, ◌+◌, ◌++◌, ◌∷◌, [], ◌⊎◌, true, OnOk, OnErr, IfOk, IfErr};
     ghost use Rattle.raft_log_disk.specs.Disk.{Wrote, ShortenedTo, GrewTo};
     ghost use Rattle.raft_log_disk.specs.Calls.{Creates, Deletes, Renames, MakesDirectory};
     ghost use Rattle.raft_log_disk.specs.Exits.{FailsToCreate, FailsToDelete, FailsToRename, FailsToMakeDirectory, Writes, FailsToWrite, Shortens, FailsToShorten, Grows, FailsToGrow, Syncs, FailsToSync, Arms};
     ghost use Rattle.raft_log_disk.specs.Arguments.{WrongCreate, WrongName, WrongRename, WrongDirectory, WrongHandle, WrongWriter};
-    ghost use Rattle.raft_log_memory_files.specs.Memory.{disk_of};
+    ghost use Rattle.raft_log_memory_files.specs.Memory.{disk_of, unsynced, without_named, with_moved};
+    ghost use Rattle.raft_log_memory_disk.specs.Order.{without_file};
+    ghost use Rattle.raft_log_disk.specs.Reading.{IsNotListed};
     ghost use Rattle.raft_log_memory_files.specs.Turns.{armed, armed_with, IsAnswered, IsRefusedWhole, IsRefusedChange};
 
     ghost disk = { disk_of };
@@ -18,6 +21,7 @@ impl FileSystem for MemoryFileSystem {
         ensures ok { IfOk result (λ handle. Creates path.now handle.file (disk_of self.old) (disk_of self.new)) }
         ensures permission { IfOk result (λ handle. handle.permission ≡ Permission.ReadWrite) }
         ensures err { IfErr result (λ error. FailsToCreate path.now error (disk_of self.old) (disk_of self.new)) }
+        ensures order { OnOk result (unsynced self.new ≡ unsynced self.old) }
         ensures turn { OnOk result (IsAnswered self.old self.new) }
         ensures cause { IfErr result (λ error. IsRefusedWhole (WrongCreate path.now (disk_of self.old)) error self.old self.new) }
     {
@@ -41,6 +45,7 @@ impl FileSystem for MemoryFileSystem {
     fn delete(&mut self, path: &str) -> Result<(), ErrorKind>
         ensures ok { OnOk result (Deletes path.now (disk_of self.old) (disk_of self.new)) }
         ensures err { IfErr result (λ error. FailsToDelete path.now error (disk_of self.old) (disk_of self.new)) }
+        ensures order { OnOk result (unsynced self.new ≡ without_named ((disk_of self.old).names path.now) (unsynced self.old)) }
         ensures turn { OnOk result (IsAnswered self.old self.new) }
         ensures cause { IfErr result (λ error. IsRefusedWhole (WrongName path.now (disk_of self.old)) error self.old self.new) }
     {
@@ -56,6 +61,7 @@ impl FileSystem for MemoryFileSystem {
     fn rename(&mut self, from: &str, to: &str) -> Result<(), ErrorKind>
         ensures ok { OnOk result (Renames from.now to.now (disk_of self.old) (disk_of self.new)) }
         ensures err { IfErr result (λ error. FailsToRename from.now to.now error (disk_of self.old) (disk_of self.new)) }
+        ensures order { OnOk result (unsynced self.new ≡ with_moved ((disk_of self.old).names from.now) ((disk_of self.old).names to.now) (unsynced self.old)) }
         ensures turn { OnOk result (IsAnswered self.old self.new) }
         ensures cause { IfErr result (λ error. IsRefusedWhole (WrongRename from.now to.now (disk_of self.old)) error self.old self.new) }
     {
@@ -79,6 +85,7 @@ impl FileSystem for MemoryFileSystem {
     fn reuse(&mut self, from: &str, to: &str) -> Result<(), ErrorKind>
         ensures ok { OnOk result (Renames from.now to.now (disk_of self.old) (disk_of self.new)) }
         ensures err { IfErr result (λ error. FailsToRename from.now to.now error (disk_of self.old) (disk_of self.new)) }
+        ensures order { OnOk result (unsynced self.new ≡ with_moved ((disk_of self.old).names from.now) ((disk_of self.old).names to.now) (unsynced self.old)) }
         ensures turn { OnOk result (IsAnswered self.old self.new) }
         ensures cause { IfErr result (λ error. IsRefusedWhole (WrongRename from.now to.now (disk_of self.old)) error self.old self.new) }
     {
@@ -88,6 +95,7 @@ impl FileSystem for MemoryFileSystem {
     fn create_dir(&mut self, path: &str) -> Result<(), ErrorKind>
         ensures ok { OnOk result (MakesDirectory path.now (disk_of self.old) (disk_of self.new)) }
         ensures err { IfErr result (λ error. FailsToMakeDirectory path.now error (disk_of self.old) (disk_of self.new)) }
+        ensures order { OnOk result (unsynced self.new ≡ unsynced self.old) }
         ensures turn { OnOk result (IsAnswered self.old self.new) }
         ensures cause { IfErr result (λ error. IsRefusedWhole (WrongDirectory path.now (disk_of self.old)) error self.old self.new) }
     {
@@ -106,6 +114,7 @@ impl FileSystem for MemoryFileSystem {
         ensures ok { OnOk result (Writes handle offset bytes.now (disk_of self.old) (disk_of self.new)) }
         ensures permitted { OnOk result (handle.permission ≡ Permission.ReadWrite) }
         ensures err { IfErr result (λ error. FailsToWrite handle offset bytes.now error (disk_of self.old) (disk_of self.new)) }
+        ensures order { OnOk result (unsynced self.new ≡ unsynced self.old ++ (handle.file, Wrote offset bytes.now) ∷ []) }
         ensures turn { OnOk result (IsAnswered self.old self.new) }
         ensures cause { IfErr result (λ error. IsRefusedChange handle.file (Wrote offset bytes.now) (WrongWriter handle (disk_of self.old)) error self.old self.new) }
     {
@@ -119,12 +128,13 @@ impl FileSystem for MemoryFileSystem {
         ensures ok { OnOk result (Shortens handle size (disk_of self.old) (disk_of self.new)) }
         ensures permitted { OnOk result (handle.permission ≡ Permission.ReadWrite) }
         ensures err { IfErr result (λ error. FailsToShorten handle size error (disk_of self.old) (disk_of self.new)) }
+        ensures order { OnOk result (unsynced self.new ≡ unsynced self.old ++ (handle.file, ShortenedTo size) ∷ []) }
         ensures turn { OnOk result (IsAnswered self.old self.new) }
         ensures cause { IfErr result (λ error. IsRefusedChange handle.file (ShortenedTo size) (WrongWriter handle (disk_of self.old)) error self.old self.new) }
     {
         self.check_writer(handle)?;
         let stops = self.begin_change()?;
-        let done = self.storage.cut(handle.file, size);
+        let done = self.storage.shorten(handle.file, size);
         self.end_change(stops, done)
     }
 
@@ -132,6 +142,7 @@ impl FileSystem for MemoryFileSystem {
         ensures ok { OnOk result (Grows handle (offset + size) (disk_of self.old) (disk_of self.new)) }
         ensures permitted { OnOk result (handle.permission ≡ Permission.ReadWrite) }
         ensures err { IfErr result (λ error. FailsToGrow handle (offset + size) error (disk_of self.old) (disk_of self.new)) }
+        ensures order { OnOk result (unsynced self.new ≡ unsynced self.old ++ (handle.file, GrewTo (offset + size)) ∷ []) }
         ensures turn { OnOk result (IsAnswered self.old self.new) }
         ensures cause { IfErr result (λ error. IsRefusedChange handle.file (GrewTo (offset + size)) (WrongWriter handle (disk_of self.old)) error self.old self.new) }
     {
@@ -144,6 +155,7 @@ impl FileSystem for MemoryFileSystem {
     fn sync(&mut self, handle: Handle) -> Result<(), ErrorKind>
         ensures ok { OnOk result (Syncs handle (disk_of self.old) (disk_of self.new)) }
         ensures err { IfErr result (λ error. FailsToSync handle error (disk_of self.old) (disk_of self.new)) }
+        ensures order { OnOk result (unsynced self.new ≡ without_file handle.file (unsynced self.old)) }
         ensures turn { OnOk result (IsAnswered self.old self.new) }
         ensures cause { IfErr result (λ error. IsRefusedWhole (WrongHandle handle (disk_of self.old)) error self.old self.new) }
     {
@@ -171,7 +183,12 @@ impl FileSystem for MemoryFileSystem {
         }
     }
 
-    fn free_space(&self, directory: &str) -> Result<u64, ErrorKind> {
+    // No limit is set: 2^64 - 1 bytes are free.
+    fn free_space(&self, directory: &str) -> Result<u64, ErrorKind>
+        ensures ok { OnOk result ((disk_of self.now).directories directory.now ≡ true) }
+        ensures err { IfErr result (λ error. IsNotListed directory.now (disk_of self.now) error) }
+        ensures room { IfOk result (λ free. free ≡ 18446744073709551615) }
+    {
         self.check_directory(directory)?;
         Ok(u64::MAX)
     }

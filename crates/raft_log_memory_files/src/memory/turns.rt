@@ -1,4 +1,4 @@
-// Which changing calls are refused, and at which one the file system stops.
+//! Which changing calls are refused, and at which one the file system stops.
 ghost use Rattle.std.specs.Prelude.{◌≡◌, ◌-◌, ◌↔◌, IsTrue, map};
 ghost use Rattle.std.specs.List.{Contains};
 ghost use Rattle.raft_log_memory_files.specs.Turns.{nearer};
@@ -10,11 +10,10 @@ use std::alloc::AllocError;
 use std::io::ErrorKind;
 
 impl MemoryFileSystem {
-    ghost use Rattle.std.specs.Prelude.{◌≡◌, ◌⊎◌, ◌↔◌, true, false, None, OnOk, OnErr, IfErr, IsErr, IfOk, IsTrue};
-    ghost use Rattle.raft_log_disk.specs.Calls.{counted, at_stop, Nothing};
+    ghost use Rattle.std.specs.Prelude.{◌≡◌, ◌⊎◌, ◌↔◌, ◌++◌, [], ◌∷◌, true, false, None, OnOk, OnErr, IfErr, IsErr, IfOk, IsTrue};
     ghost use Rattle.raft_log_disk.specs.Arguments.{WrongHandle, WrongWriter, WrongListing};
-    ghost use Rattle.raft_log_memory_files.specs.Memory.{disk_of};
-    ghost use Rattle.raft_log_memory_files.specs.Turns.{armed, armed_with, call_later, IsSpared, IsRefused, IsStopped};
+    ghost use Rattle.raft_log_memory_files.specs.Memory.{disk_of, failed_once};
+    ghost use Rattle.raft_log_memory_files.specs.Turns.{armed, armed_with, call_later, IsSpared, IsRefused, IsStopped, IsEnded};
 
     /// Lets the n-th changing call from now be refused; it changes nothing. Refusals that are armed already stay. 0 arms
     /// none. It is refused for want of memory alone.
@@ -63,7 +62,7 @@ impl MemoryFileSystem {
         ensures next { armed self.new ≡ call_later (armed self.old) }
         ensures ok { OnOk result (disk_of self.new ≡ disk_of self.old) }
         ensures spared { OnOk result (IsSpared (armed self.old)) }
-        ensures err { IfErr result (λ error. IsRefused error self.old self.new ⊎ IsStopped (Nothing (disk_of self.old)) self.old self.new) }
+        ensures err { IfErr result (λ error. IsRefused error self.old self.new ⊎ IsStopped error self.old self.new) }
     {
         if self.begin_change()? {
             self.stopped = true;
@@ -72,23 +71,23 @@ impl MemoryFileSystem {
         Ok(())
     }
 
-    // Ends a change, which was made or wasn't.
+    // Ends a change, which was made or wasn't. At a stop the error is that of the change, where it wasn't made.
     pub(super) fn end_change(
         &mut self,
         stops: bool,
         done: Result<(), ErrorKind>,
     ) -> Result<(), ErrorKind>
         ensures storage { self.new.storage ≡ self.old.storage }
-        ensures ok { OnOk result (OnErr done ⊥ × (disk_of self.new ≡ disk_of self.old)) }
-        ensures err { OnErr result ((disk_of self.new ≡ at_stop (disk_of self.old)) ⊎ (OnOk done ⊥ × (disk_of self.new ≡ counted (disk_of self.old)))) }
         ensures same { armed self.new ≡ armed self.old }
-        ensures stopped { stops ≡ true → disk_of self.new ≡ at_stop (disk_of self.old) }
-        ensures answered { OnOk result (stops ≡ false) }
-        ensures refused { IfErr result (λ error. stops ≡ false → done ≡ Err error) }
+        ensures ok { OnOk result ((stops ≡ false) × OnErr done ⊥ × (disk_of self.new ≡ disk_of self.old)) }
+        ensures err { IfErr result (λ error. IsEnded stops done error (disk_of self.old) (disk_of self.new)) }
     {
         if stops {
             self.stopped = true;
-            return Err(ErrorKind::Other);
+            return match done {
+                Ok(()) => Err(ErrorKind::Other),
+                Err(kind) => Err(kind),
+            };
         }
         match done {
             Ok(()) => Ok(()),
@@ -99,7 +98,7 @@ impl MemoryFileSystem {
     // Counts a failure; the one that would make 2^64 - 1 stops the file system.
     pub(super) fn fail(&mut self, kind: ErrorKind) -> ErrorKind
         ensures storage { self.new.storage ≡ self.old.storage }
-        ensures failed { (disk_of self.new ≡ counted (disk_of self.old)) ⊎ (disk_of self.new ≡ at_stop (disk_of self.old)) }
+        ensures failed { disk_of self.new ≡ failed_once (disk_of self.old) }
         ensures same { armed self.new ≡ armed self.old }
         ensures kind { result ≡ kind }
     {
@@ -111,6 +110,7 @@ impl MemoryFileSystem {
         kind
     }
 
+    // Whether the file system runs.
     pub(super) fn check_runs(&self) -> Result<(), ErrorKind>
         ensures ok { OnOk result ((disk_of self.now).stopped ≡ false) }
         ensures err { OnErr result ((disk_of self.now).stopped ≡ true) }
@@ -122,6 +122,7 @@ impl MemoryFileSystem {
         }
     }
 
+    // Whether it runs, and a path is a directory's.
     pub(super) fn check_directory(&self, path: &str) -> Result<(), ErrorKind>
         ensures ok { OnOk result (((disk_of self.now).stopped ≡ false) × ((disk_of self.now).directories path.now ≡ true)) }
         ensures err { IfErr result (λ error. ((disk_of self.now).stopped ≡ true) ⊎ WrongListing path.now (disk_of self.now) error) }
@@ -134,6 +135,7 @@ impl MemoryFileSystem {
         }
     }
 
+    // Whether it runs, and a handle's file is there.
     pub(super) fn check_handle(&self, handle: Handle) -> Result<(), ErrorKind>
         ensures ok { OnOk result (((disk_of self.now).stopped ≡ false) × ((disk_of self.now).files handle.file ≡ None → ⊥)) }
         ensures err { IfErr result (λ error. ((disk_of self.now).stopped ≡ true) ⊎ (((disk_of self.now).stopped ≡ false) × WrongHandle handle (disk_of self.now) error)) }
@@ -146,6 +148,7 @@ impl MemoryFileSystem {
         }
     }
 
+    // Whether a handle may write, too.
     pub(super) fn check_writer(&self, handle: Handle) -> Result<(), ErrorKind>
         ensures ok { OnOk result (((disk_of self.now).stopped ≡ false) × ((disk_of self.now).files handle.file ≡ None → ⊥) × (handle.permission ≡ Permission.ReadWrite)) }
         ensures err { IfErr result (λ error. ((disk_of self.now).stopped ≡ true) ⊎ (((disk_of self.now).stopped ≡ false) × WrongWriter handle (disk_of self.now) error)) }
@@ -181,6 +184,7 @@ fn refusal_falls(refusals: &mut Vec<u64>) -> bool
     falls
 }
 
+// Takes one from each number.
 fn count_down(refusals: &mut [u64])
     ensures { refusals.new ≡ map (λ n. n - 1) refusals.old }
 {

@@ -1,45 +1,42 @@
-use Rattle.std.proofs.Common.{sym, ◌∙◌, ap, subst, ◌+◌, ◌<◌, List, drop}
+use Rattle.std.proofs.Common.{sym, ◌∙◌, ap, subst, ◌≡◌, ◌+◌, ◌<◌, ℕ, List, ◌∷◌, map, drop}
 use Rattle.std.specs.List.{All}
 use Rattle.std.proofs.lemmas.List.Elements.{All-head, All-tail}
 use Rattle.raft_log_disk.specs.Disk.{file_limit}
 use Rattle.raft_log_disk.specs.Image.{end_of}
-use Rattle.raft_log_memory_disk.specs.declared.journal.Unsynced.{Unsynced}
-use Rattle.raft_log_memory_disk.specs.Pieces.{piece_of, pieces_of}
-use Rattle.raft_log_memory_disk.specs.Left.{left_of}
-use Rattle.raft_log_memory_disk.proofs.JournalLaws.{own_next, other_next, next_item}
-use Rattle.raft_log_memory_disk.proofs.RemainsLaws.{left_own, left_other}
+use Rattle.raft_log_memory_disk.specs.declared.change.Stamped.{Stamped}
+use Rattle.raft_log_memory_disk.specs.Changes.{change_of, made_of}
+use Rattle.raft_log_memory_disk.specs.Held.{changes_in}
+use Rattle.raft_log_memory_disk.specs.Left.{left_by}
+use Rattle.raft_log_memory_disk.specs.Stamps.{left_own, place_in}
+use Rattle.raft_log_memory_disk.proofs.Items.{next_item}
 use Rattle.raft_log_memory_disk.proofs.remains.left_bytes.Goals as goal
-use Rattle.raft_log_memory_disk.proofs.remains.left_bytes.Goals.{then-unsynced-id+in_ok-carry_out, else-unsynced-id}
+
+-- the changes from this one on
+next_of : (c : goal.After-bytes-in-loop-stamped-1) → drop c.loop-stamped.stamped-index c.args.stored.now.changes.items ≡ c.stamped-item.result ∷ drop (c.loop-stamped.stamped-index + 1) c.args.stored.now.changes.items
+next_of c =
+    let value = c.deref-stamped-items.ensures.value in
+    subst (λ (us : List Stamped). drop c.loop-stamped.stamped-index us ≡ c.stamped-item.result ∷ drop (c.loop-stamped.stamped-index + 1) us) value
+    (next_item c.deref-stamped-items.result.now c.loop-stamped.stamped-index c.stamped-item.result c.loop-stamped-test.true c.stamped-item.is)
 
 pub carry_out-requires : goal.carry_out-requires
 carry_out-requires c =
-    let u = c.index-journal-place.result in
-    let next = own_next c.args.id c.args.journal.now c.loop-place.place u c.loop-place-test.true c.index-journal-place.is c.if-unsynced-id.true in
-    All-head (λ p. end_of p < file_limit) (piece_of u.change) (pieces_of c.args.id (drop (c.loop-place.place + 1) c.args.journal.now))
-    (subst (All (λ p. end_of p < file_limit)) next c.loop-place.invariant.ends)
+    All-head (λ p. end_of p < file_limit) (change_of c.stamped-item.result.change) (changes_in (map made_of (drop (c.loop-stamped.stamped-index + 1) c.args.stored.now.changes.items)))
+    (subst (λ (us : List Stamped). All (λ p. end_of p < file_limit) (changes_in (map made_of us))) (next_of c) c.loop-stamped.invariant.ends)
 
-pub loop-place-preserved : goal.loop-place-preserved
-loop-place-preserved c =
-    let u = c.index-journal-place.result in
-    let i = c.loop-place.place in
-    let us = drop (i + 1) c.args.journal.now in
-    let item = next_item c.args.journal.now i u c.loop-place-test.true c.index-journal-place.is in
-    elim c.if-unsynced-id.branch [
-      | then-unsynced-id+in_ok-carry_out w ↦
-          (let next = own_next c.args.id c.args.journal.now i u c.loop-place-test.true c.index-journal-place.is w.if-unsynced-id.true in
-          record {
-            same = ap (λ v. left_of c.args.what.now (i + 1) c.args.id us v.items) w.bytes-is
-                ∙ (ap (left_of c.args.what.now (i + 1) c.args.id us) w.in_ok-carry_out.ensures
-                ∙ (sym (left_own c.args.what.now i c.args.id u us c.loop-place.bytes.items w.if-unsynced-id.true)
-                ∙ (sym (ap (λ (xs : List Unsynced). left_of c.args.what.now i c.args.id xs c.loop-place.bytes.items) item) ∙ c.loop-place.invariant.same)));
-            ends = All-tail (λ p. end_of p < file_limit) (piece_of u.change) (pieces_of c.args.id us) (subst (All (λ p. end_of p < file_limit)) next c.loop-place.invariant.ends);
-          })
-      | else-unsynced-id w ↦
-          (let next = other_next c.args.id c.args.journal.now i u c.loop-place-test.true c.index-journal-place.is w.if-unsynced-id.false in
-          record {
-            same = ap (λ v. left_of c.args.what.now (i + 1) c.args.id us v.items) w.bytes-is
-                ∙ (sym (left_other c.args.what.now i c.args.id u us c.loop-place.bytes.items w.if-unsynced-id.false)
-                ∙ (sym (ap (λ (xs : List Unsynced). left_of c.args.what.now i c.args.id xs c.loop-place.bytes.items) item) ∙ c.loop-place.invariant.same));
-            ends = subst (All (λ p. end_of p < file_limit)) next c.loop-place.invariant.ends;
-          })
-    ]
+next_of_ok : (c : goal.In_ok-carry_out) → drop c.loop-stamped.stamped-index c.args.stored.now.changes.items ≡ c.stamped-item.result ∷ drop (c.loop-stamped.stamped-index + 1) c.args.stored.now.changes.items
+next_of_ok c =
+    subst (λ (us : List Stamped). drop c.loop-stamped.stamped-index us ≡ c.stamped-item.result ∷ drop (c.loop-stamped.stamped-index + 1) us) c.deref-stamped-items.ensures.value
+    (next_item c.deref-stamped-items.result.now c.loop-stamped.stamped-index c.stamped-item.result c.loop-stamped-test.true c.stamped-item.is)
+
+pub loop-stamped-preserved : goal.loop-stamped-preserved
+loop-stamped-preserved c =
+    let what = c.args.what.now in
+    let place = place_in c.args.stamps.now in
+    let m = made_of c.stamped-item.result in
+    let rest = map made_of (drop (c.loop-stamped.stamped-index + 1) c.args.stored.now.changes.items) in
+    record {
+      same = ap (left_own what place rest) (c.in_ok-carry_out.ensures ∙ ap (λ (n : ℕ). left_by what n m.change c.loop-stamped.bytes.items) c.place_of-place.ensures)
+          ∙ (sym (ap (λ (us : List Stamped). left_own what place (map made_of us) c.loop-stamped.bytes.items) (next_of_ok c)) ∙ c.loop-stamped.invariant.same);
+      ends = All-tail (λ p. end_of p < file_limit) m.change (changes_in rest)
+          (subst (λ (us : List Stamped). All (λ p. end_of p < file_limit) (changes_in (map made_of us))) (next_of_ok c) c.loop-stamped.invariant.ends);
+    }

@@ -1,13 +1,16 @@
-use Rattle.std.proofs.Common.{◌≡◌, ◌<◌, drop}
+use Rattle.std.proofs.Common.{◌≡◌, ◌<◌, drop, map}
 use Rattle.std.specs.List.{All}
 use Rattle.raft_log_disk.specs.Disk.{file_limit}
 use Rattle.raft_log_disk.specs.Image.{end_of}
-use Rattle.raft_log_memory_disk.specs.Pieces.{pieces_of}
-use Rattle.raft_log_memory_disk.specs.Left.{left_of}
+use Rattle.raft_log_memory_disk.specs.Changes.{made_of}
+use Rattle.raft_log_memory_disk.specs.Held.{held, changes_in}
+use Rattle.raft_log_memory_disk.specs.Stamps.{left_own, place_in}
 use Rattle.raft_log_memory_disk.proofs.remains.left_bytes.Given as goal
 
-abbrev pub invariant-loop-place : goal.invariant-loop-place
-invariant-loop-place l = record {
-  same : left_of l.what l.place l.id (drop l.place l.journal) l.bytes.items ≡ left_of l.what 0 l.id l.journal l.synced;
-  ends : All (λ p. end_of p < file_limit) (pieces_of l.id (drop l.place l.journal));
+-- the changes still to come leave of the bytes what all leave of the synced ones
+abbrev pub invariant-loop-stamped : goal.invariant-loop-stamped
+invariant-loop-stamped l = record {
+  same : left_own l.what (place_in l.stamps) (map made_of (drop l.stamped-index l.stored.changes.items)) l.bytes.items
+      ≡ left_own l.what (place_in l.stamps) (held l.stored).changes l.stored.synced.items;
+  ends : All (λ c. end_of c < file_limit) (changes_in (map made_of (drop l.stamped-index l.stored.changes.items)));
 }

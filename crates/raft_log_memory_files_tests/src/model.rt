@@ -1,11 +1,11 @@
-// A plain slow model: names, and of each file what is synced and every change since, made anew byte by byte at each question.
-use crate::{Piece, Remainder};
+//! A plain slow model: names, and of each file what is synced and every change since, made anew byte by byte at each question.
+use raft_log_memory_files::{Piece, Remainder};
 use std::alloc::{AllocError, Global};
 
 #[derive(Drop)]
 pub(super) enum Edit {
     Write { at: usize, bytes: Vec<u8> },
-    Cut { size: usize },
+    Shortening { size: usize },
     Growth { size: usize },
 }
 
@@ -183,7 +183,7 @@ fn carry_out(
                 }
             }
         }
-        Edit::Cut { size } => {
+        Edit::Shortening { size } => {
             if is_made(what, place) {
                 let excess = bytes.len().saturating_sub(*size);
                 for _ in 0..excess {

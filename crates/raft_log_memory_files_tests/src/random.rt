@@ -1,7 +1,7 @@
-// Random runs, each call's answer and the state after it compared with the model's.
+//! Random runs, each call's answer and the state after it compared with the model's.
 use super::model::{Edit, Model};
-use crate::{MemoryFileSystem, Piece, Remainder};
 use raft_log_disk::{FileSystem, Handle, Permission};
+use raft_log_memory_files::{MemoryFileSystem, Piece, Remainder};
 use std::alloc::Global;
 use std::io::ErrorKind;
 use std::process::Abort;
@@ -174,7 +174,7 @@ impl Run {
                 permission: Permission::ReadWrite,
             }),
         };
-        assert_eq!(rt; got, want);
+        assert!(rt; got == want);
         Ok(())
     }
 
@@ -186,7 +186,7 @@ impl Run {
         if want.is_ok() {
             self.model.delete(name);
         }
-        assert_eq!(rt; got, want);
+        assert!(rt; got == want);
         Ok(())
     }
 
@@ -208,7 +208,7 @@ impl Run {
         if want.is_ok() {
             self.model.rename(from, to)?;
         }
-        assert_eq!(rt; got, want);
+        assert!(rt; got == want);
         Ok(())
     }
 
@@ -218,7 +218,7 @@ impl Run {
         if want.is_ok() {
             self.has_late = true;
         }
-        assert_eq!(rt; got, want);
+        assert!(rt; got == want);
         Ok(())
     }
 
@@ -230,7 +230,7 @@ impl Run {
         if want.is_ok() {
             self.model.sync(handle.file)?;
         }
-        assert_eq!(rt; got, want);
+        assert!(rt; got == want);
         Ok(())
     }
 
@@ -238,7 +238,10 @@ impl Run {
         let handle = self.handle();
         let at = self.random.below(24);
         let (got, edit) = match self.random.below(5) {
-            0 => (self.system.truncate(handle, at), Edit::Cut { size: at }),
+            0 => (
+                self.system.truncate(handle, at),
+                Edit::Shortening { size: at },
+            ),
             1 => {
                 let size = self.random.below(9);
                 (
@@ -269,7 +272,7 @@ impl Run {
         if want.is_ok() || ran && self.stopped {
             self.model.change(handle.file, edit)?;
         }
-        assert_eq!(rt; got, want);
+        assert!(rt; got == want);
         Ok(())
     }
 
@@ -319,7 +322,7 @@ impl Run {
 
     // The system has just the model's names, sizes and bytes.
     fn compare(&self, rt: &impl Abort) -> Result<(), Fail> {
-        assert_eq!(rt; self.system.failures(), self.failures);
+        assert!(rt; self.system.failures() == self.failures);
         if self.stopped {
             assert!(rt; self.system.list("d").is_err());
             return Ok(());
@@ -328,7 +331,7 @@ impl Run {
         for name in 0..NAMES {
             let opened = self.system.open(path(name), Permission::ReadOnly);
             let number = self.model.named(name);
-            assert_eq!(rt; opened.ok().map(|handle| handle.file), number);
+            assert!(rt; opened.ok().map(|handle| handle.file) == number);
             if let Ok(handle) = opened {
                 self.compare_file(rt, handle)?;
                 if name != LATE {
@@ -336,18 +339,18 @@ impl Run {
                 }
             }
         }
-        assert_eq!(rt; self.system.list("d")?.len(), named);
+        assert!(rt; self.system.list("d")?.len() == named);
         Ok(())
     }
 
     fn compare_file(&self, rt: &impl Abort, handle: Handle) -> Result<(), Fail> {
         let want = self.model.content(handle.file)?;
-        assert_eq!(rt; self.system.file_size(handle)?, want.len());
+        assert!(rt; self.system.file_size(handle)? == want.len());
         let mut room = [0xee; 64];
         let count = self.system.read_at(handle, 0, &mut room)?;
-        assert_eq!(rt; count, want.len());
+        assert!(rt; count == want.len());
         for (place, byte) in want.iter().enumerate() {
-            assert_eq!(rt; room.get(place).copied(), Some(*byte));
+            assert!(rt; room.get(place).copied() == Some(*byte));
         }
         Ok(())
     }

@@ -1,7 +1,7 @@
-// A call that finds no memory is refused as such and changes nothing; asked again, it is answered. Run it with each
-// allocation failing in turn.
-use crate::{MemoryFileSystem, Remainder};
+//! A call that finds no memory is refused as such and changes nothing; asked again, it is answered. Run it with each
+//! allocation failing in turn.
 use raft_log_disk::{FileSystem, Permission};
+use raft_log_memory_files::{MemoryFileSystem, Remainder};
 use std::io::ErrorKind;
 use std::process::Abort;
 use std::test::Fail;
@@ -44,11 +44,11 @@ fn made(rt: &impl Abort, system: &mut MemoryFileSystem, number: usize) -> Result
     let Err(kind) = call(system, number) else {
         return Ok(false);
     };
-    assert_eq!(rt; kind, ErrorKind::OutOfMemory);
-    assert_eq!(rt; system.failures(), failures.wrapping_add(1));
-    assert_eq!(rt; seen(system, "d/f"), f);
-    assert_eq!(rt; seen(system, "d/g"), g);
-    assert_eq!(rt; seen(system, "d/h"), h);
+    assert!(rt; kind == ErrorKind::OutOfMemory);
+    assert!(rt; system.failures() == failures.wrapping_add(1));
+    assert!(rt; seen(system, "d/f") == f);
+    assert!(rt; seen(system, "d/g") == g);
+    assert!(rt; seen(system, "d/h") == h);
     call(system, number)?;
     Ok(true)
 }
@@ -62,18 +62,18 @@ fn a_call_without_memory_changes_nothing(rt: HostRuntime) -> Result<(), Fail> {
             short = short.wrapping_add(1);
         }
     }
-    assert_eq!(rt; system.failures(), short);
+    assert!(rt; system.failures() == short);
     let listed = match system.list("d") {
         Err(ErrorKind::OutOfMemory) => system.list("d"),
         listed => listed,
     };
-    assert_eq!(rt; listed?.len(), 2);
+    assert!(rt; listed?.len() == 2);
     let left = match system.remainder(&Remainder::LastSync) {
         Err(_) => system.remainder(&Remainder::LastSync)?,
         Ok(left) => left,
     };
-    assert_eq!(rt; seen(&left, "d/f"), Ok((5, *b"abcde\0\0\0")));
-    assert_eq!(rt; seen(&left, "d/g"), Ok((0, [0u8; 8])));
-    assert_eq!(rt; seen(&system, "d/g"), Ok((100, [0u8; 8])));
+    assert!(rt; seen(&left, "d/f") == Ok((5, *b"abcde\0\0\0")));
+    assert!(rt; seen(&left, "d/g") == Ok((0, [0u8; 8])));
+    assert!(rt; seen(&system, "d/g") == Ok((100, [0u8; 8])));
     Ok(())
 }

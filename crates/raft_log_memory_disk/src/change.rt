@@ -1,6 +1,5 @@
-// The changes of all files that aren't synced, in the order of the calls.
-ghost use Rattle.std.specs.Prelude.{◌≡◌, ℕ, not, nat_eq, ◌<◌, ◌≤◌, OnOk, OnErr};
-ghost use Rattle.std.specs.List.{filter};
+//! Changes of a file's bytes, and the order in which they were made.
+ghost use Rattle.std.specs.Prelude.{◌≡◌, ℕ, ◌<◌, ◌≤◌, OnOk, OnErr};
 ghost use Rattle.raft_log_disk.specs.Disk.{changed, file_limit};
 ghost use Rattle.raft_log_disk.specs.Image.{end_of, Touches};
 
@@ -17,8 +16,8 @@ pub enum Change {
         /// The bytes.
         bytes: Vec<u8>,
     },
-    /// What stands past a size is cut off.
-    Cut {
+    /// What stands past a size goes.
+    Shortening {
         /// The size in bytes.
         size: usize,
     },
@@ -29,28 +28,28 @@ pub enum Change {
     },
 }
 
-/// A change that isn't synced.
+/// A change that isn't synced, and when it was made.
 #[derive(Debug, Drop)]
-pub struct Unsynced {
-    /// The file's number.
-    pub file: usize,
+pub struct Stamped {
+    /// How many changes of any file were made before it.
+    pub stamp: u64,
     /// What is changed.
     pub change: Change,
 }
 
 impl Change {
-    ghost use Rattle.raft_log_memory_disk.specs.Pieces.{piece_of};
+    ghost use Rattle.raft_log_memory_disk.specs.Changes.{change_of};
     ghost use Rattle.raft_log_memory_disk.specs.Left.{left_front, left_as};
 
     // Makes the change. Without memory nothing changes.
     pub(crate) fn carry_out(&self, content: &mut Vec<u8>) -> Result<(), AllocError>
-        requires { end_of (piece_of self.now) < file_limit }
-        ensures ok { OnOk result (content.new.items ≡ changed (piece_of self.now) content.old.items) }
+        requires { end_of (change_of self.now) < file_limit }
+        ensures ok { OnOk result (content.new.items ≡ changed (change_of self.now) content.old.items) }
         ensures err { OnErr result (content.new.items ≡ content.old.items) }
     {
         match self {
             Change::Write { offset, bytes } => overwrite(content, *offset, bytes),
-            Change::Cut { size } => {
+            Change::Shortening { size } => {
                 content.truncate(*size);
                 Ok(())
             }
@@ -64,8 +63,8 @@ impl Change {
         count: usize,
         content: &mut Vec<u8>,
     ) -> Result<(), AllocError>
-        requires { end_of (piece_of self.now) < file_limit }
-        ensures { OnOk result (content.new.items ≡ left_front count (piece_of self.now) content.old.items) }
+        requires { end_of (change_of self.now) < file_limit }
+        ensures { OnOk result (content.new.items ≡ left_front count (change_of self.now) content.old.items) }
     {
         match self {
             Change::Write { offset, bytes } => overwrite(
@@ -73,14 +72,14 @@ impl Change {
                 *offset,
                 &bytes[..count.min(bytes.len())],
             ),
-            Change::Cut { size: _ } | Change::Growth { size: _ } => Ok(()),
+            Change::Shortening { size: _ } | Change::Growth { size: _ } => Ok(()),
         }
     }
 
     // Makes a write of other bytes in place of its own, or another change.
     pub(crate) fn carry_out_as(&self, other: &[u8], content: &mut Vec<u8>) -> Result<(), AllocError>
-        requires { end_of (piece_of self.now) < file_limit }
-        ensures { OnOk result (content.new.items ≡ left_as other.now (piece_of self.now) content.old.items) }
+        requires { end_of (change_of self.now) < file_limit }
+        ensures { OnOk result (content.new.items ≡ left_as other.now (change_of self.now) content.old.items) }
     {
         match self {
             Change::Write { offset, bytes } => overwrite(
@@ -88,25 +87,18 @@ impl Change {
                 *offset,
                 &other[..bytes.len().min(other.len())],
             ),
-            Change::Cut { size: _ } | Change::Growth { size: _ } => self.carry_out(content),
+            Change::Shortening { size: _ } | Change::Growth { size: _ } => self.carry_out(content),
         }
     }
 
     // The change touches the places from the first number up to the second.
     pub(crate) fn touched(&self) -> (usize, usize)
-        ensures { (place : ℕ) → place < file_limit → Touches (piece_of self.now) place → (result.0 ≤ place) × (place < result.1) }
+        ensures { (place : ℕ) → place < file_limit → Touches (change_of self.now) place → (result.0 ≤ place) × (place < result.1) }
     {
         match self {
             Change::Write { offset, bytes } => (*offset, offset.saturating_add(bytes.len())),
-            Change::Cut { size } => (*size, usize::MAX),
+            Change::Shortening { size } => (*size, usize::MAX),
             Change::Growth { size: _ } => (0, 0),
         }
     }
-}
-
-// Drops the changes of a file.
-pub(crate) fn forget(journal: &mut Vec<Unsynced>, id: usize)
-    ensures { journal.new.items ≡ filter (λ u. not (nat_eq u.file id)) journal.old.items }
-{
-    journal.retain(|unsynced| unsynced.file != id);
 }

@@ -1,6 +1,10 @@
 //! Sessions worked by hand, sessions with a bad line, and readers, writers and allocations that fail.
-use crate::run::run;
+use crate::has_arguments;
+use crate::record::OpenFault;
+use crate::run::{exit_status, program, run};
+use crate::service::{Cause, RoundFault};
 use std::alloc::Global;
+use std::env::{Env, FillError};
 use std::io;
 use std::io::{ErrorKind, Read, Write};
 use std::test::Fail;
@@ -241,5 +245,97 @@ fn nothing_more_is_written_where_the_writer_fails(rt: HostRuntime) -> Result<(),
         assert!(rt; told.is_err() == (room < 17), "with room {room}");
         assert!(rt; writer.failed && !writer.late);
     }
+    Ok(())
+}
+
+#[test]
+fn arguments_are_refused(rt: HostRuntime) -> Result<(), Fail> {
+    let mut input = b"open 1\n".as_slice();
+    let mut output = Vec::new(rt.alloc());
+    let ended = program(true, rt.alloc(), &mut input, &mut output);
+    assert!(rt; exit_status(ended) == 2);
+    assert!(rt; output.as_slice() == b"arguments refused\n".as_slice());
+    assert!(rt; input == b"open 1\n".as_slice());
+    Ok(())
+}
+
+#[test]
+fn a_reader_that_fails_ends_with_status_3(rt: HostRuntime) {
+    let mut output = Vec::new(rt.alloc());
+    let mut reader = BrokenReader { reads: 3 };
+    let ended = program(false, rt.alloc(), &mut reader, &mut output);
+    assert!(rt; exit_status(ended) == 3);
+    assert!(rt; output.is_empty());
+}
+
+/// So many arguments, the program's name among them, of which none is text.
+#[derive(Drop)]
+struct Arguments {
+    count: usize,
+}
+
+impl Env for Arguments {
+    fn arg(&self, i: usize, _buf: &mut [u8]) -> Result<usize, FillError> {
+        if i < self.count {
+            return Err(FillError::TooLong);
+        }
+        Err(FillError::NotPresent)
+    }
+
+    fn var(&self, _name: &str, _buf: &mut [u8]) -> Result<usize, FillError> {
+        Err(FillError::NotPresent)
+    }
+
+    fn var_at(&self, _i: usize, _buf: &mut [u8]) -> Result<usize, FillError> {
+        Err(FillError::NotPresent)
+    }
+}
+
+#[test]
+fn the_programs_name_is_no_argument(rt: HostRuntime) {
+    assert!(rt; !has_arguments(&Arguments { count: 0 }));
+    assert!(rt; !has_arguments(&Arguments { count: 1 }));
+    assert!(rt; has_arguments(&Arguments { count: 2 }));
+}
+
+#[test]
+fn texts_of_faults(rt: HostRuntime) -> Result<(), Fail> {
+    let alloc = rt.alloc();
+    assert!(rt; OpenFault::Damaged.to_string(alloc)?.as_str() == "damaged file");
+    assert!(rt; OpenFault::Memory.to_string(alloc)?.as_str() == "out of memory");
+    assert!(rt; Cause::FileSystem.to_string(alloc)?.as_str() == "the file system failed");
+    assert!(rt; Cause::Failed.to_string(alloc)?.as_str() == "the service failed before");
+    let fault = RoundFault::new(alloc, Cause::TooLong);
+    assert!(rt; fault.to_string(alloc)?.as_str() == "round cut off: more than 4096 requests");
+    Ok(())
+}
+
+/// So many rounds, each with an entry of 1,024 bytes for a group of its own; then a crash, and a read of the last entry.
+fn many_rounds(alloc: Global, rounds: usize) -> io::Result<String> {
+    let mut session = String::from_str(alloc, "open 1\n")?;
+    for group in 0..rounds {
+        write!(session, "round\nappend {group} 1 0 0 1 1:")?;
+        for _ in 0..64 {
+            session.push_str("00112233445566778899aabbccddeeff")?;
+        }
+        session.push_str("\nend\n")?;
+    }
+    session.push_str("crash last\nopen 1\nround\nstatus 1099\nend\n")?;
+    Ok(session)
+}
+
+/// More than 1,000 rounds, 1 MB of session, and 1 MB of stored file.
+#[test]
+fn large_sessions_are_answered(rt: HostRuntime) -> Result<(), Fail> {
+    let session = many_rounds(rt.alloc(), 1100)?;
+    let (written, status) = outcome(rt.alloc(), session.as_str())?;
+    assert!(rt; session.len() > 2_000_000 && status == 0);
+    assert!(rt;
+        written.starts_with(
+            b"round 0 answered\n0 0 Matched 1\nround 1 answered\n0 1 Matched 1\n".as_slice()
+        )
+    );
+    let end = b"round 1100 answered\n0 1099 Status 1 - 0 0 1 1 1\ncuts\nverdict yes\n";
+    assert!(rt; written.ends_with(end.as_slice()));
     Ok(())
 }

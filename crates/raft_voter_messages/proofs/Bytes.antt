@@ -10,9 +10,9 @@ use Rattle.raft_voter_messages.specs.declared.reply.VoterState.{VoterState}
 use Rattle.raft_voter_messages.specs.declared.stored.StoredFault.{StoredFault}
 use Rattle.raft_voter_messages.specs.declared.stored.StoredFault.TheVariants.{Length, Form, Range, Index, Order, Memory}
 use Rattle.raft_voter_messages.specs.Ranges.{fits}
-use Rattle.raft_voter_messages.specs.StoredForms.{EntryFault, IsEntry, IsState, IsStateForm1, StateFault, entry_form_1, entry_text, head_text, number_text, state_fits, state_form_2, state_text, stored_entry_fits, vote_fits, vote_text}
+use Rattle.raft_voter_messages.specs.StoredForms.{EntryFault, IsEntry, IsEntryForm1, IsState, IsStateForm1, StateFault, entry_form_1, entry_text, head_text, number_text, state_fits, state_form_2, state_text, stored_entry_fits, vote_fits, vote_text}
 use Rattle.raft_voter_messages.specs.StateHeads.{HasHead, head_bytes, IsNoState}
-use Rattle.raft_voter_messages.specs.declared.stored.state.StateHead.{StateHead}
+use Rattle.raft_voter_messages.specs.declared.stored.head.StateHead.{StateHead}
 
 pub length-number_text : (n : ℕ) → length (number_text n) ≡ 8
 unfolding number_text
@@ -72,7 +72,7 @@ length-vote_bytes f c = omega (arith, length-number_text c)
 pub fits-below : (n : ℕ) → fits n ≡ true → n < 2 ^ 64
 fits-below n fit = grind (arith, nat_tests)
 
-vote_fits-below : (v : Option ℕ) (w : ℕ) → vote_fits v ≡ true → v ≡ Some w → w < 2 ^ 64
+pub vote_fits-below : (v : Option ℕ) (w : ℕ) → vote_fits v ≡ true → v ≡ Some w → w < 2 ^ 64
 vote_fits-below None w fit is = absurd (cc)
 vote_fits-below (Some c) w fit is = let same : c ≡ w = cc in grind (arith, nat_tests)
 
@@ -108,9 +108,10 @@ entry_numbers body own i t e is fi ft fit same =
 
 pub entry_out_of_range :
     (body own : List ℕ) (i t : ℕ) → body ≡ number_text i ++ (number_text t ++ own) → i < 2 ^ 64 → t < 2 ^ 64
-    → list_all fits (i ∷ t ∷ []) ≡ false → (e : Entry) → stored_entry_fits e ≡ true → body ≡ entry_form_1 e → ⊥
-entry_out_of_range body own i t is fi ft out e fit same =
-    let numbers = entry_numbers body own i t e is fi ft fit same in
+    → list_all fits (i ∷ t ∷ []) ≡ false → (e : Entry) → IsEntryForm1 body e → ⊥
+entry_out_of_range body own i t is fi ft out e one =
+    let fit : stored_entry_fits e ≡ true = one.in_range in
+    let numbers = entry_numbers body own i t e is fi ft fit one.text in
     let own_fit : (fits e.index ≡ true) × (fits e.term ≡ true) = grind (arith, nat_tests) in
     let index_fit : fits i ≡ true = ap fits numbers.0 ∙ own_fit.0 in
     let term_fit : fits t ≡ true = ap fits numbers.1 ∙ own_fit.1 in
@@ -131,7 +132,7 @@ entry_in_range i t own fit short = grind (arith, nat_tests)
 pub vote_in_range : (s : VoterState) → state_fits s ≡ true → vote_fits s.vote ≡ true
 vote_in_range s fit = grind (arith, nat_tests)
 
-state_numbers_small :
+pub state_numbers_small :
     (s : VoterState) → state_fits s ≡ true
     → (s.term < 2 ^ 64) × (s.base_index < 2 ^ 64) × (s.base_term < 2 ^ 64) × (s.commit < 2 ^ 64)
 state_numbers_small s fit = grind (arith, nat_tests)
@@ -181,11 +182,11 @@ no_state h vote commit l m spelled small out s fit has at =
 
 -- so no bytes of form 1 that begin with them are those of a state
 pub no_form_1 :
-    (h : StateHead) (body rest : List ℕ) → body ≡ head_bytes h ++ rest → IsNoState h h.base_index → (s : VoterState)
-    → state_fits s ≡ true → IsStateForm1 body s → ⊥
-no_form_1 h body rest read none s fit is =
+    (h : StateHead) (commit : ℕ) (body rest : List ℕ) → commit ≡ h.base_index → body ≡ head_bytes h ++ rest
+    → IsNoState h commit → (s : VoterState) → state_fits s ≡ true → IsStateForm1 body s → ⊥
+no_form_1 h commit body rest base read none s fit is =
     let has = (has_head h s body rest [] read fit (is.text ∙ sym (append-nil _))).0 in
-    none s fit has (is.commit ∙ has.base_index)
+    none s fit has (is.commit ∙ has.base_index ∙ sym base)
 
 -- and of form 2 with this commit
 pub no_form_2 :
@@ -247,11 +248,12 @@ pub entry_no_fault :
 entry_no_fault Length e fit (inl (form, inl short)) = absurd (omega (arith, short, length-entry_text e))
 entry_no_fault Length e fit (inl (form, inr long)) =
     let small : length e.bytes ≤ 65535 = grind (arith, nat_tests) in absurd (omega (arith, small, long, length-entry_text e))
-entry_no_fault Range e fit (inl other) = absurd (other.1.2 e fit refl)
+entry_no_fault Range e fit (inl other) = absurd (other.1.2 e (record { text = refl; in_range = fit }))
 entry_no_fault Index e fit (inl (form, other)) =
     let bounds : (e.index < 2 ^ 64) × (e.term < 2 ^ 64) = grind (arith, nat_tests) in
-    let numbers = entry_numbers (entry_form_1 e) e.bytes e.index e.term other.0 refl bounds.0 bounds.1 other.2 other.1 in
-    absurd (other.3 (sym numbers.0))
+    let one = other.1 in
+    let numbers = entry_numbers (entry_form_1 e) e.bytes e.index e.term other.0 refl bounds.0 bounds.1 one.in_range one.text in
+    absurd (other.2 (sym numbers.0))
 entry_no_fault Memory e fit other = refl
 entry_no_fault Form e fit (inl other) = absurd other.1
 entry_no_fault Order e fit (inl other) = absurd other.1

@@ -23,13 +23,17 @@ same_reply = replies.TheImpl.eq-value.it
 abbrev entry_made : ℕ → ℕ → List ℕ → Entry
 entry_made i t bytes = record { index = i; term = t; bytes = bytes }
 
+-- entries are the same where all that they say is
+pub entry_built : (a b : Entry) → a.index ≡ b.index → a.term ≡ b.term → a.bytes ≡ b.bytes → a ≡ b
+entry_built a b i t bs =
+    ap (λ x. entry_made x a.term a.bytes) i ∙ ap (λ x. entry_made b.index x a.bytes) t
+    ∙ ap (λ x. entry_made b.index b.term x) bs
+
 entry_from : (a b : Entry) → same_entry a b ≡ true → a ≡ b
 entry_from a b h =
     let p = and_parts (a.index == b.index) _ h in
     let q = and_parts (a.term == b.term) _ p.1 in
-    ap (λ i. entry_made i a.term a.bytes) (eqb-true a.index b.index p.0)
-    ∙ ap (λ t. entry_made b.index t a.bytes) (eqb-true a.term b.term q.0)
-    ∙ ap (λ bs. entry_made b.index b.term bs) ((bytes_decides a.bytes b.bytes).0 q.1)
+    entry_built a b (eqb-true _ _ p.0) (eqb-true _ _ q.0) ((bytes_decides a.bytes b.bytes).0 q.1)
 
 entry_itself : (a : Entry) → same_entry a a ≡ true
 entry_itself a =
@@ -50,6 +54,19 @@ abbrev state_made : ℕ → Option ℕ → ℕ → ℕ → ℕ → ℕ → ℕ �
 state_made t v b u i l c =
     record { term = t; vote = v; base_index = b; base_term = u; last_index = i; last_term = l; commit = c }
 
+-- states are the same where all that they say is
+pub state_built :
+    (a b : VoterState) → a.term ≡ b.term → a.vote ≡ b.vote → a.base_index ≡ b.base_index → a.base_term ≡ b.base_term
+    → a.last_index ≡ b.last_index → a.last_term ≡ b.last_term → a.commit ≡ b.commit → a ≡ b
+state_built a b t v i u j w c =
+    ap (λ x. state_made x a.vote a.base_index a.base_term a.last_index a.last_term a.commit) t
+    ∙ ap (λ x. state_made b.term x a.base_index a.base_term a.last_index a.last_term a.commit) v
+    ∙ ap (λ x. state_made b.term b.vote x a.base_term a.last_index a.last_term a.commit) i
+    ∙ ap (λ x. state_made b.term b.vote b.base_index x a.last_index a.last_term a.commit) u
+    ∙ ap (λ x. state_made b.term b.vote b.base_index b.base_term x a.last_term a.commit) j
+    ∙ ap (λ x. state_made b.term b.vote b.base_index b.base_term b.last_index x a.commit) w
+    ∙ ap (λ x. state_made b.term b.vote b.base_index b.base_term b.last_index b.last_term x) c
+
 state_from : (a b : VoterState) → same_state a b ≡ true → a ≡ b
 state_from a b h =
     let p = and_parts (a.term == b.term) _ h in
@@ -58,13 +75,8 @@ state_from a b h =
     let s = and_parts (a.base_term == b.base_term) _ r.1 in
     let t = and_parts (a.last_index == b.last_index) _ s.1 in
     let u = and_parts (a.last_term == b.last_term) _ t.1 in
-    ap (λ x. state_made x a.vote a.base_index a.base_term a.last_index a.last_term a.commit) (eqb-true _ _ p.0)
-    ∙ ap (λ x. state_made b.term x a.base_index a.base_term a.last_index a.last_term a.commit) (option_from _ _ q.0)
-    ∙ ap (λ x. state_made b.term b.vote x a.base_term a.last_index a.last_term a.commit) (eqb-true _ _ r.0)
-    ∙ ap (λ x. state_made b.term b.vote b.base_index x a.last_index a.last_term a.commit) (eqb-true _ _ s.0)
-    ∙ ap (λ x. state_made b.term b.vote b.base_index b.base_term x a.last_term a.commit) (eqb-true _ _ t.0)
-    ∙ ap (λ x. state_made b.term b.vote b.base_index b.base_term b.last_index x a.commit) (eqb-true _ _ u.0)
-    ∙ ap (λ x. state_made b.term b.vote b.base_index b.base_term b.last_index b.last_term x) (eqb-true _ _ u.1)
+    state_built a b (eqb-true _ _ p.0) (option_from _ _ q.0) (eqb-true _ _ r.0) (eqb-true _ _ s.0) (eqb-true _ _ t.0)
+    (eqb-true _ _ u.0) (eqb-true _ _ u.1)
 
 state_itself : (a : VoterState) → same_state a a ≡ true
 state_itself a =

@@ -2,3 +2,4 @@ pub mod Sizes
 pub mod Equality
 pub mod Bytes
 pub mod ReplyTexts
+pub mod ReadingBack

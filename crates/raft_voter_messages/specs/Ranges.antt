@@ -16,10 +16,11 @@ entry_fits e = fits e.0 && nat_le (length e.1) 65535
 abbrev pub total_bytes : List (ℕ × List ℕ) → ℕ
 total_bytes sent = sum_by (λ e. length e.1) sent
 
--- An Append brings at most 1,024 entries with 1,048,576 bytes in all, and the last of them has an index in range.
+-- An Append brings at most 1,024 entries with 1,048,576 bytes in all, and the last has an index in range.
 abbrev pub entries_fit : ℕ → List (ℕ × List ℕ) → Bool
 entries_fit prev sent =
-    fits (prev + length sent) && nat_le (length sent) 1024 && list_all entry_fits sent && nat_le (total_bytes sent) 1048576
+    fits (prev + length sent) && nat_le (length sent) 1024 && list_all entry_fits sent
+    && nat_le (total_bytes sent) 1048576
 
 -- a voter takes the requests in range
 abbrev pub in_range : Request → Bool

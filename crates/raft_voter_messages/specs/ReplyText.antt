@@ -13,16 +13,18 @@ abbrev pub vote_word : Option ℕ → List ℕ
 vote_word None = codes "-"
 vote_word (Some candidate) = decimal candidate
 
--- a voter's state: its term and vote, the index and the term of the base and of the last entry, and its commit
+-- a voter's state: its term and vote, the index and the term of the base and of the last entry, its commit
 unfoldable pub state_words : VoterState → List ℕ
 state_words s =
-    decimal s.term ++ codes " " ++ vote_word s.vote ++ codes " " ++ decimal s.base_index ++ codes " " ++ decimal s.base_term
+    decimal s.term ++ codes " " ++ vote_word s.vote
+    ++ codes " " ++ decimal s.base_index ++ codes " " ++ decimal s.base_term
     ++ codes " " ++ decimal s.last_index ++ codes " " ++ decimal s.last_term
     ++ codes " " ++ decimal s.commit
 
 -- an entry, `index:term:hex`
 unfoldable pub entry_word : Entry → List ℕ
-entry_word entry = decimal entry.index ++ codes ":" ++ decimal entry.term ++ codes ":" ++ encode_lower entry.bytes
+entry_word entry =
+    decimal entry.index ++ codes ":" ++ decimal entry.term ++ codes ":" ++ encode_lower entry.bytes
 
 -- the same behind a space
 abbrev pub spaced_entry : Entry → List ℕ

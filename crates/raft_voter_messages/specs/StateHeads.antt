@@ -1,8 +1,8 @@
 -- The numbers that every form of a state begins with, as they are read.
-use Rattle.std.specs.Prelude.{◌≡◌, ◌≢◌, ℕ, IsTrue, List, ◌∷◌}
+use Rattle.std.specs.Prelude.{◌≡◌, ◌≢◌, ℕ, IsTrue, List, ◌∷◌, Option}
 use Rattle.raft_voter_messages.specs.declared.reply.VoterState.{VoterState}
-use Rattle.raft_voter_messages.specs.declared.stored.state.StateHead.{StateHead}
-use Rattle.raft_voter_messages.specs.StoredForms.{head_text, number_text, state_fits, vote_text}
+use Rattle.raft_voter_messages.specs.declared.stored.head.StateHead.{StateHead}
+use Rattle.raft_voter_messages.specs.StoredForms.{head_text, number_text, state_fits, vote_fits, vote_text}
 
 -- the bytes that were read
 abbrev pub head_bytes : StateHead → List ℕ
@@ -18,3 +18,8 @@ pub record HasHead (s : VoterState) (h : StateHead) : Type 0 where
 -- no state in range has these numbers and this commit
 abbrev pub IsNoState : StateHead → ℕ → Type 0
 IsNoState h commit = (s : VoterState) → IsTrue (state_fits s) → HasHead s h → s.commit ≢ commit
+
+-- no vote in range has the byte and the candidate that were read
+abbrev pub IsNoVote : StateHead → Type 0
+IsNoVote h =
+    (vote : Option ℕ) → IsTrue (vote_fits vote) → vote_text vote ≢ h.vote_byte ∷ number_text h.candidate

@@ -1,5 +1,5 @@
--- How a voter's state and its entries are stored as bytes. The first byte names the form; each form has its own length,
--- its own text and its own faults.
+-- How a voter's state and its entries are stored as bytes. The first byte names the form; each form has its own
+-- length, its own text and its own faults.
 use Rattle.std.specs.Prelude.{◌≡◌, ◌≢◌, ℕ, ◌<◌, ◌≤◌, ◌⊎◌, ◌&&◌, nat_le, Bool, true, IsTrue, List, [], ◌∷◌, ◌++◌, length, Option, None, Some}
 use Rattle.std.specs.Int.{to_be_bytes, w64}
 use Rattle.std.specs.Option.{option_map_or}
@@ -32,7 +32,8 @@ vote_fits vote = option_map_or fits vote true
 -- the numbers of a state are in range, and its base doesn't stand above its commit
 abbrev pub state_fits : VoterState → Bool
 state_fits s =
-    fits s.term && vote_fits s.vote && fits s.base_index && fits s.base_term && fits s.commit && nat_le s.base_index s.commit
+    fits s.term && vote_fits s.vote && fits s.base_index && fits s.base_term && fits s.commit
+    && nat_le s.base_index s.commit
 
 -- the numbers of an entry are in range, and it has at most 65,535 bytes
 abbrev pub stored_entry_fits : Entry → Bool
@@ -54,7 +55,8 @@ pub record IsStateForm1 (body : List ℕ) (s : VoterState) : Type 0 where
 -- the first fault of what follows the form byte 1
 abbrev pub StateForm1Fault : StoredFault → List ℕ → Type 0
 StateForm1Fault Length body = length body ≢ 33
-StateForm1Fault Range body = (length body ≡ 33) × ((s : VoterState) → IsTrue (state_fits s) → ¬ IsStateForm1 body s)
+StateForm1Fault Range body =
+    (length body ≡ 33) × ((s : VoterState) → IsTrue (state_fits s) → ¬ IsStateForm1 body s)
 StateForm1Fault _ body = ⊥
 
 -- State form 2: 42 bytes.
@@ -66,7 +68,8 @@ state_form_2 s = head_text s.term (vote_text s.vote) s.base_index s.base_term ++
 -- the first fault of what follows the form byte 2
 abbrev pub StateForm2Fault : StoredFault → List ℕ → Type 0
 StateForm2Fault Length body = length body ≢ 41
-StateForm2Fault Range body = (length body ≡ 41) × ((s : VoterState) → IsTrue (state_fits s) → body ≢ state_form_2 s)
+StateForm2Fault Range body =
+    (length body ≡ 41) × ((s : VoterState) → IsTrue (state_fits s) → body ≢ state_form_2 s)
 StateForm2Fault _ body = ⊥
 
 -- A state.
@@ -97,15 +100,18 @@ StateFault fault (form ∷ body) =
 abbrev pub entry_form_1 : Entry → List ℕ
 entry_form_1 e = number_text e.index ++ (number_text e.term ++ e.bytes)
 
+-- what follows the form byte 1 is this entry, and it is in range
+pub record IsEntryForm1 (body : List ℕ) (e : Entry) : Type 0 where
+  pub text : body ≡ entry_form_1 e
+  pub in_range : IsTrue (stored_entry_fits e)
+
 -- the first fault of what follows the form byte 1; memory can only run out for an entry without fault
 abbrev pub EntryForm1Fault : StoredFault → List ℕ → ℕ → Type 0
 EntryForm1Fault Length body index = (length body < 16) ⊎ (65551 < length body)
 EntryForm1Fault Range body index =
-    (16 ≤ length body) × (length body ≤ 65551) × ((e : Entry) → IsTrue (stored_entry_fits e) → body ≢ entry_form_1 e)
-EntryForm1Fault Index body index =
-    (e : Entry) × (body ≡ entry_form_1 e) × IsTrue (stored_entry_fits e) × (e.index ≢ index)
-EntryForm1Fault Memory body index =
-    (e : Entry) × (body ≡ entry_form_1 e) × IsTrue (stored_entry_fits e) × (e.index ≡ index)
+    (16 ≤ length body) × (length body ≤ 65551) × ((e : Entry) → ¬ IsEntryForm1 body e)
+EntryForm1Fault Index body index = (e : Entry) × IsEntryForm1 body e × (e.index ≢ index)
+EntryForm1Fault Memory body index = (e : Entry) × IsEntryForm1 body e × (e.index ≡ index)
 EntryForm1Fault _ body index = ⊥
 
 -- An entry.

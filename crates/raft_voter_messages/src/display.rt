@@ -11,7 +11,7 @@ use std::{fmt, str};
 /// How many bytes are written as hex digits at once.
 const CHUNK_BYTES: usize = 128;
 
-/// The reply's name and what it says, as `Granted 5`. Entries are each written behind a space; of a state see there.
+/// The reply's name and what it says, as `Granted 5`. Entries are each written behind a space.
 impl fmt::Display for Reply {
     ghost output = { λ reply. Some (reply_text reply) };
 
@@ -36,7 +36,8 @@ impl fmt::Display for Reply {
     }
 }
 
-/// The term, the vote (`-` where there is none), the index and the term of the base and of the last entry, the commit.
+/// The term, the vote (`-` where there is none), the index and the term of the base and of the last entry, the
+/// commit.
 impl fmt::Display for VoterState {
     ghost output = { λ state. Some (state_words state) };
 

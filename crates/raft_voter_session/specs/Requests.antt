@@ -1,9 +1,10 @@
 -- The lines that ask something of a voter.
-use Rattle.std.specs.Prelude.{ℕ, nat_lt, List, [], ◌∷◌, length, Option, Some, None, if◌then◌else◌}
-use Rattle.std.specs.List.{before_first, after_first, position_or_len}
+use Rattle.std.specs.Prelude.{ℕ, nat_lt, Bool, false, not, List, [], ◌∷◌, length, Option, Some, None, if◌then◌else◌}
+use Rattle.std.specs.List.{before_first, after_first, list_any, position_or_len}
+use Rattle.std.specs.Option.{option_map_or}
 use Rattle.raft_voter_messages.specs.declared.request.Request.{Request}
 use Rattle.raft_voter_messages.specs.declared.request.Request.TheVariants.{Vote, Append, Compact, Install, Read, Status, Retire}
-use Rattle.raft_voter_session.specs.Words.{◌>>=◌, ends, is_colon, number_of, number_at, data_of, words_of}
+use Rattle.raft_voter_session.specs.Words.{◌>>=◌, ends, is_colon, number_of, number_at, data_of, word_at, words_of}
 
 -- `vote G T C I U`
 unfoldable pub vote_at : List ℕ → Option (ℕ × Request)
@@ -72,12 +73,21 @@ entries_at text = do
   words ← words_of text
   entries_of words
 
--- `append G T P U E..`
+-- a next word stands there, and it isn't an entry, since it has no colon
+abbrev pub has_plain_word : List ℕ → Bool
+has_plain_word text = option_map_or (λ word. not (list_any is_colon word.0)) (word_at text) false
+
+-- The commit, with what follows it: the next word if it has no colon. Else none was written, and it is 0.
+unfoldable pub commit_at : List ℕ → Option (ℕ × List ℕ)
+commit_at text = if has_plain_word text then number_at text else Some (0, text)
+
+-- `append G T P U C E..`, where C may lack
 unfoldable pub append_at : List ℕ → Option (ℕ × Request)
 append_at text = do
   group ← number_at text
   term ← number_at group.1
   prev_index ← number_at term.1
   prev_term ← number_at prev_index.1
-  entries ← entries_at prev_term.1
-  Some (group.0, Append term.0 prev_index.0 prev_term.0 entries)
+  commit ← commit_at prev_term.1
+  entries ← entries_at commit.1
+  Some (group.0, Append term.0 prev_index.0 prev_term.0 commit.0 entries)

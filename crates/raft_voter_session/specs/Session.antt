@@ -33,7 +33,9 @@ open_at text = do
 
 -- a line of words, by the first of them
 unfoldable pub words_line : List ℕ → List ℕ → Option Line
-words_line word text = if bytes_eq word (codes "open") then open_at text else option_map (λ asked. Ask asked.0 asked.1) (request_at word text)
+words_line word text =
+    if bytes_eq word (codes "open") then open_at text
+    else option_map (λ asked. Ask asked.0 asked.1) (request_at word text)
 
 -- what a line of at most 4,194,304 bytes says
 unfoldable pub line_of : List ℕ → Option Line
@@ -56,19 +58,20 @@ pub record Progress : Type 0 where
 abbrev pub no_progress : Progress
 no_progress = record { events = []; begun = None }
 
--- One more line: requests stand between `round` and `end`, other events outside. None where a line stands wrong.
+-- one more line: requests stand between `round` and `end`, other events outside; None where a line stands wrong
 abbrev pub after_line : Line → List Event → Option (List (ℕ × Request)) → Option Progress
 after_line (Alone event) events None = Some (record { events = events ++ event ∷ []; begun = None })
 after_line RoundBegins events None = Some (record { events = events; begun = Some [] })
 after_line RoundEnds events (Some asked) = Some (record { events = events ++ Round asked ∷ []; begun = None })
-after_line (Ask group request) events (Some asked) = Some (record { events = events; begun = Some (asked ++ (group, request) ∷ []) })
+after_line (Ask group request) events (Some asked) =
+    Some (record { events = events; begun = Some (asked ++ (group, request) ∷ []) })
 after_line line events begun = None
 
 -- the same of a line as it stands; None where it is unreadable
 abbrev pub after_text : List ℕ → Progress → Option Progress
 after_text text so_far = line_of text >>= (λ line. after_line line so_far.events so_far.begun)
 
--- the events at the end, which comes right behind a line and not within a round; else the number of the line that is missing
+-- the events at the end, which comes right behind a line and not within a round; else the number of the missing line
 abbrev pub at_end : ℕ → List Event → Option (List (ℕ × Request)) → Result (List Event) ℕ
 at_end number events None = Ok events
 at_end number events (Some asked) = Err number
@@ -83,19 +86,21 @@ abbrev pub or_unreadable : ℕ → Option Progress → (Progress → Result (Lis
 or_unreadable number None next = Err number
 or_unreadable number (Some so_far) next = next so_far
 
+-- no piece follows
 abbrev pub is_last : List (List ℕ) → Bool
 is_last [] = true
 is_last (piece ∷ pieces) = false
 
--- The events of lines, of which the first has this number, behind others; or the number of the first line that is
--- unreadable. The last piece of the text is what stands behind its last line feed.
+-- The events of lines, of which the first has this number, behind others; or the number of the first line that
+-- is unreadable. The last piece of the text is what stands behind its last line feed.
 abbrev pub read_from : List (List ℕ) → ℕ → Bool → Progress → Result (List Event) ℕ
 read_from [] number whole so_far = Err number
 read_from (piece ∷ pieces) number whole so_far =
     if is_last pieces then finish number whole piece so_far
     else or_unreadable number (after_text piece so_far) (read_from pieces (number + 1) whole)
 
--- The events of a session, or the number of its first unreadable line, counted from 1. Of a session of more than
--- 268,435,456 bytes the line with the first byte past them is unreadable.
+-- The events of a session, or the number of its first unreadable line, counted from 1. Of a session of more
+-- than 268,435,456 bytes the line with the first byte past them is unreadable.
 unfoldable pub session_of : List ℕ → Result (List Event) ℕ
-session_of input = read_from (slice_split is_line_feed (take 268435456 input)) 1 (nat_le (length input) 268435456) no_progress
+session_of input =
+    read_from (slice_split is_line_feed (take 268435456 input)) 1 (nat_le (length input) 268435456) no_progress

@@ -1,5 +1,6 @@
 -- How a transcript is written.
-use Rattle.std.specs.Prelude.{ℕ, ◌+◌, Bool, true, false, List, [], ◌∷◌, ◌++◌, codes}
+use Rattle.std.specs.Prelude.{◌≡◌, ℕ, ◌+◌, Bool, true, false, List, [], ◌∷◌, ◌++◌, codes, string_bytes, String}
+use Rattle.std.specs.declared.alloc.Global.{Global}
 use Rattle.std.specs.Fmt.{decimal}
 use Rattle.std.specs.List.{flat_map}
 use Rattle.raft_voter_messages.specs.declared.reply.Reply.{Reply}
@@ -8,6 +9,10 @@ use Rattle.raft_voter_messages.specs.declared.round.Outcome.{Outcome}
 use Rattle.raft_voter_messages.specs.declared.round.Outcome.TheVariants.{Answered, Cut}
 use Rattle.raft_voter_messages.specs.declared.round.Round.{Round}
 use Rattle.raft_voter_messages.specs.ReplyText.{reply_text}
+
+-- a text has these bytes more at its end
+abbrev pub Gains : String Global → String Global → List ℕ → Type 0
+Gains old new more = string_bytes new ≡ string_bytes old ++ more
 
 -- a number behind a space
 unfoldable pub spaced : ℕ → List ℕ
@@ -25,7 +30,8 @@ place_text place group reply = decimal place ++ spaced group ++ codes " " ++ rep
 abbrev pub places_text : ℕ → List (ℕ × Request) → List Reply → List ℕ
 places_text place [] replies = []
 places_text place (q ∷ qs) [] = []
-places_text place (q ∷ qs) (reply ∷ replies) = place_text place q.0 reply ++ places_text (place + 1) qs replies
+places_text place (q ∷ qs) (reply ∷ replies) =
+    place_text place q.0 reply ++ places_text (place + 1) qs replies
 
 -- refused places, where there are some
 abbrev pub refused_text : List ℕ → List ℕ
@@ -46,13 +52,15 @@ abbrev pub rounds_text : ℕ → List Round → List ℕ
 rounds_text number [] = []
 rounds_text number (round ∷ rounds) = round_text number round ++ rounds_text (number + 1) rounds
 
+-- the verdict, on a line
 abbrev pub verdict_text : Bool → List ℕ
 verdict_text true = codes "verdict yes\n"
 verdict_text false = codes "verdict no\n"
 
 -- a transcript, its cuts and the verdict on them
 unfoldable pub transcript_text : List Round → List ℕ → Bool → List ℕ
-transcript_text rounds cuts verdict = rounds_text 0 rounds ++ codes "cuts" ++ spaced_all cuts ++ codes "\n" ++ verdict_text verdict
+transcript_text rounds cuts verdict =
+    rounds_text 0 rounds ++ codes "cuts" ++ spaced_all cuts ++ codes "\n" ++ verdict_text verdict
 
 -- what is written where a line is unreadable
 unfoldable pub unreadable_text : ℕ → List ℕ

@@ -36,12 +36,15 @@ is_lower_hex_digit b = (nat_le 48 b && nat_le b 57) || (nat_le 97 b && nat_le b 
 abbrev pub data_of : List ℕ → Option (List ℕ)
 data_of word = if list_all is_lower_hex_digit word then result_ok (decode_of word) else None
 
+-- the byte of a space
 abbrev pub is_space : ℕ → Bool
 is_space b = b == 32
 
+-- the byte of a line feed
 abbrev pub is_line_feed : ℕ → Bool
 is_line_feed b = b == 10
 
+-- the byte of a colon
 abbrev pub is_colon : ℕ → Bool
 is_colon b = b == 58
 
@@ -49,7 +52,8 @@ is_colon b = b == 58
 abbrev pub word_at : List ℕ → Option (List ℕ × List ℕ)
 word_at [] = None
 word_at (b ∷ text) =
-    if is_space b then Some (before_first is_space text, drop (length (before_first is_space text)) text) else None
+    if is_space b then Some (before_first is_space text, drop (length (before_first is_space text)) text)
+    else None
 
 -- the number that is the next word, with what follows it
 unfoldable pub number_at : List ℕ → Option (ℕ × List ℕ)

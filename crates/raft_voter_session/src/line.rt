@@ -2,9 +2,8 @@
 ghost use Rattle.std.specs.Prelude.{◌≡◌, IfOk};
 ghost use Rattle.raft_voter_session.specs.Session.{line_of, open_at, request_at, words_line};
 
-use crate::Event;
-use crate::requests::{append_at, compact_at, install_at, read_at, retire_at, status_at, vote_at};
-use crate::words::{end_of_word, number_at};
+use crate::words::{end_of_word, split_number};
+use crate::{Event, requests};
 use raft_voter_messages::{Memory, Request};
 use std::alloc::Global;
 
@@ -26,39 +25,39 @@ pub enum Line {
 
 /// A request, by the first word of its line and what follows it.
 #[tactic(auto, unfolding(crate::specs::Session::request_at))]
-fn request_at(alloc: Global, word: &[u8], text: &[u8]) -> Result<Option<(u64, Request)>, Memory>
+fn read_request(alloc: Global, word: &[u8], text: &[u8]) -> Result<Option<(u64, Request)>, Memory>
     ensures { IfOk result (λ asked. asked ≡ request_at word.now text.now) }
 {
     if word == b"append".as_slice() {
-        return append_at(alloc, text);
+        return requests::append(alloc, text);
     }
     if word == b"vote".as_slice() {
-        return Ok(vote_at(text));
+        return Ok(requests::vote(text));
     }
     if word == b"compact".as_slice() {
-        return Ok(compact_at(text));
+        return Ok(requests::compact(text));
     }
     if word == b"install".as_slice() {
-        return Ok(install_at(text));
+        return Ok(requests::install(text));
     }
     if word == b"read".as_slice() {
-        return Ok(read_at(text));
+        return Ok(requests::read(text));
     }
     if word == b"status".as_slice() {
-        return Ok(status_at(text));
+        return Ok(requests::status(text));
     }
     if word == b"retire".as_slice() {
-        return Ok(retire_at(text));
+        return Ok(requests::retire(text));
     }
     Ok(None)
 }
 
 /// `open W`, with at least one worker.
 #[tactic(auto, unfolding(crate::specs::Session::open_at))]
-fn open_at(text: &[u8]) -> Option<Line>
+fn read_open(text: &[u8]) -> Option<Line>
     ensures { result ≡ open_at text.now }
 {
-    let (workers, rest) = number_at(text)?;
+    let (workers, rest) = split_number(text)?;
     if workers == 0 || !rest.is_empty() {
         return None;
     }
@@ -67,13 +66,13 @@ fn open_at(text: &[u8]) -> Option<Line>
 
 /// A line of words, by the first of them.
 #[tactic(auto, unfolding(crate::specs::Session::words_line))]
-fn words_line(alloc: Global, word: &[u8], text: &[u8]) -> Result<Option<Line>, Memory>
+fn read_words(alloc: Global, word: &[u8], text: &[u8]) -> Result<Option<Line>, Memory>
     ensures { IfOk result (λ line. line ≡ words_line word.now text.now) }
 {
     if word == b"open".as_slice() {
-        return Ok(open_at(text));
+        return Ok(read_open(text));
     }
-    let Some((group, request)) = request_at(alloc, word, text)? else {
+    let Some((group, request)) = read_request(alloc, word, text)? else {
         return Ok(None);
     };
     Ok(Some(Line::Ask(group, request)))
@@ -100,5 +99,5 @@ pub fn read_line(alloc: Global, line: &[u8]) -> Result<Option<Line>, Memory>
         return Ok(Some(Line::RoundEnds));
     }
     let (word, text) = line.split_at(end_of_word(line));
-    words_line(alloc, word, text)
+    read_words(alloc, word, text)
 }

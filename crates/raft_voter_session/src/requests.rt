@@ -1,9 +1,10 @@
 //! The lines that ask something of a voter, behind their first word.
 ghost use Rattle.std.specs.Prelude.{◌≡◌, IfOk};
+ghost use Rattle.std.specs.Option.{option_map};
 ghost use Rattle.raft_voter_session.specs.Words.{ends};
-ghost use Rattle.raft_voter_session.specs.Requests.{vote_at, compact_at, install_at, read_at, status_at, retire_at, entry_of, entries_at, append_at};
+ghost use Rattle.raft_voter_session.specs.Requests.{append_at, commit_at, compact_at, entries_at, entry_of, has_plain_word, install_at, read_at, retire_at, status_at, vote_at};
 
-use crate::words::{cut_at, data_of, number_at, number_of, word_at};
+use crate::words::{read_data, read_number, split_at_byte, split_number, split_word};
 use raft_voter_messages::{Items, Memory, Request};
 use std::alloc::Global;
 
@@ -16,14 +17,14 @@ fn at_end(text: &[u8], asked: (u64, Request)) -> Option<(u64, Request)>
 
 /// `vote G T C I U`: group, term, candidate, last index and last term.
 #[tactic(auto, unfolding(crate::specs::Requests::vote_at))]
-pub fn vote_at(text: &[u8]) -> Option<(u64, Request)>
+pub fn vote(text: &[u8]) -> Option<(u64, Request)>
     ensures { result ≡ vote_at text.now }
 {
-    let (group, text) = number_at(text)?;
-    let (term, text) = number_at(text)?;
-    let (candidate, text) = number_at(text)?;
-    let (last_index, text) = number_at(text)?;
-    let (last_term, text) = number_at(text)?;
+    let (group, text) = split_number(text)?;
+    let (term, text) = split_number(text)?;
+    let (candidate, text) = split_number(text)?;
+    let (last_index, text) = split_number(text)?;
+    let (last_term, text) = split_number(text)?;
     let request = Request::Vote {
         term,
         candidate,
@@ -35,23 +36,23 @@ pub fn vote_at(text: &[u8]) -> Option<(u64, Request)>
 
 /// `compact G I`: group and index.
 #[tactic(auto, unfolding(crate::specs::Requests::compact_at))]
-pub fn compact_at(text: &[u8]) -> Option<(u64, Request)>
+pub fn compact(text: &[u8]) -> Option<(u64, Request)>
     ensures { result ≡ compact_at text.now }
 {
-    let (group, text) = number_at(text)?;
-    let (index, text) = number_at(text)?;
+    let (group, text) = split_number(text)?;
+    let (index, text) = split_number(text)?;
     at_end(text, (group, Request::Compact { index }))
 }
 
 /// `install G T I U`: group, term, index and the term of the entry there.
 #[tactic(auto, unfolding(crate::specs::Requests::install_at))]
-pub fn install_at(text: &[u8]) -> Option<(u64, Request)>
+pub fn install(text: &[u8]) -> Option<(u64, Request)>
     ensures { result ≡ install_at text.now }
 {
-    let (group, text) = number_at(text)?;
-    let (term, text) = number_at(text)?;
-    let (index, text) = number_at(text)?;
-    let (entry_term, text) = number_at(text)?;
+    let (group, text) = split_number(text)?;
+    let (term, text) = split_number(text)?;
+    let (index, text) = split_number(text)?;
+    let (entry_term, text) = split_number(text)?;
     let request = Request::Install {
         term,
         index,
@@ -62,45 +63,45 @@ pub fn install_at(text: &[u8]) -> Option<(u64, Request)>
 
 /// `read G A B`: group, first index and one past the last.
 #[tactic(auto, unfolding(crate::specs::Requests::read_at))]
-pub fn read_at(text: &[u8]) -> Option<(u64, Request)>
+pub fn read(text: &[u8]) -> Option<(u64, Request)>
     ensures { result ≡ read_at text.now }
 {
-    let (group, text) = number_at(text)?;
-    let (from, text) = number_at(text)?;
-    let (to, text) = number_at(text)?;
+    let (group, text) = split_number(text)?;
+    let (from, text) = split_number(text)?;
+    let (to, text) = split_number(text)?;
     at_end(text, (group, Request::Read { from, to }))
 }
 
 /// `status G`.
 #[tactic(auto, unfolding(crate::specs::Requests::status_at))]
-pub fn status_at(text: &[u8]) -> Option<(u64, Request)>
+pub fn status(text: &[u8]) -> Option<(u64, Request)>
     ensures { result ≡ status_at text.now }
 {
-    let (group, text) = number_at(text)?;
+    let (group, text) = split_number(text)?;
     at_end(text, (group, Request::Status))
 }
 
 /// `retire G`.
 #[tactic(auto, unfolding(crate::specs::Requests::retire_at))]
-pub fn retire_at(text: &[u8]) -> Option<(u64, Request)>
+pub fn retire(text: &[u8]) -> Option<(u64, Request)>
     ensures { result ≡ retire_at text.now }
 {
-    let (group, text) = number_at(text)?;
+    let (group, text) = split_number(text)?;
     at_end(text, (group, Request::Retire))
 }
 
 /// `term:hex`, an entry's term and its bytes.
 #[tactic(auto, unfolding(crate::specs::Requests::entry_of))]
-fn entry_of(alloc: Global, word: &[u8]) -> Result<Option<(u64, Items<u8>)>, Memory>
+fn read_entry(alloc: Global, word: &[u8]) -> Result<Option<(u64, Items<u8>)>, Memory>
     ensures { IfOk result (λ entry. entry ≡ entry_of word.now) }
 {
-    let Some((term, digits)) = cut_at(word, b':') else {
+    let Some((term, digits)) = split_at_byte(word, b':') else {
         return Ok(None);
     };
-    let Some(term) = number_of(term) else {
+    let Some(term) = read_number(term) else {
         return Ok(None);
     };
-    let Some(bytes) = data_of(alloc, digits)? else {
+    let Some(bytes) = read_data(alloc, digits)? else {
         return Ok(None);
     };
     Ok(Some((term, bytes)))
@@ -108,13 +109,13 @@ fn entry_of(alloc: Global, word: &[u8]) -> Result<Option<(u64, Items<u8>)>, Memo
 
 /// The entries that are the words of a text.
 #[tactic(auto, unfolding(crate::specs::Requests::entries_at))]
-fn entries_at(alloc: Global, text: &[u8]) -> Result<Option<Items<(u64, Items<u8>)>>, Memory>
+fn read_entries(alloc: Global, text: &[u8]) -> Result<Option<Items<(u64, Items<u8>)>>, Memory>
     ensures { IfOk result (λ entries. entries ≡ entries_at text.now) }
 {
     let mut entries = Items::new(alloc);
     let mut left = text;
-    while let Some((word, rest)) = word_at(left) {
-        let Some(entry) = entry_of(alloc, word)? else {
+    while let Some((word, rest)) = split_word(left) {
+        let Some(entry) = read_entry(alloc, word)? else {
             return Ok(None);
         };
         entries.push(entry)?;
@@ -126,30 +127,56 @@ fn entries_at(alloc: Global, text: &[u8]) -> Result<Option<Items<(u64, Items<u8>
     Ok(Some(entries))
 }
 
-/// `append G T P U E..`: group, term, index and term right before the entries, and the entries.
+/// Whether a next word stands there that is no entry, since it has no colon.
+fn has_plain_word(text: &[u8]) -> bool
+    ensures { result ≡ has_plain_word text.now }
+{
+    match split_word(text) {
+        Some((word, _)) => !word.contains(&b':'),
+        None => false,
+    }
+}
+
+/// The commit, with what follows it: the next word if it has no colon. Else none was written, and it is 0.
+#[tactic(auto, unfolding(crate::specs::Requests::commit_at))]
+fn split_commit(text: &[u8]) -> Option<(u64, &[u8])>
+    ensures { option_map (λ field. (field.0, field.1.now)) result ≡ commit_at text.now }
+{
+    if !has_plain_word(text) {
+        return Some((0, text));
+    }
+    split_number(text)
+}
+
+/// `append G T P U C E..`: group, term, index and term right before the entries, the commit, which may lack, and the
+/// entries.
 #[tactic(auto, unfolding(crate::specs::Requests::append_at))]
-pub fn append_at(alloc: Global, text: &[u8]) -> Result<Option<(u64, Request)>, Memory>
+pub fn append(alloc: Global, text: &[u8]) -> Result<Option<(u64, Request)>, Memory>
     ensures { IfOk result (λ asked. asked ≡ append_at text.now) }
 {
-    let Some((group, text)) = number_at(text) else {
+    let Some((group, text)) = split_number(text) else {
         return Ok(None);
     };
-    let Some((term, text)) = number_at(text) else {
+    let Some((term, text)) = split_number(text) else {
         return Ok(None);
     };
-    let Some((prev_index, text)) = number_at(text) else {
+    let Some((prev_index, text)) = split_number(text) else {
         return Ok(None);
     };
-    let Some((prev_term, text)) = number_at(text) else {
+    let Some((prev_term, text)) = split_number(text) else {
         return Ok(None);
     };
-    let Some(entries) = entries_at(alloc, text)? else {
+    let Some((commit, text)) = split_commit(text) else {
+        return Ok(None);
+    };
+    let Some(entries) = read_entries(alloc, text)? else {
         return Ok(None);
     };
     let request = Request::Append {
         term,
         prev_index,
         prev_term,
+        commit,
         entries,
     };
     Ok(Some((group, request)))

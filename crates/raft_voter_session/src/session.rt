@@ -5,21 +5,24 @@ ghost use Rattle.raft_voter_session.specs.Fault.{TellsFault};
 
 use crate::Event;
 use crate::line::{Line, read_line};
-use crate::words::cut_at;
+use crate::words::split_at_byte;
 use raft_voter_messages::{Items, Memory, Request};
 use std::alloc::Global;
 use std::collections::VecDeque;
 use std::marker::Model;
+use thiserror::Error;
 
 /// The most bytes of a session.
 const MOST_SESSION_BYTES: usize = 268_435_456;
 
 /// Why a session has no events.
-#[derive(Clone, Copy, Debug, PartialEq, Eq)]
+#[derive(Clone, Copy, Debug, PartialEq, Eq, Error)]
 pub enum SessionFault {
     /// The line of this number, counted from 1, is the first that is unreadable.
+    #[error("line {0}: unreadable")]
     Unreadable(usize),
     /// An allocation was refused.
+    #[error("out of memory")]
     Memory,
 }
 
@@ -142,7 +145,7 @@ pub fn read_session(alloc: Global, input: &[u8]) -> Result<VecDeque<Event>, Sess
     let mut left = front(input, MOST_SESSION_BYTES);
     let mut number = 1;
     let mut reading = Reading::new(alloc);
-    while let Some((line, rest)) = cut_at(left, b'\n') {
+    while let Some((line, rest)) = split_at_byte(left, b'\n') {
         let Some(next) = reading.read(alloc, line)? else {
             return Err(SessionFault::Unreadable(number));
         };

@@ -1,13 +1,58 @@
 //! The text of transcripts.
-ghost use Rattle.std.specs.Prelude.{◌≡◌, ◌++◌, codes, OnOk, string_bytes};
-ghost use Rattle.raft_voter_session.specs.Text.{spaced, spaced_all, place_text, places_text, refused_text, outcome_text, round_text, rounds_text, verdict_text, transcript_text, unreadable_text};
+ghost use Rattle.std.specs.Prelude.{◌≡◌, OnOk, OnErr, string_bytes};
+ghost use Rattle.raft_voter_session.specs.Text.{Gains, spaced, spaced_all, place_text, places_text, refused_text, outcome_text, round_text, rounds_text, verdict_text, transcript_text, unreadable_text};
 
 use raft_voter_messages::{Memory, Outcome, Reply, Request, Round, Transcript};
+
+/// Writes a transcript, the places up to which its rounds without an answer were taken, and the verdict on them.
+/// Where memory is refused the text stays as it was.
+pub fn write_transcript(
+    text: &mut String,
+    transcript: &Transcript,
+    cuts: &[usize],
+    verdict: bool,
+) -> Result<(), Memory>
+    ensures ok { OnOk result (Gains text.old text.new (transcript_text transcript.now.rounds cuts.now verdict)) }
+    ensures err { OnErr result (string_bytes text.new ≡ string_bytes text.old) }
+{
+    let mut lines = String::new(*text.allocator());
+    write_all(&mut lines, transcript, cuts, verdict)?;
+    text.push_str(lines.as_str())?;
+    Ok(())
+}
+
+/// Writes that the line of this number is unreadable. Where memory is refused the text stays as it was.
+pub fn write_unreadable(text: &mut String, line: usize) -> Result<(), Memory>
+    ensures ok { OnOk result (Gains text.old text.new (unreadable_text line)) }
+    ensures err { OnErr result (string_bytes text.new ≡ string_bytes text.old) }
+{
+    let mut told = String::new(*text.allocator());
+    write_line(&mut told, line)?;
+    text.push_str(told.as_str())?;
+    Ok(())
+}
+
+/// Writes a transcript, its cuts and the verdict.
+#[tactic(auto, unfolding(crate::specs::Text::transcript_text))]
+fn write_all(
+    text: &mut String,
+    transcript: &Transcript,
+    cuts: &[usize],
+    verdict: bool,
+) -> Result<(), Memory>
+    ensures { OnOk result (Gains text.old text.new (transcript_text transcript.now.rounds cuts.now verdict)) }
+{
+    write_rounds(text, transcript.rounds.as_slice())?;
+    text.push_str("cuts")?;
+    write_places(text, cuts)?;
+    text.push_str("\n")?;
+    write_verdict(text, verdict)
+}
 
 /// Writes a number behind a space.
 #[tactic(auto, unfolding(crate::specs::Text::spaced))]
 fn write_spaced(text: &mut String, number: u64) -> Result<(), Memory>
-    ensures { OnOk result (string_bytes text.new ≡ string_bytes text.old ++ spaced number) }
+    ensures { OnOk result (Gains text.old text.new (spaced number)) }
 {
     write!(text, " {number}")?;
     Ok(())
@@ -15,7 +60,7 @@ fn write_spaced(text: &mut String, number: u64) -> Result<(), Memory>
 
 /// Writes places, each behind a space.
 fn write_places(text: &mut String, places: &[usize]) -> Result<(), Memory>
-    ensures { OnOk result (string_bytes text.new ≡ string_bytes text.old ++ spaced_all places.now) }
+    ensures { OnOk result (Gains text.old text.new (spaced_all places.now)) }
 {
     for place in places {
         write_spaced(text, *place as u64)?;
@@ -26,7 +71,7 @@ fn write_places(text: &mut String, places: &[usize]) -> Result<(), Memory>
 /// Writes a place, its group and its reply on a line.
 #[tactic(auto, unfolding(crate::specs::Text::place_text))]
 fn write_place(text: &mut String, place: usize, group: u64, reply: &Reply) -> Result<(), Memory>
-    ensures { OnOk result (string_bytes text.new ≡ string_bytes text.old ++ place_text place group reply.now) }
+    ensures { OnOk result (Gains text.old text.new (place_text place group reply.now)) }
 {
     write!(text, "{place}")?;
     write_spaced(text, group)?;
@@ -40,7 +85,7 @@ fn write_replies(
     requests: &[(u64, Request)],
     replies: &[Reply],
 ) -> Result<(), Memory>
-    ensures { OnOk result (string_bytes text.new ≡ string_bytes text.old ++ places_text 0 requests.now replies.now) }
+    ensures { OnOk result (Gains text.old text.new (places_text 0 requests.now replies.now)) }
 {
     for (place, reply) in replies.iter().enumerate() {
         let Some((group, _)) = requests.get(place) else {
@@ -53,7 +98,7 @@ fn write_replies(
 
 /// Writes the refused places, where there are some.
 fn write_refused(text: &mut String, places: &[usize]) -> Result<(), Memory>
-    ensures { OnOk result (string_bytes text.new ≡ string_bytes text.old ++ refused_text places.now) }
+    ensures { OnOk result (Gains text.old text.new (refused_text places.now)) }
 {
     if places.is_empty() {
         return Ok(());
@@ -64,7 +109,7 @@ fn write_refused(text: &mut String, places: &[usize]) -> Result<(), Memory>
 
 /// Writes what came of a round.
 fn write_outcome(text: &mut String, round: &Round) -> Result<(), Memory>
-    ensures { OnOk result (string_bytes text.new ≡ string_bytes text.old ++ outcome_text round.now round.now.outcome) }
+    ensures { OnOk result (Gains text.old text.new (outcome_text round.now round.now.outcome)) }
 {
     match &round.outcome {
         Outcome::Answered(replies) => {
@@ -82,7 +127,7 @@ fn write_outcome(text: &mut String, round: &Round) -> Result<(), Memory>
 /// Writes a round.
 #[tactic(auto, unfolding(crate::specs::Text::round_text))]
 fn write_round(text: &mut String, number: usize, round: &Round) -> Result<(), Memory>
-    ensures { OnOk result (string_bytes text.new ≡ string_bytes text.old ++ round_text number round.now) }
+    ensures { OnOk result (Gains text.old text.new (round_text number round.now)) }
 {
     text.push_str("round")?;
     write_spaced(text, number as u64)?;
@@ -91,7 +136,7 @@ fn write_round(text: &mut String, number: usize, round: &Round) -> Result<(), Me
 
 /// Writes rounds, counted from 0.
 fn write_rounds(text: &mut String, rounds: &[Round]) -> Result<(), Memory>
-    ensures { OnOk result (string_bytes text.new ≡ string_bytes text.old ++ rounds_text 0 rounds.now) }
+    ensures { OnOk result (Gains text.old text.new (rounds_text 0 rounds.now)) }
 {
     for (number, round) in rounds.iter().enumerate() {
         write_round(text, number, round)?;
@@ -99,26 +144,9 @@ fn write_rounds(text: &mut String, rounds: &[Round]) -> Result<(), Memory>
     Ok(())
 }
 
-/// Writes a transcript, the places up to which its rounds without an answer were taken, and the verdict on them.
-#[tactic(auto, unfolding(crate::specs::Text::transcript_text))]
-pub fn write_transcript(
-    text: &mut String,
-    transcript: &Transcript,
-    cuts: &[usize],
-    verdict: bool,
-) -> Result<(), Memory>
-    ensures { OnOk result (string_bytes text.new ≡ string_bytes text.old ++ transcript_text transcript.now.rounds cuts.now verdict) }
-{
-    write_rounds(text, transcript.rounds.as_slice())?;
-    text.push_str("cuts")?;
-    write_places(text, cuts)?;
-    text.push_str("\n")?;
-    write_verdict(text, verdict)
-}
-
 /// Writes the verdict.
 fn write_verdict(text: &mut String, verdict: bool) -> Result<(), Memory>
-    ensures { OnOk result (string_bytes text.new ≡ string_bytes text.old ++ verdict_text verdict) }
+    ensures { OnOk result (Gains text.old text.new (verdict_text verdict)) }
 {
     if verdict {
         text.push_str("verdict yes\n")?;
@@ -130,8 +158,8 @@ fn write_verdict(text: &mut String, verdict: bool) -> Result<(), Memory>
 
 /// Writes that the line of this number is unreadable.
 #[tactic(auto, unfolding(crate::specs::Text::unreadable_text))]
-pub fn write_unreadable(text: &mut String, line: usize) -> Result<(), Memory>
-    ensures { OnOk result (string_bytes text.new ≡ string_bytes text.old ++ unreadable_text line) }
+fn write_line(text: &mut String, line: usize) -> Result<(), Memory>
+    ensures { OnOk result (Gains text.old text.new (unreadable_text line)) }
 {
     text.push_str("line")?;
     write_spaced(text, line as u64)?;

@@ -27,7 +27,7 @@ pub fn end_of_word(text: &[u8]) -> usize
 }
 
 /// The parts of a text before and behind the first of these bytes; `None` where it has none.
-pub fn cut_at(text: &[u8], byte: u8) -> Option<(&[u8], &[u8])>
+pub fn split_at_byte(text: &[u8], byte: u8) -> Option<(&[u8], &[u8])>
     ensures { MatchOption result (length text.now ≤ position_or_len (λ b. b == byte) text.now)
         (λ parts. (position_or_len (λ b. b == byte) text.now < length text.now)
         × (parts.0.now ≡ before_first (λ b. b == byte) text.now)
@@ -43,7 +43,7 @@ pub fn cut_at(text: &[u8], byte: u8) -> Option<(&[u8], &[u8])>
 
 /// What digits say, if that fits a `u64`.
 #[tactic(auto, using(crate::proofs::Digits::digits_say_more), unfolding(crate::specs::Words::value_from))]
-fn value_of(digits: &[u8]) -> Option<u64>
+fn read_digits(digits: &[u8]) -> Option<u64>
     ensures { result ≡ value_from 0 digits.now }
 {
     let mut number: u64 = 0;
@@ -57,17 +57,17 @@ fn value_of(digits: &[u8]) -> Option<u64>
 }
 
 /// What a word of one to twenty digits says, if that fits a `u64`.
-pub fn number_of(word: &[u8]) -> Option<u64>
+pub fn read_number(word: &[u8]) -> Option<u64>
     ensures { result ≡ number_of word.now }
 {
     if word.is_empty() || word.len() > MOST_DIGITS {
         return None;
     }
-    value_of(word)
+    read_digits(word)
 }
 
 /// The next word, behind one space and up to the next one, with what follows it.
-pub fn word_at(text: &[u8]) -> Option<(&[u8], &[u8])>
+pub fn split_word(text: &[u8]) -> Option<(&[u8], &[u8])>
     ensures { option_map (λ word. (word.0.now, word.1.now)) result ≡ word_at text.now }
 {
     let (first, rest) = text.split_first()?;
@@ -79,11 +79,11 @@ pub fn word_at(text: &[u8]) -> Option<(&[u8], &[u8])>
 
 /// The number that is the next word, with what follows it.
 #[tactic(auto, unfolding(crate::specs::Words::number_at))]
-pub fn number_at(text: &[u8]) -> Option<(u64, &[u8])>
+pub fn split_number(text: &[u8]) -> Option<(u64, &[u8])>
     ensures { option_map (λ field. (field.0, field.1.now)) result ≡ number_at text.now }
 {
-    let (word, rest) = word_at(text)?;
-    Some((number_of(word)?, rest))
+    let (word, rest) = split_word(text)?;
+    Some((read_number(word)?, rest))
 }
 
 /// Whether a byte is a hex digit in lower case.
@@ -101,7 +101,7 @@ fn is_lower_hex(word: &[u8]) -> bool
 }
 
 /// The bytes of hex digits in lower case.
-pub fn data_of(alloc: Global, word: &[u8]) -> Result<Option<Items<u8>>, Memory>
+pub fn read_data(alloc: Global, word: &[u8]) -> Result<Option<Items<u8>>, Memory>
     ensures { IfOk result (λ bytes. bytes ≡ data_of word.now) }
 {
     if !is_lower_hex(word) {

@@ -16,8 +16,8 @@ use Rattle.raft_voter_messages.specs.StoredForms.{EntryFault, IsState, StateFaul
 use Rattle.raftvoters.specs.declared.record.OpenFault.{OpenFault}
 use Rattle.raftvoters.specs.declared.record.OpenFault.TheVariants.{Damaged, Memory as OutOfMemory}
 use Rattle.raftvoters.specs.Content.{Content, whole}
-use Rattle.raftvoters.specs.Damage.{HasNoEntries, HasNoEntry, HasNoRecord, HoldsNothing, TellsDamage, open_fault}
-use Rattle.raftvoters.specs.Records.{AreEntries, AreStorable, Holds, IsStorable, record_bytes, stored_entry, voter_bytes}
+use Rattle.raftvoters.specs.Damage.{HasNoEntries, HasNoEntry, HasNoVoterRecord, StandsForNothing, TellsDamage, open_fault}
+use Rattle.raftvoters.specs.Records.{AreEntries, AreStorable, StandsFor, IsStorable, voter_record, stored_entry, voter_bytes}
 use Rattle.raftvoters.proofs.Records.{entries_in_range, entry_same, length-numbered, length-record, record_same, state_in_range}
 
 -- Faults.
@@ -126,23 +126,23 @@ unfolding voter_bytes
 grouped v x = simp append_assoc
 
 -- behind the group of a record stand its voter's state, the number of its entries, and its entries
-voter_there : (bytes one x : List ℕ) (group : ℕ) (r : ℕ × State) → bytes ≡ number_text group ++ one → group < 2 ^ 64 → IsStorable r → bytes ≡ record_bytes r ++ x
+voter_there : (bytes one x : List ℕ) (group : ℕ) (r : ℕ × State) → bytes ≡ number_text group ++ one → group < 2 ^ 64 → IsStorable r → bytes ≡ voter_record r ++ x
     → one ≡ state_text (state_of r.1) ++ (number_text (length r.1.log) ++ (flat_map stored_entry (numbered (r.1.base_index + 1) r.1.log) ++ x))
-unfolding record_bytes
+unfolding voter_record
 voter_there bytes one x group r a small h same =
     (number_first group r.0 one (voter_bytes r.1 ++ x) small h.group (sym a ∙ same ∙ append_assoc (number_text r.0) (voter_bytes r.1) x)).1 ∙ grouped r.1 x
 
 -- the state, and what stands behind it
 state_there : (bytes one state two x : List ℕ) (group : ℕ) (r : ℕ × State) → bytes ≡ number_text group ++ one → group < 2 ^ 64 → one ≡ state ++ two
-    → length state ≡ 34 → IsStorable r → bytes ≡ record_bytes r ++ x
+    → length state ≡ 42 → IsStorable r → bytes ≡ voter_record r ++ x
     → (state ≡ state_text (state_of r.1)) × (two ≡ number_text (length r.1.log) ++ (flat_map stored_entry (numbered (r.1.base_index + 1) r.1.log) ++ x))
 state_there bytes one state two x group r a small b long h same =
-    split_same state (state_text (state_of r.1)) two _ 34 long (length-state_text (state_of r.1)) (sym b ∙ voter_there bytes one x group r a small h same)
+    split_same state (state_text (state_of r.1)) two _ 42 long (length-state_text (state_of r.1)) (sym b ∙ voter_there bytes one x group r a small h same)
 
-pub no_group : (bytes : List ℕ) → length bytes < 8 → HasNoRecord bytes
+pub no_group : (bytes : List ℕ) → length bytes < 8 → HasNoVoterRecord bytes
 no_group bytes short = λ r x h same. omega (arith, length-record r x, ap length same)
 
-pub no_state : (bytes one : List ℕ) (group : ℕ) → bytes ≡ number_text group ++ one → group < 2 ^ 64 → length one < 34 → HasNoRecord bytes
+pub no_state : (bytes one : List ℕ) (group : ℕ) → bytes ≡ number_text group ++ one → group < 2 ^ 64 → length one < 42 → HasNoVoterRecord bytes
 no_state bytes one group a small short = λ r x h same.
     let there = voter_there bytes one x group r a small h same in
     omega (
@@ -153,13 +153,13 @@ no_state bytes one group a small short = λ r x h same.
     )
 
 pub no_state_read : (bytes one state two : List ℕ) (group : ℕ) (given : StoredFault) → bytes ≡ number_text group ++ one → group < 2 ^ 64 → one ≡ state ++ two
-    → length state ≡ 34 → StateFault given state → HasNoRecord bytes
+    → length state ≡ 42 → StateFault given state → HasNoVoterRecord bytes
 no_state_read bytes one state two group given a small b long fault = λ r x h same.
     let there = state_there bytes one state two x group r a small b long h same in
     state_no_fault given (state_of r.1) (state_in_range r.1 h.in_range) (subst (StateFault given) there.0 fault)
 
 pub no_count : (bytes one state two : List ℕ) (group : ℕ) → bytes ≡ number_text group ++ one → group < 2 ^ 64 → one ≡ state ++ two
-    → length state ≡ 34 → length two < 8 → HasNoRecord bytes
+    → length state ≡ 42 → length two < 8 → HasNoVoterRecord bytes
 no_count bytes one state two group a small b long short = λ r x h same.
     let there = state_there bytes one state two x group r a small b long h same in
     omega (
@@ -174,8 +174,8 @@ numbered_in_order i [] = refl
 numbered_in_order i (e ∷ es) = let others = numbered_in_order (i + 1) es in grind (arith, nat_tests)
 
 pub no_entries_read : (bytes one state two three : List ℕ) (group count : ℕ) (s : VoterState) → bytes ≡ number_text group ++ one → group < 2 ^ 64
-    → one ≡ state ++ two → length state ≡ 34 → IsState state s → two ≡ number_text count ++ three → count < 2 ^ 64
-    → HasNoEntries (s.base_index + 1) count three → HasNoRecord bytes
+    → one ≡ state ++ two → length state ≡ 42 → IsState state s → two ≡ number_text count ++ three → count < 2 ^ 64
+    → HasNoEntries (s.base_index + 1) count three → HasNoVoterRecord bytes
 no_entries_read bytes one state two three group count s a small b long is c few none = λ r x h same.
     let v = r.1 in
     let es = numbered (v.base_index + 1) v.log in
@@ -191,28 +191,28 @@ no_entries_read bytes one state two three group count s a small b long is c few 
 
 -- where bytes hold records, those that are left are records too
 abbrev pub AreLeft : List ℕ → List ℕ → Type 0
-AreLeft bytes left = (W : World) → Holds bytes W → (rs : List (ℕ × State)) × AreStorable rs × (left ≡ flat_map record_bytes rs)
+AreLeft bytes left = (W : World) → StandsFor bytes W → (rs : List (ℕ × State)) × AreStorable rs × (left ≡ flat_map voter_record rs)
 
 pub all_left : (bytes : List ℕ) → AreLeft bytes bytes
 all_left bytes = λ W h. (h.records, h.storable, h.text)
 
-behind : (rs : List (ℕ × State)) (r : ℕ × State) (left rest : List ℕ) → AreStorable rs → left ≡ flat_map record_bytes rs → IsStorable r → left ≡ record_bytes r ++ rest
-    → (ss : List (ℕ × State)) × AreStorable ss × (rest ≡ flat_map record_bytes ss)
+behind : (rs : List (ℕ × State)) (r : ℕ × State) (left rest : List ℕ) → AreStorable rs → left ≡ flat_map voter_record rs → IsStorable r → left ≡ voter_record r ++ rest
+    → (ss : List (ℕ × State)) × AreStorable ss × (rest ≡ flat_map voter_record ss)
 behind [] r left rest h e fit f = absurd (omega (arith, length-record r rest, ap length e, ap length f))
 behind (s ∷ rs) r left rest h e fit f =
-    let one = record_same s r (flat_map record_bytes rs) rest h.0 fit (sym e ∙ f) in
+    let one = record_same s r (flat_map voter_record rs) rest h.0 fit (sym e ∙ f) in
     (rs, h.1, sym one.1)
 
-pub one_less : (bytes left rest : List ℕ) (r : ℕ × State) → AreLeft bytes left → IsStorable r → left ≡ record_bytes r ++ rest → AreLeft bytes rest
+pub one_less : (bytes left rest : List ℕ) (r : ℕ × State) → AreLeft bytes left → IsStorable r → left ≡ voter_record r ++ rest → AreLeft bytes rest
 one_less bytes left rest r so_far fit f = λ W h. let there = so_far W h in behind there.0 r left rest there.1 there.2 fit f
 
-none_behind : (rs : List (ℕ × State)) (left : List ℕ) → AreStorable rs → left ≡ flat_map record_bytes rs → 0 < length left → HasNoRecord left → ⊥
+none_behind : (rs : List (ℕ × State)) (left : List ℕ) → AreStorable rs → left ≡ flat_map voter_record rs → 0 < length left → HasNoVoterRecord left → ⊥
 none_behind [] left h e more none = omega (arith, ap length e)
-none_behind (r ∷ rs) left h e more none = none r (flat_map record_bytes rs) h.0 e
+none_behind (r ∷ rs) left h e more none = none r (flat_map voter_record rs) h.0 e
 
-pub nothing_held : (bytes left : List ℕ) → AreLeft bytes left → 0 < length left → HasNoRecord left → HoldsNothing bytes
+pub nothing_held : (bytes left : List ℕ) → AreLeft bytes left → 0 < length left → HasNoVoterRecord left → StandsForNothing bytes
 nothing_held bytes left so_far more none = λ W h. let there = so_far W h in none_behind there.0 left there.1 there.2 more none
 
 -- what is stored isn't damaged
-pub not_damaged : (file : Content) (W : World) → Holds file.synced W → file.unsynced ≡ [] → HoldsNothing (whole file) → ⊥
-not_damaged file W h settled none = let P : List ℕ → Type 0 = λ bs. Holds bs W in none W (subst P (sym (rw settled (append-nil file.synced))) h)
+pub not_damaged : (file : Content) (W : World) → StandsFor file.synced W → file.unsynced ≡ [] → StandsForNothing (whole file) → ⊥
+not_damaged file W h settled none = let P : List ℕ → Type 0 = λ bs. StandsFor bs W in none W (subst P (sym (rw settled (append-nil file.synced))) h)

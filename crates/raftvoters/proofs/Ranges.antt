@@ -1,6 +1,8 @@
 -- Requests in range keep voters in range.
-use Rattle.std.proofs.Common.{◌≡◌, ℕ, suc, zero, ◌+◌, ◌-◌, ◌==◌, ◌&&◌, ◌∙◌, nat_lt, nat_le, Bool, true, false, cond, List, [], ◌∷◌, ◌++◌, length, take, drop, Some, None, unwrap_or, slice_get, refl, ap, arith}
+use Rattle.std.proofs.Common.{◌≡◌, ℕ, suc, zero, ◌+◌, ◌-◌, ◌==◌, ◌&&◌, ◌∙◌, ◌<◌, ◌≤◌, ◌^◌, nat_lt, nat_le, Bool, true, false, cond, List, [], ◌∷◌, ◌++◌, length, take, drop, Some, None, unwrap_or, slice_get, refl, ap, arith}
+use Rattle.std.proofs.Math.Nat.{le-max_left, le-max_right, max-le, min-le_left}
 use Rattle.std.proofs.Math.Path.{fun_ext}
+use Rattle.std.specs.Prelude.{max, min}
 use Rattle.std.proofs.lemmas.Bool.Decides.{nat_tests}
 use Rattle.std.proofs.lemmas.List.Folds.{list_all-append}
 use Rattle.std.specs.List.{list_all}
@@ -9,8 +11,8 @@ use Rattle.raft_voter_messages.specs.declared.request.Request.{Request}
 use Rattle.raft_voter_messages.specs.declared.request.Request.TheVariants.{Vote, Append, Compact, Install, Read, Status, Retire}
 use Rattle.raft_voter.specs.Rounds.{World, fresh_world, after_one, put}
 use Rattle.raft_voter.specs.Rules.{agrees_at, appended, can_compact, compacted, grants, installed, matching, merged, next, next_in_range}
-use Rattle.raft_voter_messages.specs.Ranges.{entry_fits, fits, in_range}
-use Rattle.raft_voter.specs.State.{State, adopt_term, entry_at, fresh, term_at}
+use Rattle.raft_voter_messages.specs.Ranges.{entries_fit, entry_fits, fits, in_range, total_bytes}
+use Rattle.raft_voter.specs.State.{State, adopt_term, entry_at, fresh, last_index, term_at}
 use Rattle.raftvoters.specs.Records.{AllInRange, IsInRange, may_change}
 
 -- by what a test says
@@ -60,35 +62,62 @@ term_at_fits v i r =
 adopted : (v : State) (t : ℕ) → IsInRange v → fits t ≡ true → IsInRange (adopt_term v t)
 adopted v t r h =
     by_test IsInRange (nat_lt v.term t) (record v { term = t; vote = None }) v
-    (λ _. record { term = h; vote = refl; base_index = r.base_index; base_term = r.base_term; log = r.log }) (λ _. r)
+    (λ _. record { term = h; vote = refl; base_index = r.base_index; base_term = r.base_term; commit = r.commit; committed = r.committed; log = r.log })
+    (λ _. r)
+
+-- the greater of two numbers in range is in range, and at least each of them
+raised : (m c : ℕ) → fits m ≡ true → fits c ≡ true → fits (max m c) ≡ true
+raised m c h k =
+    let a : m < 2 ^ 63 = grind (arith, nat_tests) in
+    let b : c < 2 ^ 63 = grind (arith, nat_tests) in
+    let most : max m c ≤ 9223372036854775807 = max-le (omega arith) (omega arith) in
+    let both : max m c < 2 ^ 63 = omega arith in
+    grind (arith, nat_tests)
+
+lowered : (c d : ℕ) → fits c ≡ true → fits (min c d) ≡ true
+lowered c d h = let least = min-le_left c d in grind (arith, nat_tests)
+
+fresh_fits : IsInRange fresh
+fresh_fits = record { term = refl; vote = refl; base_index = refl; base_term = refl; commit = refl; committed = omega arith; log = refl }
 
 next_fits : (v : State) (q : Request) → IsInRange v → in_range q ≡ true → IsInRange (next_in_range v q)
 next_fits v (Vote term candidate index last) r h =
     let others = right (fits term) (list_all fits (candidate ∷ index ∷ last ∷ [])) h in
     let a = adopted v term r (left (fits term) (list_all fits (candidate ∷ index ∷ last ∷ [])) h) in
     by_test IsInRange (grants v term candidate index last) (record (adopt_term v term) { vote = Some candidate }) (adopt_term v term)
-    (λ _. record { term = a.term; vote = left (fits candidate) (list_all fits (index ∷ last ∷ [])) others; base_index = a.base_index; base_term = a.base_term; log = a.log }) (λ _. a)
-next_fits v (Append term prev prev_term sent) r h =
-    let numbers = list_all fits (term ∷ prev_term ∷ (prev + length sent) ∷ []) in
-    let three = left (numbers && nat_le (length sent) 1024 && list_all entry_fits sent) _ h in
-    let two = left (numbers && nat_le (length sent) 1024) (list_all entry_fits sent) three in
-    let brought = right (numbers && nat_le (length sent) 1024) (list_all entry_fits sent) three in
-    let one = left numbers (nat_le (length sent) 1024) two in
-    let a = adopted v term r (left (fits term) (list_all fits (prev_term ∷ (prev + length sent) ∷ [])) one) in
+    (λ _. record { term = a.term; vote = left (fits candidate) (list_all fits (index ∷ last ∷ [])) others; base_index = a.base_index; base_term = a.base_term; commit = a.commit; committed = a.committed; log = a.log })
+    (λ _. a)
+next_fits v (Append term prev prev_term commit sent) r h =
+    let numbers = left (list_all fits (term ∷ prev_term ∷ commit ∷ [])) (entries_fit prev sent) h in
+    let others = right (list_all fits (term ∷ prev_term ∷ commit ∷ [])) (entries_fit prev sent) h in
+    let few = fits (prev + length sent) && nat_le (length sent) 1024 in
+    let brought = right few (list_all entry_fits sent) (left (few && list_all entry_fits sent) (nat_le (total_bytes sent) 1048576) others) in
+    let a = adopted v term r (left (fits term) (list_all fits (prev_term ∷ commit ∷ [])) numbers) in
+    let known : fits commit ≡ true = left (fits commit) true (right (fits prev_term) _ (right (fits term) _ numbers)) in
     let w = adopt_term v term in
     by_test IsInRange (nat_lt term v.term) v _ (λ _. r)
-    (λ _. by_test IsInRange (agrees_at v prev prev_term) (appended w prev sent) w
+    (λ _. by_test IsInRange (agrees_at v prev prev_term) (appended w prev commit sent) w
     (λ _. record {
       term = a.term;
       vote = a.vote;
       base_index = a.base_index;
       base_term = a.base_term;
+      commit = raised w.commit (min commit (prev + length sent)) a.commit (lowered commit (prev + length sent) known);
+      committed = omega (arith, a.committed, le-max_left w.commit (min commit (prev + length sent)));
       log = all_append (take (prev - w.base_index) w.log) (merged (drop (prev - w.base_index) w.log) sent)
           (all_take (prev - w.base_index) w.log a.log) (all_merged (drop (prev - w.base_index) w.log) sent (all_drop (prev - w.base_index) w.log a.log) brought);
     }) (λ _. a))
 next_fits v (Compact index) r h =
     by_test IsInRange (can_compact v index) (compacted v index) v
-    (λ _. record { term = r.term; vote = r.vote; base_index = h; base_term = term_at_fits v index r; log = all_drop (index - v.base_index) v.log r.log }) (λ _. r)
+    (λ can. let known = right (nat_lt v.base_index index && nat_le index (last_index v)) (nat_le index v.commit) can in record {
+      term = r.term;
+      vote = r.vote;
+      base_index = h;
+      base_term = term_at_fits v index r;
+      commit = r.commit;
+      committed = grind (arith, nat_tests);
+      log = all_drop (index - v.base_index) v.log r.log;
+    }) (λ _. r)
 next_fits v (Install term index entry_term) r h =
     let others = right (fits term) (list_all fits (index ∷ entry_term ∷ [])) h in
     let last = right (fits index) (list_all fits (entry_term ∷ [])) others in
@@ -101,15 +130,14 @@ next_fits v (Install term index entry_term) r h =
       vote = a.vote;
       base_index = left (fits index) (list_all fits (entry_term ∷ [])) others;
       base_term = left (fits entry_term) true last;
+      commit = raised w.commit index a.commit (left (fits index) (list_all fits (entry_term ∷ [])) others);
+      committed = le-max_right w.commit index;
       log = by_test (λ es. list_all entry_fits es ≡ true) (agrees_at w index entry_term) (drop (index - w.base_index) w.log) []
           (λ _. all_drop (index - w.base_index) w.log a.log) (λ _. refl);
     }))
 next_fits v (Read from to) r h = r
 next_fits v Status r h = r
-next_fits v Retire r h = record { term = refl; vote = refl; base_index = refl; base_term = refl; log = refl }
-
-fresh_fits : IsInRange fresh
-fresh_fits = record { term = refl; vote = refl; base_index = refl; base_term = refl; log = refl }
+next_fits v Retire r h = fresh_fits
 
 -- Worlds.
 
@@ -131,7 +159,7 @@ same_both false x = refl
 -- what may not change its voter doesn't
 next_stays : (v : State) (q : Request) → may_change q ≡ false → next v q ≡ v
 next_stays v (Vote term candidate index last) h = rw h refl
-next_stays v (Append term prev prev_term sent) h = rw h refl
+next_stays v (Append term prev prev_term commit sent) h = rw h refl
 next_stays v (Compact index) h = rw h refl
 next_stays v (Install term index entry_term) h = rw h refl
 next_stays v (Read from to) h = same_both (in_range (Read from to)) v

@@ -1,12 +1,11 @@
 -- Records are known by their bytes.
-use Rattle.std.proofs.Common.{◌≡◌, ℕ, ◌+◌, ◌<◌, ◌≤◌, ◌^◌, ◌==◌, ◌∙◌, true, List, [], ◌∷◌, ◌++◌, map, length, length-append, append_assoc, append-nil, Ok, Option, Some, None, refl, sym, ap, subst, arith}
+use Rattle.std.proofs.Common.{◌≡◌, ℕ, ◌+◌, ◌<◌, ◌≤◌, ◌^◌, ◌==◌, ◌∙◌, true, nat_le, List, [], ◌∷◌, ◌++◌, map, drop, inl, inr, length, length-append, append_assoc, append-nil, Ok, Option, Some, None, refl, sym, ap, subst, arith}
 use Rattle.std.proofs.lemmas.Bool.Decides.{nat_tests}
 use Rattle.std.proofs.lemmas.Grind.{common_steps}
 use Rattle.std.proofs.lemmas.List.Concat.{flat_map-append}
 use Rattle.std.proofs.lemmas.List.Folds.{list_all-append}
 use Rattle.std.specs.List.{flat_map, list_all}
-use Rattle.std.specs.Option.{option_map_or}
-use Rattle.raft_voter_messages.proofs.Bytes.{entry_numbers, length-entry_text, length-number_text, length-state_text, length-vote_text, number_first, split_same, state_numbers, vote_in_range, vote_text-same, fits-below}
+use Rattle.raft_voter_messages.proofs.Bytes.{entry_numbers, length-entry_text, length-head_text, length-number_text, length-state_text, length-vote_text, number_first, split_same, state_form_2-same, vote_in_range}
 use Rattle.raft_voter.proofs.Ordered.{last_in_range, restored_ok}
 use Rattle.raft_voter_messages.specs.declared.reply.Entry.{Entry}
 use Rattle.raft_voter_messages.specs.declared.reply.VoterState.{VoterState}
@@ -14,8 +13,8 @@ use Rattle.raft_voter.specs.Rules.{numbered}
 use Rattle.raft_voter_messages.specs.Ranges.{entry_fits, fits}
 use Rattle.raft_voter.specs.State.{State, state_of}
 use Rattle.raft_voter.specs.Restoring.{are_in_order, restored}
-use Rattle.raft_voter_messages.specs.StoredForms.{IsEntry, IsState, entry_text, number_text, state_fits, state_text, stored_entry_fits, vote_text}
-use Rattle.raftvoters.specs.Records.{AreEntries, AreStorable, IsInRange, IsStorable, record_bytes, stored_entry, voter_bytes}
+use Rattle.raft_voter_messages.specs.StoredForms.{IsEntry, IsState, entry_form_1, entry_text, number_text, state_fits, state_text, stored_entry_fits, vote_text}
+use Rattle.raftvoters.specs.Records.{AreEntries, AreStorable, IsInRange, IsStorable, voter_record, stored_entry, voter_bytes}
 
 -- Entries.
 
@@ -48,7 +47,7 @@ entry_same e f x y he hf same =
     let grouped = sym (append_assoc (number_text (length e.bytes + 17)) (entry_text e) x) ∙ same ∙ append_assoc (number_text (length f.bytes + 17)) (entry_text f) y in
     let sizes = number_first (length e.bytes + 17) (length f.bytes + 17) (entry_text e ++ x) (entry_text f ++ y) bounds.0 bounds.1 grouped in
     let texts = split_same (entry_text e) (entry_text f) x y (17 + length e.bytes) (length-entry_text e) (omega (arith, length-entry_text f, sizes.0)) sizes.1 in
-    let parts = entry_numbers (entry_text e) e.bytes e.index e.term f refl bounds.2 bounds.3 hf texts.0 in
+    let parts = entry_numbers (entry_form_1 e) e.bytes e.index e.term f refl bounds.2 bounds.3 hf (ap (drop 1) texts.0) in
     (entry_with-same _ _ _ _ _ _ parts.0 parts.1 parts.2, texts.1)
 
 entries_same : (es fs : List Entry) (x y : List ℕ) → length es ≡ length fs → list_all stored_entry_fits es ≡ true → list_all stored_entry_fits fs ≡ true
@@ -69,17 +68,16 @@ entries_same (e ∷ es) (f ∷ fs) x y size he hf same =
 -- Voters.
 
 pub state_in_range : (v : State) → IsInRange v → state_fits (state_of v) ≡ true
-state_in_range v r = rw (r.term, r.vote, r.base_index, r.base_term) refl
+state_in_range v r =
+    let ends : nat_le v.base_index v.commit ≡ true = grind (arith, nat_tests, r.committed) in
+    rw (r.term, r.vote, r.base_index, r.base_term, r.commit, ends) refl
 
-abbrev state_with : ℕ → Option ℕ → ℕ → ℕ → List (ℕ × List ℕ) → State
-state_with t o b u es = record { term = t; vote = o; base_index = b; base_term = u; log = es }
+abbrev state_with : ℕ → Option ℕ → ℕ → ℕ → ℕ → List (ℕ × List ℕ) → State
+state_with t o b u c es = record { term = t; vote = o; base_index = b; base_term = u; commit = c; log = es }
 
-state_with-same : (t t' : ℕ) (o o' : Option ℕ) (b b' u u' : ℕ) (es fs : List (ℕ × List ℕ)) → t ≡ t' → o ≡ o' → b ≡ b' → u ≡ u' → es ≡ fs → state_with t o b u es ≡ state_with t' o' b' u' fs
-state_with-same t t' o o' b b' u u' es fs p q r s w = cc
-
-vote_below : (o : Option ℕ) → option_map_or fits o true ≡ true → (c : ℕ) → o ≡ Some c → c < 2 ^ 64
-vote_below None h c e = absurd (cc)
-vote_below (Some d) h c e = let same : d ≡ c = cc in omega (arith, same, fits-below d h)
+state_with-same : (t t' : ℕ) (o o' : Option ℕ) (b b' u u' c c' : ℕ) (es fs : List (ℕ × List ℕ)) → t ≡ t' → o ≡ o' → b ≡ b' → u ≡ u' → c ≡ c' → es ≡ fs
+    → state_with t o b u c es ≡ state_with t' o' b' u' c' fs
+state_with-same t t' o o' b b' u u' c c' es fs p q r s w x = cc
 
 pub entries_in_range : (r : ℕ × State) → IsStorable r → list_all stored_entry_fits (numbered (r.1.base_index + 1) r.1.log) ≡ true
 entries_in_range r h = numbered_fit (r.1.base_index + 1) r.1.log h.in_range.log (omega (arith, h.end_fits))
@@ -94,40 +92,37 @@ voter_same r s x y hr hs same =
     let left : (state_text (state_of v) ++ (number_text (length v.log) ++ flat_map stored_entry es)) ++ x ≡ state_text (state_of v) ++ (number_text (length v.log) ++ (flat_map stored_entry es ++ x)) = simp append_assoc in
     let right : (state_text (state_of w) ++ (number_text (length w.log) ++ flat_map stored_entry fs)) ++ y ≡ state_text (state_of w) ++ (number_text (length w.log) ++ (flat_map stored_entry fs ++ y)) = simp append_assoc in
     let grouped = sym left ∙ same ∙ right in
-    let states = split_same (state_text (state_of v)) (state_text (state_of w)) (number_text (length v.log) ++ (flat_map stored_entry es ++ x)) (number_text (length w.log) ++ (flat_map stored_entry fs ++ y)) 34 (length-state_text (state_of v)) (length-state_text (state_of w)) grouped in
-    let bounds : (v.term < 2 ^ 64) × (v.base_index < 2 ^ 64) × (v.base_term < 2 ^ 64) =
-    (fits-below v.term hr.in_range.term, fits-below v.base_index hr.in_range.base_index, fits-below v.base_term hr.in_range.base_term) in
-    let numbers = state_numbers (state_text (state_of v)) (vote_text v.vote) v.term v.base_index v.base_term (state_of w) refl bounds.0 bounds.1 bounds.2 (length-vote_text v.vote) (state_in_range w hs.in_range) states.0 in
-    let votes : v.vote ≡ w.vote = vote_text-same v.vote w.vote hr.in_range.vote (vote_below w.vote hs.in_range.vote) numbers.1 in
+    let states = split_same (state_text (state_of v)) (state_text (state_of w)) (number_text (length v.log) ++ (flat_map stored_entry es ++ x)) (number_text (length w.log) ++ (flat_map stored_entry fs ++ y)) 42 (length-state_text (state_of v)) (length-state_text (state_of w)) grouped in
+    let known = state_form_2-same (state_of v) (state_of w) (state_in_range v hr.in_range) (state_in_range w hs.in_range) (ap (drop 1) states.0) in
     let sizes = number_first (length v.log) (length w.log) (flat_map stored_entry es ++ x) (flat_map stored_entry fs ++ y) (omega (arith, hr.end_fits)) (omega (arith, hs.end_fits)) states.1 in
     let entries = entries_same es fs x y (omega (arith, sizes.0, length-numbered (v.base_index + 1) v.log, length-numbered (w.base_index + 1) w.log)) (entries_in_range r hr) (entries_in_range s hs) sizes.1 in
     let logs : v.log ≡ w.log = sym (unnumbered (v.base_index + 1) v.log) ∙ ap (map (λ e. (e.term, e.bytes))) entries.0 ∙ unnumbered (w.base_index + 1) w.log in
-    (state_with-same _ _ _ _ _ _ _ _ _ _ numbers.0 votes numbers.2 numbers.3 logs, entries.1)
+    (state_with-same _ _ _ _ _ _ _ _ _ _ _ _ known.0 known.1 known.2 known.3 known.4 logs, entries.1)
 
-pub record_same : (r s : ℕ × State) (x y : List ℕ) → IsStorable r → IsStorable s → record_bytes r ++ x ≡ record_bytes s ++ y → (r ≡ s) × (x ≡ y)
-unfolding record_bytes
+pub record_same : (r s : ℕ × State) (x y : List ℕ) → IsStorable r → IsStorable s → voter_record r ++ x ≡ voter_record s ++ y → (r ≡ s) × (x ≡ y)
+unfolding voter_record
 record_same r s x y hr hs same =
     let grouped = sym (append_assoc (number_text r.0) (voter_bytes r.1) x) ∙ same ∙ append_assoc (number_text s.0) (voter_bytes s.1) y in
     let groups = number_first r.0 s.0 (voter_bytes r.1 ++ x) (voter_bytes s.1 ++ y) hr.group hs.group grouped in
     let voters = voter_same r s x y hr hs groups.1 in
     (ap (λ g. (g, r.1)) groups.0 ∙ ap (λ v. (s.0, v)) voters.0, voters.1)
 
-pub length-record : (r : ℕ × State) (x : List ℕ) → 8 ≤ length (record_bytes r ++ x)
-unfolding record_bytes
+pub length-record : (r : ℕ × State) (x : List ℕ) → 8 ≤ length (voter_record r ++ x)
+unfolding voter_record
 length-record r x = omega (arith, length-number_text r.0, length-append (number_text r.0) (voter_bytes r.1), length-append (number_text r.0 ++ voter_bytes r.1) x)
 
-pub records_same : (rs ss : List (ℕ × State)) → AreStorable rs → AreStorable ss → flat_map record_bytes rs ≡ flat_map record_bytes ss → rs ≡ ss
+pub records_same : (rs ss : List (ℕ × State)) → AreStorable rs → AreStorable ss → flat_map voter_record rs ≡ flat_map voter_record ss → rs ≡ ss
 records_same [] [] hr hs same = refl
-records_same [] (s ∷ ss) hr hs same = absurd (omega (arith, ap length same, length-record s (flat_map record_bytes ss)))
-records_same (r ∷ rs) [] hr hs same = absurd (omega (arith, ap length same, length-record r (flat_map record_bytes rs)))
+records_same [] (s ∷ ss) hr hs same = absurd (omega (arith, ap length same, length-record s (flat_map voter_record ss)))
+records_same (r ∷ rs) [] hr hs same = absurd (omega (arith, ap length same, length-record r (flat_map voter_record rs)))
 records_same (r ∷ rs) (s ∷ ss) hr hs same =
-    let one = record_same r s (flat_map record_bytes rs) (flat_map record_bytes ss) hr.0 hs.0 same in
+    let one = record_same r s (flat_map voter_record rs) (flat_map voter_record ss) hr.0 hs.0 same in
     let first = one.0 in
     let others = records_same rs ss hr.1 hs.1 one.1 in
     cc
 
-pub shorter : (bytes rest : List ℕ) (r : ℕ × State) → bytes ≡ record_bytes r ++ rest → length rest < length bytes
-unfolding record_bytes
+pub shorter : (bytes rest : List ℕ) (r : ℕ × State) → bytes ≡ voter_record r ++ rest → length rest < length bytes
+unfolding voter_record
 shorter bytes rest r e =
     rw e (omega (arith, length-append (number_text r.0 ++ voter_bytes r.1) rest, length-append (number_text r.0) (voter_bytes r.1), length-number_text r.0))
 
@@ -173,27 +168,35 @@ one_entry bytes behind own rest size index e text long split is =
     text ∙ ap (λ bs. number_text size ++ bs) split ∙ ap (λ n. number_text n ++ (own ++ rest)) sized ∙ ap (λ bs. number_text (length e.bytes + 17) ++ (bs ++ rest)) is.text
     ∙ sym (append_assoc (number_text (length e.bytes + 17)) (entry_text e) rest)
 
+-- a state of form 2 is read as it was written
+as_written : (bytes : List ℕ) (s : VoterState) → length bytes ≡ 42 → IsState bytes s → bytes ≡ state_text s
+as_written [] s wide is = absurd (omega arith)
+as_written (form ∷ body) s wide (inl (first, one), bare) =
+    absurd (omega (arith, wide, ap length one.text, length-head_text s.term s.base_index s.base_term (vote_text s.vote) (length-vote_text s.vote)))
+as_written (form ∷ body) s wide (inr (second, same), bare) = ap (λ f. f ∷ body) second ∙ ap (λ bs. 2 ∷ bs) same
+
 regroup : (g s n e r : List ℕ) → g ++ (s ++ (n ++ (e ++ r))) ≡ (g ++ (s ++ (n ++ e))) ++ r
 regroup g s n e r = simp append_assoc
 
 pub record_read : (bytes one state two three rest : List ℕ) (group count : ℕ) (s : VoterState) (es : List Entry) (v : State) → group < 2 ^ 64
-    → bytes ≡ number_text group ++ one → one ≡ state ++ two → IsState state s → two ≡ number_text count ++ three → AreEntries (s.base_index + 1) es
-    → length es ≡ count → three ≡ flat_map stored_entry es ++ rest → restored s es ≡ Ok v → IsStorable (group, v) × (bytes ≡ record_bytes (group, v) ++ rest)
-unfolding record_bytes voter_bytes
-record_read bytes one state two three rest group count s es v small a b is c entries long d made =
-    let built = state_with s.term s.vote s.base_index s.base_term (map (λ e. (e.term, e.bytes)) es) in
-    let same : v ≡ built = let e = restored_ok s es is.in_range entries.fit entries.ordered in cc in
-    let facts : (fits s.term ≡ true) × (fits s.base_index ≡ true) × (fits s.base_term ≡ true) = let own : state_fits s ≡ true = is.in_range in grind (arith, nat_tests) in
+    → bytes ≡ number_text group ++ one → one ≡ state ++ two → length state ≡ 42 → IsState state s → two ≡ number_text count ++ three → AreEntries (s.base_index + 1) es
+    → length es ≡ count → three ≡ flat_map stored_entry es ++ rest → restored s es ≡ Ok v → IsStorable (group, v) × (bytes ≡ voter_record (group, v) ++ rest)
+unfolding voter_record voter_bytes
+record_read bytes one state two three rest group count s es v small a b wide is c entries long d made =
+    let fit = is.1.in_range in
+    let built = state_with s.term s.vote s.base_index s.base_term s.commit (map (λ e. (e.term, e.bytes)) es) in
+    let same : v ≡ built = let e = restored_ok s es fit entries.fit entries.ordered in cc in
+    let facts : (fits s.term ≡ true) × (fits s.base_index ≡ true) × (fits s.base_term ≡ true) × (fits s.commit ≡ true) × (s.base_index ≤ s.commit) = let own : state_fits s ≡ true = fit in grind (arith, nat_tests) in
     let base : s.base_index < 2 ^ 63 = let own : fits s.base_index ≡ true = facts.1 in grind (arith, nat_tests) in
     let ends = last_in_range es s.base_index entries.fit entries.ordered base in
     let sized : length {A = ℕ × List ℕ} (map (λ e. (e.term, e.bytes)) es) ≡ length es = grind (arith, common_steps) in
     let storable : IsStorable (group, built) = record {
       group = small;
-      in_range = record { term = facts.0; vote = vote_in_range s is.in_range; base_index = facts.1; base_term = facts.2; log = unnumbered_fit es entries.fit };
+      in_range = record { term = facts.0; vote = vote_in_range s fit; base_index = facts.1; base_term = facts.2; commit = facts.3; committed = facts.4; log = unnumbered_fit es entries.fit };
       end_fits = omega (arith, sized, ends);
     } in
-    let P : State → Type 0 = λ w. IsStorable (group, w) × (bytes ≡ record_bytes (group, w) ++ rest) in
-    let text : bytes ≡ record_bytes (group, built) ++ rest =
-    rw (in_order (s.base_index + 1) es entries.ordered, sized, long) (a ∙ ap (λ bs. number_text group ++ bs) (b ∙ ap (λ bs. bs ++ two) is.text ∙ ap (λ bs. state_text s ++ bs) (c ∙ ap (λ bs. number_text count ++ bs) d))
+    let P : State → Type 0 = λ w. IsStorable (group, w) × (bytes ≡ voter_record (group, w) ++ rest) in
+    let text : bytes ≡ voter_record (group, built) ++ rest =
+    rw (in_order (s.base_index + 1) es entries.ordered, sized, long) (a ∙ ap (λ bs. number_text group ++ bs) (b ∙ ap (λ bs. bs ++ two) (as_written state s wide is) ∙ ap (λ bs. state_text s ++ bs) (c ∙ ap (λ bs. number_text count ++ bs) d))
     ∙ regroup (number_text group) (state_text s) (number_text count) (flat_map stored_entry es) rest) in
     subst P (sym same) (storable, text)

@@ -31,7 +31,7 @@ named_refused Refused h = refl
 answered : (v : State) (q : Request) → is_refused (reply_in_range v q) ≡ false
 answered v (Vote term candidate index last) =
     by_test (λ r. is_refused r ≡ false) (grants v term candidate index last) (Granted term) (Denied (adopt_term v term).term) (λ _. refl) (λ _. refl)
-answered v (Append term prev prev_term sent) =
+answered v (Append term prev prev_term commit sent) =
     by_test (λ r. is_refused r ≡ false) (nat_lt term v.term) (Stale v.term) _ (λ _. refl)
     (λ _. by_test (λ r. is_refused r ≡ false) (nat_lt prev v.base_index) (Base v.base_index) _ (λ _. refl)
     (λ _. by_test (λ r. is_refused r ≡ false) (agrees_at v prev prev_term) (Matched _) (Mismatch _) (λ _. refl) (λ _. refl)))

@@ -1,10 +1,14 @@
 -- What a file holds.
-use Rattle.std.specs.Prelude.{ℕ, List, ◌++◌}
+use Rattle.std.specs.Prelude.{ℕ, List, [], ◌++◌}
 
 -- the bytes that are on the disk for good, and those that were written since
 pub record Content : Type 0 where
   pub synced : List ℕ
   pub unsynced : List ℕ
+
+-- what a crash leaves
+abbrev pub after_crash : Content → Content
+after_crash file = record { synced = file.synced; unsynced = [] }
 
 -- what a read gives
 abbrev pub whole : Content → List ℕ

@@ -9,7 +9,7 @@ use Rattle.raft_voter.specs.State.{State}
 use Rattle.raft_voter_messages.specs.StoredForms.{stored_entry_fits}
 use Rattle.raftvoters.specs.declared.record.OpenFault.{OpenFault}
 use Rattle.raftvoters.specs.declared.record.OpenFault.TheVariants.{Damaged, Memory}
-use Rattle.raftvoters.specs.Records.{AreEntries, Holds, IsStorable, record_bytes, stored_entry}
+use Rattle.raftvoters.specs.Records.{AreEntries, StandsFor, IsStorable, voter_record, stored_entry}
 
 -- what a fault of stored bytes is told as
 abbrev pub open_fault : StoredFault → OpenFault
@@ -30,9 +30,9 @@ abbrev pub HasNoEntries : ℕ → ℕ → List ℕ → Type 0
 HasNoEntries first count bytes = (es : List Entry) (rest : List ℕ) → AreEntries first es → length es ≡ count → bytes ≢ flat_map stored_entry es ++ rest
 
 -- no record comes first
-abbrev pub HasNoRecord : List ℕ → Type 0
-HasNoRecord bytes = (r : ℕ × State) (rest : List ℕ) → IsStorable r → bytes ≢ record_bytes r ++ rest
+abbrev pub HasNoVoterRecord : List ℕ → Type 0
+HasNoVoterRecord bytes = (r : ℕ × State) (rest : List ℕ) → IsStorable r → bytes ≢ voter_record r ++ rest
 
 -- these bytes aren't records, whatever voters they might mean
-abbrev pub HoldsNothing : List ℕ → Type 0
-HoldsNothing bytes = (W : World) → Holds bytes W → ⊥
+abbrev pub StandsForNothing : List ℕ → Type 0
+StandsForNothing bytes = (W : World) → StandsFor bytes W → ⊥

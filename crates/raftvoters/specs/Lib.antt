@@ -5,4 +5,5 @@ pub mod Service
 pub mod Store
 pub mod Storage
 pub mod Play
+pub mod Writing
 pub mod Run

@@ -1,5 +1,5 @@
 -- The records of a file, and the voters that they mean.
-use Rattle.std.specs.Prelude.{◌≡◌, ℕ, ◌+◌, ◌<◌, ◌^◌, Bool, true, false, List, [], ◌∷◌, ◌++◌, length, unwrap_or}
+use Rattle.std.specs.Prelude.{◌≡◌, ℕ, ◌+◌, ◌<◌, ◌≤◌, ◌^◌, Bool, true, false, List, [], ◌∷◌, ◌++◌, length, unwrap_or}
 use Rattle.std.specs.BTreeMap.{get}
 use Rattle.std.specs.List.{flat_map, list_all}
 use Rattle.std.specs.Option.{option_map_or}
@@ -27,8 +27,8 @@ unfoldable pub voter_bytes : State → List ℕ
 voter_bytes v = state_text (state_of v) ++ (number_text (length v.log) ++ flat_map stored_entry (numbered (v.base_index + 1) v.log))
 
 -- a record: the group, and its voter
-unfoldable pub record_bytes : ℕ × State → List ℕ
-record_bytes r = number_text r.0 ++ voter_bytes r.1
+unfoldable pub voter_record : ℕ × State → List ℕ
+voter_record r = number_text r.0 ++ voter_bytes r.1
 
 -- Voters.
 
@@ -42,6 +42,8 @@ pub record IsInRange (v : State) : Type 0 where
   pub vote : option_map_or fits v.vote true ≡ true
   pub base_index : fits v.base_index ≡ true
   pub base_term : fits v.base_term ≡ true
+  pub commit : fits v.commit ≡ true
+  pub committed : v.base_index ≤ v.commit
   pub log : list_all entry_fits v.log ≡ true
 
 -- a request that may change its voter
@@ -69,12 +71,12 @@ with_records W (r ∷ records) = with_records (put W r.0 r.1) records
 pub record LeadTo (W : World) (bytes : List ℕ) (X : World) : Type 0 where
   pub records : List (ℕ × State)
   pub storable : AreStorable records
-  pub text : bytes ≡ flat_map record_bytes records
+  pub text : bytes ≡ flat_map voter_record records
   pub world : X ≡ with_records W records
 
 -- A file's bytes hold these voters: they are records, and the last of each group is its voter.
-abbrev pub Holds : List ℕ → World → Type 0
-Holds bytes W = LeadTo fresh_world bytes W
+abbrev pub StandsFor : List ℕ → World → Type 0
+StandsFor bytes W = LeadTo fresh_world bytes W
 
 -- every voter's numbers are in range
 abbrev pub AllInRange : World → Type 0

@@ -7,18 +7,25 @@ use Rattle.raft_voter_messages.specs.declared.round.Round.{Round}
 use Rattle.raft_voter.specs.Rounds.{World, RoundHolds, after_round, cuts_after}
 use Rattle.raftvoters.specs.declared.storage.Storage.{Storage}
 use Rattle.raftvoters.specs.declared.storage.Storage.TheVariants.{Closed, Open}
-use Rattle.raftvoters.specs.Records.{Holds}
+use Rattle.raftvoters.specs.Content.{Content}
+use Rattle.raftvoters.specs.Records.{StandsFor}
 use Rattle.raftvoters.specs.Service.{out_of_range}
 use Rattle.raftvoters.specs.Store.{IsStored, world_of}
 
+-- a store is open
 abbrev pub is_open : Storage → Bool
 is_open (Closed file) = false
 is_open (Open store) = true
 
 -- these are the voters that an open finds, or that an open store serves
 abbrev pub IsAt : Storage → World → Type 0
-IsAt (Closed file) W = Holds file.synced W × (file.unsynced ≡ [])
+IsAt (Closed file) W = StandsFor file.synced W × (file.unsynced ≡ [])
 IsAt (Open store) W = IsStored store × (world_of store ≡ W)
+
+-- the file, be it a store's or not
+abbrev pub file_of : Storage → Content
+file_of (Closed file) = file
+file_of (Open store) = store.file
 
 -- some voters are stored
 abbrev pub IsSound : Storage → Type 0
@@ -28,10 +35,11 @@ IsSound storage = (W : World) × IsAt storage W
 abbrev pub Keeps : Storage → Storage → Type 0
 Keeps old new = (W : World) → IsAt old W → IsAt new W
 
--- A round is answered where a store is open and it isn't too long, and else it is cut off. Of a round that is answered
--- just the requests out of range are refused.
+-- A round is answered where a store is open and it isn't too long, and else it is cut off. Of a round that is
+-- answered just the requests out of range are refused.
 abbrev pub HasCause : Bool → Round → Outcome → Type 0
-HasCause begun round (Answered replies) = (begun ≡ true) × (length round.requests ≤ 4096) × (round.refused ≡ out_of_range 0 round.requests)
+HasCause begun round (Answered replies) =
+    (begun ≡ true) × (length round.requests ≤ 4096) × (round.refused ≡ out_of_range 0 round.requests)
 HasCause begun round Cut = ((begun ≡ false) ⊎ (4096 < length round.requests)) × (round.refused ≡ [])
 
 -- the place up to which a round that is cut off here was taken: none of it was

@@ -4,28 +4,32 @@ use Rattle.raft_voter_messages.specs.declared.reply.Reply.{Reply}
 use Rattle.raft_voter_messages.specs.declared.request.Request.{Request}
 use Rattle.raft_voter.specs.Rounds.{World, after, after_one}
 use Rattle.raft_voter.specs.Rules.{reply}
-use Rattle.raftvoters.specs.declared.store.PlainStore.{PlainStore}
-use Rattle.raftvoters.specs.Records.{AllInRange, Holds, LeadTo, world_in}
+use Rattle.raftvoters.specs.declared.store.PlainVoters.{PlainVoters}
+use Rattle.raftvoters.specs.Records.{AllInRange, StandsFor, LeadTo, world_in}
 use Rattle.raftvoters.specs.Service.{Stopped}
 
 -- the voter of each group: the one in memory, or a fresh one
-abbrev pub world_of : PlainStore → World
+abbrev pub world_of : PlainVoters → World
 world_of store = world_in store.voters
 
--- what was synced holds the voters, and nothing else was written
-pub record IsStored (store : PlainStore) : Type 0 where
-  pub synced : Holds store.file.synced (world_of store)
+-- what was synced stands for these voters: a crash leaves them
+abbrev pub HoldsVoters : PlainVoters → World → Type 0
+HoldsVoters store W = StandsFor store.file.synced W
+
+-- what was synced stands for the voters, and nothing else was written
+pub record IsStored (store : PlainVoters) : Type 0 where
+  pub synced : StandsFor store.file.synced (world_of store)
   pub settled : store.file.unsynced ≡ []
 
 -- one request is taken: what it changed is written
-pub record Takes (old : PlainStore) (asked : ℕ × Request) (told : Reply) (new : PlainStore) : Type 0 where
+pub record Takes (old : PlainVoters) (asked : ℕ × Request) (told : Reply) (new : PlainVoters) : Type 0 where
   pub told_is : told ≡ reply (world_of old asked.0) asked.1
   pub taken : world_of new ≡ after_one (world_of old) asked
   pub synced : new.file.synced ≡ old.file.synced
   pub written : (W : World) → AllInRange (world_of old) → LeadTo W old.file.unsynced (world_of old) → LeadTo W new.file.unsynced (world_of new)
 
 -- one request isn't answered: it was taken or not, and what was synced stays
-pub record IsRefused (old : PlainStore) (asked : ℕ × Request) (new : PlainStore) : Type 0 where
+pub record IsRefused (old : PlainVoters) (asked : ℕ × Request) (new : PlainVoters) : Type 0 where
   pub taken : (world_of new ≡ world_of old) ⊎ (world_of new ≡ after_one (world_of old) asked)
   pub synced : new.file.synced ≡ old.file.synced
 
@@ -35,19 +39,19 @@ replies_in_turn W [] = []
 replies_in_turn W (q ∷ qs) = reply (W q.0) q.1 ∷ replies_in_turn (after_one W q) qs
 
 -- requests are taken one after another: what they changed is written
-pub record TakesAll (old : PlainStore) (asked : List (ℕ × Request)) (told : List Reply) (new : PlainStore) : Type 0 where
+pub record TakesAll (old : PlainVoters) (asked : List (ℕ × Request)) (told : List Reply) (new : PlainVoters) : Type 0 where
   pub told_is : told ≡ replies_in_turn (world_of old) asked
   pub taken : world_of new ≡ after (world_of old) asked
   pub synced : new.file.synced ≡ old.file.synced
   pub written : AllInRange (world_of old) → LeadTo (world_of old) old.file.unsynced (world_of old) → LeadTo (world_of old) new.file.unsynced (world_of new)
 
 -- requests aren't answered: some of the first were taken, and what was synced stays
-pub record IsStopped (old : PlainStore) (asked : List (ℕ × Request)) (new : PlainStore) : Type 0 where
+pub record IsStopped (old : PlainVoters) (asked : List (ℕ × Request)) (new : PlainVoters) : Type 0 where
   pub taken : Stopped (world_of old) asked (world_of new)
   pub synced : new.file.synced ≡ old.file.synced
 
 -- some requests are taken, and these are left
-pub record IsAmidst (old : PlainStore) (asked left : List (ℕ × Request)) (told : List Reply) (now : PlainStore) : Type 0 where
+pub record IsAmidst (old : PlainVoters) (asked left : List (ℕ × Request)) (told : List Reply) (now : PlainVoters) : Type 0 where
   pub told_is : told ++ replies_in_turn (world_of now) left ≡ replies_in_turn (world_of old) asked
   pub taken : after (world_of now) left ≡ after (world_of old) asked
   pub synced : now.file.synced ≡ old.file.synced

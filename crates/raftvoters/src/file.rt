@@ -1,12 +1,13 @@
 //! A file in memory that a crash can cut short.
 ghost use Rattle.std.specs.Prelude.{◌≡◌, [], ◌++◌, OnOk, OnErr};
-ghost use Rattle.raftvoters.specs.Content.{whole};
+ghost use Rattle.raftvoters.specs.Content.{after_crash, whole};
 
 use raft_voter::Memory;
 use std::alloc::Global;
 use std::marker::Model;
 
-/// A file that is only ever written at its end. What was synced survives a crash, what was written since doesn't.
+/// A file that is only ever written at its end. What was synced survives a crash, what was written since
+/// doesn't.
 #[derive(Drop)]
 pub struct PlainFile {
     bytes: Vec<u8>,
@@ -63,8 +64,7 @@ impl PlainFile {
 
     /// The machine stops: what wasn't synced is gone.
     pub fn crash(&mut self)
-        ensures synced { self.new.synced ≡ self.old.synced }
-        ensures unsynced { self.new.unsynced ≡ [] }
+        ensures { self.new ≡ after_crash self.old }
     {
         self.bytes.truncate(self.synced);
     }

@@ -1,8 +1,8 @@
 //! Serves a session of Raft requests and writes what was answered, with a verdict on it.
 //!
-//! Without arguments the session is read from standard input, and its transcript goes to standard output. The status
-//! is 0 where the verdict is yes, 1 where it is no, 2 for an unreadable line or for arguments, and 3 where memory,
-//! reading or writing was refused.
+//! Without arguments the session is read from standard input, and its transcript goes to standard output. The
+//! status is 0 where the verdict is yes, 1 where it is no, 2 for an unreadable line or for arguments, and 3 where
+//! memory, reading or writing was refused.
 #![tactic(auto)]
 
 mod file;
@@ -14,28 +14,24 @@ mod storage;
 mod store;
 #[cfg(test)]
 mod tests;
+mod writing;
 
+use run::{exit_status, program};
+use std::env::{Env, FillError};
+use std::io;
 use std::process::ExitCode;
-use std::{env, io};
-
-/// The status where memory, reading or writing was refused.
-const FAULT: u8 = 3;
-
-/// The status where arguments are refused.
-const ARGUMENTS_REFUSED: u8 = 2;
 
 fn main(rt: HostRuntime) -> ExitCode {
-    match status(&rt) {
-        Ok(status) => ExitCode::from(status),
-        Err(_) => ExitCode::from(FAULT),
-    }
+    let ended = program(
+        has_arguments(&rt),
+        rt.alloc(),
+        &mut rt.reader(),
+        &mut io::writer(&rt),
+    );
+    ExitCode::from(exit_status(ended))
 }
 
-/// Runs the program, and answers its status.
-fn status(rt: &HostRuntime) -> io::Result<u8> {
-    if env::args(rt)?.count() > 1 {
-        println!(rt; "arguments refused")?;
-        return Ok(ARGUMENTS_REFUSED);
-    }
-    run::run(rt.alloc(), &mut rt.reader(), &mut io::writer(rt))
+/// Whether there is an argument behind the program's name, be it text or not.
+fn has_arguments(env: &impl Env) -> bool {
+    !matches!(env.arg(1, &mut []), Err(FillError::NotPresent))
 }

@@ -3,18 +3,21 @@ ghost use Rattle.std.specs.Prelude.{◌≡◌, ℕ, true, ◌+◌, ◌^◌, ◌<
 ghost use Rattle.std.specs.List.{flat_map};
 ghost use Rattle.raft_voter_messages.specs.StoredForms.{number_text, stored_entry_fits};
 ghost use Rattle.raft_voter.specs.Rules.{numbered};
-ghost use Rattle.raftvoters.specs.Damage.{HasNoEntries, HasNoEntry, HasNoRecord, TellsDamage};
-ghost use Rattle.raftvoters.specs.Records.{AreEntries, IsStorable, record_bytes, stored_entry, voter_bytes};
+ghost use Rattle.raftvoters.specs.Damage.{HasNoEntries, HasNoEntry, HasNoVoterRecord, TellsDamage};
+ghost use Rattle.raftvoters.specs.Records.{AreEntries, IsStorable, voter_record, stored_entry, voter_bytes};
 
 use raft_voter::{Entry, Items, Memory, StoredFault, Voter, read_entry, read_state, state_bytes};
 use std::alloc::Global;
+use thiserror::Error;
 
 /// Why a file couldn't be opened.
-#[derive(Clone, Copy, Debug, PartialEq, Eq)]
+#[derive(Clone, Copy, Debug, PartialEq, Eq, Error)]
 pub enum OpenFault {
     /// Its bytes aren't those of records.
+    #[error("damaged file")]
     Damaged,
     /// An allocation was refused.
+    #[error("out of memory")]
     Memory,
 }
 
@@ -42,7 +45,7 @@ impl From<StoredFault> for OpenFault {
 }
 
 /// How many bytes a stored state has.
-const STATE_BYTES: usize = 34;
+const STATE_BYTES: usize = 42;
 
 /// The first byte of a stored entry.
 const ENTRY_FORM: u8 = 1;
@@ -51,9 +54,9 @@ const ENTRY_FORM: u8 = 1;
 const ENTRY_HEAD_BYTES: usize = 17;
 
 /// The bytes of a record.
-#[tactic(auto, unfolding(crate::specs::Records::record_bytes, crate::specs::Records::voter_bytes))]
-pub fn record_bytes(alloc: Global, group: u64, voter: &Voter) -> Result<Vec<u8>, Memory>
-    ensures bytes { IfOk result (λ bytes. bytes.items ≡ record_bytes (group, voter.now)) }
+#[tactic(auto, unfolding(crate::specs::Records::voter_record, crate::specs::Records::voter_bytes))]
+pub fn voter_record(alloc: Global, group: u64, voter: &Voter) -> Result<Vec<u8>, Memory>
+    ensures bytes { IfOk result (λ bytes. bytes.items ≡ voter_record (group, voter.now)) }
     ensures small { voter.now.base_index + length voter.now.log < 2 ^ 63 }
 {
     let state = voter.state();
@@ -109,9 +112,9 @@ fn put_bytes(bytes: &mut Vec<u8>, more: &[u8]) -> Result<(), Memory>
 }
 
 /// The first record of these bytes, and what follows it. Damage is told only where no record comes first.
-pub fn read_record(alloc: Global, bytes: &[u8]) -> Result<(u64, Voter, &[u8]), OpenFault>
-    ensures ok { IfOk result (λ found. IsStorable (found.0, found.1) × (bytes.now ≡ record_bytes (found.0, found.1) ++ found.2.now)) }
-    ensures err { IfErr result (TellsDamage (HasNoRecord bytes.now)) }
+pub fn read_voter_record(alloc: Global, bytes: &[u8]) -> Result<(u64, Voter, &[u8]), OpenFault>
+    ensures ok { IfOk result (λ found. IsStorable (found.0, found.1) × (bytes.now ≡ voter_record (found.0, found.1) ++ found.2.now)) }
+    ensures err { IfErr result (TellsDamage (HasNoVoterRecord bytes.now)) }
 {
     let (group, rest) = split_number(bytes)?;
     let (state, rest) = split(rest, STATE_BYTES)?;

@@ -1,12 +1,13 @@
 //! A store that is open, or the file of one that isn't.
 ghost use Rattle.std.specs.Prelude.{◌≡◌, [], true, false, IfOk};
-ghost use Rattle.raftvoters.specs.Storage.{is_open, IsSound, Keeps, Served};
+ghost use Rattle.raftvoters.specs.Storage.{file_of, is_open, IsSound, Keeps, Served};
+ghost use Rattle.raftvoters.specs.Content.{after_crash};
 ghost use Rattle.raftvoters.specs.Service.{is_refused, refused_from};
 
 use crate::file::PlainFile;
 use crate::record::OpenFault;
-use crate::service::{RoundFault, RoundService};
-use crate::store::PlainStore;
+use crate::service::{Cause, RoundService};
+use crate::store::PlainVoters;
 use raft_voter::{Items, Memory, Outcome, Reply, Request, Round};
 use std::alloc::Global;
 
@@ -16,13 +17,14 @@ pub enum Storage {
     /// No store is open.
     Closed(PlainFile),
     /// A store is open.
-    Open(PlainStore),
+    Open(PlainVoters),
 }
 
 impl Storage {
     /// The file, where the store is closed if it is open.
     fn into_file(self) -> PlainFile
-        ensures { Keeps self (Storage.Closed result) }
+        ensures same { result ≡ file_of self }
+        ensures keeps { Keeps self (Storage.Closed result) }
     {
         match self {
             Storage::Closed(file) => file,
@@ -35,9 +37,10 @@ impl Storage {
     pub fn opened(self, alloc: Global) -> Result<Storage, Memory>
         requires { IsSound self }
         ensures open { IfOk result (λ next. is_open next ≡ true) }
+        ensures same { IfOk result (λ next. file_of next ≡ file_of self) }
         ensures keeps { IfOk result (Keeps self) }
     {
-        match PlainStore::open(alloc, self.into_file()) {
+        match PlainVoters::open(alloc, self.into_file()) {
             Ok(store) => Ok(Storage::Open(store)),
             Err(OpenFault::Memory) => Err(Memory),
             Err(OpenFault::Damaged) => unreachable!(),
@@ -46,7 +49,7 @@ impl Storage {
 
     /// Closes the store, if one is open.
     pub fn closed(self) -> Storage
-        ensures closed { is_open result ≡ false }
+        ensures closed { result ≡ Storage.Closed (file_of self) }
         ensures keeps { Keeps self result }
     {
         Storage::Closed(self.into_file())
@@ -54,7 +57,7 @@ impl Storage {
 
     /// The machine stops: no store is open, and what was synced is left.
     pub fn crashed(self) -> Storage
-        ensures closed { is_open result ≡ false }
+        ensures crashed { result ≡ Storage.Closed (after_crash (file_of self)) }
         ensures keeps { Keeps self result }
     {
         let mut file = self.into_file();
@@ -71,8 +74,10 @@ impl Storage {
         };
         match store.serve(requests.as_slice()) {
             Ok(replies) => answered(alloc, requests, replies),
-            Err(RoundFault::TooLong) => Ok(cut_off(alloc, requests)),
-            Err(RoundFault::Memory) => Err(Memory),
+            Err(fault) => match fault.cause {
+                Cause::TooLong => Ok(cut_off(alloc, requests)),
+                _ => Err(Memory),
+            },
         }
     }
 }
@@ -94,7 +99,11 @@ fn answered(
     requests: Items<(u64, Request)>,
     replies: Items<Reply>,
 ) -> Result<Round, Memory>
-    ensures { IfOk result (λ round. round ≡ record { requests = requests; refused = refused_from 0 replies; outcome = Outcome.Answered replies }) }
+    ensures { IfOk result (λ round. round ≡ record {
+      requests = requests;
+      refused = refused_from 0 replies;
+      outcome = Outcome.Answered replies;
+    }) }
 {
     let refused = refused_places(alloc, replies.as_slice())?;
     Ok(Round {

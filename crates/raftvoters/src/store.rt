@@ -1,51 +1,59 @@
 //! Voters of many groups in memory, and the plain file that keeps them.
-ghost use Rattle.std.specs.Prelude.{◌≡◌, ◌+◌, ◌^◌, ◌<◌, ◌↔◌, length, IfErr, IfOk, OnErr, OnOk, Err};
+ghost use Rattle.std.specs.Prelude.{◌≡◌, ◌+◌, ◌^◌, ◌<◌, [], length, IfErr, IfOk, OnErr, OnOk};
 ghost use Rattle.raft_voter.specs.Rounds.{after_one, put};
 ghost use Rattle.raftvoters.specs.Content.{whole};
 ghost use Rattle.raft_voter.specs.Rules.{reply};
-ghost use Rattle.raftvoters.specs.Damage.{HoldsNothing, TellsDamage};
-ghost use Rattle.raftvoters.specs.Records.{Holds, may_change, record_bytes, world_in};
-ghost use Rattle.raftvoters.specs.Service.{Answers, out_of_range, refused_from, Stopped};
-ghost use Rattle.raftvoters.specs.Store.{IsRefused, IsStopped, IsStored, Takes, TakesAll, world_of};
+ghost use Rattle.raftvoters.specs.Damage.{StandsForNothing, TellsDamage};
+ghost use Rattle.raftvoters.specs.Records.{may_change, StandsFor, voter_record, world_in};
+ghost use Rattle.raftvoters.specs.Service.{Answers, CutsOff, FailsAs, IsAlive, LeavesAlone, out_of_range, refused_from, TakesNothing};
+ghost use Rattle.raftvoters.specs.Store.{HoldsVoters, IsRefused, IsStopped, IsStored, Takes, TakesAll, world_of};
 
 use crate::file::PlainFile;
-use crate::record::{OpenFault, read_record, record_bytes};
-use crate::service::{MOST_REQUESTS, RoundFault, RoundService};
+use crate::record::{OpenFault, read_voter_record, voter_record};
+use crate::service::{Cause, MOST_REQUESTS, RoundFault, RoundService};
 use raft_voter::{Items, Memory, Reply, Request, Voter};
 use std::alloc::Global;
 use std::collections::BTreeMap;
 
-/// Voters, and the file that keeps them.
+/// The voters of many groups in memory, and the file that keeps them. The file is in memory too, so where memory is
+/// refused in the midst of a round it is the file system that failed.
 #[derive(Drop)]
-pub struct PlainStore {
+pub struct PlainVoters {
     pub alloc: Global,
     pub file: PlainFile,
     pub voters: BTreeMap<u64, Voter>,
+    pub failed: bool,
 }
 
-impl PlainStore {
+impl PlainVoters {
     /// Opens a file: reads it whole, and the last record of each group is its voter. Damage is told only where
     /// the bytes aren't those of records, so never of what a store wrote.
-    pub fn open(alloc: Global, file: PlainFile) -> Result<PlainStore, OpenFault>
+    pub fn open(alloc: Global, file: PlainFile) -> Result<PlainVoters, OpenFault>
         ensures same { IfOk result (λ store. store.file ≡ file) }
-        ensures voters { IfOk result (λ store. Holds (whole file) (world_of store)) }
-        ensures err { IfErr result (TellsDamage (HoldsNothing (whole file))) }
+        ensures voters { IfOk result (λ store. StandsFor (whole file) (world_of store)) }
+        ensures err { IfErr result (TellsDamage (StandsForNothing (whole file))) }
     {
         let voters = read_voters(alloc, file.bytes())?;
-        Ok(PlainStore {
+        Ok(PlainVoters {
             alloc,
             file,
             voters,
+            failed: false,
         })
     }
 
-    /// The voters take requests in order, and what they change is written. Where memory is refused some of the first were
-    /// taken, and what was synced stays.
-    fn take_all(&mut self, requests: &[(u64, Request)]) -> Result<Items<Reply>, Memory>
+    /// The voters take requests in order, and what they change is written; their replies are put where there is room for
+    /// them. Where memory is refused some of the first were taken, and what was synced stays.
+    fn take_all(
+        &mut self,
+        requests: &[(u64, Request)],
+        mut replies: Items<Reply>,
+    ) -> Result<Items<Reply>, Memory>
+        requires { replies ≡ [] }
         ensures ok { IfOk result (λ replies. TakesAll self.old requests.now replies self.new) }
         ensures err { OnErr result (IsStopped self.old requests.now self.new) }
+        ensures failed { self.new.failed ≡ self.old.failed }
     {
-        let mut replies = Items::new(self.alloc);
         for (group, request) in requests {
             let reply = self.take(*group, request)?;
             replies.push(reply)?;
@@ -58,6 +66,7 @@ impl PlainStore {
     fn take(&mut self, group: u64, request: &Request) -> Result<Reply, Memory>
         ensures ok { IfOk result (λ told. Takes self.old (group, request.now) told self.new) }
         ensures err { OnErr result (IsRefused self.old (group, request.now) self.new) }
+        ensures failed { self.new.failed ≡ self.old.failed }
     {
         let reply = step(self.alloc, &mut self.voters, group, request)?;
         if !may_change(request) {
@@ -72,32 +81,53 @@ impl PlainStore {
     pub fn into_file(self) -> PlainFile
         ensures { result ≡ self.file }
     {
-        let PlainStore {
+        let PlainVoters {
             alloc: _alloc,
             file,
             voters: _voters,
+            failed: _failed,
         } = self;
         file
     }
 }
 
-impl RoundService for PlainStore {
+impl RoundService for PlainVoters {
     ghost world = { world_of };
 
+    ghost is_failed = { λ store. store.failed };
+
+    ghost may_leave = { HoldsVoters };
+
+    ghost is_stored = { IsStored };
+
     fn serve(&mut self, requests: &[(u64, Request)]) -> Result<Items<Reply>, RoundFault>
-        ensures answered { IfOk result (λ replies. Answers (world_of self.old) requests.now replies (world_of self.new)) }
-        ensures stopped { OnErr result (Stopped (world_of self.old) requests.now (world_of self.new)) }
-        ensures refused { IfOk result (λ replies. refused_from 0 replies ≡ out_of_range 0 requests.now) }
-        ensures too_long { (result ≡ Err RoundFault.TooLong) ↔ (4096 < length requests.now) }
-        ensures kept { result ≡ Err RoundFault.TooLong → world_of self.new ≡ world_of self.old }
+        ensures ok { IfOk result (λ replies. Answers (world_of self.old) requests.now replies (world_of self.new)) }
+        ensures alone { IsStored self.old → LeavesAlone (HoldsVoters self.old) (world_of self.old) }
         ensures stored { OnOk result (IsStored self.old → IsStored self.new) }
-        ensures held { OnErr result (IsStored self.old → Holds self.new.file.synced (world_of self.old)) }
-        ensures same { result ≡ Err RoundFault.TooLong → self.new ≡ self.old }
+        ensures lives { OnOk result (IsAlive self.old.failed self.new.failed) }
+        ensures err { IfErr result (λ fault. CutsOff fault.cause fault.refused requests.now (world_of self.old)
+            (HoldsVoters self.old) (world_of self.new) (HoldsVoters self.new)) }
+        ensures kept { IfErr result (λ fault. TakesNothing fault.cause → IsStored self.old → IsStored self.new) }
+        ensures errors { IfErr result (λ fault. FailsAs fault.cause (length requests.now) self.old.failed
+            self.new.failed) }
+
+        // Just the requests out of range are refused.
+        ensures refused { IfOk result (λ replies. refused_from 0 replies ≡ out_of_range 0 requests.now) }
+        ensures same { IfErr result (λ fault. TakesNothing fault.cause → self.new ≡ self.old) }
     {
         if requests.len() > MOST_REQUESTS {
-            return Err(RoundFault::TooLong);
+            return Err(RoundFault::new(self.alloc, Cause::TooLong));
         }
-        let replies = self.take_all(requests)?;
+        if self.failed {
+            return Err(RoundFault::new(self.alloc, Cause::Failed));
+        }
+        let Ok(room) = Vec::with_capacity(self.alloc, requests.len()) else {
+            return Err(RoundFault::new(self.alloc, Cause::Memory));
+        };
+        let Ok(replies) = self.take_all(requests, Items::from_vec(room)) else {
+            self.failed = true;
+            return Err(RoundFault::new(self.alloc, Cause::FileSystem));
+        };
         self.file.sync();
         Ok(replies)
     }
@@ -120,12 +150,12 @@ fn step(
 
 /// The record of a group's voter.
 fn record_of(alloc: Global, voters: &BTreeMap<u64, Voter>, group: u64) -> Result<Vec<u8>, Memory>
-    ensures bytes { IfOk result (λ bytes. bytes.items ≡ record_bytes (group, world_in voters.now group)) }
+    ensures bytes { IfOk result (λ bytes. bytes.items ≡ voter_record (group, world_in voters.now group)) }
     ensures small { (world_in voters.now group).base_index + length (world_in voters.now group).log < 2 ^ 63 }
 {
     match voters.get(&group) {
-        Some(voter) => record_bytes(alloc, group, voter),
-        None => record_bytes(alloc, group, &Voter::new(alloc)),
+        Some(voter) => voter_record(alloc, group, voter),
+        None => voter_record(alloc, group, &Voter::new(alloc)),
     }
 }
 
@@ -141,13 +171,13 @@ fn may_change(request: &Request) -> bool
 
 /// The voters that a file's bytes hold.
 fn read_voters(alloc: Global, bytes: &[u8]) -> Result<BTreeMap<u64, Voter>, OpenFault>
-    ensures ok { IfOk result (λ voters. Holds bytes.now (world_in voters)) }
-    ensures err { IfErr result (TellsDamage (HoldsNothing bytes.now)) }
+    ensures ok { IfOk result (λ voters. StandsFor bytes.now (world_in voters)) }
+    ensures err { IfErr result (TellsDamage (StandsForNothing bytes.now)) }
 {
     let mut voters = BTreeMap::new(alloc);
     let mut left = bytes;
     while !left.is_empty() {
-        let (group, voter, rest) = read_record(alloc, left)?;
+        let (group, voter, rest) = read_voter_record(alloc, left)?;
         set_voter(&mut voters, group, voter)?;
         left = rest;
     }

@@ -1,6 +1,6 @@
 //! The bytes of an entry: the form, its index, its term, and its own bytes.
-ghost use Rattle.std.specs.Prelude.{◌≡◌, IsTrue, IfOk, IfErr};
-ghost use Rattle.raft_voter_messages.specs.StoredForms.{entry_form_1, entry_text, EntryFault, EntryForm1Fault, IsEntry, stored_entry_fits};
+ghost use Rattle.std.specs.Prelude.{◌≡◌, IfOk, IfErr};
+ghost use Rattle.raft_voter_messages.specs.StoredForms.{entry_text, EntryFault, EntryForm1Fault, IsEntry, IsEntryForm1, stored_entry_fits};
 
 use super::{NUMBER_BYTES, StoredFault, append_number, split_number};
 use crate::request::{MAX_ENTRY_BYTES, all_fit, fits};
@@ -26,8 +26,8 @@ pub fn entry_bytes(alloc: Global, entry: &Entry) -> Result<Items<u8>, Memory>
     Ok(Items::from_vec(bytes))
 }
 
-/// The entry at this index that these bytes are; else the first fault: no bytes, another form, another length, a number
-/// out of range, another index.
+/// The entry at this index that these bytes are; else the first fault: no bytes, another form, another length, a
+/// number out of range, another index.
 pub fn read_entry(alloc: Global, bytes: &[u8], index: u64) -> Result<Entry, StoredFault>
     ensures ok { IfOk result (λ entry. IsEntry bytes.now index entry) }
     ensures err { IfErr result (λ fault. EntryFault fault bytes.now index) }
@@ -50,7 +50,7 @@ pub fn stored_entry_fits(entry: &Entry) -> bool
 
 /// The entry at this index that the bytes behind form byte 1 are, or their first fault.
 fn read_form_1(alloc: Global, body: &[u8], index: u64) -> Result<Entry, StoredFault>
-    ensures ok { IfOk result (λ e. (body.now ≡ entry_form_1 e) × IsTrue (stored_entry_fits e) × (e.index ≡ index)) }
+    ensures ok { IfOk result (λ entry. IsEntryForm1 body.now entry × (entry.index ≡ index)) }
     ensures err { IfErr result (λ fault. EntryForm1Fault fault body.now index) }
 {
     if body.len() < FORM_1_NUMBERS || body.len() > FORM_1_NUMBERS + MAX_ENTRY_BYTES {

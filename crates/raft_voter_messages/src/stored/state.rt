@@ -1,8 +1,9 @@
-//! The bytes of a voter's state: the form, the term, whether there is a vote, the candidate, the base's index and term,
-//! and, in form 2, the commit. What is known of the last entry isn't written.
-ghost use Rattle.std.specs.Prelude.{◌≡◌, ◌+◌, ◌^◌, ◌<◌, ◌≤◌, ◌∷◌, ◌++◌, ◌≢◌, ℕ, length, Option, IsTrue, IfSome, IfNone, IfOk, IfErr};
-ghost use Rattle.raft_voter_messages.specs.StoredForms.{IsBare, IsState, IsStateForm1, number_text, state_fits, state_form_2, state_text, StateFault, StateForm1Fault, StateForm2Fault, vote_fits, vote_text};
+//! The bytes of a voter's state: the form, the term, whether there is a vote, the candidate, the base's index and
+//! term, and in form 2 the commit. What is known of the last entry isn't written.
+ghost use Rattle.std.specs.Prelude.{◌≡◌, IfOk, IfErr};
+ghost use Rattle.raft_voter_messages.specs.StoredForms.{IsBare, IsState, IsStateForm1, state_fits, state_form_2, state_text, StateFault, StateForm1Fault, StateForm2Fault};
 
+use super::head::StateHead;
 use super::{NUMBER_BYTES, StoredFault, append_number, split_number};
 use crate::request::fits;
 use crate::{Items, Memory, VoterState};
@@ -35,8 +36,8 @@ pub fn state_bytes(alloc: Global, state: &VoterState) -> Result<Items<u8>, Memor
     Ok(Items::from_vec(bytes))
 }
 
-/// The state that these bytes are, with the base in place of the last entry, and in form 1 of the commit; else the first
-/// fault: no bytes, another form, another length, a value out of range.
+/// The state that these bytes are, with the base in place of the last entry, and in form 1 of the commit; else the
+/// first fault: no bytes, another form, another length, a value out of range.
 pub fn read_state(bytes: &[u8]) -> Result<VoterState, StoredFault>
     ensures ok { IfOk result (λ state. IsState bytes.now state) }
     ensures err { IfErr result (λ fault. StateFault fault bytes.now) }
@@ -72,7 +73,7 @@ fn read_form_1(body: &[u8]) -> Result<VoterState, StoredFault>
         return Err(StoredFault::Length);
     }
     let (head, _end) = StateHead::split(body);
-    let commit = head.base_index;
+    let commit = head.base_index();
     let Some(state) = head.state(commit) else {
         return Err(StoredFault::Range);
     };
@@ -93,74 +94,4 @@ fn read_form_2(body: &[u8]) -> Result<VoterState, StoredFault>
         return Err(StoredFault::Range);
     };
     Ok(state)
-}
-
-/// The numbers that every form of a state begins with, as they stand.
-#[derive(Drop)]
-struct StateHead {
-    term: u64,
-    vote_byte: u8,
-    candidate: u64,
-    base_index: u64,
-    base_term: u64,
-    ghost small: { (term < 2 ^ 64) × (candidate < 2 ^ 64) × (base_index < 2 ^ 64) × (base_term < 2 ^ 64) },
-}
-
-impl StateHead {
-    ghost use Rattle.raft_voter_messages.specs.StateHeads.{HasHead, head_bytes, IsNoState};
-
-    /// The numbers that begin these bytes, and the bytes behind them.
-    fn split(bytes: &[u8]) -> (StateHead, &[u8])
-        requires { 33 ≤ length bytes.now }
-        ensures text { bytes.now ≡ head_bytes result.0 ++ result.1.now }
-        ensures rest { length result.1.now + 33 ≡ length bytes.now }
-    {
-        let (term, rest) = split_number(bytes);
-        let vote_byte = rest[0];
-        let (candidate, rest) = split_number(&rest[1..]);
-        let (base_index, rest) = split_number(rest);
-        let (base_term, rest) = split_number(rest);
-        let head = StateHead {
-            term,
-            vote_byte,
-            candidate,
-            base_index,
-            base_term,
-        };
-        (head, rest)
-    }
-
-    /// The state in range with these numbers and this commit, if there is one.
-    fn state(self, commit: u64) -> Option<VoterState>
-        ensures some { IfSome result (λ state. HasHead state self × (state.commit ≡ commit) × IsBare state) }
-        ensures none { IfNone result (IsNoState self commit) }
-    {
-        let vote = vote_from(self.vote_byte, self.candidate)?;
-        let state = VoterState {
-            term: self.term,
-            vote,
-            base_index: self.base_index,
-            base_term: self.base_term,
-            last_index: self.base_index,
-            last_term: self.base_term,
-            commit,
-        };
-        if !state_fits(&state) {
-            return None;
-        }
-        Some(state)
-    }
-}
-
-/// The vote that these two say, if there is one with a candidate in range.
-fn vote_from(vote_byte: u8, candidate: u64) -> Option<Option<u64>>
-    ensures small { IfSome result (λ vote. IfSome vote (λ c. c < 2 ^ 64)) }
-    ensures some { IfSome result (λ vote. vote_text vote ≡ vote_byte ∷ number_text candidate) }
-    ensures none { IfNone result ((vote : Option ℕ) → IsTrue (vote_fits vote) → vote_text vote ≢ vote_byte ∷ number_text candidate) }
-{
-    match (vote_byte, candidate) {
-        (0, 0) => Some(None),
-        (1, candidate) => Some(Some(candidate)),
-        _ => None,
-    }
 }

@@ -1,6 +1,6 @@
 use Rattle.std.proofs.Common.{◌≡◌, ◌∷◌, rules}
-use Rattle.raft_voter_session.specs.declared.event.Event.TheVariants.{Round}
-use Rattle.raftvoters.proofs.Steps.{begins, goes_on, ends}
+use Rattle.raft_voter_session.specs.declared.event.Event.TheVariants.{Open, Close, CrashLast, Round}
+use Rattle.raftvoters.proofs.Steps.{begins, ends, goes_on, moves_on}
 use Rattle.raftvoters.proofs.play.play.Goals as goal
 
 pub loop-event-init : goal.loop-event-init
@@ -13,3 +13,19 @@ loop-event-preserved c =
 
 pub returns : goal.returns
 returns c = ends _ _ _ _ _ c.loop-event.invariant (search rules)
+
+pub loop-event-preserved-in-Open : goal.loop-event-preserved-in-Open
+loop-event-preserved-in-Open c =
+    let next : c.loop-event.events.items ≡ Open c.in-Open.workers ∷ c.pop_front.new.self.items = search rules in
+    let opened = c.in_ok-storage-in-Open.ensures in
+    moves_on (Open c.in-Open.workers) _ _ _ _ _ _ _ c.loop-event.invariant next (opened.open, opened.same) opened.keeps
+
+pub loop-event-preserved-in-Close : goal.loop-event-preserved-in-Close
+loop-event-preserved-in-Close c =
+    let next : c.loop-event.events.items ≡ Close ∷ c.pop_front.new.self.items = search rules in
+    moves_on Close _ _ _ _ _ _ _ c.loop-event.invariant next c.closed-storage.ensures.closed c.closed-storage.ensures.keeps
+
+pub loop-event-preserved-in-CrashLast : goal.loop-event-preserved-in-CrashLast
+loop-event-preserved-in-CrashLast c =
+    let next : c.loop-event.events.items ≡ CrashLast ∷ c.pop_front.new.self.items = search rules in
+    moves_on CrashLast _ _ _ _ _ _ _ c.loop-event.invariant next c.crashed-storage.ensures.crashed c.crashed-storage.ensures.keeps

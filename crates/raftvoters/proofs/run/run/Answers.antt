@@ -1,10 +1,17 @@
 use Rattle.std.proofs.Common.{string_bytes}
 use Rattle.std.specs.Io.KnownBytes.{Appends}
-use Rattle.raftvoters.proofs.Fronts.{shown_of_front}
+use Rattle.raftvoters.proofs.Fronts.{shown_of_front, stopped_within}
+use Rattle.raftvoters.proofs.Stops.{on_err}
 use Rattle.raftvoters.proofs.run.run.Goals as goal
 
-pub returns : goal.returns
-returns g c =
+pub returns-clause-ok : goal.returns-clause-ok
+returns-clause-ok g c =
     let W = g.W.Write.contents in
-    shown_of_front (g.R.Read.remaining c.args.reader.now) (λ text. Appends (W c.args.writer.now) (W c.write_all.new.self) text) _ (string_bytes c.in-Ok.text) c.in-Ok.status
-    c.in_ok-front.ensures (rw c.as_slice.ensures.value at c.in-Ok.ensures) (rw c.as_bytes.ensures.value at c.in_ok-write_all.ensures.bytes)
+    shown_of_front (g.R.Read.remaining c.args.reader.now) (λ text. Appends (W c.args.writer.now) (W c.write_whole.new.writer) text) _ (string_bytes c.in-Ok.text) c.in-Ok.status
+    c.in_ok-front.ensures (rw c.as_slice.ensures.value at c.in-Ok.ensures) (rw c.as_bytes.ensures.value at c.in_ok-write_whole.ensures.ok)
+
+pub returns-in_err-write_whole-clause-err : goal.returns-in_err-write_whole-clause-err
+returns-in_err-write_whole-clause-err g c =
+    on_err c.from_residual-in_err-write_whole.result _
+    (stopped_within (g.R.Read.remaining c.args.reader.now) _ _ _ (string_bytes c.in-Ok.text) c.in-Ok.status
+    c.in_ok-front.ensures (rw c.as_slice.ensures.value at c.in-Ok.ensures) (rw c.as_bytes.ensures.value at c.in_err-write_whole.ensures.err))

@@ -24,7 +24,7 @@ returns-then-own_index-index-clause-err c =
     let own = c.split_number-term.result.1.now in
     let whole : body ≡ number_text i ++ (number_text t ++ own) = search rules in
     let fit = entry_in_range i t own (sym c.all_fit.ensures ∙ c.if-not-all_fit.false) (omega (arith, length-entry body own i t whole)) in
-    (record { index = i; term = t; bytes = own }, whole, fit, c.if-own_index-index.true)
+    (record { index = i; term = t; bytes = own }, record { text = whole; in_range = fit }, c.if-own_index-index.true)
 
 pub returns-in_err-bytes-clause-err : goal.returns-in_err-bytes-clause-err
 returns-in_err-bytes-clause-err c =
@@ -35,4 +35,4 @@ returns-in_err-bytes-clause-err c =
     let own = c.split_number-term.result.1.now in
     let whole : body ≡ number_text i ++ (number_text t ++ own) = search rules in
     let fit = entry_in_range i t own (sym c.all_fit.ensures ∙ c.if-not-all_fit.false) (omega (arith, length-entry body own i t whole)) in
-    rw (p.1, p.2) (record { index = i; term = t; bytes = own }, whole, fit, c.if-own_index-index.false)
+    rw (p.1, p.2) (record { index = i; term = t; bytes = own }, record { text = whole; in_range = fit }, c.if-own_index-index.false)

@@ -1,7 +1,7 @@
-use Rattle.std.proofs.Common.{Err, inl, ap}
+use Rattle.std.proofs.Common.{inl, ap}
 use Rattle.std.proofs.lemmas.Result.{IfOk-weaker}
 use Rattle.raftvoters.specs.Storage.{is_open}
-use Rattle.raftvoters.proofs.Steps.{cut_served, answered_served, too_long_served}
+use Rattle.raftvoters.proofs.Steps.{answered_served, cut_served, cut_too_long}
 use Rattle.raftvoters.proofs.storage.Storage.serve.Goals as goal
 
 pub returns-in_default : goal.returns-in_default
@@ -9,9 +9,9 @@ returns-in_default c = cut_served c.args.self.now c.args.requests c.cut_off.resu
 
 pub returns-in-Ok : goal.returns-in-Ok
 returns-in-Ok c =
-    rw c.in-Open.is (IfOk-weaker _ _ _ (λ round e. answered_served c.in-Open.store c.serve.new.self c.args.requests c.in-Ok.replies round e (rw c.as_slice.ensures at c.in-Ok.ensures.answered) (rw c.as_slice.ensures at c.in-Ok.ensures.refused) c.in-Ok.ensures.stored) c.answered.ensures)
+    rw c.in-Open.is (IfOk-weaker _ _ _ (λ round e. answered_served c.in-Open.store c.serve.new.self c.args.requests c.in-Ok.replies round e (rw c.as_slice.ensures at c.in-Ok.ensures.ok) (rw c.as_slice.ensures at c.in-Ok.ensures.refused) c.in-Ok.ensures.stored) c.answered.ensures)
 
-pub returns-in-Err-TooLong : goal.returns-in-Err-TooLong
-returns-in-Err-TooLong c =
-    let told = ap Err c.in-Err-TooLong.field-0-is in
-    rw c.in-Open.is (too_long_served c.in-Open.store c.serve.new.self c.args.requests c.cut_off-in-Err-TooLong.result c.cut_off-in-Err-TooLong.ensures (rw c.as_slice.ensures at (c.in-Err-TooLong.ensures.too_long.0 told)) (c.in-Err-TooLong.ensures.same told))
+pub returns-in-TooLong : goal.returns-in-TooLong
+returns-in-TooLong c =
+    rw c.in-Open.is (cut_too_long c.in-Open.store c.serve.new.self c.args.requests c.cut_off-in-TooLong.result c.in-Err.fault.cause (c.in-TooLong.is) c.cut_off-in-TooLong.ensures
+    (rw c.as_slice.ensures at c.in-Err.ensures.errors) c.in-Err.ensures.same)

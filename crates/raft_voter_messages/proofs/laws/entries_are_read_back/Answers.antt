@@ -1,0 +1,5 @@
+use Rattle.raft_voter_messages.proofs.ReadingBack as reading
+use Rattle.raft_voter_messages.proofs.laws.entries_are_read_back.Goals as goal
+
+pub returns : goal.returns
+returns c = reading.entries_are_read_back

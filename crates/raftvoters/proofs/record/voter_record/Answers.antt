@@ -1,0 +1,18 @@
+use Rattle.std.proofs.Common.{append_assoc}
+use Rattle.raftvoters.specs.Records.{voter_record, voter_bytes}
+use Rattle.raftvoters.proofs.record.voter_record.Goals as goal
+
+pub returns-clause-bytes : goal.returns-clause-bytes
+unfolding voter_record voter_bytes
+returns-clause-bytes c =
+    rw (
+      c.in_ok-put_entries.ensures,
+      c.in_ok-put_number-2.ensures,
+      c.in_ok-put_bytes.ensures,
+      c.in_ok-put_number.ensures,
+      c.new-bytes.ensures.items,
+      c.as_slice-2.ensures,
+      c.in_ok-state_bytes.ensures,
+      c.state-state.ensures,
+      c.log-log.ensures.entries,
+    ) (simp append_assoc)

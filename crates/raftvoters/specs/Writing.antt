@@ -1,0 +1,15 @@
+-- What a writer got of bytes.
+use Rattle.std.specs.Prelude.{◌≡◌, ℕ, ◌<◌, List, ◌++◌, length, Option}
+use Rattle.std.specs.Io.KnownBytes.{Appends}
+
+-- a writer took the front of these bytes, and this is left of them
+pub record TakesFront (old new : Option (List ℕ)) (bytes left : List ℕ) : Type 0 where
+  pub front : List ℕ
+  pub whole : bytes ≡ front ++ left
+  pub gained : Appends old new front
+
+-- a writer took the front of these bytes, perhaps none, and not all of them
+pub record StopsWithin (old new : Option (List ℕ)) (bytes : List ℕ) : Type 0 where
+  pub left : List ℕ
+  pub some : 0 < length left
+  pub taken : TakesFront old new bytes left

@@ -12,3 +12,7 @@ pub mod Repeating
 mod Commits
 mod Unrolling
 mod Planning
+mod Bareness
+mod Deciding
+mod Reading
+mod Keeping

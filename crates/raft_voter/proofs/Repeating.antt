@@ -181,7 +181,7 @@ merged-nothing : (e : Pair) (sent : List Pair) → merged [] (e ∷ sent) ≡ e 
 merged-nothing e sent = let none : (0 == suc (length sent)) ≡ false = grind (arith, nat_tests) in rw none refl
 
 -- what was sent matches what it was merged into
-matching-merged : (old sent : List Pair) → matching (merged old sent) sent ≡ length sent
+pub matching-merged : (old sent : List Pair) → matching (merged old sent) sent ≡ length sent
 matching-merged [] [] = refl
 matching-merged [] (e ∷ sent) = ap (λ (l : List Pair). matching l (e ∷ sent)) (merged-nothing e sent) ∙ matching-itself (e ∷ sent)
 matching-merged (o ∷ old) [] = refl

@@ -1,5 +1,5 @@
-use Rattle.std.proofs.Common.{◌≡◌, ◌≢◌, ℕ, ◌+◌, ◌-◌, ◌≤◌, ◌<◌, ◌==◌, List, [], ◌∷◌, ◌++◌, length, drop, true, false, Option, None, Some, refl, sym, ap, ◌∙◌, inl, inr, arith}
-use Rattle.std.specs.Prelude.{nat_lt, nat_le}
+use Rattle.std.proofs.Common.{◌≡◌, ◌≢◌, ℕ, zero, suc, ◌+◌, ◌-◌, ◌≤◌, ◌<◌, ◌==◌, List, [], ◌∷◌, ◌++◌, length, drop, true, false, Option, None, Some, refl, sym, ap, ◌∙◌, inl, inr, arith}
+use Rattle.std.specs.Prelude.{nat_lt, nat_le, slice_get}
 use Rattle.std.proofs.lemmas.Bool.{cases_Bool, cases_lt, eq-eqb, ltb-true, false≢true}
 use Rattle.std.proofs.lemmas.Bool.Decides.{nat_tests}
 use Rattle.raft_voter_messages.specs.declared.reply.Reply.{Reply}
@@ -10,8 +10,8 @@ use Rattle.raft_voter.specs.State.{State, adopt_term, entry_at, fresh, term_at}
 use Rattle.raft_voter.specs.Rules.{agrees_at, can_compact, matching, next, next_in_range, reply}
 use Rattle.raft_voter_messages.specs.Ranges.{in_range}
 use Rattle.raft_voter.specs.Accounts.{voter_after, voter_from}
-use Rattle.raft_voter.specs.Laws.{AllSpare, BringsOther, MatchedEntriesStand, Spares}
-use Rattle.raft_voter.proofs.Appends.{base-adopt_term, base-next_matched, brings_first, entry_in, entry_kept, entry_own, log_kept, log-adopt_term, Matches, matches_of, matched_there}
+use Rattle.raft_voter.specs.Laws.{AllSpare, BringsOther, MatchedEntriesStand, MatchedIsAcknowledged, sent_at, Spares}
+use Rattle.raft_voter.proofs.Appends.{base-adopt_term, base-next_matched, brings_first, entry_in, entry_kept, entry_own, log_kept, log-adopt_term, Matches, matches_of, matched_there, reaches}
 use Rattle.raft_voter.proofs.Following.{group_runs, runs_append, voter_from-append}
 use Rattle.raft_voter.proofs.Indexes.{Pair}
 use Rattle.raft_voter.proofs.VoterSteps.{by_test, vote_next}
@@ -143,6 +143,50 @@ matched_entries_stand rounds cuts g ex before between later t p u commit last i 
     let right_behind : voter_after (before ++ x ∷ []) ≡ next v q = voter_from-append before (x ∷ []) fresh in
     let there : voter_after (before ++ x ∷ between) ≡ voter_from (next v q) between = voter_from-append before (x ∷ between) fresh in
     let spared : AllSpare (next v q) i between = rw right_behind at spares in (
+      stands.0,
+      ap (λ (w : State). entry_at w i) right_behind ∙ stands.1,
+      ap (λ (w : State). entry_at w i) there ∙ entry_all_spared between (next v q) i spared ∙ stands.1,
+    )
+
+-- an entry stands at a place of a list
+stands_at : (log : List Pair) (k : ℕ) → k < length log → (e : Pair) × (slice_get log k ≡ Some e)
+stands_at [] k h = absurd (omega (arith, h))
+stands_at (x ∷ log) zero h = (x, refl)
+stands_at (x ∷ log) (suc k) h = stands_at log k (omega (arith, h))
+
+-- after a matched Append an entry stands at each index above the base and up to the answered one
+acknowledged :
+    (v : State) (t p u commit last i : ℕ) (sent : List Pair) → Matches v t p u commit last sent
+    → v.base_index < i → i ≤ last → (e : Pair) × (entry_at (next v (Append t p u commit sent)) i ≡ Some e)
+acknowledged v t p u commit last i sent m above within = elim (cases_lt p i) [
+  | inr front ↦
+      let reach : p - v.base_index ≤ length v.log = reaches v p u m.above m.agrees in
+      let there = stands_at v.log (i - v.base_index - 1) (omega (arith, above, front, reach)) in
+      let inside : nat_lt v.base_index i ≡ true = grind (arith, nat_tests) in
+      let own : entry_at v i ≡ Some there.0 = rw inside there.1 in
+      (there.0, entry_kept v t p u commit last i sent m (omega (arith, front)) ∙ own)
+  | inl behind ↦
+      let there = stands_at sent (i - p - 1) (omega (arith, behind, within, m.ends)) in
+      let inside : nat_lt p i ≡ true = grind (arith, nat_tests) in
+      let brought : sent_at p sent i ≡ Some there.0 = rw inside there.1 in
+      let found = matched_there v t p u commit last i sent there.0 m brought in
+      ((there.0.0, found.0), found.1)
+]
+
+pub matched_is_acknowledged : MatchedIsAcknowledged
+matched_is_acknowledged rounds cuts g ex before between later t p u commit last i sent is above within spares =
+    let q = Append t p u commit sent in
+    let x : Request × Option Reply = (q, Some (Matched last)) in
+    let v = voter_after before in
+    let runs = rw is at (group_runs rounds cuts g ex) in
+    let first = runs_append (before ++ x ∷ between) later fresh runs in
+    let start = runs_append before (x ∷ between) fresh first.0 in
+    let m = matches_of v t p u commit last sent (sym start.1.0) in
+    let right_behind : voter_after (before ++ x ∷ []) ≡ next v q = voter_from-append before (x ∷ []) fresh in
+    let there : voter_after (before ++ x ∷ between) ≡ voter_from (next v q) between = voter_from-append before (x ∷ between) fresh in
+    let spared : AllSpare (next v q) i between = rw right_behind at spares in
+    let base : v.base_index < i = omega (arith, above, ap (λ (w : State). w.base_index) right_behind, base-next_matched v t p u commit last sent m) in
+    let stands = acknowledged v t p u commit last i sent m base within in (
       stands.0,
       ap (λ (w : State). entry_at w i) right_behind ∙ stands.1,
       ap (λ (w : State). entry_at w i) there ∙ entry_all_spared between (next v q) i spared ∙ stands.1,

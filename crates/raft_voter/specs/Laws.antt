@@ -1,13 +1,15 @@
-use Rattle.std.specs.Prelude.{◌≡◌, ◌≢◌, ℕ, ◌+◌, ◌-◌, ◌<◌, ◌≤◌, nat_lt, Bool, true, false, IsTrue, IsSomeAnd, if◌then◌else◌, List, [], ◌∷◌, ◌++◌, take, drop, slice_get, Option, None, Some}
+use Rattle.std.specs.Prelude.{◌≡◌, ◌≢◌, ℕ, ◌+◌, ◌-◌, ◌<◌, ◌≤◌, nat_lt, Bool, true, false, IsTrue, IsSomeAnd, length, if◌then◌else◌, List, [], ◌∷◌, ◌++◌, take, drop, slice_get, Option, None, Some}
+use Rattle.raft_voter_messages.specs.declared.reply.Entry.{Entry}
 use Rattle.raft_voter_messages.specs.declared.reply.Reply.{Reply}
-use Rattle.raft_voter_messages.specs.declared.reply.Reply.TheVariants.{Granted, Matched}
+use Rattle.raft_voter_messages.specs.declared.reply.Reply.TheVariants.{Entries, Granted, Matched}
 use Rattle.raft_voter_messages.specs.declared.request.Request.{Request}
 use Rattle.raft_voter_messages.specs.declared.request.Request.TheVariants.{Vote, Append, Compact, Install, Read, Status, Retire}
 use Rattle.raft_voter_messages.specs.declared.round.Outcome.{Outcome}
 use Rattle.raft_voter_messages.specs.declared.round.Outcome.TheVariants.{Answered, Cut}
 use Rattle.raft_voter_messages.specs.declared.round.Round.{Round}
-use Rattle.raft_voter.specs.State.{State, entry_at, term_at}
+use Rattle.raft_voter.specs.State.{State, entry_at, fresh, term_at}
 use Rattle.raft_voter.specs.Rules.{next, reply}
+use Rattle.raft_voter.specs.InRange.{IsInRange}
 use Rattle.raft_voter.specs.Rounds.{World, Explains, Leads}
 use Rattle.raft_voter.specs.Accounts.{group_account, NoRetire, requests_of, voter_after}
 
@@ -147,3 +149,32 @@ GroupIsolation =
     → group_account group rounds cuts ≡ before ++ (q, Some a) ∷ later
     → group_account group rounds' cuts' ≡ before' ++ (q, Some a') ∷ later'
     → requests_of before ≡ requests_of before' → a ≡ a'
+
+-- After an Append that was answered to have matched up to an index, an entry stands at each index above the base and up to
+-- that one, whether the Append brought it or it was there, in a round that was answered or cut off. The same entry stands
+-- after whatever follows and spares it.
+abbrev pub MatchedIsAcknowledged : Type 0
+MatchedIsAcknowledged =
+    (rounds : List Round) (cuts : List ℕ) (group : ℕ) → Explains rounds cuts
+    → (before between later : List (Request × Option Reply)) (term prev prev_term commit last i : ℕ)
+    (sent : List (ℕ × List ℕ))
+    → group_account group rounds cuts
+    ≡ before ++ (Append term prev prev_term commit sent, Some (Matched last)) ∷ between ++ later
+    → (voter_after (before ++ (Append term prev prev_term commit sent, Some (Matched last)) ∷ [])).base_index < i → i ≤ last
+    → AllSpare (voter_after (before ++ (Append term prev prev_term commit sent, Some (Matched last)) ∷ [])) i between
+    → (e : ℕ × List ℕ)
+    × (entry_at (voter_after (before ++ (Append term prev prev_term commit sent, Some (Matched last)) ∷ [])) i ≡ Some e)
+    × (entry_at (voter_after (before ++ (Append term prev prev_term commit sent, Some (Matched last)) ∷ between)) i ≡ Some e)
+
+-- A Read that is answered with entries is answered one for each index that it asked for, in order: the k-th is the voter's
+-- entry at `from + k`.
+abbrev pub EntriesAreTheLog : Type 0
+EntriesAreTheLog =
+    (v : State) (from to : ℕ) (entries : List Entry) → reply v (Read from to) ≡ Entries entries
+    → (length entries ≡ to - from)
+    × ((k : ℕ) → k < length entries
+    → (e : Entry) × (slice_get entries k ≡ Some e) × (e.index ≡ from + k) × (entry_at v (from + k) ≡ Some (e.term, e.bytes)))
+
+-- A fresh voter is in range, and each request leaves a voter in range in range.
+abbrev pub RangeIsKept : Type 0
+RangeIsKept = IsInRange fresh × ((v : State) (q : Request) → IsInRange v → IsInRange (next v q))

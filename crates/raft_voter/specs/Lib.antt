@@ -7,6 +7,8 @@ pub mod Restoring
 pub mod Accounts
 pub mod Outlines
 pub mod Plans
+pub mod Decisions
+pub mod InRange
 pub mod Laws
 pub use Rattle.raft_voter_messages.specs.Ranges
 pub use Rattle.raft_voter_messages.specs.StoredForms

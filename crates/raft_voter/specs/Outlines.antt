@@ -1,5 +1,5 @@
 -- Voters without the bytes of their entries, and what is decided by them.
-use Rattle.std.specs.Prelude.{◌≡◌, ◌≢◌, ℕ, ◌+◌, ◌-◌, ◌^◌, ◌≤◌, ◌<◌, ◌==◌, ◌&&◌, ◌||◌, nat_lt, nat_le, Bool, true, false, not, if◌then◌else◌, List, [], ◌∷◌, ◌++◌, length, take, drop, Option, None, Some, MatchOption}
+use Rattle.std.specs.Prelude.{◌≡◌, ◌≢◌, ℕ, ◌+◌, ◌-◌, ◌^◌, ◌≤◌, ◌<◌, ◌==◌, ◌&&◌, ◌⊎◌, ◌||◌, nat_lt, nat_le, Bool, true, false, not, if◌then◌else◌, List, [], ◌∷◌, ◌++◌, length, take, drop, Option, None, Some, MatchOption}
 use Rattle.raft_voter_messages.specs.declared.reply.Reply.{Reply}
 use Rattle.raft_voter_messages.specs.declared.reply.Reply.TheVariants.{Entries as EntriesReply, Refused}
 use Rattle.raft_voter_messages.specs.declared.reply.VoterState.{VoterState}
@@ -75,11 +75,19 @@ CanWrite (Entries skipped index) q v =
 CanWrite (CompactTo index) q v = (v.base_index < index) × (index ≤ last_index v)
 CanWrite Clean q v = is_retire q ≡ true
 
+-- where the log's base stands then: where it was, if what is written doesn't say more, or the log is empty
+abbrev pub RestsOn : Write → State → ℕ → Type 0
+RestsOn StateAlone v base = (base ≡ v.base_index) ⊎ (v.log ≡ [])
+RestsOn (Entries skipped index) v base = base ≡ v.base_index
+RestsOn (CompactTo index) v base = (base ≡ index) ⊎ (index ≡ last_index v)
+RestsOn Clean v base = base ≡ 0
+
 -- a change is just what the request makes of the voter, which isn't what it was
 pub record IsChangeOf (v : State) (q : Request) (c : Change) : Type 0 where
   pub state : c.state ≡ stored_state (next v q)
   pub next_is : next v q ≡ changed c (sent_of q) v
   pub can : CanWrite c.write q v
+  pub rests : RestsOn c.write v c.state.base_index
   pub moves : next v q ≢ v
 
 -- an answer is the voter's reply, and a change is none exactly where the voter stays as it was

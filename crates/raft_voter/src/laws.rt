@@ -1,5 +1,5 @@
 //! What follows from the definitions alone: laws over whole runs, each the contract of a function that does nothing.
-ghost use Rattle.raft_voter.specs.Laws.{BaseIsCommitted, CommitNeverFalls, GroupIsolation, MatchedAppend, MatchedEntriesStand, OneVotePerTerm, RepeatIsIdempotent, RoundsJoin, RoundsPart, TermsNeverFall};
+ghost use Rattle.raft_voter.specs.Laws.{BaseIsCommitted, EntriesAreTheLog, MatchedIsAcknowledged, RangeIsKept, CommitNeverFalls, GroupIsolation, MatchedAppend, MatchedEntriesStand, OneVotePerTerm, RepeatIsIdempotent, RoundsJoin, RoundsPart, TermsNeverFall};
 
 /// Rounds that lead from one world to a second and rounds that lead from there to a third are, one behind the other,
 /// rounds that lead from the first to the third, with their cuts one behind the other.
@@ -52,4 +52,21 @@ pub fn matched_entries_stand()
 /// A Vote, Append, Compact or Install that is repeated at once gets the same reply and changes nothing.
 pub fn repeat_is_idempotent()
     ensures { RepeatIsIdempotent }
+{}
+
+/// After an Append that was answered to have matched up to an index, an entry stands at each index above the base and up to
+/// that one, whether the Append brought it or it was there, and it stands until a later Append brings a different term at or
+/// below it, or it is compacted, replaced by Install, or retired.
+pub fn matched_is_acknowledged()
+    ensures { MatchedIsAcknowledged }
+{}
+
+/// The entries that a Read is answered are the voter's, one for each index that was asked for.
+pub fn entries_are_the_log()
+    ensures { EntriesAreTheLog }
+{}
+
+/// A fresh voter is in range, and each request leaves a voter in range in range.
+pub fn range_is_kept()
+    ensures { RangeIsKept }
 {}

@@ -8,7 +8,7 @@
 #![tactic(auto)]
 
 mod judging;
-mod outline;
+pub mod outline;
 pub mod laws;
 mod list;
 mod voter;

@@ -5,6 +5,7 @@ ghost use Rattle.raft_voter.specs.Rules.{agrees_at, next};
 ghost use Rattle.raft_voter.specs.Runs.{runs_behind};
 ghost use Rattle.raft_voter.specs.State.{fresh, last_index, last_term, state_of, term_at};
 
+mod decide;
 mod decision;
 mod plans;
 

@@ -1,7 +1,7 @@
 //! What requests in range come to, one by one, before anything changes.
 ghost use Rattle.std.specs.Prelude.{◌≡◌, ◌+◌, ◌-◌, ◌^◌, ◌<◌, ◌≤◌, ◌==◌, true, drop, length};
 ghost use Rattle.std.specs.Option.{option_map_or};
-ghost use Rattle.raft_voter_messages.specs.declared.request.Request.TheVariants.{Append, Compact, Install, Vote};
+ghost use Rattle.raft_voter_messages.specs.declared.request.Request.TheVariants.{Append, Compact, Install, Retire, Vote};
 ghost use Rattle.raft_voter.specs.Outlines.{all_gone, brought};
 ghost use Rattle.raft_voter.specs.Plans.{Plans, with_term};
 ghost use Rattle.raft_voter.specs.Rules.{is_up_to_date, matching};
@@ -11,7 +11,7 @@ use super::{Outline, Write};
 use crate::{Items, Reply, VoterState};
 
 /// What a request in range comes to, whether it changes anything or not.
-#[derive(Debug, Drop)]
+#[derive(Drop)]
 pub struct Plan {
     /// What is answered.
     pub reply: Reply,
@@ -190,6 +190,26 @@ impl Outline {
             reply: Reply::Base(index),
             state,
             write,
+        }
+    }
+
+    /// The group leaves the node.
+    pub(super) fn retire(&self) -> Plan
+        ensures { Plans self.now.voter Retire result }
+    {
+        let state = VoterState {
+            term: 0,
+            vote: None,
+            base_index: 0,
+            base_term: 0,
+            last_index: 0,
+            last_term: 0,
+            commit: 0,
+        };
+        Plan {
+            reply: Reply::Retired,
+            state,
+            write: Write::Clean,
         }
     }
 

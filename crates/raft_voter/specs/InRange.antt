@@ -1,0 +1,26 @@
+-- Voters that requests lead to, and that can be stored.
+use Rattle.std.specs.Prelude.{◌≡◌, ℕ, ◌+◌, ◌^◌, ◌≤◌, ◌<◌, true, length}
+use Rattle.std.specs.List.{list_all}
+use Rattle.raft_voter_messages.specs.Ranges.{entry_fits, fits}
+use Rattle.raft_voter_messages.specs.StoredForms.{vote_fits}
+use Rattle.raft_voter.specs.Rounds.{World}
+use Rattle.raft_voter.specs.State.{State}
+
+-- the numbers of a voter are those that requests may bring, and its base is committed
+pub record IsInRange (v : State) : Type 0 where
+  pub term : fits v.term ≡ true
+  pub vote : vote_fits v.vote ≡ true
+  pub base_index : fits v.base_index ≡ true
+  pub base_term : fits v.base_term ≡ true
+  pub commit : fits v.commit ≡ true
+  pub committed : v.base_index ≤ v.commit
+  pub log : list_all entry_fits v.log ≡ true
+
+-- a voter can be stored: its numbers are in range, its last index too
+pub record IsStorable (v : State) : Type 0 where
+  pub in_range : IsInRange v
+  pub end_fits : v.base_index + length v.log < 2 ^ 63
+
+-- every group's voter is in range
+abbrev pub AllInRange : World → Type 0
+AllInRange W = (group : ℕ) → IsInRange (W group)

@@ -1,7 +1,6 @@
-//! One proved caller of each crate that users call.
+//! One proved caller of each crate that users call: what the pages `CALLING.md` show.
 #![tactic(auto)]
 
 pub mod base;
 pub mod items;
-//! A proved caller of each crate: what the pages `CALLING.md` show.
 pub mod log_disk;

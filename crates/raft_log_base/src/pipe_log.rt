@@ -26,11 +26,14 @@ pub type FileSeq = u64;
 /// rewrite queue.
 #[derive(Clone, Copy, Debug, PartialEq, Eq, Hash)]
 pub struct FileId {
+    /// The queue that it is in.
     pub queue: LogQueue,
+    /// Its number there.
     pub seq: FileSeq,
 }
 
 impl FileId {
+    /// The file with this number in this queue.
     pub fn new(queue: LogQueue, seq: FileSeq) -> Self
         ensures queue { result.queue ≡ queue }
         ensures seq { result.seq ≡ seq }
@@ -154,7 +157,9 @@ impl fmt::Display for Version {
 /// A log file as its records need to know it: which file it is, and its format's version.
 #[derive(Clone, Copy, Debug, PartialEq, Eq)]
 pub struct LogFileContext {
+    /// The file.
     pub id: FileId,
+    /// The version of its format.
     pub version: Version,
 }
 
@@ -162,6 +167,7 @@ impl LogFileContext {
     ghost use Rattle.std.specs.Prelude.{◌≡◌};
     ghost use Rattle.raft_log_base.specs.Files.{signature_of};
 
+    /// What records need to know of this file, whose format has this version.
     pub fn new(id: FileId, version: Version) -> Self
         ensures id { result.id ≡ id }
         ensures version { result.version ≡ version }

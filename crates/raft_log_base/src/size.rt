@@ -9,16 +9,22 @@ use std::fmt;
 use std::ops::{Div, Mul};
 use std::str::FromStr;
 
+/// One byte.
 pub const B: u64 = 1;
 
+/// 1,024 bytes.
 pub const KIB: u64 = 1024;
 
+/// 1,024 KiB.
 pub const MIB: u64 = 1024 * KIB;
 
+/// 1,024 MiB.
 pub const GIB: u64 = 1024 * MIB;
 
+/// 1,024 GiB.
 pub const TIB: u64 = 1024 * GIB;
 
+/// 1,024 TiB.
 pub const PIB: u64 = 1024 * TIB;
 
 /// A size in bytes. It prints as the number of the greatest unit of `PiB`, `TiB`, `GiB`, `MiB` and `KiB` that divides

@@ -8,7 +8,8 @@ use Rattle.raft_log_items.specs.declared.entry.EntryIndex.{EntryIndex}
 use Rattle.raft_log_items.specs.Run.{FollowsFrom, IsRun, unplaced_entry}
 use Rattle.raft_log_items.specs.Placed.{run_len}
 use Rattle.raft_log_items.proofs.Places.{inner_get, inner_set}
-use Rattle.raft_log_records.specs.Entries.{RisesFrom, IsIndexRun, entries_of, joined, bytes_len}
+use Rattle.std.specs.Borrow.{Bor}
+use Rattle.raft_log_records.specs.Entries.{RisesFrom, IsIndexRun, entries_of, joined, bytes_len, slices_bytes}
 
 abbrev pub indexes_of : List EntryIndex → List ℕ
 indexes_of es = map (λ (e : EntryIndex). e.index) es
@@ -122,3 +123,15 @@ out_len f old out ms e = ap (λ (l : List ℕ). length l) e ∙ length-append ol
 
 pub part_len : {M : Type 0} (f : M → List ℕ) (ms : List M) (i : ℕ) → bytes_len (map f (take i ms)) ≤ bytes_len (map f ms)
 part_len f ms i = omega (arith, sum_by-take-le (λ (x : List ℕ). length x) (map f ms) i, ap (λ (l : List (List ℕ)). bytes_len l) (take-map f i ms))
+
+-- ---- slices
+
+pub same_item : {A : Type 0} (xs : List A) (i : ℕ) (d m : A) → i < length xs → get_or xs i d ≡ get_or xs i m
+same_item [] i d m lt = absurd (omega arith)
+same_item (x ∷ xs) zero d m lt = refl
+same_item (x ∷ xs) (suc i) d m lt = same_item xs i d m (omega arith)
+
+pub slice_len : (xs : List (Bor (List ℕ))) (i : ℕ) (d : Bor (List ℕ)) → i < length xs → length (get_or xs i d).now ≤ bytes_len (slices_bytes xs)
+slice_len [] i d lt = absurd (omega arith)
+slice_len (x ∷ xs) zero d lt = omega (arith, sum_by-cons (λ (y : List ℕ). length y) x.now (slices_bytes xs))
+slice_len (x ∷ xs) (suc i) d lt = omega (arith, sum_by-cons (λ (y : List ℕ). length y) x.now (slices_bytes xs), slice_len xs i d (omega arith))

@@ -1,5 +1,6 @@
 -- Entries that are added to a batch, by their indexes and their bytes.
 use Rattle.std.specs.Prelude.{◌≡◌, ◌⊎◌, ℕ, ◌+◌, ◌<◌, ◌^◌, ◌==◌, if◌then◌else◌, codes, List, [], ◌∷◌, ◌++◌, length, map, sum_by, flat_map}
+use Rattle.std.specs.Borrow.{Bor}
 use Rattle.std.specs.Fmt.{decimal}
 use Rattle.std.specs.String.{string_bytes}
 use Rattle.raft_log_items.specs.declared.entry.EntryIndex.{EntryIndex}
@@ -95,3 +96,7 @@ indexes_of entries = map (λ e. e.index) entries
 -- why two batches with these bytes of entries don't become one: memory ran out, or they would be too many
 abbrev pub IsMergeRefusal : Error → List ℕ → List ℕ → Type 0
 IsMergeRefusal e entries others = IsRoomRefusal e max_entries_len (length entries + length others)
+
+-- the bytes of these slices
+abbrev pub slices_bytes : List (Bor (List ℕ)) → List (List ℕ)
+slices_bytes slices = map (λ s. s.now) slices

@@ -53,19 +53,45 @@ fn a_mark_is_a_key_of_group_zero(rt: HostRuntime) -> Result<(), Fail> {
 
 /// What an item may say as a mark.
 const UNMARKED: Marking = Marking::Unmarked;
+
 const BROKEN: Marking = Marking::Broken;
+
 const END: Marking = Marking::Part(5, AtomicGroupStatus::End);
 
 /// Items that put or delete: the group, what is done, the key, the value, and what it says as a mark.
 const ITEMS: [(u64, OpType, &[u8], &[u8], Marking); 9] = [
     (0, OpType::Put, b"__\x01", b"\0\0\0\0\0\0\0\x05\x02", END),
-    (1, OpType::Put, b"__\x01", b"\0\0\0\0\0\0\0\x05\x02", UNMARKED),
-    (0, OpType::Del, b"__\x01", b"\0\0\0\0\0\0\0\x05\x02", UNMARKED),
-    (0, OpType::Put, b"__\x02", b"\0\0\0\0\0\0\0\x05\x02", UNMARKED),
+    (
+        1,
+        OpType::Put,
+        b"__\x01",
+        b"\0\0\0\0\0\0\0\x05\x02",
+        UNMARKED,
+    ),
+    (
+        0,
+        OpType::Del,
+        b"__\x01",
+        b"\0\0\0\0\0\0\0\x05\x02",
+        UNMARKED,
+    ),
+    (
+        0,
+        OpType::Put,
+        b"__\x02",
+        b"\0\0\0\0\0\0\0\x05\x02",
+        UNMARKED,
+    ),
     (0, OpType::Put, b"__", b"\0\0\0\0\0\0\0\x05\x02", UNMARKED),
     (0, OpType::Put, b"__\x01", b"\0\0\0\0\0\0\0\x05\x03", BROKEN),
     (0, OpType::Put, b"__\x01", b"\0\0\0\0\0\0\0\x05", BROKEN),
-    (0, OpType::Put, b"__\x01", b"\0\0\0\0\0\0\0\x05\x02\0", BROKEN),
+    (
+        0,
+        OpType::Put,
+        b"__\x01",
+        b"\0\0\0\0\0\0\0\x05\x02\0",
+        BROKEN,
+    ),
     (0, OpType::Put, b"__\x01", b"", BROKEN),
 ];
 

@@ -56,11 +56,7 @@ fn add(
     for index in indexes {
         given.push(misplaced(*index))?;
     }
-    let mut bytes = Vec::new(alloc);
-    for entry in entries {
-        bytes.push(Bytes::from_slice(alloc, entry)?)?;
-    }
-    batch.add_raw_entries(alloc, group, given.as_slice(), bytes.as_slice())
+    batch.add_raw_entries(alloc, group, given.as_slice(), entries)
 }
 
 /// A batch of the two entries, for file 1.
@@ -277,5 +273,15 @@ fn want_of_memory_merges_nothing(rt: HostRuntime) -> std::result::Result<(), Fai
     let step = batch.merge(&mut other);
     assert!(rt; is_done_or_unchanged(&batch, own, &step));
     assert!(rt; step.is_ok() || other.approximate_size() == others);
+    Ok(())
+}
+
+#[test]
+fn a_batch_of_two_mebibytes_is_made(rt: HostRuntime) -> std::result::Result<(), Fail> {
+    let entry = vec![in rt.alloc(); 7u8; 2 << 20]?;
+    let mut batch = LogBatch::default(rt.alloc())?;
+    add(rt.alloc(), &mut batch, 1, &[1], &[entry.as_slice()])?;
+    // Header, block, and a footer of a count, an item of eight bytes, and a checksum.
+    assert!(rt; batch.finish_populate()? == 16 + (2 << 20) + 4 + 1 + 8 + 4);
     Ok(())
 }

@@ -1,7 +1,7 @@
 //! Whole records, read by the three decoders.
 use crate::{CLEAN_SIGNED, CLEAN_UNSIGNED};
-use raft_log_frames::{decode_entries_block, decode_footer, decode_header};
-use raft_log_items::{Error, LogItem, LogItemContent};
+use raft_log_frames::{decode_frame, decode_record};
+use raft_log_items::{LogItem, LogItemContent};
 use std::alloc::Global;
 use std::test::Fail;
 
@@ -17,20 +17,19 @@ fn read_record(
     bytes: &[u8],
     signature: Option<u32>,
 ) -> raft_log_items::Result<(Vec<LogItem>, &[u8], &[u8])> {
-    let mut rest = bytes;
-    let (offset, compression, len) = decode_header(alloc, &mut rest)?;
-    match (
-        bytes.get(16..offset),
-        bytes.get(offset..len),
-        bytes.get(len..),
-    ) {
-        (Some(block), Some(footer), Some(behind)) => {
-            let items = decode_footer(alloc, footer, block.len(), signature)?;
-            let entries = decode_entries_block(alloc, block, compression)?;
-            Ok((items, entries, behind))
-        }
-        _ => Err(Error::Corruption(format!(in alloc; "cut short")?)),
-    }
+    let (len, items, entries) = decode_record(alloc, bytes, signature)?;
+    Ok((items, entries, bytes.get(len..).unwrap_or(&b""[..])))
+}
+
+#[test]
+fn a_record_past_the_end_is_refused(rt: HostRuntime) -> Result<(), Fail> {
+    let Err(error) = decode_frame(rt.alloc(), &TWO_ENTRIES[..35], Some(1)) else {
+        assert!(rt; false, "a frame");
+        return Ok(());
+    };
+    let text = error.to_string(rt.alloc())?;
+    assert!(rt; text.as_str() == "Corruption: Log batch past the end of the input: 36");
+    Ok(())
 }
 
 /// The index and the length of an entry of the first item.

@@ -1,3 +1,4 @@
 pub mod Cover
 pub mod Counter
 pub mod LogDisk
+pub mod Chain

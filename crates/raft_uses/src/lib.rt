@@ -4,3 +4,6 @@
 pub mod base;
 pub mod items;
 pub mod log_disk;
+//! A proved caller of each crate: the code of the pages `CALLING.md`.
+pub mod frames;
+pub mod records;

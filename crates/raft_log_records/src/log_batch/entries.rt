@@ -2,10 +2,10 @@
 ghost use Rattle.std.specs.Prelude.{◌≡◌, ◌+◌, ◌-◌, ◌<◌, ◌^◌, ◌++◌, ◌↔◌, length, min, IsTrue, OnOk, OnErr, IfErr};
 ghost use Rattle.raft_log_items.specs.Writing.{KeepsFront};
 ghost use Rattle.raft_log_items.specs.Placed.{laid_run};
-ghost use Rattle.raft_log_records.specs.Entries.{RisesFrom, IsIndexRun, entries_of, indexes_of, joined, bytes_len, IsRunRefusal};
+ghost use Rattle.raft_log_records.specs.Entries.{RisesFrom, IsIndexRun, entries_of, indexes_of, slices_bytes, joined, bytes_len, IsRunRefusal};
 
 use super::{LogBatch, MAX_ENTRIES_LEN};
-use raft_log_items::{Bytes, EntryIndex, EntryIndexes, Error, LogItem, Result};
+use raft_log_items::{EntryIndex, EntryIndexes, Error, LogItem, Result};
 use std::alloc::{AllocError, Global};
 
 impl LogBatch {
@@ -13,9 +13,9 @@ impl LogBatch {
     ghost use Rattle.raft_log_records.specs.declared.log_batch.BatchState.TheVariants.{Filling};
     ghost use Rattle.raft_log_records.specs.Batch.{max_entries_len, Becomes};
     ghost use Rattle.raft_log_records.specs.Places.{AddsBytes};
-    ghost use Rattle.raft_log_records.specs.Entries.{IsRunOf, indexes_of, bytes_len, AddsEntries, IsEntriesRefusal};
+    ghost use Rattle.raft_log_records.specs.Entries.{IsRunOf, indexes_of, slices_bytes, bytes_len, AddsEntries, IsEntriesRefusal};
 
-    /// Adds entries of a group, each given by its index and its bytes. Of the entries in `entry_indexes` only the index is
+    /// Adds entries of a group, each given by its index and its bytes, which are copied into the batch. Of the entries in `entry_indexes` only the index is
     /// taken: the length is that of the bytes, and the place comes when the batch is written. No entries add nothing.
     ///
     /// Refused, in this order: as an invalid argument, indexes that are not as many as the entries, that don't rise by one,
@@ -26,15 +26,15 @@ impl LogBatch {
         alloc: Global,
         raft_group_id: u64,
         entry_indexes: &[EntryIndex],
-        entries: &[Bytes],
+        entries: &[&[u8]],
     ) -> Result<()>
         requires { self.old.state ≡ Filling }
-        ensures ok { OnOk result (AddsEntries self.old self.new raft_group_id (indexes_of entry_indexes.now) entries.now) }
-        ensures bytes { OnOk result (AddsBytes self.old self.new entries.now) }
-        ensures run { OnOk result (IsRunOf (indexes_of entry_indexes.now) entries.now) }
-        ensures room { OnOk result (length self.old.entries + bytes_len entries.now ≤ max_entries_len) }
+        ensures ok { OnOk result (AddsEntries self.old self.new raft_group_id (indexes_of entry_indexes.now) (slices_bytes entries.now)) }
+        ensures bytes { OnOk result (AddsBytes self.old self.new (slices_bytes entries.now)) }
+        ensures run { OnOk result (IsRunOf (indexes_of entry_indexes.now) (slices_bytes entries.now)) }
+        ensures room { OnOk result (length self.old.entries + bytes_len (slices_bytes entries.now) ≤ max_entries_len) }
         ensures err { OnErr result (Becomes self.old self.new) }
-        ensures errors { IfErr result (λ e. IsEntriesRefusal e (length self.old.entries) (indexes_of entry_indexes.now) entries.now) }
+        ensures errors { IfErr result (λ e. IsEntriesRefusal e (length self.old.entries) (indexes_of entry_indexes.now) (slices_bytes entries.now)) }
     {
         check_run(alloc, entry_indexes, entries.len())?;
         let added = bytes_len(entries);
@@ -103,8 +103,8 @@ pub(super) fn check_run(alloc: Global, entries: &[EntryIndex], count: usize) -> 
 }
 
 /// How many bytes the entries have, or 2^64 - 1 where they have more.
-fn bytes_len(entries: &[Bytes]) -> u64
-    ensures { result ≡ min (bytes_len entries.now) (2 ^ 64 - 1) }
+fn bytes_len(entries: &[&[u8]]) -> u64
+    ensures { result ≡ min (bytes_len (slices_bytes entries.now)) (2 ^ 64 - 1) }
 {
     let mut len: u64 = 0;
     for entry in entries {
@@ -114,12 +114,12 @@ fn bytes_len(entries: &[Bytes]) -> u64
 }
 
 /// Appends each entry's bytes.
-fn append_each(out: &mut Vec<u8>, entries: &[Bytes]) -> std::result::Result<(), AllocError>
-    ensures ok { OnOk result (out.new.items ≡ out.old.items ++ joined entries.now) }
+fn append_each(out: &mut Vec<u8>, entries: &[&[u8]]) -> std::result::Result<(), AllocError>
+    ensures ok { OnOk result (out.new.items ≡ out.old.items ++ joined (slices_bytes entries.now)) }
     ensures err { OnErr result (KeepsFront out.old.items out.new.items) }
 {
     for entry in entries {
-        out.extend_from_slice(entry.as_slice())?;
+        out.extend_from_slice(entry)?;
     }
     Ok(())
 }
@@ -127,10 +127,10 @@ fn append_each(out: &mut Vec<u8>, entries: &[Bytes]) -> std::result::Result<(), 
 /// Appends each entry's bytes, which are so many in all. A refusal changes nothing.
 fn append_entries(
     out: &mut Vec<u8>,
-    entries: &[Bytes],
+    entries: &[&[u8]],
     len: usize,
 ) -> std::result::Result<(), AllocError>
-    ensures ok { OnOk result (out.new.items ≡ out.old.items ++ joined entries.now) }
+    ensures ok { OnOk result (out.new.items ≡ out.old.items ++ joined (slices_bytes entries.now)) }
     ensures err { OnErr result (out.new.items ≡ out.old.items) }
 {
     out.reserve(len)?;
@@ -143,22 +143,23 @@ fn append_entries(
 }
 
 /// Gives each entry the length of its bytes, and leaves of what it had the index alone.
-fn set_lengths(indexes: &mut [EntryIndex], entries: &[Bytes])
+fn set_lengths(indexes: &mut [EntryIndex], entries: &[&[u8]])
     requires same { length indexes.old ≡ length entries.now }
-    requires fits { bytes_len entries.now < 2 ^ 32 }
-    ensures { indexes.new ≡ entries_of (indexes_of indexes.old) entries.now }
+    requires fits { bytes_len (slices_bytes entries.now) < 2 ^ 32 }
+    ensures { indexes.new ≡ entries_of (indexes_of indexes.old) (slices_bytes entries.now) }
 {
     for i in 0..indexes.len() {
-        indexes[i] = EntryIndex::unplaced(indexes[i].index, entries[i].len() as u32);
+        let entry: &[u8] = entries[i];
+        indexes[i] = EntryIndex::unplaced(indexes[i].index, entry.len() as u32);
     }
 }
 
 /// The entries with these indexes and bytes, laid out from this offset on.
-fn place_entries(indexes: Vec<EntryIndex>, entries: &[Bytes], offset: u32) -> EntryIndexes
+fn place_entries(indexes: Vec<EntryIndex>, entries: &[&[u8]], offset: u32) -> EntryIndexes
     requires same { length indexes.items ≡ length entries.now }
     requires run { IsIndexRun (indexes_of indexes.items) }
-    requires fits { offset + bytes_len entries.now < 2 ^ 32 }
-    ensures { result ≡ laid_run offset (entries_of (indexes_of indexes.items) entries.now) }
+    requires fits { offset + bytes_len (slices_bytes entries.now) < 2 ^ 32 }
+    ensures { result ≡ laid_run offset (entries_of (indexes_of indexes.items) (slices_bytes entries.now)) }
 {
     let mut indexes = indexes;
     set_lengths(indexes.as_mut_slice(), entries);

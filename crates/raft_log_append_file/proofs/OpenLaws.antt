@@ -128,11 +128,11 @@ torn_front at bytes old new torn long =
     (let inside : i < at = omega (arith, length-take-le at new room) in
     get_or-take at new i 0 inside ∙ torn.outside i (omega arith) (inl inside)))
 
--- after a refused write the file can be cut back
-pub torn_can_cut : (log : AppendFile) (durable pending : Records) (bytes frame : List ℕ) (d : Disk) (file : File) (content : List ℕ) → IsOpen log durable pending d → IsFrame frame bytes
+-- after a refused write the file can be shortened
+pub torn_can_shorten : (log : AppendFile) (durable pending : Records) (bytes frame : List ℕ) (d : Disk) (file : File) (content : List ℕ) → IsOpen log durable pending d → IsFrame frame bytes
     → d.files log.handle.file ≡ Some file → IsTorn log.written frame file.content content
     → CanShortenTo log.handle.file log.written (length pending) durable (pending ++ framed bytes ∷ []) (with_file log.handle.file (Some (with_change (Wrote log.written frame) content file)) d)
-torn_can_cut log durable pending bytes frame d file content opened is_frame is torn =
+torn_can_shorten log durable pending bytes frame d file content opened is_frame is torn =
     let w = framed bytes in
     let all = durable ++ pending in
     let same = same_file d log.handle.file opened.file file opened.is is in
@@ -156,9 +156,9 @@ torn_can_cut log durable pending bytes frame d file content opened is_frame is t
     }
 
 -- also where nothing of it was written
-pub open_can_cut : (log : AppendFile) (durable pending : Records) (bytes frame : List ℕ) (d : Disk) → IsOpen log durable pending d → IsFrame frame bytes
+pub open_can_shorten : (log : AppendFile) (durable pending : Records) (bytes frame : List ℕ) (d : Disk) → IsOpen log durable pending d → IsFrame frame bytes
     → CanShortenTo log.handle.file log.written (length pending) durable (pending ++ framed bytes ∷ []) d
-open_can_cut log durable pending bytes frame d opened is_frame =
+open_can_shorten log durable pending bytes frame d opened is_frame =
     let w = framed bytes in
     let all = durable ++ pending in
     let front = front_records durable pending w in
@@ -182,9 +182,9 @@ write_can_shorten wrong result log durable pending bytes frame old opened is_fra
     let id = log.handle.file in
     let more = pending ++ framed bytes ∷ [] in
     kept_change (CanShortenTo id log.written (length pending) durable more) wrong result id (Wrote log.written frame) (has_calm id (CanShorten IsFrame 0 [] log.written (length pending) durable more))
-    (open_can_cut log durable pending bytes frame old opened is_frame) (λ file content is part. torn_can_cut log durable pending bytes frame old file content opened is_frame is part) ok err
+    (open_can_shorten log durable pending bytes frame old opened is_frame) (λ file content is part. torn_can_shorten log durable pending bytes frame old file content opened is_frame is part) ok err
 
--- a file that was cut, or synced, is open with all its records durable
+-- a file that was shortened, or synced, is open with all its records durable
 pub settled_open : (log : AppendFile) (ws : Records) (bytes : List ℕ) (d : Disk) → AreFrames IsFrame ws → bytes ≡ spelled ws → d.files log.handle.file ≡ Some (at_rest bytes)
     → log.handle.permission ≡ ReadWrite → log.written ≡ length (spelled ws) → log.failed ≡ false → IsOpen log ws [] d
 settled_open log ws bytes d frames is here permitted written runs =
@@ -259,7 +259,7 @@ appended_keeps (Ok v) bytes log next durable pending old new same ok err =
 appended_keeps (Err error) bytes log next durable pending old new same ok err =
     subst (λ (h : Handle). KeepsRecords h.file durable (pending ++ framed bytes ∷ []) new) same (refused_keeps error bytes next durable pending old new err)
 
--- what opening finds: of the records that the file was to keep these are read, and it can be cut behind them
+-- what opening finds: of the records that the file was to keep these are read, and it can be shortened behind them
 pub record FindsEnd (id end : ℕ) (durable pending ws : Records) (d : Disk) (kept : IsKept id durable pending d) : Type 0 where
   pub count : ℕ
   pub can : CanShortenTo id end count (durable ++ kept.has.more) kept.has.rest d
@@ -290,7 +290,7 @@ pub found_kept : (id : ℕ) (durable pending : Records) (old new : Disk) (kept :
 found_kept id durable pending old new kept after =
     subst (λ (vs : Records). IsKept id durable vs new) (sym kept.has.splits) (kept_fewer id durable kept.has.more kept.has.rest new after)
 
--- after the cut and the sync the file is open, with the records that were read
+-- after the shortening and the sync the file is open, with the records that were read
 pub found_open : (log : AppendFile) (durable pending ws : Records) (old new : Disk) (kept : IsKept log.handle.file durable pending old) → (found : FindsEnd log.handle.file log.written durable pending ws old kept)
     → new.files log.handle.file ≡ Some (at_rest (take log.written kept.file.content)) → log.handle.permission ≡ ReadWrite → log.failed ≡ false
     → (count : ℕ) × (count ≤ length pending) × IsOpen log (kept_records durable pending count) [] new
@@ -314,7 +314,7 @@ found_open log durable pending ws old new kept found now permitted runs =
       settled_open log (kept_records durable pending count) (take log.written kept.file.content) new frames bytes now permitted (to_zero _ _ can.has.end ∙ ap (λ (vs : Records). length (spelled vs)) records) runs,
     )
 
--- what opening finds, with no premise: of the records that are read the durable ones are the first, and the file can be cut
+-- what opening finds, with no premise: of the records that are read the durable ones are the first, and the file can be shortened
 -- behind them
 pub finds_durable : (id end : ℕ) (durable pending ws : Records) (bytes : List ℕ) (d : Disk) (kept : IsKept id durable pending d) → IsSound d → bytes ≡ kept.file.content
     → Reads IsFrame 0 ws bytes → end ≡ length (spelled ws) → CanShortenToRead id end (durable ++ kept.has.more) kept.has.rest ws d

@@ -28,9 +28,9 @@ pub record IsOpen (log : AppendFile) (durable pending : Records) (d : Disk) : Ty
 abbrev pub IsInDoubt : AppendFile → Type 0
 IsInDoubt log = log.failed ≡ true
 
--- Why an append was refused, and what stands then: nothing has changed; or a file call failed, and either the file was
--- shortened to what it had, and synced, and goes on with all its records durable, or that failed too, the log has failed,
--- and the new record is the last pending one.
+-- Why an append was refused, and what stands then: nothing has changed; or a file call failed, and either the
+-- file was shortened to what it had, and synced, and goes on with all its records durable, or that failed
+-- too, the log has failed, and the new record is the last pending one.
 abbrev pub AppendRefused : AppendError → List ℕ → AppendFile → Records → Records → Disk → Disk → Type 0
 AppendRefused Memory bytes log durable pending old new = (new ≡ old) × IsOpen log durable pending new
 AppendRefused TooLong bytes log durable pending old new = (2 ^ 32 ≤ length bytes) × (new ≡ old) × IsOpen log durable pending new
@@ -43,7 +43,8 @@ abbrev pub SyncRefused : AppendError → AppendFile → Records → Records → 
 SyncRefused (FileSystem kind) log durable pending old new = Fails old new × IsInDoubt log × IsKept log.handle.file durable pending new
 SyncRefused _ log durable pending old new = ⊥
 
--- why a file that is there was not read: memory; or the file system has stopped, or a place of the file is unreadable
+-- why a file that is there was not read: memory; or the file system has stopped, or a place of the file is
+-- unreadable
 abbrev pub ReadRefused : AppendError → ℕ → Disk → Type 0
 ReadRefused Memory id d = Unit {0}
 ReadRefused (FileSystem kind) id d = (d.stopped ≡ true) ⊎ ((place : ℕ) × (d.unreadable id place ≡ true))
@@ -57,7 +58,8 @@ OpenRefused _ id old new = ⊥
 
 -- so of the file that has a name
 abbrev pub OpenRefusedAt : AppendError → List ℕ → Disk → Disk → Type 0
-OpenRefusedAt error path old new = (id : ℕ) (file : File) → old.names path ≡ Some id → old.files id ≡ Some file → OpenRefused error id old new
+OpenRefusedAt error path old new = (id : ℕ) (file : File) → old.names path ≡ Some id
+    → old.files id ≡ Some file → OpenRefused error id old new
 
 -- why a file that isn't there was not opened: it is missing, or the file system says why it didn't look
 abbrev pub MissingRefused : AppendError → List ℕ → Disk → Type 0
@@ -66,9 +68,11 @@ MissingRefused _ path d = ⊥
 
 -- a file that is open is kept
 abbrev pub OpenIsKept : Type 0
-OpenIsKept = (log : AppendFile) (durable pending : Records) (d : Disk) → IsOpen log durable pending d → IsKept log.handle.file durable pending d
+OpenIsKept = (log : AppendFile) (durable pending : Records) (d : Disk) → IsOpen log durable pending d
+    → IsKept log.handle.file durable pending d
 
--- Why a file wasn't made: the path is taken or has no directory, and nothing has changed; or a file call failed.
+-- Why a file wasn't made: the path is taken or has no directory, and nothing has changed; or a file call
+-- failed.
 abbrev pub CreateRefused : AppendError → List ℕ → Disk → Disk → Type 0
 CreateRefused (FileSystem kind) path old new = (WrongCreate path old kind × (new ≡ old)) ⊎ Fails old new
 CreateRefused _ path old new = ⊥

@@ -4,7 +4,8 @@ use Rattle.std.specs.Int.{w32, to_be_bytes}
 use Rattle.md5.specs.Md5.{md5}
 use Rattle.raft_log_disk.specs.Chains.{Written}
 
--- the frame of a record's bytes: their number, in four bytes, the greatest first; the bytes; and their MD5 digest
+-- the frame of a record's bytes: their number, in four bytes, the greatest first; the bytes; and their MD5
+-- digest
 unfoldable pub frame_of : List ℕ → List ℕ
 frame_of bytes = to_be_bytes w32 (length bytes) ++ (bytes ++ md5 bytes)
 

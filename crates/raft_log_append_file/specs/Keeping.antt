@@ -44,30 +44,37 @@ AreReadBack durable pending found = (count : ℕ) × (count ≤ length pending) 
 abbrev pub BeginWithDurable : Records → List (List ℕ) → Type 0
 BeginWithDurable durable found = (rest : List (List ℕ)) × (found ≡ values durable ++ rest)
 
--- Whatever a stop leaves, if no checksum is met by chance in it: all durable records are read, then the first pending
--- ones, and nothing else.
+-- Whatever a stop leaves, if no checksum is met by chance in it: all durable records are read, then the first
+-- pending ones, and nothing else.
 abbrev pub KeepsRecords : ℕ → Records → Records → Disk → Type 0
-KeepsRecords id durable pending d = (image : Disk) (after : File) → IsImage d image → image.files id ≡ Some after → NoChanceIn id d after.content
-    → (count : ℕ) × (count ≤ length pending) × Reads IsFrame 0 (kept_records durable pending count) after.content
+KeepsRecords id durable pending d = (image : Disk) (after : File) → IsImage d image
+    → image.files id ≡ Some after → NoChanceIn id d after.content
+    → (count : ℕ) × (count ≤ length pending)
+    × Reads IsFrame 0 (kept_records durable pending count) after.content
 
 -- a file that is kept keeps its records, whatever a stop leaves
 abbrev pub KeptKeeps : Type 0
-KeptKeeps = (id : ℕ) (durable pending : Records) (d : Disk) → IsKept id durable pending d → KeepsRecords id durable pending d
+KeptKeeps = (id : ℕ) (durable pending : Records) (d : Disk) → IsKept id durable pending d
+    → KeepsRecords id durable pending d
 
 -- and a restart finds it kept again, with the records that are read, all durable
 abbrev pub KeptThroughRestart : Type 0
-KeptThroughRestart = (id : ℕ) (durable pending : Records) (d image : Disk) (after : File) → IsKept id durable pending d → IsImage d image → image.files id ≡ Some after
-    → NoChanceIn id d after.content → (count : ℕ) × (count ≤ length pending) × IsKept id (kept_records durable pending count) [] image × NoChanceNow id image
+KeptThroughRestart = (id : ℕ) (durable pending : Records) (d image : Disk) (after : File)
+    → IsKept id durable pending d → IsImage d image → image.files id ≡ Some after
+    → NoChanceIn id d after.content → (count : ℕ) × (count ≤ length pending)
+    × IsKept id (kept_records durable pending count) [] image × NoChanceNow id image
 
 -- What an open keeps of the file with a name, answered or refused.
 
 -- the synced records stay
 abbrev pub KeepsDurableAt : List ℕ → Disk → Disk → Type 0
-KeepsDurableAt path old new = (id : ℕ) (durable pending : Records) → old.names path ≡ Some id → IsKept id durable pending old → KeepsDurable id durable new
+KeepsDurableAt path old new = (id : ℕ) (durable pending : Records) → old.names path ≡ Some id
+    → IsKept id durable pending old → KeepsDurable id durable new
 
 -- and where no checksum is met by chance the others do
 abbrev pub KeepsAllAt : List ℕ → Disk → Disk → Type 0
-KeepsAllAt path old new = (id : ℕ) (durable pending : Records) → old.names path ≡ Some id → IsKept id durable pending old → NoChanceNow id old
+KeepsAllAt path old new = (id : ℕ) (durable pending : Records) → old.names path ≡ Some id
+    → IsKept id durable pending old → NoChanceNow id old
     → IsKept id durable pending new
 
 -- nothing else changes

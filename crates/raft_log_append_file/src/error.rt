@@ -1,3 +1,5 @@
+//! Why a call is refused.
+
 ghost use Rattle.std.specs.Prelude.{◌≡◌};
 
 use std::alloc::AllocError;

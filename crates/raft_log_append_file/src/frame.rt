@@ -1,3 +1,5 @@
+//! The frame of a record: its length, its bytes and their digest.
+
 ghost use Rattle.std.specs.Prelude.{◌≡◌, ℕ, ◌+◌, ◌<◌, ◌≤◌, ◌^◌, List, ◌++◌, length, IfOk, MatchOption};
 ghost use Rattle.raft_log_disk.specs.Chains.{Refuses};
 ghost use Rattle.raft_log_append_file.specs.Frame.{IsFrame, StartsWithFrame, frame_of};

@@ -1,3 +1,5 @@
+//! What holds of files that are kept.
+
 ghost use Rattle.raft_log_append_file.specs.Keeping.{KeptKeeps, KeptThroughRestart};
 ghost use Rattle.raft_log_append_file.specs.AppendFile.{OpenIsKept};
 

@@ -21,8 +21,11 @@ pub fn read_file<F: FileSystem>(
     file_system: &F,
     handle: Handle,
 ) -> Result<Vec<u8>, AppendError>
-    ensures ok { IfOk result (λ bytes. (file : File) → (F.disk file_system.now).files handle.file ≡ Some file → bytes.items ≡ file.content) }
-    ensures err { IfErr result (λ error. (file : File) → (F.disk file_system.now).files handle.file ≡ Some file → ReadRefused error handle.file (F.disk file_system.now)) }
+    ensures ok { IfOk result (λ bytes. (file : File)
+        → (F.disk file_system.now).files handle.file ≡ Some file → bytes.items ≡ file.content) }
+    ensures err { IfErr result (λ error. (file : File)
+        → (F.disk file_system.now).files handle.file ≡ Some file
+        → ReadRefused error handle.file (F.disk file_system.now)) }
 {
     let size = file_system.file_size(handle)?;
     let mut bytes = vec![in alloc; 0u8; size]?;
@@ -55,18 +58,21 @@ pub fn whole_records(alloc: Global, bytes: &[u8]) -> Result<Vec<Vec<u8>>, AllocE
 }
 
 /// Shortens a file to a size and syncs it.
-pub fn cut_back<F: FileSystem>(
+pub fn shorten<F: FileSystem>(
     file_system: &mut F,
     handle: Handle,
     size: usize,
 ) -> Result<(), ErrorKind>
     ensures ok { OnOk result ((file : File) → (F.disk file_system.old).files handle.file ≡ Some file
         → (F.disk file_system.new).files handle.file ≡ Some (at_rest (take size file.content))) }
-    ensures kept { (durable pending : Records) (count : ℕ) → CanShortenTo handle.file size count durable pending (F.disk file_system.old)
+    ensures kept { (durable pending : Records) (count : ℕ)
+        → CanShortenTo handle.file size count durable pending (F.disk file_system.old)
         → IsKept handle.file durable pending (F.disk file_system.new) }
-    ensures durable { (durable pending ws : Records) → CanShortenToRead handle.file size durable pending ws (F.disk file_system.old)
+    ensures durable { (durable pending ws : Records)
+        → CanShortenToRead handle.file size durable pending ws (F.disk file_system.old)
         → KeepsDurable handle.file durable (F.disk file_system.new) }
-    ensures err { OnErr result ((file : File) → (F.disk file_system.old).files handle.file ≡ Some file → handle.permission ≡ Permission.ReadWrite
+    ensures err { OnErr result ((file : File) → (F.disk file_system.old).files handle.file ≡ Some file
+        → handle.permission ≡ Permission.ReadWrite
         → Fails (F.disk file_system.old) (F.disk file_system.new)) }
     ensures later { IsLater (F.disk file_system.old) (F.disk file_system.new) }
     ensures others { TouchesOnly handle.file (F.disk file_system.old) (F.disk file_system.new) }

@@ -1,3 +1,5 @@
+//! Runs over a file system in memory, with calls refused and stops at each.
+
 use super::frame::{make_frame, read_frame};
 use super::{AppendError, AppendFile};
 use raft_log_disk::{FileSystem, Permission};

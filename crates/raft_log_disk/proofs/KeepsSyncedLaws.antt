@@ -234,9 +234,9 @@ module _ {R : Type 0} (IsFrame : List ℕ → R → Type 0) (start : ℕ) where
       }
 
   -- shortening behind the durable records touches none of them
-  pub holds_cut : (stale : List ℕ) (durable pending : List (Written R)) (size : ℕ) (content : List ℕ) (file : File) → start + length (spelled durable) ≤ size → HoldsChain IsFrame start stale durable pending file
+  pub holds_shortened : (stale : List ℕ) (durable pending : List (Written R)) (size : ℕ) (content : List ℕ) (file : File) → start + length (spelled durable) ≤ size → HoldsChain IsFrame start stale durable pending file
       → HoldsChain IsFrame start stale durable pending (with_change (ShortenedTo size) content file)
-  holds_cut stale durable pending size content file behind =
+  holds_shortened stale durable pending size content file behind =
       holds_changed stale durable pending [] pending (ShortenedTo size) content file tt (append-nil pending) (λ place from less touched. omega (arith, touched, behind)) (λ n bs new. cc)
 
   -- nor does a growth
@@ -340,7 +340,7 @@ module _ {R : Type 0} (IsFrame : List ℕ → R → Type 0) where
   chain_goes_on start stale durable pending file content holds = record {
     written = λ w framed. holds_written IsFrame start stale durable pending w content file framed holds;
     to_be_written = λ more framed. holds_more IsFrame start stale durable pending more file framed holds;
-    shortened = λ size behind. holds_cut IsFrame start stale durable pending size content file behind holds;
+    shortened = λ size behind. holds_shortened IsFrame start stale durable pending size content file behind holds;
     grown = λ size. holds_grown IsFrame start stale durable pending size content file holds;
     in_front = λ at bytes front. holds_in_front IsFrame start stale durable pending at bytes content file front holds;
     blank = λ at bytes behind none. holds_blank IsFrame start stale durable pending at bytes content file behind none holds;

@@ -7,7 +7,7 @@ use Rattle.raft_log_disk.specs.Chains.{Written, IsSelfDelimiting, spelled, AreFr
 use Rattle.raft_log_disk.specs.KeepsSynced.{HoldsChain, HoldsAtLeast, kept_records}
 use Rattle.raft_log_disk.specs.Shortening.{CanShorten, IsShortened, CanShortenRead, IsShortenedRead, KeepsDurable, ShortenedIsKept}
 use Rattle.raft_log_disk.proofs.ChainLaws.{spelled-append, frames_back, frames_front, nothing_refuses}
-use Rattle.raft_log_disk.proofs.KeepsSyncedLaws.{holds_cut, holds_more, holds_read, holds_at_least, all_at_least}
+use Rattle.raft_log_disk.proofs.KeepsSyncedLaws.{holds_shortened, holds_more, holds_read, holds_at_least, all_at_least}
 
 module _ {R : Type 0} (IsFrame : List ℕ → R → Type 0) (start : ℕ) (stale : List ℕ) where
   -- bytes that are just a chain behind the start are read so
@@ -46,7 +46,7 @@ module _ {R : Type 0} (IsFrame : List ℕ → R → Type 0) (start : ℕ) (stale
     -- the shortening spares the durable records
     still_holds : (file : File) (content : List ℕ) → CanShorten IsFrame start stale size count durable pending file
         → HoldsChain IsFrame start stale durable pending (with_change (ShortenedTo size) content file)
-    still_holds file content can = holds_cut IsFrame start stale durable pending size content file
+    still_holds file content can = holds_shortened IsFrame start stale durable pending size content file
         (omega (arith, can.end, ap length (spelled-append durable (take count pending)), length-append (spelled durable) (spelled (take count pending)))) can.holds
 
     pub kept_shortened : (file : File) (content : List ℕ) → CanShorten IsFrame start stale size count durable pending file
@@ -71,7 +71,7 @@ module _ {R : Type 0} (IsFrame : List ℕ → R → Type 0) (start : ℕ) (stale
 
     read_still_holds : (file : File) (content : List ℕ) → CanShortenRead IsFrame start stale size durable pending ws file
         → HoldsChain IsFrame start stale durable pending (with_change (ShortenedTo size) content file)
-    read_still_holds file content can = holds_cut IsFrame start stale durable pending size content file
+    read_still_holds file content can = holds_shortened IsFrame start stale durable pending size content file
         (omega (arith, can.end, ap length (ap spelled can.splits ∙ spelled-append durable can.more), length-append (spelled durable) (spelled can.more))) can.holds
 
     pub read_shortened_keeps : (file : File) (content : List ℕ) → CanShortenRead IsFrame start stale size durable pending ws file

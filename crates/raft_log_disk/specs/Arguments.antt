@@ -12,7 +12,8 @@ IsTaken path d = (d.names path ≡ None → ⊥) ⊎ (d.directories path ≡ tru
 
 -- `AlreadyExists` for a path that is taken, `NotFound` where no directory is there for it
 abbrev pub WrongCreate : List ℕ → Disk → ErrorKind → Type 0
-WrongCreate path d error = ((error ≡ AlreadyExists) × IsTaken path d) ⊎ ((error ≡ NotFound) × (HasDirectory path d → ⊥))
+WrongCreate path d error = ((error ≡ AlreadyExists) × IsTaken path d)
+    ⊎ ((error ≡ NotFound) × (HasDirectory path d → ⊥))
 
 -- `NotFound` where no file has the name
 abbrev pub WrongName : List ℕ → Disk → ErrorKind → Type 0
@@ -20,7 +21,8 @@ WrongName path d error = (error ≡ NotFound) × (d.names path ≡ None)
 
 -- and, for the new name, `IsADirectory` for a directory's path, `NotFound` where no directory is there for it
 abbrev pub WrongRename : List ℕ → List ℕ → Disk → ErrorKind → Type 0
-WrongRename from to d error = WrongName from d error ⊎ (((error ≡ IsADirectory) × (d.directories to ≡ true)) ⊎ ((error ≡ NotFound) × (HasDirectory to d → ⊥)))
+WrongRename from to d error = WrongName from d error ⊎ (((error ≡ IsADirectory) × (d.directories to ≡ true))
+    ⊎ ((error ≡ NotFound) × (HasDirectory to d → ⊥)))
 
 -- `AlreadyExists` for a path that is taken
 abbrev pub WrongDirectory : List ℕ → Disk → ErrorKind → Type 0
@@ -36,7 +38,8 @@ WrongWriter handle d error = WrongHandle handle d error ⊎ ((error ≡ Permissi
 
 -- `InvalidInput` where the path is a file's, `NotFound` where nothing has it
 abbrev pub WrongListing : List ℕ → Disk → ErrorKind → Type 0
-WrongListing path d error = ((error ≡ InvalidInput) × (d.names path ≡ None → ⊥)) ⊎ ((error ≡ NotFound) × (d.names path ≡ None) × (d.directories path ≡ false))
+WrongListing path d error = ((error ≡ InvalidInput) × (d.names path ≡ None → ⊥))
+    ⊎ ((error ≡ NotFound) × (d.names path ≡ None) × (d.directories path ≡ false))
 
 -- A refused call that changes nothing: after a stop, for a wrong argument, or for want of memory.
 pub data IsDeclined (wrong : Type 0) (d : Disk) (error : ErrorKind) : Type 0 where

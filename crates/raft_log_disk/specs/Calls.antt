@@ -31,7 +31,8 @@ abbrev pub without : Option ℕ → (ℕ → Option File) → ℕ → Option Fil
 without None files = files
 without (Some id) files = update nat_eq files id None
 
--- the disk with a file under another name; a file that had that name is gone, and the renamed one is as it was
+-- the disk with a file under another name; a file that had that name is gone, and the renamed one is as it
+-- was
 abbrev pub renamed : List ℕ → List ℕ → ℕ → Disk → Disk
 renamed from to id d = record d {
   names = update bytes_eq (update bytes_eq d.names from None) to (Some id);
@@ -54,14 +55,16 @@ counted d = record d { failures = suc d.failures }
 abbrev pub at_stop : Disk → Disk
 at_stop d = record d { stopped = true }
 
--- What a write may leave of a content that was refused when it had written some: the places outside its range stand,
--- inside of it any bytes do, and the file doesn't get shorter, nor longer than the write.
+-- What a write may leave of a content that was refused when it had written some: the places outside its range
+-- stand, inside of it any bytes do, and the file doesn't get shorter, nor longer than the write.
 pub record IsTorn (at : ℕ) (bytes old new : List ℕ) : Type 0 where
-  pub outside : (place : ℕ) → place < length old → (place < at) ⊎ (at + length bytes ≤ place) → slice_index new place ≡ slice_index old place
+  pub outside : (place : ℕ) → place < length old → (place < at) ⊎ (at + length bytes ≤ place)
+      → slice_index new place ≡ slice_index old place
   pub longer : length old ≤ length new
   pub within : (size : ℕ) → length old ≤ size → at + length bytes ≤ size → length new ≤ size
 
--- what a refused change may leave of a content: some of a write, a shortening or nothing, some of a growth's zeros
+-- what a refused change may leave of a content: some of a write, a shortening or nothing, some of a growth's
+-- zeros
 abbrev pub InPart : Change → List ℕ → List ℕ → Type 0
 InPart (Wrote at bytes) old new = IsTorn at bytes old new
 InPart (ShortenedTo size) old new = (new ≡ old) ⊎ (new ≡ take size old)
@@ -110,23 +113,27 @@ pub record MakesDirectory (path : List ℕ) (old new : Disk) : Type 0 where
 abbrev pub IsRight : (ErrorKind → Type 0) → Type 0
 IsRight wrong = (error : ErrorKind) → wrong error → ⊥
 
--- A refused call. After a stop nothing changes. Nor does it for an argument that is wrong as things stand, and no failure is
--- counted for it; the error says which. Where no argument is wrong, a failure is counted, and the call may have been done
--- in part. Or the file system stopped at this call: nothing was done, or, of a call with the right arguments, a part or all.
--- (On a counted refusal, and from a stop on, the error may be any.)
-pub data Refused (part done : Disk → Type 0) (wrong : ErrorKind → Type 0) (error : ErrorKind) (old new : Disk) : Type 0 where
+-- A refused call. After a stop nothing changes. Nor does it for an argument that is wrong as things stand,
+-- and no failure is counted for it; the error says which. Where no argument is wrong, a failure is counted,
+-- and the call may have been done in part. Or the file system stopped at this call: nothing was done, or, of
+-- a call with the right arguments, a part or all. (On a counted refusal, and from a stop on, the error may be
+-- any.)
+pub data Refused (part done : Disk → Type 0) (wrong : ErrorKind
+    → Type 0) (error : ErrorKind) (old new : Disk) : Type 0 where
   after_stop : old.stopped ≡ true → new ≡ old → Refused part done wrong error old new
   wrong_argument : old.stopped ≡ false → wrong error → new ≡ old → Refused part done wrong error old new
-  failed : old.stopped ≡ false → IsRight wrong → (left : Disk) → part left → new ≡ counted left → Refused part done wrong error old new
-  stops : old.stopped ≡ false → (left : Disk) → (left ≡ old) ⊎ (IsRight wrong × (part left ⊎ done left)) → new ≡ at_stop left
+  failed : old.stopped ≡ false → IsRight wrong → (left : Disk) → part left → new ≡ counted left
+      → Refused part done wrong error old new
+  stops : old.stopped ≡ false → (left : Disk) → (left ≡ old) ⊎ (IsRight wrong × (part left ⊎ done left))
+      → new ≡ at_stop left
       → Refused part done wrong error old new
 
 -- what a refused call that is done whole or not at all may leave: a call on names, or a sync
 abbrev pub Nothing : Disk → Disk → Type 0
 Nothing old left = left ≡ old
 
--- what a refused write, shortening or growth may leave: nothing, or a content with some of it, and the change among those
--- since the last sync
+-- what a refused write, shortening or growth may leave: nothing, or a content with some of it, and the change
+-- among those since the last sync
 pub data SomeOf (id : ℕ) (change : Change) (old left : Disk) : Type 0 where
   none : left ≡ old → SomeOf id change old left
   some : (file : File) (content : List ℕ) → old.files id ≡ Some file → InPart change file.content content

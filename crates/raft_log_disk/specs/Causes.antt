@@ -2,8 +2,9 @@
 use Rattle.std.specs.Prelude.{◌≡◌, ℕ, ◌+◌, ◌<◌, ◌≤◌, true, false}
 use Rattle.raft_log_disk.specs.Disk.{Disk}
 
--- Why a call on these files was refused: a stop, a failure that was counted during the call, or an unreadable place of one
--- of them; nothing else may stand behind a refusal. (A refused read says more: which place of what was asked for.)
+-- Why a call on these files was refused: a stop, a failure that was counted during the call, or an unreadable
+-- place of one of them; nothing else may stand behind a refusal. (A refused read says more: which place of
+-- what was asked for.)
 pub data HasCause (files : ℕ → Type 0) (old new : Disk) : Type 0 where
   stopped : new.stopped ≡ true → HasCause files old new
   counted_one : old.failures < new.failures → HasCause files old new
@@ -24,7 +25,8 @@ pub record IsUndisturbed (d : Disk) : Type 0 where
   pub runs : d.stopped ≡ false
   pub readable : (id place : ℕ) → d.unreadable id place ≡ false
 
--- a stop, or two failures that were counted: the cause where a call was refused, and then one that was to mend it
+-- a stop, or two failures that were counted: the cause where a call was refused, and then one that was to
+-- mend it
 pub data FailsTwice (old new : Disk) : Type 0 where
   has_stopped_since : new.stopped ≡ true → FailsTwice old new
   has_failed_twice : old.failures + 2 ≤ new.failures → FailsTwice old new

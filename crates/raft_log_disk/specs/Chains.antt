@@ -1,5 +1,6 @@
--- Chains of records in a file: one record behind the other from a place on, and what reads back of them. A frame relation
--- says which bytes spell which record; everything here holds of any one in which no spelling begins another.
+-- Chains of records in a file: one record behind the other from a place on, and what reads back of them. A
+-- frame relation says which bytes spell which record; everything here holds of any one in which no spelling
+-- begins another.
 use Rattle.std.specs.Prelude.{◌≡◌, ℕ, ◌+◌, ◌⊎◌, List, [], ◌∷◌, ◌++◌, length, take, drop}
 
 -- a record as it was written: its bytes, and what they say
@@ -24,27 +25,32 @@ AreFrames IsFrame (w ∷ ws) = IsFrame w.bytes w.value × AreFrames IsFrame ws
 
 -- no record begins here
 abbrev pub Refuses : {R : Type 0} → (List ℕ → R → Type 0) → List ℕ → Type 0
-Refuses {R} IsFrame bytes = (w : Written R) (rest : List ℕ) → IsFrame w.bytes w.value → bytes ≡ w.bytes ++ rest → ⊥
+Refuses {R} IsFrame bytes = (w : Written R) (rest : List ℕ) → IsFrame w.bytes w.value
+    → bytes ≡ w.bytes ++ rest → ⊥
 
 -- no part of these bytes is a record
 abbrev pub HoldsNoFrame : {R : Type 0} → (List ℕ → R → Type 0) → List ℕ → Type 0
-HoldsNoFrame {R} IsFrame bytes = (ahead inside behind : List ℕ) (r : R) → bytes ≡ ahead ++ (inside ++ behind) → IsFrame inside r → ⊥
+HoldsNoFrame {R} IsFrame bytes = (ahead inside behind : List ℕ) (r : R)
+    → bytes ≡ ahead ++ (inside ++ behind) → IsFrame inside r → ⊥
 
 -- from `start` on the bytes begin with these records
-pub record BeginsWith {R : Type 0} (IsFrame : List ℕ → R → Type 0) (start : ℕ) (ws : List (Written R)) (bytes : List ℕ) : Type 0 where
+pub record BeginsWith {R : Type 0} (IsFrame : List ℕ → R → Type 0)
+    (start : ℕ) (ws : List (Written R)) (bytes : List ℕ) : Type 0 where
   pub rest : List ℕ
   pub splits : drop start bytes ≡ spelled ws ++ rest
   pub frames : AreFrames IsFrame ws
 
 -- from `start` on these records are read, and then none
-pub record Reads {R : Type 0} (IsFrame : List ℕ → R → Type 0) (start : ℕ) (ws : List (Written R)) (bytes : List ℕ) : Type 0 where
+pub record Reads {R : Type 0} (IsFrame : List ℕ → R → Type 0)
+    (start : ℕ) (ws : List (Written R)) (bytes : List ℕ) : Type 0 where
   pub rest : List ℕ
   pub splits : drop start bytes ≡ spelled ws ++ rest
   pub frames : AreFrames IsFrame ws
   pub ends : Refuses IsFrame rest
 
 -- whoever reads from `start` on meets this record at this place
-pub record Meets {R : Type 0} (IsFrame : List ℕ → R → Type 0) (start at : ℕ) (w : Written R) (bytes : List ℕ) : Type 0 where
+pub record Meets {R : Type 0} (IsFrame : List ℕ → R → Type 0)
+    (start at : ℕ) (w : Written R) (bytes : List ℕ) : Type 0 where
   pub before : List (Written R)
   pub begins : BeginsWith IsFrame start (before ++ w ∷ []) bytes
   pub place : at ≡ start + length (spelled before)
@@ -58,17 +64,21 @@ pub record LiesIn (from : ℕ) (all : List ℕ) (at : ℕ) (bytes : List ℕ) : 
 
 -- it can be told of any bytes whether a record begins there
 abbrev pub CanTell : {R : Type 0} → (List ℕ → R → Type 0) → Type 0
-CanTell {R} IsFrame = (bytes : List ℕ) → ((w : Written R) × (rest : List ℕ) × IsFrame w.bytes w.value × (bytes ≡ w.bytes ++ rest)) ⊎ Refuses IsFrame bytes
+CanTell {R} IsFrame = (bytes : List ℕ) → ((w : Written R) × (rest : List ℕ) × IsFrame w.bytes w.value
+    × (bytes ≡ w.bytes ++ rest)) ⊎ Refuses IsFrame bytes
 
 -- bytes are read in one way
 abbrev pub ReadsOneWay : {R : Type 0} → (List ℕ → R → Type 0) → Type 0
-ReadsOneWay {R} IsFrame = (start : ℕ) (bytes : List ℕ) (vs ws : List (Written R)) → Reads IsFrame start vs bytes → Reads IsFrame start ws bytes → ws ≡ vs
+ReadsOneWay {R} IsFrame = (start : ℕ) (bytes : List ℕ) (vs ws : List (Written R))
+    → Reads IsFrame start vs bytes → Reads IsFrame start ws bytes → ws ≡ vs
 
 -- where it can be told whether a record begins, all bytes have a reading
 abbrev pub ReadsSome : {R : Type 0} → (List ℕ → R → Type 0) → Type 0
-ReadsSome {R} IsFrame = CanTell IsFrame → (start : ℕ) (bytes : List ℕ) → (ws : List (Written R)) × Reads IsFrame start ws bytes
+ReadsSome {R} IsFrame = CanTell IsFrame → (start : ℕ) (bytes : List ℕ) → (ws : List (Written R))
+    × Reads IsFrame start ws bytes
 
 -- files that agree up to the end of a chain both begin with it
 abbrev pub AgreesUpToEnd : {R : Type 0} → (List ℕ → R → Type 0) → Type 0
-AgreesUpToEnd {R} IsFrame = (start : ℕ) (ws : List (Written R)) (c d : List ℕ) → take (start + length (spelled ws)) d ≡ take (start + length (spelled ws)) c
+AgreesUpToEnd {R} IsFrame = (start : ℕ) (ws : List (Written R)) (c d : List ℕ)
+    → take (start + length (spelled ws)) d ≡ take (start + length (spelled ws)) c
     → BeginsWith IsFrame start ws c → BeginsWith IsFrame start ws d

@@ -4,8 +4,8 @@ use Rattle.std.specs.Prelude.{◌≡◌, ℕ, ◌+◌, ◌-◌, ◌<◌, ◌^◌
 use Rattle.std.specs.Map.{update}
 use Rattle.std.proofs.Common.{nat_eq, take, drop, replicate}
 
--- A change of a file that isn't synced yet: a write, with all bytes that were handed in, also where the call was
--- refused when some of them had landed; a cut to a size; a growth to a size by zeros.
+-- A change of a file that isn't synced yet: a write, with all bytes that were handed in, also where the call
+-- was refused when some of them had landed; a shortening to a size; a growth to a size by zeros.
 pub data Change : Type 0 where
   Wrote : (at : ℕ) (bytes : List ℕ) → Change
   ShortenedTo : (size : ℕ) → Change
@@ -17,8 +17,9 @@ pub record File : Type 0 where
   pub synced : List ℕ
   pub changes : List Change
 
--- A file system. A path names the file with a number; a number is given once and never again, so that a handle stays
--- with its file. Whether a place of a file is unreadable is a mark on the file and outlives writes and renames.
+-- A file system. A path names the file with a number; a number is given once and never again, so that a
+-- handle stays with its file. Whether a place of a file is unreadable is a mark on the file and outlives
+-- writes and renames.
 pub record Disk : Type 0 where
   pub directories : List ℕ → Bool
   pub names : List ℕ → Option ℕ
@@ -32,6 +33,7 @@ pub record Disk : Type 0 where
 abbrev pub at_rest : List ℕ → File
 at_rest bytes = record { content = bytes; synced = bytes; changes = [] }
 
+-- so many zeros
 abbrev pub zeros : ℕ → List ℕ
 zeros n = replicate n 0
 

@@ -1,5 +1,5 @@
--- Each changing call of a file system: what stands when it was answered, and when it was refused. The state before it comes
--- first, then the one after it.
+-- Each changing call of a file system: what stands when it was answered, and when it was refused. The state
+-- before it comes first, then the one after it.
 use Rattle.std.specs.Prelude.{◌≡◌, ℕ, ◌⊎◌, false, List}
 use Rattle.std.specs.declared.io.ErrorKind.{ErrorKind}
 use Rattle.std.specs.declared.io.ErrorKind.TheVariants.{OutOfMemory}
@@ -13,7 +13,8 @@ use Rattle.raft_log_disk.specs.declared.handle.Permission.TheVariants.{ReadWrite
 
 -- Calls on names.
 
--- why no file was made, and what stands then: the path is wrong, a failure, or a stop at which it may have been made
+-- why no file was made, and what stands then: the path is wrong, a failure, or a stop at which it may have
+-- been made
 abbrev pub FailsToCreate : List ℕ → ErrorKind → Disk → Disk → Type 0
 FailsToCreate path error old new = RefusedWhole (Creates path old.unused old) (WrongCreate path old) error old new
 
@@ -29,7 +30,8 @@ FailsToRename from to error old new = RefusedWhole (Renames from to old) (WrongR
 abbrev pub RenamesAndOpens : List ℕ → List ℕ → Handle → Disk → Disk → Type 0
 RenamesAndOpens from to handle old new = Renames from to old new × IsOpened to ReadWrite handle new
 
--- why a file wasn't renamed and opened: as for a renaming, or it was renamed, and memory was short for opening it
+-- why a file wasn't renamed and opened: as for a renaming, or it was renamed, and memory was short for
+-- opening it
 abbrev pub FailsToRenameAndOpen : List ℕ → List ℕ → ErrorKind → Disk → Disk → Type 0
 FailsToRenameAndOpen from to error old new = FailsToRename from to error old new ⊎ (Renames from to old new × (error ≡ OutOfMemory))
 
@@ -80,7 +82,7 @@ Syncs handle old new = Changes handle.file flushed old new
 abbrev pub FailsToSync : Handle → ErrorKind → Disk → Disk → Type 0
 FailsToSync handle error old new = RefusedWhole (Changes handle.file flushed old) (WrongHandle handle old) error old new
 
--- What arming a fault changes of the disk: nothing, as what will be refused doesn't stand on it. (A fault that marks a place
--- as unreadable would be a case of its own, and set that mark alone.)
+-- What arming a fault changes of the disk: nothing, as what will be refused doesn't stand on it. (A fault
+-- that marks a place as unreadable would be a case of its own, and set that mark alone.)
 abbrev pub Arms : Fault → Disk → Disk → Type 0
 Arms fault old new = LeavesAll old new

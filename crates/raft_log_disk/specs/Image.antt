@@ -4,12 +4,13 @@ use Rattle.std.specs.List.{All}
 use Rattle.std.specs.Option.{option_map}
 use Rattle.raft_log_disk.specs.Disk.{Change, Wrote, ShortenedTo, GrewTo, File, Disk, at_rest, file_limit}
 
--- a change touches each place of a written range, and each place from which on it cuts
+-- a change touches each place of a written range, and each one from the size on to which it shortens
 abbrev pub Touches : Change → ℕ → Type 0
 Touches (Wrote at bytes) place = (at ≤ place) × (place < at + length bytes)
 Touches (ShortenedTo size) place = size ≤ place
 Touches (GrewTo size) place = ⊥
 
+-- a change leaves a place alone
 abbrev pub Spares : ℕ → Change → Type 0
 Spares place change = Touches change place → ⊥
 
@@ -19,13 +20,14 @@ end_of (Wrote at bytes) = at + length bytes
 end_of (ShortenedTo size) = 0
 end_of (GrewTo size) = size
 
--- Bytes that a stop may leave of a file: a synced byte that no change touches stays, and the bytes end where the synced
--- ones or some change ended at the latest. All else is open: any bytes stand in a written range, behind a cut and past
--- the old end, and the file may end inside of these.
+-- Bytes that a stop may leave of a file: a synced byte that no change touches stays, and the bytes end where
+-- the synced ones or some change ended at the latest. All else is open: any bytes stand in a written range,
+-- behind where the file was shortened, and past the old end, and the file may end inside of these.
 pub record IsLeft (file : File) (bytes : List ℕ) : Type 0 where
   pub kept : (place : ℕ) → place < length file.synced → All (Spares place) file.changes
       → (place < length bytes) × (slice_index bytes place ≡ slice_index file.synced place)
-  pub within : (size : ℕ) → length file.synced ≤ size → All (λ change. end_of change ≤ size) file.changes → length bytes ≤ size
+  pub within : (size : ℕ) → length file.synced ≤ size → All (λ change. end_of change ≤ size) file.changes
+      → length bytes ≤ size
 
 -- the file after a restart, whose bytes are what was left
 abbrev pub IsFileImage : Option File → Option File → Type 0
@@ -34,8 +36,8 @@ IsFileImage None (Some after) = ⊥
 IsFileImage (Some before) None = ⊥
 IsFileImage (Some before) (Some after) = (bytes : List ℕ) × (after ≡ at_rest bytes) × IsLeft before bytes
 
--- An image of a disk is a disk that a stop at this moment may leave: the names as they stand, each file at rest, nothing
--- unreadable, no failure counted.
+-- An image of a disk is a disk that a stop at this moment may leave: the names as they stand, each file at
+-- rest, nothing unreadable, no failure counted.
 pub record IsImage (d image : Disk) : Type 0 where
   pub directories : image.directories ≡ d.directories
   pub names : image.names ≡ d.names
@@ -45,14 +47,15 @@ pub record IsImage (d image : Disk) : Type 0 where
   pub running : image.stopped ≡ false
   pub uncounted : image.failures ≡ 0
 
--- A file is sound if its content is one of what a stop may leave, and neither it nor any of these reaches the limit.
+-- A file is sound if its content is one of what a stop may leave, and neither it nor any of these reaches the
+-- limit.
 pub record IsSoundFile (file : File) : Type 0 where
   pub stands : IsLeft file file.content
   pub short : length file.synced < file_limit
   pub ends : All (λ change. end_of change < file_limit) file.changes
 
--- A disk is sound if a name has a file and no file has two names, no path is a file's and a directory's, a new file's
--- number was never used, and each file is sound.
+-- A disk is sound if a name has a file and no file has two names, no path is a file's and a directory's, a
+-- new file's number was never used, and each file is sound.
 pub record IsSound (d : Disk) : Type 0 where
   pub named : (path : List ℕ) (id : ℕ) → d.names path ≡ Some id → d.files id ≡ None → ⊥
   pub one_name : (a b : List ℕ) (id : ℕ) → d.names a ≡ Some id → d.names b ≡ Some id → a ≡ b

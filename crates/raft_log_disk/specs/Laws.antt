@@ -17,7 +17,8 @@ SyncedIsOnlyImage = (d image : Disk) → IsSound d → IsAllSynced d → IsImage
 
 -- the same of one file: after a sync a stop leaves what a read gives
 abbrev pub SyncedFileHasOneImage : Type 0
-SyncedFileHasOneImage = (d image : Disk) (id : ℕ) (file : File) → IsSound d → d.files id ≡ Some file → file.changes ≡ [] → IsImage d image
+SyncedFileHasOneImage = (d image : Disk) (id : ℕ) (file : File) → IsSound d → d.files id ≡ Some file
+    → file.changes ≡ [] → IsImage d image
     → image.files id ≡ Some (at_rest file.content)
 
 -- what a second stop leaves of what a first one left, the first one could have left
@@ -28,30 +29,40 @@ ImageOfImage = (d image later : Disk) → IsImage d image → IsImage image late
 abbrev pub ImageIsSound : Type 0
 ImageIsSound = (d image : Disk) → IsSound d → IsImage d image → IsSound image
 
--- whatever byte is put into a written range, or behind where the file was shortened, of what may be left: that may be left too
+-- whatever byte is put into a written range, or behind where the file was shortened, of what may be left:
+-- that may be left too
 abbrev pub AnyByteLeft : Type 0
-AnyByteLeft = (file : File) (bytes : List ℕ) (change : Change) (place byte : ℕ) → Contains file.changes change → Touches change place
+AnyByteLeft = (file : File) (bytes : List ℕ) (change : Change) (place byte : ℕ)
+    → Contains file.changes change → Touches change place
     → IsLeft file bytes → IsLeft file (set bytes place byte)
 
 -- where no failure was counted since, and the disk runs and can be read, there is no cause
 abbrev pub UndisturbedHasNoCause : (ℕ → Type 0) → Type 0
-UndisturbedHasNoCause files = (old new : Disk) → IsUndisturbed new → new.failures ≡ old.failures → HasCause files old new → ⊥
+UndisturbedHasNoCause files = (old new : Disk) → IsUndisturbed new → new.failures ≡ old.failures
+    → HasCause files old new → ⊥
 
--- A place of another file is no cause: where each place of the files in question can be read, a refusal was counted, or the
--- file system has stopped.
+-- A place of another file is no cause: where each place of the files in question can be read, a refusal was
+-- counted, or the file system has stopped.
 abbrev pub OtherFilesAreNoCause : (ℕ → Type 0) → Type 0
 OtherFilesAreNoCause files = (old new : Disk) → ((id place : ℕ) → files id → new.unreadable id place ≡ false)
     → HasCause files old new → Fails old new
 
 -- what a call may leave of a sound disk is sound
 pub record CallsKeepSound : Type 0 where
-  pub change : (d : Disk) (id : ℕ) (file : File) (change : Change) (content : List ℕ) → IsSound d → d.files id ≡ Some file
-      → InPart change file.content content → end_of change < file_limit → IsSound (with_file id (Some (with_change change content file)) d)
-  pub sync : (d : Disk) (id : ℕ) (file : File) → IsSound d → d.files id ≡ Some file → IsSound (with_file id (Some (flushed file)) d)
-  pub create : (d : Disk) (path : List ℕ) → IsSound d → d.names path ≡ None → d.directories path ≡ false → IsSound (created path d)
-  pub delete : (d : Disk) (path : List ℕ) (id : ℕ) → IsSound d → d.names path ≡ Some id → IsSound (deleted path id d)
-  pub rename : (d : Disk) (from to : List ℕ) (id : ℕ) → IsSound d → d.names from ≡ Some id → d.directories to ≡ false → IsSound (renamed from to id d)
-  pub directory : (d : Disk) (path : List ℕ) → IsSound d → d.names path ≡ None → IsSound (with_directory path d)
+  pub change : (d : Disk) (id : ℕ) (file : File) (change : Change) (content : List ℕ) → IsSound d
+      → d.files id ≡ Some file
+      → InPart change file.content content → end_of change < file_limit
+      → IsSound (with_file id (Some (with_change change content file)) d)
+  pub sync : (d : Disk) (id : ℕ) (file : File) → IsSound d → d.files id ≡ Some file
+      → IsSound (with_file id (Some (flushed file)) d)
+  pub create : (d : Disk) (path : List ℕ) → IsSound d → d.names path ≡ None → d.directories path ≡ false
+      → IsSound (created path d)
+  pub delete : (d : Disk) (path : List ℕ) (id : ℕ) → IsSound d → d.names path ≡ Some id
+      → IsSound (deleted path id d)
+  pub rename : (d : Disk) (from to : List ℕ) (id : ℕ) → IsSound d → d.names from ≡ Some id
+      → d.directories to ≡ false → IsSound (renamed from to id d)
+  pub directory : (d : Disk) (path : List ℕ) → IsSound d → d.names path ≡ None
+      → IsSound (with_directory path d)
   pub failure : (d : Disk) → IsSound d → IsSound (counted d)
   pub stop : (d : Disk) → IsSound d → IsSound (at_stop d)
 
@@ -59,11 +70,14 @@ pub record CallsKeepSound : Type 0 where
 abbrev pub NamedIsUsed : Type 0
 NamedIsUsed = (d : Disk) (path : List ℕ) (id : ℕ) → IsSound d → d.names path ≡ Some id → id < d.unused
 
--- What a stop may leave doesn't depend on marks, on counted failures, nor on whether the file system has stopped.
+-- What a stop may leave doesn't depend on marks, on counted failures, nor on whether the file system has
+-- stopped.
 pub record ImagesStay : Type 0 where
-  pub marks : (d image : Disk) (unreadable : ℕ → ℕ → Bool) → IsImage d image → IsImage (with_marks unreadable d) image
+  pub marks : (d image : Disk) (unreadable : ℕ → ℕ → Bool) → IsImage d image
+      → IsImage (with_marks unreadable d) image
   pub failure : (d image : Disk) → IsImage d image → IsImage (counted d) image
   pub stop : (d image : Disk) → IsImage d image → IsImage (at_stop d) image
   pub failure_back : (d image : Disk) → IsImage (counted d) image → IsImage d image
-  pub marks_back : (d image : Disk) (unreadable : ℕ → ℕ → Bool) → IsImage (with_marks unreadable d) image → IsImage d image
+  pub marks_back : (d image : Disk) (unreadable : ℕ → ℕ → Bool) → IsImage (with_marks unreadable d) image
+      → IsImage d image
   pub stop_back : (d image : Disk) → IsImage (at_stop d) image → IsImage d image

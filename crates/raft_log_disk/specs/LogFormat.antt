@@ -1,12 +1,13 @@
--- A log in numbered files: each has a header and records behind it. Records are framed by the number of their file, so that
--- those that a file held under an earlier number are none of it. The premise on chance, of one file.
+-- A log in numbered files: each has a header and records behind it. Records are framed by the number of their
+-- file, so that those that a file held under an earlier number are none of it. The premise on chance, of one
+-- file.
 use Rattle.std.specs.Prelude.{◌≡◌, ℕ, ◌<◌, ◌⊎◌, List, [], ◌++◌, length}
 use Rattle.raft_log_disk.specs.Disk.{File}
 use Rattle.raft_log_disk.specs.Chains.{Written, IsSelfDelimiting, CanTell, Reads}
 use Rattle.raft_log_disk.specs.KeepsSynced.{NoChanceMatch}
 
--- How the files of a log are written: which bytes spell which record in the file with a number, which are a header, the path
--- of a file by its number, and the number that all are below.
+-- How the files of a log are written: which bytes spell which record in the file with a number, which are a
+-- header, the path of a file by its number, and the number that all are below.
 pub record Format (R : Type 0) : Type 1 where
   pub IsFrame : ℕ → List ℕ → R → Type 0
   pub IsHeader : List ℕ → Type 0
@@ -27,7 +28,8 @@ pub record HasHeader {R : Type 0} (F : Format R) (header bytes : List ℕ) : Typ
 
 -- it can be told of any bytes whether they begin with a header, or with a record
 pub record CanTellFormat {R : Type 0} (F : Format R) : Type 0 where
-  pub headers : (bytes : List ℕ) → ((header : List ℕ) × HasHeader F header bytes) ⊎ ((header : List ℕ) → HasHeader F header bytes → ⊥)
+  pub headers : (bytes : List ℕ) → ((header : List ℕ) × HasHeader F header bytes)
+      ⊎ ((header : List ℕ) → HasHeader F header bytes → ⊥)
   pub frames : (n : ℕ) → CanTell (F.IsFrame n)
 
 -- These records are read of the file with a number: those behind its header, or none where it has none.
@@ -35,8 +37,8 @@ abbrev pub ReadsFile : {R : Type 0} → Format R → ℕ → List (Written R) �
 ReadsFile F n ws bytes = ((ws ≡ []) × ((header : List ℕ) → HasHeader F header bytes → ⊥))
     ⊎ ((header : List ℕ) × HasHeader F header bytes × Reads (F.IsFrame n) (length header) ws bytes)
 
--- No checksum is met by chance in a file: no other header than its own (a torn one could be read as one of another version,
--- of another length), and no record that wasn't written there under its number.
+-- No checksum is met by chance in a file: no other header than its own (a torn one could be read as one of
+-- another version, of another length), and no record that wasn't written there under its number.
 pub record NoChanceInFile {R : Type 0} (F : Format R) (n : ℕ) (header stale : List ℕ) (file : File) (bytes : List ℕ) : Type 0 where
   pub headers : (other : List ℕ) → HasHeader F other bytes → other ≡ header
   pub records : NoChanceMatch (F.IsFrame n) (length header) stale file bytes

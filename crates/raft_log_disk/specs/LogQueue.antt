@@ -1,6 +1,6 @@
--- A log of several files, what is read of it after a stop, and how it goes on. All files but the last are synced whole, so
--- nothing is asked of them. A rotation that was left half-made needs no case of its own: the new file is one without
--- records, whatever of its header landed.
+-- A log of several files, what is read of it after a stop, and how it goes on. All files but the last are
+-- synced whole, so nothing is asked of them. A rotation that was left half-made needs no case of its own: the
+-- new file is one without records, whatever of its header landed.
 use Rattle.std.specs.Prelude.{◌≡◌, ℕ, ◌-◌, ◌<◌, ◌≤◌, ◌⊎◌, cond, Some, None, List, [], ◌∷◌, ◌++◌, length, take, suc, zero}
 use Rattle.std.specs.List.{All}
 use Rattle.std.proofs.Common.{nat_eq}
@@ -16,8 +16,9 @@ pub record Past (R : Type 0) : Type 0 where
   pub header : List ℕ
   pub records : List (Written R)
 
--- A queue of files: those before the last by their numbers, and the last, with its records that are synced, those that
--- aren't, and what it held when it got its number. Which of the older files are still there, the directory says.
+-- A queue of files: those before the last by their numbers, and the last, with its records that are synced,
+-- those that aren't, and what it held when it got its number. Which of the older files are still there, the
+-- directory says.
 pub record LogFiles (R : Type 0) : Type 0 where
   pub older : ℕ → Past R
   pub last : ℕ
@@ -50,7 +51,8 @@ pub record HeaderStands (header : List ℕ) (file : File) : Type 0 where
   pub front : take (length header) file.synced ≡ header
   pub spared : (place : ℕ) → place < length header → All (Spares place) file.changes
 
--- The last file holds its chain, and its header stands, or it has no record yet: then any of its header may have landed.
+-- The last file holds its chain, and its header stands, or it has no record yet: then any of its header may
+-- have landed.
 pub record HoldsLast {R : Type 0} (F : Format R) (q : LogFiles R) (file : File) : Type 0 where
   pub chain : HoldsAtLeast (F.IsFrame q.last) (length q.header) q.stale q.durable q.pending file
   pub headed : HeaderStands q.header file ⊎ (recent q ≡ [])
@@ -67,9 +69,10 @@ pub record IsLeftover {R : Type 0} (F : Format R) (q : LogFiles R) (file : File)
   pub is : file ≡ at_rest bytes
   pub reads : ReadsFile F q.last (recent q) bytes
 
--- The files of a queue on a disk: `P` holds of the last one, no number above it has a file, and whoever has the path of a
--- lower number is that number's file as it was finished.
-pub record HasLogFiles {R : Type 0} (F : Format R) (q : LogFiles R) (P : File → Type 0) (d : Disk) : Type 0 where
+-- The files of a queue on a disk: `P` holds of the last one, no number above it has a file, and whoever has
+-- the path of a lower number is that number's file as it was finished.
+pub record HasLogFiles {R : Type 0} (F : Format R) (q : LogFiles R) (P : File
+    → Type 0) (d : Disk) : Type 0 where
   pub bound : q.last < F.limit
   pub last : HasNamed (F.path q.last) P d
   pub none : (m : ℕ) → q.last < m → m < F.limit → d.names (F.path m) ≡ None
@@ -105,55 +108,66 @@ found_from s q count = past_from q.older s (q.last - s) ++ record { number = q.l
 
 -- no checksum is met by chance in what a stop left of the last file
 abbrev pub NoChanceInLast : {R : Type 0} → Format R → LogFiles R → Disk → Disk → Type 0
-NoChanceInLast F q d image = (id : ℕ) (file after : File) → d.names (F.path q.last) ≡ Some id → d.files id ≡ Some file
+NoChanceInLast F q d image = (id : ℕ) (file after : File) → d.names (F.path q.last) ≡ Some id
+    → d.files id ≡ Some file
     → image.files id ≡ Some after → NoChanceInFile F q.last q.header q.stale file after.content
 
--- What is read of the last file, whatever a stop left of it, if no checksum is met by chance: its durable records and the
--- first pending ones, and nothing else.
+-- What is read of the last file, whatever a stop left of it, if no checksum is met by chance: its durable
+-- records and the first pending ones, and nothing else.
 abbrev pub KeepsLast : {R : Type 0} → Format R → LogFiles R → (File → Type 0) → Type 0
-KeepsLast {R} F q P = (file : File) → P file → (bytes : List ℕ) → IsLeft file bytes → NoChanceInFile F q.last q.header q.stale file bytes
+KeepsLast {R} F q P = (file : File) → P file → (bytes : List ℕ) → IsLeft file bytes
+    → NoChanceInFile F q.last q.header q.stale file bytes
     → (ws : List (Written R)) → ReadsFile F q.last ws bytes → AreKept q.durable q.pending ws
 
--- Whatever a stop leaves of the disk, if no checksum is met by chance in the last file: from whatever number on the files are
--- read, all records of each one before the last are found, then those that are kept of the last.
+-- Whatever a stop leaves of the disk, if no checksum is met by chance in the last file: from whatever number
+-- on the files are read, all records of each one before the last are found, then those that are kept of the
+-- last.
 abbrev pub KeepsQueue : {R : Type 0} → Format R → LogFiles R → Disk → Type 0
 KeepsQueue {R} F q d = (image : Disk) → IsImage d image → NoChanceInLast F q d image → (s : ℕ) → s ≤ q.last
-    → (found : List (Found R)) → ReadsFrom F image s found → (count : ℕ) × (count ≤ length q.pending) × (found ≡ found_from s q count)
+    → (found : List (Found R)) → ReadsFrom F image s found → (count : ℕ) × (count ≤ length q.pending)
+    × (found ≡ found_from s q count)
 
 -- from a number on no file is missing below one that is there
 abbrev pub HasNoGap : {R : Type 0} → Format R → Disk → ℕ → Type 0
-HasNoGap F d s = (n m : ℕ) → s ≤ n → n ≤ m → m < F.limit → (d.names (F.path m) ≡ None → ⊥) → d.names (F.path n) ≡ None → ⊥
+HasNoGap F d s = (n m : ℕ) → s ≤ n → n ≤ m → m < F.limit → (d.names (F.path m) ≡ None → ⊥)
+    → d.names (F.path n) ≡ None → ⊥
 
 -- and where none is missing there is such a reading
 abbrev pub IsReadable : {R : Type 0} → Format R → LogFiles R → Disk → Type 0
-IsReadable {R} F q d = (image : Disk) → IsImage d image → (s : ℕ) → s ≤ q.last → HasNoGap F image s → (found : List (Found R)) × ReadsFrom F image s found
+IsReadable {R} F q d = (image : Disk) → IsImage d image → (s : ℕ) → s ≤ q.last → HasNoGap F image s
+    → (found : List (Found R)) × ReadsFrom F image s found
 
--- The theorem: a queue whose last file keeps its records is kept; in particular while that file holds its chain, and as a
--- stop left it.
+-- The theorem: a queue whose last file keeps its records is kept; in particular while that file holds its
+-- chain, and as a stop left it.
 pub record QueueIsKept {R : Type 0} (F : Format R) : Type 0 where
   pub holding : (q : LogFiles R) → F.IsHeader q.header → KeepsLast F q (HoldsLast F q)
   pub left_over : (q : LogFiles R) → KeepsLast F q (IsLeftover F q)
-  pub kept : (q : LogFiles R) (d : Disk) → HasLogFiles F q (HoldsLast F q) d → F.IsHeader q.header → KeepsQueue F q d
+  pub kept : (q : LogFiles R) (d : Disk) → HasLogFiles F q (HoldsLast F q) d → F.IsHeader q.header
+      → KeepsQueue F q d
   pub restarted : (q : LogFiles R) (d : Disk) → HasLogFiles F q (IsLeftover F q) d → KeepsQueue F q d
 
 -- nothing is known of a file
 abbrev pub Anything : File → Type 0
 Anything file = Unit {0}
 
--- Where it can be told what begins with a header or a record, each image of a sound disk can be read from each number on
--- from which no file is missing, whatever stands in the last one.
+-- Where it can be told what begins with a header or a record, each image of a sound disk can be read from
+-- each number on from which no file is missing, whatever stands in the last one.
 abbrev pub QueueIsReadable : {R : Type 0} → Format R → Type 0
-QueueIsReadable {R} F = CanTellFormat F → (q : LogFiles R) (d : Disk) → IsSound d → HasLogFiles F q Anything d → IsReadable F q d
+QueueIsReadable {R} F = CanTellFormat F → (q : LogFiles R) (d : Disk) → IsSound d
+    → HasLogFiles F q Anything d → IsReadable F q d
 
--- What a stop leaves of a queue is the queue again, with the records that were kept, all durable; and whatever a next stop
--- leaves of that, no checksum is met by chance in it. So crash, open and crash compose.
+-- What a stop leaves of a queue is the queue again, with the records that were kept, all durable; and
+-- whatever a next stop leaves of that, no checksum is met by chance in it. So crash, open and crash compose.
 abbrev pub QueueRestarts : {R : Type 0} → Format R → Type 0
-QueueRestarts {R} F = CanTellFormat F → (q : LogFiles R) (d image : Disk) → HasLogFiles F q (HoldsLast F q) d → F.IsHeader q.header
+QueueRestarts {R} F = CanTellFormat F → (q : LogFiles R) (d image : Disk)
+    → HasLogFiles F q (HoldsLast F q) d → F.IsHeader q.header
     → IsImage d image → NoChanceInLast F q d image
-    → (count : ℕ) × (count ≤ length q.pending) × HasLogFiles F (kept_to count q) (IsLeftover F (kept_to count q)) image
+    → (count : ℕ) × (count ≤ length q.pending)
+    × HasLogFiles F (kept_to count q) (IsLeftover F (kept_to count q)) image
     × ((later : Disk) → IsImage image later → NoChanceInLast F (kept_to count q) image later)
 
--- A file that gets the next number, new or used again, with whatever it holds: it is the last one of the queue, without
--- records, before its header is written.
+-- A file that gets the next number, new or used again, with whatever it holds: it is the last one of the
+-- queue, without records, before its header is written.
 abbrev pub RotatedHoldsNothing : {R : Type 0} → Format R → Type 0
-RotatedHoldsNothing {R} F = (q : LogFiles R) (header stale : List ℕ) → HoldsLast F (rotated header stale q) (at_rest stale)
+RotatedHoldsNothing {R} F = (q : LogFiles R) (header stale : List ℕ)
+    → HoldsLast F (rotated header stale q) (at_rest stale)

@@ -14,7 +14,8 @@ pub record IsOpened (path : List ℕ) (permission : Permission) (handle : Handle
   pub is : d.names path ≡ Some handle.file
   pub permitted : handle.permission ≡ permission
 
--- A read filled its room, up to the file's end, with the file's bytes from a place on; none of these is unreadable.
+-- A read filled its room, up to the file's end, with the file's bytes from a place on; none of these is
+-- unreadable.
 pub record FillsRoom (id at : ℕ) (d : Disk) (before after : List ℕ) (count : ℕ) : Type 0 where
   pub runs : d.stopped ≡ false
   pub file : File
@@ -23,12 +24,13 @@ pub record FillsRoom (id at : ℕ) (d : Disk) (before after : List ℕ) (count :
   pub bytes : after ≡ take count (drop at file.content) ++ drop count before
   pub readable : (place : ℕ) → at ≤ place → place < at + count → d.unreadable id place ≡ false
 
--- A read is refused after a stop, where the file is gone, and where a place that it asks for, within the file, is
--- unreadable.
+-- A read is refused after a stop, where the file is gone, and where a place that it asks for, within the
+-- file, is unreadable.
 pub data IsUnread (handle : Handle) (at count : ℕ) (d : Disk) (error : ErrorKind) : Type 0 where
   stopped : d.stopped ≡ true → IsUnread handle at count d error
   gone : WrongHandle handle d error → IsUnread handle at count d error
-  unreadable : (file : File) (place : ℕ) → d.files handle.file ≡ Some file → at ≤ place → place < at + count → place < length file.content
+  unreadable : (file : File) (place : ℕ) → d.files handle.file ≡ Some file → at ≤ place → place < at + count
+      → place < length file.content
       → d.unreadable handle.file place ≡ true → IsUnread handle at count d error
 
 -- the size of a file
@@ -42,8 +44,10 @@ pub record IsSize (id : ℕ) (d : Disk) (count : ℕ) : Type 0 where
 pub record IsListing (directory : List ℕ) (d : Disk) (names : List (List ℕ)) : Type 0 where
   pub runs : d.stopped ≡ false
   pub there : d.directories directory ≡ true
-  pub listed : (name : List ℕ) → Contains names name → (d.names (directory ++ 47 ∷ name) ≡ None → ⊥) × IsPlain name
-  pub all : (name : List ℕ) → IsPlain name → (d.names (directory ++ 47 ∷ name) ≡ None → ⊥) → Contains names name
+  pub listed : (name : List ℕ) → Contains names name → (d.names (directory ++ 47 ∷ name) ≡ None → ⊥)
+      × IsPlain name
+  pub all : (name : List ℕ) → IsPlain name → (d.names (directory ++ 47 ∷ name) ≡ None → ⊥)
+      → Contains names name
   pub once : (j k : ℕ) → j < k → k < length names → slice_index_or names j [] ≡ slice_index_or names k [] → ⊥
 
 -- why a file wasn't opened

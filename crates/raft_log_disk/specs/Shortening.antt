@@ -1,5 +1,6 @@
--- Shortening a file behind some of its records: what holds of it before, between and after the two calls that do it, the
--- shortening and the sync. Each may be refused, and the file may have been shortened though it was.
+-- Shortening a file behind some of its records: what holds of it before, between and after the two calls that
+-- do it, the shortening and the sync. Each may be refused, and the file may have been shortened though it
+-- was.
 use Rattle.std.specs.Prelude.{◌≡◌, ℕ, ◌+◌, ◌≤◌, List, ◌++◌, length, take, drop}
 use Rattle.raft_log_disk.specs.Disk.{ShortenedTo, File}
 use Rattle.raft_log_disk.specs.Calls.{after_change, with_change, flushed}
@@ -7,7 +8,8 @@ use Rattle.raft_log_disk.specs.Chains.{Written, IsSelfDelimiting, AreFrames, spe
 use Rattle.raft_log_disk.specs.KeepsSynced.{HoldsChain, HoldsAtLeast, kept_records}
 
 -- The file holds these records, and up to `size` it has the durable ones and the first `count` pending ones.
-pub record CanShorten {R : Type 0} (IsFrame : List ℕ → R → Type 0) (start : ℕ) (stale : List ℕ) (size count : ℕ)
+pub record CanShorten {R : Type 0} (IsFrame : List ℕ → R → Type 0)
+    (start : ℕ) (stale : List ℕ) (size count : ℕ)
     (durable pending : List (Written R)) (file : File) : Type 0 where
   pub holds : HoldsChain IsFrame start stale durable pending file
   pub within : count ≤ length pending
@@ -20,7 +22,8 @@ pub record IsShortened {R : Type 0} (IsFrame : List ℕ → R → Type 0) (start
   pub holds : HoldsChain IsFrame start stale durable pending file
   pub all : drop start file.content ≡ spelled (kept_records durable pending count)
 
--- The file holds these records, and up to `size` it has those that are read of it, of which the durable ones are the first.
+-- The file holds these records, and up to `size` it has those that are read of it, of which the durable ones
+-- are the first.
 pub record CanShortenRead {R : Type 0} (IsFrame : List ℕ → R → Type 0) (start : ℕ) (stale : List ℕ) (size : ℕ)
     (durable pending ws : List (Written R)) (file : File) : Type 0 where
   pub holds : HoldsChain IsFrame start stale durable pending file
@@ -43,12 +46,14 @@ pub record IsShortenedRead {R : Type 0} (IsFrame : List ℕ → R → Type 0) (s
 abbrev pub KeepsDurable : {R : Type 0} → (List ℕ → R → Type 0) → ℕ → List ℕ → List (Written R) → File → Type 0
 KeepsDurable {R} IsFrame start stale durable file = (later : List (Written R)) × HoldsAtLeast IsFrame start stale durable later file
 
--- Before, between and after the two calls the file holds at least these records: by the shortening, made or not, and by the
--- sync behind it, after which what is left is durable.
-pub record ShorteningKeeps {R : Type 0} (IsFrame : List ℕ → R → Type 0) (start : ℕ) (stale : List ℕ) (size count : ℕ)
+-- Before, between and after the two calls the file holds at least these records: by the shortening, made or
+-- not, and by the sync behind it, after which what is left is durable.
+pub record ShorteningKeeps {R : Type 0} (IsFrame : List ℕ → R → Type 0)
+    (start : ℕ) (stale : List ℕ) (size count : ℕ)
     (durable pending : List (Written R)) (file : File) : Type 0 where
   pub before : HoldsAtLeast IsFrame start stale durable pending file
-  pub tried : (content : List ℕ) → HoldsAtLeast IsFrame start stale durable pending (with_change (ShortenedTo size) content file)
+  pub tried : (content : List ℕ)
+      → HoldsAtLeast IsFrame start stale durable pending (with_change (ShortenedTo size) content file)
   pub done : IsShortened IsFrame start stale count durable pending (after_change (ShortenedTo size) file)
   pub synced : HoldsAtLeast IsFrame start stale durable pending (flushed (after_change (ShortenedTo size) file))
 
@@ -56,4 +61,5 @@ pub record ShorteningKeeps {R : Type 0} (IsFrame : List ℕ → R → Type 0) (s
 abbrev pub ShortenedIsKept : {R : Type 0} → (List ℕ → R → Type 0) → Type 0
 ShortenedIsKept {R} IsFrame = IsSelfDelimiting IsFrame
     → (start : ℕ) (stale : List ℕ) (size count : ℕ) (durable pending : List (Written R)) (file : File)
-    → CanShorten IsFrame start stale size count durable pending file → ShorteningKeeps IsFrame start stale size count durable pending file
+    → CanShorten IsFrame start stale size count durable pending file
+    → ShorteningKeeps IsFrame start stale size count durable pending file

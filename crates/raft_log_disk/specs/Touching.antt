@@ -20,12 +20,16 @@ pub record TouchesOnly (id : ℕ) (old new : Disk) : Type 0 where
   pub directories : new.directories ≡ old.directories
   pub others : (other : ℕ) → (other ≡ id → ⊥) → new.files other ≡ old.files other
 
--- Nothing changed but these names and the files that had them: whoever has another name is the file that had it, as it was.
+-- Nothing changed but these names and the files that had them: whoever has another name is the file that had
+-- it, as it was.
 pub record TouchesOnlyNames (own : List ℕ → Type 0) (old new : Disk) : Type 0 where
   pub directories : new.directories ≡ old.directories
   pub names : (path : List ℕ) → (own path → ⊥) → new.names path ≡ old.names path
-  pub files : (path : List ℕ) (id : ℕ) → (own path → ⊥) → old.names path ≡ Some id → new.files id ≡ old.files id
+  pub files : (path : List ℕ) (id : ℕ) → (own path → ⊥) → old.names path ≡ Some id
+      → new.files id ≡ old.files id
 
--- What is known of another name's file goes on to hold: a queue of files isn't touched by calls on another one's.
+-- What is known of another name's file goes on to hold: a queue of files isn't touched by calls on another
+-- one's.
 abbrev pub OtherNamesStay : (List ℕ → Type 0) → (File → Type 0) → Type 0
-OtherNamesStay own P = (old new : Disk) (path : List ℕ) → TouchesOnlyNames own old new → (own path → ⊥) → HasNamed path P old → HasNamed path P new
+OtherNamesStay own P = (old new : Disk) (path : List ℕ) → TouchesOnlyNames own old new → (own path → ⊥)
+    → HasNamed path P old → HasNamed path P new

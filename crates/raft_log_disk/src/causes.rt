@@ -8,7 +8,8 @@ pub trait FilesInQuestion {
     ghost asks_for: { ℕ → Type 0 };
 }
 
-/// On a disk that runs, with every place readable and no failure counted during the call, no refusal has a cause.
+/// On a disk that runs, with every place readable and no failure counted during the call, no refusal has a
+/// cause.
 pub fn undisturbed_disk_has_no_cause<Q: FilesInQuestion>()
     ensures { UndisturbedHasNoCause Q.asks_for }
 {}

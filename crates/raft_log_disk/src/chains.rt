@@ -34,8 +34,8 @@ pub fn chain_goes_on<G: Framing>()
     ensures { ChainGoesOn G.is_frame }
 {}
 
-/// A file that is used again holds the empty chain, one at rest what is read of it, and one whose chain was written over the
-/// bytes that stood there, and synced, holds that chain.
+/// A file that is used again holds the empty chain, one at rest what is read of it, and one whose chain was
+/// written over the bytes that stood there, and synced, holds that chain.
 pub fn chain_at_rest<G: Framing>()
     ensures { IsSelfDelimiting G.is_frame → (start : ℕ) → ChainAtRest G.is_frame start }
 {}
@@ -55,7 +55,8 @@ pub fn durable_records_are_read<G: Framing>()
     ensures { DurableIsRead G.is_frame }
 {}
 
-/// A stop that leaves a beginning of a record which isn't synced meets no checksum by chance, and loses the record.
+/// A stop that leaves a beginning of a record which isn't synced meets no checksum by chance, and loses the
+/// record.
 pub fn torn_record_is_lost<G: Framing>()
     ensures { TornRecordIsLost G.is_frame }
 {}
@@ -65,7 +66,8 @@ pub fn foreign_record_is_chance<G: Framing>()
     ensures { ForeignRecordIsChance G.is_frame }
 {}
 
-/// A file with another record synced behind its chain, which isn't what stood there before, doesn't hold the chain.
+/// A file with another record synced behind its chain, which isn't what stood there before, doesn't hold the
+/// chain.
 pub fn foreign_record_behind_is_refused<G: Framing>()
     ensures { ForeignRecordBehindIsRefused G.is_frame }
 {}
@@ -80,7 +82,8 @@ pub fn synced_file_has_no_chance<G: Framing>()
     ensures { SyncedFileHasNoChance G.is_frame }
 {}
 
-/// A file that is shortened behind some of its records, and synced, keeps them through both calls, answered or refused.
+/// A file that is shortened behind some of its records, and synced, keeps them through both calls, answered
+/// or refused.
 pub fn shortened_file_is_kept<G: Framing>()
     ensures { ShortenedIsKept G.is_frame }
 {}

@@ -3,14 +3,14 @@
 /// What a handle may do.
 #[derive(Clone, Copy, Debug, PartialEq, Eq)]
 pub enum Permission {
-    /// Reads and syncs; a write, a cut or an allocation is `PermissionDenied`.
+    /// Reads and syncs; a write, a shortening or an allocation is `PermissionDenied`.
     ReadOnly,
     /// All calls on a file.
     ReadWrite,
 }
 
-/// An open file. A handle stays with its file when the file is renamed; once the file was deleted, or another file was
-/// renamed over it, calls by the handle are `NotFound`.
+/// An open file. A handle stays with its file when the file is renamed; once the file was deleted, or another
+/// file was renamed over it, calls by the handle are `NotFound`.
 #[derive(Clone, Copy, Debug, PartialEq, Eq)]
 pub struct Handle {
     /// The file's number in its file system, which gives no number twice.
@@ -19,13 +19,13 @@ pub struct Handle {
     pub permission: Permission,
 }
 
-/// A way to make later calls fail. Calls are counted from the one after `arm`, and only those that change something
-/// count; 0 arms nothing and leaves what was armed.
+/// A way to make later calls fail. Calls are counted from the one after `arm`, and only those that change
+/// something count; 0 arms nothing and leaves what was armed.
 #[derive(Clone, Copy, Debug, PartialEq, Eq)]
 pub enum Fault {
     /// The n-th changing call is refused and changes nothing.
     Refuse(u64),
-    /// The file system stops at the n-th changing call: a write, a cut or an allocation there counts as not synced, any
-    /// other call hasn't happened.
+    /// The file system stops at the n-th changing call: a write, a shortening or an allocation there counts
+    /// as not synced, any other call hasn't happened.
     StopAt(u64),
 }

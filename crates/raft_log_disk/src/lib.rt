@@ -1,6 +1,6 @@
-//! What a store asks of a file system (`FileSystem`), and in what words: what a file system holds, what each call changes
-//! of it, answered or refused, and what a crash may leave, as definitions for contracts. Functions without a body state
-//! the laws of these definitions.
+//! What a store asks of a file system (`FileSystem`), and in what words: what a file system holds, what each
+//! call changes of it, answered or refused, and what a crash may leave, as definitions for contracts.
+//! Functions without a body state the laws of these definitions.
 #![tactic(auto)]
 
 pub mod calls;

@@ -16,7 +16,8 @@ pub fn log_of_files_is_kept<G: LogFormat>()
     ensures { IsFormat G.format → QueueIsKept G.format }
 {}
 
-/// Whatever a stop leaves of a log of several files can be read, from each file on behind which none is missing.
+/// Whatever a stop leaves of a log of several files can be read, from each file on behind which none is
+/// missing.
 pub fn log_of_files_is_readable<G: LogFormat>()
     ensures { IsFormat G.format → QueueIsReadable G.format }
 {}

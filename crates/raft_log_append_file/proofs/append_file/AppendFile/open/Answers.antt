@@ -27,13 +27,13 @@ returns-clause-found g c = λ file is.
     let (ws, reads_bytes, ends) = c.good_end-end.ensures in
     let reads = subst (λ (b : List ℕ). Reads IsFrame 0 ws b) (c.deref.ensures.value ∙ c.in_ok-bytes.ensures.ok file is) reads_bytes in
     let front : take end file.content ≡ spelled ws = ap (λ (b : List ℕ). take end b) reads.splits ∙ take_at (spelled ws) reads.rest end (sym ends) in
-    (ws, reads, settled_open (record { handle = handle; written = end; failed = false }) ws (take end file.content) (D c.cut_back.new.file_system) reads.frames front (c.in_ok-cut_back.ensures.ok file is) c.in_ok-handle.ensures.ok.permitted ends refl)
+    (ws, reads, settled_open (record { handle = handle; written = end; failed = false }) ws (take end file.content) (D c.shorten.new.file_system) reads.frames front (c.in_ok-shorten.ensures.ok file is) c.in_ok-handle.ensures.ok.permitted ends refl)
 
-pub returns-in_err-cut_back-clause-durable : goal.returns-in_err-cut_back-clause-durable
-returns-in_err-cut_back-clause-durable g c = λ id durable pending named kept_id.
+pub returns-in_err-shorten-clause-durable : goal.returns-in_err-shorten-clause-durable
+returns-in_err-shorten-clause-durable g c = λ id durable pending named kept_id.
     let D = g.F.FileSystem.disk in
     let old = D c.args.file_system.now in
-    let new = D c.cut_back.new.file_system in
+    let new = D c.shorten.new.file_system in
     let handle = c.in_ok-handle.handle in
     let same : id ≡ handle.file = (let there = c.in_ok-handle.ensures.ok.is in cc) in
     let kept = subst (λ (n : ℕ). IsKept n durable pending old) same kept_id in
@@ -41,13 +41,13 @@ returns-in_err-cut_back-clause-durable g c = λ id durable pending named kept_id
     let read = c.good_end-end.ensures in
     let found = finds_durable handle.file c.good_end-end.result durable pending read.0 c.deref.result.now old kept (g.met.F.FileSystem.sound c.args.file_system.now) (c.deref.ensures.value ∙ bytes) read.1 read.2 in
     subst (λ (n : ℕ). KeepsDurable n durable new) (sym same)
-    (found_durable handle.file durable pending old new kept (c.cut_back.ensures.durable (durable ++ kept.has.more) kept.has.rest read.0 found))
+    (found_durable handle.file durable pending old new kept (c.shorten.ensures.durable (durable ++ kept.has.more) kept.has.rest read.0 found))
 
 pub returns-clause-durable : goal.returns-clause-durable
 returns-clause-durable g c = λ id durable pending named kept_id.
     let D = g.F.FileSystem.disk in
     let old = D c.args.file_system.now in
-    let new = D c.cut_back.new.file_system in
+    let new = D c.shorten.new.file_system in
     let handle = c.in_ok-handle.handle in
     let same : id ≡ handle.file = (let there = c.in_ok-handle.ensures.ok.is in cc) in
     let kept = subst (λ (n : ℕ). IsKept n durable pending old) same kept_id in
@@ -55,13 +55,13 @@ returns-clause-durable g c = λ id durable pending named kept_id.
     let read = c.good_end-end.ensures in
     let found = finds_durable handle.file c.good_end-end.result durable pending read.0 c.deref.result.now old kept (g.met.F.FileSystem.sound c.args.file_system.now) (c.deref.ensures.value ∙ bytes) read.1 read.2 in
     subst (λ (n : ℕ). KeepsDurable n durable new) (sym same)
-    (found_durable handle.file durable pending old new kept (c.cut_back.ensures.durable (durable ++ kept.has.more) kept.has.rest read.0 found))
+    (found_durable handle.file durable pending old new kept (c.shorten.ensures.durable (durable ++ kept.has.more) kept.has.rest read.0 found))
 
-pub returns-in_err-cut_back-clause-kept : goal.returns-in_err-cut_back-clause-kept
-returns-in_err-cut_back-clause-kept g c = λ id durable pending named kept_id chance_id.
+pub returns-in_err-shorten-clause-kept : goal.returns-in_err-shorten-clause-kept
+returns-in_err-shorten-clause-kept g c = λ id durable pending named kept_id chance_id.
     let D = g.F.FileSystem.disk in
     let old = D c.args.file_system.now in
-    let new = D c.cut_back.new.file_system in
+    let new = D c.shorten.new.file_system in
     let handle = c.in_ok-handle.handle in
     let same : id ≡ handle.file = let there = c.in_ok-handle.ensures.ok.is in cc in
     let kept = subst (λ (n : ℕ). IsKept n durable pending old) same kept_id in
@@ -70,13 +70,13 @@ returns-in_err-cut_back-clause-kept g c = λ id durable pending named kept_id ch
     let read = c.good_end-end.ensures in
     let found = finds_end handle.file c.good_end-end.result durable pending read.0 c.deref.result.now old kept (g.met.F.FileSystem.sound c.args.file_system.now) chance (c.deref.ensures.value ∙ bytes) read.1 read.2 in
     subst (λ (n : ℕ). IsKept n durable pending new) (sym same)
-    (found_kept handle.file durable pending old new kept (c.cut_back.ensures.kept (durable ++ kept.has.more) kept.has.rest found.count found.can))
+    (found_kept handle.file durable pending old new kept (c.shorten.ensures.kept (durable ++ kept.has.more) kept.has.rest found.count found.can))
 
 pub returns-clause-kept : goal.returns-clause-kept
 returns-clause-kept g c = λ id durable pending named kept_id chance_id.
     let D = g.F.FileSystem.disk in
     let old = D c.args.file_system.now in
-    let new = D c.cut_back.new.file_system in
+    let new = D c.shorten.new.file_system in
     let handle = c.in_ok-handle.handle in
     let same : id ≡ handle.file = let there = c.in_ok-handle.ensures.ok.is in cc in
     let kept = subst (λ (n : ℕ). IsKept n durable pending old) same kept_id in
@@ -85,15 +85,15 @@ returns-clause-kept g c = λ id durable pending named kept_id chance_id.
     let read = c.good_end-end.ensures in
     let found = finds_end handle.file c.good_end-end.result durable pending read.0 c.deref.result.now old kept (g.met.F.FileSystem.sound c.args.file_system.now) chance (c.deref.ensures.value ∙ bytes) read.1 read.2 in
     subst (λ (n : ℕ). IsKept n durable pending new) (sym same)
-    (found_kept handle.file durable pending old new kept (c.cut_back.ensures.kept (durable ++ kept.has.more) kept.has.rest found.count found.can))
+    (found_kept handle.file durable pending old new kept (c.shorten.ensures.kept (durable ++ kept.has.more) kept.has.rest found.count found.can))
 
 pub returns-clause-ok : goal.returns-clause-ok
 returns-clause-ok g c = λ durable pending kept chance.
     let D = g.F.FileSystem.disk in
     let old = D c.args.file_system.now in
-    let new = D c.cut_back.new.file_system in
+    let new = D c.shorten.new.file_system in
     let handle = c.in_ok-handle.handle in
     let bytes = c.in_ok-bytes.ensures.ok kept.file kept.is in
     let read = c.good_end-end.ensures in
     let found = finds_end handle.file c.good_end-end.result durable pending read.0 c.deref.result.now old kept (g.met.F.FileSystem.sound c.args.file_system.now) chance (c.deref.ensures.value ∙ bytes) read.1 read.2 in
-    found_open (record { handle = handle; written = c.good_end-end.result; failed = false }) durable pending read.0 old new kept found (c.in_ok-cut_back.ensures.ok kept.file kept.is) c.in_ok-handle.ensures.ok.permitted refl
+    found_open (record { handle = handle; written = c.good_end-end.result; failed = false }) durable pending read.0 old new kept found (c.in_ok-shorten.ensures.ok kept.file kept.is) c.in_ok-handle.ensures.ok.permitted refl

@@ -6,7 +6,7 @@ use Rattle.raft_log_disk.proofs.TouchingLaws.{has_changed, has_done, has_synced,
 use Rattle.raft_log_disk.proofs.ShorteningLaws.{can_shorten_kept, kept_shortened, is_shortened, shortened_kept, shortened_synced, can_shorten_read_keeps, read_shortened_keeps, is_shortened_read, shortened_read_keeps, shortened_read_synced}
 use Rattle.raft_log_append_file.specs.Frame.{IsFrame}
 use Rattle.raft_log_append_file.proofs.Frames.{prefix_free}
-use Rattle.raft_log_append_file.proofs.repair.cut_back.Goals as goal
+use Rattle.raft_log_append_file.proofs.repair.shorten.Goals as goal
 
 pub returns-in_err-truncate-clause-kept : goal.returns-in_err-truncate-clause-kept
 returns-in_err-truncate-clause-kept g c = λ durable pending count can.

@@ -19,9 +19,11 @@ pub record Armed : Type 0 where
   pub refusals : List ℕ
   pub stop : ℕ
 
+-- what is armed
 abbrev pub armed : MemoryFileSystem → Armed
 armed system = record { refusals = system.refusals.items; stop = system.stop }
 
+-- no refusal and no stop
 abbrev pub nothing_armed : Armed
 nothing_armed = record { refusals = []; stop = 0 }
 

@@ -7,3 +7,5 @@ pub mod log_disk;
 //! A proved caller of each crate: the code of the pages `CALLING.md`.
 pub mod frames;
 pub mod records;
+//! A proved caller of each crate: what the pages `CALLING.md` show.
+pub mod memory_files;

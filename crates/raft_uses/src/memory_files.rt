@@ -1,0 +1,38 @@
+//! A caller of the file system in memory.
+
+ghost use Rattle.std.specs.Prelude.{◌≡◌, [], ◌∷◌, ◌++◌, OnOk, IfOk};
+ghost use Rattle.raft_log_disk.specs.Disk.{Wrote};
+ghost use Rattle.raft_log_disk.specs.Image.{IsImage};
+ghost use Rattle.raft_log_memory_files.specs.Memory.{disk_of, unsynced};
+
+use raft_log_disk::{FileSystem, Handle};
+use raft_log_memory_files::{MemoryFileSystem, Remainder};
+use std::alloc::AllocError;
+use std::io::ErrorKind;
+
+/// Writes the same bytes at the beginning of two files. The first write stands before the second among what a crash may
+/// take back.
+pub fn write_both(
+    system: &mut MemoryFileSystem,
+    first: Handle,
+    second: Handle,
+    bytes: &[u8],
+) -> Result<(), ErrorKind>
+    ensures { OnOk result (unsynced system.new ≡ unsynced system.old ++ (first.file, Wrote 0 bytes.now) ∷ (second.file, Wrote 0 bytes.now) ∷ []) }
+{
+    system.write_at(first, 0, bytes)?;
+    system.write_at(second, 0, bytes)?;
+    Ok(())
+}
+
+/// What a crash leaves of which the first change alone is kept.
+pub fn first_change_left(system: &MemoryFileSystem) -> Result<MemoryFileSystem, AllocError>
+    ensures image { IfOk result (λ after. IsImage (disk_of system.now) (disk_of after)) }
+    ensures synced { IfOk result (λ after. unsynced after ≡ []) }
+{
+    let what = Remainder::First {
+        pieces: 1,
+        bytes: 0,
+    };
+    system.remainder(&what)
+}

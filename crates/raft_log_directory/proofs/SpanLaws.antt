@@ -4,13 +4,13 @@ use Rattle.raft_log_model.specs.Item.{Record, items_of}
 use Rattle.raft_log_model.specs.Meaning.{Slot, says}
 use Rattle.raft_log_model.specs.Groups.{of_group, appended}
 use Rattle.raft_log_machine.specs.Survival.{IsSpoken}
-use Rattle.raft_log_machine.specs.Files.{LogFile, FileQueue, FileEvent, FileStep, records_of, span}
+use Rattle.raft_log_machine.specs.Files.{IsNumbered, LogFile, FileQueue, FileEvent, FileStep, NumberedFrom, records_of, span}
 use Rattle.raft_log_machine.specs.Files.FileEvent.{Grow, Sync, Rotate, Raise, Lose, Read}
 use Rattle.raft_log_machine.proofs.Starts.{cuts, no_back, spoken_newer}
 use Rattle.raft_log_machine.proofs.FileLaws.{records_of-append}
 use Rattle.raft_log_machine.proofs.Words.{says_appended}
 use Rattle.raft_log_machine.proofs.TruthGrows.{spoken_after}
-use Rattle.raft_log_directory.specs.Moves.{IsQuiet, grown, settled_files, rotated}
+use Rattle.raft_log_directory.specs.Moves.{IsQuiet, grown, raised_files, rotated, settled_files}
 use Rattle.raft_log_directory.specs.Notes.{IsAmong, LiesIn, AllFrom, AllBelow}
 
 module _ {E V : Type 0} where
@@ -168,3 +168,20 @@ module _ {E V : Type 0} where
           let at : y.number < k = low.0 in
           let over : n ≤ y.number = high.0 in
           absurd (omega arith)
+
+  -- in a numbered queue all files of the span but the last lie below it
+  below_last : (n : ℕ) (fs : List (LogFile E V)) (f : LogFile E V) → NumberedFrom n (fs ++ f ∷ []) → AllBelow f.number fs × (n ≤ f.number)
+  below_last n [] f h = let at : f.number ≡ n = h.0 in (tt, omega arith)
+  below_last n (g ∷ fs) f h =
+      let later : AllBelow f.number fs × (n + 1 ≤ f.number) = below_last (n + 1) fs f h.1 in
+      let at : g.number ≡ n = h.0 in
+      let high : n + 1 ≤ f.number = later.1 in
+      ((omega arith, later.0), omega arith)
+
+  pub full_below : (n : ℕ) (q : FileQueue E V) → IsNumbered n q → AllBelow q.last q.full
+  full_below n q h =
+      AllBelow-back q.last q.gone q.full
+      (below_last n (q.gone ++ q.full) (last_file q []) (subst (λ l. NumberedFrom n l) (sym (append_assoc q.gone q.full (last_file q [] ∷ []))) h.0)).0
+
+  pub last_alone : (q : FileQueue E V) → span (raised_files q q.full []) q.pending ≡ last_file q q.pending ∷ []
+  last_alone q = refl

@@ -1,11 +1,11 @@
 //! The files noted for each slot: a queue may begin at the least of them, for what stays says all that stands
 //! there.
 
-ghost use Rattle.std.specs.Prelude.{◌≡◌, ◌⊎◌, ℕ, List, ◌++◌, [], Option};
+ghost use Rattle.std.specs.Prelude.{◌≡◌, ◌⊎◌, ◌∷◌, ℕ, List, ◌++◌, [], Option};
 ghost use Rattle.raft_log_model.specs.Groups.{appended, rewritten, Map};
 ghost use Rattle.raft_log_model.specs.Item.{Item, Record};
 ghost use Rattle.raft_log_model.specs.Meaning.{says, Content, Slot};
-ghost use Rattle.raft_log_machine.specs.Files.{records_of, FileQueue, LogFile};
+ghost use Rattle.raft_log_machine.specs.Files.{records_of, span, FileQueue, IsNumbered, LogFile};
 ghost use Rattle.raft_log_machine.specs.Survival.{IsSpoken};
 ghost use Rattle.raft_log_machine.specs.Whereabouts.{CarriesAll, GrowsBy, HasAppended, HasRewritten, OwesNothing, Whereabouts};
 ghost use Rattle.raft_log_directory.specs.Log.{Stands, View};
@@ -63,6 +63,17 @@ pub fn raises_are_followed<E, V>()
         → f.rewrite.pending ≡ [] → out ++ stay ≡ f.rewrite.full → AllBelow n out
         → RewriteStandsFrom n v.map v.whereabouts v.noted_in_rewrite
         → Stands v f m [] → Stands v (with_rewrite f f.rewrite_from (raised_files f.rewrite out stay)) m [] }
+{}
+
+/// A full rewrite leaves one file: where nothing stands in Append any more, no file of it is noted, so it may
+/// begin at any of its files; all but the last lie below the last; and raised to that, its span is that file
+/// alone.
+pub fn full_rewrite_leaves_one_file<E, V>()
+    ensures notes { (v : View E V) → ((g : ℕ) (s : Slot) → IsAppended (v.whereabouts g) s → ⊥)
+        → (n : ℕ) → AppendStandsFrom n v.whereabouts v.noted }
+    ensures below { (from : ℕ) (q : FileQueue E V) → IsNumbered from q → AllBelow q.last q.full }
+    ensures one { (q : FileQueue E V) → span (raised_files q q.full []) q.pending
+        ≡ record { number = q.last; records = q.synced ++ q.pending } ∷ [] }
 {}
 
 /// What comes to stand in a queue by a list of items, the items speak of: so the file of their record may be

@@ -1,1 +1,2 @@
 mod Saving
+pub mod Kept

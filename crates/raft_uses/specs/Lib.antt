@@ -2,3 +2,4 @@ pub mod Cover
 pub mod Counter
 pub mod LogDisk
 pub mod Chain
+pub mod Sessions

@@ -9,3 +9,6 @@ pub mod frames;
 pub mod records;
 //! A proved caller of each crate: what the pages `CALLING.md` show.
 pub mod memory_files;
+//! One proved caller of each crate that users call.
+pub mod voter_messages;
+pub mod voter_session;

@@ -1,0 +1,4 @@
+//! One proved caller of each crate that users call.
+#![tactic(auto)]
+
+pub mod voter;

@@ -12,3 +12,4 @@ pub mod memory_files;
 //! One proved caller of each crate that users call.
 pub mod voter_messages;
 pub mod voter_session;
+pub mod voter;

@@ -14,6 +14,7 @@ const STORED: VoterState = VoterState {
     base_term: 2,
     last_index: 3,
     last_term: 2,
+    commit: 3,
 };
 
 /// The voter of that state with one entry, at this index.

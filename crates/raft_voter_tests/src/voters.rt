@@ -1,6 +1,7 @@
 //! Voters that take requests, as the lines of a session ask them.
 use crate::requests::vote;
-use raft_voter::{Items, Reply, Voters};
+use raft_voter::outline::{Answer, Outline};
+use raft_voter::{Items, Reply, Request, Voters};
 use raft_voter_session::{Event, read_session};
 use std::alloc::Global;
 use std::process::Abort;
@@ -13,7 +14,7 @@ const LATER_LEADER: [(&str, &str); 6] = [
     ("read 1 1 4", "Entries 1:1:0a 2:2:14 3:2:15"),
     ("vote 1 3 9 5 1", "Denied 3"),
     ("append 1 2 3 2", "Stale 3"),
-    ("status 1", "Status 3 - 0 0 3 2"),
+    ("status 1", "Status 3 - 0 0 3 2 0"),
 ];
 
 /// Entries that match stay, though other bytes are sent for one of them.
@@ -38,7 +39,7 @@ const SNAPSHOTS: [(&str, &str); 10] = [
     ("install 1 2 2 1", "Base 2"),
     ("read 1 3 4", "Entries 3:2:0c"),
     ("install 1 2 3 9", "Base 3"),
-    ("status 1", "Status 2 - 3 9 3 9"),
+    ("status 1", "Status 2 - 3 9 3 9 3"),
     ("read 1 4 5", "Unknown 3"),
     ("read 1 4 4", "Entries"),
     ("append 1 2 7 1", "Mismatch 3"),
@@ -48,13 +49,30 @@ const SNAPSHOTS: [(&str, &str); 10] = [
 
 /// A log is compacted up to one of its entries and no further.
 const COMPACTED: [(&str, &str); 7] = [
-    ("append 1 2 0 0 1:0a 2:14 2:15", "Matched 3"),
+    ("append 1 2 0 0 3 1:0a 2:14 2:15", "Matched 3"),
     ("compact 1 4", "Base 0"),
     ("compact 1 2", "Base 2"),
     ("compact 1 1", "Base 2"),
     ("read 1 2 4", "Gone 2"),
     ("read 1 3 4", "Entries 3:2:15"),
-    ("status 1", "Status 2 - 2 2 3 2"),
+    ("status 1", "Status 2 - 2 2 3 2 3"),
+];
+
+/// An Append raises the commit up to what it matched; a Compact past the commit does nothing; a snapshot is committed; who
+/// never heard of a commit compacts nothing.
+const COMMITTED: [(&str, &str); 12] = [
+    ("append 1 1 0 0 2 1: 1: 1:", "Matched 3"),
+    ("status 1", "Status 1 - 0 0 3 1 2"),
+    ("compact 1 3", "Base 0"),
+    ("compact 1 2", "Base 2"),
+    ("append 1 1 3 1 9", "Matched 3"),
+    ("status 1", "Status 1 - 2 1 3 1 3"),
+    ("append 1 1 3 1 1", "Matched 3"),
+    ("install 1 1 7 1", "Base 7"),
+    ("status 1", "Status 1 - 7 1 7 1 7"),
+    ("append 2 2 0 0 1: 1: 2:", "Matched 3"),
+    ("compact 2 2", "Base 0"),
+    ("status 2", "Status 2 - 0 0 3 2 0"),
 ];
 
 /// A request out of range is refused, and the others of its round are taken.
@@ -91,7 +109,8 @@ fn logs(rt: HostRuntime) -> Result<(), Fail> {
     answer(&rt, rt.alloc(), LATER_LEADER.as_slice())?;
     answer(&rt, rt.alloc(), MATCHING.as_slice())?;
     answer(&rt, rt.alloc(), SNAPSHOTS.as_slice())?;
-    answer(&rt, rt.alloc(), COMPACTED.as_slice())
+    answer(&rt, rt.alloc(), COMPACTED.as_slice())?;
+    answer(&rt, rt.alloc(), COMMITTED.as_slice())
 }
 
 #[test]
@@ -113,5 +132,17 @@ fn refused_places(rt: HostRuntime) -> Result<(), Fail> {
     let told = [Reply::Refused, Reply::Granted(5), Reply::Refused];
     assert!(rt; replies.as_slice() == told.as_slice());
     assert!(rt; voters.take(1, &vote(5, 3))? == Reply::Denied(5));
+    Ok(())
+}
+
+/// A fresh outline decides a vote; to retire it changes nothing.
+#[test]
+fn decisions(rt: HostRuntime) -> Result<(), Fail> {
+    let outline = Outline::new(rt.alloc());
+    let granted = outline.decide(&vote(5, 2));
+    assert!(rt; matches!(granted.answer, Answer::Told(Reply::Granted(5))));
+    assert!(rt; granted.change.is_some_and(|change| change.state.vote == Some(2)));
+    assert!(rt; outline.decide(&Request::Retire).change.is_none());
+    assert!(rt; outline.term_at(1).is_none() && outline.state().term == 0);
     Ok(())
 }

@@ -1,9 +1,10 @@
 -- Names of log files: sixteen digits, and an end that says what the file is.
-use Rattle.std.specs.Prelude.{◌≡◌, ℕ, ◌<◌, ◌≤◌, ◌-◌, ◌^◌, List, ◌++◌, length, take, codes, replicate}
+use Rattle.std.specs.Prelude.{◌≡◌, ℕ, ◌<◌, ◌≤◌, ◌-◌, ◌^◌, List, ◌∷◌, ◌++◌, length, take, codes, replicate}
 use Rattle.std.specs.Str.Parse.{IsNumeral, digits_value, without_leading_plus}
 use Rattle.std.specs.Fmt.{decimal}
 use Rattle.raft_log_base.specs.declared.errors.Error.{Error}
 use Rattle.raft_log_base.specs.declared.errors.Error.TheVariants as errors
+use Rattle.raft_log_base.specs.declared.pipe_log.FileId.{FileId}
 use Rattle.raft_log_base.specs.declared.pipe_log.LogQueue.{LogQueue}
 use Rattle.raft_log_base.specs.declared.pipe_log.LogQueue.TheVariants.{Append, Rewrite}
 
@@ -34,11 +35,23 @@ reserved_suffix = codes ".raftlog.reserved"
 abbrev pub sixteen_digits : ℕ → List ℕ
 sixteen_digits n = replicate (16 - length (decimal n)) 48 ++ decimal n
 
+-- the name that is built for a file
+abbrev pub file_name : FileId → List ℕ
+file_name id = sixteen_digits id.seq ++ suffix_of id.queue
+
 -- why a name is not made: the number has none, or memory ran out
 abbrev pub IsNameRefusal : ℕ → Error → Type 0
 IsNameRefusal n errors.NumberRange = 10 ^ 16 ≤ n
 IsNameRefusal n errors.Memory = Unit {0}
 IsNameRefusal _ _ = ⊥
+
+-- the path of a file with such a name in this directory
+abbrev pub IsPathTo : (List ℕ → Type 0) → List ℕ → List ℕ → Type 0
+IsPathTo named dir path = (name : List ℕ) × named name × (path ≡ dir ++ 47 ∷ name)
+
+-- the path of a queue's file
+abbrev pub IsFilePath : FileId → List ℕ → List ℕ → Type 0
+IsFilePath id dir path = IsPathTo (λ name. IsNamed (suffix_of id.queue) name id.seq) dir path
 
 -- no name is in two queues
 abbrev pub OneQueueAName : Type 0

@@ -1,7 +1,7 @@
 //! Names of log files: the number in sixteen digits, and an end that says the queue.
-ghost use Rattle.std.specs.Prelude.{◌≡◌, ◌↔◌, ◌≤◌, ◌<◌, ◌^◌, ◌++◌, ℕ, length, IsTrue, IfOk, IfErr, Some, Err};
+ghost use Rattle.std.specs.Prelude.{◌≡◌, ◌↔◌, ◌≤◌, ◌<◌, ◌^◌, ◌∷◌, ◌++◌, ℕ, length, IsTrue, IfOk, IfErr, Some, Err};
 ghost use Rattle.std.specs.String.{string_bytes};
-ghost use Rattle.raft_log_base.specs.declared.errors.Error.TheVariants.{NumberRange};
+ghost use Rattle.raft_log_base.specs.declared.errors.Error.TheVariants.{NumberRange, Memory};
 ghost use Rattle.raft_log_format.specs.Name.{EndsWith, IsNumbered, IsNamed, IsNameRefusal, suffix_of, reserved_suffix, sixteen_digits};
 
 use raft_log_base::{Error, FileId, FileSeq, LogQueue, Result};
@@ -22,7 +22,7 @@ const LOG_APPEND_RESERVED_SUFFIX: &str = ".raftlog.reserved";
 pub trait FileNameExt: Sized {
     ghost use Rattle.std.specs.Prelude.{ℕ, List, ◌≡◌, ◌↔◌, IfOk, IfErr, Some};
     ghost use Rattle.std.specs.String.{string_bytes};
-    ghost use Rattle.raft_log_format.specs.Name.{IsNameRefusal};
+    ghost use Rattle.raft_log_format.specs.Name.{IsNameRefusal, IsPathTo};
 
     /// Which names are a file's.
     ghost named: { List ℕ → Self → Type 0 };
@@ -37,6 +37,11 @@ pub trait FileNameExt: Sized {
     /// The file's name. A number of more than sixteen digits is refused as `NumberRange`.
     fn build_file_name(&self, alloc: Global) -> Result<String>
         ensures ok { IfOk result (λ name. named (string_bytes name) self.now) }
+        ensures err { IfErr result (λ error. IsNameRefusal (number self.now) error) };
+
+    /// The path of the file in a directory: the directory, a slash and the name. Refused as the name is.
+    fn build_file_path(&self, alloc: Global, dir: &str) -> Result<String>
+        ensures ok { IfOk result (λ path. IsPathTo (λ name. named name self.now) dir.now (string_bytes path)) }
         ensures err { IfErr result (λ error. IsNameRefusal (number self.now) error) };
 }
 
@@ -95,7 +100,7 @@ fn suffix(queue: LogQueue) -> &'static str
 }
 
 impl FileNameExt for FileId {
-    ghost use Rattle.raft_log_format.specs.Name.{IsNamed, suffix_of};
+    ghost use Rattle.raft_log_format.specs.Name.{IsNamed, IsFilePath, suffix_of, file_name};
 
     ghost named = { λ name id. IsNamed (suffix_of id.queue) name id.seq };
 
@@ -113,11 +118,34 @@ impl FileNameExt for FileId {
 
     fn build_file_name(&self, alloc: Global) -> Result<String>
         ensures ok { IfOk result (λ name. IsNamed (suffix_of self.now.queue) (string_bytes name) self.now.seq) }
-        ensures exact { IfOk result (λ name. string_bytes name ≡ sixteen_digits self.now.seq ++ suffix_of self.now.queue) }
+        ensures exact { IfOk result (λ name. string_bytes name ≡ file_name self.now) }
         ensures err { IfErr result (λ error. IsNameRefusal self.now.seq error) }
         ensures range { (result ≡ Err NumberRange) ↔ (10 ^ 16 ≤ self.now.seq) }
     {
         name_with(alloc, self.seq, suffix(self.queue))
+    }
+
+    fn build_file_path(&self, alloc: Global, dir: &str) -> Result<String>
+        ensures ok { IfOk result (λ path. IsFilePath self.now dir.now (string_bytes path)) }
+        ensures exact { IfOk result (λ path. string_bytes path ≡ dir.now ++ 47 ∷ file_name self.now) }
+        ensures err { IfErr result (λ error. IsNameRefusal self.now.seq error) }
+        ensures range { (result ≡ Err NumberRange) ↔ (10 ^ 16 ≤ self.now.seq) }
+    {
+        match self.build_file_name(alloc) {
+            Ok(name) => path_to(alloc, dir, name.as_str()),
+            Err(error) => Err(error),
+        }
+    }
+}
+
+/// The path of a name in a directory.
+fn path_to(alloc: Global, dir: &str, name: &str) -> Result<String>
+    ensures ok { IfOk result (λ path. string_bytes path ≡ dir.now ++ 47 ∷ name.now) }
+    ensures err { IfErr result (λ error. error ≡ Memory) }
+{
+    match format!(in alloc; "{dir}/{name}") {
+        Ok(path) => Ok(path),
+        Err(_) => Err(Error::Memory),
     }
 }
 

@@ -15,7 +15,7 @@ use std::alloc::{AllocError, Global};
 const MIN_RECOVERY_READ_BLOCK_SIZE: u64 = 512;
 
 /// The settings of a log. `default` has the usual ones; `sanitize` refuses what can't be and makes the rest whole.
-#[derive(Debug, Drop)]
+#[derive(Clone, Debug, Drop, PartialEq, Eq)]
 pub struct Config {
     /// The main directory of log files; made at an open where it isn't there.
     pub dir: String,

@@ -40,5 +40,5 @@ without_named (Some id) changes = without_file id changes
 
 -- and where the first file gets a name that the second one had
 abbrev pub with_moved : Option ℕ → Option ℕ → List (ℕ × Change) → List (ℕ × Change)
-with_moved None gone changes = changes
-with_moved (Some id) gone changes = without_replaced id gone changes
+with_moved None replaced changes = changes
+with_moved (Some id) replaced changes = without_replaced id replaced changes

@@ -1,2 +1,2 @@
-mod Saving
 pub mod Kept
+mod Saving

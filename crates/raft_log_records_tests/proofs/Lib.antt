@@ -1,1 +1,1 @@
-pub mod MessageLaws
+pub mod NumberFirst

@@ -1,5 +1,5 @@
 use Rattle.raft_log_base.specs.Number.{u64_bytes}
-use Rattle.raft_log_records_tests.proofs.MessageLaws.{number_first}
+use Rattle.raft_log_records_tests.proofs.NumberFirst.{number_first}
 use Rattle.raft_log_records_tests.proofs.messages.TestEntryMessage.write.Goals as goal
 
 pub returns-in_err-append_u64-clause-again : goal.returns-in_err-append_u64-clause-again

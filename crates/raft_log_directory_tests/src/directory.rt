@@ -51,7 +51,6 @@ fn laws_of_writes_and_notes() {
     notes::noted_files_have_what_is_appended::<u64, u64>();
     notes::noted_files_have_what_is_rewritten::<u64, u64>();
     notes::raises_are_followed::<u64, u64>();
-    notes::full_rewrite_leaves_one_file::<u64, u64>();
     notes::items_speak_of_what_they_bring::<u64, u64>();
 }
 

@@ -1,5 +1,5 @@
 -- Records are known by their bytes.
-use Rattle.std.proofs.Common.{◌≡◌, ℕ, ◌+◌, ◌<◌, ◌≤◌, ◌^◌, ◌==◌, ◌∙◌, true, nat_le, List, [], ◌∷◌, ◌++◌, map, drop, inl, inr, length, length-append, append_assoc, append-nil, Ok, Option, Some, None, refl, sym, ap, subst, arith}
+use Rattle.std.proofs.Common.{◌≡◌, ℕ, ◌+◌, ◌<◌, ◌≤◌, ◌^◌, ◌==◌, ◌∙◌, true, nat_le, List, [], ◌∷◌, ◌++◌, map, drop, inl, inr, length, length-append, append_assoc, append-nil, Ok, Option, refl, sym, ap, subst, arith}
 use Rattle.std.proofs.lemmas.Bool.Decides.{nat_tests}
 use Rattle.std.proofs.lemmas.Grind.{common_steps}
 use Rattle.std.proofs.lemmas.List.Concat.{flat_map-append}

@@ -10,3 +10,6 @@ pub mod records;
 pub mod voter;
 pub mod voter_messages;
 pub mod voter_session;
+//! One proved caller of each crate that users call.
+pub mod format;
+pub mod settings;

@@ -2,14 +2,13 @@
 #![tactic(auto)]
 
 pub mod base;
+pub mod format;
 pub mod frames;
 pub mod items;
 pub mod log_disk;
 pub mod memory_files;
 pub mod records;
+pub mod settings;
 pub mod voter;
 pub mod voter_messages;
 pub mod voter_session;
-//! One proved caller of each crate that users call.
-pub mod format;
-pub mod settings;

@@ -4,8 +4,7 @@ ghost use Rattle.raft_log_records.specs.ItemBatch.{content_size, items_size, all
 
 use raft_log_frames::decode_footer;
 use raft_log_frames::record::append_footer;
-use raft_log_items::items::copied;
-use raft_log_items::items::{lay_out, place, set_written};
+use raft_log_items::items::{copied, lay_out, place, set_written};
 use raft_log_items::{
     Bytes, Command, CompressionType, EntryIndex, EntryIndexes, FileBlockHandle, LogFileContext,
     LogItem, LogItemContent, Message, OpType,

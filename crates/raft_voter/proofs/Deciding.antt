@@ -78,9 +78,9 @@ state-bare_install v t i u = elim (cases_Bool (nat_lt t v.term)) [
   | inr current ↦ elim (cases_Bool (nat_le i v.base_index)) [
     | inl old ↦ rw (current, old) (stored-adopt v t)
     | inr new ↦ rw (current, new) (
-      by_test (λ (w : State). stored_state (installed (adopt_term (without_bytes v) t) i u) ≡ stored_state (installed w i u)) (nat_lt v.term t) (record v { term = t; vote = None }) v
-      (λ h. rw h refl) (λ h. rw h refl)
-      )
+        by_test (λ (w : State). stored_state (installed (adopt_term (without_bytes v) t) i u) ≡ stored_state (installed w i u)) (nat_lt v.term t) (record v { term = t; vote = None }) v
+        (λ h. rw h refl) (λ h. rw h refl)
+        )
   ]
 ]
 
@@ -349,6 +349,7 @@ same_voter v w state log =
   where
     made : ℕ → Option ℕ → ℕ → ℕ → ℕ → List Pair → State
     made t o b u c l = record { term = t; vote = o; base_index = b; base_term = u; commit = c; log = l }
+
     built : (t t' : ℕ) (o o' : Option ℕ) (b b' u u' c c' : ℕ) (l l' : List Pair) → t ≡ t' → o ≡ o' → b ≡ b' → u ≡ u' → c ≡ c' → l ≡ l' → made t o b u c l ≡ made t' o' b' u' c' l'
     built t t' o o' b b' u u' c c' l l' et eo eb eu ec el = cc
 

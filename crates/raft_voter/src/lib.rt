@@ -8,9 +8,9 @@
 #![tactic(auto)]
 
 mod judging;
-pub mod outline;
 pub mod laws;
 mod list;
+pub mod outline;
 mod voter;
 mod voters;
 

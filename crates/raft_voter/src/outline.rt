@@ -8,13 +8,11 @@ ghost use Rattle.raft_voter.specs.State.{fresh, last_index, last_term, state_of,
 mod decide;
 mod decision;
 mod plans;
-
 mod run;
 mod term_runs;
 
-pub use decision::{Answer, Change, Decision, Write};
-
 use crate::{Items, Memory, VoterState};
+pub use decision::{Answer, Change, Decision, Write};
 use std::alloc::Global;
 use std::marker::Model;
 use term_runs::TermRuns;

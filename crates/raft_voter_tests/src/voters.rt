@@ -141,7 +141,11 @@ fn decisions(rt: HostRuntime) -> Result<(), Fail> {
     let outline = Outline::new(rt.alloc());
     let granted = outline.decide(&vote(5, 2));
     assert!(rt; matches!(granted.answer, Answer::Told(Reply::Granted(5))));
-    assert!(rt; granted.change.is_some_and(|change| change.state.vote == Some(2)));
+    assert!(rt;
+        granted
+            .change
+            .is_some_and(|change| change.state.vote == Some(2))
+    );
     assert!(rt; outline.decide(&Request::Retire).change.is_none());
     assert!(rt; outline.term_at(1).is_none() && outline.state().term == 0);
     Ok(())

@@ -37,7 +37,13 @@ impl Outline {
                 prev_term,
                 commit,
                 entries,
-            } => self.settle(self.append(*term, *prev_index, *prev_term, *commit, entries.as_slice())),
+            } => self.settle(self.append(
+                *term,
+                *prev_index,
+                *prev_term,
+                *commit,
+                entries.as_slice(),
+            )),
             Request::Compact { index } => self.settle(self.compact(*index)),
             Request::Install {
                 term,

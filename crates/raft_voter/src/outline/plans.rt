@@ -50,13 +50,7 @@ fn with_term(state: VoterState, term: u64) -> VoterState
 
 impl Outline {
     /// A candidate asks for a vote (Raft paper, RequestVote receiver).
-    pub(super) fn vote(
-        &self,
-        term: u64,
-        candidate: u64,
-        last_index: u64,
-        last_term: u64,
-    ) -> Plan
+    pub(super) fn vote(&self, term: u64, candidate: u64, last_index: u64, last_term: u64) -> Plan
         ensures { Plans self.now.voter (Vote term candidate last_index last_term) result }
     {
         let state = self.stored_state();

@@ -4,6 +4,7 @@ pub mod Encoded
 pub mod Entries
 pub mod Marks
 pub mod Meanings
+pub mod PlacedMeanings
 pub mod Moves
 pub mod ItemBatches
 pub mod Places

@@ -108,7 +108,7 @@ empty_value : mark_in [] ≡ None
 unfolding mark_in
 empty_value = refl
 
-value_again : (value : Option (List ℕ)) → option_and_then mark_in (Some (unwrap_or value [])) ≡ option_and_then mark_in value
+pub value_again : (value : Option (List ℕ)) → option_and_then mark_in (Some (unwrap_or value [])) ≡ option_and_then mark_in value
 value_again None = empty_value
 value_again (Some v) = refl
 

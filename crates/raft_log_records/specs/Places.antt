@@ -8,6 +8,7 @@ use Rattle.raft_log_items.specs.Writing.{plain_item}
 use Rattle.raft_log_frames.specs.Record.{block_bytes}
 use Rattle.raft_log_records.specs.ItemBatch.{all_entries}
 use Rattle.raft_log_records.specs.Batch.{Batch}
+use Rattle.raft_log_records.specs.Meaning.{record_of}
 
 -- the bytes of an entry, where these are the bytes of its block
 abbrev pub entry_bytes : List ℕ → EntryIndex → List ℕ
@@ -41,3 +42,12 @@ ReadHasWhatWasAdded =
     (items : List LogItem) (entries : List ℕ) (handle : FileBlockHandle) → laid_out 0 items ≡ items
     → entries_len items ≡ length entries
     → bytes_of_each (placed handle (map plain_item items)) (block_bytes entries) ≡ bytes_of_each items entries
+
+-- What is read of a written batch means what was added to it, where the bytes of an entry stand for it: those at its place
+-- in the block that was written, and those that were added.
+abbrev pub ReadMeansWhatWasAdded : Type 0
+ReadMeansWhatWasAdded =
+    (items : List LogItem) (entries : List ℕ) (handle : FileBlockHandle) → laid_out 0 items ≡ items
+    → entries_len items ≡ length entries
+    → record_of (entry_bytes (block_bytes entries)) (placed handle (map plain_item items))
+    ≡ record_of (entry_bytes entries) items

@@ -6,11 +6,11 @@ ghost use Rattle.raft_log_items.specs.Placed.{content_len, laid_content, written
 ghost use Rattle.raft_log_items.specs.Reading.{content_of_at, item_at};
 ghost use Rattle.raft_log_items.specs.Writing.{content_bytes, item_bytes, plain_item, IsSpelledContent, KeepsFront};
 
-use crate::bytes::Bytes;
 use crate::command::Command;
 use crate::entry_indexes::EntryIndexes;
 use crate::key_value::KeyValue;
 use crate::op_type::OpType;
+use raft_lists::Bytes;
 use raft_log_base::codec::{BytesSlice, append_var_u64, decode_var_u64, or_cut_back, read_u8};
 use raft_log_base::{Error, FileBlockHandle, Result};
 use std::alloc::{AllocError, Global};

@@ -12,8 +12,9 @@ ghost use Rattle.raft_log_items.specs.Writing.{
   KeepsFront,
 };
 
-use crate::bytes::{Bytes, append_bytes, split_bytes};
+use crate::bytes::{append_bytes, split_bytes};
 use crate::op_type::OpType;
+use raft_lists::Bytes;
 use raft_log_base::codec::{BytesSlice, or_cut_back, read_u8};
 use raft_log_base::{Error, FileId, Result};
 use std::alloc::{AllocError, Global};

@@ -1,7 +1,7 @@
 //! The items of a log and their bytes: entry indexes, commands, keys; and the messages that users keep in them.
 #![tactic(auto)]
 
-pub mod bytes;
+mod bytes;
 pub mod command;
 pub mod compression;
 pub mod entry;
@@ -13,7 +13,6 @@ pub mod laws;
 pub mod message;
 pub mod op_type;
 
-pub use bytes::Bytes;
 pub use command::Command;
 pub use compression::CompressionType;
 pub use entry::EntryIndex;
@@ -22,6 +21,7 @@ pub use item::{LogItem, LogItemContent};
 pub use key_value::KeyValue;
 pub use message::{Message, MessageExt};
 pub use op_type::OpType;
+pub use raft_lists::Bytes;
 pub use raft_log_base::{
     Error, FileBlockHandle, FileId, FileSeq, LogFileContext, LogQueue, Result, Version,
 };

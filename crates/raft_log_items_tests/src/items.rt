@@ -73,7 +73,7 @@ fn no_entries_take_no_place(rt: HostRuntime) {
 fn bytes_keep_what_they_are_given(rt: HostRuntime) -> Result<(), Fail> {
     let bytes = Bytes::from_slice(rt.alloc(), b"key")?;
     assert!(rt; (bytes.len(), bytes.is_empty()) == (3, false));
-    let same = Bytes::new(bytes.clone()?.into_vec());
+    let same = Bytes::from_vec(bytes.clone()?.into_vec());
     assert!(rt; same == bytes);
     Ok(())
 }

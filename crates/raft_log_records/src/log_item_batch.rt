@@ -281,7 +281,7 @@ impl LogItemBatch {
             raft_group_id,
             OpType::Put,
             key,
-            Some(Bytes::new(value)),
+            Some(Bytes::from_vec(value)),
         ));
         Ok(())
     }

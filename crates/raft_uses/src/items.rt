@@ -50,7 +50,7 @@ pub fn counter_item(
     let mut value = Vec::new(alloc);
     counter.write(&mut value)?;
     let key = Bytes::from_slice(alloc, key)?;
-    let item = LogItem::new_kv(group, OpType::Put, key, Some(Bytes::new(value)));
+    let item = LogItem::new_kv(group, OpType::Put, key, Some(Bytes::from_vec(value)));
     let mut out = Vec::new(alloc);
     item.encode(&mut out)?;
     Ok(out)

@@ -7,7 +7,6 @@
 #![tactic(auto)]
 
 mod display;
-mod items;
 pub mod laws;
 mod memory;
 mod reply;
@@ -15,8 +14,8 @@ mod request;
 mod round;
 mod stored;
 
-pub use items::Items;
 pub use memory::Memory;
+pub use raft_lists::Items;
 pub use reply::{Entry, Reply, VoterState};
 pub use request::{MAX_APPEND_BYTES, MAX_APPEND_ENTRIES, MAX_ENTRY_BYTES, MAX_NUMBER, Request};
 pub use round::{Outcome, Round, Transcript};

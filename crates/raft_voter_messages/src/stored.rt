@@ -11,6 +11,7 @@ mod state;
 use crate::Memory;
 pub use entry::{entry_bytes, read_entry, stored_entry_fits};
 pub use state::{read_state, state_bytes, state_fits};
+use std::alloc::AllocError;
 use thiserror::Error;
 
 /// How many bytes a number has.
@@ -44,6 +45,14 @@ impl From<Memory> for StoredFault {
     ghost from_gives = { λ _ fault. fault ≡ faults.Memory };
 
     fn from(_refused: Memory) -> StoredFault {
+        StoredFault::Memory
+    }
+}
+
+impl From<AllocError> for StoredFault {
+    ghost from_gives = { λ _ fault. fault ≡ faults.Memory };
+
+    fn from(_refused: AllocError) -> StoredFault {
         StoredFault::Memory
     }
 }

@@ -41,6 +41,6 @@ fn add_cuts(cuts: &mut Items<usize>, outcome: &Outcome) -> Result<(), Memory>
 {
     match outcome {
         Outcome::Answered(_) => Ok(()),
-        Outcome::Cut => cuts.push(0),
+        Outcome::Cut => Ok(cuts.push(0)?),
     }
 }

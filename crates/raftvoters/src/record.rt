@@ -7,7 +7,7 @@ ghost use Rattle.raftvoters.specs.Damage.{HasNoEntries, HasNoEntry, HasNoVoterRe
 ghost use Rattle.raftvoters.specs.Records.{AreEntries, IsStorable, voter_record, stored_entry, voter_bytes};
 
 use raft_voter::{Entry, Items, Memory, StoredFault, Voter, read_entry, read_state, state_bytes};
-use std::alloc::Global;
+use std::alloc::{AllocError, Global};
 use thiserror::Error;
 
 /// Why a file couldn't be opened.
@@ -27,6 +27,16 @@ impl From<Memory> for OpenFault {
     ghost from_gives = { λ _ fault. fault ≡ OutOfMemory };
 
     fn from(_refused: Memory) -> OpenFault {
+        OpenFault::Memory
+    }
+}
+
+impl From<AllocError> for OpenFault {
+    ghost use Rattle.raftvoters.specs.declared.record.OpenFault.TheVariants.{Memory as OutOfMemory};
+
+    ghost from_gives = { λ _ fault. fault ≡ OutOfMemory };
+
+    fn from(_refused: AllocError) -> OpenFault {
         OpenFault::Memory
     }
 }

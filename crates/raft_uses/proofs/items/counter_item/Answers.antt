@@ -9,6 +9,6 @@ use Rattle.raft_uses.proofs.items.counter_item.Goals as goal
 pub returns-clause-spelled : goal.returns-clause-spelled
 returns-clause-spelled c =
     let item : LogItem = counter_put c.args.group c.args.key.now c.args.counter.count in
-    let same : c.new_kv-item.result ≡ item = rw (c.new_kv-item.ensures, c.in_ok-key.ensures, c.new.ensures, c.in_ok-write.ensures.ok, c.new-value.ensures.items) refl in
+    let same : c.new_kv-item.result ≡ item = rw (c.new_kv-item.ensures, c.in_ok-key.ensures, c.from_vec.ensures, c.in_ok-write.ensures.ok, c.new-value.ensures.items) refl in
     let spelled : IsItem (item_bytes item) (plain_item item) = subst (λ (x : LogItem). IsItem (item_bytes x) (plain_item x)) same c.in_ok-encode.ensures.spelled in
     rw (c.in_ok-encode.ensures.ok, c.new-out.ensures.items, same) spelled

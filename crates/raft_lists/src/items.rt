@@ -1,13 +1,14 @@
 //! A `Vec` that contracts see as the list of its elements.
 ghost use Rattle.std.specs.Prelude.{◌≡◌, ◌==◌, [], ◌∷◌, ◌++◌, length, IfOk, OnOk, OnErr};
-ghost use Rattle.std.specs.Cmp.Lexicographic.{pointwise, lists_per};
 
-use crate::Memory;
-use std::alloc::Global;
+use std::alloc::{AllocError, Global};
 use std::marker::Model;
 
-/// A growing list. It is a `Vec` of which contracts see the elements alone, so that two of them are equal
-/// where their elements are, and so that requests, replies and rounds can be compared as values.
+/// Bytes with an owner.
+pub type Bytes = Items<u8>;
+
+/// A growing list. It is a `Vec` of which contracts see the elements alone, and not its room, so that clauses compare
+/// lists, and types that hold them, as values.
 #[derive(Debug, Drop)]
 pub struct Items<T> {
     items: Vec<T>,
@@ -21,7 +22,20 @@ impl<T> Model for Items<T> {
     ghost view = { λ a. a.items.items };
 }
 
+impl<T: Clone> Clone for Items<T> {
+    ghost use Rattle.std.specs.List.{AllZip};
+
+    ghost is_clone = { λ old copy. AllZip T.is_clone old copy × (length copy ≡ length old) };
+
+    fn clone(&self) -> Result<Self, AllocError> {
+        let items = self.items.clone()?;
+        Ok(Items { items })
+    }
+}
+
 impl<T: PartialEq> PartialEq for Items<T> {
+    ghost use Rattle.std.specs.Cmp.Lexicographic.{pointwise, lists_per};
+
     ghost eq = { pointwise T.eq };
 
     ghost laws = { lists_per T.laws };
@@ -29,6 +43,12 @@ impl<T: PartialEq> PartialEq for Items<T> {
     fn eq(&self, other: &Self) -> bool {
         self.as_slice() == other.as_slice()
     }
+}
+
+impl<T: Eq> Eq for Items<T> {
+    ghost use Rattle.std.specs.Cmp.Lexicographic.{lists_equiv};
+
+    ghost laws = { lists_equiv T.Eq.laws };
 }
 
 impl<T> Items<T> {
@@ -80,7 +100,7 @@ impl<T> Items<T> {
 
 impl<T: Drop> Items<T> {
     /// Adds an element at the end. Where memory is refused the list stays as it was.
-    pub fn push(&mut self, item: T) -> Result<(), Memory>
+    pub fn push(&mut self, item: T) -> Result<(), AllocError>
         ensures ok { OnOk result (self.new ≡ self.old ++ item ∷ []) }
         ensures err { OnErr result (self.new ≡ self.old) }
     {
@@ -91,7 +111,7 @@ impl<T: Drop> Items<T> {
 
 impl<T: Copy> Items<T> {
     /// A copy of these elements.
-    pub fn from_slice(alloc: Global, items: &[T]) -> Result<Self, Memory>
+    pub fn from_slice(alloc: Global, items: &[T]) -> Result<Self, AllocError>
         ensures { IfOk result (λ copy. copy ≡ items.now) }
     {
         let items = Vec::from_slice(alloc, items)?;

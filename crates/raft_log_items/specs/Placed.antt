@@ -75,7 +75,8 @@ pub record ArePlaced (handle : FileBlockHandle) (plain items : List LogItem) (le
 -- What a decoder answered and what it left is what the reading of the bytes gives, with the places of the items, unless
 -- memory ran out. A refusal leaves all.
 abbrev pub ReadsPlaced :
-    FileBlockHandle → Result (Vec LogItem × ℕ) Error → List ℕ → List ℕ → Result (List LogItem × List ℕ) Fault → Type 0
+    FileBlockHandle → Result (Vec LogItem × ℕ) Error → List ℕ → List ℕ
+    → Result (List LogItem × List ℕ) Fault → Type 0
 ReadsPlaced handle (Ok found) old new reading =
     (plain : List LogItem) × (reading ≡ Ok (plain, new)) × ArePlaced handle plain found.0.items found.1
 ReadsPlaced handle (Err e) old new reading = Fails e reading × (new ≡ old)

@@ -128,6 +128,10 @@ item_at bytes = do
   content ← content_of_at kind.0 kind.1
   Ok (record { raft_group_id = group.0; content = content.0 }, content.1)
 
+-- so many items
+abbrev pub items_of_at : ℕ → Reader (List LogItem) Fault
+items_of_at = times_at item_at
+
 -- a list of items: their count, and each of them
 unfoldable pub items_at : Reader (List LogItem) Fault
-items_at bytes = number_at bytes >>= λ count. times_at item_at count.0 count.1
+items_at bytes = number_at bytes >>= λ count. items_of_at count.0 count.1

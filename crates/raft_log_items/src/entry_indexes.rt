@@ -222,7 +222,8 @@ fn split_entries(
     count: u64,
 ) -> Result<Vec<EntryIndex>>
     requires { first + count < 2 ^ 64 }
-    ensures read { ReadsItemsOrMemory result source.old.now source.new.now (entries_from_at first count source.old.now) }
+    ensures read { ReadsItemsOrMemory result source.old.now source.new.now
+        (entries_from_at first count source.old.now) }
     ensures run { IfOk result (λ entries. FollowsFrom first entries.items × (length entries.items ≡ count)) }
 {
     let mut rest: &[u8] = *source;

@@ -1,10 +1,9 @@
 //! Lists of items: their count, and each of them; and where their entries lie.
 ghost use Rattle.std.specs.Prelude.{◌≡◌, ◌+◌, ◌/◌, ◌<◌, ◌^◌, ◌++◌, [], flat_map, length, map, min, vec_capacity, IfOk, OnOk, OnErr};
-ghost use Rattle.raft_log_base.specs.Grammar.{times_at};
 ghost use Rattle.raft_log_base.specs.Fault.{ReadsItemsOrMemory, DecodesItemsOrMemory};
 ghost use Rattle.raft_log_items.specs.Items.{AreItems};
 ghost use Rattle.raft_log_items.specs.Placed.{entries_len, laid_out, written, placed, ReadsPlaced};
-ghost use Rattle.raft_log_items.specs.Reading.{item_at, items_at};
+ghost use Rattle.raft_log_items.specs.Reading.{items_of_at, items_at};
 ghost use Rattle.raft_log_items.specs.Writing.{item_bytes, items_bytes, plain_item, AreSpelled, KeepsFront};
 
 use crate::item::{LogItem, append_item, lay_out_content, set_content_written};
@@ -86,7 +85,7 @@ fn split_counted_items(alloc: Global, source: &mut BytesSlice<'_>) -> Result<Vec
 
 /// Reads so many items.
 fn split_items(alloc: Global, source: &mut BytesSlice<'_>, count: u64) -> Result<Vec<LogItem>>
-    ensures { ReadsItemsOrMemory result source.old.now source.new.now (times_at item_at count source.old.now) }
+    ensures { ReadsItemsOrMemory result source.old.now source.new.now (items_of_at count source.old.now) }
 {
     let mut rest: &[u8] = *source;
     let mut items = room_for_items(alloc, count, rest.len())?;
@@ -124,7 +123,7 @@ fn split_placed_items(
     count: u64,
     block: FileBlockHandle,
 ) -> Result<(Vec<LogItem>, u64)>
-    ensures { ReadsPlaced block result source.old.now source.new.now (times_at item_at count source.old.now) }
+    ensures { ReadsPlaced block result source.old.now source.new.now (items_of_at count source.old.now) }
 {
     let mut rest: &[u8] = *source;
     let mut items = room_for_items(alloc, count, rest.len())?;

@@ -23,7 +23,8 @@ pub fn size_in(text: &[u8]) -> Result<ReadableSize, ParseSizeError>
 
 /// The number that the digits at the front spell, if it fits, and what stands after them.
 fn number_in(text: &[u8]) -> Option<(u64, &[u8])>
-    ensures { MatchOption result (2 ^ 64 ≤ (number_in 0 text.now).0) (λ p. number_in 0 text.now ≡ (p.0, p.1.now)) }
+    ensures { MatchOption result (2 ^ 64 ≤ (number_in 0 text.now).0)
+        (λ p. number_in 0 text.now ≡ (p.0, p.1.now)) }
 {
     let mut number: u64 = 0;
     for (i, byte) in text.iter().enumerate() {

@@ -2,7 +2,7 @@
 ghost use Rattle.std.specs.Prelude.{◌≡◌};
 ghost use Rattle.raft_log_records.specs.Batch.{empty_batch};
 
-use crate::context;
+use crate::steps::record;
 use raft_log_items::{Bytes, Command, LogItem, OpType, Version};
 use raft_log_records::{AtomicGroupBuilder, AtomicGroupStatus, LogBatch, LogItemBatch, Marking};
 use std::test::Fail;
@@ -34,7 +34,7 @@ fn a_group_is_ended(rt: HostRuntime) -> Result<(), Fail> {
     builder.begin(rt.alloc(), &mut batch)?;
     batch.clear();
     builder.end(rt.alloc(), &mut batch)?;
-    assert!(rt; batch.marking() == Marking::Part(258, AtomicGroupStatus::End));
+    assert!(rt; marking(&mut batch) == Marking::Part(258, AtomicGroupStatus::End));
     assert!(rt; builder.status() == Some(AtomicGroupStatus::End));
     Ok(())
 }
@@ -44,10 +44,9 @@ fn a_mark_is_a_key_of_group_zero(rt: HostRuntime) -> Result<(), Fail> {
     let mut builder = AtomicGroupBuilder::with_id(258);
     let mut batch = LogBatch::default(rt.alloc())?;
     builder.begin(rt.alloc(), &mut batch)?;
-    batch.finish_populate()?;
-    batch.prepare_write(&context(Version::V1, 1));
+    let bytes = record(rt.alloc(), &mut batch, Version::V1)?;
     let mark = [1, 0, 3, 1, 3, 0x5f, 0x5f, 1, 9, 0, 0, 0, 0, 0, 0, 1, 2, 0];
-    assert!(rt; batch.encoded_bytes().get(16..34) == Some(mark.as_slice()));
+    assert!(rt; bytes.get(16..34) == Some(mark.as_slice()));
     Ok(())
 }
 
@@ -97,11 +96,11 @@ const ITEMS: [(u64, OpType, &[u8], &[u8], Marking); 9] = [
 
 #[test]
 fn items_tell_their_mark(rt: HostRuntime) -> Result<(), Fail> {
-    for (group, op_type, key, value, marking) in ITEMS.iter() {
+    for (row, (group, op_type, key, value, marking)) in ITEMS.iter().enumerate() {
         let key = Bytes::from_slice(rt.alloc(), key)?;
         let value = Bytes::from_slice(rt.alloc(), value)?;
         let item = LogItem::new_kv(*group, *op_type, key, Some(value));
-        assert!(rt; Marking::parse(&item) == *marking, "{item:?}");
+        assert!(rt; Marking::parse(&item) == *marking, "row {row}");
     }
     Ok(())
 }

@@ -1,6 +1,7 @@
 //! Headers that are refused, and the text of each refusal.
-use crate::{bytes_of, cell};
+use crate::rows::{bytes_of, cell, told};
 use raft_log_frames::decode_header;
+use std::alloc::{AllocError, Global};
 use std::test::Fail;
 
 /// What is damaged, the bytes, and the refusal.
@@ -23,19 +24,22 @@ footer at the greatest number | 00 00 00 00 00 00 18 00 ff ff ff ff ff ff ff ff 
 offset with the lowest byte first | 00 00 00 00 00 00 18 00 10 00 00 00 00 00 00 00 | Corruption: Log batch footer past the end: 1152921504606846976
 ";
 
+/// What is told of these bytes, and how many of them are taken.
+fn refusal(alloc: Global, bytes: &str) -> Result<(String, usize), AllocError> {
+    let bytes = bytes_of(alloc, bytes)?;
+    let mut rest = bytes.as_slice();
+    let header = decode_header(alloc, &mut rest);
+    Ok((told(alloc, header)?, bytes.len().saturating_sub(rest.len())))
+}
+
 #[test]
 fn damaged_headers_are_refused(rt: HostRuntime) -> Result<(), Fail> {
-    assert_eq!(rt; HEADERS.lines().count(), 16);
+    assert!(rt; HEADERS.lines().count() == 16);
     for line in HEADERS.lines() {
         let (name, line) = cell(line);
-        let (bytes, refusal) = cell(line);
-        let bytes = bytes_of(rt.alloc(), bytes)?;
-        let mut rest = bytes.as_slice();
-        match decode_header(rt.alloc(), &mut rest) {
-            Ok(_) => assert!(rt; false, "{name}"),
-            Err(error) => assert_eq!(rt; error.to_string(rt.alloc())?.as_str(), refusal, "{name}"),
-        }
-        assert_eq!(rt; rest.len(), bytes.len(), "{name}");
+        let (bytes, want) = cell(line);
+        let (text, taken) = refusal(rt.alloc(), bytes)?;
+        assert!(rt; text.as_str() == want && taken == 0, "{name}");
     }
     Ok(())
 }

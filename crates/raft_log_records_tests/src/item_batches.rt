@@ -1,5 +1,5 @@
 //! Lists of items: each call, the bytes of a list, and a footer with its places.
-use crate::context;
+use crate::rows::context;
 use raft_log_items::{
     Command, CompressionType, EntryIndex, EntryIndexes, Error, FileBlockHandle, FileId, LogItem,
     LogItemContent, LogQueue, Result, Version,

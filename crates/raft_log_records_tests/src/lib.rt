@@ -1,50 +1,26 @@
 //! Tests of frames and of records: the worked bytes of the format, refusals with their texts, and each call once.
 #![tactic(auto)]
 
-use raft_log_items::{FileId, LogFileContext, LogQueue, Version};
-use std::alloc::{AllocError, Global};
-
+#[cfg(test)]
 mod atomic_groups;
+#[cfg(test)]
 mod batches;
+#[cfg(test)]
 mod damaged_blocks;
+#[cfg(test)]
 mod damaged_footers;
+#[cfg(test)]
 mod damaged_headers;
+#[cfg(test)]
 mod item_batches;
+#[cfg(test)]
 mod log_batches;
 mod messages;
+#[cfg(test)]
 mod reading;
+#[cfg(test)]
+mod rows;
+#[cfg(test)]
+mod steps;
+#[cfg(test)]
 mod whole_records;
-
-/// One `Clean` of group 1, in a file without signatures.
-const CLEAN_UNSIGNED: [u8; 24] = [
-    0, 0, 0, 0, 0, 0, 0x18, 0, 0, 0, 0, 0, 0, 0, 0, 0x10, 1, 1, 2, 1, 0x5a, 0x80, 0x0b, 0xdd,
-];
-
-/// The same in file 1 of a format with signatures.
-const CLEAN_SIGNED: [u8; 24] = [
-    0, 0, 0, 0, 0, 0, 0x18, 0, 0, 0, 0, 0, 0, 0, 0, 0x10, 1, 1, 2, 1, 0x5b, 0x80, 0x0b, 0xdd,
-];
-
-/// A file of the append queue.
-fn context(version: Version, number: u64) -> LogFileContext {
-    LogFileContext::new(FileId::new(LogQueue::Append, number), version)
-}
-
-/// The text before the first bar of a line, and the text behind it.
-fn cell(line: &str) -> (&str, &str) {
-    match line.split_once('|') {
-        Some((front, behind)) => (front.trim(), behind.trim()),
-        None => (line.trim(), ""),
-    }
-}
-
-/// The bytes that are written as numbers of two hexadecimal digits; other words are left out.
-fn bytes_of(alloc: Global, text: &str) -> Result<Vec<u8>, AllocError> {
-    let mut bytes = Vec::new(alloc);
-    for digits in text.split_whitespace() {
-        if let Ok(byte) = u8::from_str_radix(digits, 16) {
-            bytes.push(byte)?;
-        }
-    }
-    Ok(bytes)
-}

@@ -3,11 +3,12 @@ ghost use Rattle.std.specs.Prelude.{◌≡◌, IfOk, OnOk};
 ghost use Rattle.raft_log_records.specs.declared.log_batch.BatchState.TheVariants.{Filling};
 ghost use Rattle.raft_log_records.specs.Batch.{IsSigned};
 
-use crate::context;
 use crate::messages::{TestEntries, TestEntry};
+use crate::rows::context;
+use crate::steps::record;
 use raft_log_items::{
-    Bytes, Command, EntryIndex, Error, FileBlockHandle, FileId, LogItem, LogItemContent, LogQueue,
-    Result, Version,
+    Bytes, EntryIndex, Error, FileBlockHandle, FileId, LogItem, LogItemContent, LogQueue, Result,
+    Version,
 };
 use raft_log_records::{BatchState, LogBatch};
 use std::alloc::{AllocError, Global};
@@ -16,7 +17,7 @@ use std::test::Fail;
 /// Two entries of group 1, `ab` at index 7 and `cde` at 8, in file 1 of a format with signatures.
 ///
 /// By zlib the checksum of `abcde` is 8587D865, and that of the seven bytes of the items C95EC3E9.
-const TWO_ENTRIES: [u8; 36] = [
+pub(crate) const TWO_ENTRIES: [u8; 36] = [
     0, 0, 0, 0, 0, 0, 36, 0, 0, 0, 0, 0, 0, 0, 0, 25, b'a', b'b', b'c', b'd', b'e', 0x65, 0xd8,
     0x87, 0x85, 1, 1, 1, 2, 7, 2, 3, 0xe8, 0xc3, 0x5e, 0xc9,
 ];
@@ -42,7 +43,7 @@ fn misplaced(index: u64) -> EntryIndex {
 }
 
 /// Adds these entries of a group.
-fn add(
+pub(crate) fn add(
     alloc: Global,
     batch: &mut LogBatch,
     group: u64,
@@ -103,10 +104,8 @@ fn a_batch_tells_its_size(rt: HostRuntime) -> std::result::Result<(), Fail> {
 }
 
 #[test]
-fn entries_are_written(rt: HostRuntime) -> std::result::Result<(), Fail> {
-    let batch = signed(rt.alloc())?;
-    let copy = batch.clone(rt.alloc())?;
-    assert!(rt; batch.encoded_bytes() == TWO_ENTRIES.as_slice());
+fn a_copy_has_the_same_record(rt: HostRuntime) -> std::result::Result<(), Fail> {
+    let copy = signed(rt.alloc())?.clone(rt.alloc())?;
     assert!(rt; copy.encoded_bytes() == TWO_ENTRIES.as_slice());
     Ok(())
 }
@@ -141,43 +140,6 @@ fn written_entries_lie_in_their_block(rt: HostRuntime) -> std::result::Result<()
     Ok(())
 }
 
-/// The text of a refusal of indexes that are no run.
-const NO_RUN: &str =
-    "Invalid Argument: entry indexes that don't rise by one, or of which one is 18446744073709551615";
-
-/// Indexes for two entries, and why they are refused.
-const NO_RUNS: [(&[u64], &str); 5] = [
-    (&[1, 3], NO_RUN),
-    (&[2, 2], NO_RUN),
-    (&[2, 1], NO_RUN),
-    (&[u64::MAX - 1, u64::MAX], NO_RUN),
-    (&[1], "Invalid Argument: 1 indexes for 2 entries"),
-];
-
-#[test]
-fn entries_that_are_no_run_are_refused(rt: HostRuntime) -> std::result::Result<(), Fail> {
-    for (indexes, want) in NO_RUNS.iter() {
-        let mut batch = LogBatch::default(rt.alloc())?;
-        match add(rt.alloc(), &mut batch, 1, indexes, &[b"ab", b"cde"]) {
-            Ok(_) => assert!(rt; false, "{want}"),
-            Err(error) => assert!(rt; error.to_string(rt.alloc())?.as_str() == *want, "{want}"),
-        }
-    }
-    Ok(())
-}
-
-#[test]
-fn no_entries_add_nothing(rt: HostRuntime) -> std::result::Result<(), Fail> {
-    let mut batch = LogBatch::default(rt.alloc())?;
-    add(rt.alloc(), &mut batch, 1, &[], &[])?;
-    batch.add_entries::<TestEntries>(rt.alloc(), 1, &[])?;
-    assert!(rt; batch.is_empty() && batch.approximate_size() == 0);
-    // An entry without bytes is an entry, and needs no block.
-    add(rt.alloc(), &mut batch, 1, &[u64::MAX - 1], &[b""])?;
-    assert!(rt; batch.finish_populate()? == 16 + 4 + 4 + 10 + 1);
-    Ok(())
-}
-
 /// An entry of a user's log.
 fn entry(alloc: Global, index: u64, bytes: &[u8]) -> std::result::Result<TestEntry, AllocError> {
     Ok(TestEntry {
@@ -186,14 +148,30 @@ fn entry(alloc: Global, index: u64, bytes: &[u8]) -> std::result::Result<TestEnt
     })
 }
 
+/// Two messages, the second of them without data.
+fn two_messages(alloc: Global) -> std::result::Result<Vec<TestEntry>, AllocError> {
+    let mut messages = Vec::new(alloc);
+    messages.push(entry(alloc, 7, b"ab")?)?;
+    messages.push(entry(alloc, 8, b"")?)?;
+    Ok(messages)
+}
+
+/// A batch of no messages and then of two.
+fn with_messages(alloc: Global) -> Result<LogBatch>
+    ensures { IfOk result (λ b. b.state ≡ Filling) }
+{
+    let mut batch = LogBatch::default(alloc)?;
+    let messages = two_messages(alloc)?;
+    batch.add_entries::<TestEntries>(alloc, 1, &[])?;
+    batch.add_entries::<TestEntries>(alloc, 1, messages.as_slice())?;
+    Ok(batch)
+}
+
 #[test]
 fn messages_are_entries(rt: HostRuntime) -> std::result::Result<(), Fail> {
-    let mut batch = LogBatch::default(rt.alloc())?;
-    let entries = vec![in rt.alloc(); entry(rt.alloc(), 7, b"ab")?, entry(rt.alloc(), 8, b"")?]?;
-    batch.add_entries::<TestEntries>(rt.alloc(), 1, entries.as_slice())?;
-    batch.finish_populate()?;
-    batch.prepare_write(&context(Version::V2, 1));
-    assert!(rt; batch.encoded_bytes().get(16..26) == Some(b"\0\0\0\0\0\0\0\x07ab".as_slice()));
+    let mut batch = with_messages(rt.alloc())?;
+    let bytes = record(rt.alloc(), &mut batch, Version::V2)?;
+    assert!(rt; bytes.get(16..26) == Some(b"\0\0\0\0\0\0\0\x07ab".as_slice()));
     let entries = drained(rt.alloc(), &mut batch)?;
     assert!(rt; extent(entries.as_slice(), 1) == Some((10, 8)));
     Ok(())
@@ -222,21 +200,27 @@ fn two_batches(alloc: Global) -> Result<(LogBatch, LogBatch)>
     Ok((batch, other))
 }
 
+/// The first of these with the second merged into it, and what is left of the second.
+fn merged(alloc: Global) -> Result<(LogBatch, LogBatch)>
+    ensures { IfOk result (λ b. (b.0.state ≡ Filling) × (b.1.state ≡ Filling)) }
+{
+    let (mut batch, mut other) = two_batches(alloc)?;
+    batch.merge(&mut other)?;
+    Ok((batch, other))
+}
+
 #[test]
 fn merged_batches_are_one(rt: HostRuntime) -> std::result::Result<(), Fail> {
-    let (mut batch, mut other) = two_batches(rt.alloc())?;
-    batch.merge(&mut other)?;
+    let (mut batch, mut other) = merged(rt.alloc())?;
     assert!(rt; other.is_empty() && other.finish_populate()? == 0);
-    batch.finish_populate()?;
-    batch.prepare_write(&context(Version::V2, 1));
-    assert!(rt; batch.encoded_bytes().get(16..22) == Some(b"abxcde".as_slice()));
+    let bytes = record(rt.alloc(), &mut batch, Version::V2)?;
+    assert!(rt; bytes.get(16..22) == Some(b"abxcde".as_slice()));
     Ok(())
 }
 
 #[test]
 fn merged_entries_lie_behind(rt: HostRuntime) -> std::result::Result<(), Fail> {
-    let (mut batch, mut other) = two_batches(rt.alloc())?;
-    batch.merge(&mut other)?;
+    let (mut batch, _other) = merged(rt.alloc())?;
     let entries = drained(rt.alloc(), &mut batch)?;
     assert!(rt; extent(entries.as_slice(), 1) == Some((2, 1)));
     assert!(rt; extent(entries.as_slice(), 2) == Some((3, 3)));

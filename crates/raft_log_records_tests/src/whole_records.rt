@@ -1,5 +1,5 @@
 //! Whole records, read by the three decoders.
-use crate::{CLEAN_SIGNED, CLEAN_UNSIGNED};
+use crate::rows::{CLEAN_SIGNED, CLEAN_UNSIGNED};
 use raft_log_frames::{decode_frame, decode_record};
 use raft_log_items::{LogItem, LogItemContent};
 use std::alloc::Global;

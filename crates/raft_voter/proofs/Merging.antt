@@ -2,7 +2,7 @@ use Rattle.std.proofs.Common.{◌≡◌, ◌≢◌, ℕ, ◌+◌, List, ◌++◌
 use Rattle.std.proofs.Math.Seq.{take-add}
 use Rattle.std.proofs.lemmas.Bool.Decides.{nat_tests}
 use Rattle.std.proofs.lemmas.List.{append_assoc}
-use Rattle.raft_voter.specs.Rules.{matching, merged}
+use Rattle.raft_voter_outline.specs.Rules.{matching, merged}
 
 -- where not all that was sent matches, the log keeps what matches and then has the rest of what was sent
 pub merged_brings :

@@ -8,7 +8,7 @@ use Rattle.raft_voter_messages.specs.declared.reply.Reply.TheVariants.{Refused}
 use Rattle.raft_voter_messages.specs.declared.request.Request.{Request}
 use Rattle.raft_voter_messages.specs.declared.round.Outcome.TheVariants.{Cut}
 use Rattle.raft_voter_messages.specs.declared.round.Round.{Round}
-use Rattle.raft_voter.specs.Rules.{reply}
+use Rattle.raft_voter_outline.specs.Rules.{reply}
 use Rattle.raft_voter.specs.Rounds.{World, after, after_one, after_round, are_rising, is_among, place_reached, replies_from, taken_from}
 
 -- rising places don't hold one from before their start

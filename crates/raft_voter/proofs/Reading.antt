@@ -9,10 +9,10 @@ use Rattle.raft_voter_messages.specs.declared.reply.Reply.{Reply}
 use Rattle.raft_voter_messages.specs.declared.reply.Reply.TheVariants.{Entries, Gone, Unknown, Refused}
 use Rattle.raft_voter_messages.specs.declared.request.Request.TheVariants.{Read}
 use Rattle.raft_voter_messages.specs.Ranges.{in_range}
-use Rattle.raft_voter.specs.State.{State, entry_at, last_index}
-use Rattle.raft_voter.specs.Rules.{entries_between, numbered, reply}
+use Rattle.raft_voter_outline.specs.State.{State, entry_at, last_index}
+use Rattle.raft_voter_outline.specs.Rules.{entries_between, numbered, reply}
 use Rattle.raft_voter.specs.Laws.{EntriesAreTheLog}
-use Rattle.raft_voter.proofs.Indexes.{get_drop, Pair}
+use Rattle.raft_voter_outline.proofs.Indexes.{get_drop, Pair}
 
 length-numbered : (es : List Pair) (i : ℕ) → length (numbered i es) ≡ length es
 length-numbered [] i = refl

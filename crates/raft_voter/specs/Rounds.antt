@@ -6,8 +6,8 @@ use Rattle.raft_voter_messages.specs.declared.request.Request.{Request}
 use Rattle.raft_voter_messages.specs.declared.round.Outcome.{Outcome}
 use Rattle.raft_voter_messages.specs.declared.round.Outcome.TheVariants.{Answered, Cut}
 use Rattle.raft_voter_messages.specs.declared.round.Round.{Round}
-use Rattle.raft_voter.specs.State.{State, fresh}
-use Rattle.raft_voter.specs.Rules.{reply, next}
+use Rattle.raft_voter_outline.specs.State.{State, fresh}
+use Rattle.raft_voter_outline.specs.Rules.{reply, next}
 
 -- Worlds.
 

@@ -9,8 +9,6 @@
 
 mod judging;
 pub mod laws;
-mod list;
-pub mod outline;
 mod voter;
 mod voters;
 
@@ -20,5 +18,6 @@ pub use raft_voter_messages::{
     Outcome, Reply, Request, Round, StoredFault, Transcript, VoterState, entry_bytes, read_entry,
     read_state, state_bytes,
 };
+pub use raft_voter_outline::{Answer, Change, Decision, Outline, Write};
 pub use voter::Voter;
 pub use voters::Voters;

@@ -1,7 +1,7 @@
 //! One Raft voter.
 ghost use Rattle.std.specs.Prelude.{◌≡◌, ◌+◌, ◌^◌, ◌<◌, ◌≤◌, ◌&&◌, length, nat_le, is_some, IsTrue, IfOk, OnOk, OnErr};
-ghost use Rattle.raft_voter.specs.Rules.{agrees_at, next, reply};
-ghost use Rattle.raft_voter.specs.State.{adopt_term, fresh, last_index, last_term, state_of, term_at};
+ghost use Rattle.raft_voter_outline.specs.Rules.{agrees_at, next, reply};
+ghost use Rattle.raft_voter_outline.specs.State.{adopt_term, fresh, last_index, last_term, state_of, term_at};
 
 mod appends;
 mod log;
@@ -27,7 +27,7 @@ pub struct Voter {
 
 impl Model for Voter {
     ghost use Rattle.std.specs.Prelude.{◌+◌, ◌^◌, ◌<◌, length};
-    ghost use Rattle.raft_voter.specs.State.{State};
+    ghost use Rattle.raft_voter_outline.specs.State.{State};
 
     ghost Value = { State };
 

@@ -1,7 +1,7 @@
 //! The voters of many groups, in memory.
 ghost use Rattle.std.specs.Prelude.{◌≡◌, ℕ, IsTrue, length, IfOk, OnOk, OnErr};
 ghost use Rattle.raft_voter.specs.Rounds.{after, after_one, are_rising, fresh_world, is_among, replies_from, taken_from};
-ghost use Rattle.raft_voter.specs.Rules.{reply};
+ghost use Rattle.raft_voter_outline.specs.Rules.{reply};
 ghost use Rattle.raft_voter.specs.Voters.{world_of};
 
 use crate::{Items, Memory, Reply, Request, Voter};

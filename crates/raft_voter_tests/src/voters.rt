@@ -1,7 +1,6 @@
 //! Voters that take requests, as the lines of a session ask them.
 use crate::requests::vote;
-use raft_voter::outline::{Answer, Outline};
-use raft_voter::{Items, Reply, Request, Voters};
+use raft_voter::{Answer, Items, Outline, Reply, Request, Voters};
 use raft_voter_session::{Event, read_session};
 use std::alloc::Global;
 use std::process::Abort;

@@ -1,8 +1,8 @@
 //! A leader's entries (Raft paper, AppendEntries receiver).
 ghost use Rattle.std.specs.Prelude.{◌≡◌, ◌+◌, ◌^◌, ◌<◌, ◌≤◌, length, IfOk, OnOk, OnErr};
 ghost use Rattle.raft_voter_messages.specs.declared.request.Request.TheVariants.{Append};
-ghost use Rattle.raft_voter.specs.Rules.{merged_log, next_in_range, reply_in_range};
-ghost use Rattle.raft_voter.specs.State.{last_index};
+ghost use Rattle.raft_voter_outline.specs.Rules.{merged_log, next_in_range, reply_in_range};
+ghost use Rattle.raft_voter_outline.specs.State.{last_index};
 
 use super::Voter;
 use super::log::{copied, matching, replace_tail};

@@ -1,6 +1,6 @@
 //! Lists of entries, each its term and its bytes.
 ghost use Rattle.std.specs.Prelude.{◌≡◌, ◌+◌, ◌^◌, ◌<◌, ◌≤◌, ◌++◌, take, length, IfOk, OnOk, OnErr};
-ghost use Rattle.raft_voter.specs.Rules.{matching, numbered};
+ghost use Rattle.raft_voter_outline.specs.Rules.{matching, numbered};
 
 use crate::{Entry, Items, Memory};
 use std::alloc::Global;

@@ -1,7 +1,7 @@
 //! Reading entries back.
 ghost use Rattle.std.specs.Prelude.{◌≡◌, ◌^◌, ◌<◌, IfOk};
 ghost use Rattle.raft_voter_messages.specs.declared.request.Request.TheVariants.{Read};
-ghost use Rattle.raft_voter.specs.Rules.{reply_in_range};
+ghost use Rattle.raft_voter_outline.specs.Rules.{reply_in_range};
 
 use super::Voter;
 use super::log::numbered;

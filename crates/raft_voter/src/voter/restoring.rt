@@ -1,7 +1,7 @@
 //! A voter from what was stored of it.
 ghost use Rattle.std.specs.Prelude.{◌≡◌, ◌+◌, true, Ok, map, IfOk, IfErr};
 ghost use Rattle.std.specs.List.{list_all};
-ghost use Rattle.raft_voter.specs.Restoring.{are_in_order, restored, RestoreFault};
+ghost use Rattle.raft_voter_outline.specs.Restoring.{are_in_order, restored, RestoreFault};
 ghost use Rattle.raft_voter_messages.specs.StoredForms.{stored_entry_fits};
 
 use super::Voter;

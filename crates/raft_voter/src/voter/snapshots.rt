@@ -1,12 +1,12 @@
 //! Compaction, snapshots and the end of a group (Raft paper, section 7).
 ghost use Rattle.std.specs.Prelude.{◌≡◌, ◌^◌, ◌<◌};
 ghost use Rattle.raft_voter_messages.specs.declared.request.Request.TheVariants.{Compact, Install};
-ghost use Rattle.raft_voter.specs.Rules.{next_in_range, reply_in_range};
-ghost use Rattle.raft_voter.specs.State.{fresh};
+ghost use Rattle.raft_voter_outline.specs.Rules.{next_in_range, reply_in_range};
+ghost use Rattle.raft_voter_outline.specs.State.{fresh};
 
 use super::Voter;
 use crate::Reply;
-use crate::list::drop_front;
+use raft_voter_outline::drop_front;
 
 impl Voter {
     pub(super) fn compact(&mut self, index: u64) -> Reply

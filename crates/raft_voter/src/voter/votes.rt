@@ -1,7 +1,7 @@
 //! Requests for a vote (Raft paper, RequestVote receiver).
 ghost use Rattle.std.specs.Prelude.{◌≡◌};
 ghost use Rattle.raft_voter_messages.specs.declared.request.Request.TheVariants.{Vote};
-ghost use Rattle.raft_voter.specs.Rules.{is_up_to_date, may_vote, next_in_range, reply_in_range};
+ghost use Rattle.raft_voter_outline.specs.Rules.{is_up_to_date, may_vote, next_in_range, reply_in_range};
 
 use super::Voter;
 use crate::Reply;

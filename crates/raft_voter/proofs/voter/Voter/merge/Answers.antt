@@ -1,6 +1,6 @@
 use Rattle.std.proofs.Common.{ℕ, ◌-◌, List, ap, arith}
 use Rattle.std.proofs.lemmas.Grind.{common_steps}
-use Rattle.raft_voter.specs.State.{State}
+use Rattle.raft_voter_outline.specs.State.{State}
 use Rattle.raft_voter.proofs.Merging.{merged_brings}
 use Rattle.raft_voter.proofs.voter.Voter.merge.Goals as goal
 

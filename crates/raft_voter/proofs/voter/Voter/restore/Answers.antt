@@ -2,9 +2,9 @@ use Rattle.std.proofs.Common.{◌≡◌, ◌<◌, ◌^◌, ◌+◌, length, true
 use Rattle.std.specs.List.{list_all}
 use Rattle.std.proofs.lemmas.List.{length-map}
 use Rattle.std.proofs.lemmas.Bool.Decides.{nat_tests}
-use Rattle.raft_voter.specs.Restoring.{are_in_order}
+use Rattle.raft_voter_outline.specs.Restoring.{are_in_order}
 use Rattle.raft_voter_messages.specs.StoredForms.{stored_entry_fits}
-use Rattle.raft_voter.proofs.Ordered.{last_in_range}
+use Rattle.raft_voter_outline.proofs.Ordered.{last_in_range}
 use Rattle.raft_voter.proofs.voter.Voter.restore.Goals as goal
 
 pub invariant_of-result : goal.invariant_of-result

@@ -1,5 +1,5 @@
 use Rattle.std.proofs.Common.{length, ◌-◌, ◌≡◌, ◌+◌, ◌≤◌, drop}
-use Rattle.raft_voter.specs.Rules.{matching}
+use Rattle.raft_voter_outline.specs.Rules.{matching}
 use Rattle.raft_voter.proofs.voter.log.matching.Given as goal
 
 -- so many match, and what matches from there on is all that is missing

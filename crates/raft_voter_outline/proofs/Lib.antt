@@ -1,0 +1,7 @@
+pub mod Indexes
+pub mod Steps
+pub mod Ordered
+pub mod Bareness
+mod Unrolling
+mod Planning
+mod Deciding

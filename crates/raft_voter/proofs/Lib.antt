@@ -1,4 +1,3 @@
-pub mod Merging
 pub mod Places
 pub mod Joining
 pub mod Following
@@ -7,6 +6,7 @@ pub mod RunLaws
 pub mod Appends
 pub mod Standing
 pub mod Repeating
+mod Owning
 mod Commits
 mod Reading
 mod Keeping

@@ -1,3 +1,4 @@
+pub mod Entries
 pub mod Rounds
 pub mod Voters
 pub mod Accounts

@@ -1,31 +1,31 @@
 -- From what requests come to by an outline to what they make of each voter with this outline.
-use Rattle.std.proofs.Common.{◌≡◌, ◌≢◌, ℕ, ◌+◌, ◌-◌, ◌^◌, ◌≤◌, ◌<◌, ◌==◌, ◌&&◌, List, [], ◌∷◌, ◌++◌, length, take, drop, nat_lt, nat_le, if◌then◌else◌, true, false, Bool, not, Option, None, Some, refl, sym, ap, ◌∙◌, inl, inr, arith}
+use Rattle.std.proofs.Common.{◌≡◌, ◌≢◌, ℕ, zero, suc, ◌+◌, ◌-◌, ◌^◌, ◌≤◌, ◌<◌, ◌==◌, ◌&&◌, List, [], ◌∷◌, ◌++◌, length, take, drop, nat_lt, nat_le, if◌then◌else◌, true, false, Bool, not, Option, None, Some, refl, sym, ap, ◌∙◌, inl, inr, arith}
 use Rattle.std.specs.Option.{option_map_or}
 use Rattle.std.proofs.Math.Seq.{take-add}
 use Rattle.std.proofs.lemmas.Bool.{and_parts, cases_Bool, eq-eqb, eqb-true, leb-true, ltb-true, ltb-false, false≢true}
 use Rattle.std.proofs.lemmas.Bool.Decides.{nat_tests}
-use Rattle.std.proofs.lemmas.List.{append_assoc, drop_all, length-drop, drop_at, length-take-le, take-append-drop}
+use Rattle.std.proofs.lemmas.List.{append_assoc, drop_all, length-append, length-drop, drop_at, length-take-le, take-append-drop}
 use Rattle.raft_voter_messages.specs.declared.reply.Reply.{Reply}
-use Rattle.raft_voter_messages.specs.declared.reply.Reply.TheVariants.{Granted, Denied, Base, Mismatch, Stale, Matched, Refused, Unknown}
+use Rattle.raft_voter_messages.specs.declared.reply.Reply.TheVariants.{Entries as EntriesReply, Granted, Denied, Base, Mismatch, Stale, Matched, Refused, Unknown}
 use Rattle.raft_voter_messages.specs.declared.reply.VoterState.{VoterState}
 use Rattle.raft_voter_messages.specs.declared.request.Request.{Request}
 use Rattle.raft_voter_messages.specs.declared.request.Request.TheVariants.{Vote, Append, Compact, Install, Read, Status, Retire}
 use Rattle.std.specs.List.{list_all}
 use Rattle.raft_voter_messages.specs.Ranges.{entries_fit, entry_fits, fits, in_range, total_bytes}
 use Rattle.raft_voter_outline.specs.declared.outline.plans.Plan.{Plan}
-use Rattle.raft_voter_outline.specs.declared.outline.decision.Answer.TheVariants.{Told}
+use Rattle.raft_voter_outline.specs.declared.outline.decision.Answer.TheVariants.{Told, Entries as EntriesAnswer}
 use Rattle.raft_voter_outline.specs.declared.outline.decision.Change.{Change}
 use Rattle.raft_voter_outline.specs.declared.outline.decision.Decision.{Decision}
 use Rattle.raft_voter_outline.specs.declared.outline.decision.Write.{Write}
 use Rattle.raft_voter_outline.specs.declared.outline.decision.Write.TheVariants.{StateAlone, Entries, CompactTo, Clean}
 use Rattle.raft_voter_outline.specs.State.{State, adopt_term, fresh, last_index, last_term, state_of, term_at}
-use Rattle.raft_voter_outline.specs.Rules.{agrees_at, appended, can_compact, compacted, grants, installed, matching, merged, merged_log, next, next_in_range, reply_in_range}
+use Rattle.raft_voter_outline.specs.Rules.{agrees_at, appended, can_compact, compacted, entries_between, grants, installed, matching, merged, merged_log, next, next_in_range, reply, reply_in_range}
 use Rattle.raft_voter_outline.specs.Runs.{bare}
 use Rattle.raft_voter_outline.specs.Plans.{Plans}
 use Rattle.std.specs.Prelude.{MatchOption}
 use Rattle.raft_voter_outline.specs.Rules.{is_retire}
-use Rattle.raft_voter_outline.specs.Decisions.{read_answer, Settles, Stays}
-use Rattle.raft_voter_outline.specs.Outlines.{all_gone, append_write, answered, brought, CanWrite, changed, IsChangeOf, IsDecided, RestsOn, log_written, sent_of, stored_state, without_bytes, write_of}
+use Rattle.raft_voter_outline.specs.Decisions.{HasRoom, read_answer, Settles, Stays}
+use Rattle.raft_voter_outline.specs.Outlines.{all_gone, append_write, answered, AreThere, brought, CanWrite, changed, Changes, Copies, CopiesEntries, Decides, IsChangeOf, IsDecided, RestsOn, log_written, sent_of, stored_state, without_bytes, write_of}
 use Rattle.raft_voter_outline.proofs.Indexes.{matching-le}
 use Rattle.raft_voter_outline.proofs.Steps.{base_small-next, base-adopt_term, log-adopt_term, reaches}
 use Rattle.raft_voter_outline.proofs.Bareness.{adopt_term-bare, agrees_at-bare, bare-drop, can_compact-bare, grants-bare, last_index-bare, last_term-bare, length-bare, matching-bare, term_at-bare}
@@ -406,36 +406,48 @@ settled v o q p d fit outline plans does settles =
     let became : next v q ≡ next_in_range v q = rw fit refl in
     record {
       reply_is = rw (fit, settles.answer) (sym plans.reply_is);
+      there = rw settles.answer tt;
       change = settled_change v o q p d.change own log fit became plans.state_is plans.write_is does settles.change;
     }
 
 -- one out of range is refused and leaves all
 pub refused : (v : State) (q : Request) (d : Decision) → in_range q ≡ false → d.answer ≡ Told Refused → d.change ≡ None → IsDecided v q d
-refused v q d out told none = record { reply_is = rw (out, told) refl; change = rw none (rw out refl) }
+refused v q d out told none = record { reply_is = rw (out, told) refl; there = rw told tt; change = rw none (rw out refl) }
 
 -- a request that only asks
-pub only_asks : (v : State) (q : Request) (d : Decision) → in_range q ≡ true → next_in_range v q ≡ v → reply_in_range v q ≡ answered d.answer v → d.change ≡ None → IsDecided v q d
-only_asks v q d fit stays told none = record { reply_is = rw fit told; change = rw none (rw fit stays) }
+pub only_asks : (v : State) (q : Request) (d : Decision) → in_range q ≡ true → next_in_range v q ≡ v → reply_in_range v q ≡ answered d.answer v → AreThere d.answer q v → d.change ≡ None → IsDecided v q d
+only_asks v q d fit stays told there none = record { reply_is = rw fit told; there = there; change = rw none (rw fit stays) }
 
 -- which entries a read gets
 pub read-bare : (v : State) (from to : ℕ) → reply_in_range v (Read from to) ≡ answered (read_answer (without_bytes v) from to) v
 read-bare v from to = elim (cases_Bool (nat_le from v.base_index)) [
   | inl gone ↦ rw gone refl
   | inr there ↦ elim (cases_Bool (nat_le to from)) [
-    | inl nothing ↦
-        let back : nat_lt from to ≡ false = grind (arith, nat_tests) in
-        let zero : to - from ≡ 0 = grind (arith, nat_tests) in
-        rw (there, nothing, back, zero) refl
-    | inr some ↦
-        let ahead : nat_lt from to ≡ true = grind (arith, nat_tests) in
-        elim (cases_Bool (nat_lt (last_index v + 1) to)) [
-          | inl past ↦
-              let past' : nat_lt (last_index (without_bytes v) + 1) to ≡ true = ap (λ l. nat_lt (l + 1) to) (last_index-bare v) ∙ past in
-              rw (there, some, ahead, past, past') (ap (λ l. Unknown l) (sym (last_index-bare v)))
-          | inr within ↦
-              let within' : nat_lt (last_index (without_bytes v) + 1) to ≡ false = ap (λ l. nat_lt (l + 1) to) (last_index-bare v) ∙ within in
-              rw (there, some, ahead, within, within') refl
-        ]
+    | inl nothing ↦ rw (there, nothing) refl
+    | inr some ↦ elim (cases_Bool (nat_lt (last_index v + 1) to)) [
+      | inl past ↦
+          let past' : nat_lt (last_index (without_bytes v) + 1) to ≡ true = ap (λ l. nat_lt (l + 1) to) (last_index-bare v) ∙ past in
+          rw (there, some, past, past') (ap (λ l. Unknown l) (sym (last_index-bare v)))
+      | inr within ↦
+          let within' : nat_lt (last_index (without_bytes v) + 1) to ≡ false = ap (λ l. nat_lt (l + 1) to) (last_index-bare v) ∙ within in
+          rw (there, some, within, within') refl
+    ]
+  ]
+]
+
+pub read-there : (v : State) (from to : ℕ) → AreThere (read_answer (without_bytes v) from to) (Read from to) v
+read-there v from to = elim (cases_Bool (nat_le from v.base_index)) [
+  | inl gone ↦ rw gone tt
+  | inr there ↦ elim (cases_Bool (nat_le to from)) [
+    | inl nothing ↦ rw (there, nothing) tt
+    | inr some ↦ elim (cases_Bool (nat_lt (last_index (without_bytes v) + 1) to)) [
+      | inl past ↦ rw (there, some, past) tt
+      | inr within ↦
+          let above : v.base_index < from = grind (arith, nat_tests) in
+          let ahead : from < to = grind (arith, nat_tests) in
+          let end : to ≤ last_index (without_bytes v) + 1 = ltb-false (last_index (without_bytes v) + 1) to within in
+          rw (there, some, within) (refl, above, ahead, omega (arith, end, last_index-bare v))
+    ]
   ]
 ]
 
@@ -453,3 +465,107 @@ pub status-bare : (v : State) → state_of (without_bytes v) ≡ state_of v
 status-bare v =
     ap (λ i. let s : VoterState = record { term = v.term; vote = v.vote; base_index = v.base_index; base_term = v.base_term; last_index = i; last_term = last_term (without_bytes v); commit = v.commit } in s) (last_index-bare v)
     ∙ ap (λ t. let s : VoterState = record { term = v.term; vote = v.vote; base_index = v.base_index; base_term = v.base_term; last_index = last_index v; last_term = t; commit = v.commit } in s) (last_term-bare v)
+
+-- Entries are copied only where some are brought that aren't there, or some are read.
+
+moves_in_range : (v : State) (q : Request) → next v q ≢ v → in_range q ≡ true
+moves_in_range v q moves = elim (cases_Bool (in_range q)) [
+  | inl fit ↦ fit
+  | inr out ↦ absurd (moves (rw out refl))
+]
+
+append_brings :
+    (v : State) (t p u : ℕ) (sent : List Pair) (n i : ℕ) → append_write v t p u sent ≡ Entries n i
+    → (v.term ≤ t) × (agrees_at v p u ≡ true) × (matching (drop (p - v.base_index) v.log) sent < length sent)
+append_brings v t p u sent n i is = elim (cases_Bool (nat_lt t v.term)) [
+  | inl stale ↦ let none : StateAlone ≡ Entries n i = rw stale at is in absurd (cc)
+  | inr current ↦ elim (cases_Bool (agrees_at v p u)) [
+    | inr differs ↦ let none : StateAlone ≡ Entries n i = rw (current, differs) at is in absurd (cc)
+    | inl agrees ↦
+        let same = matching (drop (p - v.base_index) v.log) sent in
+        let few = matching-le (drop (p - v.base_index) v.log) sent in
+        elim (cases_Bool (same == length sent)) [
+          | inl all ↦ let none : StateAlone ≡ Entries n i = rw (current, agrees, all) at is in absurd (cc)
+          | inr more ↦ (ltb-false t v.term current, agrees, grind (arith, nat_tests, few.1))
+        ]
+  ]
+]
+
+write_brings : (q : Request) (v : State) (n i : ℕ) → write_of v q ≡ Entries n i → CopiesEntries v q
+write_brings (Vote t c i u) v n j is = absurd (cc)
+write_brings (Append t p u c sent) v n j is = append_brings v t p u sent n j is
+write_brings (Compact i) v n j is = elim (cases_Bool (can_compact v i)) [
+  | inl can ↦ let other : CompactTo i ≡ Entries n j = rw can at is in absurd (cc)
+  | inr cannot ↦ let other : StateAlone ≡ Entries n j = rw cannot at is in absurd (cc)
+]
+write_brings (Install t i u) v n j is = elim (cases_Bool (nat_lt t v.term)) [
+  | inl stale ↦ let other : StateAlone ≡ Entries n j = rw stale at is in absurd (cc)
+  | inr current ↦ elim (cases_Bool (nat_le i v.base_index)) [
+    | inl old ↦ let other : StateAlone ≡ Entries n j = rw (current, old) at is in absurd (cc)
+    | inr new ↦ elim (cases_Bool (agrees_at v i u)) [
+      | inl agrees ↦ let other : CompactTo i ≡ Entries n j = rw (current, new, agrees) at is in absurd (cc)
+      | inr differs ↦ elim (cases_Bool (length v.log == 0)) [
+        | inl none ↦ let other : StateAlone ≡ Entries n j = rw (current, new, differs, none) at is in absurd (cc)
+        | inr some ↦ let other : CompactTo (last_index v) ≡ Entries n j = rw (current, new, differs, some) at is in absurd (cc)
+      ]
+    ]
+  ]
+]
+write_brings (Read a b) v n j is = absurd (cc)
+write_brings Status v n j is = absurd (cc)
+write_brings Retire v n j is = absurd (cc)
+
+-- a change that brings entries is a request's for which entries are copied
+pub change_copies : (v : State) (q : Request) (c : Change) (n i : ℕ) → IsChangeOf v q c → c.write ≡ Entries n i → Copies v q
+change_copies v q c n i change is = (moves_in_range v q change.moves, write_brings q v n i (sym change.write_is ∙ is))
+
+-- an answer of entries is a request's for which entries are copied
+pub answer_copies :
+    (v : State) (q : Request) (from to : ℕ) → reply v q ≡ EntriesReply (entries_between v from to)
+    → AreThere (EntriesAnswer from to) q v → Copies v q
+answer_copies v q from to told there = elim (cases_Bool (in_range q)) [
+  | inl fit ↦ (fit, rw there.0 (there.1, there.2, there.3))
+  | inr out ↦ let refused : Refused ≡ EntriesReply (entries_between v from to) = rw out at told in absurd (cc)
+]
+
+-- a change that is decided is that of every voter with the outline
+pub change_decided : (o : State) (q : Request) (d : Decision) (c : Change) → Decides o q d → d.change ≡ Some c → Changes o q c
+change_decided o q d c decides is v outline =
+    let change : MatchOption (Some c) (next v q ≡ v) (IsChangeOf v q) = rw is at (decides v outline).change in change
+
+-- a change for which there is no room brings entries
+pub room_copies : (v : State) (q : Request) (c : Change) (room : ℕ) → IsChangeOf v q c → ¬ HasRoom c.write q room → Copies v q
+room_copies v q c room change none = by_write c.write refl
+  where
+    by_write : (w : Write) → c.write ≡ w → Copies v q
+    by_write (Entries n i) is = change_copies v q c n i change is
+    by_write StateAlone is = absurd (none (rw is (omega arith)))
+    by_write (CompactTo i) is = absurd (none (rw is (omega arith)))
+    by_write Clean is = absurd (none (rw is (omega arith)))
+
+-- A change leaves the last index in range.
+
+length_take : (n : ℕ) (es : List Pair) → length (take n es) ≤ n
+length_take zero es = omega arith
+length_take (suc n) [] = omega arith
+length_take (suc n) (e ∷ es) = omega (arith, length_take n es)
+
+written_small :
+    (w : Write) (q : Request) (v : State) (base : ℕ) → CanWrite w q v → RestsOn w v base → base < 2 ^ 63 → last_index v < 2 ^ 63
+    → base + length (log_written w (sent_of q) v) < 2 ^ 63
+written_small StateAlone q v base can (inl same) small last = omega (arith, same, last)
+written_small StateAlone q v base can (inr none) small last = rw none (omega (arith, small))
+written_small (Entries n i) q v base can rests small last =
+    let kept = length_take (i - v.base_index - 1) v.log in
+    let size = length-append (take (i - v.base_index - 1) v.log) (drop n (sent_of q)) in
+    omega (arith, can.0, can.2, can.3, kept, size, length-drop n (sent_of q), rests)
+written_small (CompactTo i) q v base can (inl same) small last =
+    omega (arith, can.0, can.1, length-drop (i - v.base_index) v.log, same, last)
+written_small (CompactTo i) q v base can (inr end) small last =
+    omega (arith, can.0, can.1, length-drop (i - v.base_index) v.log, end, small)
+written_small Clean q v base can rests small last = omega (arith, small)
+
+pub change_small : (v : State) (q : Request) (c : Change) → IsChangeOf v q c → last_index v < 2 ^ 63 → last_index (next v q) < 2 ^ 63
+change_small v q c change small =
+    let base = change.small (omega (arith, small)) in
+    rw change.next_is (written_small c.write q v c.state.base_index change.can change.rests base small)

@@ -4,4 +4,4 @@ pub mod Ordered
 pub mod Bareness
 mod Unrolling
 mod Planning
-mod Deciding
+pub mod Deciding

@@ -1,6 +1,6 @@
 -- Decisions, from the plans of requests in range.
 use Rattle.std.specs.Prelude.{◌≡◌, ℕ, ◌+◌, ◌^◌, ◌<◌, ◌≤◌, ◌&&◌, nat_lt, nat_le, true, if◌then◌else◌, List, [], drop, None, MatchOption, ⊤}
-use Rattle.raft_voter_messages.specs.declared.reply.Reply.TheVariants.{Gone, Unknown}
+use Rattle.raft_voter_messages.specs.declared.reply.Reply.TheVariants.{Entries as EntriesReply, Gone, Unknown}
 use Rattle.raft_voter_messages.specs.declared.request.Request.{Request}
 use Rattle.raft_voter_outline.specs.declared.outline.decision.Answer.{Answer}
 use Rattle.raft_voter_outline.specs.declared.outline.decision.Answer.TheVariants.{Told, Entries as EntriesAnswer}
@@ -18,7 +18,8 @@ use Rattle.raft_voter_outline.specs.State.{State, last_index}
 abbrev pub read_answer : State → ℕ → ℕ → Answer
 read_answer o from to =
     if nat_le from o.base_index then Told (Gone o.base_index)
-    else if nat_lt from to && nat_lt (last_index o + 1) to then Told (Unknown (last_index o))
+    else if nat_le to from then Told (EntriesReply [])
+    else if nat_lt (last_index o + 1) to then Told (Unknown (last_index o))
     else EntriesAnswer from to
 
 -- a plan leaves all as it is
@@ -35,10 +36,14 @@ pub record Settles (o : State) (p : Plan) (d : Decision) : Type 0 where
 
 -- Changes that are made.
 
--- there is room for the runs of what is written
+-- the entries of a request that go in
+abbrev pub entries_in : Write → Request → List (ℕ × List ℕ)
+entries_in (Entries skipped index) q = drop skipped (sent_of q)
+entries_in _ q = []
+
+-- there is room for the runs of the entries that go in
 abbrev pub HasRoom : Write → Request → ℕ → Type 0
-HasRoom (Entries skipped index) q room = runs_behind None (drop skipped (sent_of q)) ≤ room
-HasRoom _ q room = ⊤
+HasRoom w q room = runs_behind None (entries_in w q) ≤ room
 
 -- these are the terms of a voter's log
 pub record AreTermsOf (v : State) (t : Terms) : Type 0 where

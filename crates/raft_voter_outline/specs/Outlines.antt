@@ -129,14 +129,33 @@ pub record IsChangeOf (v : State) (q : Request) (c : Change) : Type 0 where
   pub small : v.base_index < 2 ^ 63 → c.state.base_index < 2 ^ 63
   pub moves : next v q ≢ v
 
+-- the entries that an answer still has to get are those that a Read asks for, and are there
+abbrev pub AreThere : Answer → Request → State → Type 0
+AreThere (Told told) q v = Unit {0}
+AreThere (EntriesAnswer from to) q v =
+    (q ≡ Read from to) × (v.base_index < from) × (from < to) × (to ≤ last_index v + 1)
+
 -- an answer is the voter's reply, and a change is none exactly where the voter stays as it was
 pub record IsDecided (v : State) (q : Request) (d : Decision) : Type 0 where
   pub reply_is : reply v q ≡ answered d.answer v
+  pub there : AreThere d.answer q v
   pub change : MatchOption d.change (next v q ≡ v) (IsChangeOf v q)
 
 -- a decision is that of every voter with this outline
 abbrev pub Decides : State → Request → Decision → Type 0
 Decides o q d = (v : State) → without_bytes v ≡ o → IsDecided v q d
+
+-- a request in range for which entries are copied: an Append that brings some that aren't there, or a Read of some that are
+abbrev pub CopiesEntries : State → Request → Type 0
+CopiesEntries v (Append term prev prev_term commit sent) =
+    (v.term ≤ term) × (agrees_at v prev prev_term ≡ true)
+    × (matching (drop (prev - v.base_index) v.log) sent < length sent)
+CopiesEntries v (Read from to) = (v.base_index < from) × (from < to) × (to ≤ last_index v + 1)
+CopiesEntries v _ = ⊥
+
+-- a request that is refused for want of memory is one for which entries are copied
+abbrev pub Copies : State → Request → Type 0
+Copies v q = (in_range q ≡ true) × CopiesEntries v q
 
 -- a change is that of every voter with this outline
 abbrev pub Changes : State → Request → Change → Type 0

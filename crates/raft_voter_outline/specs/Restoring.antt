@@ -13,19 +13,23 @@ abbrev pub are_in_order : ℕ → List Entry → Bool
 are_in_order index [] = true
 are_in_order index (e ∷ es) = e.index == index && are_in_order (index + 1) es
 
+-- the voter of this state and this log
+abbrev pub with_log : VoterState → List (ℕ × List ℕ) → State
+with_log s log = record {
+  term = s.term;
+  vote = s.vote;
+  base_index = s.base_index;
+  base_term = s.base_term;
+  commit = s.commit;
+  log = log;
+}
+
 -- the voter of this state and these entries, or what is wrong with them: a number out of range goes before the order
 abbrev pub restored : VoterState → List Entry → Result State StoredFault
 restored s es =
     if state_fits s && list_all stored_entry_fits es then
     (if are_in_order (s.base_index + 1) es then
-    Ok (record {
-      term = s.term;
-      vote = s.vote;
-      base_index = s.base_index;
-      base_term = s.base_term;
-      commit = s.commit;
-      log = map (λ e. (e.term, e.bytes)) es;
-    })
+    Ok (with_log s (map (λ e. (e.term, e.bytes)) es))
     else Err Order)
     else Err Range
 

@@ -9,6 +9,7 @@ mod apply;
 mod decide;
 mod decision;
 mod plans;
+mod restoring;
 mod run;
 mod term_runs;
 
@@ -22,6 +23,7 @@ use term_runs::TermRuns;
 /// answer and become. A contract sees the voter as a `State` whose entries have no bytes.
 #[derive(Debug, Drop)]
 pub struct Outline {
+    alloc: Global,
     term: u64,
     vote: Option<u64>,
     base_term: u64,
@@ -45,6 +47,7 @@ impl Outline {
         ensures { result.voter ≡ fresh }
     {
         Outline {
+            alloc,
             term: 0,
             vote: None,
             base_term: 0,
@@ -68,6 +71,13 @@ impl Outline {
             last_term: self.last_term(),
             commit: self.commit,
         }
+    }
+
+    /// The index of the base.
+    pub fn base_index(&self) -> u64
+        ensures { result ≡ self.now.voter.base_index }
+    {
+        self.terms.base()
     }
 
     /// The state as it is stored: with the base in place of the last entry.

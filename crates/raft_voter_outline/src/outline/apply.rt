@@ -1,11 +1,11 @@
 //! Changes that are made, once they are written.
-ghost use Rattle.std.specs.Prelude.{◌≡◌, ◌≤◌, length, drop, OnErr, OnOk};
+ghost use Rattle.std.specs.Prelude.{◌≡◌, ◌≤◌, length, OnErr, OnOk};
 ghost use Rattle.raft_voter_outline.specs.Decisions.{Becomes, CanChange, ChangesTerms, HasRoom};
-ghost use Rattle.raft_voter_outline.specs.Outlines.{Changes, sent_of};
+ghost use Rattle.raft_voter_outline.specs.Outlines.{Changes};
 
 use super::term_runs::{TermRuns, runs_in};
 use super::{Change, Outline, Write};
-use crate::{Items, Memory, Request};
+use crate::{Memory, Request};
 
 impl Outline {
     /// Makes room for what a change writes, so that the change can be applied. Where memory is refused the voter is as it
@@ -15,10 +15,7 @@ impl Outline {
         ensures ok { OnOk result (HasRoom change.now.write request.now self.new.room) }
         ensures err { OnErr result (¬ HasRoom change.now.write request.now self.old.room) }
     {
-        let Write::Entries { skipped, index: _ } = change.write else {
-            return Ok(());
-        };
-        self.terms.reserve(runs_in(brought(request, skipped)))
+        self.terms.reserve(runs_in(change.write.brought(request)))
     }
 
     /// Makes the change that was decided for a request, for which there is room. It asks for no memory.
@@ -45,9 +42,9 @@ impl TermRuns {
         let base = change.state.base_index;
         match change.write {
             Write::StateAlone => self.rest_on(base),
-            Write::Entries { skipped, index } => {
+            Write::Entries { skipped: _, index } => {
                 self.keep_to(index - 1);
-                self.extend(brought(request, skipped));
+                self.extend(change.write.brought(request));
             }
             Write::CompactTo { index } => {
                 self.compact_to(index);
@@ -55,21 +52,5 @@ impl TermRuns {
             }
             Write::Clean => self.clear(base),
         }
-    }
-}
-
-/// The entries that a request brings, but for so many of the first.
-fn brought(request: &Request, skipped: usize) -> &[(u64, Items<u8>)]
-    ensures { result.now ≡ drop skipped (sent_of request.now) }
-{
-    match request {
-        Request::Append {
-            term: _,
-            prev_index: _,
-            prev_term: _,
-            commit: _,
-            entries,
-        } => entries.as_slice().get(skipped..).unwrap_or(&[]),
-        _ => &[],
     }
 }

@@ -5,7 +5,7 @@ ghost use Rattle.raft_voter_outline.specs.Outlines.{Decides};
 
 use super::plans::Plan;
 use super::{Answer, Change, Decision, Outline, Write};
-use crate::{Reply, Request};
+use crate::{Items, Reply, Request};
 
 /// A request that is refused, or only asks.
 fn told(answer: Answer) -> Decision
@@ -96,7 +96,10 @@ impl Outline {
         if from <= base_index {
             return Answer::Told(Reply::Gone(base_index));
         }
-        if from < to && last_index + 1 < to {
+        if to <= from {
+            return Answer::Told(Reply::Entries(Items::new(self.alloc)));
+        }
+        if last_index + 1 < to {
             return Answer::Told(Reply::Unknown(last_index));
         }
         Answer::Entries { from, to }

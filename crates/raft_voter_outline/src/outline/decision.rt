@@ -1,5 +1,8 @@
 //! What a request comes to, before anything is written.
-use crate::{Reply, VoterState};
+ghost use Rattle.std.specs.Prelude.{◌≡◌};
+ghost use Rattle.raft_voter_outline.specs.Decisions.{entries_in};
+
+use crate::{Items, Reply, Request, VoterState};
 
 /// What a request comes to: what is answered, and what changes.
 #[derive(Debug, Drop)]
@@ -15,7 +18,7 @@ pub struct Decision {
 pub enum Answer {
     /// This reply. It is `Refused` where the request is out of range, and only there.
     Told(Reply),
-    /// The entries of these indexes, which are there.
+    /// The entries of these indexes, of which there is one at least and which are all there.
     Entries {
         /// The first index.
         from: u64,
@@ -52,4 +55,26 @@ pub enum Write {
     },
     /// The group goes, its state too.
     Clean,
+}
+
+impl Write {
+    /// The entries of its request that go in.
+    pub fn brought<'a>(&self, request: &'a Request) -> &'a [(u64, Items<u8>)]
+        ensures { result.now ≡ entries_in self.now request.now }
+    {
+        let (
+            Write::Entries { skipped, index: _ },
+            Request::Append {
+                term: _,
+                prev_index: _,
+                prev_term: _,
+                commit: _,
+                entries,
+            },
+        ) = (self, request)
+        else {
+            return &[];
+        };
+        entries.as_slice().get(*skipped..).unwrap_or(&[])
+    }
 }

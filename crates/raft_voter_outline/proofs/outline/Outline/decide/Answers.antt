@@ -8,7 +8,7 @@ use Rattle.raft_voter_outline.specs.State.{state_of}
 use Rattle.raft_voter_outline.specs.declared.outline.decision.Answer.TheVariants.{Told}
 use Rattle.raft_voter_messages.specs.declared.reply.Reply.TheVariants.{Status as StatusReply}
 use Rattle.raft_voter_outline.specs.Plans.{Plans}
-use Rattle.raft_voter_outline.proofs.Deciding.{append_small, does_append, does_compact, does_install, does_retire, does_vote, only_asks, plans_append, plans_compact, plans_install, plans_vote, read-bare, settled, status-bare}
+use Rattle.raft_voter_outline.proofs.Deciding.{append_small, does_append, does_compact, does_install, does_retire, does_vote, only_asks, plans_append, plans_compact, plans_install, plans_vote, read-bare, read-there, settled, status-bare}
 use Rattle.raft_voter_outline.proofs.outline.Outline.decide.Goals as goal
 
 pub returns-in-Vote : goal.returns-in-Vote
@@ -73,17 +73,19 @@ returns-in-Retire c v e =
 
 pub returns-in-Read : goal.returns-in-Read
 returns-in-Read c v e =
-    let q : Request = Read c.in-Read.from c.in-Read.to in
+    let from = c.in-Read.from in
+    let to = c.in-Read.to in
+    let q : Request = Read from to in
     let is : c.args.request.now ≡ q = c.in-Read.is in
     let fit : in_range c.args.request.now ≡ true = search rules in
     let fit_q : in_range q ≡ true = rw is at fit in
-    let told : c.told-in-Read.result.answer ≡ read_answer (without_bytes v) c.in-Read.from c.in-Read.to =
-    ap (λ d. d.answer) c.told-in-Read.ensures ∙ c.read.ensures ∙ ap (λ w. read_answer w c.in-Read.from c.in-Read.to) (sym e) in
-    rw is (only_asks v q c.told-in-Read.result fit_q refl (read-bare v c.in-Read.from c.in-Read.to ∙ ap (λ a. answered a v) (sym told)) (ap (λ d. d.change) c.told-in-Read.ensures))
+    let told : c.told-in-Read.result.answer ≡ read_answer (without_bytes v) from to =
+    ap (λ d. d.answer) c.told-in-Read.ensures ∙ c.read.ensures ∙ ap (λ w. read_answer w from to) (sym e) in
+    rw is (only_asks v q c.told-in-Read.result fit_q refl (read-bare v from to ∙ ap (λ a. answered a v) (sym told)) (rw told (read-there v from to)) (ap (λ d. d.change) c.told-in-Read.ensures))
 
 pub returns-in-Status : goal.returns-in-Status
 returns-in-Status c v e =
     let is : c.args.request.now ≡ Status = c.in-Status.is in
     let told : c.told-in-Status.result.answer ≡ Told (StatusReply (state_of (without_bytes v))) =
     ap (λ d. d.answer) c.told-in-Status.ensures ∙ ap (λ s. Told (StatusReply s)) (c.state.ensures.value ∙ ap state_of (sym e)) in
-    rw is (only_asks v Status c.told-in-Status.result refl refl (ap (λ s. StatusReply s) (sym (status-bare v)) ∙ ap (λ a. answered a v) (sym told)) (ap (λ d. d.change) c.told-in-Status.ensures))
+    rw is (only_asks v Status c.told-in-Status.result refl refl (ap (λ s. StatusReply s) (sym (status-bare v)) ∙ ap (λ a. answered a v) (sym told)) (rw told tt) (ap (λ d. d.change) c.told-in-Status.ensures))

@@ -2,7 +2,7 @@ use Rattle.std.proofs.Common.{◌≡◌, ◌≤◌, ◌+◌, ◌-◌, ◌++◌, 
 use Rattle.std.specs.Prelude.{None}
 use Rattle.std.proofs.lemmas.List.{drop_all}
 use Rattle.raft_voter_outline.specs.Outlines.{CanWrite, RestsOn, sent_of}
-use Rattle.raft_voter_outline.specs.Decisions.{HasRoom}
+use Rattle.raft_voter_outline.specs.Decisions.{entries_in}
 use Rattle.raft_voter_outline.specs.Runs.{bare, runs_behind, top_term}
 use Rattle.raft_voter_outline.specs.declared.outline.decision.Write.TheVariants.{CompactTo, Entries}
 use Rattle.raft_voter_outline.proofs.Bareness.{bare-append, bare-drop, bare-take, length-bare}
@@ -12,8 +12,8 @@ use Rattle.raft_voter_outline.proofs.outline.term_runs.TermRuns.change.Goals as 
 
 pub extend-requires-clause-room : goal.extend-requires-clause-room
 extend-requires-clause-room c =
-    let es = drop c.in-Entries.skipped (sent_of c.args.request.now) in
-    let room : runs_behind None es ≤ c.args.self.now.room = rw c.in-Entries.is at c.requires.room in
+    let es = entries_in c.args.change.now.write c.args.request.now in
+    let room : runs_behind None es ≤ c.args.self.now.room = c.requires.room in
     rw c.brought.ensures (omega (arith, room, c.keep_to.ensures.room, runs_behind-none es (top_term c.keep_to.new.self.log)))
 
 pub compact_to-requires-clause-within : goal.compact_to-requires-clause-within
@@ -47,8 +47,9 @@ returns-in-Entries c =
           let place : i - 1 - c.args.self.now.base ≡ n = omega (arith, of.base_is) in
           let kept : c.keep_to.new.self.log ≡ take n (bare v.log) =
           c.keep_to.ensures.log ∙ ap (λ k. take k c.args.self.now.log) place ∙ ap (λ (l : List Pair). take n l) of.log_is in
+          let brought : c.brought.result.now ≡ es = c.brought.ensures ∙ ap (λ w. entries_in w c.args.request.now) c.in-Entries.is in
           rw c.in-Entries.is (c.extend.ensures.log ∙ ap (λ (l : List Pair). l ++ bare c.brought.result.now) kept
-          ∙ ap (λ (l : List Pair). take n (bare v.log) ++ bare l) c.brought.ensures
+          ∙ ap (λ (l : List Pair). take n (bare v.log) ++ bare l) brought
           ∙ sym (bare-append (take n v.log) es ∙ ap (λ (l : List Pair). l ++ bare es) (bare-take n v.log))),
     )
 

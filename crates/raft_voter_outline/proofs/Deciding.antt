@@ -25,7 +25,7 @@ use Rattle.raft_voter_outline.specs.Plans.{Plans}
 use Rattle.std.specs.Prelude.{MatchOption}
 use Rattle.raft_voter_outline.specs.Rules.{is_retire}
 use Rattle.raft_voter_outline.specs.Decisions.{HasRoom, read_answer, Settles, Stays}
-use Rattle.raft_voter_outline.specs.Outlines.{all_gone, append_write, answered, AreThere, brought, CanWrite, changed, Changes, Copies, CopiesEntries, Decides, IsChangeOf, IsDecided, RestsOn, log_written, sent_of, stored_state, without_bytes, write_of}
+use Rattle.raft_voter_outline.specs.Outlines.{all_gone, append_write, answered, AreThere, brought, CanWrite, changed, Changes, Copies, CopiesEntries, Decides, IsChangeOf, Leaves, RestsOn, log_written, sent_of, stored_state, without_bytes, write_of}
 use Rattle.raft_voter_outline.proofs.Indexes.{matching-le}
 use Rattle.raft_voter_outline.proofs.Steps.{base_small-next, base-adopt_term, log-adopt_term, reaches}
 use Rattle.raft_voter_outline.proofs.Bareness.{adopt_term-bare, agrees_at-bare, bare-drop, can_compact-bare, grants-bare, last_index-bare, last_term-bare, length-bare, matching-bare, term_at-bare}
@@ -396,6 +396,23 @@ settled_change v o q p (Some c) own log fit became state write does h = rw h.0 (
   moves = λ same. moves_else v o q p p.write own log state does h.1 (sym became ∙ same);
 })
 
+-- what is decided is one voter's reply, with the entries there, and one voter's change
+pub record IsDecided (v : State) (q : Request) (d : Decision) : Type 0 where
+  pub reply_is : reply v q ≡ answered d.answer v
+  pub there : AreThere d.answer q v
+  pub change : MatchOption d.change (next v q ≡ v) (IsChangeOf v q)
+
+-- where this holds of each voter with an outline, it is decided for the outline
+pub decides_of : (o : State) (q : Request) (d : Decision) → ((v : State) → without_bytes v ≡ o → IsDecided v q d) → Decides o q d
+decides_of o q d each = record {
+  answer = λ v e. ((each v e).reply_is, (each v e).there);
+  change = by_change d.change (λ v e. (each v e).change);
+}
+  where
+    by_change : (c : Option Change) → ((v : State) → without_bytes v ≡ o → MatchOption c (next v q ≡ v) (IsChangeOf v q)) → MatchOption c (Leaves o q) (Changes o q)
+    by_change None each = each
+    by_change (Some c) each = each
+
 -- a plan that is settled is decided
 pub settled :
     (v o : State) (q : Request) (p : Plan) (d : Decision) → in_range q ≡ true → without_bytes v ≡ o → Plans v q p
@@ -527,11 +544,6 @@ answer_copies v q from to told there = elim (cases_Bool (in_range q)) [
   | inl fit ↦ (fit, rw there.0 (there.1, there.2, there.3))
   | inr out ↦ let refused : Refused ≡ EntriesReply (entries_between v from to) = rw out at told in absurd (cc)
 ]
-
--- a change that is decided is that of every voter with the outline
-pub change_decided : (o : State) (q : Request) (d : Decision) (c : Change) → Decides o q d → d.change ≡ Some c → Changes o q c
-change_decided o q d c decides is v outline =
-    let change : MatchOption (Some c) (next v q ≡ v) (IsChangeOf v q) = rw is at (decides v outline).change in change
 
 -- a change for which there is no room brings entries
 pub room_copies : (v : State) (q : Request) (c : Change) (room : ℕ) → IsChangeOf v q c → ¬ HasRoom c.write q room → Copies v q

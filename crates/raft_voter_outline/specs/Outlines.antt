@@ -135,15 +135,23 @@ AreThere (Told told) q v = Unit {0}
 AreThere (EntriesAnswer from to) q v =
     (q ≡ Read from to) × (v.base_index < from) × (from < to) × (to ≤ last_index v + 1)
 
--- an answer is the voter's reply, and a change is none exactly where the voter stays as it was
-pub record IsDecided (v : State) (q : Request) (d : Decision) : Type 0 where
-  pub reply_is : reply v q ≡ answered d.answer v
-  pub there : AreThere d.answer q v
-  pub change : MatchOption d.change (next v q ≡ v) (IsChangeOf v q)
+-- an answer is the reply of every voter with this outline, and the entries that it still has to get are there
+abbrev pub Answers : State → Request → Answer → Type 0
+Answers o q a = (v : State) → without_bytes v ≡ o → (reply v q ≡ answered a v) × AreThere a q v
 
--- a decision is that of every voter with this outline
-abbrev pub Decides : State → Request → Decision → Type 0
-Decides o q d = (v : State) → without_bytes v ≡ o → IsDecided v q d
+-- a request leaves every voter with this outline as it is
+abbrev pub Leaves : State → Request → Type 0
+Leaves o q = (v : State) → without_bytes v ≡ o → next v q ≡ v
+
+-- a change is that of every voter with this outline
+abbrev pub Changes : State → Request → Change → Type 0
+Changes o q c = (v : State) → without_bytes v ≡ o → IsChangeOf v q c
+
+-- A decision is that of every voter with this outline: the answer is its reply, and a change is none exactly where it stays as
+-- it was.
+pub record Decides (o : State) (q : Request) (d : Decision) : Type 0 where
+  pub answer : Answers o q d.answer
+  pub change : MatchOption d.change (Leaves o q) (Changes o q)
 
 -- a request in range for which entries are copied: an Append that brings some that aren't there, or a Read of some that are
 abbrev pub CopiesEntries : State → Request → Type 0
@@ -156,10 +164,6 @@ CopiesEntries v _ = ⊥
 -- a request that is refused for want of memory is one for which entries are copied
 abbrev pub Copies : State → Request → Type 0
 Copies v q = (in_range q ≡ true) × CopiesEntries v q
-
--- a change is that of every voter with this outline
-abbrev pub Changes : State → Request → Change → Type 0
-Changes o q c = (v : State) → without_bytes v ≡ o → IsChangeOf v q c
 
 -- what a call sees of an outline's fields
 abbrev pub outlined : ℕ → Option ℕ → ℕ → ℕ → Terms → Outlined

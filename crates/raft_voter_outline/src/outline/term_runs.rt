@@ -18,14 +18,14 @@ pub struct TermRuns {
 }
 
 impl Model for TermRuns {
-    ghost use Rattle.std.specs.Prelude.{◌-◌, IsTrue, vec_capacity, vec_len};
-    ghost use Rattle.raft_voter_outline.specs.Runs.{are_runs, Terms, unrolled};
+    ghost use Rattle.std.specs.Prelude.{◌-◌, vec_capacity, vec_len};
+    ghost use Rattle.raft_voter_outline.specs.Runs.{AreRunsOf, Terms, unrolled};
 
     ghost Value = { Terms };
 
     ghost view = { λ t. record { base = t.base; log = unrolled t.base t.runs.items; room = vec_capacity t.runs - vec_len t.runs } };
 
-    ghost invariant = { λ t. IsTrue (are_runs t.base t.runs.items) };
+    ghost invariant = { λ t. AreRunsOf t.base t.runs.items };
 }
 
 impl TermRuns {

@@ -6,4 +6,4 @@ pub returns : goal.returns
 returns c =
     let rs = c.self.inside.runs.items in
     let there : slice_get rs (length rs - 1) ≡ Some c.in_ok-run.run'.now = search rules in
-    rw (← c.self.view_is) (sym (top_unrolled rs c.self.inside.base c.in_ok-run.run'.now c.self.invariant there).0)
+    rw (← c.self.view_is) (sym (top_unrolled rs c.self.inside.base c.in_ok-run.run'.now c.self.invariant.rise there).0)

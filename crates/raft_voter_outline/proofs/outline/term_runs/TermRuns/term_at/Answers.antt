@@ -15,7 +15,7 @@ returns c =
     slice_get_read rs c.len.result c.runs_below-place.result c.index.result.now (grind (arith, common_steps)) c.if-place-len.false c.index.ensures in
     rw (← c.self.view_is) (ap (λ (o : Option Run). option_map (λ (r : Run). r.term) o) (sym there)
     ∙ ap (λ k. option_map (λ (r : Run). r.term) (slice_get rs k)) place
-    ∙ sym (get_unrolled rs c.self.inside.base c.args.index c.self.invariant (rw (← c.self.view_is) at c.requires)))
+    ∙ sym (get_unrolled rs c.self.inside.base c.args.index c.self.invariant.rise (rw (← c.self.view_is) at c.requires)))
 
 pub returns-then-place-len : goal.returns-then-place-len
 returns-then-place-len c =
@@ -24,4 +24,4 @@ returns-then-place-len c =
     let there : slice_get rs c.runs_below-place.result ≡ None = slice_get_past rs c.runs_below-place.result (grind (arith, common_steps)) in
     rw (← c.self.view_is) (ap (λ (o : Option Run). option_map (λ (r : Run). r.term) o) (sym there)
     ∙ ap (λ k. option_map (λ (r : Run). r.term) (slice_get rs k)) place
-    ∙ sym (get_unrolled rs c.self.inside.base c.args.index c.self.invariant (rw (← c.self.view_is) at c.requires)))
+    ∙ sym (get_unrolled rs c.self.inside.base c.args.index c.self.invariant.rise (rw (← c.self.view_is) at c.requires)))

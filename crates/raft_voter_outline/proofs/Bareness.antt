@@ -1,18 +1,14 @@
 -- What of a voter doesn't depend on its entries' bytes.
-use Rattle.std.proofs.Common.{◌≡◌, ℕ, zero, suc, ◌+◌, ◌-◌, ◌≤◌, ◌==◌, ◌&&◌, List, [], ◌∷◌, ◌++◌, length, take, drop, nat_lt, nat_le, if◌then◌else◌, true, false, Bool, Option, None, Some, refl, sym, ap, ◌∙◌, inl, inr, arith}
+use Rattle.std.proofs.Common.{◌≡◌, ℕ, zero, suc, ◌+◌, ◌-◌, ◌==◌, ◌&&◌, List, [], ◌∷◌, ◌++◌, length, take, drop, nat_lt, nat_le, if◌then◌else◌, false, Option, None, Some, refl, ap, ◌∙◌, inl, inr}
 use Rattle.std.specs.Prelude.{replicate, slice_get}
-use Rattle.std.specs.Option.{option_map, option_map_or}
+use Rattle.std.specs.Option.{option_map_or}
 use Rattle.std.proofs.lemmas.Bool.{cases_Bool}
-use Rattle.raft_voter_messages.specs.declared.reply.Reply.{Reply}
-use Rattle.raft_voter_messages.specs.declared.request.Request.{Request}
-use Rattle.raft_voter_messages.specs.declared.request.Request.TheVariants.{Vote, Append, Compact, Install, Read, Status, Retire}
 use Rattle.raft_voter_outline.specs.declared.outline.run.Run.{Run}
 use Rattle.raft_voter_outline.specs.State.{State, adopt_term, last_index, last_term, term_at}
-use Rattle.raft_voter_outline.specs.Rules.{agrees_at, appended, can_compact, grants, is_up_to_date, matching, may_vote, next_in_range, reply_in_range}
+use Rattle.raft_voter_outline.specs.Rules.{agrees_at, can_compact, grants, is_up_to_date, matching, may_vote}
 use Rattle.raft_voter_outline.specs.Runs.{bare, unrolled}
-use Rattle.raft_voter_outline.specs.Outlines.{stored_state, without_bytes, write_of}
+use Rattle.raft_voter_outline.specs.Outlines.{without_bytes}
 use Rattle.raft_voter_outline.proofs.Indexes.{Pair, term_of}
-use Rattle.raft_voter_outline.proofs.Steps.{by_test}
 
 -- Lists.
 

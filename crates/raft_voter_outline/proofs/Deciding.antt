@@ -1,12 +1,10 @@
 -- From what requests come to by an outline to what they make of each voter with this outline.
-use Rattle.std.proofs.Common.{◌≡◌, ◌≢◌, ℕ, zero, suc, ◌+◌, ◌-◌, ◌^◌, ◌≤◌, ◌<◌, ◌==◌, ◌&&◌, List, [], ◌∷◌, ◌++◌, length, take, drop, nat_lt, nat_le, if◌then◌else◌, true, false, Bool, not, Option, None, Some, refl, sym, ap, ◌∙◌, inl, inr, arith}
-use Rattle.std.specs.Option.{option_map_or}
+use Rattle.std.proofs.Common.{◌≡◌, ◌≢◌, ℕ, zero, suc, ◌+◌, ◌-◌, ◌^◌, ◌≤◌, ◌<◌, ◌==◌, ◌&&◌, List, [], ◌∷◌, ◌++◌, length, take, drop, nat_lt, nat_le, if◌then◌else◌, true, false, Option, None, Some, refl, sym, ap, ◌∙◌, inl, inr, arith}
 use Rattle.std.proofs.Math.Seq.{take-add}
-use Rattle.std.proofs.lemmas.Bool.{and_parts, cases_Bool, eq-eqb, eqb-true, leb-true, ltb-true, ltb-false, false≢true}
+use Rattle.std.proofs.lemmas.Bool.{and_parts, cases_Bool, eqb-true, leb-true, ltb-true, ltb-false, false≢true}
 use Rattle.std.proofs.lemmas.Bool.Decides.{nat_tests}
 use Rattle.std.proofs.lemmas.List.{append_assoc, drop_all, length-append, length-drop, drop_at, length-take-le, take-append-drop}
-use Rattle.raft_voter_messages.specs.declared.reply.Reply.{Reply}
-use Rattle.raft_voter_messages.specs.declared.reply.Reply.TheVariants.{Entries as EntriesReply, Granted, Denied, Base, Mismatch, Stale, Matched, Refused, Unknown}
+use Rattle.raft_voter_messages.specs.declared.reply.Reply.TheVariants.{Entries as EntriesReply, Granted, Denied, Base, Refused, Unknown}
 use Rattle.raft_voter_messages.specs.declared.reply.VoterState.{VoterState}
 use Rattle.raft_voter_messages.specs.declared.request.Request.{Request}
 use Rattle.raft_voter_messages.specs.declared.request.Request.TheVariants.{Vote, Append, Compact, Install, Read, Status, Retire}
@@ -18,12 +16,11 @@ use Rattle.raft_voter_outline.specs.declared.outline.decision.Change.{Change}
 use Rattle.raft_voter_outline.specs.declared.outline.decision.Decision.{Decision}
 use Rattle.raft_voter_outline.specs.declared.outline.decision.Write.{Write}
 use Rattle.raft_voter_outline.specs.declared.outline.decision.Write.TheVariants.{StateAlone, Entries, CompactTo, Clean}
-use Rattle.raft_voter_outline.specs.State.{State, adopt_term, fresh, last_index, last_term, state_of, term_at}
-use Rattle.raft_voter_outline.specs.Rules.{agrees_at, appended, can_compact, compacted, entries_between, grants, installed, matching, merged, merged_log, next, next_in_range, reply, reply_in_range}
+use Rattle.raft_voter_outline.specs.State.{State, adopt_term, last_index, last_term, state_of, term_at}
+use Rattle.raft_voter_outline.specs.Rules.{agrees_at, appended, can_compact, entries_between, grants, installed, matching, merged, merged_log, next, next_in_range, reply, reply_in_range}
 use Rattle.raft_voter_outline.specs.Runs.{bare}
 use Rattle.raft_voter_outline.specs.Plans.{Plans}
 use Rattle.std.specs.Prelude.{MatchOption}
-use Rattle.raft_voter_outline.specs.Rules.{is_retire}
 use Rattle.raft_voter_outline.specs.Decisions.{HasRoom, read_answer, Settles, Stays}
 use Rattle.raft_voter_outline.specs.Outlines.{all_gone, append_write, answered, AreThere, brought, CanWrite, changed, Changes, Copies, CopiesEntries, Decides, IsChangeOf, Leaves, RestsOn, log_written, sent_of, stored_state, without_bytes, write_of}
 use Rattle.raft_voter_outline.proofs.Indexes.{matching-le}

@@ -7,13 +7,7 @@
 //! that the term changes, and not with the number of entries.
 #![tactic(auto)]
 
-mod list;
 mod outline;
 
-pub use list::drop_front;
 pub use outline::{Answer, Change, Decision, Outline, Write};
-pub use raft_voter_messages::{
-    Entry, Items, MAX_APPEND_BYTES, MAX_APPEND_ENTRIES, MAX_ENTRY_BYTES, MAX_NUMBER, Memory,
-    Outcome, Reply, Request, Round, StoredFault, Transcript, VoterState, entry_bytes, read_entry,
-    read_state, state_bytes,
-};
+pub use raft_voter_messages::{Items, Memory, Reply, Request, VoterState};

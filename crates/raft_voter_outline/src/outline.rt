@@ -61,6 +61,9 @@ impl Outline {
         ensures value { result ≡ state_of self.now.voter }
         ensures small { result.last_index < 2 ^ 63 }
         ensures committed { result.base_index ≤ result.commit }
+
+        // An outline is that of a voter: itself.
+        ensures own { without_bytes self.now.voter ≡ self.now.voter }
     {
         VoterState {
             term: self.term,

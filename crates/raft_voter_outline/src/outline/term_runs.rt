@@ -4,7 +4,6 @@ ghost use Rattle.std.specs.Option.{option_map};
 ghost use Rattle.raft_voter_outline.specs.Runs.{are_runs, bare, runs_behind, runs_below, top_term};
 
 use super::run::Run;
-use crate::list::drop_front;
 use crate::{Items, Memory};
 use std::alloc::Global;
 use std::marker::Model;
@@ -174,6 +173,14 @@ impl TermRuns {
             self.push(*term);
         }
     }
+}
+
+/// Drops the first runs.
+fn drop_front(list: &mut Vec<Run>, count: usize)
+    requires { count ≤ vec_len list.old }
+    ensures { list.new.items ≡ drop count list.old.items }
+{
+    drop(list.drain(..count));
 }
 
 /// How many runs end below an index.

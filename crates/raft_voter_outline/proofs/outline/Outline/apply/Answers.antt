@@ -1,7 +1,7 @@
-use Rattle.std.proofs.Common.{◌≡◌, ◌≤◌, ◌<◌, ◌^◌, ◌∙◌, List, ap, sym, refl}
-use Rattle.raft_voter_outline.specs.Outlines.{Changes, IsChangeOf, log_written, outlined, sent_of, stored_state, without_bytes}
+use Rattle.std.proofs.Common.{◌≡◌, ◌∙◌, List, ap, sym, refl}
+use Rattle.raft_voter_outline.specs.Outlines.{Changes, log_written, outlined, sent_of, without_bytes}
 use Rattle.raft_voter_outline.specs.Rules.{next}
-use Rattle.raft_voter_outline.specs.Runs.{bare, Terms}
+use Rattle.raft_voter_outline.specs.Runs.{bare}
 use Rattle.raft_voter_outline.specs.State.{State}
 use Rattle.raft_voter_messages.specs.declared.reply.VoterState.{VoterState}
 use Rattle.raft_voter_outline.proofs.Bareness.{bare-bare}

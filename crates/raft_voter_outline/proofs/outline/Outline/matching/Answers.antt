@@ -1,9 +1,7 @@
-use Rattle.std.proofs.Common.{◌≡◌, ◌≢◌, ◌+◌, ◌-◌, ◌∷◌, [], ◌∙◌, Some, ap, sym, arith, drop, length, slice_get, rules}
-use Rattle.std.proofs.lemmas.Bool.{eq-eqb, false≢true}
-use Rattle.std.proofs.lemmas.Grind.{common_steps}
+use Rattle.std.proofs.Common.{◌≡◌, ◌≢◌, ◌+◌, ◌-◌, ◌∷◌, [], ◌∙◌, Some, ap, sym, arith, drop, slice_get, rules}
 use Rattle.std.proofs.lemmas.List.{drop_all, drop_more}
 use Rattle.raft_voter_outline.specs.Rules.{matching}
-use Rattle.raft_voter_outline.proofs.Indexes.{Pair, term_of}
+use Rattle.raft_voter_outline.proofs.Indexes.{term_of}
 use Rattle.raft_voter_outline.proofs.Planning.{matching_ends, matching_more, matching_none}
 use Rattle.raft_voter_outline.proofs.outline.Outline.matching.Goals as goal
 

@@ -1,4 +1,4 @@
-use Rattle.std.proofs.Common.{◌≡◌, ◌≤◌, ◌+◌, ◌-◌, ◌++◌, ◌∙◌, List, [], ap, sym, inl, inr, arith, drop, length, take}
+use Rattle.std.proofs.Common.{◌≡◌, ◌≤◌, ◌-◌, ◌++◌, ◌∙◌, List, ap, sym, inl, inr, arith, drop, length, take}
 use Rattle.std.specs.Prelude.{None}
 use Rattle.std.proofs.lemmas.List.{drop_all}
 use Rattle.raft_voter_outline.specs.Outlines.{CanWrite, RestsOn, sent_of}

@@ -1,4 +1,4 @@
-use Rattle.std.proofs.Common.{◌≡◌, ◌+◌, ◌≤◌, ◌++◌, ◌∷◌, [], ◌∙◌, ℕ, List, Some, ap, sym, arith, drop, length}
+use Rattle.std.proofs.Common.{◌≡◌, ◌+◌, ◌≤◌, ◌++◌, ◌∷◌, [], ◌∙◌, Some, ap, sym, arith, drop, length}
 use Rattle.std.proofs.lemmas.List.{append_assoc, drop_more, length-append}
 use Rattle.raft_voter_outline.specs.Runs.{bare, runs_behind, top_term}
 use Rattle.raft_voter_outline.proofs.Unrolling.{runs_behind-first, top-push}

@@ -1,8 +1,6 @@
-use Rattle.std.proofs.Common.{◌≡◌, ◌≢◌, ◌+◌, ◌-◌, ◌<◌, ◌^◌, ◌++◌, ◌∷◌, [], ◌∙◌, Some, List, ap, sym, subst, true, arith, length, take, slice_get, rules, is_some}
-use Rattle.std.proofs.lemmas.Bool.{cases_Bool, eqb-true}
+use Rattle.std.proofs.Common.{◌≡◌, ◌≢◌, ◌+◌, ◌<◌, ◌^◌, ◌∙◌, Some, sym, arith, length, rules}
 use Rattle.std.proofs.lemmas.Grind.{common_steps}
-use Rattle.raft_voter_outline.specs.declared.outline.run.Run.{Run}
-use Rattle.raft_voter_outline.specs.Runs.{are_runs, top_term, unrolled}
+use Rattle.raft_voter_outline.specs.Runs.{top_term, unrolled}
 use Rattle.raft_voter_outline.proofs.Apart.{apart_new, apart_top}
 use Rattle.raft_voter_outline.proofs.Unrolling.{end-unrolled, more_of_top, snoc_new}
 use Rattle.raft_voter_outline.proofs.outline.term_runs.TermRuns.push.Goals as goal

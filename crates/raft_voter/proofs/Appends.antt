@@ -1,7 +1,6 @@
 use Rattle.std.proofs.Common.{◌≡◌, ◌≢◌, ℕ, ◌+◌, ◌-◌, ◌≤◌, ◌<◌, ◌==◌, List, ◌++◌, length, take, drop, true, false, Option, None, Some, refl, sym, ap, ◌∙◌, inl, inr, arith}
 use Rattle.std.specs.Prelude.{slice_get, min, nat_lt, if◌then◌else◌, IsSomeAnd}
-use Rattle.std.specs.Option.{option_map_or}
-use Rattle.std.proofs.lemmas.Bool.{cases_Bool, cases_lt, eq-eqb, eqb-true, ltb-true, ltb-false, false≢true}
+use Rattle.std.proofs.lemmas.Bool.{cases_Bool, cases_lt, eq-eqb, ltb-true, ltb-false}
 use Rattle.std.proofs.lemmas.Bool.Decides.{nat_tests}
 use Rattle.std.proofs.lemmas.List.{take-append-drop}
 use Rattle.std.proofs.lemmas.Option.{slice_get_within}
@@ -12,7 +11,7 @@ use Rattle.raft_voter_outline.specs.Rules.{agrees_at, appended, matching, merged
 use Rattle.raft_voter_messages.specs.Ranges.{in_range}
 use Rattle.raft_voter.specs.Laws.{BringsOther, MatchedAppend, sent_at}
 use Rattle.raft_voter_outline.proofs.Indexes.{get_back, get_drop, get_front, get_merged_back, get_merged_front, matches_before, matching-le, other_there, Pair, term_of}
-use Rattle.raft_voter_outline.proofs.Steps.{by_test, base-adopt_term, log-adopt_term, reaches}
+use Rattle.raft_voter_outline.proofs.Steps.{base-adopt_term, log-adopt_term, reaches}
 
 -- What a matched Append had to meet.
 pub record Matches (v : State) (t p u commit last : ℕ) (sent : List Pair) : Type 0 where

@@ -1,14 +1,12 @@
-use Rattle.std.proofs.Common.{◌≡◌, ℕ, ◌+◌, ◌≤◌, ◌&&◌, List, [], ◌∷◌, length, nat_lt, nat_le, false, None, Option, sym, ap, ◌∙◌, arith}
-use Rattle.std.specs.Prelude.{max, min}
-use Rattle.std.proofs.Math.Nat.{le-max_left, le-max_right}
-use Rattle.std.proofs.lemmas.Bool.{and_parts, leb-true}
+use Rattle.std.proofs.Common.{◌≡◌, ℕ, ◌+◌, ◌≤◌, List, [], ◌∷◌, length, nat_lt, false, None, Option, sym, ap, ◌∙◌, arith}
+use Rattle.std.specs.Prelude.{min}
 use Rattle.raft_voter_messages.specs.declared.reply.Reply.{Reply}
 use Rattle.raft_voter_messages.specs.declared.request.Request.{Request}
 use Rattle.raft_voter_messages.specs.declared.request.Request.TheVariants.{Vote, Append, Compact, Install, Read, Status, Retire}
 use Rattle.raft_voter_messages.specs.declared.round.Round.{Round}
 use Rattle.raft_voter_messages.specs.Ranges.{in_range}
-use Rattle.raft_voter_outline.specs.State.{State, adopt_term, last_index}
-use Rattle.raft_voter_outline.specs.Rules.{can_compact, compacted, next, next_in_range}
+use Rattle.raft_voter_outline.specs.State.{State, adopt_term}
+use Rattle.raft_voter_outline.specs.Rules.{next, next_in_range}
 use Rattle.raft_voter.specs.Rounds.{Leads, World, after_rounds}
 use Rattle.raft_voter_outline.specs.Rules.{is_retire}
 use Rattle.raft_voter.specs.Accounts.{account, group_account, NoRetire, voter_from}

@@ -1,7 +1,6 @@
-use Rattle.std.specs.Prelude.{◌≡◌, ℕ, ◌+◌, ◌==◌, Bool, true, false, if◌then◌else◌, List, [], ◌∷◌, ◌++◌, length, Option, None, Some}
+use Rattle.std.specs.Prelude.{◌≡◌, ℕ, ◌+◌, ◌==◌, false, if◌then◌else◌, List, [], ◌∷◌, ◌++◌, length, Option, None, Some}
 use Rattle.raft_voter_messages.specs.declared.reply.Reply.{Reply}
 use Rattle.raft_voter_messages.specs.declared.request.Request.{Request}
-use Rattle.raft_voter_messages.specs.declared.request.Request.TheVariants.{Retire}
 use Rattle.raft_voter_messages.specs.declared.round.Outcome.{Outcome}
 use Rattle.raft_voter_messages.specs.declared.round.Outcome.TheVariants.{Answered, Cut}
 use Rattle.raft_voter_messages.specs.declared.round.Round.{Round}

@@ -1,7 +1,6 @@
-use Rattle.std.proofs.Common.{◌≡◌, ◌≤◌, ◌<◌, ◌+◌, ◌^◌, ◌∙◌, List, ap, sym, refl, arith, length}
+use Rattle.std.proofs.Common.{◌≡◌, ◌<◌, ◌^◌, ◌∙◌, ap, sym, refl}
 use Rattle.raft_voter_outline.proofs.Deciding.{change_small, room_copies}
 use Rattle.raft_voter_outline.specs.Outlines.{Changes, IsChangeOf, log_written, sent_of, without_bytes}
-use Rattle.raft_voter_outline.specs.Decisions.{Becomes}
 use Rattle.raft_voter_outline.specs.Rules.{next}
 use Rattle.raft_voter_outline.specs.Runs.{bare}
 use Rattle.raft_voter_outline.specs.State.{State, last_index}

@@ -1,6 +1,6 @@
-use Rattle.std.proofs.Common.{◌≡◌, ◌∙◌}
+use Rattle.std.proofs.Common.{◌≡◌}
 use Rattle.raft_voter_outline.proofs.Deciding.{answer_copies}
-use Rattle.raft_voter_outline.specs.Outlines.{answered, AreThere}
+use Rattle.raft_voter_outline.specs.Outlines.{AreThere}
 use Rattle.raft_voter_outline.specs.Rules.{entries_between, reply}
 use Rattle.raft_voter_outline.specs.State.{State}
 use Rattle.raft_voter_outline.specs.declared.outline.decision.Answer.TheVariants.{Entries as EntriesAnswer}

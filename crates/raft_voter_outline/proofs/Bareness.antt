@@ -1,12 +1,11 @@
 -- What of a voter doesn't depend on its entries' bytes.
 use Rattle.std.proofs.Common.{◌≡◌, ℕ, zero, suc, ◌+◌, ◌-◌, ◌==◌, ◌&&◌, List, [], ◌∷◌, ◌++◌, length, take, drop, nat_lt, nat_le, if◌then◌else◌, false, Option, None, Some, refl, ap, ◌∙◌, inl, inr}
-use Rattle.std.specs.Prelude.{replicate, slice_get}
+use Rattle.std.specs.Prelude.{slice_get}
 use Rattle.std.specs.Option.{option_map_or}
 use Rattle.std.proofs.lemmas.Bool.{cases_Bool}
-use Rattle.raft_voter_outline.specs.declared.outline.run.Run.{Run}
 use Rattle.raft_voter_outline.specs.State.{State, adopt_term, last_index, last_term, term_at}
 use Rattle.raft_voter_outline.specs.Rules.{agrees_at, can_compact, grants, is_up_to_date, matching, may_vote}
-use Rattle.raft_voter_outline.specs.Runs.{bare, unrolled}
+use Rattle.raft_voter_outline.specs.Runs.{bare}
 use Rattle.raft_voter_outline.specs.Outlines.{without_bytes}
 use Rattle.raft_voter_outline.proofs.Indexes.{Pair, term_of}
 
@@ -33,14 +32,6 @@ bare-drop (suc n) (e ∷ es) = bare-drop n es
 pub bare-bare : (es : List Pair) → bare (bare es) ≡ bare es
 bare-bare [] = refl
 bare-bare (e ∷ es) = ap (λ (l : List Pair). (e.0, []) ∷ l) (bare-bare es)
-
-bare-replicate : (n t : ℕ) (es : List Pair) → bare es ≡ es → bare (replicate n (t, []) ++ es) ≡ replicate n (t, []) ++ es
-bare-replicate zero t es same = same
-bare-replicate (suc n) t es same = ap (λ (l : List Pair). (t, []) ∷ l) (bare-replicate n t es same)
-
-pub bare-unrolled : (rs : List Run) (b : ℕ) → bare (unrolled b rs) ≡ unrolled b rs
-bare-unrolled [] b = refl
-bare-unrolled (r ∷ rs) b = bare-replicate (r.last - b) r.term (unrolled r.last rs) (bare-unrolled rs r.last)
 
 term-bare : (es : List Pair) (k : ℕ) → term_of (slice_get (bare es) k) ≡ term_of (slice_get es k)
 term-bare [] k = refl

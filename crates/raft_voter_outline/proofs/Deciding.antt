@@ -142,12 +142,6 @@ log_append v t p u c sent = elim (cases_Bool (nat_lt t v.term)) [
   ]
 ]
 
-pub log_compact : (v : State) (i : ℕ) → (next_in_range v (Compact i)).log ≡ log_written (write_of v (Compact i)) [] v
-log_compact v i = elim (cases_Bool (can_compact v i)) [
-  | inl can ↦ rw can refl
-  | inr cannot ↦ rw cannot refl
-]
-
 pub log_vote : (v : State) (t c i u : ℕ) → (next_in_range v (Vote t c i u)).log ≡ v.log
 log_vote v t c i u = by_test (λ (w : State). w.log ≡ v.log) (grants v t c i u) (record (adopt_term v t) { vote = Some c }) (adopt_term v t) (λ h. log-adopt_term v t) (λ h. log-adopt_term v t)
 

@@ -15,7 +15,7 @@ use std::alloc::Global;
 use std::marker::Model;
 
 /// A Raft voter: its outline, which decides what it answers and becomes, and its log above the base. A contract sees it as
-/// a `State` of `specs/State.antt`.
+/// a `State` of `raft_voter_outline`.
 #[derive(Debug, Drop)]
 pub struct Voter {
     outline: Outline,

@@ -72,7 +72,7 @@ changed c sent v = record {
   log = log_written c.write sent v;
 }
 
--- what is done to a log can be done, and is needed
+-- what is done to a log can be done there, and is needed
 abbrev pub CanWrite : Write → Request → State → Type 0
 CanWrite StateAlone q v = is_retire q ≡ false
 CanWrite (Entries skipped index) q v =
@@ -153,7 +153,7 @@ pub record Decides (o : State) (q : Request) (d : Decision) : Type 0 where
   pub answer : Answers o q d.answer
   pub change : MatchOption d.change (Leaves o q) (Changes o q)
 
--- a request in range for which entries are copied: an Append that brings some that aren't there, or a Read of some that are
+-- entries are copied for a request in range: an Append that brings some that aren't there, or a Read of some that are
 abbrev pub CopiesEntries : State → Request → Type 0
 CopiesEntries v (Append term prev prev_term commit sent) =
     (v.term ≤ term) × (agrees_at v prev prev_term ≡ true)
@@ -161,7 +161,7 @@ CopiesEntries v (Append term prev prev_term commit sent) =
 CopiesEntries v (Read from to) = (v.base_index < from) × (from < to) × (to ≤ last_index v + 1)
 CopiesEntries v _ = ⊥
 
--- a request that is refused for want of memory is one for which entries are copied
+-- entries are copied for a request
 abbrev pub Copies : State → Request → Type 0
 Copies v q = (in_range q ≡ true) × CopiesEntries v q
 

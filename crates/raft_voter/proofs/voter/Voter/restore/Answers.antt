@@ -26,5 +26,5 @@ invariant_of-result c =
     let small : c.args.state.base_index < 2 ^ 63 = grind (arith, nat_tests) in
     let size : length log ≡ length es = grind (arith, length-map) in
     let is : c.in-Ok-restore.outline.voter ≡ without_bytes (with_log c.args.state log) =
-    c.in-Ok-restore.ensures ∙ ap (λ l. without_bytes (with_log c.args.state l)) c.as_slice-3.ensures.value in
+    c.in-Ok-restore.ensures.ok ∙ ap (λ l. without_bytes (with_log c.args.state l)) c.as_slice-3.ensures.value in
     rw is (record { bared = refl; small = omega (arith, size, last_in_range es c.args.state.base_index fit order small) })

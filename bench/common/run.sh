@@ -1,6 +1,6 @@
 #!/usr/bin/env bash
 # Builds a benchmark's main.rt.txt over crates of this repository, and its Rust twin rust.rs, runs both so many times, and
-# prints the best of each. Each line that they print has the work, its MB/s and a sum, which must be the same.
+# prints the best of each. Each line that they print has the work, its MB/s (or what UNIT says) and a sum, which must be the same.
 # Usage: bench/common/run.sh FOLDER ROUNDS CRATE..; the crates are those that main.rt.txt names. RT names the toolchain's command.
 set -euo pipefail
 here="$(cd "$1" && pwd)"
@@ -31,9 +31,9 @@ for _ in $(seq "$rounds"); do
     "$room/rust" >> "$room/rust.out"
     "$room/crates/$name/out/$name" >> "$room/rattle.out"
 done
-awk 'FNR == NR { if ($2 > rust[$1]) rust[$1] = $2; sum[$1] = $3; next }
+awk -v unit="${UNIT:-MB/s}" 'FNR == NR { if ($2 > rust[$1]) rust[$1] = $2; sum[$1] = $3; next }
      { if (sum[$1] != $3) { print $1 ": the sums differ"; bad = 1 }
        if ($2 > best[$1]) best[$1] = $2; if (!($1 in seen)) { seen[$1] = 1; order[++n] = $1 } }
-     END { printf "%-22s %12s %12s %8s\n", "work", "Rattle MB/s", "Rust MB/s", "ratio"
+     END { printf "%-22s %12s %12s %8s\n", "work", "Rattle " unit, "Rust " unit, "ratio"
            for (i = 1; i <= n; i++) { w = order[i]; printf "%-22s %12d %12d %8.2f\n", w, best[w], rust[w], best[w] / rust[w] }
            exit bad }' "$room/rust.out" "$room/rattle.out"

@@ -7,6 +7,7 @@ pub mod frames;
 pub mod items;
 pub mod log_disk;
 pub mod memory_files;
+pub mod outline;
 pub mod records;
 pub mod settings;
 pub mod voter;

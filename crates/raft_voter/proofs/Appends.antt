@@ -1,18 +1,17 @@
 use Rattle.std.proofs.Common.{◌≡◌, ◌≢◌, ℕ, ◌+◌, ◌-◌, ◌≤◌, ◌<◌, ◌==◌, List, ◌++◌, length, take, drop, true, false, Option, None, Some, refl, sym, ap, ◌∙◌, inl, inr, arith}
 use Rattle.std.specs.Prelude.{slice_get, min, nat_lt, if◌then◌else◌, IsSomeAnd}
-use Rattle.std.specs.Option.{option_map_or}
-use Rattle.std.proofs.lemmas.Bool.{cases_Bool, cases_lt, eq-eqb, eqb-true, ltb-true, ltb-false, false≢true}
+use Rattle.std.proofs.lemmas.Bool.{cases_Bool, cases_lt, eq-eqb, ltb-true, ltb-false}
 use Rattle.std.proofs.lemmas.Bool.Decides.{nat_tests}
 use Rattle.std.proofs.lemmas.List.{take-append-drop}
 use Rattle.std.proofs.lemmas.Option.{slice_get_within}
 use Rattle.raft_voter_messages.specs.declared.reply.Reply.TheVariants.{Matched, Mismatch, Stale, Base, Refused}
 use Rattle.raft_voter_messages.specs.declared.request.Request.TheVariants.{Append}
-use Rattle.raft_voter.specs.State.{State, adopt_term, entry_at, last_index, term_at}
-use Rattle.raft_voter.specs.Rules.{agrees_at, appended, matching, merged, merged_log, next, reply}
+use Rattle.raft_voter_outline.specs.State.{State, adopt_term, entry_at, last_index, term_at}
+use Rattle.raft_voter_outline.specs.Rules.{agrees_at, appended, matching, merged, merged_log, next, reply}
 use Rattle.raft_voter_messages.specs.Ranges.{in_range}
 use Rattle.raft_voter.specs.Laws.{BringsOther, MatchedAppend, sent_at}
-use Rattle.raft_voter.proofs.Indexes.{get_back, get_drop, get_front, get_merged_back, get_merged_front, matches_before, matching-le, other_there, Pair, term_of}
-use Rattle.raft_voter.proofs.VoterSteps.{by_test}
+use Rattle.raft_voter_outline.proofs.Indexes.{get_back, get_drop, get_front, get_merged_back, get_merged_front, matches_before, matching-le, other_there, Pair, term_of}
+use Rattle.raft_voter_outline.proofs.Steps.{base-adopt_term, log-adopt_term, reaches}
 
 -- What a matched Append had to meet.
 pub record Matches (v : State) (t p u commit last : ℕ) (sent : List Pair) : Type 0 where
@@ -53,15 +52,6 @@ pub next_matched :
     → next v (Append t p u commit sent) ≡ appended (adopt_term v t) p commit sent
 next_matched v t p u commit last sent m = rw (m.fit, m.current, m.agrees) refl
 
--- a term that is taken over moves no entry
-pub base-adopt_term : (v : State) (t : ℕ) → (adopt_term v t).base_index ≡ v.base_index
-base-adopt_term v t =
-    by_test (λ (w : State). w.base_index ≡ v.base_index) (nat_lt v.term t) (record v { term = t; vote = None }) v (λ h. refl) (λ h. refl)
-
-pub log-adopt_term : (v : State) (t : ℕ) → (adopt_term v t).log ≡ v.log
-log-adopt_term v t =
-    by_test (λ (w : State). w.log ≡ v.log) (nat_lt v.term t) (record v { term = t; vote = None }) v (λ h. refl) (λ h. refl)
-
 -- the entry at an index, of a log above a base
 abbrev pub entry_in : ℕ → List Pair → ℕ → Option Pair
 entry_in base log i = if nat_lt base i then slice_get log (i - base - 1) else None
@@ -84,20 +74,6 @@ pub entry-next_matched :
 entry-next_matched v t p u commit last i sent m =
     ap (λ (b : ℕ). entry_in b (next v (Append t p u commit sent)).log i) (base-next_matched v t p u commit last sent m)
     ∙ ap (λ (l : List Pair). entry_in v.base_index l i) (log-next_matched v t p u commit last sent m)
-
--- the log reaches up to the entry before those sent
-some_there : (o : Option Pair) (u : ℕ) → option_map_or (λ t. t == u) (term_of o) false ≡ true → (e : Pair) × (o ≡ Some e)
-some_there None u h = absurd (false≢true h)
-some_there (Some e) u h = (e, refl)
-
-pub reaches : (v : State) (p u : ℕ) → v.base_index ≤ p → agrees_at v p u ≡ true → p - v.base_index ≤ length v.log
-reaches v p u above agrees = elim (cases_Bool (p == v.base_index)) [
-  | inl base ↦ let same : p ≡ v.base_index = eqb-true p v.base_index base in omega (arith, same)
-  | inr apart ↦
-      let inside : nat_lt v.base_index p ≡ true = grind (arith, nat_tests) in
-      let there = some_there (slice_get v.log (p - v.base_index - 1)) u (rw (apart, inside) at agrees) in
-      omega (arith, slice_get_within v.log (p - v.base_index - 1) there.0 there.1)
-]
 
 -- entries up to the one before those sent stay
 pub entry_before :

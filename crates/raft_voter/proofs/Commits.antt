@@ -1,19 +1,18 @@
-use Rattle.std.proofs.Common.{◌≡◌, ℕ, ◌+◌, ◌≤◌, ◌&&◌, List, [], ◌∷◌, length, nat_lt, nat_le, false, None, Option, sym, ap, ◌∙◌, arith}
-use Rattle.std.specs.Prelude.{max, min}
-use Rattle.std.proofs.Math.Nat.{le-max_left, le-max_right}
-use Rattle.std.proofs.lemmas.Bool.{and_parts, leb-true}
+use Rattle.std.proofs.Common.{◌≡◌, ℕ, ◌+◌, ◌≤◌, List, [], ◌∷◌, length, nat_lt, false, None, Option, sym, ap, ◌∙◌, arith}
+use Rattle.std.specs.Prelude.{min}
 use Rattle.raft_voter_messages.specs.declared.reply.Reply.{Reply}
 use Rattle.raft_voter_messages.specs.declared.request.Request.{Request}
 use Rattle.raft_voter_messages.specs.declared.request.Request.TheVariants.{Vote, Append, Compact, Install, Read, Status, Retire}
 use Rattle.raft_voter_messages.specs.declared.round.Round.{Round}
 use Rattle.raft_voter_messages.specs.Ranges.{in_range}
-use Rattle.raft_voter.specs.State.{State, adopt_term, last_index}
-use Rattle.raft_voter.specs.Rules.{can_compact, compacted, next, next_in_range}
+use Rattle.raft_voter_outline.specs.State.{State, adopt_term}
+use Rattle.raft_voter_outline.specs.Rules.{next, next_in_range}
 use Rattle.raft_voter.specs.Rounds.{Leads, World, after_rounds}
-use Rattle.raft_voter.specs.Accounts.{account, group_account, is_retire, NoRetire, voter_from}
+use Rattle.raft_voter_outline.specs.Rules.{is_retire}
+use Rattle.raft_voter.specs.Accounts.{account, group_account, NoRetire, voter_from}
 use Rattle.raft_voter.specs.Laws.{BaseIsCommitted, CommitNeverFalls}
 use Rattle.raft_voter.proofs.Following.{account_follows, own_runs}
-use Rattle.raft_voter.proofs.VoterSteps.{append_next, by_test, compact_next, install_next, vote_next}
+use Rattle.raft_voter_outline.proofs.Steps.{append_next, by_test, compact_next, install_next, vote_next, HasCommittedBase, base_next, raised}
 
 -- The commit only rises.
 
@@ -23,10 +22,6 @@ same v = omega arith
 commit-adopt_term : (v : State) (t : ℕ) → v.commit ≤ (adopt_term v t).commit
 commit-adopt_term v t =
     by_test (λ (w : State). v.commit ≤ w.commit) (nat_lt v.term t) (record v { term = t; vote = None }) v (λ h. same v) (λ h. same v)
-
--- what is raised from a commit that was at least as high is above it
-raised : (a b c : ℕ) → a ≤ b → a ≤ max b c
-raised a b c le = let up : b ≤ max b c = le-max_left b c in omega (arith, up)
 
 commit-next_in_range : (q : Request) (v : State) → is_retire q ≡ false → v.commit ≤ (next_in_range v q).commit
 commit-next_in_range (Vote t c i u) v stays =
@@ -52,29 +47,6 @@ commit-voter_from [] v stays = omega arith
 commit-voter_from (t ∷ ts) v stays = omega (arith, commit-next t.0 v stays.0, commit-voter_from ts (next v t.0) stays.1)
 
 -- The base stays at or below it.
-
-abbrev pub HasCommittedBase : State → Type 0
-HasCommittedBase v = v.base_index ≤ v.commit
-
-adopted : (v : State) (t : ℕ) → HasCommittedBase v → HasCommittedBase (adopt_term v t)
-adopted v t h = by_test HasCommittedBase (nat_lt v.term t) (record v { term = t; vote = None }) v (λ k. h) (λ k. h)
-
-base_next_in_range : (q : Request) (v : State) → HasCommittedBase v → HasCommittedBase (next_in_range v q)
-base_next_in_range (Vote t c i u) v h = vote_next HasCommittedBase v t c i u (λ k. adopted v t h) (adopted v t h)
-base_next_in_range (Append t p u commit es) v h =
-    append_next HasCommittedBase v t p u commit es h
-    (raised (adopt_term v t).base_index (adopt_term v t).commit (min commit (p + length es)) (adopted v t h)) (adopted v t h)
-base_next_in_range (Compact i) v h =
-    by_test HasCommittedBase (can_compact v i) (compacted v i) v
-    (λ can. leb-true i v.commit (and_parts (nat_lt v.base_index i && nat_le i (last_index v)) (nat_le i v.commit) can).1) (λ cannot. h)
-base_next_in_range (Install t i u) v h =
-    install_next HasCommittedBase v t i u h (adopted v t h) (le-max_right (adopt_term v t).commit i)
-base_next_in_range (Read a b) v h = h
-base_next_in_range Status v h = h
-base_next_in_range Retire v h = omega arith
-
-pub base_next : (q : Request) (v : State) → HasCommittedBase v → HasCommittedBase (next v q)
-base_next q v h = by_test HasCommittedBase (in_range q) (next_in_range v q) v (λ k. base_next_in_range q v h) (λ k. h)
 
 base_voter_from :
     (ts : List (Request × Option Reply)) (v : State) → HasCommittedBase v → HasCommittedBase (voter_from v ts)

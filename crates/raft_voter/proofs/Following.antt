@@ -7,8 +7,8 @@ use Rattle.raft_voter_messages.specs.declared.request.Request.{Request}
 use Rattle.raft_voter_messages.specs.declared.round.Outcome.{Outcome}
 use Rattle.raft_voter_messages.specs.declared.round.Outcome.TheVariants.{Answered, Cut}
 use Rattle.raft_voter_messages.specs.declared.round.Round.{Round}
-use Rattle.raft_voter.specs.State.{State, fresh}
-use Rattle.raft_voter.specs.Rules.{next, reply}
+use Rattle.raft_voter_outline.specs.State.{State, fresh}
+use Rattle.raft_voter_outline.specs.Rules.{next, reply}
 use Rattle.raft_voter.specs.Rounds.{World, after, after_one, after_round, after_rounds, cuts_after, Explains, ExplainsFrom, fresh_world, is_among, OutcomeHolds, place_reached, replies_from, taken_below, taken_from}
 use Rattle.raft_voter.specs.Accounts.{account, account_of_round, group_account, own, requests_of, Taken, told_from, untold, voter_from}
 

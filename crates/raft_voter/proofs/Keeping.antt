@@ -12,9 +12,9 @@ use Rattle.raft_voter_messages.specs.declared.request.Request.TheVariants.{Vote,
 use Rattle.raft_voter_messages.specs.Ranges.{entries_fit, entry_fits, fits, in_range, total_bytes}
 use Rattle.raft_voter.specs.InRange.{IsInRange}
 use Rattle.raft_voter.specs.Laws.{RangeIsKept}
-use Rattle.raft_voter.specs.Rules.{agrees_at, appended, can_compact, compacted, grants, installed, matching, merged, next, next_in_range}
-use Rattle.raft_voter.specs.State.{State, adopt_term, entry_at, fresh, last_index, term_at}
-use Rattle.raft_voter.proofs.VoterSteps.{by_test}
+use Rattle.raft_voter_outline.specs.Rules.{agrees_at, appended, can_compact, compacted, grants, installed, matching, merged, next_in_range}
+use Rattle.raft_voter_outline.specs.State.{State, adopt_term, entry_at, fresh, last_index, term_at}
+use Rattle.raft_voter_outline.proofs.Steps.{by_test}
 
 left : (a b : Bool) → (a && b) ≡ true → a ≡ true
 left true b h = refl

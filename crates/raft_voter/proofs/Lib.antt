@@ -1,18 +1,13 @@
-pub mod Merging
 pub mod Places
 pub mod Joining
-pub mod Ordered
 pub mod Following
 pub mod VoterSteps
 pub mod RunLaws
-pub mod Indexes
 pub mod Appends
 pub mod Standing
 pub mod Repeating
+mod Owning
 mod Commits
-mod Unrolling
-mod Planning
-mod Bareness
-mod Deciding
 mod Reading
 mod Keeping
+pub use Rattle.raft_voter_outline.proofs.Ordered

@@ -8,8 +8,8 @@ use Rattle.raft_voter_messages.specs.declared.reply.Reply.TheVariants.{Refused}
 use Rattle.raft_voter_messages.specs.declared.request.Request.{Request}
 use Rattle.raft_voter_messages.specs.declared.round.Outcome.TheVariants.{Cut}
 use Rattle.raft_voter_messages.specs.declared.round.Round.{Round}
-use Rattle.raft_voter.specs.Rules.{reply}
-use Rattle.raft_voter.specs.Rounds.{World, after, after_one, after_round, are_rising, is_among, place_reached, replies_from, taken_from}
+use Rattle.raft_voter_outline.specs.Rules.{reply}
+use Rattle.raft_voter.specs.Rounds.{World, after, after_one, after_round, are_rising, is_among, place_reached, replies_from, taken_from, TakesFirst}
 
 -- rising places don't hold one from before their start
 pub among_before :
@@ -165,3 +165,10 @@ none_left cuts used within = (
   λ all. drop_all used cuts (omega (arith, eqb-true used (length cuts) all)),
   λ none. eq-eqb used (length cuts) (omega (arith, length-drop used cuts, ap length none)),
 )
+
+-- where the loop stops at a place, the requests below it were taken
+pub stopped_at :
+    (W X : World) (qs left : List (ℕ × Request)) (refused ps : List ℕ) (place : ℕ) → place ≤ length qs
+    → after X (taken_from place place ps left) ≡ after W (taken_from 0 place refused qs) → TakesFirst W qs refused X
+stopped_at W X qs left refused ps place within so_far =
+    record { place = place; within = within; reached = rw (taken_none left place place ps (omega arith)) at so_far }

@@ -1,18 +1,17 @@
 -- What a Read is answered.
-use Rattle.std.proofs.Common.{◌≡◌, ℕ, zero, suc, ◌+◌, ◌-◌, ◌≤◌, ◌<◌, List, [], ◌∷◌, length, take, drop, nat_lt, nat_le, true, false, Some, None, Option, refl, sym, ap, ◌∙◌, inl, inr, arith}
+use Rattle.std.proofs.Common.{◌≡◌, ℕ, zero, suc, ◌+◌, ◌-◌, ◌≤◌, ◌<◌, List, [], ◌∷◌, length, take, drop, nat_lt, nat_le, true, Some, refl, sym, ap, ◌∙◌, inl, inr, arith}
 use Rattle.std.specs.Prelude.{slice_get}
 use Rattle.std.proofs.lemmas.Bool.{cases_Bool}
 use Rattle.std.proofs.lemmas.Bool.Decides.{nat_tests}
 use Rattle.std.proofs.lemmas.List.{length-drop, length-take-le}
 use Rattle.raft_voter_messages.specs.declared.reply.Entry.{Entry}
-use Rattle.raft_voter_messages.specs.declared.reply.Reply.{Reply}
 use Rattle.raft_voter_messages.specs.declared.reply.Reply.TheVariants.{Entries, Gone, Unknown, Refused}
 use Rattle.raft_voter_messages.specs.declared.request.Request.TheVariants.{Read}
 use Rattle.raft_voter_messages.specs.Ranges.{in_range}
-use Rattle.raft_voter.specs.State.{State, entry_at, last_index}
-use Rattle.raft_voter.specs.Rules.{entries_between, numbered, reply}
+use Rattle.raft_voter_outline.specs.State.{State, entry_at, last_index}
+use Rattle.raft_voter_outline.specs.Rules.{entries_between, numbered}
 use Rattle.raft_voter.specs.Laws.{EntriesAreTheLog}
-use Rattle.raft_voter.proofs.Indexes.{get_drop, Pair}
+use Rattle.raft_voter_outline.proofs.Indexes.{get_drop, Pair}
 
 length-numbered : (es : List Pair) (i : ℕ) → length (numbered i es) ≡ length es
 length-numbered [] i = refl

@@ -1,7 +1,7 @@
-use Rattle.std.proofs.Common.{◌≡◌, ℕ, suc, ◌+◌, ◌-◌, ◌≤◌, ◌==◌, ◌&&◌, List, [], ◌∷◌, ◌++◌, length, take, drop, true, false, Option, None, Some, refl, sym, ap, ◌∙◌, inl, inr, arith}
+use Rattle.std.proofs.Common.{◌≡◌, ℕ, ◌+◌, ◌-◌, ◌≤◌, ◌==◌, ◌&&◌, List, [], ◌∷◌, ◌++◌, length, take, drop, true, false, Option, None, Some, refl, sym, ap, ◌∙◌, inl, inr, arith}
 use Rattle.std.specs.Prelude.{nat_lt, nat_le, if◌then◌else◌, max, min}
 use Rattle.std.specs.Option.{option_map_or}
-use Rattle.std.proofs.lemmas.Bool.{and_parts, cases_Bool, eq-eqb, eqb-true, ltb-false, false≢true}
+use Rattle.std.proofs.lemmas.Bool.{and_parts, cases_Bool, eq-eqb, ltb-false, false≢true}
 use Rattle.std.proofs.lemmas.Bool.Decides.{nat_tests}
 use Rattle.std.proofs.lemmas.List.{length-take-le, take_at, drop_at}
 use Rattle.std.proofs.Math.Nat.{le-max_right, max-eq_left}
@@ -9,16 +9,17 @@ use Rattle.raft_voter_messages.specs.declared.reply.Reply.{Reply}
 use Rattle.raft_voter_messages.specs.declared.reply.Reply.TheVariants.{Granted, Denied, Matched, Mismatch, Base}
 use Rattle.raft_voter_messages.specs.declared.request.Request.{Request}
 use Rattle.raft_voter_messages.specs.declared.request.Request.TheVariants.{Vote, Append, Compact, Install, Read, Status, Retire}
-use Rattle.raft_voter.specs.State.{State, adopt_term, fresh, last_index, term_at}
-use Rattle.raft_voter.specs.Rules.{agrees_at, appended, can_compact, compacted, grants, installed, is_up_to_date, matching, may_vote, merged, merged_log, next, reply}
+use Rattle.raft_voter_outline.specs.State.{State, adopt_term, fresh, last_index, term_at}
+use Rattle.raft_voter_outline.specs.Rules.{agrees_at, appended, can_compact, compacted, grants, installed, is_up_to_date, matching, may_vote, merged, merged_log, next, reply}
 use Rattle.raft_voter_messages.specs.Ranges.{in_range}
 use Rattle.raft_voter.specs.Accounts.{voter_after}
 use Rattle.raft_voter.specs.Laws.{is_repeatable, RepeatIsIdempotent}
-use Rattle.raft_voter.proofs.Appends.{base-adopt_term, entry_before, reaches}
+use Rattle.raft_voter_outline.proofs.Steps.{base-adopt_term, reaches, matching-merged}
+use Rattle.raft_voter.proofs.Appends.{entry_before}
 use Rattle.raft_voter.proofs.Following.{group_runs, runs_append, voter_from-append}
-use Rattle.raft_voter.proofs.Indexes.{Pair, term_of}
-use Rattle.raft_voter.proofs.Standing.{agrees_above}
-use Rattle.raft_voter.proofs.VoterSteps.{by_test}
+use Rattle.raft_voter_outline.proofs.Indexes.{Pair, term_of}
+use Rattle.raft_voter_outline.proofs.Steps.{agrees_above}
+use Rattle.raft_voter_outline.proofs.Steps.{by_test}
 
 -- The same request again gets the same reply and leaves the voter.
 pub record Again (v : State) (q : Request) : Type 0 where
@@ -149,49 +150,6 @@ install_again v t c u = elim (cases_Bool (in_range (Install t c u))) [
 ]
 
 -- Entries.
-
-matching-itself : (sent : List Pair) → matching sent sent ≡ length sent
-matching-itself [] = refl
-matching-itself (e ∷ sent) = rw (eq-eqb e.0 e.0 refl) (omega (arith, matching-itself sent))
-
--- an old entry that matches stays in front
-merged-same :
-    (o e : Pair) (old sent : List Pair) → (o.0 == e.0) ≡ true → merged (o ∷ old) (e ∷ sent) ≡ o ∷ merged old sent
-merged-same o e old sent same =
-    let m = matching old sent in
-    let n = length sent in
-    let one : 1 + m ≡ suc m = omega arith in
-    elim (cases_Bool (m == n)) [
-      | inl all ↦
-          let up : (suc m == suc n) ≡ true = eq-eqb (suc m) (suc n) (ap suc (eqb-true m n all)) in
-          rw (same, one, up, all) refl
-      | inr more ↦
-          let up : (suc m == suc n) ≡ false = grind (arith, nat_tests) in
-          rw (same, one, up, more) refl
-    ]
-
--- another entry brings all that was sent
-merged-other :
-    (o e : Pair) (old sent : List Pair) → (o.0 == e.0) ≡ false → merged (o ∷ old) (e ∷ sent) ≡ e ∷ sent
-merged-other o e old sent other =
-    let none : (0 == suc (length sent)) ≡ false = grind (arith, nat_tests) in
-    rw (other, none) refl
-
-merged-nothing : (e : Pair) (sent : List Pair) → merged [] (e ∷ sent) ≡ e ∷ sent
-merged-nothing e sent = let none : (0 == suc (length sent)) ≡ false = grind (arith, nat_tests) in rw none refl
-
--- what was sent matches what it was merged into
-pub matching-merged : (old sent : List Pair) → matching (merged old sent) sent ≡ length sent
-matching-merged [] [] = refl
-matching-merged [] (e ∷ sent) = ap (λ (l : List Pair). matching l (e ∷ sent)) (merged-nothing e sent) ∙ matching-itself (e ∷ sent)
-matching-merged (o ∷ old) [] = refl
-matching-merged (o ∷ old) (e ∷ sent) = elim (cases_Bool (o.0 == e.0)) [
-  | inr other ↦ ap (λ (l : List Pair). matching l (e ∷ sent)) (merged-other o e old sent other) ∙ matching-itself (e ∷ sent)
-  | inl same ↦
-      let one : matching (o ∷ merged old sent) (e ∷ sent) ≡ 1 + matching (merged old sent) sent = rw same refl in
-      ap (λ (l : List Pair). matching l (e ∷ sent)) (merged-same o e old sent same) ∙ one
-      ∙ omega (arith, matching-merged old sent)
-]
 
 merged-merged : (old sent : List Pair) → merged (merged old sent) sent ≡ merged old sent
 merged-merged old sent =

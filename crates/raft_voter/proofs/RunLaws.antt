@@ -3,8 +3,8 @@ use Rattle.raft_voter_messages.specs.declared.reply.Reply.{Reply}
 use Rattle.raft_voter_messages.specs.declared.reply.Reply.TheVariants.{Granted}
 use Rattle.raft_voter_messages.specs.declared.request.Request.{Request}
 use Rattle.raft_voter_messages.specs.declared.request.Request.TheVariants.{Vote}
-use Rattle.raft_voter.specs.State.{fresh}
-use Rattle.raft_voter.specs.Rules.{next, reply}
+use Rattle.raft_voter_outline.specs.State.{fresh}
+use Rattle.raft_voter_outline.specs.Rules.{next, reply}
 use Rattle.raft_voter.specs.Rounds.{World, after_rounds}
 use Rattle.raft_voter.specs.Accounts.{account, group_account, voter_after, voter_from}
 use Rattle.raft_voter.specs.Laws.{GroupIsolation, OneVotePerTerm, TermsNeverFall}

@@ -1,20 +1,21 @@
-use Rattle.std.proofs.Common.{◌≡◌, ◌≢◌, ℕ, zero, suc, ◌+◌, ◌-◌, ◌≤◌, ◌<◌, ◌==◌, List, [], ◌∷◌, ◌++◌, length, drop, true, false, Option, None, Some, refl, sym, ap, ◌∙◌, inl, inr, arith}
+use Rattle.std.proofs.Common.{◌≡◌, ◌≢◌, ℕ, zero, suc, ◌+◌, ◌-◌, ◌≤◌, ◌<◌, List, [], ◌∷◌, ◌++◌, length, drop, true, Option, None, Some, refl, sym, ap, ◌∙◌, inl, inr, arith}
 use Rattle.std.specs.Prelude.{nat_lt, nat_le, slice_get}
-use Rattle.std.proofs.lemmas.Bool.{cases_Bool, cases_lt, eq-eqb, ltb-true, false≢true}
+use Rattle.std.proofs.lemmas.Bool.{cases_Bool, cases_lt, eq-eqb}
 use Rattle.std.proofs.lemmas.Bool.Decides.{nat_tests}
 use Rattle.raft_voter_messages.specs.declared.reply.Reply.{Reply}
 use Rattle.raft_voter_messages.specs.declared.reply.Reply.TheVariants.{Matched}
 use Rattle.raft_voter_messages.specs.declared.request.Request.{Request}
 use Rattle.raft_voter_messages.specs.declared.request.Request.TheVariants.{Vote, Append, Compact, Install, Read, Status, Retire}
-use Rattle.raft_voter.specs.State.{State, adopt_term, entry_at, fresh, term_at}
-use Rattle.raft_voter.specs.Rules.{agrees_at, can_compact, matching, next, next_in_range, reply}
+use Rattle.raft_voter_outline.specs.State.{State, adopt_term, entry_at, fresh, term_at}
+use Rattle.raft_voter_outline.specs.Rules.{agrees_at, can_compact, matching, next, next_in_range, reply}
 use Rattle.raft_voter_messages.specs.Ranges.{in_range}
 use Rattle.raft_voter.specs.Accounts.{voter_after, voter_from}
 use Rattle.raft_voter.specs.Laws.{AllSpare, BringsOther, MatchedEntriesStand, MatchedIsAcknowledged, sent_at, Spares}
-use Rattle.raft_voter.proofs.Appends.{base-adopt_term, base-next_matched, brings_first, entry_in, entry_kept, entry_own, log_kept, log-adopt_term, Matches, matches_of, matched_there, reaches}
+use Rattle.raft_voter_outline.proofs.Steps.{base-adopt_term, log-adopt_term, reaches, agrees_above}
+use Rattle.raft_voter.proofs.Appends.{base-next_matched, brings_first, entry_in, entry_kept, entry_own, log_kept, Matches, matches_of, matched_there}
 use Rattle.raft_voter.proofs.Following.{group_runs, runs_append, voter_from-append}
-use Rattle.raft_voter.proofs.Indexes.{Pair}
-use Rattle.raft_voter.proofs.VoterSteps.{by_test, vote_next}
+use Rattle.raft_voter_outline.proofs.Indexes.{Pair}
+use Rattle.raft_voter_outline.proofs.Steps.{by_test, vote_next}
 
 -- a term that is taken over moves no entry
 entry-adopt_term : (v : State) (t i : ℕ) → entry_at (adopt_term v t) i ≡ entry_at v i
@@ -35,17 +36,6 @@ matched_spares v t p u commit last i sent m none = elim (cases_lt (matching (dro
         | inl before ↦ entry_kept v t p u commit last i sent m before
         | inr past ↦ absurd (none first past (brings_first v p sent m.above less))
       ]
-]
-
--- what agrees isn't below the base
-pub agrees_above : (v : State) (p u : ℕ) → agrees_at v p u ≡ true → nat_lt p v.base_index ≡ false
-agrees_above v p u agrees = elim (cases_Bool (nat_lt p v.base_index)) [
-  | inr above ↦ above
-  | inl below ↦
-      let less : p < v.base_index = ltb-true p v.base_index below in
-      let apart : (p == v.base_index) ≡ false = grind (arith, nat_tests) in
-      let outside : nat_lt v.base_index p ≡ false = grind (arith, nat_tests) in
-      absurd (false≢true (rw (apart, outside) at agrees))
 ]
 
 append_spares :

@@ -1,44 +1,15 @@
-use Rattle.std.proofs.Common.{◌≡◌, ℕ, ◌≤◌, ◌<◌, ◌==◌, ◌&&◌, List, [], ◌∷◌, nat_lt, nat_le, if◌then◌else◌, Bool, true, false, cond, Option, None, Some, refl, sym, ap, ◌∙◌, inl, inr, arith}
+use Rattle.std.proofs.Common.{◌≡◌, ℕ, ◌≤◌, ◌<◌, ◌==◌, ◌&&◌, List, [], ◌∷◌, nat_lt, nat_le, true, false, Option, None, Some, refl, sym, ap, ◌∙◌, inl, inr, arith}
 use Rattle.std.proofs.lemmas.Bool.{and_parts, cases_Bool, eqb-true, leb-true, ltb-true, ltb-false}
 use Rattle.raft_voter_messages.specs.declared.reply.Reply.{Reply}
 use Rattle.raft_voter_messages.specs.declared.reply.Reply.TheVariants.{Granted, Denied, Refused}
 use Rattle.raft_voter_messages.specs.declared.request.Request.{Request}
 use Rattle.raft_voter_messages.specs.declared.request.Request.TheVariants.{Vote, Append, Compact, Install, Read, Status, Retire}
-use Rattle.raft_voter.specs.State.{State, adopt_term}
-use Rattle.raft_voter.specs.Rules.{agrees_at, appended, can_compact, compacted, grants, installed, may_vote, next, next_in_range, reply}
+use Rattle.raft_voter_outline.specs.State.{State, adopt_term}
+use Rattle.raft_voter_outline.specs.Rules.{grants, may_vote, next, next_in_range, reply}
 use Rattle.raft_voter_messages.specs.Ranges.{in_range}
-use Rattle.raft_voter.specs.Accounts.{is_retire, NoRetire, voter_from}
-
--- a fact of both arms holds of a choice between them
-pub by_test :
-    {X : Type 0} (P : X → Type 0) (b : Bool) (x y : X) → (b ≡ true → P x) → (b ≡ false → P y) → P (cond b x y)
-by_test P true x y f g = f refl
-by_test P false x y f g = g refl
-
--- what holds of each thing that a request may make of a voter holds of what it makes
-pub vote_next :
-    (P : State → Type 0) (v : State) (t c i u : ℕ)
-    → (grants v t c i u ≡ true → P (record (adopt_term v t) { vote = Some c })) → P (adopt_term v t)
-    → P (next_in_range v (Vote t c i u))
-vote_next P v t c i u granted denied =
-    by_test P (grants v t c i u) (record (adopt_term v t) { vote = Some c }) (adopt_term v t) granted (λ h. denied)
-
-pub append_next :
-    (P : State → Type 0) (v : State) (t p u commit : ℕ) (es : List (ℕ × List ℕ)) → P v → P (appended (adopt_term v t) p commit es)
-    → P (adopt_term v t) → P (next_in_range v (Append t p u commit es))
-append_next P v t p u commit es stale matched adopted =
-    by_test P (nat_lt t v.term) v (if agrees_at v p u then appended (adopt_term v t) p commit es else adopt_term v t) (λ h. stale)
-    (λ h. by_test P (agrees_at v p u) (appended (adopt_term v t) p commit es) (adopt_term v t) (λ k. matched) (λ k. adopted))
-
-pub compact_next : (P : State → Type 0) (v : State) (i : ℕ) → P v → P (compacted v i) → P (next_in_range v (Compact i))
-compact_next P v i same moved = by_test P (can_compact v i) (compacted v i) v (λ h. moved) (λ h. same)
-
-pub install_next :
-    (P : State → Type 0) (v : State) (t i u : ℕ) → P v → P (adopt_term v t) → P (installed (adopt_term v t) i u)
-    → P (next_in_range v (Install t i u))
-install_next P v t i u stale adopted moved =
-    by_test P (nat_lt t v.term) v (if nat_le i v.base_index then adopt_term v t else installed (adopt_term v t) i u) (λ h. stale)
-    (λ h. by_test P (nat_le i v.base_index) (adopt_term v t) (installed (adopt_term v t) i u) (λ k. adopted) (λ k. moved))
+use Rattle.raft_voter_outline.specs.Rules.{is_retire}
+use Rattle.raft_voter.specs.Accounts.{NoRetire, voter_from}
+use Rattle.raft_voter_outline.proofs.Steps.{append_next, by_test, compact_next, install_next, vote_next}
 
 -- the term only rises
 term-same : (v : State) → v.term ≤ v.term

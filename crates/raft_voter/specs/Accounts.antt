@@ -1,12 +1,11 @@
-use Rattle.std.specs.Prelude.{◌≡◌, ℕ, ◌+◌, ◌==◌, Bool, true, false, if◌then◌else◌, List, [], ◌∷◌, ◌++◌, length, Option, None, Some}
+use Rattle.std.specs.Prelude.{◌≡◌, ℕ, ◌+◌, ◌==◌, false, if◌then◌else◌, List, [], ◌∷◌, ◌++◌, length, Option, None, Some}
 use Rattle.raft_voter_messages.specs.declared.reply.Reply.{Reply}
 use Rattle.raft_voter_messages.specs.declared.request.Request.{Request}
-use Rattle.raft_voter_messages.specs.declared.request.Request.TheVariants.{Retire}
 use Rattle.raft_voter_messages.specs.declared.round.Outcome.{Outcome}
 use Rattle.raft_voter_messages.specs.declared.round.Outcome.TheVariants.{Answered, Cut}
 use Rattle.raft_voter_messages.specs.declared.round.Round.{Round}
-use Rattle.raft_voter.specs.State.{State, fresh}
-use Rattle.raft_voter.specs.Rules.{next}
+use Rattle.raft_voter_outline.specs.State.{State, fresh}
+use Rattle.raft_voter_outline.specs.Rules.{is_retire, next}
 use Rattle.raft_voter.specs.Rounds.{cuts_after, is_among, place_reached, taken_below}
 
 -- What a transcript says was taken and answered, in order: each request that was taken, with the reply that stands in the
@@ -63,11 +62,6 @@ voter_after ts = voter_from fresh ts
 abbrev pub requests_of : List (Request × Option Reply) → List Request
 requests_of [] = []
 requests_of (t ∷ ts) = t.0 ∷ requests_of ts
-
--- a request to retire the group
-abbrev pub is_retire : Request → Bool
-is_retire Retire = true
-is_retire q = false
 
 -- no request to retire the group was taken
 abbrev pub NoRetire : List (Request × Option Reply) → Type 0

@@ -4,7 +4,7 @@ use Rattle.std.specs.List.{list_all}
 use Rattle.raft_voter_messages.specs.Ranges.{entry_fits, fits}
 use Rattle.raft_voter_messages.specs.StoredForms.{vote_fits}
 use Rattle.raft_voter.specs.Rounds.{World}
-use Rattle.raft_voter.specs.State.{State}
+use Rattle.raft_voter_outline.specs.State.{State}
 
 -- the numbers of a voter are those that requests may bring, and its base is committed
 pub record IsInRange (v : State) : Type 0 where

@@ -7,8 +7,8 @@ use Rattle.raft_voter_messages.specs.declared.request.Request.TheVariants.{Vote,
 use Rattle.raft_voter_messages.specs.declared.round.Outcome.{Outcome}
 use Rattle.raft_voter_messages.specs.declared.round.Outcome.TheVariants.{Answered, Cut}
 use Rattle.raft_voter_messages.specs.declared.round.Round.{Round}
-use Rattle.raft_voter.specs.State.{State, entry_at, fresh, term_at}
-use Rattle.raft_voter.specs.Rules.{next, reply}
+use Rattle.raft_voter_outline.specs.State.{State, entry_at, fresh, term_at}
+use Rattle.raft_voter_outline.specs.Rules.{next, reply}
 use Rattle.raft_voter.specs.InRange.{IsInRange}
 use Rattle.raft_voter.specs.Rounds.{World, Explains, Leads}
 use Rattle.raft_voter.specs.Accounts.{group_account, NoRetire, requests_of, voter_after}

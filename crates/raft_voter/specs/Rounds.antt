@@ -6,8 +6,8 @@ use Rattle.raft_voter_messages.specs.declared.request.Request.{Request}
 use Rattle.raft_voter_messages.specs.declared.round.Outcome.{Outcome}
 use Rattle.raft_voter_messages.specs.declared.round.Outcome.TheVariants.{Answered, Cut}
 use Rattle.raft_voter_messages.specs.declared.round.Round.{Round}
-use Rattle.raft_voter.specs.State.{State, fresh}
-use Rattle.raft_voter.specs.Rules.{reply, next}
+use Rattle.raft_voter_outline.specs.State.{State, fresh}
+use Rattle.raft_voter_outline.specs.Rules.{reply, next}
 
 -- Worlds.
 
@@ -66,6 +66,12 @@ replies_of W r = replies_from 0 r.refused W r.requests
 abbrev pub are_rising : ℕ → ℕ → List ℕ → Bool
 are_rising low high [] = true
 are_rising low high (p ∷ ps) = nat_le low p && nat_lt p high && are_rising (p + 1) high ps
+
+-- of a round's requests those below some place were taken, but for those at refused places, and none from there on
+pub record TakesFirst (W : World) (qs : List (ℕ × Request)) (refused : List ℕ) (X : World) : Type 0 where
+  pub place : ℕ
+  pub within : place ≤ length qs
+  pub reached : X ≡ after W (taken_from 0 place refused qs)
 
 -- Runs: each round that was cut off takes the next of the cuts, the place up to which it was taken.
 

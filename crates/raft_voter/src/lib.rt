@@ -2,15 +2,13 @@
 //! what a transcript of their replies means, and a judge of such transcripts.
 //!
 //! Nothing here knows of files, threads or time. A `Voter` answers one `Request` at a time; what it answers and
-//! what it becomes are the definitions of `specs/Rules.antt`, case by case. A `Transcript` tells which requests
-//! came in which rounds and what was answered; `judge` says whether voters that never fail explain it. Requests,
-//! replies, rounds and their stored bytes are those of `raft_voter_messages`.
+//! what it becomes are the rules of `raft_voter_outline`, case by case, and its outline decides by them. A `Transcript`
+//! tells which requests came in which rounds and what was answered; `judge` says whether voters that never fail explain
+//! it. Requests, replies, rounds and their stored bytes are those of `raft_voter_messages`.
 #![tactic(auto)]
 
 mod judging;
 pub mod laws;
-mod list;
-pub mod outline;
 mod voter;
 mod voters;
 
@@ -20,5 +18,6 @@ pub use raft_voter_messages::{
     Outcome, Reply, Request, Round, StoredFault, Transcript, VoterState, entry_bytes, read_entry,
     read_state, state_bytes,
 };
+pub use raft_voter_outline::{Answer, Change, Decision, Outline, Write};
 pub use voter::Voter;
 pub use voters::Voters;

@@ -1,39 +1,36 @@
 //! One Raft voter.
-ghost use Rattle.std.specs.Prelude.{◌≡◌, ◌+◌, ◌^◌, ◌<◌, ◌≤◌, ◌&&◌, length, nat_le, is_some, IsTrue, IfOk, OnOk, OnErr};
-ghost use Rattle.raft_voter.specs.Rules.{agrees_at, next, reply};
-ghost use Rattle.raft_voter.specs.State.{adopt_term, fresh, last_index, last_term, state_of, term_at};
+ghost use Rattle.std.specs.Prelude.{◌≡◌, ◌+◌, ◌-◌, ◌^◌, ◌<◌, ◌≤◌, length, IfOk, OnOk, OnErr};
+ghost use Rattle.raft_voter_messages.specs.declared.reply.Reply.TheVariants.{Entries};
+ghost use Rattle.raft_voter_outline.specs.Outlines.{Changes, Copies, without_bytes};
+ghost use Rattle.raft_voter_outline.specs.Rules.{entries_between, next, reply};
+ghost use Rattle.raft_voter_outline.specs.State.{fresh, last_index, state_of};
 
-mod appends;
 mod log;
-mod reads;
 mod restoring;
-mod snapshots;
-mod votes;
 
 use crate::{Items, Memory, Reply, Request, VoterState};
+use log::{numbered, write};
+use raft_voter_outline::{Answer, Change, Decision, Outline};
 use std::alloc::Global;
 use std::marker::Model;
 
-/// A Raft voter: its term, its vote, and its log above the base. A contract sees it as a `State` of `specs/State.antt`.
+/// A Raft voter: its outline, which decides what it answers and becomes, and its log above the base. A contract sees it as
+/// a `State` of `raft_voter_outline`.
 #[derive(Debug, Drop)]
 pub struct Voter {
-    term: u64,
-    vote: Option<u64>,
-    base_index: u64,
-    base_term: u64,
-    commit: u64,
+    outline: Outline,
     log: Vec<(u64, Items<u8>)>,
 }
 
 impl Model for Voter {
-    ghost use Rattle.std.specs.Prelude.{◌+◌, ◌^◌, ◌<◌, length};
-    ghost use Rattle.raft_voter.specs.State.{State};
+    ghost use Rattle.raft_voter.specs.Entries.{IsOutlineOf, with_entries};
+    ghost use Rattle.raft_voter_outline.specs.State.{State};
 
     ghost Value = { State };
 
-    ghost view = { λ v. record { term = v.term; vote = v.vote; base_index = v.base_index; base_term = v.base_term; commit = v.commit; log = v.log.items } };
+    ghost view = { λ v. with_entries v.outline.voter v.log.items };
 
-    ghost invariant = { λ v. v.base_index + length v.log.items < 2 ^ 63 };
+    ghost invariant = { λ v. IsOutlineOf v.outline.voter v.log.items };
 }
 
 impl Voter {
@@ -42,11 +39,7 @@ impl Voter {
         ensures { result ≡ fresh }
     {
         Voter {
-            term: 0,
-            vote: None,
-            base_index: 0,
-            base_term: 0,
-            commit: 0,
+            outline: Outline::new(alloc),
             log: Vec::new(alloc),
         }
     }
@@ -55,15 +48,7 @@ impl Voter {
     pub fn state(&self) -> VoterState
         ensures { result ≡ state_of self.now }
     {
-        VoterState {
-            term: self.term,
-            vote: self.vote,
-            base_index: self.base_index,
-            base_term: self.base_term,
-            last_index: self.last_index(),
-            last_term: self.last_term(),
-            commit: self.commit,
-        }
+        self.outline.state()
     }
 
     /// The entries above the base, each its term and its bytes; the first stands right above the base.
@@ -74,97 +59,52 @@ impl Voter {
         self.log.as_slice()
     }
 
-    /// Takes a request and answers it. One that is out of range is answered `Refused` and changes nothing. Where memory is
-    /// refused nothing is changed either.
+    /// Takes a request and answers it. One that is out of range is answered `Refused` and changes nothing. Memory can be
+    /// refused only where entries are copied: those that an Append brings and that aren't there, or those of a Read. Nothing
+    /// is changed then.
     pub fn step(&mut self, request: &Request) -> Result<Reply, Memory>
         ensures replies { IfOk result (λ given. given ≡ reply self.old request.now) }
         ensures changes { OnOk result (self.new ≡ next self.old request.now) }
         ensures err { OnErr result (self.new ≡ self.old) }
+        ensures errors { OnErr result (Copies self.old request.now) }
     {
-        if !request.in_range() {
-            return Ok(Reply::Refused);
-        }
-        match request {
-            Request::Vote {
-                term,
-                candidate,
-                last_index,
-                last_term,
-            } => Ok(self.vote(*term, *candidate, *last_index, *last_term)),
-            Request::Append {
-                term,
-                prev_index,
-                prev_term,
-                commit,
-                entries,
-            } => self.append(*term, *prev_index, *prev_term, *commit, entries.as_slice()),
-            Request::Compact { index } => Ok(self.compact(*index)),
-            Request::Install {
-                term,
-                index,
-                entry_term,
-            } => Ok(self.install(*term, *index, *entry_term)),
-            Request::Read { from, to } => self.read(*from, *to),
-            Request::Status => Ok(Reply::Status(self.state())),
-            Request::Retire => {
-                self.retire();
-                Ok(Reply::Retired)
-            }
-        }
+        let Decision { answer, change } = self.outline.decide(request);
+        let reply = match answer {
+            Answer::Entries { from, to } => return self.entries(from, to),
+            Answer::Told(reply) => reply,
+        };
+        let Some(change) = change else {
+            return Ok(reply);
+        };
+        self.make(&change, request)?;
+        Ok(reply)
     }
 
-    /// Takes a higher term over, in which nobody has the vote yet.
-    fn adopt_term(&mut self, term: u64)
-        ensures { self.new ≡ adopt_term self.old term }
+    /// Makes the change that was decided for a request.
+    fn make(&mut self, change: &Change, request: &Request) -> Result<(), Memory>
+        requires { Changes (without_bytes self.old) request.now change.now }
+        ensures ok { OnOk result (self.new ≡ next self.old request.now) }
+        ensures err { OnErr result (self.new ≡ self.old) }
+        ensures errors { OnErr result (Copies self.old request.now) }
     {
-        if self.term < term {
-            self.term = term;
-            self.vote = None;
-        }
+        self.outline.reserve(change, request)?;
+        let base_index = self.outline.base_index();
+        write(&mut self.log, base_index, &change.write, request)?;
+        self.outline.apply(change, request);
+        Ok(())
     }
 
-    /// The index of the last entry, or the base's.
-    fn last_index(&self) -> u64
-        ensures { result ≡ last_index self.now }
+    /// A copy of the entries from one index to below another, which are there.
+    fn entries(&self, from: u64, to: u64) -> Result<Reply, Memory>
+        requires above { self.now.base_index < from }
+        requires some { from < to }
+        requires there { to ≤ last_index self.now + 1 }
+        ensures { IfOk result (λ given. given ≡ Entries (entries_between self.now from to)) }
     {
-        self.base_index + self.log.len() as u64
-    }
-
-    /// The term of the last entry, or the base's.
-    fn last_term(&self) -> u64
-        ensures { result ≡ last_term self.now }
-    {
-        match self.log.last() {
-            Some(entry) => entry.0,
-            None => self.base_term,
-        }
-    }
-
-    /// The term of the entry at an index, or of the base.
-    fn term_at(&self, index: u64) -> Option<u64>
-        ensures value { result ≡ term_at self.now index }
-        ensures variant { is_some result ≡ (nat_le self.now.base_index index && nat_le index (last_index self.now)) }
-    {
-        if index == self.base_index {
-            return Some(self.base_term);
-        }
-        if index < self.base_index {
-            return None;
-        }
-        match self.log.get((index - self.base_index - 1) as usize) {
-            Some(entry) => Some(entry.0),
-            None => None,
-        }
-    }
-
-    /// Whether an entry, or the base, of this term stands at this index.
-    fn agrees_at(&self, index: u64, term: u64) -> bool
-        ensures value { result ≡ agrees_at self.now index term }
-        ensures within { IsTrue result → (self.now.base_index ≤ index) × (index ≤ last_index self.now) }
-    {
-        match self.term_at(index) {
-            Some(own) => own == term,
-            None => false,
-        }
+        let start = (from - self.outline.base_index() - 1) as usize;
+        let end = start + (to - from) as usize;
+        let alloc = *self.log.allocator();
+        let entries = numbered(alloc, from, &self.log[start..end])?;
+        Ok(Reply::Entries(entries))
     }
 }

@@ -1,7 +1,7 @@
 //! The voters of many groups, in memory.
 ghost use Rattle.std.specs.Prelude.{◌≡◌, ℕ, IsTrue, length, IfOk, OnOk, OnErr};
-ghost use Rattle.raft_voter.specs.Rounds.{after, after_one, are_rising, fresh_world, is_among, replies_from, taken_from};
-ghost use Rattle.raft_voter.specs.Rules.{reply};
+ghost use Rattle.raft_voter.specs.Rounds.{after, after_one, are_rising, fresh_world, is_among, replies_from, taken_from, TakesFirst};
+ghost use Rattle.raft_voter_outline.specs.Rules.{reply};
 ghost use Rattle.raft_voter.specs.Voters.{world_of};
 
 use crate::{Items, Memory, Reply, Request, Voter};
@@ -37,7 +37,8 @@ impl Voters {
     }
 
     /// The voters take the requests of a round in order, but for those at the refused places, which rise. The replies are
-    /// theirs, and `Refused` at a refused place.
+    /// theirs, and `Refused` at a refused place. Where memory is refused some of the first requests were taken, and the
+    /// rest were not.
     pub fn serve(
         &mut self,
         requests: &[(u64, Request)],
@@ -46,6 +47,7 @@ impl Voters {
         requires { (high : ℕ) × IsTrue (are_rising 0 high refused.now) }
         ensures replies { IfOk result (λ given. given ≡ replies_from 0 refused.now (world_of self.old) requests.now) }
         ensures changes { OnOk result (world_of self.new ≡ after (world_of self.old) (taken_from 0 (length requests.now) refused.now requests.now)) }
+        ensures err { OnErr result (TakesFirst (world_of self.old) requests.now refused.now (world_of self.new)) }
     {
         let mut replies = Items::new(self.alloc);
         let mut passed = 0;

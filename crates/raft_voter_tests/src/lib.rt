@@ -7,6 +7,8 @@ mod judging;
 #[cfg(test)]
 mod memory;
 #[cfg(test)]
+mod outlines;
+#[cfg(test)]
 mod requests;
 #[cfg(test)]
 mod restoring;

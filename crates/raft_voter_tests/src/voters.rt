@@ -1,6 +1,5 @@
 //! Voters that take requests, as the lines of a session ask them.
 use crate::requests::vote;
-use raft_voter::outline::{Answer, Outline};
 use raft_voter::{Items, Reply, Request, Voters};
 use raft_voter_session::{Event, read_session};
 use std::alloc::Global;
@@ -132,21 +131,5 @@ fn refused_places(rt: HostRuntime) -> Result<(), Fail> {
     let told = [Reply::Refused, Reply::Granted(5), Reply::Refused];
     assert!(rt; replies.as_slice() == told.as_slice());
     assert!(rt; voters.take(1, &vote(5, 3))? == Reply::Denied(5));
-    Ok(())
-}
-
-/// A fresh outline decides a vote; to retire it changes nothing.
-#[test]
-fn decisions(rt: HostRuntime) -> Result<(), Fail> {
-    let outline = Outline::new(rt.alloc());
-    let granted = outline.decide(&vote(5, 2));
-    assert!(rt; matches!(granted.answer, Answer::Told(Reply::Granted(5))));
-    assert!(rt;
-        granted
-            .change
-            .is_some_and(|change| change.state.vote == Some(2))
-    );
-    assert!(rt; outline.decide(&Request::Retire).change.is_none());
-    assert!(rt; outline.term_at(1).is_none() && outline.state().term == 0);
     Ok(())
 }

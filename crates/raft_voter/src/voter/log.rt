@@ -1,28 +1,45 @@
 //! Lists of entries, each its term and its bytes.
-ghost use Rattle.std.specs.Prelude.{◌≡◌, ◌+◌, ◌^◌, ◌<◌, ◌≤◌, ◌++◌, take, length, IfOk, OnOk, OnErr};
-ghost use Rattle.raft_voter.specs.Rules.{matching, numbered};
+ghost use Rattle.std.specs.Prelude.{◌≡◌, ◌+◌, ◌-◌, ◌^◌, ◌<◌, ◌≤◌, ◌++◌, drop, take, length, vec_len, IfOk, OnOk, OnErr};
+ghost use Rattle.raft_voter.specs.Entries.{BringsEntries, laid};
+ghost use Rattle.raft_voter_outline.specs.Outlines.{CanWrite, log_written, sent_of};
+ghost use Rattle.raft_voter_outline.specs.Rules.{numbered};
 
-use crate::{Entry, Items, Memory};
+use crate::{Entry, Items, Memory, Request};
+use raft_voter_outline::Write;
 use std::alloc::Global;
 
-/// How many of the entries sent are in the log already: those before the first whose term differs or that is new.
-pub fn matching(log: &[(u64, Items<u8>)], sent: &[(u64, Items<u8>)]) -> usize
-    ensures matching { result ≡ matching log.now sent.now }
-    ensures of_log { result ≤ length log.now }
-    ensures of_sent { result ≤ length sent.now }
+/// Does to a log, whose first entry stands right above this base, what is to be done for a request. Where memory is refused
+/// the log is as it was, and entries were to go in.
+pub fn write(
+    log: &mut Vec<(u64, Items<u8>)>,
+    base_index: u64,
+    write: &Write,
+    request: &Request,
+) -> Result<(), Memory>
+    requires { CanWrite write.now request.now (laid base_index log.old.items) }
+    ensures ok { OnOk result (log.new.items ≡ log_written write.now (sent_of request.now) (laid base_index log.old.items)) }
+    ensures err { OnErr result (log.new.items ≡ log.old.items) }
+    ensures errors { OnErr result (BringsEntries write.now) }
 {
-    let mut count = 0;
-    while count < log.len() && count < sent.len() {
-        if log[count].0 != sent[count].0 {
-            return count;
+    match write {
+        Write::StateAlone => Ok(()),
+        Write::Entries { skipped: _, index } => {
+            let brought = copied(*log.allocator(), write.brought(request))?;
+            replace_tail(log, (*index - base_index - 1) as usize, brought)
         }
-        count += 1;
+        Write::CompactTo { index } => {
+            drop_front(log, (*index - base_index) as usize);
+            Ok(())
+        }
+        Write::Clean => {
+            log.clear();
+            Ok(())
+        }
     }
-    count
 }
 
 /// The same entries once more.
-pub fn copied(alloc: Global, entries: &[(u64, Items<u8>)]) -> Result<Vec<(u64, Items<u8>)>, Memory>
+fn copied(alloc: Global, entries: &[(u64, Items<u8>)]) -> Result<Vec<(u64, Items<u8>)>, Memory>
     ensures { IfOk result (λ copy. copy.items ≡ entries.now) }
 {
     let mut copy = Vec::with_capacity(alloc, entries.len())?;
@@ -53,7 +70,7 @@ pub fn numbered(
 }
 
 /// Puts these entries where the log's entries stood from place `at` on. Where memory is refused the log stays as it was.
-pub fn replace_tail(
+fn replace_tail(
     log: &mut Vec<(u64, Items<u8>)>,
     at: usize,
     mut brought: Vec<(u64, Items<u8>)>,
@@ -67,4 +84,12 @@ pub fn replace_tail(
         Ok(()) => Ok(()),
         Err(_refused) => unreachable!(),
     }
+}
+
+/// Drops the first entries.
+fn drop_front(log: &mut Vec<(u64, Items<u8>)>, count: usize)
+    requires { count ≤ vec_len log.old }
+    ensures { log.new.items ≡ drop count log.old.items }
+{
+    drop(log.drain(..count));
 }

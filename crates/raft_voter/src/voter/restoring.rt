@@ -1,12 +1,13 @@
 //! A voter from what was stored of it.
 ghost use Rattle.std.specs.Prelude.{◌≡◌, ◌+◌, true, Ok, map, IfOk, IfErr};
 ghost use Rattle.std.specs.List.{list_all};
-ghost use Rattle.raft_voter.specs.Restoring.{are_in_order, restored, RestoreFault};
+ghost use Rattle.raft_voter_outline.specs.Restoring.{are_in_order, restored, RestoreFault};
 ghost use Rattle.raft_voter_messages.specs.StoredForms.{stored_entry_fits};
 
 use super::Voter;
 use crate::{Entry, Items, Memory, StoredFault, VoterState};
 use raft_voter_messages::{state_fits, stored_entry_fits};
+use raft_voter_outline::Outline;
 use std::alloc::Global;
 
 impl Voter {
@@ -30,14 +31,10 @@ impl Voter {
         let Ok(log) = log_of(alloc, entries.into_vec()) else {
             return Err(StoredFault::Memory);
         };
-        Ok(Voter {
-            term: state.term,
-            vote: state.vote,
-            base_index: state.base_index,
-            base_term: state.base_term,
-            commit: state.commit,
-            log,
-        })
+        let Ok(outline) = Outline::restore(alloc, &state, log.as_slice()) else {
+            return Err(StoredFault::Memory);
+        };
+        Ok(Voter { outline, log })
     }
 }
 

@@ -1,5 +1,5 @@
 use Rattle.std.proofs.Common.{◌≡◌, ◌+◌, ◌++◌, drop}
-use Rattle.raft_voter.specs.Rules.{numbered}
+use Rattle.raft_voter_outline.specs.Rules.{numbered}
 use Rattle.raft_voter.proofs.voter.log.numbered.Given as goal
 
 abbrev pub invariant-loop-term : goal.invariant-loop-term

@@ -1,5 +1,5 @@
 use Rattle.std.proofs.Common.{◌≡◌, drop}
-use Rattle.raft_voter.specs.Restoring.{are_in_order}
+use Rattle.raft_voter_outline.specs.Restoring.{are_in_order}
 use Rattle.raft_voter.proofs.voter.restoring.are_in_order.Given as goal
 
 -- what is left decides

@@ -9,5 +9,5 @@ invariant-loop-place l = record {
   passed : l.passed ≤ length l.refused;
   ahead : (high : ℕ) × IsTrue (are_rising l.place high (drop l.passed l.refused));
   replies : l.replies ++ replies_from l.place (drop l.passed l.refused) (world_of l.self) (drop l.place l.requests) ≡ replies_from 0 l.refused (world_of l.fn.self) l.requests;
-  world : after (world_of l.self) (taken_from l.place (length l.requests) (drop l.passed l.refused) (drop l.place l.requests)) ≡ after (world_of l.fn.self) (taken_from 0 (length l.requests) l.refused l.requests);
+  world : (cut : ℕ) → l.place ≤ cut → after (world_of l.self) (taken_from l.place cut (drop l.passed l.refused) (drop l.place l.requests)) ≡ after (world_of l.fn.self) (taken_from 0 cut l.refused l.requests);
 }

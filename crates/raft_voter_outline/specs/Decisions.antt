@@ -1,0 +1,69 @@
+-- Decisions, from the plans of requests in range.
+use Rattle.std.specs.Prelude.{◌≡◌, ℕ, ◌+◌, ◌^◌, ◌<◌, ◌≤◌, nat_lt, nat_le, if◌then◌else◌, List, [], drop, None, MatchOption}
+use Rattle.raft_voter_messages.specs.declared.reply.Reply.TheVariants.{Entries as EntriesReply, Gone, Unknown}
+use Rattle.raft_voter_messages.specs.declared.request.Request.{Request}
+use Rattle.raft_voter_outline.specs.declared.outline.decision.Answer.{Answer}
+use Rattle.raft_voter_outline.specs.declared.outline.decision.Answer.TheVariants.{Told, Entries as EntriesAnswer}
+use Rattle.raft_voter_outline.specs.declared.outline.decision.Change.{Change}
+use Rattle.raft_voter_outline.specs.declared.outline.decision.Decision.{Decision}
+use Rattle.raft_voter_outline.specs.declared.outline.decision.Write.{Write}
+use Rattle.raft_voter_outline.specs.declared.outline.decision.Write.TheVariants.{StateAlone, Entries, CompactTo, Clean}
+use Rattle.raft_voter_outline.specs.declared.outline.plans.Plan.{Plan}
+use Rattle.raft_voter_outline.specs.Outlines.{CanWrite, log_written, RestsOn, sent_of, stored_state, without_bytes}
+use Rattle.raft_voter_outline.specs.Runs.{bare, runs_behind, Terms}
+use Rattle.raft_voter_outline.specs.Rules.{next}
+use Rattle.raft_voter_outline.specs.State.{State, last_index}
+
+-- which entries a request to read gets, or why it gets none
+abbrev pub read_answer : State → ℕ → ℕ → Answer
+read_answer o from to =
+    if nat_le from o.base_index then Told (Gone o.base_index)
+    else if nat_le to from then Told (EntriesReply [])
+    else if nat_lt (last_index o + 1) to then Told (Unknown (last_index o))
+    else EntriesAnswer from to
+
+-- a plan leaves all as it is
+abbrev pub Stays : State → Plan → Write → Type 0
+Stays o p StateAlone = p.state ≡ stored_state o
+Stays o p (Entries skipped index) = ⊥
+Stays o p (CompactTo index) = ⊥
+Stays o p Clean = (p.state ≡ stored_state o) × (o.log ≡ [])
+
+-- a decision is the plan's, with no change where all stays
+pub record Settles (o : State) (p : Plan) (d : Decision) : Type 0 where
+  pub answer : d.answer ≡ Told p.reply
+  pub change : MatchOption d.change (Stays o p p.write) (λ c. (c ≡ record { state = p.state; write = p.write }) × ¬ Stays o p p.write)
+
+-- Changes that are made.
+
+-- the entries of a request that go in
+abbrev pub entries_in : Write → Request → List (ℕ × List ℕ)
+entries_in (Entries skipped index) q = drop skipped (sent_of q)
+entries_in _ q = []
+
+-- there is room for the runs of the entries that go in
+abbrev pub HasRoom : Write → Request → ℕ → Type 0
+HasRoom w q room = runs_behind None (entries_in w q) ≤ room
+
+-- these are the terms of a voter's log
+pub record AreTermsOf (v : State) (t : Terms) : Type 0 where
+  pub base_is : t.base ≡ v.base_index
+  pub log_is : t.log ≡ bare v.log
+
+-- these are the terms of a voter to whose log a change can be made
+pub record CanChange (t : Terms) (q : Request) (c : Change) : Type 0 where
+  pub voter : State
+  pub terms_of : AreTermsOf voter t
+  pub can : CanWrite c.write q voter
+  pub rests : RestsOn c.write voter c.state.base_index
+  pub small : c.state.base_index < 2 ^ 63
+
+-- what the terms of each voter's log are once a change is made to it
+abbrev pub ChangesTerms : Terms → Request → Change → Terms → Type 0
+ChangesTerms old q c new =
+    (new.base ≡ c.state.base_index)
+    × ((v : State) → AreTermsOf v old → new.log ≡ bare (log_written c.write (sent_of q) v))
+
+-- the outline that a request leaves of each voter with this outline
+abbrev pub Becomes : State → Request → State → Type 0
+Becomes o q new = (v : State) → without_bytes v ≡ o → without_bytes (next v q) ≡ new

@@ -1,0 +1,142 @@
+//! What of a voter its decisions need: its state, and the terms of its log.
+ghost use Rattle.std.specs.Prelude.{◌≡◌, ◌+◌, ◌-◌, ◌^◌, ◌<◌, ◌≤◌, ◌&&◌, [], ◌∷◌, None, nat_le, is_some, IsTrue, length, drop, OnOk, OnErr};
+ghost use Rattle.raft_voter_outline.specs.Outlines.{Changes, Decides, sent_of, stored_state, without_bytes};
+ghost use Rattle.raft_voter_outline.specs.Rules.{agrees_at, next};
+ghost use Rattle.raft_voter_outline.specs.Runs.{runs_behind};
+ghost use Rattle.raft_voter_outline.specs.State.{fresh, last_index, last_term, state_of, term_at};
+
+mod apply;
+mod decide;
+mod decision;
+mod plans;
+mod restoring;
+mod run;
+mod term_runs;
+
+use crate::{Items, Memory, VoterState};
+pub use decision::{Answer, Change, Decision, Write};
+use std::alloc::Global;
+use std::marker::Model;
+use term_runs::TermRuns;
+
+/// A voter without its entries: its state, and the terms of its log as runs of equal terms. It decides what the voter would
+/// answer and become. A contract sees the voter as a `State` whose entries have no bytes.
+#[derive(Debug, Drop)]
+pub struct Outline {
+    alloc: Global,
+    term: u64,
+    vote: Option<u64>,
+    base_term: u64,
+    commit: u64,
+    terms: TermRuns,
+}
+
+impl Model for Outline {
+    ghost use Rattle.raft_voter_outline.specs.Outlines.{IsOutline, outlined, Outlined};
+
+    ghost Value = { Outlined };
+
+    ghost view = { λ o. outlined o.term o.vote o.base_term o.commit o.terms };
+
+    ghost invariant = { λ o. IsOutline o.terms o.commit };
+}
+
+impl Outline {
+    /// The outline of a fresh voter.
+    pub fn new(alloc: Global) -> Outline
+        ensures { result.voter ≡ fresh }
+    {
+        Outline {
+            alloc,
+            term: 0,
+            vote: None,
+            base_term: 0,
+            commit: 0,
+            terms: TermRuns::new(alloc, 0),
+        }
+    }
+
+    /// The voter's state.
+    pub fn state(&self) -> VoterState
+        ensures value { result ≡ state_of self.now.voter }
+        ensures small { result.last_index < 2 ^ 63 }
+        ensures committed { result.base_index ≤ result.commit }
+
+        // An outline is that of a voter: itself.
+        ensures own { without_bytes self.now.voter ≡ self.now.voter }
+    {
+        VoterState {
+            term: self.term,
+            vote: self.vote,
+            base_index: self.terms.base(),
+            base_term: self.base_term,
+            last_index: self.terms.last_index(),
+            last_term: self.last_term(),
+            commit: self.commit,
+        }
+    }
+
+    /// The index of the base.
+    pub fn base_index(&self) -> u64
+        ensures { result ≡ self.now.voter.base_index }
+    {
+        self.terms.base()
+    }
+
+    /// The state as it is stored: with the base in place of the last entry.
+    fn stored_state(&self) -> VoterState
+        ensures { result ≡ stored_state self.now.voter }
+    {
+        VoterState {
+            term: self.term,
+            vote: self.vote,
+            base_index: self.terms.base(),
+            base_term: self.base_term,
+            last_index: self.terms.base(),
+            last_term: self.base_term,
+            commit: self.commit,
+        }
+    }
+
+    /// The index of the last entry, or the base's.
+    fn last_index(&self) -> u64
+        ensures value { result ≡ last_index self.now.voter }
+        ensures small { result < 2 ^ 63 }
+    {
+        self.terms.last_index()
+    }
+
+    /// The term of the last entry, or the base's.
+    fn last_term(&self) -> u64
+        ensures { result ≡ last_term self.now.voter }
+    {
+        match self.terms.last_term() {
+            Some(term) => term,
+            None => self.base_term,
+        }
+    }
+
+    /// The term of the entry at an index, or of the base.
+    pub fn term_at(&self, index: u64) -> Option<u64>
+        ensures value { result ≡ term_at self.now.voter index }
+    {
+        let base_index = self.terms.base();
+        if index == base_index {
+            return Some(self.base_term);
+        }
+        if index < base_index {
+            return None;
+        }
+        self.terms.term_at(index)
+    }
+
+    /// Whether an entry, or the base, of this term stands at this index.
+    fn agrees_at(&self, index: u64, term: u64) -> bool
+        ensures value { result ≡ agrees_at self.now.voter index term }
+    {
+        match self.term_at(index) {
+            Some(own) => own == term,
+            None => false,
+        }
+    }
+}

@@ -1,0 +1,56 @@
+//! Changes that are made, once they are written.
+ghost use Rattle.std.specs.Prelude.{◌≡◌, ◌≤◌, length, OnErr, OnOk};
+ghost use Rattle.raft_voter_outline.specs.Decisions.{Becomes, CanChange, ChangesTerms, HasRoom};
+ghost use Rattle.raft_voter_outline.specs.Outlines.{Changes};
+
+use super::term_runs::{TermRuns, runs_in};
+use super::{Change, Outline, Write};
+use crate::{Memory, Request};
+
+impl Outline {
+    /// Makes room for what a change writes, so that the change can be applied. Where memory is refused the voter is as it
+    /// was; no change needs room but one that brings entries.
+    pub fn reserve(&mut self, change: &Change, request: &Request) -> Result<(), Memory>
+        ensures voter { self.new.voter ≡ self.old.voter }
+        ensures ok { OnOk result (HasRoom change.now.write request.now self.new.room) }
+        ensures err { OnErr result (¬ HasRoom change.now.write request.now self.old.room) }
+    {
+        self.terms.reserve(runs_in(change.write.brought(request)))
+    }
+
+    /// Makes the change that was decided for a request, for which there is room. It asks for no memory.
+    pub fn apply(&mut self, change: &Change, request: &Request)
+        requires decided { Changes self.old.voter request.now change.now }
+        requires room { HasRoom change.now.write request.now self.old.room }
+        ensures { Becomes self.old.voter request.now self.new.voter }
+    {
+        self.terms.change(change, request);
+        self.term = change.state.term;
+        self.vote = change.state.vote;
+        self.base_term = change.state.base_term;
+        self.commit = change.state.commit;
+    }
+}
+
+impl TermRuns {
+    /// Does to the terms of a log what a change does to the log.
+    fn change(&mut self, change: &Change, request: &Request)
+        requires can { CanChange self.old request.now change.now }
+        requires room { HasRoom change.now.write request.now self.old.room }
+        ensures { ChangesTerms self.old request.now change.now self.new }
+    {
+        let base = change.state.base_index;
+        match change.write {
+            Write::StateAlone => self.rest_on(base),
+            Write::Entries { skipped: _, index } => {
+                self.keep_to(index - 1);
+                self.extend(change.write.brought(request));
+            }
+            Write::CompactTo { index } => {
+                self.compact_to(index);
+                self.rest_on(base);
+            }
+            Write::Clean => self.clear(base),
+        }
+    }
+}

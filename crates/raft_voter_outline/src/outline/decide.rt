@@ -1,0 +1,107 @@
+//! Decisions: what requests come to, in range or not.
+ghost use Rattle.std.specs.Prelude.{◌≡◌, ◌↔◌, IsTrue, None};
+ghost use Rattle.raft_voter_outline.specs.Decisions.{read_answer, Settles, Stays};
+ghost use Rattle.raft_voter_outline.specs.Outlines.{Decides};
+
+use super::plans::Plan;
+use super::{Answer, Change, Decision, Outline, Write};
+use crate::{Items, Reply, Request};
+
+/// A request that is refused, or only asks.
+fn told(answer: Answer) -> Decision
+    ensures { result ≡ record { answer = answer; change = None } }
+{
+    let change = None;
+    Decision { answer, change }
+}
+
+impl Outline {
+    /// What a voter with this outline answers to a request, and what it becomes; nothing is changed yet. A change is none
+    /// exactly where the voter stays as it was.
+    pub fn decide(&self, request: &Request) -> Decision
+        ensures { Decides self.now.voter request.now result }
+    {
+        if !request.in_range() {
+            return told(Answer::Told(Reply::Refused));
+        }
+        match request {
+            Request::Vote {
+                term,
+                candidate,
+                last_index,
+                last_term,
+            } => self.settle(self.vote(*term, *candidate, *last_index, *last_term)),
+            Request::Append {
+                term,
+                prev_index,
+                prev_term,
+                commit,
+                entries,
+            } => self.settle(self.append(
+                *term,
+                *prev_index,
+                *prev_term,
+                *commit,
+                entries.as_slice(),
+            )),
+            Request::Compact { index } => self.settle(self.compact(*index)),
+            Request::Install {
+                term,
+                index,
+                entry_term,
+            } => self.settle(self.install(*term, *index, *entry_term)),
+            Request::Read { from, to } => told(self.read(*from, *to)),
+            Request::Status => told(Answer::Told(Reply::Status(self.state()))),
+            Request::Retire => self.settle(self.retire()),
+        }
+    }
+
+    /// The decision of a plan.
+    fn settle(&self, plan: Plan) -> Decision
+        ensures { Settles self.now.voter plan result }
+    {
+        let stays = self.stays(&plan);
+        let Plan {
+            reply,
+            state,
+            write,
+        } = plan;
+        let answer = Answer::Told(reply);
+        if stays {
+            return told(answer);
+        }
+        let change = Some(Change { state, write });
+        Decision { answer, change }
+    }
+
+    /// Whether a plan leaves all as it is.
+    fn stays(&self, plan: &Plan) -> bool
+        ensures { IsTrue result ↔ Stays self.now.voter plan.now plan.now.write }
+    {
+        match plan.write {
+            Write::StateAlone => plan.state == self.stored_state(),
+            Write::Clean => {
+                plan.state == self.stored_state() && self.last_index() == self.terms.base()
+            }
+            _ => false,
+        }
+    }
+
+    /// Which entries a request to read gets, or why it gets none.
+    fn read(&self, from: u64, to: u64) -> Answer
+        ensures { result ≡ read_answer self.now.voter from to }
+    {
+        let base_index = self.terms.base();
+        let last_index = self.last_index();
+        if from <= base_index {
+            return Answer::Told(Reply::Gone(base_index));
+        }
+        if to <= from {
+            return Answer::Told(Reply::Entries(Items::new(self.alloc)));
+        }
+        if last_index + 1 < to {
+            return Answer::Told(Reply::Unknown(last_index));
+        }
+        Answer::Entries { from, to }
+    }
+}

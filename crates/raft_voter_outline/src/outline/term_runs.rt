@@ -1,0 +1,208 @@
+//! The terms of a log's entries, without the entries.
+ghost use Rattle.std.specs.Prelude.{◌≡◌, ℕ, ◌+◌, ◌-◌, ◌^◌, ◌<◌, ◌≤◌, ◌++◌, ◌∷◌, ◌⊎◌, [], IsTrue, None, take, drop, length, slice_get, vec_len, OnOk, OnErr};
+ghost use Rattle.std.specs.Option.{option_map};
+ghost use Rattle.raft_voter_outline.specs.Runs.{are_runs, bare, runs_behind, runs_below, top_term};
+
+use super::run::Run;
+use crate::{Items, Memory};
+use std::alloc::Global;
+use std::marker::Model;
+
+/// The base of a log, and the terms of the entries above it, as runs of equal terms: it grows with the number of times that
+/// the term changes, and finds a term by a binary search.
+#[derive(Debug, Drop)]
+pub struct TermRuns {
+    base: u64,
+    runs: Vec<Run>,
+}
+
+impl Model for TermRuns {
+    ghost use Rattle.std.specs.Prelude.{◌-◌, vec_capacity, vec_len};
+    ghost use Rattle.raft_voter_outline.specs.Runs.{AreRunsOf, Terms, unrolled};
+
+    ghost Value = { Terms };
+
+    ghost view = { λ t. record { base = t.base; log = unrolled t.base t.runs.items; room = vec_capacity t.runs - vec_len t.runs } };
+
+    ghost invariant = { λ t. AreRunsOf t.base t.runs.items };
+}
+
+impl TermRuns {
+    /// No entry above this base.
+    pub fn new(alloc: Global, base: u64) -> TermRuns
+        requires { base < 2 ^ 63 }
+        ensures at { result.base ≡ base }
+        ensures empty { result.log ≡ [] }
+    {
+        TermRuns {
+            base,
+            runs: Vec::new(alloc),
+        }
+    }
+
+    /// The index of the base.
+    pub fn base(&self) -> u64
+        ensures { result ≡ self.now.base }
+    {
+        self.base
+    }
+
+    /// The index of the last entry, or of the base.
+    pub fn last_index(&self) -> u64
+        ensures value { result ≡ self.now.base + length self.now.log }
+        ensures small { result < 2 ^ 63 }
+        ensures above { self.now.base ≤ result }
+    {
+        match self.runs.last() {
+            Some(run) => run.last,
+            None => self.base,
+        }
+    }
+
+    /// The term of the last entry, if there is one.
+    pub fn last_term(&self) -> Option<u64>
+        ensures { result ≡ top_term self.now.log }
+    {
+        let run = self.runs.last()?;
+        Some(run.term)
+    }
+
+    /// The term of the entry at an index above the base, if there is one.
+    pub fn term_at(&self, index: u64) -> Option<u64>
+        requires { self.now.base < index }
+        ensures { result ≡ option_map (λ e. e.0) (slice_get self.now.log (index - self.now.base - 1)) }
+    {
+        let place = runs_below(self.runs.as_slice(), index);
+        if place >= self.runs.len() {
+            return None;
+        }
+        Some(self.runs[place].term)
+    }
+
+    /// Drops the entries above an index.
+    pub fn keep_to(&mut self, index: u64)
+        requires { self.old.base ≤ index }
+        ensures base { self.new.base ≡ self.old.base }
+        ensures log { self.new.log ≡ take (index - self.old.base) self.old.log }
+        ensures room { self.old.room ≤ self.new.room }
+    {
+        if index == self.base {
+            self.runs.clear();
+            return;
+        }
+        let place = runs_below(self.runs.as_slice(), index);
+        if place >= self.runs.len() {
+            return;
+        }
+        let term = self.runs[place].term;
+        self.runs.truncate(place);
+        self.runs.push_reserved(Run { last: index, term });
+    }
+
+    /// Drops the entries up to an index, which is the base from now on.
+    pub fn compact_to(&mut self, index: u64)
+        requires above { self.old.base ≤ index }
+        requires within { index ≤ self.old.base + length self.old.log }
+        ensures base { self.new.base ≡ index }
+        ensures log { self.new.log ≡ drop (index - self.old.base) self.old.log }
+    {
+        let gone = runs_below(self.runs.as_slice(), index + 1);
+        drop_front(&mut self.runs, gone);
+        self.base = index;
+    }
+
+    /// Drops all entries; the base is this one from now on.
+    pub fn clear(&mut self, base: u64)
+        requires { base < 2 ^ 63 }
+        ensures base { self.new.base ≡ base }
+        ensures log { self.new.log ≡ [] }
+    {
+        self.runs.clear();
+        self.base = base;
+    }
+
+    /// The base is this one from now on. Where it is another one, no entry stands above it.
+    pub fn rest_on(&mut self, base: u64)
+        requires rests { (base ≡ self.old.base) ⊎ (self.old.log ≡ []) }
+        requires small { base < 2 ^ 63 }
+        ensures base { self.new.base ≡ base }
+        ensures log { self.new.log ≡ self.old.log }
+    {
+        if base == self.base {
+            return;
+        }
+        self.clear(base);
+    }
+
+    /// Makes room for so many more runs. Where memory is refused, all is as it was.
+    pub fn reserve(&mut self, count: usize) -> Result<(), Memory>
+        ensures base { self.new.base ≡ self.old.base }
+        ensures log { self.new.log ≡ self.old.log }
+        ensures ok { OnOk result (count ≤ self.new.room) }
+        ensures err { OnErr result (self.old.room < count) }
+    {
+        self.runs.reserve(count)?;
+        Ok(())
+    }
+
+    /// One more entry, of this term.
+    pub fn push(&mut self, term: u64)
+        requires small { self.old.base + length self.old.log + 1 < 2 ^ 63 }
+        requires room { runs_behind (top_term self.old.log) ((term, []) ∷ []) ≤ self.old.room }
+        ensures base { self.new.base ≡ self.old.base }
+        ensures log { self.new.log ≡ self.old.log ++ (term, []) ∷ [] }
+        ensures room { self.new.room + runs_behind (top_term self.old.log) ((term, []) ∷ []) ≡ self.old.room }
+    {
+        let last = self.last_index() + 1;
+        if self.last_term() == Some(term) {
+            self.runs.truncate(self.runs.len() - 1);
+            self.runs.push_reserved(Run { last, term });
+            return;
+        }
+        self.runs.push_reserved(Run { last, term });
+    }
+
+    /// More entries; of each its term is kept.
+    pub fn extend(&mut self, entries: &[(u64, Items<u8>)])
+        requires small { self.old.base + length self.old.log + length entries.now < 2 ^ 63 }
+        requires room { runs_behind (top_term self.old.log) entries.now ≤ self.old.room }
+        ensures base { self.new.base ≡ self.old.base }
+        ensures log { self.new.log ≡ self.old.log ++ bare entries.now }
+    {
+        for (term, _) in entries {
+            self.push(*term);
+        }
+    }
+}
+
+/// Drops the first runs.
+fn drop_front(list: &mut Vec<Run>, count: usize)
+    requires { count ≤ vec_len list.old }
+    ensures { list.new.items ≡ drop count list.old.items }
+{
+    drop(list.drain(..count));
+}
+
+/// How many runs end below an index.
+fn runs_below(runs: &[Run], index: u64) -> usize
+    requires { (base : ℕ) × IsTrue (are_runs base runs.now) }
+    ensures value { result ≡ runs_below index runs.now }
+    ensures bound { result ≤ length runs.now }
+{
+    runs.partition_point(|run| run.last < index)
+}
+
+/// How many runs these entries make.
+pub fn runs_in(entries: &[(u64, Items<u8>)]) -> usize
+    ensures { result ≡ runs_behind None entries.now }
+{
+    let mut count = 0;
+    let mut before = None;
+    for (term, _) in entries {
+        if before != Some(*term) {
+            count += 1;
+        }
+        before = Some(*term);
+    }
+    count
+}

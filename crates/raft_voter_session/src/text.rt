@@ -17,8 +17,7 @@ pub fn write_transcript(
 {
     let mut lines = String::new(*text.allocator());
     write_all(&mut lines, transcript, cuts, verdict)?;
-    text.push_str(lines.as_str())?;
-    Ok(())
+    add(text, lines)
 }
 
 /// Writes that the line of this number is unreadable. Where memory is refused the text stays as it was.
@@ -28,7 +27,20 @@ pub fn write_unreadable(text: &mut String, line: usize) -> Result<(), Memory>
 {
     let mut told = String::new(*text.allocator());
     write_line(&mut told, line)?;
-    text.push_str(told.as_str())?;
+    add(text, told)
+}
+
+/// Adds lines to a text; one that is empty takes them as they are, without a copy. Where memory is refused the text stays as
+/// it was. (What a `write!` that is refused leaves of a `String` isn't known, so lines are never written into the text.)
+fn add(text: &mut String, lines: String) -> Result<(), Memory>
+    ensures ok { OnOk result (Gains text.old text.new (string_bytes lines)) }
+    ensures err { OnErr result (string_bytes text.new ≡ string_bytes text.old) }
+{
+    if text.is_empty() {
+        *text = lines;
+        return Ok(());
+    }
+    text.push_str(lines.as_str())?;
     Ok(())
 }
 

@@ -15,4 +15,4 @@ mod Planning
 mod Bareness
 mod Deciding
 mod Reading
-mod Keeping
+pub mod Keeping

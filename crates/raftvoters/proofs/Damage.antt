@@ -17,7 +17,7 @@ use Rattle.raftvoters.specs.declared.record.OpenFault.{OpenFault}
 use Rattle.raftvoters.specs.declared.record.OpenFault.TheVariants.{Damaged, Memory as OutOfMemory}
 use Rattle.raftvoters.specs.Content.{Content, whole}
 use Rattle.raftvoters.specs.Damage.{HasNoEntries, HasNoEntry, HasNoVoterRecord, StandsForNothing, TellsDamage, open_fault}
-use Rattle.raftvoters.specs.Records.{AreEntries, AreStorable, StandsFor, IsStorable, voter_record, stored_entry, voter_bytes}
+use Rattle.raftvoters.specs.Records.{AreEntries, AreStorable, StandsFor, IsStorableRecord, voter_record, stored_entry, voter_bytes}
 use Rattle.raftvoters.proofs.Records.{entries_in_range, entry_same, length-numbered, length-record, record_same, state_in_range}
 
 -- Faults.
@@ -126,7 +126,7 @@ unfolding voter_bytes
 grouped v x = simp append_assoc
 
 -- behind the group of a record stand its voter's state, the number of its entries, and its entries
-voter_there : (bytes one x : List ℕ) (group : ℕ) (r : ℕ × State) → bytes ≡ number_text group ++ one → group < 2 ^ 64 → IsStorable r → bytes ≡ voter_record r ++ x
+voter_there : (bytes one x : List ℕ) (group : ℕ) (r : ℕ × State) → bytes ≡ number_text group ++ one → group < 2 ^ 64 → IsStorableRecord r → bytes ≡ voter_record r ++ x
     → one ≡ state_text (state_of r.1) ++ (number_text (length r.1.log) ++ (flat_map stored_entry (numbered (r.1.base_index + 1) r.1.log) ++ x))
 unfolding voter_record
 voter_there bytes one x group r a small h same =
@@ -134,7 +134,7 @@ voter_there bytes one x group r a small h same =
 
 -- the state, and what stands behind it
 state_there : (bytes one state two x : List ℕ) (group : ℕ) (r : ℕ × State) → bytes ≡ number_text group ++ one → group < 2 ^ 64 → one ≡ state ++ two
-    → length state ≡ 42 → IsStorable r → bytes ≡ voter_record r ++ x
+    → length state ≡ 42 → IsStorableRecord r → bytes ≡ voter_record r ++ x
     → (state ≡ state_text (state_of r.1)) × (two ≡ number_text (length r.1.log) ++ (flat_map stored_entry (numbered (r.1.base_index + 1) r.1.log) ++ x))
 state_there bytes one state two x group r a small b long h same =
     split_same state (state_text (state_of r.1)) two _ 42 long (length-state_text (state_of r.1)) (sym b ∙ voter_there bytes one x group r a small h same)
@@ -156,7 +156,7 @@ pub no_state_read : (bytes one state two : List ℕ) (group : ℕ) (given : Stor
     → length state ≡ 42 → StateFault given state → HasNoVoterRecord bytes
 no_state_read bytes one state two group given a small b long fault = λ r x h same.
     let there = state_there bytes one state two x group r a small b long h same in
-    state_no_fault given (state_of r.1) (state_in_range r.1 h.in_range) (subst (StateFault given) there.0 fault)
+    state_no_fault given (state_of r.1) (state_in_range r.1 h.voter.in_range) (subst (StateFault given) there.0 fault)
 
 pub no_count : (bytes one state two : List ℕ) (group : ℕ) → bytes ≡ number_text group ++ one → group < 2 ^ 64 → one ≡ state ++ two
     → length state ≡ 42 → length two < 8 → HasNoVoterRecord bytes
@@ -180,10 +180,10 @@ no_entries_read bytes one state two three group count s a small b long is c few 
     let v = r.1 in
     let es = numbered (v.base_index + 1) v.log in
     let there = state_there bytes one state two x group r a small b long h same in
-    let counts = number_first count (length v.log) three (flat_map stored_entry es ++ x) few (omega (arith, h.end_fits)) (sym c ∙ there.1) in
+    let counts = number_first count (length v.log) three (flat_map stored_entry es ++ x) few (omega (arith, h.voter.end_fits)) (sym c ∙ there.1) in
     let P : List ℕ → Type 0 = λ bs. IsState bs s in
-    let base : s.base_index ≡ v.base_index = (state_read_back (state_of v) s (state_in_range v h.in_range) (subst P there.0 is)).2 in
-    let are : AreEntries (v.base_index + 1) es = record { fit = entries_in_range r h; ordered = numbered_in_order (v.base_index + 1) v.log } in
+    let base : s.base_index ≡ v.base_index = (state_read_back (state_of v) s (state_in_range v h.voter.in_range) (subst P there.0 is)).2 in
+    let are : AreEntries (v.base_index + 1) es = record { fit = entries_in_range v h.voter; ordered = numbered_in_order (v.base_index + 1) v.log } in
     let Q : ℕ → Type 0 = λ b. AreEntries (b + 1) es in
     none es x (subst Q (sym base) are) (length-numbered (v.base_index + 1) v.log ∙ sym counts.0) counts.1
 
@@ -196,14 +196,14 @@ AreLeft bytes left = (W : World) → StandsFor bytes W → (rs : List (ℕ × St
 pub all_left : (bytes : List ℕ) → AreLeft bytes bytes
 all_left bytes = λ W h. (h.records, h.storable, h.text)
 
-behind : (rs : List (ℕ × State)) (r : ℕ × State) (left rest : List ℕ) → AreStorable rs → left ≡ flat_map voter_record rs → IsStorable r → left ≡ voter_record r ++ rest
+behind : (rs : List (ℕ × State)) (r : ℕ × State) (left rest : List ℕ) → AreStorable rs → left ≡ flat_map voter_record rs → IsStorableRecord r → left ≡ voter_record r ++ rest
     → (ss : List (ℕ × State)) × AreStorable ss × (rest ≡ flat_map voter_record ss)
 behind [] r left rest h e fit f = absurd (omega (arith, length-record r rest, ap length e, ap length f))
 behind (s ∷ rs) r left rest h e fit f =
     let one = record_same s r (flat_map voter_record rs) rest h.0 fit (sym e ∙ f) in
     (rs, h.1, sym one.1)
 
-pub one_less : (bytes left rest : List ℕ) (r : ℕ × State) → AreLeft bytes left → IsStorable r → left ≡ voter_record r ++ rest → AreLeft bytes rest
+pub one_less : (bytes left rest : List ℕ) (r : ℕ × State) → AreLeft bytes left → IsStorableRecord r → left ≡ voter_record r ++ rest → AreLeft bytes rest
 one_less bytes left rest r so_far fit f = λ W h. let there = so_far W h in behind there.0 r left rest there.1 there.2 fit f
 
 none_behind : (rs : List (ℕ × State)) (left : List ℕ) → AreStorable rs → left ≡ flat_map voter_record rs → 0 < length left → HasNoVoterRecord left → ⊥

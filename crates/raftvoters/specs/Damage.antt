@@ -9,7 +9,7 @@ use Rattle.raft_voter.specs.State.{State}
 use Rattle.raft_voter_messages.specs.StoredForms.{stored_entry_fits}
 use Rattle.raftvoters.specs.declared.record.OpenFault.{OpenFault}
 use Rattle.raftvoters.specs.declared.record.OpenFault.TheVariants.{Damaged, Memory}
-use Rattle.raftvoters.specs.Records.{AreEntries, StandsFor, IsStorable, voter_record, stored_entry}
+use Rattle.raftvoters.specs.Records.{AreEntries, StandsFor, IsStorableRecord, voter_record, stored_entry}
 
 -- what a fault of stored bytes is told as
 abbrev pub open_fault : StoredFault → OpenFault
@@ -31,7 +31,7 @@ HasNoEntries first count bytes = (es : List Entry) (rest : List ℕ) → AreEntr
 
 -- no record comes first
 abbrev pub HasNoVoterRecord : List ℕ → Type 0
-HasNoVoterRecord bytes = (r : ℕ × State) (rest : List ℕ) → IsStorable r → bytes ≢ voter_record r ++ rest
+HasNoVoterRecord bytes = (r : ℕ × State) (rest : List ℕ) → IsStorableRecord r → bytes ≢ voter_record r ++ rest
 
 -- these bytes aren't records, whatever voters they might mean
 abbrev pub StandsForNothing : List ℕ → Type 0

@@ -5,7 +5,8 @@ use Rattle.raft_voter_messages.specs.declared.request.Request.{Request}
 use Rattle.raft_voter.specs.Rounds.{World, after, after_one}
 use Rattle.raft_voter.specs.Rules.{reply}
 use Rattle.raftvoters.specs.declared.store.PlainVoters.{PlainVoters}
-use Rattle.raftvoters.specs.Records.{AllInRange, StandsFor, LeadTo, world_in}
+use Rattle.raft_voter.specs.InRange.{AllInRange}
+use Rattle.raftvoters.specs.Records.{StandsFor, LeadTo, world_in}
 use Rattle.raftvoters.specs.Service.{Stopped}
 
 -- the voter of each group: the one in memory, or a fresh one

@@ -4,7 +4,7 @@ ghost use Rattle.std.specs.List.{flat_map};
 ghost use Rattle.raft_voter_messages.specs.StoredForms.{number_text, stored_entry_fits};
 ghost use Rattle.raft_voter.specs.Rules.{numbered};
 ghost use Rattle.raftvoters.specs.Damage.{HasNoEntries, HasNoEntry, HasNoVoterRecord, TellsDamage};
-ghost use Rattle.raftvoters.specs.Records.{AreEntries, IsStorable, voter_record, stored_entry, voter_bytes};
+ghost use Rattle.raftvoters.specs.Records.{AreEntries, IsStorableRecord, voter_record, stored_entry, voter_bytes};
 
 use raft_voter::{Entry, Items, Memory, StoredFault, Voter, read_entry, read_state, state_bytes};
 use std::alloc::Global;
@@ -113,7 +113,7 @@ fn put_bytes(bytes: &mut Vec<u8>, more: &[u8]) -> Result<(), Memory>
 
 /// The first record of these bytes, and what follows it. Damage is told only where no record comes first.
 pub fn read_voter_record(alloc: Global, bytes: &[u8]) -> Result<(u64, Voter, &[u8]), OpenFault>
-    ensures ok { IfOk result (λ found. IsStorable (found.0, found.1) × (bytes.now ≡ voter_record (found.0, found.1) ++ found.2.now)) }
+    ensures ok { IfOk result (λ found. IsStorableRecord (found.0, found.1) × (bytes.now ≡ voter_record (found.0, found.1) ++ found.2.now)) }
     ensures err { IfErr result (TellsDamage (HasNoVoterRecord bytes.now)) }
 {
     let (group, rest) = split_number(bytes)?;

@@ -18,7 +18,7 @@ use Rattle.raftvoters.specs.declared.record.OpenFault.TheVariants.{Damaged, Memo
 use Rattle.raftvoters.specs.Content.{Content, whole}
 use Rattle.raftvoters.specs.Damage.{HasNoEntries, HasNoEntry, HasNoVoterRecord, StandsForNothing, TellsDamage, open_fault}
 use Rattle.raftvoters.specs.Records.{AreEntries, AreStorable, StandsFor, IsStorableRecord, voter_record, stored_entry, voter_bytes}
-use Rattle.raftvoters.proofs.Records.{entries_in_range, entry_same, length-numbered, length-record, record_same, state_in_range}
+use Rattle.raftvoters.proofs.Records.{entries_in_range, entry_same, length-numbered, length-record, numbered_in_order, record_same, state_in_range}
 
 -- Faults.
 
@@ -168,10 +168,6 @@ no_count bytes one state two group a small b long short = λ r x h same.
       length-number_text (length r.1.log),
       length-append (number_text (length r.1.log)) (flat_map stored_entry (numbered (r.1.base_index + 1) r.1.log) ++ x),
     )
-
-numbered_in_order : (i : ℕ) (es : List (ℕ × List ℕ)) → are_in_order i (numbered i es) ≡ true
-numbered_in_order i [] = refl
-numbered_in_order i (e ∷ es) = let others = numbered_in_order (i + 1) es in grind (arith, nat_tests)
 
 pub no_entries_read : (bytes one state two three : List ℕ) (group count : ℕ) (s : VoterState) → bytes ≡ number_text group ++ one → group < 2 ^ 64
     → one ≡ state ++ two → length state ≡ 42 → IsState state s → two ≡ number_text count ++ three → count < 2 ^ 64

@@ -35,6 +35,10 @@ pub length-numbered : (i : ℕ) (es : List (ℕ × List ℕ)) → length (number
 length-numbered i [] = refl
 length-numbered i (e ∷ es) = let more = length-numbered (i + 1) es in omega arith
 
+pub numbered_in_order : (i : ℕ) (es : List (ℕ × List ℕ)) → are_in_order i (numbered i es) ≡ true
+numbered_in_order i [] = refl
+numbered_in_order i (e ∷ es) = let others = numbered_in_order (i + 1) es in grind (arith, nat_tests)
+
 abbrev entry_with : ℕ → ℕ → List ℕ → Entry
 entry_with i t own = record { index = i; term = t; bytes = own }
 

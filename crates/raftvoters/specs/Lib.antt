@@ -1,6 +1,7 @@
 pub mod Content
 pub mod Records
 pub mod Damage
+pub mod Laws
 pub mod Service
 pub mod Store
 pub mod Storage

@@ -6,6 +6,7 @@
 #![tactic(auto)]
 
 mod file;
+mod laws;
 mod play;
 mod record;
 mod run;

@@ -1,4 +1,5 @@
--- How a session is written: the lines of its events, each number in as few digits as it has, each commit with its Append.
+-- How a session is written: the lines of its events, each number in as few digits as it has, each commit with
+-- its Append.
 use Rattle.std.specs.Prelude.{ℕ, ◌^◌, ◌≤◌, ◌&&◌, nat_lt, nat_le, Bool, true, IsTrue, List, [], ◌∷◌, ◌++◌, length, map, codes}
 use Rattle.std.specs.List.{flat_map, list_all}
 use Rattle.hex.specs.Hex.{encode_lower}
@@ -12,7 +13,7 @@ use Rattle.raft_voter_session.specs.Text.{spaced, spaced_all}
 
 -- the first word of a request's line
 abbrev pub request_word : Request → List ℕ
-request_word (Vote term candidate index last_term) = codes "vote"
+request_word (Vote term candidate index last) = codes "vote"
 request_word (Append term prev prev_term commit sent) = codes "append"
 request_word (Compact index) = codes "compact"
 request_word (Install term index entry_term) = codes "install"
@@ -22,7 +23,7 @@ request_word Retire = codes "retire"
 
 -- the numbers behind it
 abbrev pub request_numbers : ℕ → Request → List ℕ
-request_numbers group (Vote term candidate index last_term) = group ∷ term ∷ candidate ∷ index ∷ last_term ∷ []
+request_numbers group (Vote term candidate index last) = group ∷ term ∷ candidate ∷ index ∷ last ∷ []
 request_numbers group (Append term prev prev_term commit sent) = group ∷ term ∷ prev ∷ prev_term ∷ commit ∷ []
 request_numbers group (Compact index) = group ∷ index ∷ []
 request_numbers group (Install term index entry_term) = group ∷ term ∷ index ∷ entry_term ∷ []

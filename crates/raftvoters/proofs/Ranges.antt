@@ -1,18 +1,13 @@
 -- Worlds of voters in range, and requests that leave them so.
-use Rattle.std.proofs.Common.{◌≡◌, ℕ, suc, zero, ◌+◌, ◌-◌, ◌==◌, ◌&&◌, ◌∙◌, ◌<◌, ◌≤◌, ◌^◌, nat_lt, nat_le, Bool, true, false, cond, List, [], ◌∷◌, ◌++◌, length, take, drop, Some, None, unwrap_or, slice_get, refl, ap, arith}
-use Rattle.std.proofs.Math.Nat.{le-max_left, le-max_right, max-le, min-le_left}
+use Rattle.std.proofs.Common.{◌≡◌, ℕ, ◌==◌, ◌∙◌, Bool, true, false, cond, refl, ap, arith}
 use Rattle.std.proofs.Math.Path.{fun_ext}
-use Rattle.std.specs.Prelude.{max, min}
 use Rattle.std.proofs.lemmas.Bool.Decides.{nat_tests}
-use Rattle.std.proofs.lemmas.List.Folds.{list_all-append}
-use Rattle.std.specs.List.{list_all}
-use Rattle.std.specs.Option.{option_map}
 use Rattle.raft_voter_messages.specs.declared.request.Request.{Request}
 use Rattle.raft_voter_messages.specs.declared.request.Request.TheVariants.{Vote, Append, Compact, Install, Read, Status, Retire}
 use Rattle.raft_voter.specs.Rounds.{World, fresh_world, after_one, put}
-use Rattle.raft_voter.specs.Rules.{agrees_at, appended, can_compact, compacted, grants, installed, matching, merged, next, next_in_range}
-use Rattle.raft_voter_messages.specs.Ranges.{entries_fit, entry_fits, fits, in_range, total_bytes}
-use Rattle.raft_voter.specs.State.{State, adopt_term, entry_at, fresh, last_index, term_at}
+use Rattle.raft_voter.specs.Rules.{next}
+use Rattle.raft_voter_messages.specs.Ranges.{in_range}
+use Rattle.raft_voter.specs.State.{State}
 use Rattle.raft_voter.specs.InRange.{AllInRange, IsInRange}
 use Rattle.raft_voter.proofs.Keeping.{range_is_kept}
 use Rattle.raft_voter.proofs.VoterSteps.{by_test}

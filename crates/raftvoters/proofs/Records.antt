@@ -15,6 +15,7 @@ use Rattle.raft_voter.specs.InRange.{IsInRange, IsStorable}
 use Rattle.raft_voter.specs.State.{State, state_of}
 use Rattle.raft_voter.specs.Restoring.{are_in_order, restored}
 use Rattle.raft_voter_messages.specs.StoredForms.{IsEntry, IsState, entry_form_1, entry_text, number_text, state_fits, state_text, stored_entry_fits, vote_text}
+use Rattle.raftvoters.specs.Beginnings.{BeginsWith, BeginsWithEntries, BeginsWithEntry, BeginsWithNumber, BeginsWithRecord}
 use Rattle.raftvoters.specs.Records.{AreEntries, AreStorable, IsStorableRecord, voter_record, stored_entry, voter_bytes}
 
 -- Entries.
@@ -153,23 +154,36 @@ order_more i (f ∷ es) e h at =
     let facts : ((f.index == i) ≡ true) × (are_in_order (i + 1) es ≡ true) = grind (arith, nat_tests) in
     rw facts.0 (order_more (i + 1) es e facts.1 (omega arith))
 
-pub more_entries : (first : ℕ) (es : List Entry) (e : Entry) → AreEntries first es → e.index ≡ first + length es → stored_entry_fits e ≡ true → AreEntries first (es ++ e ∷ [])
+more_entries : (first : ℕ) (es : List Entry) (e : Entry) → AreEntries first es → e.index ≡ first + length es → stored_entry_fits e ≡ true → AreEntries first (es ++ e ∷ [])
 more_entries first es e h at fit = record {
   fit = list_all-append stored_entry_fits es (e ∷ []) ∙ rw (h.fit, fit) refl;
   ordered = order_more first es e h.ordered at;
 }
 
-pub more_text : (bytes left rest : List ℕ) (es : List Entry) (e : Entry) → bytes ≡ flat_map stored_entry es ++ left → left ≡ stored_entry e ++ rest → bytes ≡ flat_map stored_entry (es ++ e ∷ []) ++ rest
+more_text : (bytes left rest : List ℕ) (es : List Entry) (e : Entry) → bytes ≡ flat_map stored_entry es ++ left → left ≡ stored_entry e ++ rest → bytes ≡ flat_map stored_entry (es ++ e ∷ []) ++ rest
 more_text bytes left rest es e text one =
     rw (text, one) (sym (append_assoc (flat_map stored_entry es) (stored_entry e) rest)
     ∙ ap (λ bs. bs ++ rest) (ap (λ bs. flat_map stored_entry es ++ bs) (sym (append-nil (stored_entry e))) ∙ sym (flat_map-append stored_entry es (e ∷ []))))
 
-pub one_entry : (bytes behind own rest : List ℕ) (size index : ℕ) (e : Entry) → bytes ≡ number_text size ++ behind → length own ≡ size → behind ≡ own ++ rest → IsEntry own index e → bytes ≡ stored_entry e ++ rest
+-- one more entry is read behind others
+pub one_more : (bytes left rest : List ℕ) (first count : ℕ) (es : List Entry) (e : Entry) → BeginsWithEntries bytes first count es left
+    → BeginsWithEntry left (first + count) e rest → BeginsWithEntries bytes first (count + 1) (es ++ e ∷ []) rest
+one_more bytes left rest first count es e h k = record {
+  entries = more_entries first es e h.entries (omega (arith, k.at_index, h.size)) k.in_range;
+  size = omega (arith, h.size, length-append es (e ∷ []));
+  text = more_text bytes left rest es e h.text k.text;
+}
+
+pub one_entry : (bytes behind own rest : List ℕ) (size index : ℕ) (e : Entry) → BeginsWithNumber bytes size behind → BeginsWith behind size own rest → IsEntry own index e
+    → BeginsWithEntry bytes index e rest
 unfolding stored_entry
-one_entry bytes behind own rest size index e text long split is =
-    let sized : size ≡ length e.bytes + 17 = omega (arith, long, ap length is.text, length-entry_text e) in
-    text ∙ ap (λ bs. number_text size ++ bs) split ∙ ap (λ n. number_text n ++ (own ++ rest)) sized ∙ ap (λ bs. number_text (length e.bytes + 17) ++ (bs ++ rest)) is.text
-    ∙ sym (append_assoc (number_text (length e.bytes + 17)) (entry_text e) rest)
+one_entry bytes behind own rest size index e number split is =
+    let sized : size ≡ length e.bytes + 17 = omega (arith, split.size, ap length is.text, length-entry_text e) in record {
+      at_index = is.at_index;
+      in_range = is.in_range;
+      text = number.text ∙ ap (λ bs. number_text size ++ bs) split.text ∙ ap (λ n. number_text n ++ (own ++ rest)) sized ∙ ap (λ bs. number_text (length e.bytes + 17) ++ (bs ++ rest)) is.text
+          ∙ sym (append_assoc (number_text (length e.bytes + 17)) (entry_text e) rest);
+    }
 
 -- a state of form 2 is read as it was written
 as_written : (bytes : List ℕ) (s : VoterState) → length bytes ≡ 42 → IsState bytes s → bytes ≡ state_text s
@@ -181,11 +195,12 @@ as_written (form ∷ body) s wide (inr (second, same), bare) = ap (λ f. f ∷ b
 regroup : (g s n e r : List ℕ) → g ++ (s ++ (n ++ (e ++ r))) ≡ (g ++ (s ++ (n ++ e))) ++ r
 regroup g s n e r = simp append_assoc
 
-pub record_read : (bytes one state two three rest : List ℕ) (group count : ℕ) (s : VoterState) (es : List Entry) (v : State) → group < 2 ^ 64
-    → bytes ≡ number_text group ++ one → one ≡ state ++ two → length state ≡ 42 → IsState state s → two ≡ number_text count ++ three → AreEntries (s.base_index + 1) es
-    → length es ≡ count → three ≡ flat_map stored_entry es ++ rest → restored s es ≡ Ok v → IsStorableRecord (group, v) × (bytes ≡ voter_record (group, v) ++ rest)
+pub record_read : (bytes one state two three rest : List ℕ) (group count : ℕ) (s : VoterState) (es : List Entry) (v : State)
+    → BeginsWithNumber bytes group one → BeginsWith one 42 state two → IsState state s → BeginsWithNumber two count three → BeginsWithEntries three (s.base_index + 1) count es rest
+    → restored s es ≡ Ok v → BeginsWithRecord bytes (group, v) rest
 unfolding voter_record voter_bytes
-record_read bytes one state two three rest group count s es v small a b wide is c entries long d made =
+record_read bytes one state two three rest group count s es v a b is c d made =
+    let entries = d.entries in
     let fit = is.1.in_range in
     let built = state_with s.term s.vote s.base_index s.base_term s.commit (map (λ e. (e.term, e.bytes)) es) in
     let same : v ≡ built = let e = restored_ok s es fit entries.fit entries.ordered in cc in
@@ -194,14 +209,14 @@ record_read bytes one state two three rest group count s es v small a b wide is 
     let ends = last_in_range es s.base_index entries.fit entries.ordered base in
     let sized : length {A = ℕ × List ℕ} (map (λ e. (e.term, e.bytes)) es) ≡ length es = grind (arith, common_steps) in
     let storable : IsStorableRecord (group, built) = record {
-      group = small;
+      group = a.small;
       voter = record {
         in_range = record { term = facts.0; vote = vote_in_range s fit; base_index = facts.1; base_term = facts.2; commit = facts.3; committed = facts.4; log = unnumbered_fit es entries.fit };
         end_fits = omega (arith, sized, ends);
       };
     } in
-    let P : State → Type 0 = λ w. IsStorableRecord (group, w) × (bytes ≡ voter_record (group, w) ++ rest) in
+    let P : State → Type 0 = λ w. BeginsWithRecord bytes (group, w) rest in
     let text : bytes ≡ voter_record (group, built) ++ rest =
-    rw (in_order (s.base_index + 1) es entries.ordered, sized, long) (a ∙ ap (λ bs. number_text group ++ bs) (b ∙ ap (λ bs. bs ++ two) (as_written state s wide is) ∙ ap (λ bs. state_text s ++ bs) (c ∙ ap (λ bs. number_text count ++ bs) d))
+    rw (in_order (s.base_index + 1) es entries.ordered, sized, d.size) (a.text ∙ ap (λ bs. number_text group ++ bs) (b.text ∙ ap (λ bs. bs ++ two) (as_written state s b.size is) ∙ ap (λ bs. state_text s ++ bs) (c.text ∙ ap (λ bs. number_text count ++ bs) d.text))
     ∙ regroup (number_text group) (state_text s) (number_text count) (flat_map stored_entry es) rest) in
-    subst P (sym same) (storable, text)
+    subst P (sym same) (record { storable = storable; text = text })

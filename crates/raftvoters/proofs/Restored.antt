@@ -50,8 +50,11 @@ restores v h =
     ∙ ap Ok (with_log v (map (λ e. (e.term, e.bytes)) (log_entries v)) (unnumbered (v.base_index + 1) v.log))
 
 pub stored_voters_are_restored : StoredVotersAreRestored
-stored_voters_are_restored v h = (read_of v h, λ s es read.
-  let own = read_of v h in
-  let state = one_state (state_text (state_of v)) s (bare (state_of v)) read.state own.state in
-  let entries = same_entries (v.base_index + 1) (map entry_text (log_entries v)) es (log_entries v) read.entries own.entries in
-  ap (λ (r : VoterState). restored r es) state ∙ ap (restored (bare (state_of v))) entries ∙ restores v h)
+stored_voters_are_restored v h = (
+  read_of v h,
+  λ s es read.
+      let own = read_of v h in
+      let state = one_state (state_text (state_of v)) s (bare (state_of v)) read.state own.state in
+      let entries = same_entries (v.base_index + 1) (map entry_text (log_entries v)) es (log_entries v) read.entries own.entries in
+      ap (λ (r : VoterState). restored r es) state ∙ ap (restored (bare (state_of v))) entries ∙ restores v h,
+)

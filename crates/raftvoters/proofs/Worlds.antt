@@ -8,6 +8,7 @@ use Rattle.raft_voter.specs.Rules.{next, reply}
 use Rattle.raft_voter.specs.InRange.{AllInRange, IsInRange}
 use Rattle.raft_voter.specs.State.{State}
 use Rattle.raftvoters.specs.declared.store.PlainVoters.{PlainVoters}
+use Rattle.raftvoters.specs.Beginnings.{BeginsWithRecord}
 use Rattle.raftvoters.specs.Content.{Content, whole}
 use Rattle.raftvoters.specs.Records.{AreStorable, StandsFor, IsStorableRecord, LeadTo, may_change, voter_record, with_records}
 use Rattle.raftvoters.specs.Service.{LeavesAlone}
@@ -137,11 +138,11 @@ all_stored old taken new asked told took same synced settled stored =
 abbrev pub IsReadTo : List ℕ → World → List ℕ → Type 0
 IsReadTo bytes W left = (X : World) → LeadTo W left X → StandsFor bytes X
 
-pub read_on : (bytes left rest : List ℕ) (W Y : World) (r : ℕ × State) → IsReadTo bytes W left → IsStorableRecord r → left ≡ voter_record r ++ rest → Y ≡ put W r.0 r.1 → IsReadTo bytes Y rest
-read_on bytes left rest W Y r so_far fit text e = λ X more.
+pub read_on : (bytes left rest : List ℕ) (W Y : World) (r : ℕ × State) → IsReadTo bytes W left → BeginsWithRecord left r rest → Y ≡ put W r.0 r.1 → IsReadTo bytes Y rest
+read_on bytes left rest W Y r so_far is e = λ X more.
     let P : World → Type 0 = λ Z. LeadTo Z rest X in
     let Q : List ℕ → Type 0 = λ bs. LeadTo W bs X in
-    so_far X (subst Q (sym text) (joins W (put W r.0 r.1) X (voter_record r) rest (one_record W r fit) (subst P e more)))
+    so_far X (subst Q (sym is.text) (joins W (put W r.0 r.1) X (voter_record r) rest (one_record W r is.storable) (subst P e more)))
 
 pub read_all : (bytes left : List ℕ) (W : World) → IsReadTo bytes W left → length left ≡ 0 → StandsFor bytes W
 read_all bytes [] W so_far e = so_far W (no_records W)

@@ -19,7 +19,7 @@ AreReadAs index [] [] = Unit {0}
 AreReadAs index (bytes ∷ others) (e ∷ es) = IsEntry bytes index e × AreReadAs (index + 1) others es
 AreReadAs index others es = ⊥
 
--- A state and entries are read of what is written of a voter: of the bytes of its state, and of those of each entry.
+-- A state and entries are read of what is written of a voter: of its state's bytes, and of each entry's.
 pub record IsReadOf (v : State) (s : VoterState) (es : List Entry) : Type 0 where
   pub state : IsState (state_text (state_of v)) s
   pub entries : AreReadAs (v.base_index + 1) (map entry_text (log_entries v)) es

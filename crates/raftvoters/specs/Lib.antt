@@ -1,5 +1,6 @@
 pub mod Content
 pub mod Records
+pub mod Beginnings
 pub mod Damage
 pub mod Laws
 pub mod Service

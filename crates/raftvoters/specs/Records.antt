@@ -22,9 +22,17 @@ use Rattle.raft_voter_messages.specs.StoredForms.{entry_text, number_text, state
 unfoldable pub stored_entry : Entry → List ℕ
 stored_entry e = number_text (length e.bytes + 17) ++ entry_text e
 
+-- an entry of a log, where it stands at this index
+abbrev pub stored_at : ℕ → ℕ × List ℕ → List ℕ
+stored_at index e = stored_entry (record { index = index; term = e.0; bytes = e.1 })
+
+-- the entries of a log, the first at this index
+abbrev pub log_bytes : ℕ → List (ℕ × List ℕ) → List ℕ
+log_bytes first log = flat_map stored_entry (numbered first log)
+
 -- A voter as it is stored: its state, the number of its entries, and each entry.
 unfoldable pub voter_bytes : State → List ℕ
-voter_bytes v = state_text (state_of v) ++ (number_text (length v.log) ++ flat_map stored_entry (numbered (v.base_index + 1) v.log))
+voter_bytes v = state_text (state_of v) ++ (number_text (length v.log) ++ log_bytes (v.base_index + 1) v.log)
 
 -- a record: the group, and its voter
 unfoldable pub voter_record : ℕ × State → List ℕ

@@ -32,8 +32,8 @@ impl Storage {
         }
     }
 
-    /// Opens the store; one that is open is closed first. What a store wrote can always be read, so only memory may be
-    /// refused.
+    /// Opens the store; one that is open is closed first. What a store wrote can always be read, so only
+    /// memory may be refused.
     pub fn opened(self, alloc: Global) -> Result<Storage, Memory>
         requires { IsSound self }
         ensures open { IfOk result (λ next. is_open next ≡ true) }

@@ -310,7 +310,8 @@ fn texts_of_faults(rt: HostRuntime) -> Result<(), Fail> {
     Ok(())
 }
 
-/// So many rounds, each with an entry of 1,024 bytes for a group of its own; then a crash, and a read of the last entry.
+/// So many rounds, each with an entry of 1,024 bytes for a group of its own; then a crash, and a read of the
+/// last entry.
 fn many_rounds(alloc: Global, rounds: usize) -> io::Result<String> {
     let mut session = String::from_str(alloc, "open 1\n")?;
     for group in 0..rounds {

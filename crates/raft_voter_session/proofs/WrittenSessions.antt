@@ -1,5 +1,5 @@
 -- The lines of a written session are read again.
-use Rattle.std.proofs.Common.{◌≡◌, ℕ, ◌+◌, ◌≤◌, ◌&&◌, ◌∙◌, Bool, true, false, not, nat_lt, nat_le, List, [], ◌∷◌, ◌++◌, length, map, take, drop, Option, Some, None, Ok, codes, append-nil, append_assoc, refl, sym, ap, subst, if◌then◌else◌, arith}
+use Rattle.std.proofs.Common.{◌≡◌, ℕ, ◌+◌, ◌∙◌, Bool, true, false, not, nat_lt, nat_le, List, [], ◌∷◌, ◌++◌, length, map, take, drop, Option, Some, None, Ok, codes, append-nil, append_assoc, refl, sym, ap, subst, if◌then◌else◌, arith}
 use Rattle.std.proofs.lemmas.Bool.{and_parts}
 use Rattle.std.proofs.lemmas.Bool.Decides.{nat_tests}
 use Rattle.std.proofs.lemmas.List.{take_all}
@@ -15,10 +15,10 @@ use Rattle.raft_voter_session.specs.declared.event.Event.{Event}
 use Rattle.raft_voter_session.specs.declared.event.Event.TheVariants.{Open, Close, CrashLast, Round}
 use Rattle.raft_voter_session.specs.declared.line.Line.{Line}
 use Rattle.raft_voter_session.specs.declared.line.Line.TheVariants.{Alone, RoundBegins, RoundEnds, Ask}
-use Rattle.raft_voter_session.specs.Words.{◌>>=◌, ends, is_line_feed, is_space, number_at}
-use Rattle.raft_voter_session.specs.Requests.{append_at, commit_at, compact_at, entries_at, install_at, read_at, retire_at, status_at, vote_at}
-use Rattle.raft_voter_session.specs.Session.{Progress, after_line, after_text, finish, is_last, line_of, no_progress, open_at, read_from, request_at, session_of, words_line}
-use Rattle.raft_voter_session.specs.SessionText.{CanBeTold, event_lines, is_asked, is_number, is_sent, is_told, request_entries, request_line, request_numbers, request_word, sent_text, session_lines, session_text}
+use Rattle.raft_voter_session.specs.Words.{is_line_feed, is_space}
+use Rattle.raft_voter_session.specs.Requests.{append_at, compact_at, install_at, read_at, retire_at, status_at, vote_at}
+use Rattle.raft_voter_session.specs.Session.{Progress, after_line, after_text, is_last, line_of, no_progress, open_at, read_from, request_at, session_of, words_line}
+use Rattle.raft_voter_session.specs.SessionText.{event_lines, is_asked, is_number, is_sent, is_told, request_entries, request_line, request_numbers, request_word, sent_text, session_lines, session_text}
 use Rattle.raft_voter_session.specs.Text.{spaced, spaced_all}
 use Rattle.raft_voter_session.specs.Laws.{SessionsAreReadBack}
 use Rattle.raft_voter_session.proofs.WrittenWords.{at_numbers, at_sent, before_first-append, behind_first-append, bind, commit_read, first_read, has_none, has_none-append, is_at, no_line_feed_in_numbers, no_line_feed_in_sent, others_fit, sent_read}

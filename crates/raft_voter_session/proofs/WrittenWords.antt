@@ -1,5 +1,5 @@
 -- The words of a written line are read again.
-use Rattle.std.proofs.Common.{◌≡◌, ℕ, suc, zero, ◌+◌, ◌/◌, ◌%◌, ◌<◌, ◌≤◌, ◌^◌, ◌&&◌, ◌⊎◌, ◌∙◌, Bool, true, false, not, nat_lt, nat_le, inl, inr, List, [], ◌∷◌, ◌++◌, length, length-append, take, drop, get_or, Option, Some, None, codes, append-nil, append_assoc, refl, sym, ap, subst, arith}
+use Rattle.std.proofs.Common.{◌≡◌, ℕ, suc, zero, ◌+◌, ◌/◌, ◌%◌, ◌<◌, ◌^◌, ◌&&◌, ◌∙◌, Bool, true, false, not, nat_lt, nat_le, inl, inr, List, [], ◌∷◌, ◌++◌, length, length-append, drop, Option, Some, codes, append_assoc, refl, sym, ap, arith}
 use Rattle.std.proofs.lemmas.Bool.{and_parts, cases_lt}
 use Rattle.std.proofs.lemmas.Bool.Decides.{nat_tests}
 use Rattle.std.proofs.lemmas.Fmt.{digits_decimal, digits_value-decimal, decimal_nonempty, length-decimal-le}
@@ -12,7 +12,7 @@ use Rattle.std.specs.Fmt.{decimal}
 use Rattle.std.specs.List.{after_first, before_first, flat_map, list_all, list_any, position_or_len, slice_index}
 use Rattle.std.specs.Str.{all_ascii_digits}
 use Rattle.std.specs.Str.Parse.{digits_value}
-use Rattle.hex.specs.Hex.{IsBytes, decode_of, encode_lower, encode_with, lower_digits}
+use Rattle.hex.specs.Hex.{IsBytes, encode_lower, encode_with, lower_digits}
 use Rattle.hex.proofs.HexLemmas.{decode_of-encode_lower}
 use Rattle.raft_voter_session.specs.Words.{◌>>=◌, data_of, is_colon, is_line_feed, is_lower_hex_digit, is_space, number_at, number_of, value_from, word_at}
 use Rattle.raft_voter_session.specs.Requests.{commit_at, entries_at, entry_of, has_plain_word}

@@ -1,6 +1,7 @@
 //! The records of the plain file: a group and its voter.
 ghost use Rattle.std.specs.Prelude.{◌≡◌, ◌+◌, ◌^◌, ◌<◌, ◌++◌, length, IfOk, IfErr, OnOk};
 ghost use Rattle.raft_voter_messages.specs.StoredForms.{number_text};
+ghost use Rattle.raftvoters.specs.declared.record.OpenFault.TheVariants.{Damaged};
 ghost use Rattle.raftvoters.specs.Damage.{HasNoEntries, HasNoEntry, HasNoVoterRecord, TellsDamage};
 ghost use Rattle.raftvoters.specs.Records.{log_bytes, stored_at, voter_record};
 ghost use Rattle.raftvoters.specs.Beginnings.{BeginsWith, BeginsWithEntries, BeginsWithEntry, BeginsWithNumber, BeginsWithRecord};
@@ -161,7 +162,7 @@ fn read_one(alloc: Global, index: u64, bytes: &[u8]) -> Result<(Entry, &[u8]), O
 /// The number of eight bytes that comes first, and what follows it.
 fn split_number(bytes: &[u8]) -> Result<(u64, &[u8]), OpenFault>
     ensures ok { IfOk result (λ found. BeginsWithNumber bytes.now found.0 found.1.now) }
-    ensures err { IfErr result (λ _. length bytes.now < 8) }
+    ensures err { IfErr result (λ fault. (fault ≡ Damaged) × (length bytes.now < 8)) }
 {
     if bytes.len() < 8 {
         return Err(OpenFault::Damaged);
@@ -176,7 +177,7 @@ fn split_number(bytes: &[u8]) -> Result<(u64, &[u8]), OpenFault>
 /// So many bytes, and what follows them.
 fn split(bytes: &[u8], count: usize) -> Result<(&[u8], &[u8]), OpenFault>
     ensures ok { IfOk result (λ found. BeginsWith bytes.now count found.0.now found.1.now) }
-    ensures err { IfErr result (λ _. length bytes.now < count) }
+    ensures err { IfErr result (λ fault. (fault ≡ Damaged) × (length bytes.now < count)) }
 {
     if bytes.len() < count {
         return Err(OpenFault::Damaged);

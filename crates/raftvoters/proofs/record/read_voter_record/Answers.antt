@@ -8,12 +8,12 @@ returns-clause-ok c =
     c.in_ok-entries.ensures.ok c.in_ok-voter.ensures.ok
 
 pub returns-in_err-group-clause-err : goal.returns-in_err-group-clause-err
-returns-in_err-group-clause-err c = any_err c.from_residual.result _ (no_group c.args.bytes.now c.in_err-group.ensures.err)
+returns-in_err-group-clause-err c = any_err c.from_residual.result _ (no_group c.args.bytes.now c.in_err-group.ensures.err.1)
 
 pub returns-in_err-state-clause-err : goal.returns-in_err-state-clause-err
 returns-in_err-state-clause-err c =
     let group = c.in_ok-group.ensures.ok in
-    any_err c.from_residual-in_err-state.result _ (no_state _ _ _ group.text group.small c.in_err-state.ensures.err)
+    any_err c.from_residual-in_err-state.result _ (no_state _ _ _ group.text group.small c.in_err-state.ensures.err.1)
 
 pub returns-in_err-state-2-clause-err : goal.returns-in_err-state-2-clause-err
 returns-in_err-state-2-clause-err c =
@@ -27,7 +27,7 @@ pub returns-in_err-count-clause-err : goal.returns-in_err-count-clause-err
 returns-in_err-count-clause-err c =
     let group = c.in_ok-group.ensures.ok in
     let state = c.in_ok-state.ensures.ok in
-    any_err c.from_residual-in_err-count.result _ (no_count _ _ _ _ _ group.text group.small state.text state.size c.in_err-count.ensures.err)
+    any_err c.from_residual-in_err-count.result _ (no_count _ _ _ _ _ group.text group.small state.text state.size c.in_err-count.ensures.err.1)
 
 pub returns-in_err-entries-clause-err : goal.returns-in_err-entries-clause-err
 returns-in_err-entries-clause-err c =

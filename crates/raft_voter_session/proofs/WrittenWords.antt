@@ -194,7 +194,7 @@ entry_read e h =
     ap number_of (before_first-append is_colon (decimal e.0) (58 ∷ encode_lower e.1) none refl) ∙ number_of_decimal e.0 small in
     let bytes : data_of (after_first is_colon (sent_word e)) ≡ Some e.1 =
     ap data_of (after_first-append is_colon (decimal e.0) 58 (encode_lower e.1) none refl) ∙ data_read e.1 parts.1 in
-    rw within (bind _ e.0 (λ t. data_of (after_first is_colon (sent_word e)) >>= (λ own. Some (t, own))) term ∙ bind _ e.1 (λ own. Some (e.0, own)) bytes)
+    rw (within, term, bytes) refl
 
 no_space_in_sent : (e : ℕ × List ℕ) → is_sent e ≡ true → has_none is_space (sent_word e) ≡ true
 no_space_in_sent e h =

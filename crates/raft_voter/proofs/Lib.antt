@@ -9,5 +9,5 @@ pub mod Repeating
 mod Owning
 mod Commits
 mod Reading
-mod Keeping
+pub mod Keeping
 pub use Rattle.raft_voter_outline.proofs.Ordered

@@ -18,7 +18,8 @@ OneState = (bytes : List ℕ) (s r : VoterState) → IsState bytes s → IsState
 abbrev pub OneStateFault : Type 0
 OneStateFault =
     (bytes : List ℕ) (fault : StoredFault) → StateFault fault bytes
-    → ((s : VoterState) → ¬ IsState bytes s) × ((other : StoredFault) → StateFault other bytes → other ≡ fault)
+    → ((s : VoterState) → ¬ IsState bytes s)
+    × ((other : StoredFault) → StateFault other bytes → other ≡ fault)
 
 -- What is written of a state in range is read as that state, with its base in place of the last entry.
 abbrev pub StatesAreReadBack : Type 0
@@ -29,7 +30,7 @@ abbrev pub OneEntry : Type 0
 OneEntry =
     (bytes : List ℕ) (i j : ℕ) (e f : Entry) → IsEntry bytes i e → IsEntry bytes j f → (i ≡ j) × (e ≡ f)
 
--- Bytes with a fault other than want of memory are those of no entry at that index, and they have one first fault.
+-- Bytes with a fault, want of memory apart, are those of no entry at that index, and have one first fault.
 abbrev pub OneEntryFault : Type 0
 OneEntryFault =
     (bytes : List ℕ) (index : ℕ) (fault : StoredFault) → fault ≢ Memory → EntryFault fault bytes index

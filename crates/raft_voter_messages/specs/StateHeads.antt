@@ -4,14 +4,18 @@ use Rattle.raft_voter_messages.specs.declared.reply.VoterState.{VoterState}
 use Rattle.raft_voter_messages.specs.declared.stored.head.StateHead.{StateHead}
 use Rattle.raft_voter_messages.specs.StoredForms.{head_text, number_text, state_fits, vote_fits, vote_text}
 
+-- the nine bytes of the vote that were read
+abbrev pub vote_bytes : StateHead → List ℕ
+vote_bytes h = h.vote_byte ∷ number_text h.candidate
+
 -- the bytes that were read
 abbrev pub head_bytes : StateHead → List ℕ
-head_bytes h = head_text h.term (h.vote_byte ∷ number_text h.candidate) h.base_index h.base_term
+head_bytes h = head_text h.term (vote_bytes h) h.base_index h.base_term
 
 -- a state has these numbers and this vote
 pub record HasHead (s : VoterState) (h : StateHead) : Type 0 where
   pub term : s.term ≡ h.term
-  pub vote : vote_text s.vote ≡ h.vote_byte ∷ number_text h.candidate
+  pub vote : vote_text s.vote ≡ vote_bytes h
   pub base_index : s.base_index ≡ h.base_index
   pub base_term : s.base_term ≡ h.base_term
 
@@ -21,5 +25,4 @@ IsNoState h commit = (s : VoterState) → IsTrue (state_fits s) → HasHead s h 
 
 -- no vote in range has the byte and the candidate that were read
 abbrev pub IsNoVote : StateHead → Type 0
-IsNoVote h =
-    (vote : Option ℕ) → IsTrue (vote_fits vote) → vote_text vote ≢ h.vote_byte ∷ number_text h.candidate
+IsNoVote h = (vote : Option ℕ) → IsTrue (vote_fits vote) → vote_text vote ≢ vote_bytes h

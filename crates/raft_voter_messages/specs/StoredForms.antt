@@ -1,5 +1,5 @@
--- How a voter's state and its entries are stored as bytes. The first byte names the form; each form has its own
--- length, its own text and its own faults.
+-- How a voter's state and its entries are stored as bytes. The first byte names the form; each form has its
+-- own length, its own text and its own faults.
 use Rattle.std.specs.Prelude.{◌≡◌, ◌≢◌, ℕ, ◌<◌, ◌≤◌, ◌⊎◌, ◌&&◌, nat_le, Bool, true, IsTrue, List, [], ◌∷◌, ◌++◌, length, Option, None, Some}
 use Rattle.std.specs.Int.{to_be_bytes, w64}
 use Rattle.std.specs.Option.{option_map_or}
@@ -126,7 +126,7 @@ pub record IsEntry (bytes : List ℕ) (index : ℕ) (e : Entry) : Type 0 where
   pub in_range : IsTrue (stored_entry_fits e)
   pub at_index : e.index ≡ index
 
--- the first fault of what should be the entry at an index: no bytes, another form byte, or a fault of its form
+-- the first fault of what should be the entry at an index: no bytes, another form, or a fault of its form
 abbrev pub EntryFault : StoredFault → List ℕ → ℕ → Type 0
 EntryFault fault [] index = fault ≡ Length
 EntryFault fault (form ∷ body) index =

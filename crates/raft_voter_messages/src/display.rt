@@ -36,8 +36,8 @@ impl fmt::Display for Reply {
     }
 }
 
-/// The term, the vote (`-` where there is none), the index and the term of the base and of the last entry, the
-/// commit.
+/// The term, the vote (`-` where there is none), the index and the term of the base and of the last entry,
+/// the commit.
 impl fmt::Display for VoterState {
     ghost output = { λ state. Some (state_words state) };
 

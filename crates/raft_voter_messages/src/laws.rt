@@ -1,4 +1,4 @@
-//! What follows from the definitions of stored forms: laws, each the contract of a function that does nothing.
+//! What follows from the definitions of stored forms: laws, each the contract of an empty function.
 ghost use Rattle.raft_voter_messages.specs.Laws.{EntriesAreReadBack, OneEntry, OneEntryFault, OneState, OneStateFault, StatesAreReadBack};
 
 /// Bytes are those of one state at most, whatever its form.
@@ -6,12 +6,12 @@ pub fn one_state()
     ensures { OneState }
 {}
 
-/// Bytes with a fault are those of no state, and they have one first fault: so `read_state` answers one thing alone.
+/// Bytes with a fault are those of no state and have one first fault: `read_state` answers one thing alone.
 pub fn one_state_fault()
     ensures { OneStateFault }
 {}
 
-/// What `state_bytes` writes of a state in range is read as that state, with its base in place of the last entry.
+/// What `state_bytes` writes of a state in range is read as that state, its base in place of the last entry.
 pub fn states_are_read_back()
     ensures { StatesAreReadBack }
 {}
@@ -21,7 +21,7 @@ pub fn one_entry()
     ensures { OneEntry }
 {}
 
-/// Bytes with a fault other than want of memory are those of no entry at that index, and they have one first fault.
+/// Bytes with a fault, want of memory apart, are those of no entry at that index, and have one first fault.
 pub fn one_entry_fault()
     ensures { OneEntryFault }
 {}

@@ -1,9 +1,10 @@
-//! What goes into a Raft voter and what comes out of it: requests, replies, entries of a log, and rounds of them; the
-//! texts of replies, and the bytes in which a voter is stored.
+//! What goes into a Raft voter and what comes out of it: requests, replies, entries of a log, and rounds of
+//! them; the texts of replies, and the bytes in which a voter is stored.
 //!
-//! Nothing here knows what a voter does with a request. `Request::in_range` tells which requests one takes at all.
-//! Replies print themselves, as transcripts show them: `Granted 5`, `Entries 3:2:00ff`. What `state_bytes` and
-//! `entry_bytes` write, `read_state` and `read_entry` read, and each other list of bytes is refused with its first fault.
+//! Nothing here knows what a voter does with a request. `Request::in_range` tells which requests one takes at
+//! all. Replies print themselves, as transcripts show them: `Granted 5`, `Entries 3:2:00ff`. What
+//! `state_bytes` and `entry_bytes` write, `read_state` and `read_entry` read, and each other list of bytes is
+//! refused with its first fault.
 #![tactic(auto)]
 
 mod display;

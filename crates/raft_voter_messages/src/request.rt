@@ -72,8 +72,9 @@ pub enum Request {
 }
 
 impl Request {
-    /// Whether a voter takes this request: all its numbers, and the index of the last entry that it brings, are at
-    /// most `MAX_NUMBER`, and an `Append` keeps the limits on entries and bytes. A voter answers `Refused` to any other.
+    /// Whether a voter takes this request: all its numbers, and the index of the last entry that it brings,
+    /// are at most `MAX_NUMBER`, and an `Append` keeps the limits on entries and bytes. A voter answers
+    /// `Refused` to any other.
     pub fn in_range(&self) -> bool
         ensures { result ≡ in_range self.now }
     {

@@ -13,7 +13,7 @@ pub enum Outcome {
 /// Requests that were handed in together, to the voters of many groups.
 #[derive(Debug, PartialEq, Drop)]
 pub struct Round {
-    /// Each request with its group, in the order in which they are taken. A request's place is counted from 0.
+    /// Each request with its group, in the order in which they are taken. Places are counted from 0.
     pub requests: Items<(u64, Request)>,
     /// The places that weren't taken, rising.
     pub refused: Items<usize>,

@@ -1,5 +1,5 @@
-//! How a voter's state and its entries are stored as bytes: the first byte names the form, and numbers have eight
-//! bytes, the highest first.
+//! How a voter's state and its entries are stored as bytes: the first byte names the form, and numbers have
+//! eight bytes, the highest first.
 ghost use Rattle.std.specs.Prelude.{◌≡◌, ◌+◌, ◌^◌, ◌<◌, ◌≤◌, ◌++◌, length, OnOk};
 ghost use Rattle.raft_voter_messages.specs.StoredForms.{number_text};
 ghost use Rattle.raft_voter_messages.specs.declared.stored.StoredFault.TheVariants as faults;
@@ -26,8 +26,8 @@ pub enum StoredFault {
     /// The first byte names no form that is known.
     #[error("unknown form")]
     Form,
-    /// A number is above the limit, the commit is below the base, the byte of the vote is neither 0 nor 1, or a
-    /// candidate stands where there is no vote.
+    /// A number is above the limit, the commit is below the base, the byte of the vote is neither 0 nor 1, or
+    /// a candidate stands where there is no vote.
     #[error("value out of range")]
     Range,
     /// The entry stands at another index than the one that was asked for.

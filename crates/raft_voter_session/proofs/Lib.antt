@@ -1,3 +1,5 @@
 pub mod Digits
 pub mod LineLists
 pub mod WordLists
+pub mod WrittenSessions
+pub mod WrittenWords

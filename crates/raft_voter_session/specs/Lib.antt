@@ -3,3 +3,5 @@ pub mod Requests
 pub mod Session
 pub mod Fault
 pub mod Text
+pub mod SessionText
+pub mod Laws

@@ -58,7 +58,7 @@ pub record Progress : Type 0 where
 abbrev pub no_progress : Progress
 no_progress = record { events = []; begun = None }
 
--- one more line: requests stand between `round` and `end`, other events outside; None where a line stands wrong
+-- one more line: requests stand between `round` and `end`, other events outside; None where one stands wrong
 abbrev pub after_line : Line → List Event → Option (List (ℕ × Request)) → Option Progress
 after_line (Alone event) events None = Some (record { events = events ++ event ∷ []; begun = None })
 after_line RoundBegins events None = Some (record { events = events; begun = Some [] })
@@ -71,7 +71,8 @@ after_line line events begun = None
 abbrev pub after_text : List ℕ → Progress → Option Progress
 after_text text so_far = line_of text >>= (λ line. after_line line so_far.events so_far.begun)
 
--- the events at the end, which comes right behind a line and not within a round; else the number of the missing line
+-- the events at the end, which comes right behind a line and not within a round; else the number of the
+-- missing line
 abbrev pub at_end : ℕ → List Event → Option (List (ℕ × Request)) → Result (List Event) ℕ
 at_end number events None = Ok events
 at_end number events (Some asked) = Err number
@@ -91,8 +92,8 @@ abbrev pub is_last : List (List ℕ) → Bool
 is_last [] = true
 is_last (piece ∷ pieces) = false
 
--- The events of lines, of which the first has this number, behind others; or the number of the first line that
--- is unreadable. The last piece of the text is what stands behind its last line feed.
+-- The events of lines, of which the first has this number, behind others; or the number of the first line
+-- that is unreadable. The last piece of the text is what stands behind its last line feed.
 abbrev pub read_from : List (List ℕ) → ℕ → Bool → Progress → Result (List Event) ℕ
 read_from [] number whole so_far = Err number
 read_from (piece ∷ pieces) number whole so_far =
@@ -103,4 +104,5 @@ read_from (piece ∷ pieces) number whole so_far =
 -- than 268,435,456 bytes the line with the first byte past them is unreadable.
 unfoldable pub session_of : List ℕ → Result (List Event) ℕ
 session_of input =
-    read_from (slice_split is_line_feed (take 268435456 input)) 1 (nat_le (length input) 268435456) no_progress
+    read_from (slice_split is_line_feed (take 268435456 input)) 1 (nat_le (length input) 268435456)
+    no_progress

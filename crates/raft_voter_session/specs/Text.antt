@@ -62,6 +62,10 @@ unfoldable pub transcript_text : List Round → List ℕ → Bool → List ℕ
 transcript_text rounds cuts verdict =
     rounds_text 0 rounds ++ codes "cuts" ++ spaced_all cuts ++ codes "\n" ++ verdict_text verdict
 
+-- a text has such a transcript more at its end
+abbrev pub GainsTranscript : String Global → String Global → List Round → List ℕ → Bool → Type 0
+GainsTranscript old new rounds cuts verdict = Gains old new (transcript_text rounds cuts verdict)
+
 -- what is written where a line is unreadable
 unfoldable pub unreadable_text : ℕ → List ℕ
 unreadable_text number = codes "line" ++ spaced number ++ codes ": unreadable\n"

@@ -148,8 +148,8 @@ fn split_commit(text: &[u8]) -> Option<(u64, &[u8])>
     split_number(text)
 }
 
-/// `append G T P U C E..`: group, term, index and term right before the entries, the commit, which may lack, and the
-/// entries.
+/// `append G T P U C E..`: group, term, index and term right before the entries, the commit, which may lack,
+/// and the entries.
 #[tactic(auto, unfolding(crate::specs::Requests::append_at))]
 pub fn append(alloc: Global, text: &[u8]) -> Result<Option<(u64, Request)>, Memory>
     ensures { IfOk result (λ asked. asked ≡ append_at text.now) }

@@ -1,24 +1,23 @@
 //! The text of transcripts.
 ghost use Rattle.std.specs.Prelude.{◌≡◌, OnOk, OnErr, string_bytes};
-ghost use Rattle.raft_voter_session.specs.Text.{Gains, spaced, spaced_all, place_text, places_text, refused_text, outcome_text, round_text, rounds_text, verdict_text, transcript_text, unreadable_text};
+ghost use Rattle.raft_voter_session.specs.Text.{Gains, GainsTranscript, spaced, spaced_all, place_text, places_text, refused_text, outcome_text, round_text, rounds_text, verdict_text, unreadable_text};
 
 use raft_voter_messages::{Memory, Outcome, Reply, Request, Round, Transcript};
 
-/// Writes a transcript, the places up to which its rounds without an answer were taken, and the verdict on them.
-/// Where memory is refused the text stays as it was.
+/// Writes a transcript, the places up to which its rounds without an answer were taken, and the verdict on
+/// them. Where memory is refused the text stays as it was.
 pub fn write_transcript(
     text: &mut String,
     transcript: &Transcript,
     cuts: &[usize],
     verdict: bool,
 ) -> Result<(), Memory>
-    ensures ok { OnOk result (Gains text.old text.new (transcript_text transcript.now.rounds cuts.now verdict)) }
+    ensures ok { OnOk result (GainsTranscript text.old text.new transcript.now.rounds cuts.now verdict) }
     ensures err { OnErr result (string_bytes text.new ≡ string_bytes text.old) }
 {
     let mut lines = String::new(*text.allocator());
     write_all(&mut lines, transcript, cuts, verdict)?;
-    text.push_str(lines.as_str())?;
-    Ok(())
+    add(text, lines)
 }
 
 /// Writes that the line of this number is unreadable. Where memory is refused the text stays as it was.
@@ -28,7 +27,21 @@ pub fn write_unreadable(text: &mut String, line: usize) -> Result<(), Memory>
 {
     let mut told = String::new(*text.allocator());
     write_line(&mut told, line)?;
-    text.push_str(told.as_str())?;
+    add(text, told)
+}
+
+/// Adds lines to a text; one that is empty takes them as they are, without a copy. Where memory is refused
+/// the text stays as it was. (What a `write!` that is refused leaves of a `String` isn't known, so lines are
+/// never written into the text.)
+fn add(text: &mut String, lines: String) -> Result<(), Memory>
+    ensures ok { OnOk result (Gains text.old text.new (string_bytes lines)) }
+    ensures err { OnErr result (string_bytes text.new ≡ string_bytes text.old) }
+{
+    if text.is_empty() {
+        *text = lines;
+        return Ok(());
+    }
+    text.push_str(lines.as_str())?;
     Ok(())
 }
 
@@ -40,7 +53,7 @@ fn write_all(
     cuts: &[usize],
     verdict: bool,
 ) -> Result<(), Memory>
-    ensures { OnOk result (Gains text.old text.new (transcript_text transcript.now.rounds cuts.now verdict)) }
+    ensures { OnOk result (GainsTranscript text.old text.new transcript.now.rounds cuts.now verdict) }
 {
     write_rounds(text, transcript.rounds.as_slice())?;
     text.push_str("cuts")?;

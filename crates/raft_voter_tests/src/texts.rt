@@ -1,5 +1,6 @@
 //! How replies, states, entries and faults are printed.
 use raft_voter_messages::{Entry, Items, Memory, Reply, StoredFault, VoterState};
+use raft_voter_session::SessionFault;
 use std::alloc::Global;
 use std::test::Fail;
 
@@ -25,6 +26,14 @@ const STATES: [(Option<u64>, &str); 2] = [
 
 /// Lengths of entries round those of the parts in which they are written, and the greatest one.
 const LENGTHS: [usize; 8] = [0, 1, 127, 128, 129, 256, 300, 65_535];
+
+#[test]
+fn texts_of_session_faults(rt: HostRuntime) -> Result<(), Fail> {
+    let alloc = rt.alloc();
+    assert!(rt; SessionFault::Unreadable(3).to_string(alloc)?.as_str() == "line 3: unreadable");
+    assert!(rt; SessionFault::Memory.to_string(alloc)?.as_str() == "out of memory");
+    Ok(())
+}
 
 #[test]
 fn texts_of_faults(rt: HostRuntime) -> Result<(), Fail> {

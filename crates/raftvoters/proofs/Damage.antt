@@ -1,5 +1,5 @@
 -- What is told as damaged holds no records.
-use Rattle.std.proofs.Common.{◌≡◌, ◌≢◌, ℕ, ◌+◌, ◌<◌, ◌≤◌, ◌^◌, ◌∙◌, true, List, [], ◌∷◌, ◌++◌, length, length-append, append-nil, append_assoc, Result, Ok, Err, IfErr, refl, sym, ap, subst, arith}
+use Rattle.std.proofs.Common.{◌≡◌, ◌≢◌, ℕ, ◌+◌, ◌<◌, ◌≤◌, ◌^◌, ◌∙◌, true, List, [], ◌∷◌, ◌++◌, length, length-append, append-nil, append_assoc, Result, Ok, Err, IfErr, sym, ap, subst, arith}
 use Rattle.std.proofs.lemmas.Bool.Decides.{nat_tests}
 use Rattle.std.specs.List.{flat_map, list_all}
 use Rattle.std.specs.Prelude.{IsErrAnd}
@@ -16,9 +16,10 @@ use Rattle.raft_voter_messages.specs.StoredForms.{EntryFault, IsState, StateFaul
 use Rattle.raftvoters.specs.declared.record.OpenFault.{OpenFault}
 use Rattle.raftvoters.specs.declared.record.OpenFault.TheVariants.{Damaged, Memory as OutOfMemory}
 use Rattle.raftvoters.specs.Content.{Content, whole}
+use Rattle.raftvoters.specs.Beginnings.{BeginsWithEntries, BeginsWithRecord}
 use Rattle.raftvoters.specs.Damage.{HasNoEntries, HasNoEntry, HasNoVoterRecord, StandsForNothing, TellsDamage, open_fault}
-use Rattle.raftvoters.specs.Records.{AreEntries, AreStorable, StandsFor, IsStorable, voter_record, stored_entry, voter_bytes}
-use Rattle.raftvoters.proofs.Records.{entries_in_range, entry_same, length-numbered, length-record, record_same, state_in_range}
+use Rattle.raftvoters.specs.Records.{AreEntries, AreStorable, StandsFor, IsStorableRecord, voter_record, stored_entry, voter_bytes}
+use Rattle.raftvoters.proofs.Records.{entries_in_range, entry_same, length-numbered, length-record, numbered_in_order, record_same, state_in_range}
 
 -- Faults.
 
@@ -75,21 +76,21 @@ length-stored_entry e rest =
     )
 
 pub no_size : (bytes : List ℕ) (index : ℕ) → length bytes < 8 → HasNoEntry index bytes
-no_size bytes index short = λ e rest at fit same. omega (arith, length-stored_entry e rest, ap length same)
+no_size bytes index short = λ e rest is. omega (arith, length-stored_entry e rest, ap length is.text)
 
 pub no_own : (bytes behind : List ℕ) (size index : ℕ) → bytes ≡ number_text size ++ behind → size < 2 ^ 64 → length behind < size → HasNoEntry index bytes
-no_own bytes behind size index a small short = λ e rest at fit same.
-    let there = own_there bytes behind rest size e a small fit same in
+no_own bytes behind size index a small short = λ e rest is.
+    let there = own_there bytes behind rest size e a small is.in_range is.text in
     omega (arith, there.0, ap length there.1, length-append (entry_text e) rest, length-entry_text e)
 
 pub no_entry_read : (bytes behind own left : List ℕ) (size index : ℕ) (given : StoredFault) → bytes ≡ number_text size ++ behind → size < 2 ^ 64
     → length own ≡ size → behind ≡ own ++ left → EntryFault given own index → given ≢ Memory → HasNoEntry index bytes
-no_entry_read bytes behind own left size index given a small long split fault other = λ e rest at fit same.
-    let there = own_there bytes behind rest size e a small fit same in
+no_entry_read bytes behind own left size index given a small long split fault other = λ e rest is.
+    let there = own_there bytes behind rest size e a small is.in_range is.text in
     let texts = split_same own (entry_text e) left rest size long (omega (arith, length-entry_text e, there.0)) (sym split ∙ there.1) in
     let P : List ℕ → Type 0 = λ bs. EntryFault given bs index in
     let Q : ℕ → Type 0 = λ i. EntryFault given (entry_text e) i in
-    other (entry_no_fault given e fit (subst Q (sym at) (subst P texts.0 fault)))
+    other (entry_no_fault given e is.in_range (subst Q (sym is.at_index) (subst P texts.0 fault)))
 
 -- Entries.
 
@@ -112,11 +113,12 @@ next_entry i (e ∷ es) (f ∷ fs) left rest he hf order size same =
     let more = next_entry (i + 1) es fs left rest a.1 b.1 others (omega arith) one.1 in
     (more.0, more.1, omega (arith, more.2), more.3, more.4)
 
-pub no_entries : (bytes left : List ℕ) (base count i : ℕ) (es : List Entry) → AreEntries (base + 1) es → length es ≡ i → i < count
-    → bytes ≡ flat_map stored_entry es ++ left → HasNoEntry (base + 1 + i) left → HasNoEntries (base + 1) count bytes
-no_entries bytes left base count i es read long more text none = λ fs rest are size same.
-    let next = next_entry (base + 1) es fs left rest read.fit are.fit are.ordered (omega (arith, long, size)) (sym text ∙ same) in
-    none next.0 next.1 (omega (arith, next.2, long)) next.3 next.4
+pub no_entries : (bytes left : List ℕ) (base count i : ℕ) (es : List Entry) → BeginsWithEntries bytes (base + 1) i es left → i < count
+    → HasNoEntry (base + 1 + i) left → HasNoEntries (base + 1) count bytes
+no_entries bytes left base count i es read more none = λ fs rest is.
+    let are = is.entries in
+    let next = next_entry (base + 1) es fs left rest read.entries.fit are.fit are.ordered (omega (arith, read.size, is.size)) (sym read.text ∙ is.text) in
+    none next.0 next.1 (record { at_index = omega (arith, next.2, read.size); in_range = next.3; text = next.4 })
 
 -- Records.
 
@@ -126,7 +128,7 @@ unfolding voter_bytes
 grouped v x = simp append_assoc
 
 -- behind the group of a record stand its voter's state, the number of its entries, and its entries
-voter_there : (bytes one x : List ℕ) (group : ℕ) (r : ℕ × State) → bytes ≡ number_text group ++ one → group < 2 ^ 64 → IsStorable r → bytes ≡ voter_record r ++ x
+voter_there : (bytes one x : List ℕ) (group : ℕ) (r : ℕ × State) → bytes ≡ number_text group ++ one → group < 2 ^ 64 → IsStorableRecord r → bytes ≡ voter_record r ++ x
     → one ≡ state_text (state_of r.1) ++ (number_text (length r.1.log) ++ (flat_map stored_entry (numbered (r.1.base_index + 1) r.1.log) ++ x))
 unfolding voter_record
 voter_there bytes one x group r a small h same =
@@ -134,16 +136,18 @@ voter_there bytes one x group r a small h same =
 
 -- the state, and what stands behind it
 state_there : (bytes one state two x : List ℕ) (group : ℕ) (r : ℕ × State) → bytes ≡ number_text group ++ one → group < 2 ^ 64 → one ≡ state ++ two
-    → length state ≡ 42 → IsStorable r → bytes ≡ voter_record r ++ x
+    → length state ≡ 42 → IsStorableRecord r → bytes ≡ voter_record r ++ x
     → (state ≡ state_text (state_of r.1)) × (two ≡ number_text (length r.1.log) ++ (flat_map stored_entry (numbered (r.1.base_index + 1) r.1.log) ++ x))
 state_there bytes one state two x group r a small b long h same =
     split_same state (state_text (state_of r.1)) two _ 42 long (length-state_text (state_of r.1)) (sym b ∙ voter_there bytes one x group r a small h same)
 
 pub no_group : (bytes : List ℕ) → length bytes < 8 → HasNoVoterRecord bytes
-no_group bytes short = λ r x h same. omega (arith, length-record r x, ap length same)
+no_group bytes short = λ r x is. omega (arith, length-record r x, ap length is.text)
 
 pub no_state : (bytes one : List ℕ) (group : ℕ) → bytes ≡ number_text group ++ one → group < 2 ^ 64 → length one < 42 → HasNoVoterRecord bytes
-no_state bytes one group a small short = λ r x h same.
+no_state bytes one group a small short = λ r x begins.
+    let h = begins.storable in
+    let same = begins.text in
     let there = voter_there bytes one x group r a small h same in
     omega (
       arith,
@@ -154,13 +158,17 @@ no_state bytes one group a small short = λ r x h same.
 
 pub no_state_read : (bytes one state two : List ℕ) (group : ℕ) (given : StoredFault) → bytes ≡ number_text group ++ one → group < 2 ^ 64 → one ≡ state ++ two
     → length state ≡ 42 → StateFault given state → HasNoVoterRecord bytes
-no_state_read bytes one state two group given a small b long fault = λ r x h same.
+no_state_read bytes one state two group given a small b long fault = λ r x begins.
+    let h = begins.storable in
+    let same = begins.text in
     let there = state_there bytes one state two x group r a small b long h same in
-    state_no_fault given (state_of r.1) (state_in_range r.1 h.in_range) (subst (StateFault given) there.0 fault)
+    state_no_fault given (state_of r.1) (state_in_range r.1 h.voter.in_range) (subst (StateFault given) there.0 fault)
 
 pub no_count : (bytes one state two : List ℕ) (group : ℕ) → bytes ≡ number_text group ++ one → group < 2 ^ 64 → one ≡ state ++ two
     → length state ≡ 42 → length two < 8 → HasNoVoterRecord bytes
-no_count bytes one state two group a small b long short = λ r x h same.
+no_count bytes one state two group a small b long short = λ r x begins.
+    let h = begins.storable in
+    let same = begins.text in
     let there = state_there bytes one state two x group r a small b long h same in
     omega (
       arith,
@@ -169,23 +177,21 @@ no_count bytes one state two group a small b long short = λ r x h same.
       length-append (number_text (length r.1.log)) (flat_map stored_entry (numbered (r.1.base_index + 1) r.1.log) ++ x),
     )
 
-numbered_in_order : (i : ℕ) (es : List (ℕ × List ℕ)) → are_in_order i (numbered i es) ≡ true
-numbered_in_order i [] = refl
-numbered_in_order i (e ∷ es) = let others = numbered_in_order (i + 1) es in grind (arith, nat_tests)
-
 pub no_entries_read : (bytes one state two three : List ℕ) (group count : ℕ) (s : VoterState) → bytes ≡ number_text group ++ one → group < 2 ^ 64
     → one ≡ state ++ two → length state ≡ 42 → IsState state s → two ≡ number_text count ++ three → count < 2 ^ 64
     → HasNoEntries (s.base_index + 1) count three → HasNoVoterRecord bytes
-no_entries_read bytes one state two three group count s a small b long is c few none = λ r x h same.
+no_entries_read bytes one state two three group count s a small b long is c few none = λ r x begins.
+    let h = begins.storable in
+    let same = begins.text in
     let v = r.1 in
     let es = numbered (v.base_index + 1) v.log in
     let there = state_there bytes one state two x group r a small b long h same in
-    let counts = number_first count (length v.log) three (flat_map stored_entry es ++ x) few (omega (arith, h.end_fits)) (sym c ∙ there.1) in
+    let counts = number_first count (length v.log) three (flat_map stored_entry es ++ x) few (omega (arith, h.voter.end_fits)) (sym c ∙ there.1) in
     let P : List ℕ → Type 0 = λ bs. IsState bs s in
-    let base : s.base_index ≡ v.base_index = (state_read_back (state_of v) s (state_in_range v h.in_range) (subst P there.0 is)).2 in
-    let are : AreEntries (v.base_index + 1) es = record { fit = entries_in_range r h; ordered = numbered_in_order (v.base_index + 1) v.log } in
+    let base : s.base_index ≡ v.base_index = (state_read_back (state_of v) s (state_in_range v h.voter.in_range) (subst P there.0 is)).2 in
+    let are : AreEntries (v.base_index + 1) es = record { fit = entries_in_range v h.voter; ordered = numbered_in_order (v.base_index + 1) v.log } in
     let Q : ℕ → Type 0 = λ b. AreEntries (b + 1) es in
-    none es x (subst Q (sym base) are) (length-numbered (v.base_index + 1) v.log ∙ sym counts.0) counts.1
+    none es x (record { entries = subst Q (sym base) are; size = length-numbered (v.base_index + 1) v.log ∙ sym counts.0; text = counts.1 })
 
 -- Files.
 
@@ -196,19 +202,19 @@ AreLeft bytes left = (W : World) → StandsFor bytes W → (rs : List (ℕ × St
 pub all_left : (bytes : List ℕ) → AreLeft bytes bytes
 all_left bytes = λ W h. (h.records, h.storable, h.text)
 
-behind : (rs : List (ℕ × State)) (r : ℕ × State) (left rest : List ℕ) → AreStorable rs → left ≡ flat_map voter_record rs → IsStorable r → left ≡ voter_record r ++ rest
+behind : (rs : List (ℕ × State)) (r : ℕ × State) (left rest : List ℕ) → AreStorable rs → left ≡ flat_map voter_record rs → IsStorableRecord r → left ≡ voter_record r ++ rest
     → (ss : List (ℕ × State)) × AreStorable ss × (rest ≡ flat_map voter_record ss)
 behind [] r left rest h e fit f = absurd (omega (arith, length-record r rest, ap length e, ap length f))
 behind (s ∷ rs) r left rest h e fit f =
     let one = record_same s r (flat_map voter_record rs) rest h.0 fit (sym e ∙ f) in
     (rs, h.1, sym one.1)
 
-pub one_less : (bytes left rest : List ℕ) (r : ℕ × State) → AreLeft bytes left → IsStorable r → left ≡ voter_record r ++ rest → AreLeft bytes rest
-one_less bytes left rest r so_far fit f = λ W h. let there = so_far W h in behind there.0 r left rest there.1 there.2 fit f
+pub one_less : (bytes left rest : List ℕ) (r : ℕ × State) → AreLeft bytes left → BeginsWithRecord left r rest → AreLeft bytes rest
+one_less bytes left rest r so_far is = λ W h. let there = so_far W h in behind there.0 r left rest there.1 there.2 is.storable is.text
 
 none_behind : (rs : List (ℕ × State)) (left : List ℕ) → AreStorable rs → left ≡ flat_map voter_record rs → 0 < length left → HasNoVoterRecord left → ⊥
 none_behind [] left h e more none = omega (arith, ap length e)
-none_behind (r ∷ rs) left h e more none = none r (flat_map voter_record rs) h.0 e
+none_behind (r ∷ rs) left h e more none = none r (flat_map voter_record rs) (record { storable = h.0; text = e })
 
 pub nothing_held : (bytes left : List ℕ) → AreLeft bytes left → 0 < length left → HasNoVoterRecord left → StandsForNothing bytes
 nothing_held bytes left so_far more none = λ W h. let there = so_far W h in none_behind there.0 left there.1 there.2 more none

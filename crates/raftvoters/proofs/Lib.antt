@@ -3,6 +3,7 @@ pub mod Fronts
 pub mod Ranges
 pub mod Records
 pub mod Refusals
+pub mod Restored
 pub mod Steps
 pub mod Stops
 pub mod Worlds

@@ -11,10 +11,12 @@ use Rattle.raft_voter_messages.specs.declared.reply.Entry.{Entry}
 use Rattle.raft_voter_messages.specs.declared.reply.VoterState.{VoterState}
 use Rattle.raft_voter.specs.Rules.{numbered}
 use Rattle.raft_voter_messages.specs.Ranges.{entry_fits, fits}
+use Rattle.raft_voter.specs.InRange.{IsInRange, IsStorable}
 use Rattle.raft_voter.specs.State.{State, state_of}
 use Rattle.raft_voter.specs.Restoring.{are_in_order, restored}
 use Rattle.raft_voter_messages.specs.StoredForms.{IsEntry, IsState, entry_form_1, entry_text, number_text, state_fits, state_text, stored_entry_fits, vote_text}
-use Rattle.raftvoters.specs.Records.{AreEntries, AreStorable, IsInRange, IsStorable, voter_record, stored_entry, voter_bytes}
+use Rattle.raftvoters.specs.Beginnings.{BeginsWith, BeginsWithEntries, BeginsWithEntry, BeginsWithNumber, BeginsWithRecord}
+use Rattle.raftvoters.specs.Records.{AreEntries, AreStorable, IsStorableRecord, voter_record, stored_entry, voter_bytes}
 
 -- Entries.
 
@@ -33,6 +35,10 @@ unnumbered i (e ∷ es) = ap (λ more. e ∷ more) (unnumbered (i + 1) es)
 pub length-numbered : (i : ℕ) (es : List (ℕ × List ℕ)) → length (numbered i es) ≡ length es
 length-numbered i [] = refl
 length-numbered i (e ∷ es) = let more = length-numbered (i + 1) es in omega arith
+
+pub numbered_in_order : (i : ℕ) (es : List (ℕ × List ℕ)) → are_in_order i (numbered i es) ≡ true
+numbered_in_order i [] = refl
+numbered_in_order i (e ∷ es) = let others = numbered_in_order (i + 1) es in grind (arith, nat_tests)
 
 abbrev entry_with : ℕ → ℕ → List ℕ → Entry
 entry_with i t own = record { index = i; term = t; bytes = own }
@@ -79,32 +85,30 @@ state_with-same : (t t' : ℕ) (o o' : Option ℕ) (b b' u u' c c' : ℕ) (es fs
     → state_with t o b u c es ≡ state_with t' o' b' u' c' fs
 state_with-same t t' o o' b b' u u' c c' es fs p q r s w x = cc
 
-pub entries_in_range : (r : ℕ × State) → IsStorable r → list_all stored_entry_fits (numbered (r.1.base_index + 1) r.1.log) ≡ true
-entries_in_range r h = numbered_fit (r.1.base_index + 1) r.1.log h.in_range.log (omega (arith, h.end_fits))
+pub entries_in_range : (v : State) → IsStorable v → list_all stored_entry_fits (numbered (v.base_index + 1) v.log) ≡ true
+entries_in_range v h = numbered_fit (v.base_index + 1) v.log h.in_range.log (omega (arith, h.end_fits))
 
-voter_same : (r s : ℕ × State) (x y : List ℕ) → IsStorable r → IsStorable s → voter_bytes r.1 ++ x ≡ voter_bytes s.1 ++ y → (r.1 ≡ s.1) × (x ≡ y)
+voter_same : (v w : State) (x y : List ℕ) → IsStorable v → IsStorable w → voter_bytes v ++ x ≡ voter_bytes w ++ y → (v ≡ w) × (x ≡ y)
 unfolding voter_bytes
-voter_same r s x y hr hs same =
-    let v = r.1 in
-    let w = s.1 in
+voter_same v w x y hv hw same =
     let es = numbered (v.base_index + 1) v.log in
     let fs = numbered (w.base_index + 1) w.log in
     let left : (state_text (state_of v) ++ (number_text (length v.log) ++ flat_map stored_entry es)) ++ x ≡ state_text (state_of v) ++ (number_text (length v.log) ++ (flat_map stored_entry es ++ x)) = simp append_assoc in
     let right : (state_text (state_of w) ++ (number_text (length w.log) ++ flat_map stored_entry fs)) ++ y ≡ state_text (state_of w) ++ (number_text (length w.log) ++ (flat_map stored_entry fs ++ y)) = simp append_assoc in
     let grouped = sym left ∙ same ∙ right in
     let states = split_same (state_text (state_of v)) (state_text (state_of w)) (number_text (length v.log) ++ (flat_map stored_entry es ++ x)) (number_text (length w.log) ++ (flat_map stored_entry fs ++ y)) 42 (length-state_text (state_of v)) (length-state_text (state_of w)) grouped in
-    let known = state_form_2-same (state_of v) (state_of w) (state_in_range v hr.in_range) (state_in_range w hs.in_range) (ap (drop 1) states.0) in
-    let sizes = number_first (length v.log) (length w.log) (flat_map stored_entry es ++ x) (flat_map stored_entry fs ++ y) (omega (arith, hr.end_fits)) (omega (arith, hs.end_fits)) states.1 in
-    let entries = entries_same es fs x y (omega (arith, sizes.0, length-numbered (v.base_index + 1) v.log, length-numbered (w.base_index + 1) w.log)) (entries_in_range r hr) (entries_in_range s hs) sizes.1 in
+    let known = state_form_2-same (state_of v) (state_of w) (state_in_range v hv.in_range) (state_in_range w hw.in_range) (ap (drop 1) states.0) in
+    let sizes = number_first (length v.log) (length w.log) (flat_map stored_entry es ++ x) (flat_map stored_entry fs ++ y) (omega (arith, hv.end_fits)) (omega (arith, hw.end_fits)) states.1 in
+    let entries = entries_same es fs x y (omega (arith, sizes.0, length-numbered (v.base_index + 1) v.log, length-numbered (w.base_index + 1) w.log)) (entries_in_range v hv) (entries_in_range w hw) sizes.1 in
     let logs : v.log ≡ w.log = sym (unnumbered (v.base_index + 1) v.log) ∙ ap (map (λ e. (e.term, e.bytes))) entries.0 ∙ unnumbered (w.base_index + 1) w.log in
     (state_with-same _ _ _ _ _ _ _ _ _ _ _ _ known.0 known.1 known.2 known.3 known.4 logs, entries.1)
 
-pub record_same : (r s : ℕ × State) (x y : List ℕ) → IsStorable r → IsStorable s → voter_record r ++ x ≡ voter_record s ++ y → (r ≡ s) × (x ≡ y)
+pub record_same : (r s : ℕ × State) (x y : List ℕ) → IsStorableRecord r → IsStorableRecord s → voter_record r ++ x ≡ voter_record s ++ y → (r ≡ s) × (x ≡ y)
 unfolding voter_record
 record_same r s x y hr hs same =
     let grouped = sym (append_assoc (number_text r.0) (voter_bytes r.1) x) ∙ same ∙ append_assoc (number_text s.0) (voter_bytes s.1) y in
     let groups = number_first r.0 s.0 (voter_bytes r.1 ++ x) (voter_bytes s.1 ++ y) hr.group hs.group grouped in
-    let voters = voter_same r s x y hr hs groups.1 in
+    let voters = voter_same r.1 s.1 x y hr.voter hs.voter groups.1 in
     (ap (λ g. (g, r.1)) groups.0 ∙ ap (λ v. (s.0, v)) voters.0, voters.1)
 
 pub length-record : (r : ℕ × State) (x : List ℕ) → 8 ≤ length (voter_record r ++ x)
@@ -150,23 +154,36 @@ order_more i (f ∷ es) e h at =
     let facts : ((f.index == i) ≡ true) × (are_in_order (i + 1) es ≡ true) = grind (arith, nat_tests) in
     rw facts.0 (order_more (i + 1) es e facts.1 (omega arith))
 
-pub more_entries : (first : ℕ) (es : List Entry) (e : Entry) → AreEntries first es → e.index ≡ first + length es → stored_entry_fits e ≡ true → AreEntries first (es ++ e ∷ [])
+more_entries : (first : ℕ) (es : List Entry) (e : Entry) → AreEntries first es → e.index ≡ first + length es → stored_entry_fits e ≡ true → AreEntries first (es ++ e ∷ [])
 more_entries first es e h at fit = record {
   fit = list_all-append stored_entry_fits es (e ∷ []) ∙ rw (h.fit, fit) refl;
   ordered = order_more first es e h.ordered at;
 }
 
-pub more_text : (bytes left rest : List ℕ) (es : List Entry) (e : Entry) → bytes ≡ flat_map stored_entry es ++ left → left ≡ stored_entry e ++ rest → bytes ≡ flat_map stored_entry (es ++ e ∷ []) ++ rest
+more_text : (bytes left rest : List ℕ) (es : List Entry) (e : Entry) → bytes ≡ flat_map stored_entry es ++ left → left ≡ stored_entry e ++ rest → bytes ≡ flat_map stored_entry (es ++ e ∷ []) ++ rest
 more_text bytes left rest es e text one =
     rw (text, one) (sym (append_assoc (flat_map stored_entry es) (stored_entry e) rest)
     ∙ ap (λ bs. bs ++ rest) (ap (λ bs. flat_map stored_entry es ++ bs) (sym (append-nil (stored_entry e))) ∙ sym (flat_map-append stored_entry es (e ∷ []))))
 
-pub one_entry : (bytes behind own rest : List ℕ) (size index : ℕ) (e : Entry) → bytes ≡ number_text size ++ behind → length own ≡ size → behind ≡ own ++ rest → IsEntry own index e → bytes ≡ stored_entry e ++ rest
+-- one more entry is read behind others
+pub one_more : (bytes left rest : List ℕ) (first count : ℕ) (es : List Entry) (e : Entry) → BeginsWithEntries bytes first count es left
+    → BeginsWithEntry left (first + count) e rest → BeginsWithEntries bytes first (count + 1) (es ++ e ∷ []) rest
+one_more bytes left rest first count es e h k = record {
+  entries = more_entries first es e h.entries (omega (arith, k.at_index, h.size)) k.in_range;
+  size = omega (arith, h.size, length-append es (e ∷ []));
+  text = more_text bytes left rest es e h.text k.text;
+}
+
+pub one_entry : (bytes behind own rest : List ℕ) (size index : ℕ) (e : Entry) → BeginsWithNumber bytes size behind → BeginsWith behind size own rest → IsEntry own index e
+    → BeginsWithEntry bytes index e rest
 unfolding stored_entry
-one_entry bytes behind own rest size index e text long split is =
-    let sized : size ≡ length e.bytes + 17 = omega (arith, long, ap length is.text, length-entry_text e) in
-    text ∙ ap (λ bs. number_text size ++ bs) split ∙ ap (λ n. number_text n ++ (own ++ rest)) sized ∙ ap (λ bs. number_text (length e.bytes + 17) ++ (bs ++ rest)) is.text
-    ∙ sym (append_assoc (number_text (length e.bytes + 17)) (entry_text e) rest)
+one_entry bytes behind own rest size index e number split is =
+    let sized : size ≡ length e.bytes + 17 = omega (arith, split.size, ap length is.text, length-entry_text e) in record {
+      at_index = is.at_index;
+      in_range = is.in_range;
+      text = number.text ∙ ap (λ bs. number_text size ++ bs) split.text ∙ ap (λ n. number_text n ++ (own ++ rest)) sized ∙ ap (λ bs. number_text (length e.bytes + 17) ++ (bs ++ rest)) is.text
+          ∙ sym (append_assoc (number_text (length e.bytes + 17)) (entry_text e) rest);
+    }
 
 -- a state of form 2 is read as it was written
 as_written : (bytes : List ℕ) (s : VoterState) → length bytes ≡ 42 → IsState bytes s → bytes ≡ state_text s
@@ -178,11 +195,12 @@ as_written (form ∷ body) s wide (inr (second, same), bare) = ap (λ f. f ∷ b
 regroup : (g s n e r : List ℕ) → g ++ (s ++ (n ++ (e ++ r))) ≡ (g ++ (s ++ (n ++ e))) ++ r
 regroup g s n e r = simp append_assoc
 
-pub record_read : (bytes one state two three rest : List ℕ) (group count : ℕ) (s : VoterState) (es : List Entry) (v : State) → group < 2 ^ 64
-    → bytes ≡ number_text group ++ one → one ≡ state ++ two → length state ≡ 42 → IsState state s → two ≡ number_text count ++ three → AreEntries (s.base_index + 1) es
-    → length es ≡ count → three ≡ flat_map stored_entry es ++ rest → restored s es ≡ Ok v → IsStorable (group, v) × (bytes ≡ voter_record (group, v) ++ rest)
+pub record_read : (bytes one state two three rest : List ℕ) (group count : ℕ) (s : VoterState) (es : List Entry) (v : State)
+    → BeginsWithNumber bytes group one → BeginsWith one 42 state two → IsState state s → BeginsWithNumber two count three → BeginsWithEntries three (s.base_index + 1) count es rest
+    → restored s es ≡ Ok v → BeginsWithRecord bytes (group, v) rest
 unfolding voter_record voter_bytes
-record_read bytes one state two three rest group count s es v small a b wide is c entries long d made =
+record_read bytes one state two three rest group count s es v a b is c d made =
+    let entries = d.entries in
     let fit = is.1.in_range in
     let built = state_with s.term s.vote s.base_index s.base_term s.commit (map (λ e. (e.term, e.bytes)) es) in
     let same : v ≡ built = let e = restored_ok s es fit entries.fit entries.ordered in cc in
@@ -190,13 +208,15 @@ record_read bytes one state two three rest group count s es v small a b wide is 
     let base : s.base_index < 2 ^ 63 = let own : fits s.base_index ≡ true = facts.1 in grind (arith, nat_tests) in
     let ends = last_in_range es s.base_index entries.fit entries.ordered base in
     let sized : length {A = ℕ × List ℕ} (map (λ e. (e.term, e.bytes)) es) ≡ length es = grind (arith, common_steps) in
-    let storable : IsStorable (group, built) = record {
-      group = small;
-      in_range = record { term = facts.0; vote = vote_in_range s fit; base_index = facts.1; base_term = facts.2; commit = facts.3; committed = facts.4; log = unnumbered_fit es entries.fit };
-      end_fits = omega (arith, sized, ends);
+    let storable : IsStorableRecord (group, built) = record {
+      group = a.small;
+      voter = record {
+        in_range = record { term = facts.0; vote = vote_in_range s fit; base_index = facts.1; base_term = facts.2; commit = facts.3; committed = facts.4; log = unnumbered_fit es entries.fit };
+        end_fits = omega (arith, sized, ends);
+      };
     } in
-    let P : State → Type 0 = λ w. IsStorable (group, w) × (bytes ≡ voter_record (group, w) ++ rest) in
+    let P : State → Type 0 = λ w. BeginsWithRecord bytes (group, w) rest in
     let text : bytes ≡ voter_record (group, built) ++ rest =
-    rw (in_order (s.base_index + 1) es entries.ordered, sized, long) (a ∙ ap (λ bs. number_text group ++ bs) (b ∙ ap (λ bs. bs ++ two) (as_written state s wide is) ∙ ap (λ bs. state_text s ++ bs) (c ∙ ap (λ bs. number_text count ++ bs) d))
+    rw (in_order (s.base_index + 1) es entries.ordered, sized, d.size) (a.text ∙ ap (λ bs. number_text group ++ bs) (b.text ∙ ap (λ bs. bs ++ two) (as_written state s b.size is) ∙ ap (λ bs. state_text s ++ bs) (c.text ∙ ap (λ bs. number_text count ++ bs) d.text))
     ∙ regroup (number_text group) (state_text s) (number_text count) (flat_map stored_entry es) rest) in
-    subst P (sym same) (storable, text)
+    subst P (sym same) (record { storable = storable; text = text })

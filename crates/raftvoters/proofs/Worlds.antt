@@ -5,10 +5,12 @@ use Rattle.raft_voter_messages.specs.declared.reply.Reply.{Reply}
 use Rattle.raft_voter_messages.specs.declared.request.Request.{Request}
 use Rattle.raft_voter.specs.Rounds.{World, fresh_world, after, after_one, put}
 use Rattle.raft_voter.specs.Rules.{next, reply}
+use Rattle.raft_voter.specs.InRange.{AllInRange, IsInRange}
 use Rattle.raft_voter.specs.State.{State}
 use Rattle.raftvoters.specs.declared.store.PlainVoters.{PlainVoters}
+use Rattle.raftvoters.specs.Beginnings.{BeginsWithRecord}
 use Rattle.raftvoters.specs.Content.{Content, whole}
-use Rattle.raftvoters.specs.Records.{AllInRange, AreStorable, StandsFor, IsInRange, IsStorable, LeadTo, may_change, voter_record, with_records}
+use Rattle.raftvoters.specs.Records.{AreStorable, StandsFor, IsStorableRecord, LeadTo, may_change, voter_record, with_records}
 use Rattle.raftvoters.specs.Service.{LeavesAlone}
 use Rattle.raftvoters.specs.Store.{HoldsVoters, IsAmidst, IsStored, Takes, TakesAll, replies_in_turn, world_of}
 use Rattle.raftvoters.proofs.Ranges.{fresh_in_range, put_in_range, put_there, stays, taken_in_range}
@@ -35,12 +37,12 @@ joins U V W a b h k = record {
 pub no_records : (W : World) → LeadTo W [] W
 no_records W = record { records = []; storable = tt; text = refl; world = refl }
 
-pub one_record : (W : World) (r : ℕ × State) → IsStorable r → LeadTo W (voter_record r) (put W r.0 r.1)
+pub one_record : (W : World) (r : ℕ × State) → IsStorableRecord r → LeadTo W (voter_record r) (put W r.0 r.1)
 one_record W r h = record { records = r ∷ []; storable = (h, tt); text = sym (append-nil (voter_record r)); world = refl }
 
 kept_in_range : (W : World) (rs : List (ℕ × State)) → AllInRange W → AreStorable rs → AllInRange (with_records W rs)
 kept_in_range W [] all h = all
-kept_in_range W (r ∷ rs) all h = kept_in_range (put W r.0 r.1) rs (put_in_range W r.0 r.1 all h.0.in_range) h.1
+kept_in_range W (r ∷ rs) all h = kept_in_range (put W r.0 r.1) rs (put_in_range W r.0 r.1 all h.0.voter.in_range) h.1
 
 -- what a file holds is in range
 pub held_in_range : (bytes : List ℕ) (W : World) → StandsFor bytes W → AllInRange W
@@ -58,7 +60,7 @@ one_written W X Y group q bytes now more taken small fit text all range h =
     let inside : IsInRange (Y group) = let P : World → Type 0 = λ Z. IsInRange (Z group) in subst P (sym taken) (taken_in_range X (group, q) range group) in
     let changed : put X group (Y group) ≡ Y = ap (put X group) there ∙ sym taken in
     let P : List ℕ → Type 0 = λ bs. LeadTo W bs Y in
-    let one = one_record X (group, Y group) (record { group = small; in_range = inside; end_fits = fit }) in
+    let one = one_record X (group, Y group) (record { group = small; voter = record { in_range = inside; end_fits = fit } }) in
     subst P (sym (all ∙ ap (λ m. bytes ++ m) text)) (joins W X Y bytes (voter_record (group, Y group)) h (same_end X (put X group (Y group)) Y (voter_record (group, Y group)) (sym changed) one))
 
 pub one_world : (bytes : List ℕ) (V W : World) → StandsFor bytes V → StandsFor bytes W → V ≡ W
@@ -136,11 +138,11 @@ all_stored old taken new asked told took same synced settled stored =
 abbrev pub IsReadTo : List ℕ → World → List ℕ → Type 0
 IsReadTo bytes W left = (X : World) → LeadTo W left X → StandsFor bytes X
 
-pub read_on : (bytes left rest : List ℕ) (W Y : World) (r : ℕ × State) → IsReadTo bytes W left → IsStorable r → left ≡ voter_record r ++ rest → Y ≡ put W r.0 r.1 → IsReadTo bytes Y rest
-read_on bytes left rest W Y r so_far fit text e = λ X more.
+pub read_on : (bytes left rest : List ℕ) (W Y : World) (r : ℕ × State) → IsReadTo bytes W left → BeginsWithRecord left r rest → Y ≡ put W r.0 r.1 → IsReadTo bytes Y rest
+read_on bytes left rest W Y r so_far is e = λ X more.
     let P : World → Type 0 = λ Z. LeadTo Z rest X in
     let Q : List ℕ → Type 0 = λ bs. LeadTo W bs X in
-    so_far X (subst Q (sym text) (joins W (put W r.0 r.1) X (voter_record r) rest (one_record W r fit) (subst P e more)))
+    so_far X (subst Q (sym is.text) (joins W (put W r.0 r.1) X (voter_record r) rest (one_record W r is.storable) (subst P e more)))
 
 pub read_all : (bytes left : List ℕ) (W : World) → IsReadTo bytes W left → length left ≡ 0 → StandsFor bytes W
 read_all bytes [] W so_far e = so_far W (no_records W)

@@ -1,6 +1,8 @@
 pub mod Content
 pub mod Records
+pub mod Beginnings
 pub mod Damage
+pub mod Laws
 pub mod Service
 pub mod Store
 pub mod Storage

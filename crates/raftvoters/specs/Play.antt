@@ -11,9 +11,9 @@ use Rattle.raftvoters.specs.Content.{Content, after_crash, whole}
 use Rattle.raftvoters.specs.Records.{StandsFor}
 use Rattle.raftvoters.specs.Storage.{HasCause, IsAt, Served, Serves, cuts_of, file_of, is_open}
 
--- Each round of a session is in the transcript, with its requests, in order. One is cut off only where no store is
--- open, or where it is too long, and only requests out of range are refused. `begun` says whether a store is open at
--- first.
+-- Each round of a session is in the transcript, with its requests, in order. One is cut off only where no
+-- store is open, or where it is too long, and only requests out of range are refused. `begun` says whether a
+-- store is open at first.
 abbrev pub AreRoundsOf : List Event → Bool → List RoundRecord → Type 0
 AreRoundsOf [] begun [] = Unit {0}
 AreRoundsOf [] begun (round ∷ rounds) = ⊥
@@ -24,16 +24,16 @@ AreRoundsOf (Round requests ∷ events) begun [] = ⊥
 AreRoundsOf (Round requests ∷ events) begun (round ∷ rounds) =
     (round.requests ≡ requests) × HasCause begun round round.outcome × AreRoundsOf events begun rounds
 
--- what an event other than a round makes of the storage: an open or a close leaves the file as it is, a crash what was
--- synced
+-- what an event other than a round makes of the storage: an open or a close leaves the file as it is, a crash
+-- what was synced
 abbrev pub Moves : Event → Storage → Storage → Type 0
 Moves (Open workers) old new = (is_open new ≡ true) × (file_of new ≡ file_of old)
 Moves Close old new = new ≡ Closed (file_of old)
 Moves CrashLast old new = new ≡ Closed (after_crash (file_of old))
 Moves (Round requests) old new = ⊥
 
--- These events, one after another, lead a storage with these voters through these rounds. Whatever event it comes after,
--- a crash leaves just the voters that the rounds so far have made.
+-- These events, one after another, lead a storage with these voters through these rounds. Whatever event it
+-- comes after, a crash leaves just the voters that the rounds so far have made.
 abbrev pub Happens : List Event → Storage → World → List RoundRecord → Type 0
 Happens [] old W rounds = rounds ≡ []
 Happens (Round requests ∷ events) old W rounds =
@@ -67,10 +67,12 @@ pub record Sure (storage : Storage) (rounds : List RoundRecord) (cuts : List ℕ
       (rs : List RoundRecord) (cs : List ℕ) → ExplainsFrom world rs cs → Explains (rounds ++ rs) (cuts ++ cs)
 
 -- of a session's events these are left, and the others are in the transcript
-pub record IsUnderWay (events left : List Event) (storage : Storage) (rounds : List RoundRecord) (cuts : List ℕ)
-    : Type 0 where
+pub record IsUnderWay (events left : List Event) (storage : Storage) (rounds : List RoundRecord)
+    (cuts : List ℕ) : Type 0 where
   pub sure : Sure storage rounds cuts
   pub none_taken : cuts ≡ cuts_in rounds
   pub of_session :
-      (rs : List RoundRecord) → AreRoundsOf left (is_open storage) rs → AreRoundsOf events false (rounds ++ rs)
-  pub happened : (rs : List RoundRecord) → Happens left storage sure.world rs → IsSession events (rounds ++ rs)
+      (rs : List RoundRecord) → AreRoundsOf left (is_open storage) rs
+      → AreRoundsOf events false (rounds ++ rs)
+  pub happened :
+      (rs : List RoundRecord) → Happens left storage sure.world rs → IsSession events (rounds ++ rs)

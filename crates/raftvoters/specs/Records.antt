@@ -1,8 +1,7 @@
 -- The records of a file, and the voters that they mean.
-use Rattle.std.specs.Prelude.{◌≡◌, ℕ, ◌+◌, ◌<◌, ◌≤◌, ◌^◌, Bool, true, false, List, [], ◌∷◌, ◌++◌, length, unwrap_or}
+use Rattle.std.specs.Prelude.{◌≡◌, ℕ, ◌+◌, ◌<◌, ◌^◌, Bool, true, false, List, [], ◌∷◌, ◌++◌, length, unwrap_or}
 use Rattle.std.specs.BTreeMap.{get}
 use Rattle.std.specs.List.{flat_map, list_all}
-use Rattle.std.specs.Option.{option_map_or}
 use Rattle.std.specs.Ordering.{nat_cmp}
 use Rattle.std.specs.declared.alloc.Global.{Global}
 use Rattle.std.specs.declared.collections.BTreeMap.{BTreeMap}
@@ -11,8 +10,9 @@ use Rattle.raft_voter_messages.specs.declared.request.Request.{Request}
 use Rattle.raft_voter_messages.specs.declared.request.Request.TheVariants.{Read, Status}
 use Rattle.raft_voter.specs.Rounds.{World, fresh_world, put}
 use Rattle.raft_voter.specs.Rules.{numbered}
-use Rattle.raft_voter_messages.specs.Ranges.{entry_fits, fits, in_range}
+use Rattle.raft_voter_messages.specs.Ranges.{in_range}
 use Rattle.raft_voter.specs.State.{State, fresh, state_of}
+use Rattle.raft_voter.specs.InRange.{IsStorable}
 use Rattle.raft_voter.specs.Restoring.{are_in_order}
 use Rattle.raft_voter_messages.specs.StoredForms.{entry_text, number_text, state_text, stored_entry_fits}
 
@@ -22,9 +22,17 @@ use Rattle.raft_voter_messages.specs.StoredForms.{entry_text, number_text, state
 unfoldable pub stored_entry : Entry → List ℕ
 stored_entry e = number_text (length e.bytes + 17) ++ entry_text e
 
+-- an entry of a log, where it stands at this index
+abbrev pub stored_at : ℕ → ℕ × List ℕ → List ℕ
+stored_at index e = stored_entry (record { index = index; term = e.0; bytes = e.1 })
+
+-- the entries of a log, the first at this index
+abbrev pub log_bytes : ℕ → List (ℕ × List ℕ) → List ℕ
+log_bytes first log = flat_map stored_entry (numbered first log)
+
 -- A voter as it is stored: its state, the number of its entries, and each entry.
 unfoldable pub voter_bytes : State → List ℕ
-voter_bytes v = state_text (state_of v) ++ (number_text (length v.log) ++ flat_map stored_entry (numbered (v.base_index + 1) v.log))
+voter_bytes v = state_text (state_of v) ++ (number_text (length v.log) ++ log_bytes (v.base_index + 1) v.log)
 
 -- a record: the group, and its voter
 unfoldable pub voter_record : ℕ × State → List ℕ
@@ -36,31 +44,21 @@ voter_record r = number_text r.0 ++ voter_bytes r.1
 abbrev pub world_in : BTreeMap ℕ State Global → World
 world_in voters = λ group. unwrap_or (get nat_cmp voters group) fresh
 
--- the numbers of a voter are those that requests may bring
-pub record IsInRange (v : State) : Type 0 where
-  pub term : fits v.term ≡ true
-  pub vote : option_map_or fits v.vote true ≡ true
-  pub base_index : fits v.base_index ≡ true
-  pub base_term : fits v.base_term ≡ true
-  pub commit : fits v.commit ≡ true
-  pub committed : v.base_index ≤ v.commit
-  pub log : list_all entry_fits v.log ≡ true
-
 -- a request that may change its voter
 abbrev pub may_change : Request → Bool
 may_change (Read from to) = false
 may_change Status = false
 may_change request = in_range request
 
--- a record can be stored: its group and its voter's numbers are in range
-pub record IsStorable (r : ℕ × State) : Type 0 where
+-- a record can be stored: its group has eight bytes, and its voter can be stored
+pub record IsStorableRecord (r : ℕ × State) : Type 0 where
   pub group : r.0 < 2 ^ 64
-  pub in_range : IsInRange r.1
-  pub end_fits : r.1.base_index + length r.1.log < 2 ^ 63
+  pub voter : IsStorable r.1
 
+-- so can each of these
 abbrev pub AreStorable : List (ℕ × State) → Type 0
 AreStorable [] = Unit {0}
-AreStorable (r ∷ records) = IsStorable r × AreStorable records
+AreStorable (r ∷ records) = IsStorableRecord r × AreStorable records
 
 -- the voters of a world once these records follow: the last record of a group is its voter
 abbrev pub with_records : World → List (ℕ × State) → World
@@ -77,10 +75,6 @@ pub record LeadTo (W : World) (bytes : List ℕ) (X : World) : Type 0 where
 -- A file's bytes hold these voters: they are records, and the last of each group is its voter.
 abbrev pub StandsFor : List ℕ → World → Type 0
 StandsFor bytes W = LeadTo fresh_world bytes W
-
--- every voter's numbers are in range
-abbrev pub AllInRange : World → Type 0
-AllInRange W = (group : ℕ) → IsInRange (W group)
 
 -- stored entries in range, the first at this index
 pub record AreEntries (first : ℕ) (entries : List Entry) : Type 0 where

@@ -37,16 +37,18 @@ MayWrite input text status = Tells (session_of input) text status
 abbrev pub refused_text : List ℕ
 refused_text = codes "arguments refused\n"
 
--- what the program may write: with arguments that they are refused, and nothing is read; else what its session says
+-- what the program may write: with arguments that they are refused, and nothing is read; else what its
+-- session says
 abbrev pub MayEnd : Bool → List ℕ → List ℕ → ℕ → Type 0
 MayEnd true input text status = (text ≡ refused_text) × (status ≡ 2)
 MayEnd false input text status = MayWrite input text status
 
--- The program stopped before its end, and claims no verdict: it wrote nothing, or the front of what it may write, and not
--- all of it.
+-- The program stopped before its end, and claims no verdict: it wrote nothing, or the front of what it may
+-- write, and not all of it.
 abbrev pub EndsEarly : Bool → List ℕ → Option (List ℕ) → Option (List ℕ) → Type 0
 EndsEarly given input old new =
-    Keeps old new ⊎ ((text : List ℕ) × (status : ℕ) × MayEnd given input text status × StopsWithin old new text)
+    Keeps old new
+    ⊎ ((text : List ℕ) × (status : ℕ) × MayEnd given input text status × StopsWithin old new text)
 
 -- The program came to its end: it wrote what it may write, all of it.
 abbrev pub Ends : Bool → List ℕ → Option (List ℕ) → Option (List ℕ) → ℕ → Type 0

@@ -25,9 +25,10 @@ out_of_range place [] = []
 out_of_range place (q ∷ qs) =
     if in_range q.1 then out_of_range (place + 1) qs else place ∷ out_of_range (place + 1) qs
 
--- A round is answered: each group's voter took its requests, in order, but for those that were refused, and the
--- replies are theirs.
-pub record Answers (W : World) (requests : List (ℕ × Request)) (replies : List Reply) (X : World) : Type 0 where
+-- A round is answered: each group's voter took its requests, in order, but for those that were refused, and
+-- the replies are theirs.
+pub record Answers (W : World) (requests : List (ℕ × Request)) (replies : List Reply) (X : World)
+    : Type 0 where
   pub short : length requests ≤ 4096
   pub rising : IsTrue (are_rising 0 (length requests) (refused_from 0 replies))
   pub told : replies ≡ replies_from 0 (refused_from 0 replies) W requests
@@ -46,22 +47,24 @@ pub record TookFront (W : World) (requests : List (ℕ × Request)) (refused : L
   pub within : place ≤ length requests
   pub taken : X ≡ after W (taken_from 0 place refused requests)
 
--- The file system failed: the voters took the requests below one place, and what a crash leaves took those below one
--- place too, perhaps another.
-pub record TookSome (refused : List ℕ) (requests : List (ℕ × Request)) (W : World) (left : World → Type 0) (X : World)
-    (left_now : World → Type 0) : Type 0 where
+-- The file system failed: the voters took the requests below one place, and what a crash leaves took those
+-- below one place too, perhaps another.
+pub record TookSome (refused : List ℕ) (requests : List (ℕ × Request)) (W : World) (left : World → Type 0)
+    (X : World) (left_now : World → Type 0) : Type 0 where
   pub rising : IsTrue (are_rising 0 (length requests) refused)
   pub taken : TookFront W requests refused X
   pub kept : LeavesAlone left W → (Y : World) → left_now Y → TookFront W requests refused Y
 
 -- nothing was taken, and a crash leaves what it left before
-pub record TookNone (refused : List ℕ) (W : World) (left : World → Type 0) (X : World) (left_now : World → Type 0) : Type 0 where
+pub record TookNone (refused : List ℕ) (W : World) (left : World → Type 0) (X : World)
+    (left_now : World → Type 0) : Type 0 where
   pub none : refused ≡ []
   pub same : X ≡ W
   pub kept : (Y : World) → left_now Y → left Y
 
 -- what a round that is cut off for this cause makes of the voters and of what a crash leaves
-abbrev pub CutsOff : Cause → List ℕ → List (ℕ × Request) → World → (World → Type 0) → World → (World → Type 0) → Type 0
+abbrev pub CutsOff :
+    Cause → List ℕ → List (ℕ × Request) → World → (World → Type 0) → World → (World → Type 0) → Type 0
 CutsOff FileSystem refused requests W left X left_now = TookSome refused requests W left X left_now
 CutsOff _ refused requests W left X left_now = TookNone refused W left X left_now
 
@@ -70,8 +73,8 @@ abbrev pub TakesNothing : Cause → Type 0
 TakesNothing FileSystem = ⊥
 TakesNothing _ = Unit {0}
 
--- When a round of so many requests is cut off for this cause, of a service that had failed before or not, and has failed
--- now or not.
+-- When a round of so many requests is cut off for this cause, of a service that had failed before or not, and
+-- has failed now or not.
 abbrev pub FailsAs : Cause → ℕ → Bool → Bool → Type 0
 FailsAs TooLong count before now = (4096 < count) × (now ≡ before)
 FailsAs Failed count before now = (count ≤ 4096) × (before ≡ true) × (now ≡ true)

@@ -20,7 +20,10 @@ impl Model for PlainFile {
 
     ghost Value = { Content };
 
-    ghost view = { λ f. record { synced = take f.synced f.bytes.items; unsynced = drop f.synced f.bytes.items } };
+    ghost view = { λ f. record {
+      synced = take f.synced f.bytes.items;
+      unsynced = drop f.synced f.bytes.items;
+    } };
 
     ghost invariant = { λ f. f.synced ≤ length f.bytes.items };
 }

@@ -10,7 +10,8 @@ use raft_voter_session::Event;
 use std::alloc::Global;
 use std::collections::VecDeque;
 
-/// The transcript of a session over an empty file, and the place up to which each round that was cut off was taken.
+/// The transcript of a session over an empty file, and the place up to which each round that was cut off was
+/// taken.
 pub fn play(
     alloc: Global,
     mut events: VecDeque<Event>,

@@ -1,10 +1,10 @@
 //! The records of the plain file: a group and its voter.
-ghost use Rattle.std.specs.Prelude.{◌≡◌, ℕ, true, ◌+◌, ◌^◌, ◌<◌, ◌++◌, length, IfOk, IfErr, OnOk};
-ghost use Rattle.std.specs.List.{flat_map};
-ghost use Rattle.raft_voter_messages.specs.StoredForms.{number_text, stored_entry_fits};
-ghost use Rattle.raft_voter.specs.Rules.{numbered};
+ghost use Rattle.std.specs.Prelude.{◌≡◌, ◌+◌, ◌^◌, ◌<◌, ◌++◌, length, IfOk, IfErr, OnOk};
+ghost use Rattle.raft_voter_messages.specs.StoredForms.{number_text};
+ghost use Rattle.raftvoters.specs.declared.record.OpenFault.TheVariants.{Damaged};
 ghost use Rattle.raftvoters.specs.Damage.{HasNoEntries, HasNoEntry, HasNoVoterRecord, TellsDamage};
-ghost use Rattle.raftvoters.specs.Records.{AreEntries, IsStorable, voter_record, stored_entry, voter_bytes};
+ghost use Rattle.raftvoters.specs.Records.{log_bytes, stored_at, voter_record};
+ghost use Rattle.raftvoters.specs.Beginnings.{BeginsWith, BeginsWithEntries, BeginsWithEntry, BeginsWithNumber, BeginsWithRecord};
 
 use raft_voter::{Entry, Items, Memory, StoredFault, Voter, read_entry, read_state, state_bytes};
 use std::alloc::{AllocError, Global};
@@ -82,7 +82,7 @@ pub fn voter_record(alloc: Global, group: u64, voter: &Voter) -> Result<Vec<u8>,
 /// Adds the stored entries of a log of which the first stands at this index.
 fn put_entries(bytes: &mut Vec<u8>, first: u64, log: &[(u64, Items<u8>)]) -> Result<(), Memory>
     requires { first + length log.now < 2 ^ 64 }
-    ensures { OnOk result (bytes.new.items ≡ bytes.old.items ++ flat_map stored_entry (numbered first log.now)) }
+    ensures { OnOk result (bytes.new.items ≡ bytes.old.items ++ log_bytes first log.now) }
 {
     let mut index = first;
     for (term, own) in log {
@@ -95,7 +95,7 @@ fn put_entries(bytes: &mut Vec<u8>, first: u64, log: &[(u64, Items<u8>)]) -> Res
 /// Adds a stored entry.
 #[tactic(auto, unfolding(crate::specs::Records::stored_entry))]
 fn put_entry(bytes: &mut Vec<u8>, index: u64, term: u64, own: &[u8]) -> Result<(), Memory>
-    ensures { OnOk result (bytes.new.items ≡ bytes.old.items ++ stored_entry (record { index = index; term = term; bytes = own.now })) }
+    ensures { OnOk result (bytes.new.items ≡ bytes.old.items ++ stored_at index (term, own.now)) }
 {
     put_number(bytes, (own.len() + ENTRY_HEAD_BYTES) as u64)?;
     bytes.push(ENTRY_FORM)?;
@@ -123,7 +123,7 @@ fn put_bytes(bytes: &mut Vec<u8>, more: &[u8]) -> Result<(), Memory>
 
 /// The first record of these bytes, and what follows it. Damage is told only where no record comes first.
 pub fn read_voter_record(alloc: Global, bytes: &[u8]) -> Result<(u64, Voter, &[u8]), OpenFault>
-    ensures ok { IfOk result (λ found. IsStorable (found.0, found.1) × (bytes.now ≡ voter_record (found.0, found.1) ++ found.2.now)) }
+    ensures ok { IfOk result (λ found. BeginsWithRecord bytes.now (found.0, found.1) found.2.now) }
     ensures err { IfErr result (TellsDamage (HasNoVoterRecord bytes.now)) }
 {
     let (group, rest) = split_number(bytes)?;
@@ -135,8 +135,8 @@ pub fn read_voter_record(alloc: Global, bytes: &[u8]) -> Result<(u64, Voter, &[u
     Ok((group, voter, rest))
 }
 
-/// So many stored entries, the first right above the base, and what follows them. Damage is told only where they don't
-/// come first.
+/// So many stored entries, the first right above the base, and what follows them. Damage is told only where
+/// they don't come first.
 fn read_entries(
     alloc: Global,
     base: u64,
@@ -144,8 +144,7 @@ fn read_entries(
     bytes: &[u8],
 ) -> Result<(Items<Entry>, &[u8]), OpenFault>
     requires { base < 2 ^ 63 }
-    ensures ok { IfOk result (λ found. AreEntries (base + 1) found.0
-        × (length found.0 ≡ count) × (bytes.now ≡ flat_map stored_entry found.0 ++ found.1.now)) }
+    ensures ok { IfOk result (λ found. BeginsWithEntries bytes.now (base + 1) count found.0 found.1.now) }
     ensures err { IfErr result (TellsDamage (HasNoEntries (base + 1) count bytes.now)) }
 {
     let mut entries = Items::new(alloc);
@@ -161,7 +160,7 @@ fn read_entries(
 /// The stored entry at this index, and what follows it. Damage is told only where it doesn't come first.
 #[tactic(auto, unfolding(crate::specs::Records::stored_entry))]
 fn read_one(alloc: Global, index: u64, bytes: &[u8]) -> Result<(Entry, &[u8]), OpenFault>
-    ensures ok { IfOk result (λ found. (found.0.index ≡ index) × (stored_entry_fits found.0 ≡ true) × (bytes.now ≡ stored_entry found.0 ++ found.1.now)) }
+    ensures ok { IfOk result (λ found. BeginsWithEntry bytes.now index found.0 found.1.now) }
     ensures err { IfErr result (TellsDamage (HasNoEntry index bytes.now)) }
 {
     let (size, rest) = split_number(bytes)?;
@@ -172,8 +171,8 @@ fn read_one(alloc: Global, index: u64, bytes: &[u8]) -> Result<(Entry, &[u8]), O
 
 /// The number of eight bytes that comes first, and what follows it.
 fn split_number(bytes: &[u8]) -> Result<(u64, &[u8]), OpenFault>
-    ensures ok { IfOk result (λ found. (found.0 < 2 ^ 64) × (bytes.now ≡ number_text found.0 ++ found.1.now)) }
-    ensures err { IfErr result (λ _. length bytes.now < 8) }
+    ensures ok { IfOk result (λ found. BeginsWithNumber bytes.now found.0 found.1.now) }
+    ensures err { IfErr result (λ fault. (fault ≡ Damaged) × (length bytes.now < 8)) }
 {
     if bytes.len() < 8 {
         return Err(OpenFault::Damaged);
@@ -187,8 +186,8 @@ fn split_number(bytes: &[u8]) -> Result<(u64, &[u8]), OpenFault>
 
 /// So many bytes, and what follows them.
 fn split(bytes: &[u8], count: usize) -> Result<(&[u8], &[u8]), OpenFault>
-    ensures ok { IfOk result (λ found. (length found.0.now ≡ count) × (bytes.now ≡ found.0.now ++ found.1.now)) }
-    ensures err { IfErr result (λ _. length bytes.now < count) }
+    ensures ok { IfOk result (λ found. BeginsWith bytes.now count found.0.now found.1.now) }
+    ensures err { IfErr result (λ fault. (fault ≡ Damaged) × (length bytes.now < count)) }
 {
     if bytes.len() < count {
         return Err(OpenFault::Damaged);

@@ -21,7 +21,8 @@ const ARGUMENTS_REFUSED: u8 = 2;
 /// The status where memory, reading or writing was refused.
 const FAULT: u8 = 3;
 
-/// The status with which the program ends: the answer's own, and 3 where memory, reading or writing was refused.
+/// The status with which the program ends: the answer's own, and 3 where memory, reading or writing was
+/// refused.
 pub fn exit_status(ended: io::Result<u8>) -> u8
     ensures ok { IfOk ended (λ status. result ≡ status) }
     ensures err { OnErr ended (result ≡ 3) }
@@ -32,8 +33,8 @@ pub fn exit_status(ended: io::Result<u8>) -> u8
     }
 }
 
-/// The program: with arguments it refuses them and reads nothing, without it runs a session. An `Err` tells that memory,
-/// the reader or the writer was refused, and no verdict is claimed.
+/// The program: with arguments it refuses them and reads nothing, without it runs a session. An `Err` tells
+/// that memory, the reader or the writer was refused, and no verdict is claimed.
 pub fn program<R: Read, W: Write>(
     has_arguments: bool,
     alloc: Global,
@@ -52,10 +53,10 @@ pub fn program<R: Read, W: Write>(
     run(alloc, reader, writer)
 }
 
-/// Reads a session, serves it, and writes its transcript with a verdict; or writes which line is the first that is
-/// unreadable. The status is 0 where the verdict is yes, 1 where it is no, and 2 for an unreadable line. An `Err` tells
-/// that memory, the reader or the writer was refused: then nothing was written, or the front of what may be written, and
-/// no verdict. Of a session that is too long no more is read than tells so.
+/// Reads a session, serves it, and writes its transcript with a verdict; or writes which line is the first
+/// that is unreadable. The status is 0 where the verdict is yes, 1 where it is no, and 2 for an unreadable
+/// line. An `Err` tells that memory, the reader or the writer was refused: then nothing was written, or the
+/// front of what may be written, and no verdict. Of a session that is too long no more is read than tells so.
 pub fn run<R: Read, W: Write>(alloc: Global, reader: &mut R, writer: &mut W) -> io::Result<u8>
     ensures ok { IfOk result (λ status. IfSome (R.remaining reader.old) (λ input.
         Ends false input (W.contents writer.old) (W.contents writer.new) status)) }
@@ -99,8 +100,8 @@ fn shown(alloc: Global, events: VecDeque<Event>) -> Result<(String, u8), Memory>
     judged(alloc, &transcript, cuts.as_slice())
 }
 
-/// What is written of a transcript and its cuts, with the judge's verdict; and the status that goes with it, 0 for
-/// yes and 1 for no.
+/// What is written of a transcript and its cuts, with the judge's verdict; and the status that goes with it,
+/// 0 for yes and 1 for no.
 fn judged(alloc: Global, transcript: &Transcript, cuts: &[usize]) -> Result<(String, u8), Memory>
     ensures { IfOk result (λ told. IsJudged transcript.now.rounds cuts.now (string_bytes told.0) told.1) }
 {

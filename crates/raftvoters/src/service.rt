@@ -9,10 +9,12 @@ use thiserror::Error;
 /// The most requests of a round.
 pub const MOST_REQUESTS: usize = 4096;
 
-/// Why a round was cut off. `TooLong`, `Failed` and `Memory` are looked for in this order, before anything is taken.
+/// Why a round was cut off. `TooLong`, `Failed` and `Memory` are looked for in this order, before anything is
+/// taken.
 #[derive(Clone, Copy, Debug, PartialEq, Eq, Error)]
 pub enum Cause {
-    /// What was to be written wasn't: some of the first requests may have been taken, and the service has failed.
+    /// What was to be written wasn't: some of the first requests may have been taken, and the service has
+    /// failed.
     #[error("the file system failed")]
     FileSystem,
     /// There is no room for the replies; nothing was taken.
@@ -64,20 +66,23 @@ pub trait RoundService {
     /// All that it served is stored: then a crash leaves its voters, and no others.
     ghost is_stored: { Self → Type 0 };
 
-    /// The voters take the requests in order, but for those at refused places. The replies are handed out only once all
-    /// that the voters changed is on the disk for good, so a crash leaves the voters that gave them.
+    /// The voters take the requests in order, but for those at refused places. The replies are handed out
+    /// only once all that the voters changed is on the disk for good, so a crash leaves the voters that gave
+    /// them.
     ///
-    /// An `Err` hands out no reply. Its cause tells whether anything was taken: where the file system failed the requests
-    /// below one place may have been, but for those at refused places, and what a crash leaves is so too.
+    /// An `Err` hands out no reply. Its cause tells whether anything was taken: where the file system failed
+    /// the requests below one place may have been, but for those at refused places, and what a crash leaves
+    /// is so too.
     fn serve(&mut self, requests: &[(u64, Request)]) -> Result<Items<Reply>, RoundFault>
-        ensures ok { IfOk result (λ replies. Answers (world self.old) requests.now replies (world self.new)) }
+        ensures ok { IfOk result (λ told. Answers (world self.old) requests.now told (world self.new)) }
         ensures alone { is_stored self.old → LeavesAlone (may_leave self.old) (world self.old) }
         ensures stored { OnOk result (is_stored self.old → is_stored self.new) }
         ensures lives { OnOk result (IsAlive (is_failed self.old) (is_failed self.new)) }
 
         ensures err { IfErr result (λ fault. CutsOff fault.cause fault.refused requests.now (world self.old)
             (may_leave self.old) (world self.new) (may_leave self.new)) }
-        ensures kept { IfErr result (λ fault. TakesNothing fault.cause → is_stored self.old → is_stored self.new) }
+        ensures kept { IfErr result (λ fault.
+            TakesNothing fault.cause → is_stored self.old → is_stored self.new) }
         ensures errors { IfErr result (λ fault. FailsAs fault.cause (length requests.now) (is_failed self.old)
             (is_failed self.new)) };
 }

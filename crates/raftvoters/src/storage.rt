@@ -1,5 +1,5 @@
 //! A store that is open, or the file of one that isn't.
-ghost use Rattle.std.specs.Prelude.{◌≡◌, [], true, false, IfOk};
+ghost use Rattle.std.specs.Prelude.{◌≡◌, [], true, false, IfOk, IsOk};
 ghost use Rattle.raftvoters.specs.Storage.{file_of, is_open, IsSound, Keeps, Served};
 ghost use Rattle.raftvoters.specs.Content.{after_crash};
 ghost use Rattle.raftvoters.specs.Service.{is_refused, refused_from};
@@ -32,8 +32,8 @@ impl Storage {
         }
     }
 
-    /// Opens the store; one that is open is closed first. What a store wrote can always be read, so only memory may be
-    /// refused.
+    /// Opens the store; one that is open is closed first. What a store wrote can always be read, so only
+    /// memory may be refused.
     pub fn opened(self, alloc: Global) -> Result<Storage, Memory>
         requires { IsSound self }
         ensures open { IfOk result (λ next. is_open next ≡ true) }
@@ -67,7 +67,8 @@ impl Storage {
 
     /// Serves a round, or cuts it off where no store is open or it is too long.
     pub fn serve(&mut self, alloc: Global, requests: Items<(u64, Request)>) -> Result<Round, Memory>
-        ensures { IfOk result (Served self.old self.new requests) }
+        ensures ok { IfOk result (Served self.old self.new requests) }
+        ensures cut_off { is_open self.old ≡ false → IsOk result }
     {
         let Storage::Open(store) = self else {
             return Ok(cut_off(alloc, requests));

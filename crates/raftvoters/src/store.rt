@@ -15,8 +15,8 @@ use raft_voter::{Items, Memory, Reply, Request, Voter};
 use std::alloc::Global;
 use std::collections::BTreeMap;
 
-/// The voters of many groups in memory, and the file that keeps them. The file is in memory too, so where memory is
-/// refused in the midst of a round it is the file system that failed.
+/// The voters of many groups in memory, and the file that keeps them. The file is in memory too, so where
+/// memory is refused in the midst of a round it is the file system that failed.
 #[derive(Drop)]
 pub struct PlainVoters {
     pub alloc: Global,
@@ -26,8 +26,8 @@ pub struct PlainVoters {
 }
 
 impl PlainVoters {
-    /// Opens a file: reads it whole, and the last record of each group is its voter. Damage is told only where
-    /// the bytes aren't those of records, so never of what a store wrote.
+    /// Opens a file: reads it whole, and the last record of each group is its voter. Damage is told only
+    /// where the bytes aren't those of records, so never of what a store wrote.
     pub fn open(alloc: Global, file: PlainFile) -> Result<PlainVoters, OpenFault>
         ensures same { IfOk result (λ store. store.file ≡ file) }
         ensures voters { IfOk result (λ store. StandsFor (whole file) (world_of store)) }
@@ -42,8 +42,8 @@ impl PlainVoters {
         })
     }
 
-    /// The voters take requests in order, and what they change is written; their replies are put where there is room for
-    /// them. Where memory is refused some of the first were taken, and what was synced stays.
+    /// The voters take requests in order, and what they change is written; their replies are put where there
+    /// is room for them. Where memory is refused some of the first were taken, and what was synced stays.
     fn take_all(
         &mut self,
         requests: &[(u64, Request)],
@@ -61,8 +61,8 @@ impl PlainVoters {
         Ok(replies)
     }
 
-    /// A group's voter takes a request, and what it changes is written. Where memory is refused it may have taken it in
-    /// memory alone.
+    /// A group's voter takes a request, and what it changes is written. Where memory is refused it may have
+    /// taken it in memory alone.
     fn take(&mut self, group: u64, request: &Request) -> Result<Reply, Memory>
         ensures ok { IfOk result (λ told. Takes self.old (group, request.now) told self.new) }
         ensures err { OnErr result (IsRefused self.old (group, request.now) self.new) }
@@ -101,13 +101,14 @@ impl RoundService for PlainVoters {
     ghost is_stored = { IsStored };
 
     fn serve(&mut self, requests: &[(u64, Request)]) -> Result<Items<Reply>, RoundFault>
-        ensures ok { IfOk result (λ replies. Answers (world_of self.old) requests.now replies (world_of self.new)) }
+        ensures ok { IfOk result (λ told. Answers (world_of self.old) requests.now told (world_of self.new)) }
         ensures alone { IsStored self.old → LeavesAlone (HoldsVoters self.old) (world_of self.old) }
         ensures stored { OnOk result (IsStored self.old → IsStored self.new) }
         ensures lives { OnOk result (IsAlive self.old.failed self.new.failed) }
-        ensures err { IfErr result (λ fault. CutsOff fault.cause fault.refused requests.now (world_of self.old)
-            (HoldsVoters self.old) (world_of self.new) (HoldsVoters self.new)) }
-        ensures kept { IfErr result (λ fault. TakesNothing fault.cause → IsStored self.old → IsStored self.new) }
+        ensures err { IfErr result (λ fault. CutsOff fault.cause fault.refused requests.now
+            (world_of self.old) (HoldsVoters self.old) (world_of self.new) (HoldsVoters self.new)) }
+        ensures kept { IfErr result (λ fault.
+            TakesNothing fault.cause → IsStored self.old → IsStored self.new) }
         ensures errors { IfErr result (λ fault. FailsAs fault.cause (length requests.now) self.old.failed
             self.new.failed) }
 
@@ -141,7 +142,8 @@ fn step(
     request: &Request,
 ) -> Result<Reply, Memory>
     ensures replies { IfOk result (λ told. told ≡ reply (world_in voters.old group) request.now) }
-    ensures changes { OnOk result (world_in voters.new ≡ after_one (world_in voters.old) (group, request.now)) }
+    ensures changes { OnOk result
+        (world_in voters.new ≡ after_one (world_in voters.old) (group, request.now)) }
     ensures refused { OnErr result (world_in voters.new ≡ world_in voters.old) }
 {
     let voter = voters.entry(group)?.or_insert(Voter::new(alloc));

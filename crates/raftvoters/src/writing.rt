@@ -29,7 +29,8 @@ pub fn write_whole<W: Write>(writer: &mut W, bytes: &[u8]) -> io::Result<()>
 
 /// Calls the writer once, and answers what is left; all of it where the call was interrupted.
 fn write_front<'a, W: Write>(writer: &mut W, bytes: &'a [u8]) -> io::Result<&'a [u8]>
-    ensures ok { IfOk result (λ left. TakesFront (W.contents writer.old) (W.contents writer.new) bytes.now left.now) }
+    ensures ok { IfOk result (λ left.
+        TakesFront (W.contents writer.old) (W.contents writer.new) bytes.now left.now) }
     ensures err { OnErr result (Keeps (W.contents writer.old) (W.contents writer.new)) }
 {
     match writer.write(bytes) {

@@ -26,8 +26,8 @@ pub fn entry_bytes(alloc: Global, entry: &Entry) -> Result<Items<u8>, Memory>
     Ok(Items::from_vec(bytes))
 }
 
-/// The entry at this index that these bytes are; else the first fault: no bytes, another form, another length, a
-/// number out of range, another index.
+/// The entry at this index that these bytes are; else the first fault: no bytes, another form, another
+/// length, a number out of range, another index.
 pub fn read_entry(alloc: Global, bytes: &[u8], index: u64) -> Result<Entry, StoredFault>
     ensures ok { IfOk result (λ entry. IsEntry bytes.now index entry) }
     ensures err { IfErr result (λ fault. EntryFault fault bytes.now index) }

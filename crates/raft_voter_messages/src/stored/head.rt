@@ -1,6 +1,6 @@
 //! The numbers that every form of a stored state begins with.
-ghost use Rattle.std.specs.Prelude.{◌≡◌, ◌+◌, ◌^◌, ◌<◌, ◌≤◌, ◌∷◌, ◌++◌, length, IfSome, IfNone};
-ghost use Rattle.raft_voter_messages.specs.StoredForms.{IsBare, number_text, vote_text};
+ghost use Rattle.std.specs.Prelude.{◌≡◌, ◌+◌, ◌^◌, ◌<◌, ◌≤◌, ◌++◌, length, IfSome, IfNone};
+ghost use Rattle.raft_voter_messages.specs.StoredForms.{IsBare, vote_text};
 
 use super::split_number;
 use super::state::state_fits;
@@ -18,7 +18,7 @@ pub struct StateHead {
 }
 
 impl StateHead {
-    ghost use Rattle.raft_voter_messages.specs.StateHeads.{HasHead, head_bytes, IsNoState, IsNoVote};
+    ghost use Rattle.raft_voter_messages.specs.StateHeads.{HasHead, head_bytes, IsNoState, IsNoVote, vote_bytes};
 
     /// The numbers that begin these bytes, and the bytes behind them.
     pub fn split(bytes: &[u8]) -> (StateHead, &[u8])
@@ -72,7 +72,7 @@ impl StateHead {
     /// The vote, if its byte and the candidate say one.
     fn vote(&self) -> Option<Option<u64>>
         ensures small { IfSome result (λ vote. IfSome vote (λ c. c < 2 ^ 64)) }
-        ensures some { IfSome result (λ vote. vote_text vote ≡ self.now.vote_byte ∷ number_text self.now.candidate) }
+        ensures some { IfSome result (λ vote. vote_text vote ≡ vote_bytes self.now) }
         ensures none { IfNone result (IsNoVote self.now) }
     {
         match (self.vote_byte, self.candidate) {

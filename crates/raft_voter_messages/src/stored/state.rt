@@ -1,5 +1,5 @@
-//! The bytes of a voter's state: the form, the term, whether there is a vote, the candidate, the base's index and
-//! term, and in form 2 the commit. What is known of the last entry isn't written.
+//! The bytes of a voter's state: the form, the term, whether there is a vote, the candidate, the base's index
+//! and term, and in form 2 the commit. What is known of the last entry isn't written.
 ghost use Rattle.std.specs.Prelude.{◌≡◌, IfOk, IfErr};
 ghost use Rattle.raft_voter_messages.specs.StoredForms.{IsBare, IsState, IsStateForm1, state_fits, state_form_2, state_text, StateFault, StateForm1Fault, StateForm2Fault};
 
@@ -36,8 +36,8 @@ pub fn state_bytes(alloc: Global, state: &VoterState) -> Result<Items<u8>, Memor
     Ok(Items::from_vec(bytes))
 }
 
-/// The state that these bytes are, with the base in place of the last entry, and in form 1 of the commit; else the
-/// first fault: no bytes, another form, another length, a value out of range.
+/// The state that these bytes are, with the base in place of the last entry, and in form 1 of the commit;
+/// else the first fault: no bytes, another form, another length, a value out of range.
 pub fn read_state(bytes: &[u8]) -> Result<VoterState, StoredFault>
     ensures ok { IfOk result (λ state. IsState bytes.now state) }
     ensures err { IfErr result (λ fault. StateFault fault bytes.now) }

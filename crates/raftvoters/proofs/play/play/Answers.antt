@@ -9,7 +9,7 @@ loop-event-init c = begins c.args.events.items c.new.result _ _ c.new.ensures.sy
 pub loop-event-preserved : goal.loop-event-preserved
 loop-event-preserved c =
     let next : c.loop-event.events.items ≡ Round c.in-Round.requests ∷ c.pop_front.new.self.items = search rules in
-    goes_on _ _ _ _ _ _ _ _ _ _ c.in_ok-round-in-Round.round c.loop-event.invariant next c.in_ok-round-in-Round.ensures c.in_ok-push-in-Round.ensures.ok (search rules)
+    goes_on _ _ _ _ _ _ _ _ _ _ c.in_ok-round-in-Round.round c.loop-event.invariant next c.in_ok-round-in-Round.ensures.ok c.in_ok-push-in-Round.ensures.ok (search rules)
 
 pub returns : goal.returns
 returns c = ends _ _ _ _ _ c.loop-event.invariant (search rules)

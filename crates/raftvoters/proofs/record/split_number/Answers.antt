@@ -16,4 +16,4 @@ returns-clause-ok c =
       | inr past ↦ rw (get_or_past front i 0 (omega (arith, c.split_at.ensures.front_len))) (lit< tt)
     ] in
     let spelled = be_bytes_8 front n c.split_at.ensures.front_len is_byte c.from_be_bytes-number.ensures in
-    (omega arith, sym (take-append-drop 8 bytes) ∙ ap (λ x. x ++ drop 8 bytes) (sym c.split_at.ensures.front ∙ sym spelled) ∙ ap (λ x. number_text n ++ x) (sym c.split_at.ensures.back))
+    record { small = omega arith; text = sym (take-append-drop 8 bytes) ∙ ap (λ x. x ++ drop 8 bytes) (sym c.split_at.ensures.front ∙ sym spelled) ∙ ap (λ x. number_text n ++ x) (sym c.split_at.ensures.back) }

@@ -10,14 +10,14 @@ pub loop-left-init : goal.loop-left-init
 loop-left-init c = (search rules, all_left c.args.bytes.now)
 
 pub loop-left-smaller : goal.loop-left-smaller
-loop-left-smaller c = shorter _ _ (c.in_ok-group.group, c.in_ok-group.voter) c.in_ok-group.ensures.ok.1
+loop-left-smaller c = shorter _ _ (c.in_ok-group.group, c.in_ok-group.voter) c.in_ok-group.ensures.ok.text
 
 pub loop-left-preserved : goal.loop-left-preserved
 loop-left-preserved c =
     let r : ℕ × State = (c.in_ok-group.group, c.in_ok-group.voter) in
     let found = c.in_ok-group.ensures.ok in
     let before = c.loop-left.invariant in
-    (read_on _ _ _ _ _ r before.0 found.0 found.1 c.in_ok-set_voter.ensures, one_less _ _ _ r before.1 found.0 found.1)
+    (read_on _ _ _ _ _ r before.0 found c.in_ok-set_voter.ensures, one_less _ _ _ r before.1 found)
 
 pub returns-in_err-group-clause-err : goal.returns-in_err-group-clause-err
 returns-in_err-group-clause-err c =

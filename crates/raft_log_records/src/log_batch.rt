@@ -39,7 +39,8 @@ pub enum BatchState {
 
 /// Items and the bytes of their entries, and the record of these.
 ///
-/// Contracts see a batch as its state, its items, the bytes of their entries, and how many items it has room for.
+/// Contracts see a batch as its state, its items, the bytes of their entries, and how many items it has room
+/// for.
 #[derive(Debug, Drop)]
 pub struct LogBatch {
     items: LogItemBatch,
@@ -53,12 +54,11 @@ pub struct LogBatch {
 }
 
 impl Model for LogBatch {
-    ghost use Rattle.std.specs.Prelude.{take, drop};
-    ghost use Rattle.raft_log_records.specs.Batch.{Batch, IsBatch};
+    ghost use Rattle.raft_log_records.specs.Batch.{Batch, IsBatch, shown};
 
     ghost Value = { Batch };
 
-    ghost view = { λ b. record { state = b.state; items = b.items.items; entries = take b.entries_len (drop 16 b.buf.items); capacity = b.items.capacity } };
+    ghost view = { λ b. shown b.state b.items b.entries_len b.buf };
 
     ghost invariant = { λ b. IsBatch b.state b.buf.items b.entries_len b.checksum b.items.items };
 }
@@ -67,7 +67,8 @@ impl LogBatch {
     ghost use Rattle.std.specs.Prelude.{◌≡◌, ◌+◌, ◌-◌, ◌≤◌, ◌<◌, ◌^◌, ◌++◌, ◌↔◌, [], length, min, IfOk, IfErr, IsErr, IsOk, OnOk, OnErr, IsTrue};
     ghost use Rattle.std.specs.Vec.{vec_len, vec_capacity};
     ghost use Rattle.raft_log_base.specs.Files.{signature_of};
-    ghost use Rattle.raft_log_items.specs.Items.{put_item, del_item};
+    ghost use Rattle.raft_log_items.specs.Items.{del_item};
+    ghost use Rattle.raft_log_items.specs.Message.{IsReadBack};
     ghost use Rattle.raft_log_items.specs.Placed.{entries_len, laid_out};
     ghost use Rattle.raft_log_frames.specs.Record.{record_len};
     ghost use Rattle.raft_log_frames.specs.Made.{IsMemoryOrFull};
@@ -75,7 +76,7 @@ impl LogBatch {
     ghost use Rattle.raft_log_records.specs.AtomicGroup.{mark_key, marking_of_items};
     ghost use Rattle.raft_log_records.specs.ItemBatch.{command_item};
     ghost use Rattle.raft_log_records.specs.Key.{is_internal, IsKeyRefusal};
-    ghost use Rattle.raft_log_records.specs.Batch.{batch_bytes, batch_size, empty_batch, with_item, written_at, Becomes, HasNoEntries, IsMade, IsSigned, IsReadyForEach, IsRecordOf, block_place, signature_in};
+    ghost use Rattle.raft_log_records.specs.Batch.{batch_size, empty_batch, written_at, signed_bytes, AddsItem, Puts, Becomes, IsMade, IsSigned, IsReadyForEach, IsRecordOf, block_place};
     ghost use Rattle.raft_log_records.specs.Places.{AllLieIn, HasBytesInBlock};
 
     /// An empty batch, which is being filled.
@@ -161,7 +162,7 @@ impl LogBatch {
         value: &[u8],
     ) -> std::result::Result<(), AllocError>
         requires { self.old.state ≡ Filling }
-        ensures ok { OnOk result (Becomes (with_item self.old (put_item 0 mark_key value.now)) self.new) }
+        ensures ok { OnOk result (Puts self.old self.new 0 mark_key value.now) }
         ensures err { OnErr result (Becomes self.old self.new) }
     {
         self.items.put(alloc, MARK_GROUP, &MARK_KEY, value)
@@ -174,18 +175,18 @@ impl LogBatch {
         command: Command,
     ) -> std::result::Result<(), AllocError>
         requires { self.old.state ≡ Filling }
-        ensures ok { OnOk result (Becomes (with_item self.old (command_item raft_group_id command)) self.new) }
+        ensures ok { OnOk result (AddsItem self.old self.new (command_item raft_group_id command)) }
         ensures err { OnErr result (self.new ≡ self.old) }
         ensures succeeds { length self.old.items < self.old.capacity → IsOk result }
     {
         self.items.add_command(raft_group_id, command)
     }
 
-    /// Adds a key that gets a value. A key that begins with two underscores is refused as an invalid argument. A refusal
-    /// changes no item.
+    /// Adds a key that gets a value. A key that begins with two underscores is refused as an invalid
+    /// argument. A refusal changes no item.
     pub fn put(&mut self, alloc: Global, raft_group_id: u64, key: &[u8], value: &[u8]) -> Result<()>
         requires { self.old.state ≡ Filling }
-        ensures ok { OnOk result (Becomes (with_item self.old (put_item raft_group_id key.now value.now)) self.new) }
+        ensures ok { OnOk result (Puts self.old self.new raft_group_id key.now value.now) }
         ensures internal { IsTrue (is_internal key.now) → IsErr result }
         ensures err { OnErr result (Becomes self.old self.new) }
         ensures errors { IfErr result (λ e. IsKeyRefusal e key.now) }
@@ -195,11 +196,11 @@ impl LogBatch {
         Ok(())
     }
 
-    /// Adds a key that loses its value. A key that begins with two underscores is refused as an invalid argument. A
-    /// refusal changes no item.
+    /// Adds a key that loses its value. A key that begins with two underscores is refused as an invalid
+    /// argument. A refusal changes no item.
     pub fn delete(&mut self, alloc: Global, raft_group_id: u64, key: &[u8]) -> Result<()>
         requires { self.old.state ≡ Filling }
-        ensures ok { OnOk result (Becomes (with_item self.old (del_item raft_group_id key.now)) self.new) }
+        ensures ok { OnOk result (AddsItem self.old self.new (del_item raft_group_id key.now)) }
         ensures internal { IsTrue (is_internal key.now) → IsErr result }
         ensures err { OnErr result (Becomes self.old self.new) }
         ensures errors { IfErr result (λ e. IsKeyRefusal e key.now) }
@@ -209,8 +210,8 @@ impl LogBatch {
         Ok(())
     }
 
-    /// Adds a key that gets the bytes of a message. A key that begins with two underscores is refused as an invalid argument.
-    /// A refusal changes no item.
+    /// Adds a key that gets the bytes of a message. A key that begins with two underscores is refused as an
+    /// invalid argument. A refusal changes no item.
     pub fn put_message<M: Message>(
         &mut self,
         alloc: Global,
@@ -219,7 +220,8 @@ impl LogBatch {
         message: &M,
     ) -> Result<()>
         requires { self.old.state ≡ Filling }
-        ensures ok { OnOk result (Becomes (with_item self.old (put_item raft_group_id key.now (M.spelling message.now))) self.new) }
+        ensures ok { OnOk result (Puts self.old self.new raft_group_id key.now (M.spelling message.now)) }
+        ensures again { OnOk result (IsReadBack M.spelling M.reading message.now) }
         ensures internal { IsTrue (is_internal key.now) → IsErr result }
         ensures err { OnErr result (Becomes self.old self.new) }
         ensures errors { IfErr result (λ e. IsKeyRefusal e key.now) }
@@ -229,7 +231,8 @@ impl LogBatch {
         Ok(())
     }
 
-    /// Makes the record, and answers how many bytes it has, for whatever file it will be signed. An empty batch has none.
+    /// Makes the record, and answers how many bytes it has, for whatever file it will be signed. An empty
+    /// batch has none.
     ///
     /// Refused as full is a record whose length needs more than 56 bits. A refusal changes nothing.
     pub fn finish_populate(&mut self) -> Result<usize>
@@ -312,7 +315,7 @@ impl LogBatch {
     pub fn encoded_bytes(&self) -> &[u8]
         requires { IsSigned self.now.state }
         ensures whole { IsRecordOf self.now result.now }
-        ensures exact { result.now ≡ batch_bytes (signature_in self.now.state) self.now.items self.now.entries }
+        ensures exact { result.now ≡ signed_bytes self.now }
     {
         if self.items.is_empty() {
             return &self.buf[self.buf.len()..];
@@ -322,8 +325,8 @@ impl LogBatch {
         bytes
     }
 
-    /// The record is written at this place. Each entry gets the place of the entry block, which begins behind the header,
-    /// and each key gets the file.
+    /// The record is written at this place. Each entry gets the place of the entry block, which begins behind
+    /// the header, and each key gets the file.
     pub fn finish_write(&mut self, handle: FileBlockHandle)
         requires signed { IsSigned self.old.state }
         requires place { handle.offset + 16 < 2 ^ 64 }
@@ -343,8 +346,8 @@ impl LogBatch {
         self.state = BatchState::Written;
     }
 
-    /// About how many bytes the record has: those of the header and of the entry block, and of the footer with each number
-    /// counted as eight bytes; 2^64 - 1 where there are more. An empty batch has none.
+    /// About how many bytes the record has: those of the header and of the entry block, and of the footer
+    /// with each number counted as eight bytes; 2^64 - 1 where there are more. An empty batch has none.
     pub fn approximate_size(&self) -> usize
         ensures { result ≡ min (batch_size self.now.items self.now.entries) (2 ^ 64 - 1) }
     {
@@ -354,8 +357,8 @@ impl LogBatch {
         items_size(self.items.as_slice()).saturating_add(28 + block_len(self.entries_len))
     }
 
-    /// Gives the items back, behind what is there, and leaves an empty batch that is being filled, with its room. Only where
-    /// there is no room for the items it may be refused, and then changes nothing.
+    /// Gives the items back, behind what is there, and leaves an empty batch that is being filled, with its
+    /// room. Only where there is no room for the items it may be refused, and then changes nothing.
     pub fn drain(&mut self, into: &mut Vec<LogItem>) -> std::result::Result<(), AllocError>
         ensures items { OnOk result (into.new.items ≡ into.old.items ++ self.old.items) }
         ensures emptied { OnOk result (self.new ≡ empty_batch self.old.capacity) }
@@ -369,8 +372,8 @@ impl LogBatch {
         Ok(())
     }
 
-    /// Drops what was added, and leaves an empty batch that is being filled, with its room for items. The buffer is kept, but
-    /// for what it has above 8 MiB.
+    /// Drops what was added, and leaves an empty batch that is being filled, with its room for items. The
+    /// buffer is kept, but for what it has above 8 MiB.
     pub fn clear(&mut self)
         ensures { self.new ≡ empty_batch self.old.capacity }
     {

@@ -9,18 +9,19 @@ use raft_log_items::{EntryIndex, EntryIndexes, Error, LogItem, Result};
 use std::alloc::{AllocError, Global};
 
 impl LogBatch {
-    ghost use Rattle.std.specs.Prelude.{◌≡◌, ◌+◌, ◌≤◌, length, OnOk, OnErr, IfErr};
+    ghost use Rattle.std.specs.Prelude.{◌≡◌, OnOk, OnErr, IfErr};
     ghost use Rattle.raft_log_records.specs.declared.log_batch.BatchState.TheVariants.{Filling};
-    ghost use Rattle.raft_log_records.specs.Batch.{max_entries_len, Becomes};
+    ghost use Rattle.raft_log_records.specs.Batch.{Becomes};
     ghost use Rattle.raft_log_records.specs.Places.{AddsBytes};
-    ghost use Rattle.raft_log_records.specs.Entries.{IsRunOf, indexes_of, slices_bytes, bytes_len, AddsEntries, IsEntriesRefusal};
+    ghost use Rattle.raft_log_records.specs.Entries.{IsRunOf, indexes_of, slices_bytes, MayHold, AddsSlices, IsSlicesRefusal};
 
-    /// Adds entries of a group, each given by its index and its bytes, which are copied into the batch. Of the entries in `entry_indexes` only the index is
-    /// taken: the length is that of the bytes, and the place comes when the batch is written. No entries add nothing.
+    /// Adds entries of a group, each given by its index and its bytes, which are copied into the batch. Of
+    /// the entries in `entry_indexes` only the index is taken: the length is that of the bytes, and the place
+    /// comes when the batch is written. No entries add nothing.
     ///
-    /// Refused, in this order: as an invalid argument, indexes that are not as many as the entries, that don't rise by one,
-    /// or of which one is 2^64 - 1; as full, more than 2,147,483,647 bytes of entries in the batch. A refusal
-    /// changes no item.
+    /// Refused, in this order: as an invalid argument, indexes that are not as many as the entries, that
+    /// don't rise by one, or of which one is 2^64 - 1; as full, more than 2,147,483,647 bytes of entries in
+    /// the batch. A refusal changes no item.
     pub fn add_raw_entries(
         &mut self,
         alloc: Global,
@@ -29,12 +30,12 @@ impl LogBatch {
         entries: &[&[u8]],
     ) -> Result<()>
         requires { self.old.state ≡ Filling }
-        ensures ok { OnOk result (AddsEntries self.old self.new raft_group_id (indexes_of entry_indexes.now) (slices_bytes entries.now)) }
+        ensures ok { OnOk result (AddsSlices self.old self.new raft_group_id entry_indexes.now entries.now) }
         ensures bytes { OnOk result (AddsBytes self.old self.new (slices_bytes entries.now)) }
         ensures run { OnOk result (IsRunOf (indexes_of entry_indexes.now) (slices_bytes entries.now)) }
-        ensures room { OnOk result (length self.old.entries + bytes_len (slices_bytes entries.now) ≤ max_entries_len) }
+        ensures room { OnOk result (MayHold self.old (slices_bytes entries.now)) }
         ensures err { OnErr result (Becomes self.old self.new) }
-        ensures errors { IfErr result (λ e. IsEntriesRefusal e (length self.old.entries) (indexes_of entry_indexes.now) (slices_bytes entries.now)) }
+        ensures errors { IfErr result (λ e. IsSlicesRefusal e self.old entry_indexes.now entries.now) }
     {
         check_run(alloc, entry_indexes, entries.len())?;
         let added = bytes_len(entries);

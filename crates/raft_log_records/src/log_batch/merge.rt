@@ -12,17 +12,18 @@ impl LogBatch {
     ghost use Rattle.std.specs.Prelude.{◌≡◌, ◌+◌, ◌≤◌, length, OnOk, OnErr, IfErr};
     ghost use Rattle.raft_log_records.specs.declared.log_batch.BatchState.TheVariants.{Filling};
     ghost use Rattle.raft_log_records.specs.Batch.{max_entries_len, empty_batch, with_batch, Becomes};
-    ghost use Rattle.raft_log_records.specs.Places.{AddsBytes, bytes_of_each};
+    ghost use Rattle.raft_log_records.specs.Places.{AddsBytes, bytes_in};
     ghost use Rattle.raft_log_records.specs.Entries.{IsMergeRefusal};
 
-    /// Takes the items and the entries' bytes of the other batch behind its own, and leaves the other one empty.
+    /// Takes the items and the entries' bytes of the other batch behind its own, and leaves the other one
+    /// empty.
     ///
     /// Refused as full are more than 2,147,483,647 bytes of entries in all. A refusal changes neither.
     pub fn merge(&mut self, rhs: &mut LogBatch) -> Result<()>
         requires own { self.old.state ≡ Filling }
         requires other { rhs.old.state ≡ Filling }
         ensures ok { OnOk result (Becomes (with_batch self.old rhs.old) self.new) }
-        ensures bytes { OnOk result (AddsBytes self.old self.new (bytes_of_each rhs.old.items rhs.old.entries)) }
+        ensures bytes { OnOk result (AddsBytes self.old self.new (bytes_in rhs.old)) }
         ensures emptied { OnOk result (rhs.new ≡ empty_batch rhs.old.capacity) }
         ensures room { OnOk result (length self.old.entries + length rhs.old.entries ≤ max_entries_len) }
         ensures err { OnErr result ((self.new ≡ self.old) × (rhs.new ≡ rhs.old)) }
@@ -46,7 +47,8 @@ impl LogBatch {
     }
 }
 
-/// Moves the other items behind these, and copies bytes behind those of the buffer. A refusal changes nothing.
+/// Moves the other items behind these, and copies bytes behind those of the buffer. A refusal changes
+/// nothing.
 fn move_parts(
     items: &mut LogItemBatch,
     buf: &mut Vec<u8>,

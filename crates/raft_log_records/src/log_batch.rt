@@ -1,6 +1,6 @@
 //! A batch on its way to a file: it is filled, populated, signed for a file, and written.
-ghost use Rattle.std.specs.Prelude.{◌≡◌, ◌+◌, ◌≤◌, ◌==◌, if◌then◌else◌, false, take, OnOk, IfErr};
-ghost use Rattle.raft_log_records.specs.Batch.{max_entries_len};
+ghost use Rattle.std.specs.Prelude.{◌≡◌, ◌+◌, ◌≤◌, ◌==◌, if◌then◌else◌, false, length, vec_capacity, IsOk, OnOk, OnErr, IfErr};
+ghost use Rattle.raft_log_records.specs.Batch.{max_entries_len, kept_buffer, roomy};
 ghost use Rattle.raft_log_records.specs.Key.{is_internal, IsKeyRefusal};
 
 use crate::atomic_group::{MARK_GROUP, MARK_KEY, Marking};
@@ -21,7 +21,7 @@ const CHECKSUM_LEN: usize = 4;
 /// The most bytes that the entries of a batch may have.
 const MAX_ENTRIES_LEN: usize = 2_147_483_647;
 
-/// The most bytes of a buffer that an empty batch keeps.
+/// The most bytes of a buffer that an emptied batch keeps.
 const MAX_KEPT_LEN: usize = 8 << 20;
 
 /// How far a batch is on its way to a file.
@@ -39,12 +39,13 @@ pub enum BatchState {
 
 /// Items and the bytes of their entries, and the record of these.
 ///
-/// Contracts see a batch as its state, its items, the bytes of their entries, and how many items it has room
-/// for.
+/// Contracts see a batch as its state, its items, the bytes of their entries, and for how many items and how many
+/// bytes of a record it has room.
 #[derive(Debug, Drop)]
 pub struct LogBatch {
     items: LogItemBatch,
-    /// Room for the header, the entries' bytes, and once it is populated the rest of the record.
+    /// Room for the header, the entries' bytes, and once it is populated the rest of the record; no byte at all where
+    /// the buffer was given back.
     buf: Vec<u8>,
     /// How many bytes the entries have.
     entries_len: usize,
@@ -54,13 +55,13 @@ pub struct LogBatch {
 }
 
 impl Model for LogBatch {
-    ghost use Rattle.raft_log_records.specs.Batch.{Batch, IsBatch, shown};
+    ghost use Rattle.raft_log_records.specs.Batch.{Batch, IsBatch, roomy, shown};
 
     ghost Value = { Batch };
 
     ghost view = { λ b. shown b.state b.items b.entries_len b.buf };
 
-    ghost invariant = { λ b. IsBatch b.state b.buf.items b.entries_len b.checksum b.items.items };
+    ghost invariant = { λ b. IsBatch b.state (roomy b.buf.items) b.entries_len b.checksum b.items.items };
 }
 
 impl LogBatch {
@@ -76,29 +77,23 @@ impl LogBatch {
     ghost use Rattle.raft_log_records.specs.AtomicGroup.{mark_key, marking_of_items};
     ghost use Rattle.raft_log_records.specs.ItemBatch.{command_item};
     ghost use Rattle.raft_log_records.specs.Key.{is_internal, IsKeyRefusal};
-    ghost use Rattle.raft_log_records.specs.Batch.{batch_size, empty_batch, written_at, signed_bytes, AddsItem, Puts, Becomes, IsMade, IsSigned, IsReadyForEach, IsRecordOf, block_place};
+    ghost use Rattle.raft_log_records.specs.Batch.{batch_size, empty_batch, emptied, max_kept_len, written_at, signed_bytes, IsButBuffer, AddsItem, Puts, Becomes, IsMade, IsSigned, IsReadyForEach, IsRecordOf, block_place};
     ghost use Rattle.raft_log_records.specs.Places.{AllLieIn, HasBytesInBlock};
 
     /// An empty batch, which is being filled.
     pub fn default(alloc: Global) -> std::result::Result<Self, AllocError>
-        ensures { IfOk result (λ b. b ≡ empty_batch b.capacity) }
+        ensures { IfOk result (λ b. b ≡ empty_batch 0 0) }
     {
-        Ok(LogBatch {
-            items: LogItemBatch::default(alloc),
-            buf: vec![in alloc; 0; 16]?,
-            entries_len: 0,
-            checksum: 0,
-            state: BatchState::Filling,
-        })
+        LogBatch::with_capacity(alloc, 0)
     }
 
     /// An empty batch with room for so many items.
     pub fn with_capacity(alloc: Global, capacity: usize) -> std::result::Result<Self, AllocError>
-        ensures { IfOk result (λ b. b ≡ empty_batch capacity) }
+        ensures { IfOk result (λ b. b ≡ empty_batch capacity 0) }
     {
         Ok(LogBatch {
             items: LogItemBatch::with_capacity(alloc, capacity)?,
-            buf: vec![in alloc; 0; 16]?,
+            buf: Vec::new(alloc),
             entries_len: 0,
             checksum: 0,
             state: BatchState::Filling,
@@ -107,7 +102,7 @@ impl LogBatch {
 
     /// A copy of the batch, as far on its way as this one.
     pub fn clone(&self, alloc: Global) -> std::result::Result<Self, AllocError>
-        ensures { IfOk result (λ b. b ≡ record self.now { capacity = b.capacity }) }
+        ensures { IfOk result (λ b. b ≡ record self.now { capacity = b.capacity; buffer = b.buffer }) }
     {
         let items = self.items.clone(alloc)?;
         let buf = self.buf.as_slice().to_vec(alloc)?;
@@ -234,18 +229,20 @@ impl LogBatch {
     /// Makes the record, and answers how many bytes it has, for whatever file it will be signed. An empty
     /// batch has none.
     ///
-    /// Refused as full is a record whose length needs more than 56 bits. A refusal changes nothing.
+    /// Refused as full is a record whose length needs more than 56 bits. A refusal changes nothing but the memory
+    /// of the buffer.
     pub fn finish_populate(&mut self) -> Result<usize>
         requires { self.old.state ≡ Filling }
-        ensures ok { OnOk result (self.new ≡ record self.old { state = Populated }) }
+        ensures ok { OnOk result (IsButBuffer (record self.old { state = Populated }) self.new) }
         ensures ready { IfOk result (λ len. IsReadyForEach len self.old.items self.old.entries) }
-        ensures err { OnErr result (self.new ≡ self.old) }
+        ensures err { OnErr result (IsButBuffer self.old self.new) }
         ensures errors { IfErr result (λ e. IsMemoryOrFull e (record_len self.old.items self.old.entries)) }
     {
         if self.items.is_empty() {
             self.state = BatchState::Populated;
             return Ok(0);
         }
+        make_header_room(&mut self.buf)?;
         let filled = self.buf.len();
         match fill_record(&mut self.buf, self.items.as_slice()) {
             Ok(checksum) => {
@@ -361,7 +358,8 @@ impl LogBatch {
     /// room. Only where there is no room for the items it may be refused, and then changes nothing.
     pub fn drain(&mut self, into: &mut Vec<LogItem>) -> std::result::Result<(), AllocError>
         ensures items { OnOk result (into.new.items ≡ into.old.items ++ self.old.items) }
-        ensures emptied { OnOk result (self.new ≡ empty_batch self.old.capacity) }
+        ensures emptied { OnOk result (self.new ≡ emptied self.old) }
+        ensures bounded { OnOk result (self.new.buffer ≤ max_kept_len) }
         ensures err { OnErr result ((into.new.items ≡ into.old.items) × (self.new ≡ self.old)) }
         ensures succeeds { vec_len into.old + length self.old.items ≤ vec_capacity into.old → IsOk result }
     {
@@ -372,10 +370,11 @@ impl LogBatch {
         Ok(())
     }
 
-    /// Drops what was added, and leaves an empty batch that is being filled, with its room for items. The
-    /// buffer is kept, but for what it has above 8 MiB.
+    /// Drops what was added, and leaves an empty batch that is being filled, with its room for items. The buffer
+    /// is kept too, but one of more than 8 MiB is given back.
     pub fn clear(&mut self)
-        ensures { self.new ≡ empty_batch self.old.capacity }
+        ensures emptied { self.new ≡ emptied self.old }
+        ensures bounded { self.new.buffer ≤ max_kept_len }
     {
         self.items.clear();
         empty(&mut self.buf);
@@ -415,12 +414,29 @@ fn block_len(len: usize) -> usize
     if len == 0 { 0 } else { len + CHECKSUM_LEN }
 }
 
-/// Leaves of a buffer the room for the header, and gives back what it has above the most that is kept.
-fn empty(buf: &mut Vec<u8>)
-    ensures { buf.new.items ≡ take 16 buf.old.items }
+/// Makes room for a header in a buffer that has no byte. A refusal leaves it so.
+fn make_header_room(buf: &mut Vec<u8>) -> std::result::Result<(), AllocError>
+    ensures ok { OnOk result (buf.new.items ≡ roomy buf.old.items) }
+    ensures err { OnErr result (buf.new.items ≡ buf.old.items) }
+    ensures room { vec_capacity buf.old ≤ vec_capacity buf.new }
+    ensures succeeds { 16 ≤ vec_capacity buf.old → IsOk result }
 {
-    buf.truncate(LOG_BATCH_HEADER_LEN);
+    if buf.is_empty() {
+        return buf.extend_from_slice(&[0; LOG_BATCH_HEADER_LEN]);
+    }
+    Ok(())
+}
+
+/// Leaves of a buffer the room for the header alone, and gives back one that has more than is kept.
+fn empty(buf: &mut Vec<u8>)
+    requires { 16 ≤ length (roomy buf.old.items) }
+    ensures header { length (roomy buf.new.items) ≡ 16 }
+    ensures kept { vec_capacity buf.new ≡ kept_buffer (vec_capacity buf.old) }
+{
     if buf.capacity() > MAX_KEPT_LEN {
-        buf.shrink_to(MAX_KEPT_LEN);
+        buf.clear();
+        buf.shrink_to_fit();
+    } else {
+        buf.truncate(LOG_BATCH_HEADER_LEN);
     }
 }

@@ -4,7 +4,7 @@ ghost use Rattle.raft_log_items.specs.Writing.{KeepsFront};
 ghost use Rattle.raft_log_items.specs.Placed.{laid_run};
 ghost use Rattle.raft_log_records.specs.Entries.{RisesFrom, IsIndexRun, entries_of, indexes_of, slices_bytes, joined, bytes_len, IsRunRefusal};
 
-use super::{LogBatch, MAX_ENTRIES_LEN};
+use super::{LogBatch, MAX_ENTRIES_LEN, make_header_room};
 use raft_log_items::{EntryIndex, EntryIndexes, Error, LogItem, Result};
 use std::alloc::{AllocError, Global};
 
@@ -46,6 +46,7 @@ impl LogBatch {
             return Ok(());
         }
         self.items.reserve(1)?;
+        make_header_room(&mut self.buf)?;
         let indexes = Vec::from_slice(alloc, entry_indexes)?;
         append_entries(&mut self.buf, entries, added as usize)?;
         let placed = place_entries(indexes, entries, self.entries_len as u32);

@@ -14,7 +14,7 @@ ghost use Rattle.raft_log_records.specs.Entries.{
 };
 
 use super::entries::check_run;
-use super::{LogBatch, MAX_ENTRIES_LEN};
+use super::{LogBatch, MAX_ENTRIES_LEN, make_header_room};
 use raft_log_base::codec::or_cut_back;
 use raft_log_frames::LOG_BATCH_HEADER_LEN;
 use raft_log_items::{EntryIndex, EntryIndexes, Error, LogItem, Message, MessageExt, Result};
@@ -46,12 +46,14 @@ impl LogBatch {
         ensures err { OnErr result (Becomes self.old self.new) }
         ensures errors { IfErr result (λ e. FailsToAdd M.index M.Entry.spelling e self.old entries.now) }
     {
-        let start = self.buf.len();
+        let offset = self.entries_len as u32;
         if entries.is_empty() {
             return Ok(());
         }
         self.items.reserve(1)?;
-        let placed = append_run::<M>(alloc, &mut self.buf, entries, self.entries_len as u32)?;
+        make_header_room(&mut self.buf)?;
+        let start = self.buf.len();
+        let placed = append_run::<M>(alloc, &mut self.buf, entries, offset)?;
         self.items
             .push_reserved(LogItem::new_entry_indexes(raft_group_id, placed));
         self.entries_len += self.buf.len() - start;

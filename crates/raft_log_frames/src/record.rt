@@ -47,7 +47,7 @@ pub fn write_checksum(bytes: &mut [u8], checksum: u32)
 
 /// Puts the checksum behind the entries' bytes, where there are some.
 #[tactic(auto, unfolding(crate::specs::Record::block_bytes))]
-fn close_block(buf: &mut Vec<u8>) -> std::result::Result<(), AllocError>
+fn close_block(buf: &mut Vec<u8>) -> Result<(), AllocError>
     requires { 16 ≤ length buf.old.items }
     ensures ok { OnOk result (buf.new.items ≡ with_block buf.old.items) }
     ensures err { OnErr result (buf.new.items ≡ buf.old.items) }
@@ -63,7 +63,7 @@ fn close_block(buf: &mut Vec<u8>) -> std::result::Result<(), AllocError>
 /// Appends the footer of these items, not signed, and answers their checksum. A refusal may leave a part of
 /// it behind what was there.
 #[tactic(auto, unfolding(crate::specs::Record::footer_bytes))]
-pub fn append_footer(buf: &mut Vec<u8>, items: &[LogItem]) -> std::result::Result<u32, AllocError>
+pub fn append_footer(buf: &mut Vec<u8>, items: &[LogItem]) -> Result<u32, AllocError>
     ensures ok { OnOk result (buf.new.items ≡ buf.old.items ++ footer_bytes None items.now) }
     ensures sum { IfOk result (λ checksum. checksum ≡ crc32_of (items_bytes items.now)) }
     ensures spelled { OnOk result (AreItems (items_bytes items.now) (map plain_item items.now)) }

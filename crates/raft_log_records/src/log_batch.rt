@@ -81,14 +81,14 @@ impl LogBatch {
     ghost use Rattle.raft_log_records.specs.Places.{AllLieIn, HasBytesInBlock};
 
     /// An empty batch, which is being filled.
-    pub fn default(alloc: Global) -> std::result::Result<Self, AllocError>
+    pub fn default(alloc: Global) -> Result<Self, AllocError>
         ensures { IfOk result (λ b. b ≡ empty_batch 0 0) }
     {
         LogBatch::with_capacity(alloc, 0)
     }
 
     /// An empty batch with room for so many items.
-    pub fn with_capacity(alloc: Global, capacity: usize) -> std::result::Result<Self, AllocError>
+    pub fn with_capacity(alloc: Global, capacity: usize) -> Result<Self, AllocError>
         ensures { IfOk result (λ b. b ≡ empty_batch capacity 0) }
     {
         Ok(LogBatch {
@@ -101,7 +101,7 @@ impl LogBatch {
     }
 
     /// A copy of the batch, as far on its way as this one.
-    pub fn clone(&self, alloc: Global) -> std::result::Result<Self, AllocError>
+    pub fn clone(&self, alloc: Global) -> Result<Self, AllocError>
         ensures { IfOk result (λ b. b ≡ record self.now { capacity = b.capacity; buffer = b.buffer }) }
     {
         let items = self.items.clone(alloc)?;
@@ -151,11 +151,7 @@ impl LogBatch {
     }
 
     /// Adds a mark of an atomic group. A refusal changes no item.
-    pub(crate) fn put_mark(
-        &mut self,
-        alloc: Global,
-        value: &[u8],
-    ) -> std::result::Result<(), AllocError>
+    pub(crate) fn put_mark(&mut self, alloc: Global, value: &[u8]) -> Result<(), AllocError>
         requires { self.old.state ≡ Filling }
         ensures ok { OnOk result (Puts self.old self.new 0 mark_key value.now) }
         ensures err { OnErr result (Becomes self.old self.new) }
@@ -164,11 +160,7 @@ impl LogBatch {
     }
 
     /// Adds a command of a group. A refusal changes nothing.
-    pub fn add_command(
-        &mut self,
-        raft_group_id: u64,
-        command: Command,
-    ) -> std::result::Result<(), AllocError>
+    pub fn add_command(&mut self, raft_group_id: u64, command: Command) -> Result<(), AllocError>
         requires { self.old.state ≡ Filling }
         ensures ok { OnOk result (AddsItem self.old self.new (command_item raft_group_id command)) }
         ensures err { OnErr result (self.new ≡ self.old) }
@@ -279,10 +271,8 @@ impl LogBatch {
             self.state = BatchState::Signed(signature);
             return;
         }
-        write_checksum(
-            self.buf.as_mut_slice(),
-            self.checksum ^ signature.unwrap_or(0),
-        );
+        let checksum = self.checksum ^ signature.unwrap_or(0);
+        write_checksum(self.buf.as_mut_slice(), checksum);
         self.state = BatchState::Signed(signature);
     }
 
@@ -356,7 +346,7 @@ impl LogBatch {
 
     /// Gives the items back, behind what is there, and leaves an empty batch that is being filled, with its
     /// room. Only where there is no room for the items it may be refused, and then changes nothing.
-    pub fn drain(&mut self, into: &mut Vec<LogItem>) -> std::result::Result<(), AllocError>
+    pub fn drain(&mut self, into: &mut Vec<LogItem>) -> Result<(), AllocError>
         ensures items { OnOk result (into.new.items ≡ into.old.items ++ self.old.items) }
         ensures emptied { OnOk result (self.new ≡ emptied self.old) }
         ensures bounded { OnOk result (self.new.buffer ≤ max_kept_len) }
@@ -415,7 +405,7 @@ fn block_len(len: usize) -> usize
 }
 
 /// Makes room for a header in a buffer that has no byte. A refusal leaves it so.
-fn make_header_room(buf: &mut Vec<u8>) -> std::result::Result<(), AllocError>
+fn make_header_room(buf: &mut Vec<u8>) -> Result<(), AllocError>
     ensures ok { OnOk result (buf.new.items ≡ roomy buf.old.items) }
     ensures err { OnErr result (buf.new.items ≡ buf.old.items) }
     ensures room { vec_capacity buf.old ≤ vec_capacity buf.new }

@@ -2,6 +2,7 @@
 ghost use Rattle.std.specs.Prelude.{◌≡◌, ◌-◌, ◌^◌, min, slice_get};
 ghost use Rattle.raft_log_records.specs.ItemBatch.{content_size, items_size, all_entries};
 
+use raft_log_base::codec::or_cut_back;
 use raft_log_frames::decode_placed_footer;
 use raft_log_frames::record::append_footer;
 use raft_log_items::items::{copied, lay_out, set_written};
@@ -62,27 +63,24 @@ impl LogItemBatch {
     pub fn default(alloc: Global) -> Self
         ensures { result.items ≡ [] }
     {
-        LogItemBatch {
-            items: Vec::new(alloc),
-        }
+        let items = Vec::new(alloc);
+        LogItemBatch { items }
     }
 
     /// An empty batch with room for so many items: as many are added without asking for memory.
     pub fn with_capacity(alloc: Global, capacity: usize) -> Result<Self, AllocError>
         ensures { IfOk result (λ batch. batch ≡ no_items capacity) }
     {
-        Ok(LogItemBatch {
-            items: Vec::with_capacity(alloc, capacity)?,
-        })
+        let items = Vec::with_capacity(alloc, capacity)?;
+        Ok(LogItemBatch { items })
     }
 
     /// A copy of the batch.
     pub fn clone(&self, alloc: Global) -> Result<Self, AllocError>
         ensures { IfOk result (λ batch. batch.items ≡ self.now.items) }
     {
-        Ok(LogItemBatch {
-            items: copied(alloc, self.items.as_slice())?,
-        })
+        let items = copied(alloc, self.items.as_slice())?;
+        Ok(LogItemBatch { items })
     }
 
     /// The items; nothing is copied.
@@ -278,12 +276,8 @@ impl LogItemBatch {
         let key = Bytes::from_slice(alloc, key)?;
         let mut value = Vec::new(alloc);
         message.write(&mut value)?;
-        self.items.push_reserved(LogItem::new_kv(
-            raft_group_id,
-            OpType::Put,
-            key,
-            Some(Bytes::new(value)),
-        ));
+        let value = Bytes::new(value);
+        self.items.push_reserved(LogItem::new_kv(raft_group_id, OpType::Put, key, Some(value)));
         Ok(())
     }
 
@@ -295,13 +289,8 @@ impl LogItemBatch {
         ensures spelled { OnOk result (IsSpelling self.now.items) }
     {
         let start = out.len();
-        match append_footer(out, self.items.as_slice()) {
-            Ok(_) => Ok(()),
-            Err(error) => {
-                out.truncate(start);
-                Err(error)
-            }
-        }
+        let appended = append_footer(out, self.items.as_slice());
+        or_cut_back(appended.map(|_| ()), out, start)
     }
 
     /// The items of a whole footer of this file, whose entries lie in the block at this place. Each entry has
@@ -351,11 +340,8 @@ fn content_size(content: &LogItemContent) -> usize
         LogItemContent::Command(_) => 8,
         LogItemContent::Kv(key_value) => {
             let value_len = key_value.value.as_ref().map_or(0, |value| value.len());
-            key_value
-                .key
-                .len()
-                .saturating_add(value_len)
-                .saturating_add(16)
+            let key_len = key_value.key.len();
+            key_len.saturating_add(value_len).saturating_add(16)
         }
     }
 }

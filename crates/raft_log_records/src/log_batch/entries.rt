@@ -5,6 +5,7 @@ ghost use Rattle.raft_log_items.specs.Placed.{laid_run};
 ghost use Rattle.raft_log_records.specs.Entries.{RisesFrom, IsIndexRun, entries_of, indexes_of, slices_bytes, joined, bytes_len, IsRunRefusal};
 
 use super::{LogBatch, MAX_ENTRIES_LEN, make_header_room};
+use raft_log_base::codec::or_cut_back;
 use raft_log_items::{EntryIndex, EntryIndexes, Error, LogItem, Result};
 use std::alloc::{AllocError, Global};
 
@@ -116,7 +117,7 @@ fn bytes_len(entries: &[&[u8]]) -> u64
 }
 
 /// Appends each entry's bytes.
-fn append_each(out: &mut Vec<u8>, entries: &[&[u8]]) -> std::result::Result<(), AllocError>
+fn append_each(out: &mut Vec<u8>, entries: &[&[u8]]) -> Result<(), AllocError>
     ensures ok { OnOk result (out.new.items ≡ out.old.items ++ joined (slices_bytes entries.now)) }
     ensures err { OnErr result (KeepsFront out.old.items out.new.items) }
 {
@@ -127,21 +128,13 @@ fn append_each(out: &mut Vec<u8>, entries: &[&[u8]]) -> std::result::Result<(), 
 }
 
 /// Appends each entry's bytes, which are so many in all. A refusal changes nothing.
-fn append_entries(
-    out: &mut Vec<u8>,
-    entries: &[&[u8]],
-    len: usize,
-) -> std::result::Result<(), AllocError>
+fn append_entries(out: &mut Vec<u8>, entries: &[&[u8]], len: usize) -> Result<(), AllocError>
     ensures ok { OnOk result (out.new.items ≡ out.old.items ++ joined (slices_bytes entries.now)) }
     ensures err { OnErr result (out.new.items ≡ out.old.items) }
 {
     out.reserve(len)?;
     let start = out.len();
-    let appended = append_each(out, entries);
-    if appended.is_err() {
-        out.truncate(start);
-    }
-    appended
+    or_cut_back(append_each(out, entries), out, start)
 }
 
 /// Gives each entry the length of its bytes, and leaves of what it had the index alone.

@@ -5,6 +5,7 @@ ghost use Rattle.raft_log_records.specs.ItemBatch.{TakesItems};
 
 use super::{LogBatch, MAX_ENTRIES_LEN, make_header_room};
 use crate::log_item_batch::LogItemBatch;
+use raft_log_base::codec::or_cut_back;
 use raft_log_frames::LOG_BATCH_HEADER_LEN;
 use raft_log_items::{Error, Result};
 use std::alloc::AllocError;
@@ -38,12 +39,8 @@ impl LogBatch {
         let first = self.items.len();
         make_header_room(&mut self.buf)?;
         let header = LOG_BATCH_HEADER_LEN.min(rhs.buf.len());
-        move_parts(
-            &mut self.items,
-            &mut self.buf,
-            &mut rhs.items,
-            &rhs.buf[header..],
-        )?;
+        let bytes = &rhs.buf[header..];
+        move_parts(&mut self.items, &mut self.buf, &mut rhs.items, bytes)?;
         self.items.lay_out_rest(first, self.entries_len as u32);
         self.entries_len += rhs.entries_len;
         rhs.buf.truncate(LOG_BATCH_HEADER_LEN);
@@ -59,7 +56,7 @@ fn move_parts(
     buf: &mut Vec<u8>,
     other: &mut LogItemBatch,
     bytes: &[u8],
-) -> std::result::Result<(), AllocError>
+) -> Result<(), AllocError>
     ensures items { OnOk result (TakesItems items.old items.new other.old other.new) }
     ensures bytes { OnOk result (buf.new.items ≡ buf.old.items ++ bytes.now) }
     ensures kept { OnErr result ((items.new ≡ items.old) × (other.new ≡ other.old)) }
@@ -68,9 +65,5 @@ fn move_parts(
 {
     let filled = buf.len();
     buf.extend_from_slice(bytes)?;
-    let moved = items.merge(other);
-    if moved.is_err() {
-        buf.truncate(filled);
-    }
-    moved
+    or_cut_back(items.merge(other), buf, filled)
 }

@@ -65,7 +65,7 @@ impl LogBatch {
 fn indexes_of<M: MessageExt>(
     alloc: Global,
     entries: &[M::Entry],
-) -> std::result::Result<Vec<EntryIndex>, AllocError>
+) -> Result<Vec<EntryIndex>, AllocError>
     ensures { IfOk result (λ indexes. map (λ e. e.index) indexes.items ≡ map M.index entries.now) }
 {
     let mut indexes = Vec::with_capacity(alloc, entries.len())?;

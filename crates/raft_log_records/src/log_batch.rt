@@ -1,5 +1,5 @@
 //! A batch on its way to a file: it is filled, populated, signed for a file, and written.
-ghost use Rattle.std.specs.Prelude.{◌≡◌, ◌+◌, ◌≤◌, ◌==◌, if◌then◌else◌, false, length, vec_capacity, IsOk, OnOk, OnErr, IfErr};
+ghost use Rattle.std.specs.Prelude.{◌≡◌, ◌+◌, ◌≤◌, ◌==◌, if◌then◌else◌, false, length, vec_len, vec_capacity, IsOk, OnOk, OnErr, IfErr};
 ghost use Rattle.raft_log_records.specs.Batch.{max_entries_len, kept_buffer, roomy};
 ghost use Rattle.raft_log_records.specs.Key.{is_internal, IsKeyRefusal};
 
@@ -234,7 +234,8 @@ impl LogBatch {
             self.state = BatchState::Populated;
             return Ok(0);
         }
-        make_header_room(&mut self.buf)?;
+        let footer_len = items_size(self.items.as_slice()).saturating_add(12 + CHECKSUM_LEN);
+        make_room(&mut self.buf, footer_len)?;
         let filled = self.buf.len();
         match fill_record(&mut self.buf, self.items.as_slice()) {
             Ok(checksum) => {
@@ -404,17 +405,19 @@ fn block_len(len: usize) -> usize
     if len == 0 { 0 } else { len + CHECKSUM_LEN }
 }
 
-/// Makes room for a header in a buffer that has no byte. A refusal leaves it so.
-fn make_header_room(buf: &mut Vec<u8>) -> Result<(), AllocError>
+/// Makes room for so many more bytes, and for a header in a buffer that has no byte, by one reservation. A refusal
+/// leaves the bytes.
+fn make_room(buf: &mut Vec<u8>, more: usize) -> Result<(), AllocError>
     ensures ok { OnOk result (buf.new.items ≡ roomy buf.old.items) }
+    ensures room { OnOk result (vec_len buf.new + more ≤ vec_capacity buf.new) }
     ensures err { OnErr result (buf.new.items ≡ buf.old.items) }
-    ensures room { vec_capacity buf.old ≤ vec_capacity buf.new }
-    ensures succeeds { 16 ≤ vec_capacity buf.old → IsOk result }
+    ensures succeeds { length (roomy buf.old.items) + more ≤ vec_capacity buf.old → IsOk result }
 {
-    if buf.is_empty() {
-        return buf.extend_from_slice(&[0; LOG_BATCH_HEADER_LEN]);
+    if !buf.is_empty() {
+        return buf.reserve(more);
     }
-    Ok(())
+    buf.reserve(more.saturating_add(LOG_BATCH_HEADER_LEN))?;
+    buf.extend_from_slice(&[0; LOG_BATCH_HEADER_LEN])
 }
 
 /// Leaves of a buffer the room for the header alone, and gives back one that has more than is kept.

@@ -4,7 +4,7 @@ ghost use Rattle.raft_log_items.specs.Writing.{KeepsFront};
 ghost use Rattle.raft_log_items.specs.Placed.{laid_run};
 ghost use Rattle.raft_log_records.specs.Entries.{RisesFrom, IsIndexRun, entries_of, indexes_of, slices_bytes, joined, bytes_len, IsRunRefusal};
 
-use super::{LogBatch, MAX_ENTRIES_LEN, make_header_room};
+use super::{LogBatch, MAX_ENTRIES_LEN, make_room};
 use raft_log_base::codec::or_cut_back;
 use raft_log_items::{EntryIndex, EntryIndexes, Error, LogItem, Result};
 use std::alloc::{AllocError, Global};
@@ -47,9 +47,9 @@ impl LogBatch {
             return Ok(());
         }
         self.items.reserve(1)?;
-        make_header_room(&mut self.buf)?;
+        make_room(&mut self.buf, added as usize)?;
         let indexes = Vec::from_slice(alloc, entry_indexes)?;
-        append_entries(&mut self.buf, entries, added as usize)?;
+        append_entries(&mut self.buf, entries)?;
         let placed = place_entries(indexes, entries, self.entries_len as u32);
         self.items
             .push_reserved(LogItem::new_entry_indexes(raft_group_id, placed));
@@ -116,7 +116,7 @@ fn bytes_len(entries: &[&[u8]]) -> u64
     len
 }
 
-/// Appends each entry's bytes.
+/// Appends each entry's bytes. A refusal may leave a part behind what was there.
 fn append_each(out: &mut Vec<u8>, entries: &[&[u8]]) -> Result<(), AllocError>
     ensures ok { OnOk result (out.new.items ≡ out.old.items ++ joined (slices_bytes entries.now)) }
     ensures err { OnErr result (KeepsFront out.old.items out.new.items) }
@@ -127,12 +127,11 @@ fn append_each(out: &mut Vec<u8>, entries: &[&[u8]]) -> Result<(), AllocError>
     Ok(())
 }
 
-/// Appends each entry's bytes, which are so many in all. A refusal changes nothing.
-fn append_entries(out: &mut Vec<u8>, entries: &[&[u8]], len: usize) -> Result<(), AllocError>
+/// The same, and a refusal changes nothing.
+fn append_entries(out: &mut Vec<u8>, entries: &[&[u8]]) -> Result<(), AllocError>
     ensures ok { OnOk result (out.new.items ≡ out.old.items ++ joined (slices_bytes entries.now)) }
     ensures err { OnErr result (out.new.items ≡ out.old.items) }
 {
-    out.reserve(len)?;
     let start = out.len();
     or_cut_back(append_each(out, entries), out, start)
 }

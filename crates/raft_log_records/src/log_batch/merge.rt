@@ -3,7 +3,7 @@ ghost use Rattle.std.specs.Prelude.{◌≡◌, ◌++◌, IsOk, OnOk, OnErr};
 ghost use Rattle.raft_log_records.specs.Batch.{Fits};
 ghost use Rattle.raft_log_records.specs.ItemBatch.{TakesItems};
 
-use super::{LogBatch, MAX_ENTRIES_LEN, make_header_room};
+use super::{LogBatch, MAX_ENTRIES_LEN, make_room};
 use crate::log_item_batch::LogItemBatch;
 use raft_log_base::codec::or_cut_back;
 use raft_log_frames::LOG_BATCH_HEADER_LEN;
@@ -37,7 +37,7 @@ impl LogBatch {
             return Err(Error::Full);
         }
         let first = self.items.len();
-        make_header_room(&mut self.buf)?;
+        make_room(&mut self.buf, rhs.entries_len)?;
         let header = LOG_BATCH_HEADER_LEN.min(rhs.buf.len());
         let bytes = &rhs.buf[header..];
         move_parts(&mut self.items, &mut self.buf, &mut rhs.items, bytes)?;

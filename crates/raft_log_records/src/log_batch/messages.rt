@@ -14,7 +14,7 @@ ghost use Rattle.raft_log_records.specs.Entries.{
 };
 
 use super::entries::check_run;
-use super::{LogBatch, MAX_ENTRIES_LEN, make_header_room};
+use super::{LogBatch, MAX_ENTRIES_LEN, make_room};
 use raft_log_base::codec::or_cut_back;
 use raft_log_frames::LOG_BATCH_HEADER_LEN;
 use raft_log_items::{EntryIndex, EntryIndexes, Error, LogItem, Message, MessageExt, Result};
@@ -51,7 +51,7 @@ impl LogBatch {
             return Ok(());
         }
         self.items.reserve(1)?;
-        make_header_room(&mut self.buf)?;
+        make_room(&mut self.buf, 0)?;
         let start = self.buf.len();
         let placed = append_run::<M>(alloc, &mut self.buf, entries, offset)?;
         self.items

@@ -30,7 +30,7 @@ invariant_of-self-2 c =
     let same : length indexes ≡ length entries = length-map given (λ (e : EntryIndex). e.index) ∙ c.in_ok-check_run.ensures.ok ∙ sym (length-map c.args.entries.now (λ (s : Bor (List ℕ)). s.now)) in
     let count : bytes_len entries ≡ added = omega (arith, c.bytes_len-added.ensures, c.if-added-self.false, c.self.invariant.fits) in
     let fits : len + added ≤ max_entries_len = omega (arith, c.if-added-self.false, c.self.invariant.fits) in
-    let bytes : c.append_entries.new.out.items ≡ roomy c.self.inside.buf.items ++ joined entries = c.in_ok-append_entries.ensures.ok ∙ ap (λ (l : List ℕ). l ++ joined entries) c.in_ok-make_header_room.ensures.ok in
+    let bytes : c.append_entries.new.out.items ≡ roomy c.self.inside.buf.items ++ joined entries = c.in_ok-append_entries.ensures.ok ∙ ap (λ (l : List ℕ). l ++ joined entries) c.in_ok-make_room.ensures.ok in
     let item : c.new_entry_indexes.result ≡ entries_item c.args.raft_group_id len indexes entries =
     c.new_entry_indexes.ensures ∙ ap (λ (l : List EntryIndex). record { raft_group_id = c.args.raft_group_id; content = contents.EntryIndexes l }) (c.place_entries-placed.ensures ∙ ap (λ (l : List EntryIndex). laid_run len (entries_of (indexes_of l) entries)) copied) in
     let items : c.push_reserved.new.self.items ≡ c.self.inside.items.items ++ entries_item c.args.raft_group_id len indexes entries ∷ [] =
@@ -49,7 +49,7 @@ returns-clause-ok c =
     let filling = ap (λ (b : Batch). b.state) c.self.view_is ∙ c.requires in
     let none : length c.args.entries.now ≢ 0 = eqb-false _ _ (sym c.is_empty.ensures ∙ c.if-is_empty.false) in
     let count : bytes_len entries ≡ added = omega (arith, c.bytes_len-added.ensures, c.if-added-self.false, c.self.invariant.fits) in
-    let bytes : c.append_entries.new.out.items ≡ roomy c.self.inside.buf.items ++ joined entries = c.in_ok-append_entries.ensures.ok ∙ ap (λ (l : List ℕ). l ++ joined entries) c.in_ok-make_header_room.ensures.ok in
+    let bytes : c.append_entries.new.out.items ≡ roomy c.self.inside.buf.items ++ joined entries = c.in_ok-append_entries.ensures.ok ∙ ap (λ (l : List ℕ). l ++ joined entries) c.in_ok-make_room.ensures.ok in
     let item : c.new_entry_indexes.result ≡ entries_item c.args.raft_group_id len indexes entries =
     c.new_entry_indexes.ensures ∙ ap (λ (l : List EntryIndex). record { raft_group_id = c.args.raft_group_id; content = contents.EntryIndexes l }) (c.place_entries-placed.ensures ∙ ap (λ (l : List EntryIndex). laid_run len (entries_of (indexes_of l) entries)) copied) in
     let items : c.push_reserved.new.self.items ≡ c.self.inside.items.items ++ entries_item c.args.raft_group_id len indexes entries ∷ [] =

@@ -15,8 +15,8 @@ invariant_of-self-2 c =
     let items : c.lay_out_rest.new.self.items ≡ old ++ laid_out len other =
     c.lay_out_rest.ensures.items ∙ ap (λ (l : List LogItem). take c.len-first.result l ++ laid_out len (drop c.len-first.result l)) c.in_ok-move_parts.ensures.items.0.0 ∙ moved_items old other c.len-first.result len first in
     let grown : c.move_parts.new.buf.items ≡ roomy c.self.inside.buf.items ++ drop 16 (roomy c.rhs.inside.buf.items) =
-    c.in_ok-move_parts.ensures.bytes ∙ ap (λ (l : List ℕ). c.make_header_room.new.buf.items ++ l) (behind_header c.deref.result.now c.min-header.result ∙ ap (λ (l : List ℕ). drop c.min-header.result l) c.deref.ensures.value ∙ behind_room c.rhs.inside.buf.items c.min-header.result (omega (arith, c.min-header.ensures, c.len.ensures, c.rhs.inside.buf.ok.0)) (omega (arith, c.rhs.invariant.room)))
-    ∙ ap (λ (l : List ℕ). l ++ drop 16 (roomy c.rhs.inside.buf.items)) c.in_ok-make_header_room.ensures.ok in
+    c.in_ok-move_parts.ensures.bytes ∙ ap (λ (l : List ℕ). c.make_room.new.buf.items ++ l) (behind_header c.deref.result.now c.min-header.result ∙ ap (λ (l : List ℕ). drop c.min-header.result l) c.deref.ensures.value ∙ behind_room c.rhs.inside.buf.items c.min-header.result (omega (arith, c.min-header.ensures, c.len.ensures, c.rhs.inside.buf.ok.0)) (omega (arith, c.rhs.invariant.room)))
+    ∙ ap (λ (l : List ℕ). l ++ drop 16 (roomy c.rhs.inside.buf.items)) c.in_ok-make_room.ensures.ok in
     let fits : len + c.rhs.inside.entries_len ≤ max_entries_len = omega (arith, c.if-rhs-self.false, c.self.invariant.fits) in
     subst (λ (l : List LogItem). IsBatch c.self.inside.state (roomy c.move_parts.new.buf.items) (len + c.rhs.inside.entries_len) c.self.inside.checksum l) (sym items)
     (merged c.self.inside.state c.rhs.inside.state (roomy c.self.inside.buf.items) (roomy c.rhs.inside.buf.items) c.move_parts.new.buf.items len c.rhs.inside.entries_len c.self.inside.checksum c.rhs.inside.checksum old other
@@ -33,8 +33,8 @@ returns-clause-ok c =
     let items : c.lay_out_rest.new.self.items ≡ old ++ laid_out len other =
     c.lay_out_rest.ensures.items ∙ ap (λ (l : List LogItem). take c.len-first.result l ++ laid_out len (drop c.len-first.result l)) c.in_ok-move_parts.ensures.items.0.0 ∙ moved_items old other c.len-first.result len first in
     let grown : c.move_parts.new.buf.items ≡ roomy c.self.inside.buf.items ++ drop 16 (roomy c.rhs.inside.buf.items) =
-    c.in_ok-move_parts.ensures.bytes ∙ ap (λ (l : List ℕ). c.make_header_room.new.buf.items ++ l) (behind_header c.deref.result.now c.min-header.result ∙ ap (λ (l : List ℕ). drop c.min-header.result l) c.deref.ensures.value ∙ behind_room c.rhs.inside.buf.items c.min-header.result (omega (arith, c.min-header.ensures, c.len.ensures, c.rhs.inside.buf.ok.0)) (omega (arith, c.rhs.invariant.room)))
-    ∙ ap (λ (l : List ℕ). l ++ drop 16 (roomy c.rhs.inside.buf.items)) c.in_ok-make_header_room.ensures.ok in
+    c.in_ok-move_parts.ensures.bytes ∙ ap (λ (l : List ℕ). c.make_room.new.buf.items ++ l) (behind_header c.deref.result.now c.min-header.result ∙ ap (λ (l : List ℕ). drop c.min-header.result l) c.deref.ensures.value ∙ behind_room c.rhs.inside.buf.items c.min-header.result (omega (arith, c.min-header.ensures, c.len.ensures, c.rhs.inside.buf.ok.0)) (omega (arith, c.rhs.invariant.room)))
+    ∙ ap (λ (l : List ℕ). l ++ drop 16 (roomy c.rhs.inside.buf.items)) c.in_ok-make_room.ensures.ok in
     let seen = merged_seen c.self.inside.state c.rhs.inside.state (roomy c.self.inside.buf.items) (roomy c.rhs.inside.buf.items) c.move_parts.new.buf.items len c.rhs.inside.entries_len c.self.inside.checksum c.rhs.inside.checksum old other
     (ap (λ (b : Batch). b.state) c.self.view_is ∙ c.requires.own) (ap (λ (b : Batch). b.state) c.rhs.view_is ∙ c.requires.other) grown c.self.invariant c.rhs.invariant in
     let cap : ℕ = c.lay_out_rest.new.self.capacity in

@@ -319,10 +319,11 @@ fn read_bytes(source: &mut &[u8]) -> Result<Vec<u8>> {
     Ok(front.to_vec())
 }
 
-fn read_entries(source: &mut &[u8]) -> Result<Vec<EntryIndex>> {
+/// Reads entries, which lie in the block at this place from this offset on, and answers where the next one goes.
+fn read_entries(source: &mut &[u8], block: FileBlockHandle, mut offset: u64) -> Result<(Vec<EntryIndex>, u64)> {
     let count = decode_var_u64(source)?;
     if count == 0 {
-        return Ok(Vec::new());
+        return Ok((Vec::new(), offset));
     }
     let first = decode_var_u64(source)?;
     if first.checked_add(count).is_none() {
@@ -334,9 +335,16 @@ fn read_entries(source: &mut &[u8]) -> Result<Vec<EntryIndex>> {
         let Ok(entry_len) = u32::try_from(len) else {
             return Err(Error::Corruption("Entry length past the limit".to_string()));
         };
-        entries.push(EntryIndex::new(first + i, entry_len));
+        entries.push(EntryIndex {
+            index: first + i,
+            entries: Some(block),
+            compression_type: CompressionType::None,
+            entry_offset: offset as u32,
+            entry_len,
+        });
+        offset = offset.saturating_add(len);
     }
-    Ok(entries)
+    Ok((entries, offset))
 }
 
 fn read_command(source: &mut &[u8]) -> Result<Command> {
@@ -347,7 +355,7 @@ fn read_command(source: &mut &[u8]) -> Result<Command> {
     }
 }
 
-fn read_key_value(source: &mut &[u8]) -> Result<KeyValue> {
+fn read_key_value(source: &mut &[u8], file: FileId) -> Result<KeyValue> {
     let op_type = match take_byte(source)? {
         1 => OpType::Put,
         2 => OpType::Del,
@@ -358,34 +366,26 @@ fn read_key_value(source: &mut &[u8]) -> Result<KeyValue> {
         OpType::Put => Some(read_bytes(source)?),
         OpType::Del => None,
     };
-    Ok(KeyValue { op_type, key, value, file_id: None })
+    Ok(KeyValue { op_type, key, value, file_id: Some(file) })
 }
 
-fn read_item(source: &mut &[u8]) -> Result<Item> {
+/// Reads an item with its places, and answers where the next entry goes.
+fn read_item(source: &mut &[u8], block: FileBlockHandle, offset: u64) -> Result<(Item, u64)> {
     let group = decode_var_u64(source)?;
-    let content = match take_byte(source)? {
-        TYPE_ENTRIES => Content::Entries(read_entries(source)?),
-        TYPE_COMMAND => Content::Command(read_command(source)?),
-        TYPE_KEY_VALUE => Content::KeyValue(read_key_value(source)?),
+    let (content, next) = match take_byte(source)? {
+        TYPE_ENTRIES => {
+            let (entries, next) = read_entries(source, block, offset)?;
+            (Content::Entries(entries), next)
+        }
+        TYPE_COMMAND => (Content::Command(read_command(source)?), offset),
+        TYPE_KEY_VALUE => (Content::KeyValue(read_key_value(source, block.id)?), offset),
         kind => return Err(Error::Corruption(format!("Unrecognized item type: {kind}"))),
     };
-    Ok(Item { group, content })
+    Ok((Item { group, content }, next))
 }
 
-/// How many bytes the entries of these items have.
-fn entries_len(items: &[Item]) -> u64 {
-    let mut len = 0u64;
-    for item in items {
-        if let Content::Entries(entries) = &item.content {
-            for entry in entries {
-                len = len.saturating_add(entry.entry_len as u64);
-            }
-        }
-    }
-    len
-}
-
-fn read_footer(bytes: &[u8], block_len: usize, signature: Option<u32>) -> Result<Vec<Item>> {
+/// Reads a footer whose entries lie in the block at this place; each item gets its places as it is read.
+fn read_footer(bytes: &[u8], block: FileBlockHandle, signature: Option<u32>) -> Result<Vec<Item>> {
     let len = bytes.len();
     if len <= CHECKSUM {
         return Err(Error::Corruption(format!("Log batch footer too short: {len}")));
@@ -397,15 +397,17 @@ fn read_footer(bytes: &[u8], block_len: usize, signature: Option<u32>) -> Result
     let source = &mut body;
     let count = decode_var_u64(source)?;
     let mut items = Vec::with_capacity((source.len() as u64).min(count) as usize);
+    let mut len = 0;
     for _ in 0..count {
-        items.push(read_item(source)?);
+        let (item, next) = read_item(source, block, len)?;
+        items.push(item);
+        len = next;
     }
     let left = source.len();
     if left != 0 {
         return Err(Error::Corruption(format!("Bytes after the last log item: {left}")));
     }
-    let len = entries_len(&items);
-    let filled = if block_len == 0 { len == 0 } else { block_len as u64 == len + CHECKSUM as u64 };
+    let filled = if block.len == 0 { len == 0 } else { block.len as u64 == len + CHECKSUM as u64 };
     if len > u32::MAX as u64 || !filled {
         return Err(Error::Corruption("Entry lengths do not add up to the entry block".to_string()));
     }
@@ -413,6 +415,7 @@ fn read_footer(bytes: &[u8], block_len: usize, signature: Option<u32>) -> Result
 }
 
 const SIGNATURE: Option<u32> = Some(7);
+const FILE: FileId = FileId { queue: LogQueue::Append, seq: 7 };
 
 /// Empties the batch, fills it, makes its record and signs it.
 fn encode(batch: &mut Batch, old: &mut Vec<Item>, first: u64, entries: &[Vec<u8>]) -> Result<usize> {
@@ -446,7 +449,8 @@ fn record_of(batch: &mut Batch, entries: &[Vec<u8>]) -> Result<Vec<u8>> {
     Ok(batch.buf.clone())
 }
 
-/// Reads a record, and answers the sum of its lengths and of its entries' first index.
+/// Reads a record with the places of its entries, and answers the sum of its lengths, of its entries' first index, and of
+/// its last entry's place.
 fn decode(record: &[u8]) -> Result<u64> {
     let mut source = record;
     let (offset, compression, len) = read_header(&mut source)?;
@@ -454,10 +458,14 @@ fn decode(record: &[u8]) -> Result<u64> {
     if HEADER <= offset && offset <= len && len <= record.len() {
         let block = &record[HEADER..offset];
         let entries = read_block(block, compression)?;
-        let items = read_footer(&record[offset..len], block.len(), SIGNATURE)?;
+        let place = FileBlockHandle { id: FILE, offset: HEADER as u64, len: block.len() };
+        let items = read_footer(&record[offset..len], place, SIGNATURE)?;
         check = items.len() as u64 + entries.len() as u64;
         if let Some(Content::Entries(entries)) = items.first().map(|item| &item.content) {
             check += entries.first().map_or(0, |first| first.index);
+            if let Some(last) = entries.last() {
+                check += last.entry_offset as u64 + last.entries.map_or(0, |block| block.offset);
+            }
         }
     }
     Ok(check)

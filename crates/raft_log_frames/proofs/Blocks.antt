@@ -1,17 +1,15 @@
 -- Reading a whole entry block is its grammar.
 use Rattle.std.proofs.Common.{◌≡◌, ℕ, ◌+◌, ◌-◌, ◌≤◌, true, false, cond, ltb, eqb, List, [], ◌∷◌, ◌++◌, length, take, drop, Result, Ok, Err, inl, inr, refl, sym, ap, ◌∙◌, arith}
-use Rattle.std.specs.Prelude.{IsOk, IsOkAnd, IfOk}
-use Rattle.std.specs.Borrow.{Bor}
 use Rattle.std.specs.Int.{w32, from_le_bytes}
 use Rattle.std.proofs.lemmas.Bool.{eq-eqb, eqb-true, ne_eqb, le-ltb, ltb-false}
 use Rattle.std.proofs.lemmas.List.{take_at, drop_at, take-append-drop, length-drop, length-append}
 use Rattle.raft_log_checksum.specs.Checksum.{crc32_of}
 use Rattle.raft_log_base.specs.Number.{IsU32Le}
 use Rattle.raft_log_base.proofs.Grammar.{ok_is, chosen}
-use Rattle.raft_log_base.specs.declared.errors.Error.{Error}
 use Rattle.raft_log_base.specs.Fault.{Fault}
 use Rattle.raft_log_base.specs.Fault.Fault.{corrupt}
-use Rattle.raft_log_frames.specs.Record.{IsBlock, block_of, block_too_short, block_mismatch, GivesSlice}
+use Rattle.raft_log_frames.specs.Record.{IsBlock, block_of, block_too_short, block_mismatch}
+use Rattle.raft_log_frames.specs.Frames.{BlockIsRead}
 
 pub block_found : (bytes entries : List ℕ) → block_of bytes ≡ Ok entries → IsBlock bytes entries
 unfolding block_of
@@ -58,12 +56,5 @@ block_again bytes entries h = elim h [
   | inr b ↦ summed_again bytes entries b.0 b.1 b.2
 ]
 
--- ---- decoders that answer a part of their bytes
-
-pub slice_found : (r : Result (Bor (List ℕ)) Error) (bytes : List ℕ) → GivesSlice r (block_of bytes) → IfOk r (λ x. IsBlock bytes x.now)
-slice_found (Ok x) bytes h = block_found bytes x.now h
-slice_found (Err d) bytes h = tt
-
-pub slice_only : (r : Result (Bor (List ℕ)) Error) (bytes entries : List ℕ) → GivesSlice r (block_of bytes) → (IsOk (block_of bytes) → IsOk r) → IsBlock bytes entries → IsOkAnd r (λ x. x.now ≡ entries)
-slice_only (Ok x) bytes entries h sure b = ok_is {E = Fault} x.now entries (sym h ∙ block_again bytes entries b)
-slice_only (Err d) bytes entries h sure b = absurd (let k = sure (rw (block_again bytes entries b) refl) in cc)
+pub block_is_read : BlockIsRead
+block_is_read bytes entries = (block_found bytes entries, block_again bytes entries)

@@ -1,5 +1,5 @@
 -- At one place there is one record only, and it is what the decoders read.
-use Rattle.std.proofs.Common.{◌≡◌, ℕ, ◌+◌, ◌-◌, ◌*◌, ◌≤◌, List, [], ◌++◌, length, take, drop, Option, refl, sym, ap, subst, ◌∙◌, append_assoc, arith}
+use Rattle.std.proofs.Common.{◌≡◌, ℕ, ◌+◌, ◌-◌, ◌*◌, ◌≤◌, List, [], ◌++◌, length, take, drop, Option, Ok, refl, sym, ap, subst, ◌∙◌, append_assoc, arith}
 use Rattle.std.specs.Prelude.{slice_range}
 use Rattle.std.specs.Int.{w64, from_be_bytes}
 use Rattle.std.proofs.lemmas.List.{take_at, drop_at, take-append-drop, length-take-le, length-drop, length-append}
@@ -9,9 +9,9 @@ use Rattle.raft_log_items.specs.declared.compression.CompressionType.TheVariants
 use Rattle.raft_log_base.specs.Fault.{Fault}
 use Rattle.raft_log_items.proofs.Reading.{are_items}
 use Rattle.raft_log_frames.specs.Record.{IsHeader, IsSoundHeader, IsFrame, AddsUp, header_at, block_of, footer_of}
-use Rattle.raft_log_frames.specs.Frames.{OneHeaderAtAPlace, OneFooterAtAPlace, OneBlockOfALength, OneFrameAtAPlace, OneRecordAtAPlace, RecordIsFrameAndBlock, FramesTakeBytes, FramesAreReadBack, WhatIsReadIsAFrame, RecordsAreReadBack, WhatIsReadIsARecord}
+use Rattle.raft_log_frames.specs.Frames.{OneHeaderAtAPlace, OneFooterAtAPlace, OneBlockOfALength, OneFrameAtAPlace, OneRecordAtAPlace, RecordIsFrameAndBlock, FramesTakeBytes}
 use Rattle.raft_log_frames.proofs.Headers.{is_sound_header, header_words, header_again}
-use Rattle.raft_log_frames.proofs.Blocks.{block_found, block_again}
+use Rattle.raft_log_frames.proofs.Blocks.{block_again}
 use Rattle.raft_log_frames.proofs.Footers.{footer_again, footer_found, some_bytes}
 
 -- fronts of one length of the same bytes are one, and so is what stands behind them
@@ -93,7 +93,16 @@ frames_take_bytes signature bytes block items h =
 
 -- ---- reading
 
-pub frame_back : FramesAreReadBack
+-- The decoders of the header and of the footer accept a record of this length at the front of the input, whose footer
+-- begins at this offset.
+pub record ReadsFrame (signature : Option ℕ) (input : List ℕ) (offset len : ℕ) (items : List LogItem) : Type 0 where
+  pub behind : List ℕ
+  pub header : header_at input ≡ Ok ((offset, kinds.None, len), behind)
+  pub whole : len ≤ length input
+  pub footer : footer_of signature (offset - 16) (slice_range input offset len) ≡ Ok items
+
+pub frame_back : (signature : Option ℕ) (bytes block rest : List ℕ) (items : List LogItem) → IsFrame signature bytes items block
+    → ReadsFrame signature (bytes ++ rest) (16 + length block) (length bytes) items × (slice_range (bytes ++ rest) 16 (16 + length block) ≡ block)
 frame_back signature bytes block rest items h =
     let sizes = sizes_of signature bytes block items h in
     let whole = grouped signature bytes block rest items h in
@@ -132,7 +141,8 @@ in_parts from to bytes ordered fits =
     ap (λ (l : List ℕ). take to l) split
     ∙ take_at (take from bytes ++ slice_range bytes from to) (drop (to - from) (drop from bytes)) to (omega (arith, length-append (take from bytes) (slice_range bytes from to), front, inner))
 
-pub frame_read : WhatIsReadIsAFrame
+pub frame_read : (signature : Option ℕ) (input : List ℕ) (offset len : ℕ) (items : List LogItem) → ReadsFrame signature input offset len items
+    → IsFrame signature (take len input) items (slice_range input 16 offset)
 frame_read signature input offset len items r =
     let read = is_sound_header.takes input ((offset, kinds.None, len), r.behind) r.header in
     let sound = read.1 in
@@ -151,15 +161,3 @@ frame_read signature input offset len items r =
       footer_spelled = found.0;
       adds_up = subst (λ (n : ℕ). AddsUp items n) (sym inner) found.1;
     }
-
-pub record_back : RecordsAreReadBack
-record_back signature bytes entries rest items h =
-    let back = frame_back signature bytes h.block rest items h.frame in
-    (16 + length h.block, record { frame = back.0; block = ap block_of back.1 ∙ block_again h.block entries h.block_spelled })
-
-pub record_read : WhatIsReadIsARecord
-record_read signature input entries offset len items r = record {
-  block = slice_range input 16 offset;
-  frame = frame_read signature input offset len items r.frame;
-  block_spelled = block_found (slice_range input 16 offset) entries r.block;
-}

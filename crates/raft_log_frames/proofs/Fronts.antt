@@ -12,10 +12,10 @@ use Rattle.raft_log_items.specs.declared.item.LogItem.{LogItem}
 use Rattle.raft_log_items.specs.declared.compression.CompressionType.{CompressionType}
 use Rattle.raft_log_items.specs.declared.compression.CompressionType.TheVariants as kinds
 use Rattle.raft_log_frames.specs.Record.{IsFrame, Front, header_at, block_of, footer_of, frame_of, frame_at, record_at, past_input}
-use Rattle.raft_log_frames.specs.Frames.{ReadsFrame, FrameIsRead, RecordIsRead, RecordIsTold, BeginsRecord, NoFrameInZeros}
+use Rattle.raft_log_frames.specs.Frames.{FrameIsRead, RecordIsRead, FramesAreReadBack, RecordsAreReadBack, RecordIsTold, BeginsRecord, NoFrameInZeros}
 use Rattle.raft_log_frames.proofs.Headers.{header_words}
 use Rattle.raft_log_frames.proofs.Blocks.{block_found, block_again}
-use Rattle.raft_log_frames.proofs.Frames.{frame_back, frame_read, frames_take_bytes}
+use Rattle.raft_log_frames.proofs.Frames.{ReadsFrame, frame_back, frame_read, frames_take_bytes}
 
 is_none : (k : CompressionType) → k ≡ kinds.None
 is_none kinds.None = refl
@@ -101,6 +101,18 @@ record_is_read signature input front = (
       let taken : frame_at signature input ≡ Ok frame = (frame_is_read signature input frame).1 (h.0, h.1.frame) in
       record_made signature input frame front.bytes taken (block_again h.1.block front.bytes h.1.block_spelled),
 )
+
+pub frames_are_read_back : FramesAreReadBack
+frames_are_read_back signature bytes block rest items h =
+    let back = frame_back signature bytes block rest items h in
+    let n : ℕ = length bytes in
+    frame_made signature (bytes ++ rest) (16 + length block) n items back.0
+    ∙ ap (λ (l : List ℕ). done {E = Fault} (record { len = n; items = items; bytes = l })) back.1
+
+pub records_are_read_back : RecordsAreReadBack
+records_are_read_back signature bytes entries rest items h =
+    let frame : Front = record { len = length bytes; items = items; bytes = h.block } in
+    record_made signature (bytes ++ rest) frame entries (frames_are_read_back signature bytes h.block rest items h.frame) (block_again h.block entries h.block_spelled)
 
 told : (signature : Option ℕ) (input : List ℕ) (r : Result Front Fault) → record_at signature input ≡ r → BeginsRecord signature input ⊎ (BeginsRecord signature input → ⊥)
 told signature input (Ok front) e = let p = (record_is_read signature input front).0 e in inl (front, p.0, p.1)

@@ -3,13 +3,11 @@ use Rattle.std.proofs.Common.{◌≡◌, ℕ, ◌*◌, ◌/◌, ◌%◌, ◌≤�
 use Rattle.std.specs.Int.{w64, from_be_bytes}
 use Rattle.std.proofs.lemmas.Bool.{ltb-false, le-ltb, eqb-true, eq-eqb}
 use Rattle.std.proofs.lemmas.List.{take_at, drop_at, take-append-drop, length-take-le, length-drop, length-append}
-use Rattle.std.specs.Prelude.{IsOk, OnOk}
-use Rattle.raft_log_base.specs.Grammar.{Reader, IsReader, Decodes, ◌>>=◌}
+use Rattle.raft_log_base.specs.Grammar.{IsReader, ◌>>=◌}
 use Rattle.raft_log_base.proofs.Grammar.{bind_ok, ok_is, chosen}
 use Rattle.raft_log_items.specs.declared.compression.CompressionType.{CompressionType}
 use Rattle.raft_log_items.specs.declared.compression.CompressionType.TheVariants as kinds
-use Rattle.raft_log_base.specs.declared.errors.Error.{Error}
-use Rattle.raft_log_base.specs.Fault.{Fault, ReadsOrMemory}
+use Rattle.raft_log_base.specs.Fault.{Fault}
 use Rattle.raft_log_base.specs.Fault.Fault.{corrupt}
 use Rattle.raft_log_items.specs.Reading.{unsupported_compression}
 use Rattle.raft_log_frames.specs.Record.{IsHeader, IsSoundHeader, header_of, header_at, header_too_short, offset_in_header, offset_past_end}
@@ -109,25 +107,3 @@ header_again text rest header h =
 
 pub is_sound_header : IsReader header_at IsSoundHeader
 is_sound_header = record { takes = header_takes; again = header_again }
-
--- ---- decoders that refuse only where the reading does
-
-pub decodes_surely : {X : Type 0} (result : Result X Error) (old new : List ℕ) {read : Reader X Fault} {P : List ℕ → X → Type 0} → IsReader read P → ReadsOrMemory result old new (read old) → (IsOk (read old) → IsOk result) → Decodes P result old new
-decodes_surely {X = X} (Ok y) old new {read = read} h t sure = record {
-  found = h.takes old (y, new) t;
-  only = λ text rest x p e.
-      let same = ok_is {E = Fault} (y, new) (x, rest) (sym t ∙ ap read e ∙ h.again text rest x p) in
-      (ap (λ (q : X × List ℕ). Ok q.0) same, ap (λ (q : X × List ℕ). q.1) same);
-}
-decodes_surely (Err d) old new {read = read} h t sure = record {
-  found = t.1;
-  only = λ text rest x p e.
-      let read_it = ap read e ∙ h.again text rest x p in
-      absurd (let k = sure (rw read_it refl) in cc);
-}
-
-pub takes_sixteen : (result : Result (ℕ × CompressionType × ℕ) Error) (old new : List ℕ) → Decodes IsSoundHeader result old new → OnOk result (new ≡ drop 16 old)
-takes_sixteen (Ok h) old new d =
-    let words = header_words d.found.0 new h.2 h.0 d.found.1.spelled in
-    sym (ap (λ (l : List ℕ). drop 16 l) d.found.2 ∙ drop_at d.found.0 new 16 words.0)
-takes_sixteen (Err e) old new d = tt

@@ -25,6 +25,7 @@ with_block buffer = take 16 buffer ++ block_bytes (drop 16 buffer)
 abbrev pub IsMemoryOrFull : Error → ℕ → Type 0
 IsMemoryOrFull e len = (e ≡ errors.Memory) ⊎ ((e ≡ errors.Full) × (2 ^ 56 ≤ len))
 
--- the buffer of these entries' bytes behind room for a header became the record of them and of these items, unsigned
+-- the buffer of these entries' bytes behind room for a header became the record of them and of these items,
+-- unsigned
 abbrev pub MakesRecord : List ℕ → List ℕ → ℕ → List LogItem → Type 0
 MakesRecord old new checksum items = HoldsRecordBytes None new checksum items (drop 16 old)

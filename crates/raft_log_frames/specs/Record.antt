@@ -1,6 +1,6 @@
--- Whole records: a header, the entry block, and the footer with the items. A record is signed with the number of
--- its file.
-use Rattle.std.specs.Prelude.{◌≡◌, ◌⊎◌, ℕ, ◌+◌, ◌-◌, ◌*◌, ◌/◌, ◌%◌, ◌<◌, ◌≤◌, ◌^◌, List, [], ◌∷◌, ◌++◌, length, take, drop, slice_range, Option, Result, Ok, Err, unwrap_or, nat_lt, ◌==◌, if◌then◌else◌, codes, bit_xor, Bool, ◌&&◌, MatchResult, IsOkAnd}
+-- Whole records: a header, the entry block, and the footer with the items. A record is signed with the number
+-- of its file.
+use Rattle.std.specs.Prelude.{◌≡◌, ◌⊎◌, ℕ, ◌+◌, ◌-◌, ◌*◌, ◌/◌, ◌%◌, ◌<◌, ◌≤◌, ◌^◌, List, [], ◌∷◌, ◌++◌, length, take, drop, slice_range, Option, Result, Ok, Err, unwrap_or, nat_lt, ◌==◌, if◌then◌else◌, codes, bit_xor, Bool, ◌&&◌}
 use Rattle.std.specs.Fmt.{decimal}
 use Rattle.std.specs.Int.{w32, w64, from_be_bytes, from_le_bytes}
 use Rattle.raft_log_base.specs.Grammar.{Reader, ◌>>=◌}
@@ -12,13 +12,13 @@ use Rattle.raft_log_items.specs.declared.item.LogItem.{LogItem}
 use Rattle.std.specs.Borrow.{Bor}
 use Rattle.std.specs.Global.{Vec}
 use Rattle.raft_log_base.specs.declared.errors.Error.{Error}
-use Rattle.raft_log_base.specs.declared.errors.Error.TheVariants as errors
+use Rattle.raft_log_base.specs.declared.pipe_log.FileBlockHandle.{FileBlockHandle}
 use Rattle.raft_log_base.specs.Fault.{Fault, Fails}
 use Rattle.raft_log_base.specs.Fault.Fault.{corrupt}
 use Rattle.raft_log_items.specs.Items.{AreItems}
 use Rattle.raft_log_items.specs.Reading.{items_at, unsupported_compression}
 use Rattle.raft_log_items.specs.Writing.{items_bytes}
-use Rattle.raft_log_items.specs.Placed.{entries_len}
+use Rattle.raft_log_items.specs.Placed.{entries_len, placed}
 
 -- the checksum, and in a file with signatures combined with the file's signature
 abbrev pub signed : Option ℕ → List ℕ → ℕ
@@ -45,8 +45,8 @@ AddsUp items len =
 abbrev pub IsFooterOf : Option ℕ → ℕ → List ℕ → List LogItem → Type 0
 IsFooterOf signature len bytes items = IsFooter signature bytes items × AddsUp items len
 
--- No bytes, where there are no bytes of entries, or the entries' bytes and their checksum. A block of a checksum alone is
--- read, and never written.
+-- No bytes, where there are no bytes of entries, or the entries' bytes and their checksum. A block of a
+-- checksum alone is read, and never written.
 abbrev pub IsBlock : List ℕ → List ℕ → Type 0
 IsBlock bytes entries =
     ((bytes ≡ []) × (entries ≡ []))
@@ -54,13 +54,18 @@ IsBlock bytes entries =
 
 -- Headers.
 
--- 256 times the record's length, which leaves the compression's type 0 in the lowest byte, and where the footer begins
+-- 256 times the record's length, which leaves the compression's type 0 in the lowest byte, and where the
+-- footer begins
 pub record IsHeader (bytes : List ℕ) (len offset : ℕ) : Type 0 where
   pub first : List ℕ
   pub second : List ℕ
   pub joined : bytes ≡ first ++ second
   pub length_spelled : IsU64 first (256 * len)
   pub offset_spelled : IsU64 second offset
+
+-- the footer begins behind the header, and not past the record's end
+abbrev pub IsInside : ℕ × CompressionType × ℕ → Type 0
+IsInside header = (16 ≤ header.0) × (header.0 ≤ header.2)
 
 -- A header that is read: its footer begins behind it, and not past the record's end. It says where the footer
 -- begins, how the block is compressed, which is not at all, and the record's length.
@@ -73,7 +78,8 @@ pub record IsSoundHeader (bytes : List ℕ) (header : ℕ × CompressionType × 
 -- Records.
 
 -- a header and a footer with a block of the right length between them, which is not looked at
-pub record IsFrame (signature : Option ℕ) (bytes : List ℕ) (items : List LogItem) (block : List ℕ) : Type 0 where
+pub record IsFrame (signature : Option ℕ) (bytes : List ℕ) (items : List LogItem) (block : List ℕ)
+    : Type 0 where
   pub header : List ℕ
   pub footer : List ℕ
   pub joined : bytes ≡ header ++ block ++ footer
@@ -82,7 +88,8 @@ pub record IsFrame (signature : Option ℕ) (bytes : List ℕ) (items : List Log
   pub adds_up : AddsUp items (length block)
 
 -- a frame whose block holds these entries' bytes
-pub record IsRecord (signature : Option ℕ) (bytes : List ℕ) (items : List LogItem) (entries : List ℕ) : Type 0 where
+pub record IsRecord (signature : Option ℕ) (bytes : List ℕ) (items : List LogItem) (entries : List ℕ)
+    : Type 0 where
   pub block : List ℕ
   pub frame : IsFrame signature bytes items block
   pub block_spelled : IsBlock block entries
@@ -125,7 +132,8 @@ block_too_short n = codes "Entry block too short: " ++ decimal n
 abbrev pub block_mismatch : List ℕ
 block_mismatch = codes "Entry block checksum mismatch"
 
--- what the two words of a header say: where the footer begins, how the block is compressed, and the record's length
+-- what the two words of a header say: where the footer begins, how the block is compressed, and the record's
+-- length
 unfoldable pub header_of : ℕ → ℕ → Result (ℕ × CompressionType × ℕ) Fault
 header_of word offset =
     if word % 256 == 0 then
@@ -154,12 +162,16 @@ block_of bytes =
 abbrev pub adds_up : ℕ → ℕ → Bool
 adds_up len n = nat_lt n (2 ^ 32) && (if len == 0 then n == 0 else len == n + 4)
 
--- the items of a footer, with what stands behind them
-unfoldable pub whole_items : ℕ → List LogItem → List ℕ → Result (List LogItem) Fault
-whole_items len items rest =
+-- nothing stands behind the items, and so many bytes of entries are in a block of this length
+unfoldable pub whole_of : ℕ → ℕ → List ℕ → Result (Unit {0}) Fault
+whole_of len sum rest =
     if length rest == 0
-    then (if adds_up len (entries_len items) then Ok items else Err (corrupt lengths_mismatch))
+    then (if adds_up len sum then Ok tt else Err (corrupt lengths_mismatch))
     else Err (corrupt (bytes_after_items (length rest)))
+
+-- the items of a footer, if nothing stands behind them and their entries are in a block of this length
+unfoldable pub whole_items : ℕ → List LogItem → List ℕ → Result (List LogItem) Fault
+whole_items len items rest = whole_of len (entries_len items) rest >>= λ whole. Ok items
 
 -- what a decoder of a whole slice answered, as a part of it, is what the reading gives, unless memory ran out
 abbrev pub GivesSlice : Result (Bor (List ℕ)) Error → Result (List ℕ) Fault → Type 0
@@ -171,27 +183,23 @@ abbrev pub GivesItems : {X : Type 0} → Result (Vec X) Error → Result (List X
 GivesItems (Ok x) reading = reading ≡ Ok x.items
 GivesItems (Err e) reading = Fails e reading
 
--- the items whose spelling is all of the bytes, and whose entries add up to a block of so many bytes
-unfoldable pub items_of : ℕ → List ℕ → Result (List LogItem) Fault
-items_of len bytes = items_at bytes >>= λ r. whole_items len r.0 r.1
-
--- the items of a whole footer
-unfoldable pub footer_of : Option ℕ → ℕ → List ℕ → Result (List LogItem) Fault
-footer_of signature len bytes =
+-- the bytes of a footer in front of its checksum, which is signed with this
+unfoldable pub body_of : Option ℕ → List ℕ → Result (List ℕ) Fault
+body_of signature bytes =
     if nat_lt (length bytes) 5 then Err (corrupt (footer_too_short (length bytes)))
-    else (if from_le_bytes w32 (drop (length bytes - 4) bytes) == signed signature (take (length bytes - 4) bytes)
-    then items_of len (take (length bytes - 4) bytes)
+    else (if from_le_bytes w32 (drop (length bytes - 4) bytes)
+    == signed signature (take (length bytes - 4) bytes)
+    then Ok (take (length bytes - 4) bytes)
     else Err (corrupt footer_mismatch))
 
--- where this holds of some items, they are what is answered, or memory ran out
-abbrev pub OnlyItems : Result (Vec LogItem) Error → (List LogItem → Type 0) → Type 0
-OnlyItems result P =
-    (items : List LogItem) → P items → MatchResult result (λ found. found.items ≡ items) (λ e. e ≡ errors.Memory)
+-- the items of a whole footer, whose entries are in a block of this length
+unfoldable pub footer_of : Option ℕ → ℕ → List ℕ → Result (List LogItem) Fault
+footer_of signature len bytes =
+    body_of signature bytes >>= λ body. items_at body >>= λ r. whole_items len r.0 r.1
 
--- where these are the entries' bytes of a block, they are what is answered
-abbrev pub OnlyEntries : Result (Bor (List ℕ)) Error → List ℕ → Type 0
-OnlyEntries result block =
-    (entries : List ℕ) → IsBlock block entries → IsOkAnd result (λ found. found.now ≡ entries)
+-- the items of a whole footer with their places, whose entries are in the block at this place
+unfoldable pub placed_footer_of : Option ℕ → FileBlockHandle → List ℕ → Result (List LogItem) Fault
+placed_footer_of signature block bytes = footer_of signature block.len bytes >>= λ items. Ok (placed block items)
 
 -- Writing.
 
@@ -220,7 +228,8 @@ record_bytes signature items entries =
 
 -- Frames and records at the front of any bytes.
 
--- what a reader takes at the front of bytes: how long it is, its items, and the bytes of its block or of its entries
+-- what a reader takes at the front of bytes: how long it is, its items, and the bytes of its block or of its
+-- entries
 pub record Front : Type 0 where
   pub len : ℕ
   pub items : List LogItem
@@ -244,7 +253,8 @@ frame_at signature input = header_at input >>= λ r. frame_of signature input r.
 -- the record at the front of these bytes, with its entries' bytes: first its frame, then its block
 unfoldable pub record_at : Option ℕ → List ℕ → Result Front Fault
 record_at signature input =
-    frame_at signature input >>= λ front. block_of front.bytes >>= λ entries. Ok (record front { bytes = entries })
+    frame_at signature input >>= λ front.
+    block_of front.bytes >>= λ entries. Ok (record front { bytes = entries })
 
 -- what a decoder answered at the front of bytes is what the reading gives, unless memory ran out
 abbrev pub GivesFront : Result (ℕ × Vec LogItem × Bor (List ℕ)) Error → Result Front Fault → Type 0

@@ -1,25 +1,22 @@
 //! The footer of a record: its items, and their signed checksum.
-ghost use Rattle.std.specs.Prelude.{◌≡◌, ◌+◌, ◌-◌, ◌<◌, ◌^◌, ◌==◌, if◌then◌else◌, IfOk, min};
-ghost use Rattle.raft_log_items.specs.Placed.{run_len, entries_len};
-ghost use Rattle.raft_log_frames.specs.Record.{GivesItems, OnlyItems, whole_items, items_of, footer_of, IsFooterOf};
+ghost use Rattle.std.specs.Prelude.{◌≡◌, ℕ, ◌+◌, ◌-◌, ◌<◌, ◌^◌, ◌==◌, if◌then◌else◌, min};
+ghost use Rattle.raft_log_base.specs.Fault.{GivesOrMemory};
+ghost use Rattle.raft_log_items.specs.Placed.{entries_len};
+ghost use Rattle.raft_log_frames.specs.Record.{
+  GivesItems,
+  GivesSlice,
+  whole_of,
+  body_of,
+  footer_of,
+  placed_footer_of,
+};
 
 use crate::header::LOG_BATCH_CHECKSUM_LEN;
 use raft_log_base::codec;
 use raft_log_checksum::crc32;
-use raft_log_items::items::decode_items;
-use raft_log_items::{EntryIndex, Error, LogItem, LogItemContent, Result};
+use raft_log_items::items::{decode_items, decode_placed_items};
+use raft_log_items::{Error, FileBlockHandle, LogItem, Result};
 use std::alloc::Global;
-
-/// How many bytes these entries have, or 2^64 - 1 where they have more.
-fn run_len(entries: &[EntryIndex]) -> u64
-    ensures { result ≡ min (run_len entries.now) (2 ^ 64 - 1) }
-{
-    let mut len: u64 = 0;
-    for entry in entries {
-        len = len.saturating_add(entry.entry_len as u64);
-    }
-    len
-}
 
 /// How many bytes the entries of these items have, or 2^64 - 1 where they have more.
 fn entries_len(items: &[LogItem]) -> u64
@@ -27,9 +24,7 @@ fn entries_len(items: &[LogItem]) -> u64
 {
     let mut len: u64 = 0;
     for item in items {
-        if let LogItemContent::EntryIndexes(entries) = &item.content {
-            len = len.saturating_add(run_len(entries.as_slice()));
-        }
+        len = len.saturating_add(item.entries_len());
     }
     len
 }
@@ -46,48 +41,28 @@ fn fills(len: u64, block_len: usize) -> bool
     }
 }
 
-/// The items of a footer: nothing stands behind them, and their entries add up to a block of this length.
-#[tactic(auto, unfolding(crate::specs::Record::whole_items))]
-fn check_items(
-    alloc: Global,
-    items: Vec<LogItem>,
-    rest: &[u8],
-    block_len: usize,
-) -> Result<Vec<LogItem>>
-    ensures { GivesItems result (whole_items block_len items.items rest.now) }
+/// Whether nothing stands behind the items, and so many bytes of entries, or 2^64 - 1 where there are more, are
+/// in a block of this length.
+#[tactic(auto, unfolding(crate::specs::Record::whole_of))]
+fn check_whole(alloc: Global, rest: &[u8], len: u64, block_len: usize) -> Result<()>
+    ensures { (sum : ℕ) → len ≡ min sum (2 ^ 64 - 1) → GivesOrMemory result (whole_of block_len sum rest.now) }
 {
     let left = rest.len();
     if left != 0 {
         return Err(Error::Corruption(format!(in alloc; "Bytes after the last log item: {left}")?));
     }
-    let len = entries_len(items.as_slice());
     if len > u32::MAX as u64 || !fills(len, block_len) {
         return Err(Error::Corruption(format!(in alloc;
             "Entry lengths do not add up to the entry block"
         )?));
     }
-    Ok(items)
+    Ok(())
 }
 
-/// The items that are spelled by all of the bytes.
-#[tactic(auto, unfolding(crate::specs::Record::items_of))]
-fn decode_whole_items(alloc: Global, bytes: &[u8], block_len: usize) -> Result<Vec<LogItem>>
-    ensures { GivesItems result (items_of block_len bytes.now) }
-{
-    let mut rest: &[u8] = bytes;
-    let items = decode_items(alloc, &mut rest)?;
-    check_items(alloc, items, rest, block_len)
-}
-
-/// The items of a whole footer with this signature.
-#[tactic(auto, unfolding(crate::specs::Record::footer_of))]
-fn read_footer(
-    alloc: Global,
-    bytes: &[u8],
-    block_len: usize,
-    signature: Option<u32>,
-) -> Result<Vec<LogItem>>
-    ensures { GivesItems result (footer_of signature block_len bytes.now) }
+/// The bytes of a footer in front of its checksum, which is signed with this.
+#[tactic(auto, unfolding(crate::specs::Record::body_of))]
+fn open_footer(alloc: Global, bytes: &[u8], signature: Option<u32>) -> Result<&[u8]>
+    ensures { GivesSlice result (body_of signature bytes.now) }
 {
     let len = bytes.len();
     if len <= LOG_BATCH_CHECKSUM_LEN {
@@ -97,22 +72,41 @@ fn read_footer(
     if codec::decode_u32_le(&mut checksum)? != crc32(body) ^ signature.unwrap_or(0) {
         return Err(Error::Corruption(format!(in alloc; "Log batch footer checksum mismatch")?));
     }
-    decode_whole_items(alloc, body, block_len)
+    Ok(body)
 }
 
 /// The items of a whole footer that was signed with this, whose entries add up to a block of this length.
 ///
-/// Refuses as a corruption fewer than five bytes, a wrong checksum, bytes after the last item, and lengths that don't add
-/// up, and otherwise the first fault of the items.
+/// Refuses as a corruption fewer than five bytes, a wrong checksum, bytes after the last item, and lengths
+/// that don't add up, and otherwise the first fault of the items.
+#[tactic(auto, unfolding(crate::specs::Record::footer_of, crate::specs::Record::whole_items))]
 pub fn decode_footer(
     alloc: Global,
     bytes: &[u8],
     block_len: usize,
     signature: Option<u32>,
 ) -> Result<Vec<LogItem>>
-    ensures found { IfOk result (λ items. IsFooterOf signature block_len bytes.now items.items) }
-    ensures only { OnlyItems result (IsFooterOf signature block_len bytes.now) }
     ensures exact { GivesItems result (footer_of signature block_len bytes.now) }
 {
-    read_footer(alloc, bytes, block_len, signature)
+    let mut rest = open_footer(alloc, bytes, signature)?;
+    let items = decode_items(alloc, &mut rest)?;
+    check_whole(alloc, rest, entries_len(items.as_slice()), block_len)?;
+    Ok(items)
+}
+
+/// The same of a footer whose entries lie in the block at this place: each entry has its offset in the block
+/// and the block's place, and each key its file. The items get their places as they are read.
+#[tactic(auto, unfolding(crate::specs::Record::footer_of, crate::specs::Record::whole_items, crate::specs::Record::placed_footer_of))]
+pub fn decode_placed_footer(
+    alloc: Global,
+    bytes: &[u8],
+    block: FileBlockHandle,
+    signature: Option<u32>,
+) -> Result<Vec<LogItem>>
+    ensures exact { GivesItems result (placed_footer_of signature block bytes.now) }
+{
+    let mut rest = open_footer(alloc, bytes, signature)?;
+    let (items, len) = decode_placed_items(alloc, &mut rest, block)?;
+    check_whole(alloc, rest, len, block.len)?;
+    Ok(items)
 }

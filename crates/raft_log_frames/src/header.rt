@@ -1,8 +1,7 @@
 //! The header of a record, and its entry block.
 ghost use Rattle.std.specs.Prelude.{◌≡◌, drop, IsOk, IfOk, OnOk};
-ghost use Rattle.raft_log_base.specs.Grammar.{Decodes};
 ghost use Rattle.raft_log_base.specs.Fault.{GivesOrMemory, ReadsOrMemory};
-ghost use Rattle.raft_log_frames.specs.Record.{IsSoundHeader, IsBlock, header_of, header_at, block_of, GivesSlice, OnlyEntries};
+ghost use Rattle.raft_log_frames.specs.Record.{IsInside, header_of, header_at, block_of, GivesSlice};
 
 use raft_log_base::codec;
 use raft_log_base::codec::BytesSlice;
@@ -21,6 +20,7 @@ pub(crate) const LOG_BATCH_CHECKSUM_LEN: usize = 4;
 fn read_words(alloc: Global, word: u64, offset: u64) -> Result<(usize, CompressionType, usize)>
     ensures exact { GivesOrMemory result (header_of word offset) }
     ensures sure { IsOk (header_of word offset) → IsOk result }
+    ensures inside { IfOk result (λ header. IsInside header) }
 {
     let kind = (word % 256) as u8;
     if kind != 0 {
@@ -40,14 +40,21 @@ fn read_words(alloc: Global, word: u64, offset: u64) -> Result<(usize, Compressi
     Ok((offset as usize, CompressionType::None, len as usize))
 }
 
-/// The header at the front, which is taken; a refusal takes none.
+/// Reads the header of a record: where its footer begins, how its entry block is compressed, and its length,
+/// the first and the last counted from the start of the record. Takes sixteen bytes, or none where it refuses.
+///
+/// Refuses as a corruption, in this order: fewer than 16 bytes, a compression, a footer that begins inside the
+/// header, and one that begins past the record's end. Only the text of a refusal takes memory: a good header is
+/// always answered.
 #[tactic(auto, unfolding(crate::specs::Record::header_at))]
-fn split_header(
+pub fn decode_header(
     alloc: Global,
     source: &mut BytesSlice<'_>,
 ) -> Result<(usize, CompressionType, usize)>
     ensures exact { ReadsOrMemory result source.old.now source.new.now (header_at source.old.now) }
     ensures sure { IsOk (header_at source.old.now) → IsOk result }
+    ensures inside { IfOk result (λ header. IsInside header) }
+    ensures taken { OnOk result (source.new.now ≡ drop 16 source.old.now) }
 {
     let mut rest: &[u8] = *source;
     if rest.len() < LOG_BATCH_HEADER_LEN {
@@ -61,28 +68,20 @@ fn split_header(
     Ok(header)
 }
 
-/// Reads the header of a record: where its footer begins, how its entry block is compressed, and its length, the
-/// first and the last counted from the start of the record. Takes sixteen bytes, or none where it refuses.
+/// The entries' bytes of a whole entry block, which is not copied. No bytes are a block without entries.
 ///
-/// Refuses as a corruption, in this order: fewer than 16 bytes, a compression, a footer that begins inside the header, and
-/// one that begins past the record's end. Only the text of a refusal takes memory: a good header is always answered.
-pub fn decode_header(
-    alloc: Global,
-    source: &mut BytesSlice<'_>,
-) -> Result<(usize, CompressionType, usize)>
-    ensures decodes { Decodes IsSoundHeader result source.old.now source.new.now }
-    ensures taken { OnOk result (source.new.now ≡ drop 16 source.old.now) }
-    ensures exact { ReadsOrMemory result source.old.now source.new.now (header_at source.old.now) }
-{
-    split_header(alloc, source)
-}
-
-/// The entries' bytes of a whole entry block.
+/// Refuses as a corruption one to three bytes, and a wrong checksum. A checksum alone is a block too, which is
+/// never written. Only the text of a refusal takes memory: a good block is always answered.
 #[tactic(auto, unfolding(crate::specs::Record::block_of))]
-fn open_block(alloc: Global, block: &[u8]) -> Result<&[u8]>
+pub fn decode_entries_block<'a>(
+    alloc: Global,
+    block: &'a [u8],
+    compression: CompressionType,
+) -> Result<&'a [u8]>
     ensures exact { GivesSlice result (block_of block.now) }
     ensures sure { IsOk (block_of block.now) → IsOk result }
 {
+    let CompressionType::None = compression;
     let len = block.len();
     if len == 0 {
         return Ok(block);
@@ -95,21 +94,4 @@ fn open_block(alloc: Global, block: &[u8]) -> Result<&[u8]>
         return Err(Error::Corruption(format!(in alloc; "Entry block checksum mismatch")?));
     }
     Ok(entries)
-}
-
-/// The entries' bytes of a whole entry block, which is not copied. No bytes are a block without entries.
-///
-/// Refuses as a corruption one to three bytes, and a wrong checksum. A checksum alone is a block too, which is never
-/// written. Only the text of a refusal takes memory: a good block is always answered.
-pub fn decode_entries_block<'a>(
-    alloc: Global,
-    block: &'a [u8],
-    compression: CompressionType,
-) -> Result<&'a [u8]>
-    ensures found { IfOk result (λ entries. IsBlock block.now entries.now) }
-    ensures only { OnlyEntries result block.now }
-    ensures exact { GivesSlice result (block_of block.now) }
-{
-    let CompressionType::None = compression;
-    open_block(alloc, block)
 }

@@ -15,7 +15,8 @@ use raft_log_items::items::append_items;
 use raft_log_items::{Error, LogItem, Result};
 use std::alloc::AllocError;
 
-/// Each item of a slice of bytes is a byte: what a contract can't see of a value behind a model. It does nothing.
+/// Each item of a slice of bytes is a byte: what a contract can't see of a value behind a model. It does
+/// nothing.
 pub fn are_bytes(bytes: &[u8])
     ensures { AreBytes bytes.now }
 {}
@@ -46,7 +47,7 @@ pub fn write_checksum(bytes: &mut [u8], checksum: u32)
 
 /// Puts the checksum behind the entries' bytes, where there are some.
 #[tactic(auto, unfolding(crate::specs::Record::block_bytes))]
-fn close_block(buf: &mut Vec<u8>) -> std::result::Result<(), AllocError>
+fn close_block(buf: &mut Vec<u8>) -> Result<(), AllocError>
     requires { 16 ≤ length buf.old.items }
     ensures ok { OnOk result (buf.new.items ≡ with_block buf.old.items) }
     ensures err { OnErr result (buf.new.items ≡ buf.old.items) }
@@ -59,10 +60,10 @@ fn close_block(buf: &mut Vec<u8>) -> std::result::Result<(), AllocError>
     Ok(())
 }
 
-/// Appends the footer of these items, not signed, and answers their checksum. A refusal may leave a part of it behind what
-/// was there.
+/// Appends the footer of these items, not signed, and answers their checksum. A refusal may leave a part of
+/// it behind what was there.
 #[tactic(auto, unfolding(crate::specs::Record::footer_bytes))]
-pub fn append_footer(buf: &mut Vec<u8>, items: &[LogItem]) -> std::result::Result<u32, AllocError>
+pub fn append_footer(buf: &mut Vec<u8>, items: &[LogItem]) -> Result<u32, AllocError>
     ensures ok { OnOk result (buf.new.items ≡ buf.old.items ++ footer_bytes None items.now) }
     ensures sum { IfOk result (λ checksum. checksum ≡ crc32_of (items_bytes items.now)) }
     ensures spelled { OnOk result (AreItems (items_bytes items.now) (map plain_item items.now)) }
@@ -78,8 +79,8 @@ pub fn append_footer(buf: &mut Vec<u8>, items: &[LogItem]) -> std::result::Resul
 /// The most bytes of a record: its length stands in 56 bits.
 const MAX_RECORD_LEN: u64 = (1 << 56) - 1;
 
-/// Makes the record of the entries' bytes, which stand behind room for the header, and of these items, and answers the
-/// checksum of the items. A refusal leaves what was there, maybe with more behind it.
+/// Makes the record of the entries' bytes, which stand behind room for the header, and of these items, and
+/// answers the checksum of the items. A refusal leaves what was there, maybe with more behind it.
 pub fn fill_record(buf: &mut Vec<u8>, items: &[LogItem]) -> Result<u32>
     requires { 16 ≤ length buf.old.items }
     ensures ok { IfOk result (λ checksum. MakesRecord buf.old.items buf.new.items checksum items.now) }

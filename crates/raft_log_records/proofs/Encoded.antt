@@ -43,7 +43,7 @@ held_record signature buffer sum items entries h adds fits all =
     subst (λ (l : List ℕ). IsRecord signature l (map plain_item items) entries) (sym h.bytes)
     (written_is_record signature items entries h.signs h.spelled (item_part signature items entries all') (entry_part signature items entries all') adds fits h.short)
 
-signed_holds : (state : BatchState) (buffer : List ℕ) (sum : ℕ) (items : List LogItem) (entries : List ℕ) → IsSigned state → (items ≡ [] → ⊥) → HoldsIn state buffer sum items entries → HoldsRecordBytes (signature_in state) buffer sum items entries
+pub signed_holds : (state : BatchState) (buffer : List ℕ) (sum : ℕ) (items : List LogItem) (entries : List ℕ) → IsSigned state → (items ≡ [] → ⊥) → HoldsIn state buffer sum items entries → HoldsRecordBytes (signature_in state) buffer sum items entries
 signed_holds Filling buffer sum items entries h some held = absurd h
 signed_holds Populated buffer sum items entries h some held = absurd h
 signed_holds (Signed signature) buffer sum [] entries h some held = absurd (some refl)

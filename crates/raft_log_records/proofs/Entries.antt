@@ -1,6 +1,7 @@
 -- Entries that are added to a batch.
-use Rattle.std.proofs.Common.{◌≡◌, ℕ, zero, suc, ◌+◌, ◌<◌, ◌≤◌, ◌^◌, List, [], ◌∷◌, ◌++◌, length, take, drop, map, get_or, refl, sym, ap, subst, ◌∙◌, append_assoc, arith}
+use Rattle.std.proofs.Common.{◌≡◌, ℕ, zero, suc, ◌+◌, ◌<◌, ◌≤◌, ◌^◌, List, [], ◌∷◌, ◌++◌, length, take, drop, map, get_or, Result, Ok, OnOk, All, refl, sym, ap, subst, ◌∙◌, append_assoc, arith}
 use Rattle.std.proofs.Math.ListN.{set}
+use Rattle.std.proofs.lemmas.List.Elements.{All-more}
 use Rattle.std.proofs.lemmas.List.{take_more, take-map, map-append, append-nil, get_or-map, length-map, length-append, length-take-le}
 use Rattle.std.proofs.lemmas.List.Sums.{sum_by-cons, sum_by-take-le}
 use Rattle.std.proofs.lemmas.List.Concat.{length-flat_map, flat_map-append}
@@ -93,6 +94,15 @@ run_len-entries_of (i ∷ is) (b ∷ bs) e =
     omega (arith, left, right, run_len-entries_of is bs (omega arith))
 
 -- ---- messages
+
+-- what is so of an answer is so, where it was given
+pub on_ok : {A E P : Type 0} (r : Result A E) (x : A) → Ok x ≡ r → OnOk r P → P
+on_ok {A = A} {E = E} {P = P} r x e h = subst (λ (q : Result A E). OnOk q P) (sym e) h
+
+-- one message more is read back
+pub read_more : {M : Type 0} (P : M → Type 0) (ms : List M) (i : ℕ) (m : M) → i < length ms → m ≡ get_or ms i m → All P (take i ms) → P m → All P (take (i + 1) ms)
+read_more {M = M} P ms i m lt is h p =
+    All-more P ms i m lt h (subst (λ (y : M). P y) is p)
 
 pub joined-length : (entries : List (List ℕ)) → length (joined entries) ≡ bytes_len entries
 joined-length entries = length-flat_map (λ (x : List ℕ). x) entries

@@ -14,9 +14,9 @@ use Rattle.raft_log_items.specs.Placed.{run_len, content_len, entries_len, laid_
 use Rattle.raft_log_records.specs.declared.log_batch.BatchState.{BatchState}
 use Rattle.raft_log_records.specs.declared.log_batch.BatchState.TheVariants.{Filling, Populated, Signed, Written}
 use Rattle.raft_log_records.specs.ItemBatch.{ItemBatch, AddsItems}
-use Rattle.raft_log_records.specs.Batch.{Batch, IsBatch, IsMade, IsSigned, HasNoEntries, HoldsIn, max_entries_len}
+use Rattle.raft_log_records.specs.Batch.{Batch, IsBatch, IsMade, IsSigned, HasNoEntries, HoldsIn, max_entries_len, roomy}
 use Rattle.raft_log_records.specs.Entries.{entries_of, entries_item, entries_items, joined, bytes_len, with_entries}
-use Rattle.raft_log_records.proofs.Buffer.{in_filling}
+use Rattle.raft_log_records.proofs.Buffer.{in_filling, roomy_same}
 use Rattle.raft_log_records.proofs.Entries.{run_len-entries_of}
 
 -- ---- an item without entries
@@ -104,13 +104,14 @@ items_added state buffer more len added sum items after e count fits adds laid h
 -- entries of a group
 pub entries_added : (state : BatchState) (buffer new : List ℕ) (len added sum group : ℕ) (items : List LogItem) (indexes : List ℕ) (entries : List (List ℕ)) → state ≡ Filling → length indexes ≡ length entries
     → bytes_len entries ≡ added → len + added ≤ max_entries_len → new ≡ buffer ++ joined entries → IsBatch state buffer len sum items
-    → IsBatch state new (len + added) sum (items ++ entries_item group len indexes entries ∷ [])
+    → IsBatch state (roomy new) (len + added) sum (items ++ entries_item group len indexes entries ∷ [])
 entries_added state buffer new len added sum group items indexes entries e same count fits grown h =
     let item : LogItem = entries_item group len indexes entries in
     let size : length (joined entries) ≡ added = length-flat_map (λ (x : List ℕ). x) entries ∙ count in
     let adds : entries_len (item ∷ []) ≡ added = omega (arith, sum_by-cons (λ (y : LogItem). content_len y.content) item [], item_len group len indexes entries same, count) in
     let laid : laid_out len (item ∷ []) ≡ item ∷ [] = ap (λ (l : List EntryIndex). record item { content = contents.EntryIndexes l } ∷ []) (laid_twice len (entries_of indexes entries)) in
-    subst (λ (l : List ℕ). IsBatch state l (len + added) sum (items ++ item ∷ [])) (sym grown) (items_added state buffer (joined entries) len added sum items (item ∷ []) e size fits adds laid h)
+    let there : 1 ≤ length new = omega (arith, ap (λ (l : List ℕ). length l) grown, length-append buffer (joined entries), filling_size state buffer len sum items e h) in
+    subst (λ (l : List ℕ). IsBatch state l (len + added) sum (items ++ item ∷ [])) (sym (roomy_same new there ∙ grown)) (items_added state buffer (joined entries) len added sum items (item ∷ []) e size fits adds laid h)
 
 one_item : (group offset : ℕ) (indexes : List ℕ) (entries : List (List ℕ)) → 0 < length entries → entries_items group offset indexes entries ≡ entries_item group offset indexes entries ∷ []
 one_item group offset indexes [] some = absurd (omega arith)
@@ -122,18 +123,19 @@ with_none b group indexes [] none = ap (λ (l : List LogItem). record b { items 
 with_none b group indexes (x ∷ xs) none = absurd (omega arith)
 
 -- what callers see of the batch then
-pub entries_seen : (state : BatchState) (buffer new : List ℕ) (len added sum group : ℕ) (items : List LogItem) (indexes : List ℕ) (entries : List (List ℕ)) (before after : ℕ) → state ≡ Filling
+pub entries_seen : (state : BatchState) (buffer new : List ℕ) (len added sum group : ℕ) (items : List LogItem) (indexes : List ℕ) (entries : List (List ℕ)) (before after had grew : ℕ) → state ≡ Filling
     → 0 < length entries → bytes_len entries ≡ added → new ≡ buffer ++ joined entries → IsBatch state buffer len sum items
-    → record { state = state; items = items ++ entries_item group len indexes entries ∷ []; entries = take (len + added) (drop 16 new); capacity = after }
-    ≡ record (with_entries (record { state = state; items = items; entries = take len (drop 16 buffer); capacity = before }) group indexes entries) { capacity = after }
-entries_seen state buffer new len added sum group items indexes entries before after e some count grown h =
+    → record { state = state; items = items ++ entries_item group len indexes entries ∷ []; entries = take (len + added) (drop 16 (roomy new)); capacity = after; buffer = grew }
+    ≡ record (with_entries (record { state = state; items = items; entries = take len (drop 16 buffer); capacity = before; buffer = had }) group indexes entries) { capacity = after; buffer = grew }
+entries_seen state buffer new len added sum group items indexes entries before after had grew e some count grown h =
     let size : length buffer ≡ 16 + len = filling_size state buffer len sum items e h in
     let more : length (joined entries) ≡ added = length-flat_map (λ (x : List ℕ). x) entries ∙ count in
-    let seen : take (len + added) (drop 16 new) ≡ take len (drop 16 buffer) ++ joined entries = ap (λ (l : List ℕ). take (len + added) (drop 16 l)) grown ∙ more_bytes buffer (joined entries) len added size more in
+    let there : 1 ≤ length new = omega (arith, ap (λ (l : List ℕ). length l) grown, length-append buffer (joined entries), size) in
+    let seen : take (len + added) (drop 16 (roomy new)) ≡ take len (drop 16 buffer) ++ joined entries = ap (λ (l : List ℕ). take (len + added) (drop 16 l)) (roomy_same new there ∙ grown) ∙ more_bytes buffer (joined entries) len added size more in
     let at : len ≡ length (take len (drop 16 buffer)) = sym (length-take-le len (drop 16 buffer) (omega (arith, size, length-drop 16 buffer))) in
-    ap (λ (l : List ℕ). record { state = state; items = items ++ entries_item group len indexes entries ∷ []; entries = l; capacity = after }) seen
-    ∙ ap (λ (n : ℕ). record { state = state; items = items ++ entries_item group n indexes entries ∷ []; entries = take len (drop 16 buffer) ++ joined entries; capacity = after }) at
-    ∙ ap (λ (l : List LogItem). record { state = state; items = items ++ l; entries = take len (drop 16 buffer) ++ joined entries; capacity = after }) (sym (one_item group (length (take len (drop 16 buffer))) indexes entries some))
+    ap (λ (l : List ℕ). record { state = state; items = items ++ entries_item group len indexes entries ∷ []; entries = l; capacity = after; buffer = grew }) seen
+    ∙ ap (λ (n : ℕ). record { state = state; items = items ++ entries_item group n indexes entries ∷ []; entries = take len (drop 16 buffer) ++ joined entries; capacity = after; buffer = grew }) at
+    ∙ ap (λ (l : List LogItem). record { state = state; items = items ++ l; entries = take len (drop 16 buffer) ++ joined entries; capacity = after; buffer = grew }) (sym (one_item group (length (take len (drop 16 buffer))) indexes entries some))
 
 -- a batch whose items are not empty, as told by the test
 pub some_items : (b : Bool) (xs : List LogItem) → (IsTrue b ↔ (xs ≡ [])) → b ≡ false → 0 < length xs

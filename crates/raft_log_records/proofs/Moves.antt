@@ -1,5 +1,5 @@
 -- Batches that are written, and batches that become one.
-use Rattle.std.proofs.Common.{◌≡◌, ℕ, ◌+◌, ◌-◌, ◌<◌, ◌≤◌, List, [], ◌∷◌, ◌++◌, length, take, drop, map, Bool, eqb, cond, refl, sym, ap, subst, ◌∙◌, arith}
+use Rattle.std.proofs.Common.{◌≡◌, ℕ, zero, suc, ◌+◌, ◌-◌, ◌<◌, ◌≤◌, List, [], ◌∷◌, ◌++◌, length, take, drop, replicate, min, map, Bool, eqb, cond, refl, sym, ap, subst, ◌∙◌, arith}
 use Rattle.std.proofs.Math.Dec.{eqb-suc-zero}
 use Rattle.std.proofs.Math.Seq.{take-length, take-add}
 use Rattle.std.proofs.lemmas.List.{length-append, length-take-le, length-drop, take_at, drop_at}
@@ -15,10 +15,10 @@ use Rattle.raft_log_items.specs.Placed.{run_len, content_len, entries_len, laid_
 use Rattle.raft_log_records.specs.declared.log_batch.BatchState.{BatchState}
 use Rattle.raft_log_records.specs.declared.log_batch.BatchState.TheVariants.{Filling, Written}
 use Rattle.raft_log_frames.specs.Record.{block_bytes}
-use Rattle.raft_log_records.specs.Batch.{IsBatch, max_entries_len, batch_size}
+use Rattle.raft_log_records.specs.Batch.{IsBatch, max_entries_len, batch_size, roomy}
 use Rattle.raft_log_records.specs.ItemBatch.{items_size}
 use Rattle.raft_log_frames.proofs.Made.{four_bytes}
-use Rattle.raft_log_records.proofs.Buffer.{all_entries, in_filling}
+use Rattle.raft_log_records.proofs.Buffer.{all_entries, in_filling, roomy_same}
 use Rattle.raft_log_records.proofs.Items.{run_len-laid, laid_twice, filling_size, more_bytes, items_added, still_filling}
 
 -- ---- written items have the same bytes, and lie where they lay
@@ -112,8 +112,8 @@ entries_len-laid offset (x ∷ xs) =
     ∙ ap (λ (n : ℕ). n + entries_len (laid_out (offset + content_len x.content) xs)) (content_len-laid offset x.content)
     ∙ ap (λ (n : ℕ). content_len x.content + n) (entries_len-laid (offset + content_len x.content) xs) ∙ sym (sum_by-cons f x xs)
 
-pub behind_header : (buffer : List ℕ) → take (length buffer - 16) (drop 16 buffer) ≡ drop 16 buffer
-behind_header buffer = ap (λ (n : ℕ). take n (drop 16 buffer)) (sym (length-drop 16 buffer)) ∙ take-length (drop 16 buffer)
+pub behind_header : (buffer : List ℕ) (n : ℕ) → take (length buffer - n) (drop n buffer) ≡ drop n buffer
+behind_header buffer n = ap (λ (k : ℕ). take k (drop n buffer)) (sym (length-drop n buffer)) ∙ take-length (drop n buffer)
 
 -- the other items lie behind the first ones
 pub moved_items : (items other : List LogItem) (first offset : ℕ) → first ≡ length items → take first (items ++ other) ++ laid_out offset (drop first (items ++ other)) ≡ items ++ laid_out offset other
@@ -121,33 +121,38 @@ moved_items items other first offset e =
     ap (λ (l : List LogItem). l ++ laid_out offset (drop first (items ++ other))) (take_at items other first (sym e)) ∙ ap (λ (l : List LogItem). items ++ laid_out offset l) (drop_at items other first (sym e))
 
 pub merged : (state state' : BatchState) (buffer buffer' new : List ℕ) (len len' sum sum' : ℕ) (items items' : List LogItem) → state ≡ Filling → state' ≡ Filling → len + len' ≤ max_entries_len → new ≡ buffer ++ drop 16 buffer'
-    → IsBatch state buffer len sum items → IsBatch state' buffer' len' sum' items' → IsBatch state new (len + len') sum (items ++ laid_out len items')
+    → IsBatch state buffer len sum items → IsBatch state' buffer' len' sum' items' → IsBatch state (roomy new) (len + len') sum (items ++ laid_out len items')
 merged state state' buffer buffer' new len len' sum sum' items items' e e' fits grown h h' =
     let size : length buffer' ≡ 16 + len' = filling_size state' buffer' len' sum' items' e' h' in
     let count : length (drop 16 buffer') ≡ len' = omega (arith, length-drop 16 buffer', size) in
-    subst (λ (l : List ℕ). IsBatch state l (len + len') sum (items ++ laid_out len items')) (sym grown)
+    let there : 1 ≤ length new = omega (arith, ap (λ (l : List ℕ). length l) grown, length-append buffer (drop 16 buffer'), filling_size state buffer len sum items e h) in
+    subst (λ (l : List ℕ). IsBatch state l (len + len') sum (items ++ laid_out len items')) (sym (roomy_same new there ∙ grown))
     (items_added state buffer (drop 16 buffer') len len' sum items (laid_out len items') e count fits (entries_len-laid len items' ∙ h'.adds) (laid_out-twice len items') h)
 
 pub merged_seen : (state state' : BatchState) (buffer buffer' new : List ℕ) (len len' sum sum' : ℕ) (items items' : List LogItem) → state ≡ Filling → state' ≡ Filling → new ≡ buffer ++ drop 16 buffer'
-    → IsBatch state buffer len sum items → IsBatch state' buffer' len' sum' items' → take (len + len') (drop 16 new) ≡ take len (drop 16 buffer) ++ take len' (drop 16 buffer')
+    → IsBatch state buffer len sum items → IsBatch state' buffer' len' sum' items' → take (len + len') (drop 16 (roomy new)) ≡ take len (drop 16 buffer) ++ take len' (drop 16 buffer')
 merged_seen state state' buffer buffer' new len len' sum sum' items items' e e' grown h h' =
     let size : length buffer ≡ 16 + len = filling_size state buffer len sum items e h in
     let size' : length buffer' ≡ 16 + len' = filling_size state' buffer' len' sum' items' e' h' in
     let count : length (drop 16 buffer') ≡ len' = omega (arith, length-drop 16 buffer', size') in
     let all : take len' (drop 16 buffer') ≡ drop 16 buffer' = all_entries len' buffer' h'.room (in_filling state' buffer' sum' items' (take len' (drop 16 buffer')) e' h'.holds) in
-    ap (λ (l : List ℕ). take (len + len') (drop 16 l)) grown ∙ more_bytes buffer (drop 16 buffer') len len' size count ∙ ap (λ (l : List ℕ). take len (drop 16 buffer) ++ l) (sym all)
+    let there : 1 ≤ length new = omega (arith, ap (λ (l : List ℕ). length l) grown, length-append buffer (drop 16 buffer'), size) in
+    ap (λ (l : List ℕ). take (len + len') (drop 16 l)) (roomy_same new there ∙ grown) ∙ more_bytes buffer (drop 16 buffer') len len' size count ∙ ap (λ (l : List ℕ). take len (drop 16 buffer) ++ l) (sym all)
 
 -- what is left of a batch that gave all away
-pub emptied : (state : BatchState) (buffer : List ℕ) (sum : ℕ) → state ≡ Filling → 16 ≤ length buffer → IsBatch state (take 16 buffer) 0 sum []
-emptied state buffer sum e room =
-    let size : length (take 16 buffer) ≡ 16 = length-take-le 16 buffer room in
-    record {
-      room = omega (arith, size);
-      fits = omega arith;
-      adds = refl;
-      laid = refl;
-      holds = still_filling state (take 16 buffer) (take 0 (drop 16 (take 16 buffer))) sum [] e size;
-    }
+pub emptied : (state : BatchState) (buffer : List ℕ) (sum : ℕ) → state ≡ Filling → length buffer ≡ 16 → IsBatch state buffer 0 sum []
+emptied state buffer sum e size = record {
+  room = omega (arith, size);
+  fits = omega arith;
+  adds = refl;
+  laid = refl;
+  holds = still_filling state buffer (take 0 (drop 16 buffer)) sum [] e size;
+}
+
+-- the bytes behind the header of a buffer, which may have no header yet
+pub behind_room : (buffer : List ℕ) (n : ℕ) → n ≡ min 16 (length buffer) → 16 ≤ length (roomy buffer) → drop n buffer ≡ drop 16 (roomy buffer)
+behind_room [] n e room = let none : n ≡ 0 = omega (arith, e) in rw none refl
+behind_room (b ∷ bs) n e room = let all : n ≡ 16 = omega (arith, e, room) in ap (λ (k : ℕ). drop k (b ∷ bs)) all
 
 -- the entries' bytes stand in a buffer without what stood behind them
 pub kept_entries : (buffer : List ℕ) (len : ℕ) → 16 + len ≤ length buffer → take len (drop 16 (take (16 + len) buffer)) ≡ take len (drop 16 buffer)

@@ -145,9 +145,9 @@ added_bytes old new group is (b ∷ bs) laid adds same h =
     ∙ ap (λ (l : List (List ℕ)). bytes_of_each old.items old.entries ++ l) (entry_parts is all same)
 
 -- what a batch's fields say of what callers see
-pub view_laid : (state : BatchState) (buffer : List ℕ) (len sum capacity : ℕ) (items : List LogItem) (b : Batch) → record { state = state; items = items; entries = take len (drop 16 buffer); capacity = capacity } ≡ b
+pub view_laid : (state : BatchState) (buffer : List ℕ) (len sum capacity had : ℕ) (items : List LogItem) (b : Batch) → record { state = state; items = items; entries = take len (drop 16 buffer); capacity = capacity; buffer = had } ≡ b
     → IsBatch state buffer len sum items → (laid_out 0 b.items ≡ b.items) × (entries_len b.items ≡ length b.entries)
-view_laid state buffer len sum capacity items b e h =
+view_laid state buffer len sum capacity had items b e h =
     subst (λ (x : Batch). (laid_out 0 x.items ≡ x.items) × (entries_len x.items ≡ length x.entries)) e
     (h.laid, h.adds ∙ sym (entries_count buffer len h.room))
 

@@ -1,5 +1,5 @@
--- Marks of atomic groups: items of the log's own, which say that a batch is a part of several that count together or
--- not at all.
+-- Marks of atomic groups: items of the log's own, which say that a batch is a part of several that count
+-- together or not at all.
 use Rattle.std.specs.Prelude.{◌≡◌, ◌↔◌, ℕ, Bool, true, false, ◌&&◌, ◌==◌, if◌then◌else◌, List, [], ◌∷◌, ◌++◌, length, take, drop, Option, Some, None, nat_lt, bytes_eq, option_map, option_and_then}
 use Rattle.std.specs.Int.{w64, from_be_bytes}
 use Rattle.raft_log_base.specs.Number.{IsU64, u64_bytes}
@@ -27,8 +27,8 @@ status_number Begin = 0
 status_number Middle = 1
 status_number End = 2
 
--- A mark: an item of group 0 that puts, under the key of marks, the number of the atomic group, eight bytes with the
--- highest first, and the byte of the status.
+-- A mark: an item of group 0 that puts, under the key of marks, the number of the atomic group, eight bytes
+-- with the highest first, and the byte of the status.
 pub record IsMark (item : LogItem) (id : ℕ) (status : AtomicGroupStatus) : Type 0 where
   pub group : item.raft_group_id ≡ 0
   pub key_value : KeyValue
@@ -53,7 +53,9 @@ mark_item id status = put_item 0 mark_key (mark_value id status)
 
 -- the status of this byte, if there is one
 abbrev pub status_of : ℕ → Option AtomicGroupStatus
-status_of n = if n == 0 then Some Begin else (if n == 1 then Some Middle else (if n == 2 then Some End else None))
+status_of n =
+    if n == 0 then Some Begin
+    else (if n == 1 then Some Middle else (if n == 2 then Some End else None))
 
 -- the status, if it is all of the bytes
 abbrev pub status_at : List ℕ → Option AtomicGroupStatus
@@ -120,7 +122,8 @@ marking_of_items (x ∷ xs) = joined_marking (marking_of x) (marking_of_items xs
 -- what is told as a part of a group is so exactly of its marks
 abbrev pub MarksAreTold : Type 0
 MarksAreTold =
-    (item : LogItem) (id : ℕ) (status : AtomicGroupStatus) → ((marking_of item ≡ Part id status) ↔ IsMark item id status)
+    (item : LogItem) (id : ℕ) (status : AtomicGroupStatus)
+    → ((marking_of item ≡ Part id status) ↔ IsMark item id status)
 
 -- The builder.
 

@@ -1,5 +1,6 @@
 -- A batch as callers see it: what was added, and how far it is on its way to a file.
-use Rattle.std.specs.Prelude.{◌≡◌, ℕ, ◌+◌, ◌≤◌, ◌<◌, ◌^◌, List, [], ◌∷◌, ◌++◌, length, map, take, drop, Option, None, unwrap_or}
+use Rattle.std.specs.Prelude.{◌≡◌, ℕ, ◌+◌, ◌≤◌, ◌<◌, ◌^◌, List, [], ◌∷◌, ◌++◌, length, map, take, drop, replicate, Option, None, unwrap_or, nat_lt, if◌then◌else◌, vec_len, vec_capacity}
+use Rattle.std.specs.Global.{Vec}
 use Rattle.raft_log_base.specs.declared.pipe_log.FileBlockHandle.{FileBlockHandle}
 use Rattle.raft_log_items.specs.declared.item.LogItem.{LogItem}
 use Rattle.raft_log_items.specs.declared.item.LogItemContent.{LogItemContent}
@@ -7,21 +8,64 @@ use Rattle.raft_log_items.specs.declared.item.LogItemContent.TheVariants as cont
 use Rattle.raft_log_items.specs.Placed.{entries_len, laid_out, written}
 use Rattle.raft_log_records.specs.declared.log_batch.BatchState.{BatchState}
 use Rattle.raft_log_records.specs.declared.log_batch.BatchState.TheVariants.{Filling, Populated, Signed, Written}
+use Rattle.raft_log_items.specs.Items.{put_item}
 use Rattle.raft_log_items.specs.Writing.{plain_item}
 use Rattle.raft_log_frames.specs.Record.{block_bytes, record_bytes, IsRecord}
-use Rattle.raft_log_records.specs.ItemBatch.{items_size}
+use Rattle.raft_log_records.specs.ItemBatch.{ItemBatch, HasRoom, items_size}
 use Rattle.raft_log_frames.specs.Made.{HoldsRecordBytes}
 
--- the state, the items, the bytes of their entries, and how many items there is room for before memory is asked for
+-- the state, the items, the bytes of their entries, and for how many items and how many bytes of a record there
+-- is room before memory is asked for
 pub record Batch : Type 0 where
   pub state : BatchState
   pub items : List LogItem
   pub entries : List ℕ
   pub capacity : ℕ
+  pub buffer : ℕ
 
--- a batch that is being filled, to which nothing was added, with room for so many items
-abbrev pub empty_batch : ℕ → Batch
-empty_batch capacity = record { state = Filling; items = []; entries = []; capacity = capacity }
+-- the buffer of a batch, with the room for a header that it gets before the first byte is added
+abbrev pub roomy : List ℕ → List ℕ
+roomy [] = replicate 16 0
+roomy (b ∷ bs) = b ∷ bs
+
+-- the batch with this state and this list of items, of whose buffer so many bytes behind the header are entries
+abbrev pub shown : BatchState → ItemBatch → ℕ → Vec ℕ → Batch
+shown state items len buffer =
+    record {
+      state = state;
+      items = items.items;
+      entries = take len (drop 16 (roomy buffer.items));
+      capacity = items.capacity;
+      buffer = vec_capacity buffer;
+    }
+
+-- the most bytes that the entries of a batch may have
+abbrev pub max_entries_len : ℕ
+max_entries_len = 2147483647
+
+-- a batch that is being filled, to which nothing was added, with room for so many items and bytes
+abbrev pub empty_batch : ℕ → ℕ → Batch
+empty_batch capacity buffer =
+    record { state = Filling; items = []; entries = []; capacity = capacity; buffer = buffer }
+
+-- the most bytes of a buffer that an emptied batch keeps: 8 MiB
+abbrev pub max_kept_len : ℕ
+max_kept_len = 8388608
+
+-- what an emptied batch keeps of its buffer: all of it, and nothing where that is too much
+abbrev pub kept_buffer : ℕ → ℕ
+kept_buffer n = if nat_lt max_kept_len n then 0 else n
+
+-- the batch after it was emptied
+abbrev pub emptied : Batch → Batch
+emptied b = empty_batch b.capacity (kept_buffer b.buffer)
+
+-- there is room for the other batch too: for its items, for its entries' bytes, and these are not too many
+abbrev pub HasRoomFor : Batch → Batch → Type 0
+HasRoomFor b other =
+    (length b.items + length other.items ≤ b.capacity)
+    × (16 + length b.entries + length other.entries ≤ b.buffer)
+    × (length b.entries + length other.entries ≤ max_entries_len)
 
 -- the batch with one more item, which has no entries
 abbrev pub with_item : Batch → LogItem → Batch
@@ -30,15 +74,32 @@ with_item b item = record b { items = b.items ++ item ∷ [] }
 -- the batch with what was added to the other one behind its own
 abbrev pub with_batch : Batch → Batch → Batch
 with_batch b other =
-    record b { items = b.items ++ laid_out (length b.entries) other.items; entries = b.entries ++ other.entries }
+    record b {
+      items = b.items ++ laid_out (length b.entries) other.items;
+      entries = b.entries ++ other.entries;
+    }
 
--- the batch is this one but for its room, which is no less
+-- there is room for the other items, and in the buffer for these bytes
+abbrev pub Fits : ItemBatch → ItemBatch → Vec ℕ → List ℕ → Type 0
+Fits items other buffer bytes =
+    HasRoom items (length other.items) × (vec_len buffer + length bytes ≤ vec_capacity buffer)
+
+-- the batch is this one but for the memory of its buffer
+abbrev pub IsButBuffer : Batch → Batch → Type 0
+IsButBuffer wanted new = new ≡ record wanted { buffer = new.buffer }
+
+-- the batch is this one but for its room, which for items is no less
 abbrev pub Becomes : Batch → Batch → Type 0
-Becomes wanted new = (new ≡ record wanted { capacity = new.capacity }) × (wanted.capacity ≤ new.capacity)
+Becomes wanted new =
+    (new ≡ record wanted { capacity = new.capacity; buffer = new.buffer }) × (wanted.capacity ≤ new.capacity)
 
--- the most bytes that the entries of a batch may have
-abbrev pub max_entries_len : ℕ
-max_entries_len = 2147483647
+-- the item was added
+abbrev pub AddsItem : Batch → Batch → LogItem → Type 0
+AddsItem old new item = Becomes (with_item old item) new
+
+-- a key of a group that gets a value was added
+abbrev pub Puts : Batch → Batch → ℕ → List ℕ → List ℕ → Type 0
+Puts old new group key value = AddsItem old new (put_item group key value)
 
 -- the bytes of the batch in a file with this signature: those of its record, and none where it is empty
 abbrev pub batch_bytes : Option ℕ → List LogItem → List ℕ → List ℕ
@@ -48,7 +109,8 @@ batch_bytes signature (x ∷ xs) entries = record_bytes signature (x ∷ xs) ent
 -- what the buffer holds of a batch that is not empty
 abbrev pub HoldsRecord : Option ℕ → List ℕ → ℕ → List LogItem → List ℕ → Type 0
 HoldsRecord signature buffer checksum [] entries = Unit {0}
-HoldsRecord signature buffer checksum (x ∷ xs) entries = HoldsRecordBytes signature buffer checksum (x ∷ xs) entries
+HoldsRecord signature buffer checksum (x ∷ xs) entries =
+    HoldsRecordBytes signature buffer checksum (x ∷ xs) entries
 
 -- what the buffer holds in each state
 abbrev pub HoldsIn : BatchState → List ℕ → ℕ → List LogItem → List ℕ → Type 0
@@ -57,9 +119,10 @@ HoldsIn Populated buffer checksum items entries = HoldsRecord None buffer checks
 HoldsIn (Signed signature) buffer checksum items entries = HoldsRecord signature buffer checksum items entries
 HoldsIn Written buffer checksum items entries = Unit {0}
 
--- The fields of a batch: its buffer has room for a header, and behind it the entries' bytes, which the items' entries
--- are laid out over one after another.
-pub record IsBatch (state : BatchState) (buffer : List ℕ) (len checksum : ℕ) (items : List LogItem) : Type 0 where
+-- The fields of a batch: its buffer has room for a header, and behind it the entries' bytes, which the items'
+-- entries are laid out over one after another.
+pub record IsBatch (state : BatchState) (buffer : List ℕ) (len checksum : ℕ) (items : List LogItem)
+    : Type 0 where
   pub room : 16 + len ≤ length buffer
   pub fits : len ≤ max_entries_len
   pub adds : entries_len items ≡ len
@@ -102,8 +165,8 @@ signature_in Populated = None
 signature_in (Signed signature) = signature
 signature_in Written = None
 
--- The bytes of the batch are so many for whatever file it is signed, and unless it is empty they are a record of its items
--- and entries.
+-- The bytes of the batch are so many for whatever file it is signed, and unless it is empty they are a record
+-- of its items and entries.
 pub record IsReadyForEach (len : ℕ) (items : List LogItem) (entries : List ℕ) : Type 0 where
   pub size : (signature : Option ℕ) → length (batch_bytes signature items entries) ≡ len
   pub whole : (signature : Option ℕ) → unwrap_or signature 0 < 2 ^ 32 → (items ≡ [] → ⊥)
@@ -111,7 +174,12 @@ pub record IsReadyForEach (len : ℕ) (items : List LogItem) (entries : List ℕ
 
 -- these bytes are a record of the batch in the file for which it is signed, unless it is empty
 abbrev pub IsRecordOf : Batch → List ℕ → Type 0
-IsRecordOf b bytes = (b.items ≡ [] → ⊥) → IsRecord (signature_in b.state) bytes (map plain_item b.items) b.entries
+IsRecordOf b bytes =
+    (b.items ≡ [] → ⊥) → IsRecord (signature_in b.state) bytes (map plain_item b.items) b.entries
+
+-- the bytes of the batch in the file for which it is signed
+abbrev pub signed_bytes : Batch → List ℕ
+signed_bytes b = batch_bytes (signature_in b.state) b.items b.entries
 
 -- the batch once its record is written at this place
 abbrev pub written_at : FileBlockHandle → Batch → Batch

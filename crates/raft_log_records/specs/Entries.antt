@@ -1,5 +1,5 @@
 -- Entries that are added to a batch, by their indexes and their bytes.
-use Rattle.std.specs.Prelude.{◌≡◌, ◌⊎◌, ℕ, ◌+◌, ◌<◌, ◌^◌, ◌==◌, if◌then◌else◌, codes, List, [], ◌∷◌, ◌++◌, length, map, sum_by, flat_map}
+use Rattle.std.specs.Prelude.{◌≡◌, ◌⊎◌, ℕ, ◌+◌, ◌≤◌, ◌<◌, ◌^◌, ◌==◌, if◌then◌else◌, codes, List, [], ◌∷◌, ◌++◌, length, map, sum_by, flat_map, Option, All}
 use Rattle.std.specs.Borrow.{Bor}
 use Rattle.std.specs.Fmt.{decimal}
 use Rattle.std.specs.String.{string_bytes}
@@ -8,6 +8,7 @@ use Rattle.raft_log_base.specs.declared.errors.Error.{Error}
 use Rattle.raft_log_base.specs.declared.errors.Error.TheVariants as errors
 use Rattle.raft_log_items.specs.declared.item.LogItemContent.TheVariants as contents
 use Rattle.raft_log_items.specs.declared.item.LogItem.{LogItem}
+use Rattle.raft_log_items.specs.Message.{IsReadBack}
 use Rattle.raft_log_items.specs.Run.{unplaced_entry}
 use Rattle.raft_log_items.specs.Placed.{laid_run}
 use Rattle.raft_log_records.specs.Batch.{Batch, Becomes, max_entries_len}
@@ -35,7 +36,10 @@ entries_of (i ∷ is) (b ∷ bs) = unplaced_entry i (length b) ∷ entries_of is
 -- the item of these entries of a group, whose bytes begin at this offset of the batch's entry block
 abbrev pub entries_item : ℕ → ℕ → List ℕ → List (List ℕ) → LogItem
 entries_item group offset indexes entries =
-    record { raft_group_id = group; content = contents.EntryIndexes (laid_run offset (entries_of indexes entries)) }
+    record {
+      raft_group_id = group;
+      content = contents.EntryIndexes (laid_run offset (entries_of indexes entries));
+    }
 
 -- the bytes of the entries, one after another
 abbrev pub joined : List (List ℕ) → List ℕ
@@ -58,9 +62,26 @@ with_entries b group indexes entries =
 abbrev pub AddsEntries : Batch → Batch → ℕ → List ℕ → List (List ℕ) → Type 0
 AddsEntries old new group indexes entries = Becomes (with_entries old group indexes entries) new
 
+-- what these write as entries, each with its index, was added to a group
+abbrev pub Adds : {E : Type 0} → (E → ℕ) → (E → List ℕ) → Batch → Batch → ℕ → List E → Type 0
+Adds index spelling old new group entries =
+    AddsEntries old new group (map index entries) (map spelling entries)
+
 -- how many bytes these entries have
 abbrev pub bytes_len : List (List ℕ) → ℕ
 bytes_len entries = sum_by (λ e. length e) entries
+
+-- what is written of each of these is read as that message
+abbrev pub AreReadBack : {M : Type 0} → (M → List ℕ) → (List ℕ → Option M) → List M → Type 0
+AreReadBack spelling reading messages = All (IsReadBack spelling reading) messages
+
+-- how many bytes are written of these
+abbrev pub spelled_len : {E : Type 0} → (E → List ℕ) → List E → ℕ
+spelled_len spelling entries = bytes_len (map spelling entries)
+
+-- the batch may have the bytes of these entries too
+abbrev pub MayHold : Batch → List (List ℕ) → Type 0
+MayHold b entries = length b.entries + bytes_len entries ≤ max_entries_len
 
 -- the text that tells that so many indexes, given for so many entries, are no run
 abbrev pub run_refusal : ℕ → ℕ → List ℕ
@@ -69,25 +90,40 @@ run_refusal indexes entries =
     then codes "entry indexes that don't rise by one, or of which one is 18446744073709551615"
     else decimal indexes ++ codes " indexes for " ++ decimal entries ++ codes " entries"
 
--- why entries are refused where so many bytes of entries are there: they are no run, or else they make too many bytes,
--- or memory ran out
+-- why entries are refused where so many bytes of entries are there: they are no run, or else they make too
+-- many bytes, or memory ran out
 abbrev pub IsEntriesRefusal : Error → ℕ → List ℕ → List (List ℕ) → Type 0
 IsEntriesRefusal errors.Memory held indexes entries = Unit {0}
 IsEntriesRefusal (errors.InvalidArgument text) held indexes entries =
     (IsRunOf indexes entries → ⊥) × (string_bytes text ≡ run_refusal (length indexes) (length entries))
-IsEntriesRefusal errors.Full held indexes entries = IsRunOf indexes entries × (max_entries_len < held + bytes_len entries)
+IsEntriesRefusal errors.Full held indexes entries =
+    IsRunOf indexes entries × (max_entries_len < held + bytes_len entries)
 IsEntriesRefusal _ held indexes entries = ⊥
+
+-- why these, each with its index, are refused as entries of a batch with so many bytes of entries
+abbrev pub IsMessagesRefusal : {E : Type 0} → (E → ℕ) → (E → List ℕ) → Error → ℕ → List E → Type 0
+IsMessagesRefusal index spelling e held entries =
+    IsEntriesRefusal e held (map index entries) (map spelling entries)
+
+-- why these are refused as entries of this batch
+abbrev pub FailsToAdd : {E : Type 0} → (E → ℕ) → (E → List ℕ) → Error → Batch → List E → Type 0
+FailsToAdd index spelling e b entries = IsMessagesRefusal index spelling e (length b.entries) entries
 
 -- why indexes for so many entries are refused
 abbrev pub IsRunRefusal : Error → List ℕ → ℕ → Type 0
 IsRunRefusal errors.Memory indexes count = Unit {0}
 IsRunRefusal (errors.InvalidArgument text) indexes count =
-    (((length indexes ≡ count) × IsIndexRun indexes) → ⊥) × (string_bytes text ≡ run_refusal (length indexes) count)
+    (((length indexes ≡ count) × IsIndexRun indexes) → ⊥)
+    × (string_bytes text ≡ run_refusal (length indexes) count)
 IsRunRefusal _ indexes count = ⊥
 
 -- why bytes are refused: memory ran out, or they would be more than this
 abbrev pub IsRoomRefusal : Error → ℕ → ℕ → Type 0
 IsRoomRefusal e most len = (e ≡ errors.Memory) ⊎ ((e ≡ errors.Full) × (most < len))
+
+-- why the bytes of these are refused behind others: memory ran out, or there would be more than so many
+abbrev pub DoesNotFit : {M : Type 0} → (M → List ℕ) → Error → ℕ → List ℕ → List M → Type 0
+DoesNotFit spelling e most old messages = IsRoomRefusal e most (length old + spelled_len spelling messages)
 
 -- the indexes of these entries
 abbrev pub indexes_of : List EntryIndex → List ℕ
@@ -100,3 +136,21 @@ IsMergeRefusal e entries others = IsRoomRefusal e max_entries_len (length entrie
 -- the bytes of these slices
 abbrev pub slices_bytes : List (Bor (List ℕ)) → List (List ℕ)
 slices_bytes slices = map (λ s. s.now) slices
+
+-- entries with these indexes, whose bytes are these slices, were added to a group
+abbrev pub AddsSlices : Batch → Batch → ℕ → List EntryIndex → List (Bor (List ℕ)) → Type 0
+AddsSlices old new group indexes slices = AddsEntries old new group (indexes_of indexes) (slices_bytes slices)
+
+-- why such entries of a batch are refused
+abbrev pub IsSlicesRefusal : Error → Batch → List EntryIndex → List (Bor (List ℕ)) → Type 0
+IsSlicesRefusal e b indexes slices =
+    IsEntriesRefusal e (length b.entries) (indexes_of indexes) (slices_bytes slices)
+
+-- the entries with the indexes of these, and as many bytes as are written of each of those
+abbrev pub sized : {E : Type 0} → (E → List ℕ) → List EntryIndex → List E → List EntryIndex
+sized spelling indexes entries = entries_of (indexes_of indexes) (map spelling entries)
+
+-- the run of these, each with its index, laid out from this offset on
+abbrev pub laid_messages : {E : Type 0} → (E → ℕ) → (E → List ℕ) → ℕ → List E → List EntryIndex
+laid_messages index spelling offset entries =
+    laid_run offset (entries_of (map index entries) (map spelling entries))

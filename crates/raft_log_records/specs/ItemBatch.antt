@@ -1,6 +1,6 @@
--- Lists of items: what callers see of one, about how many bytes it has, its entries, and what a footer says with its places.
-use Rattle.std.specs.Prelude.{◌≡◌, ℕ, ◌+◌, ◌*◌, ◌≤◌, List, [], ◌++◌, length, flat_map, sum_by, Option, Result, Ok, Err, MatchResult}
-use Rattle.raft_log_base.specs.Grammar.{◌>>=◌}
+-- Lists of items: what callers see of one, about how many bytes it has, its entries, and what a footer says
+-- with its places.
+use Rattle.std.specs.Prelude.{◌≡◌, ℕ, ◌+◌, ◌*◌, ◌≤◌, List, [], ◌∷◌, ◌++◌, length, take, drop, map, flat_map, sum_by, Option, Result, Ok, Err, IfOk, MatchResult}
 use Rattle.raft_log_base.specs.declared.errors.Error.{Error}
 use Rattle.raft_log_base.specs.declared.errors.Error.TheVariants as errors
 use Rattle.raft_log_base.specs.declared.pipe_log.FileBlockHandle.{FileBlockHandle}
@@ -10,9 +10,10 @@ use Rattle.raft_log_items.specs.declared.item.LogItemContent.TheVariants as cont
 use Rattle.raft_log_items.specs.declared.command.Command.{Command}
 use Rattle.raft_log_items.specs.declared.item.LogItem.{LogItem}
 use Rattle.raft_log_base.specs.Fault.{Fault, Fails}
-use Rattle.raft_log_items.specs.Placed.{placed}
-use Rattle.raft_log_items.specs.Writing.{value_of}
-use Rattle.raft_log_frames.specs.Record.{IsFooter, IsFooterOf, AddsUp, footer_of}
+use Rattle.raft_log_items.specs.Items.{put_item, AreItems}
+use Rattle.raft_log_items.specs.Placed.{laid_out, placed}
+use Rattle.raft_log_items.specs.Writing.{items_bytes, plain_item, value_of}
+use Rattle.raft_log_frames.specs.Record.{IsFooter, IsFooterOf, AddsUp}
 
 -- the items, and how many there is room for before memory is asked for
 pub record ItemBatch : Type 0 where
@@ -26,6 +27,10 @@ no_items capacity = record { items = []; capacity = capacity }
 -- these items were added, and there is no less room
 abbrev pub AddsItems : ItemBatch → ItemBatch → List LogItem → Type 0
 AddsItems old new items = (new.items ≡ old.items ++ items) × (old.capacity ≤ new.capacity)
+
+-- a key of a group that gets a value was added, and there is no less room
+abbrev pub AddsPut : ItemBatch → ItemBatch → ℕ → List ℕ → List ℕ → Type 0
+AddsPut old new group key value = AddsItems old new (put_item group key value ∷ [])
 
 -- so many items more need no memory
 abbrev pub HasRoom : ItemBatch → ℕ → Type 0
@@ -57,6 +62,14 @@ item_size x = 8 + content_size x.content
 abbrev pub items_size : List LogItem → ℕ
 items_size xs = sum_by item_size xs
 
+-- what is written of these items spells them without their places
+abbrev pub IsSpelling : List LogItem → Type 0
+IsSpelling items = AreItems (items_bytes items) (map plain_item items)
+
+-- the items, and from this one on they are laid out from this offset in their block on
+abbrev pub laid_from : ℕ → ℕ → List LogItem → List LogItem
+laid_from first offset items = take first items ++ laid_out offset (drop first items)
+
 -- the entries of a content
 abbrev pub content_entries : LogItemContent → List EntryIndex
 content_entries (contents.EntryIndexes es) = es
@@ -67,18 +80,19 @@ content_entries (contents.Kv kv) = []
 abbrev pub all_entries : List LogItem → List EntryIndex
 all_entries xs = flat_map (λ x. content_entries x.content) xs
 
--- the bytes are a footer that is signed with this, its entries fill the block at this place, and these are its items
--- with their places
-pub record IsPlacedFooter (signature : Option ℕ) (handle : FileBlockHandle) (bytes : List ℕ) (batch : List LogItem)
-    : Type 0 where
+-- the bytes are a footer that is signed with this, its entries fill the block at this place, and these are
+-- its items with their places
+pub record IsPlacedFooter
+    (signature : Option ℕ) (handle : FileBlockHandle) (bytes : List ℕ) (batch : List LogItem) : Type 0 where
   pub items : List LogItem
   pub footer : IsFooter signature bytes items
   pub adds_up : AddsUp items handle.len
   pub places : batch ≡ placed handle items
 
--- what a whole footer says, whose entries lie in the block at this place
-unfoldable pub batch_of : Option ℕ → FileBlockHandle → List ℕ → Result (List LogItem) Fault
-batch_of signature handle bytes = footer_of signature handle.len bytes >>= λ items. Ok (placed handle items)
+-- what was found is the items of such a footer
+abbrev pub FindsPlaced : Result ItemBatch Error → Option ℕ → FileBlockHandle → List ℕ → Type 0
+FindsPlaced result signature handle bytes =
+    IfOk result (λ batch. IsPlacedFooter signature handle bytes batch.items)
 
 -- where the bytes are such a footer of some items, these with their places are answered, or memory ran out
 abbrev pub OnlyPlaced : Result ItemBatch Error → Option ℕ → FileBlockHandle → List ℕ → Type 0

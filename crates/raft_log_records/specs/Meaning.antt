@@ -58,8 +58,8 @@ marked markings.Unmarked xs = Some (Plain xs)
 marked (markings.Part id status) xs = Some (Part (part_of id status) xs)
 marked markings.Broken xs = None
 
--- what the items of one batch mean: a mark among them makes them a part of an atomic group, and two or a broken one mean
--- that the record is broken
+-- what the items of one batch mean: a mark among them makes them a part of an atomic group, and two or a
+-- broken one mean that the record is broken
 abbrev pub record_of : {E : Type 0} → (EntryIndex → E) → List LogItem → Option (Record E (List ℕ))
 record_of entry xs = marked (marking_of_items xs) (tagged_items entry xs)
 
@@ -68,11 +68,12 @@ abbrev pub BecomesPart : List LogItem → List LogItem → ℕ → AtomicGroupSt
 BecomesPart old new id status =
     record_of (λ e. e) new ≡ Some (Part (part_of id status) (tagged_items (λ e. e) old))
 
--- What is read of a written batch means the same as the batch, where an entry's length stands for it: the entries'
--- places are told by where the batch is.
+-- What is read of a written batch means the same as the batch, where an entry's length stands for it: the
+-- entries' places are told by where the batch is.
 abbrev pub ReadMeansWritten : Type 0
 ReadMeansWritten =
-    (items : List LogItem) → record_of (λ e. e.entry_len) (map plain_item items) ≡ record_of (λ e. e.entry_len) items
+    (items : List LogItem)
+    → record_of (λ e. e.entry_len) (map plain_item items) ≡ record_of (λ e. e.entry_len) items
 
 -- what users may add: if it is of a key, the key doesn't begin with two underscores
 abbrev pub IsUsers : LogItemContent → Type 0

@@ -26,25 +26,29 @@ LiesIn block e = (e.entries ≡ Some block) × (e.entry_offset + e.entry_len ≤
 abbrev pub AllLieIn : FileBlockHandle → List LogItem → Type 0
 AllLieIn block items = All (LiesIn block) (all_entries items)
 
+-- the bytes of each entry of a batch
+abbrev pub bytes_in : Batch → List (List ℕ)
+bytes_in b = bytes_of_each b.items b.entries
+
 -- the batch has the bytes of each entry that it had, and these behind them
 abbrev pub AddsBytes : Batch → Batch → List (List ℕ) → Type 0
-AddsBytes old new entries = bytes_of_each new.items new.entries ≡ bytes_of_each old.items old.entries ++ entries
+AddsBytes old new entries = bytes_in new ≡ bytes_in old ++ entries
 
 -- the block of the written batch has at the places of its entries the bytes that it had before
 abbrev pub HasBytesInBlock : Batch → Batch → Type 0
 HasBytesInBlock old new =
     bytes_of_each new.items (block_bytes new.entries) ≡ bytes_of_each old.items old.entries
 
--- What is read of a written batch has at its places, in the block that was written, the bytes of each entry that was
--- added.
+-- What is read of a written batch has at its places, in the block that was written, the bytes of each entry
+-- that was added.
 abbrev pub ReadHasWhatWasAdded : Type 0
 ReadHasWhatWasAdded =
     (items : List LogItem) (entries : List ℕ) (handle : FileBlockHandle) → laid_out 0 items ≡ items
     → entries_len items ≡ length entries
     → bytes_of_each (placed handle (map plain_item items)) (block_bytes entries) ≡ bytes_of_each items entries
 
--- What is read of a written batch means what was added to it, where the bytes of an entry stand for it: those at its place
--- in the block that was written, and those that were added.
+-- What is read of a written batch means what was added to it, where the bytes of an entry stand for it: those
+-- at its place in the block that was written, and those that were added.
 abbrev pub ReadMeansWhatWasAdded : Type 0
 ReadMeansWhatWasAdded =
     (items : List LogItem) (entries : List ℕ) (handle : FileBlockHandle) → laid_out 0 items ≡ items

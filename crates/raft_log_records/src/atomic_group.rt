@@ -1,4 +1,5 @@
-//! Atomic groups: several batches that count together or not at all. A mark in each batch tells which part it is.
+//! Atomic groups: several batches that count together or not at all. A mark in each batch tells which part it
+//! is.
 ghost use Rattle.std.specs.Prelude.{◌≡◌, ◌∷◌, ◌++◌, Some, IfSome, OnOk, IfOk, option_and_then};
 ghost use Rattle.raft_log_base.specs.Number.{IsU64, u64_bytes};
 ghost use Rattle.raft_log_records.specs.AtomicGroup.{status_number, status_of, mark_key, mark_value, mark_in, mark_of_value, mark_of, has_mark_key};
@@ -227,7 +228,8 @@ impl AtomicGroupBuilder {
         self.mark(alloc, batch, AtomicGroupStatus::Begin)
     }
 
-    /// Marks a batch between the first and the last of the group, which has no mark yet. A refusal changes no item.
+    /// Marks a batch between the first and the last of the group, which has no mark yet. A refusal changes no
+    /// item.
     pub fn add(&mut self, alloc: Global, batch: &mut LogBatch) -> Result<(), AllocError>
         requires filling { batch.old.state ≡ Filling }
         requires unmarked { marking_of_items batch.old.items ≡ Unmarked }

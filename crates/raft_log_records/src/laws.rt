@@ -18,12 +18,14 @@ pub fn read_means_written()
     ensures { ReadMeansWritten }
 {}
 
-/// What is read of a written batch has at its places, in the block that was written, the bytes that were added.
+/// What is read of a written batch has at its places, in the block that was written, the bytes that were
+/// added.
 pub fn read_has_what_was_added()
     ensures { ReadHasWhatWasAdded }
 {}
 
-/// What is read of a written batch means what was added to it, where the bytes at an entry's place stand for it.
+/// What is read of a written batch means what was added to it, where the bytes at an entry's place stand for
+/// it.
 pub fn read_means_what_was_added()
     ensures { ReadMeansWhatWasAdded }
 {}

@@ -1,6 +1,6 @@
 //! A batch on its way to a file: it is filled, populated, signed for a file, and written.
-ghost use Rattle.std.specs.Prelude.{◌≡◌, ◌+◌, ◌≤◌, ◌==◌, if◌then◌else◌, false, take, OnOk, IfErr};
-ghost use Rattle.raft_log_records.specs.Batch.{max_entries_len};
+ghost use Rattle.std.specs.Prelude.{◌≡◌, ◌+◌, ◌≤◌, ◌==◌, if◌then◌else◌, false, length, vec_len, vec_capacity, IsOk, OnOk, OnErr, IfErr};
+ghost use Rattle.raft_log_records.specs.Batch.{max_entries_len, kept_buffer, roomy};
 ghost use Rattle.raft_log_records.specs.Key.{is_internal, IsKeyRefusal};
 
 use crate::atomic_group::{MARK_GROUP, MARK_KEY, Marking};
@@ -21,7 +21,7 @@ const CHECKSUM_LEN: usize = 4;
 /// The most bytes that the entries of a batch may have.
 const MAX_ENTRIES_LEN: usize = 2_147_483_647;
 
-/// The most bytes of a buffer that an empty batch keeps.
+/// The most bytes of a buffer that an emptied batch keeps.
 const MAX_KEPT_LEN: usize = 8 << 20;
 
 /// How far a batch is on its way to a file.
@@ -39,11 +39,13 @@ pub enum BatchState {
 
 /// Items and the bytes of their entries, and the record of these.
 ///
-/// Contracts see a batch as its state, its items, the bytes of their entries, and how many items it has room for.
+/// Contracts see a batch as its state, its items, the bytes of their entries, and for how many items and how many
+/// bytes of a record it has room.
 #[derive(Debug, Drop)]
 pub struct LogBatch {
     items: LogItemBatch,
-    /// Room for the header, the entries' bytes, and once it is populated the rest of the record.
+    /// Room for the header, the entries' bytes, and once it is populated the rest of the record; no byte at all where
+    /// the buffer was given back.
     buf: Vec<u8>,
     /// How many bytes the entries have.
     entries_len: usize,
@@ -53,21 +55,21 @@ pub struct LogBatch {
 }
 
 impl Model for LogBatch {
-    ghost use Rattle.std.specs.Prelude.{take, drop};
-    ghost use Rattle.raft_log_records.specs.Batch.{Batch, IsBatch};
+    ghost use Rattle.raft_log_records.specs.Batch.{Batch, IsBatch, roomy, shown};
 
     ghost Value = { Batch };
 
-    ghost view = { λ b. record { state = b.state; items = b.items.items; entries = take b.entries_len (drop 16 b.buf.items); capacity = b.items.capacity } };
+    ghost view = { λ b. shown b.state b.items b.entries_len b.buf };
 
-    ghost invariant = { λ b. IsBatch b.state b.buf.items b.entries_len b.checksum b.items.items };
+    ghost invariant = { λ b. IsBatch b.state (roomy b.buf.items) b.entries_len b.checksum b.items.items };
 }
 
 impl LogBatch {
     ghost use Rattle.std.specs.Prelude.{◌≡◌, ◌+◌, ◌-◌, ◌≤◌, ◌<◌, ◌^◌, ◌++◌, ◌↔◌, [], length, min, IfOk, IfErr, IsErr, IsOk, OnOk, OnErr, IsTrue};
     ghost use Rattle.std.specs.Vec.{vec_len, vec_capacity};
     ghost use Rattle.raft_log_base.specs.Files.{signature_of};
-    ghost use Rattle.raft_log_items.specs.Items.{put_item, del_item};
+    ghost use Rattle.raft_log_items.specs.Items.{del_item};
+    ghost use Rattle.raft_log_items.specs.Message.{IsReadBack};
     ghost use Rattle.raft_log_items.specs.Placed.{entries_len, laid_out};
     ghost use Rattle.raft_log_frames.specs.Record.{record_len};
     ghost use Rattle.raft_log_frames.specs.Made.{IsMemoryOrFull};
@@ -75,29 +77,23 @@ impl LogBatch {
     ghost use Rattle.raft_log_records.specs.AtomicGroup.{mark_key, marking_of_items};
     ghost use Rattle.raft_log_records.specs.ItemBatch.{command_item};
     ghost use Rattle.raft_log_records.specs.Key.{is_internal, IsKeyRefusal};
-    ghost use Rattle.raft_log_records.specs.Batch.{batch_bytes, batch_size, empty_batch, with_item, written_at, Becomes, HasNoEntries, IsMade, IsSigned, IsReadyForEach, IsRecordOf, block_place, signature_in};
+    ghost use Rattle.raft_log_records.specs.Batch.{batch_size, empty_batch, emptied, max_kept_len, written_at, signed_bytes, IsButBuffer, AddsItem, Puts, Becomes, IsMade, IsSigned, IsReadyForEach, IsRecordOf, block_place};
     ghost use Rattle.raft_log_records.specs.Places.{AllLieIn, HasBytesInBlock};
 
     /// An empty batch, which is being filled.
-    pub fn default(alloc: Global) -> std::result::Result<Self, AllocError>
-        ensures { IfOk result (λ b. b ≡ empty_batch b.capacity) }
+    pub fn default(alloc: Global) -> Result<Self, AllocError>
+        ensures { IfOk result (λ b. b ≡ empty_batch 0 0) }
     {
-        Ok(LogBatch {
-            items: LogItemBatch::default(alloc),
-            buf: vec![in alloc; 0; 16]?,
-            entries_len: 0,
-            checksum: 0,
-            state: BatchState::Filling,
-        })
+        LogBatch::with_capacity(alloc, 0)
     }
 
     /// An empty batch with room for so many items.
-    pub fn with_capacity(alloc: Global, capacity: usize) -> std::result::Result<Self, AllocError>
-        ensures { IfOk result (λ b. b ≡ empty_batch capacity) }
+    pub fn with_capacity(alloc: Global, capacity: usize) -> Result<Self, AllocError>
+        ensures { IfOk result (λ b. b ≡ empty_batch capacity 0) }
     {
         Ok(LogBatch {
             items: LogItemBatch::with_capacity(alloc, capacity)?,
-            buf: vec![in alloc; 0; 16]?,
+            buf: Vec::new(alloc),
             entries_len: 0,
             checksum: 0,
             state: BatchState::Filling,
@@ -105,8 +101,8 @@ impl LogBatch {
     }
 
     /// A copy of the batch, as far on its way as this one.
-    pub fn clone(&self, alloc: Global) -> std::result::Result<Self, AllocError>
-        ensures { IfOk result (λ b. b ≡ record self.now { capacity = b.capacity }) }
+    pub fn clone(&self, alloc: Global) -> Result<Self, AllocError>
+        ensures { IfOk result (λ b. b ≡ record self.now { capacity = b.capacity; buffer = b.buffer }) }
     {
         let items = self.items.clone(alloc)?;
         let buf = self.buf.as_slice().to_vec(alloc)?;
@@ -155,37 +151,29 @@ impl LogBatch {
     }
 
     /// Adds a mark of an atomic group. A refusal changes no item.
-    pub(crate) fn put_mark(
-        &mut self,
-        alloc: Global,
-        value: &[u8],
-    ) -> std::result::Result<(), AllocError>
+    pub(crate) fn put_mark(&mut self, alloc: Global, value: &[u8]) -> Result<(), AllocError>
         requires { self.old.state ≡ Filling }
-        ensures ok { OnOk result (Becomes (with_item self.old (put_item 0 mark_key value.now)) self.new) }
+        ensures ok { OnOk result (Puts self.old self.new 0 mark_key value.now) }
         ensures err { OnErr result (Becomes self.old self.new) }
     {
         self.items.put(alloc, MARK_GROUP, &MARK_KEY, value)
     }
 
     /// Adds a command of a group. A refusal changes nothing.
-    pub fn add_command(
-        &mut self,
-        raft_group_id: u64,
-        command: Command,
-    ) -> std::result::Result<(), AllocError>
+    pub fn add_command(&mut self, raft_group_id: u64, command: Command) -> Result<(), AllocError>
         requires { self.old.state ≡ Filling }
-        ensures ok { OnOk result (Becomes (with_item self.old (command_item raft_group_id command)) self.new) }
+        ensures ok { OnOk result (AddsItem self.old self.new (command_item raft_group_id command)) }
         ensures err { OnErr result (self.new ≡ self.old) }
         ensures succeeds { length self.old.items < self.old.capacity → IsOk result }
     {
         self.items.add_command(raft_group_id, command)
     }
 
-    /// Adds a key that gets a value. A key that begins with two underscores is refused as an invalid argument. A refusal
-    /// changes no item.
+    /// Adds a key that gets a value. A key that begins with two underscores is refused as an invalid
+    /// argument. A refusal changes no item.
     pub fn put(&mut self, alloc: Global, raft_group_id: u64, key: &[u8], value: &[u8]) -> Result<()>
         requires { self.old.state ≡ Filling }
-        ensures ok { OnOk result (Becomes (with_item self.old (put_item raft_group_id key.now value.now)) self.new) }
+        ensures ok { OnOk result (Puts self.old self.new raft_group_id key.now value.now) }
         ensures internal { IsTrue (is_internal key.now) → IsErr result }
         ensures err { OnErr result (Becomes self.old self.new) }
         ensures errors { IfErr result (λ e. IsKeyRefusal e key.now) }
@@ -195,11 +183,11 @@ impl LogBatch {
         Ok(())
     }
 
-    /// Adds a key that loses its value. A key that begins with two underscores is refused as an invalid argument. A
-    /// refusal changes no item.
+    /// Adds a key that loses its value. A key that begins with two underscores is refused as an invalid
+    /// argument. A refusal changes no item.
     pub fn delete(&mut self, alloc: Global, raft_group_id: u64, key: &[u8]) -> Result<()>
         requires { self.old.state ≡ Filling }
-        ensures ok { OnOk result (Becomes (with_item self.old (del_item raft_group_id key.now)) self.new) }
+        ensures ok { OnOk result (AddsItem self.old self.new (del_item raft_group_id key.now)) }
         ensures internal { IsTrue (is_internal key.now) → IsErr result }
         ensures err { OnErr result (Becomes self.old self.new) }
         ensures errors { IfErr result (λ e. IsKeyRefusal e key.now) }
@@ -209,8 +197,8 @@ impl LogBatch {
         Ok(())
     }
 
-    /// Adds a key that gets the bytes of a message. A key that begins with two underscores is refused as an invalid argument.
-    /// A refusal changes no item.
+    /// Adds a key that gets the bytes of a message. A key that begins with two underscores is refused as an
+    /// invalid argument. A refusal changes no item.
     pub fn put_message<M: Message>(
         &mut self,
         alloc: Global,
@@ -219,7 +207,8 @@ impl LogBatch {
         message: &M,
     ) -> Result<()>
         requires { self.old.state ≡ Filling }
-        ensures ok { OnOk result (Becomes (with_item self.old (put_item raft_group_id key.now (M.spelling message.now))) self.new) }
+        ensures ok { OnOk result (Puts self.old self.new raft_group_id key.now (M.spelling message.now)) }
+        ensures again { OnOk result (IsReadBack M.spelling M.reading message.now) }
         ensures internal { IsTrue (is_internal key.now) → IsErr result }
         ensures err { OnErr result (Becomes self.old self.new) }
         ensures errors { IfErr result (λ e. IsKeyRefusal e key.now) }
@@ -229,20 +218,24 @@ impl LogBatch {
         Ok(())
     }
 
-    /// Makes the record, and answers how many bytes it has, for whatever file it will be signed. An empty batch has none.
+    /// Makes the record, and answers how many bytes it has, for whatever file it will be signed. An empty
+    /// batch has none.
     ///
-    /// Refused as full is a record whose length needs more than 56 bits. A refusal changes nothing.
+    /// Refused as full is a record whose length needs more than 56 bits. A refusal changes nothing but the memory
+    /// of the buffer.
     pub fn finish_populate(&mut self) -> Result<usize>
         requires { self.old.state ≡ Filling }
-        ensures ok { OnOk result (self.new ≡ record self.old { state = Populated }) }
+        ensures ok { OnOk result (IsButBuffer (record self.old { state = Populated }) self.new) }
         ensures ready { IfOk result (λ len. IsReadyForEach len self.old.items self.old.entries) }
-        ensures err { OnErr result (self.new ≡ self.old) }
+        ensures err { OnErr result (IsButBuffer self.old self.new) }
         ensures errors { IfErr result (λ e. IsMemoryOrFull e (record_len self.old.items self.old.entries)) }
     {
         if self.items.is_empty() {
             self.state = BatchState::Populated;
             return Ok(0);
         }
+        let footer_len = items_size(self.items.as_slice()).saturating_add(12 + CHECKSUM_LEN);
+        make_room(&mut self.buf, footer_len)?;
         let filled = self.buf.len();
         match fill_record(&mut self.buf, self.items.as_slice()) {
             Ok(checksum) => {
@@ -279,10 +272,8 @@ impl LogBatch {
             self.state = BatchState::Signed(signature);
             return;
         }
-        write_checksum(
-            self.buf.as_mut_slice(),
-            self.checksum ^ signature.unwrap_or(0),
-        );
+        let checksum = self.checksum ^ signature.unwrap_or(0);
+        write_checksum(self.buf.as_mut_slice(), checksum);
         self.state = BatchState::Signed(signature);
     }
 
@@ -312,7 +303,7 @@ impl LogBatch {
     pub fn encoded_bytes(&self) -> &[u8]
         requires { IsSigned self.now.state }
         ensures whole { IsRecordOf self.now result.now }
-        ensures exact { result.now ≡ batch_bytes (signature_in self.now.state) self.now.items self.now.entries }
+        ensures exact { result.now ≡ signed_bytes self.now }
     {
         if self.items.is_empty() {
             return &self.buf[self.buf.len()..];
@@ -322,8 +313,8 @@ impl LogBatch {
         bytes
     }
 
-    /// The record is written at this place. Each entry gets the place of the entry block, which begins behind the header,
-    /// and each key gets the file.
+    /// The record is written at this place. Each entry gets the place of the entry block, which begins behind
+    /// the header, and each key gets the file.
     pub fn finish_write(&mut self, handle: FileBlockHandle)
         requires signed { IsSigned self.old.state }
         requires place { handle.offset + 16 < 2 ^ 64 }
@@ -343,8 +334,8 @@ impl LogBatch {
         self.state = BatchState::Written;
     }
 
-    /// About how many bytes the record has: those of the header and of the entry block, and of the footer with each number
-    /// counted as eight bytes; 2^64 - 1 where there are more. An empty batch has none.
+    /// About how many bytes the record has: those of the header and of the entry block, and of the footer
+    /// with each number counted as eight bytes; 2^64 - 1 where there are more. An empty batch has none.
     pub fn approximate_size(&self) -> usize
         ensures { result ≡ min (batch_size self.now.items self.now.entries) (2 ^ 64 - 1) }
     {
@@ -354,11 +345,12 @@ impl LogBatch {
         items_size(self.items.as_slice()).saturating_add(28 + block_len(self.entries_len))
     }
 
-    /// Gives the items back, behind what is there, and leaves an empty batch that is being filled, with its room. Only where
-    /// there is no room for the items it may be refused, and then changes nothing.
-    pub fn drain(&mut self, into: &mut Vec<LogItem>) -> std::result::Result<(), AllocError>
+    /// Gives the items back, behind what is there, and leaves an empty batch that is being filled, with its
+    /// room. Only where there is no room for the items it may be refused, and then changes nothing.
+    pub fn drain(&mut self, into: &mut Vec<LogItem>) -> Result<(), AllocError>
         ensures items { OnOk result (into.new.items ≡ into.old.items ++ self.old.items) }
-        ensures emptied { OnOk result (self.new ≡ empty_batch self.old.capacity) }
+        ensures emptied { OnOk result (self.new ≡ emptied self.old) }
+        ensures bounded { OnOk result (self.new.buffer ≤ max_kept_len) }
         ensures err { OnErr result ((into.new.items ≡ into.old.items) × (self.new ≡ self.old)) }
         ensures succeeds { vec_len into.old + length self.old.items ≤ vec_capacity into.old → IsOk result }
     {
@@ -369,10 +361,11 @@ impl LogBatch {
         Ok(())
     }
 
-    /// Drops what was added, and leaves an empty batch that is being filled, with its room for items. The buffer is kept, but
-    /// for what it has above 8 MiB.
+    /// Drops what was added, and leaves an empty batch that is being filled, with its room for items. The buffer
+    /// is kept too, but one of more than 8 MiB is given back.
     pub fn clear(&mut self)
-        ensures { self.new ≡ empty_batch self.old.capacity }
+        ensures emptied { self.new ≡ emptied self.old }
+        ensures bounded { self.new.buffer ≤ max_kept_len }
     {
         self.items.clear();
         empty(&mut self.buf);
@@ -412,12 +405,31 @@ fn block_len(len: usize) -> usize
     if len == 0 { 0 } else { len + CHECKSUM_LEN }
 }
 
-/// Leaves of a buffer the room for the header, and gives back what it has above the most that is kept.
-fn empty(buf: &mut Vec<u8>)
-    ensures { buf.new.items ≡ take 16 buf.old.items }
+/// Makes room for so many more bytes, and for a header in a buffer that has no byte, by one reservation. A refusal
+/// leaves the bytes.
+fn make_room(buf: &mut Vec<u8>, more: usize) -> Result<(), AllocError>
+    ensures ok { OnOk result (buf.new.items ≡ roomy buf.old.items) }
+    ensures room { OnOk result (vec_len buf.new + more ≤ vec_capacity buf.new) }
+    ensures err { OnErr result (buf.new.items ≡ buf.old.items) }
+    ensures succeeds { length (roomy buf.old.items) + more ≤ vec_capacity buf.old → IsOk result }
 {
-    buf.truncate(LOG_BATCH_HEADER_LEN);
+    if !buf.is_empty() {
+        return buf.reserve(more);
+    }
+    buf.reserve(more.saturating_add(LOG_BATCH_HEADER_LEN))?;
+    buf.extend_from_slice(&[0; LOG_BATCH_HEADER_LEN])
+}
+
+/// Leaves of a buffer the room for the header alone, and gives back one that has more than is kept.
+fn empty(buf: &mut Vec<u8>)
+    requires { 16 ≤ length (roomy buf.old.items) }
+    ensures header { length (roomy buf.new.items) ≡ 16 }
+    ensures kept { vec_capacity buf.new ≡ kept_buffer (vec_capacity buf.old) }
+{
     if buf.capacity() > MAX_KEPT_LEN {
-        buf.shrink_to(MAX_KEPT_LEN);
+        buf.clear();
+        buf.shrink_to_fit();
+    } else {
+        buf.truncate(LOG_BATCH_HEADER_LEN);
     }
 }

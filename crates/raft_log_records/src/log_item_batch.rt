@@ -2,9 +2,10 @@
 ghost use Rattle.std.specs.Prelude.{◌≡◌, ◌-◌, ◌^◌, min, slice_get};
 ghost use Rattle.raft_log_records.specs.ItemBatch.{content_size, items_size, all_entries};
 
-use raft_log_frames::decode_footer;
+use raft_log_base::codec::or_cut_back;
+use raft_log_frames::decode_placed_footer;
 use raft_log_frames::record::append_footer;
-use raft_log_items::items::{copied, lay_out, place, set_written};
+use raft_log_items::items::{copied, lay_out, set_written};
 use raft_log_items::{
     Bytes, Command, CompressionType, EntryIndex, EntryIndexes, FileBlockHandle, LogFileContext,
     LogItem, LogItemContent, Message, OpType,
@@ -15,8 +16,8 @@ use std::slice::Iter;
 
 /// A list of items.
 ///
-/// Contracts see it as its items, and how many it has room for before it asks for memory. Unlike a `LogBatch` it takes
-/// the log's own keys too.
+/// Contracts see it as its items, and how many it has room for before it asks for memory. Unlike a `LogBatch`
+/// it takes the log's own keys too.
 #[derive(Debug, Drop)]
 pub struct LogItemBatch {
     items: Vec<LogItem>,
@@ -50,39 +51,36 @@ impl LogItemBatch {
     ghost use Rattle.std.specs.Vec.{vec_len, vec_capacity};
     ghost use Rattle.std.specs.Slice.Iter.{iter_rest};
     ghost use Rattle.std.specs.Iterator.Adapters.{IterYieldsInOrder};
-    ghost use Rattle.raft_log_items.specs.Items.{AreItems, put_item, del_item};
-    ghost use Rattle.raft_log_items.specs.Writing.{items_bytes, plain_item};
-    ghost use Rattle.raft_log_items.specs.Placed.{entries_len, laid_out, written};
+    ghost use Rattle.raft_log_items.specs.Items.{del_item};
+    ghost use Rattle.raft_log_items.specs.Message.{IsReadBack};
+    ghost use Rattle.raft_log_items.specs.Placed.{entries_len, written};
     ghost use Rattle.raft_log_base.specs.Files.{signature_of};
-    ghost use Rattle.raft_log_frames.specs.Record.{footer_bytes};
-    ghost use Rattle.raft_log_records.specs.ItemBatch.{no_items, AddsItems, TakesItems, HasRoom, run_item, command_item, items_size, all_entries, IsPlacedFooter, OnlyPlaced, GivesPlaced, batch_of};
+    ghost use Rattle.raft_log_frames.specs.Record.{footer_bytes, placed_footer_of};
+    ghost use Rattle.raft_log_records.specs.ItemBatch.{no_items, AddsItems, AddsPut, TakesItems, HasRoom, IsSpelling, laid_from, run_item, command_item, items_size, all_entries, FindsPlaced, OnlyPlaced, GivesPlaced};
     ghost use Rattle.raft_log_records.specs.Places.{AllLieIn};
 
     /// An empty batch, which has no room yet.
     pub fn default(alloc: Global) -> Self
         ensures { result.items ≡ [] }
     {
-        LogItemBatch {
-            items: Vec::new(alloc),
-        }
+        let items = Vec::new(alloc);
+        LogItemBatch { items }
     }
 
     /// An empty batch with room for so many items: as many are added without asking for memory.
     pub fn with_capacity(alloc: Global, capacity: usize) -> Result<Self, AllocError>
         ensures { IfOk result (λ batch. batch ≡ no_items capacity) }
     {
-        Ok(LogItemBatch {
-            items: Vec::with_capacity(alloc, capacity)?,
-        })
+        let items = Vec::with_capacity(alloc, capacity)?;
+        Ok(LogItemBatch { items })
     }
 
     /// A copy of the batch.
     pub fn clone(&self, alloc: Global) -> Result<Self, AllocError>
         ensures { IfOk result (λ batch. batch.items ≡ self.now.items) }
     {
-        Ok(LogItemBatch {
-            items: copied(alloc, self.items.as_slice())?,
-        })
+        let items = copied(alloc, self.items.as_slice())?;
+        Ok(LogItemBatch { items })
     }
 
     /// The items; nothing is copied.
@@ -145,8 +143,8 @@ impl LogItemBatch {
         self.items.clear();
     }
 
-    /// Gives the items back, behind what is there, and leaves an empty batch with its room. Only where there is no room for
-    /// them it may be refused, and then changes nothing.
+    /// Gives the items back, behind what is there, and leaves an empty batch with its room. Only where there
+    /// is no room for them it may be refused, and then changes nothing.
     pub fn drain(&mut self, into: &mut Vec<LogItem>) -> Result<(), AllocError>
         ensures items { OnOk result (into.new.items ≡ into.old.items ++ self.old.items) }
         ensures emptied { OnOk result (self.new ≡ no_items self.old.capacity) }
@@ -156,8 +154,8 @@ impl LogItemBatch {
         into.append(&mut self.items)
     }
 
-    /// Takes the items of the other batch behind its own, and leaves the other one empty. Only where there is no room for
-    /// them it may be refused, and then changes neither.
+    /// Takes the items of the other batch behind its own, and leaves the other one empty. Only where there is
+    /// no room for them it may be refused, and then changes neither.
     pub fn merge(&mut self, rhs: &mut LogItemBatch) -> Result<(), AllocError>
         ensures ok { OnOk result (TakesItems self.old self.new rhs.old rhs.new) }
         ensures err { OnErr result ((self.new ≡ self.old) × (rhs.new ≡ rhs.old)) }
@@ -179,7 +177,7 @@ impl LogItemBatch {
     pub(crate) fn lay_out_rest(&mut self, first: usize, offset: u32)
         requires inside { first ≤ length self.old.items }
         requires fits { offset + entries_len (drop first self.old.items) < 2 ^ 32 }
-        ensures items { self.new.items ≡ take first self.old.items ++ laid_out offset (drop first self.old.items) }
+        ensures items { self.new.items ≡ laid_from first offset self.old.items }
         ensures room { self.new.capacity ≡ self.old.capacity }
     {
         let (_, rest) = self.items.as_mut_slice().split_at_mut(first);
@@ -252,7 +250,7 @@ impl LogItemBatch {
         key: &[u8],
         value: &[u8],
     ) -> Result<(), AllocError>
-        ensures ok { OnOk result (AddsItems self.old self.new (put_item raft_group_id key.now value.now ∷ [])) }
+        ensures ok { OnOk result (AddsPut self.old self.new raft_group_id key.now value.now) }
         ensures err { OnErr result (AddsItems self.old self.new []) }
     {
         self.items.reserve(1)?;
@@ -270,45 +268,36 @@ impl LogItemBatch {
         key: &[u8],
         message: &M,
     ) -> Result<(), AllocError>
-        ensures ok { OnOk result (AddsItems self.old self.new (put_item raft_group_id key.now (M.spelling message.now) ∷ [])) }
+        ensures ok { OnOk result (AddsPut self.old self.new raft_group_id key.now (M.spelling message.now)) }
+        ensures again { OnOk result (IsReadBack M.spelling M.reading message.now) }
         ensures err { OnErr result (AddsItems self.old self.new []) }
     {
         self.items.reserve(1)?;
         let key = Bytes::from_slice(alloc, key)?;
         let mut value = Vec::new(alloc);
         message.write(&mut value)?;
-        self.items.push_reserved(LogItem::new_kv(
-            raft_group_id,
-            OpType::Put,
-            key,
-            Some(Bytes::from_vec(value)),
-        ));
+        let value = Bytes::from_vec(value);
+        self.items.push_reserved(LogItem::new_kv(raft_group_id, OpType::Put, key, Some(value)));
         Ok(())
     }
 
-    /// Appends the count of the items, each of them, and their checksum: the footer that `decode` reads in a file without
-    /// signatures. A refusal changes nothing.
+    /// Appends the count of the items, each of them, and their checksum: the footer that `decode` reads in a
+    /// file without signatures. A refusal changes nothing.
     pub fn encode(&self, out: &mut Vec<u8>) -> Result<(), AllocError>
         ensures ok { OnOk result (out.new.items ≡ out.old.items ++ footer_bytes None self.now.items) }
         ensures err { OnErr result (out.new.items ≡ out.old.items) }
-        ensures spelled { OnOk result (AreItems (items_bytes self.now.items) (map plain_item self.now.items)) }
+        ensures spelled { OnOk result (IsSpelling self.now.items) }
     {
         let start = out.len();
-        match append_footer(out, self.items.as_slice()) {
-            Ok(_) => Ok(()),
-            Err(error) => {
-                out.truncate(start);
-                Err(error)
-            }
-        }
+        let appended = append_footer(out, self.items.as_slice());
+        or_cut_back(appended.map(|_| ()), out, start)
     }
 
-    /// The items of a whole footer of this file, whose entries lie in the block at this place. Each entry has its offset in
-    /// the block and the block's place, and each key its file.
+    /// The items of a whole footer of this file, whose entries lie in the block at this place. Each entry has
+    /// its offset in the block and the block's place, and each key its file.
     ///
-    /// Refuses what `decode_footer` refuses: a footer that is signed for another file, entries whose lengths don't add up to
-    /// the block, and the first fault of the items.
-    #[tactic(auto, unfolding(crate::specs::ItemBatch::batch_of))]
+    /// Refuses what `decode_placed_footer` refuses: a footer that is signed for another file, entries whose lengths
+    /// don't add up to the block, and the first fault of the items.
     pub fn decode(
         alloc: Global,
         bytes: &[u8],
@@ -316,19 +305,18 @@ impl LogItemBatch {
         compression_type: CompressionType,
         context: &LogFileContext,
     ) -> raft_log_items::Result<Self>
-        ensures found { IfOk result (λ b. IsPlacedFooter (signature_of context.now) entries bytes.now b.items) }
+        ensures found { FindsPlaced result (signature_of context.now) entries bytes.now }
         ensures inside { IfOk result (λ b. AllLieIn entries b.items) }
         ensures only { OnlyPlaced result (signature_of context.now) entries bytes.now }
-        ensures exact { GivesPlaced result (batch_of (signature_of context.now) entries bytes.now) }
+        ensures exact { GivesPlaced result (placed_footer_of (signature_of context.now) entries bytes.now) }
     {
         let CompressionType::None = compression_type;
-        let mut items = decode_footer(alloc, bytes, entries.len, context.get_signature())?;
-        place(items.as_mut_slice(), entries);
+        let items = decode_placed_footer(alloc, bytes, entries, context.get_signature())?;
         Ok(LogItemBatch { items })
     }
 
-    /// About how many bytes the footer of these items has, where each number is counted as eight, or 2^64 - 1 where there
-    /// are more.
+    /// About how many bytes the footer of these items has, where each number is counted as eight, or 2^64 - 1
+    /// where there are more.
     pub fn approximate_size(&self) -> usize
         ensures { result ≡ min (12 + items_size self.now.items) (2 ^ 64 - 1) }
     {
@@ -352,11 +340,8 @@ fn content_size(content: &LogItemContent) -> usize
         LogItemContent::Command(_) => 8,
         LogItemContent::Kv(key_value) => {
             let value_len = key_value.value.as_ref().map_or(0, |value| value.len());
-            key_value
-                .key
-                .len()
-                .saturating_add(value_len)
-                .saturating_add(16)
+            let key_len = key_value.key.len();
+            key_len.saturating_add(value_len).saturating_add(16)
         }
     }
 }

@@ -1,6 +1,6 @@
 //! Marks of atomic groups: their bytes, and what is no mark.
 ghost use Rattle.std.specs.Prelude.{◌≡◌};
-ghost use Rattle.raft_log_records.specs.Batch.{empty_batch};
+ghost use Rattle.raft_log_records.specs.Batch.{emptied};
 
 use crate::steps::record;
 use raft_log_items::{Bytes, Command, LogItem, OpType, Version};
@@ -9,7 +9,7 @@ use std::test::Fail;
 
 /// What a batch says as a mark. The batch is emptied.
 fn marking(batch: &mut LogBatch) -> Marking
-    ensures { batch.new ≡ empty_batch batch.old.capacity }
+    ensures { batch.new ≡ emptied batch.old }
 {
     let marking = batch.marking();
     batch.clear();

@@ -4,23 +4,25 @@ ghost use Rattle.raft_log_items.specs.Writing.{KeepsFront};
 ghost use Rattle.raft_log_items.specs.Placed.{laid_run};
 ghost use Rattle.raft_log_records.specs.Entries.{RisesFrom, IsIndexRun, entries_of, indexes_of, slices_bytes, joined, bytes_len, IsRunRefusal};
 
-use super::{LogBatch, MAX_ENTRIES_LEN};
+use super::{LogBatch, MAX_ENTRIES_LEN, make_room};
+use raft_log_base::codec::or_cut_back;
 use raft_log_items::{EntryIndex, EntryIndexes, Error, LogItem, Result};
 use std::alloc::{AllocError, Global};
 
 impl LogBatch {
-    ghost use Rattle.std.specs.Prelude.{◌≡◌, ◌+◌, ◌≤◌, length, OnOk, OnErr, IfErr};
+    ghost use Rattle.std.specs.Prelude.{◌≡◌, OnOk, OnErr, IfErr};
     ghost use Rattle.raft_log_records.specs.declared.log_batch.BatchState.TheVariants.{Filling};
-    ghost use Rattle.raft_log_records.specs.Batch.{max_entries_len, Becomes};
+    ghost use Rattle.raft_log_records.specs.Batch.{Becomes};
     ghost use Rattle.raft_log_records.specs.Places.{AddsBytes};
-    ghost use Rattle.raft_log_records.specs.Entries.{IsRunOf, indexes_of, slices_bytes, bytes_len, AddsEntries, IsEntriesRefusal};
+    ghost use Rattle.raft_log_records.specs.Entries.{IsRunOf, indexes_of, slices_bytes, MayHold, AddsSlices, IsSlicesRefusal};
 
-    /// Adds entries of a group, each given by its index and its bytes, which are copied into the batch. Of the entries in `entry_indexes` only the index is
-    /// taken: the length is that of the bytes, and the place comes when the batch is written. No entries add nothing.
+    /// Adds entries of a group, each given by its index and its bytes, which are copied into the batch. Of
+    /// the entries in `entry_indexes` only the index is taken: the length is that of the bytes, and the place
+    /// comes when the batch is written. No entries add nothing.
     ///
-    /// Refused, in this order: as an invalid argument, indexes that are not as many as the entries, that don't rise by one,
-    /// or of which one is 2^64 - 1; as full, more than 2,147,483,647 bytes of entries in the batch. A refusal
-    /// changes no item.
+    /// Refused, in this order: as an invalid argument, indexes that are not as many as the entries, that
+    /// don't rise by one, or of which one is 2^64 - 1; as full, more than 2,147,483,647 bytes of entries in
+    /// the batch. A refusal changes no item.
     pub fn add_raw_entries(
         &mut self,
         alloc: Global,
@@ -29,12 +31,12 @@ impl LogBatch {
         entries: &[&[u8]],
     ) -> Result<()>
         requires { self.old.state ≡ Filling }
-        ensures ok { OnOk result (AddsEntries self.old self.new raft_group_id (indexes_of entry_indexes.now) (slices_bytes entries.now)) }
+        ensures ok { OnOk result (AddsSlices self.old self.new raft_group_id entry_indexes.now entries.now) }
         ensures bytes { OnOk result (AddsBytes self.old self.new (slices_bytes entries.now)) }
         ensures run { OnOk result (IsRunOf (indexes_of entry_indexes.now) (slices_bytes entries.now)) }
-        ensures room { OnOk result (length self.old.entries + bytes_len (slices_bytes entries.now) ≤ max_entries_len) }
+        ensures room { OnOk result (MayHold self.old (slices_bytes entries.now)) }
         ensures err { OnErr result (Becomes self.old self.new) }
-        ensures errors { IfErr result (λ e. IsEntriesRefusal e (length self.old.entries) (indexes_of entry_indexes.now) (slices_bytes entries.now)) }
+        ensures errors { IfErr result (λ e. IsSlicesRefusal e self.old entry_indexes.now entries.now) }
     {
         check_run(alloc, entry_indexes, entries.len())?;
         let added = bytes_len(entries);
@@ -45,8 +47,9 @@ impl LogBatch {
             return Ok(());
         }
         self.items.reserve(1)?;
+        make_room(&mut self.buf, added as usize)?;
         let indexes = Vec::from_slice(alloc, entry_indexes)?;
-        append_entries(&mut self.buf, entries, added as usize)?;
+        append_entries(&mut self.buf, entries)?;
         let placed = place_entries(indexes, entries, self.entries_len as u32);
         self.items
             .push_reserved(LogItem::new_entry_indexes(raft_group_id, placed));
@@ -113,8 +116,8 @@ fn bytes_len(entries: &[&[u8]]) -> u64
     len
 }
 
-/// Appends each entry's bytes.
-fn append_each(out: &mut Vec<u8>, entries: &[&[u8]]) -> std::result::Result<(), AllocError>
+/// Appends each entry's bytes. A refusal may leave a part behind what was there.
+fn append_each(out: &mut Vec<u8>, entries: &[&[u8]]) -> Result<(), AllocError>
     ensures ok { OnOk result (out.new.items ≡ out.old.items ++ joined (slices_bytes entries.now)) }
     ensures err { OnErr result (KeepsFront out.old.items out.new.items) }
 {
@@ -124,22 +127,13 @@ fn append_each(out: &mut Vec<u8>, entries: &[&[u8]]) -> std::result::Result<(), 
     Ok(())
 }
 
-/// Appends each entry's bytes, which are so many in all. A refusal changes nothing.
-fn append_entries(
-    out: &mut Vec<u8>,
-    entries: &[&[u8]],
-    len: usize,
-) -> std::result::Result<(), AllocError>
+/// The same, and a refusal changes nothing.
+fn append_entries(out: &mut Vec<u8>, entries: &[&[u8]]) -> Result<(), AllocError>
     ensures ok { OnOk result (out.new.items ≡ out.old.items ++ joined (slices_bytes entries.now)) }
     ensures err { OnErr result (out.new.items ≡ out.old.items) }
 {
-    out.reserve(len)?;
     let start = out.len();
-    let appended = append_each(out, entries);
-    if appended.is_err() {
-        out.truncate(start);
-    }
-    appended
+    or_cut_back(append_each(out, entries), out, start)
 }
 
 /// Gives each entry the length of its bytes, and leaves of what it had the index alone.

@@ -1,43 +1,46 @@
 //! Two batches that become one.
-ghost use Rattle.std.specs.Prelude.{◌≡◌, ◌++◌, OnOk, OnErr};
+ghost use Rattle.std.specs.Prelude.{◌≡◌, ◌++◌, IsOk, OnOk, OnErr};
+ghost use Rattle.raft_log_records.specs.Batch.{Fits};
 ghost use Rattle.raft_log_records.specs.ItemBatch.{TakesItems};
 
-use super::{LogBatch, MAX_ENTRIES_LEN};
+use super::{LogBatch, MAX_ENTRIES_LEN, make_room};
 use crate::log_item_batch::LogItemBatch;
+use raft_log_base::codec::or_cut_back;
 use raft_log_frames::LOG_BATCH_HEADER_LEN;
 use raft_log_items::{Error, Result};
 use std::alloc::AllocError;
 
 impl LogBatch {
-    ghost use Rattle.std.specs.Prelude.{◌≡◌, ◌+◌, ◌≤◌, length, OnOk, OnErr, IfErr};
+    ghost use Rattle.std.specs.Prelude.{◌≡◌, ◌+◌, ◌≤◌, length, IsOk, OnOk, OnErr, IfErr};
     ghost use Rattle.raft_log_records.specs.declared.log_batch.BatchState.TheVariants.{Filling};
-    ghost use Rattle.raft_log_records.specs.Batch.{max_entries_len, empty_batch, with_batch, Becomes};
-    ghost use Rattle.raft_log_records.specs.Places.{AddsBytes, bytes_of_each};
+    ghost use Rattle.raft_log_records.specs.Batch.{max_entries_len, empty_batch, with_batch, HasRoomFor, IsButBuffer, Becomes};
+    ghost use Rattle.raft_log_records.specs.Places.{AddsBytes, bytes_in};
     ghost use Rattle.raft_log_records.specs.Entries.{IsMergeRefusal};
 
-    /// Takes the items and the entries' bytes of the other batch behind its own, and leaves the other one empty.
+    /// Takes the items and the entries' bytes of the other batch behind its own, and leaves the other one
+    /// empty.
     ///
-    /// Refused as full are more than 2,147,483,647 bytes of entries in all. A refusal changes neither.
+    /// Refused as full are more than 2,147,483,647 bytes of entries in all. A refusal changes neither but the memory
+    /// of the own buffer, and where there is room for the other's items and bytes there is none.
     pub fn merge(&mut self, rhs: &mut LogBatch) -> Result<()>
         requires own { self.old.state ≡ Filling }
         requires other { rhs.old.state ≡ Filling }
         ensures ok { OnOk result (Becomes (with_batch self.old rhs.old) self.new) }
-        ensures bytes { OnOk result (AddsBytes self.old self.new (bytes_of_each rhs.old.items rhs.old.entries)) }
-        ensures emptied { OnOk result (rhs.new ≡ empty_batch rhs.old.capacity) }
+        ensures bytes { OnOk result (AddsBytes self.old self.new (bytes_in rhs.old)) }
+        ensures emptied { OnOk result (rhs.new ≡ empty_batch rhs.old.capacity rhs.old.buffer) }
         ensures room { OnOk result (length self.old.entries + length rhs.old.entries ≤ max_entries_len) }
-        ensures err { OnErr result ((self.new ≡ self.old) × (rhs.new ≡ rhs.old)) }
+        ensures succeeds { HasRoomFor self.old rhs.old → IsOk result }
+        ensures err { OnErr result (IsButBuffer self.old self.new × (rhs.new ≡ rhs.old)) }
         ensures errors { IfErr result (λ e. IsMergeRefusal e self.old.entries rhs.old.entries) }
     {
         if rhs.entries_len > MAX_ENTRIES_LEN - self.entries_len {
             return Err(Error::Full);
         }
         let first = self.items.len();
-        move_parts(
-            &mut self.items,
-            &mut self.buf,
-            &mut rhs.items,
-            &rhs.buf[LOG_BATCH_HEADER_LEN..],
-        )?;
+        make_room(&mut self.buf, rhs.entries_len)?;
+        let header = LOG_BATCH_HEADER_LEN.min(rhs.buf.len());
+        let bytes = &rhs.buf[header..];
+        move_parts(&mut self.items, &mut self.buf, &mut rhs.items, bytes)?;
         self.items.lay_out_rest(first, self.entries_len as u32);
         self.entries_len += rhs.entries_len;
         rhs.buf.truncate(LOG_BATCH_HEADER_LEN);
@@ -46,23 +49,21 @@ impl LogBatch {
     }
 }
 
-/// Moves the other items behind these, and copies bytes behind those of the buffer. A refusal changes nothing.
+/// Moves the other items behind these, and copies bytes behind those of the buffer. A refusal changes
+/// nothing.
 fn move_parts(
     items: &mut LogItemBatch,
     buf: &mut Vec<u8>,
     other: &mut LogItemBatch,
     bytes: &[u8],
-) -> std::result::Result<(), AllocError>
+) -> Result<(), AllocError>
     ensures items { OnOk result (TakesItems items.old items.new other.old other.new) }
     ensures bytes { OnOk result (buf.new.items ≡ buf.old.items ++ bytes.now) }
     ensures kept { OnErr result ((items.new ≡ items.old) × (other.new ≡ other.old)) }
     ensures err { OnErr result (buf.new.items ≡ buf.old.items) }
+    ensures succeeds { Fits items.old other.old buf.old bytes.now → IsOk result }
 {
     let filled = buf.len();
     buf.extend_from_slice(bytes)?;
-    let moved = items.merge(other);
-    if moved.is_err() {
-        buf.truncate(filled);
-    }
-    moved
+    or_cut_back(items.merge(other), buf, filled)
 }

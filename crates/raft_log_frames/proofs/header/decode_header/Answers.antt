@@ -1,10 +1,10 @@
-use Rattle.raft_log_frames.proofs.Headers.{is_sound_header, decodes_surely, takes_sixteen}
+use Rattle.std.proofs.Common.{arith}
+use Rattle.raft_log_frames.proofs.Words.{word_there, word_leaves}
 use Rattle.raft_log_frames.proofs.header.decode_header.Goals as goal
 
-pub returns-clause-decodes : goal.returns-clause-decodes
-returns-clause-decodes c = decodes_surely c.split_header.result c.args.source.now.now c.split_header.new.source.now is_sound_header c.split_header.ensures.exact c.split_header.ensures.sure
+pub returns-in_err-word : goal.returns-in_err-word
+returns-in_err-word c = absurd (word_there c.args.source.now.now c.in_err-word.field-0.0 (omega arith) c.in_err-word.ensures.exact.0)
 
-pub returns-clause-taken : goal.returns-clause-taken
-returns-clause-taken c =
-    takes_sixteen c.split_header.result c.args.source.now.now c.split_header.new.source.now
-    (decodes_surely c.split_header.result c.args.source.now.now c.split_header.new.source.now is_sound_header c.split_header.ensures.exact c.split_header.ensures.sure)
+pub returns-in_err-offset : goal.returns-in_err-offset
+returns-in_err-offset c =
+    absurd (word_there c.decode_u64.new.source.now c.in_err-offset.field-0.0 (word_leaves c.args.source.now.now c.in_ok-word.word _ (omega arith) c.in_ok-word.ensures.exact) c.in_err-offset.ensures.exact.0)

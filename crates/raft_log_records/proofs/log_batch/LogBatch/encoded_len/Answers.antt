@@ -1,8 +1,9 @@
 use Rattle.std.proofs.Common.{◌≡◌, ◌<◌, ℕ, List, length, take, drop, sym, ap, subst, ◌∙◌}
 use Rattle.raft_log_frames.specs.Written.{AreBytes}
 use Rattle.raft_log_records.specs.declared.log_batch.BatchState.{BatchState}
-use Rattle.raft_log_records.specs.Batch.{Batch, IsMade, IsReadyForEach}
+use Rattle.raft_log_records.specs.Batch.{Batch, roomy, IsMade, IsReadyForEach}
 use Rattle.raft_log_records.proofs.Items.{some_items}
+use Rattle.raft_log_records.proofs.Buffer.{made_roomy}
 use Rattle.raft_log_records.proofs.Encoded.{batch_ready}
 use Rattle.raft_log_records.proofs.log_batch.LogBatch.encoded_len.Goals as goal
 
@@ -11,8 +12,10 @@ returns c =
     let buffer : List ℕ = c.self.inside.buf.items in
     let some : 0 < length c.self.inside.items.items = some_items c.is_empty.result c.self.inside.items.items c.is_empty.ensures c.if-is_empty.false in
     let made : IsMade c.self.inside.state = subst (λ (s : BatchState). IsMade s) (sym (ap (λ (b : Batch). b.state) c.self.view_is)) c.requires in
-    let all : AreBytes buffer = subst (λ (l : List ℕ). AreBytes l) c.as_slice.ensures.value c.are_bytes.ensures in
-    let len : c.len.result ≡ length buffer = c.len.ensures ∙ c.self.inside.buf.ok.0 in
+    let n : ℕ = c.self.inside.entries_len in
+    let same : roomy buffer ≡ buffer = made_roomy c.self.inside.state buffer c.self.inside.checksum c.self.inside.items.items (take n (drop 16 (roomy buffer))) made some c.self.invariant.holds in
+    let all : AreBytes (roomy buffer) = subst (λ (l : List ℕ). AreBytes l) (c.as_slice.ensures.value ∙ sym same) c.are_bytes.ensures in
+    let len : c.len.result ≡ length (roomy buffer) = c.len.ensures ∙ c.self.inside.buf.ok.0 ∙ ap (λ (l : List ℕ). length l) (sym same) in
     subst (λ (b : Batch). IsReadyForEach c.len.result b.items b.entries) c.self.view_is
-    (subst (λ (n : ℕ). IsReadyForEach n c.self.inside.items.items (take c.self.inside.entries_len (drop 16 buffer))) (sym len)
-    (batch_ready c.self.inside.state buffer c.self.inside.entries_len c.self.inside.checksum c.self.inside.items.items made some c.self.invariant all))
+    (subst (λ (n : ℕ). IsReadyForEach n c.self.inside.items.items (take c.self.inside.entries_len (drop 16 (roomy buffer)))) (sym len)
+    (batch_ready c.self.inside.state (roomy buffer) c.self.inside.entries_len c.self.inside.checksum c.self.inside.items.items made some c.self.invariant all))

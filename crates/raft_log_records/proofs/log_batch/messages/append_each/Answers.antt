@@ -4,11 +4,12 @@ use Rattle.std.proofs.Math.Seq.{take-length}
 use Rattle.std.proofs.lemmas.List.{length-append}
 use Rattle.std.proofs.lemmas.Result.{err_from_is_err_and}
 use Rattle.raft_log_items.specs.declared.entry.EntryIndex.{EntryIndex}
+use Rattle.raft_log_items.specs.Message.{IsReadBack}
 use Rattle.raft_log_items.specs.Run.{unplaced_entry}
 use Rattle.raft_log_items.specs.Writing.{KeepsFront}
 use Rattle.raft_log_items.proofs.Each.{keeps_more}
 use Rattle.raft_log_records.specs.Entries.{joined, bytes_len}
-use Rattle.raft_log_records.proofs.Entries.{message_more, message_sized, out_len, part_len}
+use Rattle.raft_log_records.proofs.Entries.{message_more, message_sized, read_more, out_len, part_len}
 use Rattle.raft_log_records.proofs.log_batch.messages.append_each.Goals as goal
 
 pub returns-in_err-write-clause-err : goal.returns-in_err-write-clause-err
@@ -42,6 +43,7 @@ loop-i-preserved g c =
       ap (λ (e : EntryIndex). set c.loop-i.indexes i e) c.unplaced.ensures
           ∙ message_sized g.M.Message.spelling c.args.indexes.now c.loop-i.indexes c.args.messages.now i (unplaced_entry 0 0) c.index-messages-i.result (c.len-in-loop-i.result - c.len-start.result) lt' c.requires.same c.loop-i.invariant.1 c.index-messages-i.is len,
       omega (arith, c.len.ensures, c.write.new.out.ok.0, c.if-len-most.false),
+      read_more (IsReadBack g.M.Message.spelling g.M.Message.reading) c.args.messages.now i c.index-messages-i.result lt c.index-messages-i.is c.loop-i.invariant.3 c.in_ok-write.ensures.again,
     )
 
 pub returns-clause-room : goal.returns-clause-room

@@ -7,18 +7,20 @@ use Rattle.raft_log_disk.specs.Chains.{Written, IsSelfDelimiting, CanTell, Reads
 use Rattle.raft_log_disk.specs.KeepsSynced.{NoChanceMatch}
 
 -- How the files of a log are written: which bytes spell which record in the file with a number, which are a
--- header, the path of a file by its number, and the number that all are below.
+-- header, which paths a file with a number may have (one in each directory of the log), and the number that
+-- all are below.
 pub record Format (R : Type 0) : Type 1 where
   pub IsFrame : ℕ → List ℕ → R → Type 0
   pub IsHeader : List ℕ → Type 0
-  pub path : ℕ → List ℕ
+  pub IsPath : ℕ → List ℕ → Type 0
   pub limit : ℕ
 
--- no record's spelling begins another's, no header begins another, no two numbers have one path
+-- no record's spelling begins another's, no header begins another, no two numbers share a path
 pub record IsFormat {R : Type 0} (F : Format R) : Type 0 where
   pub free : (n : ℕ) → IsSelfDelimiting (F.IsFrame n)
   pub headers : (x y a b : List ℕ) → F.IsHeader x → F.IsHeader y → x ++ a ≡ y ++ b → x ≡ y
-  pub paths : (m n : ℕ) → m < F.limit → n < F.limit → F.path m ≡ F.path n → m ≡ n
+  pub paths : (m n : ℕ) (path : List ℕ) → m < F.limit → n < F.limit → F.IsPath m path → F.IsPath n path
+      → m ≡ n
 
 -- the bytes begin with this header
 pub record HasHeader {R : Type 0} (F : Format R) (header bytes : List ℕ) : Type 0 where

@@ -1,2 +1,3 @@
 pub mod FileSteps
 pub mod Standing
+pub mod Keeping

@@ -23,7 +23,7 @@ use Rattle.raft_log_files.specs.States.{IsNew}
 use Rattle.raft_log_files.specs.Standing.{Names, IsPlace, OwnsPaths, Stands}
 use Rattle.raft_log_files.proofs.FileSteps.{new_over}
 
-place_moved : (path : List ℕ) (a b : Disk) → b.directories ≡ a.directories → IsPlace path a → IsPlace path b
+pub place_moved : (path : List ℕ) (a b : Disk) → b.directories ≡ a.directories → IsPlace path a → IsPlace path b
 place_moved path a b same place = record {
   apart = ap (λ (f : List ℕ → _). f path) same ∙ place.apart;
   home = record { directory = place.home.directory; inside = place.home.inside; there = ap (λ (f : List ℕ → _). f place.home.directory) same ∙ place.home.there };

@@ -6,7 +6,7 @@ use Rattle.raft_log_disk.specs.Image.{IsLeft, IsFileImage, IsImage, IsSound}
 use Rattle.raft_log_disk.specs.Chains.{Written, spelled, Reads}
 use Rattle.raft_log_disk.specs.KeepsSynced.{kept_records, AreKept}
 use Rattle.raft_log_disk.specs.LogFormat.{Format, IsFormat, CanTellFormat, HasHeader, ReadsFile, NoChanceInFile}
-use Rattle.raft_log_disk.specs.LogQueue.{Past, LogFiles, recent, kept_to, HeaderStands, HoldsLast, IsPast, IsLeftover, HasNumbered, IsThere, IsAbsent, HasLogFiles, Found, ReadsNamed, ReadsFiles, past_from, NoChanceInLast, KeepsLast, KeepsQueue, QueueIsKept, QueueIsReadable, QueueRestarts, RotatedHoldsNothing, Anything}
+use Rattle.raft_log_disk.specs.LogQueue.{Past, LogFiles, recent, kept_to, HeaderStands, HoldsLast, IsPast, IsLeftover, HasNumbered, IsThere, IsAbsent, HasLogFiles, Found, ReadsNamed, ReadsFiles, past_from, NoChanceInLast, KeepsLast, KeepsQueue, EndsInOnePlace, QueueIsKept, QueueIsReadable, QueueRestarts, RotatedHoldsNothing, Anything}
 use Rattle.raft_log_disk.specs.Touching.{HasFile, HasNamed}
 use Rattle.raft_log_disk.proofs.ImageLaws.{left_at_rest, only_at_rest, image_is_sound, some_file}
 use Rattle.raft_log_disk.proofs.ChainLaws.{reads_unique, reads_some}
@@ -18,6 +18,15 @@ use Rattle.raft_log_disk.proofs.TouchingLaws.{same_file}
 front_nil : {X : Type 0} (xs ys : List X) → xs ++ ys ≡ [] → xs ≡ []
 front_nil [] ys e = refl
 front_nil (x ∷ xs) ys e = cc e
+
+-- two lists that are one end in one element
+last_of : {X : Type 0} (xs ys : List X) (x y : X) → xs ++ x ∷ [] ≡ ys ++ y ∷ [] → x ≡ y
+last_of [] [] x y e = cc e
+last_of [] (b ∷ []) x y e = cc e
+last_of [] (b ∷ (c ∷ ys)) x y e = cc e
+last_of (a ∷ []) [] x y e = cc e
+last_of (a ∷ (c ∷ xs)) [] x y e = cc e
+last_of (a ∷ xs) (b ∷ ys) x y e = last_of xs ys x y (cc e)
 
 -- a file that is there is there in an image
 there : (file : File) (o : Option File) → IsFileImage (Some file) o → (after : File) × (o ≡ Some after)
@@ -179,12 +188,64 @@ module _ {R : Type 0} (F : Format R) (lawful : IsFormat F) where
   queue_kept : (q : LogFiles R) (P : File → Type 0) (d : Disk) → KeepsLast F q P → HasLogFiles F q P d → KeepsQueue F q d
   queue_kept q P d keeps files image is chance s below found (k, reads) = files_read q P d image files is keeps chance (q.last - s) s k found (omega (arith, below)) reads
 
+  -- From whatever start it is read, the last file is read, and in one way.
+
+  module _ (q : LogFiles R) (P : File → Type 0) (d image : Disk) (files : HasLogFiles F q P d) (is : IsImage d image) where
+    last_once : (vs ws : List (Written R)) → ReadsNamed F image q.last vs → ReadsNamed F image q.last ws → vs ≡ ws
+    last_once vs ws one two =
+        let before : (p : List ℕ) (j : ℕ) → image.names p ≡ Some j → d.names p ≡ Some j = λ p j here. ap (λ (f : List ℕ → Option ℕ). f p) (sym is.names) ∙ here in
+        let same : one.file.id ≡ two.file.id =
+        files.alone one.path one.file.id one.at (before one.path one.file.id one.file.named) ∙ sym (files.alone two.path two.file.id two.at (before two.path two.file.id two.file.named)) in
+        let file : two.file.file.file ≡ one.file.file.file = same_file image one.file.id two.file.file.file one.file.file.file (ap image.files same ∙ two.file.file.is) one.file.file.is in
+        reads_once q.last ws vs one.file.file.file.content (subst (λ (f : File). ReadsFile F q.last ws f.content) file two.file.file.has) one.file.file.has
+
+    -- what is read last
+    read_last : (c s k : ℕ) (found : List (Found R)) → s + c ≡ q.last → ReadsFiles F image s k found
+        → (ahead : List (Found R)) × (ws : List (Written R)) × ReadsNamed F image q.last ws × (found ≡ ahead ++ record { number = q.last; records = ws } ∷ [])
+    read_last c s zero found at (none, behind) = absurd (last_named q P d image files is (behind q.last (omega (arith, at)) files.bound))
+    read_last zero s (suc zero) found at (ws, more, below, reads, (none, behind), is_found) =
+        let here : s ≡ q.last = omega (arith, at) in
+        ([], ws, subst (λ (n : ℕ). ReadsNamed F image n ws) here reads, is_found ∙ (λ i. record { number = here i; records = ws } ∷ none i))
+    read_last zero s (suc (suc k)) found at (ws, more, below, reads, (vs, rest, next_below, next, others, is_more), is_found) =
+        let here : s ≡ q.last = omega (arith, at) in
+        let gone = absent q P d image files is (suc s) (files.none (suc s) (omega (arith, here)) next_below) next.path next.at in
+        let named = next.file.named in
+        absurd (cc (gone, named))
+    read_last (suc c) s (suc k) found at (ws, more, below, reads, others, is_found) =
+        let (ahead, vs, last, rest) = read_last c (suc s) k more (omega (arith, at)) others in
+        (record { number = s; records = ws } ∷ ahead, vs, last, is_found ∙ ap (λ (fs : List (Found R)). record { number = s; records = ws } ∷ fs) rest)
+
+  queue_ends : CanTellFormat F → (q : LogFiles R) (P : File → Type 0) (d : Disk) → IsSound d → HasLogFiles F q P d → KeepsLast F q P → EndsInOnePlace F q d
+  queue_ends tell q P d sound files keeps image is chance =
+      let old = files.last in
+      let there : IsThere F q.last image = record { path = old.path; at = old.at; id = old.file.id; named = name_of q P d image files is old.path (Some old.file.id) old.file.named } in
+      let (ws, reads) = some_named q P d image files is tell (image_is_sound d image sound is) q.last there in
+      let (count, within, same) = last_read q P d image files is keeps chance ws reads in
+      (
+        count,
+        within,
+        λ s below found reading.
+            (let k = reading.0 in
+            let all = reading.1 in
+            let (other, other_within, whole) = queue_kept q P d keeps files image is chance s below found reading in
+            let (ahead, vs, last, ends) = read_last q P d image files is (q.last - s) s k found (omega (arith, below)) all in
+            let one : record { number = q.last; records = vs } ≡ record { number = q.last; records = kept_records q.durable q.pending other } =
+            last_of ahead (past_from q.older s (q.last - s)) (record { number = q.last; records = vs }) (record { number = q.last; records = kept_records q.durable q.pending other }) (sym ends ∙ whole) in
+            let records : kept_records q.durable q.pending other ≡ kept_records q.durable q.pending count =
+            ap (λ (f : Found R). f.records) (sym one) ∙ last_once q P d image files is vs ws last reads ∙ same in
+            whole ∙ ap (λ (r : List (Written R)). past_from q.older s (q.last - s) ++ record { number = q.last; records = r } ∷ []) records),
+      )
+
   pub queue_is_kept : QueueIsKept F
   queue_is_kept = record {
     holding = holds_keeps;
     left_over = leftover_keeps;
     kept = λ q d files is. queue_kept q (HoldsLast F q) d (holds_keeps q is) files;
     restarted = λ q d files. queue_kept q (IsLeftover F q) d (leftover_keeps q) files;
+    ends = λ tell q d sound either is. elim either [
+      | inl files ↦ queue_ends tell q (HoldsLast F q) d sound files (holds_keeps q is)
+      | inr files ↦ queue_ends tell q (IsLeftover F q) d sound files (leftover_keeps q)
+    ];
   }
 
   pub queue_is_readable : QueueIsReadable F

@@ -146,6 +146,12 @@ KeepsQueue {R} F q d = (image : Disk) → IsImage d image → NoChanceInLast F q
     → (found : List (Found R)) → ReadsFrom F image s found → (count : ℕ) × (count ≤ length q.pending)
     × (found ≡ found_from s q count)
 
+-- And the queue ends in one place, from whatever number on it is read: with the same first pending records.
+abbrev pub EndsInOnePlace : {R : Type 0} → Format R → LogFiles R → Disk → Type 0
+EndsInOnePlace {R} F q d = (image : Disk) → IsImage d image → NoChanceInLast F q d image
+    → (count : ℕ) × (count ≤ length q.pending)
+    × ((s : ℕ) → s ≤ q.last → (found : List (Found R)) → ReadsFrom F image s found → found ≡ found_from s q count)
+
 -- from a number on no file is missing below one that is there
 abbrev pub HasNoGap : {R : Type 0} → Format R → Disk → ℕ → Type 0
 HasNoGap F d s = (n m : ℕ) → s ≤ n → n ≤ m → m < F.limit → IsThere F m d → IsThere F n d
@@ -163,6 +169,9 @@ pub record QueueIsKept {R : Type 0} (F : Format R) : Type 0 where
   pub kept : (q : LogFiles R) (d : Disk) → HasLogFiles F q (HoldsLast F q) d → F.IsHeader q.header
       → KeepsQueue F q d
   pub restarted : (q : LogFiles R) (d : Disk) → HasLogFiles F q (IsLeftover F q) d → KeepsQueue F q d
+  pub ends : CanTellFormat F → (q : LogFiles R) (d : Disk) → IsSound d
+      → HasLogFiles F q (HoldsLast F q) d ⊎ HasLogFiles F q (IsLeftover F q) d → F.IsHeader q.header
+      → EndsInOnePlace F q d
 
 -- nothing is known of a file
 abbrev pub Anything : File → Type 0

@@ -2,7 +2,7 @@
 
 ghost use Rattle.std.specs.Prelude.{ℕ, List};
 ghost use Rattle.raft_log_disk.specs.LogFormat.{Format, IsFormat};
-ghost use Rattle.raft_log_files.specs.Laws.{FilesAreKept, FilesAreReadable, FilesRestart};
+ghost use Rattle.raft_log_file_queue.specs.Laws.{FilesAreKept, FilesAreReadable, FilesRestart};
 
 /// Says how the files of a queue are written, and which paths are its own.
 pub trait QueueFormat {

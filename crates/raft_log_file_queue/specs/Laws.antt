@@ -5,7 +5,7 @@ use Rattle.raft_log_disk.specs.Image.{IsImage, IsSound}
 use Rattle.raft_log_disk.specs.LogFormat.{Format, CanTellFormat}
 use Rattle.raft_log_disk.specs.LogQueue.{LogFiles, HoldsLast, IsLeftover, kept_to, NoChanceInLast, KeepsQueue, IsReadable, Anything}
 use Rattle.raft_log_disk.specs.Touching.{TouchesOnlyNames}
-use Rattle.raft_log_files.specs.Standing.{Names, OwnsPaths, Stands}
+use Rattle.raft_log_file_queue.specs.Standing.{Names, OwnsPaths, Stands}
 
 -- The queue is kept while its last file holds its records, and as a stop left it: what is read of it, whatever
 -- a stop leaves, are all records of its earlier files, the durable ones of the last, and the first of the

@@ -15,8 +15,8 @@ use Rattle.raft_log_disk.specs.LogQueue.{LogFiles, recent, HeaderStands, HoldsLa
 use Rattle.raft_log_disk.proofs.ChainLaws.{spelled-append, frame_filled, frames_front}
 use Rattle.raft_log_disk.proofs.KeepsSyncedLaws.{holds_at_least, holds_written, holds_more, holds_shortened, holds_grown, holds_in_front, holds_used_again, holds_prefilled, holds_read, holds_synced, all_at_least}
 use Rattle.raft_log_disk.proofs.ShorteningLaws.{reads_whole, settled_at_least}
-use Rattle.raft_log_files.specs.Queue.{whole, finished, with_more, synced, settled, with_room, begun}
-use Rattle.raft_log_files.specs.States.{HoldsMore, IsActive, IsFront, IsCut, IsNew, IsHeaded}
+use Rattle.raft_log_file_queue.specs.Queue.{whole, finished, with_more, synced, settled, with_room, begun}
+use Rattle.raft_log_file_queue.specs.States.{HoldsMore, IsActive, IsFront, IsCut, IsNew, IsHeaded}
 
 -- a header stands through a change that leaves it alone
 header_changed : (header : List ℕ) (change : Change) (content : List ℕ) (file : File) → ((place : ℕ) → place < length header → Spares place change) → HeaderStands header file

@@ -18,10 +18,10 @@ use Rattle.raft_log_disk.proofs.ImageLaws.{named_is_used}
 use Rattle.raft_log_disk.proofs.NamesLaws.{creation_leaves, deletion_leaves, renaming_leaves}
 use Rattle.raft_log_disk.proofs.KeptLaws.{IsCalm}
 use Rattle.raft_log_disk.proofs.TouchingLaws.{same_file, has_calm, has_weaker, has_done, has_changed, has_synced, touches_change, touches_sync, names_same, names_then, names_file}
-use Rattle.raft_log_files.specs.Queue.{finished}
-use Rattle.raft_log_files.specs.States.{IsNew}
-use Rattle.raft_log_files.specs.Standing.{Names, IsPlace, OwnsPaths, Stands}
-use Rattle.raft_log_files.proofs.FileSteps.{new_over}
+use Rattle.raft_log_file_queue.specs.Queue.{finished}
+use Rattle.raft_log_file_queue.specs.States.{IsNew}
+use Rattle.raft_log_file_queue.specs.Standing.{Names, IsPlace, OwnsPaths, Stands}
+use Rattle.raft_log_file_queue.proofs.FileSteps.{new_over}
 
 pub place_moved : (path : List ℕ) (a b : Disk) → b.directories ≡ a.directories → IsPlace path a → IsPlace path b
 place_moved path a b same place = record {

@@ -6,7 +6,7 @@ use Rattle.raft_log_disk.specs.Chains.{Written}
 use Rattle.raft_log_disk.specs.KeepsSynced.{HoldsChain}
 use Rattle.raft_log_disk.specs.LogFormat.{Format}
 use Rattle.raft_log_disk.specs.LogQueue.{LogFiles, HeaderStands}
-use Rattle.raft_log_files.specs.Queue.{whole}
+use Rattle.raft_log_file_queue.specs.Queue.{whole}
 
 -- the last file holds the queue's records, and is to get these more
 abbrev pub HoldsMore : {R : Type 0} → Format R → LogFiles R → List (Written R) → File → Type 0

@@ -7,9 +7,9 @@ use Rattle.raft_log_disk.specs.LogQueue.{LogFiles, HasLogFiles, HoldsLast, IsLef
 use Rattle.raft_log_disk.specs.Touching.{HasFile}
 use Rattle.raft_log_disk.proofs.LogQueueLaws.{queue_is_kept, queue_is_readable, queue_restarts}
 use Rattle.raft_log_disk.proofs.TouchingLaws.{names_same}
-use Rattle.raft_log_files.specs.Standing.{Names, Stands}
-use Rattle.raft_log_files.specs.Laws.{FilesAreKept, FilesAreReadable, FilesRestart}
-use Rattle.raft_log_files.proofs.Standing.{place_moved}
+use Rattle.raft_log_file_queue.specs.Standing.{Names, Stands}
+use Rattle.raft_log_file_queue.specs.Laws.{FilesAreKept, FilesAreReadable, FilesRestart}
+use Rattle.raft_log_file_queue.proofs.Standing.{place_moved}
 
 module _ {R : Type 0} (F : Format R) (own : List ℕ → Type 0) where
   -- a queue that stands has its files

@@ -1,1 +1,2 @@
 pub mod Reader
+pub mod Writer

@@ -2,5 +2,7 @@
 #![tactic(auto)]
 
 pub mod reader;
+pub mod writer;
 
 pub use reader::{LogFileReader, build_file_reader};
+pub use writer::LogFileWriter;

@@ -1,5 +1,5 @@
 -- One log file as it is written: how far, where it may end, and what each call makes of it.
-use Rattle.std.specs.Prelude.{◌≡◌, ℕ, ◌+◌, ◌-◌, ◌<◌, ◌≤◌, ◌++◌, Bool, true, false, Some, List, length, nat_lt, if◌then◌else◌, ◌||◌}
+use Rattle.std.specs.Prelude.{◌≡◌, ℕ, ◌+◌, ◌-◌, ◌<◌, ◌≤◌, ◌++◌, Bool, true, false, Some, None, List, length, nat_lt, if◌then◌else◌, ◌||◌}
 use Rattle.std.proofs.Common.{min, max}
 use Rattle.std.specs.declared.io.ErrorKind.{ErrorKind}
 use Rattle.raft_log_disk.specs.Disk.{File, Disk, at_rest}
@@ -158,6 +158,11 @@ pub data FailsToTakeUp (handle : Handle) (header : List ℕ) (reset : Bool) (err
   not_begun : (file : File) → old.files handle.file ≡ Some file → needs_header header reset file.content ≡ true
       → FailsToWriteAt handle 0 (length file.content) header 0 error old new
       → FailsToTakeUp handle header reset error old new
+
+-- the handle's file is there, and may be written
+pub record CanBeTakenUp (handle : Handle) (d : Disk) : Type 0 where
+  pub permitted : handle.permission ≡ ReadWrite
+  pub there : d.files handle.file ≡ None → ⊥
 
 -- these stand in the file that was taken up
 abbrev pub IsTakenUp : Handle → List ℕ → Bool → LogFileWriter → Disk → Disk → Type 0

@@ -1,6 +1,6 @@
 //! Writing one log file: ahead of its end, and cut back to it.
 
-ghost use Rattle.std.specs.Prelude.{◌≡◌, ℕ, ◌+◌, ◌<◌, ◌^◌, ◌++◌, List, length, IfOk, IfErr, OnOk, OnErr};
+ghost use Rattle.std.specs.Prelude.{◌≡◌, ℕ, ◌+◌, ◌<◌, ◌^◌, ◌++◌, List, length, nat_lt, ◌||◌, IfOk, IfErr, OnOk, OnErr};
 ghost use Rattle.raft_log_disk.specs.Causes.{Fails, IsLater};
 ghost use Rattle.raft_log_disk.specs.Exits.{FailsToSync, Syncs};
 ghost use Rattle.raft_log_disk.specs.Touching.{TouchesOnly};
@@ -26,7 +26,48 @@ pub struct LogFileWriter {
 }
 
 impl LogFileWriter {
-    ghost use Rattle.raft_log_file.specs.Writer.{Closes, CutsBehind, DurableStays, FailsToClose, FailsToCutBehind, FailsToTakeUp, FailsToWriteNext, IsAt, IsClosed, IsSynced, IsTakenUp, IsWhole, IsWritten, KeepsWritten, MakesRoom, TakesUp, WritesNext, reach};
+    ghost use Rattle.raft_log_file.specs.Writer.{Closes, CutsBehind, DurableStays, FailsToClose, FailsToCutBehind, FailsToTakeUp, FailsToWriteNext, CanBeTakenUp, IsAt, IsClosed, IsSynced, IsTakenUp, IsWhole, IsWritten, KeepsWritten, MakesRoom, TakesUp, WritesNext, reach};
+
+    /// Takes a file up behind what it holds. One that is shorter than the header, or that is to begin anew, gets
+    /// the header at its front, whatever stands there.
+    pub fn open<F: FileSystem, L: Log>(
+        rt: &L,
+        file_system: &mut F,
+        handle: Handle,
+        header: &[u8],
+        force_reset: bool,
+    ) -> Result<LogFileWriter, ErrorKind>
+        ensures ok { IfOk result (λ writer. TakesUp handle header.now force_reset writer
+            (F.disk file_system.old) (F.disk file_system.new)) }
+        ensures err { IfErr result (λ error. FailsToTakeUp handle header.now force_reset error
+            (F.disk file_system.old) (F.disk file_system.new)) }
+
+        // What stands in the file; and a refusal has a cause.
+        ensures written { IfOk result (λ writer. IsTakenUp handle header.now force_reset writer
+            (F.disk file_system.old) (F.disk file_system.new)) }
+        ensures cause { OnErr result (CanBeTakenUp handle (F.disk file_system.old)
+            → Fails (F.disk file_system.old) (F.disk file_system.new)) }
+
+        // Nothing else changes.
+        ensures others { TouchesOnly handle.file (F.disk file_system.old) (F.disk file_system.new) }
+        ensures later { IsLater (F.disk file_system.old) (F.disk file_system.new) }
+    {
+        let size = file_system.file_size(handle)?;
+        if !needs_header(header, size, force_reset) {
+            return Ok(LogFileWriter {
+                handle,
+                written: size,
+                capacity: size,
+            });
+        }
+        let mut writer = LogFileWriter {
+            handle,
+            written: 0,
+            capacity: size,
+        };
+        writer.write(rt, file_system, header, 0)?;
+        Ok(writer)
+    }
 
     /// Writes bytes behind those that were written. Where the file may end before the new end, it is made
     /// longer first: by what is missing, or, if that is more, by what is left to the target size, up to 2 MiB;
@@ -147,4 +188,11 @@ impl LogFileWriter {
         }
         self.capacity += size;
     }
+}
+
+/// Whether a file of this size gets a header: it is to begin anew, or is too short to have one.
+fn needs_header(header: &[u8], size: usize, force_reset: bool) -> bool
+    ensures { result ≡ (force_reset || nat_lt size (length header.now)) }
+{
+    force_reset || size < header.len()
 }

@@ -48,20 +48,20 @@ module _ {R : Type 0} (F : Format R) (lawful : IsFormat F) where
   one_header a b bytes x y = lawful.headers a b x.rest y.rest x.is y.is (sym x.splits ∙ y.splits)
 
   -- what is read behind a header
-  reads_behind : (n : ℕ) (header : List ℕ) (ws : List (Written R)) (bytes : List ℕ) → HasHeader F header bytes → ReadsFile F n ws bytes → Reads (F.IsFrame n) (length header) ws bytes
+  reads_behind : (n : ℕ) (header : List ℕ) (ws : List (Written R)) (bytes : List ℕ) → HasHeader F header bytes → ReadsFile F n ws bytes → Reads (F.IsFrame n header) (length header) ws bytes
   reads_behind n header ws bytes has (inl (none, no_header)) = absurd (no_header header has)
-  reads_behind n header ws bytes has (inr (other, has_other, reads)) = subst (λ (h : List ℕ). Reads (F.IsFrame n) (length h) ws bytes) (one_header other header bytes has_other has) reads
+  reads_behind n header ws bytes has (inr (other, has_other, reads)) = subst (λ (h : List ℕ). Reads (F.IsFrame n h) (length h) ws bytes) (one_header other header bytes has_other has) reads
 
   -- a file is read in one way
   reads_once : (n : ℕ) (vs ws : List (Written R)) (bytes : List ℕ) → ReadsFile F n vs bytes → ReadsFile F n ws bytes → ws ≡ vs
   reads_once n vs ws bytes (inl (none, no_header)) (inl (none_too, nor_header)) = none_too ∙ sym none
   reads_once n vs ws bytes (inl (none, no_header)) (inr (header, has, reads)) = absurd (no_header header has)
-  reads_once n vs ws bytes (inr (header, has, reads)) other = reads_unique (F.IsFrame n) (lawful.free n) (length header) vs ws bytes reads (reads_behind n header ws bytes has other)
+  reads_once n vs ws bytes (inr (header, has, reads)) other = reads_unique (F.IsFrame n header) (lawful.free n header) (length header) vs ws bytes reads (reads_behind n header ws bytes has other)
 
   -- and can be read
   reads_some_file : CanTellFormat F → (n : ℕ) (bytes : List ℕ) → (ws : List (Written R)) × ReadsFile F n ws bytes
   reads_some_file tell n bytes = elim (tell.headers bytes) [
-    | inl (header, has) ↦ (let some = reads_some (F.IsFrame n) (lawful.free n) (tell.frames n) (length header) bytes in (some.0, inr (header, has, some.1)))
+    | inl (header, has) ↦ (let some = reads_some (F.IsFrame n header) (lawful.free n header) (tell.frames n header) (length header) bytes in (some.0, inr (header, has, some.1)))
     | inr none ↦ ([], inl (refl, none))
   ]
 
@@ -76,7 +76,7 @@ module _ {R : Type 0} (F : Format R) (lawful : IsFormat F) where
   holds_keeps : (q : LogFiles R) → F.IsHeader q.header → KeepsLast F q (HoldsLast F q)
   holds_keeps q is file holds bytes left chance ws reads =
       let keeps : HasHeader F q.header bytes → AreKept q.durable q.pending ws = λ has.
-      at_least_keeps (F.IsFrame q.last) (length q.header) q.stale q.durable q.pending file (lawful.free q.last) holds.chain bytes left chance.records ws (reads_behind q.last q.header ws bytes has reads) in
+      at_least_keeps (F.IsFrame q.last q.header) (length q.header) q.stale q.durable q.pending file (lawful.free q.last q.header) holds.chain bytes left chance.records ws (reads_behind q.last q.header ws bytes has reads) in
       elim holds.headed [
         | inl stands ↦ keeps (header_left q.header file bytes is stands left)
         | inr empty ↦ elim reads [
@@ -97,8 +97,8 @@ module _ {R : Type 0} (F : Format R) (lawful : IsFormat F) where
   past_reads n past ws is whole reads =
       let bytes = past.header ++ spelled past.records in
       let has : HasHeader F past.header bytes = record { is = is; rest = spelled past.records; splits = refl } in
-      let all = reads_whole (F.IsFrame n) (length past.header) [] (lawful.free n) past.records bytes whole.frames (drop_at past.header (spelled past.records) (length past.header) refl) in
-      reads_unique (F.IsFrame n) (lawful.free n) (length past.header) past.records ws bytes all (reads_behind n past.header ws bytes has reads)
+      let all = reads_whole (F.IsFrame n past.header) (length past.header) [] (lawful.free n past.header) past.records bytes whole.frames (drop_at past.header (spelled past.records) (length past.header) refl) in
+      reads_unique (F.IsFrame n past.header) (lawful.free n past.header) (length past.header) past.records ws bytes all (reads_behind n past.header ws bytes has reads)
 
   -- a file before the last one, in an image
   past_image : (q : LogFiles R) (P : File → Type 0) (d image : Disk) → HasLogFiles F q P d → IsImage d image → (m id : ℕ) (path : List ℕ) → m < q.last → F.IsPath m path
@@ -295,13 +295,13 @@ module _ {R : Type 0} (F : Format R) (lawful : IsFormat F) where
             (subst (λ (f : File). NoChanceInFile F q.last q.header [] (at_rest bytes) f.content) (sym then_rest)
             (record {
               headers = λ x has. meets.headers x has;
-              records = synced_file_has_no_chance (F.IsFrame q.last) (lawful.free q.last) (length q.header) (at_rest bytes) bytes refl (left_at_rest bytes);
+              records = synced_file_has_no_chance (F.IsFrame q.last q.header) (lawful.free q.last q.header) (length q.header) (at_rest bytes) bytes refl (left_at_rest bytes);
             }))),
       )
 
 pub rotated_holds_nothing : {R : Type 0} (F : Format R) → RotatedHoldsNothing F
 rotated_holds_nothing F q header stale = record {
-  chain = holds_at_least (F.IsFrame (suc q.last)) (length header) stale [] [] (at_rest stale) (holds_used_again (F.IsFrame (suc q.last)) (length header) stale);
+  chain = holds_at_least (F.IsFrame (suc q.last) header) (length header) stale [] [] (at_rest stale) (holds_used_again (F.IsFrame (suc q.last) header) (length header) stale);
   headed = inr refl;
 }
 

@@ -54,14 +54,14 @@ pub record HeaderStands (header : List ℕ) (file : File) : Type 0 where
 -- The last file holds its chain, and its header stands, or it has no record yet: then any of its header may
 -- have landed.
 pub record HoldsLast {R : Type 0} (F : Format R) (q : LogFiles R) (file : File) : Type 0 where
-  pub chain : HoldsAtLeast (F.IsFrame q.last) (length q.header) q.stale q.durable q.pending file
+  pub chain : HoldsAtLeast (F.IsFrame q.last q.header) (length q.header) q.stale q.durable q.pending file
   pub headed : HeaderStands q.header file ⊎ (recent q ≡ [])
 
 -- a file before the last is at rest, with its header and its records and nothing else
 pub record IsPast {R : Type 0} (F : Format R) (n : ℕ) (past : Past R) (file : File) : Type 0 where
   pub is : file ≡ at_rest (past.header ++ spelled past.records)
   pub header : F.IsHeader past.header
-  pub frames : AreFrames (F.IsFrame n) past.records
+  pub frames : AreFrames (F.IsFrame n past.header) past.records
 
 -- what a stop left of the last file: its records are read of it
 pub record IsLeftover {R : Type 0} (F : Format R) (q : LogFiles R) (file : File) : Type 0 where

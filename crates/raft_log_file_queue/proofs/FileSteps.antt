@@ -131,40 +131,40 @@ module _ {R : Type 0} (F : Format R) where
   -- Each state is one in which the file holds its records.
 
   pub active_holds : (q : LogFiles R) (file : File) → IsActive F q file → HoldsLast F q file
-  active_holds q file is = record { chain = holds_at_least (F.IsFrame q.last) (length q.header) q.stale q.durable q.pending file is.chain; headed = inl is.headed }
+  active_holds q file is = record { chain = holds_at_least (F.IsFrame q.last q.header) (length q.header) q.stale q.durable q.pending file is.chain; headed = inl is.headed }
 
   pub front_holds : (q : LogFiles R) (more : List (Written R)) (file : File) → IsFront F q more file → HoldsLast F (with_more more q) file
-  front_holds q more file is = record { chain = holds_at_least (F.IsFrame q.last) (length q.header) q.stale q.durable (q.pending ++ more) file is.chain; headed = inl is.headed }
+  front_holds q more file is = record { chain = holds_at_least (F.IsFrame q.last q.header) (length q.header) q.stale q.durable (q.pending ++ more) file is.chain; headed = inl is.headed }
 
   pub cut_holds : (q : LogFiles R) (more : List (Written R)) (file : File) → IsCut F q more file → HoldsLast F (with_more more q) file
-  cut_holds q more file is = record { chain = holds_at_least (F.IsFrame q.last) (length q.header) q.stale q.durable (q.pending ++ more) file is.chain; headed = inl is.headed }
+  cut_holds q more file is = record { chain = holds_at_least (F.IsFrame q.last q.header) (length q.header) q.stale q.durable (q.pending ++ more) file is.chain; headed = inl is.headed }
 
   pub new_holds : (header stale : List ℕ) (q : LogFiles R) (file : File) → IsNew F (begun header stale q) file → HoldsLast F (begun header stale q) file
-  new_holds header stale q file is = record { chain = holds_at_least (F.IsFrame q.last) (length header) stale [] [] file is.chain; headed = inr refl }
+  new_holds header stale q file is = record { chain = holds_at_least (F.IsFrame q.last header) (length header) stale [] [] file is.chain; headed = inr refl }
 
   pub headed_holds : (header stale : List ℕ) (q : LogFiles R) (file : File) → IsHeaded F (begun header stale q) file → HoldsLast F (begun header stale q) file
-  headed_holds header stale q file is = record { chain = holds_at_least (F.IsFrame q.last) (length header) stale [] [] file is.chain; headed = inr refl }
+  headed_holds header stale q file is = record { chain = holds_at_least (F.IsFrame q.last header) (length header) stale [] [] file is.chain; headed = inr refl }
 
   -- A record is written, or is to be.
 
-  pub active_front : (q : LogFiles R) (more : List (Written R)) (file : File) → AreFrames (F.IsFrame q.last) more → IsActive F q file → IsFront F q more file
+  pub active_front : (q : LogFiles R) (more : List (Written R)) (file : File) → AreFrames (F.IsFrame q.last q.header) more → IsActive F q file → IsFront F q more file
   active_front q more file framed is = record {
-    chain = holds_more (F.IsFrame q.last) (length q.header) q.stale q.durable q.pending more file framed is.chain;
+    chain = holds_more (F.IsFrame q.last q.header) (length q.header) q.stale q.durable q.pending more file framed is.chain;
     headed = is.headed;
     front = ap (λ (b : List ℕ). take (length (whole q)) b) is.all ∙ take_at (whole q) (drop (length (whole q)) q.stale) (length (whole q)) refl;
   }
 
-  chain_written : (q : LogFiles R) (w : Written R) (content : List ℕ) (file : File) → F.IsFrame q.last w.bytes w.value → IsActive F q file
+  chain_written : (q : LogFiles R) (w : Written R) (content : List ℕ) (file : File) → F.IsFrame q.last q.header w.bytes w.value → IsActive F q file
       → HoldsMore F q (w ∷ []) (with_change (Wrote (length (whole q)) w.bytes) content file)
   chain_written q w content file framed is =
       subst (λ (n : ℕ). HoldsMore F q (w ∷ []) (with_change (Wrote n w.bytes) content file)) (sym (whole_long q))
-      (holds_written (F.IsFrame q.last) (length q.header) q.stale q.durable q.pending w content file framed is.chain)
+      (holds_written (F.IsFrame q.last q.header) (length q.header) q.stale q.durable q.pending w content file framed is.chain)
 
   -- the content as long as what is written at least
   content_long : (q : LogFiles R) (file : File) → IsActive F q file → length (whole q) ≤ length file.content
   content_long q file is = omega (arith, ap length is.all, length-append (whole q) (drop (length (whole q)) q.stale))
 
-  pub front_written : (q : LogFiles R) (w : Written R) (content : List ℕ) (file : File) → F.IsFrame q.last w.bytes w.value → IsActive F q file
+  pub front_written : (q : LogFiles R) (w : Written R) (content : List ℕ) (file : File) → F.IsFrame q.last q.header w.bytes w.value → IsActive F q file
       → InPart (Wrote (length (whole q)) w.bytes) file.content content → IsFront F q (w ∷ []) (with_change (Wrote (length (whole q)) w.bytes) content file)
   front_written q w content file framed is torn =
       let n = length (whole q) in
@@ -183,7 +183,7 @@ module _ {R : Type 0} (F : Format R) where
   spares_shortened q place less from = omega (arith, less, from, whole_long q)
 
   chain_shortened : (q : LogFiles R) (more : List (Written R)) (content : List ℕ) (file : File) → HoldsMore F q more file → HoldsMore F q more (with_change (ShortenedTo (length (whole q))) content file)
-  chain_shortened q more content file chain = holds_shortened (F.IsFrame q.last) (length q.header) q.stale q.durable (q.pending ++ more) (length (whole q)) content file (behind_durable q) chain
+  chain_shortened q more content file chain = holds_shortened (F.IsFrame q.last q.header) (length q.header) q.stale q.durable (q.pending ++ more) (length (whole q)) content file (behind_durable q) chain
 
   pub front_cut : (q : LogFiles R) (more : List (Written R)) (file : File) → IsFront F q more file → IsCut F q more (after_change (ShortenedTo (length (whole q))) file)
   front_cut q more file is =
@@ -213,9 +213,9 @@ module _ {R : Type 0} (F : Format R) where
   headed_content [] stale = refl
   headed_content (b ∷ bs) stale = over [] (b ∷ bs) stale (omega arith)
 
-  chain_headed : (header stale : List ℕ) (q : LogFiles R) (content : List ℕ) (file : File) → HoldsChain (F.IsFrame q.last) (length header) stale [] [] file
-      → HoldsChain (F.IsFrame q.last) (length header) stale [] [] (with_change (Wrote 0 header) content file)
-  chain_headed header stale q content file chain = holds_in_front (F.IsFrame q.last) (length header) stale [] [] 0 header content file (omega arith) chain
+  chain_headed : (header stale : List ℕ) (q : LogFiles R) (content : List ℕ) (file : File) → HoldsChain (F.IsFrame q.last header) (length header) stale [] [] file
+      → HoldsChain (F.IsFrame q.last header) (length header) stale [] [] (with_change (Wrote 0 header) content file)
+  chain_headed header stale q content file chain = holds_in_front (F.IsFrame q.last header) (length header) stale [] [] 0 header content file (omega arith) chain
 
   pub new_headed : (header stale : List ℕ) (q : LogFiles R) (file : File) → IsNew F (begun header stale q) file → IsHeaded F (begun header stale q) (after_change (Wrote 0 header) file)
   new_headed header stale q file is = record {
@@ -225,24 +225,24 @@ module _ {R : Type 0} (F : Format R) where
 
   pub new_tried : (header stale : List ℕ) (q : LogFiles R) (content : List ℕ) (file : File) → IsNew F (begun header stale q) file → HoldsLast F (begun header stale q) (with_change (Wrote 0 header) content file)
   new_tried header stale q content file is = record {
-    chain = holds_at_least (F.IsFrame q.last) (length header) stale [] [] (with_change (Wrote 0 header) content file) (chain_headed header stale q content file is.chain);
+    chain = holds_at_least (F.IsFrame q.last header) (length header) stale [] [] (with_change (Wrote 0 header) content file) (chain_headed header stale q content file is.chain);
     headed = inr refl;
   }
 
   -- a file that gets the next number, with whatever it holds
   pub new_over : (header stale : List ℕ) (q : LogFiles R) → IsNew F (begun header stale q) (at_rest stale)
-  new_over header stale q = record { chain = holds_used_again (F.IsFrame q.last) (length header) stale; is = refl }
+  new_over header stale q = record { chain = holds_used_again (F.IsFrame q.last header) (length header) stale; is = refl }
 
   -- one that was filled ahead of its use with what holds no record
-  pub new_blank : (header stale : List ℕ) (q : LogFiles R) (file : File) → file.content ≡ stale → HoldsNoFrame (F.IsFrame q.last) file.synced
-      → ((at : ℕ) (bytes : List ℕ) → Contains file.changes (Wrote at bytes) → HoldsNoFrame (F.IsFrame q.last) bytes) → IsNew F (begun header stale q) file
-  new_blank header stale q file is blank writes = record { chain = holds_prefilled (F.IsFrame q.last) (length header) stale file blank writes; is = is }
+  pub new_blank : (header stale : List ℕ) (q : LogFiles R) (file : File) → file.content ≡ stale → HoldsNoFrame (F.IsFrame q.last header) file.synced
+      → ((at : ℕ) (bytes : List ℕ) → Contains file.changes (Wrote at bytes) → HoldsNoFrame (F.IsFrame q.last header) bytes) → IsNew F (begun header stale q) file
+  new_blank header stale q file is blank writes = record { chain = holds_prefilled (F.IsFrame q.last header) (length header) stale file blank writes; is = is }
 
   -- Room is made ahead.
 
-  chain_longer : (n start : ℕ) (stale more : List ℕ) (durable pending : List (Written R)) (file : File) → HoldsChain (F.IsFrame n) start stale durable pending file
-      → HoldsChain (F.IsFrame n) start (stale ++ more) durable pending file
-  chain_longer n start stale more durable pending file chain = record {
+  chain_longer : (n start : ℕ) (header stale more : List ℕ) (durable pending : List (Written R)) (file : File) → HoldsChain (F.IsFrame n header) start stale durable pending file
+      → HoldsChain (F.IsFrame n header) start (stale ++ more) durable pending file
+  chain_longer n start header stale more durable pending file chain = record {
     frames = chain.frames;
     synced = chain.synced;
     others = λ at w meets. elim (chain.others at w meets) [ inl old ↦ inl (stale_longer stale more w.bytes at old) | inr inside ↦ inr inside ];
@@ -254,8 +254,8 @@ module _ {R : Type 0} (F : Format R) where
   active_grown q size room content file is grew =
       let n = length (whole q) in
       record {
-        chain = holds_grown (F.IsFrame q.last) (length q.header) (grown room q.stale) q.durable q.pending size content file
-        (chain_longer q.last (length q.header) q.stale (zeros (room - length q.stale)) q.durable q.pending file is.chain);
+        chain = holds_grown (F.IsFrame q.last q.header) (length q.header) (grown room q.stale) q.durable q.pending size content file
+        (chain_longer q.last (length q.header) q.header q.stale (zeros (room - length q.stale)) q.durable q.pending file is.chain);
         headed = header_changed q.header (GrewTo size) content file (λ place less touched. touched) is.headed;
         all = grew ∙ ap (λ (b : List ℕ). grown room b) is.all ∙ over_grown (whole q) q.stale room;
       }
@@ -266,11 +266,11 @@ module _ {R : Type 0} (F : Format R) where
       (length old + count, is ∙ ap (λ (k : ℕ). old ++ zeros k) (let same : count ≡ length old + count - length old = omega arith in same))
 
   module _ (lawful : IsFormat F) where
-    pub active_written : (q : LogFiles R) (w : Written R) (file : File) → F.IsFrame q.last w.bytes w.value → IsActive F q file
+    pub active_written : (q : LogFiles R) (w : Written R) (file : File) → F.IsFrame q.last q.header w.bytes w.value → IsActive F q file
         → IsActive F (with_more (w ∷ []) q) (after_change (Wrote (length (whole q)) w.bytes) file)
     active_written q w file framed is =
         let n = length (whole q) in
-        let some = frame_filled (F.IsFrame q.last) (lawful.free q.last) w.bytes w.value framed in
+        let some = frame_filled (F.IsFrame q.last q.header) (lawful.free q.last q.header) w.bytes w.value framed in
         let grew : whole (with_more (w ∷ []) q) ≡ whole q ++ w.bytes = whole_more q (w ∷ []) ∙ ap (λ (b : List ℕ). whole q ++ b) (append-nil w.bytes) in
         record {
           chain = chain_written q w (overwritten n w.bytes file.content) file framed is;
@@ -288,7 +288,7 @@ module _ {R : Type 0} (F : Format R) where
     cut_past q more file header is = record {
       is = ap at_rest is.is;
       header = header;
-      frames = frames_front (F.IsFrame q.last) (recent q) more (subst (AreFrames (F.IsFrame q.last)) (sym (append_assoc q.durable q.pending more)) is.chain.frames);
+      frames = frames_front (F.IsFrame q.last q.header) (recent q) more (subst (AreFrames (F.IsFrame q.last q.header)) (sym (append_assoc q.durable q.pending more)) is.chain.frames);
     }
 
     pub cut_flushed_holds : (q : LogFiles R) (more : List (Written R)) (file : File) → IsCut F q more file → HoldsLast F (with_more more q) (flushed file)
@@ -297,7 +297,7 @@ module _ {R : Type 0} (F : Format R) where
         let kept : kept_records q.durable (q.pending ++ more) count ≡ recent q = ap (λ (ws : List (Written R)). q.durable ++ ws) (take_at q.pending more count refl) in
         let all : drop (length q.header) file.content ≡ spelled (recent q) = ap (λ (b : List ℕ). drop (length q.header) b) is.is ∙ behind_header q.header (spelled (recent q)) in
         record {
-          chain = settled_at_least (F.IsFrame q.last) (length q.header) q.stale (lawful.free q.last) q.durable (q.pending ++ more) count file.content is.chain.frames (all ∙ ap spelled (sym kept));
+          chain = settled_at_least (F.IsFrame q.last q.header) (length q.header) q.stale (lawful.free q.last q.header) q.durable (q.pending ++ more) count file.content is.chain.frames (all ∙ ap spelled (sym kept));
           headed = inl (header_flushed q.header file.content (ap (λ (b : List ℕ). take (length q.header) b) is.is ∙ take_at q.header (spelled (recent q)) (length q.header) refl));
         }
 
@@ -306,15 +306,15 @@ module _ {R : Type 0} (F : Format R) where
         let ws = recent q in
         let bytes : List ℕ = q.header ++ spelled ws in
         let same : recent (settled q) ≡ ws = append-nil ws in
-        let reads = reads_whole (F.IsFrame q.last) (length q.header) [] (lawful.free q.last) ws bytes is.frames (behind_header q.header (spelled ws)) in
+        let reads = reads_whole (F.IsFrame q.last q.header) (length q.header) [] (lawful.free q.last q.header) ws bytes is.frames (behind_header q.header (spelled ws)) in
         let content : file.content ≡ bytes = ap (λ (f : File). f.content) is.is in
         record {
-          chain = subst (HoldsChain (F.IsFrame q.last) (length q.header) [] ws []) (sym is.is) (holds_read (F.IsFrame q.last) (length q.header) (lawful.free q.last) [] ws bytes reads);
+          chain = subst (HoldsChain (F.IsFrame q.last q.header) (length q.header) [] ws []) (sym is.is) (holds_read (F.IsFrame q.last q.header) (length q.header) (lawful.free q.last q.header) [] ws bytes reads);
           headed = subst (HeaderStands q.header) (sym is.is) (header_flushed q.header bytes (take_at q.header (spelled ws) (length q.header) refl));
           all = content ∙ sym (ap (λ (vs : List (Written R)). q.header ++ spelled vs) same) ∙ sym (ap (λ (b : List ℕ). whole (settled q) ++ b) (drop-nil (length (whole (settled q)))) ∙ append-nil (whole (settled q)));
         }
 
-    pub active_flushed : (q : LogFiles R) (file : File) → IsActive F q file → HoldsChain (F.IsFrame q.last) (length q.header) q.stale (recent q) [] (flushed file)
+    pub active_flushed : (q : LogFiles R) (file : File) → IsActive F q file → HoldsChain (F.IsFrame q.last q.header) (length q.header) q.stale (recent q) [] (flushed file)
     active_flushed q file is =
         let ws = recent q in
         let n = length (whole q) in
@@ -323,7 +323,7 @@ module _ {R : Type 0} (F : Format R) where
         ap (λ (b : List ℕ). drop (length q.header) b) (is.all ∙ append_assoc q.header (spelled ws) back) ∙ behind_header q.header (spelled ws ++ back) in
         let stands : StandsBehind (length q.header + length (spelled ws)) q.stale file.content =
         subst (λ (k : ℕ). StandsBehind k q.stale file.content) (whole_long q) (subst (StandsBehind n q.stale) (sym is.all) (over_stands (whole q) q.stale)) in
-        holds_synced (F.IsFrame q.last) (length q.header) (lawful.free q.last) q.stale ws file.content (record { rest = back; splits = splits; frames = is.chain.frames }) stands
+        holds_synced (F.IsFrame q.last q.header) (length q.header) (lawful.free q.last q.header) q.stale ws file.content (record { rest = back; splits = splits; frames = is.chain.frames }) stands
 
     active_header : (q : LogFiles R) (file : File) → IsActive F q file → HeaderStands q.header (flushed file)
     active_header q file is =
@@ -340,7 +340,7 @@ module _ {R : Type 0} (F : Format R) where
 
     pub active_flushed_holds : (q : LogFiles R) (file : File) → IsActive F q file → HoldsLast F q (flushed file)
     active_flushed_holds q file is = record {
-      chain = all_at_least (F.IsFrame q.last) (length q.header) q.stale q.durable q.pending (flushed file) (active_flushed q file is);
+      chain = all_at_least (F.IsFrame q.last q.header) (length q.header) q.stale q.durable q.pending (flushed file) (active_flushed q file is);
       headed = inl (active_header q file is);
     }
 
@@ -350,7 +350,7 @@ module _ {R : Type 0} (F : Format R) where
         let back : List ℕ = drop n stale in
         let same : header ++ [] ≡ header = append-nil header in
         record {
-          chain = holds_synced (F.IsFrame q.last) n (lawful.free q.last) stale [] file.content (record { rest = drop n file.content; splits = refl; frames = tt })
+          chain = holds_synced (F.IsFrame q.last header) n (lawful.free q.last header) stale [] file.content (record { rest = drop n file.content; splits = refl; frames = tt })
           (subst (λ (k : ℕ). StandsBehind k stale file.content) (let long : n ≡ n + 0 = omega arith in long) (subst (StandsBehind n stale) (sym is.is) (over_stands header stale)));
           headed = header_flushed header file.content (ap (λ (b : List ℕ). take n b) is.is ∙ take_at header back n refl);
           all = is.is ∙ ap (λ (b : List ℕ). b ++ drop (length b) stale) (sym same);

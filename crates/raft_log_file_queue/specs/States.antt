@@ -10,12 +10,12 @@ use Rattle.raft_log_file_queue.specs.Queue.{whole}
 
 -- the last file holds the queue's records, and is to get these more
 abbrev pub HoldsMore : {R : Type 0} → Format R → LogFiles R → List (Written R) → File → Type 0
-HoldsMore F q more file = HoldsChain (F.IsFrame q.last) (length q.header) q.stale q.durable (q.pending ++ more) file
+HoldsMore F q more file = HoldsChain (F.IsFrame q.last q.header) (length q.header) q.stale q.durable (q.pending ++ more) file
 
 -- Between calls: it reads as its header and its records, and behind them as what it held when it got its
 -- number.
 pub record IsActive {R : Type 0} (F : Format R) (q : LogFiles R) (file : File) : Type 0 where
-  pub chain : HoldsChain (F.IsFrame q.last) (length q.header) q.stale q.durable q.pending file
+  pub chain : HoldsChain (F.IsFrame q.last q.header) (length q.header) q.stale q.durable q.pending file
   pub headed : HeaderStands q.header file
   pub all : file.content ≡ whole q ++ drop (length (whole q)) q.stale
 
@@ -34,10 +34,10 @@ pub record IsCut {R : Type 0} (F : Format R) (q : LogFiles R) (more : List (Writ
 
 -- a file that has the number and not its header yet: it holds what it held before
 pub record IsNew {R : Type 0} (F : Format R) (q : LogFiles R) (file : File) : Type 0 where
-  pub chain : HoldsChain (F.IsFrame q.last) (length q.header) q.stale [] [] file
+  pub chain : HoldsChain (F.IsFrame q.last q.header) (length q.header) q.stale [] [] file
   pub is : file.content ≡ q.stale
 
 -- and once its header is written, before it is synced
 pub record IsHeaded {R : Type 0} (F : Format R) (q : LogFiles R) (file : File) : Type 0 where
-  pub chain : HoldsChain (F.IsFrame q.last) (length q.header) q.stale [] [] file
+  pub chain : HoldsChain (F.IsFrame q.last q.header) (length q.header) q.stale [] [] file
   pub is : file.content ≡ q.header ++ drop (length q.header) q.stale

@@ -17,16 +17,28 @@ use Rattle.raft_log_disk.proofs.Updates.{name_case, name_here, name_apart, file_
 use Rattle.raft_log_disk.proofs.ImageLaws.{named_is_used}
 use Rattle.raft_log_disk.proofs.NamesLaws.{creation_leaves, deletion_leaves, renaming_leaves}
 use Rattle.raft_log_disk.proofs.KeptLaws.{IsCalm}
-use Rattle.raft_log_disk.proofs.TouchingLaws.{same_file, has_calm, has_weaker, has_done, has_changed, has_synced, touches_change, touches_sync, names_same, names_then, names_file}
+use Rattle.raft_log_disk.proofs.TouchingLaws.{same_file, has_calm, has_weaker, has_done, has_changed, has_synced, touches_change, touches_sync, names_same, names_then}
 use Rattle.raft_log_file_queue.specs.Queue.{finished}
 use Rattle.raft_log_file_queue.specs.States.{IsNew}
-use Rattle.raft_log_file_queue.specs.Standing.{Names, IsPlace, OwnsPaths, Stands}
+use Rattle.raft_log_file_queue.specs.Standing.{Names, HaveOneName, IsPlace, OwnsPaths, Stands}
 use Rattle.raft_log_file_queue.proofs.FileSteps.{new_over}
 
 pub place_moved : (path : List ℕ) (a b : Disk) → b.directories ≡ a.directories → IsPlace path a → IsPlace path b
 place_moved path a b same place = record {
   apart = ap (λ (f : List ℕ → _). f path) same ∙ place.apart;
   home = record { directory = place.home.directory; inside = place.home.inside; there = ap (λ (f : List ℕ → _). f place.home.directory) same ∙ place.home.there };
+}
+
+-- on a sound disk no file has two paths
+pub have_one_name : (d : Disk) (N : Names) → IsSound d → d.names ≡ N → HaveOneName N
+have_one_name d N sound names a b id at there = sound.one_name a b id (ap (λ (f : Names). f a) names ∙ at) (ap (λ (f : Names). f b) names ∙ there)
+
+-- a call on a file that has one of the queue's paths
+touches_own : (own : List ℕ → Type 0) (old new : Disk) (path : List ℕ) (id : ℕ) → HaveOneName old.names → own path → old.names path ≡ Some id → TouchesOnly id old new → TouchesOnlyNames own old new
+touches_own own old new path id one mine at only = record {
+  directories = only.directories;
+  names = λ q other. ap (λ (f : Names). f q) only.names;
+  files = λ q j other there. only.others j (λ same. other (subst own (one path q j (at ∙ ap Some (sym same)) there) mine));
 }
 
 module _ {R : Type 0} (F : Format R) (own : List ℕ → Type 0) (base : Disk) where
@@ -43,6 +55,23 @@ module _ {R : Type 0} (F : Format R) (own : List ℕ → Type 0) (base : Disk) w
     places = s.places;
     file = has_weaker id P Q d weaker s.file;
     older = s.older;
+    others = s.others;
+  }
+
+  -- a queue with the same earlier files, number and header stands where the other does
+  pub same_files : (q p : LogFiles R) (path : List ℕ) (id : ℕ) (P : File → Type 0) (N : Names) (d : Disk) → p.older ≡ q.older → p.last ≡ q.last → p.header ≡ q.header
+      → Stands F own base q path id P N d → Stands F own base p path id P N d
+  same_files q p path id P N d older last header s = record {
+    names = s.names;
+    bound = (let bound = s.bound in omega (arith, bound, last));
+    at = subst (λ (n : ℕ). F.IsPath n path) (sym last) s.at;
+    named = s.named;
+    alone = λ other j at is. s.alone other j (subst (λ (n : ℕ). F.IsPath n other) last at) is;
+    none = λ m other above less at. s.none m other (omega (arith, above, last)) less at;
+    headed = subst F.IsHeader (sym header) s.headed;
+    places = s.places;
+    file = s.file;
+    older = λ m j other below at is. subst (λ (h : ℕ → Past R). HasFile j (IsPast F m (h m)) d) (sym older) (s.older m j other (omega (arith, below, last)) at is);
     others = s.others;
   }
 
@@ -99,9 +128,9 @@ module _ {R : Type 0} (F : Format R) (own : List ℕ → Type 0) (base : Disk) w
     other_path : (q : LogFiles R) (path : List ℕ) (m : ℕ) (other : List ℕ) → q.last < F.limit → m < F.limit → (m ≡ q.last → ⊥) → F.IsPath q.last path → F.IsPath m other → other ≡ path → ⊥
     other_path q path m other bound less apart at there same = apart (lawful.paths m q.last path less bound (subst (F.IsPath m) same there) at)
 
-    pub stands_touched : (q : LogFiles R) (path : List ℕ) (id : ℕ) (P Q : File → Type 0) (N : Names) (old new : Disk) → IsSound old → TouchesOnly id old new → HasFile id Q new
+    pub stands_touched : (q : LogFiles R) (path : List ℕ) (id : ℕ) (P Q : File → Type 0) (N : Names) (old new : Disk) → HaveOneName N → TouchesOnly id old new → HasFile id Q new
         → Stands F own base q path id P N old → Stands F own base q path id Q N new
-    stands_touched q path id P Q N old new sound only file s =
+    stands_touched q path id P Q N old new one only file s =
         let here : old.names path ≡ Some id = ap (λ (f : Names). f path) s.names ∙ s.named in
         record {
           names = only.names ∙ s.names;
@@ -115,34 +144,33 @@ module _ {R : Type 0} (F : Format R) (own : List ℕ → Type 0) (base : Disk) w
           file = file;
           older = λ m j other below at named.
               (let was = s.older m j other below at named in
-              let there : old.names other ≡ Some j = ap (λ (f : Names). f other) s.names ∙ named in
               let bound = s.bound in
-              let apart : j ≡ id → ⊥ = λ same. other_path q path m other bound (omega (arith, below, bound)) (λ e. omega (arith, below, e)) s.at at (sound.one_name other path id (there ∙ ap Some same) here) in
+              let apart : j ≡ id → ⊥ = λ same. other_path q path m other bound (omega (arith, below, bound)) (λ e. omega (arith, below, e)) s.at at (one other path id (named ∙ ap Some same) s.named) in
               record { file = was.file; is = only.others j apart ∙ was.is; has = was.has });
-          others = names_then own base old new s.others (names_file own old new path id sound (owns q.last path s.bound s.at) here only);
+          others = names_then own base old new s.others (touches_own own old new path id (subst HaveOneName (sym s.names) one) (owns q.last path s.bound s.at) here only);
         }
 
     -- a write, a shortening or a growth, answered or refused
-    pub stands_changed : {T : Type 0} {old new : Disk} (q : LogFiles R) (path : List ℕ) (id : ℕ) (P Q : File → Type 0) (N : Names) (wrong : ErrorKind → Type 0) (result : Result T ErrorKind) (change : Change) → IsSound old
+    pub stands_changed : {T : Type 0} {old new : Disk} (q : LogFiles R) (path : List ℕ) (id : ℕ) (P Q : File → Type 0) (N : Names) (wrong : ErrorKind → Type 0) (result : Result T ErrorKind) (change : Change) → HaveOneName N
         → ((file : File) → P file → Q file) → ((file : File) (content : List ℕ) → P file → InPart change file.content content → Q (with_change change content file))
         → OnOk result (Changes id (after_change change) old new) → IfErr result (λ e. RefusedChange id change wrong e old new) → Stands F own base q path id P N old → Stands F own base q path id Q N new
-    stands_changed {old = old} {new = new} q path id P Q N wrong result change sound weaker step ok err s =
-        stands_touched q path id P Q N old new sound (touches_change wrong result id change ok err) (has_changed P Q wrong result id change s.file weaker step ok err) s
+    stands_changed {old = old} {new = new} q path id P Q N wrong result change one weaker step ok err s =
+        stands_touched q path id P Q N old new one (touches_change wrong result id change ok err) (has_changed P Q wrong result id change s.file weaker step ok err) s
 
     -- a sync, answered or refused
-    pub stands_synced : {T : Type 0} {old new : Disk} (q : LogFiles R) (path : List ℕ) (id : ℕ) (P Q : File → Type 0) (N : Names) (wrong : ErrorKind → Type 0) (result : Result T ErrorKind) → IsSound old
+    pub stands_synced : {T : Type 0} {old new : Disk} (q : LogFiles R) (path : List ℕ) (id : ℕ) (P Q : File → Type 0) (N : Names) (wrong : ErrorKind → Type 0) (result : Result T ErrorKind) → HaveOneName N
         → ((file : File) → P file → Q file) → ((file : File) → P file → Q (flushed file))
         → OnOk result (Changes id flushed old new) → IfErr result (λ e. RefusedWhole (Changes id flushed old) wrong e old new) → Stands F own base q path id P N old → Stands F own base q path id Q N new
-    stands_synced {old = old} {new = new} q path id P Q N wrong result sound weaker step ok err s =
-        stands_touched q path id P Q N old new sound (touches_sync wrong result id ok err) (has_synced P Q wrong result id s.file weaker step ok err) s
+    stands_synced {old = old} {new = new} q path id P Q N wrong result one weaker step ok err s =
+        stands_touched q path id P Q N old new one (touches_sync wrong result id ok err) (has_synced P Q wrong result id s.file weaker step ok err) s
 
     -- any call on the last file that was answered
-    pub stands_done : (q : LogFiles R) (path : List ℕ) (id : ℕ) (P Q : File → Type 0) (N : Names) (next : File → File) (old new : Disk) → IsSound old → Changes id next old new
+    pub stands_done : (q : LogFiles R) (path : List ℕ) (id : ℕ) (P Q : File → Type 0) (N : Names) (next : File → File) (old new : Disk) → HaveOneName N → Changes id next old new
         → ((file : File) → P file → Q (next file)) → Stands F own base q path id P N old → Stands F own base q path id Q N new
-    stands_done q path id P Q N next old new sound changes step s =
+    stands_done q path id P Q N next old new one changes step s =
         let only : TouchesOnly id old new = subst (TouchesOnly id old) (sym changes.done)
         (record { names = refl; directories = refl; others = λ other apart. file_apart old.files id (Some (next changes.file)) other apart }) in
-        stands_touched q path id P Q N old new sound only (has_done id P Q next old new s.file changes step) s
+        stands_touched q path id P Q N old new one only (has_done id P Q next old new s.file changes step) s
 
     -- Calls on names.
 

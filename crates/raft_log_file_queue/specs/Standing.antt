@@ -10,6 +10,10 @@ use Rattle.raft_log_disk.specs.Touching.{HasFile, TouchesOnlyNames}
 abbrev pub Names : Type 0
 Names = List ℕ → Option ℕ
 
+-- no file has two paths
+abbrev pub HaveOneName : Names → Type 0
+HaveOneName N = (a b : List ℕ) (id : ℕ) → N a ≡ Some id → N b ≡ Some id → a ≡ b
+
 -- a file may be made here, or get this path: no directory has it, and its own directory is there
 pub record IsPlace (path : List ℕ) (d : Disk) : Type 0 where
   pub apart : d.directories path ≡ false

@@ -9,7 +9,7 @@ use Rattle.raft_log_disk.specs.Disk.{Change, Wrote, ShortenedTo, GrewTo, File, a
 use Rattle.raft_log_disk.specs.Image.{Spares}
 use Rattle.raft_log_disk.specs.Calls.{with_change, after_change, flushed, InPart, IsTorn}
 use Rattle.raft_log_disk.specs.Chains.{Written, AreFrames, spelled, HoldsNoFrame}
-use Rattle.raft_log_disk.specs.KeepsSynced.{HoldsChain, IsStale, StandsBehind, kept_records}
+use Rattle.raft_log_disk.specs.KeepsSynced.{HoldsChain, HoldsAtLeast, IsStale, StandsBehind, kept_records}
 use Rattle.raft_log_disk.specs.LogFormat.{Format, IsFormat}
 use Rattle.raft_log_disk.specs.LogQueue.{LogFiles, recent, HeaderStands, HoldsLast, IsPast}
 use Rattle.raft_log_disk.proofs.ChainLaws.{spelled-append, frame_filled, frames_front}
@@ -250,6 +250,13 @@ module _ {R : Type 0} (F : Format R) where
     handed = chain.handed;
   }
 
+  pub new_grown : (header stale : List ℕ) (q : LogFiles R) (size room : ℕ) (content : List ℕ) (file : File) → IsNew F (begun header stale q) file → content ≡ grown room file.content
+      → IsNew F (begun header (grown room stale) q) (with_change (GrewTo size) content file)
+  new_grown header stale q size room content file is grew = record {
+    chain = holds_grown (F.IsFrame q.last header) (length header) (grown room stale) [] [] size content file (chain_longer q.last (length header) header stale (zeros (room - length stale)) [] [] file is.chain);
+    is = grew ∙ ap (λ (b : List ℕ). grown room b) is.is;
+  }
+
   pub active_grown : (q : LogFiles R) (size room : ℕ) (content : List ℕ) (file : File) → IsActive F q file → content ≡ grown room file.content → IsActive F (with_room room q) (with_change (GrewTo size) content file)
   active_grown q size room content file is grew =
       let n = length (whole q) in
@@ -312,6 +319,18 @@ module _ {R : Type 0} (F : Format R) where
           chain = subst (HoldsChain (F.IsFrame q.last q.header) (length q.header) [] ws []) (sym is.is) (holds_read (F.IsFrame q.last q.header) (length q.header) (lawful.free q.last q.header) [] ws bytes reads);
           headed = subst (HeaderStands q.header) (sym is.is) (header_flushed q.header bytes (take_at q.header (spelled ws) (length q.header) refl));
           all = content ∙ sym (ap (λ (vs : List (Written R)). q.header ++ spelled vs) same) ∙ sym (ap (λ (b : List ℕ). whole (settled q) ++ b) (drop-nil (length (whole (settled q)))) ∙ append-nil (whole (settled q)));
+        }
+
+    -- a finished file holds its records, whichever of them were durable before
+    pub past_holds : (q : LogFiles R) (file : File) → IsPast F q.last (finished q) file → HoldsLast F q file
+    past_holds q file is =
+        let ws = recent q in
+        let bytes : List ℕ = q.header ++ spelled ws in
+        let reads = reads_whole (F.IsFrame q.last q.header) (length q.header) q.stale (lawful.free q.last q.header) ws bytes is.frames (behind_header q.header (spelled ws)) in
+        record {
+          chain = subst (HoldsAtLeast (F.IsFrame q.last q.header) (length q.header) q.stale q.durable q.pending) (sym is.is)
+              (all_at_least (F.IsFrame q.last q.header) (length q.header) q.stale q.durable q.pending (at_rest bytes) (holds_read (F.IsFrame q.last q.header) (length q.header) (lawful.free q.last q.header) q.stale ws bytes reads));
+          headed = inl (subst (HeaderStands q.header) (sym is.is) (header_flushed q.header bytes (take_at q.header (spelled ws) (length q.header) refl)));
         }
 
     pub active_flushed : (q : LogFiles R) (file : File) → IsActive F q file → HoldsChain (F.IsFrame q.last q.header) (length q.header) q.stale (recent q) [] (flushed file)

@@ -17,12 +17,12 @@ use Rattle.raft_log_disk.proofs.ChangeLaws.{overwritten_torn}
 use Rattle.raft_log_file.specs.Writer.{MakesRoom, is_there, is_allocated, is_refused, WritesAt, FailsToWriteAt, CutsBehind, ends_there, is_cut, Closes, FailsToClose, not_cut, not_synced, reach, allocated}
 use Rattle.raft_log_file.specs.declared.writer.LogFileWriter.{LogFileWriter}
 use Rattle.raft_log_file.proofs.WriterLaws.{reach_far, reach_near}
-use Rattle.raft_log_file_queue.specs.Queue.{whole, finished, with_more, with_room, settled, synced}
-use Rattle.raft_log_file_queue.specs.States.{IsActive, IsFront, IsCut}
+use Rattle.raft_log_file_queue.specs.Queue.{whole, finished, with_more, with_room, settled, synced, begun}
+use Rattle.raft_log_file_queue.specs.States.{IsActive, IsFront, IsCut, IsNew, IsHeaded}
 use Rattle.raft_log_file_queue.specs.Standing.{Names, HaveOneName, OwnsPaths, Stands}
-use Rattle.raft_log_file_queue.proofs.FileSteps.{active_front, active_written, active_grown, front_written, front_cut, front_tried, front_holds, cut_holds, cut_past, cut_flushed_holds, past_settled, active_synced, active_holds, active_flushed_holds}
+use Rattle.raft_log_file_queue.proofs.FileSteps.{active_front, active_written, active_grown, front_written, front_cut, front_tried, front_holds, cut_holds, cut_past, cut_flushed_holds, past_settled, active_synced, active_holds, active_flushed_holds, new_grown, new_headed, new_holds, new_tried, headed_synced, headed_holds, headed_flushed_holds}
 use Rattle.raft_log_file_queue.proofs.Standing.{same_files, stands_weaker, stands_changed, stands_synced, stands_done}
-use Rattle.raft_log_files.specs.LastFile.{IsActiveTo, IsFrontTo, IsCutTo, IsPastTo, HasRoom}
+use Rattle.raft_log_files.specs.LastFile.{IsActiveTo, IsFrontTo, IsCutTo, IsPastTo, IsNewTo, IsHeadedTo, HasRoom}
 
 -- an answer of a call, and its refusal
 abbrev done : Result (Unit {0}) ErrorKind
@@ -79,6 +79,38 @@ module _ {R : Type 0} (F : Format R) where
     front = front_written F (with_room room q) w content file framed was.active torn;
     ends = long_written (length (whole q)) to w.bytes file.content content fits was.ends torn;
   })
+
+  -- The same of a file without records, whose header is to be written.
+
+  new_roomy : (capacity to size : ℕ) (header stale : List ℕ) (q : LogFiles R) (content : List ℕ) (file : File) → capacity ≤ to → size ≤ to → InPart (GrewTo size) file.content content
+      → IsNewTo F capacity (begun header stale q) file → HasRoom (IsNewTo F to) (begun header stale q) (with_change (GrewTo size) content file)
+  new_roomy capacity to size header stale q content file from fits (count, most, is) was =
+      let room = length file.content + count in
+      let grew : content ≡ grown room file.content = is ∙ ap (λ (k : ℕ). file.content ++ zeros k) (let same : count ≡ length file.content + count - length file.content = omega arith in same) in
+      let ends = was.ends in
+      let long : length content ≤ to = elim most [
+        | inl within ↦ omega (arith, within, fits, ap length is, length-append file.content (zeros count), length-replicate {A = ℕ} count 0)
+        | inr none ↦ omega (arith, none, from, ends, ap length is, length-append file.content (zeros count), length-replicate {A = ℕ} count 0)
+      ] in
+      (room, record { new = new_grown F header stale q size room content file was.new grew; ends = long })
+
+  new_roomless : (capacity to : ℕ) (header stale : List ℕ) (q : LogFiles R) (file : File) → capacity ≤ to → IsNewTo F capacity (begun header stale q) file → HasRoom (IsNewTo F to) (begun header stale q) file
+  new_roomless capacity to header stale q file from was =
+      (let ends = was.ends in (0, record { new = subst (λ (p : LogFiles R). IsNew F p file) (sym (no_room (begun header stale q))) was.new; ends = omega (arith, ends, from) }))
+
+  header_written : (to : ℕ) (header stale : List ℕ) (q : LogFiles R) (file : File) → length header ≤ to → HasRoom (IsNewTo F to) (begun header stale q) file
+      → HasRoom (IsHeadedTo F to) (begun header stale q) (after_change (Wrote 0 header) file)
+  header_written to header stale q file fits (room, was) = (room, record {
+    headed = new_headed F header (grown room stale) q file was.new;
+    ends = long_written 0 to header file.content (overwritten 0 header file.content) (omega (arith, fits)) was.ends (overwritten_torn 0 header file.content);
+  })
+
+  header_held : (to : ℕ) (header stale : List ℕ) (q : LogFiles R) (file : File) → HasRoom (IsNewTo F to) (begun header stale q) file → HasRoom (HoldsLast F) (begun header stale q) file
+  header_held to header stale q file (room, was) = (room, new_holds F header (grown room stale) q file was.new)
+
+  header_in_part : (to : ℕ) (header stale : List ℕ) (q : LogFiles R) (content : List ℕ) (file : File) → HasRoom (IsNewTo F to) (begun header stale q) file
+      → HasRoom (HoldsLast F) (begun header stale q) (with_change (Wrote 0 header) content file)
+  header_in_part to header stale q content file (room, was) = (room, new_tried F header (grown room stale) q content file was.new)
 
   module _ (own : List ℕ → Type 0) (base : Disk) (lawful : IsFormat F) (owns : OwnsPaths F own) where
     room_stands : (handle : Handle) (capacity end target : ℕ) (q : LogFiles R) (path : List ℕ) (N : Names) (old between : Disk) → HaveOneName N → MakesRoom handle capacity end target old between
@@ -209,3 +241,69 @@ module _ {R : Type 0} (F : Format R) where
     unsynced_stands handle capacity q path N error old new one fails s =
         stands_synced F own base lawful owns q path handle.file (IsActiveTo F capacity q) (HoldsLast F q) N (WrongHandle handle old) (refused error) one
         (λ file was. active_holds F q file was.active) (λ file was. active_flushed_holds F lawful q file was.active) tt fails s
+
+    -- The header of a file without records is written.
+
+    new_room_stands : (handle : Handle) (capacity end target : ℕ) (header stale : List ℕ) (q : LogFiles R) (path : List ℕ) (N : Names) (old between : Disk) → HaveOneName N → MakesRoom handle capacity end target old between
+        → Stands F own base (begun header stale q) path handle.file (IsNewTo F capacity (begun header stale q)) N old
+        → Stands F own base (begun header stale q) path handle.file (HasRoom (IsNewTo F (reach capacity end target)) (begun header stale q)) N between
+    new_room_stands handle capacity end target header stale q path N old between one (is_there enough same) s =
+        (let b = begun header stale q in
+        subst (Stands F own base b path handle.file (HasRoom (IsNewTo F (reach capacity end target)) b) N) (sym same)
+        (stands_weaker F own base b path handle.file (IsNewTo F capacity b) (HasRoom (IsNewTo F (reach capacity end target)) b) N old
+        (λ file was. new_roomless capacity (reach capacity end target) header stale q file (omega (arith, reach_near capacity end target enough)) was) s))
+    new_room_stands handle capacity end target header stale q path N old between one (is_allocated short grows) s =
+        let b = begun header stale q in
+        let to = reach capacity end target in
+        let more = reach_far capacity end target short in
+        let size = capacity + allocated capacity end target in
+        stands_changed F own base lawful owns b path handle.file (IsNewTo F capacity b) (HasRoom (IsNewTo F to) b) N (λ e. ⊥) done (GrewTo size) one
+        (λ file was. new_roomless capacity to header stale q file (omega (arith, more)) was)
+        (λ file content was part. new_roomy capacity to size header stale q content file (omega (arith, more)) (omega (arith, more)) part was) grows tt s
+    new_room_stands handle capacity end target header stale q path N old between one (is_refused short error fails) s =
+        let b = begun header stale q in
+        let to = reach capacity end target in
+        let more = reach_far capacity end target short in
+        let size = capacity + allocated capacity end target in
+        stands_changed F own base lawful owns b path handle.file (IsNewTo F capacity b) (HasRoom (IsNewTo F to) b) N (WrongWriter handle old) (refused error) (GrewTo size) one
+        (λ file was. new_roomless capacity to header stale q file (omega (arith, more)) was)
+        (λ file content was part. new_roomy capacity to size header stale q content file (omega (arith, more)) (omega (arith, more)) part was) tt fails s
+
+    pub header_stands : (handle : Handle) (capacity : ℕ) (header stale : List ℕ) (q : LogFiles R) (path : List ℕ) (N : Names) (old new : Disk) → HaveOneName N → WritesAt handle 0 capacity header 0 old new
+        → Stands F own base (begun header stale q) path handle.file (IsNewTo F capacity (begun header stale q)) N old
+        → Stands F own base (begun header stale q) path handle.file (HasRoom (IsHeadedTo F (reach capacity (length header) 0)) (begun header stale q)) N new
+    header_stands handle capacity header stale q path N old new one writes s =
+        let b = begun header stale q in
+        let to = reach capacity (length header) 0 in
+        let end : 0 + length header ≡ length header = omega arith in
+        let room = subst (λ (n : ℕ). MakesRoom handle capacity n 0 old writes.between) end writes.room in
+        let before = new_room_stands handle capacity (length header) 0 header stale q path N old writes.between one room s in
+        stands_done F own base lawful owns b path handle.file (HasRoom (IsNewTo F to) b) (HasRoom (IsHeadedTo F to) b) N (after_change (Wrote 0 header)) writes.between new one writes.writes
+        (λ file was. header_written to header stale q file (reach_enough capacity (length header) 0) was) before
+
+    pub headless_stands : (handle : Handle) (capacity : ℕ) (header stale : List ℕ) (q : LogFiles R) (path : List ℕ) (N : Names) (error : ErrorKind) (old new : Disk) → HaveOneName N → FailsToWriteAt handle 0 capacity header 0 error old new
+        → Stands F own base (begun header stale q) path handle.file (IsNewTo F capacity (begun header stale q)) N old
+        → Stands F own base (begun header stale q) path handle.file (HasRoom (HoldsLast F) (begun header stale q)) N new
+    headless_stands handle capacity header stale q path N error old new one fails s =
+        let b = begun header stale q in
+        let to = reach capacity (length header) 0 in
+        let end : 0 + length header ≡ length header = omega arith in
+        let room = subst (λ (n : ℕ). MakesRoom handle capacity n 0 old fails.between) end fails.room in
+        let before = new_room_stands handle capacity (length header) 0 header stale q path N old fails.between one room s in
+        stands_changed F own base lawful owns b path handle.file (HasRoom (IsNewTo F to) b) (HasRoom (HoldsLast F) b) N (WrongWriter handle fails.between) (refused error) (Wrote 0 header) one
+        (λ file was. header_held to header stale q file was) (λ file content was torn. header_in_part to header stale q content file was) tt fails.fails before
+
+    -- and synced
+    pub begun_stands : (handle : Handle) (capacity : ℕ) (header stale : List ℕ) (q : LogFiles R) (path : List ℕ) (N : Names) (old new : Disk) → HaveOneName N → Changes handle.file flushed old new
+        → Stands F own base (begun header stale q) path handle.file (IsHeadedTo F capacity (begun header stale q)) N old
+        → Stands F own base (begun header stale q) path handle.file (IsActiveTo F capacity (begun header stale q)) N new
+    begun_stands handle capacity header stale q path N old new one syncs s =
+        stands_done F own base lawful owns (begun header stale q) path handle.file (IsHeadedTo F capacity (begun header stale q)) (IsActiveTo F capacity (begun header stale q)) N flushed old new one syncs
+        (λ file was. record { active = headed_synced F lawful header stale q file was.headed; ends = was.ends }) s
+
+    pub unbegun_stands : (handle : Handle) (capacity : ℕ) (header stale : List ℕ) (q : LogFiles R) (path : List ℕ) (N : Names) (error : ErrorKind) (old new : Disk) → HaveOneName N → FailsToSync handle error old new
+        → Stands F own base (begun header stale q) path handle.file (IsHeadedTo F capacity (begun header stale q)) N old
+        → Stands F own base (begun header stale q) path handle.file (HoldsLast F (begun header stale q)) N new
+    unbegun_stands handle capacity header stale q path N error old new one fails s =
+        stands_synced F own base lawful owns (begun header stale q) path handle.file (IsHeadedTo F capacity (begun header stale q)) (HoldsLast F (begun header stale q)) N (WrongHandle handle old) (refused error) one
+        (λ file was. headed_holds F header stale q file was.headed) (λ file was. headed_flushed_holds F lawful header stale q file was.headed) tt fails s

@@ -5,7 +5,7 @@ use Rattle.raft_log_disk.specs.Chains.{Written}
 use Rattle.raft_log_disk.specs.LogFormat.{Format}
 use Rattle.raft_log_disk.specs.LogQueue.{LogFiles, IsPast}
 use Rattle.raft_log_file_queue.specs.Queue.{finished, with_room}
-use Rattle.raft_log_file_queue.specs.States.{IsActive, IsFront, IsCut}
+use Rattle.raft_log_file_queue.specs.States.{IsActive, IsFront, IsCut, IsNew, IsHeaded}
 
 -- between calls: it reads as its records, and ends there at the latest
 pub record IsActiveTo {R : Type 0} (F : Format R) (capacity : ℕ) (q : LogFiles R) (file : File) : Type 0 where
@@ -25,6 +25,16 @@ pub record IsCutTo {R : Type 0} (F : Format R) (capacity : ℕ) (q : LogFiles R)
 -- and once that is synced: it is finished
 pub record IsPastTo {R : Type 0} (F : Format R) (capacity : ℕ) (q : LogFiles R) (file : File) : Type 0 where
   pub past : IsPast F q.last (finished q) file
+  pub ends : length file.content ≤ capacity
+
+-- a file that has the number and not its header yet, and ends there at the latest
+pub record IsNewTo {R : Type 0} (F : Format R) (capacity : ℕ) (q : LogFiles R) (file : File) : Type 0 where
+  pub new : IsNew F q file
+  pub ends : length file.content ≤ capacity
+
+-- and once its header is written
+pub record IsHeadedTo {R : Type 0} (F : Format R) (capacity : ℕ) (q : LogFiles R) (file : File) : Type 0 where
+  pub headed : IsHeaded F q file
   pub ends : length file.content ≤ capacity
 
 -- the same once some room was made ahead

@@ -2,9 +2,9 @@
 use Rattle.std.specs.Prelude.{Result, Ok, Err}
 use Rattle.std.specs.Result.{IfErr, OnOk, OnErr}
 use Rattle.std.specs.declared.io.ErrorKind.{ErrorKind}
-use Rattle.std.proofs.Common.{◌≡◌, ℕ, ◌+◌, List, [], ◌∷◌, ◌++◌, length, drop, refl, sym, ◌∙◌, ap, subst, arith, length-append}
+use Rattle.std.proofs.Common.{◌≡◌, ℕ, ◌+◌, true, Some, None, List, [], ◌∷◌, ◌++◌, length, drop, refl, sym, ◌∙◌, ap, subst, arith, length-append}
 use Rattle.std.proofs.lemmas.List.{append-nil}
-use Rattle.raft_log_disk.specs.Disk.{File, Disk}
+use Rattle.raft_log_disk.specs.Disk.{File, Disk, grown}
 use Rattle.raft_log_disk.specs.Causes.{Fails, IsLater}
 use Rattle.raft_log_disk.specs.Calls.{flushed, Changes}
 use Rattle.raft_log_disk.specs.Exits.{Syncs, FailsToSync}
@@ -12,17 +12,20 @@ use Rattle.raft_log_disk.specs.Image.{IsSound}
 use Rattle.raft_log_disk.specs.Chains.{Written, spelled}
 use Rattle.raft_log_disk.specs.LogFormat.{Format, IsFormat}
 use Rattle.raft_log_disk.specs.LogQueue.{LogFiles, HoldsLast, recent}
-use Rattle.raft_log_disk.proofs.CauseLaws.{fails_still}
-use Rattle.raft_log_file.specs.Writer.{IsWritten, KeepsWritten, WritesAt, FailsToWriteAt, WritesNext, FailsToWriteNext, CutsBehind, ends_there, is_cut, Closes, FailsToClose, reach}
+use Rattle.raft_log_disk.proofs.CauseLaws.{fails_still, fails_after}
+use Rattle.raft_log_disk.proofs.TouchingLaws.{same_file}
+use Rattle.raft_log_disk.specs.declared.handle.Handle.{Handle}
+use Rattle.raft_log_file.specs.Writer.{IsWritten, KeepsWritten, WritesAt, FailsToWriteAt, WritesNext, FailsToWriteNext, CutsBehind, ends_there, is_cut, Closes, FailsToClose, reach, TakesUp, goes_on, begins as writes_header, FailsToTakeUp, not_measured, not_begun, CanBeTakenUp, IsTakenUp, taken_up}
 use Rattle.raft_log_file.specs.declared.writer.LogFileWriter.{LogFileWriter}
-use Rattle.raft_log_file_queue.specs.Queue.{whole, with_more, with_room, settled, synced}
+use Rattle.raft_log_file_queue.specs.Queue.{whole, with_more, with_room, settled, synced, begun}
+use Rattle.raft_log_file_queue.specs.States.{IsNew}
 use Rattle.raft_log_file_queue.specs.Standing.{Names, HaveOneName, OwnsPaths, Stands}
-use Rattle.raft_log_file_queue.proofs.FileSteps.{active_front, whole_more}
+use Rattle.raft_log_file_queue.proofs.FileSteps.{active_front, whole_more, new_holds}
 use Rattle.raft_log_file_queue.proofs.Standing.{have_one_name, same_files, stands_weaker}
-use Rattle.raft_log_files.specs.LastFile.{IsActiveTo, IsFrontTo, IsPastTo, HasRoom}
-use Rattle.raft_log_files.specs.Exits.{IsOpen, IsFinished, IsHeld, Appends, AppendLeaves, FailsToAppend, SyncsAll, FailsToSyncAll, Finishes, FailsToFinish}
+use Rattle.raft_log_files.specs.LastFile.{IsActiveTo, IsFrontTo, IsPastTo, IsNewTo, IsHeadedTo, HasRoom}
+use Rattle.raft_log_files.specs.Exits.{IsOpen, IsFinished, IsHeld, Appends, AppendLeaves, FailsToAppend, SyncsAll, FailsToSyncAll, Finishes, FailsToFinish, Begins, FailsToBegin}
 use Rattle.raft_log_files.specs.declared.last_file.WriteFault.TheVariants.{CutBack, Failed}
-use Rattle.raft_log_files.proofs.Writing.{record_stands, refused_stands, closed_stands, unclosed_stands, settled_stands, roomy_stands, synced_stands, unsynced_stands}
+use Rattle.raft_log_files.proofs.Writing.{record_stands, refused_stands, closed_stands, unclosed_stands, settled_stands, roomy_stands, synced_stands, unsynced_stands, no_room, header_stands, headless_stands, begun_stands, unbegun_stands}
 
 -- a writer that has closed its file stands where it stood
 closed_at : (before after : LogFileWriter) (old new : Disk) → Closes before after old new → (after.handle ≡ before.handle) × (after.written ≡ before.written)
@@ -179,3 +182,72 @@ module _ {R : Type 0} (F : Format R) (own : List ℕ → Type 0) (lawful : IsFor
       → OnErr result (FailsToFinish F own before old new)
   unfinished_either (Ok v) before after old new sound err kept = tt
   unfinished_either (Err e) before after old new sound err kept = fails_to_finish before after e old new sound err kept
+
+  -- The last file gets its header, or not.
+
+  -- as long as it is measured
+  measured : (base : Disk) (handle : Handle) (q : LogFiles R) (path : List ℕ) (N : Names) (d : Disk) (file : File) → d.files handle.file ≡ Some file → Stands F own base q path handle.file (IsNew F q) N d
+      → Stands F own base q path handle.file (IsNewTo F (length file.content) q) N d
+  measured base handle q path N d file is s =
+      (let same : s.file.file ≡ file = same_file d handle.file s.file.file file s.file.is is in
+      record {
+        names = s.names;
+        bound = s.bound;
+        at = s.at;
+        named = s.named;
+        alone = s.alone;
+        none = s.none;
+        headed = s.headed;
+        places = s.places;
+        file = record { file = s.file.file; is = s.file.is; has = record { new = s.file.has; ends = omega (arith, ap (λ (f : File). length f.content) same) } };
+        older = s.older;
+        others = s.others;
+      })
+
+  pub begins : (writer : LogFileWriter) (handle : Handle) (header : List ℕ) (old mid new : Disk) → IsSound old → TakesUp handle header true writer old mid → Changes writer.handle.file flushed mid new → Begins F own handle header writer old new
+  begins writer handle header old mid new sound (goes_on file is enough same at) syncs base q stale path N (permitted, s) = absurd (cc enough)
+  begins writer handle header old mid new sound (writes_header file is short writes at) syncs base q stale path N (permitted, s) =
+      let b = begun header stale q in
+      let to = reach (length file.content) (length header) 0 in
+      let one = have_one_name old N sound s.names in
+      let headed = header_stands F own base lawful owns handle (length file.content) header stale q path N old mid one writes (measured base handle b path N old file is s) in
+      let (room, stands) = roomy_stands F own base lawful owns (IsHeadedTo F to) b path handle.file N mid headed in
+      let here : Changes handle.file flushed mid new = subst (λ (h : Handle). Changes h.file flushed mid new) at.handle_is syncs in
+      let active = begun_stands F own base lawful owns handle to header (grown room stale) q path N mid new one here stands in
+      (room, record {
+        permitted = ap (λ (h : Handle). h.permission) at.handle_is ∙ permitted;
+        written = at.written_is ∙ sym (ap length (append-nil header));
+        stands = subst (λ (h : Handle). Stands F own base (with_room room b) path h.file (IsActiveTo F writer.capacity (with_room room b)) N new) (sym at.handle_is)
+            (subst (λ (n : ℕ). Stands F own base (with_room room b) path handle.file (IsActiveTo F n (with_room room b)) N new) (sym at.capacity_is) active);
+      })
+
+  pub fails_to_take_up : (handle : Handle) (header : List ℕ) (error : ErrorKind) (old new : Disk) → IsSound old → FailsToTakeUp handle header true error old new → (CanBeTakenUp handle old → Fails old new) → FailsToBegin F own handle header old new
+  fails_to_take_up handle header error old new sound fails cause base q stale path N (permitted, s) =
+      let b = begun header stale q in
+      let one = have_one_name old N sound s.names in
+      (cause (record { permitted = permitted; there = λ gone. (let there = s.file.is in cc (gone, there)) }), left one fails)
+    where
+      b : LogFiles R
+      b = begun header stale q
+
+      left : HaveOneName N → FailsToTakeUp handle header true error old new → (room : ℕ) × Stands F own base (with_room room (begun header stale q)) path handle.file (HoldsLast F (with_room room (begun header stale q))) N new
+      left one (not_measured why same) =
+          (0, subst (Stands F own base (with_room 0 (begun header stale q)) path handle.file (HoldsLast F (with_room 0 (begun header stale q))) N) (sym same)
+          (subst (λ (p : LogFiles R). Stands F own base p path handle.file (HoldsLast F p) N old) (sym (no_room F (begun header stale q)))
+          (stands_weaker F own base (begun header stale q) path handle.file (IsNew F (begun header stale q)) (HoldsLast F (begun header stale q)) N old (λ file was. new_holds F header stale q file was) s)))
+      left one (not_begun file is short writes) =
+          roomy_stands F own base lawful owns (HoldsLast F) (begun header stale q) path handle.file N new
+          (headless_stands F own base lawful owns handle (length file.content) header stale q path N error old new one writes (measured base handle (begun header stale q) path N old file is s))
+
+  pub fails_to_sync_header : (writer : LogFileWriter) (handle : Handle) (header : List ℕ) (error : ErrorKind) (old mid new : Disk) → IsSound old → TakesUp handle header true writer old mid → FailsToSync writer.handle error mid new
+      → IsTakenUp handle header true writer old mid → KeepsWritten writer writer mid new → IsLater old mid → FailsToBegin F own handle header old new
+  fails_to_sync_header writer handle header error old mid new sound (goes_on file is enough same at) fails taken kept later base q stale path N (permitted, s) = absurd (cc enough)
+  fails_to_sync_header writer handle header error old mid new sound (writes_header file is short writes at) fails taken kept later base q stale path N (permitted, s) =
+      let b = begun header stale q in
+      let to = reach (length file.content) (length header) 0 in
+      let one = have_one_name old N sound s.names in
+      let headed = header_stands F own base lawful owns handle (length file.content) header stale q path N old mid one writes (measured base handle b path N old file is s) in
+      let (room, stands) = roomy_stands F own base lawful owns (IsHeadedTo F to) b path handle.file N mid headed in
+      let here : FailsToSync handle error mid new = subst (λ (h : Handle). FailsToSync h error mid new) at.handle_is fails in
+      let held = unbegun_stands F own base lawful owns handle to header (grown room stale) q path N error mid new one here stands in
+      (fails_after old mid new later (kept (taken_up header true file.content) (taken file permitted is)).1, (room, held))

@@ -33,7 +33,7 @@ refused e = Err e
 
 module _ {R : Type 0} (F : Format R) where
   -- room that isn't made is room
-  no_room : (q : LogFiles R) → with_room 0 q ≡ q
+  pub no_room : (q : LogFiles R) → with_room 0 q ≡ q
   no_room q =
       let none : grown 0 q.stale ≡ q.stale = ap (λ (k : ℕ). q.stale ++ zeros k) (let zero_left : 0 - length q.stale ≡ 0 = omega arith in zero_left) ∙ append-nil q.stale in
       λ i. record q { stale = none i }

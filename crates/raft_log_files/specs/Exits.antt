@@ -5,9 +5,11 @@ use Rattle.raft_log_disk.specs.Causes.{Fails}
 use Rattle.raft_log_disk.specs.Chains.{Written}
 use Rattle.raft_log_disk.specs.LogFormat.{Format}
 use Rattle.raft_log_disk.specs.LogQueue.{LogFiles, HoldsLast}
+use Rattle.raft_log_disk.specs.declared.handle.Handle.{Handle}
 use Rattle.raft_log_disk.specs.declared.handle.Permission.TheVariants.{ReadWrite}
 use Rattle.raft_log_file.specs.declared.writer.LogFileWriter.{LogFileWriter}
-use Rattle.raft_log_file_queue.specs.Queue.{whole, with_more, with_room, settled, synced}
+use Rattle.raft_log_file_queue.specs.Queue.{whole, with_more, with_room, settled, synced, begun}
+use Rattle.raft_log_file_queue.specs.States.{IsNew}
 use Rattle.raft_log_file_queue.specs.Standing.{Names, Stands}
 use Rattle.raft_log_files.specs.LastFile.{IsActiveTo, IsPastTo}
 use Rattle.raft_log_files.specs.declared.last_file.WriteFault.{WriteFault}
@@ -69,3 +71,19 @@ Finishes {R} F own before after old new = (base : Disk) (q : LogFiles R) (path :
 abbrev pub FailsToFinish : {R : Type 0} → Format R → (List ℕ → Type 0) → LogFileWriter → Disk → Disk → Type 0
 FailsToFinish {R} F own before old new = (base : Disk) (q : LogFiles R) (path : List ℕ) (N : Names)
     → IsOpen F own base before q path N old → Fails old new × IsHeld F own base before q path N new
+
+-- the queue stands, and its last file has its number and not its header yet: it holds what it held before
+abbrev pub IsGiven : {R : Type 0} → Format R → (List ℕ → Type 0) → Disk → Handle → LogFiles R → List ℕ → Names → Disk → Type 0
+IsGiven F own base handle q path N d = (handle.permission ≡ ReadWrite) × Stands F own base q path handle.file (IsNew F q) N d
+
+-- the last file got its header, and this writer stands behind it
+abbrev pub Begins : {R : Type 0} → Format R → (List ℕ → Type 0) → Handle → List ℕ → LogFileWriter → Disk → Disk → Type 0
+Begins {R} F own handle header writer old new = (base : Disk) (q : LogFiles R) (stale : List ℕ) (path : List ℕ) (N : Names)
+    → IsGiven F own base handle (begun header stale q) path N old
+    → (room : ℕ) × IsOpen F own base writer (with_room room (begun header stale q)) path N new
+
+-- it didn't: a file call failed, and any of the header may be there, but no record
+abbrev pub FailsToBegin : {R : Type 0} → Format R → (List ℕ → Type 0) → Handle → List ℕ → Disk → Disk → Type 0
+FailsToBegin {R} F own handle header old new = (base : Disk) (q : LogFiles R) (stale : List ℕ) (path : List ℕ) (N : Names)
+    → IsGiven F own base handle (begun header stale q) path N old
+    → Fails old new × ((room : ℕ) × Stands F own base (with_room room (begun header stale q)) path handle.file (HoldsLast F (with_room room (begun header stale q))) N new)

@@ -1,13 +1,13 @@
 //! The calls of a pipe on the last file of its queue, with what stands at each exit.
 
-ghost use Rattle.std.specs.Prelude.{IfErr, OnOk, OnErr};
+ghost use Rattle.std.specs.Prelude.{IfOk, IfErr, OnOk, OnErr};
 ghost use Rattle.raft_log_disk.specs.Causes.{IsLater};
 ghost use Rattle.raft_log_disk.specs.Touching.{TouchesOnly};
-ghost use Rattle.raft_log_files.specs.Exits.{Appends, FailsToAppend, FailsToFinish, FailsToSyncAll, Finishes, SyncsAll};
+ghost use Rattle.raft_log_files.specs.Exits.{Appends, Begins, FailsToAppend, FailsToBegin, FailsToFinish, FailsToSyncAll, Finishes, SyncsAll};
 
 use super::format::PipeFormat;
 use log::Log;
-use raft_log_disk::FileSystem;
+use raft_log_disk::{FileSystem, Handle};
 use raft_log_file::LogFileWriter;
 use std::io::ErrorKind;
 
@@ -72,4 +72,24 @@ pub(crate) fn finish_file<G: PipeFormat, F: FileSystem>(
     ensures later { IsLater (F.disk file_system.old) (F.disk file_system.new) }
 {
     writer.close(file_system)
+}
+
+/// Begins the file of a handle, which has got the next number: writes its header, whatever it holds, and makes
+/// that durable.
+pub(crate) fn begin_file<G: PipeFormat, F: FileSystem, L: Log>(
+    rt: &L,
+    file_system: &mut F,
+    handle: Handle,
+    header: &[u8],
+) -> Result<LogFileWriter, ErrorKind>
+    ensures ok { IfOk result (λ writer. Begins G.format G.own handle header.now writer
+        (F.disk file_system.old) (F.disk file_system.new)) }
+    ensures err { OnErr result (FailsToBegin G.format G.own handle header.now
+        (F.disk file_system.old) (F.disk file_system.new)) }
+    ensures others { TouchesOnly handle.file (F.disk file_system.old) (F.disk file_system.new) }
+    ensures later { IsLater (F.disk file_system.old) (F.disk file_system.new) }
+{
+    let writer = LogFileWriter::open(rt, file_system, handle, header, true)?;
+    writer.sync(file_system)?;
+    Ok(writer)
 }

@@ -3,6 +3,7 @@
 
 mod format;
 mod last_file;
+mod rotation;
 
 pub use format::PipeFormat;
 pub use last_file::WriteFault;

@@ -1,0 +1,170 @@
+-- A rotation: the last file is finished, the next one gets its name, and then its header.
+use Rattle.std.specs.Prelude.{Result, Ok, Err}
+use Rattle.std.specs.Result.{IfOk, IfErr, OnOk, OnErr}
+use Rattle.std.specs.Map.{update}
+use Rattle.std.specs.Str.{bytes_eq}
+use Rattle.std.specs.declared.io.ErrorKind.{ErrorKind}
+use Rattle.std.proofs.Common.{◌≡◌, ◌⊎◌, ℕ, ◌<◌, ◌≤◌, suc, true, false, Option, Some, None, List, [], refl, sym, ◌∙◌, ap, subst, inl, inr, arith}
+use Rattle.std.proofs.lemmas.Bool.{false≢true}
+use Rattle.raft_log_disk.specs.Disk.{File, Disk}
+use Rattle.raft_log_disk.specs.Causes.{Fails, IsLater}
+use Rattle.raft_log_disk.specs.Image.{IsSound}
+use Rattle.raft_log_disk.specs.Calls.{created, renamed, counted, at_stop, Creates, Renames, RefusedWhole, IsRight}
+use Rattle.raft_log_disk.specs.Exits.{FailsToCreate, FailsToRename}
+use Rattle.raft_log_disk.specs.Arguments.{WrongCreate, WrongRename}
+use Rattle.raft_log_disk.specs.LogFormat.{Format, IsFormat}
+use Rattle.raft_log_disk.specs.LogQueue.{LogFiles, HoldsLast, IsPast, IsAbsent, rotated}
+use Rattle.raft_log_disk.specs.Touching.{HasFile, TouchesOnly}
+use Rattle.raft_log_disk.specs.declared.handle.Handle.{Handle}
+use Rattle.raft_log_disk.specs.declared.handle.Permission.TheVariants.{ReadWrite}
+use Rattle.raft_log_disk.proofs.KeptLaws.{IsCalm, kept_create, kept_rename, calm_either}
+use Rattle.raft_log_disk.proofs.CauseLaws.{fails_whole, fails_after, fails_still, later_then, later_create, later_rename}
+use Rattle.raft_log_disk.proofs.NamesLaws.{creation_leaves, renaming_leaves}
+use Rattle.raft_log_file.specs.declared.writer.LogFileWriter.{LogFileWriter}
+use Rattle.raft_log_file_queue.specs.Queue.{finished, with_room, begun}
+use Rattle.raft_log_file_queue.specs.States.{IsNew}
+use Rattle.raft_log_file_queue.specs.Standing.{Names, HaveOneName, OwnsPaths, Stands}
+use Rattle.raft_log_file_queue.specs.Bridge.{GapsStay}
+use Rattle.raft_log_file_queue.proofs.FileSteps.{past_holds, new_holds}
+use Rattle.raft_log_file_queue.proofs.Standing.{have_one_name, stands_weaker, stands_calm, stands_created, stands_renamed}
+use Rattle.raft_log_files.specs.LastFile.{IsPastTo}
+use Rattle.raft_log_files.specs.Exits.{IsOpen, IsFinished, Finishes, FailsToFinish, IsGiven, Begins, FailsToBegin}
+use Rattle.raft_log_files.specs.Rotation.{CanRotate, IsSpare, IsLeft, IsLeftTurned, GoesOnInNext, StaysBehind, RotatesToNew, FailsToRotateToNew, RotatesOver, FailsToRotateOver}
+use Rattle.raft_log_files.proofs.Writing.{no_room}
+
+module _ {R : Type 0} (F : Format R) where
+  -- calls on a file fill no gap
+  gaps_touched : (q : LogFiles R) (id : ℕ) (old new : Disk) → TouchesOnly id old new → GapsStay F q old new
+  gaps_touched q id old new only m below none path at = ap (λ (f : Names). f path) only.names ∙ none path at
+
+  gaps_then : (q : LogFiles R) (a b c : Disk) → GapsStay F q a b → GapsStay F q b c → GapsStay F q a c
+  gaps_then q a b c first next m below none = next m below (first m below none)
+
+  gaps_calm : (q : LogFiles R) (old : Disk) → IsCalm (GapsStay F q old)
+  gaps_calm q old = record { at_count = λ d stay. stay; at_end = λ d stay. stay }
+
+  module _ (own : List ℕ → Type 0) (lawful : IsFormat F) (owns : OwnsPaths F own) where
+    left_calm : (base : Disk) (q : LogFiles R) → IsCalm (IsLeft F own base q)
+    left_calm base q = record {
+      at_count = λ d left. record { path = left.path; id = left.id; N = left.N; stands = (stands_calm F own base q left.path left.id (HoldsLast F q) left.N).at_count d left.stands };
+      at_end = λ d left. record { path = left.path; id = left.id; N = left.N; stands = (stands_calm F own base q left.path left.id (HoldsLast F q) left.N).at_end d left.stands };
+    }
+
+    turned_calm : (base : Disk) (q : LogFiles R) (header stale : List ℕ) → IsCalm (IsLeftTurned F own base q header stale)
+    turned_calm base q header stale = calm_either (left_calm base q) (record {
+      at_count = λ d (room, left). (room, (left_calm base (with_room room (rotated header stale q))).at_count d left);
+      at_end = λ d (room, left). (room, (left_calm base (with_room room (rotated header stale q))).at_end d left);
+    })
+
+    both_calm : (P Q : Disk → Type 0) → IsCalm P → IsCalm Q → IsCalm (λ d. P d × Q d)
+    both_calm P Q p q = record { at_count = λ d (a, b). (p.at_count d a, q.at_count d b); at_end = λ d (a, b). (p.at_end d a, q.at_end d b) }
+
+    -- a finished file is held
+    finished_left : (base : Disk) (writer : LogFileWriter) (q : LogFiles R) (path : List ℕ) (N : Names) (d : Disk) → IsFinished F own base writer q path N d → IsLeft F own base q d
+    finished_left base writer q path N d is = record {
+      path = path;
+      id = writer.handle.file;
+      N = N;
+      stands = stands_weaker F own base q path writer.handle.file (IsPastTo F writer.capacity q) (HoldsLast F q) N d (λ file was. past_holds F lawful q file was.past) is.stands;
+    }
+
+    -- the next file, before its header
+    given_left : (base : Disk) (q : LogFiles R) (header stale path : List ℕ) (id : ℕ) (N : Names) (d : Disk) → Stands F own base (rotated header stale q) path id (IsNew F (rotated header stale q)) N d
+        → (room : ℕ) × IsLeft F own base (with_room room (rotated header stale q)) d
+    given_left base q header stale path id N d s =
+        let next = rotated header stale q in
+        (0, subst (λ (p : LogFiles R). IsLeft F own base p d) (sym (no_room F next)) (record {
+          path = path;
+          id = id;
+          N = N;
+          stands = stands_weaker F own base next path id (IsNew F next) (HoldsLast F next) N d (λ file was. new_holds F header stale next file was) s;
+        }))
+
+    other_number : (q : LogFiles R) (header to : List ℕ) (m : ℕ) (path : List ℕ) → CanRotate F q header to → m < q.last → F.IsPath m path → path ≡ to → ⊥
+    other_number q header to m path can below at same =
+        (let bound = can.bound in
+        let number : m ≡ suc q.last = lawful.paths m (suc q.last) to (omega (arith, below, bound)) bound (subst (F.IsPath m) same at) can.path in
+        omega (arith, number, below))
+
+    -- Making the next file.
+
+    gaps_created : (q : LogFiles R) (header to : List ℕ) (old : Disk) → IsSound old → CanRotate F q header to → GapsStay F q old (created to old)
+    gaps_created q header to old sound can m below none path at = (creation_leaves old to sound).names path (other_number q header to m path can below at) ∙ none path at
+
+    right_path : (base : Disk) (writer : LogFileWriter) (q : LogFiles R) (header to path : List ℕ) (N : Names) (old : Disk) → CanRotate F q header to → IsFinished F own base writer q path N old → IsRight (WrongCreate to old)
+    right_path base writer q header to path N old can is error (inl (exists, inl named)) =
+        named (ap (λ (f : Names). f to) is.stands.names ∙ is.stands.none (suc q.last) to (omega arith) can.bound can.path)
+    right_path base writer q header to path N old can is error (inl (exists, inr directory)) = false≢true (sym (is.stands.places (suc q.last) to can.bound can.path).apart ∙ directory)
+    right_path base writer q header to path N old can is error (inr (missing, homeless)) = homeless (is.stands.places (suc q.last) to can.bound can.path).home
+
+    made_stands : (base : Disk) (writer : LogFileWriter) (q : LogFiles R) (header to path : List ℕ) (N : Names) (old : Disk) → IsSound old → CanRotate F q header to → IsFinished F own base writer q path N old
+        → Stands F own base (rotated header [] q) to old.unused (IsNew F (rotated header [] q)) (update bytes_eq N to (Some old.unused)) (created to old)
+    made_stands base writer q header to path N old sound can is =
+        stands_created F own base lawful owns q header path to writer.handle.file N old sound can.bound can.header_is can.path
+        (stands_weaker F own base q path writer.handle.file (IsPastTo F writer.capacity q) (IsPast F q.last (finished q)) N old (λ file was. was.past) is.stands)
+
+    unmade : (base : Disk) (writer : LogFileWriter) (q : LogFiles R) (header to path : List ℕ) (N : Names) (error : ErrorKind) (old new : Disk) → IsSound old → CanRotate F q header to → IsFinished F own base writer q path N old
+        → FailsToCreate to error old new → StaysBehind F own base q header [] old new
+    unmade base writer q header to path N error old new sound can is fails =
+        let Q : Disk → Type 0 = λ d. IsLeftTurned F own base q header [] d × GapsStay F q old d in
+        let refused : Result ℕ ErrorKind = Err error in
+        let (left, gaps) = kept_create Q (λ n. n) (WrongCreate to old) refused to (both_calm (IsLeftTurned F own base q header []) (GapsStay F q old) (turned_calm base q header []) (gaps_calm q old))
+        (inl (finished_left base writer q path N old is), λ m below none. none)
+        (λ free apart home. (inr (given_left base q header [] to old.unused (update bytes_eq N to (Some old.unused)) (created to old) (made_stands base writer q header to path N old sound can is)), gaps_created q header to old sound can)) tt fails in
+        (fails_whole (right_path base writer q header to path N old can is) fails, left, gaps)
+
+    -- The whole rotation into a new file.
+
+    pub not_finished : (base : Disk) (before : LogFileWriter) (q : LogFiles R) (header stale path : List ℕ) (N : Names) (old new : Disk) → FailsToFinish F own before old new → TouchesOnly before.handle.file old new
+        → IsOpen F own base before q path N old → StaysBehind F own base q header stale old new
+    not_finished base before q header stale path N old new fails only was =
+        let (cause, held) = fails base q path N was in
+        (cause, inl (record { path = path; id = before.handle.file; N = N; stands = held }), gaps_touched q before.handle.file old new only)
+
+    pub begun_left : (base : Disk) (q : LogFiles R) (header stale to : List ℕ) (handle : Handle) (N : Names) (old named new : Disk) → FailsToBegin F own handle header named new → TouchesOnly handle.file named new
+        → IsGiven F own base handle (rotated header stale q) to N named → GapsStay F q old named → IsLater old named → StaysBehind F own base q header stale old new
+    begun_left base q header stale to handle N old named new fails only given gaps later =
+        let (cause, (room, held)) = fails base (rotated header stale q) stale to N given in
+        (
+          fails_after old named new later cause,
+          inr (room, record { path = to; id = handle.file; N = N; stands = held }),
+          gaps_then q old named new gaps (gaps_touched q handle.file named new only),
+        )
+
+    given_made : (base : Disk) (middle : LogFileWriter) (q : LogFiles R) (header to path : List ℕ) (handle : Handle) (N : Names) (d1 d2 : Disk) → IsSound d1 → CanRotate F q header to → IsFinished F own base middle q path N d1
+        → Creates to handle.file d1 d2 → handle.permission ≡ ReadWrite → IsGiven F own base handle (rotated header [] q) to (update bytes_eq N to (Some d1.unused)) d2
+    given_made base middle q header to path handle N d1 d2 sound can is creates permitted =
+        let next = rotated header [] q in
+        let M : Names = update bytes_eq N to (Some d1.unused) in
+        (permitted, subst (λ (d : Disk). Stands F own base next to handle.file (IsNew F next) M d) (sym creates.done)
+        (subst (λ (id : ℕ). Stands F own base next to id (IsNew F next) M (created to d1)) (sym creates.number) (made_stands base middle q header to path N d1 sound can is)))
+
+    gaps_made : (q : LogFiles R) (header to : List ℕ) (id : ℕ) (old d1 d2 : Disk) → IsSound d1 → CanRotate F q header to → GapsStay F q old d1 → Creates to id d1 d2 → GapsStay F q old d2
+    gaps_made q header to id old d1 d2 sound can first creates = gaps_then q old d1 d2 first (subst (GapsStay F q d1) (sym creates.done) (gaps_created q header to d1 sound can))
+
+    pub rotates_to_new : (before middle after : LogFileWriter) (header to : List ℕ) (handle : Handle) (old d1 d2 new : Disk) → IsSound d1 → Finishes F own before middle old d1 → TouchesOnly before.handle.file old d1
+        → Creates to handle.file d1 d2 → handle.permission ≡ ReadWrite → Begins F own handle header after d2 new → TouchesOnly handle.file d2 new → RotatesToNew F own header to before after old new
+    rotates_to_new before middle after header to handle old d1 d2 new sound finish only creates permitted begin touches base q path N can was =
+        let is = finish base q path N was in
+        let M : Names = update bytes_eq N to (Some d1.unused) in
+        let given = given_made base middle q header to path handle N d1 d2 sound can is creates permitted in
+        let (room, stands) = begin base (rotated header [] q) [] to M given in
+        (room, M, stands, gaps_then q old d2 new (gaps_made q header to handle.file old d1 d2 sound can (gaps_touched q before.handle.file old d1 only) creates) (gaps_touched q handle.file d2 new touches))
+
+    pub fails_to_create : (before middle : LogFileWriter) (header to : List ℕ) (error : ErrorKind) (old d1 new : Disk) → IsSound d1 → Finishes F own before middle old d1 → TouchesOnly before.handle.file old d1 → IsLater old d1
+        → FailsToCreate to error d1 new → FailsToRotateToNew F own header to before old new
+    fails_to_create before middle header to error old d1 new sound finish only later fails base q path N can was =
+        let (cause, left, gaps) = unmade base middle q header to path N error d1 new sound can (finish base q path N was) fails in
+        (fails_after old d1 new later cause, left, gaps_then q old d1 new (gaps_touched q before.handle.file old d1 only) gaps)
+
+    pub fails_to_begin_new : (before middle : LogFileWriter) (header to : List ℕ) (handle : Handle) (old d1 d2 new : Disk) → IsSound d1 → Finishes F own before middle old d1 → TouchesOnly before.handle.file old d1 → IsLater old d1
+        → Creates to handle.file d1 d2 → handle.permission ≡ ReadWrite → FailsToBegin F own handle header d2 new → TouchesOnly handle.file d2 new → FailsToRotateToNew F own header to before old new
+    fails_to_begin_new before middle header to handle old d1 d2 new sound finish only later creates permitted fails touches base q path N can was =
+        let is = finish base q path N was in
+        let M : Names = update bytes_eq N to (Some d1.unused) in
+        let after_made : IsLater d1 d2 = record {
+          failures = omega (arith, ap (λ (d : Disk). d.failures) creates.done);
+          stopped = λ stops. ap (λ (d : Disk). d.stopped) creates.done ∙ stops;
+        } in
+        begun_left base q header [] to handle M old d2 new fails touches (given_made base middle q header to path handle N d1 d2 sound can is creates permitted)
+        (gaps_made q header to handle.file old d1 d2 sound can (gaps_touched q before.handle.file old d1 only) creates) (later_then old d1 d2 later after_made)

@@ -1,0 +1,33 @@
+//! Rotations: the last file of a queue is finished, and the queue goes on in the next one.
+
+ghost use Rattle.std.specs.Prelude.{OnOk, OnErr};
+ghost use Rattle.std.specs.String.{string_bytes};
+ghost use Rattle.raft_log_disk.specs.Causes.{IsLater};
+ghost use Rattle.raft_log_files.specs.Rotation.{FailsToRotateToNew, RotatesToNew};
+
+use super::format::PipeFormat;
+use super::last_file::{begin_file, finish_file};
+use log::Log;
+use raft_log_disk::FileSystem;
+use raft_log_file::LogFileWriter;
+use std::io::ErrorKind;
+
+/// Goes on in a file that is made for the next number.
+pub(crate) fn rotate_to_new<G: PipeFormat, F: FileSystem, L: Log>(
+    rt: &L,
+    file_system: &mut F,
+    writer: &mut LogFileWriter,
+    path: &str,
+    header: &[u8],
+) -> Result<(), ErrorKind>
+    ensures ok { OnOk result (RotatesToNew G.format G.own header.now path.now writer.old writer.new
+        (F.disk file_system.old) (F.disk file_system.new)) }
+    ensures err { OnErr result (FailsToRotateToNew G.format G.own header.now path.now writer.old
+        (F.disk file_system.old) (F.disk file_system.new)) }
+    ensures later { IsLater (F.disk file_system.old) (F.disk file_system.new) }
+{
+    finish_file::<G, F>(file_system, writer)?;
+    let handle = file_system.create(path)?;
+    *writer = begin_file::<G, F, L>(rt, file_system, handle, header)?;
+    Ok(())
+}

@@ -5,7 +5,8 @@ use Rattle.std.specs.Map.{update}
 use Rattle.std.specs.Str.{bytes_eq}
 use Rattle.std.specs.declared.io.ErrorKind.{ErrorKind}
 use Rattle.std.proofs.Common.{◌≡◌, ◌⊎◌, ℕ, ◌<◌, ◌≤◌, suc, true, false, Option, Some, None, List, [], refl, sym, ◌∙◌, ap, subst, inl, inr, arith}
-use Rattle.std.proofs.lemmas.Bool.{false≢true}
+use Rattle.std.proofs.lemmas.Bool.{false≢true, cases_Bool}
+use Rattle.std.proofs.lemmas.Slice.Eq.{bytes_eq-Decides}
 use Rattle.raft_log_disk.specs.Disk.{File, Disk}
 use Rattle.raft_log_disk.specs.Causes.{Fails, IsLater}
 use Rattle.raft_log_disk.specs.Image.{IsSound}
@@ -31,6 +32,13 @@ use Rattle.raft_log_files.specs.LastFile.{IsPastTo}
 use Rattle.raft_log_files.specs.Exits.{IsOpen, IsFinished, Finishes, FailsToFinish, IsGiven, Begins, FailsToBegin}
 use Rattle.raft_log_files.specs.Rotation.{CanRotate, IsSpare, IsLeft, IsLeftTurned, GoesOnInNext, StaysBehind, RotatesToNew, FailsToRotateToNew, RotatesOver, FailsToRotateOver}
 use Rattle.raft_log_files.proofs.Writing.{no_room}
+
+-- two paths are the same, or not
+cases_bytes : (a b : List ℕ) → (a ≡ b) ⊎ (a ≡ b → ⊥)
+cases_bytes a b = elim (cases_Bool (bytes_eq a b)) [
+  | inl hit ↦ inl ((bytes_eq-Decides a b).0 hit)
+  | inr miss ↦ inr (λ same. false≢true (sym miss ∙ (bytes_eq-Decides a b).1 same))
+]
 
 module _ {R : Type 0} (F : Format R) where
   -- calls on a file fill no gap
@@ -168,3 +176,101 @@ module _ {R : Type 0} (F : Format R) where
         } in
         begun_left base q header [] to handle M old d2 new fails touches (given_made base middle q header to path handle N d1 d2 sound can is creates permitted)
         (gaps_made q header to handle.file old d1 d2 sound can (gaps_touched q before.handle.file old d1 only) creates) (later_then old d1 d2 later after_made)
+
+    -- The whole rotation over a file that was kept.
+
+    gaps_renamed : (q : LogFiles R) (header from to : List ℕ) (id : ℕ) (old : Disk) → CanRotate F q header to → GapsStay F q old (renamed from to id old)
+    gaps_renamed q header from to id old can m below none path at =
+        let leaves = renaming_leaves old from to id in
+        let here = other_number q header to m path can below at in
+        elim (cases_bytes path from) [
+          | inl same ↦ subst (λ (p : List ℕ). (renamed from to id old).names p ≡ None) (sym same) (leaves.unnamed (λ e. here (same ∙ e)))
+          | inr apart ↦ leaves.names path apart here ∙ none path at
+        ]
+
+    right_names : (base : Disk) (writer : LogFileWriter) (q : LogFiles R) (header from to path : List ℕ) (id : ℕ) (N : Names) (old : Disk) → CanRotate F q header to → IsFinished F own base writer q path N old → N from ≡ Some id → IsRight (WrongRename from to old)
+    right_names base writer q header from to path id N old can is named error (inl (missing, none)) = (let there = ap (λ (f : Names). f from) is.stands.names ∙ named in cc (none, there))
+    right_names base writer q header from to path id N old can is named error (inr (inl (wrong, directory))) = false≢true (sym (is.stands.places (suc q.last) to can.bound can.path).apart ∙ directory)
+    right_names base writer q header from to path id N old can is named error (inr (inr (missing, homeless))) = homeless (is.stands.places (suc q.last) to can.bound can.path).home
+
+    -- a call on the last file leaves the spare one
+    spare_touched : (q : LogFiles R) (header stale : List ℕ) (handle : Handle) (from path : List ℕ) (id : ℕ) (N : Names) (P : File → Type 0) (base old new : Disk) → HaveOneName N → TouchesOnly id old new
+        → Stands F own base q path id P N old → IsSpare F own q header stale handle from N old → HasFile handle.file (IsNew F (rotated header stale q)) new
+    spare_touched q header stale handle from path id N P base old new one only s spare =
+        let other : handle.file ≡ id → ⊥ = λ same. spare.apart q.last (omega arith) s.bound (subst (F.IsPath q.last) (one path from id s.named (spare.named ∙ ap Some same)) s.at) in
+        record { file = spare.file.file; is = only.others handle.file other ∙ spare.file.is; has = spare.file.has }
+
+    renamed_stands : (base : Disk) (writer : LogFileWriter) (q : LogFiles R) (header stale from to path : List ℕ) (handle : Handle) (N : Names) (old : Disk) → IsSound old → CanRotate F q header to → IsFinished F own base writer q path N old
+        → IsSpare F own q header stale handle from N old
+        → Stands F own base (rotated header stale q) to handle.file (IsNew F (rotated header stale q)) (update bytes_eq (update bytes_eq N from None) to (Some handle.file)) (renamed from to handle.file old)
+    renamed_stands base writer q header stale from to path handle N old sound can is spare =
+        stands_renamed F own base lawful owns q header stale path from to writer.handle.file handle.file N old sound can.bound can.header_is can.path spare.mine spare.apart spare.named spare.file
+        (stands_weaker F own base q path writer.handle.file (IsPastTo F writer.capacity q) (IsPast F q.last (finished q)) N old (λ file was. was.past) is.stands)
+
+    -- the spare file, once the last one is finished
+    spare_left : (base : Disk) (before middle : LogFileWriter) (q : LogFiles R) (header stale from to path : List ℕ) (handle : Handle) (N : Names) (old d1 : Disk) → IsSound old → TouchesOnly before.handle.file old d1 → IsOpen F own base before q path N old
+        → IsSpare F own q header stale handle from N old → IsSpare F own q header stale handle from N d1
+    spare_left base before middle q header stale from to path handle N old d1 sound only was spare = record {
+      mine = spare.mine;
+      apart = spare.apart;
+      named = spare.named;
+      permitted = spare.permitted;
+      file = spare_touched q header stale handle from path before.handle.file N _ base old d1 (have_one_name old N sound was.stands.names) only was.stands spare;
+    }
+
+    given_renamed : (base : Disk) (middle : LogFileWriter) (q : LogFiles R) (header stale from to path : List ℕ) (handle : Handle) (N : Names) (d1 d2 : Disk) → IsSound d1 → CanRotate F q header to → IsFinished F own base middle q path N d1
+        → IsSpare F own q header stale handle from N d1 → Renames from to d1 d2
+        → IsGiven F own base handle (rotated header stale q) to (update bytes_eq (update bytes_eq N from None) to (Some handle.file)) d2
+    given_renamed base middle q header stale from to path handle N d1 d2 sound can is spare renames =
+        let next = rotated header stale q in
+        let M : Names = update bytes_eq (update bytes_eq N from None) to (Some handle.file) in
+        let there : d1.names from ≡ Some handle.file = ap (λ (f : Names). f from) is.stands.names ∙ spare.named in
+        let id = renames.is in
+        let same : renames.id ≡ handle.file = cc (id, there) in
+        (spare.permitted, subst (λ (d : Disk). Stands F own base next to handle.file (IsNew F next) M d) (sym (renames.done ∙ ap (λ (n : ℕ). renamed from to n d1) same))
+        (renamed_stands base middle q header stale from to path handle N d1 sound can is spare))
+
+    gaps_turned : (q : LogFiles R) (header from to : List ℕ) (old d1 d2 : Disk) → CanRotate F q header to → GapsStay F q old d1 → Renames from to d1 d2 → GapsStay F q old d2
+    gaps_turned q header from to old d1 d2 can first renames = gaps_then q old d1 d2 first (subst (GapsStay F q d1) (sym renames.done) (gaps_renamed q header from to renames.id d1 can))
+
+    pub rotates_over : (before middle after : LogFileWriter) (header from to : List ℕ) (handle : Handle) (old d1 d2 new : Disk) → IsSound old → IsSound d1 → Finishes F own before middle old d1 → TouchesOnly before.handle.file old d1
+        → Renames from to d1 d2 → Begins F own handle header after d2 new → TouchesOnly handle.file d2 new → RotatesOver F own header handle from to before after old new
+    rotates_over before middle after header from to handle old d1 d2 new sound sound_then finish only renames begin touches base q stale path N can spare was =
+        let is = finish base q path N was in
+        let M : Names = update bytes_eq (update bytes_eq N from None) to (Some handle.file) in
+        let given = given_renamed base middle q header stale from to path handle N d1 d2 sound_then can is (spare_left base before middle q header stale from to path handle N old d1 sound only was spare) renames in
+        let (room, stands) = begin base (rotated header stale q) stale to M given in
+        (room, M, stands, gaps_then q old d2 new (gaps_turned q header from to old d1 d2 can (gaps_touched q before.handle.file old d1 only) renames) (gaps_touched q handle.file d2 new touches))
+
+    pub fails_to_rename : (before middle : LogFileWriter) (header from to : List ℕ) (handle : Handle) (error : ErrorKind) (old d1 new : Disk) → IsSound old → IsSound d1 → Finishes F own before middle old d1 → TouchesOnly before.handle.file old d1 → IsLater old d1
+        → FailsToRename from to error d1 new → FailsToRotateOver F own header handle from to before old new
+    fails_to_rename before middle header from to handle error old d1 new sound sound_then finish only later fails base q stale path N can spare was =
+        let is = finish base q path N was in
+        let still = spare_left base before middle q header stale from to path handle N old d1 sound only was spare in
+        let there : d1.names from ≡ Some handle.file = ap (λ (f : Names). f from) is.stands.names ∙ spare.named in
+        let Q : Disk → Type 0 = λ d. IsLeftTurned F own base q header stale d × GapsStay F q d1 d in
+        let refused : Result ℕ ErrorKind = Err error in
+        let (left, gaps) = kept_rename Q (WrongRename from to d1) refused from to (both_calm (IsLeftTurned F own base q header stale) (GapsStay F q d1) (turned_calm base q header stale) (gaps_calm q d1))
+        (inl (finished_left base middle q path N d1 is), λ m below none. none)
+        (λ id named apart home.
+        (let same : handle.file ≡ id = cc (named, there) in
+        let turned = renamed_stands base middle q header stale from to path handle N d1 sound_then can is still in
+        (
+          inr (given_left base q header stale to handle.file (update bytes_eq (update bytes_eq N from None) to (Some handle.file)) (renamed from to id d1)
+          (subst (λ (n : ℕ). Stands F own base (rotated header stale q) to handle.file (IsNew F (rotated header stale q)) (update bytes_eq (update bytes_eq N from None) to (Some handle.file)) (renamed from to n d1)) same turned)),
+          gaps_renamed q header from to id d1 can,
+        ))) tt fails in
+        (fails_after old d1 new later (fails_whole (right_names base middle q header from to path handle.file N d1 can is spare.named) fails), left, gaps_then q old d1 new (gaps_touched q before.handle.file old d1 only) gaps)
+
+    pub fails_to_begin_over : (before middle : LogFileWriter) (header from to : List ℕ) (handle : Handle) (old d1 d2 new : Disk) → IsSound old → IsSound d1 → Finishes F own before middle old d1 → TouchesOnly before.handle.file old d1 → IsLater old d1
+        → Renames from to d1 d2 → FailsToBegin F own handle header d2 new → TouchesOnly handle.file d2 new → FailsToRotateOver F own header handle from to before old new
+    fails_to_begin_over before middle header from to handle old d1 d2 new sound sound_then finish only later renames fails touches base q stale path N can spare was =
+        let is = finish base q path N was in
+        let M : Names = update bytes_eq (update bytes_eq N from None) to (Some handle.file) in
+        let after_renamed : IsLater d1 d2 = record {
+          failures = omega (arith, ap (λ (d : Disk). d.failures) renames.done);
+          stopped = λ stops. ap (λ (d : Disk). d.stopped) renames.done ∙ stops;
+        } in
+        begun_left base q header stale to handle M old d2 new fails touches
+        (given_renamed base middle q header stale from to path handle N d1 d2 sound_then can is (spare_left base before middle q header stale from to path handle N old d1 sound only was spare) renames)
+        (gaps_turned q header from to old d1 d2 can (gaps_touched q before.handle.file old d1 only) renames) (later_then old d1 d2 later after_renamed)

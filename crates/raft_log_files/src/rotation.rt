@@ -3,12 +3,12 @@
 ghost use Rattle.std.specs.Prelude.{OnOk, OnErr};
 ghost use Rattle.std.specs.String.{string_bytes};
 ghost use Rattle.raft_log_disk.specs.Causes.{IsLater};
-ghost use Rattle.raft_log_files.specs.Rotation.{FailsToRotateToNew, RotatesToNew};
+ghost use Rattle.raft_log_files.specs.Rotation.{FailsToRotateOver, FailsToRotateToNew, RotatesOver, RotatesToNew};
 
 use super::format::PipeFormat;
 use super::last_file::{begin_file, finish_file};
 use log::Log;
-use raft_log_disk::FileSystem;
+use raft_log_disk::{FileSystem, Handle};
 use raft_log_file::LogFileWriter;
 use std::io::ErrorKind;
 
@@ -28,6 +28,29 @@ pub(crate) fn rotate_to_new<G: PipeFormat, F: FileSystem, L: Log>(
 {
     finish_file::<G, F>(file_system, writer)?;
     let handle = file_system.create(path)?;
+    *writer = begin_file::<G, F, L>(rt, file_system, handle, header)?;
+    Ok(())
+}
+
+/// Goes on in a file that was kept for use, under the next number. The handle is the file's, opened to write
+/// before the call: nothing that may want memory comes between the calls that change something.
+pub(crate) fn rotate_over<G: PipeFormat, F: FileSystem, L: Log>(
+    rt: &L,
+    file_system: &mut F,
+    writer: &mut LogFileWriter,
+    handle: Handle,
+    from: &str,
+    to: &str,
+    header: &[u8],
+) -> Result<(), ErrorKind>
+    ensures ok { OnOk result (RotatesOver G.format G.own header.now handle from.now to.now writer.old writer.new
+        (F.disk file_system.old) (F.disk file_system.new)) }
+    ensures err { OnErr result (FailsToRotateOver G.format G.own header.now handle from.now to.now writer.old
+        (F.disk file_system.old) (F.disk file_system.new)) }
+    ensures later { IsLater (F.disk file_system.old) (F.disk file_system.new) }
+{
+    finish_file::<G, F>(file_system, writer)?;
+    file_system.reuse(from, to)?;
     *writer = begin_file::<G, F, L>(rt, file_system, handle, header)?;
     Ok(())
 }

@@ -10,27 +10,27 @@ use Rattle.std.proofs.lemmas.Slice.Eq.{bytes_eq-Decides}
 use Rattle.raft_log_disk.specs.Disk.{File, Disk}
 use Rattle.raft_log_disk.specs.Causes.{Fails, IsLater}
 use Rattle.raft_log_disk.specs.Image.{IsSound}
-use Rattle.raft_log_disk.specs.Calls.{created, renamed, counted, at_stop, Creates, Renames, RefusedWhole, IsRight}
-use Rattle.raft_log_disk.specs.Exits.{FailsToCreate, FailsToRename}
-use Rattle.raft_log_disk.specs.Arguments.{WrongCreate, WrongRename}
+use Rattle.raft_log_disk.specs.Calls.{created, deleted, renamed, Creates, Deletes, Renames, IsRight}
+use Rattle.raft_log_disk.specs.Exits.{FailsToCreate, FailsToDelete, FailsToRename}
+use Rattle.raft_log_disk.specs.Arguments.{WrongCreate, WrongName, WrongRename}
 use Rattle.raft_log_disk.specs.LogFormat.{Format, IsFormat}
 use Rattle.raft_log_disk.specs.LogQueue.{LogFiles, HoldsLast, IsPast, IsAbsent, rotated}
 use Rattle.raft_log_disk.specs.Touching.{HasFile, TouchesOnly}
 use Rattle.raft_log_disk.specs.declared.handle.Handle.{Handle}
 use Rattle.raft_log_disk.specs.declared.handle.Permission.TheVariants.{ReadWrite}
-use Rattle.raft_log_disk.proofs.KeptLaws.{IsCalm, kept_create, kept_rename, calm_either}
+use Rattle.raft_log_disk.proofs.KeptLaws.{IsCalm, kept_create, kept_delete, kept_rename, calm_either}
 use Rattle.raft_log_disk.proofs.CauseLaws.{fails_whole, fails_after, fails_still, later_then, later_create, later_rename}
-use Rattle.raft_log_disk.proofs.NamesLaws.{creation_leaves, renaming_leaves}
+use Rattle.raft_log_disk.proofs.NamesLaws.{creation_leaves, deletion_leaves, renaming_leaves}
 use Rattle.raft_log_file.specs.declared.writer.LogFileWriter.{LogFileWriter}
 use Rattle.raft_log_file_queue.specs.Queue.{finished, with_room, begun}
 use Rattle.raft_log_file_queue.specs.States.{IsNew}
 use Rattle.raft_log_file_queue.specs.Standing.{Names, HaveOneName, OwnsPaths, Stands}
 use Rattle.raft_log_file_queue.specs.Bridge.{GapsStay}
-use Rattle.raft_log_file_queue.proofs.FileSteps.{past_holds, new_holds}
-use Rattle.raft_log_file_queue.proofs.Standing.{have_one_name, stands_weaker, stands_calm, stands_created, stands_renamed}
-use Rattle.raft_log_files.specs.LastFile.{IsPastTo}
+use Rattle.raft_log_file_queue.proofs.FileSteps.{active_holds, past_holds, new_holds}
+use Rattle.raft_log_file_queue.proofs.Standing.{have_one_name, stands_weaker, stands_calm, stands_created, stands_deleted, stands_renamed}
+use Rattle.raft_log_files.specs.LastFile.{IsActiveTo, IsPastTo}
 use Rattle.raft_log_files.specs.Exits.{IsOpen, IsFinished, Finishes, FailsToFinish, IsGiven, Begins, FailsToBegin}
-use Rattle.raft_log_files.specs.Rotation.{CanRotate, IsSpare, IsLeft, IsLeftTurned, GoesOnInNext, StaysBehind, RotatesToNew, FailsToRotateToNew, RotatesOver, FailsToRotateOver}
+use Rattle.raft_log_files.specs.Rotation.{CanRotate, IsSpare, IsLeft, IsLeftTurned, GoesOnInNext, StaysBehind, RotatesToNew, FailsToRotateToNew, RotatesOver, FailsToRotateOver, CanDrop, Drops, FailsToDrop}
 use Rattle.raft_log_files.proofs.Writing.{no_room}
 
 -- two paths are the same, or not
@@ -274,3 +274,52 @@ module _ {R : Type 0} (F : Format R) where
         begun_left base q header stale to handle M old d2 new fails touches
         (given_renamed base middle q header stale from to path handle N d1 d2 sound_then can is (spare_left base before middle q header stale from to path handle N old d1 sound only was spare) renames)
         (gaps_turned q header from to old d1 d2 can (gaps_touched q before.handle.file old d1 only) renames) (later_then old d1 d2 later after_renamed)
+
+    -- A file is dropped.
+
+    gaps_deleted : (q : LogFiles R) (gone : List ℕ) (id : ℕ) (old : Disk) → GapsStay F q old (deleted gone id old)
+    gaps_deleted q gone id old m below none path at =
+        let leaves = deletion_leaves old gone id in
+        elim (cases_bytes path gone) [
+          | inl same ↦ subst (λ (p : List ℕ). (deleted gone id old).names p ≡ None) (sym same) leaves.unnamed
+          | inr apart ↦ leaves.names path apart ∙ none path at
+        ]
+
+    dropped_stands : (base : Disk) (writer : LogFileWriter) (q : LogFiles R) (gone path : List ℕ) (N : Names) (id : ℕ) (old : Disk) → IsSound old → (can : CanDrop F own q gone N) → old.names gone ≡ Some id → IsOpen F own base writer q path N old
+        → IsOpen F own base writer q path (update bytes_eq N gone None) (deleted gone id old)
+    dropped_stands base writer q gone path N id old sound can there was = record {
+      permitted = was.permitted;
+      written = was.written;
+      stands = stands_deleted F own base lawful owns q path gone writer.handle.file id (IsActiveTo F writer.capacity q) N old sound can.mine can.apart (ap (λ (f : Names). f gone) (sym was.stands.names) ∙ there) was.stands;
+    }
+
+    open_left : (base : Disk) (writer : LogFileWriter) (q : LogFiles R) (path : List ℕ) (N : Names) (d : Disk) → IsOpen F own base writer q path N d → IsLeft F own base q d
+    open_left base writer q path N d is = record {
+      path = path;
+      id = writer.handle.file;
+      N = N;
+      stands = stands_weaker F own base q path writer.handle.file (IsActiveTo F writer.capacity q) (HoldsLast F q) N d (λ file was. active_holds F q file was.active) is.stands;
+    }
+
+    pub drops : (gone : List ℕ) (old new : Disk) → IsSound old → Deletes gone old new → Drops F own gone old new
+    drops gone old new sound deletes base writer q path N can was = (
+      subst (IsOpen F own base writer q path (update bytes_eq N gone None)) (sym deletes.done) (dropped_stands base writer q gone path N deletes.id old sound can deletes.is was),
+      subst (GapsStay F q old) (sym deletes.done) (gaps_deleted q gone deletes.id old),
+    )
+
+    pub fails_to_drop : (gone : List ℕ) (error : ErrorKind) (old new : Disk) → IsSound old → FailsToDelete gone error old new → FailsToDrop F own gone old new
+    fails_to_drop gone error old new sound fails base writer q path N can was =
+        let there : old.names gone ≡ Some can.id = ap (λ (f : Names). f gone) was.stands.names ∙ can.named in
+        let Q : Disk → Type 0 = λ d. IsLeft F own base q d × GapsStay F q old d in
+        let refused : Result ℕ ErrorKind = Err error in
+        let (left, gaps) = kept_delete Q (WrongName gone old) refused gone (both_calm (IsLeft F own base q) (GapsStay F q old) (left_calm base q) (gaps_calm q old)) (open_left base writer q path N old was, λ m below none. none)
+        (λ id named. (open_left base writer q path (update bytes_eq N gone None) (deleted gone id old) (dropped_stands base writer q gone path N id old sound can named was), gaps_deleted q gone id old)) tt fails in
+        (fails_whole (λ e wrong. (let none = wrong.1 in cc (none, there))) fails, left, gaps)
+
+    pub drops_either : (result : Result (Unit {0}) ErrorKind) (gone : List ℕ) (old new : Disk) → IsSound old → OnOk result (Deletes gone old new) → OnOk result (Drops F own gone old new)
+    drops_either (Ok v) gone old new sound ok = drops gone old new sound ok
+    drops_either (Err e) gone old new sound ok = tt
+
+    pub keeps_either : (result : Result (Unit {0}) ErrorKind) (gone : List ℕ) (old new : Disk) → IsSound old → IfErr result (λ e. FailsToDelete gone e old new) → OnErr result (FailsToDrop F own gone old new)
+    keeps_either (Ok v) gone old new sound err = tt
+    keeps_either (Err e) gone old new sound err = fails_to_drop gone e old new sound err

@@ -1,5 +1,7 @@
--- What stands after a rotation, answered and refused.
-use Rattle.std.specs.Prelude.{◌≡◌, ℕ, ◌<◌, ◌≤◌, ◌⊎◌, Some, List, [], suc}
+-- What stands after a rotation, and after a file was dropped, answered and refused.
+use Rattle.std.specs.Prelude.{◌≡◌, ℕ, ◌<◌, ◌≤◌, ◌⊎◌, Some, None, List, [], suc}
+use Rattle.std.specs.Map.{update}
+use Rattle.std.specs.Str.{bytes_eq}
 use Rattle.raft_log_disk.specs.Disk.{Disk}
 use Rattle.raft_log_disk.specs.Causes.{Fails}
 use Rattle.raft_log_disk.specs.LogFormat.{Format}
@@ -70,3 +72,22 @@ abbrev pub FailsToRotateOver : {R : Type 0} → Format R → (List ℕ → Type 
 FailsToRotateOver {R} F own header handle from to before old new = (base : Disk) (q : LogFiles R) (stale : List ℕ) (path : List ℕ) (N : Names)
     → CanRotate F q header to → IsSpare F own q header stale handle from N old → IsOpen F own base before q path N old
     → StaysBehind F own base q header stale old new
+
+-- a file of the queue that may go: it has this path, which is no number's from the last on
+pub record CanDrop {R : Type 0} (F : Format R) (own : List ℕ → Type 0) (q : LogFiles R) (gone : List ℕ) (N : Names) : Type 0 where
+  pub mine : own gone
+  pub apart : (m : ℕ) → q.last ≤ m → m < F.limit → F.IsPath m gone → ⊥
+  pub id : ℕ
+  pub named : N gone ≡ Some id
+
+-- it went, and nothing else changed
+abbrev pub Drops : {R : Type 0} → Format R → (List ℕ → Type 0) → List ℕ → Disk → Disk → Type 0
+Drops {R} F own gone old new = (base : Disk) (writer : LogFileWriter) (q : LogFiles R) (path : List ℕ) (N : Names)
+    → CanDrop F own q gone N → IsOpen F own base writer q path N old
+    → IsOpen F own base writer q path (update bytes_eq N gone None) new × GapsStay F q old new
+
+-- it didn't, or a stop came: a file call failed, and what there was is held
+abbrev pub FailsToDrop : {R : Type 0} → Format R → (List ℕ → Type 0) → List ℕ → Disk → Disk → Type 0
+FailsToDrop {R} F own gone old new = (base : Disk) (writer : LogFileWriter) (q : LogFiles R) (path : List ℕ) (N : Names)
+    → CanDrop F own q gone N → IsOpen F own base writer q path N old
+    → Fails old new × IsLeft F own base q new × GapsStay F q old new

@@ -22,7 +22,7 @@ pub enum WriteFault {
 
 /// Writes a record behind the others. Where the write is refused, the file is cut back to what was written
 /// before, and synced.
-pub(crate) fn append_record<G: PipeFormat, F: FileSystem, L: Log>(
+pub fn append_record<G: PipeFormat, F: FileSystem, L: Log>(
     rt: &L,
     file_system: &mut F,
     writer: &mut LogFileWriter,
@@ -46,7 +46,7 @@ pub(crate) fn append_record<G: PipeFormat, F: FileSystem, L: Log>(
 }
 
 /// Makes all records durable.
-pub(crate) fn sync_records<G: PipeFormat, F: FileSystem>(
+pub fn sync_records<G: PipeFormat, F: FileSystem>(
     file_system: &mut F,
     writer: &LogFileWriter,
 ) -> Result<(), ErrorKind>
@@ -60,7 +60,7 @@ pub(crate) fn sync_records<G: PipeFormat, F: FileSystem>(
 }
 
 /// Finishes the file: cuts it behind its records, and makes these durable.
-pub(crate) fn finish_file<G: PipeFormat, F: FileSystem>(
+pub fn finish_file<G: PipeFormat, F: FileSystem>(
     file_system: &mut F,
     writer: &mut LogFileWriter,
 ) -> Result<(), ErrorKind>
@@ -76,7 +76,7 @@ pub(crate) fn finish_file<G: PipeFormat, F: FileSystem>(
 
 /// Begins the file of a handle, which has got the next number: writes its header, whatever it holds, and makes
 /// that durable.
-pub(crate) fn begin_file<G: PipeFormat, F: FileSystem, L: Log>(
+pub fn begin_file<G: PipeFormat, F: FileSystem, L: Log>(
     rt: &L,
     file_system: &mut F,
     handle: Handle,

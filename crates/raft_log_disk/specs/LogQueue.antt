@@ -54,14 +54,14 @@ pub record HeaderStands (header : List ℕ) (file : File) : Type 0 where
 -- The last file holds its chain, and its header stands, or it has no record yet: then any of its header may
 -- have landed.
 pub record HoldsLast {R : Type 0} (F : Format R) (q : LogFiles R) (file : File) : Type 0 where
-  pub chain : HoldsAtLeast (F.IsFrame q.last) (length q.header) q.stale q.durable q.pending file
+  pub chain : HoldsAtLeast (F.IsFrame q.last q.header) (length q.header) q.stale q.durable q.pending file
   pub headed : HeaderStands q.header file ⊎ (recent q ≡ [])
 
 -- a file before the last is at rest, with its header and its records and nothing else
 pub record IsPast {R : Type 0} (F : Format R) (n : ℕ) (past : Past R) (file : File) : Type 0 where
   pub is : file ≡ at_rest (past.header ++ spelled past.records)
   pub header : F.IsHeader past.header
-  pub frames : AreFrames (F.IsFrame n) past.records
+  pub frames : AreFrames (F.IsFrame n past.header) past.records
 
 -- what a stop left of the last file: its records are read of it
 pub record IsLeftover {R : Type 0} (F : Format R) (q : LogFiles R) (file : File) : Type 0 where
@@ -69,14 +69,33 @@ pub record IsLeftover {R : Type 0} (F : Format R) (q : LogFiles R) (file : File)
   pub is : file ≡ at_rest bytes
   pub reads : ReadsFile F q.last (recent q) bytes
 
--- The files of a queue on a disk: `P` holds of the last one, no number above it has a file, and whoever has
--- the path of a lower number is that number's file as it was finished.
+-- a file with the number is there, under this path of its, and this holds of it
+pub record HasNumbered {R : Type 0} (F : Format R) (n : ℕ) (P : File → Type 0) (d : Disk) : Type 0 where
+  pub path : List ℕ
+  pub at : F.IsPath n path
+  pub file : HasNamed path P d
+
+-- some file has the number
+pub record IsThere {R : Type 0} (F : Format R) (n : ℕ) (d : Disk) : Type 0 where
+  pub path : List ℕ
+  pub at : F.IsPath n path
+  pub id : ℕ
+  pub named : d.names path ≡ Some id
+
+-- no file has the number
+abbrev pub IsAbsent : {R : Type 0} → Format R → ℕ → Disk → Type 0
+IsAbsent F n d = (path : List ℕ) → F.IsPath n path → d.names path ≡ None
+
+-- The files of a queue on a disk: one file has the number of the last, and `P` holds of it; no number above
+-- it has a file, and whoever has the path of a lower number is that number's file as it was finished.
 pub record HasLogFiles {R : Type 0} (F : Format R) (q : LogFiles R) (P : File
     → Type 0) (d : Disk) : Type 0 where
   pub bound : q.last < F.limit
-  pub last : HasNamed (F.path q.last) P d
-  pub none : (m : ℕ) → q.last < m → m < F.limit → d.names (F.path m) ≡ None
-  pub older : (m id : ℕ) → m < q.last → d.names (F.path m) ≡ Some id → HasFile id (IsPast F m (q.older m)) d
+  pub last : HasNumbered F q.last P d
+  pub alone : (path : List ℕ) (id : ℕ) → F.IsPath q.last path → d.names path ≡ Some id → id ≡ last.file.id
+  pub none : (m : ℕ) → q.last < m → m < F.limit → IsAbsent F m d
+  pub older : (m id : ℕ) (path : List ℕ) → m < q.last → F.IsPath m path → d.names path ≡ Some id
+      → HasFile id (IsPast F m (q.older m)) d
 
 -- what is read of one file after the other: each with its number
 pub record Found (R : Type 0) : Type 0 where
@@ -85,11 +104,11 @@ pub record Found (R : Type 0) : Type 0 where
 
 -- the file with a number is there, and these records are read of it
 abbrev pub ReadsNamed : {R : Type 0} → Format R → Disk → ℕ → List (Written R) → Type 0
-ReadsNamed F d n ws = HasNamed (F.path n) (λ file. ReadsFile F n ws file.content) d
+ReadsNamed F d n ws = HasNumbered F n (λ file. ReadsFile F n ws file.content) d
 
 -- so many files are read from a number on, and behind them none is there
 abbrev pub ReadsFiles : {R : Type 0} → Format R → Disk → ℕ → ℕ → List (Found R) → Type 0
-ReadsFiles F d s zero found = (found ≡ []) × ((m : ℕ) → s ≤ m → m < F.limit → d.names (F.path m) ≡ None)
+ReadsFiles F d s zero found = (found ≡ []) × ((m : ℕ) → s ≤ m → m < F.limit → IsAbsent F m d)
 ReadsFiles {R} F d s (suc k) found = (ws : List (Written R)) × (more : List (Found R)) × (s < F.limit) × ReadsNamed F d s ws
     × ReadsFiles F d (suc s) k more × (found ≡ record { number = s; records = ws } ∷ more)
 
@@ -108,9 +127,9 @@ found_from s q count = past_from q.older s (q.last - s) ++ record { number = q.l
 
 -- no checksum is met by chance in what a stop left of the last file
 abbrev pub NoChanceInLast : {R : Type 0} → Format R → LogFiles R → Disk → Disk → Type 0
-NoChanceInLast F q d image = (id : ℕ) (file after : File) → d.names (F.path q.last) ≡ Some id
-    → d.files id ≡ Some file
-    → image.files id ≡ Some after → NoChanceInFile F q.last q.header q.stale file after.content
+NoChanceInLast F q d image = (path : List ℕ) (id : ℕ) (file after : File) → F.IsPath q.last path
+    → d.names path ≡ Some id → d.files id ≡ Some file → image.files id ≡ Some after
+    → NoChanceInFile F q.last q.header q.stale file after.content
 
 -- What is read of the last file, whatever a stop left of it, if no checksum is met by chance: its durable
 -- records and the first pending ones, and nothing else.
@@ -127,10 +146,15 @@ KeepsQueue {R} F q d = (image : Disk) → IsImage d image → NoChanceInLast F q
     → (found : List (Found R)) → ReadsFrom F image s found → (count : ℕ) × (count ≤ length q.pending)
     × (found ≡ found_from s q count)
 
+-- And the queue ends in one place, from whatever number on it is read: with the same first pending records.
+abbrev pub EndsInOnePlace : {R : Type 0} → Format R → LogFiles R → Disk → Type 0
+EndsInOnePlace {R} F q d = (image : Disk) → IsImage d image → NoChanceInLast F q d image
+    → (count : ℕ) × (count ≤ length q.pending)
+    × ((s : ℕ) → s ≤ q.last → (found : List (Found R)) → ReadsFrom F image s found → found ≡ found_from s q count)
+
 -- from a number on no file is missing below one that is there
 abbrev pub HasNoGap : {R : Type 0} → Format R → Disk → ℕ → Type 0
-HasNoGap F d s = (n m : ℕ) → s ≤ n → n ≤ m → m < F.limit → (d.names (F.path m) ≡ None → ⊥)
-    → d.names (F.path n) ≡ None → ⊥
+HasNoGap F d s = (n m : ℕ) → s ≤ n → n ≤ m → m < F.limit → IsThere F m d → IsThere F n d
 
 -- and where none is missing there is such a reading
 abbrev pub IsReadable : {R : Type 0} → Format R → LogFiles R → Disk → Type 0
@@ -145,6 +169,9 @@ pub record QueueIsKept {R : Type 0} (F : Format R) : Type 0 where
   pub kept : (q : LogFiles R) (d : Disk) → HasLogFiles F q (HoldsLast F q) d → F.IsHeader q.header
       → KeepsQueue F q d
   pub restarted : (q : LogFiles R) (d : Disk) → HasLogFiles F q (IsLeftover F q) d → KeepsQueue F q d
+  pub ends : CanTellFormat F → (q : LogFiles R) (d : Disk) → IsSound d
+      → HasLogFiles F q (HoldsLast F q) d ⊎ HasLogFiles F q (IsLeftover F q) d → F.IsHeader q.header
+      → EndsInOnePlace F q d
 
 -- nothing is known of a file
 abbrev pub Anything : File → Type 0

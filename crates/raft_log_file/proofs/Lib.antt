@@ -1,0 +1,5 @@
+pub mod ReaderLaws
+pub mod Fronts
+pub mod WriterLaws
+pub mod OpeningLaws
+pub mod BuildingLaws

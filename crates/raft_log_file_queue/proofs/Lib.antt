@@ -1,0 +1,4 @@
+pub mod FileSteps
+pub mod Standing
+pub mod Keeping
+pub mod Bridging

@@ -1,0 +1,68 @@
+//! Rotations: the last file of a queue is finished, and the queue goes on in the next one. Earlier files go.
+
+ghost use Rattle.std.specs.Prelude.{OnOk, OnErr};
+ghost use Rattle.std.specs.String.{string_bytes};
+ghost use Rattle.raft_log_disk.specs.Causes.{IsLater};
+ghost use Rattle.raft_log_files.specs.Rotation.{Drops, FailsToDrop, FailsToRotateOver, FailsToRotateToNew, RotatesOver, RotatesToNew};
+
+use super::format::PipeFormat;
+use super::last_file::{begin_file, finish_file};
+use log::Log;
+use raft_log_disk::{FileSystem, Handle};
+use raft_log_file::LogFileWriter;
+use std::io::ErrorKind;
+
+/// Goes on in a file that is made for the next number.
+pub fn rotate_to_new<G: PipeFormat, F: FileSystem, L: Log>(
+    rt: &L,
+    file_system: &mut F,
+    writer: &mut LogFileWriter,
+    path: &str,
+    header: &[u8],
+) -> Result<(), ErrorKind>
+    ensures ok { OnOk result (RotatesToNew G.format G.own header.now path.now writer.old writer.new
+        (F.disk file_system.old) (F.disk file_system.new)) }
+    ensures err { OnErr result (FailsToRotateToNew G.format G.own header.now path.now writer.old
+        (F.disk file_system.old) (F.disk file_system.new)) }
+    ensures later { IsLater (F.disk file_system.old) (F.disk file_system.new) }
+{
+    finish_file::<G, F>(file_system, writer)?;
+    let handle = file_system.create(path)?;
+    *writer = begin_file::<G, F, L>(rt, file_system, handle, header)?;
+    Ok(())
+}
+
+/// Goes on in a file that was kept for use, under the next number. The handle is the file's, opened to write
+/// before the call: nothing that may want memory comes between the calls that change something.
+pub fn rotate_over<G: PipeFormat, F: FileSystem, L: Log>(
+    rt: &L,
+    file_system: &mut F,
+    writer: &mut LogFileWriter,
+    handle: Handle,
+    from: &str,
+    to: &str,
+    header: &[u8],
+) -> Result<(), ErrorKind>
+    ensures ok { OnOk result (RotatesOver G.format G.own header.now handle from.now to.now writer.old writer.new
+        (F.disk file_system.old) (F.disk file_system.new)) }
+    ensures err { OnErr result (FailsToRotateOver G.format G.own header.now handle from.now to.now writer.old
+        (F.disk file_system.old) (F.disk file_system.new)) }
+    ensures later { IsLater (F.disk file_system.old) (F.disk file_system.new) }
+{
+    finish_file::<G, F>(file_system, writer)?;
+    file_system.reuse(from, to)?;
+    *writer = begin_file::<G, F, L>(rt, file_system, handle, header)?;
+    Ok(())
+}
+
+/// Drops a file that the queue doesn't need any more: an earlier one, or one that was kept for use.
+pub fn drop_file<G: PipeFormat, F: FileSystem>(
+    file_system: &mut F,
+    path: &str,
+) -> Result<(), ErrorKind>
+    ensures ok { OnOk result (Drops G.format G.own path.now (F.disk file_system.old) (F.disk file_system.new)) }
+    ensures err { OnErr result (FailsToDrop G.format G.own path.now (F.disk file_system.old) (F.disk file_system.new)) }
+    ensures later { IsLater (F.disk file_system.old) (F.disk file_system.new) }
+{
+    file_system.delete(path)
+}

@@ -3,3 +3,4 @@ pub mod Fronts
 pub mod WriterLaws
 pub mod OpeningLaws
 pub mod BuildingLaws
+pub mod ChainLaws

@@ -2,6 +2,7 @@
 //! allocation.
 #![tactic(auto)]
 
+pub mod caller;
 #[cfg(test)]
 mod files;
 #[cfg(test)]

@@ -1,6 +1,6 @@
 //! Laws of a file that is written.
 
-ghost use Rattle.raft_log_file.specs.Chains.{DurableIsLeft, WriterKeepsChain};
+ghost use Rattle.raft_log_file.specs.Chains.{DurableIsLeft, WriterBeginsChain, WriterKeepsChain};
 
 use raft_log_disk::chains::Framing;
 
@@ -13,4 +13,9 @@ pub fn durable_bytes_are_left()
 /// begins another.
 pub fn writer_keeps_a_chain<G: Framing>()
     ensures { WriterKeepsChain G.is_frame }
+{}
+
+/// A file that gets a header is ready for its first record, whatever it held.
+pub fn writer_begins_a_chain<G: Framing>()
+    ensures { WriterBeginsChain G.is_frame }
 {}

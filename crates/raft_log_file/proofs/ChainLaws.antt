@@ -1,10 +1,10 @@
 -- A chain of records through the calls of the writer of its file.
-use Rattle.std.specs.Prelude.{◌≡◌, ℕ, ◌+◌, ◌-◌, ◌≤◌, Bool, true, false, Some, List, [], ◌∷◌, ◌++◌, length, take, drop, Ok, Err}
+use Rattle.std.specs.Prelude.{◌≡◌, ℕ, ◌+◌, ◌≤◌, Bool, true, false, Some, List, [], ◌∷◌, ◌++◌, length, take, drop, Ok, Err}
 use Rattle.std.specs.declared.io.ErrorKind.{ErrorKind}
 use Rattle.std.proofs.Common.{refl, sym, ◌∙◌, ap, subst, arith, length-append, length-drop}
 use Rattle.std.proofs.lemmas.List.{append-nil, append_assoc, drop-append-le, drop_all, take_all, take_at, length-take}
 use Rattle.std.proofs.lemmas.Bool.{false≢true}
-use Rattle.raft_log_disk.specs.Disk.{Wrote, ShortenedTo, GrewTo, File, Disk, at_rest, zeros, overwritten}
+use Rattle.raft_log_disk.specs.Disk.{Wrote, ShortenedTo, File, Disk, at_rest, zeros, overwritten}
 use Rattle.raft_log_disk.specs.Calls.{with_change, after_change, flushed}
 use Rattle.raft_log_disk.specs.Arguments.{WrongWriter, WrongHandle}
 use Rattle.raft_log_disk.specs.Exits.{Syncs, FailsToSync}
@@ -19,11 +19,11 @@ use Rattle.raft_log_disk.proofs.KeepsSyncedLaws.{left_keeps_part, holds_grown, h
 use Rattle.raft_log_disk.proofs.ShorteningLaws.{reads_whole, can_shorten_kept, kept_shortened, is_shortened, shortened_kept, shortened_synced}
 use Rattle.raft_log_disk.proofs.TouchingLaws.{same_file, has_done, has_changed, has_synced}
 use Rattle.raft_log_file.specs.declared.writer.LogFileWriter.{LogFileWriter}
-use Rattle.raft_log_file.specs.Writer.{IsWritten, MakesRoom, reach, WritesAt, FailsToWriteAt, WritesNext, FailsToWriteNext, CutsBehind, ends_there, is_cut, Closes, FailsToClose, not_cut, not_synced, needs_header, TakesUp, goes_on, begins, FailsToTakeUp, not_measured, not_begun}
-use Rattle.raft_log_file.specs.Chains.{DurableIsLeft, IsAtEnd, IsReady, HasStaleFrom, ChainIsWritten, WriterKeepsChain, ChainBegins, WriterBeginsChain}
+use Rattle.raft_log_file.specs.Writer.{MakesRoom, reach, FailsToWriteAt, WritesNext, FailsToWriteNext, CutsBehind, ends_there, is_cut, Closes, FailsToClose, not_cut, not_synced, needs_header, TakesUp, goes_on, begins, FailsToTakeUp, not_measured, not_begun}
+use Rattle.raft_log_file.specs.Chains.{DurableIsLeft, IsAtEnd, IsReady, HasStaleFrom, WriterKeepsChain, WriterBeginsChain}
 use Rattle.raft_log_file.proofs.Fronts.{IsFront}
 use Rattle.raft_log_file.proofs.StaleLaws.{ready_room, stale_wrote}
-use Rattle.raft_log_file.proofs.WriterLaws.{room_keeps, front_next, front_at, sync_written, next_written, refused_kept, cut_handle, cut_written, close_written, written_front}
+use Rattle.raft_log_file.proofs.WriterLaws.{room_keeps, front_next, front_at, sync_written, next_written, refused_kept, cut_handle, close_written}
 
 pub durable_is_left : DurableIsLeft
 durable_is_left bytes left file is stays =
@@ -92,7 +92,7 @@ module _ {R : Type 0} (IsFrame : List ℕ → R → Type 0) (start : ℕ) (stale
         let has = has_done before.handle.file (λ file. HoldsChain IsFrame start later durable pending file × HasStaleFrom at later file) Q (after_change (Wrote at w.bytes)) calls.between new roomy.1 calls.writes
         (λ file both. (
           subst (λ (n : ℕ). HoldsChain IsFrame start later durable (pending ++ w ∷ []) (with_change (Wrote n w.bytes) (overwritten at w.bytes file.content) file)) (sym end)
-          (holds_written IsFrame start later durable pending w (overwritten at w.bytes file.content) file framed both.0),
+              (holds_written IsFrame start later durable pending w (overwritten at w.bytes file.content) file framed both.0),
           stale_wrote at at w.bytes later file (omega arith) both.1,
         )) in
         let here = subst (λ (h : Handle). HasFile h.file Q new) (sym next.moved.handle_is) has in (
@@ -131,8 +131,7 @@ module _ {R : Type 0} (IsFrame : List ℕ → R → Type 0) (start : ℕ) (stale
         let same = cut_handle before after old closes.between closes.cuts in
         let syncs = subst (λ (h : Handle). Syncs h closes.between new) (sym same) closes.syncs in
         let closed = close_written before after old closes.between new closes.cuts {T = Unit {0}} (Ok tt) syncs is.bytes is.written in
-        let frames = frames_front IsFrame all more (subst (AreFrames IsFrame) (sym (append_assoc durable pending more)) is.holds.has.frames) in
-        (
+        let frames = frames_front IsFrame all more (subst (AreFrames IsFrame) (sym (append_assoc durable pending more)) is.holds.has.frames) in (
           record {
             bytes = is.bytes;
             written = closed.0;

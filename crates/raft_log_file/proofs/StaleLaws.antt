@@ -1,12 +1,12 @@
 -- Stale bytes behind a chain, through the calls of the writer of their file.
-use Rattle.std.specs.Prelude.{◌≡◌, ℕ, ◌+◌, ◌-◌, ◌<◌, ◌≤◌, List, [], ◌∷◌, ◌++◌, length, take, drop, slice_index, Ok, Err}
-use Rattle.std.proofs.Common.{refl, sym, ◌∙◌, ap, subst, arith, inl, inr, get_or, length-append, length-drop}
+use Rattle.std.specs.Prelude.{◌≡◌, ℕ, ◌+◌, ◌-◌, ◌<◌, ◌≤◌, List, [], ◌++◌, length, take, drop, slice_index}
+use Rattle.std.proofs.Common.{refl, sym, ◌∙◌, ap, subst, arith, inl, inr, length-append, length-drop}
 use Rattle.std.proofs.lemmas.Bool.{cases_lt}
-use Rattle.std.proofs.lemmas.List.{append-nil, drop_all, drop-append-le, take-append-le, length-take, length-replicate, get_or-replicate, get_or_append_left, get_or-append_right, get_or_past, nil_from_length}
-use Rattle.raft_log_disk.specs.Disk.{Wrote, GrewTo, File, Disk, zeros, overwritten}
+use Rattle.std.proofs.lemmas.List.{append-nil, drop-append-le, take-append-le, length-take, length-replicate, get_or-replicate, get_or_append_left, get_or-append_right, get_or_past, nil_from_length}
+use Rattle.raft_log_disk.specs.Disk.{Wrote, GrewTo, File, Disk, zeros}
 use Rattle.raft_log_disk.specs.Calls.{with_change, after_change, InPart}
 use Rattle.raft_log_disk.specs.Chains.{Written}
-use Rattle.raft_log_disk.specs.KeepsSynced.{HoldsChain, IsStale, StandsBehind}
+use Rattle.raft_log_disk.specs.KeepsSynced.{HoldsChain, IsStale}
 use Rattle.raft_log_disk.specs.Touching.{HasFile}
 use Rattle.raft_log_disk.specs.declared.handle.Handle.{Handle}
 use Rattle.raft_log_disk.proofs.ChangeLaws.{overwritten_torn}

@@ -39,11 +39,11 @@ abbrev pub IsReady : {R : Type 0} → (List ℕ → R → Type 0) → ℕ → Li
 IsReady IsFrame start stale durable pending writer d = IsAtEnd IsFrame start stale durable pending [] writer d
     × HasFile writer.handle.file (HasStaleFrom writer.written stale) d
 
--- What the calls of a writer make of a chain. A record that is written is the last pending one; the zeros that
--- were allocated count as stale. A sync makes all durable; where it is refused, the durable ones are so still.
--- A record that is refused counts as the last pending one, and the writer stands where it stood; once the file
--- is closed, it has the others alone, all durable. Where that is refused, the durable ones are so still, and the
--- refused one counts.
+-- What the calls of a writer make of a chain. A record that is written is the last pending one; the zeros
+-- that were allocated count as stale. A sync makes all durable; where it is refused, the durable ones are so
+-- still. A record that is refused counts as the last pending one, and the writer stands where it stood; once
+-- the file is closed, it has the others alone, all durable. Where that is refused, the durable ones are so
+-- still, and the refused one counts.
 pub record ChainIsWritten {R : Type 0} (IsFrame : List ℕ → R → Type 0) (start : ℕ) (stale : List ℕ)
     (durable pending : List (Written R))
     (before after : LogFileWriter) (old new : Disk) : Type 0 where
@@ -75,10 +75,10 @@ WriterKeepsChain {R} IsFrame = IsSelfDelimiting IsFrame
     (before after : LogFileWriter) (old new : Disk)
     → ChainIsWritten IsFrame start stale durable pending before after old new
 
--- How a chain begins: a file at rest that gets a header, new or used again, is ready for its first record, and
--- what it held is stale. Where the header is refused, the file has no record.
-pub record ChainBegins {R : Type 0} (IsFrame : List ℕ → R → Type 0) (handle : Handle) (header content : List ℕ)
-    (reset : Bool) (old new : Disk) : Type 0 where
+-- How a chain begins: a file at rest that gets a header, new or used again, is ready for its first record,
+-- and what it held is stale. Where the header is refused, the file has no record.
+pub record ChainBegins {R : Type 0} (IsFrame : List ℕ → R → Type 0) (handle : Handle)
+    (header content : List ℕ) (reset : Bool) (old new : Disk) : Type 0 where
   pub begun : (writer : LogFileWriter) → handle.permission ≡ ReadWrite
       → TakesUp handle header reset writer old new
       → (count : ℕ) × IsReady IsFrame (length header) (content ++ zeros count) [] [] writer new

@@ -83,8 +83,8 @@ impl LogFileWriter {
     ) -> Result<(), ErrorKind>
         ensures ok { OnOk result (WritesNext self.old self.new bytes.now target_size_hint
             (F.disk file_system.old) (F.disk file_system.new)) }
-        ensures err { IfErr result (λ error. FailsToWriteNext self.old self.new bytes.now target_size_hint error
-            (F.disk file_system.old) (F.disk file_system.new)) }
+        ensures err { IfErr result (λ error. FailsToWriteNext self.old self.new bytes.now target_size_hint
+            error (F.disk file_system.old) (F.disk file_system.new)) }
 
         // What stands in the file, and what a stop leaves of it.
         ensures written { OnOk result ((front : List ℕ) → IsWritten self.old front (F.disk file_system.old)

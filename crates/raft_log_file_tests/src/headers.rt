@@ -8,8 +8,8 @@ use raft_log_memory_files::MemoryFileSystem;
 use std::io::ErrorKind;
 use std::test::Fail;
 
-// What is read of a file that was made with one format, and may have lost its last byte, once it was opened for
-// another format.
+// What is read of a file that was made with one format, and may have lost its last byte, once it was opened
+// for another format.
 fn reopened(
     rt: &HostRuntime,
     from: LogFileFormat,

@@ -1,5 +1,5 @@
-//! Tests of one log file over a file system in memory: each call once, each file call refused in turn, and each
-//! allocation.
+//! Tests of one log file over a file system in memory: each call once, each file call refused in turn, and
+//! each allocation.
 #![tactic(auto)]
 
 pub mod caller;

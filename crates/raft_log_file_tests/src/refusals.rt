@@ -26,8 +26,8 @@ fn size(system: &MemoryFileSystem) -> Result<usize, Fail> {
     }
 }
 
-// The call that is refused, of: a creation, an allocation and a write for the header, an allocation and a write
-// for the record, a cut and a sync. Past them nothing is.
+// The call that is refused, of: a creation, an allocation and a write for the header, an allocation and a
+// write for the record, a cut and a sync. Past them nothing is.
 const ROWS: [(u64, bool, bool, bool, usize); 8] = [
     (1, false, false, false, 0),
     (2, true, true, true, 134),

@@ -1,5 +1,4 @@
 use Rattle.std.proofs.Common.{◌≡◌, ◌∙◌, ap, ◌-◌, ℕ, max, min, arith}
-use Rattle.raft_log_file.specs.Writer.{allocated}
 use Rattle.raft_log_file.proofs.WriterLaws.{room_made}
 use Rattle.raft_log_file.proofs.writer.LogFileWriter.make_room.Goals as goal
 

@@ -1,5 +1,5 @@
 -- A chain of records through the calls of the writer of its file.
-use Rattle.std.specs.Prelude.{◌≡◌, ℕ, ◌+◌, ◌≤◌, Bool, true, false, Some, List, [], ◌∷◌, ◌++◌, length, take, drop, Ok, Err}
+use Rattle.std.specs.Prelude.{◌≡◌, ℕ, ◌+◌, ◌≤◌, Bool, List, [], ◌∷◌, ◌++◌, length, take, drop, Ok, Err}
 use Rattle.std.specs.declared.io.ErrorKind.{ErrorKind}
 use Rattle.std.proofs.Common.{refl, sym, ◌∙◌, ap, subst, arith, length-append, length-drop}
 use Rattle.std.proofs.lemmas.List.{append-nil, append_assoc, drop-append-le, drop_all, take_all, take_at, length-take}
@@ -19,8 +19,8 @@ use Rattle.raft_log_disk.proofs.KeepsSyncedLaws.{left_keeps_part, holds_grown, h
 use Rattle.raft_log_disk.proofs.ShorteningLaws.{reads_whole, can_shorten_kept, kept_shortened, is_shortened, shortened_kept, shortened_synced}
 use Rattle.raft_log_disk.proofs.TouchingLaws.{same_file, has_done, has_changed, has_synced}
 use Rattle.raft_log_file.specs.declared.writer.LogFileWriter.{LogFileWriter}
-use Rattle.raft_log_file.specs.Writer.{MakesRoom, reach, FailsToWriteAt, WritesNext, FailsToWriteNext, CutsBehind, ends_there, is_cut, Closes, FailsToClose, not_cut, not_synced, needs_header, TakesUp, goes_on, begins, FailsToTakeUp, not_measured, not_begun}
-use Rattle.raft_log_file.specs.Chains.{DurableIsLeft, IsAtEnd, IsReady, HasStaleFrom, WriterKeepsChain, WriterBeginsChain}
+use Rattle.raft_log_file.specs.Writer.{MakesRoom, reach, FailsToWriteAt, WritesNext, FailsToWriteNext, CutsBehind, ends_there, is_cut, Closes, FailsToClose, not_cut, not_synced, TakesUp, goes_on, begins, FailsToTakeUp, not_measured, not_begun}
+use Rattle.raft_log_file.specs.Chains.{DurableIsLeft, HasStaleFrom, IsAtEnd, IsReady, WriterKeepsChain, HoldsNothing, RestHoldsNothing, GetsHeader, WriterBeginsChain}
 use Rattle.raft_log_file.proofs.Fronts.{IsFront}
 use Rattle.raft_log_file.proofs.StaleLaws.{ready_room, stale_wrote}
 use Rattle.raft_log_file.proofs.WriterLaws.{room_keeps, front_next, front_at, sync_written, next_written, refused_kept, cut_handle, close_written}
@@ -250,33 +250,23 @@ writer_keeps_chain IsFrame free start stale durable pending before after old new
   not_closed = λ more error is fails. file_not_closed IsFrame start stale durable pending before after old new free more error is fails;
 }
 
--- A file at rest that gets a header.
-module _ {R : Type 0} (IsFrame : List ℕ → R → Type 0) (handle : Handle) (header content : List ℕ) (reset : Bool) (old new : Disk) (is : old.files handle.file ≡ Some (at_rest content)) (needs : needs_header header reset content ≡ true) where
-  -- it holds the empty chain, and all that it held is stale
-  used_again : HasFile handle.file (λ file. HoldsChain IsFrame (length header) content [] [] file × HasStaleFrom 0 content file) old
-  used_again = record {
-    file = at_rest content;
-    is = is;
-    has = (holds_used_again IsFrame (length header) content, record { stands = λ place behind below. (below, refl); covers = omega arith });
-  }
+-- A file without records that gets a header.
+module _ {R : Type 0} (IsFrame : List ℕ → R → Type 0) (handle : Handle) (header stale : List ℕ) (reset : Bool) (old new : Disk) (has : HasFile handle.file (HoldsNothing IsFrame (length header) stale) old)
+    (needs : GetsHeader handle header reset old) where
+  header_in_front : (later : List ℕ) (bytes : List ℕ) (file : File) → HoldsChain IsFrame (length header) later [] [] file → HoldsChain IsFrame (length header) later [] [] (with_change (Wrote 0 header) bytes file)
+  header_in_front later bytes file holds = holds_in_front IsFrame (length header) later [] [] 0 header bytes file (omega arith) holds
 
-  header_in_front : (stale : List ℕ) (bytes : List ℕ) (file : File) → HoldsChain IsFrame (length header) stale [] [] file → HoldsChain IsFrame (length header) stale [] [] (with_change (Wrote 0 header) bytes file)
-  header_in_front stale bytes file holds = holds_in_front IsFrame (length header) stale [] [] 0 header bytes file (omega arith) holds
-
-  header_begun : (writer : LogFileWriter) → handle.permission ≡ ReadWrite → TakesUp handle header reset writer old new → (count : ℕ) × IsReady IsFrame (length header) (content ++ zeros count) [] [] writer new
-  header_begun writer permitted (goes_on file there enough same at) =
-      let one = same_file old handle.file file (at_rest content) there is in
-      absurd (false≢true (sym (subst (λ (f : File). needs_header header reset f.content ≡ false) one enough) ∙ needs))
+  header_begun : (writer : LogFileWriter) → handle.permission ≡ ReadWrite → TakesUp handle header reset writer old new → (count : ℕ) × IsReady IsFrame (length header) (stale ++ zeros count) [] [] writer new
+  header_begun writer permitted (goes_on file there enough same at) = absurd (false≢true (sym enough ∙ needs file there))
   header_begun writer permitted (begins file there need calls at) =
-      let one = same_file old handle.file file (at_rest content) there is in
-      let size = ap (λ (f : File). length f.content) one in
       let n = length header in
-      let roomy = ready_room IsFrame n content [] [] 0 handle (length file.content) (0 + n) 0 old calls.between calls.room used_again in
-      let later : List ℕ = content ++ zeros roomy.0 in
+      let both : HasFile handle.file (λ f. HoldsChain IsFrame (length header) stale [] [] f × HasStaleFrom 0 stale f) old = record { file = has.file; is = has.is; has = (has.has.chain, has.has.only) } in
+      let roomy = ready_room IsFrame n stale [] [] 0 handle (length file.content) (0 + n) 0 old calls.between calls.room both in
+      let later : List ℕ = stale ++ zeros roomy.0 in
       let Q : File → Type 0 = λ f. HoldsChain IsFrame n later [] [] f × HasStaleFrom (0 + n) later f in
-      let has = has_done handle.file (λ f. HoldsChain IsFrame n later [] [] f × HasStaleFrom 0 later f) Q (after_change (Wrote 0 header)) calls.between new roomy.1 calls.writes
+      let wrote = has_done handle.file (λ f. HoldsChain IsFrame n later [] [] f × HasStaleFrom 0 later f) Q (after_change (Wrote 0 header)) calls.between new roomy.1 calls.writes
       (λ f both. (header_in_front later _ f both.0, stale_wrote 0 0 header later f (omega arith) both.1)) in
-      let here = subst (λ (h : Handle). HasFile h.file Q new) (sym at.handle_is) has in
+      let here = subst (λ (h : Handle). HasFile h.file Q new) (sym at.handle_is) wrote in
       let start : HasFile handle.file (IsFront [] (length file.content)) old = record { file = file; is = there; has = record { behind = file.content; content = refl; ends = omega arith } } in
       let front = front_next handle 0 (length file.content) header 0 old new [] refl calls start in
       let whole : 0 + n ≡ n = omega arith in
@@ -294,16 +284,24 @@ module _ {R : Type 0} (IsFrame : List ℕ → R → Type 0) (handle : Handle) (h
         ),
       )
 
-  header_refused : (error : ErrorKind) → FailsToTakeUp handle header reset error old new → HasFile handle.file (HoldsChain IsFrame (length header) content [] []) new
-  header_refused error (not_measured why same) =
-      subst (HasFile handle.file (HoldsChain IsFrame (length header) content [] [])) (sym same) (record { file = at_rest content; is = is; has = holds_used_again IsFrame (length header) content })
+  no_records : HasFile handle.file (HoldsChain IsFrame (length header) stale [] []) old
+  no_records = record { file = has.file; is = has.is; has = has.has.chain }
+
+  header_refused : (error : ErrorKind) → FailsToTakeUp handle header reset error old new → HasFile handle.file (HoldsChain IsFrame (length header) stale [] []) new
+  header_refused error (not_measured why same) = subst (HasFile handle.file (HoldsChain IsFrame (length header) stale [] [])) (sym same) no_records
   header_refused error (not_begun file there need calls) =
-      let P = HoldsChain IsFrame (length header) content [] [] in
-      let roomy = chain_room IsFrame (length header) content [] [] handle (length file.content) (0 + length header) 0 old calls.between calls.room (record { file = at_rest content; is = is; has = holds_used_again IsFrame (length header) content }) in
-      has_changed {T = Unit {0}} P P (WrongWriter handle calls.between) (Err error) handle.file (Wrote 0 header) roomy (λ f holds. holds) (λ f bytes holds part. header_in_front content bytes f holds) tt calls.fails
+      let P = HoldsChain IsFrame (length header) stale [] [] in
+      let roomy = chain_room IsFrame (length header) stale [] [] handle (length file.content) (0 + length header) 0 old calls.between calls.room no_records in
+      has_changed {T = Unit {0}} P P (WrongWriter handle calls.between) (Err error) handle.file (Wrote 0 header) roomy (λ f holds. holds) (λ f bytes holds part. header_in_front stale bytes f holds) tt calls.fails
 
 pub writer_begins_chain : {R : Type 0} (IsFrame : List ℕ → R → Type 0) → WriterBeginsChain IsFrame
-writer_begins_chain IsFrame handle header content reset old new is needs = record {
-  begun = λ writer permitted takes. header_begun IsFrame handle header content reset old new is needs writer permitted takes;
-  refused = λ error fails. header_refused IsFrame handle header content reset old new is needs error fails;
+writer_begins_chain IsFrame handle header stale reset old new has needs = record {
+  begun = λ writer permitted takes. header_begun IsFrame handle header stale reset old new has needs writer permitted takes;
+  refused = λ error fails. header_refused IsFrame handle header stale reset old new has needs error fails;
+}
+
+pub rest_holds_nothing : {R : Type 0} (IsFrame : List ℕ → R → Type 0) → RestHoldsNothing IsFrame
+rest_holds_nothing IsFrame start content = record {
+  chain = holds_used_again IsFrame start content;
+  only = record { stands = λ place behind below. (below, refl); covers = omega arith };
 }

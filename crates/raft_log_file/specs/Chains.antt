@@ -75,18 +75,34 @@ WriterKeepsChain {R} IsFrame = IsSelfDelimiting IsFrame
     (before after : LogFileWriter) (old new : Disk)
     → ChainIsWritten IsFrame start stale durable pending before after old new
 
--- How a chain begins: a file at rest that gets a header, new or used again, is ready for its first record,
--- and what it held is stale. Where the header is refused, the file has no record.
+-- a file without records: it holds the empty chain, and all its bytes are stale
+pub record HoldsNothing {R : Type 0} (IsFrame : List ℕ → R → Type 0) (start : ℕ) (stale : List ℕ) (file : File)
+    : Type 0 where
+  pub chain : HoldsChain IsFrame start stale [] [] file
+  pub only : HasStaleFrom 0 stale file
+
+-- so it is with each file at rest, new or used before
+abbrev pub RestHoldsNothing : {R : Type 0} → (List ℕ → R → Type 0) → Type 0
+RestHoldsNothing IsFrame = (start : ℕ) (content : List ℕ)
+    → HoldsNothing IsFrame start content (at_rest content)
+
+-- How a chain begins: a file without records that gets a header is ready for its first record. Where the
+-- header is refused, it is without records still.
 pub record ChainBegins {R : Type 0} (IsFrame : List ℕ → R → Type 0) (handle : Handle)
-    (header content : List ℕ) (reset : Bool) (old new : Disk) : Type 0 where
+    (header stale : List ℕ) (reset : Bool) (old new : Disk) : Type 0 where
   pub begun : (writer : LogFileWriter) → handle.permission ≡ ReadWrite
       → TakesUp handle header reset writer old new
-      → (count : ℕ) × IsReady IsFrame (length header) (content ++ zeros count) [] [] writer new
+      → (count : ℕ) × IsReady IsFrame (length header) (stale ++ zeros count) [] [] writer new
   pub refused : (error : ErrorKind) → FailsToTakeUp handle header reset error old new
-      → HasFile handle.file (HoldsChain IsFrame (length header) content [] []) new
+      → HasFile handle.file (HoldsChain IsFrame (length header) stale [] []) new
+
+-- the handle's file gets a header
+abbrev pub GetsHeader : Handle → List ℕ → Bool → Disk → Type 0
+GetsHeader handle header reset d = (file : File) → d.files handle.file ≡ Some file
+    → needs_header header reset file.content ≡ true
 
 -- so it is with each such file
 abbrev pub WriterBeginsChain : {R : Type 0} → (List ℕ → R → Type 0) → Type 0
-WriterBeginsChain {R} IsFrame = (handle : Handle) (header content : List ℕ) (reset : Bool) (old new : Disk)
-    → old.files handle.file ≡ Some (at_rest content) → needs_header header reset content ≡ true
-    → ChainBegins IsFrame handle header content reset old new
+WriterBeginsChain {R} IsFrame = (handle : Handle) (header stale : List ℕ) (reset : Bool) (old new : Disk)
+    → HasFile handle.file (HoldsNothing IsFrame (length header) stale) old → GetsHeader handle header reset old
+    → ChainBegins IsFrame handle header stale reset old new

@@ -1,6 +1,6 @@
 //! Laws of a file that is written.
 
-ghost use Rattle.raft_log_file.specs.Chains.{DurableIsLeft, WriterBeginsChain, WriterKeepsChain};
+ghost use Rattle.raft_log_file.specs.Chains.{DurableIsLeft, RestHoldsNothing, WriterBeginsChain, WriterKeepsChain};
 
 use raft_log_disk::chains::Framing;
 
@@ -15,7 +15,9 @@ pub fn writer_keeps_a_chain<G: Framing>()
     ensures { WriterKeepsChain G.is_frame }
 {}
 
-/// A file that gets a header is ready for its first record, whatever it held.
+/// A file without records that gets a header is ready for its first record, whatever it held; so is each file
+/// at rest.
 pub fn writer_begins_a_chain<G: Framing>()
-    ensures { WriterBeginsChain G.is_frame }
+    ensures begins { WriterBeginsChain G.is_frame }
+    ensures rest { RestHoldsNothing G.is_frame }
 {}

@@ -1,13 +1,12 @@
 -- What stands at the front of a file, and what is durable of it, through each change of it.
-use Rattle.std.specs.Prelude.{◌≡◌, ℕ, ◌+◌, ◌-◌, ◌<◌, ◌≤◌, List, [], ◌∷◌, ◌++◌, length, slice_index}
-use Rattle.std.specs.List.{All}
-use Rattle.std.proofs.Common.{refl, sym, ◌∙◌, ap, subst, arith, inl, inr, get_or, take, drop, length-append}
+use Rattle.std.specs.Prelude.{◌≡◌, ℕ, ◌+◌, ◌-◌, ◌<◌, ◌≤◌, List, [], ◌∷◌, ◌++◌, length}
+use Rattle.std.proofs.Common.{refl, sym, ◌∙◌, ap, arith, inl, inr, take, drop, length-append}
 use Rattle.std.proofs.lemmas.List.{append-nil, append_assoc, take_at, take-append-drop, take-append-le, length-take, length-take-le, get_or-take, ext_get_or}
 use Rattle.std.proofs.lemmas.List.Elements.{All-push}
-use Rattle.raft_log_disk.specs.Disk.{Change, Wrote, ShortenedTo, GrewTo, File, zeros, grown, overwritten}
+use Rattle.raft_log_disk.specs.Disk.{Change, Wrote, ShortenedTo, GrewTo, File, zeros, grown}
 use Rattle.raft_log_disk.specs.Image.{IsSoundFile, Spares}
 use Rattle.raft_log_disk.specs.Calls.{with_change, after_change, flushed, IsTorn, InPart}
-use Rattle.raft_log_disk.proofs.ChangeLaws.{part_may, overwritten_torn, changed_in_part}
+use Rattle.raft_log_disk.proofs.ChangeLaws.{part_may, overwritten_torn}
 use Rattle.raft_log_disk.proofs.KeepsSyncedLaws.{left_keeps_part}
 use Rattle.raft_log_file.specs.Writer.{IsDurable}
 

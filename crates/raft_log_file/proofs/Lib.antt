@@ -3,3 +3,5 @@ pub mod Fronts
 pub mod WriterLaws
 pub mod OpeningLaws
 pub mod BuildingLaws
+pub mod StaleLaws
+pub mod ChainLaws

@@ -1,18 +1,18 @@
 -- What it leaves to take a file up, and to build a writer.
-use Rattle.std.specs.Prelude.{◌≡◌, ℕ, ◌+◌, ◌-◌, ◌<◌, ◌≤◌, ◌^◌, ◌++◌, ◌||◌, Bool, true, false, Some, None, List, [], length, nat_lt, Result, Ok, Err}
+use Rattle.std.specs.Prelude.{◌≡◌, ℕ, ◌+◌, ◌-◌, ◌<◌, ◌≤◌, ◌^◌, ◌++◌, ◌||◌, Bool, true, false, List, [], length, nat_lt}
 use Rattle.std.specs.declared.io.ErrorKind.{ErrorKind}
-use Rattle.std.proofs.Common.{refl, sym, ◌∙◌, ap, subst, arith, cond}
+use Rattle.std.proofs.Common.{refl, sym, ◌∙◌, ap, subst, arith}
 use Rattle.std.proofs.lemmas.List.{append-nil}
 use Rattle.std.proofs.lemmas.List.Elements.{All-weaker}
 use Rattle.raft_log_disk.specs.Disk.{File, Disk, file_limit}
-use Rattle.raft_log_disk.specs.Image.{IsSound, IsSoundFile, end_of}
+use Rattle.raft_log_disk.specs.Image.{IsSound, end_of}
 use Rattle.raft_log_disk.specs.Causes.{Fails}
 use Rattle.raft_log_disk.specs.Reading.{IsSize}
 use Rattle.raft_log_disk.specs.declared.handle.Handle.{Handle}
 use Rattle.raft_log_disk.specs.declared.handle.Permission.TheVariants.{ReadWrite}
 use Rattle.raft_log_disk.proofs.TouchingLaws.{same_file}
 use Rattle.raft_log_file.specs.declared.writer.LogFileWriter.{LogFileWriter}
-use Rattle.raft_log_file.specs.Writer.{IsWritten, IsAt, reach, WritesAt, FailsToWriteAt, WritesNext, FailsToWriteNext, KeepsWritten, needs_header, taken_up, TakesUp, goes_on, begins, FailsToTakeUp, not_begun, CanBeTakenUp, IsTakenUp}
+use Rattle.raft_log_file.specs.Writer.{IsWritten, reach, WritesAt, FailsToWriteAt, WritesNext, FailsToWriteNext, KeepsWritten, needs_header, TakesUp, goes_on, begins, FailsToTakeUp, not_begun, CanBeTakenUp, IsTakenUp}
 
 -- the size of a file is below the limit
 pub size_short : (id : ℕ) (d : Disk) (size : ℕ) → IsSound d → IsSize id d size → size < 2 ^ 63

@@ -1,5 +1,5 @@
 -- What is read of a file's front, and its header.
-use Rattle.std.proofs.Common.{◌≡◌, ℕ, ◌-◌, ◌≤◌, inl, inr, List, ◌++◌, length, take, drop, min, Some, Result, Ok, Err, refl, sym, ap, subst, ◌∙◌, arith, rules}
+use Rattle.std.proofs.Common.{◌≡◌, ℕ, ◌-◌, ◌≤◌, inl, inr, List, ◌++◌, length, take, drop, min, Some, Result, Ok, Err, sym, ap, subst, ◌∙◌, arith}
 use Rattle.std.specs.Result.{IfOk, IfErr}
 use Rattle.std.proofs.lemmas.List.{append_assoc, take-append-drop, take_at, take_all, length-take-le, length-drop}
 use Rattle.std.proofs.lemmas.Bool.{cases_lt}
@@ -10,7 +10,6 @@ use Rattle.raft_log_base.specs.Fault.{Fails, DecodesOrMemory, ReadsOrMemory}
 use Rattle.raft_log_format.specs.declared.header.LogFileFormat.{LogFileFormat}
 use Rattle.raft_log_format.specs.Header.{IsHeader, header_at}
 use Rattle.raft_log_disk.specs.Disk.{File, Disk}
-use Rattle.raft_log_disk.specs.Reading.{FillsRoom}
 use Rattle.raft_log_disk.specs.Touching.{HasFile}
 use Rattle.raft_log_disk.specs.declared.handle.Handle.{Handle}
 use Rattle.raft_log_file.specs.Reader.{BeginsWithHeader, GivesFormat, IsFormatRefusal}

@@ -1,8 +1,8 @@
 -- What a writer's calls leave, from which calls were made.
-use Rattle.std.specs.Prelude.{◌≡◌, ℕ, ◌+◌, ◌-◌, ◌<◌, ◌≤◌, ◌++◌, Bool, true, false, Some, List, [], ◌∷◌, ◌^◌, length, take, nat_lt, Result, Ok, Err}
+use Rattle.std.specs.Prelude.{◌≡◌, ℕ, ◌+◌, ◌-◌, ◌<◌, ◌≤◌, ◌++◌, Some, List, [], ◌∷◌, ◌^◌, length, take, Result, Ok, Err}
 use Rattle.std.specs.Result.{OnOk, OnErr, IfErr}
 use Rattle.std.specs.declared.io.ErrorKind.{ErrorKind}
-use Rattle.std.proofs.Common.{refl, sym, ◌∙◌, ap, subst, arith, inl, inr, cond, max, min, length-append}
+use Rattle.std.proofs.Common.{refl, sym, ◌∙◌, ap, subst, arith, inl, inr, min, length-append}
 use Rattle.std.proofs.lemmas.List.{append-nil, nil_from_length, get_or_push}
 use Rattle.raft_log_disk.proofs.Updates.{file_here}
 use Rattle.std.proofs.lemmas.Bool.{lt-ltb, le-ltb}
@@ -16,10 +16,10 @@ use Rattle.raft_log_disk.specs.Exits.{Writes, FailsToWrite, FailsToSync, Syncs, 
 use Rattle.raft_log_disk.specs.Touching.{HasFile, TouchesOnly}
 use Rattle.raft_log_disk.specs.declared.handle.Handle.{Handle}
 use Rattle.raft_log_disk.specs.declared.handle.Permission.TheVariants.{ReadWrite}
-use Rattle.raft_log_disk.proofs.CauseLaws.{later_same, later_then, later_change, later_sync, fails_after, fails_still, fails_change, fails_whole}
-use Rattle.raft_log_disk.proofs.TouchingLaws.{same_file, has_done, has_changed, has_synced, has_weaker, touches_same, touches_then, touches_change, touches_sync}
+use Rattle.raft_log_disk.proofs.CauseLaws.{later_same, later_then, later_change, fails_after, fails_change, fails_whole}
+use Rattle.raft_log_disk.proofs.TouchingLaws.{has_done, has_changed, has_synced, has_weaker, touches_same, touches_then, touches_change}
 use Rattle.raft_log_file.specs.declared.writer.LogFileWriter.{LogFileWriter}
-use Rattle.raft_log_file.specs.Writer.{IsWritten, IsWhole, IsClosed, IsDurable, IsSynced, DurableStays, KeepsWritten, IsAt, allocated, reach, MakesRoom, is_there, is_allocated, is_refused, WritesAt, FailsToWriteAt, WritesNext, FailsToWriteNext, CutsBehind, ends_there, is_cut, FailsToCutBehind, Closes, FailsToClose, not_cut, not_synced}
+use Rattle.raft_log_file.specs.Writer.{IsWritten, IsWhole, IsClosed, IsDurable, IsSynced, DurableStays, KeepsWritten, IsAt, allocated, reach, MakesRoom, is_there, is_allocated, is_refused, WritesAt, FailsToWriteAt, WritesNext, FailsToWriteNext, CutsBehind, ends_there, is_cut, FailsToCutBehind, Closes, FailsToClose, not_synced}
 use Rattle.raft_log_file.proofs.Fronts.{IsFront, front_later, front_grown, front_torn, front_written, cut_whole, front_whole, front_cut, durable_grown, durable_behind, durable_cut, durable_all, durable_flushed}
 
 -- Where the file ends at the latest.

@@ -19,7 +19,8 @@ use Rattle.raft_log_file.specs.declared.writer.LogFileWriter.{LogFileWriter}
 pub data Finds (path : List ℕ) (create : Bool) (handle : Handle) (old new : Disk) : Type 0 where
   is_made : create ≡ true → handle.permission ≡ ReadWrite → Creates path handle.file old new
       → Finds path create handle old new
-  was_there : create ≡ false → IsOpened path ReadWrite handle old → new ≡ old → Finds path create handle old new
+  was_there : create ≡ false → IsOpened path ReadWrite handle old → new ≡ old
+      → Finds path create handle old new
 
 -- why it wasn't made, or opened
 abbrev pub FailsToFind : List ℕ → Bool → Error → Disk → Disk → Type 0
@@ -28,15 +29,16 @@ FailsToFind path true _ old new = ⊥
 FailsToFind path false error old new = IsOpenRefusal path old error × (new ≡ old)
 
 -- the file of a path was found and taken up
-pub record Builds (path header : List ℕ) (create : Bool) (writer : LogFileWriter) (old new : Disk) : Type 0 where
+pub record Builds (path header : List ℕ) (create : Bool) (writer : LogFileWriter) (old new : Disk)
+    : Type 0 where
   pub between : Disk
   pub finds : Finds path create writer.handle old between
   pub takes : TakesUp writer.handle header create writer between new
 
 -- Why no writer was built: the format has no header, or memory was short for it, and nothing was called; the
 -- file wasn't found; or it was, and not taken up.
-pub data FailsToBuild (path : List ℕ) (format : LogFileFormat) (create : Bool) (error : Error) (old new : Disk)
-    : Type 0 where
+pub data FailsToBuild (path : List ℕ) (format : LogFileFormat) (create : Bool) (error : Error)
+    (old new : Disk) : Type 0 where
   has_no_header : IsHeaderRefusal format error → new ≡ old → FailsToBuild path format create error old new
   not_found : FailsToFind path create error old new → FailsToBuild path format create error old new
   not_taken_up : (kind : ErrorKind) → error ≡ errors.Io kind → (handle : Handle) (between : Disk)

@@ -51,7 +51,8 @@ pub record BeginsWithHeader (format : LogFileFormat) (file : File) : Type 0 wher
 abbrev pub GivesFormat : LogFileFormat → File → Type 0
 GivesFormat format file = (rest : List ℕ) × (header_of file ≡ Ok (format, rest))
 
--- why no format was read: the file system refused; or memory ran out; or the header has this fault, the first one
+-- why no format was read: the file system refused; or memory ran out; or this is the first fault of the
+-- header
 abbrev pub IsFormatRefusal : Handle → Disk → Error → Type 0
 IsFormatRefusal handle d errors.Memory = Unit {0}
 IsFormatRefusal handle d (errors.Io kind) = IsUnread handle 0 69 d kind

@@ -27,14 +27,15 @@ pub record IsWritten (writer : LogFileWriter) (bytes : List ℕ) (d : Disk) : Ty
 
 -- these are all its bytes
 abbrev pub IsWhole : LogFileWriter → List ℕ → Disk → Type 0
-IsWhole writer bytes d = IsWritten writer bytes d × HasFile writer.handle.file (λ file. file.content ≡ bytes) d
+IsWhole writer bytes d = IsWritten writer bytes d
+    × HasFile writer.handle.file (λ file. file.content ≡ bytes) d
 
 -- and they are synced
 abbrev pub IsClosed : LogFileWriter → List ℕ → Disk → Type 0
 IsClosed writer bytes d = IsWritten writer bytes d × (d.files writer.handle.file ≡ Some (at_rest bytes))
 
--- Whatever a stop leaves, the file begins with these bytes: they are synced, and no change since touches one of
--- them.
+-- Whatever a stop leaves, the file begins with these bytes: they are synced, and no change since touches one
+-- of them.
 abbrev pub IsDurable : List ℕ → File → Type 0
 IsDurable bytes file = HeaderStands bytes file
 
@@ -52,7 +53,8 @@ abbrev pub KeepsWritten : LogFileWriter → LogFileWriter → Disk → Disk → 
 KeepsWritten before after old new =
     (bytes : List ℕ) → IsWritten before bytes old → IsWritten after bytes new × Fails old new
 
--- a writer of this file that counts on these numbers: so much is written, and there the file ends at the latest
+-- a writer of this file that counts on these numbers: so much is written, and there the file ends at the
+-- latest
 pub record IsAt (writer : LogFileWriter) (handle : Handle) (written capacity : ℕ) : Type 0 where
   pub handle_is : writer.handle ≡ handle
   pub written_is : writer.written ≡ written
@@ -60,8 +62,8 @@ pub record IsAt (writer : LogFileWriter) (handle : Handle) (written capacity : �
 
 -- Writing: which calls are made, in this order.
 
--- how much is allocated for a write up to `end` where the file may end before it: what is missing, or, if that is
--- more, what is left to the target size, up to 2 MiB
+-- how much is allocated for a write up to `end` where the file may end before it: what is missing, or, if
+-- that is more, what is left to the target size, up to 2 MiB
 abbrev pub allocated : ℕ → ℕ → ℕ → ℕ
 allocated capacity end target = max (end - capacity) (min 2097152 (target - capacity))
 
@@ -80,27 +82,29 @@ pub data MakesRoom (handle : Handle) (capacity end target : ℕ) (old new : Disk
       → MakesRoom handle capacity end target old new
 
 -- bytes were written at a place, once room was made for them
-pub record WritesAt (handle : Handle) (at capacity : ℕ) (bytes : List ℕ) (target : ℕ) (old new : Disk) : Type 0 where
+pub record WritesAt (handle : Handle) (at capacity : ℕ) (bytes : List ℕ) (target : ℕ) (old new : Disk)
+    : Type 0 where
   pub between : Disk
   pub room : MakesRoom handle capacity (at + length bytes) target old between
   pub writes : Writes handle at bytes between new
 
 -- room was made for them, and the write was refused
-pub record FailsToWriteAt (handle : Handle) (at capacity : ℕ) (bytes : List ℕ) (target : ℕ) (error : ErrorKind)
-    (old new : Disk) : Type 0 where
+pub record FailsToWriteAt (handle : Handle) (at capacity : ℕ) (bytes : List ℕ) (target : ℕ)
+    (error : ErrorKind) (old new : Disk) : Type 0 where
   pub between : Disk
   pub room : MakesRoom handle capacity (at + length bytes) target old between
   pub fails : FailsToWrite handle at bytes error between new
 
 -- a writer's next bytes were written, and the writer stands behind them
-pub record WritesNext (before after : LogFileWriter) (bytes : List ℕ) (target : ℕ) (old new : Disk) : Type 0 where
+pub record WritesNext (before after : LogFileWriter) (bytes : List ℕ) (target : ℕ) (old new : Disk)
+    : Type 0 where
   pub calls : WritesAt before.handle before.written before.capacity bytes target old new
   pub moved : IsAt after before.handle (before.written + length bytes)
       (reach before.capacity (before.written + length bytes) target)
 
 -- they were refused, and the writer stands where it stood; but the file may end where the write would have
-pub record FailsToWriteNext (before after : LogFileWriter) (bytes : List ℕ) (target : ℕ) (error : ErrorKind)
-    (old new : Disk) : Type 0 where
+pub record FailsToWriteNext (before after : LogFileWriter) (bytes : List ℕ) (target : ℕ)
+    (error : ErrorKind) (old new : Disk) : Type 0 where
   pub calls : FailsToWriteAt before.handle before.written before.capacity bytes target error old new
   pub stays : IsAt after before.handle before.written
       (reach before.capacity (before.written + length bytes) target)
@@ -129,8 +133,8 @@ pub record Closes (before after : LogFileWriter) (old new : Disk) : Type 0 where
 -- the cut was refused, and no sync was tried; or the sync was
 pub data FailsToClose (before after : LogFileWriter) (error : ErrorKind) (old new : Disk) : Type 0 where
   not_cut : FailsToCutBehind before after error old new → FailsToClose before after error old new
-  not_synced : (between : Disk) → CutsBehind before after old between → FailsToSync before.handle error between new
-      → FailsToClose before after error old new
+  not_synced : (between : Disk) → CutsBehind before after old between
+      → FailsToSync before.handle error between new → FailsToClose before after error old new
 
 -- Taking a file up.
 
@@ -143,7 +147,8 @@ abbrev pub taken_up : List ℕ → Bool → List ℕ → List ℕ
 taken_up header reset content = if needs_header header reset content then header else content
 
 -- a writer goes on behind a file's bytes, and no call was made; or the header was written at the front
-pub data TakesUp (handle : Handle) (header : List ℕ) (reset : Bool) (writer : LogFileWriter) (old new : Disk) : Type 0 where
+pub data TakesUp (handle : Handle) (header : List ℕ) (reset : Bool) (writer : LogFileWriter) (old new : Disk)
+    : Type 0 where
   goes_on : (file : File) → old.files handle.file ≡ Some file → needs_header header reset file.content ≡ false
       → new ≡ old → IsAt writer handle (length file.content) (length file.content)
       → TakesUp handle header reset writer old new
@@ -153,9 +158,12 @@ pub data TakesUp (handle : Handle) (header : List ℕ) (reset : Bool) (writer : 
       → TakesUp handle header reset writer old new
 
 -- the file's size wasn't told; or it gets a header, whose write was refused
-pub data FailsToTakeUp (handle : Handle) (header : List ℕ) (reset : Bool) (error : ErrorKind) (old new : Disk) : Type 0 where
-  not_measured : IsNotMeasured handle old error → new ≡ old → FailsToTakeUp handle header reset error old new
-  not_begun : (file : File) → old.files handle.file ≡ Some file → needs_header header reset file.content ≡ true
+pub data FailsToTakeUp (handle : Handle) (header : List ℕ) (reset : Bool) (error : ErrorKind) (old new : Disk)
+    : Type 0 where
+  not_measured : IsNotMeasured handle old error → new ≡ old
+      → FailsToTakeUp handle header reset error old new
+  not_begun : (file : File) → old.files handle.file ≡ Some file
+      → needs_header header reset file.content ≡ true
       → FailsToWriteAt handle 0 (length file.content) header 0 error old new
       → FailsToTakeUp handle header reset error old new
 

@@ -15,37 +15,11 @@ use raft_log_disk::{FileSystem, Handle, Permission};
 use raft_log_format::LogFileFormat;
 use std::alloc::Global;
 
-/// The bytes of a format's header. A format of the first version with an alignment has none, and is refused as
-/// an invalid argument.
-pub fn build_header(alloc: Global, format: &LogFileFormat) -> Result<Vec<u8>>
-    ensures ok { IfOk result (λ header. HasHeader format.now × (header.items ≡ header_bytes format.now)) }
-    ensures spelled { IfOk result (λ header. IsHeader header.items format.now) }
-    ensures err { IfErr result (λ error. IsHeaderRefusal format.now error) }
-{
-    let mut header = Vec::with_capacity(alloc, LogFileFormat::max_encoded_len())?;
-    format.encode(alloc, &mut header)?;
-    Ok(header)
-}
-
-/// Makes a file, or opens it, to write it.
-fn find_file<F: FileSystem>(file_system: &mut F, path: &str, create: bool) -> Result<Handle>
-    ensures ok { IfOk result (λ handle. Finds path.now create handle (F.disk file_system.old) (F.disk file_system.new)) }
-    ensures err { IfErr result (λ error. FailsToFind path.now create error (F.disk file_system.old) (F.disk file_system.new)) }
-    ensures others { TouchesOnlyNames (λ other. other ≡ path.now) (F.disk file_system.old) (F.disk file_system.new) }
-    ensures later { IsLater (F.disk file_system.old) (F.disk file_system.new) }
-{
-    if create {
-        Ok(file_system.create(path)?)
-    } else {
-        open_file(file_system, path, Permission::ReadWrite)
-    }
-}
-
 /// Makes a file, or opens it, and takes it up to write behind what it holds. A file that is made gets the
 /// format's header, and one that is shorter than that header too.
 ///
-/// The header is built before any call is made. `Io(AlreadyExists)` where a file is to be made and the path is
-/// taken, `Io(NotFound)` where one is to be opened and isn't there.
+/// The header is built before any call is made. `Io(AlreadyExists)` where a file is to be made and the path
+/// is taken, `Io(NotFound)` where one is to be opened and isn't there.
 pub fn build_file_writer<F: FileSystem, L: Log>(
     rt: &L,
     alloc: Global,
@@ -60,16 +34,48 @@ pub fn build_file_writer<F: FileSystem, L: Log>(
         (F.disk file_system.old) (F.disk file_system.new)) }
 
     // What stands in the file.
-    ensures created { create ≡ true → IfOk result (λ writer. IsWritten writer (header_bytes format) (F.disk file_system.new)) }
+    ensures created { create ≡ true → IfOk result (λ writer. IsWritten writer (header_bytes format)
+        (F.disk file_system.new)) }
     ensures opened { create ≡ false → IfOk result (λ writer. IsGoneOn (header_bytes format) writer
         (F.disk file_system.old) (F.disk file_system.new)) }
-    ensures named { IfOk result (λ writer. (F.disk file_system.new).names path.now ≡ Some writer.handle.file) }
+    ensures named { IfOk result (λ writer.
+        (F.disk file_system.new).names path.now ≡ Some writer.handle.file) }
 
     // Nothing else changes.
-    ensures others { TouchesOnlyNames (λ other. other ≡ path.now) (F.disk file_system.old) (F.disk file_system.new) }
+    ensures others { TouchesOnlyNames (λ other. other ≡ path.now)
+        (F.disk file_system.old) (F.disk file_system.new) }
     ensures later { IsLater (F.disk file_system.old) (F.disk file_system.new) }
 {
     let header = build_header(alloc, &format)?;
     let handle = find_file(file_system, path, create)?;
     Ok(LogFileWriter::open(rt, file_system, handle, &header, create)?)
+}
+
+/// The bytes of a format's header. A format of the first version with an alignment has none, and is refused
+/// as an invalid argument.
+pub fn build_header(alloc: Global, format: &LogFileFormat) -> Result<Vec<u8>>
+    ensures ok { IfOk result (λ header. HasHeader format.now × (header.items ≡ header_bytes format.now)) }
+    ensures spelled { IfOk result (λ header. IsHeader header.items format.now) }
+    ensures err { IfErr result (λ error. IsHeaderRefusal format.now error) }
+{
+    let mut header = Vec::with_capacity(alloc, LogFileFormat::max_encoded_len())?;
+    format.encode(alloc, &mut header)?;
+    Ok(header)
+}
+
+/// Makes a file, or opens it, to write it.
+fn find_file<F: FileSystem>(file_system: &mut F, path: &str, create: bool) -> Result<Handle>
+    ensures ok { IfOk result (λ handle. Finds path.now create handle
+        (F.disk file_system.old) (F.disk file_system.new)) }
+    ensures err { IfErr result (λ error. FailsToFind path.now create error
+        (F.disk file_system.old) (F.disk file_system.new)) }
+    ensures others { TouchesOnlyNames (λ other. other ≡ path.now)
+        (F.disk file_system.old) (F.disk file_system.new) }
+    ensures later { IsLater (F.disk file_system.old) (F.disk file_system.new) }
+{
+    if create {
+        Ok(file_system.create(path)?)
+    } else {
+        open_file(file_system, path, Permission::ReadWrite)
+    }
 }

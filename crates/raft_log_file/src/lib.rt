@@ -2,6 +2,7 @@
 #![tactic(auto)]
 
 pub mod build;
+pub mod laws;
 pub mod reader;
 pub mod writer;
 

@@ -16,7 +16,8 @@ const MAX_HEADER_LEN: usize = 69;
 
 /// Opens a file to read it. `Io(NotFound)` where no file has the path.
 pub fn build_file_reader<F: FileSystem>(file_system: &F, path: &str) -> Result<LogFileReader>
-    ensures ok { IfOk result (λ reader. IsOpened path.now Permission.ReadOnly reader.handle (F.disk file_system.now)) }
+    ensures ok { IfOk result (λ reader. IsOpened path.now Permission.ReadOnly reader.handle
+        (F.disk file_system.now)) }
     ensures err { IfErr result (λ error. IsOpenRefusal path.now (F.disk file_system.now) error) }
 {
     let handle = open_file(file_system, path, Permission::ReadOnly)?;
@@ -57,15 +58,17 @@ impl LogFileReader {
     }
 
     /// Reads the format off the header. A file that begins with no header is refused as the header's reading
-    /// is: other magic bytes, a version's number that is cut short (a codec's error), one that no version has,
-    /// an alignment that is cut short.
+    /// is: other magic bytes, a version's number that is cut short (a codec's error), one that no version
+    /// has, an alignment that is cut short.
     pub fn parse_format<F: FileSystem>(
         &self,
         alloc: Global,
         file_system: &F,
     ) -> Result<LogFileFormat>
-        ensures ok { IfOk result (λ format. HasFile self.now.handle.file (BeginsWithHeader format) (F.disk file_system.now)) }
-        ensures exact { IfOk result (λ format. HasFile self.now.handle.file (GivesFormat format) (F.disk file_system.now)) }
+        ensures ok { IfOk result (λ format. HasFile self.now.handle.file (BeginsWithHeader format)
+            (F.disk file_system.now)) }
+        ensures exact { IfOk result (λ format. HasFile self.now.handle.file (GivesFormat format)
+            (F.disk file_system.now)) }
         ensures err { IfErr result (λ error. IsFormatRefusal self.now.handle (F.disk file_system.now) error) }
     {
         let mut bytes = [0u8; MAX_HEADER_LEN];
@@ -81,8 +84,10 @@ impl LogFileReader {
         file_system: &F,
         block: FileBlockHandle,
     ) -> Result<Vec<u8>>
-        ensures ok { IfOk result (λ bytes. HasFile self.now.handle.file (AreBytesAt block.offset block.len bytes.items) (F.disk file_system.now)) }
-        ensures err { IfErr result (λ error. IsBlockRefusal self.now.handle block.offset block.len (F.disk file_system.now) error) }
+        ensures ok { IfOk result (λ bytes. HasFile self.now.handle.file
+            (AreBytesAt block.offset block.len bytes.items) (F.disk file_system.now)) }
+        ensures err { IfErr result (λ error. IsBlockRefusal self.now.handle block.offset block.len
+            (F.disk file_system.now) error) }
     {
         let mut bytes = vec![in alloc; 0u8; block.len]?;
         let count = self.read_to(file_system, block.offset, &mut bytes)?;
@@ -97,8 +102,10 @@ impl LogFileReader {
         offset: u64,
         room: &mut [u8],
     ) -> Result<usize>
-        ensures ok { IfOk result (λ count. FillsRoom self.now.handle.file offset (F.disk file_system.now) room.old room.new count) }
-        ensures err { IfErr result (λ error. IsReadRefusal self.now.handle offset (length room.old) (F.disk file_system.now) error) }
+        ensures ok { IfOk result (λ count. FillsRoom self.now.handle.file offset
+            (F.disk file_system.now) room.old room.new count) }
+        ensures err { IfErr result (λ error. IsReadRefusal self.now.handle offset (length room.old)
+            (F.disk file_system.now) error) }
     {
         Ok(file_system.read_at(self.handle, offset as usize, room)?)
     }

@@ -28,8 +28,8 @@ pub struct LogFileWriter {
 impl LogFileWriter {
     ghost use Rattle.raft_log_file.specs.Writer.{Closes, CutsBehind, DurableStays, FailsToClose, FailsToCutBehind, FailsToTakeUp, FailsToWriteNext, CanBeTakenUp, IsAt, IsClosed, IsSynced, IsTakenUp, IsWhole, IsWritten, KeepsWritten, MakesRoom, TakesUp, WritesNext, reach};
 
-    /// Takes a file up behind what it holds. One that is shorter than the header, or that is to begin anew, gets
-    /// the header at its front, whatever stands there.
+    /// Takes a file up behind what it holds. One that is shorter than the header, or that is to begin anew,
+    /// gets the header at its front, whatever stands there. It takes no memory.
     pub fn open<F: FileSystem, L: Log>(
         rt: &L,
         file_system: &mut F,
@@ -70,8 +70,8 @@ impl LogFileWriter {
     }
 
     /// Writes bytes behind those that were written. Where the file may end before the new end, it is made
-    /// longer first: by what is missing, or, if that is more, by what is left to the target size, up to 2 MiB;
-    /// a refusal of this is logged, and nothing else comes of it.
+    /// longer first: by what is missing, or, if that is more, by what is left to the target size, up to
+    /// 2 MiB. A refusal of this is logged, and nothing else comes of it.
     ///
     /// Refused, the offset is as it was; some of the bytes may stand behind it.
     pub fn write<F: FileSystem, L: Log>(
@@ -81,13 +81,16 @@ impl LogFileWriter {
         bytes: &[u8],
         target_size_hint: usize,
     ) -> Result<(), ErrorKind>
-        ensures ok { OnOk result (WritesNext self.old self.new bytes.now target_size_hint (F.disk file_system.old) (F.disk file_system.new)) }
-        ensures err { IfErr result (λ error. FailsToWriteNext self.old self.new bytes.now target_size_hint error (F.disk file_system.old) (F.disk file_system.new)) }
+        ensures ok { OnOk result (WritesNext self.old self.new bytes.now target_size_hint
+            (F.disk file_system.old) (F.disk file_system.new)) }
+        ensures err { IfErr result (λ error. FailsToWriteNext self.old self.new bytes.now target_size_hint
+            error (F.disk file_system.old) (F.disk file_system.new)) }
 
         // What stands in the file, and what a stop leaves of it.
         ensures written { OnOk result ((front : List ℕ) → IsWritten self.old front (F.disk file_system.old)
             → IsWritten self.new (front ++ bytes.now) (F.disk file_system.new)) }
-        ensures kept { OnErr result (KeepsWritten self.old self.new (F.disk file_system.old) (F.disk file_system.new)) }
+        ensures kept { OnErr result (KeepsWritten self.old self.new
+            (F.disk file_system.old) (F.disk file_system.new)) }
         ensures durable { DurableStays self.old (F.disk file_system.old) (F.disk file_system.new) }
 
         // Nothing else changes.
@@ -103,13 +106,16 @@ impl LogFileWriter {
 
     /// Cuts the file to what was written, if it may be longer. Refused, it may still be longer.
     pub fn truncate<F: FileSystem>(&mut self, file_system: &mut F) -> Result<(), ErrorKind>
-        ensures ok { OnOk result (CutsBehind self.old self.new (F.disk file_system.old) (F.disk file_system.new)) }
-        ensures err { IfErr result (λ error. FailsToCutBehind self.old self.new error (F.disk file_system.old) (F.disk file_system.new)) }
+        ensures ok { OnOk result (CutsBehind self.old self.new
+            (F.disk file_system.old) (F.disk file_system.new)) }
+        ensures err { IfErr result (λ error. FailsToCutBehind self.old self.new error
+            (F.disk file_system.old) (F.disk file_system.new)) }
 
         // What stands in the file, and what a stop leaves of it.
         ensures whole { OnOk result ((bytes : List ℕ) → IsWritten self.old bytes (F.disk file_system.old)
             → IsWhole self.new bytes (F.disk file_system.new)) }
-        ensures kept { OnErr result (KeepsWritten self.old self.new (F.disk file_system.old) (F.disk file_system.new)) }
+        ensures kept { OnErr result (KeepsWritten self.old self.new
+            (F.disk file_system.old) (F.disk file_system.new)) }
         ensures durable { DurableStays self.old (F.disk file_system.old) (F.disk file_system.new) }
 
         // Nothing else changes.
@@ -126,12 +132,14 @@ impl LogFileWriter {
     /// Makes what was written durable.
     pub fn sync<F: FileSystem>(&self, file_system: &mut F) -> Result<(), ErrorKind>
         ensures ok { OnOk result (Syncs self.now.handle (F.disk file_system.old) (F.disk file_system.new)) }
-        ensures err { IfErr result (λ error. FailsToSync self.now.handle error (F.disk file_system.old) (F.disk file_system.new)) }
+        ensures err { IfErr result (λ error. FailsToSync self.now.handle error
+            (F.disk file_system.old) (F.disk file_system.new)) }
 
         // What stands in the file, and what a stop leaves of it.
         ensures synced { OnOk result ((bytes : List ℕ) → IsWritten self.now bytes (F.disk file_system.old)
             → IsSynced self.now bytes (F.disk file_system.new)) }
-        ensures kept { OnErr result (KeepsWritten self.now self.now (F.disk file_system.old) (F.disk file_system.new)) }
+        ensures kept { OnErr result (KeepsWritten self.now self.now
+            (F.disk file_system.old) (F.disk file_system.new)) }
         ensures durable { DurableStays self.now (F.disk file_system.old) (F.disk file_system.new) }
 
         // Nothing else changes.
@@ -141,15 +149,19 @@ impl LogFileWriter {
         file_system.sync(self.handle)
     }
 
-    /// Cuts the file to what was written, if it may be longer, and syncs it. A refused cut leaves the sync out.
+    /// Cuts the file to what was written, if it may be longer, and syncs it. A refused cut leaves the sync
+    /// out.
     pub fn close<F: FileSystem>(&mut self, file_system: &mut F) -> Result<(), ErrorKind>
-        ensures ok { OnOk result (Closes self.old self.new (F.disk file_system.old) (F.disk file_system.new)) }
-        ensures err { IfErr result (λ error. FailsToClose self.old self.new error (F.disk file_system.old) (F.disk file_system.new)) }
+        ensures ok { OnOk result (Closes self.old self.new
+            (F.disk file_system.old) (F.disk file_system.new)) }
+        ensures err { IfErr result (λ error. FailsToClose self.old self.new error
+            (F.disk file_system.old) (F.disk file_system.new)) }
 
         // What stands in the file, and what a stop leaves of it.
         ensures closed { OnOk result ((bytes : List ℕ) → IsWritten self.old bytes (F.disk file_system.old)
             → IsClosed self.new bytes (F.disk file_system.new)) }
-        ensures kept { OnErr result (KeepsWritten self.old self.new (F.disk file_system.old) (F.disk file_system.new)) }
+        ensures kept { OnErr result (KeepsWritten self.old self.new
+            (F.disk file_system.old) (F.disk file_system.new)) }
         ensures durable { DurableStays self.old (F.disk file_system.old) (F.disk file_system.new) }
 
         // Nothing else changes.
@@ -175,8 +187,10 @@ impl LogFileWriter {
         end: usize,
         target_size_hint: usize,
     )
-        ensures room { MakesRoom self.old.handle self.old.capacity end target_size_hint (F.disk file_system.old) (F.disk file_system.new) }
-        ensures stays { IsAt self.new self.old.handle self.old.written (reach self.old.capacity end target_size_hint) }
+        ensures room { MakesRoom self.old.handle self.old.capacity end target_size_hint
+            (F.disk file_system.old) (F.disk file_system.new) }
+        ensures stays { IsAt self.new self.old.handle self.old.written
+            (reach self.old.capacity end target_size_hint) }
     {
         if end <= self.capacity {
             return;

@@ -1,4 +1,3 @@
-use Rattle.std.proofs.Common.{◌≡◌, take}
 use Rattle.raft_log_file.proofs.ReaderLaws.{filled, begins_with_header, gives_format, format_refused}
 use Rattle.raft_log_file.proofs.reader.LogFileReader.parse_format.Goals as goal
 

@@ -1,4 +1,4 @@
-use Rattle.std.proofs.Common.{◌≡◌, ◌+◌, ◌<◌, ◌^◌, length, subst, sym, ap, refl, ℕ}
+use Rattle.std.proofs.Common.{◌+◌, ◌<◌, ◌^◌, length, subst, sym, ap, refl, ℕ}
 use Rattle.std.proofs.lemmas.Result.{err_from_is_err_and}
 use Rattle.raft_log_file.specs.Writer.{reach}
 use Rattle.raft_log_file.proofs.WriterLaws.{refused_next, refused_kept, refused_durable, touches_refused, next_written, durable_next, written_at, written_next, written_short}

@@ -1,0 +1,103 @@
+//! What stands in a file that is written, and what is read of it.
+use log::sink::Memory;
+use log::{Level, Logged};
+use raft_log_base::{FileBlockHandle, FileId, LogQueue, Version};
+use raft_log_disk::FileSystem;
+use raft_log_file::{LogFileReader, LogFileWriter, build_file_reader, build_file_writer};
+use raft_log_format::LogFileFormat;
+use raft_log_memory_files::MemoryFileSystem;
+use std::alloc::Global;
+use std::test::Fail;
+
+/// Where the file of the tests lies.
+pub const PATH: &str = "d/0000000000000001.raftlog";
+
+/// The bytes of a record that stores a first vote.
+pub const RECORD: [u8; 65] = [7; 65];
+
+/// A file system with a directory.
+pub fn prepared(alloc: Global) -> Result<MemoryFileSystem, Fail> {
+    let mut system = MemoryFileSystem::new(alloc);
+    system.create_dir("d")?;
+    Ok(system)
+}
+
+/// The format of new files.
+pub fn second() -> LogFileFormat {
+    LogFileFormat::new(Version::V2, 0)
+}
+
+// A new file, and a reader of it.
+fn begun(
+    rt: &HostRuntime,
+    system: &mut MemoryFileSystem,
+) -> Result<(LogFileWriter, LogFileReader), Fail> {
+    let writer = build_file_writer(rt, rt.alloc(), system, PATH, second(), true)?;
+    let reader = build_file_reader(system, PATH)?;
+    Ok((writer, reader))
+}
+
+// So many bytes of a file from a place on.
+fn block(offset: u64, len: usize) -> FileBlockHandle {
+    let id = FileId::new(LogQueue::Append, 1);
+    FileBlockHandle { id, offset, len }
+}
+
+#[test]
+fn record_is_written_ahead_and_cut(rt: HostRuntime) -> Result<(), Fail> {
+    let mut system = prepared(rt.alloc())?;
+    let (mut writer, reader) = begun(&rt, &mut system)?;
+    assert!(rt; (writer.offset(), reader.file_size(&system)?) == (69, 69));
+    writer.write(&rt, &mut system, &RECORD, 1024)?;
+    writer.sync(&mut system)?;
+    assert!(rt; (writer.offset(), reader.file_size(&system)?) == (134, 1024));
+    writer.close(&mut system)?;
+    assert!(rt; (writer.offset(), reader.file_size(&system)?) == (134, 134));
+    Ok(())
+}
+
+#[test]
+fn two_mebibytes_are_allocated_ahead_at_most(rt: HostRuntime) -> Result<(), Fail> {
+    let mut system = prepared(rt.alloc())?;
+    let (mut writer, reader) = begun(&rt, &mut system)?;
+    writer.write(&rt, &mut system, &RECORD, 134_217_728)?;
+    assert!(rt; reader.file_size(&system)? == 69 + 2_097_152);
+    writer.write(&rt, &mut system, &RECORD, 134_217_728)?;
+    assert!(rt; reader.file_size(&system)? == 69 + 2_097_152);
+    writer.truncate(&mut system)?;
+    assert!(rt; reader.file_size(&system)? == 199);
+    Ok(())
+}
+
+#[test]
+fn records_are_read_back(rt: HostRuntime) -> Result<(), Fail> {
+    let alloc = rt.alloc();
+    let mut system = prepared(alloc)?;
+    let (mut writer, reader) = begun(&rt, &mut system)?;
+    writer.write(&rt, &mut system, &RECORD, 0)?;
+    assert!(rt; reader.parse_format(alloc, &system)? == second());
+    assert!(rt; reader.read(alloc, &system, block(69, 65))?.as_slice() == RECORD.as_slice());
+    assert!(rt; reader.read(alloc, &system, block(130, 65))?.as_slice() == &RECORD[..4]);
+    let mut room = [0; 8];
+    assert!(rt; reader.read_to(&system, 132, &mut room)? == 2 && room == [7, 7, 0, 0, 0, 0, 0, 0]);
+    Ok(())
+}
+
+#[test]
+fn refused_allocation_is_logged(rt: HostRuntime) -> Result<(), Fail> {
+    let mut system = prepared(rt.alloc())?;
+    let (mut writer, reader) = begun(&rt, &mut system)?;
+    let sink = Memory::new(rt.alloc());
+    system.refuse_call(1)?;
+    writer.write(
+        &Logged::new(&rt, Level::Warn, &sink),
+        &mut system,
+        &RECORD,
+        1024,
+    )?;
+    assert!(rt; (writer.offset(), reader.file_size(&system)?) == (134, 134));
+    let lines = sink.into_lines();
+    assert!(rt; lines.len() == 1);
+    assert!(rt; lines.as_slice()[0].contains("log file allocation failed: "));
+    Ok(())
+}

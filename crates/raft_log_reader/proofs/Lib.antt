@@ -1,0 +1,6 @@
+pub mod Parts
+pub mod Refusals
+pub mod Headers
+pub mod Extents
+pub mod Opened
+pub mod Readings

@@ -11,7 +11,8 @@ use Rattle.raft_log_reader.specs.declared.open_file.OpenFile.{OpenFile}
 
 -- behind an offset no batch comes any more: the file holds no more, or the record there is broken
 abbrev pub EndsBehind : OpenFile → List ℕ → ℕ → Type 0
-EndsBehind file content offset = HasNoMore file content offset ⊎ ((fault : Fault) × IsBroken file content offset fault)
+EndsBehind file content offset =
+    HasNoMore file content offset ⊎ ((fault : Fault) × IsBroken file content offset fault)
 
 -- From an offset on there is one way to read a file's bytes to where no batch comes any more.
 abbrev pub OneReading : Type 0
@@ -26,7 +27,8 @@ OneFault = (file : OpenFile) (content : List ℕ) (offset : ℕ) (e f : Fault) �
 
 -- A batch behind others makes one more: so a loop that reads them knows what it has read.
 abbrev pub BatchesGoOn : Type 0
-BatchesGoOn = (file : OpenFile) (content : List ℕ) (offset m n : ℕ) (xs : List (List LogItem)) (items : List LogItem)
+BatchesGoOn = (file : OpenFile) (content : List ℕ) (offset m n : ℕ)
+    (xs : List (List LogItem)) (items : List LogItem)
     → HasBatches file content offset xs m → HasBatch file content m items n
     → HasBatches file content offset (xs ++ items ∷ []) n
 

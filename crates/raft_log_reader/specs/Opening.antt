@@ -27,8 +27,8 @@ pub record IsUnreadInFront (handle : Handle) (d : Disk) (kind : ErrorKind) : Typ
   pub size : source.size ≡ length (bytes_of source d)
   pub unread : IsUnreadFrom source 0 d kind
 
--- Why a file wasn't opened: its size wasn't told or its first bytes couldn't be read, memory ran out, or this is the
--- first fault of a header in its first 69 bytes.
+-- Why a file wasn't opened: its size wasn't told or its first bytes couldn't be read, memory ran out, or this
+-- is the first fault of a header in its first 69 bytes.
 abbrev pub FailsToOpen : Handle → Disk → Error → Type 0
 FailsToOpen handle d (errors.Io kind) = IsNotMeasured handle d kind ⊎ IsUnreadInFront handle d kind
 FailsToOpen handle d e = Fails e (header_at (take 69 (bytes_in (d.files handle.file))))

@@ -46,7 +46,8 @@ pub record Opens (id : FileId) (handle : Handle) (d : Disk) (format : LogFileFor
   pub header : BeginsWithHeader (bytes_of source d) format (end_of reader)
 
 -- The next batch with its end, or no batch where the file holds no more, which leaves the end.
-abbrev pub Answers : Disk → OpenFile → LogItemBatchFileReader → LogItemBatchFileReader → Option ItemBatch → Type 0
+abbrev pub Answers : Disk → OpenFile → LogItemBatchFileReader → LogItemBatchFileReader → Option ItemBatch
+    → Type 0
 Answers d file old new found = MatchOption found
     (HasNoMore file (bytes_of file.source d) (end_of old) × (end_of new ≡ end_of old))
     (λ batch. HasBatch file (bytes_of file.source d) (end_of old) batch.items (end_of new))

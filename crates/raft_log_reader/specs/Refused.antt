@@ -11,16 +11,18 @@ use Rattle.raft_log_reader.specs.Batches.{IsBroken}
 use Rattle.raft_log_reader.specs.declared.source.Source.{Source}
 use Rattle.raft_log_reader.specs.declared.open_file.OpenFile.{OpenFile}
 
--- bytes from an offset on couldn't be read, memory ran out, or this is the fault at which the reading of them stops
+-- bytes from an offset on couldn't be read, memory ran out, or this is the fault at which the reading of them
+-- stops
 abbrev pub FailsAt : {Y : Type 0} → Source → Disk → ℕ → Error → Result Y Fault → Type 0
 FailsAt source d at (errors.Io kind) reading = IsUnreadFrom source at d kind
 FailsAt source d at e reading = Fails e reading
 
--- Why no batch came: bytes behind an offset couldn't be read, memory ran out, or this is the first fault of the record
--- there.
+-- Why no batch came: bytes behind an offset couldn't be read, memory ran out, or this is the first fault of
+-- the record there.
 abbrev pub FailsBehind : OpenFile → Disk → ℕ → Error → Type 0
 FailsBehind file d offset (errors.Io kind) = IsUnreadFrom file.source offset d kind
 FailsBehind file d offset errors.Memory = Unit {0}
 FailsBehind file d offset (errors.Codec fault) = IsBroken file (bytes_of file.source d) offset (number fault)
-FailsBehind file d offset (errors.Corruption text) = IsBroken file (bytes_of file.source d) offset (corrupt (string_bytes text))
+FailsBehind file d offset (errors.Corruption text) =
+    IsBroken file (bytes_of file.source d) offset (corrupt (string_bytes text))
 FailsBehind file d offset _ = ⊥

@@ -34,8 +34,8 @@ fn begins_header(alloc: Global, bytes: &[u8]) -> bool
     decode_header(alloc, &mut source).is_ok()
 }
 
-/// Where the record behind an offset is looked for: behind zero padding up to the next multiple of the alignment, if a
-/// header is broken at the offset, and else there.
+/// Where the record behind an offset is looked for: behind zero padding up to the next multiple of the
+/// alignment, if a header is broken at the offset, and else there.
 pub(crate) fn find_record<F: FileSystem>(
     alloc: Global,
     file_system: &F,
@@ -46,7 +46,8 @@ pub(crate) fn find_record<F: FileSystem>(
     requires part { HoldsPart file.now.source (F.disk file_system.now) window.old }
     requires inside { offset ≤ file.now.source.size }
     ensures part { HoldsPart file.now.source (F.disk file_system.now) window.new }
-    ensures ok { IfOk result (GoesOnAt file.now.format.alignment (bytes_of file.now.source (F.disk file_system.now)) offset) }
+    ensures ok { IfOk result
+        (GoesOnAt file.now.format.alignment (bytes_of file.now.source (F.disk file_system.now)) offset) }
     ensures err { IfErr result (CannotRead file.now.source offset (F.disk file_system.now)) }
 {
     let left = file.source.size - offset;
@@ -65,10 +66,11 @@ pub(crate) fn find_record<F: FileSystem>(
     Ok(offset)
 }
 
-/// Where the footer of the record at an offset begins, and how many bytes the record has, both counted from its start.
+/// Where the footer of the record at an offset begins, and how many bytes the record has, both counted from
+/// its start.
 ///
-/// Refuses as a corruption, in this order, fewer bytes than a header has, a broken header, and a record that passes the
-/// file's end.
+/// Refuses as a corruption, in this order, fewer bytes than a header has, a broken header, and a record that
+/// passes the file's end.
 #[tactic(auto, unfolding(crate::specs::Batches::extent_at))]
 fn read_extent<F: FileSystem>(
     alloc: Global,
@@ -80,7 +82,8 @@ fn read_extent<F: FileSystem>(
     requires part { HoldsPart file.now.source (F.disk file_system.now) window.old }
     requires inside { at ≤ file.now.source.size }
     ensures part { HoldsPart file.now.source (F.disk file_system.now) window.new }
-    ensures ok { IfOk result (λ extent. extent_at (drop at (bytes_of file.now.source (F.disk file_system.now))) ≡ Ok extent) }
+    ensures ok { IfOk result
+        (λ extent. extent_at (drop at (bytes_of file.now.source (F.disk file_system.now))) ≡ Ok extent) }
     ensures inside { IfOk result (λ extent. at + extent.1 ≤ file.now.source.size) }
     ensures fits { IfOk result (λ extent. at + extent.1 < 2 ^ 64) }
     ensures order { IfOk result (λ extent. (16 ≤ extent.0) × (extent.0 ≤ extent.1)) }
@@ -102,11 +105,11 @@ fn read_extent<F: FileSystem>(
     Ok((footer, len))
 }
 
-/// The batch of the record at an offset, with its places, and how many bytes the record has. Its entry block is not
-/// looked at.
+/// The batch of the record at an offset, with its places, and how many bytes the record has. Its entry block
+/// is not looked at.
 ///
-/// Refuses as a corruption, in this order, a header, an end and a footer that are broken, and otherwise the first fault of
-/// the items.
+/// Refuses as a corruption, in this order, a header, an end and a footer that are broken, and otherwise the
+/// first fault of the items.
 pub(crate) fn read_batch<F: FileSystem>(
     alloc: Global,
     file_system: &F,
@@ -117,7 +120,8 @@ pub(crate) fn read_batch<F: FileSystem>(
     requires part { HoldsPart file.now.source (F.disk file_system.now) window.old }
     requires inside { at ≤ file.now.source.size }
     ensures part { HoldsPart file.now.source (F.disk file_system.now) window.new }
-    ensures ok { IfOk result (λ found. batch_at (context_of file.now) at (bytes_of file.now.source (F.disk file_system.now))
+    ensures ok { IfOk result
+        (λ found. batch_at (context_of file.now) at (bytes_of file.now.source (F.disk file_system.now))
         ≡ Ok (found.0, found.1.items)) }
     ensures inside { IfOk result (λ found. at + found.0 ≤ file.now.source.size) }
     ensures fits { IfOk result (λ found. at + found.0 < 2 ^ 64) }

@@ -10,7 +10,8 @@ use raft_log_disk::FileSystem;
 use raft_log_format::LogFileFormat;
 use std::alloc::Global;
 
-/// What the header of a file says, and where it ends. At most its first 69 bytes are read; the window holds them.
+/// What the header of a file says, and where it ends. At most its first 69 bytes are read; the window holds
+/// them.
 pub(crate) fn read_format<F: FileSystem>(
     alloc: Global,
     file_system: &F,
@@ -18,7 +19,8 @@ pub(crate) fn read_format<F: FileSystem>(
     window: &mut Window,
 ) -> Result<(LogFileFormat, usize)>
     requires { source.size ≡ length (bytes_of source (F.disk file_system.now)) }
-    ensures ok { IfOk result (λ found. BeginsWithHeader (bytes_of source (F.disk file_system.now)) found.0 found.1) }
+    ensures ok { IfOk result
+        (λ found. BeginsWithHeader (bytes_of source (F.disk file_system.now)) found.0 found.1) }
     ensures inside { IfOk result (λ found. found.1 ≤ source.size) }
     ensures err { IfErr result (FailsToOpen source.handle (F.disk file_system.now)) }
 {

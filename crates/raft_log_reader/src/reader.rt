@@ -12,8 +12,8 @@ use raft_log_format::LogFileFormat;
 use raft_log_records::LogItemBatch;
 use std::alloc::Global;
 
-/// A reader of the batches of a log file, one file after another. It reads blocks into one buffer that is kept; which
-/// batches come doesn't depend on the size of a block.
+/// A reader of the batches of a log file, one file after another. It reads blocks into one buffer that is
+/// kept; which batches come doesn't depend on the size of a block.
 ///
 /// While a file is open the reader has to be lent the file system as it was when the file was opened.
 #[derive(Drop, Debug)]
@@ -51,8 +51,8 @@ impl LogItemBatchFileReader {
         self.valid_offset = 0;
     }
 
-    /// Opens a file and answers what its header says: its first 69 bytes are read, and nothing of them is held. A refusal
-    /// leaves no file open.
+    /// Opens a file and answers what its header says: its first 69 bytes are read, and nothing of them is
+    /// held. A refusal leaves no file open.
     pub fn open<F: FileSystem>(
         &mut self,
         alloc: Global,
@@ -79,8 +79,8 @@ impl LogItemBatchFileReader {
         }
     }
 
-    /// The next batch, with the places of its entries; none where the file holds no more, or none is open. The entries'
-    /// bytes aren't looked at.
+    /// The next batch, with the places of its entries; none where the file holds no more, or none is open.
+    /// The entries' bytes aren't looked at.
     ///
     /// Where it is refused the reader stays where it is, so that the same call is refused again.
     pub fn next<F: FileSystem>(
@@ -116,7 +116,8 @@ impl LogItemBatchFileReader {
         Ok(Some(batch))
     }
 
-    /// Where the last good record that was read ends, or the header, where none was read; 0 where no file is open.
+    /// Where the last good record that was read ends, or the header, where none was read; 0 where no file is
+    /// open.
     pub fn valid_offset(&self) -> usize
         ensures { result ≡ end_of self.now }
     {

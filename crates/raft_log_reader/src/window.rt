@@ -51,11 +51,12 @@ impl Window {
         self.start + self.bytes.len()
     }
 
-    /// Makes so many bytes of the file from an offset on be held, and so many more behind them if a block is read for
-    /// them and the file has them. A refusal leaves a part of the file.
+    /// Makes so many bytes of the file from an offset on be held, and so many more behind them if a block is
+    /// read for them and the file has them. A refusal leaves a part of the file.
     ///
-    /// What is held in front of the offset is dropped where something is read. Where the offset doesn't lie within what
-    /// is held, reading begins anew there. At least a block is read at once, up to the file's end.
+    /// What is held in front of the offset is dropped where something is read. Where the offset doesn't lie
+    /// within what is held, reading begins anew there. At least a block is read at once, up to the file's
+    /// end.
     pub fn peek<F: FileSystem>(
         &mut self,
         file_system: &F,
@@ -85,7 +86,8 @@ impl Window {
     fn move_to(&mut self, offset: usize)
         requires { self.old.start + length self.old.bytes.items < 2 ^ 64 }
         ensures start { self.new.start ≡ offset }
-        ensures part { (content : List ℕ) → offset ≤ length content → IsPart self.old.start self.old.bytes.items content
+        ensures part { (content : List ℕ) → offset ≤ length content
+            → IsPart self.old.start self.old.bytes.items content
             → IsPart self.new.start self.new.bytes.items content }
     {
         if self.start <= offset && offset <= self.end() {
@@ -121,7 +123,8 @@ impl Window {
         ensures part { HoldsPart source (F.disk file_system.now) self.new }
         ensures start { self.new.start ≡ self.old.start }
         ensures ok { OnOk result (length self.new.bytes.items ≡ length self.old.bytes.items + room) }
-        ensures err { IfErr result (CannotRead source (self.old.start + length self.old.bytes.items) (F.disk file_system.now)) }
+        ensures err { IfErr result
+            (CannotRead source (self.old.start + length self.old.bytes.items) (F.disk file_system.now)) }
     {
         let held = self.bytes.len();
         self.bytes.resize(held + room, 0)?;
@@ -150,7 +153,8 @@ impl Window {
 fn fill<F: FileSystem>(file_system: &F, source: Source, at: usize, room: &mut [u8]) -> Result<()>
     requires size { source.size ≡ length (bytes_of source (F.disk file_system.now)) }
     requires inside { at + length room.old ≤ source.size }
-    ensures ok { OnOk result (room.new ≡ take (length room.old) (drop at (bytes_of source (F.disk file_system.now)))) }
+    ensures ok { OnOk result
+        (room.new ≡ take (length room.old) (drop at (bytes_of source (F.disk file_system.now)))) }
     ensures err { IfErr result (CannotRead source at (F.disk file_system.now)) }
 {
     match file_system.read_at(source.handle, at, room) {

@@ -1,0 +1,13 @@
+//! Tests of reading a log file: the rule of block reads, padding, damaged files and refused reads.
+#![tactic(auto)]
+
+#[cfg(test)]
+mod blocks;
+#[cfg(test)]
+mod counting;
+#[cfg(test)]
+mod damaged;
+#[cfg(test)]
+mod files;
+#[cfg(test)]
+mod padding;

@@ -1,7 +1,8 @@
 -- A reader of a log file: what callers see of it, and what its calls answer.
-use Rattle.std.specs.Prelude.{◌≡◌, ℕ, ◌⊎◌, ◌≤◌, List, ◌++◌, length, take, Option, Some, None, MatchOption}
+use Rattle.std.specs.Prelude.{◌≡◌, ℕ, ◌+◌, ◌⊎◌, ◌≤◌, List, ◌++◌, length, take, Option, Some, None, MatchOption}
 use Rattle.std.specs.Option.{ForSome}
 use Rattle.raft_log_base.specs.declared.pipe_log.FileId.{FileId}
+use Rattle.raft_log_base.specs.declared.pipe_log.FileBlockHandle.{FileBlockHandle}
 use Rattle.raft_log_disk.specs.Disk.{Disk}
 use Rattle.raft_log_disk.specs.declared.handle.Handle.{Handle}
 use Rattle.raft_log_format.specs.declared.header.LogFileFormat.{LogFileFormat}
@@ -30,6 +31,10 @@ pub record IsReadingFile (d : Disk) (reader : LogItemBatchFileReader) (file : Op
 -- where a file is open, the reader reads it from this disk
 abbrev pub IsReading : Disk → LogItemBatchFileReader → Type 0
 IsReading d reader = ForSome reader.file (IsReadingFile d reader)
+
+-- a place lies in the file that is open
+abbrev pub IsInside : FileBlockHandle → LogItemBatchFileReader → Type 0
+IsInside block reader = ForSome reader.file (λ file. block.offset + block.len ≤ file.source.size)
 
 -- no file is open
 pub record IsClosed (reader : LogItemBatchFileReader) : Type 0 where

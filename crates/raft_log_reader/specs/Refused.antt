@@ -1,10 +1,12 @@
 -- Why a call of a reader is refused.
-use Rattle.std.specs.Prelude.{◌≡◌, ℕ, List, Result}
+use Rattle.std.specs.Prelude.{◌≡◌, ℕ, List, take, drop, Result}
 use Rattle.std.specs.String.{string_bytes}
 use Rattle.raft_log_base.specs.Fault.{Fault, Fails}
 use Rattle.raft_log_base.specs.Fault.Fault.{number, corrupt}
 use Rattle.raft_log_base.specs.declared.errors.Error.{Error}
 use Rattle.raft_log_base.specs.declared.errors.Error.TheVariants as errors
+use Rattle.raft_log_base.specs.declared.pipe_log.FileBlockHandle.{FileBlockHandle}
+use Rattle.raft_log_frames.specs.Record.{block_of}
 use Rattle.raft_log_disk.specs.Disk.{Disk}
 use Rattle.raft_log_reader.specs.Source.{bytes_of, IsUnreadFrom}
 use Rattle.raft_log_reader.specs.Batches.{IsBroken}
@@ -26,3 +28,11 @@ FailsBehind file d offset (errors.Codec fault) = IsBroken file (bytes_of file.so
 FailsBehind file d offset (errors.Corruption text) =
     IsBroken file (bytes_of file.source d) offset (corrupt (string_bytes text))
 FailsBehind file d offset _ = ⊥
+
+-- the bytes that stand at a place of the file
+abbrev pub bytes_at : FileBlockHandle → OpenFile → Disk → List ℕ
+bytes_at block file d = take block.len (drop block.offset (bytes_of file.source d))
+
+-- why the entry block there isn't known to be whole
+abbrev pub FailsToCheck : FileBlockHandle → OpenFile → Disk → Error → Type 0
+FailsToCheck block file d e = FailsAt file.source d block.offset e (block_of (bytes_at block file d))

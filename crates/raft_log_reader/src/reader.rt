@@ -1,14 +1,17 @@
 //! A reader of the batches of a log file.
-ghost use Rattle.std.specs.Prelude.{◌≡◌, ◌≤◌, length, None, Some, Ok, IfOk, IfErr, OnErr};
+ghost use Rattle.std.specs.Prelude.{◌≡◌, ◌≤◌, length, None, Some, Ok, IsOk, OnOk, IfOk, IfErr, OnErr};
+ghost use Rattle.raft_log_frames.specs.Record.{block_of};
 
 use crate::batch::{find_record, read_batch};
 use crate::header::read_format;
 use crate::open_file::OpenFile;
 use crate::source::Source;
 use crate::window::Window;
-use raft_log_base::{FileId, Result};
+use raft_log_base::{FileBlockHandle, FileId, Result};
 use raft_log_disk::{FileSystem, Handle};
 use raft_log_format::LogFileFormat;
+use raft_log_frames::decode_entries_block;
+use raft_log_items::CompressionType;
 use raft_log_records::LogItemBatch;
 use std::alloc::Global;
 
@@ -25,9 +28,9 @@ pub struct LogItemBatchFileReader {
 
 impl LogItemBatchFileReader {
     ghost use Rattle.raft_log_disk.specs.Disk.{Disk};
-    ghost use Rattle.raft_log_reader.specs.Reader.{IsReading, IsClosed, Opens, Answers, file_of, end_of};
+    ghost use Rattle.raft_log_reader.specs.Reader.{IsReading, IsClosed, Opens, Answers, IsInside, file_of, end_of};
     ghost use Rattle.raft_log_reader.specs.Opening.{FailsToOpen};
-    ghost use Rattle.raft_log_reader.specs.Refused.{FailsBehind};
+    ghost use Rattle.raft_log_reader.specs.Refused.{FailsBehind, FailsToCheck, bytes_at};
 
     /// A reader without a file, which reads so many bytes at once, if fewer are asked for.
     pub fn new(alloc: Global, read_block_size: usize) -> Self
@@ -114,6 +117,36 @@ impl LogItemBatchFileReader {
         let (len, batch) = read_batch(alloc, file_system, &file, &mut self.window, at)?;
         self.valid_offset = at + len;
         Ok(Some(batch))
+    }
+
+    /// Checks the entry block at a place of the open file, which a batch that was read has told: so the batch's record is
+    /// whole. The block is held whole. Where no file is open nothing is checked.
+    ///
+    /// Refuses as a corruption a block whose checksum isn't that of its entries.
+    pub fn check_entry_block<F: FileSystem>(
+        &mut self,
+        alloc: Global,
+        file_system: &F,
+        block: FileBlockHandle,
+    ) -> Result<()>
+        requires reading { IsReading (F.disk file_system.now) self.old }
+        requires inside { IsInside block self.old }
+        ensures reading { IsReading (F.disk file_system.now) self.new }
+        ensures same { (file_of self.new ≡ file_of self.old) × (end_of self.new ≡ end_of self.old) }
+        ensures ok { (file : OpenFile) → file_of self.old ≡ Some file
+            → OnOk result (IsOk (block_of (bytes_at block file (F.disk file_system.now)))) }
+        ensures err { (file : OpenFile) → file_of self.old ≡ Some file
+            → IfErr result (FailsToCheck block file (F.disk file_system.now)) }
+    {
+        let Some(file) = self.file else {
+            return Ok(());
+        };
+        let offset = block.offset as usize;
+        self.window
+            .peek(file_system, file.source, offset, block.len, 0)?;
+        let bytes = self.window.held(offset, block.len);
+        let _entries = decode_entries_block(alloc, bytes, CompressionType::None)?;
+        Ok(())
     }
 
     /// Where the last good record that was read ends, or the header, where none was read; 0 where no file is

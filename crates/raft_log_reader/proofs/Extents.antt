@@ -78,10 +78,10 @@ unfolding extent_at
 extent_good bytes behind says e fits = rw (e, le-ltb (length bytes) says.2 fits) refl
 
 -- the frame of a footer's items, and its items with their places
-abbrev front_of : ℕ → List ℕ → List LogItem → Result Front Fault
+abbrev pub front_of : ℕ → List ℕ → List LogItem → Result Front Fault
 front_of len block items = Ok (record { len = len; items = items; bytes = block })
 
-abbrev placed_front : LogFileContext → ℕ → Front → Result (ℕ × List LogItem) Fault
+abbrev pub placed_front : LogFileContext → ℕ → Front → Result (ℕ × List LogItem) Fault
 placed_front context at front = Ok (front.len, placed (block_at context at (length front.bytes)) front.items)
 
 -- what was read of a footer, as a frame's items with their places

@@ -4,3 +4,4 @@ pub mod Headers
 pub mod Extents
 pub mod Opened
 pub mod Readings
+pub mod FrameReadings

@@ -1,8 +1,8 @@
 -- Reading a record in two steps: first where its footer begins and how long it is, then its footer.
 use Rattle.std.specs.Prelude.{slice_range}
-use Rattle.std.proofs.Common.{◌≡◌, ℕ, ◌+◌, ◌-◌, ◌<◌, ◌≤◌, ltb, cond, inl, inr, List, length, take, drop, Result, Ok, Err, refl, sym, ap, ◌∙◌, arith}
+use Rattle.std.proofs.Common.{◌≡◌, ℕ, ◌+◌, ◌-◌, ◌<◌, ◌≤◌, ltb, cond, inl, inr, List, length, take, drop, Result, Ok, Err, refl, ap, ◌∙◌, arith}
 use Rattle.std.proofs.lemmas.Bool.{le-ltb, lt-ltb, ltb-false}
-use Rattle.std.proofs.lemmas.List.{length-take, length-drop, length-take-le, drop-drop}
+use Rattle.std.proofs.lemmas.List.{length-take, length-drop, drop-drop}
 use Rattle.raft_log_base.specs.Grammar.{◌>>=◌}
 use Rattle.raft_log_base.specs.Fault.{Fault, Fails}
 use Rattle.raft_log_base.specs.Fault.Fault.{corrupt}
@@ -20,7 +20,7 @@ use Rattle.raft_log_frames.specs.Record.{Front, header_at, header_too_short, foo
 use Rattle.raft_log_frames.proofs.Headers.{is_sound_header}
 use Rattle.raft_log_records.specs.ItemBatch.{batch_of}
 use Rattle.raft_log_disk.specs.Disk.{Disk}
-use Rattle.raft_log_reader.specs.Source.{IsUnreadFrom, CannotRead}
+use Rattle.raft_log_reader.specs.Source.{CannotRead}
 use Rattle.raft_log_reader.specs.Batches.{extent_at, batch_at, block_at, context_of}
 use Rattle.raft_log_reader.specs.Refused.{FailsAt}
 use Rattle.raft_log_reader.specs.declared.source.Source.{Source}

@@ -1,21 +1,21 @@
 -- The batches of a file are its frames.
 use Rattle.std.specs.Prelude.{slice_range}
-use Rattle.std.proofs.Common.{◌≡◌, ℕ, ◌+◌, ◌-◌, ◌<◌, ◌≤◌, inl, inr, List, [], ◌∷◌, ◌++◌, length, take, drop, Option, Result, Ok, Err, refl, sym, ap, subst, ◌∙◌, append_assoc, arith}
-use Rattle.std.proofs.lemmas.List.{length-drop, length-append, length-take-le, drop_all, drop-drop, take-append-drop}
+use Rattle.std.proofs.Common.{◌≡◌, ℕ, ◌+◌, ◌-◌, ◌≤◌, inl, inr, List, [], ◌∷◌, ◌++◌, length, take, drop, Option, Ok, refl, sym, ap, subst, ◌∙◌, append_assoc, arith}
+use Rattle.std.proofs.lemmas.List.{length-drop, length-append, length-take-le, drop-drop, take-append-drop}
 use Rattle.std.proofs.Math.Seq.{take-append_seam}
 use Rattle.raft_log_base.specs.Fault.{Fault}
 use Rattle.raft_log_base.specs.Files.{signature_of}
 use Rattle.raft_log_base.specs.declared.pipe_log.LogFileContext.{LogFileContext}
-use Rattle.raft_log_base.proofs.Grammar.{done, ok_is, bind_ok}
+use Rattle.raft_log_base.proofs.Grammar.{ok_is, bind_ok}
 use Rattle.raft_log_items.specs.declared.item.LogItem.{LogItem}
 use Rattle.raft_log_items.specs.Placed.{placed}
 use Rattle.raft_log_frames.specs.Record.{IsFrame, Front, block_of, frame_at, record_at}
 use Rattle.raft_log_frames.proofs.Frames.{frame_back, frames_take_bytes}
 use Rattle.raft_log_frames.proofs.Fronts.{frame_is_read}
-use Rattle.raft_log_disk.specs.Chains.{Written, Reads, Refuses, AreFrames, spelled}
-use Rattle.raft_log_reader.specs.Batches.{padding_len, GoesOnAt, batch_at, block_at, context_of, HasBatch, HasBatches, HasNoMore, IsBroken}
+use Rattle.raft_log_disk.specs.Chains.{Refuses, spelled}
+use Rattle.raft_log_reader.specs.Batches.{padding_len, GoesOnAt, batch_at, block_at, context_of, HasBatches}
 use Rattle.raft_log_reader.specs.Batches.GoesOnAt.{behind_padding, at_once}
-use Rattle.raft_log_reader.specs.Laws.{EndsBehind, IsFrameOf, placed_frames, BatchesAreFrames, WholeBlockMakesRecord}
+use Rattle.raft_log_reader.specs.Laws.{EndsBehind, IsFrameOf, BatchesAreFrames, WholeBlockMakesRecord}
 use Rattle.raft_log_reader.specs.declared.open_file.OpenFile.{OpenFile}
 use Rattle.raft_log_reader.proofs.Extents.{placed_front}
 
@@ -81,7 +81,7 @@ batches_are_frames_is file content offset end (items ∷ more) none has ends =
     let next : has.0 ≡ offset + length bytes = omega (arith, first.ends, at, size, frame.2) in
     let later = batches_are_frames_is file content (offset + length bytes) end more none (subst (λ (k : ℕ). HasBatches file content k more end) next has.2) ends in
     let behind : drop front.len (drop offset content) ≡ drop (offset + length bytes) content =
-        drop-drop front.len offset content ∙ ap (λ (n : ℕ). drop (offset + n) content) (sym size) in (
+    drop-drop front.len offset content ∙ ap (λ (n : ℕ). drop (offset + n) content) (sym size) in (
       record { bytes = bytes; value = (front.items, front.bytes) } ∷ later.0,
       record {
         rest = later.1.rest;
@@ -111,5 +111,5 @@ whole_block_is context at len content items e =
     let frame = frame_of_batch context at len content items e in
     let front : Front = frame.0 in
     let place : take (length front.bytes) (drop (at + 16) content) ≡ front.bytes =
-        ap (take (length front.bytes)) (sym (drop-drop 16 at content)) ∙ block_stands (signature_of context) (drop at content) front frame.1 in
+    ap (take (length front.bytes)) (sym (drop-drop 16 at content)) ∙ block_stands (signature_of context) (drop at content) front frame.1 in
     (front, frame.2, frame.3, λ entries whole. record_of_block (signature_of context) (drop at content) front entries frame.1 (ap block_of (sym place) ∙ whole))

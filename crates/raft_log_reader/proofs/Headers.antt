@@ -1,5 +1,5 @@
 -- A header stands in its sixteen bytes: those that are behind it don't matter.
-use Rattle.std.proofs.Common.{◌≡◌, ◌↔◌, ℕ, ◌≤◌, ltb, true, false, List, length, take, drop, Result, Ok, Err, IsOk, IsErr, IsTrue, is_ok, lit≤, refl, sym, ap, ◌∙◌, arith}
+use Rattle.std.proofs.Common.{◌≡◌, ◌↔◌, ℕ, ◌≤◌, List, length, take, drop, Result, Ok, Err, IsOk, IsErr, IsTrue, is_ok, lit≤, refl, sym, ap, ◌∙◌, arith}
 use Rattle.std.specs.Int.{w64, from_be_bytes}
 use Rattle.std.proofs.lemmas.Bool.{le-ltb}
 use Rattle.std.proofs.lemmas.List.{length-take, take-take, drop-take}

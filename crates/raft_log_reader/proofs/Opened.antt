@@ -1,18 +1,17 @@
 -- Opening a file, and where its reading goes on.
 use Rattle.std.proofs.lemmas.Bool.{cases_lt}
-use Rattle.std.proofs.Common.{◌≡◌, ℕ, ◌+◌, ◌-◌, ◌<◌, ◌≤◌, inl, inr, min, List, ◌++◌, length, take, drop, Result, Ok, Err, refl, sym, ap, subst, ◌∙◌, arith, append_assoc}
+use Rattle.std.proofs.Common.{◌≡◌, ℕ, ◌-◌, ◌<◌, ◌≤◌, inl, inr, min, List, ◌++◌, length, take, drop, sym, ap, ◌∙◌, arith, append_assoc}
 use Rattle.std.proofs.lemmas.List.{length-take, length-drop, length-append, take_all, take-append-drop}
-use Rattle.raft_log_base.specs.Fault.{Fault, Fails}
+use Rattle.raft_log_base.specs.Fault.{Fails}
 use Rattle.raft_log_base.specs.declared.errors.Error.{Error}
 use Rattle.raft_log_base.specs.declared.errors.Error.TheVariants as errors
-use Rattle.raft_log_items.specs.declared.item.LogItem.{LogItem}
 use Rattle.raft_log_disk.specs.Disk.{Disk}
 use Rattle.raft_log_disk.specs.Reading.{IsSize}
 use Rattle.raft_log_disk.specs.declared.handle.Handle.{Handle}
 use Rattle.raft_log_format.specs.Header.{IsHeader, header_at}
 use Rattle.raft_log_format.specs.declared.header.LogFileFormat.{LogFileFormat}
-use Rattle.raft_log_reader.specs.Source.{bytes_in, bytes_of, IsUnreadFrom, CannotRead}
-use Rattle.raft_log_reader.specs.Batches.{GoesOnAt, batch_at, context_of, IsBroken}
+use Rattle.raft_log_reader.specs.Source.{bytes_in, bytes_of, CannotRead}
+use Rattle.raft_log_reader.specs.Batches.{GoesOnAt, batch_at, context_of}
 use Rattle.raft_log_reader.specs.Batches.GoesOnAt.{behind_padding, at_once}
 use Rattle.raft_log_reader.specs.Refused.{FailsAt, FailsBehind}
 use Rattle.raft_log_reader.specs.Opening.{BeginsWithHeader, FailsToOpen}

@@ -1,13 +1,12 @@
 -- One reading of a file's bytes.
-use Rattle.std.proofs.Common.{◌≡◌, ℕ, ◌+◌, ◌-◌, ◌*◌, ◌/◌, ◌%◌, ◌<◌, ◌≤◌, ◌⊎◌, inl, inr, eqb, false, List, [], ◌∷◌, ◌++◌, length, take, drop, Result, Ok, Err, refl, sym, ap, subst, ◌∙◌, arith}
+use Rattle.std.proofs.Common.{◌≡◌, ℕ, ◌+◌, ◌-◌, ◌*◌, ◌/◌, ◌%◌, ◌<◌, inl, inr, eqb, false, List, [], ◌∷◌, length, drop, Ok, refl, sym, ap, subst, ◌∙◌, arith}
 use Rattle.std.proofs.lemmas.Bool.{cases_lt, ne_eqb}
-use Rattle.std.proofs.lemmas.List.{length-drop, drop_all}
+use Rattle.std.proofs.lemmas.List.{drop_all}
 use Rattle.std.proofs.Math.Nat.{mod_self, mod-eq_of_lt, mul-add-mod_self_left, mod-lt}
 use Rattle.raft_log_base.specs.Fault.{Fault}
-use Rattle.raft_log_base.specs.Files.{signature_of}
 use Rattle.raft_log_base.proofs.Grammar.{ok_is}
 use Rattle.raft_log_items.specs.declared.item.LogItem.{LogItem}
-use Rattle.raft_log_reader.specs.Batches.{padding_len, IsPadding, GoesOnAt, batch_at, extent_at, context_of, HasBatch, HasBatches, HasNoMore, IsBroken}
+use Rattle.raft_log_reader.specs.Batches.{padding_len, GoesOnAt, batch_at, context_of, HasBatch, HasBatches}
 use Rattle.raft_log_reader.specs.Batches.GoesOnAt.{behind_padding, at_once}
 use Rattle.raft_log_reader.specs.Laws.{EndsBehind, OneReading, OneFault, BatchesGoOn, PaddingAligns}
 use Rattle.raft_log_reader.specs.declared.open_file.OpenFile.{OpenFile}

@@ -1,9 +1,9 @@
 -- What a refused read says, and how much of a file is held.
-use Rattle.std.proofs.Common.{◌≡◌, ℕ, ◌+◌, ◌≤◌, List, length, Result, Ok, Err, IfErr, arith}
+use Rattle.std.proofs.Common.{ℕ, ◌+◌, ◌≤◌, length, Result, Ok, Err, IfErr, arith}
 use Rattle.raft_log_base.specs.declared.errors.Error.{Error}
 use Rattle.raft_log_base.specs.declared.errors.Error.TheVariants as errors
 use Rattle.raft_log_disk.specs.Disk.{Disk}
-use Rattle.raft_log_reader.specs.Source.{bytes_of, IsUnreadFrom, CannotRead}
+use Rattle.raft_log_reader.specs.Source.{bytes_of, CannotRead}
 use Rattle.raft_log_reader.specs.Holding.{HoldsPart}
 use Rattle.raft_log_reader.specs.declared.source.Source.{Source}
 use Rattle.raft_log_reader.specs.declared.window.Window.{Window}

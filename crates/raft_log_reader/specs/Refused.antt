@@ -1,5 +1,5 @@
 -- Why a call of a reader is refused.
-use Rattle.std.specs.Prelude.{◌≡◌, ℕ, List, take, drop, Result}
+use Rattle.std.specs.Prelude.{ℕ, List, take, drop, Result}
 use Rattle.std.specs.String.{string_bytes}
 use Rattle.raft_log_base.specs.Fault.{Fault, Fails}
 use Rattle.raft_log_base.specs.Fault.Fault.{number, corrupt}

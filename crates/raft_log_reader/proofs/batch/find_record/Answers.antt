@@ -1,9 +1,9 @@
-use Rattle.std.proofs.Common.{◌≡◌, ◌+◌, ◌<◌, ◌≤◌, ◌-◌, length, List, ℕ, IsOk, IsErr, take, drop, refl, subst, ap, sym, ◌∙◌, arith}
+use Rattle.std.proofs.Common.{◌≡◌, ◌+◌, ◌<◌, ◌≤◌, length, List, ℕ, IsOk, take, drop, refl, subst, ap, sym, arith}
 use Rattle.std.proofs.lemmas.List.{length-drop}
 use Rattle.raft_log_frames.specs.Record.{header_at}
 use Rattle.raft_log_format.specs.Padding.{IsZeroPadded}
 use Rattle.raft_log_reader.specs.Source.{bytes_of}
-use Rattle.raft_log_reader.specs.Batches.{GoesOnAt, padding_len, IsPadding}
+use Rattle.raft_log_reader.specs.Batches.{padding_len}
 use Rattle.raft_log_reader.specs.Batches.GoesOnAt.{behind_padding, at_once}
 use Rattle.raft_log_reader.proofs.Headers.{header_good, header_bad, not_both}
 use Rattle.raft_log_reader.proofs.batch.find_record.Goals as goal

@@ -1,8 +1,8 @@
 use Rattle.std.specs.String.{string_bytes}
-use Rattle.std.proofs.Common.{◌≡◌, ◌+◌, ◌<◌, ◌≤◌, ◌-◌, length, List, ℕ, Ok, Err, take, drop, refl, subst, ap, sym, ◌∙◌, arith, rules}
+use Rattle.std.proofs.Common.{◌≡◌, ◌<◌, ◌≤◌, ◌-◌, length, List, ℕ, Ok, take, drop, subst, ap, sym, ◌∙◌, arith, rules}
 use Rattle.std.proofs.lemmas.List.{length-drop}
 use Rattle.std.proofs.lemmas.Result.{err_from_is_err_and}
-use Rattle.raft_log_base.specs.Fault.{Fault, Fails}
+use Rattle.raft_log_base.specs.Fault.{Fails}
 use Rattle.raft_log_base.specs.Fault.Fault.{corrupt}
 use Rattle.raft_log_frames.specs.Record.{header_at, header_too_short, past_input}
 use Rattle.raft_log_reader.specs.Source.{bytes_of}

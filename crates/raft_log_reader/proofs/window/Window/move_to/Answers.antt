@@ -1,5 +1,4 @@
-use Rattle.std.proofs.Common.{◌≡◌, ◌+◌, length, ◌-◌, ◌≤◌, List, ℕ, [], drop, subst, sym, arith}
-use Rattle.raft_log_reader.specs.Window.{IsPart}
+use Rattle.std.proofs.Common.{◌+◌, length, ◌≤◌, arith}
 use Rattle.raft_log_reader.proofs.Parts.{part_behind, nothing_held}
 use Rattle.raft_log_reader.proofs.window.Window.move_to.Goals as goal
 

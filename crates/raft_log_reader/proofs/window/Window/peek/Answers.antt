@@ -1,6 +1,5 @@
-use Rattle.std.proofs.Common.{◌≡◌, ◌+◌, ◌≤◌, length, subst, arith}
+use Rattle.std.proofs.Common.{◌+◌, ◌≤◌, length, arith}
 use Rattle.raft_log_reader.specs.Source.{bytes_of}
-use Rattle.raft_log_reader.specs.Window.{IsPart}
 use Rattle.raft_log_reader.proofs.Parts.{part_end}
 use Rattle.raft_log_reader.proofs.Refusals.{holds_end, refused_earlier}
 use Rattle.raft_log_reader.proofs.window.Window.peek.Goals as goal

@@ -1,4 +1,4 @@
-use Rattle.std.specs.Vec.{vec_len, with_items}
+use Rattle.std.specs.Vec.{vec_len}
 use Rattle.std.proofs.Common.{◌≡◌, ◌+◌, ◌-◌, ◌≤◌, ◌++◌, length, take, drop, replicate, ℕ, List, ap, ◌∙◌, sym, subst, arith}
 use Rattle.std.proofs.lemmas.List.{take_all, with_items_is}
 use Rattle.raft_log_reader.specs.Window.{IsPart}

@@ -125,6 +125,7 @@ pub(crate) fn read_batch<F: FileSystem>(
         ≡ Ok (found.0, found.1.items)) }
     ensures inside { IfOk result (λ found. at + found.0 ≤ file.now.source.size) }
     ensures fits { IfOk result (λ found. at + found.0 < 2 ^ 64) }
+    ensures some { IfOk result (λ found. 0 < found.0) }
     ensures err { IfErr result (λ e. FailsAt file.now.source (F.disk file_system.now) at e
         (batch_at (context_of file.now) at (bytes_of file.now.source (F.disk file_system.now)))) }
 {

@@ -1,5 +1,5 @@
 //! A reader of the batches of a log file.
-ghost use Rattle.std.specs.Prelude.{◌≡◌, ◌≤◌, length, None, Some, Ok, IsOk, OnOk, IfOk, IfErr, OnErr};
+ghost use Rattle.std.specs.Prelude.{◌≡◌, ◌≤◌, length, None, Some, Ok, ◌<◌, IsOk, OnOk, OnSome, IfOk, IfErr, OnErr};
 ghost use Rattle.raft_log_frames.specs.Record.{block_of};
 
 use crate::batch::{find_record, read_batch};
@@ -99,6 +99,7 @@ impl LogItemBatchFileReader {
         ensures err { (file : OpenFile) → file_of self.old ≡ Some file
             → IfErr result (FailsBehind file (F.disk file_system.now) (end_of self.old)) }
         ensures stays { OnErr result (end_of self.new ≡ end_of self.old) }
+        ensures further { IfOk result (λ found. OnSome found (end_of self.old < end_of self.new)) }
         ensures closed { file_of self.old ≡ None → result ≡ Ok None }
     {
         let Some(file) = self.file else {

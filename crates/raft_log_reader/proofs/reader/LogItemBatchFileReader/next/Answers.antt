@@ -35,3 +35,12 @@ returns-clause-ok g c = λ file is.
     let end = c.in_ok-at.at + c.in_ok-len.len in
     subst (λ (f : OpenFile). HasBatch f (bytes_of f.source d) offset items end) same
     (record { at = c.in_ok-at.at; goes_on = c.in_ok-at.ensures.ok; len = c.in_ok-len.len; frame = c.in_ok-len.ensures.ok; ends = refl })
+
+pub returns-clause-further : goal.returns-clause-further
+returns-clause-further g c =
+    let open_file = c.in-Some.file in
+    let content = bytes_of open_file.source (g.F.FileSystem.disk c.args.file_system.now) in
+    let reading = c.requires open_file c.in-Some.is in
+    let start : c.args.self.now.valid_offset ≤ length content = omega (arith, reading.within, reading.holds.size) in
+    let within = goes_on_within open_file.format.alignment content c.args.self.now.valid_offset c.in_ok-at.at start c.in_ok-at.ensures.ok in
+    omega (arith, within.0, c.in_ok-len.ensures.some)

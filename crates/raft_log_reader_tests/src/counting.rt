@@ -60,12 +60,7 @@ impl<F: FileSystem> FileSystem for Counting<F> {
         self.files.free_space(directory)
     }
 
-    fn read_at(
-        &self,
-        handle: Handle,
-        offset: usize,
-        room: &mut [u8],
-    ) -> Result<usize, ErrorKind> {
+    fn read_at(&self, handle: Handle, offset: usize, room: &mut [u8]) -> Result<usize, ErrorKind> {
         let read = self.files.read_at(handle, offset, room);
         if let Ok(count) = read {
             if count > 0 {

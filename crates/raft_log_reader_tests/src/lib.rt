@@ -1,4 +1,4 @@
-//! Tests of reading a log file: the rule of block reads, padding, damaged files and refused reads.
+//! Tests of reading a log file: the rule of block reads, padding, damaged files and refused reads; and a caller.
 #![tactic(auto)]
 
 #[cfg(test)]
@@ -9,5 +9,6 @@ mod counting;
 mod damaged;
 #[cfg(test)]
 mod files;
+pub mod good_end;
 #[cfg(test)]
 mod padding;

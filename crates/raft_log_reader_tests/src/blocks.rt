@@ -38,6 +38,21 @@ fn a_record_over_three_blocks_is_read_at_once_behind_the_first(
     Ok(())
 }
 
+#[test]
+fn a_footer_brings_the_next_header_along(rt: HostRuntime) -> Result<(), Fail> {
+    let alloc = rt.alloc();
+    let mut bytes = one_record(alloc)?;
+    append_record(alloc, &mut bytes, 34)?;
+    let (system, handle) = saved(alloc, bytes.as_slice())?;
+    let mut reader = LogItemBatchFileReader::new(alloc, 0);
+    let _format = reader.open(alloc, &system, file_id(), handle)?;
+    let first = reader.next(alloc, &system)?;
+    let second = reader.next(alloc, &system)?;
+    assert!(rt; first.is_some() && second.is_some() && reader.valid_offset() == 199);
+    assert!(rt; system.reads.get() == 4 && system.last.get() == 150);
+    Ok(())
+}
+
 /// Where the records of a file end that are read before its last one, which is broken; 1 where nothing is.
 fn good_end(alloc: Global, bytes: &[u8], read_block_size: usize) -> Result<usize> {
     let (system, handle) = saved(alloc, bytes)?;

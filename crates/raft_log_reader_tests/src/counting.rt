@@ -4,6 +4,7 @@ use std::cell::Cell;
 use std::io::ErrorKind;
 
 /// A file system that counts the reads that give bytes, and notes where the last one began.
+#[derive(Drop)]
 pub struct Counting<F: FileSystem> {
     /// The file system that is read.
     pub files: F,

@@ -1,0 +1,34 @@
+-- The front of a log file: the header that it begins with, and why it wasn't read.
+use Rattle.std.specs.Prelude.{◌≡◌, ℕ, ◌⊎◌, List, ◌++◌, length, take}
+use Rattle.std.specs.declared.io.ErrorKind.{ErrorKind}
+use Rattle.raft_log_base.specs.Fault.{Fails}
+use Rattle.raft_log_base.specs.declared.errors.Error.{Error}
+use Rattle.raft_log_base.specs.declared.errors.Error.TheVariants as errors
+use Rattle.raft_log_disk.specs.Disk.{Disk}
+use Rattle.raft_log_disk.specs.Reading.{IsNotMeasured}
+use Rattle.raft_log_disk.specs.declared.handle.Handle.{Handle}
+use Rattle.raft_log_format.specs.Header.{IsHeader, header_at}
+use Rattle.raft_log_format.specs.declared.header.LogFileFormat.{LogFileFormat}
+use Rattle.raft_log_reader.specs.Source.{bytes_in, bytes_of, IsUnreadFrom}
+use Rattle.raft_log_reader.specs.declared.source.Source.{Source}
+
+-- the bytes begin with a header that says this format, and it ends there
+pub record BeginsWithHeader (content : List ℕ) (format : LogFileFormat) (end : ℕ) : Type 0 where
+  pub header : List ℕ
+  pub rest : List ℕ
+  pub says : IsHeader header format
+  pub splits : content ≡ header ++ rest
+  pub ends : end ≡ length header
+
+-- some of the first bytes of the file couldn't be read, which has a size
+pub record IsUnreadInFront (handle : Handle) (d : Disk) (kind : ErrorKind) : Type 0 where
+  pub source : Source
+  pub reads_by : source.handle ≡ handle
+  pub size : source.size ≡ length (bytes_of source d)
+  pub unread : IsUnreadFrom source 0 d kind
+
+-- Why a file wasn't opened: its size wasn't told or its first bytes couldn't be read, memory ran out, or this
+-- is the first fault of a header in its first 69 bytes.
+abbrev pub FailsToOpen : Handle → Disk → Error → Type 0
+FailsToOpen handle d (errors.Io kind) = IsNotMeasured handle d kind ⊎ IsUnreadInFront handle d kind
+FailsToOpen handle d e = Fails e (header_at (take 69 (bytes_in (d.files handle.file))))

@@ -1,0 +1,58 @@
+-- A reader of a log file: what callers see of it, and what its calls answer.
+use Rattle.std.specs.Prelude.{◌≡◌, ℕ, ◌+◌, ◌≤◌, length, Option, Some, None, MatchOption}
+use Rattle.std.specs.Option.{ForSome}
+use Rattle.raft_log_base.specs.declared.pipe_log.FileId.{FileId}
+use Rattle.raft_log_base.specs.declared.pipe_log.FileBlockHandle.{FileBlockHandle}
+use Rattle.raft_log_disk.specs.Disk.{Disk}
+use Rattle.raft_log_disk.specs.declared.handle.Handle.{Handle}
+use Rattle.raft_log_format.specs.declared.header.LogFileFormat.{LogFileFormat}
+use Rattle.raft_log_records.specs.ItemBatch.{ItemBatch}
+use Rattle.raft_log_reader.specs.Source.{bytes_of}
+use Rattle.raft_log_reader.specs.Holding.{HoldsPart}
+use Rattle.raft_log_reader.specs.Opening.{BeginsWithHeader}
+use Rattle.raft_log_reader.specs.Batches.{HasBatch, HasNoMore}
+use Rattle.raft_log_reader.specs.declared.source.Source.{Source}
+use Rattle.raft_log_reader.specs.declared.open_file.OpenFile.{OpenFile}
+use Rattle.raft_log_reader.specs.declared.reader.LogItemBatchFileReader.{LogItemBatchFileReader}
+
+-- the file that the reader reads, if one is open
+abbrev pub file_of : LogItemBatchFileReader → Option OpenFile
+file_of reader = reader.file
+
+-- where the last good record that was read ends, or the header
+abbrev pub end_of : LogItemBatchFileReader → ℕ
+end_of reader = reader.valid_offset
+
+-- the reader reads this file, whose bytes stand on the disk as when it was opened
+pub record IsReadingFile (d : Disk) (reader : LogItemBatchFileReader) (file : OpenFile) : Type 0 where
+  pub holds : HoldsPart file.source d reader.window
+  pub within : reader.valid_offset ≤ file.source.size
+
+-- where a file is open, the reader reads it from this disk
+abbrev pub IsReading : Disk → LogItemBatchFileReader → Type 0
+IsReading d reader = ForSome reader.file (IsReadingFile d reader)
+
+-- a place lies in the file that is open
+abbrev pub IsInside : FileBlockHandle → LogItemBatchFileReader → Type 0
+IsInside block reader = ForSome reader.file (λ file. block.offset + block.len ≤ file.source.size)
+
+-- no file is open
+pub record IsClosed (reader : LogItemBatchFileReader) : Type 0 where
+  pub file : file_of reader ≡ None
+  pub end : end_of reader ≡ 0
+
+-- the file by this handle is open, and the reader stands behind its header
+pub record Opens (id : FileId) (handle : Handle) (d : Disk) (format : LogFileFormat)
+    (reader : LogItemBatchFileReader) : Type 0 where
+  pub source : Source
+  pub reads_by : source.handle ≡ handle
+  pub size : source.size ≡ length (bytes_of source d)
+  pub opened : file_of reader ≡ Some (record { id = id; source = source; format = format })
+  pub header : BeginsWithHeader (bytes_of source d) format (end_of reader)
+
+-- The next batch with its end, or no batch where the file holds no more, which leaves the end.
+abbrev pub Answers : Disk → OpenFile → LogItemBatchFileReader → LogItemBatchFileReader → Option ItemBatch
+    → Type 0
+Answers d file old new found = MatchOption found
+    (HasNoMore file (bytes_of file.source d) (end_of old) × (end_of new ≡ end_of old))
+    (λ batch. HasBatch file (bytes_of file.source d) (end_of old) batch.items (end_of new))

@@ -1,0 +1,45 @@
+-- A reader at work, batch by batch.
+use Rattle.std.proofs.Common.{◌≡◌, ◌-◌, ◌<◌, ℕ, List, [], ◌∷◌, ◌++◌, Some, refl, sym, ap, subst, ◌∙◌, arith}
+use Rattle.raft_log_base.specs.declared.pipe_log.FileId.{FileId}
+use Rattle.raft_log_items.specs.declared.item.LogItem.{LogItem}
+use Rattle.raft_log_disk.specs.Disk.{Disk}
+use Rattle.raft_log_disk.specs.declared.handle.Handle.{Handle}
+use Rattle.raft_log_reader.specs.Source.{bytes_of}
+use Rattle.raft_log_reader.specs.Batches.{HasBatch}
+use Rattle.raft_log_reader.specs.Laws.{EndsBehind}
+use Rattle.raft_log_reader.specs.Reader.{IsReading, file_of, end_of}
+use Rattle.raft_log_reader.specs.declared.open_file.OpenFile.{OpenFile}
+use Rattle.raft_log_reader.specs.declared.reader.LogItemBatchFileReader.{LogItemBatchFileReader}
+use Rattle.raft_log_reader.proofs.Readings.{batches_go_on_is}
+use Rattle.raft_log_reader_tests.specs.GoodEnd.{IsAtWork, HasReadTo, EndsItsBatches, size_in, left_of}
+
+-- one more batch
+pub went_on : (id : FileId) (handle : Handle) (d : Disk) (old new : LogItemBatchFileReader) (items : List LogItem) (work : IsAtWork id handle d old)
+    → file_of new ≡ file_of old → IsReading d new → HasBatch work.file (bytes_of work.file.source d) (end_of old) items (end_of new) → IsAtWork id handle d new
+went_on id handle d old new items work same reading batch = record {
+  reading = reading;
+  file = work.file;
+  opened = same ∙ work.opened;
+  read = record {
+    is = work.read.is;
+    reads_by = work.read.reads_by;
+    start = work.read.start;
+    header = work.read.header;
+    batches = work.read.batches ++ items ∷ [];
+    has = batches_go_on_is work.file (bytes_of work.file.source d) work.read.start (end_of old) (end_of new) work.read.batches items work.read.has batch;
+  };
+}
+
+-- leaves less behind it
+pub less_left : (id : FileId) (handle : Handle) (d : Disk) (old new : LogItemBatchFileReader) → IsAtWork id handle d old → file_of new ≡ file_of old → IsReading d new
+    → end_of old < end_of new → left_of new < left_of old
+less_left id handle d old new work same reading further =
+    let within = (reading work.file (same ∙ work.opened)).within in
+    let size : size_in (file_of old) ≡ work.file.source.size = ap size_in work.opened in
+    let kept : size_in (file_of new) ≡ work.file.source.size = ap size_in (same ∙ work.opened) in
+    omega (arith, within, size, kept, further)
+
+-- where none comes any more the batches end
+pub ended : (id : FileId) (handle : Handle) (d : Disk) (old : LogItemBatchFileReader) (n : ℕ) (work : IsAtWork id handle d old) → n ≡ end_of old
+    → EndsBehind work.file (bytes_of work.file.source d) (end_of old) → EndsItsBatches id handle d n
+ended id handle d old n work is ends = subst (EndsItsBatches id handle d) (sym is) (record { file = work.file; read = work.read; ends = ends })

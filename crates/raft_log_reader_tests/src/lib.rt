@@ -1,0 +1,14 @@
+//! Tests of reading a log file: the rule of block reads, padding, damaged files and refused reads; and a caller.
+#![tactic(auto)]
+
+#[cfg(test)]
+mod blocks;
+#[cfg(test)]
+mod counting;
+#[cfg(test)]
+mod damaged;
+#[cfg(test)]
+mod files;
+pub mod good_end;
+#[cfg(test)]
+mod padding;

@@ -1,9 +1,10 @@
 //! The settings of a log: what may be set, and what is made of it.
-ghost use Rattle.std.specs.Prelude.{◌≡◌, ◌↔◌, IsTrue, IfNone, IfSome, IfErr, OnOk, OnErr, List, length};
+ghost use Rattle.std.specs.Prelude.{◌≡◌, ◌↔◌, IsTrue, IfNone, IfSome, IfOk, IfErr, OnOk, OnErr, List, length};
 ghost use Rattle.std.specs.String.{string_bytes};
 ghost use Rattle.raft_log_settings.specs.Sanitized.{IsFileName, IsFileIn, Clash, files_within};
 
 use super::fault::ConfigFault;
+use super::printing::to_table;
 use super::reading::{from_table, no_toml};
 use super::recovery_mode::RecoveryMode;
 use log::{Log, info, warn};
@@ -51,7 +52,8 @@ pub struct Config {
 
 impl Config {
     ghost use Rattle.raft_log_settings.specs.Settings.{settings_of, default_settings};
-    ghost use Rattle.raft_log_settings.specs.Reading.{GivesSettingsOf};
+    ghost use Rattle.raft_log_settings.specs.Reading.{GivesSettingsOf, SaysSettings};
+    ghost use Rattle.raft_log_settings.specs.Printing.{rows_of, IsUnprintable};
     ghost use Rattle.raft_log_settings.specs.Sanitized.{IsFirstFault, IsSound, sanitized, IsRefusedFor, recycle_capacity, prefill_capacity};
 
     /// The usual settings: an empty `dir`, files of 128 MiB, a purge from 10 GiB on, four workers.
@@ -87,6 +89,19 @@ impl Config {
             Ok(table) => from_table(alloc, &table),
             Err(error) if error.is_memory() => Err(Error::Memory),
             Err(_) => Err(no_toml(alloc)),
+        }
+    }
+
+    /// The settings as TOML, which `from_toml` reads as the same settings: each key that has a value, sizes as text. A
+    /// number of 2^63 or more, which TOML doesn't say, is refused as an invalid argument that names the first such key.
+    pub fn to_toml(&self, alloc: Global) -> Result<String>
+        ensures ok { IfOk result (λ text. SaysSettings (string_bytes text) (settings_of self.now)) }
+        ensures err { IfErr result (λ error. IsUnprintable (rows_of (settings_of self.now)) error) }
+    {
+        let table = to_table(alloc, self)?;
+        match toml::table_to_string(alloc, &table) {
+            Ok(text) => Ok(text),
+            Err(_) => Err(Error::Memory),
         }
     }
 

@@ -1,11 +1,11 @@
 -- Rows that are put into a table, and what is read of it.
 use Rattle.std.proofs.Common.{◌≡◌, ℕ, ◌+◌, ◌<◌, ◌≤◌, Bool, true, false, cond, length, get_or, take, drop, Bor, inl, inr, List, [], ◌∷◌, ◌++◌, String, Global, Ordering, Less, Equal, Greater, string_bytes, nat_cmp, refl, sym, ap, ◌∙◌, arith, le-leb}
-use Rattle.std.specs.Prelude.{map, Option, Some, None, Ok, codes, pos, ◌*◌, ◌^◌}
+use Rattle.std.specs.Prelude.{map, nat_le, Option, Some, None, Ok, codes, pos, ◌*◌, ◌^◌}
 use Rattle.std.specs.Result.{result_ok}
 use Rattle.std.specs.Option.{option_map, option_or}
 use Rattle.std.specs.Str.{bytes_eq}
 use Rattle.std.specs.Cmp.Lexicographic.{slice_cmp}
-use Rattle.std.proofs.lemmas.Bool.{cases_Bool}
+use Rattle.std.proofs.lemmas.Bool.{cases_Bool, leb-true}
 use Rattle.std.proofs.lemmas.List.{take_more, drop_more, take-append-drop, map-append}
 use Rattle.std.proofs.lemmas.Map.Text.{btree_map_updates_text}
 use Rattle.std.specs.Ordering.{match_ordering}
@@ -16,6 +16,7 @@ use Rattle.toml.specs.Data.Data.{string, integer, boolean}
 use Rattle.toml.specs.View.{view, members_view}
 use Rattle.toml.specs.declared.value.Value.{Value}
 use Rattle.toml.proofs.Views.{view-lookup}
+use Rattle.raft_log_base.specs.Size.{size_text}
 use Rattle.raft_log_base.specs.Files.{version_number}
 use Rattle.raft_log_base.specs.declared.size.ReadableSize.{ReadableSize}
 use Rattle.raft_log_base.specs.declared.pipe_log.Version.{Version}
@@ -49,9 +50,16 @@ pub flat_insert : (es : Pairs) (k : String Global) (v : Value) → depth (view v
 flat_insert [] k v flat old = omega arith
 flat_insert (e ∷ es) k v flat old = deeper (string_cmp k e.0) k v e es (insert_entry string_cmp es k v) flat old (flat_insert es k v flat (omega arith))
 
+flat_size : (n : ℕ) → depth (size_data n) ≡ 0
+flat_size n =
+    elim (cases_Bool (nat_le (2 ^ 63) n)) [
+      | inl e ↦ rw e refl
+      | inr e ↦ rw e refl
+    ]
+
 pub flat_entry : (entry : Entry) → depth (data_of entry) ≡ 0
 flat_entry (entries.Text text) = refl
-flat_entry (entries.Size size) = refl
+flat_entry (entries.Size size) = flat_size size.0
 flat_entry (entries.Number n) = refl
 flat_entry (entries.Switch on) = refl
 
@@ -151,23 +159,48 @@ pub these_rows : (s : Settings) (dir spill mode block per_sync version target th
     → threshold ≡ Some (size_data s.purge_threshold) → rewrite ≡ option_map size_data s.purge_rewrite_threshold
     → memory ≡ option_map size_data s.memory_limit → prefill ≡ option_map size_data s.prefill_limit
     → ((codes "dir", dir) ∷ (codes "spill-dir", spill) ∷ (codes "recovery-mode", mode) ∷ (codes "recovery-read-block-size", block)
-      ∷ (codes "recovery-threads", Some (integer (pos s.recovery_threads))) ∷ (codes "bytes-per-sync", per_sync)
-      ∷ (codes "format-version", version) ∷ (codes "target-file-size", target) ∷ (codes "purge-threshold", threshold)
-      ∷ (codes "purge-rewrite-threshold", rewrite)
-      ∷ (codes "purge-rewrite-garbage-ratio", Some (integer (pos s.purge_rewrite_garbage_ratio))) ∷ (codes "memory-limit", memory)
-      ∷ (codes "enable-log-recycle", Some (boolean s.enable_log_recycle))
-      ∷ (codes "prefill-for-recycle", Some (boolean s.prefill_for_recycle)) ∷ (codes "prefill-limit", prefill) ∷ []) ≡ rows_of s
+    ∷ (codes "recovery-threads", Some (integer (pos s.recovery_threads))) ∷ (codes "bytes-per-sync", per_sync)
+    ∷ (codes "format-version", version) ∷ (codes "target-file-size", target) ∷ (codes "purge-threshold", threshold)
+    ∷ (codes "purge-rewrite-threshold", rewrite)
+    ∷ (codes "purge-rewrite-garbage-ratio", Some (integer (pos s.purge_rewrite_garbage_ratio))) ∷ (codes "memory-limit", memory)
+    ∷ (codes "enable-log-recycle", Some (boolean s.enable_log_recycle))
+    ∷ (codes "prefill-for-recycle", Some (boolean s.prefill_for_recycle)) ∷ (codes "prefill-limit", prefill) ∷ []) ≡ rows_of s
 these_rows s dir spill mode block per_sync version target threshold rewrite memory prefill e1 e2 e3 e4 e5 e6 e7 e8 e9 e10 e11 =
     rw (e1, e2, e3, e4, e5, e6, e7, e8, e9, e10, e11) refl
+
+-- a size is a number or a text
+
+pub small_size : (n : ℕ) → n < 2 ^ 63 → integer (pos n) ≡ size_data n
+small_size n lt = elim (cases_Bool (nat_le (2 ^ 63) n)) [
+  | inl e ↦ absurd (omega (arith, leb-true (2 ^ 63) n e))
+  | inr e ↦ rw e refl
+]
+
+pub large_size : (n : ℕ) → 2 ^ 63 ≤ n → string (size_text n) ≡ size_data n
+large_size n le = rw (le-leb (2 ^ 63) n le) refl
+
+pub not_past : (n : ℕ) → is_past (Some (size_data n)) ≡ false
+not_past n = elim (cases_Bool (nat_le (2 ^ 63) n)) [
+  | inl e ↦ rw e refl
+  | inr e ↦ rw e e
+]
 
 -- Reading what was put.
 
 size_reads : (key : List ℕ) (n a : ℕ) → n < 2 ^ 64 → at_value key size_of a (Some (size_data n)) ≡ Ok n
-size_reads key n a lt = ap (λ r. ok_or (result_ok r) key) (size_in-size_text n lt)
+size_reads key n a lt =
+    elim (cases_Bool (nat_le (2 ^ 63) n)) [
+      | inl e ↦ rw e (ap (λ r. ok_or (result_ok r) key) (size_in-size_text n lt))
+      | inr e ↦ rw e refl
+    ]
 
 maybe_size_reads : (key : List ℕ) (o : Option ℕ) → Fits o → at_value key (maybe size_of) None (option_or (option_map size_data o) None) ≡ Ok o
 maybe_size_reads key None fits = refl
-maybe_size_reads key (Some n) fits = ap (λ r. ok_or (option_map (λ x. Some x) (result_ok r)) key) (size_in-size_text n fits)
+maybe_size_reads key (Some n) fits =
+    elim (cases_Bool (nat_le (2 ^ 63) n)) [
+      | inl e ↦ rw e (ap (λ r. ok_or (option_map (λ x. Some x) (result_ok r)) key) (size_in-size_text n fits))
+      | inr e ↦ rw e refl
+    ]
 
 maybe_text_reads : (key : List ℕ) (o : Option (List ℕ)) → at_value key (maybe as_str) None (option_or (option_map (λ d. string d) o) None) ≡ Ok o
 maybe_text_reads key None = refl

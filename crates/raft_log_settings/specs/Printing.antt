@@ -1,5 +1,5 @@
 -- How settings are printed as TOML: each key with its value, unless it has none.
-use Rattle.std.specs.Prelude.{◌≡◌, ℕ, pos, ◌++◌, ◌^◌, ◌<◌, Bool, true, false, nat_le, cond, if◌then◌else◌, List, [], ◌∷◌, Option, Some, None, codes}
+use Rattle.std.specs.Prelude.{◌≡◌, ℕ, pos, ◌++◌, ◌^◌, ◌<◌, Bool, false, nat_le, cond, if◌then◌else◌, List, [], ◌∷◌, Option, Some, None, codes}
 use Rattle.std.specs.Str.{bytes_eq}
 use Rattle.std.specs.Option.{option_map, option_or}
 use Rattle.std.specs.Borrow.{Bor}
@@ -18,15 +18,15 @@ use Rattle.raft_log_settings.specs.Settings.{Settings}
 
 -- Values.
 
--- the word of a recovery mode
+-- the word of a recovery mode that is written, for tail tolerance the older one
 abbrev pub word_of : RecoveryMode → List ℕ
 word_of AbsoluteConsistency = codes "absolute-consistency"
-word_of TolerateTailCorruption = codes "tolerate-tail-corruption"
+word_of TolerateTailCorruption = codes "tolerate-corrupted-tail-records"
 word_of TolerateAnyCorruption = codes "tolerate-any-corruption"
 
--- a size, as a text with the greatest unit that divides it
+-- a size: a number of bytes, and past the range of TOML's numbers a text
 abbrev pub size_data : ℕ → Data
-size_data n = string (size_text n)
+size_data n = cond (nat_le (2 ^ 63) n) (string (size_text n)) (integer (pos n))
 
 -- a size that fits 64 bits, if there is one
 abbrev pub Fits : Option ℕ → Type 0

@@ -1,5 +1,5 @@
 -- How settings are read from TOML: each key with the type of its value, and what stands where it is absent.
-use Rattle.std.specs.Prelude.{◌≡◌, ℕ, ℤ, pos, negsuc, ◌++◌, ◌*◌, ◌^◌, Bool, true, false, List, [], Option, Some, None, unwrap_or, Result, Ok, Err, ◌⊎◌, if◌then◌else◌, ◌==◌, codes}
+use Rattle.std.specs.Prelude.{◌≡◌, ℕ, ℤ, pos, negsuc, ◌++◌, Bool, List, Option, Some, None, Result, Ok, Err, ◌⊎◌, if◌then◌else◌, ◌==◌, codes}
 use Rattle.std.specs.Str.{bytes_eq, trim}
 use Rattle.std.specs.Option.{option_map, option_and_then}
 use Rattle.std.specs.Result.{result_ok}

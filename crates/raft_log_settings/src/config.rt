@@ -92,8 +92,9 @@ impl Config {
         }
     }
 
-    /// The settings as TOML, which `from_toml` reads as the same settings: each key that has a value, sizes as text. A
-    /// number of 2^63 or more, which TOML doesn't say, is refused as an invalid argument that names the first such key.
+    /// The settings as TOML, which `from_toml` reads as the same settings: each key that has a value. A size of 2^63
+    /// or more, which TOML has no number for, is a text; another such number is refused as an invalid argument that
+    /// names its key.
     pub fn to_toml(&self, alloc: Global) -> Result<String>
         ensures ok { IfOk result (λ text. SaysSettings (string_bytes text) (settings_of self.now)) }
         ensures err { IfErr result (λ error. IsUnprintable (rows_of (settings_of self.now)) error) }

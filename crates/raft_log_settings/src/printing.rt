@@ -12,7 +12,7 @@ use super::config::Config;
 use super::reading::text_of;
 use super::recovery_mode::RecoveryMode;
 use raft_log_base::{Error, ReadableSize, Result};
-use std::alloc::Global;
+use std::alloc::{AllocError, Global};
 use toml::{Table, Value};
 
 /// What a key is given.
@@ -33,18 +33,45 @@ pub fn to_table(alloc: Global, config: &Config) -> Result<Table>
     let rows = [
         ("dir", Some(Entry::Text(config.dir.as_str()))),
         ("spill-dir", text_entry(text_of(&config.spill_dir))),
-        ("recovery-mode", Some(Entry::Text(word_of(config.recovery_mode)))),
-        ("recovery-read-block-size", size_entry(Some(config.recovery_read_block_size))),
-        ("recovery-threads", Some(Entry::Number(config.recovery_threads as u64))),
+        (
+            "recovery-mode",
+            Some(Entry::Text(word_of(config.recovery_mode))),
+        ),
+        (
+            "recovery-read-block-size",
+            size_entry(Some(config.recovery_read_block_size)),
+        ),
+        (
+            "recovery-threads",
+            Some(Entry::Number(config.recovery_threads as u64)),
+        ),
         ("bytes-per-sync", size_entry(config.bytes_per_sync)),
-        ("format-version", Some(Entry::Number(config.format_version.to_u64()))),
-        ("target-file-size", size_entry(Some(config.target_file_size))),
+        (
+            "format-version",
+            Some(Entry::Number(config.format_version.to_u64())),
+        ),
+        (
+            "target-file-size",
+            size_entry(Some(config.target_file_size)),
+        ),
         ("purge-threshold", size_entry(Some(config.purge_threshold))),
-        ("purge-rewrite-threshold", size_entry(config.purge_rewrite_threshold)),
-        ("purge-rewrite-garbage-ratio", Some(Entry::Number(config.purge_rewrite_garbage_ratio))),
+        (
+            "purge-rewrite-threshold",
+            size_entry(config.purge_rewrite_threshold),
+        ),
+        (
+            "purge-rewrite-garbage-ratio",
+            Some(Entry::Number(config.purge_rewrite_garbage_ratio)),
+        ),
         ("memory-limit", size_entry(config.memory_limit)),
-        ("enable-log-recycle", Some(Entry::Switch(config.enable_log_recycle))),
-        ("prefill-for-recycle", Some(Entry::Switch(config.prefill_for_recycle))),
+        (
+            "enable-log-recycle",
+            Some(Entry::Switch(config.enable_log_recycle)),
+        ),
+        (
+            "prefill-for-recycle",
+            Some(Entry::Switch(config.prefill_for_recycle)),
+        ),
         ("prefill-limit", size_entry(config.prefill_limit)),
     ];
     table_of(alloc, &rows)
@@ -56,7 +83,7 @@ fn word_of(mode: RecoveryMode) -> &'static str
 {
     match mode {
         RecoveryMode::AbsoluteConsistency => "absolute-consistency",
-        RecoveryMode::TolerateTailCorruption => "tolerate-tail-corruption",
+        RecoveryMode::TolerateTailCorruption => "tolerate-corrupted-tail-records",
         RecoveryMode::TolerateAnyCorruption => "tolerate-any-corruption",
     }
 }
@@ -114,12 +141,22 @@ fn value_of(alloc: Global, key: &str, entry: Entry<'_>) -> Result<Value>
 {
     match entry {
         Entry::Text(text) => Ok(Value::string(alloc, text)?),
-        Entry::Size(size) => Ok(Value::from(format!(in alloc; "{size}")?)),
+        Entry::Size(size) => Ok(size_value(alloc, size)?),
         Entry::Switch(on) => Ok(Value::from(on)),
         Entry::Number(number) => match i64::try_from(number) {
             Ok(number) => Ok(Value::from(number)),
             Err(_) => Err(too_large(alloc, key)),
         },
+    }
+}
+
+/// The value of a size: a number of bytes, or a text where TOML has no such number.
+fn size_value(alloc: Global, size: ReadableSize) -> std::result::Result<Value, AllocError>
+    ensures { IfOk result (λ value. view value ≡ size_data size.0) }
+{
+    match i64::try_from(size.0) {
+        Ok(bytes) => Ok(Value::from(bytes)),
+        Err(_) => Ok(Value::from(format!(in alloc; "{size}")?)),
     }
 }
 

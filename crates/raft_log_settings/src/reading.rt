@@ -211,15 +211,16 @@ pub fn no_toml(alloc: Global) -> Error
 
 /// What a table says of files that are used again.
 #[tactic(auto, unfolding(crate::specs::Reading::recycling_in))]
-fn recycling_in(
-    alloc: Global,
-    table: &Table,
-    usual: &Config,
-) -> Result<(bool, bool, Option<u64>)>
+fn recycling_in(alloc: Global, table: &Table, usual: &Config) -> Result<(bool, bool, Option<u64>)>
     ensures { GivesKeys result (recycling_in (settings_of usual.now) (table_view table.now)) }
 {
     let enable = bool_at(alloc, table, "enable-log-recycle", usual.enable_log_recycle)?;
-    let prefill = bool_at(alloc, table, "prefill-for-recycle", usual.prefill_for_recycle)?;
+    let prefill = bool_at(
+        alloc,
+        table,
+        "prefill-for-recycle",
+        usual.prefill_for_recycle,
+    )?;
     let limit = maybe_size_at(alloc, table, "prefill-limit", bytes_of(usual.prefill_limit))?;
     Ok((enable, prefill, limit))
 }
@@ -245,7 +246,12 @@ fn recovery_in(alloc: Global, table: &Table, usual: &Config) -> Result<(Recovery
     let mode = mode_at(alloc, table, "recovery-mode", usual.recovery_mode)?;
     let usual_block = usual.recovery_read_block_size;
     let block = size_at(alloc, table, "recovery-read-block-size", usual_block)?;
-    let threads = number_at(alloc, table, "recovery-threads", usual.recovery_threads as u64)?;
+    let threads = number_at(
+        alloc,
+        table,
+        "recovery-threads",
+        usual.recovery_threads as u64,
+    )?;
     Ok((mode, block, threads))
 }
 
@@ -254,7 +260,12 @@ fn recovery_in(alloc: Global, table: &Table, usual: &Config) -> Result<(Recovery
 fn files_in(alloc: Global, table: &Table, usual: &Config) -> Result<(Option<u64>, Version, u64)>
     ensures { GivesKeys result (files_in (settings_of usual.now) (table_view table.now)) }
 {
-    let per_sync = maybe_size_at(alloc, table, "bytes-per-sync", bytes_of(usual.bytes_per_sync))?;
+    let per_sync = maybe_size_at(
+        alloc,
+        table,
+        "bytes-per-sync",
+        bytes_of(usual.bytes_per_sync),
+    )?;
     let format_version = version_at(alloc, table, "format-version", usual.format_version)?;
     let target = size_at(alloc, table, "target-file-size", usual.target_file_size)?;
     Ok((per_sync, format_version, target))

@@ -1,7 +1,5 @@
 use Rattle.std.proofs.Common.{string_bytes}
 use Rattle.raft_log_settings.proofs.Printings.{put_at, flat_insert}
-use Rattle.toml.specs.Data.{members_depth}
-use Rattle.toml.specs.View.{members_view}
 use Rattle.raft_log_settings.proofs.printing.put.Goals as goal
 
 pub returns-in-Ok-clause-ok : goal.returns-in-Ok-clause-ok

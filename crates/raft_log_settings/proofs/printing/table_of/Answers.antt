@@ -12,4 +12,4 @@ returns-in_err-put_row-clause-err c =
 pub loop-row-preserved : goal.loop-row-preserved
 loop-row-preserved c =
     one_more c.args.rows.now c.loop-row.row-index (record { ref_ptr = (0, 0); now = [] }, None) (table_view c.loop-row.table) (table_view c.put_row.new.table)
-      c.loop-row-test.true c.loop-row.invariant c.in_ok-put_row.ensures.ok c.in_ok-put_row.ensures.said
+    c.loop-row-test.true c.loop-row.invariant c.in_ok-put_row.ensures.ok c.in_ok-put_row.ensures.said

@@ -14,7 +14,11 @@ pub record Held : Type 0 where
 
 -- what is kept of a file
 abbrev pub held : Stored → Held
-held stored = record { content = stored.content.items; synced = stored.synced.items; changes = map made_of stored.changes.items }
+held stored = record {
+  content = stored.content.items;
+  synced = stored.synced.items;
+  changes = map made_of stored.changes.items;
+}
 
 -- a file whose bytes are all synced
 abbrev pub resting : List ℕ → Held

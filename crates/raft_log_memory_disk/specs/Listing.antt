@@ -17,5 +17,6 @@ pub record IsChild (directory path : List ℕ) (node : Node) (name : List ℕ) :
 abbrev pub Names : List ℕ → List (String Global × Node) → List (List ℕ) → Type 0
 Names directory [] names = names ≡ []
 Names directory (e ∷ es) names =
-    ((name : List ℕ) × (rest : List (List ℕ)) × (names ≡ name ∷ rest) × IsChild directory (string_bytes e.0) e.1 name × Names directory es rest)
+    ((name : List ℕ) × (rest : List (List ℕ)) × (names ≡ name ∷ rest)
+        × IsChild directory (string_bytes e.0) e.1 name × Names directory es rest)
     ⊎ (((name : List ℕ) → IsChild directory (string_bytes e.0) e.1 name → ⊥) × Names directory es names)

@@ -1,4 +1,5 @@
--- The stamps of all changes, which tell a change's place in the order of the calls, and what is left of a file by them.
+-- The stamps of all changes, which tell a change's place in the order of the calls, and what is left of a
+-- file by them.
 use Rattle.std.specs.Prelude.{ℕ, suc, zero, Option, Some, None, List, [], ◌∷◌, ◌++◌, length}
 use Rattle.std.specs.List.{filter}
 use Rattle.std.proofs.Common.{map, nat_lt}

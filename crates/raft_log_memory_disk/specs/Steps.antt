@@ -1,4 +1,5 @@
--- What each change of a file system in memory makes of its disk, and of the order of the changes of all files.
+-- What each change of a file system in memory makes of its disk, and of the order of the changes of all
+-- files.
 use Rattle.std.specs.Prelude.{◌≡◌, ℕ, ◌⊎◌, ◌≤◌, cond, nat_eq, Option, Some, None, List, [], ◌∷◌, ◌++◌}
 use Rattle.std.specs.declared.io.ErrorKind.{ErrorKind}
 use Rattle.std.specs.declared.io.ErrorKind.TheVariants.{OutOfMemory, StorageFull}
@@ -16,12 +17,14 @@ pub record IsSame (old new : Storage) : Type 0 where
 
 -- a file was changed, and this change is the last one of all
 pub record Makes (id : ℕ) (change : Change) (old new : Storage) : Type 0 where
-  pub contents : (file : File) → (contents_of old).files id ≡ Some file → contents_of new ≡ with_file id (Some (after_change change file)) (contents_of old)
+  pub contents : (file : File) → (contents_of old).files id ≡ Some file
+      → contents_of new ≡ with_file id (Some (after_change change file)) (contents_of old)
   pub order : unsynced_of new ≡ unsynced_of old ++ (id, change) ∷ []
 
 -- a file was synced, and its changes are among the others no more
 pub record Syncs (id : ℕ) (old new : Storage) : Type 0 where
-  pub contents : (file : File) → (contents_of old).files id ≡ Some file → contents_of new ≡ with_file id (Some (flushed file)) (contents_of old)
+  pub contents : (file : File) → (contents_of old).files id ≡ Some file
+      → contents_of new ≡ with_file id (Some (flushed file)) (contents_of old)
   pub order : unsynced_of new ≡ without_file id (unsynced_of old)
 
 -- a name was added, and no file changed

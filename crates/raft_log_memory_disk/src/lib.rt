@@ -1,4 +1,5 @@
-//! What a file system in memory holds: names, files and the changes that aren't synced; and what a crash leaves of it.
+//! What a file system in memory holds: names, files and the changes that aren't synced; and what a crash
+//! leaves of it.
 #![tactic(auto)]
 
 mod bytes;

@@ -108,8 +108,8 @@ impl Storage {
         }
     }
 
-    /// Copies the bytes of a file that is there from `offset` on, until the room is full or they end, and answers how many.
-    /// For a file that isn't there nothing is said.
+    /// Copies the bytes of a file that is there from `offset` on, until the room is full or they end, and
+    /// answers how many. For a file that isn't there nothing is said.
     pub fn read(&self, id: usize, offset: usize, room: &mut [u8]) -> usize
         ensures number { (file : Held) → held_of self.now.files.items id ≡ Some file → result ≡ min (length room.old) (length file.content - offset) }
         ensures bytes { (file : Held) → held_of self.now.files.items id ≡ Some file → room.new ≡ take result (drop offset file.content) ++ drop result room.old }
@@ -167,8 +167,8 @@ impl Storage {
         })
     }
 
-    /// Writes into a file that is there, with zeros in a gap. It is refused as `StorageFull` where the file would reach
-    /// 2^63 bytes, and as `OutOfMemory`.
+    /// Writes into a file that is there, with zeros in a gap. It is refused as `StorageFull` where the file
+    /// would reach 2^63 bytes, and as `OutOfMemory`.
     pub fn write(&mut self, id: usize, offset: usize, bytes: &[u8]) -> Result<(), ErrorKind>
         requires there { (held_of self.old.files.items id ≡ None) → ⊥ }
         requires whole { IsWhole self.old }
@@ -200,8 +200,8 @@ impl Storage {
             .map_err(|_| ErrorKind::OutOfMemory)
     }
 
-    /// Fills a file that is there up with zeros to `offset + size` bytes. It is refused as `StorageFull` where these are
-    /// 2^63 or more, and as `OutOfMemory`.
+    /// Fills a file that is there up with zeros to `offset + size` bytes. It is refused as `StorageFull`
+    /// where these are 2^63 or more, and as `OutOfMemory`.
     pub fn grow(&mut self, id: usize, offset: usize, size: usize) -> Result<(), ErrorKind>
         requires there { (held_of self.old.files.items id ≡ None) → ⊥ }
         requires whole { IsWhole self.old }
@@ -218,7 +218,8 @@ impl Storage {
             .map_err(|_| ErrorKind::OutOfMemory)
     }
 
-    // Makes a change of a file that is there. The 2^64-th one finds no stamp, and is refused as for want of memory.
+    // Makes a change of a file that is there. The 2^64-th one finds no stamp, and is refused as for want of
+    // memory.
     fn change(&mut self, id: usize, change: Change) -> Result<(), AllocError>
         requires there { (held_of self.old.files.items id ≡ None) → ⊥ }
         requires short { end_of (change_of change) < file_limit }
@@ -246,7 +247,8 @@ impl Storage {
         flush_file(&mut self.files, id)
     }
 
-    /// Adds an empty file under a new name, and answers its node number. It is refused for want of memory alone.
+    /// Adds an empty file under a new name, and answers its node number. It is refused for want of memory
+    /// alone.
     pub fn add_file(&mut self, path: &str) -> Result<usize, AllocError>
         requires free { node_at self.old path.now ≡ None }
         requires whole { IsWhole self.old }
@@ -286,7 +288,8 @@ impl Storage {
         self.drop_file(id);
     }
 
-    /// Puts a file under another name; a file that had that name is gone. It is refused for want of memory alone.
+    /// Puts a file under another name; a file that had that name is gone. It is refused for want of memory
+    /// alone.
     pub fn rename_file(&mut self, from: &str, to: &str, id: usize) -> Result<(), AllocError>
         requires is { node_at self.old from.now ≡ Some (Node.File id) }
         requires apart { node_at self.old to.now ≡ Some Node.Directory → ⊥ }

@@ -122,7 +122,8 @@ too_large key = codes "number past the range of TOML at " ++ key
 
 -- why rows aren't printed: the first number past the range of TOML, by its key, or memory ran out
 abbrev pub IsUnprintable : List Row → Error → Type 0
-IsUnprintable rows (errors.InvalidArgument text) = (key : List ℕ) × (first_past rows ≡ Some key) × (string_bytes text ≡ too_large key)
+IsUnprintable rows (errors.InvalidArgument text) =
+    (key : List ℕ) × (first_past rows ≡ Some key) × (string_bytes text ≡ too_large key)
 IsUnprintable rows errors.Memory = Unit {0}
 IsUnprintable rows _ = ⊥
 

@@ -92,10 +92,10 @@ recycling_in usual t = do
 -- what a table says of purges: from which sizes of Append and of Rewrite on, and from which share of garbage
 unfoldable pub purging_in : Settings → Members → Result (ℕ × Option ℕ × ℕ) (List ℕ)
 purging_in usual t = do
-  purge_threshold ← at (codes "purge-threshold") size_of usual.purge_threshold t
-  purge_rewrite_threshold ← at (codes "purge-rewrite-threshold") (maybe size_of) usual.purge_rewrite_threshold t
+  threshold ← at (codes "purge-threshold") size_of usual.purge_threshold t
+  rewrite ← at (codes "purge-rewrite-threshold") (maybe size_of) usual.purge_rewrite_threshold t
   garbage_ratio ← at (codes "purge-rewrite-garbage-ratio") number_of usual.purge_rewrite_garbage_ratio t
-  Ok (purge_threshold, purge_rewrite_threshold, garbage_ratio)
+  Ok (threshold, rewrite, garbage_ratio)
 
 -- what a table says of a recovery: what it does about damage, its block and its workers
 unfoldable pub recovery_in : Settings → Members → Result (RecoveryMode × ℕ × ℕ) (List ℕ)
@@ -113,7 +113,8 @@ files_in usual t = do
   target_file_size ← at (codes "target-file-size") size_of usual.target_file_size t
   Ok (bytes_per_sync, format_version, target_file_size)
 
--- the settings that a table says over the usual ones, or its first wrong key in this order; other keys are left out
+-- the settings that a table says over the usual ones, or its first wrong key in this order; other keys are
+-- left out
 unfoldable pub settings_over : Settings → Members → Result Settings (List ℕ)
 settings_over usual t = do
   dir ← at (codes "dir") as_str usual.dir t
@@ -209,7 +210,8 @@ HasWrongKey text key = (table : Members) × (parse_document text ≡ Some table)
 -- What a text answers: the settings of its table, or its first wrong key, or that it is no TOML.
 abbrev pub GivesSettingsOf : Result Config Error → List ℕ → Type 0
 GivesSettingsOf (Err errors.Memory) text = Unit {0}
-GivesSettingsOf (Err (errors.InvalidArgument why)) text = ((parse_document text ≡ None) × (string_bytes why ≡ no_toml))
+GivesSettingsOf (Err (errors.InvalidArgument why)) text =
+    ((parse_document text ≡ None) × (string_bytes why ≡ no_toml))
     ⊎ ((key : List ℕ) × HasWrongKey text key × (string_bytes why ≡ wrong_value key))
 GivesSettingsOf (Err _) text = ⊥
 GivesSettingsOf (Ok config) text = SaysSettings text (settings_of config)

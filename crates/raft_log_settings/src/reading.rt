@@ -181,7 +181,8 @@ fn maybe_text_at<'a>(
     key: &'static str,
     absent: Option<&'a str>,
 ) -> Result<Option<&'a str>>
-    ensures { GivesTextIfAny result key.now (at key.now (maybe as_str) (option_map (λ t. t.now) absent.entry) (table_view table.now)) }
+    ensures { GivesTextIfAny result key.now
+        (at key.now (maybe as_str) (option_map (λ t. t.now) absent.entry) (table_view table.now)) }
 {
     match member(table, key) {
         None => Ok(absent),

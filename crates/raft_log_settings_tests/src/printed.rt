@@ -29,7 +29,9 @@ fn full(alloc: Global) -> Result<Config, Fail> {
 
 #[test]
 fn usual_settings_are_printed(rt: HostRuntime) -> Result<(), Fail> {
-    let text = Config::default(rt.alloc()).to_toml(rt.alloc()).map_err(|_| Fail::from(()))?;
+    let text = Config::default(rt.alloc())
+        .to_toml(rt.alloc())
+        .map_err(|_| Fail::from(()))?;
     assert!(rt; text.as_str() == USUAL);
     Ok(())
 }
@@ -48,7 +50,9 @@ fn large_numbers_are_refused(rt: HostRuntime) -> Result<(), Fail> {
     let mut config = Config::default(rt.alloc());
     config.purge_rewrite_garbage_ratio = 1 << 63;
     let refused = config.to_toml(rt.alloc());
-    let Err(error) = refused else { return Err(Fail::from(())); };
+    let Err(error) = refused else {
+        return Err(Fail::from(()));
+    };
     let text = error.to_string(rt.alloc())?;
     assert!(rt; text.as_str().ends_with("purge-rewrite-garbage-ratio"));
     Ok(())

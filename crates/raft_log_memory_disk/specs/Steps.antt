@@ -8,6 +8,8 @@ use Rattle.raft_log_disk.specs.Image.{end_of}
 use Rattle.raft_log_disk.specs.Calls.{after_change, flushed, deleted, renamed}
 use Rattle.raft_log_memory_disk.specs.declared.storage.Storage.{Storage}
 use Rattle.raft_log_memory_disk.specs.Order.{without_file}
+use Rattle.raft_log_memory_disk.specs.Left.{left_disk}
+use Rattle.raft_log_memory_disk.specs.declared.remainder.Remainder.{Remainder}
 use Rattle.raft_log_memory_disk.specs.Storage.{contents_of, unsynced_of}
 
 -- nothing that is held changed
@@ -26,6 +28,10 @@ pub record Syncs (id : ℕ) (old new : Storage) : Type 0 where
   pub contents : (file : File) → (contents_of old).files id ≡ Some file
       → contents_of new ≡ with_file id (Some (flushed file)) (contents_of old)
   pub order : unsynced_of new ≡ without_file id (unsynced_of old)
+
+-- this is what a crash leaves, the changes being in this order
+abbrev pub IsLeftBy : Remainder → Storage → Storage → Type 0
+IsLeftBy what old after = contents_of after ≡ left_disk what (unsynced_of old) (contents_of old)
 
 -- a name was added, and no file changed
 pub record Adds (next : Disk → Disk) (old new : Storage) : Type 0 where

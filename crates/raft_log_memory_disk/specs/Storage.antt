@@ -1,7 +1,9 @@
 -- What a file system in memory holds, as a disk.
-use Rattle.std.specs.Prelude.{ℕ, Bool, true, false, List, [], ◌∷◌, Option, Some, None, suc, vec_len}
+use Rattle.std.specs.Prelude.{◌≡◌, ℕ, Bool, true, false, List, [], ◌∷◌, Option, Some, None, suc, vec_len}
 use Rattle.std.specs.Option.{option_map}
 use Rattle.std.specs.BTreeMap.{get_by_text}
+use Rattle.std.specs.Map.{update}
+use Rattle.std.specs.Str.{bytes_eq}
 use Rattle.std.proofs.Props.{props}
 use Rattle.raft_log_disk.proofs.Props.{Change-set, IsSound-prop}
 use Rattle.raft_log_disk.specs.Disk.{Change, Disk}
@@ -28,6 +30,14 @@ is_directory (Some (File id)) = false
 -- what a path names
 abbrev pub node_at : Storage → List ℕ → Option Node
 node_at storage path = get_by_text storage.paths path
+
+-- each path names what it did
+abbrev pub SameNodes : Storage → Storage → Type 0
+SameNodes old new = (path : List ℕ) → node_at new path ≡ node_at old path
+
+-- and but for one path, which names this, or nothing
+abbrev pub PutsNode : List ℕ → Option Node → Storage → Storage → Type 0
+PutsNode path node old new = (q : List ℕ) → node_at new q ≡ update bytes_eq (node_at old) path node q
 
 -- the disk of a file system that runs, and where no failure was counted
 abbrev pub contents_of : Storage → Disk

@@ -18,12 +18,12 @@ pub record IsChild (directory path : List ℕ) (node : Node) (name : List ℕ) :
 abbrev pub TellsChild : List ℕ → List ℕ → Node → Option (Bor (List ℕ)) → Type 0
 TellsChild directory path node told =
     MatchOption told ((name : List ℕ) → IsChild directory path node name → ⊥) (λ name.
-        IsChild directory path node name.now)
+    IsChild directory path node name.now)
 
 -- the names are those of the directory's files among the entries, in their order
 abbrev pub Names : List ℕ → List (String Global × Node) → List (List ℕ) → Type 0
 Names directory [] names = names ≡ []
 Names directory (e ∷ es) names =
     ((name : List ℕ) × (rest : List (List ℕ)) × (names ≡ name ∷ rest)
-        × IsChild directory (string_bytes e.0) e.1 name × Names directory es rest)
+    × IsChild directory (string_bytes e.0) e.1 name × Names directory es rest)
     ⊎ (((name : List ℕ) → IsChild directory (string_bytes e.0) e.1 name → ⊥) × Names directory es names)

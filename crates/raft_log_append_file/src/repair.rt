@@ -5,7 +5,7 @@ ghost use Rattle.raft_log_disk.specs.Disk.{File, at_rest};
 ghost use Rattle.raft_log_disk.specs.Causes.{Fails, IsLater};
 ghost use Rattle.raft_log_disk.specs.Touching.{TouchesOnly};
 ghost use Rattle.raft_log_disk.specs.Chains.{Reads, spelled};
-ghost use Rattle.raft_log_append_file.specs.Frame.{IsFrame, Records, values};
+ghost use Rattle.raft_log_append_file.specs.Frame.{HasRecords, IsFrame, Records};
 ghost use Rattle.raft_log_append_file.specs.Keeping.{IsKept, CanShortenTo, CanShortenToRead, KeepsDurable};
 ghost use Rattle.raft_log_append_file.specs.AppendFile.{ReadRefused};
 

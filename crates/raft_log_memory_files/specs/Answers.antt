@@ -25,7 +25,7 @@ abbrev pub RefusesChange : {A : Type 0} → Handle → Change → Result A Error
     → MemoryFileSystem → MemoryFileSystem → Type 0
 RefusesChange handle change result old new =
     IfErr result (λ error.
-        IsRefusedChange handle.file change (WrongWriter handle (disk_of old)) error old new)
+    IsRefusedChange handle.file change (WrongWriter handle (disk_of old)) error old new)
 
 -- no fault is armed after a stop, nor without memory
 abbrev pub ArmsNothing : MemoryFileSystem → ErrorKind → Type 0

@@ -28,7 +28,7 @@ use Rattle.raft_log_settings.specs.declared.recovery_mode.RecoveryMode.{Recovery
 use Rattle.raft_log_settings.specs.declared.recovery_mode.RecoveryMode.TheVariants.{AbsoluteConsistency, TolerateTailCorruption, TolerateAnyCorruption}
 use Rattle.raft_log_settings.specs.declared.printing.Entry.{Entry}
 use Rattle.raft_log_settings.specs.declared.printing.Entry.TheVariants as entries
-use Rattle.raft_log_settings.specs.Printing.{Fits, SizesFit, Row, word_of, size_data, data_of, row_of, rows_of, with_row, with_rows, IsTableOf, PutsRow, is_past, first_past, IsUnprintable, SaysTooLarge}
+use Rattle.raft_log_settings.specs.Printing.{SizeFits, SizesFit, Row, word_of, size_data, data_of, row_of, rows_of, with_row, with_rows, HasRows, PutsRow, is_unsaid, first_unsaid, IsUnprintable, SaysTooLarge}
 use Rattle.raft_log_settings.specs.Settings.{Settings, default_settings}
 use Rattle.raft_log_settings.specs.Reading.{at, at_value, ok_or, maybe, size_of, number_of, version_of, mode_of, recovery_in, files_in, purging_in, recycling_in, settings_in}
 use Rattle.raft_log_settings.proofs.Readings.{all_read}
@@ -84,12 +84,12 @@ with_rows-snoc : (rows : List Row) (row : Row) (at : List ℕ → Option Data) �
 with_rows-snoc [] row at = refl
 with_rows-snoc (r ∷ rows) row at = with_rows-snoc rows row (with_row r at)
 
-first_past-append : (rows more : List Row) → first_past rows ≡ None → first_past (rows ++ more) ≡ first_past more
-first_past-append [] more none = refl
-first_past-append (r ∷ rows) more none =
-    elim (cases_Bool (is_past r.1)) [
+first_unsaid-append : (rows more : List Row) → first_unsaid rows ≡ None → first_unsaid (rows ++ more) ≡ first_unsaid more
+first_unsaid-append [] more none = refl
+first_unsaid-append (r ∷ rows) more none =
+    elim (cases_Bool (is_unsaid r.1)) [
       | inl past ↦ absurd (let e = rw past at none in cc)
-      | inr small ↦ rw small (first_past-append rows more (rw small at none))
+      | inr small ↦ rw small (first_unsaid-append rows more (rw small at none))
     ]
 
 abbrev pub CodeRow : Type 0
@@ -97,14 +97,14 @@ CodeRow = Bor (List ℕ) × Option Entry
 
 -- the rows so far are put, and each number of them is one that TOML says
 pub record AreSoFar (rows : List CodeRow) (i : ℕ) (table : Members) : Type 0 where
-  pub made : IsTableOf (map row_of (take i rows)) table
-  pub none : first_past (map row_of (take i rows)) ≡ None
+  pub made : HasRows (map row_of (take i rows)) table
+  pub none : first_unsaid (map row_of (take i rows)) ≡ None
 
 rows_more : (rows : List CodeRow) (i : ℕ) (d : CodeRow) → i < length rows → map row_of (take (i + 1) rows) ≡ map row_of (take i rows) ++ row_of (get_or rows i d) ∷ []
 rows_more rows i d lt = ap (map row_of) (take_more rows i d lt) ∙ map-append row_of (take i rows) (get_or rows i d ∷ [])
 
 pub one_more : (rows : List CodeRow) (i : ℕ) (d : CodeRow) (old new : Members) → i < length rows → AreSoFar rows i old
-    → PutsRow (row_of (get_or rows i d)) old new → is_past (row_of (get_or rows i d)).1 ≡ false → AreSoFar rows (i + 1) new
+    → PutsRow (row_of (get_or rows i d)) old new → is_unsaid (row_of (get_or rows i d)).1 ≡ false → AreSoFar rows (i + 1) new
 one_more rows i d old new lt far puts small =
     let r : Row = row_of (get_or rows i d) in
     let done : List Row = map row_of (take i rows) in
@@ -115,7 +115,7 @@ one_more rows i d old new lt far puts small =
             ∙ ap (λ (rs : List Row). with_rows rs (λ _. None) k) (sym (rows_more rows i d lt));
         flat = puts.flat far.made.flat;
       };
-      none = ap first_past (rows_more rows i d lt) ∙ first_past-append done (r ∷ []) far.none ∙ rw small refl;
+      none = ap first_unsaid (rows_more rows i d lt) ∙ first_unsaid-append done (r ∷ []) far.none ∙ rw small refl;
     }
 
 rows_split : (rows : List CodeRow) (i : ℕ) (d : CodeRow) → i < length rows → map row_of rows ≡ map row_of (take i rows) ++ (row_of (get_or rows i d) ∷ map row_of (drop (i + 1) rows))
@@ -123,17 +123,17 @@ rows_split rows i d lt =
     ap (map row_of) (sym (take-append-drop i rows) ∙ ap (λ (l : List CodeRow). take i rows ++ l) (drop_more rows i d lt))
     ∙ map-append row_of (take i rows) (get_or rows i d ∷ drop (i + 1) rows)
 
-past_here : (r : Row) (more : List Row) (key : List ℕ) → first_past (r ∷ []) ≡ Some key → first_past (r ∷ more) ≡ Some key
+past_here : (r : Row) (more : List Row) (key : List ℕ) → first_unsaid (r ∷ []) ≡ Some key → first_unsaid (r ∷ more) ≡ Some key
 past_here r more key e =
-    elim (cases_Bool (is_past r.1)) [
+    elim (cases_Bool (is_unsaid r.1)) [
       | inl past ↦ rw past (rw past at e)
       | inr small ↦ absurd (let e2 = rw small at e in cc)
     ]
 
-pub stopped : (rows : List CodeRow) (i : ℕ) (d : CodeRow) (error : Error) → i < length rows → first_past (map row_of (take i rows)) ≡ None
+pub stopped : (rows : List CodeRow) (i : ℕ) (d : CodeRow) (error : Error) → i < length rows → first_unsaid (map row_of (take i rows)) ≡ None
     → IsUnprintable (row_of (get_or rows i d) ∷ []) error → IsUnprintable (map row_of rows) error
 stopped rows i d (errors.InvalidArgument text) lt none h =
-    (h.0, ap first_past (rows_split rows i d lt) ∙ first_past-append (map row_of (take i rows)) (row_of (get_or rows i d) ∷ map row_of (drop (i + 1) rows)) none ∙ past_here (row_of (get_or rows i d)) (map row_of (drop (i + 1) rows)) h.0 h.1, h.2)
+    (h.0, ap first_unsaid (rows_split rows i d lt) ∙ first_unsaid-append (map row_of (take i rows)) (row_of (get_or rows i d) ∷ map row_of (drop (i + 1) rows)) none ∙ past_here (row_of (get_or rows i d)) (map row_of (drop (i + 1) rows)) h.0 h.1, h.2)
 stopped rows i d errors.Memory lt none h = tt
 stopped rows i d _ lt none h = absurd h
 
@@ -179,7 +179,7 @@ small_size n lt = elim (cases_Bool (nat_le (2 ^ 63) n)) [
 pub large_size : (n : ℕ) → 2 ^ 63 ≤ n → string (size_text n) ≡ size_data n
 large_size n le = rw (le-leb (2 ^ 63) n le) refl
 
-pub not_past : (n : ℕ) → is_past (Some (size_data n)) ≡ false
+pub not_past : (n : ℕ) → is_unsaid (Some (size_data n)) ≡ false
 not_past n = elim (cases_Bool (nat_le (2 ^ 63) n)) [
   | inl e ↦ rw e refl
   | inr e ↦ rw e e
@@ -194,7 +194,7 @@ size_reads key n a lt =
       | inr e ↦ rw e refl
     ]
 
-maybe_size_reads : (key : List ℕ) (o : Option ℕ) → Fits o → at_value key (maybe size_of) None (option_or (option_map size_data o) None) ≡ Ok o
+maybe_size_reads : (key : List ℕ) (o : Option ℕ) → SizeFits o → at_value key (maybe size_of) None (option_or (option_map size_data o) None) ≡ Ok o
 maybe_size_reads key None fits = refl
 maybe_size_reads key (Some n) fits =
     elim (cases_Bool (nat_le (2 ^ 63) n)) [
@@ -215,7 +215,7 @@ mode_reads key a AbsoluteConsistency = refl
 mode_reads key a TolerateTailCorruption = refl
 mode_reads key a TolerateAnyCorruption = refl
 
-module _ (s : Settings) (t : Members) (printed : IsTableOf (rows_of s) t) (fit : SizesFit s) where
+module _ (s : Settings) (t : Members) (printed : HasRows (rows_of s) t) (fit : SizesFit s) where
   recovery_reads : recovery_in default_settings t ≡ Ok (s.recovery_mode, s.recovery_read_block_size, s.recovery_threads)
   unfolding recovery_in
   recovery_reads =

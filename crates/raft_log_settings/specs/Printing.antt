@@ -29,19 +29,19 @@ abbrev pub size_data : ℕ → Data
 size_data n = cond (nat_le (2 ^ 63) n) (string (size_text n)) (integer (pos n))
 
 -- a size that fits 64 bits, if there is one
-abbrev pub Fits : Option ℕ → Type 0
-Fits None = Unit {0}
-Fits (Some n) = n < 2 ^ 64
+abbrev pub SizeFits : Option ℕ → Type 0
+SizeFits None = Unit {0}
+SizeFits (Some n) = n < 2 ^ 64
 
 -- each size fits 64 bits
 pub record SizesFit (s : Settings) : Type 0 where
-  pub block : Fits (Some s.recovery_read_block_size)
-  pub per_sync : Fits s.bytes_per_sync
-  pub target : Fits (Some s.target_file_size)
-  pub threshold : Fits (Some s.purge_threshold)
-  pub rewrite : Fits s.purge_rewrite_threshold
-  pub memory : Fits s.memory_limit
-  pub prefill : Fits s.prefill_limit
+  pub block : SizeFits (Some s.recovery_read_block_size)
+  pub per_sync : SizeFits s.bytes_per_sync
+  pub target : SizeFits (Some s.target_file_size)
+  pub threshold : SizeFits (Some s.purge_threshold)
+  pub rewrite : SizeFits s.purge_rewrite_threshold
+  pub memory : SizeFits s.memory_limit
+  pub prefill : SizeFits s.prefill_limit
 
 -- what a key is given, as TOML has it
 abbrev pub data_of : Entry → Data
@@ -90,7 +90,7 @@ with_rows [] at = at
 with_rows (row ∷ rows) at = with_rows rows (with_row row at)
 
 -- the table has what these rows say and nothing else, and none of its values has others inside
-pub record IsTableOf (rows : List Row) (table : Members) : Type 0 where
+pub record HasRows (rows : List Row) (table : Members) : Type 0 where
   pub at : (k : List ℕ) → get_member k table ≡ with_rows rows (λ _. None) k
   pub flat : members_depth table ≡ 0
 
@@ -107,14 +107,14 @@ pub record PutsRow (row : Row) (old new : Members) : Type 0 where
 -- Refusals.
 
 -- a number that TOML doesn't say: 2^63 or more
-abbrev pub is_past : Option Data → Bool
-is_past (Some (integer (pos n))) = nat_le (2 ^ 63) n
-is_past _ = false
+abbrev pub is_unsaid : Option Data → Bool
+is_unsaid (Some (integer (pos n))) = nat_le (2 ^ 63) n
+is_unsaid _ = false
 
 -- the first key with such a number
-abbrev pub first_past : List Row → Option (List ℕ)
-first_past [] = None
-first_past (row ∷ rows) = if is_past row.1 then Some row.0 else first_past rows
+abbrev pub first_unsaid : List Row → Option (List ℕ)
+first_unsaid [] = None
+first_unsaid (row ∷ rows) = if is_unsaid row.1 then Some row.0 else first_unsaid rows
 
 -- the text that names such a key
 abbrev pub too_large : List ℕ → List ℕ
@@ -123,7 +123,7 @@ too_large key = codes "number past the range of TOML at " ++ key
 -- why rows aren't printed: the first number past the range of TOML, by its key, or memory ran out
 abbrev pub IsUnprintable : List Row → Error → Type 0
 IsUnprintable rows (errors.InvalidArgument text) =
-    (key : List ℕ) × (first_past rows ≡ Some key) × (string_bytes text ≡ too_large key)
+    (key : List ℕ) × (first_unsaid rows ≡ Some key) × (string_bytes text ≡ too_large key)
 IsUnprintable rows errors.Memory = Unit {0}
 IsUnprintable rows _ = ⊥
 

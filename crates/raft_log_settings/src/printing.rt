@@ -6,7 +6,7 @@ ghost use Rattle.toml.specs.View.{view, table_view};
 ghost use Rattle.toml.specs.Data.Data.{string};
 ghost use Rattle.raft_log_base.specs.declared.errors.Error.TheVariants.{Memory};
 ghost use Rattle.raft_log_settings.specs.Settings.{settings_of};
-ghost use Rattle.raft_log_settings.specs.Printing.{Fits, SizesFit, word_of, size_data, data_of, row_of, rows_of, is_past, IsTableOf, Puts, PutsRow, IsUnprintable, SaysTooLarge};
+ghost use Rattle.raft_log_settings.specs.Printing.{SizeFits, SizesFit, word_of, size_data, data_of, row_of, rows_of, is_unsaid, HasRows, Puts, PutsRow, IsUnprintable, SaysTooLarge};
 
 use super::config::Config;
 use super::reading::text_of;
@@ -26,7 +26,7 @@ pub enum Entry<'a> {
 
 /// The settings as a table. A number of 2^63 or more is refused by its key.
 pub fn to_table(alloc: Global, config: &Config) -> Result<Table>
-    ensures ok { IfOk result (λ table. IsTableOf (rows_of (settings_of config.now)) (table_view table)) }
+    ensures ok { IfOk result (λ table. HasRows (rows_of (settings_of config.now)) (table_view table)) }
     ensures fits { SizesFit (settings_of config.now) }
     ensures err { IfErr result (λ error. IsUnprintable (rows_of (settings_of config.now)) error) }
 {
@@ -101,7 +101,7 @@ fn text_entry(text: Option<&str>) -> Option<Entry<'_>>
 /// A size, if there is one.
 fn size_entry(size: Option<ReadableSize>) -> Option<Entry<'static>>
     ensures value { option_map data_of result ≡ option_map (λ size. size_data size.0) size }
-    ensures fits { Fits (option_map (λ size. size.0) size) }
+    ensures fits { SizeFits (option_map (λ size. size.0) size) }
 {
     match size {
         Some(size) => Some(Entry::Size(size)),
@@ -111,7 +111,7 @@ fn size_entry(size: Option<ReadableSize>) -> Option<Entry<'static>>
 
 /// The table of rows, put into it one after another.
 fn table_of(alloc: Global, rows: &[(&str, Option<Entry<'_>>)]) -> Result<Table>
-    ensures ok { IfOk result (λ table. IsTableOf (map row_of rows.now) (table_view table)) }
+    ensures ok { IfOk result (λ table. HasRows (map row_of rows.now) (table_view table)) }
     ensures err { IfErr result (λ error. IsUnprintable (map row_of rows.now) error) }
 {
     let mut table = Table::new(alloc);
@@ -124,7 +124,7 @@ fn table_of(alloc: Global, rows: &[(&str, Option<Entry<'_>>)]) -> Result<Table>
 /// Puts a row into a table, unless it has no value.
 fn put_row(alloc: Global, table: &mut Table, row: &(&str, Option<Entry<'_>>)) -> Result<()>
     ensures ok { OnOk result (PutsRow (row_of row.now) (table_view table.old) (table_view table.new)) }
-    ensures said { OnOk result (is_past (row_of row.now).1 ≡ false) }
+    ensures said { OnOk result (is_unsaid (row_of row.now).1 ≡ false) }
     ensures err { IfErr result (λ error. IsUnprintable (row_of row.now ∷ []) error) }
 {
     match row.1 {
@@ -136,7 +136,7 @@ fn put_row(alloc: Global, table: &mut Table, row: &(&str, Option<Entry<'_>>)) ->
 /// The value of an entry, as TOML has it.
 fn value_of(alloc: Global, key: &str, entry: Entry<'_>) -> Result<Value>
     ensures ok { IfOk result (λ value. view value ≡ data_of entry.entry) }
-    ensures said { OnOk result (is_past (Some (data_of entry.entry)) ≡ false) }
+    ensures said { OnOk result (is_unsaid (Some (data_of entry.entry)) ≡ false) }
     ensures err { IfErr result (λ error. IsUnprintable ((key.now, Some (data_of entry.entry)) ∷ []) error) }
 {
     match entry {

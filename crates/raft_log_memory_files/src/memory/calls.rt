@@ -238,10 +238,10 @@ impl FileSystem for MemoryFileSystem {
 
     ghost sound = { λ system. let storage = system.whole.sound in
         record {
-            named = storage.named;
-            one_name = storage.one_name;
-            apart = storage.apart;
-            fresh = storage.fresh;
-            files = storage.files;
+          named = storage.named;
+          one_name = storage.one_name;
+          apart = storage.apart;
+          fresh = storage.fresh;
+          files = storage.files;
         } };
 }

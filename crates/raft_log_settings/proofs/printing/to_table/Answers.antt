@@ -3,13 +3,13 @@ use Rattle.std.specs.Option.{option_map}
 use Rattle.toml.specs.Data.Data.{string, integer}
 use Rattle.toml.specs.View.{table_view}
 use Rattle.raft_log_settings.specs.Settings.{settings_of}
-use Rattle.raft_log_settings.specs.Printing.{Row, IsTableOf, IsUnprintable}
+use Rattle.raft_log_settings.specs.Printing.{Row, HasRows, IsUnprintable}
 use Rattle.raft_log_settings.proofs.Printings.{strings, sizes, these_rows}
 use Rattle.raft_log_settings.proofs.printing.to_table.Goals as goal
 
 pub returns-clause-ok : goal.returns-clause-ok
 returns-clause-ok c =
-    let P : List Row → Type 0 = λ rows. IfOk c.table_of.result (λ table. IsTableOf rows (table_view table)) in
+    let P : List Row → Type 0 = λ rows. IfOk c.table_of.result (λ table. HasRows rows (table_view table)) in
     subst P
     (these_rows (settings_of c.args.config.now) _ _ _ _ _ _ _ _ _ _ _
     (ap (λ l. Some (string l)) c.as_str.ensures.value)

@@ -22,6 +22,10 @@ abbrev pub in_order : ℕ → (ℕ → Option Held) → ℕ → List (ℕ × Cha
 in_order zero files count = []
 in_order (suc stamp) files count = in_order stamp files count ++ stamped stamp files count
 
+-- the changes of one file among these, in their order
+abbrev pub changes_of : ℕ → List (ℕ × Change) → List Change
+changes_of id unsynced = map (λ (u : ℕ × Change). u.1) (filter (λ (u : ℕ × Change). nat_eq u.0 id) unsynced)
+
 -- the changes of all files but one
 abbrev pub without_file : ℕ → List (ℕ × Change) → List (ℕ × Change)
 without_file id unsynced = filter (λ (u : ℕ × Change). not (nat_eq u.0 id)) unsynced

@@ -5,6 +5,7 @@
 mod bytes;
 pub mod change;
 pub mod files;
+pub mod laws;
 mod order;
 pub mod remainder;
 mod remains;

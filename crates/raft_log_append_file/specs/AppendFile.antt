@@ -33,14 +33,18 @@ IsInDoubt log = log.failed ≡ true
 -- too, the log has failed, and the new record is the last pending one.
 abbrev pub AppendRefused : AppendError → List ℕ → AppendFile → Records → Records → Disk → Disk → Type 0
 AppendRefused Memory bytes log durable pending old new = (new ≡ old) × IsOpen log durable pending new
-AppendRefused TooLong bytes log durable pending old new = (2 ^ 32 ≤ length bytes) × (new ≡ old) × IsOpen log durable pending new
+AppendRefused TooLong bytes log durable pending old new =
+    (2 ^ 32 ≤ length bytes) × (new ≡ old) × IsOpen log durable pending new
 AppendRefused Failed bytes log durable pending old new = ⊥
 AppendRefused (FileSystem kind) bytes log durable pending old new = Fails old new
-    × (IsOpen log (durable ++ pending) [] new ⊎ (IsInDoubt log × FailsTwice old new × IsKept log.handle.file durable (pending ++ framed bytes ∷ []) new))
+    × (IsOpen log (durable ++ pending) [] new
+        ⊎ (IsInDoubt log × FailsTwice old new
+            × IsKept log.handle.file durable (pending ++ framed bytes ∷ []) new))
 
 -- why a sync was refused, and what stands then: a file call failed, and so has the log
 abbrev pub SyncRefused : AppendError → AppendFile → Records → Records → Disk → Disk → Type 0
-SyncRefused (FileSystem kind) log durable pending old new = Fails old new × IsInDoubt log × IsKept log.handle.file durable pending new
+SyncRefused (FileSystem kind) log durable pending old new =
+    Fails old new × IsInDoubt log × IsKept log.handle.file durable pending new
 SyncRefused _ log durable pending old new = ⊥
 
 -- why a file that is there was not read: memory; or the file system has stopped, or a place of the file is

@@ -2,7 +2,7 @@
 use Rattle.std.specs.Prelude.{◌≡◌, ℕ, ◌+◌, ◌<◌, ◌^◌, List, ◌++◌, length, map}
 use Rattle.std.specs.Int.{w32, to_be_bytes}
 use Rattle.md5.specs.Md5.{md5}
-use Rattle.raft_log_disk.specs.Chains.{Written}
+use Rattle.raft_log_disk.specs.Chains.{Written, Reads}
 
 -- the frame of a record's bytes: their number, in four bytes, the greatest first; the bytes; and their MD5
 -- digest
@@ -31,3 +31,7 @@ Records = List (Written (List ℕ))
 -- what they say
 abbrev pub values : Records → List (List ℕ)
 values ws = map (λ w. w.value) ws
+
+-- records are read of these bytes, and this is what they say
+abbrev pub HasRecords : List ℕ → List (List ℕ) → Type 0
+HasRecords bytes found = (ws : Records) × Reads IsFrame 0 ws bytes × (found ≡ values ws)

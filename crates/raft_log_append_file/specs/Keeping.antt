@@ -18,11 +18,13 @@ KeepsDurable id durable d = HasFile id (HoldsDurable IsFrame 0 [] durable) d
 
 -- the file holds these records, and up to `size` it has the durable ones and the first `count` pending ones
 abbrev pub CanShortenTo : ℕ → ℕ → ℕ → Records → Records → Disk → Type 0
-CanShortenTo id size count durable pending d = HasFile id (CanShorten IsFrame 0 [] size count durable pending) d
+CanShortenTo id size count durable pending d =
+    HasFile id (CanShorten IsFrame 0 [] size count durable pending) d
 
 -- the file holds these records, and up to `size` it has those that are read of it
 abbrev pub CanShortenToRead : ℕ → ℕ → Records → Records → Records → Disk → Type 0
-CanShortenToRead id size durable pending ws d = HasFile id (CanShortenRead IsFrame 0 [] size durable pending ws) d
+CanShortenToRead id size durable pending ws d =
+    HasFile id (CanShortenRead IsFrame 0 [] size durable pending ws) d
 
 -- in these bytes of the file no checksum is met by chance
 abbrev pub NoChanceIn : ℕ → Disk → List ℕ → Type 0
@@ -38,7 +40,8 @@ NoChanceLeft id d image = (after : File) → image.files id ≡ Some after → N
 
 -- records as they were read back: all the durable ones, then the first pending ones, and nothing else
 abbrev pub AreReadBack : Records → Records → List (List ℕ) → Type 0
-AreReadBack durable pending found = (count : ℕ) × (count ≤ length pending) × (found ≡ values durable ++ take count (values pending))
+AreReadBack durable pending found =
+    (count : ℕ) × (count ≤ length pending) × (found ≡ values durable ++ take count (values pending))
 
 -- records as they were read back: all the durable ones, in order, and then some
 abbrev pub BeginWithDurable : Records → List (List ℕ) → Type 0

@@ -31,7 +31,8 @@ impl AppendFile {
     pub fn create<F: FileSystem>(file_system: &mut F, path: &str) -> Result<AppendFile, AppendError>
         ensures ok { IfOk result (λ log. IsOpen log [] [] (F.disk file_system.new)) }
         ensures named { IfOk result (λ log. (F.disk file_system.new).names path.now ≡ Some log.handle.file) }
-        ensures err { IfErr result (λ error. CreateRefused error path.now (F.disk file_system.old) (F.disk file_system.new)) }
+        ensures err { IfErr result (λ error.
+            CreateRefused error path.now (F.disk file_system.old) (F.disk file_system.new)) }
         ensures later { IsLater (F.disk file_system.old) (F.disk file_system.new) }
     {
         let handle = file_system.create(path)?;
@@ -66,7 +67,8 @@ impl AppendFile {
         // Answered or refused: the synced records stay, and where no checksum is met by chance the others do.
         ensures durable { KeepsDurableAt path.now (F.disk file_system.old) (F.disk file_system.new) }
         ensures kept { KeepsAllAt path.now (F.disk file_system.old) (F.disk file_system.new) }
-        ensures err { IfErr result (λ error. OpenRefusedAt error path.now (F.disk file_system.old) (F.disk file_system.new)) }
+        ensures err { IfErr result (λ error.
+            OpenRefusedAt error path.now (F.disk file_system.old) (F.disk file_system.new)) }
         ensures others { TouchesOnlyAt path.now (F.disk file_system.old) (F.disk file_system.new) }
         ensures later { IsLater (F.disk file_system.old) (F.disk file_system.new) }
 
@@ -119,12 +121,14 @@ impl AppendFile {
             → (ws : Records) × Reads IsFrame 0 ws file.content
             × IsOpen recovered.0 ws [] (F.disk file_system.new)
             × (map vec_items recovered.1.items ≡ values ws)) }
-        ensures named { IfOk result (λ recovered. (F.disk file_system.old).names path.now ≡ Some recovered.0.handle.file) }
+        ensures named { IfOk result (λ recovered.
+            (F.disk file_system.old).names path.now ≡ Some recovered.0.handle.file) }
 
         // Answered or refused: the synced records stay, and where no checksum is met by chance the others do.
         ensures durable { KeepsDurableAt path.now (F.disk file_system.old) (F.disk file_system.new) }
         ensures kept { KeepsAllAt path.now (F.disk file_system.old) (F.disk file_system.new) }
-        ensures err { IfErr result (λ error. OpenRefusedAt error path.now (F.disk file_system.old) (F.disk file_system.new)) }
+        ensures err { IfErr result (λ error.
+            OpenRefusedAt error path.now (F.disk file_system.old) (F.disk file_system.new)) }
         ensures others { TouchesOnlyAt path.now (F.disk file_system.old) (F.disk file_system.new) }
         ensures later { IsLater (F.disk file_system.old) (F.disk file_system.new) }
 
@@ -172,11 +176,13 @@ impl AppendFile {
             → IsOpen self.new durable (pending ++ framed bytes.now ∷ []) (F.disk file_system.new)) }
         ensures err { IfErr result (λ error. (durable pending : Records)
             → IsOpen self.old durable pending (F.disk file_system.old)
-            → AppendRefused error bytes.now self.new durable pending (F.disk file_system.old) (F.disk file_system.new)) }
+            → AppendRefused error bytes.now self.new durable pending
+                (F.disk file_system.old) (F.disk file_system.new)) }
 
         // Answered or refused: whatever a stop leaves has all durable records.
         ensures kept { (durable pending : Records) → IsOpen self.old durable pending (F.disk file_system.old)
-            → KeepsRecords self.old.handle.file durable (pending ++ framed bytes.now ∷ []) (F.disk file_system.new) }
+            → KeepsRecords self.old.handle.file durable (pending ++ framed bytes.now ∷ [])
+                (F.disk file_system.new) }
         ensures doubt { IsInDoubt self.old → (result ≡ Err AppendError.Failed) × (self.new ≡ self.old)
             × (F.disk file_system.new ≡ F.disk file_system.old) }
         ensures handle { self.new.handle ≡ self.old.handle }
@@ -226,7 +232,8 @@ impl AppendFile {
             → IsOpen self.new durable (pending ++ framed bytes ∷ []) (F.disk file_system.new)) }
         ensures err { IfErr result (λ error. (bytes : List ℕ) (durable pending : Records)
             → IsFrame frame.now bytes → IsOpen self.old durable pending (F.disk file_system.old)
-            → AppendRefused error bytes self.new durable pending (F.disk file_system.old) (F.disk file_system.new)) }
+            → AppendRefused error bytes self.new durable pending
+                (F.disk file_system.old) (F.disk file_system.new)) }
         ensures handle { self.new.handle ≡ self.old.handle }
         ensures others { TouchesOnly self.old.handle.file (F.disk file_system.old) (F.disk file_system.new) }
         ensures later { IsLater (F.disk file_system.old) (F.disk file_system.new) }

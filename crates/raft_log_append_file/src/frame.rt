@@ -29,7 +29,8 @@ pub fn make_frame(alloc: Global, bytes: &[u8]) -> Result<Vec<u8>, AllocError>
 /// The record in the frame with which these bytes begin, if they begin with one.
 #[tactic(auto, unfolding(crate::specs::Frame::frame_of))]
 pub fn read_frame(bytes: &[u8]) -> Option<&[u8]>
-    ensures { MatchOption result (Refuses IsFrame bytes.now) (λ content. StartsWithFrame bytes.now content.now) }
+    ensures { MatchOption result (Refuses IsFrame bytes.now)
+        (λ content. StartsWithFrame bytes.now content.now) }
 {
     let (head, tail) = bytes.split_first_chunk::<4>()?;
     let (content, rest) = tail.split_at_checked(u32::from_be_bytes(*head) as usize)?;

@@ -5,7 +5,7 @@ ghost use Rattle.raft_log_disk.specs.Disk.{File, at_rest};
 ghost use Rattle.raft_log_disk.specs.Causes.{Fails, IsLater};
 ghost use Rattle.raft_log_disk.specs.Touching.{TouchesOnly};
 ghost use Rattle.raft_log_disk.specs.Chains.{Reads, spelled};
-ghost use Rattle.raft_log_append_file.specs.Frame.{IsFrame, Records, values};
+ghost use Rattle.raft_log_append_file.specs.Frame.{HasRecords, IsFrame, Records};
 ghost use Rattle.raft_log_append_file.specs.Keeping.{IsKept, CanShortenTo, CanShortenToRead, KeepsDurable};
 ghost use Rattle.raft_log_append_file.specs.AppendFile.{ReadRefused};
 
@@ -46,7 +46,7 @@ pub fn good_end(bytes: &[u8]) -> usize
 
 /// The records from the start on, up to the last whole one.
 pub fn whole_records(alloc: Global, bytes: &[u8]) -> Result<Vec<Vec<u8>>, AllocError>
-    ensures { IfOk result (λ records. (ws : Records) × Reads IsFrame 0 ws bytes.now × (map vec_items records.items ≡ values ws)) }
+    ensures { IfOk result (λ records. HasRecords bytes.now (map vec_items records.items)) }
 {
     let mut records = Vec::new(alloc);
     let mut end = 0;

@@ -1,13 +1,15 @@
 -- A printed size is read as itself.
-use Rattle.std.proofs.Common.{◌≡◌, ℕ, ◌+◌, ◌-◌, ◌*◌, ◌/◌, ◌%◌, ◌^◌, ◌<◌, ◌≤◌, true, false, eqb, ltb, List, [], ◌∷◌, ◌++◌, length, get_or, take, drop, Some, Result, Ok, Err, refl, sym, ap, subst, ◌∙◌, inl, inr, arith, rules, add-one}
+use Rattle.std.proofs.Common.{◌≡◌, ℕ, zero, suc, ◌+◌, ◌-◌, ◌*◌, ◌/◌, ◌%◌, ◌^◌, ◌<◌, ◌≤◌, true, false, eqb, ltb, List, [], ◌∷◌, ◌++◌, append_assoc, length, get_or, take, drop, Some, Result, Ok, Err, refl, sym, ap, subst, ◌∙◌, inl, inr, arith, rules, add-one}
 use Rattle.std.specs.Prelude.{codes}
-use Rattle.std.specs.Char.{is_ascii_digit}
+use Rattle.std.specs.Char.{is_ascii_digit, is_whitespace}
 use Rattle.std.specs.Fmt.{decimal}
-use Rattle.std.specs.Str.{all_ascii_digits, IsTrim, trim}
+use Rattle.std.specs.Str.{all_ascii_digits, encode_utf8_all, drop_trailing_whitespace, IsAscii, IsTrim, trim, trim_start, trim_end}
 use Rattle.std.proofs.Math.Seq.{drop-cons}
 use Rattle.std.proofs.lemmas.Bool.{cases_Bool, and_parts, eqb-true, lt-ltb}
+use Rattle.std.proofs.lemmas.Bool.Decides.{nat_tests}
+use Rattle.std.proofs.lemmas.Str.{chars-IsAscii, encodes-IsAscii, IsAscii-append}
 use Rattle.std.proofs.lemmas.List.{drop_all, take_all, length-drop, get_or_append_left, get_or-append-add, length-append}
-use Rattle.std.proofs.lemmas.Fmt.{digits_decimal, digits_value-decimal, decimal_nonempty, decimal_digit}
+use Rattle.std.proofs.lemmas.Fmt.{digits_decimal, digits_value-decimal, decimal_nonempty, decimal_digit, IsAscii-decimal}
 use Rattle.std.proofs.lemmas.Str.Parse.{IsNumeralModel, numerals_by_fold, digit_at}
 use Rattle.std.proofs.lemmas.Str.Pattern.{trim_same}
 use Rattle.std.specs.Int.{IsInRange}
@@ -78,12 +80,25 @@ number_over_digits n (c ∷ cs) rest e =
     let p = and_parts (is_ascii_digit c) (all_ascii_digits cs) e in
     rw p.0 (number_over_digits (n * 10 + (c - 48)) cs rest p.1)
 
+ascii_nil : IsAscii []
+ascii_nil i = omega arith
+
+ascii_cons : (b : ℕ) (bs : List ℕ) → b < 128 → IsAscii bs → IsAscii (b ∷ bs)
+ascii_cons b bs low rest zero = low
+ascii_cons b bs low rest (suc i) = rest i
+
+power_ascii : (letter : ℕ) → letter < 128 → IsAscii (letter ∷ 105 ∷ 66 ∷ [])
+power_ascii letter low = ascii_cons letter (105 ∷ 66 ∷ []) low (ascii_cons 105 (66 ∷ []) (omega arith) (ascii_cons 66 [] (omega arith) ascii_nil))
+
 -- the name of a unit, which no digit begins
 record IsUnit (unit : ℕ) (name : List ℕ) : Type 0 where
   pub stops : (m : ℕ) → number_in m name ≡ (m, name)
   pub size : unit_size name ≡ Some unit
   pub nonempty : 0 < length name
   pub last : get_or name (length name - 1) 0 ≡ 66
+  pub front : List ℕ
+  pub ends : name ≡ front ++ 66 ∷ []
+  pub plain : IsAscii name
 
 -- a number and the name of a unit
 record IsPrinted (n : ℕ) (text : List ℕ) : Type 0 where
@@ -97,27 +112,27 @@ record IsPrinted (n : ℕ) (text : List ℕ) : Type 0 where
 
 bytes_unit : IsUnit 1 (codes "B")
 unfolding number_in unit_size
-bytes_unit = record { stops = λ m. refl; size = refl; nonempty = omega arith; last = refl }
+bytes_unit = record { stops = λ m. refl; size = refl; nonempty = omega arith; last = refl; front = []; ends = refl; plain = ascii_cons 66 [] (omega arith) ascii_nil }
 
 kib_unit : IsUnit (2 ^ 10) (codes "KiB")
 unfolding number_in unit_size
-kib_unit = record { stops = λ m. refl; size = refl; nonempty = omega arith; last = refl }
+kib_unit = record { stops = λ m. refl; size = refl; nonempty = omega arith; last = refl; front = 75 ∷ 105 ∷ []; ends = refl; plain = power_ascii 75 (omega arith) }
 
 mib_unit : IsUnit (2 ^ 20) (codes "MiB")
 unfolding number_in unit_size
-mib_unit = record { stops = λ m. refl; size = refl; nonempty = omega arith; last = refl }
+mib_unit = record { stops = λ m. refl; size = refl; nonempty = omega arith; last = refl; front = 77 ∷ 105 ∷ []; ends = refl; plain = power_ascii 77 (omega arith) }
 
 gib_unit : IsUnit (2 ^ 30) (codes "GiB")
 unfolding number_in unit_size
-gib_unit = record { stops = λ m. refl; size = refl; nonempty = omega arith; last = refl }
+gib_unit = record { stops = λ m. refl; size = refl; nonempty = omega arith; last = refl; front = 71 ∷ 105 ∷ []; ends = refl; plain = power_ascii 71 (omega arith) }
 
 tib_unit : IsUnit (2 ^ 40) (codes "TiB")
 unfolding number_in unit_size
-tib_unit = record { stops = λ m. refl; size = refl; nonempty = omega arith; last = refl }
+tib_unit = record { stops = λ m. refl; size = refl; nonempty = omega arith; last = refl; front = 84 ∷ 105 ∷ []; ends = refl; plain = power_ascii 84 (omega arith) }
 
 pib_unit : IsUnit (2 ^ 50) (codes "PiB")
 unfolding number_in unit_size
-pib_unit = record { stops = λ m. refl; size = refl; nonempty = omega arith; last = refl }
+pib_unit = record { stops = λ m. refl; size = refl; nonempty = omega arith; last = refl; front = 80 ∷ 105 ∷ []; ends = refl; plain = power_ascii 80 (omega arith) }
 
 zero_printed : codes "0KiB" ≡ decimal 0 ++ codes "KiB"
 zero_printed = ap (λ (l : List ℕ). l ++ codes "KiB") (sym (decimal_digit 0 (omega arith)))
@@ -191,3 +206,43 @@ reads_size text core result trimmed is h = record {
       let same = trim_printed n text core shape trimmed in
       given result n (size_in core) h (ap size_in same ∙ read_printed n text lt shape);
 }
+
+-- White space before and behind a printed size: there is none.
+
+ends_solid : (front : List ℕ) (c : ℕ) → is_whitespace c ≡ false → drop_trailing_whitespace (front ++ c ∷ []) ≡ front ++ c ∷ []
+ends_solid [] c solid = rw solid refl
+ends_solid (x ∷ front) c solid =
+    let some : eqb (length (front ++ c ∷ [])) 0 ≡ false = let n = length-append front (c ∷ []) in grind (arith, nat_tests) in
+    rw (ends_solid front c solid, some) (elim (cases_Bool (is_whitespace x)) [
+      | inl e ↦ rw e refl
+      | inr e ↦ rw e refl
+    ])
+
+starts_solid : (c : ℕ) (cs : List ℕ) → IsAscii (c ∷ cs) → is_whitespace c ≡ false → trim_start (c ∷ cs) ≡ c ∷ cs
+unfolding trim_start
+starts_solid c cs ascii solid = rw (chars-IsAscii (c ∷ cs) ascii, solid) (encodes-IsAscii (c ∷ cs) ascii)
+
+stops_solid : (text front : List ℕ) (c : ℕ) → text ≡ front ++ c ∷ [] → IsAscii text → is_whitespace c ≡ false → trim_end text ≡ text
+unfolding trim_end
+stops_solid text front c is ascii solid =
+    ap (λ (l : List ℕ). encode_utf8_all (drop_trailing_whitespace l)) (chars-IsAscii text ascii ∙ is)
+    ∙ ap encode_utf8_all (ends_solid front c solid ∙ sym is) ∙ encodes-IsAscii text ascii
+
+digit_is_solid : (c : ℕ) → is_ascii_digit c ≡ true → is_whitespace c ≡ false
+digit_is_solid c e = grind (arith, nat_tests)
+
+solid : (ds name front : List ℕ) → 0 < length ds → all_ascii_digits ds ≡ true → IsAscii (ds ++ name) → name ≡ front ++ 66 ∷ [] → trim (ds ++ name) ≡ ds ++ name
+solid [] name front some digits ascii ends = absurd (omega arith)
+solid (c ∷ cs) name front some digits ascii ends =
+    let whole : c ∷ (cs ++ name) ≡ (c ∷ (cs ++ front)) ++ 66 ∷ [] = ap (λ (l : List ℕ). c ∷ l) (ap (λ (l : List ℕ). cs ++ l) ends ∙ sym (append_assoc cs front (66 ∷ []))) in
+    let start : trim_start (c ∷ (cs ++ name)) ≡ c ∷ (cs ++ name) = starts_solid c (cs ++ name) ascii (digit_is_solid c (and_parts (is_ascii_digit c) (all_ascii_digits cs) digits).0) in
+    ap trim_end start ∙ stops_solid (c ∷ (cs ++ name)) (c ∷ (cs ++ front)) 66 whole ascii refl
+
+-- a printed size, trimmed and read, is the size
+pub size_in-size_text : (n : ℕ) → n < 2 ^ 64 → size_in (trim (size_text n)) ≡ Ok n
+size_in-size_text n lt =
+    let p = printed n lt in
+    let ds : List ℕ = decimal p.count in
+    let ascii : IsAscii (ds ++ p.name) = IsAscii-append ds p.name (IsAscii-decimal p.count p.fits) p.is_unit.plain in
+    let same : trim (ds ++ p.name) ≡ ds ++ p.name = solid ds p.name p.is_unit.front (decimal_nonempty p.count p.fits) (digits_decimal own p.count p.fits) ascii p.is_unit.ends in
+    ap (λ (l : List ℕ). size_in (trim l)) p.parts ∙ ap size_in (same ∙ sym p.parts) ∙ read_printed n (size_text n) lt p

@@ -34,7 +34,8 @@ WrongHandle handle d error = (error ≡ NotFound) × (d.files handle.file ≡ No
 
 -- and `PermissionDenied` where the handle may only read
 abbrev pub WrongWriter : Handle → Disk → ErrorKind → Type 0
-WrongWriter handle d error = WrongHandle handle d error ⊎ ((error ≡ PermissionDenied) × (handle.permission ≡ ReadOnly))
+WrongWriter handle d error =
+    WrongHandle handle d error ⊎ ((error ≡ PermissionDenied) × (handle.permission ≡ ReadOnly))
 
 -- `InvalidInput` where the path is a file's, `NotFound` where nothing has it
 abbrev pub WrongListing : List ℕ → Disk → ErrorKind → Type 0

@@ -8,7 +8,8 @@ use Rattle.raft_log_disk.specs.Disk.{Change, Wrote, ShortenedTo, GrewTo, File, D
 
 -- the file with a content, and a change that it isn't synced with
 abbrev pub with_change : Change → List ℕ → File → File
-with_change change content file = record { content = content; synced = file.synced; changes = file.changes ++ change ∷ [] }
+with_change change content file =
+    record { content = content; synced = file.synced; changes = file.changes ++ change ∷ [] }
 
 -- the file after a change
 abbrev pub after_change : Change → File → File
@@ -20,11 +21,16 @@ flushed file = at_rest file.content
 
 -- the disk with an empty file under a new name
 abbrev pub created : List ℕ → Disk → Disk
-created path d = record d { names = update bytes_eq d.names path (Some d.unused); files = update nat_eq d.files d.unused (Some (at_rest [])); unused = suc d.unused }
+created path d = record d {
+  names = update bytes_eq d.names path (Some d.unused);
+  files = update nat_eq d.files d.unused (Some (at_rest []));
+  unused = suc d.unused;
+}
 
 -- the disk without a name and its file
 abbrev pub deleted : List ℕ → ℕ → Disk → Disk
-deleted path id d = record d { names = update bytes_eq d.names path None; files = update nat_eq d.files id None }
+deleted path id d =
+    record d { names = update bytes_eq d.names path None; files = update nat_eq d.files id None }
 
 -- the files without the one that loses its name
 abbrev pub without : Option ℕ → (ℕ → Option File) → ℕ → Option File
@@ -68,7 +74,8 @@ pub record IsTorn (at : ℕ) (bytes old new : List ℕ) : Type 0 where
 abbrev pub InPart : Change → List ℕ → List ℕ → Type 0
 InPart (Wrote at bytes) old new = IsTorn at bytes old new
 InPart (ShortenedTo size) old new = (new ≡ old) ⊎ (new ≡ take size old)
-InPart (GrewTo size) old new = (count : ℕ) × (length old + count ≤ size ⊎ (count ≡ 0)) × (new ≡ old ++ zeros count)
+InPart (GrewTo size) old new =
+    (count : ℕ) × (length old + count ≤ size ⊎ (count ≡ 0)) × (new ≡ old ++ zeros count)
 
 -- a call changed one file, and was answered before the file system stopped
 pub record Changes (id : ℕ) (next : File → File) (old new : Disk) : Type 0 where
@@ -141,7 +148,8 @@ pub data SomeOf (id : ℕ) (change : Change) (old left : Disk) : Type 0 where
 
 -- a refused write, shortening or growth
 abbrev pub RefusedChange : ℕ → Change → (ErrorKind → Type 0) → ErrorKind → Disk → Disk → Type 0
-RefusedChange id change wrong error old new = Refused (SomeOf id change old) (Changes id (after_change change) old) wrong error old new
+RefusedChange id change wrong error old new =
+    Refused (SomeOf id change old) (Changes id (after_change change) old) wrong error old new
 
 -- a refused call that is done whole or not at all
 abbrev pub RefusedWhole : (Disk → Type 0) → (ErrorKind → Type 0) → ErrorKind → Disk → Disk → Type 0

@@ -9,7 +9,8 @@ use Rattle.raft_log_disk.specs.KeepsSynced.{IsStale, NoneIsStale, NoChanceMatch,
 
 -- a file with these bytes synced, and a record written behind them since
 abbrev pub one_unsynced : {R : Type 0} → List ℕ → Written R → File
-one_unsynced synced w = record { content = synced ++ w.bytes; synced = synced; changes = Wrote (length synced) w.bytes ∷ [] }
+one_unsynced synced w =
+    record { content = synced ++ w.bytes; synced = synced; changes = Wrote (length synced) w.bytes ∷ [] }
 
 -- Synced records, and one that isn't: a stop may leave just a beginning of the last one. Then the premise
 -- holds, and the synced ones are read and no more: the last record is lost. (None of the synced ones is what
@@ -22,7 +23,8 @@ TornRecordIsLost {R} IsFrame = IsSelfDelimiting IsFrame
     → (let synced = front ++ spelled durable in
     let file = one_unsynced synced w in
     let bytes = synced ++ take landed w.bytes in
-    IsLeft file bytes × NoChanceMatch IsFrame (length front) stale file bytes × Reads IsFrame (length front) durable bytes)
+    IsLeft file bytes × NoChanceMatch IsFrame (length front) stale file bytes
+        × Reads IsFrame (length front) durable bytes)
 
 -- The same file, and another record than the one written, no longer than it: a stop may leave that one in its
 -- place, and the premise says that this doesn't happen.
@@ -43,7 +45,8 @@ ForeignRecordBehindIsRefused {R} IsFrame = IsSelfDelimiting IsFrame
     → (front stale behind : List ℕ) (durable pending : List (Written R)) (foreign : Written R)
     → AreFrames IsFrame durable → IsFrame foreign.bytes foreign.value
     → (IsStale stale (length front + length (spelled durable)) foreign.bytes → ⊥)
-    → HoldsChain IsFrame (length front) stale durable pending (at_rest ((front ++ spelled durable) ++ (foreign.bytes ++ behind))) → ⊥
+    → HoldsChain IsFrame (length front) stale durable pending
+        (at_rest ((front ++ spelled durable) ++ (foreign.bytes ++ behind))) → ⊥
 
 -- A file that is used again, with its new records synced over the bytes that stood there, of which none is
 -- read behind them: the premise holds in what a stop leaves of it, and the new records are read and no more.
@@ -53,7 +56,8 @@ RecycledFileMeetsIt {R} IsFrame = (front stale : List ℕ) (durable : List (Writ
     → NoneIsStale stale (length front) durable
     → Refuses IsFrame (drop (length front + length (spelled durable)) stale)
     → (let bytes = front ++ (spelled durable ++ drop (length front + length (spelled durable)) stale) in
-    HoldsChain IsFrame (length front) stale durable [] (at_rest bytes) × NoChanceMatch IsFrame (length front) stale (at_rest bytes) bytes
+    HoldsChain IsFrame (length front) stale durable [] (at_rest bytes)
+        × NoChanceMatch IsFrame (length front) stale (at_rest bytes) bytes
     × Reads IsFrame (length front) durable bytes)
 
 -- Whatever a stop leaves of a file whose bytes are all synced, and that held nothing when it got its number,

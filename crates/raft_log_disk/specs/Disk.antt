@@ -43,7 +43,8 @@ grown size bytes = bytes ++ zeros (size - length bytes)
 
 -- old bytes with others over them from a place on; a gap between the end and that place is zeros
 abbrev pub spliced : ℕ → List ℕ → List ℕ → List ℕ
-spliced at bytes old = let room = grown (at + length bytes) old in take at room ++ (bytes ++ drop (at + length bytes) room)
+spliced at bytes old =
+    let room = grown (at + length bytes) old in take at room ++ (bytes ++ drop (at + length bytes) room)
 
 -- the same as a write does it: one of no bytes changes nothing, wherever it is
 abbrev pub overwritten : ℕ → List ℕ → List ℕ → List ℕ

@@ -16,7 +16,8 @@ use Rattle.raft_log_disk.specs.declared.handle.Permission.TheVariants.{ReadWrite
 -- why no file was made, and what stands then: the path is wrong, a failure, or a stop at which it may have
 -- been made
 abbrev pub FailsToCreate : List ℕ → ErrorKind → Disk → Disk → Type 0
-FailsToCreate path error old new = RefusedWhole (Creates path old.unused old) (WrongCreate path old) error old new
+FailsToCreate path error old new =
+    RefusedWhole (Creates path old.unused old) (WrongCreate path old) error old new
 
 -- why a file wasn't deleted, and what stands then
 abbrev pub FailsToDelete : List ℕ → ErrorKind → Disk → Disk → Type 0
@@ -24,7 +25,8 @@ FailsToDelete path error old new = RefusedWhole (Deletes path old) (WrongName pa
 
 -- why a file wasn't renamed, and what stands then
 abbrev pub FailsToRename : List ℕ → List ℕ → ErrorKind → Disk → Disk → Type 0
-FailsToRename from to error old new = RefusedWhole (Renames from to old) (WrongRename from to old) error old new
+FailsToRename from to error old new =
+    RefusedWhole (Renames from to old) (WrongRename from to old) error old new
 
 -- a file got another name, and this is a handle that may write it
 abbrev pub RenamesAndOpens : List ℕ → List ℕ → Handle → Disk → Disk → Type 0
@@ -33,11 +35,13 @@ RenamesAndOpens from to handle old new = Renames from to old new × IsOpened to 
 -- why a file wasn't renamed and opened: as for a renaming, or it was renamed, and memory was short for
 -- opening it
 abbrev pub FailsToRenameAndOpen : List ℕ → List ℕ → ErrorKind → Disk → Disk → Type 0
-FailsToRenameAndOpen from to error old new = FailsToRename from to error old new ⊎ (Renames from to old new × (error ≡ OutOfMemory))
+FailsToRenameAndOpen from to error old new =
+    FailsToRename from to error old new ⊎ (Renames from to old new × (error ≡ OutOfMemory))
 
 -- why a directory wasn't made, and what stands then
 abbrev pub FailsToMakeDirectory : List ℕ → ErrorKind → Disk → Disk → Type 0
-FailsToMakeDirectory path error old new = RefusedWhole (MakesDirectory path old) (WrongDirectory path old) error old new
+FailsToMakeDirectory path error old new =
+    RefusedWhole (MakesDirectory path old) (WrongDirectory path old) error old new
 
 -- a call that changes nothing on the disk was answered before the file system stopped
 pub record LeavesAll (old new : Disk) : Type 0 where
@@ -56,7 +60,8 @@ Writes handle offset bytes old new = Changes handle.file (after_change (Wrote of
 
 -- why they weren't, and what stands then: the handle is wrong, or some may have been written
 abbrev pub FailsToWrite : Handle → ℕ → List ℕ → ErrorKind → Disk → Disk → Type 0
-FailsToWrite handle offset bytes error old new = RefusedChange handle.file (Wrote offset bytes) (WrongWriter handle old) error old new
+FailsToWrite handle offset bytes error old new =
+    RefusedChange handle.file (Wrote offset bytes) (WrongWriter handle old) error old new
 
 -- a file was shortened to a size
 abbrev pub Shortens : Handle → ℕ → Disk → Disk → Type 0
@@ -64,7 +69,8 @@ Shortens handle size old new = Changes handle.file (after_change (ShortenedTo si
 
 -- why it wasn't, and what stands then: the handle is wrong, or it may have been shortened
 abbrev pub FailsToShorten : Handle → ℕ → ErrorKind → Disk → Disk → Type 0
-FailsToShorten handle size error old new = RefusedChange handle.file (ShortenedTo size) (WrongWriter handle old) error old new
+FailsToShorten handle size error old new =
+    RefusedChange handle.file (ShortenedTo size) (WrongWriter handle old) error old new
 
 -- a file was grown by zeros up to a size
 abbrev pub Grows : Handle → ℕ → Disk → Disk → Type 0
@@ -72,7 +78,8 @@ Grows handle size old new = Changes handle.file (after_change (GrewTo size)) old
 
 -- why it wasn't, and what stands then: the handle is wrong, or it may have grown by some of the zeros
 abbrev pub FailsToGrow : Handle → ℕ → ErrorKind → Disk → Disk → Type 0
-FailsToGrow handle size error old new = RefusedChange handle.file (GrewTo size) (WrongWriter handle old) error old new
+FailsToGrow handle size error old new =
+    RefusedChange handle.file (GrewTo size) (WrongWriter handle old) error old new
 
 -- a file's bytes were made durable
 abbrev pub Syncs : Handle → Disk → Disk → Type 0
@@ -80,7 +87,8 @@ Syncs handle old new = Changes handle.file flushed old new
 
 -- why they weren't, and what stands then
 abbrev pub FailsToSync : Handle → ErrorKind → Disk → Disk → Type 0
-FailsToSync handle error old new = RefusedWhole (Changes handle.file flushed old) (WrongHandle handle old) error old new
+FailsToSync handle error old new =
+    RefusedWhole (Changes handle.file flushed old) (WrongHandle handle old) error old new
 
 -- What arming a fault changes of the disk: nothing, as what will be refused doesn't stand on it. (A fault
 -- that marks a place as unreadable would be a case of its own, and set that mark alone.)

@@ -69,7 +69,12 @@ settled file = at_rest file.content
 
 -- the disk as a restart finds it where everything was kept
 abbrev pub as_it_stands : Disk → Disk
-as_it_stands d = record d { files = λ id. option_map settled (d.files id); unreadable = λ id place. false; stopped = false; failures = 0 }
+as_it_stands d = record d {
+  files = λ id. option_map settled (d.files id);
+  unreadable = λ id place. false;
+  stopped = false;
+  failures = 0;
+}
 
 -- every file is synced
 abbrev pub IsAllSynced : Disk → Type 0

@@ -69,7 +69,8 @@ kept_records durable pending count = durable ++ take count pending
 
 -- these are the durable records and the first pending ones, and nothing else
 abbrev pub AreKept : {R : Type 0} → List (Written R) → List (Written R) → List (Written R) → Type 0
-AreKept durable pending ws = (count : ℕ) × (count ≤ length pending) × (ws ≡ kept_records durable pending count)
+AreKept durable pending ws =
+    (count : ℕ) × (count ≤ length pending) × (ws ≡ kept_records durable pending count)
 
 -- Synced records are kept: whatever a stop may leave, if no checksum is met by chance in it, what is read of
 -- it is a beginning of the records written, with all the durable ones.
@@ -121,7 +122,8 @@ pub record ChainSteps {R : Type 0} (IsFrame : List ℕ → R → Type 0)
 
 -- a file that holds a chain takes these steps
 abbrev pub ChainGoesOn : {R : Type 0} → (List ℕ → R → Type 0) → Type 0
-ChainGoesOn {R} IsFrame = (start : ℕ) (stale : List ℕ) (durable pending : List (Written R)) (file : File) (content : List ℕ)
+ChainGoesOn {R} IsFrame =
+    (start : ℕ) (stale : List ℕ) (durable pending : List (Written R)) (file : File) (content : List ℕ)
     → HoldsChain IsFrame start stale durable pending file
     → ChainSteps IsFrame start stale durable pending file content
 

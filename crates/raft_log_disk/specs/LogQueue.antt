@@ -109,7 +109,8 @@ ReadsNamed F d n ws = HasNumbered F n (λ file. ReadsFile F n ws file.content) d
 -- so many files are read from a number on, and behind them none is there
 abbrev pub ReadsFiles : {R : Type 0} → Format R → Disk → ℕ → ℕ → List (Found R) → Type 0
 ReadsFiles F d s zero found = (found ≡ []) × ((m : ℕ) → s ≤ m → m < F.limit → IsAbsent F m d)
-ReadsFiles {R} F d s (suc k) found = (ws : List (Written R)) × (more : List (Found R)) × (s < F.limit) × ReadsNamed F d s ws
+ReadsFiles {R} F d s (suc k) found =
+    (ws : List (Written R)) × (more : List (Found R)) × (s < F.limit) × ReadsNamed F d s ws
     × ReadsFiles F d (suc s) k more × (found ≡ record { number = s; records = ws } ∷ more)
 
 -- the files from a number on are read, up to the last that is there
@@ -123,7 +124,8 @@ past_from older s (suc k) = record { number = s; records = (older s).records } �
 
 -- the files from a number on, the last with its durable records and the first `count` pending ones
 abbrev pub found_from : {R : Type 0} → ℕ → LogFiles R → ℕ → List (Found R)
-found_from s q count = past_from q.older s (q.last - s) ++ record { number = q.last; records = kept_records q.durable q.pending count } ∷ []
+found_from s q count = past_from q.older s (q.last - s)
+    ++ record { number = q.last; records = kept_records q.durable q.pending count } ∷ []
 
 -- no checksum is met by chance in what a stop left of the last file
 abbrev pub NoChanceInLast : {R : Type 0} → Format R → LogFiles R → Disk → Disk → Type 0

@@ -44,7 +44,8 @@ pub record IsShortenedRead {R : Type 0} (IsFrame : List ℕ → R → Type 0) (s
 
 -- the file holds at least the durable records, and others behind them
 abbrev pub KeepsDurable : {R : Type 0} → (List ℕ → R → Type 0) → ℕ → List ℕ → List (Written R) → File → Type 0
-KeepsDurable {R} IsFrame start stale durable file = (later : List (Written R)) × HoldsAtLeast IsFrame start stale durable later file
+KeepsDurable {R} IsFrame start stale durable file =
+    (later : List (Written R)) × HoldsAtLeast IsFrame start stale durable later file
 
 -- Before, between and after the two calls the file holds at least these records: by the shortening, made or
 -- not, and by the sync behind it, after which what is left is durable.
@@ -55,7 +56,8 @@ pub record ShorteningKeeps {R : Type 0} (IsFrame : List ℕ → R → Type 0)
   pub tried : (content : List ℕ)
       → HoldsAtLeast IsFrame start stale durable pending (with_change (ShortenedTo size) content file)
   pub done : IsShortened IsFrame start stale count durable pending (after_change (ShortenedTo size) file)
-  pub synced : HoldsAtLeast IsFrame start stale durable pending (flushed (after_change (ShortenedTo size) file))
+  pub synced : HoldsAtLeast IsFrame start stale durable pending
+      (flushed (after_change (ShortenedTo size) file))
 
 -- of a file that can be shortened so
 abbrev pub ShortenedIsKept : {R : Type 0} → (List ℕ → R → Type 0) → Type 0

@@ -54,12 +54,14 @@ pub trait FileSystem {
     /// the new one's directory isn't there, `IsADirectory` where the new one is a directory's.
     fn rename(&mut self, from: &str, to: &str) -> Result<(), ErrorKind>
         ensures ok { OnOk result (Renames from.now to.now (disk self.old) (disk self.new)) }
-        ensures err { IfErr result (λ error. FailsToRename from.now to.now error (disk self.old) (disk self.new)) };
+        ensures err { IfErr result (λ error.
+            FailsToRename from.now to.now error (disk self.old) (disk self.new)) };
 
     /// Renames a file whose bytes are to be overwritten under the new name.
     fn reuse(&mut self, from: &str, to: &str) -> Result<(), ErrorKind>
         ensures ok { OnOk result (Renames from.now to.now (disk self.old) (disk self.new)) }
-        ensures err { IfErr result (λ error. FailsToRename from.now to.now error (disk self.old) (disk self.new)) }
+        ensures err { IfErr result (λ error.
+            FailsToRename from.now to.now error (disk self.old) (disk self.new)) }
     {
         self.rename(from, to)
     }
@@ -67,8 +69,10 @@ pub trait FileSystem {
     /// Renames a file whose bytes are to be overwritten under the new name, and opens it. Where it is
     /// refused, names are as before, or the file was renamed and memory was short for opening it.
     fn reuse_and_open(&mut self, from: &str, to: &str) -> Result<Handle, ErrorKind>
-        ensures ok { IfOk result (λ handle. RenamesAndOpens from.now to.now handle (disk self.old) (disk self.new)) }
-        ensures err { IfErr result (λ error. FailsToRenameAndOpen from.now to.now error (disk self.old) (disk self.new)) }
+        ensures ok { IfOk result (λ handle.
+            RenamesAndOpens from.now to.now handle (disk self.old) (disk self.new)) }
+        ensures err { IfErr result (λ error.
+            FailsToRenameAndOpen from.now to.now error (disk self.old) (disk self.new)) }
     {
         self.reuse(from, to)?;
         self.open(to, Permission::ReadWrite)
@@ -88,28 +92,32 @@ pub trait FileSystem {
     /// Makes a directory, and asks for no parent. `AlreadyExists` where a file or a directory has the path.
     fn create_dir(&mut self, path: &str) -> Result<(), ErrorKind>
         ensures ok { OnOk result (MakesDirectory path.now (disk self.old) (disk self.new)) }
-        ensures err { IfErr result (λ error. FailsToMakeDirectory path.now error (disk self.old) (disk self.new)) };
+        ensures err { IfErr result (λ error.
+            FailsToMakeDirectory path.now error (disk self.old) (disk self.new)) };
 
     /// Writes bytes into a file from an offset on; a gap behind the file's end is zeros. No bytes change
     /// nothing. `NotFound` where the file is gone, `PermissionDenied` for a handle that may only read.
     fn write_at(&mut self, handle: Handle, offset: usize, bytes: &[u8]) -> Result<(), ErrorKind>
         ensures ok { OnOk result (Writes handle offset bytes.now (disk self.old) (disk self.new)) }
         ensures permitted { OnOk result (handle.permission ≡ Permission.ReadWrite) }
-        ensures err { IfErr result (λ error. FailsToWrite handle offset bytes.now error (disk self.old) (disk self.new)) };
+        ensures err { IfErr result (λ error.
+            FailsToWrite handle offset bytes.now error (disk self.old) (disk self.new)) };
 
     /// Shortens a file to a size, and never makes it longer. `NotFound` where the file is gone,
     /// `PermissionDenied` for a handle that may only read.
     fn truncate(&mut self, handle: Handle, size: usize) -> Result<(), ErrorKind>
         ensures ok { OnOk result (Shortens handle size (disk self.old) (disk self.new)) }
         ensures permitted { OnOk result (handle.permission ≡ Permission.ReadWrite) }
-        ensures err { IfErr result (λ error. FailsToShorten handle size error (disk self.old) (disk self.new)) };
+        ensures err { IfErr result (λ error.
+            FailsToShorten handle size error (disk self.old) (disk self.new)) };
 
     /// Grows a file with zeros until it has the bytes from an offset on that are asked for, and never makes
     /// it shorter. `NotFound` where the file is gone, `PermissionDenied` for a handle that may only read.
     fn allocate(&mut self, handle: Handle, offset: usize, size: usize) -> Result<(), ErrorKind>
         ensures ok { OnOk result (Grows handle (offset + size) (disk self.old) (disk self.new)) }
         ensures permitted { OnOk result (handle.permission ≡ Permission.ReadWrite) }
-        ensures err { IfErr result (λ error. FailsToGrow handle (offset + size) error (disk self.old) (disk self.new)) };
+        ensures err { IfErr result (λ error.
+            FailsToGrow handle (offset + size) error (disk self.old) (disk self.new)) };
 
     /// Makes a file's bytes durable: from then on a crash leaves them as they are. `NotFound` where the file
     /// is gone.
@@ -130,7 +138,8 @@ pub trait FileSystem {
     /// The names of a directory's files, in no promised order. `NotFound` for an absent directory,
     /// `InvalidInput` for a file.
     fn list(&self, directory: &str) -> Result<Vec<String>, ErrorKind>
-        ensures ok { IfOk result (λ names. IsListing directory.now (disk self.now) (map string_bytes names.items)) }
+        ensures ok { IfOk result (λ names.
+            IsListing directory.now (disk self.now) (map string_bytes names.items)) }
         ensures err { IfErr result (λ error. IsNotListed directory.now (disk self.now) error) };
 
     /// How many bytes a directory's files may still grow by. `NotFound` for an absent directory,
@@ -142,8 +151,10 @@ pub trait FileSystem {
     /// Reads bytes from an offset on until the room is full or the file ends, and answers how many. Refused
     /// where one of the places is unreadable; `NotFound` where the file is gone.
     fn read_at(&self, handle: Handle, offset: usize, room: &mut [u8]) -> Result<usize, ErrorKind>
-        ensures ok { IfOk result (λ count. FillsRoom handle.file offset (disk self.now) room.old room.new count) }
-        ensures err { IfErr result (λ error. IsUnread handle offset (length room.old) (disk self.now) error) };
+        ensures ok { IfOk result (λ count.
+            FillsRoom handle.file offset (disk self.now) room.old room.new count) }
+        ensures err { IfErr result (λ error.
+            IsUnread handle offset (length room.old) (disk self.now) error) };
 
     /// The size of a file in bytes. `NotFound` where the file is gone.
     fn file_size(&self, handle: Handle) -> Result<usize, ErrorKind>

@@ -1,4 +1,5 @@
--- The header of a log file: its magic bytes, the version of its format, and for the second version the alignment.
+-- The header of a log file: its magic bytes, the version of its format, and for the second version the
+-- alignment.
 use Rattle.std.specs.Prelude.{◌≡◌, ◌≢◌, ℕ, List, [], ◌++◌, length, take, drop, Result, Ok, Err, nat_eq, nat_lt, ◌==◌, if◌then◌else◌, codes}
 use Rattle.std.specs.List.{starts_with}
 use Rattle.std.specs.String.{string_bytes}
@@ -32,23 +33,28 @@ abbrev pub IsPayload : Version → List ℕ → LogFileFormat → Type 0
 IsPayload V1 = IsKnown (record { version = V1; alignment = 0 })
 IsPayload V2 = Mapped (λ n. record { version = V2; alignment = n }) IsU64
 
+-- the magic bytes, a version, and what a format of that version has behind it
 abbrev pub IsHeader : List ℕ → LogFileFormat → Type 0
 IsHeader = Then IsMagic (λ _. Then IsVersion IsPayload)
 
--- ---- reading, fault by fault
+-- Reading, fault by fault.
 
+-- the text for other bytes in front
 abbrev pub magic_mismatch : List ℕ
 magic_mismatch = codes "log file magic header mismatch"
 
+-- the text for a number that no version has
 abbrev pub unknown_version : ℕ → List ℕ
 unknown_version n = codes "unrecognized log file version: " ++ decimal n
 
+-- the text for an alignment that is cut short
 abbrev pub missing_payload : List ℕ
 missing_payload = codes "missing header payload"
 
 -- the magic bytes are taken off
 unfoldable pub magic_at : Reader (Unit {0}) Fault
-magic_at bytes = if starts_with nat_eq bytes magic then Ok (tt, drop (length magic) bytes) else Err (corrupt magic_mismatch)
+magic_at bytes = if starts_with nat_eq bytes magic then Ok (tt, drop (length magic) bytes)
+    else Err (corrupt magic_mismatch)
 
 -- the version that has this number
 abbrev pub version_of : ℕ → Result Version Fault
@@ -68,19 +74,23 @@ payload_at V2 bytes =
     if nat_lt (length bytes) 8 then Err (corrupt missing_payload)
     else Ok (record { version = V2; alignment = from_be_bytes w64 (take 8 bytes) }, drop 8 bytes)
 
+-- the magic bytes, the version and the rest, in this order; the first fault is told
 unfoldable pub header_at : Reader LogFileFormat Fault
 header_at bytes = magic_at bytes >>= λ x. version_at x.1 >>= λ y. payload_at y.0 y.1
 
--- ---- what is written
+-- Writing.
 
+-- what stands behind the version: for the second one the alignment
 abbrev pub payload_bytes : Version → ℕ → List ℕ
 payload_bytes V1 alignment = []
 payload_bytes V2 alignment = u64_bytes alignment
 
 -- the bytes of a header, where the format has one
 unfoldable pub header_bytes : LogFileFormat → List ℕ
-header_bytes format = magic ++ (u64_bytes (version_number format.version) ++ payload_bytes format.version format.alignment)
+header_bytes format =
+    magic ++ (u64_bytes (version_number format.version) ++ payload_bytes format.version format.alignment)
 
+-- the text for an alignment in a file of the first version
 abbrev pub no_alignment : List ℕ
 no_alignment = codes "a log file of the first version has no alignment"
 
@@ -96,6 +106,7 @@ HasHeader format = format.version ≡ V1 → format.alignment ≡ 0
 
 -- why no header is written: there is none, and this is the text, or memory ran out
 abbrev pub IsHeaderRefusal : LogFileFormat → Error → Type 0
-IsHeaderRefusal format (errors.InvalidArgument text) = (format.version ≡ V1) × (format.alignment ≢ 0) × (string_bytes text ≡ no_alignment)
+IsHeaderRefusal format (errors.InvalidArgument text) =
+    (format.version ≡ V1) × (format.alignment ≢ 0) × (string_bytes text ≡ no_alignment)
 IsHeaderRefusal format errors.Memory = Unit {0}
 IsHeaderRefusal format _ = ⊥

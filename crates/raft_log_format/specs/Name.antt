@@ -12,7 +12,8 @@ use Rattle.raft_log_base.specs.declared.pipe_log.LogQueue.TheVariants.{Append, R
 abbrev pub EndsWith : List ℕ → List ℕ → Type 0
 EndsWith suffix bytes = (front : List ℕ) × (bytes ≡ front ++ suffix)
 
--- The name is longer than sixteen bytes, and these are a number in digits, one of which may be a leading plus.
+-- The name is longer than sixteen bytes, and these are a number in digits, one of which may be a leading
+-- plus.
 pub record IsNumbered (name : List ℕ) (n : ℕ) : Type 0 where
   pub longer : 16 < length name
   pub digits : IsNumeral 10 (without_leading_plus (take 16 name))
@@ -55,4 +56,5 @@ IsFilePath id dir path = IsPathTo (λ name. IsNamed (suffix_of id.queue) name id
 
 -- no name is in two queues
 abbrev pub OneQueueAName : Type 0
-OneQueueAName = (name : List ℕ) (p q : LogQueue) → EndsWith (suffix_of p) name → EndsWith (suffix_of q) name → p ≡ q
+OneQueueAName =
+    (name : List ℕ) (p q : LogQueue) → EndsWith (suffix_of p) name → EndsWith (suffix_of q) name → p ≡ q

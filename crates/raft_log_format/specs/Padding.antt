@@ -3,4 +3,5 @@ use Rattle.std.specs.Prelude.{◌≡◌, ℕ, ◌-◌, List, length, ◌⊎◌, 
 
 -- no bytes, or the first and the last one are 0; those between aren't looked at
 abbrev pub IsZeroPadded : List ℕ → Type 0
-IsZeroPadded bytes = (length bytes ≡ 0) ⊎ ((slice_index bytes 0 ≡ 0) × (slice_index bytes (length bytes - 1) ≡ 0))
+IsZeroPadded bytes =
+    (length bytes ≡ 0) ⊎ ((slice_index bytes 0 ≡ 0) × (slice_index bytes (length bytes - 1) ≡ 0))

@@ -58,8 +58,8 @@ impl LogFileFormat {
 
     /// Reads a header from the front of a file's bytes, and takes just its bytes, or none where it refuses.
     ///
-    /// Refuses, in this order: other magic bytes, a version's number that is cut short (a codec's error), one that no
-    /// version has, an alignment that is cut short. Only the text of a refusal takes memory.
+    /// Refuses, in this order: other magic bytes, a version's number that is cut short (a codec's error), one
+    /// that no version has, an alignment that is cut short. Only the text of a refusal takes memory.
     pub fn decode(alloc: Global, source: &mut BytesSlice<'_>) -> Result<LogFileFormat>
         ensures decodes { DecodesOrMemory IsHeader result source.old.now source.new.now }
         ensures exact { ReadsOrMemory result source.old.now source.new.now (header_at source.old.now) }
@@ -70,7 +70,8 @@ impl LogFileFormat {
     /// Appends the header. An alignment of a file of the first version is refused as an invalid argument.
     /// A refusal leaves the buffer as it was.
     pub fn encode(&self, alloc: Global, out: &mut Vec<u8>) -> Result<()>
-        ensures ok { OnOk result (HasHeader self.now × (out.new.items ≡ out.old.items ++ header_bytes self.now)) }
+        ensures ok { OnOk result (HasHeader self.now
+            × (out.new.items ≡ out.old.items ++ header_bytes self.now)) }
         ensures spelled { OnOk result (IsHeader (header_bytes self.now) self.now) }
         ensures err { OnErr result (out.new.items ≡ out.old.items) }
         ensures errors { IfErr result (λ error. IsHeaderRefusal self.now error) }

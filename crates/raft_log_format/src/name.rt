@@ -29,8 +29,8 @@ pub trait FileNameExt: Sized {
     /// The file's number.
     ghost number: { Self → ℕ };
 
-    /// The file with this name, if the name is a log file's: more than sixteen bytes, of which the first sixteen are
-    /// a number (a leading `+` passes), and the end of one of the two queues.
+    /// The file with this name, if the name is a log file's: more than sixteen bytes, of which the first
+    /// sixteen are a number (a leading `+` passes), and the end of one of the two queues.
     fn parse_file_name(file_name: &str) -> Option<Self>
         ensures { (id : Self) → (result ≡ Some id) ↔ named file_name.now id };
 
@@ -41,7 +41,8 @@ pub trait FileNameExt: Sized {
 
     /// The path of the file in a directory: the directory, a slash and the name. Refused as the name is.
     fn build_file_path(&self, alloc: Global, dir: &str) -> Result<String>
-        ensures ok { IfOk result (λ path. IsPathTo (λ name. named name self.now) dir.now (string_bytes path)) }
+        ensures ok { IfOk result (λ path.
+            IsPathTo (λ name. named name self.now) dir.now (string_bytes path)) }
         ensures err { IfErr result (λ error. IsNameRefusal (number self.now) error) };
 }
 
@@ -78,7 +79,8 @@ fn parse_seq_before(name: &str, suffix: &str) -> Option<FileSeq>
 /// The name with this number and this end.
 fn name_with(alloc: Global, seq: FileSeq, suffix: &str) -> Result<String>
     ensures ok { IfOk result (λ name. string_bytes name ≡ sixteen_digits seq ++ suffix.now) }
-    ensures parsed { 0 < length suffix.now → IfOk result (λ name. IsNamed suffix.now (string_bytes name) seq) }
+    ensures parsed { 0 < length suffix.now
+        → IfOk result (λ name. IsNamed suffix.now (string_bytes name) seq) }
     ensures err { IfErr result (λ error. IsNameRefusal seq error) }
     ensures range { (result ≡ Err NumberRange) ↔ (10 ^ 16 ≤ seq) }
 {
@@ -117,7 +119,8 @@ impl FileNameExt for FileId {
     }
 
     fn build_file_name(&self, alloc: Global) -> Result<String>
-        ensures ok { IfOk result (λ name. IsNamed (suffix_of self.now.queue) (string_bytes name) self.now.seq) }
+        ensures ok { IfOk result (λ name.
+            IsNamed (suffix_of self.now.queue) (string_bytes name) self.now.seq) }
         ensures exact { IfOk result (λ name. string_bytes name ≡ file_name self.now) }
         ensures err { IfErr result (λ error. IsNameRefusal self.now.seq error) }
         ensures range { (result ≡ Err NumberRange) ↔ (10 ^ 16 ≤ self.now.seq) }
@@ -156,7 +159,8 @@ pub fn parse_reserved_file_name(file_name: &str) -> Option<FileSeq>
     parse_seq_before(file_name, LOG_APPEND_RESERVED_SUFFIX)
 }
 
-/// The name of a file that is kept to be used. A number of more than sixteen digits is refused as `NumberRange`.
+/// The name of a file that is kept to be used. A number of more than sixteen digits is refused as
+/// `NumberRange`.
 pub fn build_reserved_file_name(alloc: Global, seq: FileSeq) -> Result<String>
     ensures ok { IfOk result (λ name. IsNamed reserved_suffix (string_bytes name) seq) }
     ensures exact { IfOk result (λ name. string_bytes name ≡ sixteen_digits seq ++ reserved_suffix) }

@@ -104,7 +104,7 @@ left_own-append what place [] ys old = refl
 left_own-append what place (x ∷ xs) ys old = left_own-append what place xs ys (left_by what (place x.stamp) x.change old)
 
 -- no change of this file
-abbrev AreOthers : ℕ → List (ℕ × disk.Change) → Type 0
+abbrev pub AreOthers : ℕ → List (ℕ × disk.Change) → Type 0
 AreOthers id [] = Unit {0}
 AreOthers id (u ∷ us) = (u.0 ≡ id → ⊥) × AreOthers id us
 
@@ -126,7 +126,7 @@ others_at stamp id q None which = tt
 others_at stamp id q (Some file) (inl apart) = others_tagged id q (at_stamp stamp file.changes) apart
 others_at stamp id q (Some file) (inr none) = subst (AreOthers id) (sym none) tt
 
-others_stamped : (stamp id count : ℕ) (files : ℕ → Option Held) → with_stamp stamp id (files id) ≡ [] → AreOthers id (stamped stamp files count)
+pub others_stamped : (stamp id count : ℕ) (files : ℕ → Option Held) → with_stamp stamp id (files id) ≡ [] → AreOthers id (stamped stamp files count)
 others_stamped stamp id zero files none = tt
 others_stamped stamp id (suc n) files none =
     others-append id (stamped stamp files n) (with_stamp stamp n (files n)) (others_stamped stamp id n files none)
@@ -135,7 +135,7 @@ others_stamped stamp id (suc n) files none =
       | inr apart ↦ inl apart
     ]))
 
-empty_or : {X : Type 0} (xs : List X) → (xs ≡ []) ⊎ (xs ≡ [] → ⊥)
+pub empty_or : {X : Type 0} (xs : List X) → (xs ≡ []) ⊎ (xs ≡ [] → ⊥)
 empty_or [] = inl refl
 empty_or (x ∷ xs) = inr (λ e. cc)
 

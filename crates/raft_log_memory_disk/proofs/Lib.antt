@@ -6,6 +6,7 @@ pub mod Paths
 pub mod RisingLaws
 pub mod OrderLaws
 pub mod LeftLaws
+pub mod OwnLaws
 pub mod StorageLaws
 pub mod Whole
 pub mod RemainsLaws

@@ -1,6 +1,7 @@
 -- The changes that a file system in memory keeps, as changes of a disk.
-use Rattle.std.specs.Prelude.{ℕ}
-use Rattle.raft_log_disk.specs.Disk.{Wrote, ShortenedTo, GrewTo}
+use Rattle.std.specs.Prelude.{ℕ, ◌<◌, ◌≤◌}
+use Rattle.raft_log_disk.specs.Disk.{Wrote, ShortenedTo, GrewTo, file_limit}
+use Rattle.raft_log_disk.specs.Image.{Touches}
 use Rattle.raft_log_disk.specs.Disk as disk
 use Rattle.raft_log_memory_disk.specs.declared.change.Change.{Change}
 use Rattle.raft_log_memory_disk.specs.declared.change.Change.TheVariants.{Write, Shortening, Growth}
@@ -11,6 +12,11 @@ abbrev pub change_of : Change → disk.Change
 change_of (Write offset bytes) = Wrote offset bytes.items
 change_of (Shortening size) = ShortenedTo size
 change_of (Growth size) = GrewTo size
+
+-- of the places of a file the change touches only those from the one number up to the other
+abbrev pub TouchesWithin : disk.Change → ℕ → ℕ → Type 0
+TouchesWithin change start end =
+    (place : ℕ) → place < file_limit → Touches change place → (start ≤ place) × (place < end)
 
 -- a change, and how many changes of any file were made before it
 pub record Made : Type 0 where

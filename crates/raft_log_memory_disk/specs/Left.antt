@@ -32,19 +32,23 @@ left_as_said (Some (Bytes other)) change old = left_as other.items change old
 abbrev pub left_by : Remainder → ℕ → disk.Change → List ℕ → List ℕ
 left_by LastSync place change old = old
 left_by AllWritten place change old = changed change old
-left_by (First pieces bytes) place change old = cond (nat_lt place pieces) (changed change old) (cond (nat_eq place pieces) (left_front bytes change old) old)
+left_by (First pieces bytes) place change old =
+    cond (nat_lt place pieces) (changed change old)
+    (cond (nat_eq place pieces) (left_front bytes change old) old)
 left_by (Pieces list) place change old = left_as_said (slice_get list.items place) change old
 
 -- what the changes from a place on leave of one file, in the order of the calls over all files
 abbrev pub left_of : Remainder → ℕ → ℕ → List (ℕ × disk.Change) → List ℕ → List ℕ
 left_of what place id [] old = old
-left_of what place id (u ∷ us) old = left_of what (suc place) id us (cond (nat_eq u.0 id) (left_by what place u.1 old) old)
+left_of what place id (u ∷ us) old =
+    left_of what (suc place) id us (cond (nat_eq u.0 id) (left_by what place u.1 old) old)
 
 -- a file as the restart finds it: at rest with the synced bytes and what is left of the changes since
 abbrev pub left_file : Remainder → List (ℕ × disk.Change) → ℕ → File → File
 left_file what unsynced id file = at_rest (left_of what 0 id unsynced file.synced)
 
--- the disk that a crash leaves: the names as they stand, what is left of each file, and nothing to hinder a call
+-- the disk that a crash leaves: the names as they stand, what is left of each file, and nothing to hinder a
+-- call
 abbrev pub left_disk : Remainder → List (ℕ × disk.Change) → Disk → Disk
 left_disk what unsynced d = record d {
   files = λ id. option_map (left_file what unsynced id) (d.files id);

@@ -1,4 +1,5 @@
--- What each change of a file system in memory makes of its disk, and of the order of the changes of all files.
+-- What each change of a file system in memory makes of its disk, and of the order of the changes of all
+-- files.
 use Rattle.std.specs.Prelude.{◌≡◌, ℕ, ◌⊎◌, ◌≤◌, cond, nat_eq, Option, Some, None, List, [], ◌∷◌, ◌++◌}
 use Rattle.std.specs.declared.io.ErrorKind.{ErrorKind}
 use Rattle.std.specs.declared.io.ErrorKind.TheVariants.{OutOfMemory, StorageFull}
@@ -7,6 +8,8 @@ use Rattle.raft_log_disk.specs.Image.{end_of}
 use Rattle.raft_log_disk.specs.Calls.{after_change, flushed, deleted, renamed}
 use Rattle.raft_log_memory_disk.specs.declared.storage.Storage.{Storage}
 use Rattle.raft_log_memory_disk.specs.Order.{without_file}
+use Rattle.raft_log_memory_disk.specs.Left.{left_disk}
+use Rattle.raft_log_memory_disk.specs.declared.remainder.Remainder.{Remainder}
 use Rattle.raft_log_memory_disk.specs.Storage.{contents_of, unsynced_of}
 
 -- nothing that is held changed
@@ -16,13 +19,19 @@ pub record IsSame (old new : Storage) : Type 0 where
 
 -- a file was changed, and this change is the last one of all
 pub record Makes (id : ℕ) (change : Change) (old new : Storage) : Type 0 where
-  pub contents : (file : File) → (contents_of old).files id ≡ Some file → contents_of new ≡ with_file id (Some (after_change change file)) (contents_of old)
+  pub contents : (file : File) → (contents_of old).files id ≡ Some file
+      → contents_of new ≡ with_file id (Some (after_change change file)) (contents_of old)
   pub order : unsynced_of new ≡ unsynced_of old ++ (id, change) ∷ []
 
 -- a file was synced, and its changes are among the others no more
 pub record Syncs (id : ℕ) (old new : Storage) : Type 0 where
-  pub contents : (file : File) → (contents_of old).files id ≡ Some file → contents_of new ≡ with_file id (Some (flushed file)) (contents_of old)
+  pub contents : (file : File) → (contents_of old).files id ≡ Some file
+      → contents_of new ≡ with_file id (Some (flushed file)) (contents_of old)
   pub order : unsynced_of new ≡ without_file id (unsynced_of old)
+
+-- this is what a crash leaves, the changes being in this order
+abbrev pub IsLeftBy : Remainder → Storage → Storage → Type 0
+IsLeftBy what old after = contents_of after ≡ left_disk what (unsynced_of old) (contents_of old)
 
 -- a name was added, and no file changed
 pub record Adds (next : Disk → Disk) (old new : Storage) : Type 0 where

@@ -1,6 +1,7 @@
 //! Changes of a file's bytes in place.
-ghost use Rattle.std.specs.Prelude.{◌≡◌, ℕ, ◌+◌, ◌-◌, ◌++◌, min, take, drop, ◌<◌, ◌≤◌, ◌⊎◌, ◌^◌, length, slice_index, is_ok, if◌then◌else◌, OnOk, OnErr, vec_len};
+ghost use Rattle.std.specs.Prelude.{◌≡◌, ◌+◌, ◌-◌, ◌++◌, min, take, drop, ◌<◌, ◌^◌, length, is_ok, if◌then◌else◌, OnOk, OnErr, vec_len};
 ghost use Rattle.raft_log_disk.specs.Disk.{grown, overwritten};
+ghost use Rattle.raft_log_memory_disk.specs.Held.{HasRangeOf, KeepsOutside};
 
 use std::alloc::AllocError;
 
@@ -34,8 +35,8 @@ pub(crate) fn overwrite(bytes: &mut Vec<u8>, at: usize, over: &[u8]) -> Result<(
 pub(crate) fn copy_range(to: &mut Vec<u8>, from: &[u8], start: usize, end: usize)
     requires { vec_len to.old ≡ length from.now }
     ensures len { vec_len to.new ≡ vec_len to.old }
-    ensures inside { (place : ℕ) → start ≤ place → place < end → place < length from.now → slice_index to.new.items place ≡ slice_index from.now place }
-    ensures outside { (place : ℕ) → (place < start) ⊎ (end ≤ place) → slice_index to.new.items place ≡ slice_index to.old.items place }
+    ensures inside { HasRangeOf start end from.now to.new.items }
+    ensures outside { KeepsOutside start end to.old.items to.new.items }
 {
     let end = end.min(from.len());
     if start < end {

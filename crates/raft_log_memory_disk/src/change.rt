@@ -1,7 +1,7 @@
 //! Changes of a file's bytes, and the order in which they were made.
-ghost use Rattle.std.specs.Prelude.{◌≡◌, ℕ, ◌<◌, ◌≤◌, OnOk, OnErr};
+ghost use Rattle.std.specs.Prelude.{◌≡◌, ◌<◌, OnOk, OnErr};
 ghost use Rattle.raft_log_disk.specs.Disk.{changed, file_limit};
-ghost use Rattle.raft_log_disk.specs.Image.{end_of, Touches};
+ghost use Rattle.raft_log_disk.specs.Image.{end_of};
 
 use crate::bytes::{grow_to, overwrite};
 use std::alloc::AllocError;
@@ -38,7 +38,7 @@ pub struct Stamped {
 }
 
 impl Change {
-    ghost use Rattle.raft_log_memory_disk.specs.Changes.{change_of};
+    ghost use Rattle.raft_log_memory_disk.specs.Changes.{change_of, TouchesWithin};
     ghost use Rattle.raft_log_memory_disk.specs.Left.{left_front, left_as};
 
     // Makes the change. Without memory nothing changes.
@@ -93,7 +93,7 @@ impl Change {
 
     // The change touches the places from the first number up to the second.
     pub(crate) fn touched(&self) -> (usize, usize)
-        ensures { (place : ℕ) → place < file_limit → Touches (change_of self.now) place → (result.0 ≤ place) × (place < result.1) }
+        ensures { TouchesWithin (change_of self.now) result.0 result.1 }
     {
         match self {
             Change::Write { offset, bytes } => (*offset, offset.saturating_add(bytes.len())),

@@ -1,13 +1,9 @@
 //! The files by their node numbers; none at a number whose file is gone.
-ghost use Rattle.std.specs.Prelude.{◌≡◌, ℕ, ◌<◌, ◌++◌, [], length, map, take, drop, slice_index, IfOk, OnOk, OnErr, vec_len};
-ghost use Rattle.std.specs.List.{All};
-ghost use Rattle.std.specs.Map.{update};
-ghost use Rattle.std.specs.Bool.{nat_eq};
-ghost use Rattle.std.specs.Option.{option_map};
+ghost use Rattle.std.specs.Prelude.{◌≡◌, ℕ, ◌<◌, [], length, map, slice_index, IfOk, OnOk, OnErr, vec_len};
 ghost use Rattle.raft_log_disk.specs.Disk.{file_limit};
-ghost use Rattle.raft_log_disk.specs.Image.{end_of, Spares, IsLeft};
+ghost use Rattle.raft_log_disk.specs.Image.{end_of, IsLeft};
 ghost use Rattle.raft_log_memory_disk.specs.Changes.{change_of, made_of};
-ghost use Rattle.raft_log_memory_disk.specs.Held.{Held, held_of, with_made, all_synced, changes_in, file_of};
+ghost use Rattle.raft_log_memory_disk.specs.Held.{IfHeld, SameHeld, ChangesHeld, IsSyncedIfSpared, fitted, with_made, all_synced, file_of};
 
 use crate::bytes::copy_range;
 use crate::change::{Change, Stamped};
@@ -77,7 +73,7 @@ impl Stored {
 
 // Gives what is synced the size of the content. Without memory nothing changes.
 fn fit_size(synced: &mut Vec<u8>, content: &[u8]) -> Result<(), AllocError>
-    ensures ok { OnOk result (synced.new.items ≡ take (length content.now) synced.old.items ++ drop (length synced.old.items) content.now) }
+    ensures ok { OnOk result (synced.new.items ≡ fitted content.now synced.old.items) }
     ensures err { OnErr result (synced.new.items ≡ synced.old.items) }
 {
     let size = synced.len();
@@ -94,7 +90,7 @@ fn copy_touched(synced: &mut Vec<u8>, content: &[u8], changes: &[Stamped])
     requires { vec_len synced.old ≡ length content.now }
     ensures len { vec_len synced.new ≡ length content.now }
     ensures same { (place : ℕ) → place < length content.now
-        → (All (Spares place) (changes_in (map made_of changes.now)) → slice_index synced.old.items place ≡ slice_index content.now place)
+        → IsSyncedIfSpared (map made_of changes.now) content.now synced.old.items place
         → slice_index synced.new.items place ≡ slice_index content.now place }
 {
     for stamped in changes {
@@ -106,10 +102,10 @@ fn copy_touched(synced: &mut Vec<u8>, content: &[u8], changes: &[Stamped])
 // Makes what is synced of one file its content. Without memory nothing changes.
 pub(crate) fn flush_file(files: &mut Vec<Option<Stored>>, id: usize) -> Result<(), AllocError>
     requires there { id < vec_len files.old }
-    requires sound { (file : Held) → held_of files.old.items id ≡ Some file → IsLeft (file_of file) file.content }
+    requires sound { IfHeld files.old.items id (λ file. IsLeft (file_of file) file.content) }
     ensures len { vec_len files.new ≡ vec_len files.old }
-    ensures ok { OnOk result ((q : ℕ) → held_of files.new.items q ≡ update nat_eq (held_of files.old.items) id (option_map all_synced (held_of files.old.items id)) q) }
-    ensures err { OnErr result ((q : ℕ) → held_of files.new.items q ≡ held_of files.old.items q) }
+    ensures ok { OnOk result (ChangesHeld id all_synced files.old.items files.new.items) }
+    ensures err { OnErr result (SameHeld files.old.items files.new.items) }
 {
     if let Some(stored) = &mut files[id] {
         stored.flush()
@@ -128,8 +124,9 @@ pub(crate) fn change_file(
     requires there { id < vec_len files.old }
     requires short { end_of (change_of change) < file_limit }
     ensures len { vec_len files.new ≡ vec_len files.old }
-    ensures ok { OnOk result ((q : ℕ) → held_of files.new.items q ≡ update nat_eq (held_of files.old.items) id (option_map (with_made stamp (change_of change)) (held_of files.old.items id)) q) }
-    ensures err { OnErr result ((q : ℕ) → held_of files.new.items q ≡ held_of files.old.items q) }
+    ensures ok { OnOk result
+        (ChangesHeld id (with_made stamp (change_of change)) files.old.items files.new.items) }
+    ensures err { OnErr result (SameHeld files.old.items files.new.items) }
 {
     if let Some(stored) = &mut files[id] {
         stored.make(stamp, change)

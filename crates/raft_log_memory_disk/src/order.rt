@@ -1,9 +1,8 @@
 //! In which order the changes of all files were made.
-ghost use Rattle.std.specs.Prelude.{◌≡◌, ◌++◌, length, map, IfOk, OnOk};
-ghost use Rattle.std.specs.List.Sorted.{IsPermutation, IsNonDecreasing};
+ghost use Rattle.std.specs.Prelude.{◌≡◌, ◌++◌, map, IfOk, OnOk};
+ghost use Rattle.std.specs.List.Sorted.{IsNonDecreasing};
 ghost use Rattle.raft_log_memory_disk.specs.Changes.{made_of};
-ghost use Rattle.raft_log_memory_disk.specs.Held.{held_of};
-ghost use Rattle.raft_log_memory_disk.specs.Stamps.{stamps_in, stamps_of, place_in};
+ghost use Rattle.raft_log_memory_disk.specs.Stamps.{HasAllStamps, stamps_in, place_in};
 
 use crate::change::Stamped;
 use crate::files::Stored;
@@ -11,7 +10,7 @@ use std::alloc::{AllocError, Global};
 
 // The stamps of all files' changes, the least first.
 pub(crate) fn sorted_stamps(alloc: Global, files: &[Option<Stored>]) -> Result<Vec<u64>, AllocError>
-    ensures all { IfOk result (λ stamps. IsPermutation (stamps_of (held_of files.now) (length files.now)) stamps.items) }
+    ensures all { IfOk result (λ stamps. HasAllStamps files.now stamps.items) }
     ensures sorted { IfOk result (λ stamps. IsNonDecreasing stamps.items) }
 {
     let mut stamps = Vec::new(alloc);

@@ -1,5 +1,5 @@
-/// What a crash leaves of the changes that weren't synced. They stand in the order of the calls, over all files that
-/// still have a name.
+/// What a crash leaves of the changes that weren't synced. They stand in the order of the calls, over all
+/// files that still have a name.
 #[derive(Debug, Drop)]
 pub enum Remainder {
     /// None of them: each file as it was synced.

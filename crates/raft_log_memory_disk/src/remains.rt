@@ -1,14 +1,12 @@
 //! What a crash leaves of the files.
 ghost use Rattle.std.specs.Prelude.{◌≡◌, ℕ, ◌<◌, length, IfOk, OnOk, vec_len};
-ghost use Rattle.std.specs.List.{All};
 ghost use Rattle.std.specs.List.Sorted.{IsNonDecreasing};
-ghost use Rattle.std.specs.Option.{option_map};
 ghost use Rattle.raft_log_disk.specs.Disk.{file_limit};
 ghost use Rattle.raft_log_disk.specs.Image.{end_of};
 ghost use Rattle.raft_log_memory_disk.specs.Changes.{change_of};
-ghost use Rattle.raft_log_memory_disk.specs.Held.{Held, held, held_of, changes_in};
+ghost use Rattle.raft_log_memory_disk.specs.Held.{IfHeld, AllBecome, AreShort, held};
 ghost use Rattle.raft_log_memory_disk.specs.Left.{left_by};
-ghost use Rattle.raft_log_memory_disk.specs.Stamps.{left_own, left_held, place_in};
+ghost use Rattle.raft_log_memory_disk.specs.Stamps.{left_of_file, left_held, place_in};
 
 use crate::change::Change;
 use crate::files::Stored;
@@ -24,7 +22,8 @@ fn carry_out(
     content: &mut Vec<u8>,
 ) -> Result<(), AllocError>
     requires { end_of (change_of change.now) < file_limit }
-    ensures { OnOk result (content.new.items ≡ left_by what.now place (change_of change.now) content.old.items) }
+    ensures { OnOk result
+        (content.new.items ≡ left_by what.now place (change_of change.now) content.old.items) }
 {
     match what {
         Remainder::LastSync => Ok(()),
@@ -54,8 +53,8 @@ fn left_bytes(
     stored: &Stored,
 ) -> Result<Vec<u8>, AllocError>
     requires sorted { IsNonDecreasing stamps.now }
-    requires short { All (λ c. end_of c < file_limit) (changes_in (held stored.now).changes) }
-    ensures { IfOk result (λ bytes. bytes.items ≡ left_own what.now (place_in stamps.now) (held stored.now).changes stored.now.synced.items) }
+    requires short { AreShort (held stored.now).changes }
+    ensures { IfOk result (λ bytes. bytes.items ≡ left_of_file what.now stamps.now (held stored.now)) }
 {
     let mut bytes = Vec::from_slice(alloc, &stored.synced)?;
     for stamped in &stored.changes {
@@ -73,9 +72,10 @@ pub(crate) fn left_files(
     files: &[Option<Stored>],
 ) -> Result<Vec<Option<Stored>>, AllocError>
     requires sorted { IsNonDecreasing stamps.now }
-    requires short { (id : ℕ) (file : Held) → held_of files.now id ≡ Some file → All (λ c. end_of c < file_limit) (changes_in file.changes) }
+    requires short { (id : ℕ) → IfHeld files.now id (λ file. AreShort file.changes) }
     ensures len { IfOk result (λ after. vec_len after ≡ length files.now) }
-    ensures files { IfOk result (λ after. (q : ℕ) → held_of after.items q ≡ option_map (left_held what.now (place_in stamps.now)) (held_of files.now q)) }
+    ensures files { IfOk result (λ after.
+        AllBecome (left_held what.now (place_in stamps.now)) files.now after.items) }
 {
     let mut left = Vec::with_capacity(alloc, files.len())?;
     for slot in files {

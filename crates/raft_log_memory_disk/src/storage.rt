@@ -1,6 +1,5 @@
 //! What a file system in memory holds. Each change is made whole, or without memory not at all.
-ghost use Rattle.std.specs.Prelude.{ℕ, List, MatchOption};
-ghost use Rattle.raft_log_memory_disk.specs.Listing.{IsChild};
+ghost use Rattle.raft_log_memory_disk.specs.Listing.{TellsChild};
 
 use crate::bytes::copy_out;
 use crate::change::Change;
@@ -41,17 +40,14 @@ impl Storage {
     ghost use Rattle.std.specs.Prelude.{nat_eq, ◌≡◌, ℕ, ◌+◌, ◌-◌, ◌++◌, [], min, take, drop, length, IsTrue, ◌↔◌, ◌⊎◌, ◌<◌, ◌≤◌, List, OnOk, OnErr, IfOk, IfErr, vec_len, is_some, map};
     ghost use Rattle.std.specs.String.{string_bytes, string_cmp};
     ghost use Rattle.std.specs.BTreeMap.{IsOrdered};
-    ghost use Rattle.std.specs.Map.{update};
-    ghost use Rattle.std.specs.Str.{bytes_eq};
     ghost use Rattle.raft_log_disk.specs.Disk.{Wrote, ShortenedTo, GrewTo, file_limit, empty_disk, HasDirectory};
     ghost use Rattle.raft_log_disk.specs.Image.{end_of, IsImage};
     ghost use Rattle.raft_log_disk.specs.Calls.{created, with_directory};
     ghost use Rattle.raft_log_memory_disk.specs.Changes.{change_of};
     ghost use Rattle.raft_log_memory_disk.specs.Listing.{Names};
-    ghost use Rattle.raft_log_memory_disk.specs.Held.{Held, held_of};
-    ghost use Rattle.raft_log_memory_disk.specs.Storage.{file_named, is_directory, node_at, contents_of, unsynced_of, IsWhole};
-    ghost use Rattle.raft_log_memory_disk.specs.Left.{left_disk};
-    ghost use Rattle.raft_log_memory_disk.specs.Steps.{IsSame, Makes, Syncs, Adds, Drops, Moves, IsRoomFault};
+    ghost use Rattle.raft_log_memory_disk.specs.Held.{held_of, IfHeld, PutsHeld, ReadsNumber, ReadsBytes};
+    ghost use Rattle.raft_log_memory_disk.specs.Storage.{file_named, is_directory, node_at, SameNodes, PutsNode, contents_of, unsynced_of, IsWhole};
+    ghost use Rattle.raft_log_memory_disk.specs.Steps.{IsSame, IsLeftBy, Makes, Syncs, Adds, Drops, Moves, IsRoomFault};
 
     /// With no directory and no file.
     pub fn new(alloc: Global) -> Storage
@@ -108,11 +104,11 @@ impl Storage {
         }
     }
 
-    /// Copies the bytes of a file that is there from `offset` on, until the room is full or they end, and answers how many.
-    /// For a file that isn't there nothing is said.
+    /// Copies the bytes of a file that is there from `offset` on, until the room is full or they end, and
+    /// answers how many. For a file that isn't there nothing is said.
     pub fn read(&self, id: usize, offset: usize, room: &mut [u8]) -> usize
-        ensures number { (file : Held) → held_of self.now.files.items id ≡ Some file → result ≡ min (length room.old) (length file.content - offset) }
-        ensures bytes { (file : Held) → held_of self.now.files.items id ≡ Some file → room.new ≡ take result (drop offset file.content) ++ drop result room.old }
+        ensures number { ReadsNumber self.now.files.items id offset (length room.old) result }
+        ensures bytes { ReadsBytes self.now.files.items id offset result room.old room.new }
     {
         if id < self.files.len() {
             if let Some(stored) = &self.files[id] {
@@ -124,7 +120,7 @@ impl Storage {
 
     /// The size in bytes of a file that is there. For one that isn't nothing is said.
     pub fn size(&self, id: usize) -> usize
-        ensures { (file : Held) → held_of self.now.files.items id ≡ Some file → result ≡ length file.content }
+        ensures { IfHeld self.now.files.items id (λ file. result ≡ length file.content) }
     {
         if id < self.files.len() {
             if let Some(stored) = &self.files[id] {
@@ -136,7 +132,8 @@ impl Storage {
 
     /// The names of the files in a directory. It is refused for want of memory alone.
     pub fn list(&self, directory: &str) -> Result<Vec<String>, AllocError>
-        ensures names { IfOk result (λ names. Names directory.now self.now.paths.entries (map string_bytes names.items)) }
+        ensures names { IfOk result (λ names.
+            Names directory.now self.now.paths.entries (map string_bytes names.items)) }
         ensures ordered { IsOrdered string_cmp self.now.paths }
     {
         let mut names = Vec::new(self.alloc);
@@ -151,7 +148,7 @@ impl Storage {
     /// What a crash leaves. It is refused for want of memory alone.
     pub fn left(&self, what: &Remainder) -> Result<Storage, AllocError>
         requires { IsWhole self.now }
-        ensures contents { IfOk result (λ after. contents_of after ≡ left_disk what.now (unsynced_of self.now) (contents_of self.now)) }
+        ensures contents { IfOk result (IsLeftBy what.now self.now) }
         ensures order { IfOk result (λ after. unsynced_of after ≡ []) }
         ensures image { IfOk result (λ after. IsImage (contents_of self.now) (contents_of after)) }
         ensures whole { IfOk result (λ after. IsWhole after) }
@@ -167,8 +164,8 @@ impl Storage {
         })
     }
 
-    /// Writes into a file that is there, with zeros in a gap. It is refused as `StorageFull` where the file would reach
-    /// 2^63 bytes, and as `OutOfMemory`.
+    /// Writes into a file that is there, with zeros in a gap. It is refused as `StorageFull` where the file
+    /// would reach 2^63 bytes, and as `OutOfMemory`.
     pub fn write(&mut self, id: usize, offset: usize, bytes: &[u8]) -> Result<(), ErrorKind>
         requires there { (held_of self.old.files.items id ≡ None) → ⊥ }
         requires whole { IsWhole self.old }
@@ -200,8 +197,8 @@ impl Storage {
             .map_err(|_| ErrorKind::OutOfMemory)
     }
 
-    /// Fills a file that is there up with zeros to `offset + size` bytes. It is refused as `StorageFull` where these are
-    /// 2^63 or more, and as `OutOfMemory`.
+    /// Fills a file that is there up with zeros to `offset + size` bytes. It is refused as `StorageFull`
+    /// where these are 2^63 or more, and as `OutOfMemory`.
     pub fn grow(&mut self, id: usize, offset: usize, size: usize) -> Result<(), ErrorKind>
         requires there { (held_of self.old.files.items id ≡ None) → ⊥ }
         requires whole { IsWhole self.old }
@@ -218,7 +215,8 @@ impl Storage {
             .map_err(|_| ErrorKind::OutOfMemory)
     }
 
-    // Makes a change of a file that is there. The 2^64-th one finds no stamp, and is refused as for want of memory.
+    // Makes a change of a file that is there. The 2^64-th one finds no stamp, and is refused as for want of
+    // memory.
     fn change(&mut self, id: usize, change: Change) -> Result<(), AllocError>
         requires there { (held_of self.old.files.items id ≡ None) → ⊥ }
         requires short { end_of (change_of change) < file_limit }
@@ -246,7 +244,8 @@ impl Storage {
         flush_file(&mut self.files, id)
     }
 
-    /// Adds an empty file under a new name, and answers its node number. It is refused for want of memory alone.
+    /// Adds an empty file under a new name, and answers its node number. It is refused for want of memory
+    /// alone.
     pub fn add_file(&mut self, path: &str) -> Result<usize, AllocError>
         requires free { node_at self.old path.now ≡ None }
         requires whole { IsWhole self.old }
@@ -286,7 +285,8 @@ impl Storage {
         self.drop_file(id);
     }
 
-    /// Puts a file under another name; a file that had that name is gone. It is refused for want of memory alone.
+    /// Puts a file under another name; a file that had that name is gone. It is refused for want of memory
+    /// alone.
     pub fn rename_file(&mut self, from: &str, to: &str, id: usize) -> Result<(), AllocError>
         requires is { node_at self.old from.now ≡ Some (Node.File id) }
         requires apart { node_at self.old to.now ≡ Some Node.Directory → ⊥ }
@@ -312,9 +312,9 @@ impl Storage {
 
     // Takes away a file.
     fn drop_file(&mut self, id: usize)
-        ensures nodes { (q : List ℕ) → node_at self.new q ≡ node_at self.old q }
+        ensures nodes { SameNodes self.old self.new }
         ensures len { vec_len self.new.files ≡ vec_len self.old.files }
-        ensures files { (q : ℕ) → held_of self.new.files.items q ≡ update nat_eq (held_of self.old.files.items) id None q }
+        ensures files { PutsHeld id None self.old.files.items self.new.files.items }
         ensures made { self.new.made ≡ self.old.made }
     {
         if id < self.files.len() {
@@ -326,7 +326,7 @@ impl Storage {
     fn unname(&mut self, path: &str)
         ensures files { self.new.files ≡ self.old.files }
         ensures made { self.new.made ≡ self.old.made }
-        ensures nodes { (q : List ℕ) → node_at self.new q ≡ update bytes_eq (node_at self.old) path.now None q }
+        ensures nodes { PutsNode path.now None self.old self.new }
     {
         self.paths.remove(path);
     }
@@ -335,8 +335,8 @@ impl Storage {
     fn name(&mut self, path: &str, node: Node) -> Result<(), AllocError>
         ensures files { self.new.files ≡ self.old.files }
         ensures made { self.new.made ≡ self.old.made }
-        ensures ok { OnOk result ((q : List ℕ) → node_at self.new q ≡ update bytes_eq (node_at self.old) path.now (Some node) q) }
-        ensures err { OnErr result ((q : List ℕ) → node_at self.new q ≡ node_at self.old q) }
+        ensures ok { OnOk result (PutsNode path.now (Some node) self.old self.new) }
+        ensures err { OnErr result (SameNodes self.old self.new) }
     {
         let path = String::from_str(self.alloc, path)?;
         match self.paths.insert(path, node) {
@@ -348,7 +348,7 @@ impl Storage {
 
 // The name in a directory, where the path is that of a file there.
 fn child<'a>(directory: &str, path: &'a str, node: Node) -> Option<&'a str>
-    ensures { MatchOption result ((name : List ℕ) → IsChild directory.now path.now node name → ⊥) (λ name. IsChild directory.now path.now node name.now) }
+    ensures { TellsChild directory.now path.now node result }
 {
     let Node::File(_) = node else {
         return None;

@@ -5,5 +5,6 @@ pub use Rattle.raft_log_memory_disk.specs.Storage
 pub use Rattle.raft_log_memory_disk.specs.Listing
 pub use Rattle.raft_log_memory_disk.specs.Left
 pub use Rattle.raft_log_memory_disk.specs.Steps
+pub mod Answers
 pub mod Memory
 pub mod Turns

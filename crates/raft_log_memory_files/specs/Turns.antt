@@ -13,8 +13,8 @@ use Rattle.raft_log_memory_files.specs.declared.memory.MemoryFileSystem.{MemoryF
 use Rattle.raft_log_memory_files.specs.Memory.{disk_of, Kept, kept, failed_once}
 use Rattle.raft_log_memory_disk.specs.Steps.{IsRoomFault}
 
--- how many changing calls there are up to each one that is refused, and up to the one at which the file system stops,
--- or 0 where no stop is armed
+-- how many changing calls there are up to each one that is refused, and up to the one at which the file
+-- system stops, or 0 where no stop is armed
 pub record Armed : Type 0 where
   pub refusals : List ℕ
   pub stop : ℕ
@@ -77,17 +77,21 @@ after_failure k = record k { disk = failed_once k.disk }
 abbrev pub after_stop : Kept → Kept
 after_stop k = record k { disk = at_stop k.disk }
 
--- Why a changing call was refused, and what it left. It doesn't count, as the file system has stopped or the argument is
--- wrong, and nothing changed; or the armed stop fell; or an armed refusal fell; or nothing fell, and there was no room for
--- what was asked. A failure is counted, and a stop comes in its place only where the count would reach 2^64 - 1.
-pub data IsRefusedCall (left_at_stop : ErrorKind → Kept → Type 0) (wrong no_room : ErrorKind → Type 0) (error : ErrorKind) (old new : MemoryFileSystem) : Type 0 where
+-- Why a changing call was refused, and what it left. It doesn't count, as the file system has stopped or the
+-- argument is wrong, and nothing changed; or the armed stop fell; or an armed refusal fell; or nothing fell,
+-- and there was no room for what was asked. A failure is counted, and a stop comes in its place only where
+-- the count would reach 2^64 - 1.
+pub data IsRefusedCall (left_at_stop : ErrorKind → Kept → Type 0) (wrong no_room : ErrorKind → Type 0)
+    (error : ErrorKind) (old new : MemoryFileSystem) : Type 0 where
   uncounted : ((disk_of old).stopped ≡ true) ⊎ wrong error → armed new ≡ armed old → kept new ≡ kept old
       → IsRefusedCall left_at_stop wrong no_room error old new
-  stop_fell : IsCounted wrong old new → (armed old).stop ≡ 1 → (left : Kept) → left_at_stop error left → kept new ≡ after_stop left
+  stop_fell : IsCounted wrong old new → (armed old).stop ≡ 1 → (left : Kept) → left_at_stop error left
+      → kept new ≡ after_stop left
       → IsRefusedCall left_at_stop wrong no_room error old new
   refusal_fell : IsCounted wrong old new → IsRefused error old new → kept new ≡ after_failure (kept old)
       → IsRefusedCall left_at_stop wrong no_room error old new
-  room_short : IsCounted wrong old new → IsSpared (armed old) → no_room error → kept new ≡ after_failure (kept old)
+  room_short : IsCounted wrong old new → IsSpared (armed old) → no_room error
+      → kept new ≡ after_failure (kept old)
       → IsRefusedCall left_at_stop wrong no_room error old new
 
 -- what a stop leaves of a call that is done whole or not at all: nothing was done
@@ -99,21 +103,27 @@ pub record IsMade (id : ℕ) (change : Change) (old left : Kept) : Type 0 where
   pub disk : Changes id (after_change change) old.disk left.disk
   pub order : left.unsynced ≡ old.unsynced ++ (id, change) ∷ []
 
--- What a stop leaves of the write, shortening or growth that it falls at: the change is made, and isn't synced; it isn't
--- made only where there is no room for it, and then the error says so.
+-- What a stop leaves of the write, shortening or growth that it falls at: the change is made, and isn't
+-- synced; it isn't made only where there is no room for it, and then the error says so.
 abbrev pub MadeUnlessShort : ℕ → Change → Kept → ErrorKind → Kept → Type 0
-MadeUnlessShort id change old error left = ((error ≡ Other) × IsMade id change old left) ⊎ (IsRoomFault change error × (left ≡ old))
+MadeUnlessShort id change old error left =
+    ((error ≡ Other) × IsMade id change old left) ⊎ (IsRoomFault change error × (left ≡ old))
 
 -- a refused call that is done whole or not at all
 abbrev pub IsRefusedWhole : (ErrorKind → Type 0) → ErrorKind → MemoryFileSystem → MemoryFileSystem → Type 0
-IsRefusedWhole wrong error old new = IsRefusedCall (Untouched (kept old)) wrong (λ e. e ≡ OutOfMemory) error old new
+IsRefusedWhole wrong error old new =
+    IsRefusedCall (Untouched (kept old)) wrong (λ e. e ≡ OutOfMemory) error old new
 
 -- a refused write, shortening or growth
-abbrev pub IsRefusedChange : ℕ → Change → (ErrorKind → Type 0) → ErrorKind → MemoryFileSystem → MemoryFileSystem → Type 0
-IsRefusedChange id change wrong error old new = IsRefusedCall (MadeUnlessShort id change (kept old)) wrong (IsRoomFault change) error old new
+abbrev pub IsRefusedChange : ℕ → Change → (ErrorKind → Type 0) → ErrorKind
+    → MemoryFileSystem → MemoryFileSystem → Type 0
+IsRefusedChange id change wrong error old new =
+    IsRefusedCall (MadeUnlessShort id change (kept old)) wrong (IsRoomFault change) error old new
 
--- How a change ended, of which it is told whether the file system stops at it and whether it was made: at a stop the error
--- says why it wasn't made, where it wasn't; else it wasn't made, and that is a failure.
-pub data IsEnded (stops : Bool) (done : Result (Unit {0}) ErrorKind) (error : ErrorKind) (old new : Disk) : Type 0 where
-  at_the_stop : stops ≡ true → MatchResult done (λ v. error ≡ Other) (λ kind. error ≡ kind) → new ≡ at_stop old → IsEnded stops done error old new
+-- How a change ended, of which it is told whether the file system stops at it and whether it was made: at a
+-- stop the error says why it wasn't made, where it wasn't; else it wasn't made, and that is a failure.
+pub data IsEnded (stops : Bool) (done : Result (Unit {0}) ErrorKind) (error : ErrorKind)
+    (old new : Disk) : Type 0 where
+  at_the_stop : stops ≡ true → MatchResult done (λ v. error ≡ Other) (λ kind. error ≡ kind)
+      → new ≡ at_stop old → IsEnded stops done error old new
   not_made : stops ≡ false → done ≡ Err error → new ≡ failed_once old → IsEnded stops done error old new

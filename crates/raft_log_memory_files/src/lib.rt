@@ -1,5 +1,5 @@
-//! A file system in memory, for tests and for simulated crashes: its calls can be refused, it can stop at any call, and it
-//! tells what a crash then leaves.
+//! A file system in memory, for tests and for simulated crashes: its calls can be refused, it can stop at any
+//! call, and it tells what a crash then leaves.
 #![tactic(auto)]
 
 pub mod memory;

@@ -14,7 +14,8 @@ pub struct MemoryFileSystem {
     storage: Storage,
     failures: u64,
     stopped: bool,
-    // How many changing calls there are up to each one that is refused, and up to the one at which it stops, or 0.
+    // How many changing calls there are up to each one that is refused, and up to the one at which it stops,
+    // or 0.
     refusals: Vec<u64>,
     stop: u64,
     ghost whole: { IsWhole storage } by { IsWhole-prop storage },
@@ -23,7 +24,7 @@ pub struct MemoryFileSystem {
 impl MemoryFileSystem {
     ghost use Rattle.std.specs.Prelude.{◌≡◌, [], IfOk};
     ghost use Rattle.raft_log_disk.specs.Image.{IsImage};
-    ghost use Rattle.raft_log_memory_disk.specs.Left.{left_disk};
+    ghost use Rattle.raft_log_memory_files.specs.Answers.{IsLeftOf};
     ghost use Rattle.raft_log_disk.specs.Disk.{empty_disk};
     ghost use Rattle.raft_log_memory_files.specs.Memory.{disk_of, unsynced};
     ghost use Rattle.raft_log_memory_files.specs.Turns.{armed, nothing_armed};
@@ -50,11 +51,11 @@ impl MemoryFileSystem {
         self.failures
     }
 
-    /// The file system that a restart finds after a crash at this moment, which leaves of the changes that weren't synced
-    /// what is said. The names are as they stand, a gap before what is left of a write is zeros, no fault is armed and no
-    /// failure is counted. It is refused for want of memory alone.
+    /// The file system that a restart finds after a crash at this moment, which leaves of the changes that
+    /// weren't synced what is said. The names are as they stand, a gap before what is left of a write is
+    /// zeros, no fault is armed and no failure is counted. It is refused for want of memory alone.
     pub fn remainder(&self, what: &Remainder) -> Result<MemoryFileSystem, AllocError>
-        ensures exact { IfOk result (λ after. disk_of after ≡ left_disk what.now (unsynced self.now) (disk_of self.now)) }
+        ensures exact { IfOk result (IsLeftOf what.now self.now) }
         ensures synced { IfOk result (λ after. unsynced after ≡ []) }
         ensures image { IfOk result (λ after. IsImage (disk_of self.now) (disk_of after)) }
         ensures unarmed { IfOk result (λ after. armed after ≡ nothing_armed) }

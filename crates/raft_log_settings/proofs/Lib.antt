@@ -1,2 +1,3 @@
 mod Directories
+mod Printings
 mod Readings

@@ -1,3 +1,4 @@
+pub mod Printing
 pub mod Reading
 pub mod Sanitized
 pub mod Settings

@@ -14,7 +14,8 @@ use Rattle.raft_log_settings.specs.Text.{fault_text}
 
 -- the name of a log file, or of a file that is kept to be used
 abbrev pub IsFileName : List ℕ → Type 0
-IsFileName name = (n : ℕ) × (((queue : LogQueue) × IsNamed (suffix_of queue) name n) ⊎ IsNamed reserved_suffix name n)
+IsFileName name =
+    (n : ℕ) × (((queue : LogQueue) × IsNamed (suffix_of queue) name n) ⊎ IsNamed reserved_suffix name n)
 
 -- a path that a file of the log in this directory may have
 abbrev pub IsFileIn : List ℕ → List ℕ → Type 0
@@ -51,7 +52,8 @@ IsSound s = (fault : ConfigFault) → HasFault s fault → ⊥
 
 -- why settings are refused: their first fault, in its words, or memory ran out for saying so
 abbrev pub IsRefusedFor : Settings → Error → Type 0
-IsRefusedFor s (errors.Other why) = (fault : ConfigFault) × IsFirstFault s fault × HasMessage (Some (fault_text fault)) why.value
+IsRefusedFor s (errors.Other why) =
+    (fault : ConfigFault) × IsFirstFault s fault × HasMessage (Some (fault_text fault)) why.value
 IsRefusedFor s errors.Memory = (fault : ConfigFault) × IsFirstFault s fault
 IsRefusedFor s _ = ⊥
 
@@ -60,11 +62,12 @@ abbrev pub or_else : Option ℕ → ℕ → Option ℕ
 or_else (Some n) default = Some n
 or_else None default = Some default
 
--- Sound settings, made whole: a rewrite threshold, a block of 512 bytes and one worker at least, and a limit of
--- prefilled files exactly where files are prefilled.
+-- Sound settings, made whole: a rewrite threshold, a block of 512 bytes and one worker at least, and a limit
+-- of prefilled files exactly where files are prefilled.
 abbrev pub sanitized : Settings → Settings
 sanitized s = record s {
-  purge_rewrite_threshold = or_else s.purge_rewrite_threshold (max (s.purge_threshold / 10) s.target_file_size);
+  purge_rewrite_threshold =
+      or_else s.purge_rewrite_threshold (max (s.purge_threshold / 10) s.target_file_size);
   recovery_read_block_size = max s.recovery_read_block_size 512;
   recovery_threads = max s.recovery_threads 1;
   prefill_limit = if s.prefill_for_recycle then or_else s.prefill_limit s.purge_threshold else None;
@@ -86,10 +89,12 @@ can_recycle s = s.enable_log_recycle && is_signed s.format_version
 -- how many files are kept to be used again
 abbrev pub recycle_capacity : Settings → ℕ
 recycle_capacity s =
-    if can_recycle s && nat_le s.target_file_size s.purge_threshold then files_within s.purge_threshold s.target_file_size else 0
+    if can_recycle s && nat_le s.target_file_size s.purge_threshold
+    then files_within s.purge_threshold s.target_file_size else 0
 
 -- how many files are filled with zeros at an open
 abbrev pub prefill_capacity : Settings → ℕ
 prefill_capacity s =
     let limit = unwrap_or s.prefill_limit 0 in
-    if can_recycle s && s.prefill_for_recycle && nat_le s.target_file_size limit then files_within limit s.target_file_size else 0
+    if can_recycle s && s.prefill_for_recycle && nat_le s.target_file_size limit
+    then files_within limit s.target_file_size else 0

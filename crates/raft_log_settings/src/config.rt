@@ -1,9 +1,10 @@
 //! The settings of a log: what may be set, and what is made of it.
-ghost use Rattle.std.specs.Prelude.{◌≡◌, ◌↔◌, IsTrue, IfNone, IfSome, IfErr, OnOk, OnErr, List, length};
+ghost use Rattle.std.specs.Prelude.{◌≡◌, ◌↔◌, IsTrue, IfNone, IfSome, IfOk, IfErr, OnOk, OnErr, List, length};
 ghost use Rattle.std.specs.String.{string_bytes};
 ghost use Rattle.raft_log_settings.specs.Sanitized.{IsFileName, IsFileIn, Clash, files_within};
 
 use super::fault::ConfigFault;
+use super::printing::to_table;
 use super::reading::{from_table, no_toml};
 use super::recovery_mode::RecoveryMode;
 use log::{Log, info, warn};
@@ -14,7 +15,8 @@ use std::alloc::{AllocError, Global};
 /// The least block that a recovery reads at a time.
 const MIN_RECOVERY_READ_BLOCK_SIZE: u64 = 512;
 
-/// The settings of a log. `default` has the usual ones; `sanitize` refuses what can't be and makes the rest whole.
+/// The settings of a log. `default` has the usual ones; `sanitize` refuses what can't be and makes the rest
+/// whole.
 #[derive(Clone, Debug, Drop, PartialEq, Eq)]
 pub struct Config {
     /// The main directory of log files; made at an open where it isn't there.
@@ -35,7 +37,8 @@ pub struct Config {
     pub target_file_size: ReadableSize,
     /// Above which size of Append a purge takes files from it.
     pub purge_threshold: ReadableSize,
-    /// Above which size of Rewrite a purge may rewrite it; by default a tenth of `purge_threshold`, and one file at least.
+    /// Above which size of Rewrite a purge may rewrite it; by default a tenth of `purge_threshold`, and one
+    /// file at least.
     pub purge_rewrite_threshold: Option<ReadableSize>,
     /// Above which share of garbage, in thousandths, a purge rewrites Rewrite.
     pub purge_rewrite_garbage_ratio: u64,
@@ -51,7 +54,8 @@ pub struct Config {
 
 impl Config {
     ghost use Rattle.raft_log_settings.specs.Settings.{settings_of, default_settings};
-    ghost use Rattle.raft_log_settings.specs.Reading.{GivesSettingsOf};
+    ghost use Rattle.raft_log_settings.specs.Reading.{GivesSettingsOf, SaysSettings};
+    ghost use Rattle.raft_log_settings.specs.Printing.{rows_of, IsUnprintable};
     ghost use Rattle.raft_log_settings.specs.Sanitized.{IsFirstFault, IsSound, sanitized, IsRefusedFor, recycle_capacity, prefill_capacity};
 
     /// The usual settings: an empty `dir`, files of 128 MiB, a purge from 10 GiB on, four workers.
@@ -77,9 +81,10 @@ impl Config {
         }
     }
 
-    /// The settings that a TOML text says; an absent key has its usual value, and keys that aren't known are left out.
-    /// A size is a number of bytes or a text as `ReadableSize` reads it, the garbage ratio a number of thousandths. Text
-    /// that is no TOML is refused as an invalid argument, a wrong value by one that names the first such key.
+    /// The settings that a TOML text says; an absent key has its usual value, and keys that aren't known are
+    /// left out. A size is a number of bytes or a text as `ReadableSize` reads it, the garbage ratio a number
+    /// of thousandths. Text that is no TOML is refused as an invalid argument, a wrong value by one that
+    /// names the first such key.
     pub fn from_toml(alloc: Global, text: &str) -> Result<Config>
         ensures { GivesSettingsOf result text.now }
     {
@@ -90,8 +95,22 @@ impl Config {
         }
     }
 
-    /// Refuses settings that can't be, the first fault in the order of `ConfigFault`, and leaves them as they were;
-    /// else makes them whole, and warns of what has no effect.
+    /// The settings as TOML, which `from_toml` reads as the same settings: each key that has a value. A size
+    /// of 2^63 or more, which TOML has no number for, is a text; another such number is refused as an invalid
+    /// argument that names its key.
+    pub fn to_toml(&self, alloc: Global) -> Result<String>
+        ensures ok { IfOk result (λ text. SaysSettings (string_bytes text) (settings_of self.now)) }
+        ensures err { IfErr result (λ error. IsUnprintable (rows_of (settings_of self.now)) error) }
+    {
+        let table = to_table(alloc, self)?;
+        match toml::table_to_string(alloc, &table) {
+            Ok(text) => Ok(text),
+            Err(_) => Err(Error::Memory),
+        }
+    }
+
+    /// Refuses settings that can't be, the first fault in the order of `ConfigFault`, and leaves them as they
+    /// were; else makes them whole, and warns of what has no effect.
     pub fn sanitize<L: Log>(&mut self, rt: &L, alloc: Global) -> Result<()>
         ensures ok { OnOk result (IsSound (settings_of self.old)) }
         ensures whole { OnOk result (settings_of self.new ≡ sanitized (settings_of self.old)) }

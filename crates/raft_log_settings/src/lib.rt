@@ -3,6 +3,7 @@
 
 pub mod config;
 pub mod fault;
+mod printing;
 mod reading;
 pub mod recovery_mode;
 

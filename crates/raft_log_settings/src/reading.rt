@@ -1,10 +1,11 @@
 //! Settings read from TOML.
-ghost use Rattle.std.specs.Prelude.{◌≡◌, ℕ, Bool, List, [], Option, Some, None, unwrap_or, IfOk, codes};
+ghost use Rattle.std.specs.Prelude.{◌≡◌, IfOk};
 ghost use Rattle.std.specs.Option.{option_map};
 ghost use Rattle.std.specs.String.{string_bytes};
 ghost use Rattle.toml.specs.Data.{get_member, as_str, as_bool};
 ghost use Rattle.toml.specs.View.{view, table_view};
-ghost use Rattle.raft_log_settings.specs.Reading.{at, maybe, size_of, number_of, version_of, mode_of, mode_word, GivesAt, GivesText, GivesKeys, GivesSettings, settings_in, recycling_in, purging_in, recovery_in, NamesKey, SaysNoToml};
+ghost use Rattle.raft_log_settings.specs.Settings.{settings_of};
+ghost use Rattle.raft_log_settings.specs.Reading.{at, ok_or, maybe, size_of, number_of, version_of, mode_of, mode_word, GivesAt, GivesText, GivesTextIfAny, GivesKeys, GivesSettings, settings_in, settings_over, recycling_in, purging_in, recovery_in, files_in, NamesKey, SaysNoToml};
 
 use super::config::Config;
 use super::recovery_mode::RecoveryMode;
@@ -78,29 +79,38 @@ fn member<'a>(table: &'a Table, key: &str) -> Option<&'a Value>
     table.get(key)
 }
 
-/// The size at a key.
-fn size_at(alloc: Global, table: &Table, key: &'static str, absent: u64) -> Result<u64>
-    ensures { GivesAt result key.now (at key.now size_of absent (table_view table.now)) }
+/// What was read of a key's value, or the refusal that names the key.
+fn read_or_wrong<T: Drop>(alloc: Global, key: &'static str, read: Option<T>) -> Result<T>
+    ensures { GivesAt result key.now (ok_or read key.now) }
 {
-    match member(table, key) {
-        None => Ok(absent),
-        Some(value) => match size_of(value) {
-            Some(size) => Ok(size),
-            None => Err(wrong_value(alloc, key)),
-        },
+    match read {
+        Some(value) => Ok(value),
+        None => Err(wrong_value(alloc, key)),
     }
 }
 
-/// The size at a key that may be absent.
-fn maybe_size_at(alloc: Global, table: &Table, key: &'static str) -> Result<Option<u64>>
-    ensures { GivesAt result key.now (at key.now (maybe size_of) None (table_view table.now)) }
+/// The size at a key.
+fn size_at(alloc: Global, table: &Table, key: &'static str, absent: ReadableSize) -> Result<u64>
+    ensures { GivesAt result key.now (at key.now size_of absent.0 (table_view table.now)) }
 {
     match member(table, key) {
-        None => Ok(None),
-        Some(value) => match size_of(value) {
-            Some(size) => Ok(Some(size)),
-            None => Err(wrong_value(alloc, key)),
-        },
+        None => Ok(absent.0),
+        Some(value) => read_or_wrong(alloc, key, size_of(value)),
+    }
+}
+
+/// The size at a key that may be absent for good.
+fn maybe_size_at(
+    alloc: Global,
+    table: &Table,
+    key: &'static str,
+    absent: Option<u64>,
+) -> Result<Option<u64>>
+    ensures { GivesAt result key.now (at key.now (maybe size_of) absent (table_view table.now)) }
+{
+    match member(table, key) {
+        None => Ok(absent),
+        Some(value) => Ok(Some(read_or_wrong(alloc, key, size_of(value))?)),
     }
 }
 
@@ -110,10 +120,7 @@ fn number_at(alloc: Global, table: &Table, key: &'static str, absent: u64) -> Re
 {
     match member(table, key) {
         None => Ok(absent),
-        Some(value) => match number_of(value) {
-            Some(number) => Ok(number),
-            None => Err(wrong_value(alloc, key)),
-        },
+        Some(value) => read_or_wrong(alloc, key, number_of(value)),
     }
 }
 
@@ -123,10 +130,7 @@ fn bool_at(alloc: Global, table: &Table, key: &'static str, absent: bool) -> Res
 {
     match member(table, key) {
         None => Ok(absent),
-        Some(value) => match value.as_bool() {
-            Some(on) => Ok(on),
-            None => Err(wrong_value(alloc, key)),
-        },
+        Some(value) => read_or_wrong(alloc, key, value.as_bool()),
     }
 }
 
@@ -136,10 +140,7 @@ fn version_at(alloc: Global, table: &Table, key: &'static str, absent: Version) 
 {
     match member(table, key) {
         None => Ok(absent),
-        Some(value) => match version_of(value) {
-            Some(version) => Ok(version),
-            None => Err(wrong_value(alloc, key)),
-        },
+        Some(value) => read_or_wrong(alloc, key, version_of(value)),
     }
 }
 
@@ -154,23 +155,38 @@ fn mode_at(
 {
     match member(table, key) {
         None => Ok(absent),
-        Some(value) => match mode_of(value) {
-            Some(mode) => Ok(mode),
-            None => Err(wrong_value(alloc, key)),
-        },
+        Some(value) => read_or_wrong(alloc, key, mode_of(value)),
     }
 }
 
-/// The text at a key, or none.
-fn text_at<'a>(alloc: Global, table: &'a Table, key: &'static str) -> Result<Option<&'a str>>
-    ensures { GivesText result key.now (at key.now (maybe as_str) None (table_view table.now)) }
+/// The text at a key.
+fn text_at<'a>(
+    alloc: Global,
+    table: &'a Table,
+    key: &'static str,
+    absent: &'a str,
+) -> Result<&'a str>
+    ensures { GivesText result key.now (at key.now as_str absent.now (table_view table.now)) }
 {
     match member(table, key) {
-        None => Ok(None),
-        Some(value) => match value.as_str() {
-            Some(text) => Ok(Some(text)),
-            None => Err(wrong_value(alloc, key)),
-        },
+        None => Ok(absent),
+        Some(value) => read_or_wrong(alloc, key, value.as_str()),
+    }
+}
+
+/// The text at a key that may be absent for good.
+fn maybe_text_at<'a>(
+    alloc: Global,
+    table: &'a Table,
+    key: &'static str,
+    absent: Option<&'a str>,
+) -> Result<Option<&'a str>>
+    ensures { GivesTextIfAny result key.now
+        (at key.now (maybe as_str) (option_map (λ t. t.now) absent.entry) (table_view table.now)) }
+{
+    match member(table, key) {
+        None => Ok(absent),
+        Some(value) => Ok(Some(read_or_wrong(alloc, key, value.as_str())?)),
     }
 }
 
@@ -196,86 +212,121 @@ pub fn no_toml(alloc: Global) -> Error
 
 /// What a table says of files that are used again.
 #[tactic(auto, unfolding(crate::specs::Reading::recycling_in))]
-fn recycling_in(alloc: Global, table: &Table) -> Result<(bool, bool, Option<u64>)>
-    ensures { GivesKeys result (recycling_in (table_view table.now)) }
+fn recycling_in(alloc: Global, table: &Table, usual: &Config) -> Result<(bool, bool, Option<u64>)>
+    ensures { GivesKeys result (recycling_in (settings_of usual.now) (table_view table.now)) }
 {
-    let enable_log_recycle = bool_at(alloc, table, "enable-log-recycle", true)?;
-    let prefill_for_recycle = bool_at(alloc, table, "prefill-for-recycle", false)?;
-    let prefill_limit = maybe_size_at(alloc, table, "prefill-limit")?;
-    Ok((enable_log_recycle, prefill_for_recycle, prefill_limit))
+    let enable = bool_at(alloc, table, "enable-log-recycle", usual.enable_log_recycle)?;
+    let prefill = bool_at(
+        alloc,
+        table,
+        "prefill-for-recycle",
+        usual.prefill_for_recycle,
+    )?;
+    let limit = maybe_size_at(alloc, table, "prefill-limit", bytes_of(usual.prefill_limit))?;
+    Ok((enable, prefill, limit))
 }
 
 /// What a table says of purges.
 #[tactic(auto, unfolding(crate::specs::Reading::purging_in))]
-fn purging_in(alloc: Global, table: &Table) -> Result<(u64, Option<u64>, u64)>
-    ensures { GivesKeys result (purging_in (table_view table.now)) }
+fn purging_in(alloc: Global, table: &Table, usual: &Config) -> Result<(u64, Option<u64>, u64)>
+    ensures { GivesKeys result (purging_in (settings_of usual.now) (table_view table.now)) }
 {
-    let purge_threshold = size_at(alloc, table, "purge-threshold", 10 << 30)?;
-    let purge_rewrite_threshold = maybe_size_at(alloc, table, "purge-rewrite-threshold")?;
-    let purge_rewrite_garbage_ratio = number_at(alloc, table, "purge-rewrite-garbage-ratio", 600)?;
-    Ok((
-        purge_threshold,
-        purge_rewrite_threshold,
-        purge_rewrite_garbage_ratio,
-    ))
+    let threshold = size_at(alloc, table, "purge-threshold", usual.purge_threshold)?;
+    let usual_rewrite = bytes_of(usual.purge_rewrite_threshold);
+    let rewrite = maybe_size_at(alloc, table, "purge-rewrite-threshold", usual_rewrite)?;
+    let usual_ratio = usual.purge_rewrite_garbage_ratio;
+    let ratio = number_at(alloc, table, "purge-rewrite-garbage-ratio", usual_ratio)?;
+    Ok((threshold, rewrite, ratio))
 }
 
 /// What a table says of a recovery.
 #[tactic(auto, unfolding(crate::specs::Reading::recovery_in))]
-fn recovery_in(alloc: Global, table: &Table) -> Result<(RecoveryMode, u64, u64)>
-    ensures { GivesKeys result (recovery_in (table_view table.now)) }
+fn recovery_in(alloc: Global, table: &Table, usual: &Config) -> Result<(RecoveryMode, u64, u64)>
+    ensures { GivesKeys result (recovery_in (settings_of usual.now) (table_view table.now)) }
 {
-    let mode = mode_at(
+    let mode = mode_at(alloc, table, "recovery-mode", usual.recovery_mode)?;
+    let usual_block = usual.recovery_read_block_size;
+    let block = size_at(alloc, table, "recovery-read-block-size", usual_block)?;
+    let threads = number_at(
         alloc,
         table,
-        "recovery-mode",
-        RecoveryMode::TolerateTailCorruption,
+        "recovery-threads",
+        usual.recovery_threads as u64,
     )?;
-    let block = size_at(alloc, table, "recovery-read-block-size", 16 << 10)?;
-    let threads = number_at(alloc, table, "recovery-threads", 4)?;
     Ok((mode, block, threads))
 }
 
-/// The settings that a table says.
-#[tactic(auto, unfolding(crate::specs::Reading::settings_in))]
+/// What a table says of new files.
+#[tactic(auto, unfolding(crate::specs::Reading::files_in))]
+fn files_in(alloc: Global, table: &Table, usual: &Config) -> Result<(Option<u64>, Version, u64)>
+    ensures { GivesKeys result (files_in (settings_of usual.now) (table_view table.now)) }
+{
+    let per_sync = maybe_size_at(
+        alloc,
+        table,
+        "bytes-per-sync",
+        bytes_of(usual.bytes_per_sync),
+    )?;
+    let format_version = version_at(alloc, table, "format-version", usual.format_version)?;
+    let target = size_at(alloc, table, "target-file-size", usual.target_file_size)?;
+    Ok((per_sync, format_version, target))
+}
+
+/// The settings that a table says; what it leaves out is as usual.
 pub fn from_table(alloc: Global, table: &Table) -> Result<Config>
     ensures { GivesSettings result (settings_in (table_view table.now)) }
 {
-    let dir = text_at(alloc, table, "dir")?;
-    let spill_dir = text_at(alloc, table, "spill-dir")?;
-    let (recovery_mode, block, threads) = recovery_in(alloc, table)?;
-    let bytes_per_sync = maybe_size_at(alloc, table, "bytes-per-sync")?;
-    let format_version = version_at(alloc, table, "format-version", Version::V2)?;
-    let target_file_size = size_at(alloc, table, "target-file-size", 128 << 20)?;
-    let (threshold, rewrite_threshold, garbage_ratio) = purging_in(alloc, table)?;
-    let memory_limit = maybe_size_at(alloc, table, "memory-limit")?;
-    let (enable_log_recycle, prefill_for_recycle, prefill_limit) = recycling_in(alloc, table)?;
+    settings_over(alloc, table, &Config::default(alloc))
+}
+
+/// The settings that a table says over the usual ones.
+#[tactic(auto, unfolding(crate::specs::Reading::settings_over))]
+fn settings_over(alloc: Global, table: &Table, usual: &Config) -> Result<Config>
+    ensures { GivesSettings result (settings_over (settings_of usual.now) (table_view table.now)) }
+{
+    let dir = text_at(alloc, table, "dir", usual.dir.as_str())?;
+    let spill_dir = maybe_text_at(alloc, table, "spill-dir", text_of(&usual.spill_dir))?;
+    let (recovery_mode, block, threads) = recovery_in(alloc, table, usual)?;
+    let (per_sync, format_version, target) = files_in(alloc, table, usual)?;
+    let (threshold, rewrite_threshold, garbage_ratio) = purging_in(alloc, table, usual)?;
+    let memory_limit = maybe_size_at(alloc, table, "memory-limit", bytes_of(usual.memory_limit))?;
+    let (enable_log_recycle, prefill_for_recycle, limit) = recycling_in(alloc, table, usual)?;
     Ok(Config {
-        dir: String::from_str(alloc, or_empty(dir))?,
+        dir: String::from_str(alloc, dir)?,
         spill_dir: copied(alloc, spill_dir)?,
         recovery_mode,
         recovery_read_block_size: ReadableSize(block),
         recovery_threads: threads as usize,
-        bytes_per_sync: sized(bytes_per_sync),
+        bytes_per_sync: sized(per_sync),
         format_version,
-        target_file_size: ReadableSize(target_file_size),
+        target_file_size: ReadableSize(target),
         purge_threshold: ReadableSize(threshold),
         purge_rewrite_threshold: sized(rewrite_threshold),
         purge_rewrite_garbage_ratio: garbage_ratio,
         memory_limit: sized(memory_limit),
         enable_log_recycle,
         prefill_for_recycle,
-        prefill_limit: sized(prefill_limit),
+        prefill_limit: sized(limit),
     })
 }
 
-/// A text, or an empty one.
-fn or_empty(text: Option<&str>) -> &str
-    ensures { result.now ≡ unwrap_or (option_map (λ t. t.now) text.entry) [] }
+/// A text that is lent, if there is one.
+pub fn text_of(text: &Option<String>) -> Option<&str>
+    ensures { option_map (λ t. t.now) result ≡ option_map string_bytes text.now }
 {
     match text {
-        Some(text) => text,
-        None => "",
+        Some(text) => Some(text.as_str()),
+        None => None,
+    }
+}
+
+/// The bytes of a size, if there is one.
+fn bytes_of(size: Option<ReadableSize>) -> Option<u64>
+    ensures { result ≡ option_map (λ size. size.0) size }
+{
+    match size {
+        Some(size) => Some(size.0),
+        None => None,
     }
 }
 

@@ -5,7 +5,8 @@
 pub enum RecoveryMode {
     /// Any damage refuses the open.
     AbsoluteConsistency,
-    /// The last file of a queue is shortened to what stands before its damage; damage of another one refuses the open.
+    /// The last file of a queue is shortened to what stands before its damage; damage of another one refuses
+    /// the open.
     TolerateTailCorruption,
     /// Each file is shortened to what stands before its damage.
     TolerateAnyCorruption,

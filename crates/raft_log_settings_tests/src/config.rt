@@ -30,6 +30,17 @@ fn usual_settings_are_sound(rt: HostRuntime) {
 }
 
 #[test]
+fn capacities_are_exact_at_their_borders(rt: HostRuntime) {
+    assert!(rt; sized(rt.alloc(), 128, 127).recycle_capacity() == 0);
+    assert!(rt; sized(rt.alloc(), 128, 128).recycle_capacity() == 1);
+    assert!(rt; sized(rt.alloc(), 128, 383).recycle_capacity() == 3);
+    let mut config = Config::default(rt.alloc());
+    config.target_file_size = ReadableSize(1);
+    config.purge_threshold = ReadableSize(u64::MAX);
+    assert!(rt; config.recycle_capacity() == u32::MAX as usize);
+}
+
+#[test]
 fn files_larger_than_a_purge_are_refused(rt: HostRuntime) -> Result<(), Fail> {
     let refused = sized(rt.alloc(), 5, 3).sanitize(&rt, rt.alloc());
     let text = text(rt.alloc(), refused)?;

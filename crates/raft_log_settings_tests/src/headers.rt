@@ -8,6 +8,14 @@ use std::test::Fail;
 const SECOND: &[u8] =
     b"RAFT-LOG-FILE-HEADER-9986AB3E47F320B394C8E84916EB0ED5\0\0\0\0\0\0\0\x02\0\0\0\0\0\0\0\0";
 
+/// The header of a file of the second version with an alignment of 4,096.
+const ALIGNED: &[u8] =
+    b"RAFT-LOG-FILE-HEADER-9986AB3E47F320B394C8E84916EB0ED5\0\0\0\0\0\0\0\x02\0\0\0\0\0\0\x10\0";
+
+/// What would be the header of a file of a fourth version.
+const FOURTH: &[u8] =
+    b"RAFT-LOG-FILE-HEADER-9986AB3E47F320B394C8E84916EB0ED5\0\0\0\0\0\0\0\x04\0\0\0\0\0\0\0\x10";
+
 /// What bytes are refused with, in words; nothing where they are read.
 fn refusal(alloc: Global, mut bytes: &[u8]) -> std::result::Result<String, Fail> {
     match LogFileFormat::decode(alloc, &mut bytes) {
@@ -32,6 +40,14 @@ fn headers_are_read_back(rt: HostRuntime) {
     let first = LogFileFormat::default();
     assert!(rt; matches!(there_and_back(rt.alloc(), first), Ok((f, 61)) if f == first));
     assert!(rt; first == LogFileFormat::new(Version::V1, 0));
+}
+
+#[test]
+fn test_encoding_decoding_file_format(rt: HostRuntime) {
+    let read = LogFileFormat::decode(rt.alloc(), &mut &ALIGNED[..]);
+    assert!(rt; matches!(read, Ok(f) if f == LogFileFormat::new(Version::V2, 4096)));
+    let fourth = LogFileFormat::decode(rt.alloc(), &mut &FOURTH[..]);
+    assert!(rt; matches!(fourth, Err(Error::Corruption(_))));
 }
 
 #[test]

@@ -1,4 +1,4 @@
-//! Tests of names, headers and settings: worked rows, printed text, and each call once.
+//! Tests of names, headers, padding and settings: worked rows, printed text, and each call once.
 #![tactic(auto)]
 
 #[cfg(test)]
@@ -7,5 +7,9 @@ mod config;
 mod headers;
 #[cfg(test)]
 mod names;
+#[cfg(test)]
+mod padding;
+#[cfg(test)]
+mod printed;
 #[cfg(test)]
 mod toml_text;

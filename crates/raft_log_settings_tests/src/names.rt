@@ -1,5 +1,5 @@
 //! Names of log files.
-use raft_log_base::{Error, FileId, LogQueue};
+use raft_log_base::{Error, FileId, LogFileContext, LogQueue, Version};
 use raft_log_format::{FileNameExt, build_reserved_file_name, parse_reserved_file_name};
 use std::test::Fail;
 
@@ -38,6 +38,32 @@ fn other_names_are_none(rt: HostRuntime) {
     for name in NO_NAMES.iter() {
         assert!(rt; FileId::parse_file_name(name).is_none(), "{name}");
     }
+}
+
+#[test]
+fn test_file_name(rt: HostRuntime) {
+    let append = FileId::new(LogQueue::Append, 123);
+    let rewrite = FileId::new(LogQueue::Rewrite, 123);
+    assert!(rt; FileId::parse_file_name("0000000000000123.raftlog") == Some(append));
+    assert!(rt; FileId::parse_file_name("0000000000000123.rewrite") == Some(rewrite));
+    assert!(rt; FileId::parse_file_name("0000000000000123.log").is_none());
+    assert!(rt; FileId::parse_file_name("123.rewrite").is_none());
+    let built = (
+        append.build_file_name(rt.alloc()),
+        rewrite.build_file_name(rt.alloc()),
+    );
+    assert!(rt; matches!(&built.0, Ok(name) if name.as_str() == "0000000000000123.raftlog"));
+    assert!(rt; matches!(&built.1, Ok(name) if name.as_str() == "0000000000000123.rewrite"));
+}
+
+#[test]
+fn test_file_context(rt: HostRuntime) {
+    let signature = |seq: u64, version: Version| {
+        LogFileContext::new(FileId::new(LogQueue::Append, seq), version).get_signature()
+    };
+    assert!(rt; signature(0, Version::V1).is_none());
+    assert!(rt; signature(10, Version::V2) == Some(10));
+    assert!(rt; signature((10 << 32) + 100, Version::V2) == Some(100));
 }
 
 #[test]

@@ -10,20 +10,23 @@ impl FileSystem for MemoryFileSystem {
     ghost use Rattle.raft_log_disk.specs.Calls.{Creates, Deletes, Renames, MakesDirectory};
     ghost use Rattle.raft_log_disk.specs.Exits.{FailsToCreate, FailsToDelete, FailsToRename, FailsToMakeDirectory, Writes, FailsToWrite, Shortens, FailsToShorten, Grows, FailsToGrow, Syncs, FailsToSync, Arms};
     ghost use Rattle.raft_log_disk.specs.Arguments.{WrongCreate, WrongName, WrongRename, WrongDirectory, WrongHandle, WrongWriter};
-    ghost use Rattle.raft_log_memory_files.specs.Memory.{disk_of, unsynced, without_named, with_moved};
+    ghost use Rattle.raft_log_memory_files.specs.Memory.{disk_of, unsynced};
     ghost use Rattle.raft_log_memory_disk.specs.Order.{without_file};
     ghost use Rattle.raft_log_disk.specs.Reading.{IsNotListed};
-    ghost use Rattle.raft_log_memory_files.specs.Turns.{armed, armed_with, IsAnswered, IsRefusedWhole, IsRefusedChange};
+    ghost use Rattle.raft_log_memory_files.specs.Turns.{armed, armed_with, IsAnswered};
+    ghost use Rattle.raft_log_memory_files.specs.Answers.{RefusesWhole, RefusesChange, ArmsNothing, AddsLast, ForgetsNamed, ForgetsReplaced};
 
     ghost disk = { disk_of };
 
     fn create(&mut self, path: &str) -> Result<Handle, ErrorKind>
-        ensures ok { IfOk result (λ handle. Creates path.now handle.file (disk_of self.old) (disk_of self.new)) }
+        ensures ok { IfOk result (λ handle.
+            Creates path.now handle.file (disk_of self.old) (disk_of self.new)) }
         ensures permission { IfOk result (λ handle. handle.permission ≡ Permission.ReadWrite) }
-        ensures err { IfErr result (λ error. FailsToCreate path.now error (disk_of self.old) (disk_of self.new)) }
+        ensures err { IfErr result (λ error.
+            FailsToCreate path.now error (disk_of self.old) (disk_of self.new)) }
         ensures order { OnOk result (unsynced self.new ≡ unsynced self.old) }
         ensures turn { OnOk result (IsAnswered self.old self.new) }
-        ensures cause { IfErr result (λ error. IsRefusedWhole (WrongCreate path.now (disk_of self.old)) error self.old self.new) }
+        ensures cause { RefusesWhole (WrongCreate path.now) result self.old self.new }
     {
         self.check_runs()?;
         if self.storage.node(path).is_some() {
@@ -44,10 +47,11 @@ impl FileSystem for MemoryFileSystem {
 
     fn delete(&mut self, path: &str) -> Result<(), ErrorKind>
         ensures ok { OnOk result (Deletes path.now (disk_of self.old) (disk_of self.new)) }
-        ensures err { IfErr result (λ error. FailsToDelete path.now error (disk_of self.old) (disk_of self.new)) }
-        ensures order { OnOk result (unsynced self.new ≡ without_named ((disk_of self.old).names path.now) (unsynced self.old)) }
+        ensures err { IfErr result (λ error.
+            FailsToDelete path.now error (disk_of self.old) (disk_of self.new)) }
+        ensures order { OnOk result (ForgetsNamed path.now self.old self.new) }
         ensures turn { OnOk result (IsAnswered self.old self.new) }
-        ensures cause { IfErr result (λ error. IsRefusedWhole (WrongName path.now (disk_of self.old)) error self.old self.new) }
+        ensures cause { RefusesWhole (WrongName path.now) result self.old self.new }
     {
         self.check_runs()?;
         let Some(Node::File(id)) = self.storage.node(path) else {
@@ -60,10 +64,11 @@ impl FileSystem for MemoryFileSystem {
 
     fn rename(&mut self, from: &str, to: &str) -> Result<(), ErrorKind>
         ensures ok { OnOk result (Renames from.now to.now (disk_of self.old) (disk_of self.new)) }
-        ensures err { IfErr result (λ error. FailsToRename from.now to.now error (disk_of self.old) (disk_of self.new)) }
-        ensures order { OnOk result (unsynced self.new ≡ with_moved ((disk_of self.old).names from.now) ((disk_of self.old).names to.now) (unsynced self.old)) }
+        ensures err { IfErr result (λ error.
+            FailsToRename from.now to.now error (disk_of self.old) (disk_of self.new)) }
+        ensures order { OnOk result (ForgetsReplaced from.now to.now self.old self.new) }
         ensures turn { OnOk result (IsAnswered self.old self.new) }
-        ensures cause { IfErr result (λ error. IsRefusedWhole (WrongRename from.now to.now (disk_of self.old)) error self.old self.new) }
+        ensures cause { RefusesWhole (WrongRename from.now to.now) result self.old self.new }
     {
         self.check_runs()?;
         let Some(Node::File(id)) = self.storage.node(from) else {
@@ -84,20 +89,22 @@ impl FileSystem for MemoryFileSystem {
 
     fn reuse(&mut self, from: &str, to: &str) -> Result<(), ErrorKind>
         ensures ok { OnOk result (Renames from.now to.now (disk_of self.old) (disk_of self.new)) }
-        ensures err { IfErr result (λ error. FailsToRename from.now to.now error (disk_of self.old) (disk_of self.new)) }
-        ensures order { OnOk result (unsynced self.new ≡ with_moved ((disk_of self.old).names from.now) ((disk_of self.old).names to.now) (unsynced self.old)) }
+        ensures err { IfErr result (λ error.
+            FailsToRename from.now to.now error (disk_of self.old) (disk_of self.new)) }
+        ensures order { OnOk result (ForgetsReplaced from.now to.now self.old self.new) }
         ensures turn { OnOk result (IsAnswered self.old self.new) }
-        ensures cause { IfErr result (λ error. IsRefusedWhole (WrongRename from.now to.now (disk_of self.old)) error self.old self.new) }
+        ensures cause { RefusesWhole (WrongRename from.now to.now) result self.old self.new }
     {
         self.rename(from, to)
     }
 
     fn create_dir(&mut self, path: &str) -> Result<(), ErrorKind>
         ensures ok { OnOk result (MakesDirectory path.now (disk_of self.old) (disk_of self.new)) }
-        ensures err { IfErr result (λ error. FailsToMakeDirectory path.now error (disk_of self.old) (disk_of self.new)) }
+        ensures err { IfErr result (λ error.
+            FailsToMakeDirectory path.now error (disk_of self.old) (disk_of self.new)) }
         ensures order { OnOk result (unsynced self.new ≡ unsynced self.old) }
         ensures turn { OnOk result (IsAnswered self.old self.new) }
-        ensures cause { IfErr result (λ error. IsRefusedWhole (WrongDirectory path.now (disk_of self.old)) error self.old self.new) }
+        ensures cause { RefusesWhole (WrongDirectory path.now) result self.old self.new }
     {
         self.check_runs()?;
         if self.storage.node(path).is_some() {
@@ -113,10 +120,11 @@ impl FileSystem for MemoryFileSystem {
     fn write_at(&mut self, handle: Handle, offset: usize, bytes: &[u8]) -> Result<(), ErrorKind>
         ensures ok { OnOk result (Writes handle offset bytes.now (disk_of self.old) (disk_of self.new)) }
         ensures permitted { OnOk result (handle.permission ≡ Permission.ReadWrite) }
-        ensures err { IfErr result (λ error. FailsToWrite handle offset bytes.now error (disk_of self.old) (disk_of self.new)) }
-        ensures order { OnOk result (unsynced self.new ≡ unsynced self.old ++ (handle.file, Wrote offset bytes.now) ∷ []) }
+        ensures err { IfErr result (λ error.
+            FailsToWrite handle offset bytes.now error (disk_of self.old) (disk_of self.new)) }
+        ensures order { OnOk result (AddsLast handle (Wrote offset bytes.now) self.old self.new) }
         ensures turn { OnOk result (IsAnswered self.old self.new) }
-        ensures cause { IfErr result (λ error. IsRefusedChange handle.file (Wrote offset bytes.now) (WrongWriter handle (disk_of self.old)) error self.old self.new) }
+        ensures cause { RefusesChange handle (Wrote offset bytes.now) result self.old self.new }
     {
         self.check_writer(handle)?;
         let stops = self.begin_change()?;
@@ -127,10 +135,11 @@ impl FileSystem for MemoryFileSystem {
     fn truncate(&mut self, handle: Handle, size: usize) -> Result<(), ErrorKind>
         ensures ok { OnOk result (Shortens handle size (disk_of self.old) (disk_of self.new)) }
         ensures permitted { OnOk result (handle.permission ≡ Permission.ReadWrite) }
-        ensures err { IfErr result (λ error. FailsToShorten handle size error (disk_of self.old) (disk_of self.new)) }
-        ensures order { OnOk result (unsynced self.new ≡ unsynced self.old ++ (handle.file, ShortenedTo size) ∷ []) }
+        ensures err { IfErr result (λ error.
+            FailsToShorten handle size error (disk_of self.old) (disk_of self.new)) }
+        ensures order { OnOk result (AddsLast handle (ShortenedTo size) self.old self.new) }
         ensures turn { OnOk result (IsAnswered self.old self.new) }
-        ensures cause { IfErr result (λ error. IsRefusedChange handle.file (ShortenedTo size) (WrongWriter handle (disk_of self.old)) error self.old self.new) }
+        ensures cause { RefusesChange handle (ShortenedTo size) result self.old self.new }
     {
         self.check_writer(handle)?;
         let stops = self.begin_change()?;
@@ -141,10 +150,11 @@ impl FileSystem for MemoryFileSystem {
     fn allocate(&mut self, handle: Handle, offset: usize, size: usize) -> Result<(), ErrorKind>
         ensures ok { OnOk result (Grows handle (offset + size) (disk_of self.old) (disk_of self.new)) }
         ensures permitted { OnOk result (handle.permission ≡ Permission.ReadWrite) }
-        ensures err { IfErr result (λ error. FailsToGrow handle (offset + size) error (disk_of self.old) (disk_of self.new)) }
-        ensures order { OnOk result (unsynced self.new ≡ unsynced self.old ++ (handle.file, GrewTo (offset + size)) ∷ []) }
+        ensures err { IfErr result (λ error.
+            FailsToGrow handle (offset + size) error (disk_of self.old) (disk_of self.new)) }
+        ensures order { OnOk result (AddsLast handle (GrewTo (offset + size)) self.old self.new) }
         ensures turn { OnOk result (IsAnswered self.old self.new) }
-        ensures cause { IfErr result (λ error. IsRefusedChange handle.file (GrewTo (offset + size)) (WrongWriter handle (disk_of self.old)) error self.old self.new) }
+        ensures cause { RefusesChange handle (GrewTo (offset + size)) result self.old self.new }
     {
         self.check_writer(handle)?;
         let stops = self.begin_change()?;
@@ -157,7 +167,7 @@ impl FileSystem for MemoryFileSystem {
         ensures err { IfErr result (λ error. FailsToSync handle error (disk_of self.old) (disk_of self.new)) }
         ensures order { OnOk result (unsynced self.new ≡ without_file handle.file (unsynced self.old)) }
         ensures turn { OnOk result (IsAnswered self.old self.new) }
-        ensures cause { IfErr result (λ error. IsRefusedWhole (WrongHandle handle (disk_of self.old)) error self.old self.new) }
+        ensures cause { RefusesWhole (WrongHandle handle) result self.old self.new }
     {
         self.check_handle(handle)?;
         self.begin()?;
@@ -211,7 +221,7 @@ impl FileSystem for MemoryFileSystem {
         ensures ok { OnOk result (Arms fault.now (disk_of self.old) (disk_of self.new)) }
         ensures err { OnErr result (disk_of self.new ≡ disk_of self.old) }
         ensures armed { OnOk result (armed self.new ≡ armed_with fault.now (armed self.old)) }
-        ensures cause { IfErr result (λ error. ((disk_of self.old).stopped ≡ true) ⊎ (error ≡ ErrorKind.OutOfMemory)) }
+        ensures cause { IfErr result (ArmsNothing self.old) }
     {
         self.check_runs()?;
         match fault {
@@ -227,5 +237,11 @@ impl FileSystem for MemoryFileSystem {
     }
 
     ghost sound = { λ system. let storage = system.whole.sound in
-        record { named = storage.named; one_name = storage.one_name; apart = storage.apart; fresh = storage.fresh; files = storage.files } };
+        record {
+          named = storage.named;
+          one_name = storage.one_name;
+          apart = storage.apart;
+          fresh = storage.fresh;
+          files = storage.files;
+        } };
 }

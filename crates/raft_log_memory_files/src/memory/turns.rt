@@ -10,13 +10,13 @@ use std::alloc::AllocError;
 use std::io::ErrorKind;
 
 impl MemoryFileSystem {
-    ghost use Rattle.std.specs.Prelude.{◌≡◌, ◌⊎◌, ◌↔◌, ◌++◌, [], ◌∷◌, true, false, None, OnOk, OnErr, IfErr, IsErr, IfOk, IsTrue};
-    ghost use Rattle.raft_log_disk.specs.Arguments.{WrongHandle, WrongWriter, WrongListing};
+    ghost use Rattle.std.specs.Prelude.{◌≡◌, ◌↔◌, true, false, OnOk, OnErr, IfErr, IfOk, IsTrue};
     ghost use Rattle.raft_log_memory_files.specs.Memory.{disk_of, failed_once};
-    ghost use Rattle.raft_log_memory_files.specs.Turns.{armed, armed_with, call_later, IsSpared, IsRefused, IsStopped, IsEnded};
+    ghost use Rattle.raft_log_memory_files.specs.Turns.{armed, armed_with, call_later, IsSpared, IsRefused, IsEnded};
+    ghost use Rattle.raft_log_memory_files.specs.Answers.{HasFallen, RunsWithDirectory, LacksDirectory, RunsWithFile, LacksFile, RunsWithWriter, LacksWriter};
 
-    /// Lets the n-th changing call from now be refused; it changes nothing. Refusals that are armed already stay. 0 arms
-    /// none. It is refused for want of memory alone.
+    /// Lets the n-th changing call from now be refused; it changes nothing. Refusals that are armed already
+    /// stay. 0 arms none. It is refused for want of memory alone.
     pub fn refuse_call(&mut self, n: u64) -> Result<(), AllocError>
         ensures same { disk_of self.new ≡ disk_of self.old }
         ensures ok { OnOk result (armed self.new ≡ armed_with (Fault.Refuse n) (armed self.old)) }
@@ -28,8 +28,9 @@ impl MemoryFileSystem {
         Ok(())
     }
 
-    /// Lets the file system stop at the n-th changing call from now, in place of a stop that was armed: a write, a cut or
-    /// an allocation there counts as not synced, any other call hasn't happened. 0 leaves what was armed.
+    /// Lets the file system stop at the n-th changing call from now, in place of a stop that was armed: a
+    /// write, a cut or an allocation there counts as not synced, any other call hasn't happened. 0 leaves
+    /// what was armed.
     pub fn stop_at(&mut self, n: u64)
         ensures same { disk_of self.new ≡ disk_of self.old }
         ensures armed { armed self.new ≡ armed_with (Fault.StopAt n) (armed self.old) }
@@ -62,7 +63,7 @@ impl MemoryFileSystem {
         ensures next { armed self.new ≡ call_later (armed self.old) }
         ensures ok { OnOk result (disk_of self.new ≡ disk_of self.old) }
         ensures spared { OnOk result (IsSpared (armed self.old)) }
-        ensures err { IfErr result (λ error. IsRefused error self.old self.new ⊎ IsStopped error self.old self.new) }
+        ensures err { IfErr result (λ error. HasFallen error self.old self.new) }
     {
         if self.begin_change()? {
             self.stopped = true;
@@ -71,7 +72,8 @@ impl MemoryFileSystem {
         Ok(())
     }
 
-    // Ends a change, which was made or wasn't. At a stop the error is that of the change, where it wasn't made.
+    // Ends a change, which was made or wasn't. At a stop the error is that of the change, where it wasn't
+    // made.
     pub(super) fn end_change(
         &mut self,
         stops: bool,
@@ -124,8 +126,8 @@ impl MemoryFileSystem {
 
     // Whether it runs, and a path is a directory's.
     pub(super) fn check_directory(&self, path: &str) -> Result<(), ErrorKind>
-        ensures ok { OnOk result (((disk_of self.now).stopped ≡ false) × ((disk_of self.now).directories path.now ≡ true)) }
-        ensures err { IfErr result (λ error. ((disk_of self.now).stopped ≡ true) ⊎ WrongListing path.now (disk_of self.now) error) }
+        ensures ok { OnOk result (RunsWithDirectory path.now (disk_of self.now)) }
+        ensures err { IfErr result (LacksDirectory path.now (disk_of self.now)) }
     {
         self.check_runs()?;
         match self.storage.node(path) {
@@ -137,8 +139,8 @@ impl MemoryFileSystem {
 
     // Whether it runs, and a handle's file is there.
     pub(super) fn check_handle(&self, handle: Handle) -> Result<(), ErrorKind>
-        ensures ok { OnOk result (((disk_of self.now).stopped ≡ false) × ((disk_of self.now).files handle.file ≡ None → ⊥)) }
-        ensures err { IfErr result (λ error. ((disk_of self.now).stopped ≡ true) ⊎ (((disk_of self.now).stopped ≡ false) × WrongHandle handle (disk_of self.now) error)) }
+        ensures ok { OnOk result (RunsWithFile handle (disk_of self.now)) }
+        ensures err { IfErr result (LacksFile handle (disk_of self.now)) }
     {
         self.check_runs()?;
         if self.storage.has(handle.file) {
@@ -150,8 +152,8 @@ impl MemoryFileSystem {
 
     // Whether a handle may write, too.
     pub(super) fn check_writer(&self, handle: Handle) -> Result<(), ErrorKind>
-        ensures ok { OnOk result (((disk_of self.now).stopped ≡ false) × ((disk_of self.now).files handle.file ≡ None → ⊥) × (handle.permission ≡ Permission.ReadWrite)) }
-        ensures err { IfErr result (λ error. ((disk_of self.now).stopped ≡ true) ⊎ (((disk_of self.now).stopped ≡ false) × WrongWriter handle (disk_of self.now) error)) }
+        ensures ok { OnOk result (RunsWithWriter handle (disk_of self.now)) }
+        ensures err { IfErr result (LacksWriter handle (disk_of self.now)) }
     {
         self.check_handle(handle)?;
         match handle.permission {

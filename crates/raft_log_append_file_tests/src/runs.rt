@@ -1,7 +1,7 @@
 //! Runs over a file system in memory, with calls refused and stops at each.
 
-use super::frame::{make_frame, read_frame};
-use super::{AppendError, AppendFile};
+use raft_log_append_file::frame::{make_frame, read_frame};
+use raft_log_append_file::{AppendError, AppendFile};
 use raft_log_disk::{FileSystem, Permission};
 use raft_log_memory_files::{MemoryFileSystem, Piece, Remainder};
 use std::alloc::{AllocError, Global};
@@ -83,8 +83,8 @@ fn first_records(alloc: Global, count: u8) -> Result<Vec<Vec<u8>>, AllocError> {
     Ok(records)
 }
 
-// How many of the first records a restart reads back: they, nothing else, and the file has their frames alone. One more
-// can be appended to them.
+// How many of the first records a restart reads back: they, nothing else, and the file has their frames
+// alone. One more can be appended to them.
 fn read_back(alloc: Global, system: &mut MemoryFileSystem) -> Result<u8, Fail> {
     let (mut log, records) = AppendFile::recover(alloc, system, PATH)?;
     let count = u8::try_from(records.len()).or(Err("more records than were appended"))?;
@@ -107,7 +107,8 @@ fn read_back(alloc: Global, system: &mut MemoryFileSystem) -> Result<u8, Fail> {
     Ok(count)
 }
 
-// What a crash may leave: each beginning of what is unsynced, and each way to keep, lose or change two changes of it.
+// What a crash may leave: each beginning of what is unsynced, and each way to keep, lose or change two
+// changes of it.
 fn remainders(alloc: Global) -> Result<Vec<Remainder>, Fail> {
     let mut ways = Vec::new(alloc);
     ways.push(Remainder::LastSync)?;
@@ -213,7 +214,8 @@ fn an_opened_file_goes_on(rt: HostRuntime) -> Result<(), Fail> {
     Ok(())
 }
 
-// How many records are appended between two syncs, and the calls of such a run: a creation, six writes and the syncs.
+// How many records are appended between two syncs, and the calls of such a run: a creation, six writes and
+// the syncs.
 const RUNS: [(u8, u64); 4] = [(1, 13), (2, 10), (4, 8), (7, 7)];
 
 // A run in which the n-th call is refused, opened again in each way; how many were refused.
@@ -383,7 +385,8 @@ fn a_log_in_doubt_is_opened_again(rt: HostRuntime) -> Result<(), Fail> {
     Ok(())
 }
 
-// Appends a record and syncs it. Where one of the two is refused, opens the file again and appends it unless it is there.
+// Appends a record and syncs it. Where one of the two is refused, opens the file again and appends it unless
+// it is there.
 fn append_at_last(
     alloc: Global,
     system: &mut MemoryFileSystem,
@@ -401,7 +404,8 @@ fn append_at_last(
     Ok(again)
 }
 
-// With ample memory, and with one allocation failing, whichever it is: each call is tried once more, and nothing is lost.
+// With ample memory, and with one allocation failing, whichever it is: each call is tried once more, and
+// nothing is lost.
 #[test]
 fn want_of_memory_takes_nothing_back(rt: HostRuntime) -> Result<(), Fail> {
     let alloc = rt.alloc();

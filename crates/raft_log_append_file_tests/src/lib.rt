@@ -1,0 +1,5 @@
+//! Runs of the append-only file over a file system in memory, with calls refused and stops at each.
+#![tactic(auto)]
+
+#[cfg(test)]
+mod runs;

@@ -1,0 +1,8 @@
+//! Where the entries and keys of a group stand, as its table shows it; and the laws that tie what a table does to
+//! the steps of the machine.
+#![tactic(auto)]
+
+pub mod laws;
+pub mod place;
+
+pub use place::Place;

@@ -4,3 +4,4 @@ pub mod Grow
 pub mod Meant
 pub mod Moving
 pub mod Marking
+pub mod Noting

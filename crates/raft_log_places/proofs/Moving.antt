@@ -30,7 +30,7 @@ three_parts d k xs =
     ∙ ap (λ l. take d xs ++ l) (take-append-drop k (drop d xs)) ∙ take-append-drop d xs
 
 -- how many places there are after a run moved: as many as before
-moved_length : (v : Shown) (f : ℕ) (ps : List Place) → v.first ≤ f → f + length ps ≤ v.first + length v.places → length (moved_run v f ps).places ≡ length v.places
+pub moved_length : (v : Shown) (f : ℕ) (ps : List Place) → v.first ≤ f → f + length ps ≤ v.first + length v.places → length (moved_run v f ps).places ≡ length v.places
 moved_length v f ps low high =
     length-append (take (f - v.first) v.places) (ps ++ drop ((f - v.first) + length ps) v.places)
     ∙ ap₂ ◌+◌ (length-take (f - v.first) v.places) (length-append ps (drop ((f - v.first) + length ps) v.places) ∙ ap (λ n. length ps + n) (length-drop ((f - v.first) + length ps) v.places))

@@ -1,18 +1,16 @@
 -- What Append takes is a step of the whereabouts.
-use Rattle.std.proofs.Common.{◌≡◌, ℕ, ◌+◌, ◌-◌, ◌<◌, ◌≤◌, ◌⊎◌, min, max, Bool, true, false, ◌&&◌, List, [], ◌∷◌, ◌++◌, length, take, drop, map, Option, Some, None, if◌then◌else◌, nat_lt, bytes_eq, refl, sym, ap, ap₂, subst, ◌∙◌, inl, inr, arith, length-drop}
+use Rattle.std.proofs.Common.{◌≡◌, ℕ, ◌+◌, ◌-◌, ◌<◌, ◌≤◌, ◌⊎◌, min, Bool, true, false, ◌&&◌, List, [], ◌∷◌, length, map, Option, Some, None, if◌then◌else◌, nat_lt, bytes_eq, refl, sym, ap, ap₂, subst, ◌∙◌, inl, inr, arith, length-drop}
 use Rattle.std.proofs.lemmas.Bool.Decides.{nat_tests}
 use Rattle.std.proofs.lemmas.Bool.{cases_lt}
 use Rattle.std.proofs.Math.Path.{fun_ext}
 use Rattle.raft_log_model.specs.Item.{Item}
 use Rattle.raft_log_model.specs.Item.Item.{Run, Clean, Compact, Put, Del}
-use Rattle.raft_log_model.specs.Holes.{is_past}
-use Rattle.raft_log_model.specs.Renamed.{renamed}
-use Rattle.raft_log_machine.specs.Whereabouts.{Whereabouts, top, Alone, GoesOn, Grows, GrowsBy, with_key, compacted_first}
+use Rattle.raft_log_machine.specs.Whereabouts.{Whereabouts, Alone, GoesOn, Grows, GrowsBy, with_key}
 use Rattle.raft_log_machine.proofs.RenamedWhereabouts.{grows_by_renamed}
 use Rattle.raft_log_places.specs.declared.place.Place.{Place}
-use Rattle.raft_log_places.specs.Shown.{KeyValue, Shown, with_held, with_run, with_compact, with_put, with_del, stepped, all_stepped, is_in_append, whereabouts, span, IsOrderly, MayFollow, MayAllFollow, next_span}
+use Rattle.raft_log_places.specs.Shown.{KeyValue, Shown, with_held, with_run, with_compact, stepped, all_stepped, is_in_append, whereabouts, span, IsOrderly, MayFollow, MayAllFollow, next_span}
 use Rattle.raft_log_places.specs.Bridge.{Located, in_queue, written}
-use Rattle.raft_log_places.proofs.Spans.{run_length, run_ends, span_stepped, orderly_stepped}
+use Rattle.raft_log_places.proofs.Spans.{run_ends, span_stepped, orderly_stepped}
 
 -- the whereabouts with other ends
 abbrev pub at_ends : Whereabouts → ℕ → ℕ → ℕ → Whereabouts

@@ -1,12 +1,11 @@
 -- The marks that are owed are steps of the whereabouts.
-use Rattle.std.proofs.Common.{◌≡◌, ℕ, ◌+◌, ◌<◌, ◌≤◌, ◌⊎◌, Bool, true, false, List, [], ◌∷◌, ◌++◌, Option, if◌then◌else◌, nat_lt, bytes_eq, refl, sym, ap, subst, ◌∙◌, inl, inr, arith}
-use Rattle.std.proofs.lemmas.Bool.{cases_lt}
+use Rattle.std.proofs.Common.{◌≡◌, ℕ, ◌+◌, ◌<◌, ◌⊎◌, Bool, true, false, List, [], ◌∷◌, ◌++◌, Option, if◌then◌else◌, nat_lt, refl, sym, ap, subst, inl, inr, arith}
 use Rattle.std.proofs.Math.Path.{fun_ext}
 use Rattle.raft_log_model.specs.Item.{Item}
-use Rattle.raft_log_model.specs.Item.Item.{Clean, Compact, Del}
+use Rattle.raft_log_model.specs.Item.Item.{Clean, Compact}
 use Rattle.raft_log_model.specs.Meaning.{Slot, Content}
-use Rattle.raft_log_model.proofs.Cases.{at_bool, from_lt_true, from_lt_false}
-use Rattle.raft_log_machine.specs.Whereabouts.{Whereabouts, top, Carries, CarriesAll, with_key}
+use Rattle.raft_log_model.proofs.Cases.{from_lt_true, from_lt_false}
+use Rattle.raft_log_machine.specs.Whereabouts.{Whereabouts, top, CarriesAll, with_key}
 use Rattle.raft_log_places.specs.Shown.{Shown, whereabouts}
 use Rattle.raft_log_places.specs.Bridge.{dels, compact_owed, marks, AllOwed, without, unmarked}
 

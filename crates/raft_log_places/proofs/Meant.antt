@@ -1,14 +1,13 @@
 -- What a table's places mean follows the batch.
-use Rattle.std.proofs.Common.{◌≡◌, ℕ, ◌+◌, ◌-◌, ◌<◌, ◌≤◌, ◌⊎◌, min, Bool, true, false, ◌&&◌, List, [], ◌∷◌, ◌++◌, length, take, drop, map, Option, Some, None, option_map, unwrap_or, slice_get, if◌then◌else◌, nat_le, nat_lt, bytes_eq, refl, sym, ap, ap₂, subst, ◌∙◌, inl, inr, arith, length-drop}
+use Rattle.std.proofs.Common.{◌≡◌, ℕ, ◌+◌, ◌-◌, min, Bool, true, false, ◌&&◌, List, [], ◌∷◌, map, Option, Some, None, option_map, unwrap_or, slice_get, if◌then◌else◌, nat_le, nat_lt, bytes_eq, refl, sym, ap, ap₂, subst, ◌∙◌}
 use Rattle.std.proofs.lemmas.Option.{slice_get-map}
-use Rattle.std.specs.Option.{option_or}
 use Rattle.std.proofs.Math.Path.{fun_ext}
 use Rattle.raft_log_model.specs.Item.{Item}
 use Rattle.raft_log_model.specs.Item.Item.{Run, Clean, Compact, Put, Del}
 use Rattle.raft_log_model.specs.Meaning.{Slot, Content, write, says, after}
 use Rattle.raft_log_model.specs.Meaning.Slot.{Index, Key}
 use Rattle.raft_log_model.specs.Meaning.Content.{Entry, Value}
-use Rattle.raft_log_model.specs.Holes.{Window, FitsOn, is_past}
+use Rattle.raft_log_model.specs.Holes.{Window, FitsOn}
 use Rattle.raft_log_model.specs.Table.{Table, content, span_of, table_step}
 use Rattle.raft_log_model.specs.Renamed.{renamed, renamed_content, renamed_word}
 use Rattle.raft_log_model.proofs.Words.{unwrap_or_option_or}
@@ -16,7 +15,7 @@ use Rattle.raft_log_model.proofs.TableLaws.{table_takes}
 use Rattle.raft_log_model.proofs.RenamedLaws.{write_renamed}
 use Rattle.raft_log_places.specs.declared.place.Place.{Place}
 use Rattle.raft_log_places.specs.Shown.{KeyValue, Shown, with_held, with_run, stepped, all_stepped, span, IsOrderly, MayFollow, MayAllFollow}
-use Rattle.raft_log_places.specs.Bridge.{Located, in_queue, located, bytes_held, table_of, written, IsMeant}
+use Rattle.raft_log_places.specs.Bridge.{Located, in_queue, bytes_held, table_of, written, IsMeant}
 use Rattle.raft_log_places.proofs.Queues.{located_length, located_run, located_drop}
 use Rattle.raft_log_places.proofs.Spans.{orderly_stepped}
 use Rattle.raft_log_places.proofs.Grow.{follow_on}

@@ -1,27 +1,22 @@
 -- Copies into Rewrite are steps of the whereabouts, and change nothing of what a table means.
-use Rattle.std.proofs.Common.{◌≡◌, ℕ, ◌+◌, ◌-◌, ◌<◌, ◌≤◌, ◌⊎◌, min, Bool, true, false, List, [], ◌∷◌, ◌++◌, length, take, drop, map, Option, Some, None, option_map, slice_get, if◌then◌else◌, bytes_eq, refl, sym, ap, ap₂, subst, ◌∙◌, inl, inr, arith, length-append, length-take, length-drop}
-use Rattle.std.proofs.lemmas.List.{map-append, length-map, take-map, drop-map, take-append-drop, drop-drop}
+use Rattle.std.proofs.Common.{◌≡◌, ℕ, ◌+◌, ◌-◌, ◌<◌, ◌≤◌, Bool, true, false, List, [], ◌∷◌, ◌++◌, length, take, drop, map, Option, Some, None, option_map, slice_get, if◌then◌else◌, bytes_eq, refl, sym, ap, ap₂, subst, ◌∙◌, inl, inr, arith, length-append, length-take, length-drop}
+use Rattle.std.proofs.lemmas.List.{map-append, length-map, take-append-drop, drop-drop}
 use Rattle.std.proofs.lemmas.Option.{slice_get-map}
-use Rattle.std.proofs.lemmas.Slice.Eq.{bytes_eq-Decides}
-use Rattle.std.proofs.Math.Path.{fun_ext}
-use Rattle.raft_log_model.specs.Item.{Item}
-use Rattle.raft_log_model.specs.Item.Item.{Run, Put}
+use Rattle.raft_log_model.specs.Item.Item.{Run}
 use Rattle.raft_log_model.specs.Meaning.{Slot, Content}
 use Rattle.raft_log_model.specs.Meaning.Slot.{Index, Key}
 use Rattle.raft_log_model.specs.Meaning.Content.{Entry, Value}
-use Rattle.raft_log_model.specs.Table.{content}
 use Rattle.raft_log_model.specs.Renamed.{renamed_content}
-use Rattle.raft_log_model.proofs.Cases.{at_bool, at_option}
 use Rattle.raft_log_model.proofs.Tests.{from_same_key}
 use Rattle.raft_log_model.proofs.TableSteps.{content_within, get_take, get_drop}
-use Rattle.raft_log_machine.specs.Whereabouts.{Whereabouts, Restates, Carries, CarriesAll, with_key}
+use Rattle.raft_log_machine.specs.Whereabouts.{Restates, Carries, CarriesAll, with_key}
 use Rattle.raft_log_places.specs.declared.place.Place.{Place}
-use Rattle.raft_log_places.specs.Shown.{KeyValue, Shown, with_held, is_in_append, whereabouts, IsOrderly}
-use Rattle.raft_log_places.specs.Bridge.{Located, in_queue, located, bytes_held, table_of, IsMeant, read, Move, moved_run, rewritten_value, moved_key, moved, all_moved, CanMove, CanAllMove, item_of_key, item_of, items_of}
+use Rattle.raft_log_places.specs.Shown.{KeyValue, Shown, is_in_append, whereabouts, IsOrderly}
+use Rattle.raft_log_places.specs.Bridge.{Located, in_queue, located, bytes_held, table_of, IsMeant, Move, moved_run, rewritten_value, moved_key, moved, all_moved, CanMove, CanAllMove, item_of_key, item_of, items_of}
 use Rattle.raft_log_places.specs.Bridge.Move.{MoveRun, MoveKey}
 use Rattle.raft_log_places.proofs.Queues.{located_moved}
 use Rattle.raft_log_places.proofs.Grow.{same_ends, appended_with}
-use Rattle.raft_log_places.proofs.Meant.{same_bytes, values_with}
+use Rattle.raft_log_places.proofs.Meant.{same_bytes}
 
 -- a list in three parts
 three_parts : {A : Type 0} (d k : ℕ) (xs : List A) → take d xs ++ (take k (drop d xs) ++ drop (d + k) xs) ≡ xs

@@ -1,5 +1,5 @@
 -- Which files are noted after each change, and that none is noted too late.
-use Rattle.std.proofs.Common.{◌≡◌, ℕ, zero, suc, ◌+◌, ◌-◌, ◌<◌, ◌≤◌, ◌⊎◌, min, max, Bool, true, false, ◌&&◌, List, [], ◌∷◌, ◌++◌, length, take, drop, map, Option, Some, None, option_map, slice_get, if◌then◌else◌, nat_le, nat_lt, bytes_eq, refl, sym, ap, ap₂, subst, ◌∙◌, inl, inr, arith, length-append, length-take, length-drop, le_refl}
+use Rattle.std.proofs.Common.{◌≡◌, ℕ, zero, suc, ◌+◌, ◌-◌, ◌<◌, ◌≤◌, ◌⊎◌, min, max, true, false, ◌&&◌, List, [], ◌∷◌, ◌++◌, length, take, drop, map, Option, Some, None, option_map, slice_get, if◌then◌else◌, nat_le, nat_lt, bytes_eq, refl, sym, ap, subst, ◌∙◌, inl, inr, arith, length-take, length-drop, le_refl}
 use Rattle.std.proofs.lemmas.Bool.Decides.{nat_tests}
 use Rattle.std.proofs.lemmas.Bool.{cases_lt}
 use Rattle.std.proofs.lemmas.List.{length-map}
@@ -9,23 +9,24 @@ use Rattle.raft_log_model.specs.Meaning.{Slot, Content, write, says}
 use Rattle.raft_log_model.specs.Table.{content}
 use Rattle.raft_log_model.specs.Meaning.Slot.{Index, Key}
 use Rattle.raft_log_model.specs.Meaning.Content.{Value}
-use Rattle.raft_log_model.proofs.Cases.{at_bool, at_option, if_true, if_false}
+use Rattle.raft_log_model.proofs.Cases.{at_bool, at_option}
 use Rattle.raft_log_model.specs.Renamed.{renamed_word}
 use Rattle.raft_log_model.proofs.RenamedLaws.{says_renamed}
-use Rattle.raft_log_model.proofs.Tests.{run_sets, from_same_key, same_key, put_sets}
+use Rattle.raft_log_model.proofs.Tests.{run_sets, from_same_key, put_sets}
 use Rattle.raft_log_model.proofs.TableSteps.{get_take, get_drop, get_front, get_back}
 use Rattle.raft_log_machine.specs.Survival.{IsSpoken}
-use Rattle.raft_log_machine.proofs.TruthGrows.{spoken_after, spoken_now}
+use Rattle.raft_log_machine.proofs.TruthGrows.{spoken_after}
 use Rattle.raft_log_machine.proofs.TruthCarries.{differ}
 use Rattle.raft_log_machine.proofs.Starts.{spoken_newer}
 use Rattle.raft_log_directory.specs.Notes.{IsAppended, IsInRewrite}
 use Rattle.raft_log_places.specs.declared.place.Place.{Place}
-use Rattle.raft_log_places.specs.Shown.{KeyValue, Files, Shown, with_held, with_run, with_compact, stepped, all_stepped, whereabouts, is_in_append, span, IsOrderly, MayFollow, MayAllFollow}
+use Rattle.raft_log_places.specs.declared.group_files.GroupFiles.{GroupFiles}
+use Rattle.raft_log_places.specs.Shown.{KeyValue, Shown, with_held, with_run, with_compact, stepped, all_stepped, whereabouts, is_in_append, span, IsOrderly, MayFollow, MayAllFollow}
 use Rattle.raft_log_places.specs.Bridge.{Located, in_queue, bytes_held, table_of, written, Move, moved_run, moved_key, rewritten_value, moved, all_moved, CanMove, CanAllMove, item_of, item_of_key, items_of}
 use Rattle.raft_log_places.specs.Bridge.Move.{MoveRun, MoveKey}
 use Rattle.raft_log_places.specs.Noted.{place_file, held_file, file_at, start_of, noted_at, IsLeastInRewrite, noting, with_note, AllIn, AreIn, AllUpTo, AreUpTo, AppendedGrow, AppendedShrink, RewrittenStay, RewrittenCarry}
-use Rattle.raft_log_places.proofs.Spans.{run_length, run_ends, orderly_stepped}
-use Rattle.raft_log_places.proofs.Grow.{follow_on, in_append_of}
+use Rattle.raft_log_places.proofs.Spans.{run_ends, orderly_stepped}
+use Rattle.raft_log_places.proofs.Grow.{follow_on}
 use Rattle.raft_log_places.proofs.Moving.{move_orderly, moved_length}
 
 file_in : (n : ℕ) (ps : List Place) (j : ℕ) → AllIn n ps → j < length ps → place_file (slice_get ps j) ≡ n
@@ -136,14 +137,14 @@ appended_grow n v (x ∷ xs) o h all s a =
       ]
     ]
 
-pub start_zero : (o : Option Files) → start_of 0 o ≡ 0
+pub start_zero : (o : Option GroupFiles) → start_of 0 o ≡ 0
 start_zero None = refl
 start_zero (Some files) = zero_start files.from files.to
   where
     zero_start : (a b : ℕ) → (if nat_le 0 b then min a 0 else 0) ≡ 0
     zero_start a b = grind (arith, nat_tests)
 
-same_note : (o : Option Files) (a b : ℕ) → a ≡ b → start_of a o ≤ start_of b o
+same_note : (o : Option GroupFiles) (a b : ℕ) → a ≡ b → start_of a o ≤ start_of b o
 same_note o a b e = subst (λ n. start_of a o ≤ start_of n o) e (le_refl (start_of a o))
 
 -- it stood there and is noted no later than it was, or nothing is noted
@@ -261,7 +262,7 @@ module _ {E : Type 0} (at : Located → E) where
   moves_note v (MoveRun f ps ∷ xs) = moves_note (moved_run v f ps) xs
   moves_note v (MoveKey k n ∷ xs) = moves_note (moved_key v k n) xs
 
-  start_below : (n : ℕ) (o : Option Files) → start_of n o ≤ n
+  start_below : (n : ℕ) (o : Option GroupFiles) → start_of n o ≤ n
   start_below n None = le_refl n
   start_below n (Some files) = below n files.from files.to
     where
@@ -276,7 +277,7 @@ module _ {E : Type 0} (at : Located → E) where
   ]
 
   -- a new note moves none up, and covers what lies up to the group's last file
-  note_covers : (least n : ℕ) (o : Option Files) (new : Files) → n ≤ new.to → start_of n (Some (noting least o new)) ≤ new.from
+  note_covers : (least n : ℕ) (o : Option GroupFiles) (new : GroupFiles) → n ≤ new.to → start_of n (Some (noting least o new)) ≤ new.from
   note_covers least n None new h = covers n new.from new.to h
     where
       covers : (n a b : ℕ) → n ≤ b → (if nat_le n b then min a n else n) ≤ a
@@ -292,7 +293,7 @@ module _ {E : Type 0} (at : Located → E) where
       alone : (n a b : ℕ) → n ≤ b → (if nat_le n b then min a n else n) ≤ a
       alone n a b h = grind (arith, nat_tests)
 
-  note_stays : (least n : ℕ) (o : Option Files) (new : Files) → (least ≤ n) ⊎ (n ≡ 0) → start_of n (Some (noting least o new)) ≤ start_of n o
+  note_stays : (least n : ℕ) (o : Option GroupFiles) (new : GroupFiles) → (least ≤ n) ⊎ (n ≡ 0) → start_of n (Some (noting least o new)) ≤ start_of n o
   note_stays least n None new h = start_below n (Some new)
   note_stays least n (Some old) new h =
       at_bool (nat_le least old.to)
@@ -315,7 +316,7 @@ module _ {E : Type 0} (at : Located → E) where
       (λ e _ b. inr refl) (λ x e same b. inl (h.1 k x same b)) refl a
 
   -- an atomic group: its files are noted once its copies moved
-  pub group_carries : (v : Shown) (xs : List Move) (least : ℕ) (files : Files) → IsOrderly v → CanAllMove at v xs → AreUpTo files.to xs
+  pub group_carries : (v : Shown) (xs : List Move) (least : ℕ) (files : GroupFiles) → IsOrderly v → CanAllMove at v xs → AreUpTo files.to xs
       → IsLeastInRewrite (all_moved v xs) least → RewrittenCarry (items_of at v xs) files.from v (with_note (all_moved v xs) least files)
   group_carries v xs least files o can all low s a = elim (moves_files v xs files.to o can all s a) [
     | inl old ↦ inl (old.0,
@@ -360,7 +361,7 @@ module _ {E : Type 0} (at : Located → E) where
 rise : (l n a b : ℕ) → l ≤ n → (if nat_le l b then min a l else l) ≤ (if nat_le n b then min a n else n)
 rise l n a b h = grind (arith, nat_tests)
 
-rises : (l n : ℕ) (o : Option Files) → l ≤ n → start_of l o ≤ start_of n o
+rises : (l n : ℕ) (o : Option GroupFiles) → l ≤ n → start_of l o ≤ start_of n o
 rises l n None h = h
 rises l n (Some files) h = rise l n files.from files.to h
 

@@ -1,8 +1,8 @@
 -- The places of a table with their queue, where runs cut, compactions drop and copies move.
-use Rattle.std.proofs.Common.{◌≡◌, ℕ, zero, suc, ◌+◌, ◌-◌, ◌≤◌, min, true, false, List, [], ◌∷◌, ◌++◌, map, length, take, drop, refl, sym, ap, ap₂, subst, ◌∙◌, arith}
-use Rattle.std.proofs.lemmas.List.{map-append, length-map, take-map, drop-map}
+use Rattle.std.proofs.Common.{◌≡◌, ℕ, zero, suc, ◌+◌, ◌-◌, ◌≤◌, min, true, false, List, [], ◌∷◌, ◌++◌, map, length, take, drop, refl, sym, ap, ◌∙◌, arith}
+use Rattle.std.proofs.lemmas.List.{map-append, length-map, take-map}
 use Rattle.raft_log_places.specs.declared.place.Place.{Place}
-use Rattle.raft_log_places.specs.Bridge.{Located, in_queue, located}
+use Rattle.raft_log_places.specs.Bridge.{in_queue, located}
 
 pub located_length : (n : ℕ) (ps : List Place) → length (located n ps) ≡ length ps
 located_length zero ps = length-map ps (in_queue true)

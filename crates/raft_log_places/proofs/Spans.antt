@@ -1,13 +1,11 @@
 -- The ends of a table's entries after each item.
-use Rattle.std.proofs.Common.{◌≡◌, ℕ, ◌+◌, ◌-◌, ◌<◌, ◌≤◌, ◌⊎◌, min, true, false, ◌&&◌, List, [], ◌∷◌, ◌++◌, length, take, drop, if◌then◌else◌, nat_lt, refl, sym, ap, ap₂, ◌∙◌, inl, inr, arith, length-append, length-take, length-drop}
+use Rattle.std.proofs.Common.{◌≡◌, ℕ, ◌+◌, ◌-◌, min, false, ◌&&◌, List, [], ◌∷◌, length, take, if◌then◌else◌, nat_lt, refl, ap, ap₂, ◌∙◌, arith, length-append, length-take, length-drop}
 use Rattle.std.proofs.lemmas.Bool.Decides.{nat_tests}
 use Rattle.raft_log_model.specs.Item.{Item}
 use Rattle.raft_log_model.specs.Item.Item.{Run, Clean, Compact, Put, Del}
 use Rattle.raft_log_model.specs.Holes.{Window, FitsOn, is_past}
-use Rattle.raft_log_machine.specs.Whereabouts.{top}
-use Rattle.raft_log_machine.specs.Machine.{Fits}
 use Rattle.raft_log_places.specs.declared.place.Place.{Place}
-use Rattle.raft_log_places.specs.Shown.{Shown, with_run, with_compact, stepped, all_stepped, span, IsOrderly, next_span, MayFollow, MayAllFollow}
+use Rattle.raft_log_places.specs.Shown.{Shown, with_run, stepped, span, IsOrderly, next_span, MayFollow}
 
 -- how many places there are after a run
 pub run_length : (v : Shown) (f : ℕ) (ps : List Place) → length (with_run v f ps).places ≡ min (f - v.first) (length v.places) + length ps

@@ -1,13 +1,14 @@
 -- The files in which the entries and values of a table lie, and from which on a queue has all of them.
-use Rattle.std.specs.Prelude.{◌≡◌, ℕ, ◌+◌, ◌-◌, ◌<◌, ◌≤◌, ◌⊎◌, min, max, Bool, false, List, [], ◌∷◌, Option, Some, None, if◌then◌else◌, nat_le, slice_get}
+use Rattle.std.specs.Prelude.{◌≡◌, ℕ, ◌+◌, ◌-◌, ◌<◌, ◌≤◌, ◌⊎◌, min, max, false, List, [], ◌∷◌, Option, Some, None, if◌then◌else◌, nat_le, slice_get}
 use Rattle.raft_log_model.specs.Item.{Item}
-use Rattle.raft_log_model.specs.Item.Item.{Run, Clean, Compact, Put, Del}
+use Rattle.raft_log_model.specs.Item.Item.{Run}
 use Rattle.raft_log_model.specs.Meaning.{Slot, says}
 use Rattle.raft_log_model.specs.Meaning.Slot.{Index, Key}
 use Rattle.raft_log_machine.specs.Survival.{IsSpoken}
 use Rattle.raft_log_directory.specs.Notes.{IsAppended, IsInRewrite}
 use Rattle.raft_log_places.specs.declared.place.Place.{Place}
-use Rattle.raft_log_places.specs.Shown.{KeyValue, Files, Shown, whereabouts}
+use Rattle.raft_log_places.specs.declared.group_files.GroupFiles.{GroupFiles}
+use Rattle.raft_log_places.specs.Shown.{KeyValue, Shown, whereabouts}
 use Rattle.raft_log_places.specs.Bridge.{Move}
 use Rattle.raft_log_places.specs.Bridge.Move.{MoveRun, MoveKey}
 
@@ -28,7 +29,7 @@ file_at v (Key k) = held_file (v.held k)
 
 -- the file from which on all is there that counts with what lies in this file: where an atomic group may
 -- reach to it, the first file of the group
-abbrev pub start_of : ℕ → Option Files → ℕ
+abbrev pub start_of : ℕ → Option GroupFiles → ℕ
 start_of n None = n
 start_of n (Some files) = if nat_le n files.to then min files.from n else n
 
@@ -44,13 +45,13 @@ IsLeastInRewrite v least =
 
 -- What is noted once a new atomic group ended, where nothing of Rewrite lies below this file: the new group's
 -- files, and while something lies at or below the last file noted before also those
-abbrev pub noting : ℕ → Option Files → Files → Files
+abbrev pub noting : ℕ → Option GroupFiles → GroupFiles → GroupFiles
 noting least None new = new
 noting least (Some old) new =
     if nat_le least old.to then record { from = min old.from new.from; to = max old.to new.to } else new
 
 -- what shows once the group is noted
-abbrev pub with_note : Shown → ℕ → Files → Shown
+abbrev pub with_note : Shown → ℕ → GroupFiles → Shown
 with_note v least new = record v { noted = Some (noting least v.noted new) }
 
 -- the places lie in that file

@@ -1,22 +1,18 @@
 -- What a table of one group shows: where each entry and each key stands, and what each item makes of it.
-use Rattle.std.specs.Prelude.{◌≡◌, ℕ, ◌+◌, ◌-◌, ◌≤◌, min, Bool, true, false, ◌&&◌, List, [], ◌∷◌, ◌++◌, length, take, drop, Option, Some, None, if◌then◌else◌, nat_lt, bytes_eq}
+use Rattle.std.specs.Prelude.{ℕ, ◌+◌, ◌-◌, ◌≤◌, min, Bool, true, false, ◌&&◌, List, [], ◌∷◌, ◌++◌, length, take, drop, Option, Some, None, if◌then◌else◌, nat_lt, bytes_eq}
 use Rattle.raft_log_model.specs.Item.{Item}
 use Rattle.raft_log_model.specs.Item.Item.{Run, Clean, Compact, Put, Del}
 use Rattle.raft_log_model.specs.Holes.{Window, FitsOn}
 use Rattle.raft_log_machine.specs.Whereabouts.{Whereabouts, top}
 use Rattle.raft_log_machine.specs.Machine.{Fits}
 use Rattle.raft_log_places.specs.declared.place.Place.{Place}
+use Rattle.raft_log_places.specs.declared.group_files.GroupFiles.{GroupFiles}
 
 -- the value of a key, whether it stands in Append, and the file there that has it
 pub record KeyValue : Type 0 where
   pub bytes : List ℕ
   pub appended : Bool
   pub file : ℕ
-
--- the files of an atomic group, from its first to its last
-pub record Files : Type 0 where
-  pub from : ℕ
-  pub to : ℕ
 
 -- The entries from `first` on lie at these places, so many of them from the front in Rewrite, the others in
 -- Append; each key has the value that is held for it. What came since marks were carried last: a Clean, a
@@ -29,7 +25,7 @@ pub record Shown : Type 0 where
   pub deleted : List ℕ → Bool
   pub cleaned : Bool
   pub compacted : Bool
-  pub noted : Option Files
+  pub noted : Option GroupFiles
 
 -- a group of which nothing is known
 abbrev pub nothing_shown : Shown

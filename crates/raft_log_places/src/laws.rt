@@ -7,8 +7,8 @@ ghost use Rattle.raft_log_model.specs.Table.{content};
 ghost use Rattle.raft_log_machine.specs.Whereabouts.{CarriesAll, GrowsBy};
 ghost use Rattle.raft_log_directory.specs.Notes.{IsInRewrite};
 ghost use Rattle.raft_log_places.specs.declared.place.Place.{Place};
+ghost use Rattle.raft_log_places.specs.declared.group_files.GroupFiles.{GroupFiles};
 ghost use Rattle.raft_log_places.specs.Shown.{
-  Files,
   Shown,
   IsOrderly,
   MayAllFollow,
@@ -104,7 +104,7 @@ pub fn copies_are_noted<E>()
         → AppendedShrink v (all_moved v xs) }
     ensures plain { (at : Located → E) (v : Shown) (xs : List Move) (n : ℕ) → IsOrderly v → CanAllMove at v xs
         → AreUpTo n xs → RewrittenCarry (items_of at v xs) n v (all_moved v xs) }
-    ensures group { (at : Located → E) (v : Shown) (xs : List Move) (least : ℕ) (files : Files) → IsOrderly v
+    ensures group { (at : Located → E) (v : Shown) (xs : List Move) (least : ℕ) (files : GroupFiles) → IsOrderly v
         → CanAllMove at v xs → AreUpTo files.to xs → IsLeastInRewrite (all_moved v xs) least
         → RewrittenCarry (items_of at v xs) files.from v (with_note (all_moved v xs) least files) }
 {}

@@ -2,7 +2,9 @@
 //! the steps of the machine.
 #![tactic(auto)]
 
+pub mod group_files;
 pub mod laws;
 pub mod place;
 
+pub use group_files::GroupFiles;
 pub use place::Place;

@@ -1,5 +1,5 @@
 -- Maps by keys of bytes, told by the bytes alone.
-use Rattle.std.proofs.Common.{◌≡◌, ℕ, Bool, true, false, List, [], ◌∷◌, map, Option, Some, None, is_some, if◌then◌else◌, bytes_eq, refl, sym, ap, ap₂, subst, ◌∙◌}
+use Rattle.std.proofs.Common.{◌≡◌, ℕ, Bool, true, false, List, [], ◌∷◌, map, Option, Some, None, option_map, is_some, if◌then◌else◌, bytes_eq, refl, sym, ap, ap₂, subst, ◌∙◌}
 use Rattle.std.specs.Map.{lookup, KeepsOthers, IsKeyTest, AreApart}
 use Rattle.std.specs.BTreeMap as tree
 use Rattle.std.specs.BTreeMap.{BTreeMap, is_at}
@@ -11,8 +11,10 @@ use Rattle.std.proofs.lemmas.Slice.Eq.{bytes_eq-Decides}
 use Rattle.std.proofs.Math.Path.{fun_ext}
 use Rattle.raft_log_model.proofs.Cases.{at_bool, if_true, if_false}
 use Rattle.raft_log_places.specs.Shown.{KeyValue}
+use Rattle.raft_log_places.specs.Bridge.{rewritten_value}
 use Rattle.raft_log_tables.specs.declared.key_map.KeySlot.{KeySlot}
-use Rattle.raft_log_tables.specs.Keys.{Keys, held_in, deleted_in, slot_at, keys_of}
+use Rattle.raft_log_tables.specs.declared.key_map.HeldValue.{HeldValue}
+use Rattle.raft_log_tables.specs.Keys.{Keys, held_in, deleted_in, emptied, rewritten_held, shown_value, slot_at, keys_of, unmarked_keys, with_mark, with_room, with_value}
 
 -- a key whose bytes are others is not found where these are
 apart : (bs cs ks : List ℕ) → bytes_eq bs cs ≡ false → is_eq (slice_cmp nat_cmp bs ks) ≡ true → is_eq (slice_cmp nat_cmp cs ks) ≡ false
@@ -107,3 +109,141 @@ module _ (bs : List ℕ) (w : KeySlot) (old new : List (List ℕ × KeySlot)) (h
 pub room_there : (slots : List (List ℕ × KeySlot)) (bs : List ℕ) → is_some (slot_at slots bs) ≡ true
     → keys_of slots ≡ record (keys_of slots) { has = λ cs. if bytes_eq bs cs then true else (keys_of slots).has cs }
 room_there slots bs here = ap (λ has. record (keys_of slots) { has = has }) (sym (as_before bs true (keys_of slots).has (sym here)))
+
+module _ {K : Type 0} (items : K → List ℕ) (bs : List ℕ) (m n : BTreeMap K KeySlot) (now : List (List ℕ × KeySlot)) (is : by_bytes items m.entries ≡ now) where
+  slot_there : (o : Option KeySlot) → tree.get_by (λ k. slice_cmp nat_cmp bs (items k)) m ≡ o → slot_at (by_bytes items m.entries) bs ≡ o
+  slot_there o h = found items bs m.entries ∙ h
+
+  -- the value of a slot was written
+  pub put_keys : (was w : KeySlot) (v : Option HeldValue)
+      → tree.UpdatesBy (λ x y. slice_cmp nat_cmp (items x) (items y)) (λ k. slice_cmp nat_cmp bs (items k)) m n (Some w)
+      → tree.get_by (λ k. slice_cmp nat_cmp bs (items k)) m ≡ Some was → w ≡ record was { held = v }
+      → keys_of (by_bytes items n.entries) ≡ with_value (keys_of now) bs (shown_value v)
+  put_keys was w v h here same =
+      value_written bs w (by_bytes items m.entries) (by_bytes items n.entries) (updated items bs m n (Some w) h) was (slot_there (Some was) here) (ap (λ s. s.deleted) same)
+      ∙ ap (λ s. with_value (keys_of (by_bytes items m.entries)) bs (held_in (Some s))) same ∙ ap (λ l. with_value (keys_of l) bs (shown_value v)) is
+
+  -- a value moved to Rewrite
+  pub rewrite_keys : (was w : KeySlot) (file : ℕ)
+      → tree.UpdatesBy (λ x y. slice_cmp nat_cmp (items x) (items y)) (λ k. slice_cmp nat_cmp bs (items k)) m n (Some w)
+      → tree.get_by (λ k. slice_cmp nat_cmp bs (items k)) m ≡ Some was → w ≡ record was { held = option_map (rewritten_held file) was.held }
+      → keys_of (by_bytes items n.entries) ≡ with_value (keys_of now) bs (rewritten_value file ((keys_of now).values bs))
+  rewrite_keys was w file h here same =
+      put_keys was w (option_map (rewritten_held file) was.held) h here same
+      ∙ ap (with_value (keys_of now) bs) (moved was.held ∙ ap (rewritten_value file) (sym (ap held_in (sym (ap (λ l. slot_at l bs) is) ∙ slot_there (Some was) here))))
+    where
+      moved : (o : Option HeldValue) → shown_value (option_map (rewritten_held file) o) ≡ rewritten_value file (shown_value o)
+      moved None = refl
+      moved (Some x) = refl
+
+  -- a key without a slot has no value that could move
+  pub nothing_moves : (file : ℕ) → tree.get_by (λ k. slice_cmp nat_cmp bs (items k)) m ≡ None
+      → keys_of now ≡ with_value (keys_of now) bs (rewritten_value file ((keys_of now).values bs))
+  nothing_moves file none =
+      let no_value : (keys_of now).values bs ≡ None = ap held_in (sym (ap (λ l. slot_at l bs) is) ∙ slot_there None none) in
+      ap (λ v. record (keys_of now) { values = v }) (sym (as_before bs (rewritten_value file ((keys_of now).values bs)) (keys_of now).values
+      (ap (rewritten_value file) no_value ∙ sym no_value)))
+
+  -- the slot lost its value and was marked
+  pub delete_keys : (was w : KeySlot)
+      → tree.UpdatesBy (λ x y. slice_cmp nat_cmp (items x) (items y)) (λ k. slice_cmp nat_cmp bs (items k)) m n (Some w)
+      → tree.get_by (λ k. slice_cmp nat_cmp bs (items k)) m ≡ Some was → w ≡ record { held = None; deleted = true }
+      → keys_of (by_bytes items n.entries) ≡ with_mark (keys_of now) bs
+  delete_keys was w h here same =
+      written bs w (by_bytes items m.entries) (by_bytes items n.entries) (updated items bs m n (Some w) h) was (slot_there (Some was) here)
+      ∙ ap (λ s. record (keys_of (by_bytes items m.entries)) {
+        values = λ cs. if bytes_eq bs cs then held_in (Some s) else (keys_of (by_bytes items m.entries)).values cs;
+        deleted = λ cs. if bytes_eq bs cs then s.deleted else (keys_of (by_bytes items m.entries)).deleted cs;
+      }) same
+      ∙ ap (λ l. with_mark (keys_of l) bs) is
+
+  -- a vacant slot came
+  pub room_keys : (w : KeySlot) → tree.UpdatesBy (λ x y. slice_cmp nat_cmp (items x) (items y)) (λ k. slice_cmp nat_cmp bs (items k)) m n (Some w)
+      → is_some (tree.get_by (λ k. slice_cmp nat_cmp bs (items k)) m) ≡ false → w ≡ record { held = None; deleted = false }
+      → keys_of (by_bytes items n.entries) ≡ with_room (keys_of now) bs
+  room_keys w h none vacant =
+      room_made bs w (by_bytes items m.entries) (by_bytes items n.entries) (updated items bs m n (Some w) h)
+      (slot_there None (no_some (tree.get_by (λ k. slice_cmp nat_cmp bs (items k)) m) none)) vacant
+      ∙ ap (λ l. with_room (keys_of l) bs) is
+    where
+      no_some : (o : Option KeySlot) → is_some o ≡ false → o ≡ None
+      no_some None e = refl
+      no_some (Some s) e = cc
+
+  -- the key has its room already
+  pub room_kept : is_some (tree.get_by (λ k. slice_cmp nat_cmp bs (items k)) m) ≡ true → keys_of now ≡ with_room (keys_of now) bs
+  room_kept h = room_there now bs (sym (ap (λ l. is_some (slot_at l bs)) is) ∙ ap is_some (found items bs m.entries) ∙ h)
+
+  -- a key with room has a slot
+  pub has_slot : {P : Type 0} → is_some (slot_at now bs) ≡ true → tree.get_by (λ k. slice_cmp nat_cmp bs (items k)) m ≡ None → P
+  has_slot has none =
+      absurd (let clash : false ≡ true = sym (ap is_some (slot_there None none)) ∙ ap (λ l. is_some (slot_at l bs)) is ∙ has in let never : ⊥ = cc in never)
+
+-- What is known of keys after each slot changed in the same way.
+module _ {K : Type 0} (items : K → List ℕ) (g : KeySlot → KeySlot) where
+  each_slot : (cs : List ℕ) (es : List (K × KeySlot)) → slot_at (by_bytes items (map (λ e. (e.0, g e.1)) es)) cs ≡ option_map g (slot_at (by_bytes items es) cs)
+  each_slot cs [] = refl
+  each_slot cs (e ∷ es) = ap (λ o. if bytes_eq cs (items e.0) then Some (g e.1) else o) (each_slot cs es) ∙ if_map (bytes_eq cs (items e.0)) e.1 (slot_at (by_bytes items es) cs)
+    where
+      if_map : (b : Bool) (s : KeySlot) (o : Option KeySlot) → (if b then Some (g s) else option_map g o) ≡ option_map g (if b then Some s else o)
+      if_map true s o = refl
+      if_map false s o = refl
+
+  pub each_key : (es : List (K × KeySlot))
+      → keys_of (by_bytes items (map (λ e. (e.0, g e.1)) es))
+      ≡ record {
+        values = λ k. held_in (option_map g (slot_at (by_bytes items es) k));
+        deleted = λ k. deleted_in (option_map g (slot_at (by_bytes items es) k));
+        has = λ k. is_some (option_map g (slot_at (by_bytes items es) k));
+      }
+  each_key es = ap (λ (at : List ℕ → Option KeySlot). record { values = λ k. held_in (at k); deleted = λ k. deleted_in (at k); has = λ k. is_some (at k) }) (fun_ext (λ cs. each_slot cs es))
+
+has_mapped : (g : KeySlot → KeySlot) (o : Option KeySlot) → is_some (option_map g o) ≡ is_some o
+has_mapped g None = refl
+has_mapped g (Some s) = refl
+
+-- the slot without its value, and without its mark
+abbrev pub emptied_slot : KeySlot → KeySlot
+emptied_slot s = record s { held = None }
+
+abbrev pub unmarked_slot : KeySlot → KeySlot
+unmarked_slot s = record s { deleted = false }
+
+pub empty_keys : {K : Type 0} (items : K → List ℕ) (es new : List (K × KeySlot)) (now : List (List ℕ × KeySlot)) → by_bytes items es ≡ now
+    → new ≡ map (λ e. (e.0, emptied_slot e.1)) es → keys_of (by_bytes items new) ≡ emptied (keys_of now)
+empty_keys items es new now is h =
+    ap (λ l. keys_of (by_bytes items l)) h ∙ each_key items emptied_slot es
+    ∙ ap₂ (λ v d. record { values = v; deleted = d; has = λ k. is_some (option_map emptied_slot (slot_at (by_bytes items es) k)) })
+    (fun_ext (λ k. none (slot_at (by_bytes items es) k))) (fun_ext (λ k. same (slot_at (by_bytes items es) k)))
+    ∙ ap (λ z. record (keys_of (by_bytes items es)) { values = λ k. None; has = z }) (fun_ext (λ k. has_mapped emptied_slot (slot_at (by_bytes items es) k)))
+    ∙ ap (λ l. emptied (keys_of l)) is
+  where
+    none : (o : Option KeySlot) → held_in (option_map emptied_slot o) ≡ None
+    none None = refl
+    none (Some s) = refl
+
+    same : (o : Option KeySlot) → deleted_in (option_map emptied_slot o) ≡ deleted_in o
+    same None = refl
+    same (Some s) = refl
+
+pub unmark_keys : {K : Type 0} (items : K → List ℕ) (es new : List (K × KeySlot)) (now : List (List ℕ × KeySlot)) → by_bytes items es ≡ now
+    → new ≡ map (λ e. (e.0, unmarked_slot e.1)) es → keys_of (by_bytes items new) ≡ unmarked_keys (keys_of now)
+unmark_keys items es new now is h =
+    ap (λ l. keys_of (by_bytes items l)) h ∙ each_key items unmarked_slot es
+    ∙ ap₂ (λ v d. record { values = v; deleted = d; has = λ k. is_some (option_map unmarked_slot (slot_at (by_bytes items es) k)) })
+    (fun_ext (λ k. same (slot_at (by_bytes items es) k))) (fun_ext (λ k. none (slot_at (by_bytes items es) k)))
+    ∙ ap (λ z. record (keys_of (by_bytes items es)) { deleted = λ k. false; has = z }) (fun_ext (λ k. has_mapped unmarked_slot (slot_at (by_bytes items es) k)))
+    ∙ ap (λ l. unmarked_keys (keys_of l)) is
+  where
+    none : (o : Option KeySlot) → deleted_in (option_map unmarked_slot o) ≡ false
+    none None = refl
+    none (Some s) = refl
+
+    same : (o : Option KeySlot) → held_in (option_map unmarked_slot o) ≡ held_in o
+    same None = refl
+    same (Some s) = refl
+
+-- the slots are the values of the map
+pub same_slots : {K : Type 0} (items : K → List ℕ) (es : List (K × KeySlot)) → map (λ e. e.1) (by_bytes items es) ≡ map (λ e. e.1) es
+same_slots items [] = refl
+same_slots items (e ∷ es) = ap (λ l. e.1 ∷ l) (same_slots items es)

@@ -1,1 +1,4 @@
 pub mod ByteKeys
+pub mod Replacing
+pub mod Ready
+pub mod Leasts

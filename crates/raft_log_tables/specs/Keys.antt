@@ -24,6 +24,10 @@ abbrev pub shown_value : Option HeldValue → Option KeyValue
 shown_value None = None
 shown_value (Some h) = Some (value_of h)
 
+-- the value in that file of Rewrite
+abbrev pub rewritten_held : ℕ → HeldValue → HeldValue
+rewritten_held file h = record { bytes = h.bytes; appended = false; file = file }
+
 -- the value of a key whose slot this is
 abbrev pub held_in : Option KeySlot → Option KeyValue
 held_in None = None

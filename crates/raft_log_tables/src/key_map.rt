@@ -1,9 +1,10 @@
 //! The keys of a group, in their order, and room for keys that are to come.
-ghost use Rattle.std.specs.Prelude.{◌≡◌, ℕ, List, map, Some, None, IsTrue, OnOk, OnErr};
+ghost use Rattle.std.specs.Prelude.{◌≡◌, Some, None, true, false, option_copied, option_map, IsTrue, OnOk, OnErr};
 ghost use Rattle.raft_log_tables.specs.Keys.{
   emptied,
   keys_of,
   no_keys,
+  rewritten_held,
   shown_value,
   unmarked_keys,
   value_of,
@@ -11,6 +12,7 @@ ghost use Rattle.raft_log_tables.specs.Keys.{
   with_room,
   with_value,
 };
+ghost use Rattle.raft_log_tables.specs.Files.{file_of_value, least_value, lesser};
 ghost use Rattle.raft_log_places.specs.Bridge.{rewritten_value};
 
 use raft_log_base::FileSeq;
@@ -47,9 +49,35 @@ impl KeySlot {
         self.held = held;
     }
 
+    /// The file of the value, if there is one and it stands in Append, or in Rewrite.
+    fn file(&self, appended: bool) -> Option<FileSeq>
+        ensures { result ≡ file_of_value appended self.now.held }
+    {
+        let held = self.held.as_ref()?;
+        let there = if appended { held.appended } else { !held.appended };
+        if there { Some(held.file) } else { None }
+    }
+
+    /// The value, if there is one, stands in this file of Rewrite.
+    fn rewrite(&mut self, file: FileSeq)
+        ensures { self.new ≡ record self.old { held = option_map (rewritten_held file) self.old.held } }
+    {
+        if let Some(held) = &mut self.held {
+            held.appended = false;
+            held.file = file;
+        }
+    }
+
+    /// The key isn't marked any more.
+    fn unmark(&mut self)
+        ensures { self.new ≡ record self.old { deleted = false } }
+    {
+        self.deleted = false;
+    }
+
     /// The key has no value, and is marked.
     fn delete(&mut self)
-        ensures { self.new ≡ record { held = None; deleted = Rattle.std.specs.Prelude.true } }
+        ensures { self.new ≡ record { held = None; deleted = true } }
     {
         self.held = None;
         self.deleted = true;
@@ -65,6 +93,7 @@ pub struct KeyMap {
 }
 
 impl Model for KeyMap {
+    ghost use Rattle.std.specs.Prelude.{List, ℕ, map};
     ghost use Rattle.raft_log_tables.specs.declared.key_map.KeySlot.{KeySlot};
 
     ghost Value = { List (List ℕ × KeySlot) };
@@ -85,7 +114,7 @@ impl KeyMap {
 
     /// The value of a key, if it has one.
     pub fn get(&self, key: &[u8]) -> Option<&HeldValue>
-        ensures { shown_value (Rattle.std.specs.Prelude.option_copied result) ≡ (keys_of self.now).values key.now }
+        ensures { shown_value (option_copied result) ≡ (keys_of self.now).values key.now }
     {
         match self.slots.get(key) {
             Some(slot) => slot.held.as_ref(),
@@ -127,5 +156,56 @@ impl KeyMap {
         if let Some(slot) = self.slots.get_mut(key) {
             slot.delete();
         }
+    }
+
+    /// No key has a value any more. Marks and room stay.
+    pub fn empty(&mut self)
+        ensures { keys_of self.new ≡ emptied (keys_of self.old) }
+    {
+        self.slots.retain(|_, slot| {
+            slot.hold(None);
+            true
+        });
+    }
+
+    /// No key is marked any more.
+    pub fn clear_marks(&mut self)
+        ensures { keys_of self.new ≡ unmarked_keys (keys_of self.old) }
+    {
+        self.slots.retain(|_, slot| {
+            slot.unmark();
+            true
+        });
+    }
+
+    /// The least file of the values in Append, or of those in Rewrite.
+    pub fn least_file(&self, appended: bool) -> Option<FileSeq>
+        ensures { result ≡ least_value appended self.now }
+    {
+        let mut least = None;
+        for slot in self.slots.values() {
+            least = lesser(least, slot.file(appended));
+        }
+        least
+    }
+
+    /// The value of a key, if it has one, stands in this file of Rewrite from now on.
+    pub fn rewrite(&mut self, key: &[u8], file: FileSeq)
+        ensures { keys_of self.new ≡ with_value (keys_of self.old) key.now (rewritten_value file ((keys_of self.old).values key.now)) }
+    {
+        if let Some(slot) = self.slots.get_mut(key) {
+            slot.rewrite(file);
+        }
+    }
+}
+
+/// The lesser of two files, where there are any.
+pub(crate) fn lesser(a: Option<FileSeq>, b: Option<FileSeq>) -> Option<FileSeq>
+    ensures { result ≡ lesser a b }
+{
+    match (a, b) {
+        (Some(a), Some(b)) => Some(a.min(b)),
+        (None, b) => b,
+        (a, None) => a,
     }
 }

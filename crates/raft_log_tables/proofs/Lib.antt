@@ -2,3 +2,4 @@ pub mod ByteKeys
 pub mod Replacing
 pub mod Ready
 pub mod Leasts
+pub mod Rewriting

@@ -20,7 +20,7 @@ ghost use Rattle.raft_log_places.specs.Bridge.{moved_key, unmarked};
 ghost use Rattle.raft_log_places.specs.Noted.{start_of};
 ghost use Rattle.raft_log_tables.specs.Entries.{run_of};
 ghost use Rattle.raft_log_tables.specs.Files.{min_file};
-ghost use Rattle.raft_log_tables.specs.Moves.{moved_by, owed_compact, StandsIn};
+ghost use Rattle.raft_log_tables.specs.Moves.{moved_by, owed_compact, rewritten_by, StandsIn};
 ghost use Rattle.raft_log_tables.specs.Keys.{shown_value};
 ghost use Rattle.raft_log_tables.specs.Reads.{entry_at, first_of, last_of};
 ghost use Rattle.raft_log_tables.specs.Room.{CanTake, kept, no_promise, promised};
@@ -323,6 +323,34 @@ impl MemTable {
         let position = (front.index - self.first) as usize;
         self.places.replace(position, entries);
         self.rewritten = position + entries.len();
+    }
+
+    /// Entries were written to Rewrite: those that are still there lie where they were written, up to the first that
+    /// is appended and, if there is a gate, in a file past it. Answers how many.
+    pub fn rewrite(&mut self, entries: &[EntryIndex], gate: Option<FileSeq>) -> usize
+        requires { IsRun entries.now }
+        ensures shows { shown self.new ≡ rewritten_by gate (shown self.old) (run_of entries.now) }
+        ensures room { promise self.new ≡ promise self.old }
+    {
+        let Some(front) = entries.first() else {
+            return 0;
+        };
+        let position = front.index.saturating_sub(self.first) as usize;
+        if position > self.rewritten {
+            return 0;
+        }
+        let gone = (self.first.saturating_sub(front.index) as usize).min(entries.len());
+        let (_, kept) = entries.split_at(gone);
+        let there = kept.len().min(self.rewritten - position);
+        let more = match gate {
+            Some(gate) => self.places.count_up_to(self.rewritten, kept.len() - there, gate),
+            None => 0,
+        };
+        let count = there + more;
+        let (moved, _) = kept.split_at(count);
+        self.places.replace(position, moved);
+        self.rewritten = self.rewritten.max(position + count);
+        count
     }
 
     /// No mark is owed any more: all of them were written to Rewrite, and synced.

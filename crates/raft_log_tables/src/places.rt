@@ -1,8 +1,9 @@
 //! The places of a group's entries, and room for more.
 ghost use Rattle.std.specs.Prelude.{◌≡◌, ◌+◌, ◌-◌, ◌≤◌, ◌++◌, [], length, map, take, drop, slice_get, OnOk, OnErr};
 ghost use Rattle.raft_log_tables.specs.Entries.{place_of, entry_of};
+ghost use Rattle.raft_log_tables.specs.Moves.{passing};
 
-use raft_log_base::{FileBlockHandle, FileId, LogQueue};
+use raft_log_base::{FileBlockHandle, FileId, FileSeq, LogQueue};
 use raft_log_items::{CompressionType, EntryIndex};
 use raft_log_places::Place;
 use std::alloc::{AllocError, Global};
@@ -145,5 +146,21 @@ impl Places {
         for (i, entry) in entries.iter().enumerate() {
             self.places[position + i] = place_of(entry);
         }
+    }
+
+    /// How many places from this position on, at most so many, lie in files up to the gate, up to the first that
+    /// doesn't.
+    pub fn count_up_to(&self, position: usize, limit: usize, gate: FileSeq) -> usize
+        requires { position ≤ length self.now.items }
+        ensures count { result ≡ passing gate (take limit (drop position self.now.items)) }
+        ensures within { (result ≤ limit) × (position + result ≤ length self.now.items) }
+    {
+        let limit = limit.min(self.places.len() - position);
+        for i in 0..limit {
+            if self.places[position + i].file > gate {
+                return i;
+            }
+        }
+        limit
     }
 }

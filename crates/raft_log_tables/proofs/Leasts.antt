@@ -1,14 +1,16 @@
 -- The least file that a table answers is at or below everything that stands in the queue.
-use Rattle.std.proofs.Common.{◌≡◌, ℕ, zero, suc, ◌+◌, ◌<◌, ◌≤◌, ◌⊎◌, min, Bool, true, false, not, List, [], ◌∷◌, map, length, Option, Some, None, option_map, slice_get, if◌then◌else◌, nat_lt, bytes_eq, refl, sym, ap, subst, ◌∙◌, inl, inr, arith, le_refl}
+use Rattle.std.proofs.Common.{◌≡◌, ℕ, zero, suc, ◌+◌, ◌<◌, ◌≤◌, ◌⊎◌, min, Bool, true, false, not, List, [], ◌∷◌, map, length, Option, Some, None, option_map, slice_get, if◌then◌else◌, nat_le, nat_lt, bytes_eq, refl, sym, ap, subst, ◌∙◌, inl, inr, arith, le_refl}
 use Rattle.raft_log_base.specs.declared.pipe_log.LogQueue.TheVariants.{Append, Rewrite}
 use Rattle.raft_log_model.specs.Meaning.Slot.{Index}
-use Rattle.raft_log_model.proofs.Cases.{at_bool, at_option, if_true, lt_true}
+use Rattle.raft_log_model.proofs.Cases.{at_bool, at_option, if_false, if_true, le_false, lt_true}
 use Rattle.raft_log_machine.proofs.TruthRaises.{no_word}
+use Rattle.std.proofs.lemmas.Bool.{cases_lt}
+use Rattle.raft_log_places.specs.declared.group_files.GroupFiles.{GroupFiles}
 use Rattle.raft_log_places.specs.Shown.{KeyValue}
-use Rattle.raft_log_places.specs.Noted.{file_at, place_file, start_of, IsLeastInRewrite}
+use Rattle.raft_log_places.specs.Noted.{file_at, noting, place_file, start_of, IsLeastInRewrite}
 use Rattle.raft_log_tables.specs.declared.key_map.HeldValue.{HeldValue}
 use Rattle.raft_log_tables.specs.declared.key_map.KeySlot.{KeySlot}
-use Rattle.raft_log_tables.specs.Files.{lesser, file_of_value, least_over, least_value, first_place, min_file, FrontIsLeast, IsLeastInAppend}
+use Rattle.raft_log_tables.specs.Files.{lesser, file_of_value, least_over, least_rewritten, least_value, first_place, min_file, noted_after, FrontIsLeast, IsLeastInAppend}
 use Rattle.raft_log_tables.specs.Keys.{held_in, slot_at, value_of}
 use Rattle.raft_log_tables.specs.Table.{Raw, shown}
 
@@ -101,9 +103,9 @@ least_in_append t n front e = (
 )
 
 -- of Rewrite, before the groups are counted
-least_rewritten : (t : Raw) (n : ℕ) → t.rewritten ≤ length t.places.items → FrontIsLeast (shown t) → lesser (first_place Rewrite t) (least_value false t.keys) ≡ Some n
+least_in : (t : Raw) (n : ℕ) → t.rewritten ≤ length t.places.items → FrontIsLeast (shown t) → lesser (first_place Rewrite t) (least_value false t.keys) ≡ Some n
     → IsLeastInRewrite (shown t) n
-least_rewritten t n parts front e = (
+least_in t n parts front e = (
   λ i from to.
       let there = place_there t.places.items 0 (omega (arith, from, to, parts)) in
       let first : first_place Rewrite t ≡ Some there.0.file =
@@ -123,11 +125,47 @@ least_in_rewrite t n parts front e =
     (λ o. lesser (first_place Rewrite t) (least_value false t.keys) ≡ o → option_map (λ n. start_of n t.noted) o ≡ Some n
     → (least : ℕ) × IsLeastInRewrite (shown t) least × (n ≡ start_of least t.noted))
     (λ _ is h. no_word n h)
-    (λ m _ is h. (m, least_rewritten t m parts front is, sym (same_number (start_of m t.noted) n h))) refl e
+    (λ m _ is h. (m, least_in t m parts front is, sym (same_number (start_of m t.noted) n h))) refl e
 
-pub nothing_in_rewrite : (t : Raw) → min_file Rewrite t ≡ None → (k : List ℕ) (h : KeyValue) → (shown t).held k ≡ Some h → h.appended ≡ false → ⊥
-nothing_in_rewrite t e k h held appended =
+-- where it answers none, no entry and no value stands there
+no_entries : (t : Raw) → t.rewritten ≤ length t.places.items → lesser (first_place Rewrite t) (least_value false t.keys) ≡ None → t.rewritten ≡ 0
+no_entries t parts e = elim (cases_lt 0 t.rewritten) [
+  | inr none ↦ omega arith
+  | inl some ↦ (
+    let there = place_there t.places.items 0 (omega (arith, parts, some)) in
+    let first : first_place Rewrite t ≡ Some there.0.file =
+        if_true (nat_lt 0 t.rewritten) (option_map (λ p. p.file) (slice_get t.places.items 0)) None (lt_true 0 t.rewritten some) ∙ ap (option_map (λ p. p.file)) there.1 in
+    let one = lesser_left there.0.file (least_value false t.keys) in
+    no_word one.0 (sym e ∙ ap (λ o. lesser o (least_value false t.keys)) first ∙ one.1))
+]
+
+no_values : (t : Raw) → lesser (first_place Rewrite t) (least_value false t.keys) ≡ None → (k : List ℕ) (h : KeyValue) → (shown t).held k ≡ Some h → h.appended ≡ false → ⊥
+no_values t e k h held appended =
     let bound = value_bound false t k h held appended in
     let one = lesser_right (first_place Rewrite t) bound.0 in
-    no_word (start_of one.0 t.noted)
-    (sym e ∙ ap (option_map (λ n. start_of n t.noted)) (ap (lesser (first_place Rewrite t)) bound.1 ∙ one.1))
+    no_word one.0 (sym e ∙ ap (lesser (first_place Rewrite t)) bound.1 ∙ one.1)
+
+none_least : (t : Raw) → min_file Rewrite t ≡ None → lesser (first_place Rewrite t) (least_value false t.keys) ≡ None
+none_least t e = at_option (lesser (first_place Rewrite t) (least_value false t.keys)) (λ o. option_map (λ n. start_of n t.noted) o ≡ None → o ≡ None) (λ _ h. refl)
+    (λ n _ h. no_word (start_of n t.noted) (sym h)) e
+
+pub nothing_in_rewrite : (t : Raw) → t.rewritten ≤ length t.places.items → min_file Rewrite t ≡ None
+    → (t.rewritten ≡ 0) × ((k : List ℕ) (h : KeyValue) → (shown t).held k ≡ Some h → h.appended ≡ false → ⊥)
+nothing_in_rewrite t parts e = (no_entries t parts (none_least t e), no_values t (none_least t e))
+
+-- so what is noted of a new group is by the least file
+pub noted_by_least : (t : Raw) (new : GroupFiles) → t.rewritten ≤ length t.places.items → FrontIsLeast (shown t)
+    → (least : ℕ) × IsLeastInRewrite (shown t) least × (noted_after (least_rewritten t) t.noted new ≡ noting least t.noted new)
+noted_by_least t new parts front =
+    at_option (least_rewritten t)
+    (λ o. least_rewritten t ≡ o → (least : ℕ) × IsLeastInRewrite (shown t) least × (noted_after o t.noted new ≡ noting least t.noted new))
+    (λ _ is. past t.noted (λ i from to. absurd (let none = no_entries t parts is in omega (arith, from, to, none))) (λ k h held appended. absurd (no_values t is k h held appended)))
+    (λ least _ is. (least, least_in t least parts front is, refl)) refl
+  where
+    past : (old : Option GroupFiles) → ((i : ℕ) → t.first ≤ i → i < t.first + t.rewritten → (n : ℕ) → n ≤ file_at (shown t) (Index i))
+        → ((k : List ℕ) (h : KeyValue) → (shown t).held k ≡ Some h → h.appended ≡ false → (n : ℕ) → n ≤ h.file)
+        → (least : ℕ) × IsLeastInRewrite (shown t) least × (new ≡ noting least old new)
+    past None entries values = (0, (λ i from to. entries i from to 0, λ k h held appended. values k h held appended 0), refl)
+    past (Some old) entries values =
+        (old.to + 1, (λ i from to. entries i from to (old.to + 1), λ k h held appended. values k h held appended (old.to + 1)),
+        sym (if_false (nat_le (old.to + 1) old.to) _ new (le_false (old.to + 1) old.to (omega arith))))

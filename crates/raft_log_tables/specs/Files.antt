@@ -6,7 +6,7 @@ use Rattle.raft_log_places.specs.declared.place.Place.{Place}
 use Rattle.raft_log_places.specs.declared.group_files.GroupFiles.{GroupFiles}
 use Rattle.raft_log_model.specs.Meaning.Slot.{Index}
 use Rattle.raft_log_places.specs.Shown.{KeyValue, Shown}
-use Rattle.raft_log_places.specs.Noted.{file_at, place_file, start_of}
+use Rattle.raft_log_places.specs.Noted.{file_at, noting, place_file, start_of}
 use Rattle.raft_log_tables.specs.declared.key_map.HeldValue.{HeldValue}
 use Rattle.raft_log_tables.specs.declared.key_map.KeySlot.{KeySlot}
 use Rattle.raft_log_tables.specs.Table.{Raw}
@@ -36,11 +36,19 @@ abbrev pub first_place : LogQueue → Raw → Option ℕ
 first_place Append t = option_map (λ p. p.file) (slice_get t.places.items t.rewritten)
 first_place Rewrite t = if nat_lt 0 t.rewritten then option_map (λ p. p.file) (slice_get t.places.items 0) else None
 
--- the least file of a queue in use, where the files don't fall along the entries: of Rewrite, where noted groups
--- may reach to it, the first of theirs
+-- the least file of Rewrite that has something, where the files don't fall along the entries
+abbrev pub least_rewritten : Raw → Option ℕ
+least_rewritten t = lesser (first_place Rewrite t) (least_value false t.keys)
+
+-- the least file of a queue in use: of Rewrite, where noted groups may reach to it, the first of theirs
 abbrev pub min_file : LogQueue → Raw → Option ℕ
 min_file Append t = lesser (first_place Append t) (least_value true t.keys)
-min_file Rewrite t = option_map (λ n. start_of n t.noted) (lesser (first_place Rewrite t) (least_value false t.keys))
+min_file Rewrite t = option_map (λ n. start_of n t.noted) (least_rewritten t)
+
+-- what is noted once a new group ended, where this is the least file of Rewrite that has something
+abbrev pub noted_after : Option ℕ → Option GroupFiles → GroupFiles → GroupFiles
+noted_after None old new = new
+noted_after (Some least) old new = noting least old new
 
 -- no entry of a queue lies in an earlier file than the first one there: so it is where files don't fall along
 -- the entries

@@ -5,9 +5,10 @@ ghost use Rattle.raft_log_base.specs.declared.pipe_log.LogQueue.TheVariants.{App
 ghost use Rattle.raft_log_model.specs.Item.{Item};
 ghost use Rattle.raft_log_model.specs.Renamed.{renamed};
 ghost use Rattle.raft_log_places.specs.declared.place.Place.{Place};
-ghost use Rattle.raft_log_places.specs.Noted.{start_of, IsLeastInRewrite};
+ghost use Rattle.raft_log_places.specs.declared.group_files.GroupFiles.{GroupFiles};
+ghost use Rattle.raft_log_places.specs.Noted.{noting, start_of, IsLeastInRewrite};
 ghost use Rattle.raft_log_places.specs.Shown.{span, stepped, IsOrderly, KeyValue, MayFollow, Shown};
-ghost use Rattle.raft_log_tables.specs.Files.{min_file, FrontIsLeast, IsLeastInAppend};
+ghost use Rattle.raft_log_tables.specs.Files.{least_rewritten, min_file, noted_after, FrontIsLeast, IsLeastInAppend};
 ghost use Rattle.raft_log_tables.specs.Room.{kept, promised, CanTake, IsReady, Promise};
 ghost use Rattle.raft_log_tables.specs.Table.{shown, Raw};
 
@@ -40,6 +41,11 @@ pub fn least_file_in_use()
     ensures rewrite { (t : Raw) (n : ℕ) → IsOrderly (shown t) → FrontIsLeast (shown t)
         → min_file Rewrite t ≡ Some n
         → (least : ℕ) × IsLeastInRewrite (shown t) least × (n ≡ start_of least t.noted) }
-    ensures nothing { (t : Raw) → min_file Rewrite t ≡ None
-        → (k : List ℕ) (h : KeyValue) → (shown t).held k ≡ Some h → h.appended ≡ false → ⊥ }
+    ensures nothing { (t : Raw) → IsOrderly (shown t) → min_file Rewrite t ≡ None
+        → ((shown t).rewritten ≡ 0)
+        × ((k : List ℕ) (h : KeyValue) → (shown t).held k ≡ Some h → h.appended ≡ false → ⊥) }
+    // what is noted of an atomic group that ended is by that least file
+    ensures noted { (t : Raw) (new : GroupFiles) → IsOrderly (shown t) → FrontIsLeast (shown t)
+        → (least : ℕ) × IsLeastInRewrite (shown t) least
+        × (noted_after (least_rewritten t) t.noted new ≡ noting least t.noted new) }
 {}

@@ -1,5 +1,5 @@
 //! The table of one group: where its entries and keys stand.
-ghost use Rattle.std.specs.Prelude.{◌≡◌, ◌+◌, ◌-◌, ◌≤◌, ◌<◌, ℕ, List, length, min, option_copied, true, OnOk, OnErr, IfErr};
+ghost use Rattle.std.specs.Prelude.{◌≡◌, ◌+◌, ◌-◌, ◌≤◌, ◌<◌, ℕ, List, length, min, option_copied, true, Some, OnOk, OnErr, IfErr};
 ghost use Rattle.raft_log_base.specs.declared.errors.Error.TheVariants as errors;
 ghost use Rattle.raft_log_items.specs.Run.{IsRun};
 ghost use Rattle.raft_log_model.specs.Item.Item.{Clean, Compact, Del, Put};
@@ -19,7 +19,7 @@ ghost use Rattle.raft_log_places.specs.Shown.{
 ghost use Rattle.raft_log_places.specs.Bridge.{moved_key, unmarked};
 ghost use Rattle.raft_log_places.specs.Noted.{start_of};
 ghost use Rattle.raft_log_tables.specs.Entries.{run_of};
-ghost use Rattle.raft_log_tables.specs.Files.{min_file};
+ghost use Rattle.raft_log_tables.specs.Files.{least_rewritten, min_file, noted_after};
 ghost use Rattle.raft_log_tables.specs.Moves.{moved_by, owed_compact, rewritten_by, StandsIn};
 ghost use Rattle.raft_log_tables.specs.Keys.{shown_value};
 ghost use Rattle.raft_log_tables.specs.Reads.{entry_at, first_of, last_of};
@@ -295,11 +295,27 @@ impl MemTable {
                 lesser(place.map(|p| p.file), self.keys.least_file(true))
             }
             LogQueue::Rewrite => {
-                let place = if self.rewritten > 0 { self.places.get(0) } else { None };
-                let least = lesser(place.map(|p| p.file), self.keys.least_file(false))?;
+                let least = self.least_rewritten()?;
                 Some(start_of(least, self.noted))
             }
         }
+    }
+
+    /// The file of the first rewritten entry or of a rewritten value, the lesser of them, where there is one.
+    fn least_rewritten(&self) -> Option<FileSeq>
+        ensures { result ≡ least_rewritten self.now }
+    {
+        let place = if self.rewritten > 0 { self.places.get(0) } else { None };
+        lesser(place.map(|p| p.file), self.keys.least_file(false))
+    }
+
+    /// An atomic group of Rewrite ended, whose copies moved already: its files are noted, and while something lies at
+    /// or below the last file noted before, also those.
+    pub fn apply_rewrite_atomic_group(&mut self, files: GroupFiles)
+        ensures shows { shown self.new ≡ record (shown self.old) { noted = Some (noted_after (least_rewritten self.old) self.old.noted files) } }
+        ensures room { promise self.new ≡ promise self.old }
+    {
+        self.noted = Some(noted_after(self.least_rewritten(), self.noted, files));
     }
 
     /// The value of a key, if it has one, stands in this file of Rewrite from now on: a copy was written there.
@@ -326,18 +342,18 @@ impl MemTable {
     }
 
     /// Entries were written to Rewrite: those that are still there lie where they were written, up to the first that
-    /// is appended and, if there is a gate, in a file past it. Answers how many.
-    pub fn rewrite(&mut self, entries: &[EntryIndex], gate: Option<FileSeq>) -> usize
+    /// is appended and, if there is a gate, in a file past it.
+    pub fn rewrite(&mut self, entries: &[EntryIndex], gate: Option<FileSeq>)
         requires { IsRun entries.now }
         ensures shows { shown self.new ≡ rewritten_by gate (shown self.old) (run_of entries.now) }
         ensures room { promise self.new ≡ promise self.old }
     {
         let Some(front) = entries.first() else {
-            return 0;
+            return;
         };
         let position = front.index.saturating_sub(self.first) as usize;
         if position > self.rewritten {
-            return 0;
+            return;
         }
         let gone = (self.first.saturating_sub(front.index) as usize).min(entries.len());
         let (_, kept) = entries.split_at(gone);
@@ -350,7 +366,6 @@ impl MemTable {
         let (moved, _) = kept.split_at(count);
         self.places.replace(position, moved);
         self.rewritten = self.rewritten.max(position + count);
-        count
     }
 
     /// No mark is owed any more: all of them were written to Rewrite, and synced.
@@ -390,5 +405,21 @@ fn start_of(file: FileSeq, noted: Option<GroupFiles>) -> FileSeq
     match noted {
         Some(files) if file <= files.to => file.min(files.from),
         _ => file,
+    }
+}
+
+/// The files of groups to note once a new group ended, where this is the least file in which something stands.
+fn noted_after(least: Option<FileSeq>, old: Option<GroupFiles>, new: GroupFiles) -> GroupFiles
+    ensures { result ≡ noted_after least old new }
+{
+    let Some(least) = least else {
+        return new;
+    };
+    match old {
+        Some(old) if least <= old.to => GroupFiles {
+            from: old.from.min(new.from),
+            to: old.to.max(new.to),
+        },
+        _ => new,
     }
 }

@@ -178,3 +178,9 @@ module _ {E F V : Type 0} (f : E → F) where
     follows = all_renamed (span v) xs r.follows;
     ends = r.ends ∙ sym (after_renamed (span v) xs);
   }
+
+-- what was prepared alone can be taken
+pub prepared_takes : {E V : Type 0} (v now : Shown) (q next : Promise) (x : Item E V) → now ≡ v → q.ends ≡ span v → MayFollow q.ends x → next ≡ promised q x → CanTake now next x
+prepared_takes v now q next x same ends follows is =
+    subst (λ w. CanTake w next x) (sym same)
+    (subst (λ p. CanTake v p x) (sym is) (ready_can v (promised q x) x [] (ready_more v q [] x (ready_none v q ends) follows)))

@@ -20,8 +20,8 @@ ghost use Rattle.raft_log_places.specs.Bridge.{moved_key, unmarked};
 ghost use Rattle.raft_log_places.specs.Noted.{start_of};
 ghost use Rattle.raft_log_tables.specs.Entries.{run_of};
 ghost use Rattle.raft_log_tables.specs.Files.{least_rewritten, min_file, noted_after};
-ghost use Rattle.raft_log_tables.specs.Moves.{moved_by, owed_compact, rewritten_by, StandsIn};
-ghost use Rattle.raft_log_tables.specs.Keys.{shown_value};
+ghost use Rattle.raft_log_tables.specs.Moves.{key_rewritten, may_move, moved_by, owed_compact, rewritten_by, StandsIn};
+ghost use Rattle.raft_log_tables.specs.Keys.{shown_value, value_of};
 ghost use Rattle.raft_log_tables.specs.Reads.{entry_at, first_of, last_of};
 ghost use Rattle.raft_log_tables.specs.Room.{CanTake, kept, no_promise, promised};
 ghost use Rattle.raft_log_tables.specs.Table.{promise, shown, window_of, RunRefused};
@@ -232,6 +232,21 @@ impl MemTable {
         self.places.push(entries);
     }
 
+    /// The entries of a record that is read again: room for them is made, and they stand in Append. Nothing else may be
+    /// promised; what is, is taken back. `Hole` where they start past the index after the last; where it is refused,
+    /// nothing shows.
+    pub fn replay_append(&mut self, entries: &[EntryIndex]) -> Result<()>
+        requires { IsRun entries.now }
+        ensures ok { (n : ℕ) → OnOk result (shown self.new ≡ stepped n (shown self.old) (run_of entries.now)) }
+        ensures err { OnErr result (shown self.new ≡ shown self.old) }
+        ensures errors { IfErr result (λ e. RunRefused (span (shown self.old)) (run_of entries.now) e) }
+    {
+        self.take_back();
+        self.prepare_append(entries)?;
+        self.append(entries);
+        Ok(())
+    }
+
     /// The key has this value, in this file of Append.
     pub fn put(&mut self, key: &[u8], bytes: Bytes, file: FileSeq)
         requires { (promise self.old).has key.now ≡ true }
@@ -324,6 +339,20 @@ impl MemTable {
         ensures room { promise self.new ≡ promise self.old }
     {
         self.keys.rewrite(key, file);
+    }
+
+    /// A key was written to Rewrite: its value stands there from now on, if it has one that stood there already, or,
+    /// where there is a gate, in a file of Append up to it.
+    pub fn rewrite_key(&mut self, key: &[u8], gate: Option<FileSeq>, file: FileSeq)
+        ensures shows { shown self.new ≡ key_rewritten gate (shown self.old) key.now file }
+        ensures room { promise self.new ≡ promise self.old }
+    {
+        let Some(held) = self.keys.get(key) else {
+            return;
+        };
+        if may_move(held, gate) {
+            self.keys.rewrite(key, file);
+        }
     }
 
     /// Entries from the first one's index on, and all below, stand in Rewrite: these where their copies were written.
@@ -421,5 +450,15 @@ fn noted_after(least: Option<FileSeq>, old: Option<GroupFiles>, new: GroupFiles)
             to: old.to.max(new.to),
         },
         _ => new,
+    }
+}
+
+/// Whether a value may move to Rewrite: it stands there, or in a file up to the gate.
+fn may_move(held: &HeldValue, gate: Option<FileSeq>) -> bool
+    ensures { result ≡ may_move gate (value_of held.now) }
+{
+    match gate {
+        Some(gate) => !held.appended || held.file <= gate,
+        None => !held.appended,
     }
 }

@@ -35,31 +35,38 @@ alone_split a n r f o (inr h) = omega arith
 
 run_grows : (v : Shown) (f : ℕ) (p : Place) (ps : List Place) → IsOrderly v → MayFollow {E = Place} {V = List ℕ} (span v) (Run f (p ∷ ps))
     → Grows {E = Place} {V = List ℕ} (whereabouts v) (Run f (p ∷ ps)) (whereabouts (with_run v f (p ∷ ps)))
-run_grows v f p ps o h = (h.1, elim (cases_lt v.first f) [
-  | inr low ↦ inl (alone (inl low))
-  | inl high ↦ elim (cases_lt 0 (length v.places)) [
-    | inr none ↦ inl (alone (inr (omega arith)))
-    | inl some ↦ inr (on high some)
-  ]
-])
+run_grows v f p ps o h = (
+  h.1,
+  elim (cases_lt v.first f) [
+    | inr low ↦ inl (alone (inl low))
+    | inl high ↦ elim (cases_lt 0 (length v.places)) [
+      | inr none ↦ inl (alone (inr (omega arith)))
+      | inl some ↦ inr (on high some)
+    ]
+  ],
+)
   where
     alone : Alone (whereabouts v) f
         → Alone (whereabouts v) f × (whereabouts (with_run v f (p ∷ ps)) ≡ at_ends (whereabouts v) f f (f + length (p ∷ ps)))
     alone a =
-        let first = first_alone v.first (length v.places) f a in
-        (a, same_ends (whereabouts v) _ _ _ f f (f + length (p ∷ ps)) first
-        (ap (λ n. n + min v.rewritten (f - v.first)) first ∙ alone_split v.first (length v.places) v.rewritten f o.parts a)
-        (run_ends v f (p ∷ ps) h.0))
+        let first = first_alone v.first (length v.places) f a in (
+          a,
+          same_ends (whereabouts v) _ _ _ f f (f + length (p ∷ ps)) first
+              (ap (λ n. n + min v.rewritten (f - v.first)) first ∙ alone_split v.first (length v.places) v.rewritten f o.parts a)
+              (run_ends v f (p ∷ ps) h.0),
+        )
 
     on : v.first < f → 0 < length v.places
         → GoesOn (whereabouts v) f
         × (whereabouts (with_run v f (p ∷ ps)) ≡ at_ends (whereabouts v) v.first (min (v.first + v.rewritten) f) (f + length (p ∷ ps)))
     on high some =
         let first = first_on v.first (length v.places) f high some in
-        let within = not_past v.first (length v.places) f some h.0 in
-        ((high, within), same_ends (whereabouts v) _ _ _ v.first (min (v.first + v.rewritten) f) (f + length (p ∷ ps)) first
-        (ap (λ n. n + min v.rewritten (f - v.first)) first ∙ (omega arith))
-        (run_ends v f (p ∷ ps) h.0))
+        let within = not_past v.first (length v.places) f some h.0 in (
+          (high, within),
+          same_ends (whereabouts v) _ _ _ v.first (min (v.first + v.rewritten) f) (f + length (p ∷ ps)) first
+              (ap (λ n. n + min v.rewritten (f - v.first)) first ∙ (omega arith))
+              (run_ends v f (p ∷ ps) h.0),
+        )
 
 compact_grows : (v : Shown) (c : ℕ) → IsOrderly v → Grows {E = Place} {V = List ℕ} (whereabouts v) (Compact c) (whereabouts (with_compact v c))
 compact_grows v c o =

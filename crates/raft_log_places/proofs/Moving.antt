@@ -94,18 +94,24 @@ module _ {E : Type 0} (at : Located → E) where
       → es ≡ map (λ p. at (in_queue false p)) ps → length es ≡ length ps → Carries m (whereabouts v) (Run f es) (whereabouts (moved_run v f ps))
   carry_run v f ps m h meant [] same count =
       same_ends (whereabouts v) _ _ _ _ _ _ refl (let low = h.0 in let split = h.1 in let reach = h.2 in omega (arith, count)) (ap (λ n. v.first + n) (moved_length v f ps h.0 h.3))
-  carry_run v f ps m h meant (e ∷ es) same count =
-      (h.0, h.1, (let reach = h.2 in omega (arith, count)), (let end = h.3 in omega (arith, count)), subst (Restates m f) (sym same) (restated v f ps m h meant),
-      elim h.4 [ inl whole ↦ inl (omega (arith, count, whole)) | inr clear ↦ inr clear ],
-      same_ends (whereabouts v) _ _ _ _ _ _ refl (let low = h.0 in omega (arith, count)) (ap (λ n. v.first + n) (moved_length v f ps h.0 h.3)))
+  carry_run v f ps m h meant (e ∷ es) same count = (
+    h.0,
+    h.1,
+    (let reach = h.2 in omega (arith, count)),
+    (let end = h.3 in omega (arith, count)),
+    subst (Restates m f) (sym same) (restated v f ps m h meant),
+    elim h.4 [ inl whole ↦ inl (omega (arith, count, whole)) | inr clear ↦ inr clear ],
+    same_ends (whereabouts v) _ _ _ _ _ _ refl (let low = h.0 in omega (arith, count)) (ap (λ n. v.first + n) (moved_length v f ps h.0 h.3)),
+  )
 
   key_item : (v : Shown) (k : List ℕ) (n : ℕ) (m : Slot → Option (Content E (List ℕ))) → CanMove at v (MoveKey k n) → IsMeant at v m
       → (h : Option KeyValue) → v.held k ≡ h → Carries m (whereabouts v) (item_of_key k h) (whereabouts (moved_key v k n))
   key_item v k n m can meant None e = absurd (let clash : ◌≡◌ {A = Option KeyValue} None (Some can.0) = sym e ∙ can.1 in let never : ⊥ = cc in never)
-  key_item v k n m can meant (Some h) e =
-      (sym (meant (Key k)) ∙ ap (λ o. option_map (renamed_content at) (option_map Value (bytes_held o))) e,
-      (λ a. can.2 (let same : ◌≡◌ {A = Option KeyValue} (Some h) (Some can.0) = sym e ∙ can.1 in (let one : h ≡ can.0 = cc in ap (λ x. x.appended) (sym one)) ∙ (sym (ap is_in_append e) ∙ a))),
-      ap (λ a. record (whereabouts v) { appended = a }) (appended_with v k (rewritten_value n (v.held k)) ∙ ap (with_key (λ q. is_in_append (v.held q)) k) (not_appended (v.held k))))
+  key_item v k n m can meant (Some h) e = (
+    sym (meant (Key k)) ∙ ap (λ o. option_map (renamed_content at) (option_map Value (bytes_held o))) e,
+    (λ a. can.2 (let same : ◌≡◌ {A = Option KeyValue} (Some h) (Some can.0) = sym e ∙ can.1 in (let one : h ≡ can.0 = cc in ap (λ x. x.appended) (sym one)) ∙ (sym (ap is_in_append e) ∙ a))),
+    ap (λ a. record (whereabouts v) { appended = a }) (appended_with v k (rewritten_value n (v.held k)) ∙ ap (with_key (λ q. is_in_append (v.held q)) k) (not_appended (v.held k))),
+  )
     where
       not_appended : (o : Option KeyValue) → is_in_append (rewritten_value n o) ≡ false
       not_appended None = refl

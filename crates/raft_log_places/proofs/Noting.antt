@@ -63,11 +63,14 @@ module _ (v : Shown) (f : ℕ) (ps : List Place) (fits : (nat_lt v.first (v.firs
       let within : f ≤ v.first + length v.places = elim (run_within v.first (length v.places) f i fits (omega (arith, first)) high first) [
         | inl h ↦ h
         | inr none ↦ absurd (run_empty v.first (length v.places) f i none low high)
-      ] in
-      (first, within, ap place_file
-      (ap (λ n. slice_get (take (f - v.first) v.places ++ ps) (i - n)) first
-      ∙ get_front (take (f - v.first) v.places) ps (i - v.first) (let cut = length-take (f - v.first) v.places in omega (arith, first, cut))
-      ∙ get_take (f - v.first) v.places (i - v.first) (omega (arith, first))))
+      ] in (
+        first,
+        within,
+        ap place_file
+            (ap (λ n. slice_get (take (f - v.first) v.places ++ ps) (i - n)) first
+            ∙ get_front (take (f - v.first) v.places) ps (i - v.first) (let cut = length-take (f - v.first) v.places in omega (arith, first, cut))
+            ∙ get_take (f - v.first) v.places (i - v.first) (omega (arith, first))),
+      )
 
   in_run : (n i : ℕ) → AllIn n ps → f ≤ i → i < f + length ps → file_at (with_run v f ps) (Index i) ≡ n
   in_run n i all low high =
@@ -319,10 +322,12 @@ module _ {E : Type 0} (at : Located → E) where
   pub group_carries : (v : Shown) (xs : List Move) (least : ℕ) (files : GroupFiles) → IsOrderly v → CanAllMove at v xs → AreUpTo files.to xs
       → IsLeastInRewrite (all_moved v xs) least → RewrittenCarry (items_of at v xs) files.from v (with_note (all_moved v xs) least files)
   group_carries v xs least files o can all low s a = elim (moves_files v xs files.to o can all s a) [
-    | inl old ↦ inl (old.0,
+    | inl old ↦ inl (
+      old.0,
       (let stays = note_stays least (file_at (all_moved v xs) s) (all_moved v xs).noted files (least_or_none (all_moved v xs) least low s a) in
-      let was = subst (λ noted. start_of (file_at (all_moved v xs) s) noted ≤ noted_at v s) (sym (moves_note v xs)) (same_note v.noted _ _ old.1) in
-      omega (arith, stays, was)))
+          let was = subst (λ noted. start_of (file_at (all_moved v xs) s) noted ≤ noted_at v s) (sym (moves_note v xs)) (same_note v.noted _ _ old.1) in
+          omega (arith, stays, was)),
+    )
     | inr new ↦ inr (note_covers least (file_at (all_moved v xs) s) (all_moved v xs).noted files new.0, new.1)
   ]
 
@@ -334,11 +339,12 @@ module _ {E : Type 0} (at : Located → E) where
       let n : ℕ = (f - v.first) + length ps in
       let cut : length (take (f - v.first) v.places) ≡ f - v.first = length-take (f - v.first) v.places ∙ omega (arith, parts, from, split) in
       let count : length (moved_run v f ps).places ≡ length v.places = moved_length v f ps from end in
-      let rest : n + (i - (v.first + n)) ≡ i - v.first = omega (arith, low) in
-      ((omega (arith, low, reach, from), omega (arith, high, count)),
-      ap place_file (get_back (take (f - v.first) v.places) (ps ++ drop n v.places) (i - v.first) (length ps + (i - (v.first + n))) (omega (arith, cut, low))
-      ∙ get_back ps (drop n v.places) (length ps + (i - (v.first + n))) (i - (v.first + n)) refl
-      ∙ get_drop n v.places (i - (v.first + n)) ∙ ap (slice_get v.places) rest))
+      let rest : n + (i - (v.first + n)) ≡ i - v.first = omega (arith, low) in (
+        (omega (arith, low, reach, from), omega (arith, high, count)),
+        ap place_file (get_back (take (f - v.first) v.places) (ps ++ drop n v.places) (i - v.first) (length ps + (i - (v.first + n))) (omega (arith, cut, low))
+            ∙ get_back ps (drop n v.places) (length ps + (i - (v.first + n))) (i - (v.first + n)) refl
+            ∙ get_drop n v.places (i - (v.first + n)) ∙ ap (slice_get v.places) rest),
+      )
   move_shrinks v (MoveRun f ps) o can (Key k) a = (a, refl)
   move_shrinks v (MoveKey k n) o can (Index i) a = (a, refl)
   move_shrinks v (MoveKey k n) o can (Key q) a =

@@ -43,8 +43,8 @@ IsLeastInRewrite v least =
     ((i : ℕ) → v.first ≤ i → i < v.first + v.rewritten → least ≤ file_at v (Index i))
     × ((k : List ℕ) (h : KeyValue) → v.held k ≡ Some h → h.appended ≡ false → least ≤ h.file)
 
--- What is noted once a new atomic group ended, where nothing of Rewrite lies below this file: the new group's
--- files, and while something lies at or below the last file noted before also those
+-- What is noted once a new atomic group ended, where nothing of Rewrite lies below this file: the new
+-- group's files, and while something lies at or below the last file noted before also those
 abbrev pub noting : ℕ → Option GroupFiles → GroupFiles → GroupFiles
 noting least None new = new
 noting least (Some old) new =
@@ -81,7 +81,8 @@ AreUpTo n (MoveKey k file ∷ xs) = (file ≤ n) × AreUpTo n xs
 abbrev pub AppendedGrow : {E : Type 0} → List (Item E (List ℕ)) → ℕ → Shown → Shown → Type 0
 AppendedGrow xs n v u =
     (s : Slot) → IsAppended (whereabouts u) s
-    → (IsAppended (whereabouts v) s × (file_at u s ≡ file_at v s)) ⊎ ((file_at u s ≡ n) × IsSpoken (says s xs))
+    → (IsAppended (whereabouts v) s × (file_at u s ≡ file_at v s))
+    ⊎ ((file_at u s ≡ n) × IsSpoken (says s xs))
 
 -- what stands in Append stood there, and lies where it lay
 abbrev pub AppendedShrink : Shown → Shown → Type 0
@@ -97,4 +98,5 @@ RewrittenStay v u = (s : Slot) → IsInRewrite (whereabouts u) s → noted_at u 
 abbrev pub RewrittenCarry : {E : Type 0} → List (Item E (List ℕ)) → ℕ → Shown → Shown → Type 0
 RewrittenCarry xs n v u =
     (s : Slot) → IsInRewrite (whereabouts u) s
-    → (IsInRewrite (whereabouts v) s × (noted_at u s ≤ noted_at v s)) ⊎ ((noted_at u s ≤ n) × IsSpoken (says s xs))
+    → (IsInRewrite (whereabouts v) s × (noted_at u s ≤ noted_at v s))
+    ⊎ ((noted_at u s ≤ n) × IsSpoken (says s xs))

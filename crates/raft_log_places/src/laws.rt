@@ -56,9 +56,9 @@ pub fn batch_grows<E>()
         → IsMeant at (all_stepped n v xs) (after m (map (written at) xs)) }
 {}
 
-/// Copies into Rewrite, and rewritten entries and keys written again, change nothing of what the table means;
-/// Rewrite may take them where they begin in or right behind what stands there, reach to the end of it, have
-/// the bytes that were read, and no mark is owed that they would go past.
+/// Copies into Rewrite, and rewritten entries and keys written again, change nothing of what the table
+/// means; Rewrite may take them where they begin in or right behind what stands there, reach to the end of
+/// it, have the bytes that were read, and no mark is owed that they would go past.
 pub fn moves_carry<E>()
     ensures carries { (at : Located → E) (v : Shown) (xs : List Move) (m : Slot → Option (Content E (List ℕ)))
         → IsOrderly v → CanAllMove at v xs → IsMeant at v m
@@ -69,8 +69,8 @@ pub fn moves_carry<E>()
         → IsOrderly v → CanAllMove at v xs → IsMeant at v m → IsMeant at (all_moved v xs) m }
 {}
 
-/// The marks that are owed may be carried: the Clean, the Compact, and the Dels of these keys, each once and
-/// none left out; then no mark is owed.
+/// The marks that are owed may be carried: the Clean, the Compact, and the Dels of these keys, each once
+/// and none left out; then no mark is owed.
 pub fn marks_carry<E>()
     ensures { (m : Slot → Option (Content E (List ℕ))) (v : Shown) (ks : List (List ℕ)) → AllOwed v.deleted ks
         → ((k : List ℕ) → without v.deleted ks k ≡ false)
@@ -95,22 +95,23 @@ pub fn batch_is_noted<E>()
         → MayAllFollow (span v) xs → RewrittenStay v (all_stepped n v xs) }
 {}
 
-/// Copies bring nothing into Append. What they bring into Rewrite they speak of, and it is noted no later than
-/// the file of their plain record, or the first file of their atomic group once the group is noted; all else
-/// is noted no later than it was. The groups noted before stay noted while something lies at or below their
-/// last file.
+/// Copies bring nothing into Append. What they bring into Rewrite they speak of, and it is noted no later
+/// than the file of their plain record, or the first file of their atomic group once the group is noted;
+/// all else is noted no later than it was. The groups noted before stay noted while something lies at or
+/// below their last file.
 pub fn copies_are_noted<E>()
     ensures append { (at : Located → E) (v : Shown) (xs : List Move) → IsOrderly v → CanAllMove at v xs
         → AppendedShrink v (all_moved v xs) }
     ensures plain { (at : Located → E) (v : Shown) (xs : List Move) (n : ℕ) → IsOrderly v → CanAllMove at v xs
         → AreUpTo n xs → RewrittenCarry (items_of at v xs) n v (all_moved v xs) }
-    ensures group { (at : Located → E) (v : Shown) (xs : List Move) (least : ℕ) (files : GroupFiles) → IsOrderly v
+    ensures group { (at : Located → E) (v : Shown) (xs : List Move) (least : ℕ) (files : GroupFiles)
+        → IsOrderly v
         → CanAllMove at v xs → AreUpTo files.to xs → IsLeastInRewrite (all_moved v xs) least
         → RewrittenCarry (items_of at v xs) files.from v (with_note (all_moved v xs) least files) }
 {}
 
-/// Rewrite may begin at the least file in use, where that counts the groups that are noted: of everything that
-/// stands there no later file is noted.
+/// Rewrite may begin at the least file in use, where that counts the groups that are noted: of everything
+/// that stands there no later file is noted.
 pub fn least_file_is_noted()
     ensures { (v : Shown) (least : ℕ) → IsLeastInRewrite v least → (s : Slot) → IsInRewrite (whereabouts v) s
         → (content (table_of v) s ≡ None) ⊎ (start_of least v.noted ≤ noted_at v s) }

@@ -1,5 +1,5 @@
-//! Where the entries and keys of a group stand, as its table shows it; and the laws that tie what a table does to
-//! the steps of the machine.
+//! Where the entries and keys of a group stand, as its table shows it; and the laws that tie what a table
+//! does to the steps of the machine.
 #![tactic(auto)]
 
 pub mod group_files;

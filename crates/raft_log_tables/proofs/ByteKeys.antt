@@ -1,5 +1,5 @@
 -- Maps by keys of bytes, told by the bytes alone.
-use Rattle.std.proofs.Common.{◌≡◌, ℕ, Bool, true, false, List, [], ◌∷◌, map, Option, Some, None, option_map, is_some, if◌then◌else◌, bytes_eq, refl, sym, ap, ap₂, subst, ◌∙◌}
+use Rattle.std.proofs.Common.{◌≡◌, ℕ, Bool, true, false, List, [], ◌∷◌, map, Option, Some, None, option_map, is_some, if◌then◌else◌, bytes_eq, refl, sym, ap, ap₂, ◌∙◌}
 use Rattle.std.specs.Map.{lookup, KeepsOthers, IsKeyTest, AreApart}
 use Rattle.std.specs.BTreeMap as tree
 use Rattle.std.specs.BTreeMap.{BTreeMap, is_at}
@@ -9,12 +9,12 @@ use Rattle.std.specs.Cmp.Lexicographic.{slice_cmp, nat_list_cmp_total, nat_list_
 use Rattle.std.proofs.lemmas.Map.Text.{is_eq-slice_cmp}
 use Rattle.std.proofs.lemmas.Slice.Eq.{bytes_eq-Decides}
 use Rattle.std.proofs.Math.Path.{fun_ext}
-use Rattle.raft_log_model.proofs.Cases.{at_bool, if_true, if_false}
+use Rattle.raft_log_model.proofs.Cases.{at_bool}
 use Rattle.raft_log_places.specs.Shown.{KeyValue}
 use Rattle.raft_log_places.specs.Bridge.{rewritten_value}
 use Rattle.raft_log_tables.specs.declared.key_map.KeySlot.{KeySlot}
 use Rattle.raft_log_tables.specs.declared.key_map.HeldValue.{HeldValue}
-use Rattle.raft_log_tables.specs.Keys.{Keys, held_in, deleted_in, emptied, rewritten_held, shown_value, slot_at, keys_of, unmarked_keys, with_mark, with_room, with_value}
+use Rattle.raft_log_tables.specs.Keys.{held_in, deleted_in, emptied, rewritten_held, shown_value, slot_at, keys_of, unmarked_keys, with_mark, with_room, with_value}
 
 -- a key whose bytes are others is not found where these are
 apart : (bs cs ks : List ℕ) → bytes_eq bs cs ≡ false → is_eq (slice_cmp nat_cmp bs ks) ≡ true → is_eq (slice_cmp nat_cmp cs ks) ≡ false

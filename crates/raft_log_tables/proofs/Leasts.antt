@@ -1,5 +1,5 @@
 -- The least file that a table answers is at or below everything that stands in the queue.
-use Rattle.std.proofs.Common.{◌≡◌, ℕ, zero, suc, ◌+◌, ◌<◌, ◌≤◌, ◌⊎◌, min, Bool, true, false, not, List, [], ◌∷◌, map, length, Option, Some, None, option_map, slice_get, if◌then◌else◌, nat_le, nat_lt, bytes_eq, refl, sym, ap, subst, ◌∙◌, inl, inr, arith, le_refl}
+use Rattle.std.proofs.Common.{◌≡◌, ℕ, zero, suc, ◌+◌, ◌<◌, ◌≤◌, min, Bool, true, false, not, List, [], ◌∷◌, map, length, Option, Some, None, option_map, slice_get, if◌then◌else◌, nat_le, nat_lt, bytes_eq, refl, sym, ap, subst, ◌∙◌, inl, inr, arith, le_refl}
 use Rattle.raft_log_base.specs.declared.pipe_log.LogQueue.TheVariants.{Append, Rewrite}
 use Rattle.raft_log_model.specs.Meaning.Slot.{Index}
 use Rattle.raft_log_model.proofs.Cases.{at_bool, at_option, if_false, if_true, le_false, lt_true}
@@ -42,10 +42,13 @@ from_value appended acc (e ∷ es) k s m h f =
     (λ b. (if b then Some e.1 else slot_at es k) ≡ Some s
     → (n : ℕ) × (least_over appended (lesser acc (file_of_value appended e.1.held)) (map (λ e. e.1) es) ≡ Some n) × (n ≤ m))
     (λ _ here. let same : e.1 ≡ s = cc in
-        let one = lesser_right acc m in
-        let rest = from_before appended one.0 (map (λ e. e.1) es) in
-        (rest.0, ap (λ o. least_over appended (lesser acc o) (map (λ e. e.1) es)) (ap (λ x. file_of_value appended x.held) same ∙ f)
-        ∙ ap (λ o. least_over appended o (map (λ e. e.1) es)) one.1 ∙ rest.1, (let a = one.2 in let b = rest.2 in omega (arith, a, b))))
+    let one = lesser_right acc m in
+    let rest = from_before appended one.0 (map (λ e. e.1) es) in (
+      rest.0,
+      ap (λ o. least_over appended (lesser acc o) (map (λ e. e.1) es)) (ap (λ x. file_of_value appended x.held) same ∙ f)
+          ∙ ap (λ o. least_over appended o (map (λ e. e.1) es)) one.1 ∙ rest.1,
+      (let a = one.2 in let b = rest.2 in omega (arith, a, b)),
+    ))
     (λ _ later. from_value appended (lesser acc (file_of_value appended e.1.held)) es k s m later f) h
 
 -- a value that shows has a slot, and its file is told
@@ -109,8 +112,8 @@ least_in t n parts front e = (
   λ i from to.
       let there = place_there t.places.items 0 (omega (arith, from, to, parts)) in
       let first : first_place Rewrite t ≡ Some there.0.file =
-          if_true (nat_lt 0 t.rewritten) (option_map (λ p. p.file) (slice_get t.places.items 0)) None (lt_true 0 t.rewritten (omega (arith, from, to)))
-          ∙ ap (option_map (λ p. p.file)) there.1 in
+      if_true (nat_lt 0 t.rewritten) (option_map (λ p. p.file) (slice_get t.places.items 0)) None (lt_true 0 t.rewritten (omega (arith, from, to)))
+      ∙ ap (option_map (λ p. p.file)) there.1 in
       below_left (first_place Rewrite t) (least_value false t.keys) n there.0.file (file_at (shown t) (Index i)) e first
       (subst (λ o. place_file o ≤ file_at (shown t) (Index i)) there.1 (front.0 i from to)),
   λ k h held appended.
@@ -132,11 +135,11 @@ no_entries : (t : Raw) → t.rewritten ≤ length t.places.items → lesser (fir
 no_entries t parts e = elim (cases_lt 0 t.rewritten) [
   | inr none ↦ omega arith
   | inl some ↦ (
-    let there = place_there t.places.items 0 (omega (arith, parts, some)) in
-    let first : first_place Rewrite t ≡ Some there.0.file =
-        if_true (nat_lt 0 t.rewritten) (option_map (λ p. p.file) (slice_get t.places.items 0)) None (lt_true 0 t.rewritten some) ∙ ap (option_map (λ p. p.file)) there.1 in
-    let one = lesser_left there.0.file (least_value false t.keys) in
-    no_word one.0 (sym e ∙ ap (λ o. lesser o (least_value false t.keys)) first ∙ one.1))
+      let there = place_there t.places.items 0 (omega (arith, parts, some)) in
+      let first : first_place Rewrite t ≡ Some there.0.file =
+      if_true (nat_lt 0 t.rewritten) (option_map (λ p. p.file) (slice_get t.places.items 0)) None (lt_true 0 t.rewritten some) ∙ ap (option_map (λ p. p.file)) there.1 in
+      let one = lesser_left there.0.file (least_value false t.keys) in
+      no_word one.0 (sym e ∙ ap (λ o. lesser o (least_value false t.keys)) first ∙ one.1))
 ]
 
 no_values : (t : Raw) → lesser (first_place Rewrite t) (least_value false t.keys) ≡ None → (k : List ℕ) (h : KeyValue) → (shown t).held k ≡ Some h → h.appended ≡ false → ⊥
@@ -166,6 +169,8 @@ noted_by_least t new parts front =
         → ((k : List ℕ) (h : KeyValue) → (shown t).held k ≡ Some h → h.appended ≡ false → (n : ℕ) → n ≤ h.file)
         → (least : ℕ) × IsLeastInRewrite (shown t) least × (new ≡ noting least old new)
     past None entries values = (0, (λ i from to. entries i from to 0, λ k h held appended. values k h held appended 0), refl)
-    past (Some old) entries values =
-        (old.to + 1, (λ i from to. entries i from to (old.to + 1), λ k h held appended. values k h held appended (old.to + 1)),
-        sym (if_false (nat_le (old.to + 1) old.to) _ new (le_false (old.to + 1) old.to (omega arith))))
+    past (Some old) entries values = (
+      old.to + 1,
+      (λ i from to. entries i from to (old.to + 1), λ k h held appended. values k h held appended (old.to + 1)),
+      sym (if_false (nat_le (old.to + 1) old.to) _ new (le_false (old.to + 1) old.to (omega arith))),
+    )

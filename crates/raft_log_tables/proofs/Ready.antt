@@ -1,12 +1,11 @@
 -- A table that was prepared for items one after another takes them one after another.
-use Rattle.std.proofs.Common.{◌≡◌, ℕ, ◌+◌, ◌-◌, ◌≤◌, Bool, true, false, List, [], ◌∷◌, ◌++◌, length, map, if◌then◌else◌, nat_lt, ◌&&◌, bytes_eq, refl, sym, ap, subst, ◌∙◌, arith}
+use Rattle.std.proofs.Common.{◌≡◌, ℕ, ◌+◌, ◌≤◌, Bool, true, false, List, [], ◌∷◌, ◌++◌, map, if◌then◌else◌, nat_lt, ◌&&◌, bytes_eq, refl, sym, ap, subst, ◌∙◌, arith}
 use Rattle.std.proofs.lemmas.List.{length-map}
 use Rattle.raft_log_model.specs.Item.{Item}
 use Rattle.raft_log_model.specs.Item.Item.{Run, Clean, Compact, Put, Del}
-use Rattle.raft_log_model.specs.Holes.{Window, FitsOn}
+use Rattle.raft_log_model.specs.Holes.{Window}
 use Rattle.raft_log_model.specs.Renamed.{renamed}
 use Rattle.raft_log_model.proofs.Tests.{same_key}
-use Rattle.raft_log_machine.specs.Machine.{Fits}
 use Rattle.raft_log_machine.specs.Whereabouts.{top, with_key}
 use Rattle.raft_log_places.specs.declared.place.Place.{Place}
 use Rattle.raft_log_places.specs.Shown.{Shown, span, next_span, stepped, MayFollow, MayAllFollow}

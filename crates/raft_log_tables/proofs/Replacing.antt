@@ -32,7 +32,7 @@ replaced f p i xs ys d h k =
     let rest = drop_next (p + i) xs (omega arith) in
     let back = drop (p + i + 1) xs in
     let count : length (take p xs ++ front) ≡ p + i =
-        length-append (take p xs) front ∙ (let a = length-take p xs in let b = length-map (take i ys) f in let c = length-take i ys in omega (arith, a, b, c)) in
+    length-append (take p xs) front ∙ (let a = length-take p xs in let b = length-map (take i ys) f in let c = length-take i ys in omega (arith, a, b, c)) in
     let numbers : p + i + 1 ≡ p + (i + 1) = omega arith in
     ap (λ l. slice_set (take p xs ++ (front ++ l)) (p + i) v) rest.1
     ∙ ap (λ l. slice_set l (p + i) v) (sym (append_assoc (take p xs) front (rest.0 ∷ back)))
@@ -65,14 +65,14 @@ pub goes_on : (gate position limit i : ℕ) (ps : List Place) (d : Place) (all :
     → all ≡ i + passing gate (take (limit - i) (drop (position + i) ps)) → all ≡ (i + 1) + passing gate (take (limit - (i + 1)) (drop (position + (i + 1)) ps))
 goes_on gate position limit i ps d all h k low e =
     let one = passing_next gate position limit i ps d h k
-        ∙ if_true (nat_le (slice_index_or ps (position + i) d).file gate) (suc (passing gate (take (limit - (i + 1)) (drop (position + (i + 1)) ps)))) 0 (le_true (slice_index_or ps (position + i) d).file gate low) in
+    ∙ if_true (nat_le (slice_index_or ps (position + i) d).file gate) (suc (passing gate (take (limit - (i + 1)) (drop (position + (i + 1)) ps)))) 0 (le_true (slice_index_or ps (position + i) d).file gate low) in
     omega (arith, e, one)
 
 pub stops : (gate position limit i : ℕ) (ps : List Place) (d : Place) (all : ℕ) → i < limit → position + i < length ps → gate < (slice_index_or ps (position + i) d).file
     → all ≡ i + passing gate (take (limit - i) (drop (position + i) ps)) → i ≡ all
 stops gate position limit i ps d all h k high e =
     let none = passing_next gate position limit i ps d h k
-        ∙ if_false (nat_le (slice_index_or ps (position + i) d).file gate) (suc (passing gate (take (limit - (i + 1)) (drop (position + (i + 1)) ps)))) 0 (le_false (slice_index_or ps (position + i) d).file gate high) in
+    ∙ if_false (nat_le (slice_index_or ps (position + i) d).file gate) (suc (passing gate (take (limit - (i + 1)) (drop (position + (i + 1)) ps)))) 0 (le_false (slice_index_or ps (position + i) d).file gate high) in
     omega (arith, e, none)
 
 pub passing_start : (gate position limit : ℕ) (ps : List Place) → passing gate (take limit (drop position ps)) ≡ 0 + passing gate (take (limit - 0) (drop (position + 0) ps))

@@ -1,5 +1,5 @@
 -- What shows once entries were written to Rewrite again.
-use Rattle.std.proofs.Common.{◌≡◌, ℕ, zero, suc, ◌+◌, ◌-◌, ◌<◌, ◌≤◌, max, min, List, [], ◌∷◌, ◌++◌, length, map, take, drop, Option, slice_index_or, if◌then◌else◌, nat_lt, refl, sym, ap, ap₂, subst, ◌∙◌, arith, length-take}
+use Rattle.std.proofs.Common.{◌≡◌, ℕ, zero, suc, ◌+◌, ◌-◌, ◌<◌, ◌≤◌, max, min, List, [], ◌∷◌, ◌++◌, length, map, take, drop, Option, slice_index_or, nat_lt, refl, sym, ap, ap₂, subst, ◌∙◌, arith, length-take}
 use Rattle.std.proofs.lemmas.List.{length-map, take-map, drop-map}
 use Rattle.raft_log_items.specs.declared.entry.EntryIndex.{EntryIndex}
 use Rattle.raft_log_model.proofs.Cases.{if_false, lt_false}
@@ -36,11 +36,11 @@ rewrites gate v front rest d gone there more position within left some others fi
     let kept = drop gone entries in
     let cut = drop (v.first - front.index) (map place_of entries) in
     let same : map place_of kept ≡ cut =
-        ap (λ n. map place_of (drop n entries)) left ∙ ap (map place_of) (drop_min (v.first - front.index) entries) ∙ sym (drop-map place_of (v.first - front.index) entries) in
+    ap (λ n. map place_of (drop n entries)) left ∙ ap (map place_of) (drop_min (v.first - front.index) entries) ∙ sym (drop-map place_of (v.first - front.index) entries) in
     let count : length kept ≡ length cut = sym (length-map kept place_of) ∙ ap length same in
     let fewer : length kept - there ≡ length kept - (v.rewritten - d) = omega (arith, some) in
     let all : there + more ≡ movable v gate d (length cut) =
-        ap₂ ◌+◌ some (others ∙ ap (λ n. gated gate (take n (drop v.rewritten v.places))) fewer) ∙ ap (movable v gate d) count in
+    ap₂ ◌+◌ some (others ∙ ap (λ n. gated gate (take n (drop v.rewritten v.places))) fewer) ∙ ap (movable v gate d) count in
     let moved : map place_of (take (there + more) kept) ≡ take (there + more) cut = sym (take-map place_of (there + more) kept) ∙ ap (take (there + more)) same in
     let long : there + more ≡ length (take (there + more) cut) = sym (length-take (there + more) cut ∙ omega (arith, fits, count)) in
     ap₂ (placed v d) moved long

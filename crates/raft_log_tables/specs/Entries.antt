@@ -1,5 +1,5 @@
 -- The places of entries.
-use Rattle.std.specs.Prelude.{ℕ, ◌-◌, ◌+◌, List, [], ◌∷◌, Option, Some, None, map, nat_lt, if◌then◌else◌, Bool}
+use Rattle.std.specs.Prelude.{ℕ, List, [], ◌∷◌, Option, Some, None, map, if◌then◌else◌, Bool}
 use Rattle.raft_log_base.specs.declared.pipe_log.LogQueue.{LogQueue}
 use Rattle.raft_log_base.specs.declared.pipe_log.LogQueue.TheVariants.{Append, Rewrite}
 use Rattle.raft_log_base.specs.declared.pipe_log.FileBlockHandle.{FileBlockHandle}
@@ -16,7 +16,8 @@ pub record PlaceList : Type 0 where
 
 -- the place of an entry in this block; all zeros where it has none yet
 abbrev pub place_in : Option FileBlockHandle → EntryIndex → Place
-place_in None e = record { file = 0; offset = 0; len = 0; entry_offset = e.entry_offset; entry_len = e.entry_len }
+place_in None e =
+    record { file = 0; offset = 0; len = 0; entry_offset = e.entry_offset; entry_len = e.entry_len }
 place_in (Some block) e = record {
   file = block.id.seq;
   offset = block.offset;

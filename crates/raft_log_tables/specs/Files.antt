@@ -2,14 +2,13 @@
 use Rattle.std.specs.Prelude.{◌≡◌, ℕ, ◌+◌, ◌<◌, ◌≤◌, min, Bool, true, false, not, List, [], ◌∷◌, Option, Some, None, map, option_map, if◌then◌else◌, nat_lt, length, slice_get}
 use Rattle.raft_log_base.specs.declared.pipe_log.LogQueue.{LogQueue}
 use Rattle.raft_log_base.specs.declared.pipe_log.LogQueue.TheVariants.{Append, Rewrite}
-use Rattle.raft_log_places.specs.declared.place.Place.{Place}
 use Rattle.raft_log_places.specs.declared.group_files.GroupFiles.{GroupFiles}
 use Rattle.raft_log_model.specs.Meaning.Slot.{Index}
 use Rattle.raft_log_places.specs.Shown.{KeyValue, Shown}
 use Rattle.raft_log_places.specs.Noted.{file_at, noting, place_file, start_of}
 use Rattle.raft_log_tables.specs.declared.key_map.HeldValue.{HeldValue}
 use Rattle.raft_log_tables.specs.declared.key_map.KeySlot.{KeySlot}
-use Rattle.raft_log_tables.specs.Table.{Raw}
+use Rattle.raft_log_tables.specs.Table.{shown, Raw}
 
 -- the lesser of two files, where there are any
 abbrev pub lesser : Option ℕ → Option ℕ → Option ℕ
@@ -20,7 +19,8 @@ lesser (Some a) (Some b) = Some (min a b)
 -- the file of a value, if there is one and it stands in that queue: Append, or else Rewrite
 abbrev pub file_of_value : Bool → Option HeldValue → Option ℕ
 file_of_value appended None = None
-file_of_value appended (Some h) = if (if appended then h.appended else not h.appended) then Some h.file else None
+file_of_value appended (Some h) =
+    if (if appended then h.appended else not h.appended) then Some h.file else None
 
 -- the least file of the values in that queue, and of one that was found before
 abbrev pub least_over : Bool → Option ℕ → List KeySlot → Option ℕ
@@ -34,7 +34,8 @@ least_value appended slots = least_over appended None (map (λ e. e.1) slots)
 -- the file of the first entry in a queue
 abbrev pub first_place : LogQueue → Raw → Option ℕ
 first_place Append t = option_map (λ p. p.file) (slice_get t.places.items t.rewritten)
-first_place Rewrite t = if nat_lt 0 t.rewritten then option_map (λ p. p.file) (slice_get t.places.items 0) else None
+first_place Rewrite t =
+    if nat_lt 0 t.rewritten then option_map (λ p. p.file) (slice_get t.places.items 0) else None
 
 -- the least file of Rewrite that has something, where the files don't fall along the entries
 abbrev pub least_rewritten : Raw → Option ℕ
@@ -50,8 +51,12 @@ abbrev pub noted_after : Option ℕ → Option GroupFiles → GroupFiles → Gro
 noted_after None old new = new
 noted_after (Some least) old new = noting least old new
 
--- no entry of a queue lies in an earlier file than the first one there: so it is where files don't fall along
--- the entries
+-- what shows once an atomic group in these files ended and is noted
+abbrev pub with_group : Raw → GroupFiles → Shown
+with_group t files = record (shown t) { noted = Some (noted_after (least_rewritten t) t.noted files) }
+
+-- no entry of a queue lies in an earlier file than the first one there: so it is where files don't fall
+-- along the entries
 abbrev pub FrontIsLeast : Shown → Type 0
 FrontIsLeast v =
     ((i : ℕ) → v.first ≤ i → i < v.first + v.rewritten

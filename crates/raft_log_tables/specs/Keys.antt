@@ -1,6 +1,6 @@
--- The keys of a group as its table knows them: values, keys deleted since the last carry, and keys that have
--- room.
-use Rattle.std.specs.Prelude.{◌≡◌, ℕ, Bool, true, false, List, [], Option, Some, None, is_some, if◌then◌else◌, bytes_eq}
+-- The keys of a group as its table knows them: values, keys deleted since the last carry, and keys that
+-- have room.
+use Rattle.std.specs.Prelude.{ℕ, Bool, true, false, List, Option, Some, None, is_some, bytes_eq}
 use Rattle.std.specs.Map.{lookup}
 use Rattle.raft_log_machine.specs.Whereabouts.{with_key}
 use Rattle.raft_log_places.specs.Shown.{KeyValue, with_held}
@@ -61,6 +61,10 @@ with_room ks k = record ks { has = with_key ks.has k true }
 -- the key has this value, or none
 abbrev pub with_value : Keys → List ℕ → Option KeyValue → Keys
 with_value ks k value = record ks { values = with_held ks.values k value }
+
+-- the key's value, if it has one, stands in that file of Rewrite
+abbrev pub with_rewritten : Keys → List ℕ → ℕ → Keys
+with_rewritten ks k file = with_value ks k (rewritten_value file (ks.values k))
 
 -- the key has no value and is marked
 abbrev pub with_mark : Keys → List ℕ → Keys

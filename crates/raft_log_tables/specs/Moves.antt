@@ -1,14 +1,14 @@
 -- Copies into Rewrite and the marks that are owed to it, as a table's calls say them.
 use Rattle.std.specs.Prelude.{ℕ, suc, ◌+◌, ◌-◌, ◌≤◌, max, min, Bool, false, not, ◌||◌, List, [], ◌∷◌, ◌++◌, length, take, drop, Option, Some, None, if◌then◌else◌, nat_le, nat_lt}
 use Rattle.raft_log_model.specs.Item.{Item}
-use Rattle.raft_log_model.specs.Item.Item.{Run, Clean, Compact, Put, Del}
+use Rattle.raft_log_model.specs.Item.Item.{Run}
 use Rattle.raft_log_machine.specs.Whereabouts.{top}
 use Rattle.raft_log_places.specs.declared.place.Place.{Place}
 use Rattle.raft_log_places.specs.Shown.{KeyValue, Shown, with_held}
 use Rattle.raft_log_places.specs.Bridge.{moved_run}
 
--- the run's entries are there, from a rewritten one or the first appended one on, to the last rewritten one or
--- past it
+-- the run's entries are there, from a rewritten one or the first appended one on, to the last rewritten one
+-- or past it
 abbrev pub StandsIn : Shown → Item Place (List ℕ) → Type 0
 StandsIn v (Run f []) = Unit {0}
 StandsIn v (Run f (p ∷ ps)) =
@@ -36,8 +36,8 @@ abbrev pub gated : Option ℕ → List Place → ℕ
 gated None ps = 0
 gated (Some gate) ps = passing gate ps
 
--- how many of count entries from a position on may move: the rewritten ones, and of those behind as many as the
--- gate lets
+-- how many of count entries from a position on may move: the rewritten ones, and of those behind as many as
+-- the gate lets
 abbrev pub movable : Shown → Option ℕ → ℕ → ℕ → ℕ
 movable v gate d count =
     min count (v.rewritten - d) + gated gate (take (count - (v.rewritten - d)) (drop v.rewritten v.places))
@@ -49,8 +49,8 @@ rewritten_at v d ps = record v {
   rewritten = max v.rewritten (d + length ps);
 }
 
--- what shows once entries were written to Rewrite again: those that are still there and may move lie where they
--- were written; none do where they begin past the rewritten ones
+-- what shows once entries were written to Rewrite again: those that are still there and may move lie where
+-- they were written; none do where they begin past the rewritten ones
 abbrev pub rewritten_by : Option ℕ → Shown → Item Place (List ℕ) → Shown
 rewritten_by gate v (Run f ps) =
     if nat_lt v.rewritten (f - v.first) then v

@@ -1,5 +1,5 @@
 -- What is read of a table.
-use Rattle.std.specs.Prelude.{ℕ, ◌+◌, ◌-◌, List, length, Option, Some, None, option_map, if◌then◌else◌, nat_lt, nat_le, slice_get}
+use Rattle.std.specs.Prelude.{ℕ, ◌+◌, ◌-◌, length, Option, Some, None, option_map, if◌then◌else◌, nat_lt, nat_le, slice_get}
 use Rattle.raft_log_items.specs.declared.entry.EntryIndex.{EntryIndex}
 use Rattle.raft_log_places.specs.Shown.{Shown}
 use Rattle.raft_log_tables.specs.Entries.{entry_of, queue_of}
@@ -16,5 +16,6 @@ last_of v = if nat_lt 0 (length v.places) then Some (v.first + (length v.places 
 abbrev pub entry_at : Shown → ℕ → Option EntryIndex
 entry_at v i =
     if nat_le v.first i
-    then option_map (entry_of (queue_of (nat_lt (i - v.first) v.rewritten)) i) (slice_get v.places (i - v.first))
+    then option_map (entry_of (queue_of (nat_lt (i - v.first) v.rewritten)) i)
+    (slice_get v.places (i - v.first))
     else None

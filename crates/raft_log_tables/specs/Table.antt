@@ -1,10 +1,9 @@
 -- A table as it is kept: what shows of it, and what is promised.
-use Rattle.std.specs.Prelude.{◌≡◌, ℕ, ◌+◌, ◌⊎◌, Bool, List, Option, length}
+use Rattle.std.specs.Prelude.{◌≡◌, ℕ, ◌⊎◌, Bool, List, Option}
 use Rattle.raft_log_base.specs.declared.errors.Error.{Error}
 use Rattle.raft_log_base.specs.declared.errors.Error.TheVariants as errors
 use Rattle.raft_log_model.specs.Item.{Item}
 use Rattle.raft_log_model.specs.Holes.{Window}
-use Rattle.raft_log_places.specs.declared.place.Place.{Place}
 use Rattle.raft_log_places.specs.declared.group_files.GroupFiles.{GroupFiles}
 use Rattle.raft_log_places.specs.Shown.{Shown, MayFollow}
 use Rattle.raft_log_tables.specs.declared.ends.Ends.{Ends}
@@ -45,6 +44,8 @@ shown t = record {
 abbrev pub promise : Raw → Promise
 promise t = record { wanted = t.places.wanted; ends = window_of t.ahead; has = (keys_of t.keys).has }
 
--- why a run is refused where the entries have these ends: it leaves a hole, and only then as one; or memory ran out
+-- why a run is refused where the entries have these ends: it leaves a hole, and only then as one; or memory
+-- ran out
 abbrev pub RunRefused : {E V : Type 0} → Window → Item E V → Error → Type 0
-RunRefused w x error = ((error ≡ errors.Hole) × (MayFollow w x → ⊥)) ⊎ ((error ≡ errors.Memory) × MayFollow w x)
+RunRefused w x error =
+    ((error ≡ errors.Hole) × (MayFollow w x → ⊥)) ⊎ ((error ≡ errors.Memory) × MayFollow w x)

@@ -34,16 +34,23 @@ impl Ends {
         if stands && self.end < front.index {
             return None;
         }
-        let first = if stands { self.first.min(front.index) } else { front.index };
+        let first = if stands {
+            self.first.min(front.index)
+        } else {
+            front.index
+        };
         let end = front.index + entries.len() as u64;
         Some(Ends { first, end })
     }
 
     /// The ends after a compaction.
     pub fn after_compact(self, index: u64) -> Ends
-        ensures { window_of result ≡ next_span {E = EntryIndex} {V = List ℕ} (window_of self) (Compact index) }
+        ensures { window_of result
+            ≡ next_span {E = EntryIndex} {V = List ℕ} (window_of self) (Compact index) }
     {
-        let dropped = index.saturating_sub(self.first).min(self.end.saturating_sub(self.first));
+        let dropped = index
+            .saturating_sub(self.first)
+            .min(self.end.saturating_sub(self.first));
         Ends {
             first: self.first + dropped,
             end: self.end,

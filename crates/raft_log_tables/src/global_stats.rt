@@ -32,7 +32,9 @@ impl GlobalStats {
         ensures { self.new ≡ added queue count self.old }
     {
         match queue {
-            LogQueue::Append => self.live_append_entries = self.live_append_entries.saturating_add(count),
+            LogQueue::Append => self.live_append_entries = self
+                .live_append_entries
+                .saturating_add(count),
             LogQueue::Rewrite => self.rewrite_entries = self.rewrite_entries.saturating_add(count),
         }
     }
@@ -42,7 +44,9 @@ impl GlobalStats {
         ensures { self.new ≡ deleted queue count self.old }
     {
         match queue {
-            LogQueue::Append => self.live_append_entries = self.live_append_entries.saturating_sub(count),
+            LogQueue::Append => self.live_append_entries = self
+                .live_append_entries
+                .saturating_sub(count),
             LogQueue::Rewrite => {
                 self.deleted_rewrite_entries = self.deleted_rewrite_entries.saturating_add(count);
             }
@@ -55,7 +59,9 @@ impl GlobalStats {
     {
         match queue {
             LogQueue::Append => self.live_append_entries,
-            LogQueue::Rewrite => self.rewrite_entries.saturating_sub(self.deleted_rewrite_entries),
+            LogQueue::Rewrite => self
+                .rewrite_entries
+                .saturating_sub(self.deleted_rewrite_entries),
         }
     }
 
@@ -80,7 +86,9 @@ impl GlobalStats {
           deleted_rewrite_entries = 0;
         } }
     {
-        self.rewrite_entries = self.rewrite_entries.saturating_sub(self.deleted_rewrite_entries);
+        self.rewrite_entries = self
+            .rewrite_entries
+            .saturating_sub(self.deleted_rewrite_entries);
         self.deleted_rewrite_entries = 0;
     }
 }

@@ -9,11 +9,11 @@ ghost use Rattle.raft_log_tables.specs.Keys.{
   unmarked_keys,
   value_of,
   with_mark,
+  with_rewritten,
   with_room,
   with_value,
 };
 ghost use Rattle.raft_log_tables.specs.Files.{file_of_value, least_value, lesser};
-ghost use Rattle.raft_log_places.specs.Bridge.{rewritten_value};
 
 use raft_log_base::FileSeq;
 use raft_log_items::Bytes;
@@ -54,7 +54,11 @@ impl KeySlot {
         ensures { result ≡ file_of_value appended self.now.held }
     {
         let held = self.held.as_ref()?;
-        let there = if appended { held.appended } else { !held.appended };
+        let there = if appended {
+            held.appended
+        } else {
+            !held.appended
+        };
         if there { Some(held.file) } else { None }
     }
 
@@ -84,8 +88,8 @@ impl KeySlot {
     }
 }
 
-/// The keys of a group. Contracts see it as the list of keys and slots, in the order of the keys, and say what
-/// becomes of `keys_of` it.
+/// The keys of a group. Contracts see it as the list of keys and slots, in the order of the keys, and say
+/// what becomes of `keys_of` it.
 #[derive(Drop)]
 pub struct KeyMap {
     alloc: Global,
@@ -191,7 +195,7 @@ impl KeyMap {
 
     /// The value of a key, if it has one, stands in this file of Rewrite from now on.
     pub fn rewrite(&mut self, key: &[u8], file: FileSeq)
-        ensures { keys_of self.new ≡ with_value (keys_of self.old) key.now (rewritten_value file ((keys_of self.old).values key.now)) }
+        ensures { keys_of self.new ≡ with_rewritten (keys_of self.old) key.now file }
     {
         if let Some(slot) = self.slots.get_mut(key) {
             slot.rewrite(file);

@@ -12,10 +12,10 @@ ghost use Rattle.raft_log_tables.specs.Files.{least_rewritten, min_file, noted_a
 ghost use Rattle.raft_log_tables.specs.Room.{kept, promised, CanTake, IsReady, Promise};
 ghost use Rattle.raft_log_tables.specs.Table.{shown, Raw};
 
-/// A table is ready for no items where the ends that it promised are those of its entries. Ready for some, and
-/// prepared for one more that may follow where the ends are the promised ones, it is ready for them all. What
-/// stands for an entry doesn't matter: so a table prepared for entries that aren't written is ready for them once
-/// they are, whichever file that was.
+/// A table is ready for no items where the ends that it promised are those of its entries. Ready for some,
+/// and prepared for one more that may follow where the ends are the promised ones, it is ready for them
+/// all. What stands for an entry doesn't matter: so a table prepared for entries that aren't written is
+/// ready for them once they are, whichever file that was.
 pub fn prepared_is_ready<E, F, V>()
     ensures none { (v : Shown) (q : Promise) → q.ends ≡ span v → IsReady {E = E} {V = V} v q [] }
     ensures more { (v : Shown) (q : Promise) (xs : List (Item E V)) (x : Item E V) → IsReady v q xs
@@ -32,9 +32,9 @@ pub fn ready_takes_all()
         (xs : List (Item Place (List ℕ))) → IsReady v q (x ∷ xs) → IsReady (stepped n v x) (kept q x) xs }
 {}
 
-/// What a table answers for the least file of a queue in use is at or below the file of everything that stands
-/// there; of Rewrite it is the start of the least such file, with the groups that are noted. Where it answers
-/// none, nothing stands there.
+/// What a table answers for the least file of a queue in use is at or below the file of everything that
+/// stands there; of Rewrite it is the start of the least such file, with the groups that are noted. Where
+/// it answers none, nothing stands there.
 pub fn least_file_in_use()
     ensures append { (t : Raw) (n : ℕ) → FrontIsLeast (shown t) → min_file Append t ≡ Some n
         → IsLeastInAppend (shown t) n }

@@ -1,7 +1,7 @@
 //! What an engine keeps in memory of each group: where its entries and keys stand.
 //!
-//! Whatever a call may want memory for happens before a batch is written, in `prepare_..`; what is done after the
-//! write can't be refused.
+//! Whatever a call may want memory for happens before a batch is written, in `prepare_..`; what is done
+//! after the write can't be refused.
 #![tactic(auto)]
 
 pub mod ends;

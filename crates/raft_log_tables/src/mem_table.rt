@@ -3,7 +3,6 @@ ghost use Rattle.std.specs.Prelude.{◌≡◌, ◌+◌, ◌-◌, ◌≤◌, ◌<
 ghost use Rattle.raft_log_base.specs.declared.errors.Error.TheVariants as errors;
 ghost use Rattle.raft_log_items.specs.Run.{IsRun};
 ghost use Rattle.raft_log_model.specs.Item.Item.{Clean, Compact, Del, Put};
-ghost use Rattle.raft_log_machine.specs.Whereabouts.{with_key};
 ghost use Rattle.raft_log_places.specs.declared.place.Place.{Place};
 ghost use Rattle.raft_log_places.specs.Shown.{
   IsOrderly,
@@ -19,11 +18,11 @@ ghost use Rattle.raft_log_places.specs.Shown.{
 ghost use Rattle.raft_log_places.specs.Bridge.{moved_key, unmarked};
 ghost use Rattle.raft_log_places.specs.Noted.{start_of};
 ghost use Rattle.raft_log_tables.specs.Entries.{run_of};
-ghost use Rattle.raft_log_tables.specs.Files.{least_rewritten, min_file, noted_after};
+ghost use Rattle.raft_log_tables.specs.Files.{least_rewritten, min_file, noted_after, with_group};
 ghost use Rattle.raft_log_tables.specs.Moves.{key_rewritten, may_move, moved_by, owed_compact, rewritten_by, StandsIn};
 ghost use Rattle.raft_log_tables.specs.Keys.{shown_value, value_of};
 ghost use Rattle.raft_log_tables.specs.Reads.{entry_at, first_of, last_of};
-ghost use Rattle.raft_log_tables.specs.Room.{CanTake, kept, no_promise, promised};
+ghost use Rattle.raft_log_tables.specs.Room.{kept, no_promise, promised, taken_back, with_room_for, CanTake};
 ghost use Rattle.raft_log_tables.specs.Table.{promise, shown, window_of, RunRefused};
 
 use crate::ends::Ends;
@@ -37,8 +36,8 @@ use std::marker::Model;
 
 /// Where the entries and keys of one group stand, and which marks are owed to Rewrite.
 ///
-/// What shows of it (`shown`) changes only in calls that can't be refused. Whatever these may want memory for is
-/// made before, in `prepare_..`, which shows nothing.
+/// What shows of it (`shown`) changes only in calls that can't be refused. Whatever these may want memory
+/// for is made before, in `prepare_..`, which shows nothing.
 #[derive(Drop)]
 pub struct MemTable {
     first: u64,
@@ -182,7 +181,7 @@ impl MemTable {
     /// Makes room for a key that is to be put or deleted. Refused or not, nothing shows.
     pub fn prepare_key(&mut self, key: &[u8]) -> Result<(), AllocError>
         ensures shows { shown self.new ≡ shown self.old }
-        ensures ok { OnOk result (promise self.new ≡ record (promise self.old) { has = with_key (promise self.old).has key.now true }) }
+        ensures ok { OnOk result (promise self.new ≡ with_room_for (promise self.old) key.now) }
         ensures err { OnErr result (promise self.new ≡ promise self.old) }
     {
         self.keys.make_room(key)
@@ -196,7 +195,8 @@ impl MemTable {
         self.ahead = self.ahead.after_compact(index);
     }
 
-    /// A Clean is to come. It frees nothing: what comes behind it in the batch has its room already. Nothing shows.
+    /// A Clean is to come. It frees nothing: what comes behind it in the batch has its room already.
+    /// Nothing shows.
     pub fn prepare_clean(&mut self)
         ensures shows { shown self.new ≡ shown self.old }
         ensures ok { promise self.new ≡ promised {E = Place} {V = List ℕ} (promise self.old) Clean }
@@ -207,7 +207,7 @@ impl MemTable {
     /// Takes back what was promised to a batch that isn't written. Nothing shows.
     pub fn take_back(&mut self)
         ensures shows { shown self.new ≡ shown self.old }
-        ensures room { promise self.new ≡ record (promise self.old) { wanted = 0; ends = span (shown self.old) } }
+        ensures room { promise self.new ≡ taken_back (promise self.old) (span (shown self.old)) }
     {
         self.places.forget_room();
         self.ahead = self.span();
@@ -232,12 +232,13 @@ impl MemTable {
         self.places.push(entries);
     }
 
-    /// The entries of a record that is read again: room for them is made, and they stand in Append. Nothing else may be
-    /// promised; what is, is taken back. `Hole` where they start past the index after the last; where it is refused,
-    /// nothing shows.
+    /// The entries of a record that is read again: room for them is made, and they stand in Append. Nothing
+    /// else may be promised; what is, is taken back. `Hole` where they start past the index after the last;
+    /// where it is refused, nothing shows.
     pub fn replay_append(&mut self, entries: &[EntryIndex]) -> Result<()>
         requires { IsRun entries.now }
-        ensures ok { (n : ℕ) → OnOk result (shown self.new ≡ stepped n (shown self.old) (run_of entries.now)) }
+        ensures ok { (n : ℕ)
+            → OnOk result (shown self.new ≡ stepped n (shown self.old) (run_of entries.now)) }
         ensures err { OnErr result (shown self.new ≡ shown self.old) }
         ensures errors { IfErr result (λ e. RunRefused (span (shown self.old)) (run_of entries.now) e) }
     {
@@ -298,9 +299,9 @@ impl MemTable {
         self.noted = None;
     }
 
-    /// The least file of a queue in use, where there is one: of Append the file of the first appended entry or of a
-    /// value, of Rewrite the same, but the first file of the groups that are noted where they may reach to it.
-    /// Along the entries of a queue files don't fall.
+    /// The least file of a queue in use, where there is one: of Append the file of the first appended entry
+    /// or of a value, of Rewrite the same, but the first file of the groups that are noted where they may
+    /// reach to it. Along the entries of a queue files don't fall.
     pub fn min_file_seq(&self, queue: LogQueue) -> Option<FileSeq>
         ensures { result ≡ min_file queue self.now }
     {
@@ -316,24 +317,30 @@ impl MemTable {
         }
     }
 
-    /// The file of the first rewritten entry or of a rewritten value, the lesser of them, where there is one.
+    /// The file of the first rewritten entry or of a rewritten value, the lesser of them, where there is
+    /// one.
     fn least_rewritten(&self) -> Option<FileSeq>
         ensures { result ≡ least_rewritten self.now }
     {
-        let place = if self.rewritten > 0 { self.places.get(0) } else { None };
+        let place = if self.rewritten > 0 {
+            self.places.get(0)
+        } else {
+            None
+        };
         lesser(place.map(|p| p.file), self.keys.least_file(false))
     }
 
-    /// An atomic group of Rewrite ended, whose copies moved already: its files are noted, and while something lies at
-    /// or below the last file noted before, also those.
+    /// An atomic group of Rewrite ended, whose copies moved already: its files are noted, and while
+    /// something lies at or below the last file noted before, also those.
     pub fn apply_rewrite_atomic_group(&mut self, files: GroupFiles)
-        ensures shows { shown self.new ≡ record (shown self.old) { noted = Some (noted_after (least_rewritten self.old) self.old.noted files) } }
+        ensures shows { shown self.new ≡ with_group self.old files }
         ensures room { promise self.new ≡ promise self.old }
     {
         self.noted = Some(noted_after(self.least_rewritten(), self.noted, files));
     }
 
-    /// The value of a key, if it has one, stands in this file of Rewrite from now on: a copy was written there.
+    /// The value of a key, if it has one, stands in this file of Rewrite from now on: a copy was written
+    /// there.
     pub fn move_key(&mut self, key: &[u8], file: FileSeq)
         ensures shows { shown self.new ≡ moved_key (shown self.old) key.now file }
         ensures room { promise self.new ≡ promise self.old }
@@ -341,8 +348,8 @@ impl MemTable {
         self.keys.rewrite(key, file);
     }
 
-    /// A key was written to Rewrite: its value stands there from now on, if it has one that stood there already, or,
-    /// where there is a gate, in a file of Append up to it.
+    /// A key was written to Rewrite: its value stands there from now on, if it has one that stood there
+    /// already, or, where there is a gate, in a file of Append up to it.
     pub fn rewrite_key(&mut self, key: &[u8], gate: Option<FileSeq>, file: FileSeq)
         ensures shows { shown self.new ≡ key_rewritten gate (shown self.old) key.now file }
         ensures room { promise self.new ≡ promise self.old }
@@ -355,7 +362,8 @@ impl MemTable {
         }
     }
 
-    /// Entries from the first one's index on, and all below, stand in Rewrite: these where their copies were written.
+    /// Entries from the first one's index on, and all below, stand in Rewrite: these where their copies
+    /// were written.
     pub fn move_run(&mut self, entries: &[EntryIndex])
         requires run { IsRun entries.now }
         requires within { StandsIn (shown self.old) (run_of entries.now) }
@@ -370,8 +378,8 @@ impl MemTable {
         self.rewritten = position + entries.len();
     }
 
-    /// Entries were written to Rewrite: those that are still there lie where they were written, up to the first that
-    /// is appended and, if there is a gate, in a file past it.
+    /// Entries were written to Rewrite: those that are still there lie where they were written, up to the
+    /// first that is appended and, if there is a gate, in a file past it.
     pub fn rewrite(&mut self, entries: &[EntryIndex], gate: Option<FileSeq>)
         requires { IsRun entries.now }
         ensures shows { shown self.new ≡ rewritten_by gate (shown self.old) (run_of entries.now) }
@@ -388,7 +396,9 @@ impl MemTable {
         let (_, kept) = entries.split_at(gone);
         let there = kept.len().min(self.rewritten - position);
         let more = match gate {
-            Some(gate) => self.places.count_up_to(self.rewritten, kept.len() - there, gate),
+            Some(gate) => self
+                .places
+                .count_up_to(self.rewritten, kept.len() - there, gate),
             None => 0,
         };
         let count = there + more;
@@ -414,8 +424,8 @@ impl MemTable {
         self.cleaned
     }
 
-    /// The index of the Compact that is owed to Rewrite, if one is: of the first entry where rewritten ones stand,
-    /// else past every index.
+    /// The index of the Compact that is owed to Rewrite, if one is: of the first entry where rewritten ones
+    /// stand, else past every index.
     #[tactic(auto, unfolding(raft_log_machine::specs::Whereabouts::top))]
     pub fn owed_compact(&self) -> Option<u64>
         ensures { result ≡ owed_compact (shown self.now) }
@@ -423,7 +433,11 @@ impl MemTable {
         if !self.compacted {
             return None;
         }
-        Some(if self.rewritten > 0 { self.first } else { u64::MAX })
+        Some(if self.rewritten > 0 {
+            self.first
+        } else {
+            u64::MAX
+        })
     }
 }
 
@@ -437,7 +451,8 @@ fn start_of(file: FileSeq, noted: Option<GroupFiles>) -> FileSeq
     }
 }
 
-/// The files of groups to note once a new group ended, where this is the least file in which something stands.
+/// The files of groups to note once a new group ended, where this is the least file in which something
+/// stands.
 fn noted_after(least: Option<FileSeq>, old: Option<GroupFiles>, new: GroupFiles) -> GroupFiles
     ensures { result ≡ noted_after least old new }
 {

@@ -10,7 +10,8 @@ use std::alloc::{AllocError, Global};
 use std::collections::VecDeque;
 use std::marker::Model;
 
-/// Where a written entry lies. One that isn't written lies nowhere: its file, its block's offset and length are 0.
+/// Where a written entry lies. One that isn't written lies nowhere: its file, its block's offset and length
+/// are 0.
 pub fn place_of(entry: &EntryIndex) -> Place
     ensures { result ≡ place_of entry.now }
 {
@@ -140,7 +141,8 @@ impl Places {
     pub fn replace(&mut self, position: usize, entries: &[EntryIndex])
         requires { position + length entries.now ≤ length self.old.items }
         ensures items { self.new.items
-            ≡ take position self.old.items ++ (map place_of entries.now ++ drop (position + length entries.now) self.old.items) }
+            ≡ take position self.old.items
+            ++ (map place_of entries.now ++ drop (position + length entries.now) self.old.items) }
         ensures wanted { self.new.wanted ≡ self.old.wanted }
     {
         for (i, entry) in entries.iter().enumerate() {
@@ -148,8 +150,8 @@ impl Places {
         }
     }
 
-    /// How many places from this position on, at most so many, lie in files up to the gate, up to the first that
-    /// doesn't.
+    /// How many places from this position on, at most so many, lie in files up to the gate, up to the first
+    /// that doesn't.
     pub fn count_up_to(&self, position: usize, limit: usize, gate: FileSeq) -> usize
         requires { position ≤ length self.now.items }
         ensures count { result ≡ passing gate (take limit (drop position self.now.items)) }

@@ -1,4 +1,4 @@
-use Rattle.std.proofs.Common.{Some, ap, rules, sym, ◌∙◌}
+use Rattle.std.proofs.Common.{ap, rules, sym, ◌∙◌}
 use Rattle.raft_log_tables.specs.Keys.{keys_of}
 use Rattle.raft_log_tables.specs.contracts.key_map.KeyMap.{the_view}
 use Rattle.raft_log_tables.proofs.ByteKeys.{has_slot, delete_keys}

@@ -1,5 +1,4 @@
-use Rattle.std.proofs.Common.{◌+◌, ◌-◌, ◌≡◌, ◌<◌, ◌≤◌, ap, arith, drop, length, slice_index_or, subst, sym, take, ◌∙◌}
-use Rattle.raft_log_tables.specs.Moves.{passing}
+use Rattle.std.proofs.Common.{◌+◌, ◌≡◌, ◌<◌, ◌≤◌, ap, arith, length, slice_index_or, subst, ◌∙◌}
 use Rattle.raft_log_tables.proofs.Replacing.{goes_on, stops}
 use Rattle.raft_log_tables.proofs.places.Places.count_up_to.Goals as goal
 

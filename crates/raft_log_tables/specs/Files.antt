@@ -1,0 +1,71 @@
+-- The files that a table has something in.
+use Rattle.std.specs.Prelude.{◌≡◌, ℕ, ◌+◌, ◌<◌, ◌≤◌, min, Bool, true, false, not, List, [], ◌∷◌, Option, Some, None, map, option_map, if◌then◌else◌, nat_lt, length, slice_get}
+use Rattle.raft_log_base.specs.declared.pipe_log.LogQueue.{LogQueue}
+use Rattle.raft_log_base.specs.declared.pipe_log.LogQueue.TheVariants.{Append, Rewrite}
+use Rattle.raft_log_places.specs.declared.group_files.GroupFiles.{GroupFiles}
+use Rattle.raft_log_model.specs.Meaning.Slot.{Index}
+use Rattle.raft_log_places.specs.Shown.{KeyValue, Shown}
+use Rattle.raft_log_places.specs.Noted.{file_at, noting, place_file, start_of}
+use Rattle.raft_log_tables.specs.declared.key_map.HeldValue.{HeldValue}
+use Rattle.raft_log_tables.specs.declared.key_map.KeySlot.{KeySlot}
+use Rattle.raft_log_tables.specs.Table.{shown, Raw}
+
+-- the lesser of two files, where there are any
+abbrev pub lesser : Option ℕ → Option ℕ → Option ℕ
+lesser None b = b
+lesser (Some a) None = Some a
+lesser (Some a) (Some b) = Some (min a b)
+
+-- the file of a value, if there is one and it stands in that queue: Append, or else Rewrite
+abbrev pub file_of_value : Bool → Option HeldValue → Option ℕ
+file_of_value appended None = None
+file_of_value appended (Some h) =
+    if (if appended then h.appended else not h.appended) then Some h.file else None
+
+-- the least file of the values in that queue, and of one that was found before
+abbrev pub least_over : Bool → Option ℕ → List KeySlot → Option ℕ
+least_over appended least [] = least
+least_over appended least (s ∷ ss) = least_over appended (lesser least (file_of_value appended s.held)) ss
+
+-- the least file of the values in that queue
+abbrev pub least_value : Bool → List (List ℕ × KeySlot) → Option ℕ
+least_value appended slots = least_over appended None (map (λ e. e.1) slots)
+
+-- the file of the first entry in a queue
+abbrev pub first_place : LogQueue → Raw → Option ℕ
+first_place Append t = option_map (λ p. p.file) (slice_get t.places.items t.rewritten)
+first_place Rewrite t =
+    if nat_lt 0 t.rewritten then option_map (λ p. p.file) (slice_get t.places.items 0) else None
+
+-- the least file of Rewrite that has something, where the files don't fall along the entries
+abbrev pub least_rewritten : Raw → Option ℕ
+least_rewritten t = lesser (first_place Rewrite t) (least_value false t.keys)
+
+-- the least file of a queue in use: of Rewrite, where noted groups may reach to it, the first of theirs
+abbrev pub min_file : LogQueue → Raw → Option ℕ
+min_file Append t = lesser (first_place Append t) (least_value true t.keys)
+min_file Rewrite t = option_map (λ n. start_of n t.noted) (least_rewritten t)
+
+-- what is noted once a new group ended, where this is the least file of Rewrite that has something
+abbrev pub noted_after : Option ℕ → Option GroupFiles → GroupFiles → GroupFiles
+noted_after None old new = new
+noted_after (Some least) old new = noting least old new
+
+-- what shows once an atomic group in these files ended and is noted
+abbrev pub with_group : Raw → GroupFiles → Shown
+with_group t files = record (shown t) { noted = Some (noted_after (least_rewritten t) t.noted files) }
+
+-- no entry of a queue lies in an earlier file than the first one there: so it is where files don't fall
+-- along the entries
+abbrev pub FrontIsLeast : Shown → Type 0
+FrontIsLeast v =
+    ((i : ℕ) → v.first ≤ i → i < v.first + v.rewritten
+    → place_file (slice_get v.places 0) ≤ file_at v (Index i))
+    × ((i : ℕ) → v.first + v.rewritten ≤ i → i < v.first + length v.places
+    → place_file (slice_get v.places v.rewritten) ≤ file_at v (Index i))
+
+-- no appended entry and no appended value lies in a file below
+abbrev pub IsLeastInAppend : Shown → ℕ → Type 0
+IsLeastInAppend v least =
+    ((i : ℕ) → v.first + v.rewritten ≤ i → i < v.first + length v.places → least ≤ file_at v (Index i))
+    × ((k : List ℕ) (h : KeyValue) → v.held k ≡ Some h → h.appended ≡ true → least ≤ h.file)

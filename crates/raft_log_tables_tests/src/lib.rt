@@ -1,0 +1,5 @@
+//! Tests of tables: worked rows, and each call once.
+#![tactic(auto)]
+
+#[cfg(test)]
+mod tables;

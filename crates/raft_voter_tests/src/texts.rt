@@ -18,6 +18,16 @@ const NUMBERED: [(Reply, &str); 10] = [
     (Reply::Refused, "Refused"),
 ];
 
+/// What is wrong with stored bytes, as it is written.
+const FAULTS: [(StoredFault, &str); 6] = [
+    (StoredFault::Length, "wrong length"),
+    (StoredFault::Form, "unknown form"),
+    (StoredFault::Range, "value out of range"),
+    (StoredFault::Index, "wrong index"),
+    (StoredFault::Order, "entries out of order"),
+    (StoredFault::Memory, "out of memory"),
+];
+
 /// Without and with a vote.
 const STATES: [(Option<u64>, &str); 2] = [
     (None, "Status 9 - 3 2 18446744073709551615 8 4"),
@@ -37,14 +47,10 @@ fn texts_of_session_faults(rt: HostRuntime) -> Result<(), Fail> {
 
 #[test]
 fn texts_of_faults(rt: HostRuntime) -> Result<(), Fail> {
-    let alloc = rt.alloc();
-    assert!(rt; Memory.to_string(alloc)?.as_str() == "out of memory");
-    assert!(rt; StoredFault::Length.to_string(alloc)?.as_str() == "wrong length");
-    assert!(rt; StoredFault::Form.to_string(alloc)?.as_str() == "unknown form");
-    assert!(rt; StoredFault::Range.to_string(alloc)?.as_str() == "value out of range");
-    assert!(rt; StoredFault::Index.to_string(alloc)?.as_str() == "wrong index");
-    assert!(rt; StoredFault::Order.to_string(alloc)?.as_str() == "entries out of order");
-    assert!(rt; StoredFault::Memory.to_string(alloc)?.as_str() == "out of memory");
+    for (fault, text) in FAULTS.iter() {
+        assert!(rt; fault.to_string(rt.alloc())?.as_str() == *text, "{text}");
+    }
+    assert!(rt; Memory.to_string(rt.alloc())?.as_str() == "out of memory");
     Ok(())
 }
 

@@ -1,6 +1,6 @@
 -- Whole records: a header, the entry block, and the footer with the items. A record is signed with the number
 -- of its file.
-use Rattle.std.specs.Prelude.{◌≡◌, ◌⊎◌, ℕ, ◌+◌, ◌-◌, ◌*◌, ◌/◌, ◌%◌, ◌<◌, ◌≤◌, ◌^◌, List, [], ◌∷◌, ◌++◌, length, take, drop, slice_range, Option, Result, Ok, Err, unwrap_or, nat_lt, ◌==◌, if◌then◌else◌, codes, bit_xor, Bool, ◌&&◌}
+use Rattle.std.specs.Prelude.{◌≡◌, ◌⊎◌, ℕ, ◌+◌, ◌-◌, ◌*◌, ◌/◌, ◌%◌, ◌<◌, ◌≤◌, ◌^◌, List, [], ◌∷◌, ◌++◌, length, take, drop, slice_range, Option, Result, Ok, Err, unwrap_or, nat_lt, ◌==◌, if◌then◌else◌, codes, bit_xor, Bool, ◌&&◌, min}
 use Rattle.std.specs.Fmt.{decimal}
 use Rattle.std.specs.Int.{w32, w64, from_be_bytes, from_le_bytes}
 use Rattle.raft_log_base.specs.Grammar.{Reader, ◌>>=◌}
@@ -13,7 +13,7 @@ use Rattle.std.specs.Borrow.{Bor}
 use Rattle.std.specs.Global.{Vec}
 use Rattle.raft_log_base.specs.declared.errors.Error.{Error}
 use Rattle.raft_log_base.specs.declared.pipe_log.FileBlockHandle.{FileBlockHandle}
-use Rattle.raft_log_base.specs.Fault.{Fault, Fails}
+use Rattle.raft_log_base.specs.Fault.{Fault, Fails, GivesOrMemory}
 use Rattle.raft_log_base.specs.Fault.Fault.{corrupt}
 use Rattle.raft_log_items.specs.Items.{AreItems}
 use Rattle.raft_log_items.specs.Reading.{items_at, unsupported_compression}
@@ -183,6 +183,12 @@ abbrev pub GivesItems : {X : Type 0} → Result (Vec X) Error → Result (List X
 GivesItems (Ok x) reading = reading ≡ Ok x.items
 GivesItems (Err e) reading = Fails e reading
 
+-- what was answered of the end of a footer is so for the sum of its entries' lengths, of which at most 2 ^ 64 - 1
+-- is given
+abbrev pub TellsWhole : Result (Unit {0}) Error → ℕ → ℕ → List ℕ → Type 0
+TellsWhole result block_len len rest =
+    (sum : ℕ) → len ≡ min sum (2 ^ 64 - 1) → GivesOrMemory result (whole_of block_len sum rest)
+
 -- the bytes of a footer in front of its checksum, which is signed with this
 unfoldable pub body_of : Option ℕ → List ℕ → Result (List ℕ) Fault
 body_of signature bytes =
@@ -199,7 +205,8 @@ footer_of signature len bytes =
 
 -- the items of a whole footer with their places, whose entries are in the block at this place
 unfoldable pub placed_footer_of : Option ℕ → FileBlockHandle → List ℕ → Result (List LogItem) Fault
-placed_footer_of signature block bytes = footer_of signature block.len bytes >>= λ items. Ok (placed block items)
+placed_footer_of signature block bytes =
+    footer_of signature block.len bytes >>= λ items. Ok (placed block items)
 
 -- Writing.
 

@@ -1,11 +1,10 @@
 //! The footer of a record: its items, and their signed checksum.
-ghost use Rattle.std.specs.Prelude.{◌≡◌, ℕ, ◌+◌, ◌-◌, ◌<◌, ◌^◌, ◌==◌, if◌then◌else◌, min};
-ghost use Rattle.raft_log_base.specs.Fault.{GivesOrMemory};
+ghost use Rattle.std.specs.Prelude.{◌≡◌, ◌+◌, ◌-◌, ◌<◌, ◌^◌, ◌==◌, if◌then◌else◌, min};
 ghost use Rattle.raft_log_items.specs.Placed.{entries_len};
 ghost use Rattle.raft_log_frames.specs.Record.{
   GivesItems,
   GivesSlice,
-  whole_of,
+  TellsWhole,
   body_of,
   footer_of,
   placed_footer_of,
@@ -41,11 +40,11 @@ fn fills(len: u64, block_len: usize) -> bool
     }
 }
 
-/// Whether nothing stands behind the items, and so many bytes of entries, or 2^64 - 1 where there are more, are
-/// in a block of this length.
+/// Whether nothing stands behind the items, and so many bytes of entries, or 2^64 - 1 where there are more,
+/// are in a block of this length.
 #[tactic(auto, unfolding(crate::specs::Record::whole_of))]
 fn check_whole(alloc: Global, rest: &[u8], len: u64, block_len: usize) -> Result<()>
-    ensures { (sum : ℕ) → len ≡ min sum (2 ^ 64 - 1) → GivesOrMemory result (whole_of block_len sum rest.now) }
+    ensures { TellsWhole result block_len len rest.now }
 {
     let left = rest.len();
     if left != 0 {

@@ -41,11 +41,12 @@ fn read_words(alloc: Global, word: u64, offset: u64) -> Result<(usize, Compressi
 }
 
 /// Reads the header of a record: where its footer begins, how its entry block is compressed, and its length,
-/// the first and the last counted from the start of the record. Takes sixteen bytes, or none where it refuses.
+/// the first and the last counted from the start of the record. Takes sixteen bytes, or none where it
+/// refuses.
 ///
-/// Refuses as a corruption, in this order: fewer than 16 bytes, a compression, a footer that begins inside the
-/// header, and one that begins past the record's end. Only the text of a refusal takes memory: a good header is
-/// always answered.
+/// Refuses as a corruption, in this order: fewer than 16 bytes, a compression, a footer that begins inside
+/// the header, and one that begins past the record's end. Only the text of a refusal takes memory: a good
+/// header is always answered.
 #[tactic(auto, unfolding(crate::specs::Record::header_at))]
 pub fn decode_header(
     alloc: Global,
@@ -70,8 +71,8 @@ pub fn decode_header(
 
 /// The entries' bytes of a whole entry block, which is not copied. No bytes are a block without entries.
 ///
-/// Refuses as a corruption one to three bytes, and a wrong checksum. A checksum alone is a block too, which is
-/// never written. Only the text of a refusal takes memory: a good block is always answered.
+/// Refuses as a corruption one to three bytes, and a wrong checksum. A checksum alone is a block too, which
+/// is never written. Only the text of a refusal takes memory: a good block is always answered.
 #[tactic(auto, unfolding(crate::specs::Record::block_of))]
 pub fn decode_entries_block<'a>(
     alloc: Global,

@@ -45,7 +45,8 @@ pub fn record_is_a_frame_with_a_block()
     ensures bytes { FramesTakeBytes }
 {}
 
-/// A header, an entry block and a footer are read exactly where they stand, and what is read is what they say.
+/// A header, an entry block and a footer are read exactly where they stand, and what is read is what they
+/// say.
 pub fn parts_are_read()
     ensures headers { IsReader header_at IsSoundHeader }
     ensures blocks { BlockIsRead }

@@ -14,8 +14,8 @@ use Rattle.raft_log_frames.specs.Record.{block_bytes, record_bytes, IsRecord}
 use Rattle.raft_log_records.specs.ItemBatch.{ItemBatch, HasRoom, items_size}
 use Rattle.raft_log_frames.specs.Made.{HoldsRecordBytes}
 
--- the state, the items, the bytes of their entries, and for how many items and how many bytes of a record there
--- is room before memory is asked for
+-- the state, the items, the bytes of their entries, and for how many items and how many bytes of a record
+-- there is room before memory is asked for
 pub record Batch : Type 0 where
   pub state : BatchState
   pub items : List LogItem
@@ -28,7 +28,8 @@ abbrev pub roomy : List ℕ → List ℕ
 roomy [] = replicate 16 0
 roomy (b ∷ bs) = b ∷ bs
 
--- the batch with this state and this list of items, of whose buffer so many bytes behind the header are entries
+-- the batch with this state and this list of items, of whose buffer so many bytes behind the header are
+-- entries
 abbrev pub shown : BatchState → ItemBatch → ℕ → Vec ℕ → Batch
 shown state items len buffer =
     record {
@@ -180,6 +181,10 @@ IsRecordOf b bytes =
 -- the bytes of the batch in the file for which it is signed
 abbrev pub signed_bytes : Batch → List ℕ
 signed_bytes b = batch_bytes (signature_in b.state) b.items b.entries
+
+-- the batch once its record is signed with this
+abbrev pub signed_as : Option ℕ → Batch → Batch
+signed_as signature b = record b { state = Signed signature }
 
 -- the batch once its record is written at this place
 abbrev pub written_at : FileBlockHandle → Batch → Batch

@@ -39,13 +39,13 @@ pub enum BatchState {
 
 /// Items and the bytes of their entries, and the record of these.
 ///
-/// Contracts see a batch as its state, its items, the bytes of their entries, and for how many items and how many
-/// bytes of a record it has room.
+/// Contracts see a batch as its state, its items, the bytes of their entries, and for how many items and how
+/// many bytes of a record it has room.
 #[derive(Debug, Drop)]
 pub struct LogBatch {
     items: LogItemBatch,
-    /// Room for the header, the entries' bytes, and once it is populated the rest of the record; no byte at all where
-    /// the buffer was given back.
+    /// Room for the header, the entries' bytes, and once it is populated the rest of the record; no byte at
+    /// all where the buffer was given back.
     buf: Vec<u8>,
     /// How many bytes the entries have.
     entries_len: usize,
@@ -73,11 +73,11 @@ impl LogBatch {
     ghost use Rattle.raft_log_items.specs.Placed.{entries_len, laid_out};
     ghost use Rattle.raft_log_frames.specs.Record.{record_len};
     ghost use Rattle.raft_log_frames.specs.Made.{IsMemoryOrFull};
-    ghost use Rattle.raft_log_records.specs.declared.log_batch.BatchState.TheVariants.{Filling, Populated, Signed, Written};
+    ghost use Rattle.raft_log_records.specs.declared.log_batch.BatchState.TheVariants.{Filling, Populated};
     ghost use Rattle.raft_log_records.specs.AtomicGroup.{mark_key, marking_of_items};
     ghost use Rattle.raft_log_records.specs.ItemBatch.{command_item};
     ghost use Rattle.raft_log_records.specs.Key.{is_internal, IsKeyRefusal};
-    ghost use Rattle.raft_log_records.specs.Batch.{batch_size, empty_batch, emptied, max_kept_len, written_at, signed_bytes, IsButBuffer, AddsItem, Puts, Becomes, IsMade, IsSigned, IsReadyForEach, IsRecordOf, block_place};
+    ghost use Rattle.raft_log_records.specs.Batch.{batch_size, empty_batch, emptied, max_kept_len, written_at, signed_as, signed_bytes, IsButBuffer, AddsItem, Puts, Becomes, IsMade, IsSigned, IsReadyForEach, IsRecordOf, block_place};
     ghost use Rattle.raft_log_records.specs.Places.{AllLieIn, HasBytesInBlock};
 
     /// An empty batch, which is being filled.
@@ -221,8 +221,8 @@ impl LogBatch {
     /// Makes the record, and answers how many bytes it has, for whatever file it will be signed. An empty
     /// batch has none.
     ///
-    /// Refused as full is a record whose length needs more than 56 bits. A refusal changes nothing but the memory
-    /// of the buffer.
+    /// Refused as full is a record whose length needs more than 56 bits. A refusal changes nothing but the
+    /// memory of the buffer.
     pub fn finish_populate(&mut self) -> Result<usize>
         requires { self.old.state ≡ Filling }
         ensures ok { OnOk result (IsButBuffer (record self.old { state = Populated }) self.new) }
@@ -265,7 +265,7 @@ impl LogBatch {
     /// Signs the record for a file. It may be signed again for another one.
     pub fn prepare_write(&mut self, context: &LogFileContext)
         requires { IsMade self.old.state }
-        ensures { self.new ≡ record self.old { state = Signed (signature_of context.now) } }
+        ensures { self.new ≡ signed_as (signature_of context.now) self.old }
     {
         let signature = context.get_signature();
         if self.items.is_empty() {
@@ -361,8 +361,8 @@ impl LogBatch {
         Ok(())
     }
 
-    /// Drops what was added, and leaves an empty batch that is being filled, with its room for items. The buffer
-    /// is kept too, but one of more than 8 MiB is given back.
+    /// Drops what was added, and leaves an empty batch that is being filled, with its room for items. The
+    /// buffer is kept too, but one of more than 8 MiB is given back.
     pub fn clear(&mut self)
         ensures emptied { self.new ≡ emptied self.old }
         ensures bounded { self.new.buffer ≤ max_kept_len }
@@ -405,8 +405,8 @@ fn block_len(len: usize) -> usize
     if len == 0 { 0 } else { len + CHECKSUM_LEN }
 }
 
-/// Makes room for so many more bytes, and for a header in a buffer that has no byte, by one reservation. A refusal
-/// leaves the bytes.
+/// Makes room for so many more bytes, and for a header in a buffer that has no byte, by one reservation. A
+/// refusal leaves the bytes.
 fn make_room(buf: &mut Vec<u8>, more: usize) -> Result<(), AllocError>
     ensures ok { OnOk result (buf.new.items ≡ roomy buf.old.items) }
     ensures room { OnOk result (vec_len buf.new + more ≤ vec_capacity buf.new) }

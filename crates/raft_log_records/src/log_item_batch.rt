@@ -296,8 +296,8 @@ impl LogItemBatch {
     /// The items of a whole footer of this file, whose entries lie in the block at this place. Each entry has
     /// its offset in the block and the block's place, and each key its file.
     ///
-    /// Refuses what `decode_placed_footer` refuses: a footer that is signed for another file, entries whose lengths
-    /// don't add up to the block, and the first fault of the items.
+    /// Refuses what `decode_placed_footer` refuses: a footer that is signed for another file, entries whose
+    /// lengths don't add up to the block, and the first fault of the items.
     pub fn decode(
         alloc: Global,
         bytes: &[u8],

@@ -2,7 +2,7 @@
 ghost use Rattle.std.specs.Prelude.{◌≡◌, ◌+◌, ◌<◌, ◌^◌, length, IsOk, IfOk, OnOk, OnErr};
 ghost use Rattle.raft_log_base.specs.Files.{signature_of};
 ghost use Rattle.raft_log_records.specs.declared.log_batch.BatchState.TheVariants.{Filling, Populated, Signed};
-ghost use Rattle.raft_log_records.specs.Batch.{IsButBuffer, IsReadyForEach, written_at};
+ghost use Rattle.raft_log_records.specs.Batch.{IsButBuffer, IsReadyForEach, signed_as, written_at};
 
 use raft_log_items::{FileBlockHandle, LogFileContext, Result};
 use raft_log_records::LogBatch;
@@ -10,7 +10,7 @@ use raft_log_records::LogBatch;
 /// Makes the record of a batch and signs it for a file, and answers how many bytes it has in whatever file.
 pub fn make_record(batch: &mut LogBatch, context: &LogFileContext) -> Result<usize>
     requires { batch.old.state ≡ Filling }
-    ensures ok { OnOk result (IsButBuffer (record batch.old { state = Signed (signature_of context.now) }) batch.new) }
+    ensures ok { OnOk result (IsButBuffer (signed_as (signature_of context.now) batch.old) batch.new) }
     ensures ready { IfOk result (λ len. IsReadyForEach len batch.old.items batch.old.entries) }
     ensures err { OnErr result (IsButBuffer batch.old batch.new) }
 {

@@ -20,8 +20,8 @@ impl LogBatch {
     /// Takes the items and the entries' bytes of the other batch behind its own, and leaves the other one
     /// empty.
     ///
-    /// Refused as full are more than 2,147,483,647 bytes of entries in all. A refusal changes neither but the memory
-    /// of the own buffer, and where there is room for the other's items and bytes there is none.
+    /// Refused as full are more than 2,147,483,647 bytes of entries in all. A refusal changes neither but the
+    /// memory of the own buffer, and where there is room for the other's items and bytes there is none.
     pub fn merge(&mut self, rhs: &mut LogBatch) -> Result<()>
         requires own { self.old.state ≡ Filling }
         requires other { rhs.old.state ≡ Filling }

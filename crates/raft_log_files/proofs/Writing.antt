@@ -64,10 +64,13 @@ module _ {R : Type 0} (F : Format R) where
   -- the record is there, or may be
   record_written : (to : ℕ) (q : LogFiles R) (w : Written R) (file : File) → IsFormat F → F.IsFrame q.last q.header w.bytes w.value → length (whole q) + length w.bytes ≤ to → HasRoom (IsActiveTo F to) q file
       → HasRoom (IsActiveTo F to) (with_more (w ∷ []) q) (after_change (Wrote (length (whole q)) w.bytes) file)
-  record_written to q w file lawful framed fits (room, was) = (room, record {
-    active = active_written F lawful (with_room room q) w file framed was.active;
-    ends = long_written (length (whole q)) to w.bytes file.content (overwritten (length (whole q)) w.bytes file.content) fits was.ends (overwritten_torn (length (whole q)) w.bytes file.content);
-  })
+  record_written to q w file lawful framed fits (room, was) = (
+    room,
+    record {
+      active = active_written F lawful (with_room room q) w file framed was.active;
+      ends = long_written (length (whole q)) to w.bytes file.content (overwritten (length (whole q)) w.bytes file.content) fits was.ends (overwritten_torn (length (whole q)) w.bytes file.content);
+    },
+  )
 
   record_to_come : (to : ℕ) (q : LogFiles R) (w : Written R) (file : File) → F.IsFrame q.last q.header w.bytes w.value → HasRoom (IsActiveTo F to) q file
       → HasRoom (λ p f. IsFrontTo F to p (w ∷ []) f) q file
@@ -75,10 +78,13 @@ module _ {R : Type 0} (F : Format R) where
 
   record_in_part : (to : ℕ) (q : LogFiles R) (w : Written R) (content : List ℕ) (file : File) → F.IsFrame q.last q.header w.bytes w.value → length (whole q) + length w.bytes ≤ to → HasRoom (IsActiveTo F to) q file
       → InPart (Wrote (length (whole q)) w.bytes) file.content content → HasRoom (λ p f. IsFrontTo F to p (w ∷ []) f) q (with_change (Wrote (length (whole q)) w.bytes) content file)
-  record_in_part to q w content file framed fits (room, was) torn = (room, record {
-    front = front_written F (with_room room q) w content file framed was.active torn;
-    ends = long_written (length (whole q)) to w.bytes file.content content fits was.ends torn;
-  })
+  record_in_part to q w content file framed fits (room, was) torn = (
+    room,
+    record {
+      front = front_written F (with_room room q) w content file framed was.active torn;
+      ends = long_written (length (whole q)) to w.bytes file.content content fits was.ends torn;
+    },
+  )
 
   -- The same of a file without records, whose header is to be written.
 
@@ -100,10 +106,13 @@ module _ {R : Type 0} (F : Format R) where
 
   header_written : (to : ℕ) (header stale : List ℕ) (q : LogFiles R) (file : File) → length header ≤ to → HasRoom (IsNewTo F to) (begun header stale q) file
       → HasRoom (IsHeadedTo F to) (begun header stale q) (after_change (Wrote 0 header) file)
-  header_written to header stale q file fits (room, was) = (room, record {
-    headed = new_headed F header (grown room stale) q file was.new;
-    ends = long_written 0 to header file.content (overwritten 0 header file.content) (omega (arith, fits)) was.ends (overwritten_torn 0 header file.content);
-  })
+  header_written to header stale q file fits (room, was) = (
+    room,
+    record {
+      headed = new_headed F header (grown room stale) q file was.new;
+      ends = long_written 0 to header file.content (overwritten 0 header file.content) (omega (arith, fits)) was.ends (overwritten_torn 0 header file.content);
+    },
+  )
 
   header_held : (to : ℕ) (header stale : List ℕ) (q : LogFiles R) (file : File) → HasRoom (IsNewTo F to) (begun header stale q) file → HasRoom (HoldsLast F) (begun header stale q) file
   header_held to header stale q file (room, was) = (room, new_holds F header (grown room stale) q file was.new)
@@ -215,19 +224,22 @@ module _ {R : Type 0} (F : Format R) where
     -- room that was made is counted
     pub roomy_stands : (P : LogFiles R → File → Type 0) (q : LogFiles R) (path : List ℕ) (id : ℕ) (N : Names) (d : Disk) → Stands F own base q path id (HasRoom P q) N d
         → (room : ℕ) × Stands F own base (with_room room q) path id (P (with_room room q)) N d
-    roomy_stands P q path id N d s = (s.file.has.0, same_files F own base q (with_room s.file.has.0 q) path id (P (with_room s.file.has.0 q)) N d refl refl refl (record {
-      names = s.names;
-      bound = s.bound;
-      at = s.at;
-      named = s.named;
-      alone = s.alone;
-      none = s.none;
-      headed = s.headed;
-      places = s.places;
-      file = record { file = s.file.file; is = s.file.is; has = s.file.has.1 };
-      older = s.older;
-      others = s.others;
-    }))
+    roomy_stands P q path id N d s = (
+      s.file.has.0,
+      same_files F own base q (with_room s.file.has.0 q) path id (P (with_room s.file.has.0 q)) N d refl refl refl (record {
+        names = s.names;
+        bound = s.bound;
+        at = s.at;
+        named = s.named;
+        alone = s.alone;
+        none = s.none;
+        headed = s.headed;
+        places = s.places;
+        file = record { file = s.file.file; is = s.file.is; has = s.file.has.1 };
+        older = s.older;
+        others = s.others;
+      }),
+    )
 
     -- The last file is synced.
     pub synced_stands : (handle : Handle) (capacity : ℕ) (q : LogFiles R) (path : List ℕ) (N : Names) (old new : Disk) → HaveOneName N → Changes handle.file flushed old new

@@ -2,7 +2,7 @@
 use Rattle.std.specs.Prelude.{Result, Ok, Err}
 use Rattle.std.specs.Result.{IfErr, OnOk, OnErr}
 use Rattle.std.specs.declared.io.ErrorKind.{ErrorKind}
-use Rattle.std.proofs.Common.{◌≡◌, ℕ, ◌+◌, true, Some, None, List, [], ◌∷◌, ◌++◌, length, drop, refl, sym, ◌∙◌, ap, subst, arith, length-append}
+use Rattle.std.proofs.Common.{◌≡◌, ℕ, ◌+◌, true, Some, List, [], ◌∷◌, ◌++◌, length, drop, refl, sym, ◌∙◌, ap, subst, arith, length-append}
 use Rattle.std.proofs.lemmas.List.{append-nil}
 use Rattle.raft_log_disk.specs.Disk.{File, Disk, grown}
 use Rattle.raft_log_disk.specs.Causes.{Fails, IsLater}
@@ -17,13 +17,13 @@ use Rattle.raft_log_disk.proofs.TouchingLaws.{same_file}
 use Rattle.raft_log_disk.specs.declared.handle.Handle.{Handle}
 use Rattle.raft_log_file.specs.Writer.{IsWritten, KeepsWritten, WritesAt, FailsToWriteAt, WritesNext, FailsToWriteNext, CutsBehind, ends_there, is_cut, Closes, FailsToClose, reach, TakesUp, goes_on, begins as writes_header, FailsToTakeUp, not_measured, not_begun, CanBeTakenUp, IsTakenUp, taken_up}
 use Rattle.raft_log_file.specs.declared.writer.LogFileWriter.{LogFileWriter}
-use Rattle.raft_log_file_queue.specs.Queue.{whole, with_more, with_room, settled, synced, begun}
+use Rattle.raft_log_file_queue.specs.Queue.{whole, with_more, with_room, settled, begun}
 use Rattle.raft_log_file_queue.specs.States.{IsNew}
 use Rattle.raft_log_file_queue.specs.Standing.{Names, HaveOneName, OwnsPaths, Stands}
 use Rattle.raft_log_file_queue.proofs.FileSteps.{active_front, whole_more, new_holds}
 use Rattle.raft_log_file_queue.proofs.Standing.{have_one_name, same_files, stands_weaker}
 use Rattle.raft_log_files.specs.LastFile.{IsActiveTo, IsFrontTo, IsPastTo, IsNewTo, IsHeadedTo, HasRoom}
-use Rattle.raft_log_files.specs.Exits.{IsOpen, IsFinished, IsHeld, Appends, AppendLeaves, FailsToAppend, SyncsAll, FailsToSyncAll, Finishes, FailsToFinish, Begins, FailsToBegin}
+use Rattle.raft_log_files.specs.Exits.{IsOpen, Appends, FailsToAppend, SyncsAll, FailsToSyncAll, Finishes, FailsToFinish, Begins, FailsToBegin}
 use Rattle.raft_log_files.specs.declared.last_file.WriteFault.TheVariants.{CutBack, Failed}
 use Rattle.raft_log_files.proofs.Writing.{record_stands, refused_stands, closed_stands, unclosed_stands, settled_stands, roomy_stands, synced_stands, unsynced_stands, no_room, header_stands, headless_stands, begun_stands, unbegun_stands}
 

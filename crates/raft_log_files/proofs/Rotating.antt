@@ -1,28 +1,28 @@
 -- A rotation: the last file is finished, the next one gets its name, and then its header.
 use Rattle.std.specs.Prelude.{Result, Ok, Err}
-use Rattle.std.specs.Result.{IfOk, IfErr, OnOk, OnErr}
+use Rattle.std.specs.Result.{IfErr, OnOk, OnErr}
 use Rattle.std.specs.Map.{update}
 use Rattle.std.specs.Str.{bytes_eq}
 use Rattle.std.specs.declared.io.ErrorKind.{ErrorKind}
-use Rattle.std.proofs.Common.{◌≡◌, ◌⊎◌, ℕ, ◌<◌, ◌≤◌, suc, true, false, Option, Some, None, List, [], refl, sym, ◌∙◌, ap, subst, inl, inr, arith}
+use Rattle.std.proofs.Common.{◌≡◌, ◌⊎◌, ℕ, ◌<◌, suc, Some, None, List, [], sym, ◌∙◌, ap, subst, inl, inr, arith}
 use Rattle.std.proofs.lemmas.Bool.{false≢true, cases_Bool}
 use Rattle.std.proofs.lemmas.Slice.Eq.{bytes_eq-Decides}
 use Rattle.raft_log_disk.specs.Disk.{File, Disk}
-use Rattle.raft_log_disk.specs.Causes.{Fails, IsLater}
+use Rattle.raft_log_disk.specs.Causes.{IsLater}
 use Rattle.raft_log_disk.specs.Image.{IsSound}
 use Rattle.raft_log_disk.specs.Calls.{created, deleted, renamed, Creates, Deletes, Renames, IsRight}
 use Rattle.raft_log_disk.specs.Exits.{FailsToCreate, FailsToDelete, FailsToRename}
 use Rattle.raft_log_disk.specs.Arguments.{WrongCreate, WrongName, WrongRename}
 use Rattle.raft_log_disk.specs.LogFormat.{Format, IsFormat}
-use Rattle.raft_log_disk.specs.LogQueue.{LogFiles, HoldsLast, IsPast, IsAbsent, rotated}
+use Rattle.raft_log_disk.specs.LogQueue.{LogFiles, HoldsLast, IsPast, rotated}
 use Rattle.raft_log_disk.specs.Touching.{HasFile, TouchesOnly}
 use Rattle.raft_log_disk.specs.declared.handle.Handle.{Handle}
 use Rattle.raft_log_disk.specs.declared.handle.Permission.TheVariants.{ReadWrite}
 use Rattle.raft_log_disk.proofs.KeptLaws.{IsCalm, kept_create, kept_delete, kept_rename, calm_either}
-use Rattle.raft_log_disk.proofs.CauseLaws.{fails_whole, fails_after, fails_still, later_then, later_create, later_rename}
+use Rattle.raft_log_disk.proofs.CauseLaws.{fails_whole, fails_after, later_then}
 use Rattle.raft_log_disk.proofs.NamesLaws.{creation_leaves, deletion_leaves, renaming_leaves}
 use Rattle.raft_log_file.specs.declared.writer.LogFileWriter.{LogFileWriter}
-use Rattle.raft_log_file_queue.specs.Queue.{finished, with_room, begun}
+use Rattle.raft_log_file_queue.specs.Queue.{finished, with_room}
 use Rattle.raft_log_file_queue.specs.States.{IsNew}
 use Rattle.raft_log_file_queue.specs.Standing.{Names, HaveOneName, OwnsPaths, Stands}
 use Rattle.raft_log_file_queue.specs.Bridge.{GapsStay}
@@ -30,7 +30,7 @@ use Rattle.raft_log_file_queue.proofs.FileSteps.{active_holds, past_holds, new_h
 use Rattle.raft_log_file_queue.proofs.Standing.{have_one_name, stands_weaker, stands_calm, stands_created, stands_deleted, stands_renamed}
 use Rattle.raft_log_files.specs.LastFile.{IsActiveTo, IsPastTo}
 use Rattle.raft_log_files.specs.Exits.{IsOpen, IsFinished, Finishes, FailsToFinish, IsGiven, Begins, FailsToBegin}
-use Rattle.raft_log_files.specs.Rotation.{CanRotate, IsSpare, IsLeft, IsLeftTurned, GoesOnInNext, StaysBehind, RotatesToNew, FailsToRotateToNew, RotatesOver, FailsToRotateOver, CanDrop, Drops, FailsToDrop}
+use Rattle.raft_log_files.specs.Rotation.{CanRotate, IsSpare, IsLeft, IsLeftTurned, StaysBehind, RotatesToNew, FailsToRotateToNew, RotatesOver, FailsToRotateOver, CanDrop, Drops, FailsToDrop}
 use Rattle.raft_log_files.proofs.Writing.{no_room}
 
 -- two paths are the same, or not

@@ -1,15 +1,14 @@
 -- What the writer's calls make of the last file of a queue.
 use Rattle.std.specs.Prelude.{Result, Ok, Err}
 use Rattle.std.specs.declared.io.ErrorKind.{ErrorKind}
-use Rattle.std.proofs.Common.{◌≡◌, ℕ, ◌+◌, ◌-◌, ◌<◌, ◌≤◌, List, [], ◌∷◌, ◌++◌, length, take, drop, min, max, nat_lt, if◌then◌else◌, refl, sym, ◌∙◌, ap, subst, inl, inr, arith, length-append}
+use Rattle.std.proofs.Common.{◌≡◌, ℕ, ◌+◌, ◌-◌, ◌≤◌, List, [], ◌∷◌, ◌++◌, length, take, max, refl, sym, ◌∙◌, ap, subst, inl, inr, arith, length-append}
 use Rattle.std.proofs.lemmas.List.{append-nil, length-replicate, length-take, take_all}
 use Rattle.std.proofs.lemmas.Bool.{cases_lt}
-use Rattle.raft_log_disk.specs.Disk.{Change, Wrote, ShortenedTo, GrewTo, File, Disk, zeros, grown, overwritten}
-use Rattle.raft_log_disk.specs.Image.{IsSound}
+use Rattle.raft_log_disk.specs.Disk.{Wrote, ShortenedTo, GrewTo, File, Disk, zeros, grown, overwritten}
 use Rattle.raft_log_disk.specs.Calls.{with_change, after_change, flushed, InPart, Changes}
 use Rattle.raft_log_disk.specs.Chains.{Written}
 use Rattle.raft_log_disk.specs.LogFormat.{Format, IsFormat}
-use Rattle.raft_log_disk.specs.LogQueue.{LogFiles, HoldsLast, IsPast}
+use Rattle.raft_log_disk.specs.LogQueue.{LogFiles, HoldsLast}
 use Rattle.raft_log_disk.specs.Arguments.{WrongWriter, WrongHandle}
 use Rattle.raft_log_disk.specs.Exits.{FailsToSync}
 use Rattle.raft_log_disk.specs.declared.handle.Handle.{Handle}
@@ -17,8 +16,8 @@ use Rattle.raft_log_disk.proofs.ChangeLaws.{overwritten_torn}
 use Rattle.raft_log_file.specs.Writer.{MakesRoom, is_there, is_allocated, is_refused, WritesAt, FailsToWriteAt, CutsBehind, ends_there, is_cut, Closes, FailsToClose, not_cut, not_synced, reach, allocated}
 use Rattle.raft_log_file.specs.declared.writer.LogFileWriter.{LogFileWriter}
 use Rattle.raft_log_file.proofs.WriterLaws.{reach_far, reach_near}
-use Rattle.raft_log_file_queue.specs.Queue.{whole, finished, with_more, with_room, settled, synced, begun}
-use Rattle.raft_log_file_queue.specs.States.{IsActive, IsFront, IsCut, IsNew, IsHeaded}
+use Rattle.raft_log_file_queue.specs.Queue.{whole, with_more, with_room, settled, synced, begun}
+use Rattle.raft_log_file_queue.specs.States.{IsActive, IsFront, IsCut, IsNew}
 use Rattle.raft_log_file_queue.specs.Standing.{Names, HaveOneName, OwnsPaths, Stands}
 use Rattle.raft_log_file_queue.proofs.FileSteps.{active_front, active_written, active_grown, front_written, front_cut, front_tried, front_holds, cut_holds, cut_past, cut_flushed_holds, past_settled, active_synced, active_holds, active_flushed_holds, new_grown, new_headed, new_holds, new_tried, headed_synced, headed_holds, headed_flushed_holds}
 use Rattle.raft_log_file_queue.proofs.Standing.{same_files, stands_weaker, stands_changed, stands_synced, stands_done}

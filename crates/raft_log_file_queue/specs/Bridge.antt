@@ -15,15 +15,17 @@ said says ws = map (λ w. says w.value) ws
 -- so many files from a number on
 abbrev pub filed : {R E V : Type 0} → (R → Record E V) → (ℕ → Past R) → ℕ → ℕ → List (LogFile E V)
 filed says older s zero = []
-filed says older s (suc k) = record { number = s; records = said says (older s).records } ∷ filed says older (suc s) k
+filed says older s (suc k) = record { number = s; records = said says
+    (older s).records } ∷ filed says older (suc s) k
 
 -- a file as it was read
 abbrev pub logged : {R E V : Type 0} → (R → Record E V) → Found R → LogFile E V
 logged says found = record { number = found.number; records = said says found.records }
 
--- These are the numbered files of the queue, where those from `low` on are there without a gap and the span
--- begins at `first`: below `low` no file is there, or those that are lie behind a gap.
-pub record IsFileQueue {R E V : Type 0} (says : R → Record E V) (F : Format R) (q : LogFiles R) (low first : ℕ)
+-- These are the numbered files of the queue, where those from `low` on are there without a gap and the
+-- span begins at `first`: below `low` no file is there, or those that are lie behind a gap.
+pub record IsFileQueue {R E V : Type 0} (says : R → Record E V) (F : Format R) (q : LogFiles R)
+    (low first : ℕ)
     (d : Disk) (files : FileQueue E V) : Type 0 where
   pub back : ℕ
   pub forth : ℕ
@@ -37,17 +39,20 @@ pub record IsFileQueue {R E V : Type 0} (says : R → Record E V) (F : Format R)
   pub behind : AllBehind low files.behind
   pub gap : (m : ℕ) → suc m ≡ low → IsAbsent F m d
 
--- An image reads as the numbered files allow: of the pending records some first ones are kept, and whatever is
--- read, from whatever start up to the span's first file, is of the files with these.
-abbrev pub ReadsAsFiles : {R E V : Type 0} → (R → Record E V) → Format R → LogFiles R → ℕ → ℕ → Disk → FileQueue E V
+-- An image reads as the numbered files allow: of the pending records some first ones are kept, and
+-- whatever is read, from whatever start up to the span's first file, is of the files with these.
+abbrev pub ReadsAsFiles : {R E V : Type 0} → (R → Record E V) → Format R → LogFiles R → ℕ → ℕ → Disk
+    → FileQueue E V
     → Type 0
-ReadsAsFiles {R} {E} {V} says F q low first d files = (image : Disk) → IsImage d image → NoChanceInLast F q d image
+ReadsAsFiles {R} {E} {V} says F q low first d files = (image : Disk) → IsImage d image
+    → NoChanceInLast F q d image
     → (kept : List (Record E V)) × (lost : List (Record E V)) × (kept ++ lost ≡ files.pending)
     × ((s : ℕ) → s ≤ first → (found : List (Found R)) → ReadsFrom F image s found
     → IsRead low files kept s (map (logged says) found))
 
 -- the numbered files take this step, and are then those of that queue on that disk
-abbrev pub StepsTo : {R E V : Type 0} → (R → Record E V) → Format R → FileEvent E V → FileQueue E V → LogFiles R
+abbrev pub StepsTo : {R E V : Type 0} → (R → Record E V) → Format R → FileEvent E V → FileQueue E V
+    → LogFiles R
     → ℕ → ℕ → Disk → Type 0
 StepsTo {R} {E} {V} says F event files q low first d =
     (next : FileQueue E V) × FileStep event files next × IsFileQueue says F q low first d next

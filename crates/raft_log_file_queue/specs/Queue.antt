@@ -1,5 +1,5 @@
--- How a queue of numbered files goes on: what its calls make of its records. Which bytes stand where is said of
--- its last file alone; the earlier ones are finished.
+-- How a queue of numbered files goes on: what its calls make of its records. Which bytes stand where is
+-- said of its last file alone; the earlier ones are finished.
 use Rattle.std.specs.Prelude.{◌≡◌, ℕ, ◌<◌, ◌⊎◌, List, [], ◌++◌}
 use Rattle.raft_log_disk.specs.Disk.{grown}
 use Rattle.raft_log_disk.specs.Chains.{Written, spelled}

@@ -1,5 +1,5 @@
--- How the files of a queue stand on a disk, at any point inside any call: one relation, with what is known of
--- the last file as its parameter.
+-- How the files of a queue stand on a disk, at any point inside any call: one relation, with what is known
+-- of the last file as its parameter.
 use Rattle.std.specs.Prelude.{◌≡◌, ℕ, ◌<◌, ◌≤◌, ◌⊎◌, false, Option, Some, None, List}
 use Rattle.raft_log_disk.specs.Disk.{File, Disk, HasDirectory}
 use Rattle.raft_log_disk.specs.LogFormat.{Format}

@@ -10,7 +10,8 @@ use Rattle.raft_log_file_queue.specs.Queue.{whole}
 
 -- the last file holds the queue's records, and is to get these more
 abbrev pub HoldsMore : {R : Type 0} → Format R → LogFiles R → List (Written R) → File → Type 0
-HoldsMore F q more file = HoldsChain (F.IsFrame q.last q.header) (length q.header) q.stale q.durable (q.pending ++ more) file
+HoldsMore F q more file = HoldsChain (F.IsFrame q.last q.header) (length q.header) q.stale q.durable
+    (q.pending ++ more) file
 
 -- Between calls: it reads as its header and its records, and behind them as what it held when it got its
 -- number.
@@ -19,15 +20,17 @@ pub record IsActive {R : Type 0} (F : Format R) (q : LogFiles R) (file : File) :
   pub headed : HeaderStands q.header file
   pub all : file.content ≡ whole q ++ drop (length (whole q)) q.stale
 
--- After a write that was refused: its header and its records stand, and anything may stand behind them. The
--- record of that write counts as one to come, as it may have landed whole.
-pub record IsFront {R : Type 0} (F : Format R) (q : LogFiles R) (more : List (Written R)) (file : File) : Type 0 where
+-- After a write that was refused: its header and its records stand, and anything may stand behind them.
+-- The record of that write counts as one to come, as it may have landed whole.
+pub record IsFront {R : Type 0} (F : Format R) (q : LogFiles R) (more : List (Written R))
+    (file : File) : Type 0 where
   pub chain : HoldsMore F q more file
   pub headed : HeaderStands q.header file
   pub front : take (length (whole q)) file.content ≡ whole q
 
 -- once it is cut behind its records: they stand, and nothing behind them
-pub record IsCut {R : Type 0} (F : Format R) (q : LogFiles R) (more : List (Written R)) (file : File) : Type 0 where
+pub record IsCut {R : Type 0} (F : Format R) (q : LogFiles R) (more : List (Written R))
+    (file : File) : Type 0 where
   pub chain : HoldsMore F q more file
   pub headed : HeaderStands q.header file
   pub is : file.content ≡ whole q

@@ -1,4 +1,5 @@
-//! The files of a queue as the numbered files of the log's machine: an engine speaks of these and not of files.
+//! The files of a queue as the numbered files of the log's machine: an engine speaks of these and not of
+//! files.
 
 ghost use Rattle.std.specs.Prelude.{ℕ, List};
 ghost use Rattle.raft_log_model.specs.Item.{Record};
@@ -23,8 +24,8 @@ pub trait NumberedFormat {
     ghost says: { Self.Record → Record Self.Entry Self.Value };
 }
 
-/// Whatever a stop leaves of the files reads as the numbered files allow: with the same first unsynced records
-/// from whatever start.
+/// Whatever a stop leaves of the files reads as the numbered files allow: with the same first unsynced
+/// records from whatever start.
 pub fn images_read_as_numbered_files<G: NumberedFormat>()
     ensures { IsFormat G.format → ReadsAsNumbered G.says G.format G.own }
 {}

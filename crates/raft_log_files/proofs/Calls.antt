@@ -2,7 +2,7 @@
 use Rattle.std.specs.Prelude.{Result, Ok, Err}
 use Rattle.std.specs.Result.{IfErr, OnOk, OnErr}
 use Rattle.std.specs.declared.io.ErrorKind.{ErrorKind}
-use Rattle.std.proofs.Common.{◌≡◌, ℕ, ◌+◌, true, Some, None, List, [], ◌∷◌, ◌++◌, length, drop, refl, sym, ◌∙◌, ap, subst, arith, length-append}
+use Rattle.std.proofs.Common.{◌≡◌, ℕ, ◌+◌, true, Some, List, [], ◌∷◌, ◌++◌, length, drop, refl, sym, ◌∙◌, ap, subst, arith, length-append}
 use Rattle.std.proofs.lemmas.List.{append-nil}
 use Rattle.raft_log_disk.specs.Disk.{File, Disk, grown}
 use Rattle.raft_log_disk.specs.Causes.{Fails, IsLater}
@@ -17,13 +17,13 @@ use Rattle.raft_log_disk.proofs.TouchingLaws.{same_file}
 use Rattle.raft_log_disk.specs.declared.handle.Handle.{Handle}
 use Rattle.raft_log_file.specs.Writer.{IsWritten, KeepsWritten, WritesAt, FailsToWriteAt, WritesNext, FailsToWriteNext, CutsBehind, ends_there, is_cut, Closes, FailsToClose, reach, TakesUp, goes_on, begins as writes_header, FailsToTakeUp, not_measured, not_begun, CanBeTakenUp, IsTakenUp, taken_up}
 use Rattle.raft_log_file.specs.declared.writer.LogFileWriter.{LogFileWriter}
-use Rattle.raft_log_file_queue.specs.Queue.{whole, with_more, with_room, settled, synced, begun}
+use Rattle.raft_log_file_queue.specs.Queue.{whole, with_more, with_room, settled, begun}
 use Rattle.raft_log_file_queue.specs.States.{IsNew}
 use Rattle.raft_log_file_queue.specs.Standing.{Names, HaveOneName, OwnsPaths, Stands}
 use Rattle.raft_log_file_queue.proofs.FileSteps.{active_front, whole_more, new_holds}
 use Rattle.raft_log_file_queue.proofs.Standing.{have_one_name, same_files, stands_weaker}
 use Rattle.raft_log_files.specs.LastFile.{IsActiveTo, IsFrontTo, IsPastTo, IsNewTo, IsHeadedTo, HasRoom}
-use Rattle.raft_log_files.specs.Exits.{IsOpen, IsFinished, IsHeld, Appends, AppendLeaves, FailsToAppend, SyncsAll, FailsToSyncAll, Finishes, FailsToFinish, Begins, FailsToBegin}
+use Rattle.raft_log_files.specs.Exits.{IsOpen, Appends, FailsToAppend, SyncsAll, FailsToSyncAll, Finishes, FailsToFinish, Begins, FailsToBegin}
 use Rattle.raft_log_files.specs.declared.last_file.WriteFault.TheVariants.{CutBack, Failed}
 use Rattle.raft_log_files.proofs.Writing.{record_stands, refused_stands, closed_stands, unclosed_stands, settled_stands, roomy_stands, synced_stands, unsynced_stands, no_room, header_stands, headless_stands, begun_stands, unbegun_stands}
 
@@ -67,13 +67,15 @@ module _ {R : Type 0} (F : Format R) (own : List ℕ → Type 0) (lawful : IsFor
       let capacity : after.capacity ≡ to = moved.capacity_is ∙ (λ i. reach before.capacity (was.written i + length (sym same i)) target) in
       let written = record_stands F own base lawful owns before.handle before.capacity target q w path N old new one framed calls s in
       let (room, stands) = roomy_stands F own base lawful owns (IsActiveTo F to) (with_more (w ∷ []) q) path before.handle.file N new
-      (same_files F own base q (with_more (w ∷ []) q) path before.handle.file (HasRoom (IsActiveTo F to) (with_more (w ∷ []) q)) N new refl refl refl written) in
-      (room, record {
-        permitted = ap (λ h. h.permission) moved.handle_is ∙ was.permitted;
-        written = moved.written_is ∙ (λ i. was.written i + length (sym same i)) ∙ sym (ap length (whole_more F (with_room room q) (w ∷ [])) ∙ length-append (whole q) (w.bytes ++ []) ∙ ap (λ (b : List ℕ). length (whole q) + length b) (append-nil w.bytes));
-        stands = subst (λ h. Stands F own base (with_more (w ∷ []) (with_room room q)) path h.file (IsActiveTo F after.capacity (with_more (w ∷ []) (with_room room q))) N new) (sym moved.handle_is)
-            (subst (λ (n : ℕ). Stands F own base (with_more (w ∷ []) (with_room room q)) path before.handle.file (IsActiveTo F n (with_more (w ∷ []) (with_room room q))) N new) (sym capacity) stands);
-      })
+      (same_files F own base q (with_more (w ∷ []) q) path before.handle.file (HasRoom (IsActiveTo F to) (with_more (w ∷ []) q)) N new refl refl refl written) in (
+        room,
+        record {
+          permitted = ap (λ h. h.permission) moved.handle_is ∙ was.permitted;
+          written = moved.written_is ∙ (λ i. was.written i + length (sym same i)) ∙ sym (ap length (whole_more F (with_room room q) (w ∷ [])) ∙ length-append (whole q) (w.bytes ++ []) ∙ ap (λ (b : List ℕ). length (whole q) + length b) (append-nil w.bytes));
+          stands = subst (λ h. Stands F own base (with_more (w ∷ []) (with_room room q)) path h.file (IsActiveTo F after.capacity (with_more (w ∷ []) (with_room room q))) N new) (sym moved.handle_is)
+              (subst (λ (n : ℕ). Stands F own base (with_more (w ∷ []) (with_room room q)) path before.handle.file (IsActiveTo F n (with_more (w ∷ []) (with_room room q))) N new) (sym capacity) stands);
+        },
+      )
 
   -- It was refused: what stands before the file is cut back.
   to_cut : (base : Disk) (before after : LogFileWriter) (q : LogFiles R) (w : Written R) (path : List ℕ) (N : Names) (bytes : List ℕ) (target : ℕ) (error : ErrorKind) (old new : Disk) → HaveOneName N
@@ -86,9 +88,11 @@ module _ {R : Type 0} (F : Format R) (own : List ℕ → Type 0) (lawful : IsFor
       subst (λ (n : ℕ). FailsToWriteAt before.handle n before.capacity w.bytes target error old new) was.written (subst (λ (b : List ℕ). FailsToWriteAt before.handle before.written before.capacity b target error old new) (sym same) next.calls) in
       let capacity : after.capacity ≡ to = stays.capacity_is ∙ (λ i. reach before.capacity (was.written i + length (sym same i)) target) in
       let left = refused_stands F own base lawful owns before.handle before.capacity target q w path N error old new one framed calls was.stands in
-      let (room, stands) = roomy_stands F own base lawful owns (λ p f. IsFrontTo F to p (w ∷ []) f) q path before.handle.file N new left in
-      (room, subst (λ h. Stands F own base (with_room room q) path h.file (IsFrontTo F after.capacity (with_room room q) (w ∷ [])) N new) (sym stays.handle_is)
-      (subst (λ (n : ℕ). Stands F own base (with_room room q) path before.handle.file (IsFrontTo F n (with_room room q) (w ∷ [])) N new) (sym capacity) stands))
+      let (room, stands) = roomy_stands F own base lawful owns (λ p f. IsFrontTo F to p (w ∷ []) f) q path before.handle.file N new left in (
+        room,
+        subst (λ h. Stands F own base (with_room room q) path h.file (IsFrontTo F after.capacity (with_room room q) (w ∷ [])) N new) (sym stays.handle_is)
+            (subst (λ (n : ℕ). Stands F own base (with_room room q) path before.handle.file (IsFrontTo F n (with_room room q) (w ∷ [])) N new) (sym capacity) stands),
+      )
 
   pub cut_back : (before middle after : LogFileWriter) (bytes : List ℕ) (target : ℕ) (error : ErrorKind) (old mid new : Disk) → IsSound old → FailsToWriteNext before middle bytes target error old mid → Closes middle after mid new
       → KeepsWritten before middle old mid → IsLater mid new → FailsToAppend F own bytes (CutBack error) before after old new
@@ -99,8 +103,7 @@ module _ {R : Type 0} (F : Format R) (own : List ℕ → Type 0) (lawful : IsFor
       let (handle, written) = closed_at middle after mid new closes in
       let at : middle.written ≡ length (whole q) = stays.written_is ∙ was.written in
       let past = closed_stands F own base lawful owns middle after (with_room room q) (w ∷ []) path N mid new one at closes stands in
-      let open_again = settled_stands F own base lawful owns after.capacity (with_room room q) path middle.handle.file N new past in
-      (
+      let open_again = settled_stands F own base lawful owns after.capacity (with_room room q) path middle.handle.file N new past in (
         fails_still old mid new (kept (whole q) (is_written base before q path N old was)).1 later,
         record {
           permitted = ap (λ h. h.permission) (handle ∙ stays.handle_is) ∙ was.permitted;
@@ -117,8 +120,7 @@ module _ {R : Type 0} (F : Format R) (own : List ℕ → Type 0) (lawful : IsFor
       let stays = next.stays in
       let at : middle.written ≡ length (whole q) = stays.written_is ∙ was.written in
       let held = unclosed_stands F own base lawful owns middle after (with_room room q) (w ∷ []) path N again mid new one at fails stands in
-      let more = with_more (w ∷ []) (with_room room q) in
-      (
+      let more = with_more (w ∷ []) (with_room room q) in (
         fails_still old mid new (kept (whole q) (is_written base before q path N old was)).1 later,
         (room, subst (λ h. Stands F own base more path h.file (HoldsLast F more) N new) stays.handle_is (same_files F own base (with_room room q) more path middle.handle.file (HoldsLast F more) N new refl refl refl held)),
       )
@@ -157,8 +159,7 @@ module _ {R : Type 0} (F : Format R) (own : List ℕ → Type 0) (lawful : IsFor
   pub fails_to_finish : (before after : LogFileWriter) (error : ErrorKind) (old new : Disk) → IsSound old → FailsToClose before after error old new → KeepsWritten before after old new → FailsToFinish F own before old new
   fails_to_finish before after error old new sound fails kept base q path N was =
       let one = have_one_name old N sound was.stands.names in
-      let held = unclosed_stands F own base lawful owns before after q [] path N error old new one was.written fails (as_front base before q path N old was) in
-      (
+      let held = unclosed_stands F own base lawful owns before after q [] path N error old new one was.written fails (as_front base before q path N old was) in (
         (kept (whole q) (is_written base before q path N old was)).1,
         subst (λ (p : LogFiles R). Stands F own base q path before.handle.file (HoldsLast F p) N new) (with_none q) held,
       )
@@ -213,13 +214,15 @@ module _ {R : Type 0} (F : Format R) (own : List ℕ → Type 0) (lawful : IsFor
       let headed = header_stands F own base lawful owns handle (length file.content) header stale q path N old mid one writes (measured base handle b path N old file is s) in
       let (room, stands) = roomy_stands F own base lawful owns (IsHeadedTo F to) b path handle.file N mid headed in
       let here : Changes handle.file flushed mid new = subst (λ (h : Handle). Changes h.file flushed mid new) at.handle_is syncs in
-      let active = begun_stands F own base lawful owns handle to header (grown room stale) q path N mid new one here stands in
-      (room, record {
-        permitted = ap (λ (h : Handle). h.permission) at.handle_is ∙ permitted;
-        written = at.written_is ∙ sym (ap length (append-nil header));
-        stands = subst (λ (h : Handle). Stands F own base (with_room room b) path h.file (IsActiveTo F writer.capacity (with_room room b)) N new) (sym at.handle_is)
-            (subst (λ (n : ℕ). Stands F own base (with_room room b) path handle.file (IsActiveTo F n (with_room room b)) N new) (sym at.capacity_is) active);
-      })
+      let active = begun_stands F own base lawful owns handle to header (grown room stale) q path N mid new one here stands in (
+        room,
+        record {
+          permitted = ap (λ (h : Handle). h.permission) at.handle_is ∙ permitted;
+          written = at.written_is ∙ sym (ap length (append-nil header));
+          stands = subst (λ (h : Handle). Stands F own base (with_room room b) path h.file (IsActiveTo F writer.capacity (with_room room b)) N new) (sym at.handle_is)
+              (subst (λ (n : ℕ). Stands F own base (with_room room b) path handle.file (IsActiveTo F n (with_room room b)) N new) (sym at.capacity_is) active);
+        },
+      )
 
   pub fails_to_take_up : (handle : Handle) (header : List ℕ) (error : ErrorKind) (old new : Disk) → IsSound old → FailsToTakeUp handle header true error old new → (CanBeTakenUp handle old → Fails old new) → FailsToBegin F own handle header old new
   fails_to_take_up handle header error old new sound fails cause base q stale path N (permitted, s) =
@@ -231,10 +234,12 @@ module _ {R : Type 0} (F : Format R) (own : List ℕ → Type 0) (lawful : IsFor
       b = begun header stale q
 
       left : HaveOneName N → FailsToTakeUp handle header true error old new → (room : ℕ) × Stands F own base (with_room room (begun header stale q)) path handle.file (HoldsLast F (with_room room (begun header stale q))) N new
-      left one (not_measured why same) =
-          (0, subst (Stands F own base (with_room 0 (begun header stale q)) path handle.file (HoldsLast F (with_room 0 (begun header stale q))) N) (sym same)
-          (subst (λ (p : LogFiles R). Stands F own base p path handle.file (HoldsLast F p) N old) (sym (no_room F (begun header stale q)))
-          (stands_weaker F own base (begun header stale q) path handle.file (IsNew F (begun header stale q)) (HoldsLast F (begun header stale q)) N old (λ file was. new_holds F header stale q file was) s)))
+      left one (not_measured why same) = (
+        0,
+        subst (Stands F own base (with_room 0 (begun header stale q)) path handle.file (HoldsLast F (with_room 0 (begun header stale q))) N) (sym same)
+            (subst (λ (p : LogFiles R). Stands F own base p path handle.file (HoldsLast F p) N old) (sym (no_room F (begun header stale q)))
+            (stands_weaker F own base (begun header stale q) path handle.file (IsNew F (begun header stale q)) (HoldsLast F (begun header stale q)) N old (λ file was. new_holds F header stale q file was) s)),
+      )
       left one (not_begun file is short writes) =
           roomy_stands F own base lawful owns (HoldsLast F) (begun header stale q) path handle.file N new
           (headless_stands F own base lawful owns handle (length file.content) header stale q path N error old new one writes (measured base handle (begun header stale q) path N old file is s))

@@ -1,28 +1,28 @@
 -- A rotation: the last file is finished, the next one gets its name, and then its header.
 use Rattle.std.specs.Prelude.{Result, Ok, Err}
-use Rattle.std.specs.Result.{IfOk, IfErr, OnOk, OnErr}
+use Rattle.std.specs.Result.{IfErr, OnOk, OnErr}
 use Rattle.std.specs.Map.{update}
 use Rattle.std.specs.Str.{bytes_eq}
 use Rattle.std.specs.declared.io.ErrorKind.{ErrorKind}
-use Rattle.std.proofs.Common.{◌≡◌, ◌⊎◌, ℕ, ◌<◌, ◌≤◌, suc, true, false, Option, Some, None, List, [], refl, sym, ◌∙◌, ap, subst, inl, inr, arith}
+use Rattle.std.proofs.Common.{◌≡◌, ◌⊎◌, ℕ, ◌<◌, suc, Some, None, List, [], sym, ◌∙◌, ap, subst, inl, inr, arith}
 use Rattle.std.proofs.lemmas.Bool.{false≢true, cases_Bool}
 use Rattle.std.proofs.lemmas.Slice.Eq.{bytes_eq-Decides}
 use Rattle.raft_log_disk.specs.Disk.{File, Disk}
-use Rattle.raft_log_disk.specs.Causes.{Fails, IsLater}
+use Rattle.raft_log_disk.specs.Causes.{IsLater}
 use Rattle.raft_log_disk.specs.Image.{IsSound}
 use Rattle.raft_log_disk.specs.Calls.{created, deleted, renamed, Creates, Deletes, Renames, IsRight}
 use Rattle.raft_log_disk.specs.Exits.{FailsToCreate, FailsToDelete, FailsToRename}
 use Rattle.raft_log_disk.specs.Arguments.{WrongCreate, WrongName, WrongRename}
 use Rattle.raft_log_disk.specs.LogFormat.{Format, IsFormat}
-use Rattle.raft_log_disk.specs.LogQueue.{LogFiles, HoldsLast, IsPast, IsAbsent, rotated}
+use Rattle.raft_log_disk.specs.LogQueue.{LogFiles, HoldsLast, IsPast, rotated}
 use Rattle.raft_log_disk.specs.Touching.{HasFile, TouchesOnly}
 use Rattle.raft_log_disk.specs.declared.handle.Handle.{Handle}
 use Rattle.raft_log_disk.specs.declared.handle.Permission.TheVariants.{ReadWrite}
 use Rattle.raft_log_disk.proofs.KeptLaws.{IsCalm, kept_create, kept_delete, kept_rename, calm_either}
-use Rattle.raft_log_disk.proofs.CauseLaws.{fails_whole, fails_after, fails_still, later_then, later_create, later_rename}
+use Rattle.raft_log_disk.proofs.CauseLaws.{fails_whole, fails_after, later_then}
 use Rattle.raft_log_disk.proofs.NamesLaws.{creation_leaves, deletion_leaves, renaming_leaves}
 use Rattle.raft_log_file.specs.declared.writer.LogFileWriter.{LogFileWriter}
-use Rattle.raft_log_file_queue.specs.Queue.{finished, with_room, begun}
+use Rattle.raft_log_file_queue.specs.Queue.{finished, with_room}
 use Rattle.raft_log_file_queue.specs.States.{IsNew}
 use Rattle.raft_log_file_queue.specs.Standing.{Names, HaveOneName, OwnsPaths, Stands}
 use Rattle.raft_log_file_queue.specs.Bridge.{GapsStay}
@@ -30,7 +30,7 @@ use Rattle.raft_log_file_queue.proofs.FileSteps.{active_holds, past_holds, new_h
 use Rattle.raft_log_file_queue.proofs.Standing.{have_one_name, stands_weaker, stands_calm, stands_created, stands_deleted, stands_renamed}
 use Rattle.raft_log_files.specs.LastFile.{IsActiveTo, IsPastTo}
 use Rattle.raft_log_files.specs.Exits.{IsOpen, IsFinished, Finishes, FailsToFinish, IsGiven, Begins, FailsToBegin}
-use Rattle.raft_log_files.specs.Rotation.{CanRotate, IsSpare, IsLeft, IsLeftTurned, GoesOnInNext, StaysBehind, RotatesToNew, FailsToRotateToNew, RotatesOver, FailsToRotateOver, CanDrop, Drops, FailsToDrop}
+use Rattle.raft_log_files.specs.Rotation.{CanRotate, IsSpare, IsLeft, IsLeftTurned, StaysBehind, RotatesToNew, FailsToRotateToNew, RotatesOver, FailsToRotateOver, CanDrop, Drops, FailsToDrop}
 use Rattle.raft_log_files.proofs.Writing.{no_room}
 
 -- two paths are the same, or not
@@ -80,13 +80,15 @@ module _ {R : Type 0} (F : Format R) where
     given_left : (base : Disk) (q : LogFiles R) (header stale path : List ℕ) (id : ℕ) (N : Names) (d : Disk) → Stands F own base (rotated header stale q) path id (IsNew F (rotated header stale q)) N d
         → (room : ℕ) × IsLeft F own base (with_room room (rotated header stale q)) d
     given_left base q header stale path id N d s =
-        let next = rotated header stale q in
-        (0, subst (λ (p : LogFiles R). IsLeft F own base p d) (sym (no_room F next)) (record {
-          path = path;
-          id = id;
-          N = N;
-          stands = stands_weaker F own base next path id (IsNew F next) (HoldsLast F next) N d (λ file was. new_holds F header stale next file was) s;
-        }))
+        let next = rotated header stale q in (
+          0,
+          subst (λ (p : LogFiles R). IsLeft F own base p d) (sym (no_room F next)) (record {
+            path = path;
+            id = id;
+            N = N;
+            stands = stands_weaker F own base next path id (IsNew F next) (HoldsLast F next) N d (λ file was. new_holds F header stale next file was) s;
+          }),
+        )
 
     other_number : (q : LogFiles R) (header to : List ℕ) (m : ℕ) (path : List ℕ) → CanRotate F q header to → m < q.last → F.IsPath m path → path ≡ to → ⊥
     other_number q header to m path can below at same =
@@ -132,8 +134,7 @@ module _ {R : Type 0} (F : Format R) where
     pub begun_left : (base : Disk) (q : LogFiles R) (header stale to : List ℕ) (handle : Handle) (N : Names) (old named new : Disk) → FailsToBegin F own handle header named new → TouchesOnly handle.file named new
         → IsGiven F own base handle (rotated header stale q) to N named → GapsStay F q old named → IsLater old named → StaysBehind F own base q header stale old new
     begun_left base q header stale to handle N old named new fails only given gaps later =
-        let (cause, (room, held)) = fails base (rotated header stale q) stale to N given in
-        (
+        let (cause, (room, held)) = fails base (rotated header stale q) stale to N given in (
           fails_after old named new later cause,
           inr (room, record { path = to; id = handle.file; N = N; stands = held }),
           gaps_then q old named new gaps (gaps_touched q handle.file named new only),
@@ -143,9 +144,11 @@ module _ {R : Type 0} (F : Format R) where
         → Creates to handle.file d1 d2 → handle.permission ≡ ReadWrite → IsGiven F own base handle (rotated header [] q) to (update bytes_eq N to (Some d1.unused)) d2
     given_made base middle q header to path handle N d1 d2 sound can is creates permitted =
         let next = rotated header [] q in
-        let M : Names = update bytes_eq N to (Some d1.unused) in
-        (permitted, subst (λ (d : Disk). Stands F own base next to handle.file (IsNew F next) M d) (sym creates.done)
-        (subst (λ (id : ℕ). Stands F own base next to id (IsNew F next) M (created to d1)) (sym creates.number) (made_stands base middle q header to path N d1 sound can is)))
+        let M : Names = update bytes_eq N to (Some d1.unused) in (
+          permitted,
+          subst (λ (d : Disk). Stands F own base next to handle.file (IsNew F next) M d) (sym creates.done)
+              (subst (λ (id : ℕ). Stands F own base next to id (IsNew F next) M (created to d1)) (sym creates.number) (made_stands base middle q header to path N d1 sound can is)),
+        )
 
     gaps_made : (q : LogFiles R) (header to : List ℕ) (id : ℕ) (old d1 d2 : Disk) → IsSound d1 → CanRotate F q header to → GapsStay F q old d1 → Creates to id d1 d2 → GapsStay F q old d2
     gaps_made q header to id old d1 d2 sound can first creates = gaps_then q old d1 d2 first (subst (GapsStay F q d1) (sym creates.done) (gaps_created q header to d1 sound can))
@@ -226,9 +229,11 @@ module _ {R : Type 0} (F : Format R) where
         let M : Names = update bytes_eq (update bytes_eq N from None) to (Some handle.file) in
         let there : d1.names from ≡ Some handle.file = ap (λ (f : Names). f from) is.stands.names ∙ spare.named in
         let id = renames.is in
-        let same : renames.id ≡ handle.file = cc (id, there) in
-        (spare.permitted, subst (λ (d : Disk). Stands F own base next to handle.file (IsNew F next) M d) (sym (renames.done ∙ ap (λ (n : ℕ). renamed from to n d1) same))
-        (renamed_stands base middle q header stale from to path handle N d1 sound can is spare))
+        let same : renames.id ≡ handle.file = cc (id, there) in (
+          spare.permitted,
+          subst (λ (d : Disk). Stands F own base next to handle.file (IsNew F next) M d) (sym (renames.done ∙ ap (λ (n : ℕ). renamed from to n d1) same))
+              (renamed_stands base middle q header stale from to path handle N d1 sound can is spare),
+        )
 
     gaps_turned : (q : LogFiles R) (header from to : List ℕ) (old d1 d2 : Disk) → CanRotate F q header to → GapsStay F q old d1 → Renames from to d1 d2 → GapsStay F q old d2
     gaps_turned q header from to old d1 d2 can first renames = gaps_then q old d1 d2 first (subst (GapsStay F q d1) (sym renames.done) (gaps_renamed q header from to renames.id d1 can))
@@ -254,10 +259,9 @@ module _ {R : Type 0} (F : Format R) where
         (inl (finished_left base middle q path N d1 is), λ m below none. none)
         (λ id named apart home.
         (let same : handle.file ≡ id = cc (named, there) in
-        let turned = renamed_stands base middle q header stale from to path handle N d1 sound_then can is still in
-        (
+        let turned = renamed_stands base middle q header stale from to path handle N d1 sound_then can is still in (
           inr (given_left base q header stale to handle.file (update bytes_eq (update bytes_eq N from None) to (Some handle.file)) (renamed from to id d1)
-          (subst (λ (n : ℕ). Stands F own base (rotated header stale q) to handle.file (IsNew F (rotated header stale q)) (update bytes_eq (update bytes_eq N from None) to (Some handle.file)) (renamed from to n d1)) same turned)),
+              (subst (λ (n : ℕ). Stands F own base (rotated header stale q) to handle.file (IsNew F (rotated header stale q)) (update bytes_eq (update bytes_eq N from None) to (Some handle.file)) (renamed from to n d1)) same turned)),
           gaps_renamed q header from to id d1 can,
         ))) tt fails in
         (fails_after old d1 new later (fails_whole (right_names base middle q header from to path handle.file N d1 can is spare.named) fails), left, gaps_then q old d1 new (gaps_touched q before.handle.file old d1 only) gaps)

@@ -1,15 +1,14 @@
 -- What the writer's calls make of the last file of a queue.
 use Rattle.std.specs.Prelude.{Result, Ok, Err}
 use Rattle.std.specs.declared.io.ErrorKind.{ErrorKind}
-use Rattle.std.proofs.Common.{◌≡◌, ℕ, ◌+◌, ◌-◌, ◌<◌, ◌≤◌, List, [], ◌∷◌, ◌++◌, length, take, drop, min, max, nat_lt, if◌then◌else◌, refl, sym, ◌∙◌, ap, subst, inl, inr, arith, length-append}
+use Rattle.std.proofs.Common.{◌≡◌, ℕ, ◌+◌, ◌-◌, ◌≤◌, List, [], ◌∷◌, ◌++◌, length, take, max, refl, sym, ◌∙◌, ap, subst, inl, inr, arith, length-append}
 use Rattle.std.proofs.lemmas.List.{append-nil, length-replicate, length-take, take_all}
 use Rattle.std.proofs.lemmas.Bool.{cases_lt}
-use Rattle.raft_log_disk.specs.Disk.{Change, Wrote, ShortenedTo, GrewTo, File, Disk, zeros, grown, overwritten}
-use Rattle.raft_log_disk.specs.Image.{IsSound}
+use Rattle.raft_log_disk.specs.Disk.{Wrote, ShortenedTo, GrewTo, File, Disk, zeros, grown, overwritten}
 use Rattle.raft_log_disk.specs.Calls.{with_change, after_change, flushed, InPart, Changes}
 use Rattle.raft_log_disk.specs.Chains.{Written}
 use Rattle.raft_log_disk.specs.LogFormat.{Format, IsFormat}
-use Rattle.raft_log_disk.specs.LogQueue.{LogFiles, HoldsLast, IsPast}
+use Rattle.raft_log_disk.specs.LogQueue.{LogFiles, HoldsLast}
 use Rattle.raft_log_disk.specs.Arguments.{WrongWriter, WrongHandle}
 use Rattle.raft_log_disk.specs.Exits.{FailsToSync}
 use Rattle.raft_log_disk.specs.declared.handle.Handle.{Handle}
@@ -17,8 +16,8 @@ use Rattle.raft_log_disk.proofs.ChangeLaws.{overwritten_torn}
 use Rattle.raft_log_file.specs.Writer.{MakesRoom, is_there, is_allocated, is_refused, WritesAt, FailsToWriteAt, CutsBehind, ends_there, is_cut, Closes, FailsToClose, not_cut, not_synced, reach, allocated}
 use Rattle.raft_log_file.specs.declared.writer.LogFileWriter.{LogFileWriter}
 use Rattle.raft_log_file.proofs.WriterLaws.{reach_far, reach_near}
-use Rattle.raft_log_file_queue.specs.Queue.{whole, finished, with_more, with_room, settled, synced, begun}
-use Rattle.raft_log_file_queue.specs.States.{IsActive, IsFront, IsCut, IsNew, IsHeaded}
+use Rattle.raft_log_file_queue.specs.Queue.{whole, with_more, with_room, settled, synced, begun}
+use Rattle.raft_log_file_queue.specs.States.{IsActive, IsFront, IsCut, IsNew}
 use Rattle.raft_log_file_queue.specs.Standing.{Names, HaveOneName, OwnsPaths, Stands}
 use Rattle.raft_log_file_queue.proofs.FileSteps.{active_front, active_written, active_grown, front_written, front_cut, front_tried, front_holds, cut_holds, cut_past, cut_flushed_holds, past_settled, active_synced, active_holds, active_flushed_holds, new_grown, new_headed, new_holds, new_tried, headed_synced, headed_holds, headed_flushed_holds}
 use Rattle.raft_log_file_queue.proofs.Standing.{same_files, stands_weaker, stands_changed, stands_synced, stands_done}
@@ -64,10 +63,13 @@ module _ {R : Type 0} (F : Format R) where
   -- the record is there, or may be
   record_written : (to : ℕ) (q : LogFiles R) (w : Written R) (file : File) → IsFormat F → F.IsFrame q.last q.header w.bytes w.value → length (whole q) + length w.bytes ≤ to → HasRoom (IsActiveTo F to) q file
       → HasRoom (IsActiveTo F to) (with_more (w ∷ []) q) (after_change (Wrote (length (whole q)) w.bytes) file)
-  record_written to q w file lawful framed fits (room, was) = (room, record {
-    active = active_written F lawful (with_room room q) w file framed was.active;
-    ends = long_written (length (whole q)) to w.bytes file.content (overwritten (length (whole q)) w.bytes file.content) fits was.ends (overwritten_torn (length (whole q)) w.bytes file.content);
-  })
+  record_written to q w file lawful framed fits (room, was) = (
+    room,
+    record {
+      active = active_written F lawful (with_room room q) w file framed was.active;
+      ends = long_written (length (whole q)) to w.bytes file.content (overwritten (length (whole q)) w.bytes file.content) fits was.ends (overwritten_torn (length (whole q)) w.bytes file.content);
+    },
+  )
 
   record_to_come : (to : ℕ) (q : LogFiles R) (w : Written R) (file : File) → F.IsFrame q.last q.header w.bytes w.value → HasRoom (IsActiveTo F to) q file
       → HasRoom (λ p f. IsFrontTo F to p (w ∷ []) f) q file
@@ -75,10 +77,13 @@ module _ {R : Type 0} (F : Format R) where
 
   record_in_part : (to : ℕ) (q : LogFiles R) (w : Written R) (content : List ℕ) (file : File) → F.IsFrame q.last q.header w.bytes w.value → length (whole q) + length w.bytes ≤ to → HasRoom (IsActiveTo F to) q file
       → InPart (Wrote (length (whole q)) w.bytes) file.content content → HasRoom (λ p f. IsFrontTo F to p (w ∷ []) f) q (with_change (Wrote (length (whole q)) w.bytes) content file)
-  record_in_part to q w content file framed fits (room, was) torn = (room, record {
-    front = front_written F (with_room room q) w content file framed was.active torn;
-    ends = long_written (length (whole q)) to w.bytes file.content content fits was.ends torn;
-  })
+  record_in_part to q w content file framed fits (room, was) torn = (
+    room,
+    record {
+      front = front_written F (with_room room q) w content file framed was.active torn;
+      ends = long_written (length (whole q)) to w.bytes file.content content fits was.ends torn;
+    },
+  )
 
   -- The same of a file without records, whose header is to be written.
 
@@ -100,10 +105,13 @@ module _ {R : Type 0} (F : Format R) where
 
   header_written : (to : ℕ) (header stale : List ℕ) (q : LogFiles R) (file : File) → length header ≤ to → HasRoom (IsNewTo F to) (begun header stale q) file
       → HasRoom (IsHeadedTo F to) (begun header stale q) (after_change (Wrote 0 header) file)
-  header_written to header stale q file fits (room, was) = (room, record {
-    headed = new_headed F header (grown room stale) q file was.new;
-    ends = long_written 0 to header file.content (overwritten 0 header file.content) (omega (arith, fits)) was.ends (overwritten_torn 0 header file.content);
-  })
+  header_written to header stale q file fits (room, was) = (
+    room,
+    record {
+      headed = new_headed F header (grown room stale) q file was.new;
+      ends = long_written 0 to header file.content (overwritten 0 header file.content) (omega (arith, fits)) was.ends (overwritten_torn 0 header file.content);
+    },
+  )
 
   header_held : (to : ℕ) (header stale : List ℕ) (q : LogFiles R) (file : File) → HasRoom (IsNewTo F to) (begun header stale q) file → HasRoom (HoldsLast F) (begun header stale q) file
   header_held to header stale q file (room, was) = (room, new_holds F header (grown room stale) q file was.new)
@@ -215,19 +223,22 @@ module _ {R : Type 0} (F : Format R) where
     -- room that was made is counted
     pub roomy_stands : (P : LogFiles R → File → Type 0) (q : LogFiles R) (path : List ℕ) (id : ℕ) (N : Names) (d : Disk) → Stands F own base q path id (HasRoom P q) N d
         → (room : ℕ) × Stands F own base (with_room room q) path id (P (with_room room q)) N d
-    roomy_stands P q path id N d s = (s.file.has.0, same_files F own base q (with_room s.file.has.0 q) path id (P (with_room s.file.has.0 q)) N d refl refl refl (record {
-      names = s.names;
-      bound = s.bound;
-      at = s.at;
-      named = s.named;
-      alone = s.alone;
-      none = s.none;
-      headed = s.headed;
-      places = s.places;
-      file = record { file = s.file.file; is = s.file.is; has = s.file.has.1 };
-      older = s.older;
-      others = s.others;
-    }))
+    roomy_stands P q path id N d s = (
+      s.file.has.0,
+      same_files F own base q (with_room s.file.has.0 q) path id (P (with_room s.file.has.0 q)) N d refl refl refl (record {
+        names = s.names;
+        bound = s.bound;
+        at = s.at;
+        named = s.named;
+        alone = s.alone;
+        none = s.none;
+        headed = s.headed;
+        places = s.places;
+        file = record { file = s.file.file; is = s.file.is; has = s.file.has.1 };
+        older = s.older;
+        others = s.others;
+      }),
+    )
 
     -- The last file is synced.
     pub synced_stands : (handle : Handle) (capacity : ℕ) (q : LogFiles R) (path : List ℕ) (N : Names) (old new : Disk) → HaveOneName N → Changes handle.file flushed old new

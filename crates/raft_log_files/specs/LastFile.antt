@@ -8,17 +8,20 @@ use Rattle.raft_log_file_queue.specs.Queue.{finished, with_room}
 use Rattle.raft_log_file_queue.specs.States.{IsActive, IsFront, IsCut, IsNew, IsHeaded}
 
 -- between calls: it reads as its records, and ends there at the latest
-pub record IsActiveTo {R : Type 0} (F : Format R) (capacity : ℕ) (q : LogFiles R) (file : File) : Type 0 where
+pub record IsActiveTo {R : Type 0} (F : Format R) (capacity : ℕ) (q : LogFiles R)
+    (file : File) : Type 0 where
   pub active : IsActive F q file
   pub ends : length file.content ≤ capacity
 
 -- after a refused write: its records stand, and it ends there at the latest
-pub record IsFrontTo {R : Type 0} (F : Format R) (capacity : ℕ) (q : LogFiles R) (more : List (Written R)) (file : File) : Type 0 where
+pub record IsFrontTo {R : Type 0} (F : Format R) (capacity : ℕ) (q : LogFiles R) (more : List (Written R))
+    (file : File) : Type 0 where
   pub front : IsFront F q more file
   pub ends : length file.content ≤ capacity
 
 -- once it is cut behind them
-pub record IsCutTo {R : Type 0} (F : Format R) (capacity : ℕ) (q : LogFiles R) (more : List (Written R)) (file : File) : Type 0 where
+pub record IsCutTo {R : Type 0} (F : Format R) (capacity : ℕ) (q : LogFiles R) (more : List (Written R))
+    (file : File) : Type 0 where
   pub cut : IsCut F q more file
   pub ends : length file.content ≤ capacity
 
@@ -33,7 +36,8 @@ pub record IsNewTo {R : Type 0} (F : Format R) (capacity : ℕ) (q : LogFiles R)
   pub ends : length file.content ≤ capacity
 
 -- and once its header is written
-pub record IsHeadedTo {R : Type 0} (F : Format R) (capacity : ℕ) (q : LogFiles R) (file : File) : Type 0 where
+pub record IsHeadedTo {R : Type 0} (F : Format R) (capacity : ℕ) (q : LogFiles R)
+    (file : File) : Type 0 where
   pub headed : IsHeaded F q file
   pub ends : length file.content ≤ capacity
 

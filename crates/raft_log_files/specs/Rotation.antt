@@ -22,9 +22,10 @@ pub record CanRotate {R : Type 0} (F : Format R) (q : LogFiles R) (header to : L
   pub header_is : F.IsHeader header
   pub path : F.IsPath (suc q.last) to
 
--- A file that the queue keeps to use again, under a path that is no number's from the last on: this handle may
--- write it, and it holds no record of the next number.
-pub record IsSpare {R : Type 0} (F : Format R) (own : List ℕ → Type 0) (q : LogFiles R) (header stale : List ℕ) (handle : Handle)
+-- A file that the queue keeps to use again, under a path that is no number's from the last on: this handle
+-- may write it, and it holds no record of the next number.
+pub record IsSpare {R : Type 0} (F : Format R) (own : List ℕ → Type 0) (q : LogFiles R)
+    (header stale : List ℕ) (handle : Handle)
     (from : List ℕ) (N : Names) (d : Disk) : Type 0 where
   pub mine : own from
   pub apart : (m : ℕ) → q.last ≤ m → m < F.limit → F.IsPath m from → ⊥
@@ -33,48 +34,69 @@ pub record IsSpare {R : Type 0} (F : Format R) (own : List ℕ → Type 0) (q : 
   pub file : HasFile handle.file (IsNew F (rotated header stale q)) d
 
 -- the queue stands, and its last file holds its records
-pub record IsLeft {R : Type 0} (F : Format R) (own : List ℕ → Type 0) (base : Disk) (q : LogFiles R) (d : Disk) : Type 0 where
+pub record IsLeft {R : Type 0} (F : Format R) (own : List ℕ → Type 0) (base : Disk) (q : LogFiles R)
+    (d : Disk) : Type 0 where
   pub path : List ℕ
   pub id : ℕ
   pub N : Names
   pub stands : Stands F own base q path id (HoldsLast F q) N d
 
 -- so does the queue as it was, or with a next file, which has no record
-abbrev pub IsLeftTurned : {R : Type 0} → Format R → (List ℕ → Type 0) → Disk → LogFiles R → List ℕ → List ℕ → Disk → Type 0
-IsLeftTurned F own base q header stale d = IsLeft F own base q d ⊎ ((room : ℕ) × IsLeft F own base (with_room room (rotated header stale q)) d)
+abbrev pub IsLeftTurned : {R : Type 0} → Format R → (List ℕ → Type 0) → Disk → LogFiles R → List ℕ
+    → List ℕ → Disk → Type 0
+IsLeftTurned F own base q header stale d = IsLeft F own base q d ⊎
+    ((room : ℕ) × IsLeft F own base (with_room room (rotated header stale q)) d)
 
--- the queue goes on in the next file, over these bytes (and maybe room that was made), and no gap was filled
-abbrev pub GoesOnInNext : {R : Type 0} → Format R → (List ℕ → Type 0) → Disk → LogFileWriter → LogFiles R → List ℕ → List ℕ → List ℕ → Disk → Disk → Type 0
-GoesOnInNext F own base writer q header stale to old new = (room : ℕ) × (N : Names) × IsOpen F own base writer (with_room room (rotated header stale q)) to N new × GapsStay F q old new
+-- the queue goes on in the next file, over these bytes (and maybe room that was made), and no gap was
+-- filled
+abbrev pub GoesOnInNext : {R : Type 0} → Format R → (List ℕ → Type 0) → Disk → LogFileWriter → LogFiles R
+    → List ℕ → List ℕ → List ℕ → Disk → Disk → Type 0
+GoesOnInNext F own base writer q header stale to old new = (room : ℕ) × (N : Names)
+    × IsOpen F own base writer (with_room room (rotated header stale q)) to N new × GapsStay F q old new
 
 -- it doesn't: a file call failed, and what there was is held
-abbrev pub StaysBehind : {R : Type 0} → Format R → (List ℕ → Type 0) → Disk → LogFiles R → List ℕ → List ℕ → Disk → Disk → Type 0
-StaysBehind F own base q header stale old new = Fails old new × IsLeftTurned F own base q header stale new × GapsStay F q old new
+abbrev pub StaysBehind : {R : Type 0} → Format R → (List ℕ → Type 0) → Disk → LogFiles R → List ℕ
+    → List ℕ → Disk → Disk → Type 0
+StaysBehind F own base q header stale old new = Fails old new
+    × IsLeftTurned F own base q header stale new × GapsStay F q old new
 
 -- a rotation into a file that is made
-abbrev pub RotatesToNew : {R : Type 0} → Format R → (List ℕ → Type 0) → List ℕ → List ℕ → LogFileWriter → LogFileWriter → Disk → Disk → Type 0
-RotatesToNew {R} F own header to before after old new = (base : Disk) (q : LogFiles R) (path : List ℕ) (N : Names)
-    → CanRotate F q header to → IsOpen F own base before q path N old → GoesOnInNext F own base after q header [] to old new
+abbrev pub RotatesToNew : {R : Type 0} → Format R → (List ℕ → Type 0) → List ℕ → List ℕ → LogFileWriter
+    → LogFileWriter → Disk → Disk → Type 0
+RotatesToNew {R} F own header to before after old new = (base : Disk) (q : LogFiles R) (path : List ℕ)
+    (N : Names)
+    → CanRotate F q header to → IsOpen F own base before q path N old
+    → GoesOnInNext F own base after q header [] to old new
 
 -- one that was refused
-abbrev pub FailsToRotateToNew : {R : Type 0} → Format R → (List ℕ → Type 0) → List ℕ → List ℕ → LogFileWriter → Disk → Disk → Type 0
-FailsToRotateToNew {R} F own header to before old new = (base : Disk) (q : LogFiles R) (path : List ℕ) (N : Names)
-    → CanRotate F q header to → IsOpen F own base before q path N old → StaysBehind F own base q header [] old new
+abbrev pub FailsToRotateToNew : {R : Type 0} → Format R → (List ℕ → Type 0) → List ℕ → List ℕ
+    → LogFileWriter → Disk → Disk → Type 0
+FailsToRotateToNew {R} F own header to before old new = (base : Disk) (q : LogFiles R) (path : List ℕ)
+    (N : Names)
+    → CanRotate F q header to → IsOpen F own base before q path N old
+    → StaysBehind F own base q header [] old new
 
 -- a rotation into a file that was kept
-abbrev pub RotatesOver : {R : Type 0} → Format R → (List ℕ → Type 0) → List ℕ → Handle → List ℕ → List ℕ → LogFileWriter → LogFileWriter → Disk → Disk → Type 0
-RotatesOver {R} F own header handle from to before after old new = (base : Disk) (q : LogFiles R) (stale : List ℕ) (path : List ℕ) (N : Names)
-    → CanRotate F q header to → IsSpare F own q header stale handle from N old → IsOpen F own base before q path N old
+abbrev pub RotatesOver : {R : Type 0} → Format R → (List ℕ → Type 0) → List ℕ → Handle → List ℕ → List ℕ
+    → LogFileWriter → LogFileWriter → Disk → Disk → Type 0
+RotatesOver {R} F own header handle from to before after old new = (base : Disk) (q : LogFiles R)
+    (stale : List ℕ) (path : List ℕ) (N : Names)
+    → CanRotate F q header to → IsSpare F own q header stale handle from N old
+    → IsOpen F own base before q path N old
     → GoesOnInNext F own base after q header stale to old new
 
 -- one that was refused
-abbrev pub FailsToRotateOver : {R : Type 0} → Format R → (List ℕ → Type 0) → List ℕ → Handle → List ℕ → List ℕ → LogFileWriter → Disk → Disk → Type 0
-FailsToRotateOver {R} F own header handle from to before old new = (base : Disk) (q : LogFiles R) (stale : List ℕ) (path : List ℕ) (N : Names)
-    → CanRotate F q header to → IsSpare F own q header stale handle from N old → IsOpen F own base before q path N old
+abbrev pub FailsToRotateOver : {R : Type 0} → Format R → (List ℕ → Type 0) → List ℕ → Handle → List ℕ
+    → List ℕ → LogFileWriter → Disk → Disk → Type 0
+FailsToRotateOver {R} F own header handle from to before old new = (base : Disk) (q : LogFiles R)
+    (stale : List ℕ) (path : List ℕ) (N : Names)
+    → CanRotate F q header to → IsSpare F own q header stale handle from N old
+    → IsOpen F own base before q path N old
     → StaysBehind F own base q header stale old new
 
 -- a file of the queue that may go: it has this path, which is no number's from the last on
-pub record CanDrop {R : Type 0} (F : Format R) (own : List ℕ → Type 0) (q : LogFiles R) (gone : List ℕ) (N : Names) : Type 0 where
+pub record CanDrop {R : Type 0} (F : Format R) (own : List ℕ → Type 0) (q : LogFiles R) (gone : List ℕ)
+    (N : Names) : Type 0 where
   pub mine : own gone
   pub apart : (m : ℕ) → q.last ≤ m → m < F.limit → F.IsPath m gone → ⊥
   pub id : ℕ
@@ -82,12 +104,14 @@ pub record CanDrop {R : Type 0} (F : Format R) (own : List ℕ → Type 0) (q : 
 
 -- it went, and nothing else changed
 abbrev pub Drops : {R : Type 0} → Format R → (List ℕ → Type 0) → List ℕ → Disk → Disk → Type 0
-Drops {R} F own gone old new = (base : Disk) (writer : LogFileWriter) (q : LogFiles R) (path : List ℕ) (N : Names)
+Drops {R} F own gone old new = (base : Disk) (writer : LogFileWriter) (q : LogFiles R) (path : List ℕ)
+    (N : Names)
     → CanDrop F own q gone N → IsOpen F own base writer q path N old
     → IsOpen F own base writer q path (update bytes_eq N gone None) new × GapsStay F q old new
 
 -- it didn't, or a stop came: a file call failed, and what there was is held
 abbrev pub FailsToDrop : {R : Type 0} → Format R → (List ℕ → Type 0) → List ℕ → Disk → Disk → Type 0
-FailsToDrop {R} F own gone old new = (base : Disk) (writer : LogFileWriter) (q : LogFiles R) (path : List ℕ) (N : Names)
+FailsToDrop {R} F own gone old new = (base : Disk) (writer : LogFileWriter) (q : LogFiles R)
+    (path : List ℕ) (N : Names)
     → CanDrop F own q gone N → IsOpen F own base writer q path N old
     → Fails old new × IsLeft F own base q new × GapsStay F q old new

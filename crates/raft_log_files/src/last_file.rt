@@ -50,7 +50,8 @@ pub fn sync_records<G: PipeFormat, F: FileSystem>(
     file_system: &mut F,
     writer: &LogFileWriter,
 ) -> Result<(), ErrorKind>
-    ensures ok { OnOk result (SyncsAll G.format G.own writer.now (F.disk file_system.old) (F.disk file_system.new)) }
+    ensures ok { OnOk result
+        (SyncsAll G.format G.own writer.now (F.disk file_system.old) (F.disk file_system.new)) }
     ensures err { OnErr result (FailsToSyncAll G.format G.own writer.now
         (F.disk file_system.old) (F.disk file_system.new)) }
     ensures others { TouchesOnly writer.now.handle.file (F.disk file_system.old) (F.disk file_system.new) }
@@ -74,8 +75,8 @@ pub fn finish_file<G: PipeFormat, F: FileSystem>(
     writer.close(file_system)
 }
 
-/// Begins the file of a handle, which has got the next number: writes its header, whatever it holds, and makes
-/// that durable.
+/// Begins the file of a handle, which has got the next number: writes its header, whatever it holds, and
+/// makes that durable.
 pub fn begin_file<G: PipeFormat, F: FileSystem, L: Log>(
     rt: &L,
     file_system: &mut F,

@@ -1,8 +1,10 @@
-//! Queues of log files that are written, synced, rotated and purged, and keep what was synced at every exit.
+//! Queues of log files that are written, synced, rotated and purged, and keep what was synced at every
+//! exit.
 //!
-//! So far the calls that a pipe is made of, each with what stands when it was answered and when it was refused,
-//! over any file system and any format of files: on the last file of a queue (`last_file`), and on the names of
-//! its files (`rotation`). From each of these exits `raft_log_file_queue` says what a stop leaves.
+//! So far the calls that a pipe is made of, each with what stands when it was answered and when it was
+//! refused, over any file system and any format of files: on the last file of a queue (`last_file`), and
+//! on the names of its files (`rotation`). From each of these exits `raft_log_file_queue` says what a stop
+//! leaves.
 #![tactic(auto)]
 
 pub mod format;

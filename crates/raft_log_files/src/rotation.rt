@@ -1,4 +1,5 @@
-//! Rotations: the last file of a queue is finished, and the queue goes on in the next one. Earlier files go.
+//! Rotations: the last file of a queue is finished, and the queue goes on in the next one. Earlier files
+//! go.
 
 ghost use Rattle.std.specs.Prelude.{OnOk, OnErr};
 ghost use Rattle.std.specs.String.{string_bytes};
@@ -32,8 +33,8 @@ pub fn rotate_to_new<G: PipeFormat, F: FileSystem, L: Log>(
     Ok(())
 }
 
-/// Goes on in a file that was kept for use, under the next number. The handle is the file's, opened to write
-/// before the call: nothing that may want memory comes between the calls that change something.
+/// Goes on in a file that was kept for use, under the next number. The handle is the file's, opened to
+/// write before the call: nothing that may want memory comes between the calls that change something.
 pub fn rotate_over<G: PipeFormat, F: FileSystem, L: Log>(
     rt: &L,
     file_system: &mut F,
@@ -43,9 +44,11 @@ pub fn rotate_over<G: PipeFormat, F: FileSystem, L: Log>(
     to: &str,
     header: &[u8],
 ) -> Result<(), ErrorKind>
-    ensures ok { OnOk result (RotatesOver G.format G.own header.now handle from.now to.now writer.old writer.new
+    ensures ok { OnOk result
+        (RotatesOver G.format G.own header.now handle from.now to.now writer.old writer.new
         (F.disk file_system.old) (F.disk file_system.new)) }
-    ensures err { OnErr result (FailsToRotateOver G.format G.own header.now handle from.now to.now writer.old
+    ensures err { OnErr result
+        (FailsToRotateOver G.format G.own header.now handle from.now to.now writer.old
         (F.disk file_system.old) (F.disk file_system.new)) }
     ensures later { IsLater (F.disk file_system.old) (F.disk file_system.new) }
 {
@@ -60,8 +63,10 @@ pub fn drop_file<G: PipeFormat, F: FileSystem>(
     file_system: &mut F,
     path: &str,
 ) -> Result<(), ErrorKind>
-    ensures ok { OnOk result (Drops G.format G.own path.now (F.disk file_system.old) (F.disk file_system.new)) }
-    ensures err { OnErr result (FailsToDrop G.format G.own path.now (F.disk file_system.old) (F.disk file_system.new)) }
+    ensures ok { OnOk result
+        (Drops G.format G.own path.now (F.disk file_system.old) (F.disk file_system.new)) }
+    ensures err { OnErr result
+        (FailsToDrop G.format G.own path.now (F.disk file_system.old) (F.disk file_system.new)) }
     ensures later { IsLater (F.disk file_system.old) (F.disk file_system.new) }
 {
     file_system.delete(path)

@@ -1,4 +1,4 @@
-use Rattle.std.proofs.Common.{rules, []}
+use Rattle.std.proofs.Common.{rules}
 use Rattle.raft_log_files.specs.Rotation.{FailsToRotateOver}
 use Rattle.raft_log_files.proofs.Rotating.{not_finished, rotates_over, fails_to_rename, fails_to_begin_over}
 use Rattle.raft_log_files.proofs.rotation.rotate_over.Goals as goal

@@ -20,7 +20,9 @@ const FILE_ALLOCATE_SIZE: usize = 2_097_152;
 #[derive(Drop, Debug)]
 pub struct LogFileWriter {
     handle: Handle,
+    // How many bytes are written, from the file's front on.
     written: usize,
+    // Where the file ends at the latest: behind what was allocated, or tried to be.
     capacity: usize,
     ghost short: { written < 2 ^ 63 },
 }

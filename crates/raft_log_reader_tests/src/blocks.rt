@@ -58,9 +58,9 @@ fn good_end(alloc: Global, bytes: &[u8], read_block_size: usize) -> Result<usize
     let (system, handle) = saved(alloc, bytes)?;
     let mut reader = LogItemBatchFileReader::new(alloc, read_block_size);
     let _format = reader.open(alloc, &system, file_id(), handle)?;
-    for _ in 0..3 {
-        let _batch = reader.next(alloc, &system)?;
-    }
+    let _first = reader.next(alloc, &system)?;
+    let _second = reader.next(alloc, &system)?;
+    let _third = reader.next(alloc, &system)?;
     match reader.next(alloc, &system) {
         Ok(_) => Ok(1),
         Err(_) => Ok(reader.valid_offset()),

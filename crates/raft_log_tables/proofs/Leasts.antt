@@ -88,7 +88,7 @@ below_left o v n m b e f h =
     let same = same_number n one.0 (sym e ∙ ap (λ o. lesser o v) f ∙ one.1) in
     let low = one.2 in omega (arith, same, low, h)
 
-place_there : {A : Type 0} (xs : List A) (i : ℕ) → i < length xs → (x : A) × (slice_get xs i ≡ Some x)
+pub place_there : {A : Type 0} (xs : List A) (i : ℕ) → i < length xs → (x : A) × (slice_get xs i ≡ Some x)
 place_there [] i h = absurd (omega arith)
 place_there (x ∷ xs) zero h = (x, refl)
 place_there (x ∷ xs) (suc i) h = place_there xs i (omega arith)

@@ -3,3 +3,4 @@ pub mod Replacing
 pub mod Ready
 pub mod Leasts
 pub mod Rewriting
+pub mod Fetching

@@ -1,6 +1,9 @@
 -- What is read of a table.
-use Rattle.std.specs.Prelude.{ℕ, ◌+◌, ◌-◌, length, Option, Some, None, option_map, if◌then◌else◌, nat_lt, nat_le, slice_get}
+use Rattle.std.specs.Prelude.{◌≡◌, ℕ, suc, ◌+◌, ◌-◌, ◌<◌, ◌≤◌, ◌⊎◌, List, [], ◌∷◌, ◌++◌, length, take, drop, Option, Some, None, option_map, if◌then◌else◌, nat_lt, nat_le, slice_get}
+use Rattle.raft_log_base.specs.declared.errors.Error.{Error}
+use Rattle.raft_log_base.specs.declared.errors.Error.TheVariants as errors
 use Rattle.raft_log_items.specs.declared.entry.EntryIndex.{EntryIndex}
+use Rattle.raft_log_places.specs.declared.place.Place.{Place}
 use Rattle.raft_log_places.specs.Shown.{Shown}
 use Rattle.raft_log_tables.specs.Entries.{entry_of, queue_of}
 
@@ -19,3 +22,46 @@ entry_at v i =
     then option_map (entry_of (queue_of (nat_lt (i - v.first) v.rewritten)) i)
     (slice_get v.places (i - v.first))
     else None
+
+-- how many of these places' entries come where so many bytes are left
+abbrev pub fitting : ℕ → List Place → ℕ
+fitting left [] = 0
+fitting left (p ∷ ps) = if nat_le p.entry_len left then suc (fitting (left - p.entry_len) ps) else 0
+
+-- how many come: the first always, and more as long as the sum of their lengths doesn't pass the greatest
+-- size
+abbrev pub sized : Option ℕ → List Place → ℕ
+sized None ps = length ps
+sized (Some max) [] = 0
+sized (Some max) (p ∷ ps) = if nat_le p.entry_len max then suc (fitting (max - p.entry_len) ps) else 1
+
+-- the entries at these places, from a position in the table on
+abbrev pub entries_from : Shown → ℕ → List Place → List EntryIndex
+entries_from v n [] = []
+entries_from v n (p ∷ ps) =
+    entry_of (queue_of (nat_lt n v.rewritten)) (v.first + n) p ∷ entries_from v (n + 1) ps
+
+-- the places of the indexes from begin on, below end
+abbrev pub places_between : Shown → ℕ → ℕ → List Place
+places_between v begin end = take (end - begin) (drop (begin - v.first) v.places)
+
+-- the entries from begin on, below end, as many as the greatest size lets come
+abbrev pub fetched : Shown → ℕ → ℕ → Option ℕ → List EntryIndex
+fetched v begin end max =
+    entries_from v (begin - v.first)
+    (take (sized max (places_between v begin end)) (places_between v begin end))
+
+-- these entries come behind the old ones, and this is how many
+abbrev pub Fetches : Shown → ℕ → ℕ → Option ℕ → List EntryIndex → List EntryIndex → ℕ → Type 0
+Fetches v begin end max old new count =
+    (new ≡ old ++ fetched v begin end max) × (count ≡ sized max (places_between v begin end))
+
+-- why entries aren't fetched: none are there, the first is compacted away, the last isn't there, or memory
+-- ran out; never where none are asked for
+abbrev pub FetchRefused : Shown → ℕ → ℕ → Error → Type 0
+FetchRefused v begin end error =
+    (begin < end)
+    × (((error ≡ errors.EntryNotFound) × (length v.places ≡ 0))
+    ⊎ (((error ≡ errors.EntryCompacted) × (0 < length v.places) × (begin < v.first))
+    ⊎ (((error ≡ errors.EntryNotFound) × (v.first ≤ begin) × (v.first + length v.places < end))
+    ⊎ ((error ≡ errors.Memory) × (v.first ≤ begin) × (end ≤ v.first + length v.places)))))

@@ -1,5 +1,5 @@
 //! The table of one group: where its entries and keys stand.
-ghost use Rattle.std.specs.Prelude.{◌≡◌, ◌+◌, ◌-◌, ◌≤◌, ◌<◌, ℕ, List, length, min, option_copied, true, Some, OnOk, OnErr, IfErr};
+ghost use Rattle.std.specs.Prelude.{◌≡◌, ◌^◌, ◌++◌, nat_lt, slice_get, take, drop, vec_len, vec_capacity, IfOk, ◌+◌, ◌-◌, ◌≤◌, ◌<◌, ℕ, List, length, min, option_copied, true, Some, OnOk, OnErr, IfErr};
 ghost use Rattle.raft_log_base.specs.declared.errors.Error.TheVariants as errors;
 ghost use Rattle.raft_log_items.specs.Run.{IsRun};
 ghost use Rattle.raft_log_model.specs.Item.Item.{Clean, Compact, Del, Put};
@@ -17,11 +17,11 @@ ghost use Rattle.raft_log_places.specs.Shown.{
 };
 ghost use Rattle.raft_log_places.specs.Bridge.{moved_key, unmarked};
 ghost use Rattle.raft_log_places.specs.Noted.{start_of};
-ghost use Rattle.raft_log_tables.specs.Entries.{run_of};
+ghost use Rattle.raft_log_tables.specs.Entries.{entry_of, queue_of, run_of};
 ghost use Rattle.raft_log_tables.specs.Files.{least_rewritten, min_file, noted_after, with_group};
 ghost use Rattle.raft_log_tables.specs.Moves.{key_rewritten, may_move, moved_by, owed_compact, rewritten_by, StandsIn};
 ghost use Rattle.raft_log_tables.specs.Keys.{shown_value, value_of};
-ghost use Rattle.raft_log_tables.specs.Reads.{entry_at, first_of, last_of};
+ghost use Rattle.raft_log_tables.specs.Reads.{entries_from, entry_at, first_of, last_of, Fetches, FetchRefused};
 ghost use Rattle.raft_log_tables.specs.Room.{kept, no_promise, promised, taken_back, with_room_for, CanTake};
 ghost use Rattle.raft_log_tables.specs.Table.{promise, shown, window_of, RunRefused};
 
@@ -157,6 +157,76 @@ impl MemTable {
             LogQueue::Append
         };
         Some(entry_of(queue, index, place))
+    }
+
+    /// Adds the entries from `begin` on, below `end`, and answers how many: the first always comes, and the
+    /// list ends before the sum of lengths passes `max_size`. Where none are asked for, none come.
+    ///
+    /// `EntryNotFound` where the table has no entries or the last isn't there, `EntryCompacted` where
+    /// `begin` is below the first. A refusal adds nothing.
+    pub fn fetch_entries_to(
+        &self,
+        begin: u64,
+        end: u64,
+        max_size: Option<u64>,
+        entries: &mut Vec<EntryIndex>,
+    ) -> Result<usize>
+        ensures ok { IfOk result
+            (Fetches (shown self.now) begin end max_size entries.old.items entries.new.items) }
+        ensures err { OnErr result (entries.new.items ≡ entries.old.items) }
+        ensures errors { IfErr result (λ e. FetchRefused (shown self.now) begin end e) }
+    {
+        if begin >= end {
+            return Ok(0);
+        }
+        if self.places.len() == 0 {
+            return Err(Error::EntryNotFound);
+        }
+        if begin < self.first {
+            return Err(Error::EntryCompacted);
+        }
+        if end > self.first + self.places.len() as u64 {
+            return Err(Error::EntryNotFound);
+        }
+        let position = (begin - self.first) as usize;
+        let count = self
+            .places
+            .sized(position, (end - begin) as usize, max_size);
+        entries.reserve(count)?;
+        self.copy_entries(position, count, entries);
+        Ok(count)
+    }
+
+    /// Adds so many entries from this position on, for which there is room.
+    fn copy_entries(&self, position: usize, count: usize, entries: &mut Vec<EntryIndex>)
+        requires within { position + count ≤ length (shown self.now).places }
+        requires fits { position + count < 2 ^ 64 }
+        requires room { vec_len entries.old + count ≤ vec_capacity entries.old }
+        ensures { entries.new.items
+            ≡ entries.old.items ++ entries_from (shown self.now) position
+            (take count (drop position (shown self.now).places)) }
+    {
+        for i in 0..count {
+            entries.push_reserved(self.entry_there(position + i));
+        }
+    }
+
+    /// The entry at this position, which is there.
+    fn entry_there(&self, position: usize) -> EntryIndex
+        requires { position < length (shown self.now).places }
+        ensures { (p : Place) → slice_get (shown self.now).places position ≡ Some p → result
+            ≡ entry_of (queue_of (nat_lt position self.now.rewritten)) (self.now.first + position) p }
+    {
+        let queue = if position < self.rewritten {
+            LogQueue::Rewrite
+        } else {
+            LogQueue::Append
+        };
+        entry_of(
+            queue,
+            self.first + position as u64,
+            self.places.at(position),
+        )
     }
 
     /// Makes room for the entries of a batch that is to be written, behind all that is prepared already.

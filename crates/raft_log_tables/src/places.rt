@@ -1,7 +1,8 @@
 //! The places of a group's entries, and room for more.
-ghost use Rattle.std.specs.Prelude.{◌≡◌, ◌+◌, ◌-◌, ◌≤◌, ◌++◌, [], length, map, take, drop, slice_get, OnOk, OnErr};
+ghost use Rattle.std.specs.Prelude.{◌≡◌, ◌+◌, ◌-◌, ◌≤◌, ◌++◌, [], length, map, take, drop, slice_get, ◌<◌, Some, OnOk, OnErr};
 ghost use Rattle.raft_log_tables.specs.Entries.{place_of, entry_of};
 ghost use Rattle.raft_log_tables.specs.Moves.{passing};
+ghost use Rattle.raft_log_tables.specs.Reads.{sized};
 
 use raft_log_base::{FileBlockHandle, FileId, FileSeq, LogQueue};
 use raft_log_items::{CompressionType, EntryIndex};
@@ -164,5 +165,41 @@ impl Places {
             }
         }
         limit
+    }
+
+    /// The place at this position, which is there.
+    pub fn at(&self, position: usize) -> Place
+        requires { position < length self.now.items }
+        ensures { slice_get self.now.items position ≡ Some result }
+    {
+        self.places[position]
+    }
+
+    /// How many of so many entries from this position on come: the first always, and more as long as the
+    /// sum of their lengths doesn't pass the greatest size.
+    pub fn sized(&self, position: usize, count: usize, max_size: Option<u64>) -> usize
+        requires { position + count ≤ length self.now.items }
+        ensures count { result ≡ sized max_size (take count (drop position self.now.items)) }
+        ensures within { result ≤ count }
+    {
+        let Some(max_size) = max_size else {
+            return count;
+        };
+        if count == 0 {
+            return 0;
+        }
+        let first = self.places[position].entry_len as u64;
+        if first > max_size {
+            return 1;
+        }
+        let mut left = max_size - first;
+        for i in 1..count {
+            let len = self.places[position + i].entry_len as u64;
+            if len > left {
+                return i;
+            }
+            left -= len;
+        }
+        count
     }
 }

@@ -15,23 +15,8 @@ fn outcome(alloc: Global, session: &[u8]) -> io::Result<(Vec<u8>, u8)> {
 /// Sessions, and what is written for them. In the first a vote stands after a crash.
 const SESSIONS: [(&str, &str); 12] = [
     (
-        "open 1
-round
-vote 1 5 2 0 0
-end
-crash last
-open 1
-round
-vote 1 5 3 0 0
-end
-",
-        "round 0 answered
-0 1 Granted 5
-round 1 answered
-0 1 Denied 5
-cuts
-verdict yes
-",
+        "open 1\nround\nvote 1 5 2 0 0\nend\ncrash last\nopen 1\nround\nvote 1 5 3 0 0\nend\n",
+        "round 0 answered\n0 1 Granted 5\nround 1 answered\n0 1 Denied 5\ncuts\nverdict yes\n",
     ),
     (
         "open 1

@@ -1,5 +1,5 @@
 -- A reader at work, batch by batch.
-use Rattle.std.proofs.Common.{◌≡◌, ◌-◌, ◌<◌, ℕ, List, [], ◌∷◌, ◌++◌, Some, refl, sym, ap, subst, ◌∙◌, arith}
+use Rattle.std.proofs.Common.{◌≡◌, ◌<◌, ℕ, List, [], ◌∷◌, ◌++◌, sym, ap, subst, ◌∙◌, arith}
 use Rattle.raft_log_base.specs.declared.pipe_log.FileId.{FileId}
 use Rattle.raft_log_items.specs.declared.item.LogItem.{LogItem}
 use Rattle.raft_log_disk.specs.Disk.{Disk}
@@ -11,7 +11,7 @@ use Rattle.raft_log_reader.specs.Reader.{IsReading, file_of, end_of}
 use Rattle.raft_log_reader.specs.declared.open_file.OpenFile.{OpenFile}
 use Rattle.raft_log_reader.specs.declared.reader.LogItemBatchFileReader.{LogItemBatchFileReader}
 use Rattle.raft_log_reader.proofs.Readings.{batches_go_on_is}
-use Rattle.raft_log_reader_tests.specs.GoodEnd.{IsAtWork, HasReadTo, EndsItsBatches, size_in, left_of}
+use Rattle.raft_log_reader_tests.specs.GoodEnd.{IsAtWork, EndsItsBatches, size_in, left_of}
 
 -- one more batch
 pub went_on : (id : FileId) (handle : Handle) (d : Disk) (old new : LogItemBatchFileReader) (items : List LogItem) (work : IsAtWork id handle d old)

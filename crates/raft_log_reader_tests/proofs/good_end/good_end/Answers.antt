@@ -1,10 +1,6 @@
-use Rattle.std.proofs.Common.{◌≡◌, ◌-◌, ◌<◌, ◌^◌, ℕ, List, [], ◌∷◌, ◌++◌, Some, refl, sym, ap, subst, ◌∙◌, inl, inr, arith}
-use Rattle.raft_log_base.specs.Fault.Fault.{number, corrupt}
-use Rattle.raft_log_reader.specs.Source.{bytes_of}
-use Rattle.raft_log_reader.specs.Laws.{EndsBehind}
-use Rattle.raft_log_reader.specs.Reader.{file_of, end_of}
+use Rattle.std.proofs.Common.{[], refl, ◌∙◌, inl, inr}
+use Rattle.raft_log_reader.specs.Reader.{end_of}
 use Rattle.raft_log_reader.specs.declared.open_file.OpenFile.{OpenFile}
-use Rattle.raft_log_reader_tests.specs.GoodEnd.{IsAtWork, HasReadTo, EndsItsBatches}
 use Rattle.raft_log_reader_tests.proofs.AtWork.{went_on, less_left, ended}
 use Rattle.raft_log_reader_tests.proofs.good_end.good_end.Goals as goal
 

@@ -38,8 +38,8 @@ AppendRefused TooLong bytes log durable pending old new =
 AppendRefused Failed bytes log durable pending old new = ⊥
 AppendRefused (FileSystem kind) bytes log durable pending old new = Fails old new
     × (IsOpen log (durable ++ pending) [] new
-        ⊎ (IsInDoubt log × FailsTwice old new
-            × IsKept log.handle.file durable (pending ++ framed bytes ∷ []) new))
+    ⊎ (IsInDoubt log × FailsTwice old new
+    × IsKept log.handle.file durable (pending ++ framed bytes ∷ []) new))
 
 -- why a sync was refused, and what stands then: a file call failed, and so has the log
 abbrev pub SyncRefused : AppendError → AppendFile → Records → Records → Disk → Disk → Type 0

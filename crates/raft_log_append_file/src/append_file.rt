@@ -177,12 +177,12 @@ impl AppendFile {
         ensures err { IfErr result (λ error. (durable pending : Records)
             → IsOpen self.old durable pending (F.disk file_system.old)
             → AppendRefused error bytes.now self.new durable pending
-                (F.disk file_system.old) (F.disk file_system.new)) }
+            (F.disk file_system.old) (F.disk file_system.new)) }
 
         // Answered or refused: whatever a stop leaves has all durable records.
         ensures kept { (durable pending : Records) → IsOpen self.old durable pending (F.disk file_system.old)
             → KeepsRecords self.old.handle.file durable (pending ++ framed bytes.now ∷ [])
-                (F.disk file_system.new) }
+            (F.disk file_system.new) }
         ensures doubt { IsInDoubt self.old → (result ≡ Err AppendError.Failed) × (self.new ≡ self.old)
             × (F.disk file_system.new ≡ F.disk file_system.old) }
         ensures handle { self.new.handle ≡ self.old.handle }
@@ -233,7 +233,7 @@ impl AppendFile {
         ensures err { IfErr result (λ error. (bytes : List ℕ) (durable pending : Records)
             → IsFrame frame.now bytes → IsOpen self.old durable pending (F.disk file_system.old)
             → AppendRefused error bytes self.new durable pending
-                (F.disk file_system.old) (F.disk file_system.new)) }
+            (F.disk file_system.old) (F.disk file_system.new)) }
         ensures handle { self.new.handle ≡ self.old.handle }
         ensures others { TouchesOnly self.old.handle.file (F.disk file_system.old) (F.disk file_system.new) }
         ensures later { IsLater (F.disk file_system.old) (F.disk file_system.new) }

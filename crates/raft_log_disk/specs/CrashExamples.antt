@@ -24,7 +24,7 @@ TornRecordIsLost {R} IsFrame = IsSelfDelimiting IsFrame
     let file = one_unsynced synced w in
     let bytes = synced ++ take landed w.bytes in
     IsLeft file bytes × NoChanceMatch IsFrame (length front) stale file bytes
-        × Reads IsFrame (length front) durable bytes)
+    × Reads IsFrame (length front) durable bytes)
 
 -- The same file, and another record than the one written, no longer than it: a stop may leave that one in its
 -- place, and the premise says that this doesn't happen.
@@ -46,7 +46,7 @@ ForeignRecordBehindIsRefused {R} IsFrame = IsSelfDelimiting IsFrame
     → AreFrames IsFrame durable → IsFrame foreign.bytes foreign.value
     → (IsStale stale (length front + length (spelled durable)) foreign.bytes → ⊥)
     → HoldsChain IsFrame (length front) stale durable pending
-        (at_rest ((front ++ spelled durable) ++ (foreign.bytes ++ behind))) → ⊥
+    (at_rest ((front ++ spelled durable) ++ (foreign.bytes ++ behind))) → ⊥
 
 -- A file that is used again, with its new records synced over the bytes that stood there, of which none is
 -- read behind them: the premise holds in what a stop leaves of it, and the new records are read and no more.
@@ -57,7 +57,7 @@ RecycledFileMeetsIt {R} IsFrame = (front stale : List ℕ) (durable : List (Writ
     → Refuses IsFrame (drop (length front + length (spelled durable)) stale)
     → (let bytes = front ++ (spelled durable ++ drop (length front + length (spelled durable)) stale) in
     HoldsChain IsFrame (length front) stale durable [] (at_rest bytes)
-        × NoChanceMatch IsFrame (length front) stale (at_rest bytes) bytes
+    × NoChanceMatch IsFrame (length front) stale (at_rest bytes) bytes
     × Reads IsFrame (length front) durable bytes)
 
 -- Whatever a stop leaves of a file whose bytes are all synced, and that held nothing when it got its number,

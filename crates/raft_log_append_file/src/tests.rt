@@ -1,7 +1,7 @@
 //! Runs over a file system in memory, with calls refused and stops at each.
 
-use raft_log_append_file::frame::{make_frame, read_frame};
-use raft_log_append_file::{AppendError, AppendFile};
+use super::frame::{make_frame, read_frame};
+use super::{AppendError, AppendFile};
 use raft_log_disk::{FileSystem, Permission};
 use raft_log_memory_files::{MemoryFileSystem, Piece, Remainder};
 use std::alloc::{AllocError, Global};

@@ -1,5 +1,0 @@
-//! Tests of tables: worked rows, and each call once.
-#![tactic(auto)]
-
-#[cfg(test)]
-mod tables;

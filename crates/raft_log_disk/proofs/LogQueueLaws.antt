@@ -220,8 +220,7 @@ module _ {R : Type 0} (F : Format R) (lawful : IsFormat F) where
       let old = files.last in
       let there : IsThere F q.last image = record { path = old.path; at = old.at; id = old.file.id; named = name_of q P d image files is old.path (Some old.file.id) old.file.named } in
       let (ws, reads) = some_named q P d image files is tell (image_is_sound d image sound is) q.last there in
-      let (count, within, same) = last_read q P d image files is keeps chance ws reads in
-      (
+      let (count, within, same) = last_read q P d image files is keeps chance ws reads in (
         count,
         within,
         λ s below found reading.

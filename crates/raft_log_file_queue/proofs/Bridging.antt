@@ -73,8 +73,7 @@ module _ {R E V : Type 0} (says : R → Record E V) where
     reads_as_files d files all bound there ends image is chance =
         let (count, within, one) = ends image is chance in
         let kept = said says (take count q.pending) in
-        let lost = said says (drop count q.pending) in
-        (
+        let lost = said says (drop count q.pending) in (
           kept,
           lost,
           sym (said-append (take count q.pending) (drop count q.pending)) ∙ ap (said says) (take-append-drop count q.pending) ∙ sym all.pending,
@@ -183,8 +182,7 @@ module _ {R E V : Type 0} (says : R → Record E V) where
         ] in
         let last : next.older q.last ≡ record { header = q.header; records = recent q } = ap (λ b. cond b (record { header = q.header; records = recent q }) (q.older q.last)) ((Decides-eqb q.last q.last).1 refl) in
         let one : filed says next.older q.last 1 ≡ record { number = files.last; records = files.synced ++ files.pending } ∷ [] =
-        (λ i. record { number = (sym all.last) i; records = (ap (λ (p : Past R). said says p.records) last ∙ sym (all_said d files all)) i } ∷ []) in
-        (
+        (λ i. record { number = (sym all.last) i; records = (ap (λ (p : Past R). said says p.records) last ∙ sym (all_said d files all)) i } ∷ []) in (
           record files { full = files.full ++ record { number = files.last; records = files.synced ++ files.pending } ∷ []; last = files.last + 1; synced = []; pending = [] },
           refl,
           record {
@@ -212,8 +210,7 @@ module _ {R E V : Type 0} (says : R → Record E V) where
         let above = all.above in
         let out = filed says q.older first (to - first) in
         let stay = filed says q.older to (q.last - to) in
-        let parts : filed says q.older first all.forth ≡ out ++ stay = filed-append q.older first to (to - first) (q.last - to) all.forth (omega (arith, from)) (omega (arith, from, below_last, above)) in
-        (
+        let parts : filed says q.older first all.forth ≡ out ++ stay = filed-append q.older first to (to - first) (q.last - to) all.forth (omega (arith, from)) (omega (arith, from, below_last, above)) in (
           out,
           stay,
           refl,
@@ -247,8 +244,7 @@ module _ {R E V : Type 0} (says : R → Record E V) where
         let again = filed says q.older to (first - to) in
         let kept = said says (take count q.pending) in
         let parts : filed says q.older low all.back ≡ front ++ again = filed-append q.older low to (to - low) (first - to) all.back (omega (arith, from)) (omega (arith, from, under, below)) in
-        let whole : filed says q.older to (first - to + all.forth) ≡ again ++ filed says q.older first all.forth = filed-append q.older to first (first - to) all.forth (first - to + all.forth) (omega (arith, under)) refl in
-        (
+        let whole : filed says q.older to (first - to + all.forth) ≡ again ++ filed says q.older first all.forth = filed-append q.older to first (first - to) all.forth (first - to + all.forth) (omega (arith, under)) refl in (
           front,
           again,
           kept,

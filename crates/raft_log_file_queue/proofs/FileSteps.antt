@@ -262,7 +262,7 @@ module _ {R : Type 0} (F : Format R) where
       let n = length (whole q) in
       record {
         chain = holds_grown (F.IsFrame q.last q.header) (length q.header) (grown room q.stale) q.durable q.pending size content file
-        (chain_longer q.last (length q.header) q.header q.stale (zeros (room - length q.stale)) q.durable q.pending file is.chain);
+            (chain_longer q.last (length q.header) q.header q.stale (zeros (room - length q.stale)) q.durable q.pending file is.chain);
         headed = header_changed q.header (GrewTo size) content file (λ place less touched. touched) is.headed;
         all = grew ∙ ap (λ (b : List ℕ). grown room b) is.all ∙ over_grown (whole q) q.stale room;
       }
@@ -370,7 +370,7 @@ module _ {R : Type 0} (F : Format R) where
         let same : header ++ [] ≡ header = append-nil header in
         record {
           chain = holds_synced (F.IsFrame q.last header) n (lawful.free q.last header) stale [] file.content (record { rest = drop n file.content; splits = refl; frames = tt })
-          (subst (λ (k : ℕ). StandsBehind k stale file.content) (let long : n ≡ n + 0 = omega arith in long) (subst (StandsBehind n stale) (sym is.is) (over_stands header stale)));
+              (subst (λ (k : ℕ). StandsBehind k stale file.content) (let long : n ≡ n + 0 = omega arith in long) (subst (StandsBehind n stale) (sym is.is) (over_stands header stale)));
           headed = header_flushed header file.content (ap (λ (b : List ℕ). take n b) is.is ∙ take_at header back n refl);
           all = is.is ∙ ap (λ (b : List ℕ). b ++ drop (length b) stale) (sym same);
         }

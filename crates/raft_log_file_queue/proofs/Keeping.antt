@@ -39,17 +39,20 @@ module _ {R : Type 0} (F : Format R) (own : List ℕ → Type 0) where
     files_restart tell base q path id N d image s is chance =
         let (count, within, files, again) = queue_restarts F lawful tell q d image (log_files base q path id (HoldsLast F q) N d s) s.headed is chance in
         let named : (p : List ℕ) (o : Option ℕ) → N p ≡ o → image.names p ≡ o = λ p o at. ap (λ (f : Names). f p) (is.names ∙ s.names) ∙ at in
-        let mine : id ≡ files.last.file.id = files.alone path id s.at (named path (Some id) s.named) in
-        (count, within, record {
-          names = is.names ∙ s.names;
-          bound = s.bound;
-          at = s.at;
-          named = s.named;
-          alone = s.alone;
-          none = s.none;
-          headed = s.headed;
-          places = λ m p less at. place_moved p d image is.directories (s.places m p less at);
-          file = subst (λ (j : ℕ). HasFile j (IsLeftover F (kept_to count q)) image) (sym mine) files.last.file.file;
-          older = λ m j p below at there. files.older m j p below at (named p (Some j) there);
-          others = names_same own image;
-        })
+        let mine : id ≡ files.last.file.id = files.alone path id s.at (named path (Some id) s.named) in (
+          count,
+          within,
+          record {
+            names = is.names ∙ s.names;
+            bound = s.bound;
+            at = s.at;
+            named = s.named;
+            alone = s.alone;
+            none = s.none;
+            headed = s.headed;
+            places = λ m p less at. place_moved p d image is.directories (s.places m p less at);
+            file = subst (λ (j : ℕ). HasFile j (IsLeftover F (kept_to count q)) image) (sym mine) files.last.file.file;
+            older = λ m j p below at there. files.older m j p below at (named p (Some j) there);
+            others = names_same own image;
+          },
+        )

@@ -15,8 +15,11 @@ said says ws = map (λ w. says w.value) ws
 -- so many files from a number on
 abbrev pub filed : {R E V : Type 0} → (R → Record E V) → (ℕ → Past R) → ℕ → ℕ → List (LogFile E V)
 filed says older s zero = []
-filed says older s (suc k) = record { number = s; records = said says
-    (older s).records } ∷ filed says older (suc s) k
+filed says older s (suc k) = record {
+  number = s;
+  records = said says
+      (older s).records;
+} ∷ filed says older (suc s) k
 
 -- a file as it was read
 abbrev pub logged : {R E V : Type 0} → (R → Record E V) → Found R → LogFile E V

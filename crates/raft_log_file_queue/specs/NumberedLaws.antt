@@ -18,7 +18,7 @@ abbrev pub ReadsAsNumbered : {R E V : Type 0} → (R → Record E V) → Format 
 ReadsAsNumbered {R} {E} {V} says F own = CanTellFormat F → (base : Disk) (q : LogFiles R) (path : List ℕ)
     (id : ℕ) (N : Names) (d : Disk)
     → IsSound d → Stands F own base q path id (HoldsLast F q) N d ⊎ Stands F own base q path id
-        (IsLeftover F q) N d
+    (IsLeftover F q) N d
     → (low first : ℕ) (files : FileQueue E V) → IsFileQueue says F q low first d files
     → ReadsAsFiles says F q low first d files
 
@@ -35,12 +35,12 @@ pub record NumberedSteps {R E V : Type 0} (says : R → Record E V) (F : Format 
   pub rotates : (header stale : List ℕ) → StepsTo says F Rotate files (rotated header stale q) low first d
   pub raises : (to : ℕ) → first ≤ to → to ≤ q.last
       → (out stay : List (LogFile E V)) × (out ≡ filed says q.older first (to - first)) × StepsTo says F
-          (Raise out stay) files q low to d
+      (Raise out stay) files q low to d
   pub reads_again : (to count : ℕ) (next : LogFiles R) → low ≤ to → to ≤ first → next.older ≡ q.older
       → next.last ≡ q.last
       → next.durable ≡ kept_records q.durable q.pending count → next.pending ≡ []
       → (below again : List (LogFile E V)) × (kept lost : List (Record E V)) ×
-          (kept ++ lost ≡ files.pending)
+      (kept ++ lost ≡ files.pending)
       × StepsTo says F (Read below again kept) files next low to d
 
 -- of each queue's files

@@ -7,8 +7,8 @@ use std::marker::Model;
 /// Bytes with an owner.
 pub type Bytes = Items<u8>;
 
-/// A growing list. It is a `Vec` of which contracts see the elements alone, and not its room, so that clauses compare
-/// lists, and types that hold them, as values.
+/// A growing list. It is a `Vec` of which contracts see the elements alone, and not its room, so that
+/// clauses compare lists, and types that hold them, as values.
 #[derive(Debug, Drop)]
 pub struct Items<T> {
     items: Vec<T>,

@@ -54,8 +54,8 @@ abbrev pub GivesOrMemory : {X : Type 0} → Result X Error → Result X Fault �
 GivesOrMemory (Ok x) reading = reading ≡ Ok x
 GivesOrMemory (Err e) reading = Fails e reading
 
--- A decoder of this grammar: what it answers is spelled by the bytes that it took, what is spelled so at the front is
--- answered and just that taken, unless memory ran out, and a refusal takes nothing.
+-- A decoder of this grammar: what it answers is spelled by the bytes that it took, what is spelled so at
+-- the front is answered and just that taken, unless memory ran out, and a refusal takes nothing.
 pub record DecodesOrMemory {X : Type 0} (P : List ℕ → X → Type 0)
     (result : Result X Error) (old new : List ℕ) : Type 0 where
   pub found : MatchResult result (λ x. (text : List ℕ) × P text x × (old ≡ text ++ new)) (λ e. new ≡ old)

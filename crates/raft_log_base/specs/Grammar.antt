@@ -1,13 +1,13 @@
--- Grammars: a relation between bytes and what they spell, and rules that make one of another. Beside each rule stands
--- the function on lists that reads by it from the front.
+-- Grammars: a relation between bytes and what they spell, and rules that make one of another. Beside each
+-- rule stands the function on lists that reads by it from the front.
 use Rattle.std.specs.Prelude.{◌≡◌, ℕ, zero, suc, Bool, List, [], ◌∷◌, ◌++◌, Result, Ok, Err, MatchBool, MatchResult, if◌then◌else◌}
 
 -- reads a value from the front, and gives it with the bytes after it
 abbrev pub Reader : Type 0 → Type 0 → Type 0
 Reader X E = List ℕ → Result (X × List ℕ) E
 
--- The reader reads this grammar: what it takes is a spelling of what it gives, and each spelling is read, whatever
--- follows it. So it refuses only bytes no beginning of which is a spelling.
+-- The reader reads this grammar: what it takes is a spelling of what it gives, and each spelling is read,
+-- whatever follows it. So it refuses only bytes no beginning of which is a spelling.
 pub record IsReader {X E : Type 0} (read : Reader X E) (P : List ℕ → X → Type 0) : Type 0 where
   pub takes : (bytes : List ℕ) (y : X × List ℕ) → read bytes ≡ Ok y
       → (text : List ℕ) × P text y.0 × (bytes ≡ text ++ y.1)
@@ -66,8 +66,8 @@ abbrev pub ReadsAs : {X E : Type 0} → Result X E → List ℕ → List ℕ →
 ReadsAs (Ok x) old new reading = reading ≡ Ok (x, new)
 ReadsAs (Err e) old new reading = (reading ≡ Err e) × (new ≡ old)
 
--- A decoder of this grammar: what it answers is spelled by the bytes that it took, what is spelled so at the front is
--- answered and just that taken, and a refusal takes nothing.
+-- A decoder of this grammar: what it answers is spelled by the bytes that it took, what is spelled so at
+-- the front is answered and just that taken, and a refusal takes nothing.
 pub record Decodes {X E : Type 0} (P : List ℕ → X → Type 0)
     (result : Result X E) (old new : List ℕ) : Type 0 where
   pub found : MatchResult result (λ x. (text : List ℕ) × P text x × (old ≡ text ++ new)) (λ e. new ≡ old)

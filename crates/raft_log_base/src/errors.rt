@@ -71,7 +71,8 @@ impl Error {
         }
     }
 
-    /// A text that is no size, as an invalid argument, or `Memory` where there is no room for what is wrong with it.
+    /// A text that is no size, as an invalid argument, or `Memory` where there is no room for what is
+    /// wrong with it.
     pub fn invalid_size(alloc: Global, fault: ParseSizeError) -> Error
         ensures { IsInvalidSize fault result }
     {

@@ -1,5 +1,5 @@
-//! What all of the log shares: numbers as bytes, sizes, rounding, queues, files and places in them, and why a call is
-//! refused.
+//! What all of the log shares: numbers as bytes, sizes, rounding, queues, files and places in them, and
+//! why a call is refused.
 #![tactic(auto)]
 
 pub mod codec;

@@ -175,8 +175,8 @@ impl LogFileContext {
         LogFileContext { id, version }
     }
 
-    /// What the checksum of each record of the file is combined with: the low 32 bits of the file's number, and
-    /// nothing where the format has no signatures.
+    /// What the checksum of each record of the file is combined with: the low 32 bits of the file's
+    /// number, and nothing where the format has no signatures.
     pub fn get_signature(&self) -> Option<u32>
         ensures { result ≡ signature_of self.now }
     {

@@ -27,9 +27,9 @@ pub const TIB: u64 = 1024 * GIB;
 /// 1,024 TiB.
 pub const PIB: u64 = 1024 * TIB;
 
-/// A size in bytes. It prints as the number of the greatest unit of `PiB`, `TiB`, `GiB`, `MiB` and `KiB` that divides
-/// it, else with `B`, and 0 as `0KiB`. It reads as a whole number and a unit: nothing, `B`, `K`, `KB`, `KiB`, and the
-/// same three forms of `M`, `G`, `T` and `P`, with white space before and after.
+/// A size in bytes. It prints as the number of the greatest unit of `PiB`, `TiB`, `GiB`, `MiB` and `KiB`
+/// that divides it, else with `B`, and 0 as `0KiB`. It reads as a whole number and a unit: nothing, `B`,
+/// `K`, `KB`, `KiB`, and the same three forms of `M`, `G`, `T` and `P`, with white space before and after.
 #[derive(Clone, Copy, Debug, PartialEq, Eq, PartialOrd, Ord)]
 pub struct ReadableSize(pub u64);
 

@@ -1,4 +1,5 @@
-//! The checksum of the log's formats: CRC-32 with the reflected polynomial `EDB88320`, as of zlib and Ethernet.
+//! The checksum of the log's formats: CRC-32 with the reflected polynomial `EDB88320`, as of zlib and
+//! Ethernet.
 
 mod few_zeros;
 mod many_zeros;
@@ -10,8 +11,8 @@ ghost use Rattle.raft_log_checksum.specs.Checksum.{crc_bits, crc_after, crc32_of
 use few_zeros::AFTER_FEW;
 use many_zeros::AFTER_MANY;
 
-/// What a byte leaves after fewer than eight zero bytes, and after eight and more: one table, so that the loop over chunks
-/// needs one address.
+/// What a byte leaves after fewer than eight zero bytes, and after eight and more: one table, so that the
+/// loop over chunks needs one address.
 const AFTER: [[[u32; 256]; 8]; 2] = [AFTER_FEW, AFTER_MANY];
 
 /// The register at the start, and what turns it at the end.
@@ -47,8 +48,8 @@ fn after_bytes(register: u32, bytes: &[u8]) -> u32
     register
 }
 
-/// The register after sixteen bytes: it goes into the first four, and then each byte counts for itself. Those that don't
-/// wait for the register come first.
+/// The register after sixteen bytes: it goes into the first four, and then each byte counts for itself.
+/// Those that don't wait for the register come first.
 #[inline]
 fn after_chunk(register: u32, chunk: &[u8; 16]) -> u32
     ensures { result ≡ crc_after register chunk.now }

@@ -6,9 +6,9 @@ use Rattle.raft_log_disk.specs.Disk.{File}
 use Rattle.raft_log_disk.specs.Chains.{Written, IsSelfDelimiting, CanTell, Reads}
 use Rattle.raft_log_disk.specs.KeepsSynced.{NoChanceMatch}
 
--- How the files of a log are written: which bytes spell which record in the file with a number and a header
--- (whose format says whether its records are signed), which are a header, which paths a file with a number may
--- have (one in each directory of the log), and the number that all are below.
+-- How the files of a log are written: which bytes spell which record in the file with a number and a
+-- header (whose format says whether its records are signed), which are a header, which paths a file with a
+-- number may have (one in each directory of the log), and the number that all are below.
 pub record Format (R : Type 0) : Type 1 where
   pub IsFrame : ℕ → List ℕ → List ℕ → R → Type 0
   pub IsHeader : List ℕ → Type 0

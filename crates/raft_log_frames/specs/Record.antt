@@ -183,8 +183,8 @@ abbrev pub GivesItems : {X : Type 0} → Result (Vec X) Error → Result (List X
 GivesItems (Ok x) reading = reading ≡ Ok x.items
 GivesItems (Err e) reading = Fails e reading
 
--- what was answered of the end of a footer is so for the sum of its entries' lengths, of which at most 2 ^ 64 - 1
--- is given
+-- what was answered of the end of a footer is so for the sum of its entries' lengths, of which at most 2 ^
+-- 64 - 1 is given
 abbrev pub TellsWhole : Result (Unit {0}) Error → ℕ → ℕ → List ℕ → Type 0
 TellsWhole result block_len len rest =
     (sum : ℕ) → len ≡ min sum (2 ^ 64 - 1) → GivesOrMemory result (whole_of block_len sum rest)

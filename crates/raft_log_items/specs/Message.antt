@@ -3,7 +3,8 @@ use Rattle.std.specs.Prelude.{◌≡◌, ℕ, List, Option, None, Some, Result, 
 use Rattle.raft_log_base.specs.declared.errors.Error.{Error}
 use Rattle.raft_log_base.specs.declared.errors.Error.TheVariants as errors
 
--- What was parsed is what the bytes read as, they are refused only where they read as nothing, or memory ran out.
+-- What was parsed is what the bytes read as, they are refused only where they read as nothing, or memory
+-- ran out.
 abbrev pub Parses : {M : Type 0} → Result M Error → Option M → Type 0
 Parses (Ok m) reading = reading ≡ Some m
 Parses (Err errors.Memory) reading = Unit {0}

@@ -66,14 +66,14 @@ placed handle items = written handle (laid_out 0 items)
 abbrev pub placed_item : FileBlockHandle → ℕ → LogItem → LogItem
 placed_item handle offset x = written_item handle (record x { content = laid_content offset x.content })
 
--- The items with their places, and how many bytes their entries have, or 2 ^ 64 - 1 where they have more. Where these
--- are too many for a block, nothing is said of where they lie.
+-- The items with their places, and how many bytes their entries have, or 2 ^ 64 - 1 where they have more.
+-- Where these are too many for a block, nothing is said of where they lie.
 pub record ArePlaced (handle : FileBlockHandle) (plain items : List LogItem) (len : ℕ) : Type 0 where
   pub sum : len ≡ min (entries_len plain) (2 ^ 64 - 1)
   pub places : entries_len plain < 2 ^ 32 → items ≡ placed handle plain
 
--- What a decoder answered and what it left is what the reading of the bytes gives, with the places of the items, unless
--- memory ran out. A refusal leaves all.
+-- What a decoder answered and what it left is what the reading of the bytes gives, with the places of the
+-- items, unless memory ran out. A refusal leaves all.
 abbrev pub ReadsPlaced :
     FileBlockHandle → Result (Vec LogItem × ℕ) Error → List ℕ → List ℕ
     → Result (List LogItem × List ℕ) Fault → Type 0

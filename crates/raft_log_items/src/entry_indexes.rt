@@ -99,7 +99,8 @@ impl EntryIndexes {
         len
     }
 
-    /// Lays the entries out one after another from this offset in their block on, and answers where the next one goes.
+    /// Lays the entries out one after another from this offset in their block on, and answers where the
+    /// next one goes.
     pub fn lay_out(&mut self, offset: u32) -> u32
         requires { offset + run_len self.old < 2 ^ 32 }
         ensures laid { self.new ≡ laid_run offset self.old }
@@ -145,7 +146,8 @@ impl EntryIndexes {
     }
 }
 
-/// Lays the entries out one after another from this offset in their block on, and answers where the next one goes.
+/// Lays the entries out one after another from this offset in their block on, and answers where the next
+/// one goes.
 fn lay_out(entries: &mut [EntryIndex], offset: u32) -> u32
     requires { offset + run_len entries.old < 2 ^ 32 }
     ensures laid { entries.new ≡ laid_run offset entries.old }

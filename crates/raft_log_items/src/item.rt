@@ -82,8 +82,9 @@ impl LogItem {
         }
     }
 
-    /// The item is written, and its entries lie one after another in the block at this place, from this offset on. Answers
-    /// where the next entry goes, or 2^64 - 1 where that is further. Entries that no block holds get no place.
+    /// The item is written, and its entries lie one after another in the block at this place, from this
+    /// offset on. Answers where the next entry goes, or 2^64 - 1 where that is further. Entries that no
+    /// block holds get no place.
     pub fn place(&mut self, block: FileBlockHandle, offset: u64) -> u64
         ensures end { result ≡ min (offset + content_len self.old.content) (2 ^ 64 - 1) }
         ensures places { result < 2 ^ 32 → self.new ≡ placed_item block offset self.old }
@@ -181,7 +182,8 @@ fn append_content(out: &mut Vec<u8>, content: &LogItemContent) -> Result<(), All
     Ok(())
 }
 
-/// Lays out the entries of a content from this offset in their block on, and answers where the next entry goes.
+/// Lays out the entries of a content from this offset in their block on, and answers where the next entry
+/// goes.
 pub(crate) fn lay_out_content(content: &mut LogItemContent, offset: u32) -> u32
     requires { offset + content_len content.old < 2 ^ 32 }
     ensures laid { content.new ≡ laid_content offset content.old }

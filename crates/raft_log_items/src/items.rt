@@ -32,7 +32,8 @@ fn copy_of(item: &LogItem) -> Result<LogItem, AllocError>
     item.clone()
 }
 
-/// Gives the items of a written batch their places: their entries lie one after another in the block at this place.
+/// Gives the items of a written batch their places: their entries lie one after another in the block at
+/// this place.
 pub fn place(items: &mut [LogItem], handle: FileBlockHandle)
     requires { entries_len items.old < 2 ^ 32 }
     ensures { items.new ≡ placed handle items.old }
@@ -97,8 +98,8 @@ fn split_items(alloc: Global, source: &mut BytesSlice<'_>, count: u64) -> Result
     Ok(items)
 }
 
-/// Reads a list of items whose entries lie one after another in the block at this place, and answers with it how many
-/// bytes they have, or 2^64 - 1 where they have more. Each item gets its places as it is read.
+/// Reads a list of items whose entries lie one after another in the block at this place, and answers with
+/// it how many bytes they have, or 2^64 - 1 where they have more. Each item gets its places as it is read.
 ///
 /// Of entries that no block holds, with 2^32 bytes or more, the places are not told.
 #[tactic(auto, unfolding(crate::specs::Reading::items_at))]
@@ -146,7 +147,8 @@ fn room_for_items(alloc: Global, count: u64, len: usize) -> Result<Vec<LogItem>,
     Vec::with_capacity(alloc, room as usize)
 }
 
-/// Appends the count of the items, and each of them. A refusal may leave a part of them behind what was there.
+/// Appends the count of the items, and each of them. A refusal may leave a part of them behind what was
+/// there.
 #[tactic(auto, unfolding(crate::specs::Writing::items_bytes))]
 pub fn append_items(out: &mut Vec<u8>, items: &[LogItem]) -> Result<(), AllocError>
     ensures ok { OnOk result (out.new.items ≡ out.old.items ++ items_bytes items.now) }

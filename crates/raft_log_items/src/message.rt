@@ -4,7 +4,8 @@ use std::alloc::{AllocError, Global};
 
 /// A value that is kept as bytes.
 ///
-/// Contracts see two functions: how a value is spelled, and what bytes are read as, if they are a spelling at all.
+/// Contracts see two functions: how a value is spelled, and what bytes are read as, if they are a spelling
+/// at all.
 pub trait Message: Drop {
     ghost use Rattle.std.specs.Prelude.{◌≡◌, ◌++◌, ℕ, List, Option, OnOk, OnErr};
     ghost use Rattle.raft_log_items.specs.Writing.{KeepsFront};
@@ -16,8 +17,9 @@ pub trait Message: Drop {
     /// The value of these bytes. One value may have other spellings than the one that is written.
     ghost reading: { List ℕ → Option Self };
 
-    /// Appends the bytes of the message, which are read as the same message again: a fact of this value, so that a type
-    /// whose values have a range can meet it. A refusal may leave a part behind what was there.
+    /// Appends the bytes of the message, which are read as the same message again: a fact of this value,
+    /// so that a type whose values have a range can meet it. A refusal may leave a part behind what was
+    /// there.
     fn write(&self, out: &mut Vec<u8>) -> Result<(), AllocError>
         ensures ok { OnOk result (out.new.items ≡ out.old.items ++ spelling self.now) }
         ensures err { OnErr result (KeepsFront out.old.items out.new.items) }

@@ -1,4 +1,5 @@
-//! Tests of checksum, numbers, sizes, errors, places and items: outside values, printed text, and each call once.
+//! Tests of checksum, numbers, sizes, errors, places and items: outside values, printed text, and each
+//! call once.
 #![tactic(auto)]
 
 #[cfg(test)]

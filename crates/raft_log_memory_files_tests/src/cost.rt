@@ -19,7 +19,8 @@ fn with_changes(rt: &HostRuntime) -> Result<(MemoryFileSystem, Handle), Fail> {
     Ok((system, file))
 }
 
-// Were a sync to walk over the changes of all files, or to copy its file, this would be ten thousand million steps.
+// Were a sync to walk over the changes of all files, or to copy its file, this would be ten thousand
+// million steps.
 #[test]
 fn a_sync_costs_what_its_file_has_unsynced(rt: HostRuntime) -> Result<(), Fail> {
     let (mut system, file) = with_changes(&rt)?;

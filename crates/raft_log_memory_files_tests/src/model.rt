@@ -1,4 +1,5 @@
-//! A plain slow model: names, and of each file what is synced and every change since, made anew byte by byte at each question.
+//! A plain slow model: names, and of each file what is synced and every change since, made anew byte by
+//! byte at each question.
 use raft_log_memory_files::{Piece, Remainder};
 use std::alloc::{AllocError, Global};
 

@@ -63,7 +63,8 @@ impl Random {
     }
 }
 
-// The paths of a run: three files of a directory, one of a directory that is made late or never, and the directory itself.
+// The paths of a run: three files of a directory, one of a directory that is made late or never, and the
+// directory itself.
 const NAMES: usize = 5;
 
 const LATE: usize = 3;

@@ -1,5 +1,5 @@
-//! A call that finds no memory is refused as such and changes nothing; asked again, it is answered. Run it with each
-//! allocation failing in turn.
+//! A call that finds no memory is refused as such and changes nothing; asked again, it is answered. Run it
+//! with each allocation failing in turn.
 use raft_log_disk::{FileSystem, Permission};
 use raft_log_memory_files::{MemoryFileSystem, Remainder};
 use std::io::ErrorKind;

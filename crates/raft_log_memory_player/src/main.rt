@@ -1,5 +1,5 @@
-//! Plays a script of calls to a file system in memory: each line of standard input is a call, and is written with its
-//! answer. A line that begins with `#`, or has no words, is written as it is.
+//! Plays a script of calls to a file system in memory: each line of standard input is a call, and is
+//! written with its answer. A line that begins with `#`, or has no words, is written as it is.
 #![tactic(auto)]
 
 mod player;

@@ -17,8 +17,8 @@ pub fn padding_aligns()
     ensures { PaddingAligns }
 {}
 
-/// Without an alignment the batches of a file are the frames that stand one behind the other, and a batch whose entry
-/// block is whole is a record.
+/// Without an alignment the batches of a file are the frames that stand one behind the other, and a batch
+/// whose entry block is whole is a record.
 pub fn batches_are_frames()
     ensures frames { BatchesAreFrames }
     ensures records { WholeBlockMakesRecord }

@@ -120,8 +120,8 @@ impl LogItemBatchFileReader {
         Ok(Some(batch))
     }
 
-    /// Checks the entry block at a place of the open file, which a batch that was read has told: so the batch's record is
-    /// whole. The block is held whole. Where no file is open nothing is checked.
+    /// Checks the entry block at a place of the open file, which a batch that was read has told: so the
+    /// batch's record is whole. The block is held whole. Where no file is open nothing is checked.
     ///
     /// Refuses as a corruption a block whose checksum isn't that of its entries.
     pub fn check_entry_block<F: FileSystem>(

@@ -1,4 +1,5 @@
-//! Tests of reading a log file: the rule of block reads, padding, damaged files and refused reads; and a caller.
+//! Tests of reading a log file: the rule of block reads, padding, damaged files and refused reads; and a
+//! caller.
 #![tactic(auto)]
 
 #[cfg(test)]

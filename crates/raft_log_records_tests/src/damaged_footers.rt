@@ -1,11 +1,12 @@
-//! Footers that are refused for their length, their checksum, their items or the lengths of their entries, and the text of
-//! each refusal.
+//! Footers that are refused for their length, their checksum, their items or the lengths of their entries,
+//! and the text of each refusal.
 use crate::rows::{bytes_of, cell, told};
 use raft_log_frames::decode_footer;
 use std::alloc::Global;
 use std::test::Fail;
 
-/// What is damaged, the length of the block, what the file signs with, if it does, the bytes, and the refusal.
+/// What is damaged, the length of the block, what the file signs with, if it does, the bytes, and the
+/// refusal.
 const FOOTERS: &str = "\
 no bytes | 0 | - |  | Corruption: Log batch footer too short: 0
 one byte | 0 | - | 00 | Corruption: Log batch footer too short: 1
@@ -57,7 +58,8 @@ fn damaged_footers_are_refused(rt: HostRuntime) -> Result<(), Fail> {
     Ok(())
 }
 
-/// Items with a fault under a right checksum, in a file without signatures: what is wrong, the bytes, and the refusal.
+/// Items with a fault under a right checksum, in a file without signatures: what is wrong, the bytes, and
+/// the refusal.
 const ITEMS: &str = "\
 one byte after the last item | 01 01 02 01 00 e7 5c 61 59 | Corruption: Bytes after the last log item: 1
 an item more than counted | 01 01 02 01 01 02 01 49 0b c8 76 | Corruption: Bytes after the last log item: 3

@@ -8,8 +8,8 @@ use raft_log_records::LogItemBatch;
 use std::alloc::{AllocError, Global};
 use std::test::Fail;
 
-/// Entries 7 and 8 of group 1, of three and four bytes, entry 1 of group 2, of two bytes, and a key of group 2, in file 1
-/// of a format with signatures.
+/// Entries 7 and 8 of group 1, of three and four bytes, entry 1 of group 2, of two bytes, and a key of
+/// group 2, in file 1 of a format with signatures.
 const FOOTER: [u8; 23] = [
     3, 1, 1, 2, 7, 3, 4, 2, 1, 1, 1, 2, 2, 3, 1, 1, b'k', 1, b'v', 0xd5, 0x82, 0xd2, 0x56,
 ];

@@ -1,4 +1,5 @@
-//! Tests of frames and of records: the worked bytes of the format, refusals with their texts, and each call once.
+//! Tests of frames and of records: the worked bytes of the format, refusals with their texts, and each
+//! call once.
 #![tactic(auto)]
 
 #[cfg(test)]

@@ -68,8 +68,8 @@ fn good_blocks_are_read(rt: HostRuntime) -> Result<(), Fail> {
     Ok(())
 }
 
-/// Footers that are read, in a file without signatures: what is at its border, the length of the block, the number of items,
-/// and the bytes.
+/// Footers that are read, in a file without signatures: what is at its border, the length of the block,
+/// the number of items, and the bytes.
 const FOOTERS: &str = "\
 no items | 0 | 0 | 00 8d ef 02 d2
 a group in two bytes | 0 | 1 | 01 81 00 02 01 e7 5d 96 eb

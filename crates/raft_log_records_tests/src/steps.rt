@@ -1,4 +1,5 @@
-//! Batches that are filled step by step, as the rows of a table say: their records, their lengths, and why a step is refused.
+//! Batches that are filled step by step, as the rows of a table say: their records, their lengths, and why
+//! a step is refused.
 ghost use Rattle.std.specs.Prelude.{◌≡◌, IfOk};
 ghost use Rattle.raft_log_records.specs.declared.log_batch.BatchState.TheVariants.{Filling};
 
@@ -75,8 +76,8 @@ fn records_are_written(rt: HostRuntime) -> std::result::Result<(), Fail> {
     Ok(())
 }
 
-/// Batches, and how many bytes their records have: one underscore begins no key of the log; no entries add nothing; an
-/// entry without bytes is an entry, and needs no block.
+/// Batches, and how many bytes their records have: one underscore begins no key of the log; no entries add
+/// nothing; an entry without bytes is an entry, and needs no block.
 const LENGTHS: [(&[Step], usize); 5] = [
     (&[], 0),
     (&[Step::Clean(1)], 24),

@@ -5,7 +5,8 @@ use raft_log_items::{LogItem, LogItemContent};
 use std::alloc::Global;
 use std::test::Fail;
 
-/// Two entries of group 7, from index 5 on, with the bytes `ab` and `cde`, in file 1 of a format with signatures.
+/// Two entries of group 7, from index 5 on, with the bytes `ab` and `cde`, in file 1 of a format with
+/// signatures.
 const TWO_ENTRIES: [u8; 36] = [
     0, 0, 0, 0, 0, 0, 0x24, 0, 0, 0, 0, 0, 0, 0, 0, 0x19, 0x61, 0x62, 0x63, 0x64, 0x65, 0x65, 0xd8,
     0x87, 0x85, 1, 7, 1, 2, 5, 2, 3, 0x9b, 0xf4, 0x83, 0x1c,

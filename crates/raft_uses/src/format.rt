@@ -7,7 +7,8 @@ use raft_log_base::{FileId, Result};
 use raft_log_format::{FileNameExt, LogFileFormat};
 use std::alloc::Global;
 
-/// The file that a name says and the format that its first bytes say; nothing where the name is no log file's.
+/// The file that a name says and the format that its first bytes say; nothing where the name is no log
+/// file's.
 pub fn identify(alloc: Global, name: &str, bytes: &[u8]) -> Result<Option<(FileId, LogFileFormat)>>
     ensures name { IfOk result (λ found. IfSome found (λ f. IsNamed (suffix_of f.0.queue) name.now f.0.seq)) }
     ensures header { IfOk result (λ found. IfSome found (λ f. (rest : List ℕ) × (header_at bytes.now ≡ Ok (f.1, rest)))) }

@@ -10,8 +10,8 @@ use raft_log_memory_files::{MemoryFileSystem, Remainder};
 use std::alloc::AllocError;
 use std::io::ErrorKind;
 
-/// Writes the same bytes at the beginning of two files. The first write stands before the second among what a crash may
-/// take back.
+/// Writes the same bytes at the beginning of two files. The first write stands before the second among
+/// what a crash may take back.
 pub fn write_both(
     system: &mut MemoryFileSystem,
     first: Handle,

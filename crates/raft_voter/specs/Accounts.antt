@@ -8,8 +8,8 @@ use Rattle.raft_voter_outline.specs.State.{State, fresh}
 use Rattle.raft_voter_outline.specs.Rules.{is_retire, next}
 use Rattle.raft_voter.specs.Rounds.{cuts_after, is_among, place_reached, taken_below}
 
--- What a transcript says was taken and answered, in order: each request that was taken, with the reply that stands in the
--- transcript, or none where its round was cut off.
+-- What a transcript says was taken and answered, in order: each request that was taken, with the reply
+-- that stands in the transcript, or none where its round was cut off.
 
 -- a request of a group that was taken, and what was replied
 pub record Taken : Type 0 where
@@ -17,7 +17,8 @@ pub record Taken : Type 0 where
   pub request : Request
   pub told : Option Reply
 
--- an answered round's requests with its replies, where the first stands at `place`; refused places were not taken
+-- an answered round's requests with its replies, where the first stands at `place`; refused places were
+-- not taken
 abbrev pub told_from : ℕ → List ℕ → List (ℕ × Request) → List Reply → List Taken
 told_from place refused [] replies = []
 told_from place refused (q ∷ qs) [] = []

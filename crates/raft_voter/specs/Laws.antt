@@ -29,8 +29,8 @@ RoundsJoin =
     (W X Y : World) (first later : List Round) (cuts cuts' : List ℕ) → Leads W first cuts X → Leads X later cuts' Y
     → Leads W (first ++ later) (cuts ++ cuts') Y
 
--- Rounds that lead from W to Y part anywhere into rounds to a world between and rounds from there, each with the cuts of
--- its own rounds.
+-- Rounds that lead from W to Y part anywhere into rounds to a world between and rounds from there, each
+-- with the cuts of its own rounds.
 abbrev pub RoundsPart : Type 0
 RoundsPart =
     (W Y : World) (first later : List Round) (cuts : List ℕ) → Leads W (first ++ later) cuts Y
@@ -71,9 +71,9 @@ sent_at prev sent i = if nat_lt prev i then slice_get sent (i - prev - 1) else N
 abbrev pub BringsOther : State → ℕ → List (ℕ × List ℕ) → ℕ → Type 0
 BringsOther v prev sent i = IsSomeAnd (sent_at prev sent i) (λ e. term_at v i ≢ Some e.0)
 
--- What a matched Append makes of the log, index by index. Where it brings another term, f being the least such index, the
--- entries below f are the old ones with their bytes, and from f on they are exactly those that it brings. Where it brings
--- none the log is the old one.
+-- What a matched Append makes of the log, index by index. Where it brings another term, f being the least
+-- such index, the entries below f are the old ones with their bytes, and from f on they are exactly those
+-- that it brings. Where it brings none the log is the old one.
 abbrev pub MatchedAppend : Type 0
 MatchedAppend =
     (v : State) (term prev prev_term commit last : ℕ) (sent : List (ℕ × List ℕ))
@@ -87,9 +87,9 @@ MatchedAppend =
     ((j : ℕ) → ¬ BringsOther v prev sent j) → (next v (Append term prev prev_term commit sent)).log ≡ v.log
     )
 
--- A request that voter v takes leaves the entry at index i: a matched Append brings no other term at or below i; the base
--- stays below i; an Install whose snapshot goes up to an entry below i holds the very entry that the log has there; and
--- it isn't a request to retire.
+-- A request that voter v takes leaves the entry at index i: a matched Append brings no other term at or
+-- below i; the base stays below i; an Install whose snapshot goes up to an entry below i holds the very
+-- entry that the log has there; and it isn't a request to retire.
 abbrev pub Spares : State → ℕ → Request → Type 0
 Spares v i (Append term prev prev_term commit sent) =
     (last : ℕ) → reply v (Append term prev prev_term commit sent) ≡ Matched last → (j : ℕ) → j ≤ i → ¬ BringsOther v prev sent j
@@ -107,8 +107,8 @@ abbrev pub AllSpare : State → ℕ → List (Request × Option Reply) → Type 
 AllSpare v i [] = Unit {0}
 AllSpare v i (t ∷ ts) = Spares v i t.0 × AllSpare (next v t.0) i ts
 
--- An entry that an Append was answered to have matched stands, with its term and bytes, until a later Append brings a
--- different term at or below it, or it is compacted, replaced by Install, or retired.
+-- An entry that an Append was answered to have matched stands, with its term and bytes, until a later
+-- Append brings a different term at or below it, or it is compacted, replaced by Install, or retired.
 abbrev pub MatchedEntriesStand : Type 0
 MatchedEntriesStand =
     (rounds : List Round) (cuts : List ℕ) (group : ℕ) → Explains rounds cuts
@@ -140,8 +140,8 @@ RepeatIsIdempotent =
     → group_account group rounds cuts ≡ before ++ (q, Some a) ∷ (q, Some b) ∷ later → IsTrue (is_repeatable q)
     → (a ≡ b) × (voter_after (before ++ (q, Some a) ∷ (q, Some b) ∷ []) ≡ voter_after (before ++ (q, Some a) ∷ []))
 
--- A reply depends on the requests alone that its own group took: in two transcripts, whatever other groups do, the same
--- requests of a group get the same reply.
+-- A reply depends on the requests alone that its own group took: in two transcripts, whatever other groups
+-- do, the same requests of a group get the same reply.
 abbrev pub GroupIsolation : Type 0
 GroupIsolation =
     (rounds rounds' : List Round) (cuts cuts' : List ℕ) (group : ℕ) → Explains rounds cuts → Explains rounds' cuts'
@@ -150,9 +150,9 @@ GroupIsolation =
     → group_account group rounds' cuts' ≡ before' ++ (q, Some a') ∷ later'
     → requests_of before ≡ requests_of before' → a ≡ a'
 
--- After an Append that was answered to have matched up to an index, an entry stands at each index above the base and up to
--- that one, whether the Append brought it or it was there, in a round that was answered or cut off. The same entry stands
--- after whatever follows and spares it.
+-- After an Append that was answered to have matched up to an index, an entry stands at each index above
+-- the base and up to that one, whether the Append brought it or it was there, in a round that was answered
+-- or cut off. The same entry stands after whatever follows and spares it.
 abbrev pub MatchedIsAcknowledged : Type 0
 MatchedIsAcknowledged =
     (rounds : List Round) (cuts : List ℕ) (group : ℕ) → Explains rounds cuts
@@ -166,8 +166,8 @@ MatchedIsAcknowledged =
     × (entry_at (voter_after (before ++ (Append term prev prev_term commit sent, Some (Matched last)) ∷ [])) i ≡ Some e)
     × (entry_at (voter_after (before ++ (Append term prev prev_term commit sent, Some (Matched last)) ∷ between)) i ≡ Some e)
 
--- A Read that is answered with entries is answered one for each index that it asked for, in order: the k-th is the voter's
--- entry at `from + k`.
+-- A Read that is answered with entries is answered one for each index that it asked for, in order: the
+-- k-th is the voter's entry at `from + k`.
 abbrev pub EntriesAreTheLog : Type 0
 EntriesAreTheLog =
     (v : State) (from to : ℕ) (entries : List Entry) → reply v (Read from to) ≡ Entries entries

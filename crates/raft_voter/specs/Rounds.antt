@@ -49,9 +49,9 @@ taken_from place cut refused (q ∷ qs) =
 abbrev pub taken_below : Round → ℕ → List (ℕ × Request)
 taken_below r cut = taken_from 0 cut r.refused r.requests
 
--- the replies to a round's requests, where the first stands at `place`: Refused where that place was refused, whatever
--- the request, and else what the group's voter answers after everything taken before. A request out of range is
--- answered Refused by its voter, whether its place is listed or not.
+-- the replies to a round's requests, where the first stands at `place`: Refused where that place was
+-- refused, whatever the request, and else what the group's voter answers after everything taken before. A
+-- request out of range is answered Refused by its voter, whether its place is listed or not.
 abbrev pub replies_from : ℕ → List ℕ → World → List (ℕ × Request) → List Reply
 replies_from place refused W [] = []
 replies_from place refused W (q ∷ qs) =
@@ -67,7 +67,8 @@ abbrev pub are_rising : ℕ → ℕ → List ℕ → Bool
 are_rising low high [] = true
 are_rising low high (p ∷ ps) = nat_le low p && nat_lt p high && are_rising (p + 1) high ps
 
--- of a round's requests those below some place were taken, but for those at refused places, and none from there on
+-- of a round's requests those below some place were taken, but for those at refused places, and none from
+-- there on
 pub record TakesFirst (W : World) (qs : List (ℕ × Request)) (refused : List ℕ) (X : World) : Type 0 where
   pub place : ℕ
   pub within : place ≤ length qs
@@ -109,8 +110,9 @@ abbrev pub after_rounds : World → List Round → List ℕ → World
 after_rounds W [] cuts = W
 after_rounds W (r ∷ rounds) cuts = after_rounds (after_round W r cuts) rounds (cuts_after r.outcome cuts)
 
--- from world W on, voters that never fail explain these rounds: each request was taken by its group's voter, but for
--- those at refused places and those from a round's cut on; each round that was cut off has its cut, and none is left over
+-- from world W on, voters that never fail explain these rounds: each request was taken by its group's
+-- voter, but for those at refused places and those from a round's cut on; each round that was cut off has
+-- its cut, and none is left over
 abbrev pub ExplainsFrom : World → List Round → List ℕ → Type 0
 ExplainsFrom W [] cuts = cuts ≡ []
 ExplainsFrom W (r ∷ rounds) cuts = RoundHolds W r cuts × ExplainsFrom (after_round W r cuts) rounds (cuts_after r.outcome cuts)

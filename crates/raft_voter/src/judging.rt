@@ -6,10 +6,10 @@ ghost use Rattle.raft_voter.specs.Voters.{world_of};
 use crate::{Items, Memory, Outcome, Reply, Round, Transcript, Voters};
 use std::alloc::Global;
 
-/// Whether voters that begin as fresh ones and never fail explain a transcript, where the round that was cut off as the
-/// n-th was taken up to the n-th of these places. It is so exactly if there is one place for each such round, none past
-/// its round's requests, each round's refused places rise and are its own, and each answered round has the voters'
-/// replies, with `Refused` at the refused places.
+/// Whether voters that begin as fresh ones and never fail explain a transcript, where the round that was
+/// cut off as the n-th was taken up to the n-th of these places. It is so exactly if there is one place
+/// for each such round, none past its round's requests, each round's refused places rise and are its own,
+/// and each answered round has the voters' replies, with `Refused` at the refused places.
 pub fn judge(alloc: Global, transcript: &Transcript, cuts: &[usize]) -> Result<bool, Memory>
     ensures { IfOk result (λ explained. IsTrue explained ↔ Explains transcript.now.rounds cuts.now) }
 {
@@ -24,7 +24,8 @@ pub fn judge(alloc: Global, transcript: &Transcript, cuts: &[usize]) -> Result<b
     Ok(used == cuts.len())
 }
 
-/// Whether a round may say what it says, and how many of the cuts that are left it takes. The voters take what it took.
+/// Whether a round may say what it says, and how many of the cuts that are left it takes. The voters take
+/// what it took.
 fn judge_round(voters: &mut Voters, round: &Round, cuts: &[usize]) -> Result<Option<usize>, Memory>
     ensures fails { IfOk result (λ used. MatchOption used (RoundHolds (world_of voters.old) round.now cuts.now → ⊥) (λ n. RoundHolds (world_of voters.old) round.now cuts.now)) }
     ensures left { IfOk result (λ used. IfSome used (λ n. (n ≤ length cuts.now) × (cuts_after round.now.outcome cuts.now ≡ drop n cuts.now))) }

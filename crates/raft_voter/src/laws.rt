@@ -1,8 +1,9 @@
-//! What follows from the definitions alone: laws over whole runs, each the contract of a function that does nothing.
+//! What follows from the definitions alone: laws over whole runs, each the contract of a function that
+//! does nothing.
 ghost use Rattle.raft_voter.specs.Laws.{BaseIsCommitted, EntriesAreTheLog, MatchedIsAcknowledged, RangeIsKept, CommitNeverFalls, GroupIsolation, MatchedAppend, MatchedEntriesStand, OneVotePerTerm, RepeatIsIdempotent, RoundsJoin, RoundsPart, TermsNeverFall};
 
-/// Rounds that lead from one world to a second and rounds that lead from there to a third are, one behind the other,
-/// rounds that lead from the first to the third, with their cuts one behind the other.
+/// Rounds that lead from one world to a second and rounds that lead from there to a third are, one behind
+/// the other, rounds that lead from the first to the third, with their cuts one behind the other.
 pub fn rounds_join()
     ensures { RoundsJoin }
 {}
@@ -12,8 +13,8 @@ pub fn rounds_part()
     ensures { RoundsPart }
 {}
 
-/// No group grants its vote to two candidates in one term, unless a request to retire it came between (Raft paper,
-/// election safety).
+/// No group grants its vote to two candidates in one term, unless a request to retire it came between
+/// (Raft paper, election safety).
 pub fn one_vote_per_term()
     ensures { OneVotePerTerm }
 {}
@@ -33,18 +34,20 @@ pub fn base_is_committed()
     ensures { BaseIsCommitted }
 {}
 
-/// The reply to a request depends on the requests alone that its own group took before it, whatever other groups do.
+/// The reply to a request depends on the requests alone that its own group took before it, whatever other
+/// groups do.
 pub fn group_isolation()
     ensures { GroupIsolation }
 {}
 
-/// What a matched Append makes of the log, index by index (Raft paper, AppendEntries receiver, steps 3 and 4).
+/// What a matched Append makes of the log, index by index (Raft paper, AppendEntries receiver, steps 3 and
+/// 4).
 pub fn matched_append()
     ensures { MatchedAppend }
 {}
 
-/// An entry that an Append was answered to have matched stands until a later Append brings a different term at or below
-/// it, or it is compacted, replaced by Install, or retired.
+/// An entry that an Append was answered to have matched stands until a later Append brings a different
+/// term at or below it, or it is compacted, replaced by Install, or retired.
 pub fn matched_entries_stand()
     ensures { MatchedEntriesStand }
 {}
@@ -54,9 +57,9 @@ pub fn repeat_is_idempotent()
     ensures { RepeatIsIdempotent }
 {}
 
-/// After an Append that was answered to have matched up to an index, an entry stands at each index above the base and up to
-/// that one, whether the Append brought it or it was there, and it stands until a later Append brings a different term at or
-/// below it, or it is compacted, replaced by Install, or retired.
+/// After an Append that was answered to have matched up to an index, an entry stands at each index above
+/// the base and up to that one, whether the Append brought it or it was there, and it stands until a later
+/// Append brings a different term at or below it, or it is compacted, replaced by Install, or retired.
 pub fn matched_is_acknowledged()
     ensures { MatchedIsAcknowledged }
 {}

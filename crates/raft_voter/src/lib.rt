@@ -1,10 +1,11 @@
 //! The receiver's side of Raft as a pure machine: many voters, each with its term, its vote and its log,
 //! what a transcript of their replies means, and a judge of such transcripts.
 //!
-//! Nothing here knows of files, threads or time. A `Voter` answers one `Request` at a time; what it answers and
-//! what it becomes are the rules of `raft_voter_outline`, case by case, and its outline decides by them. A `Transcript`
-//! tells which requests came in which rounds and what was answered; `judge` says whether voters that never fail explain
-//! it. Requests, replies, rounds and their stored bytes are those of `raft_voter_messages`.
+//! Nothing here knows of files, threads or time. A `Voter` answers one `Request` at a time; what it
+//! answers and what it becomes are the rules of `raft_voter_outline`, case by case, and its outline
+//! decides by them. A `Transcript` tells which requests came in which rounds and what was answered;
+//! `judge` says whether voters that never fail explain it. Requests, replies, rounds and their stored
+//! bytes are those of `raft_voter_messages`.
 #![tactic(auto)]
 
 mod judging;

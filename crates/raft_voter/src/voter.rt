@@ -14,8 +14,8 @@ use raft_voter_outline::{Answer, Change, Decision, Outline};
 use std::alloc::Global;
 use std::marker::Model;
 
-/// A Raft voter: its outline, which decides what it answers and becomes, and its log above the base. A contract sees it as
-/// a `State` of `raft_voter_outline`.
+/// A Raft voter: its outline, which decides what it answers and becomes, and its log above the base. A
+/// contract sees it as a `State` of `raft_voter_outline`.
 #[derive(Debug, Drop)]
 pub struct Voter {
     outline: Outline,
@@ -59,9 +59,9 @@ impl Voter {
         self.log.as_slice()
     }
 
-    /// Takes a request and answers it. One that is out of range is answered `Refused` and changes nothing. Memory can be
-    /// refused only where entries are copied: those that an Append brings and that aren't there, or those of a Read. Nothing
-    /// is changed then.
+    /// Takes a request and answers it. One that is out of range is answered `Refused` and changes nothing.
+    /// Memory can be refused only where entries are copied: those that an Append brings and that aren't
+    /// there, or those of a Read. Nothing is changed then.
     pub fn step(&mut self, request: &Request) -> Result<Reply, Memory>
         ensures replies { IfOk result (λ given. given ≡ reply self.old request.now) }
         ensures changes { OnOk result (self.new ≡ next self.old request.now) }

@@ -36,9 +36,9 @@ impl Voters {
         voter.step(request)
     }
 
-    /// The voters take the requests of a round in order, but for those at the refused places, which rise. The replies are
-    /// theirs, and `Refused` at a refused place. Where memory is refused some of the first requests were taken, and the
-    /// rest were not.
+    /// The voters take the requests of a round in order, but for those at the refused places, which rise.
+    /// The replies are theirs, and `Refused` at a refused place. Where memory is refused some of the first
+    /// requests were taken, and the rest were not.
     pub fn serve(
         &mut self,
         requests: &[(u64, Request)],

@@ -17,7 +17,8 @@ use Rattle.raft_voter_outline.specs.Rules.{agrees_at, can_compact, entries_betwe
 use Rattle.raft_voter_outline.specs.Rules.{is_retire}
 use Rattle.raft_voter_outline.specs.Runs.{bare, Terms}
 
--- what a call sees of an outline: the voter without its entries' bytes, and for how many more runs of terms there is room
+-- what a call sees of an outline: the voter without its entries' bytes, and for how many more runs of
+-- terms there is room
 pub record Outlined : Type 0 where
   pub voter : State
   pub room : ℕ
@@ -94,7 +95,8 @@ RestsOn Clean v base = base ≡ 0
 abbrev pub brought : ℕ → ℕ → List (ℕ × List ℕ) → Write
 brought same prev sent = if same == length sent then StateAlone else Entries same (prev + 1 + same)
 
--- what an Append in range writes: nothing where it isn't taken or all that it brings is there, and else from the first other entry on
+-- what an Append in range writes: nothing where it isn't taken or all that it brings is there, and else
+-- from the first other entry on
 abbrev pub append_write : State → ℕ → ℕ → ℕ → List (ℕ × List ℕ) → Write
 append_write v term prev prev_term sent =
     if nat_lt term v.term then StateAlone
@@ -147,13 +149,14 @@ Leaves o q = (v : State) → without_bytes v ≡ o → next v q ≡ v
 abbrev pub Changes : State → Request → Change → Type 0
 Changes o q c = (v : State) → without_bytes v ≡ o → IsChangeOf v q c
 
--- A decision is that of every voter with this outline: the answer is its reply, and a change is none exactly where it stays as
--- it was.
+-- A decision is that of every voter with this outline: the answer is its reply, and a change is none
+-- exactly where it stays as it was.
 pub record Decides (o : State) (q : Request) (d : Decision) : Type 0 where
   pub answer : Answers o q d.answer
   pub change : MatchOption d.change (Leaves o q) (Changes o q)
 
--- entries are copied for a request in range: an Append that brings some that aren't there, or a Read of some that are
+-- entries are copied for a request in range: an Append that brings some that aren't there, or a Read of
+-- some that are
 abbrev pub CopiesEntries : State → Request → Type 0
 CopiesEntries v (Append term prev prev_term commit sent) =
     (v.term ≤ term) × (agrees_at v prev prev_term ≡ true)

@@ -24,7 +24,8 @@ with_log s log = record {
   log = log;
 }
 
--- the voter of this state and these entries, or what is wrong with them: a number out of range goes before the order
+-- the voter of this state and these entries, or what is wrong with them: a number out of range goes before
+-- the order
 abbrev pub restored : VoterState → List Entry → Result State StoredFault
 restored s es =
     if state_fits s && list_all stored_entry_fits es then

@@ -15,11 +15,13 @@ use Rattle.raft_voter_outline.specs.State.{State, fresh, last_index, last_term, 
 abbrev pub may_vote : State → ℕ → Bool
 may_vote v candidate = option_map_or (λ c. c == candidate) v.vote true
 
--- a log that ends at this index with this term is at least as up to date as the voter's: the terms decide, then the indexes
+-- a log that ends at this index with this term is at least as up to date as the voter's: the terms decide,
+-- then the indexes
 abbrev pub is_up_to_date : State → ℕ → ℕ → Bool
 is_up_to_date v index last = nat_lt (last_term v) last || (last == last_term v && nat_le (last_index v) index)
 
--- a vote is granted where the candidate's term isn't over, nobody else has the vote in it, and the candidate's log is up to date
+-- a vote is granted where the candidate's term isn't over, nobody else has the vote in it, and the
+-- candidate's log is up to date
 abbrev pub grants : State → ℕ → ℕ → ℕ → ℕ → Bool
 grants v term candidate index last =
     nat_le v.term term && may_vote (adopt_term v term) candidate && is_up_to_date v index last
@@ -34,7 +36,8 @@ agrees_at v index term = option_map_or (λ t. t == term) (term_at v index) false
 abbrev pub matching : List (ℕ × List ℕ) → List (ℕ × List ℕ) → ℕ
 matching old sent = common_prefix_len (λ e s. e.0 == s.0) old sent
 
--- matching entries stay as they are; the first other one drops what is old from there on and brings what was sent
+-- matching entries stay as they are; the first other one drops what is old from there on and brings what
+-- was sent
 abbrev pub merged : List (ℕ × List ℕ) → List (ℕ × List ℕ) → List (ℕ × List ℕ)
 merged old sent =
     if matching old sent == length sent then old
@@ -44,8 +47,8 @@ merged old sent =
 abbrev pub merged_log : State → ℕ → List (ℕ × List ℕ) → List (ℕ × List ℕ)
 merged_log v prev sent = take (prev - v.base_index) v.log ++ merged (drop (prev - v.base_index) v.log) sent
 
--- The entries that follow index `prev` are merged in. The commit rises to the leader's, but not past the last entry that
--- the leader is now known to share.
+-- The entries that follow index `prev` are merged in. The commit rises to the leader's, but not past the
+-- last entry that the leader is now known to share.
 abbrev pub appended : State → ℕ → ℕ → List (ℕ × List ℕ) → State
 appended v prev commit sent =
     record v { log = merged_log v prev sent; commit = max v.commit (min commit (prev + length sent)) }
@@ -59,8 +62,8 @@ abbrev pub compacted : State → ℕ → State
 compacted v index =
     record v { base_index = index; base_term = unwrap_or (term_at v index) 0; log = drop (index - v.base_index) v.log }
 
--- A snapshot's last entry is the base, and committed. What follows stays where the log held that very entry, and else
--- goes.
+-- A snapshot's last entry is the base, and committed. What follows stays where the log held that very
+-- entry, and else goes.
 abbrev pub installed : State → ℕ → ℕ → State
 installed v index entry_term =
     record v {

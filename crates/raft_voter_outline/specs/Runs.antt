@@ -4,7 +4,8 @@ use Rattle.std.specs.List.{prefix_len}
 use Rattle.std.specs.Option.{option_map, option_map_or}
 use Rattle.raft_voter_outline.specs.declared.outline.run.Run.{Run}
 
--- what a call sees of runs: the base, the entries above it, of each its term alone, and for how many more runs there is room
+-- what a call sees of runs: the base, the entries above it, of each its term alone, and for how many more
+-- runs there is room
 pub record Terms : Type 0 where
   pub base : ℕ
   pub log : List (ℕ × List ℕ)
@@ -24,13 +25,14 @@ are_runs base (r ∷ rs) = nat_lt base r.last && are_runs r.last rs
 abbrev pub is_behind : Option ℕ → ℕ → Bool
 is_behind before term = option_map_or (λ t. t == term) before false
 
--- no run has the term of the one before it, where the first stands behind an entry of this term, if there is one
+-- no run has the term of the one before it, where the first stands behind an entry of this term, if there
+-- is one
 abbrev pub are_apart : Option ℕ → List Run → Bool
 are_apart before [] = true
 are_apart before (r ∷ rs) = not (is_behind before r.term) && are_apart (Some r.term) rs
 
--- These are the runs of a log: their indexes rise and are in range, and neighbours have different terms. So there are as many
--- as the term changes.
+-- These are the runs of a log: their indexes rise and are in range, and neighbours have different terms.
+-- So there are as many as the term changes.
 pub record AreRunsOf (base : ℕ) (rs : List Run) : Type 0 where
   pub rise : are_runs base rs ≡ true
   pub apart : are_apart None rs ≡ true

@@ -2,9 +2,9 @@ use Rattle.std.specs.Prelude.{ℕ, ◌+◌, ◌-◌, ◌==◌, nat_lt, if◌then
 use Rattle.std.specs.Option.{option_map}
 use Rattle.raft_voter_messages.specs.declared.reply.VoterState.{VoterState}
 
--- What a Raft server keeps of a group: the current term, whom it voted for in it, the index up to which its log
--- was compacted with the term of the entry there, the index up to which it knows entries to be committed, and the
--- entries above the base, each its term and its bytes.
+-- What a Raft server keeps of a group: the current term, whom it voted for in it, the index up to which
+-- its log was compacted with the term of the entry there, the index up to which it knows entries to be
+-- committed, and the entries above the base, each its term and its bytes.
 pub record State : Type 0 where
   pub term : ℕ
   pub vote : Option ℕ
@@ -17,7 +17,8 @@ pub record State : Type 0 where
 abbrev pub fresh : State
 fresh = record { term = 0; vote = None; base_index = 0; base_term = 0; commit = 0; log = [] }
 
--- the entry at an index above the base, if there is one: the k-th of the log, counted from 1, stands at base + k
+-- the entry at an index above the base, if there is one: the k-th of the log, counted from 1, stands at
+-- base + k
 abbrev pub entry_at : State → ℕ → Option (ℕ × List ℕ)
 entry_at v i = if nat_lt v.base_index i then slice_get v.log (i - v.base_index - 1) else None
 

@@ -19,8 +19,9 @@ use std::alloc::Global;
 use std::marker::Model;
 use term_runs::TermRuns;
 
-/// A voter without its entries: its state, and the terms of its log as runs of equal terms. It decides what the voter would
-/// answer and become. A contract sees the voter as a `State` whose entries have no bytes.
+/// A voter without its entries: its state, and the terms of its log as runs of equal terms. It decides
+/// what the voter would answer and become. A contract sees the voter as a `State` whose entries have no
+/// bytes.
 #[derive(Debug, Drop)]
 pub struct Outline {
     alloc: Global,

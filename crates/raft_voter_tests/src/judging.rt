@@ -48,8 +48,8 @@ fn judge_needs_the_right_cuts(rt: HostRuntime) -> Result<(), Fail> {
     Ok(())
 }
 
-/// The refused place of a round of one vote, whose reply is Refused, and whether the voters explain it: one that is its own,
-/// one behind it.
+/// The refused place of a round of one vote, whose reply is Refused, and whether the voters explain it:
+/// one that is its own, one behind it.
 const REFUSED_PLACES: [(usize, bool); 2] = [(0, true), (1, false)];
 
 #[test]

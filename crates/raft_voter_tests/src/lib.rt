@@ -1,5 +1,6 @@
-//! Tests of `raft_voter_messages` and `raft_voter`: what no contract says, and each public call once with memory at hand. They
-//! stand above the libraries, so that these aren't proved again for them. The crate itself has nothing.
+//! Tests of `raft_voter_messages` and `raft_voter`: what no contract says, and each public call once with
+//! memory at hand. They stand above the libraries, so that these aren't proved again for them. The crate
+//! itself has nothing.
 #![tactic(auto)]
 
 #[cfg(test)]

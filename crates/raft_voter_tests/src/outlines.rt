@@ -4,8 +4,8 @@ use raft_voter::{Answer, Items, Memory, Outline, Reply, Request, VoterState};
 use std::alloc::Global;
 use std::test::Fail;
 
-/// The outline decides a request, makes room for the change and applies it. Where room is refused the same is tried again; no
-/// where the refusal changed something.
+/// The outline decides a request, makes room for the change and applies it. Where room is refused the same
+/// is tried again; no where the refusal changed something.
 fn take(outline: &mut Outline, request: &Request) -> Result<bool, Memory> {
     let decision = outline.decide(request);
     let Some(change) = decision.change else {
@@ -46,7 +46,8 @@ fn decisions(rt: HostRuntime) -> Result<(), Fail> {
     Ok(())
 }
 
-/// Terms are taken in, brought anew from the third entry on, and compacted; each allocation may be refused in turn.
+/// Terms are taken in, brought anew from the third entry on, and compacted; each allocation may be refused
+/// in turn.
 #[test]
 fn changes(rt: HostRuntime) -> Result<(), Fail> {
     let alloc = rt.alloc();

@@ -31,8 +31,8 @@ const RETIRED: [(&str, &str); 4] = [
     ("vote 1 5 3 0 0", "Granted 5"),
 ];
 
-/// A snapshot keeps what follows its last entry where the log holds that entry, and else nothing. Above the base at index 3
-/// of term 9 the log is then empty.
+/// A snapshot keeps what follows its last entry where the log holds that entry, and else nothing. Above
+/// the base at index 3 of term 9 the log is then empty.
 const SNAPSHOTS: [(&str, &str); 10] = [
     ("append 1 2 0 0 1:0a 1:0b 2:0c", "Matched 3"),
     ("install 1 2 2 1", "Base 2"),
@@ -57,8 +57,8 @@ const COMPACTED: [(&str, &str); 7] = [
     ("status 1", "Status 2 - 2 2 3 2 3"),
 ];
 
-/// An Append raises the commit up to what it matched; a Compact past the commit does nothing; a snapshot is committed; who
-/// never heard of a commit compacts nothing.
+/// An Append raises the commit up to what it matched; a Compact past the commit does nothing; a snapshot
+/// is committed; who never heard of a commit compacts nothing.
 const COMMITTED: [(&str, &str); 12] = [
     ("append 1 1 0 0 2 1: 1: 1:", "Matched 3"),
     ("status 1", "Status 1 - 0 0 3 1 2"),

@@ -65,8 +65,8 @@ pub fn append_var_u64(out: &mut Vec<u8>, number: u64) -> Result<(), AllocError>
     Ok(())
 }
 
-/// The answer of an addition to the buffer. Where it is a refusal, what stands behind the first `len` bytes is taken
-/// away: where the addition left these as they were, the buffer is as it was.
+/// The answer of an addition to the buffer. Where it is a refusal, what stands behind the first `len`
+/// bytes is taken away: where the addition left these as they were, the buffer is as it was.
 #[inline]
 pub fn or_cut_back<E>(appended: Result<(), E>, out: &mut Vec<u8>, len: usize) -> Result<(), E>
     ensures value { result ≡ appended }

@@ -86,7 +86,8 @@ pub fn decode_u64_desc(source: &mut BytesSlice<'_>) -> Result<u64>
     Ok(!decode_u64(source)?)
 }
 
-/// Reads what `encode_i64` writes: the sign bit is flipped, so that the order of bytes is the order of numbers.
+/// Reads what `encode_i64` writes: the sign bit is flipped, so that the order of bytes is the order of
+/// numbers.
 #[inline]
 pub fn decode_i64(source: &mut BytesSlice<'_>) -> Result<i64>
     ensures decodes { Decodes IsI64 result source.old.now source.new.now }

@@ -40,7 +40,8 @@ use std::io::Write;
 
 /// Numbers on any writer. After a refusal, which is the writer's, a part of the number may be written.
 pub trait NumberEncoder: Write {
-    /// Writes eight bytes with the sign bit flipped, the highest first: the order of bytes is the order of numbers.
+    /// Writes eight bytes with the sign bit flipped, the highest first: the order of bytes is the order of
+    /// numbers.
     #[tactic(auto, unfolding(crate::specs::Number::u64_bytes))]
     final fn encode_i64(&mut self, v: i64) -> Result<()>
     where

@@ -1,4 +1,5 @@
-//! Numbers of variable length: seven bits a byte, the lowest first, the top bit set on all bytes but the last.
+//! Numbers of variable length: seven bits a byte, the lowest first, the top bit set on all bytes but the
+//! last.
 
 ghost use Rattle.std.specs.Prelude.{◌≡◌, ◌≤◌, ◌↔◌, take};
 ghost use Rattle.raft_log_base.specs.Grammar.{ReadsAs, Decodes};
@@ -32,8 +33,8 @@ pub const CONTINUES: u8 = 0x80;
 /// The greatest tenth byte: nine bytes hold 63 bits.
 const GREATEST_LAST: u8 = 1;
 
-/// Reads what `encode_var_u64` writes, and longer spellings of at most ten bytes. A tenth byte above 1, or with more
-/// after it, is refused as `InvalidData`, and bytes that end first as `UnexpectedEof`.
+/// Reads what `encode_var_u64` writes, and longer spellings of at most ten bytes. A tenth byte above 1, or
+/// with more after it, is refused as `InvalidData`, and bytes that end first as `UnexpectedEof`.
 #[inline(always)]
 pub fn decode_var_u64(source: &mut BytesSlice<'_>) -> Result<u64>
     ensures decodes { Decodes IsVarU64 result source.old.now source.new.now }
@@ -44,7 +45,8 @@ pub fn decode_var_u64(source: &mut BytesSlice<'_>) -> Result<u64>
     split_var_u64(source)
 }
 
-/// Splits the number off the front, and where there is none nothing. Numbers of one and two bytes are read in place.
+/// Splits the number off the front, and where there is none nothing. Numbers of one and two bytes are read
+/// in place.
 #[inline(always)]
 fn split_var_u64(source: &mut BytesSlice<'_>) -> Result<u64>
     ensures { ReadsAs result source.old.now source.new.now (var_u64_at source.old.now) }

@@ -8,8 +8,8 @@ use crate::{Entry, Items, Memory, Request};
 use raft_voter_outline::Write;
 use std::alloc::Global;
 
-/// Does to a log, whose first entry stands right above this base, what is to be done for a request. Where memory is refused
-/// the log is as it was, and entries were to go in.
+/// Does to a log, whose first entry stands right above this base, what is to be done for a request. Where
+/// memory is refused the log is as it was, and entries were to go in.
 pub fn write(
     log: &mut Vec<(u64, Items<u8>)>,
     base_index: u64,
@@ -69,7 +69,8 @@ pub fn numbered(
     Ok(Items::from_vec(given))
 }
 
-/// Puts these entries where the log's entries stood from place `at` on. Where memory is refused the log stays as it was.
+/// Puts these entries where the log's entries stood from place `at` on. Where memory is refused the log
+/// stays as it was.
 fn replace_tail(
     log: &mut Vec<(u64, Items<u8>)>,
     at: usize,

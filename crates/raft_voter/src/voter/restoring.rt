@@ -11,9 +11,9 @@ use raft_voter_outline::Outline;
 use std::alloc::Global;
 
 impl Voter {
-    /// The voter with this state and these entries. What the state says of its last entry isn't looked at. A number out of
-    /// range, or an entry that is too long, is refused first, then entries that don't stand one behind the other from the
-    /// base on.
+    /// The voter with this state and these entries. What the state says of its last entry isn't looked at.
+    /// A number out of range, or an entry that is too long, is refused first, then entries that don't
+    /// stand one behind the other from the base on.
     pub fn restore(
         alloc: Global,
         state: VoterState,

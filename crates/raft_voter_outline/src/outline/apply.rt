@@ -8,8 +8,8 @@ use super::{Change, Outline, Write};
 use crate::{Memory, Request};
 
 impl Outline {
-    /// Makes room for what a change writes, so that the change can be applied. Where memory is refused the voter is as it
-    /// was; no change needs room but one that brings entries.
+    /// Makes room for what a change writes, so that the change can be applied. Where memory is refused the
+    /// voter is as it was; no change needs room but one that brings entries.
     pub fn reserve(&mut self, change: &Change, request: &Request) -> Result<(), Memory>
         ensures voter { self.new.voter ≡ self.old.voter }
         ensures ok { OnOk result (HasRoom change.now.write request.now self.new.room) }

@@ -16,8 +16,8 @@ fn told(answer: Answer) -> Decision
 }
 
 impl Outline {
-    /// What a voter with this outline answers to a request, and what it becomes; nothing is changed yet. A change is none
-    /// exactly where the voter stays as it was.
+    /// What a voter with this outline answers to a request, and what it becomes; nothing is changed yet. A
+    /// change is none exactly where the voter stays as it was.
     pub fn decide(&self, request: &Request) -> Decision
         ensures { Decides self.now.voter request.now result }
     {

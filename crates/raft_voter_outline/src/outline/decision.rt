@@ -41,7 +41,8 @@ pub struct Change {
 pub enum Write {
     /// Nothing: the state alone is another.
     StateAlone,
-    /// The entries that the request brought go in, but for the first of them, which are there. What stood from that index on goes.
+    /// The entries that the request brought go in, but for the first of them, which are there. What stood
+    /// from that index on goes.
     Entries {
         /// How many of those brought are there.
         skipped: usize,

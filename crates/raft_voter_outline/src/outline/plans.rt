@@ -65,7 +65,8 @@ impl Outline {
         state_alone(Reply::Granted(term), VoterState { vote, ..state })
     }
 
-    /// Whether a log that ends at this index with this term is at least as up to date as this one (Raft paper, 5.4.1).
+    /// Whether a log that ends at this index with this term is at least as up to date as this one (Raft
+    /// paper, 5.4.1).
     fn is_up_to_date(&self, index: u64, term: u64) -> bool
         ensures { result ≡ is_up_to_date self.now.voter index term }
     {
@@ -120,7 +121,8 @@ impl Outline {
         Write::Entries { skipped, index }
     }
 
-    /// How many of the entries that follow an index are there: those before the first whose term differs or that is new.
+    /// How many of the entries that follow an index are there: those before the first whose term differs
+    /// or that is new.
     fn matching(&self, prev_index: u64, entries: &[(u64, Items<u8>)]) -> usize
         requires above { self.now.voter.base_index ≤ prev_index }
         requires small { prev_index + length entries.now < 2 ^ 63 }

@@ -12,8 +12,8 @@ use crate::{Items, Memory, VoterState};
 use std::alloc::Global;
 
 impl Outline {
-    /// The outline of a voter with this state and no entry above its base. What the state says of its last entry isn't
-    /// looked at. It takes no memory.
+    /// The outline of a voter with this state and no entry above its base. What the state says of its last
+    /// entry isn't looked at. It takes no memory.
     pub fn at_base(alloc: Global, state: &VoterState) -> Outline
         requires { state_fits state.now ≡ true }
         ensures { result.voter ≡ with_log state.now [] }
@@ -28,7 +28,8 @@ impl Outline {
         }
     }
 
-    /// The outline of a voter with this state and this log. Memory can be refused only where the log has entries.
+    /// The outline of a voter with this state and this log. Memory can be refused only where the log has
+    /// entries.
     pub fn restore(
         alloc: Global,
         state: &VoterState,
@@ -45,8 +46,8 @@ impl Outline {
         Ok(outline)
     }
 
-    /// One more entry of the log, as it is read back: of this term, right behind the last one. Where memory is refused,
-    /// for which no room may be left, the outline is as it was.
+    /// One more entry of the log, as it is read back: of this term, right behind the last one. Where
+    /// memory is refused, for which no room may be left, the outline is as it was.
     pub fn push(&mut self, term: u64) -> Result<(), Memory>
         requires { last_index self.old.voter + 1 < 2 ^ 63 }
         ensures ok { OnOk result (self.new.voter ≡ record self.old.voter { log = self.old.voter.log ++ (term, []) ∷ [] }) }

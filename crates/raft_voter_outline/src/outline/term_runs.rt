@@ -8,8 +8,8 @@ use crate::{Items, Memory};
 use std::alloc::Global;
 use std::marker::Model;
 
-/// The base of a log, and the terms of the entries above it, as runs of equal terms: it grows with the number of times that
-/// the term changes, and finds a term by a binary search.
+/// The base of a log, and the terms of the entries above it, as runs of equal terms: it grows with the
+/// number of times that the term changes, and finds a term by a binary search.
 #[derive(Debug, Drop)]
 pub struct TermRuns {
     base: u64,

@@ -11,3 +11,4 @@ mod Commits
 mod Reading
 pub mod Keeping
 pub use Rattle.raft_voter_outline.proofs.Ordered
+pub use Rattle.raft_voter_outline.proofs.Steps

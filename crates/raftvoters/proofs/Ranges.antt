@@ -10,7 +10,7 @@ use Rattle.raft_voter_messages.specs.Ranges.{in_range}
 use Rattle.raft_voter.specs.State.{State}
 use Rattle.raft_voter.specs.InRange.{AllInRange, IsInRange}
 use Rattle.raft_voter.proofs.Keeping.{range_is_kept}
-use Rattle.raft_voter.proofs.VoterSteps.{by_test}
+use Rattle.raft_voter.proofs.Steps.{by_test}
 use Rattle.raftvoters.specs.Records.{may_change}
 
 pub fresh_in_range : AllInRange fresh_world

@@ -16,9 +16,8 @@ use Rattle.raft_log_base.proofs.Grammar.{done, ok_is, bind_ok, chosen}
 use Rattle.raft_log_items.specs.declared.item.LogItem.{LogItem}
 use Rattle.raft_log_items.specs.Placed.{placed}
 use Rattle.raft_log_items.specs.declared.compression.CompressionType.{CompressionType}
-use Rattle.raft_log_frames.specs.Record.{Front, header_at, header_too_short, footer_of, frame_of, frame_at, past_input}
+use Rattle.raft_log_frames.specs.Record.{Front, header_at, header_too_short, footer_of, frame_of, frame_at, past_input, placed_footer_of}
 use Rattle.raft_log_frames.proofs.Headers.{is_sound_header}
-use Rattle.raft_log_records.specs.ItemBatch.{batch_of}
 use Rattle.raft_log_disk.specs.Disk.{Disk}
 use Rattle.raft_log_reader.specs.Source.{CannotRead}
 use Rattle.raft_log_reader.specs.Batches.{extent_at, batch_at, block_at, context_of}
@@ -93,8 +92,8 @@ placed_bind (Err f) context at len n block size = refl
 
 -- what the footer says of a record whose extent is known, the whole record says
 pub batch_found : (context : LogFileContext) (at : ℕ) (content : List ℕ) (footer len : ℕ) → HasExtent (drop at content) footer len
-    → batch_at context at content ≡ (batch_of (signature_of context) (block_at context at (footer - 16)) (slice_range (drop at content) footer len) >>= λ items. Ok (len, items))
-unfolding batch_at frame_at frame_of batch_of
+    → batch_at context at content ≡ (placed_footer_of (signature_of context) (block_at context at (footer - 16)) (slice_range (drop at content) footer len) >>= λ items. Ok (len, items))
+unfolding batch_at frame_at frame_of placed_footer_of
 batch_found context at content footer len h =
     let bytes = drop at content in
     let size : length (slice_range bytes 16 footer) ≡ footer - 16 =
@@ -146,12 +145,12 @@ footer-slice at footer len content = ap (take (len - footer)) (drop-drop footer 
 
 -- what is read of the footer of a record whose extent is known
 abbrev pub placed_at : LogFileContext → ℕ → List ℕ → ℕ → ℕ → Result (List LogItem) Fault
-placed_at context at content footer len = batch_of (signature_of context) (block_at context at (footer - 16)) (take (len - footer) (drop (at + footer) content))
+placed_at context at content footer len = placed_footer_of (signature_of context) (block_at context at (footer - 16)) (take (len - footer) (drop (at + footer) content))
 
 batch-placed : (context : LogFileContext) (at : ℕ) (content : List ℕ) (footer len : ℕ) → HasExtent (drop at content) footer len
     → batch_at context at content ≡ (placed_at context at content footer len >>= λ items. done {E = Fault} (len, items))
 batch-placed context at content footer len h = batch_found context at content footer len h
-    ∙ ap (λ (l : List ℕ). batch_of (signature_of context) (block_at context at (footer - 16)) l >>= λ items. done {E = Fault} (len, items)) (footer-slice at footer len content)
+    ∙ ap (λ (l : List ℕ). placed_footer_of (signature_of context) (block_at context at (footer - 16)) l >>= λ items. done {E = Fault} (len, items)) (footer-slice at footer len content)
 
 pub batch_good : (context : LogFileContext) (at : ℕ) (content : List ℕ) (footer len : ℕ) (items : List LogItem) → HasExtent (drop at content) footer len
     → placed_at context at content footer len ≡ Ok items → batch_at context at content ≡ Ok (len, items)

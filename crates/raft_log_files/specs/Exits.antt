@@ -1,12 +1,15 @@
 -- What stands after each call on the last file of a queue, answered and refused.
-use Rattle.std.specs.Prelude.{◌≡◌, ℕ, List, [], ◌∷◌, length}
+use Rattle.std.specs.Prelude.{◌≡◌, ℕ, ◌⊎◌, true, List, [], ◌∷◌, length}
 use Rattle.raft_log_disk.specs.Disk.{Disk}
 use Rattle.raft_log_disk.specs.Causes.{Fails}
+use Rattle.raft_log_disk.specs.Exits.{FailsToSync}
+use Rattle.std.specs.declared.io.ErrorKind.{ErrorKind}
 use Rattle.raft_log_disk.specs.Chains.{Written}
 use Rattle.raft_log_disk.specs.LogFormat.{Format}
 use Rattle.raft_log_disk.specs.LogQueue.{LogFiles, HoldsLast}
 use Rattle.raft_log_disk.specs.declared.handle.Handle.{Handle}
 use Rattle.raft_log_disk.specs.declared.handle.Permission.TheVariants.{ReadWrite}
+use Rattle.raft_log_file.specs.Writer.{Closes, FailsToClose, FailsToWriteNext, FailsToTakeUp, TakesUp}
 use Rattle.raft_log_file.specs.declared.writer.LogFileWriter.{LogFileWriter}
 use Rattle.raft_log_file_queue.specs.Queue.{whole, with_more, with_room, settled, synced, begun}
 use Rattle.raft_log_file_queue.specs.States.{IsNew}
@@ -61,6 +64,21 @@ FailsToAppend {R} F own bytes fault before after old new = (base : Disk) (q : Lo
     (path : List ℕ) (N : Names)
     → F.IsFrame q.last q.header w.bytes w.value → w.bytes ≡ bytes → IsOpen F own base before q path N old
     → Fails old new × AppendLeaves F own fault base w q before after path N new
+
+-- which calls a refused append made, and whose refusal is told: the write's, where what it left was cut off and
+-- synced; else the one of the cut, or of its sync
+abbrev pub AppendMakes : WriteFault → LogFileWriter → LogFileWriter → List ℕ → ℕ → Disk → Disk → Type 0
+AppendMakes (CutBack kind) before after bytes target old new = (middle : LogFileWriter) × (between : Disk)
+    × FailsToWriteNext before middle bytes target kind old between × Closes middle after between new
+AppendMakes (Failed kind) before after bytes target old new = (middle : LogFileWriter) × (between : Disk)
+    × (error : ErrorKind) × FailsToWriteNext before middle bytes target error old between
+    × FailsToClose middle after kind between new
+
+-- whose refusal a file that isn't begun tells: that of its size or of its header's write, or of the sync behind
+abbrev pub BeginMakes : Handle → List ℕ → ErrorKind → Disk → Disk → Type 0
+BeginMakes handle header error old new = FailsToTakeUp handle header true error old new
+    ⊎ ((writer : LogFileWriter) × (between : Disk) × TakesUp handle header true writer old between
+    × FailsToSync writer.handle error between new)
 
 -- all records were synced
 abbrev pub SyncsAll : {R : Type 0} → Format R → (List ℕ → Type 0) → LogFileWriter → Disk → Disk → Type 0

@@ -2,8 +2,10 @@
 
 ghost use Rattle.std.specs.Prelude.{IfOk, IfErr, OnOk, OnErr};
 ghost use Rattle.raft_log_disk.specs.Causes.{IsLater};
+ghost use Rattle.raft_log_disk.specs.Exits.{FailsToSync, Syncs};
 ghost use Rattle.raft_log_disk.specs.Touching.{TouchesOnly};
-ghost use Rattle.raft_log_files.specs.Exits.{Appends, Begins, FailsToAppend, FailsToBegin, FailsToFinish, FailsToSyncAll, Finishes, SyncsAll};
+ghost use Rattle.raft_log_file.specs.Writer.{Closes, FailsToClose, WritesNext};
+ghost use Rattle.raft_log_files.specs.Exits.{AppendMakes, Appends, BeginMakes, Begins, FailsToAppend, FailsToBegin, FailsToFinish, FailsToSyncAll, Finishes, SyncsAll};
 
 use super::format::PipeFormat;
 use log::Log;
@@ -33,6 +35,12 @@ pub fn append_record<G: PipeFormat, F: FileSystem, L: Log>(
         (F.disk file_system.old) (F.disk file_system.new)) }
     ensures err { IfErr result (λ fault. FailsToAppend G.format G.own bytes.now fault writer.old writer.new
         (F.disk file_system.old) (F.disk file_system.new)) }
+
+    // Which calls were made, in their order, and whose refusal is told.
+    ensures calls { OnOk result (WritesNext writer.old writer.new bytes.now target_size
+        (F.disk file_system.old) (F.disk file_system.new)) }
+    ensures refusal { IfErr result (λ fault. AppendMakes fault writer.old writer.new bytes.now target_size
+        (F.disk file_system.old) (F.disk file_system.new)) }
     ensures others { TouchesOnly writer.old.handle.file (F.disk file_system.old) (F.disk file_system.new) }
     ensures later { IsLater (F.disk file_system.old) (F.disk file_system.new) }
 {
@@ -54,6 +62,10 @@ pub fn sync_records<G: PipeFormat, F: FileSystem>(
         (SyncsAll G.format G.own writer.now (F.disk file_system.old) (F.disk file_system.new)) }
     ensures err { OnErr result (FailsToSyncAll G.format G.own writer.now
         (F.disk file_system.old) (F.disk file_system.new)) }
+    ensures calls { OnOk result
+        (Syncs writer.now.handle (F.disk file_system.old) (F.disk file_system.new)) }
+    ensures refusal { IfErr result (λ error. FailsToSync writer.now.handle error
+        (F.disk file_system.old) (F.disk file_system.new)) }
     ensures others { TouchesOnly writer.now.handle.file (F.disk file_system.old) (F.disk file_system.new) }
     ensures later { IsLater (F.disk file_system.old) (F.disk file_system.new) }
 {
@@ -68,6 +80,10 @@ pub fn finish_file<G: PipeFormat, F: FileSystem>(
     ensures ok { OnOk result (Finishes G.format G.own writer.old writer.new
         (F.disk file_system.old) (F.disk file_system.new)) }
     ensures err { OnErr result (FailsToFinish G.format G.own writer.old
+        (F.disk file_system.old) (F.disk file_system.new)) }
+    ensures calls { OnOk result
+        (Closes writer.old writer.new (F.disk file_system.old) (F.disk file_system.new)) }
+    ensures refusal { IfErr result (λ error. FailsToClose writer.old writer.new error
         (F.disk file_system.old) (F.disk file_system.new)) }
     ensures others { TouchesOnly writer.old.handle.file (F.disk file_system.old) (F.disk file_system.new) }
     ensures later { IsLater (F.disk file_system.old) (F.disk file_system.new) }
@@ -86,6 +102,8 @@ pub fn begin_file<G: PipeFormat, F: FileSystem, L: Log>(
     ensures ok { IfOk result (λ writer. Begins G.format G.own handle header.now writer
         (F.disk file_system.old) (F.disk file_system.new)) }
     ensures err { OnErr result (FailsToBegin G.format G.own handle header.now
+        (F.disk file_system.old) (F.disk file_system.new)) }
+    ensures refusal { IfErr result (λ error. BeginMakes handle header.now error
         (F.disk file_system.old) (F.disk file_system.new)) }
     ensures others { TouchesOnly handle.file (F.disk file_system.old) (F.disk file_system.new) }
     ensures later { IsLater (F.disk file_system.old) (F.disk file_system.new) }

@@ -1,9 +1,10 @@
 //! Rotations: the last file of a queue is finished, and the queue goes on in the next one. Earlier files
 //! go.
 
-ghost use Rattle.std.specs.Prelude.{OnOk, OnErr};
+ghost use Rattle.std.specs.Prelude.{IfErr, OnOk, OnErr};
 ghost use Rattle.std.specs.String.{string_bytes};
 ghost use Rattle.raft_log_disk.specs.Causes.{IsLater};
+ghost use Rattle.raft_log_disk.specs.Exits.{FailsToDelete};
 ghost use Rattle.raft_log_files.specs.Rotation.{Drops, FailsToDrop, FailsToRotateOver, FailsToRotateToNew, RotatesOver, RotatesToNew};
 
 use super::format::PipeFormat;
@@ -67,6 +68,8 @@ pub fn drop_file<G: PipeFormat, F: FileSystem>(
         (Drops G.format G.own path.now (F.disk file_system.old) (F.disk file_system.new)) }
     ensures err { OnErr result
         (FailsToDrop G.format G.own path.now (F.disk file_system.old) (F.disk file_system.new)) }
+    ensures refusal { IfErr result (λ error. FailsToDelete path.now error
+        (F.disk file_system.old) (F.disk file_system.new)) }
     ensures later { IsLater (F.disk file_system.old) (F.disk file_system.new) }
 {
     file_system.delete(path)

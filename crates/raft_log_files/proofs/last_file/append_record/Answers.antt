@@ -18,3 +18,9 @@ returns-in-Err-close-clause-err g c =
     let D = g.F.FileSystem.disk in
     not_cut_back g.G.PipeFormat.format g.G.PipeFormat.own g.G.PipeFormat.lawful g.G.PipeFormat.owns c.args.writer.now c.write.new.self c.close.new.self c.args.bytes.now c.args.target_size c.in-Err.kind c.in-Err-close.again
     (D c.args.file_system.now) (D c.write.new.file_system) (D c.close.new.file_system) (g.met.F.FileSystem.sound c.args.file_system.now) c.in-Err.ensures.err c.in-Err-close.ensures.err c.in-Err.ensures.kept c.close.ensures.later
+
+pub returns-in-Ok-clause-refusal : goal.returns-in-Ok-clause-refusal
+returns-in-Ok-clause-refusal g c = (c.write.new.self, g.F.FileSystem.disk c.write.new.file_system, c.in-Err.ensures.err, c.in-Ok.ensures.ok)
+
+pub returns-in-Err-close-clause-refusal : goal.returns-in-Err-close-clause-refusal
+returns-in-Err-close-clause-refusal g c = (c.write.new.self, g.F.FileSystem.disk c.write.new.file_system, c.in-Err.kind, c.in-Err.ensures.err, c.in-Err-close.ensures.err)

@@ -1,4 +1,5 @@
-use Rattle.std.proofs.Common.{rules}
+use Rattle.std.proofs.Common.{rules, inl, inr}
+use Rattle.std.proofs.lemmas.Result.{err_from_is_err_and}
 use Rattle.raft_log_files.specs.Exits.{FailsToBegin}
 use Rattle.raft_log_files.proofs.Calls.{begins, fails_to_take_up, fails_to_sync_header}
 use Rattle.raft_log_files.proofs.last_file.begin_file.Goals as goal
@@ -24,3 +25,13 @@ returns-clause-ok g c =
     let D = g.F.FileSystem.disk in
     begins g.G.PipeFormat.format g.G.PipeFormat.own g.G.PipeFormat.lawful g.G.PipeFormat.owns c.in_ok-writer.writer c.args.handle c.args.header.now (D c.args.file_system.now) (D c.open.new.file_system) (D c.sync.new.file_system)
     (g.met.F.FileSystem.sound c.args.file_system.now) c.in_ok-writer.ensures.ok c.in_ok-sync.ensures.ok
+
+pub returns-in_err-writer-clause-refusal : goal.returns-in_err-writer-clause-refusal
+returns-in_err-writer-clause-refusal g c =
+    let p = err_from_is_err_and c.from_residual.result c.from_residual.ensures.1 in
+    rw (p.1, p.2) (inl c.in_err-writer.ensures.err)
+
+pub returns-in_err-sync-clause-refusal : goal.returns-in_err-sync-clause-refusal
+returns-in_err-sync-clause-refusal g c =
+    let p = err_from_is_err_and c.from_residual-in_err-sync.result c.from_residual-in_err-sync.ensures.1 in
+    rw (p.1, p.2) (inr (c.in_ok-writer.writer, g.F.FileSystem.disk c.open.new.file_system, c.in_ok-writer.ensures.ok, c.in_err-sync.ensures.err))

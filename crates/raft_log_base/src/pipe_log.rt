@@ -65,7 +65,8 @@ impl PartialOrd for FileId {
 
     ghost partial_cmp = { as_partial_cmp file_cmp };
 
-    ghost laws = { partial_order_from_own_ties (Prim.search (comparing, rules)) (Prim.search (comparing, rules)) };
+    ghost laws = { partial_order_from_own_ties
+        (Prim.search (comparing, rules)) (Prim.search (comparing, rules)) };
 
     fn partial_cmp(&self, other: &FileId) -> Option<Ordering> {
         Some(self.cmp(other))

@@ -152,7 +152,8 @@ KeepsQueue {R} F q d = (image : Disk) → IsImage d image → NoChanceInLast F q
 abbrev pub EndsInOnePlace : {R : Type 0} → Format R → LogFiles R → Disk → Type 0
 EndsInOnePlace {R} F q d = (image : Disk) → IsImage d image → NoChanceInLast F q d image
     → (count : ℕ) × (count ≤ length q.pending)
-    × ((s : ℕ) → s ≤ q.last → (found : List (Found R)) → ReadsFrom F image s found → found ≡ found_from s q count)
+    × ((s : ℕ) → s ≤ q.last → (found : List (Found R)) → ReadsFrom F image s found
+    → found ≡ found_from s q count)
 
 -- from a number on no file is missing below one that is there
 abbrev pub HasNoGap : {R : Type 0} → Format R → Disk → ℕ → Type 0

@@ -1,3 +1,5 @@
+//! What a crash leaves, as a test chooses it.
+
 /// What a crash leaves of the changes that weren't synced. They stand in the order of the calls, over all
 /// files that still have a name.
 #[derive(Debug, Drop)]

@@ -11,7 +11,8 @@ use std::alloc::Global;
 /// file's.
 pub fn identify(alloc: Global, name: &str, bytes: &[u8]) -> Result<Option<(FileId, LogFileFormat)>>
     ensures name { IfOk result (λ found. IfSome found (λ f. IsNamed (suffix_of f.0.queue) name.now f.0.seq)) }
-    ensures header { IfOk result (λ found. IfSome found (λ f. (rest : List ℕ) × (header_at bytes.now ≡ Ok (f.1, rest)))) }
+    ensures header { IfOk result (λ found. IfSome found (λ f.
+        (rest : List ℕ) × (header_at bytes.now ≡ Ok (f.1, rest)))) }
 {
     let Some(id) = FileId::parse_file_name(name) else {
         return Ok(None);

@@ -21,7 +21,8 @@ impl Message for Counter {
 
     ghost spelling = { λ c. u32_le_bytes c.count };
 
-    ghost reading = { λ bytes. if nat_eq (length bytes) 4 then Some (record { count = from_le_bytes w32 bytes }) else None };
+    ghost reading = { λ bytes.
+        if nat_eq (length bytes) 4 then Some (record { count = from_le_bytes w32 bytes }) else None };
 
     fn write(&self, out: &mut Vec<u8>) -> Result<(), AllocError> {
         codec::append_u32_le(out, self.count)

@@ -15,10 +15,12 @@ pub fn save<F: FileSystem>(
     path: &str,
     bytes: &[u8],
 ) -> Result<Handle, ErrorKind>
-    ensures ok { IfOk result (λ handle. (F.disk file_system.new).files handle.file ≡ Some (at_rest bytes.now)) }
+    ensures ok { IfOk result (λ handle.
+        (F.disk file_system.new).files handle.file ≡ Some (at_rest bytes.now)) }
     ensures crash { IfOk result (λ handle. (image : Disk) → IsImage (F.disk file_system.new) image
         → image.files handle.file ≡ Some (at_rest bytes.now)) }
-    ensures err { IfErr result (λ error. FailsToSave path.now error (F.disk file_system.old) (F.disk file_system.new)) }
+    ensures err { IfErr result (λ error.
+        FailsToSave path.now error (F.disk file_system.old) (F.disk file_system.new)) }
     ensures later { IsLater (F.disk file_system.old) (F.disk file_system.new) }
 {
     let handle = file_system.create(path)?;

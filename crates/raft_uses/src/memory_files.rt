@@ -18,7 +18,8 @@ pub fn write_both(
     second: Handle,
     bytes: &[u8],
 ) -> Result<(), ErrorKind>
-    ensures { OnOk result (unsynced system.new ≡ unsynced system.old ++ (first.file, Wrote 0 bytes.now) ∷ (second.file, Wrote 0 bytes.now) ∷ []) }
+    ensures { OnOk result (unsynced system.new ≡ unsynced system.old
+        ++ (first.file, Wrote 0 bytes.now) ∷ (second.file, Wrote 0 bytes.now) ∷ []) }
 {
     system.write_at(first, 0, bytes)?;
     system.write_at(second, 0, bytes)?;

@@ -13,8 +13,9 @@ use std::alloc::Global;
 
 /// The settings that a text says, if they are sound, made whole.
 pub fn settings_from<L: Log>(rt: &L, alloc: Global, text: &str) -> Result<Config>
-    ensures { IfOk result (λ config. (table : Members) × (s : Settings) × (parse_document text.now ≡ Some table)
-        × (settings_in table ≡ Ok s) × IsSound s × (settings_of config ≡ sanitized s)) }
+    ensures { IfOk result (λ config. (table : Members) × (s : Settings)
+        × (parse_document text.now ≡ Some table) × (settings_in table ≡ Ok s)
+        × IsSound s × (settings_of config ≡ sanitized s)) }
 {
     let mut config = Config::from_toml(alloc, text)?;
     config.sanitize(rt, alloc)?;

@@ -6,8 +6,6 @@ pub mod error;
 pub mod frame;
 pub mod laws;
 pub mod repair;
-#[cfg(test)]
-mod tests;
 
 pub use append_file::AppendFile;
 pub use error::AppendError;

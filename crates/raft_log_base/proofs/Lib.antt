@@ -1,5 +1,6 @@
 pub mod Fixed
 pub mod Grammar
+mod Answered
 pub mod Sizes
 pub mod Var
 pub mod VarLoop

@@ -1,0 +1,67 @@
+//! What a crash may leave of a run, in each of the ways that the tests try.
+use super::calls::{PATH, left, read_back};
+use raft_log_disk::{FileSystem, Permission};
+use raft_log_memory_files::{MemoryFileSystem, Piece, Remainder};
+use std::alloc::{AllocError, Global};
+
+// What stands in place of a write that is lost: some of its bytes, and more than it has.
+const FEW: [u8; 2] = [0, 7];
+
+const MANY: [u8; 30] = [255; 30];
+
+/// Each beginning of what is unsynced, and each way to keep, lose or change two changes of it.
+pub fn remainders(alloc: Global) -> Result<Vec<Remainder>, AllocError> {
+    let mut ways = Vec::new(alloc);
+    ways.push(Remainder::LastSync)?;
+    ways.push(Remainder::AllWritten)?;
+    for pieces in 0..4usize {
+        for bytes in [0usize, 1, 22] {
+            ways.push(Remainder::First { pieces, bytes })?;
+        }
+    }
+    for first in 0..4u8 {
+        for second in 0..4u8 {
+            ways.push(two_changes(alloc, first, second)?)?;
+        }
+    }
+    Ok(ways)
+}
+
+// The first two changes in these ways, and the third as it was.
+fn two_changes(alloc: Global, first: u8, second: u8) -> Result<Remainder, AllocError> {
+    let mut pieces = Vec::new(alloc);
+    pieces.push(piece(alloc, first)?)?;
+    pieces.push(piece(alloc, second)?)?;
+    pieces.push(Piece::Keep)?;
+    Ok(Remainder::Pieces(pieces))
+}
+
+// What is left of one change.
+fn piece(alloc: Global, way: u8) -> Result<Piece, AllocError> {
+    match way {
+        0 => Ok(Piece::Keep),
+        1 => Ok(Piece::Lose),
+        2 => changed(alloc, &FEW),
+        _ => changed(alloc, &MANY),
+    }
+}
+
+// A write whose bytes became these.
+fn changed(alloc: Global, bytes: &[u8]) -> Result<Piece, AllocError> {
+    Ok(Piece::Bytes(bytes.to_vec(alloc)?))
+}
+
+/// How many records are read back of what is left in this way; none where no file is there, which is right
+/// where none was made.
+pub fn read_of(
+    alloc: Global,
+    system: &MemoryFileSystem,
+    what: &Remainder,
+    was_made: bool,
+) -> Option<u8> {
+    let mut after = left(system, what)?;
+    if !was_made && after.open(PATH, Permission::ReadOnly).is_err() {
+        return Some(0);
+    }
+    read_back(alloc, &mut after)
+}

@@ -8,7 +8,7 @@ use Rattle.raft_log_model.specs.Meaning.{Slot, Content, says, holds, directory}
 use Rattle.raft_log_model.specs.Meaning.Slot.{Index}
 use Rattle.raft_log_model.specs.Meaning.Content.{Entry}
 use Rattle.raft_log_model.specs.Holes.{Window, nothing, window, holds_past, NoHole, has_clean, low, least, high, is_below, is_silent, has_gap, directory_by_intervals, IsSolid}
-use Rattle.raft_log_model.proofs.Cases.{at_bool, at_option, lt_true, le_true, from_lt_true, both, none_some}
+use Rattle.raft_log_model.proofs.Cases.{at_bool, at_option, lt_true, le_true, from_lt_true, both, none_some, and_true}
 use Rattle.raft_log_model.proofs.Words.{option_or_none}
 use Rattle.raft_log_model.proofs.Holes.{no_hole}
 use Rattle.raft_log_model.proofs.Windows.{one_run_fits}
@@ -20,10 +20,6 @@ none_of_two (Some x) q = refl
 none_if : {A : Type 0} (b : Bool) (x : A) → is_none (if b then Some x else None) ≡ not b
 none_if true x = refl
 none_if false x = refl
-
-and_true : (b : Bool) → b ≡ (b && true)
-and_true true = refl
-and_true false = refl
 
 and_comm : (a b : Bool) → (a && b) ≡ (b && a)
 and_comm true true = refl

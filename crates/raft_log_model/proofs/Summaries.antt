@@ -11,7 +11,7 @@ use Rattle.raft_log_model.specs.Meaning.Content.{Value}
 use Rattle.raft_log_model.specs.Holes.{Window, nothing, is_past, next_window, FitsOn, NoHole, least, is_below}
 use Rattle.raft_log_model.specs.Table.{Table, content, span_of, no_table, compacted, cut_from, run_onto}
 use Rattle.raft_log_model.specs.Summary.{IsSound, Summary, no_summary, step, summary_after, summary, is_left, word, lesser, entries_over, join}
-use Rattle.raft_log_model.proofs.Cases.{at_bool, if_true, if_false, lt_true, le_true, le_false, lt_false, from_lt_true, from_lt_false, neither}
+use Rattle.raft_log_model.proofs.Cases.{at_bool, if_true, if_false, lt_true, le_true, le_false, lt_false, from_lt_true, from_lt_false, neither, and_true}
 use Rattle.raft_log_model.proofs.Words.{option_or_assoc, option_or_none}
 use Rattle.raft_log_model.proofs.Tests.{run_sets, run_leaves, compact_removes, compact_leaves}
 use Rattle.raft_log_model.proofs.Holes.{IsTail, tail_step}
@@ -196,10 +196,6 @@ key_content None true = refl
 key_content None false = refl
 key_content (Some v) b = refl
 
-same_and : (b : Bool) → b ≡ (b && true)
-same_and true = refl
-same_and false = refl
-
 min_tells : (i b d : ℕ) → nat_lt i (min b d) ≡ (nat_lt i b && nat_lt i d)
 min_tells i b d = grind (arith, nat_tests)
 
@@ -239,7 +235,7 @@ content_word z (Key k) h = key_content (z.table.values k) (z.cleaned || z.delete
 -- the bounds of two summaries
 lesser_tells : (i : ℕ) (p q : Option ℕ) → is_below i (lesser p q) ≡ (is_below i p && is_below i q)
 lesser_tells i None q = refl
-lesser_tells i (Some b) None = same_and (nat_lt i b)
+lesser_tells i (Some b) None = and_true (nat_lt i b)
 lesser_tells i (Some b) (Some d) = min_tells i b d
 
 left_of_two : (ac zc al bl ab zb : Bool) → (not (ac || zc) && ((bl && al) && (zb && ab))) ≡ ((not zc && (bl && zb)) && (not ac && (al && ab)))

@@ -51,7 +51,7 @@ pub fn whole_records(alloc: Global, bytes: &[u8]) -> Result<Vec<Vec<u8>>, AllocE
     let mut records = Vec::new(alloc);
     let mut end = 0;
     while let Some(content) = read_frame(&bytes[end..]) {
-        records.push(content.to_vec(alloc)?)?;
+        records.push(Vec::from_slice(alloc, content)?)?;
         end += content.len() + OVERHEAD;
     }
     Ok(records)

@@ -48,7 +48,7 @@ fn piece(alloc: Global, way: u8) -> Result<Piece, AllocError> {
 
 // A write whose bytes became these.
 fn changed(alloc: Global, bytes: &[u8]) -> Result<Piece, AllocError> {
-    Ok(Piece::Bytes(bytes.to_vec(alloc)?))
+    Ok(Piece::Bytes(Vec::from_slice(alloc, bytes)?))
 }
 
 /// How many records are read back of what is left in this way; none where no file is there, which is right

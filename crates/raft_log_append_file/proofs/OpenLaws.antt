@@ -1,7 +1,7 @@
 -- An open file of records through its calls, and what a stop leaves of it.
 use Rattle.std.proofs.Common.{◌≡◌, ℕ, ◌+◌, ◌-◌, ◌^◌, ◌<◌, ◌≤◌, inl, inr, false, Some, List, [], ◌∷◌, ◌++◌, length, take, drop, refl, sym, ◌∙◌, ap, subst, arith, length-append, Result, Ok, Err}
 use Rattle.std.specs.Result.{OnOk, IfErr}
-use Rattle.std.proofs.lemmas.List.{append-nil, append_assoc, take_all, take_at, take-append-le, length-take-le, get_or-take, ext_get_or, take-append-drop}
+use Rattle.std.proofs.lemmas.List.{append-nil, append_assoc, take_all, take_at, take-append-le, take-append-drop}
 use Rattle.std.proofs.lemmas.List.Elements.{All-weaker}
 use Rattle.std.specs.declared.io.ErrorKind.{ErrorKind}
 use Rattle.raft_log_disk.specs.Disk.{file_limit, Change, Wrote, File, Disk, with_file, at_rest, overwritten}
@@ -10,7 +10,7 @@ use Rattle.raft_log_disk.specs.Calls.{IsRight, with_change, after_change, flushe
 use Rattle.raft_log_disk.specs.Chains.{Written, spelled, AreFrames, Reads}
 use Rattle.raft_log_disk.specs.KeepsSynced.{NoChanceMatch, HoldsChain, HoldsAtLeast, kept_records}
 use Rattle.raft_log_disk.proofs.ImageLaws.{left_at_rest}
-use Rattle.raft_log_disk.proofs.ChangeLaws.{overwritten_at_end}
+use Rattle.raft_log_disk.proofs.ChangeLaws.{overwritten_at_end, torn_front}
 use Rattle.raft_log_disk.proofs.Updates.{file_here}
 use Rattle.raft_log_disk.proofs.KeptLaws.{kept_change}
 use Rattle.raft_log_disk.proofs.ChainLaws.{spelled-append, frames_front, reads_some}
@@ -120,14 +120,6 @@ open_appended log next durable pending bytes frame old new opened is_frame handl
 pub front_records : (durable pending : Records) (w : Written (List ℕ)) → kept_records durable (pending ++ w ∷ []) (length pending) ≡ durable ++ pending
 front_records durable pending w = ap (λ (vs : Records). durable ++ vs) (take_at pending (w ∷ []) (length pending) refl)
 
--- a torn write leaves what stands in front of it
-torn_front : (at : ℕ) (bytes old new : List ℕ) → IsTorn at bytes old new → length old ≡ at → take at new ≡ old
-torn_front at bytes old new torn long =
-    let room : at ≤ length new = omega (arith, torn.longer) in
-    ext_get_or 0 (take at new) old (length-take-le at new room ∙ sym long) (λ i less.
-    (let inside : i < at = omega (arith, length-take-le at new room) in
-    get_or-take at new i 0 inside ∙ torn.outside i (omega arith) (inl inside)))
-
 -- after a refused write the file can be shortened
 pub torn_can_shorten : (log : AppendFile) (durable pending : Records) (bytes frame : List ℕ) (d : Disk) (file : File) (content : List ℕ) → IsOpen log durable pending d → IsFrame frame bytes
     → d.files log.handle.file ≡ Some file → IsTorn log.written frame file.content content
@@ -140,6 +132,7 @@ torn_can_shorten log durable pending bytes frame d file content opened is_frame 
     let at : log.written ≡ 0 + length (spelled all) = omega (arith, opened.written) in
     let change : Wrote log.written frame ≡ Wrote (0 + length (spelled all)) w.bytes = λ i. Wrote (at i) (is_bytes i) in
     let was : file.content ≡ spelled all = ap (λ (f : File). f.content) (sym same) ∙ opened.content in
+    let long : length file.content ≡ log.written = ap length was ∙ sym opened.written in
     let front = front_records durable pending w in
     let before = subst (λ (f : File). HoldsChain IsFrame 0 [] durable pending f) same opened.holds in
     let holds = holds_written IsFrame 0 [] durable pending w content file (is_frame.0, refl) before in
@@ -150,7 +143,7 @@ torn_can_shorten log durable pending bytes frame d file content opened is_frame 
       has = record {
         holds = subst (λ (p : Change). HoldsChain IsFrame 0 [] durable (pending ++ w ∷ []) (with_change p content file)) (sym change) holds;
         within = omega (arith, length-append pending (w ∷ []));
-        front = torn_front log.written frame file.content content torn (ap length was ∙ sym opened.written) ∙ was ∙ ap spelled (sym front);
+        front = torn_front log.written frame file.content content torn (omega (arith, long)) ∙ take_all log.written file.content (omega (arith, long)) ∙ was ∙ ap spelled (sym front);
         end = from_zero _ _ (opened.written ∙ ap (λ (vs : Records). length (spelled vs)) (sym front));
       };
     }

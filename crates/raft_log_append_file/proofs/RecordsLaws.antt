@@ -1,13 +1,14 @@
 -- What is read back of a file of records.
-use Rattle.std.proofs.Common.{◌≡◌, ℕ, ◌≤◌, Option, Some, None, List, [], ◌++◌, length, take, refl, sym, ◌∙◌, ap, subst}
+use Rattle.std.proofs.Common.{◌≡◌, ℕ, ◌≤◌, Some, List, [], ◌++◌, length, take, sym, ◌∙◌, ap, subst}
 use Rattle.std.proofs.lemmas.List.{append-nil, map-append, take-map}
 use Rattle.std.proofs.Math.Seq.{take-nil}
 use Rattle.raft_log_disk.specs.Disk.{File, Disk}
-use Rattle.raft_log_disk.specs.Image.{IsFileImage, IsImage, IsLeft}
+use Rattle.raft_log_disk.specs.Image.{IsImage, IsLeft}
 use Rattle.raft_log_disk.specs.Chains.{Written, Reads, spelled}
 use Rattle.raft_log_disk.specs.KeepsSynced.{kept_records}
 use Rattle.raft_log_disk.proofs.ChainLaws.{nothing_refuses, reads_unique}
 use Rattle.raft_log_disk.proofs.KeepsSyncedLaws.{left_of_image, durable_is_read}
+use Rattle.raft_log_disk.proofs.LogQueueLaws.{image_there}
 use Rattle.raft_log_append_file.specs.Frame.{IsFrame, Records, values}
 use Rattle.raft_log_append_file.specs.Keeping.{IsKept, NoChanceNow, NoChanceLeft, AreReadBack, BeginWithDurable}
 use Rattle.raft_log_append_file.specs.AppendFile.{IsOpen}
@@ -39,14 +40,6 @@ pub kept_of_kept : (durable pending : Records) (count : ℕ) (found : List (List
 kept_of_kept durable pending count found within (more, few, same) =
     let ws = values (kept_records durable pending count) in
     (count, within, same ∙ ap (λ (vs : List (List ℕ)). ws ++ vs) (take-nil more) ∙ append-nil ws ∙ kept_values durable pending count)
-
--- a file that is there is there after a restart
-pub image_there : (d image : Disk) (id : ℕ) (file : File) → IsImage d image → d.files id ≡ Some file → (after : File) × (image.files id ≡ Some after)
-image_there d image id file is here = there (image.files id) (subst (λ (o : Option File). IsFileImage o (image.files id)) here (is.files id))
-  where
-    there : (o : Option File) → IsFileImage (Some file) o → (after : File) × (o ≡ Some after)
-    there None none = absurd none
-    there (Some after) left = (after, refl)
 
 -- what is kept in place, of what a stop left, is kept of what stood before
 pub kept_after_stop : (id : ℕ) (durable pending : Records) (before image : Disk) (found : List (List ℕ)) → IsKept id durable pending before → IsImage before image → NoChanceLeft id before image

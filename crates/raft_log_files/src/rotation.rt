@@ -16,27 +16,29 @@ use std::io::ErrorKind;
 
 /// Goes on in a file that is made for the next number.
 pub fn rotate_to_new<G: PipeFormat, F: FileSystem, L: Log>(
+    layout: &G,
     rt: &L,
     file_system: &mut F,
     writer: &mut LogFileWriter,
     path: &str,
     header: &[u8],
 ) -> Result<(), ErrorKind>
-    ensures ok { OnOk result (RotatesToNew G.format G.own header.now path.now writer.old writer.new
+    ensures ok { OnOk result (RotatesToNew (G.format layout.now) (G.own layout.now) header.now path.now writer.old writer.new
         (F.disk file_system.old) (F.disk file_system.new)) }
-    ensures err { OnErr result (FailsToRotateToNew G.format G.own header.now path.now writer.old
+    ensures err { OnErr result (FailsToRotateToNew (G.format layout.now) (G.own layout.now) header.now path.now writer.old
         (F.disk file_system.old) (F.disk file_system.new)) }
     ensures later { IsLater (F.disk file_system.old) (F.disk file_system.new) }
 {
-    finish_file::<G, F>(file_system, writer)?;
+    finish_file(layout, file_system, writer)?;
     let handle = file_system.create(path)?;
-    *writer = begin_file::<G, F, L>(rt, file_system, handle, header)?;
+    *writer = begin_file(layout, rt, file_system, handle, header)?;
     Ok(())
 }
 
 /// Goes on in a file that was kept for use, under the next number. The handle is the file's, opened to
 /// write before the call: nothing that may want memory comes between the calls that change something.
 pub fn rotate_over<G: PipeFormat, F: FileSystem, L: Log>(
+    layout: &G,
     rt: &L,
     file_system: &mut F,
     writer: &mut LogFileWriter,
@@ -46,28 +48,29 @@ pub fn rotate_over<G: PipeFormat, F: FileSystem, L: Log>(
     header: &[u8],
 ) -> Result<(), ErrorKind>
     ensures ok { OnOk result
-        (RotatesOver G.format G.own header.now handle from.now to.now writer.old writer.new
+        (RotatesOver (G.format layout.now) (G.own layout.now) header.now handle from.now to.now writer.old writer.new
         (F.disk file_system.old) (F.disk file_system.new)) }
     ensures err { OnErr result
-        (FailsToRotateOver G.format G.own header.now handle from.now to.now writer.old
+        (FailsToRotateOver (G.format layout.now) (G.own layout.now) header.now handle from.now to.now writer.old
         (F.disk file_system.old) (F.disk file_system.new)) }
     ensures later { IsLater (F.disk file_system.old) (F.disk file_system.new) }
 {
-    finish_file::<G, F>(file_system, writer)?;
+    finish_file(layout, file_system, writer)?;
     file_system.reuse(from, to)?;
-    *writer = begin_file::<G, F, L>(rt, file_system, handle, header)?;
+    *writer = begin_file(layout, rt, file_system, handle, header)?;
     Ok(())
 }
 
 /// Drops a file that the queue doesn't need any more: an earlier one, or one that was kept for use.
 pub fn drop_file<G: PipeFormat, F: FileSystem>(
+    layout: &G,
     file_system: &mut F,
     path: &str,
 ) -> Result<(), ErrorKind>
     ensures ok { OnOk result
-        (Drops G.format G.own path.now (F.disk file_system.old) (F.disk file_system.new)) }
+        (Drops (G.format layout.now) (G.own layout.now) path.now (F.disk file_system.old) (F.disk file_system.new)) }
     ensures err { OnErr result
-        (FailsToDrop G.format G.own path.now (F.disk file_system.old) (F.disk file_system.new)) }
+        (FailsToDrop (G.format layout.now) (G.own layout.now) path.now (F.disk file_system.old) (F.disk file_system.new)) }
     ensures refusal { IfErr result (λ error. FailsToDelete path.now error
         (F.disk file_system.old) (F.disk file_system.new)) }
     ensures later { IsLater (F.disk file_system.old) (F.disk file_system.new) }

@@ -1,0 +1,67 @@
+-- What stands of a pipe after each of its calls, answered and refused.
+use Rattle.std.specs.Prelude.{◌≡◌, ℕ, ◌≤◌, ◌^◌, List, [], ◌∷◌, ◌++◌, length, drop, suc}
+use Rattle.std.specs.declared.io.ErrorKind.{ErrorKind}
+use Rattle.raft_log_disk.specs.Disk.{File, Disk}
+use Rattle.raft_log_disk.specs.Causes.{Fails}
+use Rattle.raft_log_disk.specs.Chains.{Written}
+use Rattle.raft_log_disk.specs.LogFormat.{Format}
+use Rattle.raft_log_disk.specs.LogQueue.{LogFiles, rotated}
+use Rattle.raft_log_disk.specs.Touching.{HasFile}
+use Rattle.raft_log_base.specs.declared.errors.Error.{Error}
+use Rattle.raft_log_base.specs.declared.errors.Error.TheVariants as errors
+use Rattle.raft_log_format.specs.declared.header.LogFileFormat.{LogFileFormat}
+use Rattle.raft_log_file_queue.specs.Queue.{with_room}
+use Rattle.raft_log_file_queue.specs.Bridge.{GapsStay}
+use Rattle.raft_log_files.specs.Layout.{FilePaths}
+use Rattle.raft_log_files.specs.Rotation.{IsLeftTurned, StaysBehind}
+use Rattle.raft_log_pipes.specs.Files.{Listed, IsPipe}
+use Rattle.raft_log_pipes.specs.declared.pipe_files.PipeFiles.{PipeFiles}
+
+-- the same files, listed alike
+pub record SameFiles (before after : PipeFiles) : Type 0 where
+  pub first : after.first_seq ≡ before.first_seq
+  pub earlier : after.earlier.items ≡ before.earlier.items
+  pub active : after.active ≡ before.active
+  pub writer : after.writer ≡ before.writer
+  pub recycled : after.recycled.items ≡ before.recycled.items
+
+-- what the next file holds when it gets its number: what the oldest of the files kept for use does, or
+-- nothing where there is none
+abbrev pub IsStale : List Listed → Disk → List ℕ → Type 0
+IsStale [] d stale = stale ≡ []
+IsStale (f ∷ fs) d stale = HasFile f.handle.file (λ file. file.content ≡ stale) d
+
+-- The last file is one before the last now. The next one is written in this format; it was the oldest of
+-- the files kept for use, where there was one.
+pub record IsTurned (format : LogFileFormat) (before after : PipeFiles) : Type 0 where
+  pub first : after.first_seq ≡ before.first_seq
+  pub earlier : after.earlier.items ≡ before.earlier.items ++ before.active ∷ []
+  pub number : after.active.seq ≡ suc before.active.seq
+  pub format_is : after.active.format ≡ format
+  pub recycled : after.recycled.items ≡ drop 1 before.recycled.items
+
+-- a rotation: the queue goes on in the next file, and no gap is filled
+abbrev pub Rotates : {R : Type 0} → Format R → (List ℕ → Type 0) → FilePaths → List ℕ → PipeFiles → PipeFiles
+    → Disk → Disk → Type 0
+Rotates {R} F own paths header before after old new = (base : Disk) (q : LogFiles R)
+    → IsPipe F own paths base before q old
+    → (room : ℕ) × (stale : List ℕ) × IsStale before.recycled.items old stale
+    × IsPipe F own paths base after (with_room room (rotated header stale q)) new × GapsStay F q old new
+
+-- a rotation that a file call refused: what there was is held, and maybe a next file without records
+abbrev pub FailsToRotate : {R : Type 0} → Format R → (List ℕ → Type 0) → FilePaths → List ℕ → PipeFiles
+    → Disk → Disk → Type 0
+FailsToRotate {R} F own paths header before old new = (base : Disk) (q : LogFiles R)
+    → IsPipe F own paths base before q old
+    → (stale : List ℕ) × IsStale before.recycled.items old stale × StaysBehind F own base q header stale old new
+
+-- Why a rotation was refused, and what stands then: for want of memory, or as the numbers of files have run
+-- out, nothing was done; else a file call failed.
+abbrev pub RotationLeaves : {R : Type 0} → Format R → (List ℕ → Type 0) → FilePaths → List ℕ → PipeFiles
+    → PipeFiles → Error → Disk → Disk → Type 0
+RotationLeaves F own paths header before after errors.Memory old new = SameFiles before after × (new ≡ old)
+RotationLeaves F own paths header before after errors.NumberRange old new =
+    (10 ^ 16 ≤ suc before.active.seq) × SameFiles before after × (new ≡ old)
+RotationLeaves F own paths header before after errors.Failed old new =
+    FailsToRotate F own paths header before old new
+RotationLeaves F own paths header before after _ old new = ⊥

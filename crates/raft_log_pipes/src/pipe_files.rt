@@ -1,0 +1,25 @@
+//! The files of a pipe, as it keeps them in memory.
+
+ghost use Rattle.std.specs.Prelude.{◌<◌};
+ghost use Rattle.std.specs.VecDeque.{deque_len, deque_capacity};
+ghost use Rattle.raft_log_pipes.specs.Exits.{IsTurned};
+
+use raft_log_base::FileSeq;
+use raft_log_file::LogFileWriter;
+use raft_log_files::File;
+use std::collections::VecDeque;
+
+/// The files of a pipe: its span, whose last file is written to, and those that are kept for use.
+#[derive(Drop, Debug)]
+pub struct PipeFiles {
+    /// The number of the span's first file.
+    pub first_seq: FileSeq,
+    /// The files of the span before the last, in the order of their numbers.
+    pub earlier: VecDeque<File>,
+    /// The last file.
+    pub active: File,
+    /// What writes the last file.
+    pub writer: LogFileWriter,
+    /// The files that are kept for use, the oldest first.
+    pub recycled: VecDeque<File>,
+}

@@ -301,7 +301,7 @@ module _ {R : Type 0} (F : Format R) where
       stands = stands_deleted F own base lawful owns q path gone writer.handle.file id (IsActiveTo F writer.capacity q) N old sound can.mine can.apart (ap (λ (f : Names). f gone) (sym was.stands.names) ∙ there) was.stands;
     }
 
-    open_left : (base : Disk) (writer : LogFileWriter) (q : LogFiles R) (path : List ℕ) (N : Names) (d : Disk) → IsOpen F own base writer q path N d → IsLeft F own base q d
+    pub open_left : (base : Disk) (writer : LogFileWriter) (q : LogFiles R) (path : List ℕ) (N : Names) (d : Disk) → IsOpen F own base writer q path N d → IsLeft F own base q d
     open_left base writer q path N d is = record {
       path = path;
       id = writer.handle.file;

@@ -21,15 +21,15 @@ span_end paths N first last [] is = omega (arith, is)
 span_end paths N first last (f ∷ fs) (number, listed, named, rest) = (let ends = span_end paths N (suc first) last fs rest in omega (arith, ends))
 
 -- the span is there under other names too that are the same for its numbers
-pub span_moved : (paths : FilePaths) (N M : Names) (first last : ℕ) (fs : List Listed) → ((directory n : ℕ) → n < last → M (paths.numbered directory n) ≡ N (paths.numbered directory n)) → IsSpan paths N first fs last → IsSpan paths M first fs last
+pub span_moved : (paths : FilePaths) (N M : Names) (first last : ℕ) (fs : List Listed) → ((directory n : ℕ) → first ≤ n → n < last → M (paths.numbered directory n) ≡ N (paths.numbered directory n)) → IsSpan paths N first fs last → IsSpan paths M first fs last
 span_moved paths N M first last [] same is = is
 span_moved paths N M first last (f ∷ fs) same (number, listed, named, rest) =
     let ends = span_end paths N (suc first) last fs rest in
     let at = path_numbered paths f listed in (
       number,
       listed,
-      ap M at ∙ same f.path_id f.seq (omega (arith, ends, number)) ∙ ap N (sym at) ∙ named,
-      span_moved paths N M (suc first) last fs same rest,
+      ap M at ∙ same f.path_id f.seq (omega (arith, number)) (omega (arith, ends, number)) ∙ ap N (sym at) ∙ named,
+      span_moved paths N M (suc first) last fs (λ directory n from less. same directory n (omega (arith, from)) less) rest,
     )
 
 -- one more file behind it

@@ -1,5 +1,5 @@
 -- What stands of a pipe after each of its calls, answered and refused.
-use Rattle.std.specs.Prelude.{◌≡◌, ℕ, ◌≤◌, ◌^◌, List, [], ◌∷◌, ◌++◌, length, drop, suc}
+use Rattle.std.specs.Prelude.{◌≡◌, ◌⊎◌, true, None, ℕ, ◌≤◌, ◌^◌, List, [], ◌∷◌, ◌++◌, length, drop, suc}
 use Rattle.std.specs.declared.io.ErrorKind.{ErrorKind}
 use Rattle.raft_log_disk.specs.Disk.{File, Disk}
 use Rattle.raft_log_disk.specs.Causes.{Fails}
@@ -55,13 +55,21 @@ FailsToRotate {R} F own paths header before old new = (base : Disk) (q : LogFile
     → IsPipe F own paths base before q old
     → (stale : List ℕ) × IsStale before.recycled.items old stale × StaysBehind F own base q header stale old new
 
+-- why a file that is kept for use wasn't opened: for want of memory; or the file system has stopped, or no file
+-- has the path
+abbrev pub StaysClosed : List ℕ → Disk → Error → Type 0
+StaysClosed path d errors.Memory = Unit {0}
+StaysClosed path d errors.Failed = (d.stopped ≡ true) ⊎ (d.names path ≡ None)
+StaysClosed path d _ = ⊥
+
 -- Why a rotation was refused, and what stands then: for want of memory, or as the numbers of files have run
 -- out, nothing was done; else a file call failed.
 abbrev pub RotationLeaves : {R : Type 0} → Format R → (List ℕ → Type 0) → FilePaths → List ℕ → PipeFiles
     → PipeFiles → Error → Disk → Disk → Type 0
 RotationLeaves F own paths header before after errors.Memory old new = SameFiles before after × (new ≡ old)
-RotationLeaves F own paths header before after errors.NumberRange old new =
-    (10 ^ 16 ≤ suc before.active.seq) × SameFiles before after × (new ≡ old)
+RotationLeaves {R} F own paths header before after errors.NumberRange old new =
+    ((base : Disk) (q : LogFiles R) → IsPipe F own paths base before q old → 10 ^ 16 ≤ suc before.active.seq)
+    × SameFiles before after × (new ≡ old)
 RotationLeaves F own paths header before after errors.Failed old new =
     FailsToRotate F own paths header before old new
 RotationLeaves F own paths header before after _ old new = ⊥

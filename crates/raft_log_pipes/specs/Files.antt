@@ -1,5 +1,5 @@
 -- The files of a pipe, and how they stand on a disk.
-use Rattle.std.specs.Prelude.{◌≡◌, ℕ, ◌<◌, false, Some, List, [], ◌∷◌, suc}
+use Rattle.std.specs.Prelude.{◌≡◌, ℕ, ◌<◌, ◌^◌, false, Some, List, [], ◌∷◌, suc}
 use Rattle.raft_log_disk.specs.Disk.{File, Disk}
 use Rattle.raft_log_disk.specs.LogFormat.{Format}
 use Rattle.raft_log_disk.specs.LogQueue.{LogFiles}
@@ -34,6 +34,7 @@ pub record IsKept {R : Type 0} (F : Format R) (paths : FilePaths) (first : ℕ) 
     (f : Listed) : Type 0 where
   pub named : d.names (path_of paths f) ≡ Some f.handle.file
   pub below : f.reserved ≡ false → f.seq < first
+  pub small : f.seq < 10 ^ 16
   pub usable : HasFile f.handle.file (CanBeUsed F) d
 
 -- none of these files has the path

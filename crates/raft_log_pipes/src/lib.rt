@@ -7,6 +7,7 @@
 
 pub mod new_files;
 pub mod pipe_files;
+mod rotating;
 
 pub use new_files::NewFiles;
 pub use pipe_files::PipeFiles;

@@ -13,6 +13,8 @@ use Rattle.raft_log_disk.specs.Touching.{HasFile}
 use Rattle.raft_log_disk.specs.declared.handle.Handle.{Handle}
 use Rattle.raft_log_disk.specs.declared.handle.Permission.TheVariants.{ReadWrite}
 use Rattle.raft_log_disk.proofs.Updates.{name_here, name_apart}
+use Rattle.raft_log_base.specs.declared.errors.Error.{Error}
+use Rattle.raft_log_base.specs.declared.errors.Error.TheVariants as errors
 use Rattle.raft_log_format.specs.Header.{header_bytes, HasHeader}
 use Rattle.raft_log_file.specs.declared.writer.LogFileWriter.{LogFileWriter}
 use Rattle.raft_log_file_queue.specs.Queue.{with_room}
@@ -24,7 +26,7 @@ use Rattle.raft_log_files.specs.Rotation.{CanRotate, IsSpare, RotatesToNew, Fail
 use Rattle.raft_log_files.proofs.Rotating.{open_left}
 use Rattle.raft_log_pipes.specs.declared.pipe_files.PipeFiles.{PipeFiles}
 use Rattle.raft_log_pipes.specs.Files.{Listed, IsSpan, IsKept, NoneHas, AreKept, IsPipe}
-use Rattle.raft_log_pipes.specs.Exits.{SameFiles, IsStale, Rotates, FailsToRotate}
+use Rattle.raft_log_pipes.specs.Exits.{SameFiles, IsStale, Rotates, FailsToRotate, RotationLeaves, StaysClosed}
 use Rattle.raft_log_pipes.proofs.Lists.{path_numbered, span_end, span_moved, span_more, kept_moved, numbers_apart, kept_is_no_number, kept_is_own}
 
 -- the files are listed so after a rotation into this one
@@ -228,6 +230,48 @@ module _ {R : Type 0} (F : Format R) (own : List ℕ → Type 0) (paths : FilePa
         subst (λ (fs : List Listed). IsStale fs d usable.file.content) (sym list) (record { file = usable.file; is = usable.is; has = refl }),
         (cause, inl (open_left F own lawful.format lawful.owns base before.writer q (path_of paths before.active) d.names d is.active), λ m below none. none),
       )
+
+module _ {R : Type 0} (F : Format R) (own : List ℕ → Type 0) (paths : FilePaths) (lawful : IsLayout F own paths) where
+  -- the same by what was lent to the calls
+  pub same_files : (files : PipeFiles) → SameFiles files files
+  same_files files = record { first = refl; earlier = refl; active = refl; writer = refl; recycled = refl }
+
+  pub closed_leaves : (d : Disk) (before : PipeFiles) (kept : Listed) (path header : List ℕ) (error : Error) → path ≡ path_of paths kept → before.recycled.items ≡ kept ∷ drop 1 before.recycled.items → StaysClosed path d error
+      → RotationLeaves F own paths header before before error d d
+  closed_leaves d before kept path header errors.Memory is list why = (same_files before, refl)
+  closed_leaves d before kept path header errors.Failed is list why =
+      stays_closed F own paths lawful d before kept (drop 1 before.recycled.items) header list (subst (λ (p : List ℕ). (d.stopped ≡ true) ⊎ (d.names p ≡ None)) is why)
+  closed_leaves d before kept path header _ is list why = absurd why
+
+  pub over_refused : (old new : Disk) (before : PipeFiles) (kept next : Listed) (from to header lent : List ℕ) (handle : Handle) → from ≡ path_of paths kept → to ≡ path_of paths next → lent ≡ header → before.recycled.items ≡ kept ∷ drop 1 before.recycled.items
+      → IsOpened from ReadWrite handle old → IsNext next header before → FailsToRotateOver F own lent handle from to before.writer old new → FailsToRotate F own paths header before old new
+  over_refused old new before kept next from to header lent handle from_is to_is header_is list opened is_next fails =
+      stays_over F own paths lawful old new before kept next (drop 1 before.recycled.items) header handle before.writer refl list (subst (λ (p : List ℕ). IsOpened p ReadWrite handle old) from_is opened) is_next
+      (subst (λ (h : List ℕ). FailsToRotateOver F own h handle (path_of paths kept) (path_of paths next) before.writer old new) header_is
+      (subst (λ (p : List ℕ). FailsToRotateOver F own lent handle p (path_of paths next) before.writer old new) from_is
+      (subst (λ (p : List ℕ). FailsToRotateOver F own lent handle from p before.writer old new) to_is fails)))
+
+  pub over_done : (old new : Disk) (before after : PipeFiles) (kept next : Listed) (from to header lent : List ℕ) (handle : Handle) → IsSound old → IsSound new → from ≡ path_of paths kept → to ≡ path_of paths next → lent ≡ header
+      → before.recycled.items ≡ kept ∷ drop 1 before.recycled.items → IsOpened from ReadWrite handle old → IsNext next header before → next.handle.file ≡ handle.file → IsTurnedTo next before after
+      → RotatesOver F own lent handle from to before.writer after.writer old new → (old.names to ≡ None → FilesStay before.writer.handle.file handle.file old new) → Rotates F own paths header before after old new
+  over_done old new before after kept next from to header lent handle sound sound_then from_is to_is header_is list opened is_next itself turns rotates files =
+      goes_over F own paths lawful old new before after kept next (drop 1 before.recycled.items) header handle sound sound_then list (subst (λ (p : List ℕ). IsOpened p ReadWrite handle old) from_is opened) is_next itself turns
+      (subst (λ (h : List ℕ). RotatesOver F own h handle (path_of paths kept) (path_of paths next) before.writer after.writer old new) header_is
+      (subst (λ (p : List ℕ). RotatesOver F own lent handle p (path_of paths next) before.writer after.writer old new) from_is
+      (subst (λ (p : List ℕ). RotatesOver F own lent handle from p before.writer after.writer old new) to_is rotates)))
+      (λ fresh. files (ap old.names to_is ∙ fresh))
+
+  pub new_refused : (old new : Disk) (before : PipeFiles) (next : Listed) (to header lent : List ℕ) → to ≡ path_of paths next → lent ≡ header → before.recycled.items ≡ [] → IsNext next header before
+      → FailsToRotateToNew F own lent to before.writer old new → FailsToRotate F own paths header before old new
+  new_refused old new before next to header lent to_is header_is list is_next fails =
+      stays_new F own paths lawful old new before next header before.writer refl list is_next
+      (subst (λ (h : List ℕ). FailsToRotateToNew F own h (path_of paths next) before.writer old new) header_is (subst (λ (p : List ℕ). FailsToRotateToNew F own lent p before.writer old new) to_is fails))
+
+  pub new_done : (old new : Disk) (before after : PipeFiles) (next : Listed) (to header lent : List ℕ) (handle : Handle) → IsSound old → IsSound new → to ≡ path_of paths next → lent ≡ header → before.recycled.items ≡ [] → IsNext next header before
+      → next.handle.file ≡ handle.file → IsTurnedTo next before after → RotatesToNew F own lent to before.writer after.writer handle old new → FilesStay before.writer.handle.file handle.file old new → Rotates F own paths header before after old new
+  new_done old new before after next to header lent handle sound sound_then to_is header_is list is_next itself turns rotates files =
+      goes_new F own paths lawful old new before after next header handle sound sound_then list is_next itself turns
+      (subst (λ (h : List ℕ). RotatesToNew F own h (path_of paths next) before.writer after.writer handle old new) header_is (subst (λ (p : List ℕ). RotatesToNew F own lent p before.writer after.writer handle old new) to_is rotates)) files
 
 -- files that are listed alike stand alike
 pub pipe_same : {R : Type 0} (F : Format R) (own : List ℕ → Type 0) (paths : FilePaths) (base : Disk) (before after : PipeFiles) (q : LogFiles R) (d : Disk) → SameFiles before after → IsPipe F own paths base before q d → IsPipe F own paths base after q d

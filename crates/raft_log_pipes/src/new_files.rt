@@ -16,8 +16,7 @@ use std::io::ErrorKind;
 pub struct NewFiles {
     /// The format.
     pub format: LogFileFormat,
-    /// Its header.
-    pub header: Vec<u8>,
+    header: Vec<u8>,
     /// A file that is as long as this, in bytes, or longer gets no more records.
     pub target_size: usize,
     ghost has_header: { HasHeader format },
@@ -39,6 +38,14 @@ impl NewFiles {
             header,
             target_size,
         })
+    }
+
+    /// The header.
+    pub fn header(&self) -> &[u8]
+        ensures bytes { result.now ≡ header_bytes self.now.format }
+        ensures has { HasHeader self.now.format }
+    {
+        &self.header
     }
 }
 

@@ -5,6 +5,7 @@ ghost use Rattle.std.specs.VecDeque.{deque_len, deque_capacity};
 ghost use Rattle.raft_log_disk.specs.Causes.{IsLater};
 ghost use Rattle.raft_log_disk.specs.Reading.{IsOpened};
 ghost use Rattle.raft_log_disk.specs.declared.handle.Permission.TheVariants as permissions;
+ghost use Rattle.raft_log_format.specs.Header.{header_bytes};
 ghost use Rattle.raft_log_pipes.specs.Exits.{IsTurned, Rotates, RotationLeaves, StaysClosed};
 
 use crate::new_files::{NewFiles, choose_directory};
@@ -44,13 +45,14 @@ fn go_over<G: PipeFormat, F: FileSystem, L: Log>(
     requires oldest { files.old.recycled.items ≡ kept ∷ drop 1 files.old.recycled.items }
     requires number { seq ≡ suc files.old.active.seq }
     ensures ok { OnOk result (Rotates (G.format layout.now) (G.own layout.now) (G.file_paths layout.now)
-        new_files.now.header.items files.old files.new (F.disk file_system.old) (F.disk file_system.new)) }
+        (header_bytes new_files.now.format) files.old files.new (F.disk file_system.old) (F.disk file_system.new)) }
     ensures turned { OnOk result (IsTurned new_files.now.format files.old files.new) }
     ensures err { IfErr result (λ error. RotationLeaves (G.format layout.now) (G.own layout.now)
-        (G.file_paths layout.now) new_files.now.header.items files.old files.new error
+        (G.file_paths layout.now) (header_bytes new_files.now.format) files.old files.new error
         (F.disk file_system.old) (F.disk file_system.new)) }
     ensures later { IsLater (F.disk file_system.old) (F.disk file_system.new) }
 {
+    let header = new_files.header();
     let next = File {
         seq,
         handle: kept.handle,
@@ -69,7 +71,7 @@ fn go_over<G: PipeFormat, F: FileSystem, L: Log>(
         handle,
         &from,
         &to,
-        &new_files.header,
+        header,
     ) {
         error!(rt; "log file {seq} wasn't begun over {from}: {kind}");
         return Err(Error::Failed);

@@ -1,4 +1,6 @@
 -- A rotation of a pipe: the queue's next file is its last one, and all other files are where they were.
+use Rattle.std.specs.Prelude.{Result, Ok, Err}
+use Rattle.std.specs.Result.{IfErr, OnOk}
 use Rattle.std.specs.Map.{update}
 use Rattle.std.specs.Str.{bytes_eq}
 use Rattle.std.proofs.Common.{◌≡◌, ◌⊎◌, inl, inr, true, ℕ, ◌<◌, ◌≤◌, ◌^◌, suc, Some, None, List, [], ◌∷◌, ◌++◌, drop, false, refl, sym, ◌∙◌, ap, subst, arith}
@@ -15,6 +17,7 @@ use Rattle.raft_log_disk.specs.declared.handle.Permission.TheVariants.{ReadWrite
 use Rattle.raft_log_disk.proofs.Updates.{name_here, name_apart}
 use Rattle.raft_log_base.specs.declared.errors.Error.{Error}
 use Rattle.raft_log_base.specs.declared.errors.Error.TheVariants as errors
+use Rattle.raft_log_format.specs.declared.header.LogFileFormat.{LogFileFormat}
 use Rattle.raft_log_format.specs.Header.{header_bytes, HasHeader}
 use Rattle.raft_log_file.specs.declared.writer.LogFileWriter.{LogFileWriter}
 use Rattle.raft_log_file_queue.specs.Queue.{with_room}
@@ -26,7 +29,7 @@ use Rattle.raft_log_files.specs.Rotation.{CanRotate, IsSpare, RotatesToNew, Fail
 use Rattle.raft_log_files.proofs.Rotating.{open_left}
 use Rattle.raft_log_pipes.specs.declared.pipe_files.PipeFiles.{PipeFiles}
 use Rattle.raft_log_pipes.specs.Files.{Listed, IsSpan, IsKept, NoneHas, AreKept, IsPipe}
-use Rattle.raft_log_pipes.specs.Exits.{SameFiles, IsStale, Rotates, FailsToRotate, RotationLeaves, StaysClosed}
+use Rattle.raft_log_pipes.specs.Exits.{SameFiles, IsTurned, IsStale, Rotates, FailsToRotate, RotationLeaves, StaysClosed}
 use Rattle.raft_log_pipes.proofs.Lists.{path_numbered, span_end, span_moved, span_more, kept_moved, numbers_apart, kept_is_no_number, kept_is_own}
 
 -- the files are listed so after a rotation into this one
@@ -284,3 +287,53 @@ pipe_same F own paths base before after q d same is = record {
   span = subst (λ (n : ℕ). IsSpan paths d.names n after.earlier.items q.last) (sym same.first) (subst (λ (fs : List Listed). IsSpan paths d.names before.first_seq fs q.last) (sym same.earlier) is.span);
   kept = subst (λ (n : ℕ). AreKept F paths n d after.recycled.items) (sym same.first) (subst (AreKept F paths before.first_seq d) (sym same.recycled) is.kept);
 }
+
+module _ {R : Type 0} (F : Format R) (own : List ℕ → Type 0) (paths : FilePaths) where
+  -- what a rotation makes of files that are listed alike
+  pub rotates_same : (header : List ℕ) (before like after : PipeFiles) (old new : Disk) → SameFiles before like → Rotates F own paths header like after old new → Rotates F own paths header before after old new
+  rotates_same header before like after old new same rotates base q is =
+      let (room, stale, holds, stands, gaps) = rotates base q (pipe_same F own paths base before like q old same is) in
+      (room, stale, subst (λ (fs : List Listed). IsStale fs old stale) same.recycled holds, stands, gaps)
+
+  pub turned_same : (format : LogFileFormat) (before like after : PipeFiles) → SameFiles before like → IsTurned format like after → IsTurned format before after
+  turned_same format before like after same turns = record {
+    first = turns.first ∙ same.first;
+    earlier = turns.earlier ∙ ap (λ (fs : List Listed). fs ++ like.active ∷ []) same.earlier ∙ ap (λ (f : Listed). before.earlier.items ++ f ∷ []) same.active;
+    number = turns.number ∙ ap (λ (f : Listed). suc f.seq) same.active;
+    format_is = turns.format_is;
+    recycled = turns.recycled ∙ ap (drop 1) same.recycled;
+  }
+
+  pub same_then : (a b c : PipeFiles) → SameFiles a b → SameFiles b c → SameFiles a c
+  same_then a b c first next = record {
+    first = next.first ∙ first.first;
+    earlier = next.earlier ∙ first.earlier;
+    active = next.active ∙ first.active;
+    writer = next.writer ∙ first.writer;
+    recycled = next.recycled ∙ first.recycled;
+  }
+
+  pub leaves_same : (header : List ℕ) (before like after : PipeFiles) (error : Error) (old new : Disk) → SameFiles before like → RotationLeaves F own paths header like after error old new → RotationLeaves F own paths header before after error old new
+  leaves_same header before like after errors.Memory old new same (then, is) = (same_then before like after same then, is)
+  leaves_same header before like after errors.NumberRange old new same (out, then, is) = (
+    λ base q pipe. (let past = out base q (pipe_same F own paths base before like q old same pipe) in let active = ap (λ (f : Listed). f.seq) same.active in omega (arith, past, active)),
+    same_then before like after same then,
+    is,
+  )
+  leaves_same header before like after errors.Failed old new same fails =
+      λ base q pipe. (let (stale, holds, left) = fails base q (pipe_same F own paths base before like q old same pipe) in (stale, subst (λ (fs : List Listed). IsStale fs old stale) same.recycled holds, left))
+  leaves_same header before like after _ old new same left = absurd left
+
+  -- of an answer
+  pub rotates_either : (result : Result (Unit {0}) Error) (header : List ℕ) (before like after : PipeFiles) (old new : Disk) → SameFiles before like → OnOk result (Rotates F own paths header like after old new) → OnOk result (Rotates F own paths header before after old new)
+  rotates_either (Ok v) header before like after old new same is = rotates_same header before like after old new same is
+  rotates_either (Err e) header before like after old new same is = tt
+
+  pub turned_either : (result : Result (Unit {0}) Error) (format : LogFileFormat) (before like after : PipeFiles) → SameFiles before like → OnOk result (IsTurned format like after) → OnOk result (IsTurned format before after)
+  turned_either (Ok v) format before like after same is = turned_same format before like after same is
+  turned_either (Err e) format before like after same is = tt
+
+  pub leaves_either : (result : Result (Unit {0}) Error) (header : List ℕ) (before like after : PipeFiles) (old new : Disk) → SameFiles before like → IfErr result (λ e. RotationLeaves F own paths header like after e old new)
+      → IfErr result (λ e. RotationLeaves F own paths header before after e old new)
+  leaves_either (Ok v) header before like after old new same is = tt
+  leaves_either (Err e) header before like after old new same is = leaves_same header before like after e old new same is

@@ -10,10 +10,12 @@ use Rattle.raft_log_disk.specs.Touching.{HasFile}
 use Rattle.raft_log_base.specs.declared.errors.Error.{Error}
 use Rattle.raft_log_base.specs.declared.errors.Error.TheVariants as errors
 use Rattle.raft_log_format.specs.declared.header.LogFileFormat.{LogFileFormat}
-use Rattle.raft_log_file_queue.specs.Queue.{with_room}
+use Rattle.raft_log_file_queue.specs.Queue.{whole, with_more, with_room, settled}
 use Rattle.raft_log_file_queue.specs.Bridge.{GapsStay}
 use Rattle.raft_log_files.specs.Layout.{FilePaths}
-use Rattle.raft_log_files.specs.Rotation.{IsLeftTurned, StaysBehind}
+use Rattle.raft_log_files.specs.Rotation.{IsLeft, StaysBehind}
+use Rattle.raft_log_files.specs.declared.last_file.WriteFault.{WriteFault}
+use Rattle.raft_log_files.specs.declared.last_file.WriteFault.TheVariants.{CutBack, Failed}
 use Rattle.raft_log_pipes.specs.Files.{Listed, IsPipe}
 use Rattle.raft_log_pipes.specs.declared.pipe_files.PipeFiles.{PipeFiles}
 
@@ -73,3 +75,34 @@ RotationLeaves {R} F own paths header before after errors.NumberRange old new =
 RotationLeaves F own paths header before after errors.Failed old new =
     FailsToRotate F own paths header before old new
 RotationLeaves F own paths header before after _ old new = ⊥
+
+-- a record of these bytes was written at this place of the last file, behind the others (and maybe room was
+-- made)
+abbrev pub Adds : {R : Type 0} → Format R → (List ℕ → Type 0) → FilePaths → List ℕ → ℕ → PipeFiles → PipeFiles
+    → Disk → Disk → Type 0
+Adds {R} F own paths bytes at before after old new = (base : Disk) (q : LogFiles R) (w : Written R)
+    → F.IsFrame q.last q.header w.bytes w.value → w.bytes ≡ bytes → IsPipe F own paths base before q old
+    → (at ≡ length (whole q))
+    × ((room : ℕ) × IsPipe F own paths base after (with_more (w ∷ []) (with_room room q)) new)
+
+-- What stands where it was refused: it was cut off again, and all records before it are durable. Or that was
+-- refused too: then it may be there, and counts as the last one that isn't synced.
+abbrev pub AddLeaves : {R : Type 0} → Format R → (List ℕ → Type 0) → FilePaths → WriteFault → Disk → Written R
+    → LogFiles R → PipeFiles → Disk → Type 0
+AddLeaves F own paths (CutBack kind) base w q after new = IsPipe F own paths base after (settled q) new
+AddLeaves F own paths (Failed kind) base w q after new = (room : ℕ)
+    × IsLeft F own base (with_more (w ∷ []) (with_room room q)) new
+
+-- either way a file call failed
+abbrev pub FailsToAdd : {R : Type 0} → Format R → (List ℕ → Type 0) → FilePaths → List ℕ → WriteFault → PipeFiles
+    → PipeFiles → Disk → Disk → Type 0
+FailsToAdd {R} F own paths bytes fault before after old new = (base : Disk) (q : LogFiles R) (w : Written R)
+    → F.IsFrame q.last q.header w.bytes w.value → w.bytes ≡ bytes → IsPipe F own paths base before q old
+    → Fails old new × AddLeaves F own paths fault base w q after new
+
+-- the same files, listed alike, but for what the writer of the last one counts
+pub record SameLists (before after : PipeFiles) : Type 0 where
+  pub first : after.first_seq ≡ before.first_seq
+  pub earlier : after.earlier.items ≡ before.earlier.items
+  pub active : after.active ≡ before.active
+  pub recycled : after.recycled.items ≡ before.recycled.items

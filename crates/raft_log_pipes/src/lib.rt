@@ -8,6 +8,7 @@
 pub mod new_files;
 pub mod pipe_files;
 mod rotating;
+mod writing;
 
 pub use new_files::NewFiles;
 pub use pipe_files::PipeFiles;

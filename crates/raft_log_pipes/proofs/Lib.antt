@@ -1,3 +1,4 @@
 pub mod Lists
 pub mod Turning
 pub mod Adding
+pub mod Contexts

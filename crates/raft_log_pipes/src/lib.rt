@@ -5,10 +5,13 @@
 //! something, and what is refused for it leaves pipe and disk as they were.
 #![tactic(auto)]
 
+mod appending;
 pub mod new_files;
 pub mod pipe_files;
+pub mod reactive_bytes;
 mod rotating;
 mod writing;
 
 pub use new_files::NewFiles;
 pub use pipe_files::PipeFiles;
+pub use reactive_bytes::ReactiveBytes;

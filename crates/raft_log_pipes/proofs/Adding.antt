@@ -1,6 +1,7 @@
 -- A record that is written to the last file of a pipe: all other files are where they were.
 use Rattle.std.specs.Prelude.{Result, Ok, Err}
-use Rattle.std.specs.Result.{IfErr, OnOk}
+use Rattle.std.specs.Result.{IfErr, OnOk, OnErr}
+use Rattle.std.specs.declared.io.ErrorKind.{ErrorKind}
 use Rattle.std.proofs.Common.{◌≡◌, ℕ, ◌≤◌, suc, Some, List, [], ◌∷◌, refl, sym, ◌∙◌, ap, subst, arith}
 use Rattle.raft_log_disk.specs.Disk.{File, Disk}
 use Rattle.raft_log_disk.specs.Image.{IsSound}
@@ -10,15 +11,15 @@ use Rattle.raft_log_disk.specs.LogQueue.{LogFiles}
 use Rattle.raft_log_disk.specs.Touching.{HasFile, TouchesOnly}
 use Rattle.raft_log_format.specs.Header.{header_bytes}
 use Rattle.raft_log_file.specs.declared.writer.LogFileWriter.{LogFileWriter}
-use Rattle.raft_log_file_queue.specs.Queue.{whole, with_more, with_room, settled}
+use Rattle.raft_log_file_queue.specs.Queue.{whole, with_more, with_room, settled, synced}
 use Rattle.raft_log_file_queue.specs.Standing.{Names}
 use Rattle.raft_log_files.specs.Layout.{FilePaths, IsLayout, path_of}
-use Rattle.raft_log_files.specs.Exits.{IsOpen, Appends, FailsToAppend}
+use Rattle.raft_log_files.specs.Exits.{IsOpen, Appends, FailsToAppend, SyncsAll, FailsToSyncAll}
 use Rattle.raft_log_files.specs.declared.last_file.WriteFault.{WriteFault}
 use Rattle.raft_log_files.specs.declared.last_file.WriteFault.TheVariants.{CutBack, Failed}
 use Rattle.raft_log_pipes.specs.declared.pipe_files.PipeFiles.{PipeFiles}
 use Rattle.raft_log_pipes.specs.Files.{Listed, IsSpan, IsKept, AreKept, IsPipe}
-use Rattle.raft_log_pipes.specs.Exits.{Adds, FailsToAdd}
+use Rattle.raft_log_pipes.specs.Exits.{Adds, FailsToAdd, SyncsPipe, FailsToSyncPipe}
 use Rattle.raft_log_pipes.proofs.Lists.{span_end, span_moved, kept_all, kept_is_no_number}
 
 module _ {R : Type 0} (F : Format R) (own : List ℕ → Type 0) (paths : FilePaths) (lawful : IsLayout F own paths) where
@@ -69,3 +70,11 @@ module _ {R : Type 0} (F : Format R) (own : List ℕ → Type 0) (paths : FilePa
   fails_to_add old new before after bytes (Failed kind) sound fails only first earlier active recycled base q w framed spelled is =
       let (cause, (room, held)) = fails base q w (path_of paths before.active) old.names framed spelled is.active in
       (cause, (room, record { path = path_of paths before.active; id = before.writer.handle.file; N = old.names; stands = held }))
+
+  pub syncs_either : (result : Result (Unit {0}) ErrorKind) (old new : Disk) (files : PipeFiles) → IsSound old → OnOk result (SyncsAll F own files.writer old new) → TouchesOnly files.writer.handle.file old new → OnOk result (SyncsPipe F own paths files old new)
+  syncs_either (Ok v) old new files sound syncs only = λ base q is. pipe_touched base old new files files q (synced q) sound is only (syncs base q (path_of paths files.active) old.names is.active) refl refl refl refl refl refl
+  syncs_either (Err e) old new files sound syncs only = tt
+
+  pub fails_either : (result : Result (Unit {0}) ErrorKind) (old new : Disk) (files : PipeFiles) → OnErr result (FailsToSyncAll F own files.writer old new) → OnErr result (FailsToSyncPipe F own paths files old new)
+  fails_either (Ok v) old new files fails = tt
+  fails_either (Err e) old new files fails = λ base q is. (let (cause, held) = fails base q (path_of paths files.active) old.names is.active in (cause, record { path = path_of paths files.active; id = files.writer.handle.file; N = old.names; stands = held }))

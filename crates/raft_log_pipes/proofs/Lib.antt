@@ -2,3 +2,4 @@ pub mod Lists
 pub mod Turning
 pub mod Adding
 pub mod Contexts
+pub mod Dropping

@@ -10,7 +10,7 @@ use Rattle.raft_log_disk.specs.Touching.{HasFile}
 use Rattle.raft_log_base.specs.declared.errors.Error.{Error}
 use Rattle.raft_log_base.specs.declared.errors.Error.TheVariants as errors
 use Rattle.raft_log_format.specs.declared.header.LogFileFormat.{LogFileFormat}
-use Rattle.raft_log_file_queue.specs.Queue.{whole, with_more, with_room, settled}
+use Rattle.raft_log_file_queue.specs.Queue.{whole, with_more, with_room, settled, synced}
 use Rattle.raft_log_file_queue.specs.Bridge.{GapsStay}
 use Rattle.raft_log_files.specs.Layout.{FilePaths}
 use Rattle.raft_log_files.specs.Rotation.{IsLeft, StaysBehind}
@@ -106,3 +106,15 @@ pub record SameLists (before after : PipeFiles) : Type 0 where
   pub earlier : after.earlier.items ≡ before.earlier.items
   pub active : after.active ≡ before.active
   pub recycled : after.recycled.items ≡ before.recycled.items
+
+-- all records were synced
+abbrev pub SyncsPipe : {R : Type 0} → Format R → (List ℕ → Type 0) → FilePaths → PipeFiles → Disk → Disk
+    → Type 0
+SyncsPipe {R} F own paths files old new = (base : Disk) (q : LogFiles R) → IsPipe F own paths base files q old
+    → IsPipe F own paths base files (synced q) new
+
+-- they weren't: a file call failed, and the records are held
+abbrev pub FailsToSyncPipe : {R : Type 0} → Format R → (List ℕ → Type 0) → FilePaths → PipeFiles → Disk → Disk
+    → Type 0
+FailsToSyncPipe {R} F own paths files old new = (base : Disk) (q : LogFiles R)
+    → IsPipe F own paths base files q old → Fails old new × IsLeft F own base q new

@@ -10,8 +10,10 @@ pub mod new_files;
 pub mod pipe_files;
 pub mod reactive_bytes;
 mod rotating;
+pub mod single_pipe;
 mod writing;
 
 pub use new_files::NewFiles;
 pub use pipe_files::PipeFiles;
 pub use reactive_bytes::ReactiveBytes;
+pub use single_pipe::{PipeSettings, SinglePipe};

@@ -5,12 +5,13 @@ ghost use Rattle.raft_log_disk.specs.Causes.{IsLater};
 ghost use Rattle.raft_log_disk.specs.Exits.{FailsToSync, Syncs};
 ghost use Rattle.raft_log_file.specs.Writer.{WritesNext};
 ghost use Rattle.raft_log_files.specs.Exits.{AppendMakes};
-ghost use Rattle.raft_log_pipes.specs.Exits.{Adds, FailsToAdd, SameLists};
+ghost use Rattle.raft_log_pipes.specs.Exits.{Adds, FailsToAdd, FailsToSyncPipe, SameLists, SyncsPipe};
 
 use crate::pipe_files::PipeFiles;
 use log::Log;
 use raft_log_disk::FileSystem;
-use raft_log_files::{PipeFormat, WriteFault, append_record};
+use raft_log_files::{PipeFormat, WriteFault, append_record, sync_records};
+use std::io::ErrorKind;
 
 /// Writes a record behind the others of the last file, and answers its place, in bytes from the file's
 /// front on. Where the write is refused, the file is cut back to what was written before, and synced.
@@ -47,4 +48,23 @@ pub fn add<G: PipeFormat, F: FileSystem, L: Log>(
         target_size,
     )?;
     Ok(at)
+}
+
+/// Makes all records durable.
+pub fn sync<G: PipeFormat, F: FileSystem>(
+    layout: &G,
+    file_system: &mut F,
+    files: &PipeFiles,
+) -> Result<(), ErrorKind>
+    ensures ok { OnOk result (SyncsPipe (G.format layout.now) (G.own layout.now) (G.file_paths layout.now)
+        files.now (F.disk file_system.old) (F.disk file_system.new)) }
+    ensures err { OnErr result (FailsToSyncPipe (G.format layout.now) (G.own layout.now)
+        (G.file_paths layout.now) files.now (F.disk file_system.old) (F.disk file_system.new)) }
+    ensures calls { OnOk result
+        (Syncs files.now.writer.handle (F.disk file_system.old) (F.disk file_system.new)) }
+    ensures refusal { IfErr result (λ error. FailsToSync files.now.writer.handle error
+        (F.disk file_system.old) (F.disk file_system.new)) }
+    ensures later { IsLater (F.disk file_system.old) (F.disk file_system.new) }
+{
+    sync_records(layout, file_system, &files.writer)
 }

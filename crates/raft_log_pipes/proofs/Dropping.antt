@@ -1,12 +1,23 @@
 -- Files that leave a pipe's span, and those that are dropped.
+use Rattle.std.specs.Prelude.{Result, Ok, Err}
+use Rattle.std.specs.declared.io.ErrorKind.{ErrorKind}
+use Rattle.std.specs.String.{string_bytes}
+use Rattle.std.specs.Global.{Global}
 use Rattle.std.specs.Map.{update}
 use Rattle.std.specs.Str.{bytes_eq}
-use Rattle.std.proofs.Common.{◌≡◌, ℕ, ◌+◌, ◌-◌, ◌<◌, ◌≤◌, suc, Some, None, List, [], ◌∷◌, ◌++◌, length, drop, take, false, true, refl, sym, ◌∙◌, ap, subst, inl, inr, arith}
+use Rattle.std.proofs.Common.{◌≡◌, ℕ, ◌+◌, ◌-◌, ◌<◌, ◌≤◌, suc, Some, None, List, [], ◌∷◌, ◌++◌, length, drop, take, map, get_or, String, zero, false, true, refl, sym, ◌∙◌, ap, subst, inl, inr, arith}
 use Rattle.raft_log_disk.specs.Disk.{File, Disk, at_rest}
+use Rattle.std.proofs.lemmas.List.{length-map}
+use Rattle.raft_log_disk.specs.Arguments.{WrongName}
+use Rattle.raft_log_disk.specs.Calls.{deleted}
+use Rattle.raft_log_disk.specs.Causes.{Fails, IsLater}
+use Rattle.raft_log_disk.specs.Exits.{FailsToDelete}
 use Rattle.raft_log_disk.specs.Image.{IsSound}
 use Rattle.raft_log_disk.specs.LogFormat.{Format}
 use Rattle.raft_log_disk.specs.LogQueue.{LogFiles, IsPast}
 use Rattle.raft_log_disk.specs.Touching.{HasFile}
+use Rattle.raft_log_disk.proofs.KeptLaws.{IsCalm, kept_delete}
+use Rattle.raft_log_disk.proofs.CauseLaws.{fails_after}
 use Rattle.raft_log_disk.proofs.Updates.{name_here, name_apart}
 use Rattle.raft_log_file_queue.specs.Queue.{begun}
 use Rattle.raft_log_file_queue.specs.States.{IsNew}
@@ -17,6 +28,7 @@ use Rattle.raft_log_files.specs.Exits.{IsOpen}
 use Rattle.raft_log_files.specs.Rotation.{CanDrop, Drops, FailsToDrop, FilesStay}
 use Rattle.raft_log_pipes.specs.declared.pipe_files.PipeFiles.{PipeFiles}
 use Rattle.raft_log_pipes.specs.Files.{Listed, IsSpan, IsKept, CanBeUsed, NoneHas, AreKept, IsPipe}
+use Rattle.raft_log_pipes.specs.Purging.{without, AreGone, DropsTo, FailsToDropAll}
 use Rattle.raft_log_pipes.proofs.Lists.{path_numbered, span_end, span_moved, kept_moved, numbers_apart, reserved_apart, kept_is_no_number}
 
 module _ {R : Type 0} (F : Format R) (own : List ℕ → Type 0) (paths : FilePaths) (lawful : IsLayout F own paths) where
@@ -74,3 +86,81 @@ module _ {R : Type 0} (F : Format R) (own : List ℕ → Type 0) (paths : FilePa
     where
       IsNewOver : LogFiles R → List ℕ → File → Type 0
       IsNewOver p header file = IsNew F (begun header file.content p) file
+
+-- Dropping some files, one after the other.
+
+-- the item of a list at a place, and those behind it
+split_drop : (paths : FilePaths) (i : ℕ) (gs : List Listed) → i < length gs → (f : Listed) × (rest : List Listed) × (drop i gs ≡ f ∷ rest) × (drop (suc i) gs ≡ rest) × (take (suc i) (map (path_of paths) gs) ≡ take i (map (path_of paths) gs) ++ path_of paths f ∷ [])
+split_drop paths i [] less = absurd (omega (arith, less))
+split_drop paths zero (g ∷ gs) less = (g, gs, refl, refl, refl)
+split_drop paths (suc i) (g ∷ gs) less = (let (f, rest, here, behind, front) = split_drop paths i gs (omega (arith, less)) in (f, rest, here, behind, ap (λ (ps : List (List ℕ)). path_of paths g ∷ ps) front))
+
+-- the names without one more
+without_more : (ps : List (List ℕ)) (p : List ℕ) (N : Names) → without (ps ++ p ∷ []) N ≡ update bytes_eq (without ps N) p None
+without_more [] p N = refl
+without_more (q ∷ ps) p N = without_more ps p (update bytes_eq N q None)
+
+-- two lists with the same front, and one more item
+same_last : (xs : List (List ℕ)) (a b : List ℕ) → xs ++ a ∷ [] ≡ xs ++ b ∷ [] → a ≡ b
+same_last [] a b same = cc same
+same_last (x ∷ xs) a b same = same_last xs a b (let tails : xs ++ a ∷ [] ≡ xs ++ b ∷ [] = cc same in tails)
+
+-- files that are gone go on to be there under names that are the same for them
+gone_stay : (paths : FilePaths) (N M : Names) (files : PipeFiles) (path : List ℕ) (gs : List Listed) → NoneHas paths path gs → ((other : List ℕ) → (other ≡ path → ⊥) → M other ≡ N other) → AreGone paths N files gs → AreGone paths M files gs
+gone_stay paths N M files path [] apart same is = tt
+gone_stay paths N M files path (f ∷ fs) (here, behind) same (below, listed, (id, named), others, alone, rest) =
+    (below, listed, (id, same (path_of paths f) here ∙ named), others, alone, gone_stay paths N M files path fs behind same rest)
+
+module _ {R : Type 0} (F : Format R) (own : List ℕ → Type 0) (paths : FilePaths) (lawful : IsLayout F own paths) where
+  pub none_dropped : (gone : List (List ℕ)) (d : Disk) → DropsTo F own paths gone 0 d d
+  none_dropped gone d base files q gs spelled is are = (is, λ m below none. none, are, refl)
+
+  -- one more is dropped
+  pub drops_more : (gone : List (List ℕ)) (i : ℕ) (path : List ℕ) (old mid new : Disk) → IsSound mid → i < length gone → take (suc i) gone ≡ take i gone ++ path ∷ [] → DropsTo F own paths gone i old mid → Drops F own path mid new
+      → ((id : ℕ) → mid.names path ≡ Some id → FilesStay id id mid new) → DropsTo F own paths gone (suc i) old new
+  drops_more gone i path old mid new sound less front before drops stay base files q gs spelled is are =
+      let (pipe, gaps, there, names) = before base files q gs spelled is are in
+      let (f, rest, here, behind, fronts) = split_drop paths i gs (omega (arith, less, ap length spelled, length-map gs (path_of paths))) in
+      let (below, listed, (id, named), others, alone, are_rest) = subst (AreGone paths mid.names files) here there in
+      let path_is : path ≡ path_of paths f = same_last (take i gone) path (path_of paths f) (sym front ∙ ap (take (suc i)) spelled ∙ fronts ∙ ap (λ (ps : List (List ℕ)). take i ps ++ path_of paths f ∷ []) (sym spelled)) in
+      let drops_f : Drops F own (path_of paths f) mid new = subst (λ (p : List ℕ). Drops F own p mid new) path_is drops in
+      let after = pipe_dropped F own paths lawful base mid new files q f id sound pipe below listed named others drops_f (stay id (ap mid.names path_is ∙ named)) in
+      let (stands, more_gaps) = drops_f base files.writer q (path_of paths files.active) mid.names (can_drop F own paths lawful base mid files q f id pipe below listed named) pipe.active in
+      let new_names : new.names ≡ update bytes_eq mid.names (path_of paths f) None = stands.stands.names in (
+        after,
+        λ m under none. more_gaps m under (gaps m under none),
+        subst (AreGone paths new.names files) (sym behind) (gone_stay paths mid.names new.names files (path_of paths f) rest alone (λ other apart. ap (λ (N : Names). N other) new_names ∙ name_apart mid.names (path_of paths f) None other apart) are_rest),
+        new_names ∙ ap (λ (N : Names). update bytes_eq N (path_of paths f) None) names ∙ sym (without_more (take i gone) (path_of paths f) old.names) ∙ ap (λ (ps : List (List ℕ)). without ps old.names) (ap (λ (p : List ℕ). take i gone ++ p ∷ []) (sym path_is) ∙ sym front),
+      )
+
+  span_dropped : (base mid : Disk) (files : PipeFiles) (q : LogFiles R) (f : Listed) (id : ℕ) → IsPipe F own paths base files q mid → f.seq < files.first_seq → f.reserved ≡ false → IsSpan paths (deleted (path_of paths f) id mid).names files.first_seq files.earlier.items q.last
+  span_dropped base mid files q f id is below listed =
+      let ends = span_end paths mid.names files.first_seq q.last files.earlier.items is.span in
+      let bound = is.active.stands.bound in
+      span_moved paths mid.names (deleted (path_of paths f) id mid).names files.first_seq q.last files.earlier.items (λ directory n from less. name_apart mid.names (path_of paths f) None (paths.numbered directory n)
+      (λ same. numbers_apart F own paths lawful directory f.path_id n f.seq (omega (arith, less, bound)) (omega (arith, below, ends, bound)) (λ e. omega (arith, e, from, below)) (same ∙ path_numbered paths f listed))) is.span
+
+  -- it isn't
+  pub drop_fails : (gone : List (List ℕ)) (i : ℕ) (path : List ℕ) (error : ErrorKind) (old mid new : Disk) → i < length gone → take (suc i) gone ≡ take i gone ++ path ∷ [] → DropsTo F own paths gone i old mid → IsLater old mid → FailsToDrop F own path mid new
+      → FailsToDelete path error mid new → FailsToDropAll F own paths gone old new
+  drop_fails gone i path error old mid new less front before later fails refused base files q gs spelled is are =
+      let (pipe, gaps, there, names) = before base files q gs spelled is are in
+      let (f, rest, here, behind, fronts) = split_drop paths i gs (omega (arith, less, ap length spelled, length-map gs (path_of paths))) in
+      let (below, listed, (id, named), others, alone, are_rest) = subst (AreGone paths mid.names files) here there in
+      let path_is : path ≡ path_of paths f = same_last (take i gone) path (path_of paths f) (sym front ∙ ap (take (suc i)) spelled ∙ fronts ∙ ap (λ (ps : List (List ℕ)). take i ps ++ path_of paths f ∷ []) (sym spelled)) in
+      let (cause, left, more_gaps) = subst (λ (p : List ℕ). FailsToDrop F own p mid new) path_is fails base files.writer q (path_of paths files.active) mid.names (can_drop F own paths lawful base mid files q f id pipe below listed named) pipe.active in
+      let Q : Disk → Type 0 = λ d. IsSpan paths d.names files.first_seq files.earlier.items q.last in
+      let calm : IsCalm Q = record { at_count = λ d span. span; at_end = λ d span. span } in
+      let refusal : Result ℕ ErrorKind = Err error in
+      let span = kept_delete Q (WrongName (path_of paths f) mid) refusal (path_of paths f) calm pipe.span (λ k at. span_dropped base mid files q f k pipe below listed) tt (subst (λ (p : List ℕ). FailsToDelete p error mid new) path_is refused) in (
+        fails_after old mid new later cause,
+        left,
+        λ m under none. more_gaps m under (gaps m under none),
+        span,
+      )
+
+-- the front of a list of texts, with the one at a place
+pub front_more : (ss : List (String Global)) (i : ℕ) (s : String Global) → i < length ss → s ≡ get_or ss i s → take (suc i) (map string_bytes ss) ≡ take i (map string_bytes ss) ++ string_bytes s ∷ []
+front_more [] i s less is = absurd (omega (arith, less))
+front_more (x ∷ xs) zero s less is = ap (λ (t : String Global). string_bytes t ∷ []) (sym is)
+front_more (x ∷ xs) (suc i) s less is = ap (λ (ps : List (List ℕ)). string_bytes x ∷ ps) (front_more xs i s (omega (arith, less)) is)

@@ -1,3 +1,4 @@
 pub mod Files
 pub mod Exits
 pub mod Appending
+pub mod Purging

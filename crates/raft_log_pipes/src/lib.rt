@@ -9,6 +9,7 @@ mod appending;
 pub mod new_files;
 pub mod pipe_files;
 pub mod reactive_bytes;
+mod purging;
 mod rotating;
 pub mod single_pipe;
 mod writing;

@@ -106,10 +106,10 @@ same_last [] a b same = cc same
 same_last (x ∷ xs) a b same = same_last xs a b (let tails : xs ++ a ∷ [] ≡ xs ++ b ∷ [] = cc same in tails)
 
 -- files that are gone go on to be there under names that are the same for them
-gone_stay : (paths : FilePaths) (N M : Names) (files : PipeFiles) (path : List ℕ) (gs : List Listed) → NoneHas paths path gs → ((other : List ℕ) → (other ≡ path → ⊥) → M other ≡ N other) → AreGone paths N files gs → AreGone paths M files gs
-gone_stay paths N M files path [] apart same is = tt
-gone_stay paths N M files path (f ∷ fs) (here, behind) same (below, listed, (id, named), others, alone, rest) =
-    (below, listed, (id, same (path_of paths f) here ∙ named), others, alone, gone_stay paths N M files path fs behind same rest)
+gone_stay : (paths : FilePaths) (N M : Names) (first : ℕ) (kept : List Listed) (path : List ℕ) (gs : List Listed) → NoneHas paths path gs → ((other : List ℕ) → (other ≡ path → ⊥) → M other ≡ N other) → AreGone paths N first kept gs → AreGone paths M first kept gs
+gone_stay paths N M first kept path [] apart same is = tt
+gone_stay paths N M first kept path (f ∷ fs) (here, behind) same (below, listed, (id, named), others, alone, rest) =
+    (below, listed, (id, same (path_of paths f) here ∙ named), others, alone, gone_stay paths N M first kept path fs behind same rest)
 
 module _ {R : Type 0} (F : Format R) (own : List ℕ → Type 0) (paths : FilePaths) (lawful : IsLayout F own paths) where
   pub none_dropped : (gone : List (List ℕ)) (d : Disk) → DropsTo F own paths gone 0 d d
@@ -121,7 +121,7 @@ module _ {R : Type 0} (F : Format R) (own : List ℕ → Type 0) (paths : FilePa
   drops_more gone i path old mid new sound less front before drops stay base files q gs spelled is are =
       let (pipe, gaps, there, names) = before base files q gs spelled is are in
       let (f, rest, here, behind, fronts) = split_drop paths i gs (omega (arith, less, ap length spelled, length-map gs (path_of paths))) in
-      let (below, listed, (id, named), others, alone, are_rest) = subst (AreGone paths mid.names files) here there in
+      let (below, listed, (id, named), others, alone, are_rest) = subst (AreGone paths mid.names files.first_seq files.recycled.items) here there in
       let path_is : path ≡ path_of paths f = same_last (take i gone) path (path_of paths f) (sym front ∙ ap (take (suc i)) spelled ∙ fronts ∙ ap (λ (ps : List (List ℕ)). take i ps ++ path_of paths f ∷ []) (sym spelled)) in
       let drops_f : Drops F own (path_of paths f) mid new = subst (λ (p : List ℕ). Drops F own p mid new) path_is drops in
       let after = pipe_dropped F own paths lawful base mid new files q f id sound pipe below listed named others drops_f (stay id (ap mid.names path_is ∙ named)) in
@@ -129,7 +129,7 @@ module _ {R : Type 0} (F : Format R) (own : List ℕ → Type 0) (paths : FilePa
       let new_names : new.names ≡ update bytes_eq mid.names (path_of paths f) None = stands.stands.names in (
         after,
         λ m under none. more_gaps m under (gaps m under none),
-        subst (AreGone paths new.names files) (sym behind) (gone_stay paths mid.names new.names files (path_of paths f) rest alone (λ other apart. ap (λ (N : Names). N other) new_names ∙ name_apart mid.names (path_of paths f) None other apart) are_rest),
+        subst (AreGone paths new.names files.first_seq files.recycled.items) (sym behind) (gone_stay paths mid.names new.names files.first_seq files.recycled.items (path_of paths f) rest alone (λ other apart. ap (λ (N : Names). N other) new_names ∙ name_apart mid.names (path_of paths f) None other apart) are_rest),
         new_names ∙ ap (λ (N : Names). update bytes_eq N (path_of paths f) None) names ∙ sym (without_more (take i gone) (path_of paths f) old.names) ∙ ap (λ (ps : List (List ℕ)). without ps old.names) (ap (λ (p : List ℕ). take i gone ++ p ∷ []) (sym path_is) ∙ sym front),
       )
 
@@ -146,7 +146,7 @@ module _ {R : Type 0} (F : Format R) (own : List ℕ → Type 0) (paths : FilePa
   drop_fails gone i path error old mid new less front before later fails refused base files q gs spelled is are =
       let (pipe, gaps, there, names) = before base files q gs spelled is are in
       let (f, rest, here, behind, fronts) = split_drop paths i gs (omega (arith, less, ap length spelled, length-map gs (path_of paths))) in
-      let (below, listed, (id, named), others, alone, are_rest) = subst (AreGone paths mid.names files) here there in
+      let (below, listed, (id, named), others, alone, are_rest) = subst (AreGone paths mid.names files.first_seq files.recycled.items) here there in
       let path_is : path ≡ path_of paths f = same_last (take i gone) path (path_of paths f) (sym front ∙ ap (take (suc i)) spelled ∙ fronts ∙ ap (λ (ps : List (List ℕ)). take i ps ++ path_of paths f ∷ []) (sym spelled)) in
       let (cause, left, more_gaps) = subst (λ (p : List ℕ). FailsToDrop F own p mid new) path_is fails base files.writer q (path_of paths files.active) mid.names (can_drop F own paths lawful base mid files q f id pipe below listed named) pipe.active in
       let Q : Disk → Type 0 = λ d. IsSpan paths d.names files.first_seq files.earlier.items q.last in

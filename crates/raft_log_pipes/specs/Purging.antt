@@ -1,5 +1,6 @@
 -- The files below a number leave the span of a pipe: some stay for use, the others are dropped.
-use Rattle.std.specs.Prelude.{◌≡◌, ℕ, ◌-◌, ◌<◌, ◌≤◌, Bool, true, false, nat_lt, ◌&&◌, if◌then◌else◌, Option, Some, None, List, [], ◌∷◌, ◌++◌, length, map, take, drop, suc}
+use Rattle.std.specs.Prelude.{◌≡◌, ℕ, ◌-◌, ◌<◌, ◌≤◌, ◌^◌, Bool, true, false, nat_lt, ◌&&◌, if◌then◌else◌, Option, Some, None, List, [], ◌∷◌, ◌++◌, length, map, take, drop, suc}
+use Rattle.std.specs.List.{Contains}
 use Rattle.std.specs.Map.{update}
 use Rattle.std.specs.Str.{bytes_eq}
 use Rattle.raft_log_disk.specs.Disk.{Disk}
@@ -38,7 +39,7 @@ going room (f ∷ fs) = if is_signed f.format.version && nat_lt 0 room then goin
 
 -- for how many more files there is room, once the span begins at this number
 abbrev pub room_from : ℕ → ℕ → PipeFiles → ℕ
-room_from capacity seq files = capacity - (suc files.active.seq - seq) - length files.recycled.items
+room_from capacity seq files = capacity - suc (files.active.seq - seq) - length files.recycled.items
 
 -- a number of the span
 abbrev pub IsInSpan : ℕ → PipeFiles → Type 0
@@ -49,27 +50,28 @@ abbrev pub without : List (List ℕ) → Names → Names
 without [] N = N
 without (path ∷ paths) N = without paths (update bytes_eq N path None)
 
--- These files lie under their paths, below the span, and none of them is kept for use, nor one of them another.
-abbrev pub AreGone : FilePaths → Names → PipeFiles → List Listed → Type 0
-AreGone paths N files [] = Unit {0}
-AreGone paths N files (f ∷ fs) = (f.seq < files.first_seq) × (f.reserved ≡ false)
-    × ((id : ℕ) × (N (path_of paths f) ≡ Some id)) × NoneHas paths (path_of paths f) files.recycled.items
-    × NoneHas paths (path_of paths f) fs × AreGone paths N files fs
+-- These files lie under their paths, below the span's first number, and none of them is kept for use, nor one of
+-- them another.
+abbrev pub AreGone : FilePaths → Names → ℕ → List Listed → List Listed → Type 0
+AreGone paths N first kept [] = Unit {0}
+AreGone paths N first kept (f ∷ fs) = (f.seq < first) × (f.reserved ≡ false)
+    × ((id : ℕ) × (N (path_of paths f) ≡ Some id)) × NoneHas paths (path_of paths f) kept
+    × NoneHas paths (path_of paths f) fs × AreGone paths N first kept fs
 
 -- the first so many of these paths were dropped, and the others are there
 abbrev pub DropsTo : {R : Type 0} → Format R → (List ℕ → Type 0) → FilePaths → List (List ℕ) → ℕ → Disk → Disk
     → Type 0
 DropsTo {R} F own paths gone count old new = (base : Disk) (files : PipeFiles) (q : LogFiles R)
     (gs : List Listed) → gone ≡ map (path_of paths) gs → IsPipe F own paths base files q old
-    → AreGone paths old.names files gs → IsPipe F own paths base files q new × GapsStay F q old new
-    × AreGone paths new.names files (drop count gs) × (new.names ≡ without (take count gone) old.names)
+    → AreGone paths old.names files.first_seq files.recycled.items gs → IsPipe F own paths base files q new × GapsStay F q old new
+    × AreGone paths new.names files.first_seq files.recycled.items (drop count gs) × (new.names ≡ without (take count gone) old.names)
 
 -- one of them wasn't: a file call failed, the records are held, and the span is there
 abbrev pub FailsToDropAll : {R : Type 0} → Format R → (List ℕ → Type 0) → FilePaths → List (List ℕ) → Disk
     → Disk → Type 0
 FailsToDropAll {R} F own paths gone old new = (base : Disk) (files : PipeFiles) (q : LogFiles R)
     (gs : List Listed) → gone ≡ map (path_of paths) gs → IsPipe F own paths base files q old
-    → AreGone paths old.names files gs → Fails old new × IsLeft F own base q new × GapsStay F q old new
+    → AreGone paths old.names files.first_seq files.recycled.items gs → Fails old new × IsLeft F own base q new × GapsStay F q old new
     × IsSpan paths new.names files.first_seq files.earlier.items q.last
 
 -- the files that are listed once those below a number have left the span
@@ -100,13 +102,19 @@ FailsToPurge {R} F own paths before after old new = (base : Disk) (q : LogFiles 
     → IsPipe F own paths base before q old → Fails old new × IsLeft F own base q new × GapsStay F q old new
     × IsSpan paths new.names after.first_seq after.earlier.items q.last
 
--- Why a purge was refused, and what stands then: for want of memory, or as the number is none of the span's,
--- nothing was done; else a file call failed, and the files below the number have left the span all the same.
+-- one of these files has a number that no name has
+abbrev pub HasFarFile : List Listed → Type 0
+HasFarFile fs = (f : Listed) × Contains fs f × (10 ^ 16 ≤ f.seq)
+
+-- Why a purge was refused, and what stands then: for want of memory, or as the number is none of the span's (or a
+-- file's has no name), nothing was done; else a file call failed, and the files below the number have left the span all the same.
 abbrev pub PurgeLeaves : {R : Type 0} → Format R → (List ℕ → Type 0) → FilePaths → ℕ → ℕ → PipeFiles → PipeFiles
     → Error → Disk → Disk → Type 0
 PurgeLeaves F own paths capacity seq before after errors.Memory old new = SameFiles before after × (new ≡ old)
 PurgeLeaves F own paths capacity seq before after (errors.InvalidArgument text) old new =
     (IsInSpan seq before → ⊥) × SameFiles before after × (new ≡ old)
+PurgeLeaves F own paths capacity seq before after errors.NumberRange old new =
+    HasFarFile before.earlier.items × SameFiles before after × (new ≡ old)
 PurgeLeaves F own paths capacity seq before after errors.Failed old new =
     IsRaised capacity seq before after × FailsToPurge F own paths before after old new
 PurgeLeaves F own paths capacity seq before after _ old new = ⊥

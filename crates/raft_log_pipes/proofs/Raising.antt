@@ -1,17 +1,22 @@
 -- The first files of a pipe's span leave it: some stay for use, the others are to be dropped.
-use Rattle.std.proofs.Common.{◌≡◌, ℕ, ◌+◌, ◌-◌, ◌<◌, ◌≤◌, ◌&&◌, nat_lt, ◌^◌, suc, zero, Some, None, List, [], ◌∷◌, ◌++◌, length, drop, take, Bool, false, true, cond, refl, sym, ◌∙◌, ap, subst, inl, inr, arith, append_assoc}
+use Rattle.std.proofs.Common.{◌≡◌, ℕ, ◌+◌, ◌-◌, ◌<◌, ◌≤◌, ◌&&◌, nat_lt, ◌^◌, suc, zero, Some, None, List, [], ◌∷◌, ◌++◌, length, map, get_or, drop, take, Bool, false, true, cond, refl, sym, ◌∙◌, ap, subst, inl, inr, arith, append_assoc}
 use Rattle.std.proofs.lemmas.Bool.{cases_Bool}
-use Rattle.std.proofs.lemmas.List.{append-nil}
+use Rattle.std.proofs.lemmas.List.{append-nil, take_all}
 use Rattle.raft_log_disk.specs.Disk.{File, Disk}
 use Rattle.raft_log_disk.specs.LogFormat.{Format}
 use Rattle.raft_log_disk.specs.LogQueue.{LogFiles, IsPast}
 use Rattle.raft_log_disk.specs.Touching.{HasFile}
+use Rattle.raft_log_base.specs.declared.errors.Error.{Error}
+use Rattle.raft_log_base.specs.declared.errors.Error.TheVariants as errors
+use Rattle.raft_log_format.specs.Name.{IsNameRefusal}
+use Rattle.raft_log_format.specs.Header.{header_bytes}
+use Rattle.raft_log_file.specs.declared.writer.LogFileWriter.{LogFileWriter}
 use Rattle.raft_log_file_queue.specs.Standing.{Names}
 use Rattle.raft_log_files.specs.Layout.{FilePaths, IsLayout, path_of}
 use Rattle.raft_log_files.specs.Exits.{IsOpen}
 use Rattle.raft_log_pipes.specs.declared.pipe_files.PipeFiles.{PipeFiles}
 use Rattle.raft_log_pipes.specs.Files.{Listed, IsSpan, IsKept, NoneHas, AreKept, IsPipe}
-use Rattle.raft_log_pipes.specs.Purging.{is_signed, staying, going, AreGone}
+use Rattle.raft_log_pipes.specs.Purging.{is_signed, staying, going, room_from, without, AreGone, IsInSpan, IsRaised, paths_going, DropsTo, FailsToDropAll, Purges, FailsToPurge, PartFails}
 use Rattle.raft_log_pipes.proofs.Lists.{path_numbered, span_end, numbers_apart, kept_is_no_number, kept_all}
 use Rattle.raft_log_pipes.proofs.Dropping.{past_is_usable}
 
@@ -122,3 +127,98 @@ module _ {R : Type 0} (F : Format R) (own : List ℕ → Type 0) (paths : FilePa
           gone_of_span N room (suc first) last seq kept fs under most (λ directory m from less. free directory m (omega (arith, from)) less) rest,
         )
       ]
+
+  -- The files below a number have left the span: the pipe stands, and those that are to go are none of it.
+  pub raised : (base d : Disk) (before after : PipeFiles) (q : LogFiles R) (capacity seq : ℕ) → IsPipe F own paths base before q d → IsInSpan seq before → IsRaised capacity seq before after
+      → IsPipe F own paths base after q d × AreGone paths d.names after.first_seq after.recycled.items (going (room_from capacity seq before) (take (seq - before.first_seq) before.earlier.items))
+  raised base d before after q capacity seq is (over, within) raises =
+      let count : ℕ = seq - before.first_seq in
+      let room : ℕ = room_from capacity seq before in
+      let there : before.first_seq + count ≡ seq = omega (arith, over) in
+      let leaving : List Listed = take count before.earlier.items in
+      let ends = span_end paths d.names before.first_seq q.last before.earlier.items is.span in
+      let bound = is.active.stands.bound in
+      let front : IsSpan paths d.names before.first_seq leaving seq = subst (IsSpan paths d.names before.first_seq leaving) there (span_take paths d.names count before.first_seq q.last before.earlier.items within is.span) in
+      let behind : IsSpan paths d.names seq (drop count before.earlier.items) q.last = subst (λ (n : ℕ). IsSpan paths d.names n (drop count before.earlier.items) q.last) there (span_drop paths d.names count before.first_seq q.last before.earlier.items within is.span) in
+      let most : seq ≤ q.last = omega (arith, there, within, ends) in
+      let first = raises.first in
+      let recycled = raises.recycled in
+      let kept : AreKept F paths seq d (before.recycled.items ++ staying room leaving) = kept_more before.first_seq seq d before.recycled.items (staying room leaving) over is.kept
+      (kept_of_span d.names d q room before.first_seq seq seq leaving refl (omega arith) most bound is.active.stands.older front)
+      (λ g was. none_staying paths (path_of paths g) room leaving (none_of_span (path_of paths g) d.names before.first_seq seq leaving (omega (arith, most, bound)) (λ m from less at. kept_is_no_number F own paths lawful before.first_seq d g m was from (omega (arith, less, most, bound)) at) front)) in
+      let gone : AreGone paths d.names seq (before.recycled.items ++ staying room leaving) (going room leaving) = gone_of_span d.names room before.first_seq seq seq before.recycled.items leaving (omega arith) (omega (arith, most, bound))
+      (λ directory m from less. none_kept (paths.numbered directory m) before.first_seq d before.recycled.items (λ g was same. kept_is_no_number F own paths lawful before.first_seq d g m was from (omega (arith, less, most, bound)) (subst (F.IsPath m) (sym same) (lawful.numbered directory m (omega (arith, less, most, bound))))) is.kept) front in (
+        record {
+          active = subst (λ (w : LogFileWriter). IsOpen F own base w q (path_of paths after.active) d.names d) (sym raises.writer) (subst (λ (f : Listed). IsOpen F own base before.writer q (path_of paths f) d.names d) (sym raises.active) is.active);
+          number = ap (λ (f : Listed). f.seq) raises.active ∙ is.number;
+          listed = ap (λ (f : Listed). f.reserved) raises.active ∙ is.listed;
+          header = is.header ∙ ap (λ (f : Listed). header_bytes f.format) (sym raises.active);
+          handle = ap (λ (f : Listed). f.handle.file) raises.active ∙ is.handle ∙ ap (λ (w : LogFileWriter). w.handle.file) (sym raises.writer);
+          span = subst (λ (n : ℕ). IsSpan paths d.names n after.earlier.items q.last) (sym first) (subst (λ (fs : List Listed). IsSpan paths d.names seq fs q.last) (sym raises.earlier) behind);
+          kept = subst (λ (n : ℕ). AreKept F paths n d after.recycled.items) (sym first) (subst (AreKept F paths seq d) (sym recycled) kept);
+        },
+        subst (λ (n : ℕ). AreGone paths d.names n after.recycled.items (going room leaving)) (sym first) (subst (λ (ks : List Listed). AreGone paths d.names seq ks (going room leaving)) (sym recycled) gone),
+      )
+    where
+      none_kept : (p : List ℕ) (first : ℕ) (d : Disk) (gs : List Listed) → ((g : Listed) → IsKept F paths first d g → path_of paths g ≡ p → ⊥) → AreKept F paths first d gs → NoneHas paths p gs
+      none_kept p first d [] apart is = tt
+      none_kept p first d (g ∷ gs) apart (was, alone, rest) = (apart g was, none_kept p first d gs apart rest)
+
+  -- and once they are dropped
+  pub purges : (before after : PipeFiles) (capacity seq : ℕ) (gone : List (List ℕ)) (old new : Disk) → IsInSpan seq before → IsRaised capacity seq before after → gone ≡ paths_going paths capacity seq before
+      → DropsTo F own paths gone (length gone) old new → Purges F own paths capacity seq before after old new
+  purges before after capacity seq gone old new within raises spelled drops base q is =
+      let (stands, are) = raised base old before after q capacity seq is within raises in
+      let gs : List Listed = going (room_from capacity seq before) (take (seq - before.first_seq) before.earlier.items) in
+      let (pipe, gaps, rest, names) = drops base after q gs spelled stands are in
+      (pipe, gaps, names ∙ ap (λ (ps : List (List ℕ)). without ps old.names) (take_all (length gone) gone (omega arith) ∙ spelled))
+
+  -- or not
+  pub purge_fails : (before after : PipeFiles) (capacity seq : ℕ) (gone : List (List ℕ)) (old new : Disk) → IsInSpan seq before → IsRaised capacity seq before after → gone ≡ paths_going paths capacity seq before
+      → FailsToDropAll F own paths gone old new → FailsToPurge F own paths before after old new
+  purge_fails before after capacity seq gone old new within raises spelled fails base q is =
+      let (stands, are) = raised base old before after q capacity seq is within raises in
+      let gs : List Listed = going (room_from capacity seq before) (take (seq - before.first_seq) before.earlier.items) in
+      fails base after q gs spelled stands are
+
+-- Parting the files, one after the other.
+
+pub staying_more : (room : ℕ) (kept all rest : List Listed) (f : Listed) (i : ℕ) → (is_signed f.format.version && nat_lt 0 room) ≡ true → drop i all ≡ f ∷ rest → (r : ℕ) → staying r all ≡ kept ++ staying room (drop i all) → staying r all ≡ (kept ++ f ∷ []) ++ staying (room - 1) rest
+staying_more room kept all rest f i stays here r before =
+    before ∙ ap (λ (fs : List Listed). kept ++ staying room fs) here ∙ ap (λ (b : Bool). kept ++ cond b (f ∷ staying (room - 1) rest) (staying room rest)) stays ∙ sym (append_assoc kept (f ∷ []) (staying (room - 1) rest))
+
+pub staying_skips : (room : ℕ) (kept all rest : List Listed) (f : Listed) (i : ℕ) → (is_signed f.format.version && nat_lt 0 room) ≡ false → drop i all ≡ f ∷ rest → (r : ℕ) → staying r all ≡ kept ++ staying room (drop i all) → staying r all ≡ kept ++ staying room rest
+staying_skips room kept all rest f i goes here r before = before ∙ ap (λ (fs : List Listed). kept ++ staying room fs) here ∙ ap (λ (b : Bool). kept ++ cond b (f ∷ staying (room - 1) rest) (staying room rest)) goes
+
+pub going_skips : (paths : FilePaths) (room : ℕ) (gone : List (List ℕ)) (all rest : List Listed) (f : Listed) (i : ℕ) → (is_signed f.format.version && nat_lt 0 room) ≡ true → drop i all ≡ f ∷ rest → (r : ℕ)
+    → map (path_of paths) (going r all) ≡ gone ++ map (path_of paths) (going room (drop i all)) → map (path_of paths) (going r all) ≡ gone ++ map (path_of paths) (going (room - 1) rest)
+going_skips paths room gone all rest f i stays here r before =
+    before ∙ ap (λ (fs : List Listed). gone ++ map (path_of paths) (going room fs)) here ∙ ap (λ (b : Bool). gone ++ map (path_of paths) (cond b (going (room - 1) rest) (f ∷ going room rest))) stays
+
+pub going_more : (paths : FilePaths) (room : ℕ) (gone : List (List ℕ)) (all rest : List Listed) (f : Listed) (i : ℕ) → (is_signed f.format.version && nat_lt 0 room) ≡ false → drop i all ≡ f ∷ rest → (r : ℕ)
+    → map (path_of paths) (going r all) ≡ gone ++ map (path_of paths) (going room (drop i all)) → map (path_of paths) (going r all) ≡ (gone ++ path_of paths f ∷ []) ++ map (path_of paths) (going room rest)
+going_more paths room gone all rest f i goes here r before =
+    before ∙ ap (λ (fs : List Listed). gone ++ map (path_of paths) (going room fs)) here ∙ ap (λ (b : Bool). gone ++ map (path_of paths) (cond b (going (room - 1) rest) (f ∷ going room rest))) goes
+    ∙ sym (append_assoc gone (path_of paths f ∷ []) (map (path_of paths) (going room rest)))
+
+-- the item at a place of a list's front
+pub item_here : (fs : List Listed) (count i : ℕ) (f : Listed) → i < count → count ≤ length fs → f ≡ get_or fs i f → drop i (take count fs) ≡ f ∷ drop (suc i) (take count fs)
+item_here [] count i f less within is = absurd (omega (arith, less, within))
+item_here (x ∷ xs) zero i f less within is = absurd (omega (arith, less))
+item_here (x ∷ xs) (suc count) zero f less within is = ap (λ (g : Listed). g ∷ take count xs) (sym is)
+item_here (x ∷ xs) (suc count) (suc i) f less within is = item_here xs count i f (omega (arith, less)) (omega (arith, within)) is
+
+pub none_left : (fs : List Listed) (count i : ℕ) → count ≤ i → drop i (take count fs) ≡ []
+none_left [] zero zero most = refl
+none_left [] (suc count) zero most = refl
+none_left [] zero (suc i) most = refl
+none_left [] (suc count) (suc i) most = refl
+none_left (x ∷ xs) zero zero most = refl
+none_left (x ∷ xs) zero (suc i) most = refl
+none_left (x ∷ xs) (suc count) zero most = absurd (omega (arith, most))
+none_left (x ∷ xs) (suc count) (suc i) most = none_left xs count i (omega (arith, most))
+
+pub part_fails : (fs : List Listed) (f : Listed) (i : ℕ) (error : Error) → i < length fs → f ≡ get_or fs i f → IsNameRefusal f.seq error → PartFails fs error
+part_fails fs f i errors.Memory less is why = tt
+part_fails fs f i errors.NumberRange less is why = (f, i, less, is, why)
+part_fails fs f i _ less is why = absurd why

@@ -1,6 +1,5 @@
 -- The files below a number leave the span of a pipe: some stay for use, the others are dropped.
-use Rattle.std.specs.Prelude.{◌≡◌, ℕ, ◌-◌, ◌<◌, ◌≤◌, ◌^◌, Bool, true, false, nat_lt, ◌&&◌, if◌then◌else◌, Option, Some, None, List, [], ◌∷◌, ◌++◌, length, map, take, drop, suc}
-use Rattle.std.specs.List.{Contains}
+use Rattle.std.specs.Prelude.{◌≡◌, ℕ, ◌-◌, ◌<◌, ◌≤◌, ◌^◌, Bool, true, false, nat_lt, ◌&&◌, if◌then◌else◌, Option, Some, None, List, [], ◌∷◌, ◌++◌, length, map, take, drop, slice_index_or, suc}
 use Rattle.std.specs.Map.{update}
 use Rattle.std.specs.Str.{bytes_eq}
 use Rattle.raft_log_disk.specs.Disk.{Disk}
@@ -102,9 +101,25 @@ FailsToPurge {R} F own paths before after old new = (base : Disk) (q : LogFiles 
     → IsPipe F own paths base before q old → Fails old new × IsLeft F own base q new × GapsStay F q old new
     × IsSpan paths new.names after.first_seq after.earlier.items q.last
 
+-- an invalid argument, or want of memory for its text
+abbrev pub IsArgumentOrMemory : Error → Type 0
+IsArgumentOrMemory (errors.InvalidArgument text) = Unit {0}
+IsArgumentOrMemory errors.Memory = Unit {0}
+IsArgumentOrMemory _ = ⊥
+
+-- why a number's place in the span isn't told: it is none of the span's, or memory was short for saying so
+abbrev pub CountFails : ℕ → PipeFiles → Error → Type 0
+CountFails seq files error = (IsInSpan seq files → ⊥) × IsArgumentOrMemory error
+
 -- one of these files has a number that no name has
 abbrev pub HasFarFile : List Listed → Type 0
-HasFarFile fs = (f : Listed) × Contains fs f × (10 ^ 16 ≤ f.seq)
+HasFarFile fs = (f : Listed) × (i : ℕ) × (i < length fs) × (f ≡ slice_index_or fs i f) × (10 ^ 16 ≤ f.seq)
+
+-- why files weren't parted: for want of memory, or a number has no name
+abbrev pub PartFails : List Listed → Error → Type 0
+PartFails fs errors.Memory = Unit {0}
+PartFails fs errors.NumberRange = HasFarFile fs
+PartFails fs _ = ⊥
 
 -- Why a purge was refused, and what stands then: for want of memory, or as the number is none of the span's (or a
 -- file's has no name), nothing was done; else a file call failed, and the files below the number have left the span all the same.

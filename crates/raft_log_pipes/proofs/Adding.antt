@@ -43,15 +43,15 @@ module _ {R : Type 0} (F : Format R) (own : List ℕ → Type 0) (paths : FilePa
         handle = ap (λ (f : Listed). f.handle.file) active ∙ is.handle ∙ sym writer;
         span = subst (λ (n : ℕ). IsSpan paths new.names n after.earlier.items next.last) (sym first) (subst (λ (fs : List Listed). IsSpan paths new.names before.first_seq fs next.last) (sym earlier) (subst (IsSpan paths new.names before.first_seq before.earlier.items) (sym last) span));
         kept = subst (λ (n : ℕ). AreKept F paths n new after.recycled.items) (sym first) (subst (AreKept F paths before.first_seq new) (sym recycled) (kept_all F paths before.first_seq before.first_seq old new before.recycled.items (λ g was.
-        (let mine : g.handle.file ≡ before.writer.handle.file → ⊥ = λ same.
-        kept_is_no_number F own paths lawful before.first_seq old g q.last was (omega (arith, ends)) (omega (arith, bound))
-        (subst (F.IsPath q.last) (sound.one_name (path_of paths before.active) (path_of paths g) before.writer.handle.file is.active.stands.named (was.named ∙ ap Some same)) is.active.stands.at) in
-        record {
-          named = ap (λ (N : Names). N (path_of paths g)) names ∙ was.named;
-          below = was.below;
-          small = was.small;
-          usable = record { file = was.usable.file; is = only.others g.handle.file mine ∙ was.usable.is; has = was.usable.has };
-        })) is.kept));
+            (let mine : g.handle.file ≡ before.writer.handle.file → ⊥ = λ same.
+            kept_is_no_number F own paths lawful before.first_seq old g q.last was (omega (arith, ends)) (omega (arith, bound))
+            (subst (F.IsPath q.last) (sound.one_name (path_of paths before.active) (path_of paths g) before.writer.handle.file is.active.stands.named (was.named ∙ ap Some same)) is.active.stands.at) in
+            record {
+              named = ap (λ (N : Names). N (path_of paths g)) names ∙ was.named;
+              below = was.below;
+              small = was.small;
+              usable = record { file = was.usable.file; is = only.others g.handle.file mine ∙ was.usable.is; has = was.usable.has };
+            })) is.kept));
       }
 
   pub adds : (old new : Disk) (before after : PipeFiles) (bytes : List ℕ) (at : ℕ) → IsSound old → at ≡ before.writer.written → Appends F own bytes before.writer after.writer old new → TouchesOnly before.writer.handle.file old new

@@ -63,15 +63,15 @@ module _ {R : Type 0} (F : Format R) (own : List ℕ → Type 0) (paths : FilePa
         header = is.header;
         handle = is.handle;
         span = span_moved paths old.names new.names files.first_seq q.last files.earlier.items (λ directory n from less. ap (λ (N : Names). N (paths.numbered directory n)) names ∙ name_apart old.names gone None (paths.numbered directory n)
-        (λ same. numbers_apart F own paths lawful directory f.path_id n f.seq (omega (arith, less, bound)) (omega (arith, below, ends, bound)) (λ e. omega (arith, e, from, below)) (same ∙ gone_is))) is.span;
+            (λ same. numbers_apart F own paths lawful directory f.path_id n f.seq (omega (arith, less, bound)) (omega (arith, below, ends, bound)) (λ e. omega (arith, e, from, below)) (same ∙ gone_is))) is.span;
         kept = kept_moved F paths files.first_seq files.first_seq old new gone files.recycled.items others (λ g apart was.
-        (let other : g.handle.file ≡ id → ⊥ = λ same. apart (sound.one_name (path_of paths g) gone id (was.named ∙ ap Some same) named) in
-        record {
-          named = ap (λ (N : Names). N (path_of paths g)) names ∙ name_apart old.names gone None (path_of paths g) apart ∙ was.named;
-          below = was.below;
-          small = was.small;
-          usable = record { file = was.usable.file; is = stay g.handle.file was.usable.file other other was.usable.is; has = was.usable.has };
-        })) is.kept;
+            (let other : g.handle.file ≡ id → ⊥ = λ same. apart (sound.one_name (path_of paths g) gone id (was.named ∙ ap Some same) named) in
+            record {
+              named = ap (λ (N : Names). N (path_of paths g)) names ∙ name_apart old.names gone None (path_of paths g) apart ∙ was.named;
+              below = was.below;
+              small = was.small;
+              usable = record { file = was.usable.file; is = stay g.handle.file was.usable.file other other was.usable.is; has = was.usable.has };
+            })) is.kept;
       }
 
   -- a finished file can be used again
@@ -80,8 +80,8 @@ module _ {R : Type 0} (F : Format R) (own : List ℕ → Type 0) (paths : FilePa
     file = has.file;
     is = has.is;
     has = λ p header head. (let content : List ℕ = has.file.content in
-    let rest = has.has.is in
-    subst (λ (file : File). IsNewOver p header file) (sym rest) (new_over F header _ p));
+        let rest = has.has.is in
+        subst (λ (file : File). IsNewOver p header file) (sym rest) (new_over F header _ p));
   }
     where
       IsNewOver : LogFiles R → List ℕ → File → Type 0

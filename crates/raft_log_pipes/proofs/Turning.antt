@@ -78,19 +78,19 @@ module _ {R : Type 0} (F : Format R) (own : List ℕ → Type 0) (paths : FilePa
         handle = handle;
         span = subst (λ (n : ℕ). IsSpan paths new.names n after.earlier.items (suc q.last)) (sym first) (subst (λ (fs : List Listed). IsSpan paths new.names before.first_seq fs (suc q.last)) (sym earlier) longer);
         kept = subst (λ (n : ℕ). AreKept F paths n new after.recycled.items) (sym first) (kept_moved F paths before.first_seq before.first_seq old new from after.recycled.items free (λ g apart was.
-        (let elsewhere : path_of paths g ≡ path_of paths after.active → ⊥ = λ same.
-        kept_is_no_number F own paths lawful before.first_seq old g (suc q.last) was (omega (arith, ends)) bound (subst (F.IsPath (suc q.last)) (sym same) stands.stands.at) in
-        let mine : g.handle.file ≡ before.writer.handle.file → ⊥ = λ same.
-        kept_is_no_number F own paths lawful before.first_seq old g q.last was (omega (arith, ends)) (omega (arith, bound))
-        (subst (F.IsPath q.last) (sound.one_name (path_of paths before.active) (path_of paths g) before.writer.handle.file is.active.stands.named (was.named ∙ ap Some same)) is.active.stands.at) in
-        let next : g.handle.file ≡ after.writer.handle.file → ⊥ = λ same.
-        elsewhere (sound_then.one_name (path_of paths g) (path_of paths after.active) after.writer.handle.file (names (path_of paths g) apart elsewhere ∙ was.named ∙ ap Some same) stands.stands.named) in
-        record {
-          named = names (path_of paths g) apart elsewhere ∙ was.named;
-          below = was.below;
-          small = was.small;
-          usable = record { file = was.usable.file; is = files g.handle.file was.usable.file mine next was.usable.is; has = was.usable.has };
-        })) kept);
+            (let elsewhere : path_of paths g ≡ path_of paths after.active → ⊥ = λ same.
+            kept_is_no_number F own paths lawful before.first_seq old g (suc q.last) was (omega (arith, ends)) bound (subst (F.IsPath (suc q.last)) (sym same) stands.stands.at) in
+            let mine : g.handle.file ≡ before.writer.handle.file → ⊥ = λ same.
+            kept_is_no_number F own paths lawful before.first_seq old g q.last was (omega (arith, ends)) (omega (arith, bound))
+            (subst (F.IsPath q.last) (sound.one_name (path_of paths before.active) (path_of paths g) before.writer.handle.file is.active.stands.named (was.named ∙ ap Some same)) is.active.stands.at) in
+            let next : g.handle.file ≡ after.writer.handle.file → ⊥ = λ same.
+            elsewhere (sound_then.one_name (path_of paths g) (path_of paths after.active) after.writer.handle.file (names (path_of paths g) apart elsewhere ∙ was.named ∙ ap Some same) stands.stands.named) in
+            record {
+              named = names (path_of paths g) apart elsewhere ∙ was.named;
+              below = was.below;
+              small = was.small;
+              usable = record { file = was.usable.file; is = files g.handle.file was.usable.file mine next was.usable.is; has = was.usable.has };
+            })) kept);
       }
 
   header_of : (next : Listed) (header : List ℕ) (before : PipeFiles) → IsNext next header before → F.IsHeader header

@@ -56,7 +56,9 @@ fn turn_elsewhere<G: PipeFormat, F: FileSystem, L: Log>(
     ensures later { IsLater (F.disk file_system.old) (F.disk file_system.new) }
 {
     match rotate(alloc, layout, rt, file_system, files, new_files) {
-        Ok(()) => Error::TryAgain(format!(in alloc; "no space for a record").unwrap_or(String::new(alloc))),
+        Ok(()) => Error::TryAgain(format!(in alloc; "no space for a record").unwrap_or(String::new(
+            alloc,
+        ))),
         Err(error) => error,
     }
 }
@@ -119,7 +121,14 @@ pub fn append<G: PipeFormat, F: FileSystem, L: Log, B: ReactiveBytes>(
     let id = FileId::new(queue, files.active.seq);
     bytes.sign(&LogFileContext::new(id, files.active.format.version));
     let record = bytes.as_bytes();
-    match add(layout, rt, file_system, files, record, new_files.target_size) {
+    match add(
+        layout,
+        rt,
+        file_system,
+        files,
+        record,
+        new_files.target_size,
+    ) {
         Ok(at) => Ok(FileBlockHandle {
             id,
             offset: at as u64,

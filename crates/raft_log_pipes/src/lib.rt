@@ -6,10 +6,11 @@
 #![tactic(auto)]
 
 mod appending;
+pub mod laws;
 pub mod new_files;
 pub mod pipe_files;
-pub mod reactive_bytes;
 mod purging;
+pub mod reactive_bytes;
 mod rotating;
 pub mod single_pipe;
 mod writing;

@@ -119,14 +119,7 @@ fn go_into_new<G: PipeFormat, F: FileSystem, L: Log>(
         reserved: false,
     };
     let path = layout.file_path(alloc, &place)?;
-    match rotate_to_new(
-        layout,
-        rt,
-        file_system,
-        &mut files.writer,
-        &path,
-        header,
-    ) {
+    match rotate_to_new(layout, rt, file_system, &mut files.writer, &path, header) {
         Ok(handle) => {
             files.turn_to(File {
                 seq,
@@ -171,16 +164,7 @@ pub fn rotate<G: PipeFormat, F: FileSystem, L: Log>(
     };
     files.earlier.reserve(1)?;
     match files.recycled.front().copied() {
-        Some(kept) => go_over(
-            alloc,
-            layout,
-            rt,
-            file_system,
-            files,
-            new_files,
-            kept,
-            seq,
-        ),
+        Some(kept) => go_over(alloc, layout, rt, file_system, files, new_files, kept, seq),
         None => go_into_new(alloc, layout, rt, file_system, files, new_files, seq),
     }
 }

@@ -1,18 +1,20 @@
 //! One queue of log files.
 
-ghost use Rattle.std.specs.Prelude.{◌≡◌, ◌↔◌, ℕ, true, false, Ok, Err, IfErr, IfOk, IsErr, IsTrue, OnErr, OnOk};
+ghost use Rattle.std.specs.Prelude.{◌≡◌, ◌↔◌, ◌-◌, ℕ, true, false, Ok, Err, IfErr, IfOk, IsErr, IsTrue, OnErr, OnOk};
 ghost use Rattle.raft_log_base.specs.declared.errors.Error.TheVariants as errors;
 ghost use Rattle.raft_log_disk.specs.Causes.{IsLater};
 
 use crate::appending::append;
 use crate::new_files::NewFiles;
 use crate::pipe_files::PipeFiles;
+use crate::purging::purge;
 use crate::reactive_bytes::ReactiveBytes;
 use crate::rotating::rotate;
 use crate::writing::sync;
 use log::{Log, error};
 use raft_log_base::{Error, FileBlockHandle, FileSeq, LogQueue, Result};
 use raft_log_disk::FileSystem;
+use raft_log_file::LogFileReader;
 use raft_log_files::PipeFormat;
 use std::alloc::Global;
 
@@ -42,7 +44,24 @@ pub struct PipeSettings {
 impl<G: PipeFormat> SinglePipe<G> {
     ghost use Rattle.raft_log_format.specs.Header.{header_bytes};
     ghost use Rattle.raft_log_pipes.specs.Appending.{AppendFails, AppendsAt};
+    ghost use Rattle.raft_log_pipes.specs.Purging.{IsInSpan, IsRaised, PurgeLeaves, Purges};
+    ghost use Rattle.raft_log_pipes.specs.Reading.{IsReadAt, IsReadRefused};
     ghost use Rattle.raft_log_pipes.specs.Exits.{FailsToSyncPipe, IsTurned, Rotates, RotationLeaves, SyncsPipe};
+
+    /// A pipe over these files, which writes them so.
+    pub fn new(layout: G, settings: PipeSettings, files: PipeFiles) -> SinglePipe<G>
+        ensures layout { result.layout ≡ layout }
+        ensures settings { result.settings ≡ settings }
+        ensures files { result.files ≡ files }
+        ensures failed { result.failed ≡ false }
+    {
+        SinglePipe {
+            layout,
+            settings,
+            files,
+            failed: false,
+        }
+    }
 
     /// Whether a call was refused that couldn't be mended.
     pub fn is_failed(&self) -> bool
@@ -166,5 +185,67 @@ impl<G: PipeFormat> SinglePipe<G> {
         );
         self.failed = matches!(answer, Err(Error::Failed));
         answer
+    }
+
+    /// The files below a number leave the span; the answer is how many. From the oldest on, those whose
+    /// records are signed stay for use, while the pipe has fewer files than its capacity with them; the
+    /// others are deleted.
+    ///
+    /// `InvalidArgument` where the number is none of the span's, `Memory`: nothing is done. `Failed`: a
+    /// file wasn't deleted, and the pipe has failed.
+    pub fn purge_to<F: FileSystem, L: Log>(
+        &mut self,
+        alloc: Global,
+        rt: &L,
+        file_system: &mut F,
+        seq: FileSeq,
+    ) -> Result<usize>
+        ensures ok { OnOk result (Purges (G.format self.old.layout) (G.own self.old.layout)
+            (G.file_paths self.old.layout) self.old.settings.capacity seq self.old.files self.new.files
+            (F.disk file_system.old) (F.disk file_system.new)) }
+        ensures raised { OnOk result
+            (IsRaised self.old.settings.capacity seq self.old.files self.new.files) }
+        ensures count { IfOk result (λ count.
+            IsInSpan seq self.old.files × (count ≡ seq - self.old.files.first_seq)) }
+        ensures err { self.old.failed ≡ false → IfErr result (λ error.
+            PurgeLeaves (G.format self.old.layout) (G.own self.old.layout) (G.file_paths self.old.layout)
+            self.old.settings.capacity seq self.old.files self.new.files error
+            (F.disk file_system.old) (F.disk file_system.new)) }
+        ensures failed { self.old.failed ≡ true → (result ≡ Err errors.Failed) × (self.new ≡ self.old)
+            × (F.disk file_system.new ≡ F.disk file_system.old) }
+        ensures fails { IsTrue self.new.failed ↔ (result ≡ Err errors.Failed) }
+        ensures same { (self.new.layout ≡ self.old.layout) × (self.new.settings ≡ self.old.settings) }
+        ensures later { IsLater (F.disk file_system.old) (F.disk file_system.new) }
+    {
+        if self.failed {
+            return Err(Error::Failed);
+        }
+        let answer = purge(
+            alloc,
+            &self.layout,
+            rt,
+            file_system,
+            &mut self.files,
+            self.settings.capacity,
+            seq,
+        );
+        self.failed = matches!(answer, Err(Error::Failed));
+        answer
+    }
+
+    /// The bytes at a place, fewer where the file ends before. `Corruption` where its file isn't of the
+    /// span.
+    pub fn read_bytes<F: FileSystem>(
+        &self,
+        alloc: Global,
+        file_system: &F,
+        block: FileBlockHandle,
+    ) -> Result<Vec<u8>>
+        ensures ok { IfOk result (λ bytes. IsReadAt self.now.files block bytes.items
+            (F.disk file_system.now)) }
+        ensures err { IfErr result (IsReadRefused self.now.files block (F.disk file_system.now)) }
+    {
+        let handle = self.files.handle_of(alloc, block.id.seq)?;
+        LogFileReader::open(handle).read(alloc, file_system, block)
     }
 }

@@ -12,7 +12,7 @@ returns-in-Ok-clause-ok g c =
     let context : c.new.result ≡ context_of c.args.queue c.turn_first.new.files = context_is c.args.queue c.turn_first.new.files c.new-id.result c.new.result c.new-id.ensures.queue c.new-id.ensures.seq c.new.ensures.id c.new.ensures.version in
     let is : c.as_bytes-record.result.now ≡ signed (context_of c.args.queue c.turn_first.new.files) = c.as_bytes-record.ensures ∙ c.sign.ensures.bytes ∙ ap signed context in
     let left : AppendsAt (g.G.PipeFormat.format c.args.layout.now) (g.G.PipeFormat.own c.args.layout.now) (g.G.PipeFormat.file_paths c.args.layout.now) c.args.new_files.now c.args.queue signed c.args.files.now c.add.new.files
-        (record { id = c.new-id.result; offset = c.in-Ok.at; len = length c.as_bytes-record.result.now }) (D c.args.file_system.now) (D c.add.new.file_system) = record {
+    (record { id = c.new-id.result; offset = c.in-Ok.at; len = length c.as_bytes-record.result.now }) (D c.args.file_system.now) (D c.add.new.file_system) = record {
       middle = c.turn_first.new.files;
       between = D c.turn_first.new.file_system;
       first = c.in_ok-turn_first.ensures.ok;

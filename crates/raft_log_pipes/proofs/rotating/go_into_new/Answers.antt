@@ -6,7 +6,6 @@ use Rattle.raft_log_pipes.specs.Files.{Listed}
 use Rattle.raft_log_pipes.proofs.Turning.{IsNext, IsTurnedTo, new_refused, new_done}
 use Rattle.raft_log_pipes.proofs.rotating.go_into_new.Goals as goal
 
-
 pub returns-clause-err : goal.returns-clause-err
 returns-clause-err g c =
     let D = g.F.FileSystem.disk in

@@ -6,8 +6,8 @@ use Rattle.raft_log_format.specs.declared.header.LogFileFormat.{LogFileFormat}
 use Rattle.raft_log_file_queue.specs.Standing.{OwnsPaths}
 use Rattle.raft_log_files.specs.declared.format.File.{File}
 
--- The path of a file by its directory and its number: of a file in its queue, or of one that is kept under a
--- reserved name.
+-- The path of a file by its directory and its number: of a file in its queue, or of one that is kept under
+-- a reserved name.
 pub record FilePaths : Type 0 where
   pub numbered : ℕ → ℕ → List ℕ
   pub reserved : ℕ → ℕ → List ℕ

@@ -49,8 +49,8 @@ abbrev pub IsLeftTurned : {R : Type 0} → Format R → (List ℕ → Type 0) �
 IsLeftTurned F own base q header stale d = IsLeft F own base q d ⊎
     ((room : ℕ) × IsLeft F own base (with_room room (rotated header stale q)) d)
 
--- The queue goes on in the next file, under its path in these names, over these bytes (and maybe room that was
--- made), and no gap was filled.
+-- The queue goes on in the next file, under its path in these names, over these bytes (and maybe room that
+-- was made), and no gap was filled.
 abbrev pub GoesOnInNext : {R : Type 0} → Format R → (List ℕ → Type 0) → Disk → LogFileWriter → LogFiles R
     → List ℕ → List ℕ → List ℕ → Names → Disk → Disk → Type 0
 GoesOnInNext F own base writer q header stale to N old new = (room : ℕ)

@@ -34,7 +34,8 @@ pub fn append_record<G: PipeFormat, F: FileSystem, L: Log>(
 ) -> Result<(), WriteFault>
     ensures ok { OnOk result (Appends (G.format layout.now) (G.own layout.now) bytes.now writer.old writer.new
         (F.disk file_system.old) (F.disk file_system.new)) }
-    ensures err { IfErr result (λ fault. FailsToAppend (G.format layout.now) (G.own layout.now) bytes.now fault writer.old writer.new
+    ensures err { IfErr result (λ fault. FailsToAppend (G.format layout.now) (G.own layout.now) bytes.now
+        fault writer.old writer.new
         (F.disk file_system.old) (F.disk file_system.new)) }
 
     // Which calls were made, in their order, and whose refusal is told.
@@ -61,7 +62,8 @@ pub fn sync_records<G: PipeFormat, F: FileSystem>(
     writer: &LogFileWriter,
 ) -> Result<(), ErrorKind>
     ensures ok { OnOk result
-        (SyncsAll (G.format layout.now) (G.own layout.now) writer.now (F.disk file_system.old) (F.disk file_system.new)) }
+        (SyncsAll (G.format layout.now) (G.own layout.now) writer.now
+        (F.disk file_system.old) (F.disk file_system.new)) }
     ensures err { OnErr result (FailsToSyncAll (G.format layout.now) (G.own layout.now) writer.now
         (F.disk file_system.old) (F.disk file_system.new)) }
     ensures calls { OnOk result
@@ -103,7 +105,8 @@ pub fn begin_file<G: PipeFormat, F: FileSystem, L: Log>(
     handle: Handle,
     header: &[u8],
 ) -> Result<LogFileWriter, ErrorKind>
-    ensures ok { IfOk result (λ writer. Begins (G.format layout.now) (G.own layout.now) handle header.now writer
+    ensures ok { IfOk result (λ writer. Begins (G.format layout.now) (G.own layout.now) handle header.now
+        writer
         (F.disk file_system.old) (F.disk file_system.new)) }
     ensures err { OnErr result (FailsToBegin (G.format layout.now) (G.own layout.now) handle header.now
         (F.disk file_system.old) (F.disk file_system.new)) }

@@ -55,10 +55,12 @@ pub fn rotate_over<G: PipeFormat, F: FileSystem, L: Log>(
     header: &[u8],
 ) -> Result<(), ErrorKind>
     ensures ok { OnOk result
-        (RotatesOver (G.format layout.now) (G.own layout.now) header.now handle from.now to.now writer.old writer.new
+        (RotatesOver (G.format layout.now) (G.own layout.now) header.now handle from.now to.now writer.old
+        writer.new
         (F.disk file_system.old) (F.disk file_system.new)) }
     ensures err { OnErr result
-        (FailsToRotateOver (G.format layout.now) (G.own layout.now) header.now handle from.now to.now writer.old
+        (FailsToRotateOver (G.format layout.now) (G.own layout.now) header.now handle from.now to.now
+        writer.old
         (F.disk file_system.old) (F.disk file_system.new)) }
 
     // Whose refusal is told; and no other file changes.
@@ -82,9 +84,11 @@ pub fn drop_file<G: PipeFormat, F: FileSystem>(
     path: &str,
 ) -> Result<(), ErrorKind>
     ensures ok { OnOk result
-        (Drops (G.format layout.now) (G.own layout.now) path.now (F.disk file_system.old) (F.disk file_system.new)) }
+        (Drops (G.format layout.now) (G.own layout.now) path.now
+        (F.disk file_system.old) (F.disk file_system.new)) }
     ensures err { OnErr result
-        (FailsToDrop (G.format layout.now) (G.own layout.now) path.now (F.disk file_system.old) (F.disk file_system.new)) }
+        (FailsToDrop (G.format layout.now) (G.own layout.now) path.now
+        (F.disk file_system.old) (F.disk file_system.new)) }
     ensures refusal { IfErr result (λ error. FailsToDelete path.now error
         (F.disk file_system.old) (F.disk file_system.new)) }
     ensures files { OnOk result ((id : ℕ) → (F.disk file_system.old).names path.now ≡ Some id

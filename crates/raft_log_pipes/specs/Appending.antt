@@ -23,8 +23,8 @@ abbrev pub context_of : LogQueue → PipeFiles → LogFileContext
 context_of queue files =
     record { id = record { queue = queue; seq = files.active.seq }; version = files.active.format.version }
 
--- Before a record is written the pipe goes on in the next file where the last one is as long as it is to be, or
--- longer; else nothing is done.
+-- Before a record is written the pipe goes on in the next file where the last one is as long as it is to
+-- be, or longer; else nothing is done.
 pub data TurnsFirst {R : Type 0} (F : Format R) (own : List ℕ → Type 0) (paths : FilePaths)
     (begin : NewFiles) (before after : PipeFiles) (old new : Disk) : Type 0 where
   stays : before.writer.written < begin.target_size → after ≡ before → new ≡ old
@@ -33,8 +33,8 @@ pub data TurnsFirst {R : Type 0} (F : Format R) (own : List ℕ → Type 0) (pat
       → Rotates F own paths (header_bytes begin.format) before after old new
       → IsTurned begin.format before after → TurnsFirst F own paths begin before after old new
 
--- The record was written behind the others of the last file, which may be the next one, signed for that file;
--- this is its place.
+-- The record was written behind the others of the last file, which may be the next one, signed for that
+-- file; this is its place.
 pub record AppendsAt {R : Type 0} (F : Format R) (own : List ℕ → Type 0) (paths : FilePaths)
     (begin : NewFiles) (queue : LogQueue) (signed : LogFileContext → List ℕ)
     (before after : PipeFiles) (block : FileBlockHandle) (old new : Disk) : Type 0 where
@@ -50,8 +50,8 @@ abbrev pub SaysTryAgain : Error → Type 0
 SaysTryAgain (errors.TryAgain text) = Unit {0}
 SaysTryAgain _ = ⊥
 
--- The pipe went on in the next file for want of space in the last one, and the record is to be tried again; or
--- that was refused.
+-- The pipe went on in the next file for want of space in the last one, and the record is to be tried again;
+-- or that was refused.
 pub data TurnsElsewhere {R : Type 0} (F : Format R) (own : List ℕ → Type 0) (paths : FilePaths)
     (begin : NewFiles) (before after : PipeFiles) (error : Error) (old new : Disk) : Type 0 where
   elsewhere : Rotates F own paths (header_bytes begin.format) before after old new
@@ -60,8 +60,8 @@ pub data TurnsElsewhere {R : Type 0} (F : Format R) (own : List ℕ → Type 0) 
   nowhere : RotationLeaves F own paths (header_bytes begin.format) before after error old new
       → TurnsElsewhere F own paths begin before after error old new
 
--- What is told of a refused write, and what was done then: where there was no space, the pipe went on in the
--- next file, or that was refused too; what couldn't be cut off leaves the pipe not to be used any more.
+-- What is told of a refused write, and what was done then: where there was no space, the pipe went on in
+-- the next file, or that was refused too; what couldn't be cut off leaves the pipe not to be used any more.
 abbrev pub Tells : {R : Type 0} → Format R → (List ℕ → Type 0) → FilePaths → NewFiles → WriteFault → PipeFiles
     → PipeFiles → Error → Disk → Disk → Type 0
 Tells F own paths begin (CutBack kind) before after error old new =

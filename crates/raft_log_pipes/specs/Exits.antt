@@ -55,10 +55,11 @@ abbrev pub FailsToRotate : {R : Type 0} → Format R → (List ℕ → Type 0) �
     → Disk → Disk → Type 0
 FailsToRotate {R} F own paths header before old new = (base : Disk) (q : LogFiles R)
     → IsPipe F own paths base before q old
-    → (stale : List ℕ) × IsStale before.recycled.items old stale × StaysBehind F own base q header stale old new
+    → (stale : List ℕ) × IsStale before.recycled.items old stale × StaysBehind F own base q header stale
+    old new
 
--- why a file that is kept for use wasn't opened: for want of memory; or the file system has stopped, or no file
--- has the path
+-- why a file that is kept for use wasn't opened: for want of memory; or the file system has stopped, or no
+-- file has the path
 abbrev pub StaysClosed : List ℕ → Disk → Error → Type 0
 StaysClosed path d errors.Memory = Unit {0}
 StaysClosed path d errors.Failed = (d.stopped ≡ true) ⊎ (d.names path ≡ None)
@@ -85,8 +86,8 @@ Adds {R} F own paths bytes at before after old new = (base : Disk) (q : LogFiles
     → (at ≡ length (whole q))
     × ((room : ℕ) × IsPipe F own paths base after (with_more (w ∷ []) (with_room room q)) new)
 
--- What stands where it was refused: it was cut off again, and all records before it are durable. Or that was
--- refused too: then it may be there, and counts as the last one that isn't synced.
+-- What stands where it was refused: it was cut off again, and all records before it are durable. Or that
+-- was refused too: then it may be there, and counts as the last one that isn't synced.
 abbrev pub AddLeaves : {R : Type 0} → Format R → (List ℕ → Type 0) → FilePaths → WriteFault → Disk → Written R
     → LogFiles R → PipeFiles → Disk → Type 0
 AddLeaves F own paths (CutBack kind) base w q after new = IsPipe F own paths base after (settled q) new
@@ -94,7 +95,8 @@ AddLeaves F own paths (Failed kind) base w q after new = (room : ℕ)
     × IsLeft F own base (with_more (w ∷ []) (with_room room q)) new
 
 -- either way a file call failed
-abbrev pub FailsToAdd : {R : Type 0} → Format R → (List ℕ → Type 0) → FilePaths → List ℕ → WriteFault → PipeFiles
+abbrev pub FailsToAdd : {R : Type 0} → Format R → (List ℕ → Type 0) → FilePaths → List ℕ → WriteFault →
+    PipeFiles
     → PipeFiles → Disk → Disk → Type 0
 FailsToAdd {R} F own paths bytes fault before after old new = (base : Disk) (q : LogFiles R) (w : Written R)
     → F.IsFrame q.last q.header w.bytes w.value → w.bytes ≡ bytes → IsPipe F own paths base before q old

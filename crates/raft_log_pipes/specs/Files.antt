@@ -48,8 +48,8 @@ AreKept F paths first d [] = Unit {0}
 AreKept F paths first d (f ∷ fs) = IsKept F paths first d f
     × NoneHas paths (path_of paths f) fs × AreKept F paths first d fs
 
--- The files of a pipe are those of a queue on a disk: its last file is written to, those before it are there
--- from the span's first number on, and those that are kept for use are there.
+-- The files of a pipe are those of a queue on a disk: its last file is written to, those before it are
+-- there from the span's first number on, and those that are kept for use are there.
 pub record IsPipe {R : Type 0} (F : Format R) (own : List ℕ → Type 0) (paths : FilePaths) (base : Disk)
     (files : PipeFiles) (q : LogFiles R) (d : Disk) : Type 0 where
   pub active : IsOpen F own base files.writer q (path_of paths files.active) d.names d

@@ -11,9 +11,9 @@ use Rattle.raft_log_pipes.specs.Files.{IsPipe}
 use Rattle.raft_log_pipes.specs.declared.pipe_files.PipeFiles.{PipeFiles}
 
 -- A queue whose records are held is kept: whatever a stop leaves, what is read of it are all records of its
--- earlier files, the durable ones of the last, and the first of the pending ones. And it is the queue again,
--- seen from there, with these. So it is after each call on a pipe, answered or refused: a pipe that stands
--- holds its records.
+-- earlier files, the durable ones of the last, and the first of the pending ones. And it is the queue
+-- again, seen from there, with these. So it is after each call on a pipe, answered or refused: a pipe that
+-- stands holds its records.
 pub record PipesAreKept {R : Type 0} (F : Format R) (own : List ℕ → Type 0) (paths : FilePaths) : Type 0 where
   pub standing : (base : Disk) (files : PipeFiles) (q : LogFiles R) (d : Disk)
       → IsPipe F own paths base files q d → IsLeft F own base q d

@@ -23,8 +23,8 @@ abbrev pub is_signed : Version → Bool
 is_signed V1 = false
 is_signed V2 = true
 
--- of files that leave the span those that stay for use: the first of them that may be used again, while there is
--- room for one more
+-- of files that leave the span those that stay for use: the first of them that may be used again, while
+-- there is room for one more
 abbrev pub staying : ℕ → List Listed → List Listed
 staying room [] = []
 staying room (f ∷ fs) = if is_signed f.format.version && nat_lt 0 room then f ∷ staying (room - 1) fs
@@ -49,8 +49,8 @@ abbrev pub without : List (List ℕ) → Names → Names
 without [] N = N
 without (path ∷ paths) N = without paths (update bytes_eq N path None)
 
--- These files lie under their paths, below the span's first number, and none of them is kept for use, nor one of
--- them another.
+-- These files lie under their paths, below the span's first number, and none of them is kept for use, nor
+-- one of them another.
 abbrev pub AreGone : FilePaths → Names → ℕ → List Listed → List Listed → Type 0
 AreGone paths N first kept [] = Unit {0}
 AreGone paths N first kept (f ∷ fs) = (f.seq < first) × (f.reserved ≡ false)
@@ -62,15 +62,18 @@ abbrev pub DropsTo : {R : Type 0} → Format R → (List ℕ → Type 0) → Fil
     → Type 0
 DropsTo {R} F own paths gone count old new = (base : Disk) (files : PipeFiles) (q : LogFiles R)
     (gs : List Listed) → gone ≡ map (path_of paths) gs → IsPipe F own paths base files q old
-    → AreGone paths old.names files.first_seq files.recycled.items gs → IsPipe F own paths base files q new × GapsStay F q old new
-    × AreGone paths new.names files.first_seq files.recycled.items (drop count gs) × (new.names ≡ without (take count gone) old.names)
+    → AreGone paths old.names files.first_seq files.recycled.items gs → IsPipe F own paths base files q new
+    × GapsStay F q old new
+    × AreGone paths new.names files.first_seq files.recycled.items (drop count gs) × (new.names ≡ without
+    (take count gone) old.names)
 
 -- one of them wasn't: a file call failed, the records are held, and the span is there
 abbrev pub FailsToDropAll : {R : Type 0} → Format R → (List ℕ → Type 0) → FilePaths → List (List ℕ) → Disk
     → Disk → Type 0
 FailsToDropAll {R} F own paths gone old new = (base : Disk) (files : PipeFiles) (q : LogFiles R)
     (gs : List Listed) → gone ≡ map (path_of paths) gs → IsPipe F own paths base files q old
-    → AreGone paths old.names files.first_seq files.recycled.items gs → Fails old new × IsLeft F own base q new × GapsStay F q old new
+    → AreGone paths old.names files.first_seq files.recycled.items gs → Fails old new × IsLeft F own base q
+    new × GapsStay F q old new
     × IsSpan paths new.names files.first_seq files.earlier.items q.last
 
 -- the files that are listed once those below a number have left the span
@@ -121,9 +124,11 @@ PartFails fs errors.Memory = Unit {0}
 PartFails fs errors.NumberRange = HasFarFile fs
 PartFails fs _ = ⊥
 
--- Why a purge was refused, and what stands then: for want of memory, or as the number is none of the span's (or a
--- file's has no name), nothing was done; else a file call failed, and the files below the number have left the span all the same.
-abbrev pub PurgeLeaves : {R : Type 0} → Format R → (List ℕ → Type 0) → FilePaths → ℕ → ℕ → PipeFiles → PipeFiles
+-- Why a purge was refused, and what stands then: for want of memory, or as the number is none of the span's
+-- (or a file's has no name), nothing was done; else a file call failed, and the files below the number have
+-- left the span all the same.
+abbrev pub PurgeLeaves : {R : Type 0} → Format R → (List ℕ → Type 0) → FilePaths → ℕ → ℕ → PipeFiles →
+    PipeFiles
     → Error → Disk → Disk → Type 0
 PurgeLeaves F own paths capacity seq before after errors.Memory old new = SameFiles before after × (new ≡ old)
 PurgeLeaves F own paths capacity seq before after (errors.InvalidArgument text) old new =

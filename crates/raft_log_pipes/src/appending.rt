@@ -74,7 +74,8 @@ fn tell_fault<G: PipeFormat, F: FileSystem, L: Log>(
     new_files: &NewFiles,
     fault: WriteFault,
 ) -> Error
-    ensures left { Tells (G.format layout.now) (G.own layout.now) (G.file_paths layout.now) new_files.now fault
+    ensures left { Tells (G.format layout.now) (G.own layout.now) (G.file_paths layout.now) new_files.now
+        fault
         files.old files.new result (F.disk file_system.old) (F.disk file_system.new) }
     ensures later { IsLater (F.disk file_system.old) (F.disk file_system.new) }
 {

@@ -45,7 +45,8 @@ fn go_over<G: PipeFormat, F: FileSystem, L: Log>(
     requires oldest { files.old.recycled.items ≡ kept ∷ drop 1 files.old.recycled.items }
     requires number { seq ≡ suc files.old.active.seq }
     ensures ok { OnOk result (Rotates (G.format layout.now) (G.own layout.now) (G.file_paths layout.now)
-        (header_bytes new_files.now.format) files.old files.new (F.disk file_system.old) (F.disk file_system.new)) }
+        (header_bytes new_files.now.format) files.old files.new
+        (F.disk file_system.old) (F.disk file_system.new)) }
     ensures turned { OnOk result (IsTurned new_files.now.format files.old files.new) }
     ensures err { IfErr result (λ error. RotationLeaves (G.format layout.now) (G.own layout.now)
         (G.file_paths layout.now) (header_bytes new_files.now.format) files.old files.new error

@@ -92,11 +92,13 @@ impl<G: PipeFormat> SinglePipe<G> {
         bytes: &mut B,
     ) -> Result<FileBlockHandle>
         ensures ok { IfOk result (λ block. AppendsAt (G.format self.old.layout) (G.own self.old.layout)
-            (G.file_paths self.old.layout) self.old.settings.new_files self.old.settings.queue (B.signed bytes.old)
+            (G.file_paths self.old.layout) self.old.settings.new_files self.old.settings.queue
+            (B.signed bytes.old)
             self.old.files self.new.files block (F.disk file_system.old) (F.disk file_system.new)) }
         ensures err { self.old.failed ≡ false → IfErr result (λ error.
             AppendFails (G.format self.old.layout) (G.own self.old.layout) (G.file_paths self.old.layout)
-            self.old.settings.new_files self.old.settings.queue (B.signed bytes.old) self.old.files self.new.files error
+            self.old.settings.new_files self.old.settings.queue (B.signed bytes.old) self.old.files
+            self.new.files error
             (F.disk file_system.old) (F.disk file_system.new)) }
         ensures failed { self.old.failed ≡ true → (result ≡ Err errors.Failed) × (self.new ≡ self.old)
             × (F.disk file_system.new ≡ F.disk file_system.old) }

@@ -65,8 +65,8 @@ FailsToAppend {R} F own bytes fault before after old new = (base : Disk) (q : Lo
     → F.IsFrame q.last q.header w.bytes w.value → w.bytes ≡ bytes → IsOpen F own base before q path N old
     → Fails old new × AppendLeaves F own fault base w q before after path N new
 
--- which calls a refused append made, and whose refusal is told: the write's, where what it left was cut off and
--- synced; else the one of the cut, or of its sync
+-- which calls a refused append made, and whose refusal is told: the write's, where what it left was cut off
+-- and synced; else the one of the cut, or of its sync
 abbrev pub AppendMakes : WriteFault → LogFileWriter → LogFileWriter → List ℕ → ℕ → Disk → Disk → Type 0
 AppendMakes (CutBack kind) before after bytes target old new = (middle : LogFileWriter) × (between : Disk)
     × FailsToWriteNext before middle bytes target kind old between × Closes middle after between new
@@ -74,7 +74,8 @@ AppendMakes (Failed kind) before after bytes target old new = (middle : LogFileW
     × (error : ErrorKind) × FailsToWriteNext before middle bytes target error old between
     × FailsToClose middle after kind between new
 
--- whose refusal a file that isn't begun tells: that of its size or of its header's write, or of the sync behind
+-- whose refusal a file that isn't begun tells: that of its size or of its header's write, or of the sync
+-- behind
 abbrev pub BeginMakes : Handle → List ℕ → ErrorKind → Disk → Disk → Type 0
 BeginMakes handle header error old new = FailsToTakeUp handle header true error old new
     ⊎ ((writer : LogFileWriter) × (between : Disk) × TakesUp handle header true writer old between

@@ -25,15 +25,17 @@ pub enum WriteFault {
 /// Writes a record behind the others. Where the write is refused, the file is cut back to what was written
 /// before, and synced.
 pub fn append_record<G: PipeFormat, F: FileSystem, L: Log>(
+    layout: &G,
     rt: &L,
     file_system: &mut F,
     writer: &mut LogFileWriter,
     bytes: &[u8],
     target_size: usize,
 ) -> Result<(), WriteFault>
-    ensures ok { OnOk result (Appends G.format G.own bytes.now writer.old writer.new
+    ensures ok { OnOk result (Appends (G.format layout.now) (G.own layout.now) bytes.now writer.old writer.new
         (F.disk file_system.old) (F.disk file_system.new)) }
-    ensures err { IfErr result (λ fault. FailsToAppend G.format G.own bytes.now fault writer.old writer.new
+    ensures err { IfErr result (λ fault. FailsToAppend (G.format layout.now) (G.own layout.now) bytes.now
+        fault writer.old writer.new
         (F.disk file_system.old) (F.disk file_system.new)) }
 
     // Which calls were made, in their order, and whose refusal is told.
@@ -55,12 +57,14 @@ pub fn append_record<G: PipeFormat, F: FileSystem, L: Log>(
 
 /// Makes all records durable.
 pub fn sync_records<G: PipeFormat, F: FileSystem>(
+    layout: &G,
     file_system: &mut F,
     writer: &LogFileWriter,
 ) -> Result<(), ErrorKind>
     ensures ok { OnOk result
-        (SyncsAll G.format G.own writer.now (F.disk file_system.old) (F.disk file_system.new)) }
-    ensures err { OnErr result (FailsToSyncAll G.format G.own writer.now
+        (SyncsAll (G.format layout.now) (G.own layout.now) writer.now
+        (F.disk file_system.old) (F.disk file_system.new)) }
+    ensures err { OnErr result (FailsToSyncAll (G.format layout.now) (G.own layout.now) writer.now
         (F.disk file_system.old) (F.disk file_system.new)) }
     ensures calls { OnOk result
         (Syncs writer.now.handle (F.disk file_system.old) (F.disk file_system.new)) }
@@ -74,12 +78,13 @@ pub fn sync_records<G: PipeFormat, F: FileSystem>(
 
 /// Finishes the file: cuts it behind its records, and makes these durable.
 pub fn finish_file<G: PipeFormat, F: FileSystem>(
+    layout: &G,
     file_system: &mut F,
     writer: &mut LogFileWriter,
 ) -> Result<(), ErrorKind>
-    ensures ok { OnOk result (Finishes G.format G.own writer.old writer.new
+    ensures ok { OnOk result (Finishes (G.format layout.now) (G.own layout.now) writer.old writer.new
         (F.disk file_system.old) (F.disk file_system.new)) }
-    ensures err { OnErr result (FailsToFinish G.format G.own writer.old
+    ensures err { OnErr result (FailsToFinish (G.format layout.now) (G.own layout.now) writer.old
         (F.disk file_system.old) (F.disk file_system.new)) }
     ensures calls { OnOk result
         (Closes writer.old writer.new (F.disk file_system.old) (F.disk file_system.new)) }
@@ -94,14 +99,16 @@ pub fn finish_file<G: PipeFormat, F: FileSystem>(
 /// Begins the file of a handle, which has got the next number: writes its header, whatever it holds, and
 /// makes that durable.
 pub fn begin_file<G: PipeFormat, F: FileSystem, L: Log>(
+    layout: &G,
     rt: &L,
     file_system: &mut F,
     handle: Handle,
     header: &[u8],
 ) -> Result<LogFileWriter, ErrorKind>
-    ensures ok { IfOk result (λ writer. Begins G.format G.own handle header.now writer
+    ensures ok { IfOk result (λ writer. Begins (G.format layout.now) (G.own layout.now) handle header.now
+        writer
         (F.disk file_system.old) (F.disk file_system.new)) }
-    ensures err { OnErr result (FailsToBegin G.format G.own handle header.now
+    ensures err { OnErr result (FailsToBegin (G.format layout.now) (G.own layout.now) handle header.now
         (F.disk file_system.old) (F.disk file_system.new)) }
     ensures refusal { IfErr result (λ error. BeginMakes handle header.now error
         (F.disk file_system.old) (F.disk file_system.new)) }

@@ -11,5 +11,6 @@ pub mod format;
 pub mod last_file;
 pub mod rotation;
 
-pub use format::PipeFormat;
-pub use last_file::WriteFault;
+pub use format::{DEFAULT_FIRST_FILE_SEQ, DEFAULT_PATH_ID, File, PathId, Paths, PipeFormat};
+pub use last_file::{WriteFault, append_record, begin_file, finish_file, sync_records};
+pub use rotation::{drop_file, rotate_over, rotate_to_new};

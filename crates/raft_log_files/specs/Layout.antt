@@ -1,0 +1,29 @@
+-- Under which paths the files of a queue lie.
+use Rattle.std.specs.Prelude.{◌≡◌, ℕ, ◌<◌, ◌^◌, cond, List}
+use Rattle.raft_log_disk.specs.LogFormat.{Format, IsFormat}
+use Rattle.raft_log_format.specs.Header.{header_bytes, HasHeader}
+use Rattle.raft_log_format.specs.declared.header.LogFileFormat.{LogFileFormat}
+use Rattle.raft_log_file_queue.specs.Standing.{OwnsPaths}
+use Rattle.raft_log_files.specs.declared.format.File.{File}
+
+-- The path of a file by its directory and its number: of a file in its queue, or of one that is kept under
+-- a reserved name.
+pub record FilePaths : Type 0 where
+  pub numbered : ℕ → ℕ → List ℕ
+  pub reserved : ℕ → ℕ → List ℕ
+
+-- the path of a file
+abbrev pub path_of : FilePaths → File → List ℕ
+path_of paths file = cond file.reserved (paths.reserved file.path_id file.seq)
+    (paths.numbered file.path_id file.seq)
+
+-- Each number that is in range has its path in each directory; a reserved name is the queue's own, and no
+-- number's; and each format that has a header has one here.
+pub record IsLayout {R : Type 0} (F : Format R) (own : List ℕ → Type 0) (paths : FilePaths) : Type 0 where
+  pub format : IsFormat F
+  pub owns : OwnsPaths F own
+  pub limit : F.limit ≡ 10 ^ 16
+  pub numbered : (directory n : ℕ) → n < F.limit → F.IsPath n (paths.numbered directory n)
+  pub kept : (directory n : ℕ) → own (paths.reserved directory n)
+  pub apart : (directory n m : ℕ) → m < F.limit → F.IsPath m (paths.reserved directory n) → ⊥
+  pub headed : (format : LogFileFormat) → HasHeader format → F.IsHeader (header_bytes format)

@@ -1,0 +1,6 @@
+pub mod Lists
+pub mod Raising
+pub mod Turning
+pub mod Adding
+pub mod Contexts
+pub mod Dropping

@@ -1,0 +1,6 @@
+pub mod Files
+pub mod Exits
+pub mod Appending
+pub mod Purging
+pub mod Reading
+pub mod Laws

@@ -1,0 +1,11 @@
+//! What is promised of a pipe, at any point between its calls and inside them.
+
+ghost use Rattle.raft_log_pipes.specs.Laws.{PipesAreKept};
+
+use raft_log_files::PipeFormat;
+
+/// Whatever a stop leaves of a pipe's files, all records of the earlier files are read, all synced ones of
+/// the last, and the first of the others; and that is the queue again.
+pub fn pipes_are_kept<G: PipeFormat>()
+    ensures { (layout : G) → PipesAreKept (G.format layout) (G.own layout) (G.file_paths layout) }
+{}

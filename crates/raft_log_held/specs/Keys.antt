@@ -1,6 +1,7 @@
 -- The keys of a group as its table knows them: values, keys deleted since the last carry, and keys that
 -- have room.
-use Rattle.std.specs.Prelude.{ℕ, Bool, true, false, List, Option, Some, None, is_some, bytes_eq}
+use Rattle.std.specs.Prelude.{◌≡◌, ℕ, Bool, true, false, ◌||◌, List, [], ◌∷◌, Option, Some, None, if◌then◌else◌, is_some, bytes_eq}
+use Rattle.std.specs.Option.{option_or}
 use Rattle.std.specs.Map.{lookup}
 use Rattle.raft_log_machine.specs.Whereabouts.{with_key}
 use Rattle.raft_log_places.specs.Shown.{KeyValue, with_held}
@@ -77,3 +78,34 @@ emptied ks = record ks { values = λ k. None }
 -- no key is marked
 abbrev pub unmarked_keys : Keys → Keys
 unmarked_keys ks = record ks { deleted = λ k. false }
+
+-- a later value, or no value where there is none
+abbrev pub with_later : Keys → List ℕ → Option HeldValue → Keys
+with_later ks k None = ks
+with_later ks k (Some h) = with_value ks k (Some (value_of h))
+
+-- what is known of a key, with a later slot of it: marked where that is, and with its value
+abbrev pub with_slot : Keys → List ℕ → KeySlot → Keys
+with_slot ks k slot = with_later (if slot.deleted then with_mark ks k else ks) k slot.held
+
+-- the same with later slots, one after another
+abbrev pub with_slots : Keys → List (List ℕ × KeySlot) → Keys
+with_slots ks [] = ks
+with_slots ks (e ∷ es) = with_slots (with_slot ks e.0 e.1) es
+
+-- the values and marks of later keys over those of earlier ones
+abbrev pub joined_keys : Keys → Keys → Keys
+joined_keys ks later = record {
+  values = λ k. option_or (later.values k) (if later.deleted k then None else ks.values k);
+  deleted = λ k. later.deleted k || ks.deleted k;
+  has = ks.has;
+}
+
+-- the later keys have room among the earlier ones
+abbrev pub HasRoomFor : Keys → Keys → Type 0
+HasRoomFor ks later = (k : List ℕ) → later.has k ≡ true → ks.has k ≡ true
+
+-- each of these keys has room
+abbrev pub HaveRoom : (List ℕ → Bool) → List (List ℕ × KeySlot) → Type 0
+HaveRoom has [] = Unit {0}
+HaveRoom has (e ∷ es) = (has e.0 ≡ true) × HaveRoom has es

@@ -2,6 +2,7 @@
 ghost use Rattle.std.specs.Prelude.{◌≡◌, Some, None, true, false, option_copied, option_map, IsTrue, OnOk, OnErr};
 ghost use Rattle.raft_log_held.specs.Keys.{
   emptied,
+  joined_keys,
   keys_of,
   no_keys,
   rewritten_held,
@@ -11,7 +12,9 @@ ghost use Rattle.raft_log_held.specs.Keys.{
   with_mark,
   with_rewritten,
   with_room,
+  with_slot,
   with_value,
+  HasRoomFor,
 };
 ghost use Rattle.raft_log_held.specs.Counts.{file_of_value, least_value, lesser};
 
@@ -159,6 +162,42 @@ impl KeyMap {
     {
         if let Some(slot) = self.slots.get_mut(key) {
             slot.delete();
+        }
+    }
+
+    /// Makes room for all keys of a later map. Refused or not, no value and no mark changes.
+    pub fn make_room_for(&mut self, later: &KeyMap) -> Result<(), AllocError>
+        ensures values { (keys_of self.new).values ≡ (keys_of self.old).values }
+        ensures deleted { (keys_of self.new).deleted ≡ (keys_of self.old).deleted }
+        ensures room { OnOk result (HasRoomFor (keys_of self.new) (keys_of later.now)) }
+    {
+        for key in later.slots.keys() {
+            self.make_room(key)?;
+        }
+        Ok(())
+    }
+
+    /// The values and marks of a later map, for whose keys there is room, come over those of this one: where
+    /// it has a value or a mark, the value here goes.
+    pub fn join(&mut self, later: KeyMap)
+        requires { HasRoomFor (keys_of self.old) (keys_of later) }
+        ensures { keys_of self.new ≡ joined_keys (keys_of self.old) (keys_of later) }
+    {
+        for (key, slot) in later.slots {
+            self.join_slot(&key, slot);
+        }
+    }
+
+    /// A later slot of a key that has room: its mark, and its value if it has one.
+    fn join_slot(&mut self, key: &[u8], slot: KeySlot)
+        requires { (keys_of self.old).has key.now ≡ true }
+        ensures { keys_of self.new ≡ with_slot (keys_of self.old) key.now slot }
+    {
+        if slot.deleted {
+            self.delete(key);
+        }
+        if let Some(value) = slot.held {
+            self.put(key, value);
         }
     }
 

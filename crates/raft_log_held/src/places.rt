@@ -123,6 +123,17 @@ impl Places {
         }
     }
 
+    /// More places come to the end, in room that was promised for them.
+    pub fn append(&mut self, more: Places)
+        requires { length more.items ≤ self.old.wanted }
+        ensures items { self.new.items ≡ self.old.items ++ more.items }
+        ensures wanted { self.new.wanted ≡ self.old.wanted - length more.items }
+    {
+        let Places { mut places, .. } = more;
+        self.wanted -= places.len();
+        self.places.append(&mut places).unwrap();
+    }
+
     /// Only so many first places stay.
     pub fn truncate(&mut self, count: usize)
         ensures { self.new ≡ record self.old { items = take count self.old.items } }

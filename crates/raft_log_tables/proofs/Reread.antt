@@ -1,5 +1,5 @@
 -- A table that takes what is read again, and a later table over it.
-use Rattle.std.proofs.Common.{◌≡◌, ℕ, ◌+◌, ◌-◌, ◌<◌, ◌≤◌, min, Bool, true, false, ◌&&◌, ◌||◌, List, [], ◌∷◌, ◌++◌, length, map, take, drop, Option, Some, None, if◌then◌else◌, nat_lt, refl, sym, ap, ap₂, ◌∙◌, arith, append-nil}
+use Rattle.std.proofs.Common.{◌≡◌, ℕ, ◌+◌, ◌-◌, ◌≤◌, min, Bool, true, false, ◌&&◌, ◌||◌, List, [], ◌∷◌, ◌++◌, length, take, Option, Some, None, if◌then◌else◌, nat_lt, refl, ap, ap₂, ◌∙◌, arith, append-nil}
 use Rattle.std.specs.Option.{option_or}
 use Rattle.raft_log_model.specs.Item.{Item}
 use Rattle.raft_log_model.specs.Item.Item.{Run, Clean, Compact, Put, Del}
@@ -8,7 +8,7 @@ use Rattle.raft_log_model.proofs.Cases.{at_bool, from_lt_false}
 use Rattle.raft_log_items.specs.declared.entry.EntryIndex.{EntryIndex}
 use Rattle.raft_log_places.specs.declared.place.Place.{Place}
 use Rattle.raft_log_places.specs.Shown.{Shown, span, stepped}
-use Rattle.raft_log_places.specs.Replayed.{Replayed, both_noted, left, low_with, replay_step, replayed, run_over, with_newer}
+use Rattle.raft_log_places.specs.Replayed.{Replayed, both_noted, left, low_with, replay_step, run_over, with_newer}
 use Rattle.raft_log_held.specs.Entries.{run_of}
 use Rattle.raft_log_tables.specs.Replays.{under}
 

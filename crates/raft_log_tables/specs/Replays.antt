@@ -1,5 +1,5 @@
 -- Runs and segments that come over what a table has.
-use Rattle.std.specs.Prelude.{◌≡◌, ℕ, ◌+◌, ◌-◌, ◌≤◌, ◌⊎◌, min, Bool, true, false, not, ◌&&◌, List, [], length, take, Option, if◌then◌else◌, nat_lt}
+use Rattle.std.specs.Prelude.{◌≡◌, ℕ, ◌-◌, ◌≤◌, ◌⊎◌, min, Bool, true, false, not, ◌&&◌, [], length, take, if◌then◌else◌, nat_lt}
 use Rattle.raft_log_base.specs.declared.errors.Error.{Error}
 use Rattle.raft_log_base.specs.declared.errors.Error.TheVariants as errors
 use Rattle.raft_log_base.specs.declared.pipe_log.LogQueue.{LogQueue}
@@ -8,7 +8,7 @@ use Rattle.raft_log_model.specs.Holes.{is_past}
 use Rattle.raft_log_places.specs.Shown.{Shown, span}
 use Rattle.raft_log_places.specs.Replayed.{LeavesHole, Replayed, left}
 use Rattle.raft_log_held.specs.Keys.{keys_of, HasRoomFor}
-use Rattle.raft_log_tables.specs.Table.{Raw, promise, shown}
+use Rattle.raft_log_tables.specs.Table.{Raw}
 
 -- whether the queue is Append
 abbrev pub in_append : LogQueue → Bool

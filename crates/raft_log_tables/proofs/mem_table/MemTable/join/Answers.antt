@@ -1,4 +1,4 @@
-use Rattle.std.proofs.Common.{◌≡◌, ◌+◌, ap, ap₂, arith, false, length, nat_lt, sym, true, if◌then◌else◌, ◌∙◌}
+use Rattle.std.proofs.Common.{◌≡◌, ◌+◌, ap, ap₂, arith, length, nat_lt, sym, if◌then◌else◌, ◌∙◌}
 use Rattle.raft_log_model.proofs.Cases.{if_false, if_true, lt_false, lt_true}
 use Rattle.raft_log_places.specs.Replayed.{left, with_newer}
 use Rattle.raft_log_held.specs.Keys.{keys_of}

@@ -1,6 +1,5 @@
-pub mod ByteKeys
-pub mod Replacing
 pub mod Ready
 pub mod Leasts
 pub mod Rewriting
 pub mod Fetching
+pub mod Reread

@@ -16,7 +16,7 @@ key_stays : (b : Bool) (old : Bool) → old ≡ true → (if b then true else ol
 key_stays true old h = refl
 key_stays false old h = h
 
-key_here : (has : List ℕ → Bool) (k : List ℕ) → with_key has k true k ≡ true
+pub key_here : (has : List ℕ → Bool) (k : List ℕ) → with_key has k true k ≡ true
 key_here has k = either (bytes_eq k k) (has k) (same k)
   where
     either : (b : Bool) (old : Bool) → b ≡ true → (if b then true else old) ≡ true

@@ -6,10 +6,11 @@ use Rattle.raft_log_model.specs.Item.{Item}
 use Rattle.raft_log_model.specs.Holes.{Window}
 use Rattle.raft_log_places.specs.declared.group_files.GroupFiles.{GroupFiles}
 use Rattle.raft_log_places.specs.Shown.{Shown, MayFollow}
+use Rattle.raft_log_places.specs.Replayed.{Replayed}
 use Rattle.raft_log_tables.specs.declared.ends.Ends.{Ends}
-use Rattle.raft_log_tables.specs.declared.key_map.KeySlot.{KeySlot}
-use Rattle.raft_log_tables.specs.Keys.{keys_of}
-use Rattle.raft_log_tables.specs.Entries.{PlaceList}
+use Rattle.raft_log_held.specs.declared.key_map.KeySlot.{KeySlot}
+use Rattle.raft_log_held.specs.Keys.{keys_of}
+use Rattle.raft_log_held.specs.Entries.{PlaceList}
 use Rattle.raft_log_tables.specs.Room.{Promise}
 
 -- a table with its room
@@ -22,6 +23,8 @@ pub record Raw : Type 0 where
   pub cleaned : Bool
   pub compacted : Bool
   pub noted : Option GroupFiles
+  pub low : ℕ
+  pub high : Option ℕ
 
 -- two ends as a window of the model
 abbrev pub window_of : Ends → Window
@@ -39,6 +42,14 @@ shown t = record {
   compacted = t.compacted;
   noted = t.noted;
 }
+
+-- what a table is of the segments that were read into it
+abbrev pub replay_of : Raw → Replayed
+replay_of t = record { table = shown t; low = t.low; high = t.high }
+
+-- what was read leaves the same of what stood before
+abbrev pub IsBoundAs : Raw → Raw → Type 0
+IsBoundAs t u = (u.low ≡ t.low) × (u.high ≡ t.high)
 
 -- what a table promised
 abbrev pub promise : Raw → Promise

@@ -17,18 +17,21 @@ ghost use Rattle.raft_log_places.specs.Shown.{
 };
 ghost use Rattle.raft_log_places.specs.Bridge.{moved_key, unmarked};
 ghost use Rattle.raft_log_places.specs.Noted.{start_of};
-ghost use Rattle.raft_log_tables.specs.Entries.{entry_of, queue_of, run_of};
+ghost use Rattle.raft_log_held.specs.Entries.{entry_of, queue_of, run_of};
 ghost use Rattle.raft_log_tables.specs.Files.{least_rewritten, min_file, noted_after, with_group};
 ghost use Rattle.raft_log_tables.specs.Moves.{key_rewritten, may_move, moved_by, owed_compact, rewritten_by, StandsIn};
-ghost use Rattle.raft_log_tables.specs.Keys.{shown_value, value_of};
+ghost use Rattle.raft_log_held.specs.Keys.{shown_value, value_of};
 ghost use Rattle.raft_log_tables.specs.Reads.{entries_from, entry_at, first_of, last_of, Fetches, FetchRefused};
 ghost use Rattle.raft_log_tables.specs.Room.{kept, no_promise, promised, taken_back, with_room_for, CanTake};
-ghost use Rattle.raft_log_tables.specs.Table.{promise, shown, window_of, RunRefused};
+ghost use Rattle.raft_log_places.specs.Replayed.{nothing_replayed};
+ghost use Rattle.raft_log_tables.specs.Table.{promise, replay_of, shown, window_of, IsBoundAs, RunRefused};
+
+mod merge;
+mod replay;
 
 use crate::ends::Ends;
-use crate::key_map::{HeldValue, KeyMap, lesser};
-use crate::places::{Places, entry_of};
 use raft_log_base::{Error, FileSeq, LogQueue, Result};
+use raft_log_held::{HeldValue, KeyMap, Places, entry_of, lesser};
 use raft_log_items::{Bytes, EntryIndex};
 use raft_log_places::GroupFiles;
 use std::alloc::{AllocError, Global};
@@ -48,6 +51,10 @@ pub struct MemTable {
     cleaned: bool,
     compacted: bool,
     noted: Option<GroupFiles>,
+    /// The greatest index of a Compact that was read.
+    low: u64,
+    /// The least start of a run that was read.
+    high: Option<u64>,
 }
 
 impl Model for MemTable {
@@ -65,6 +72,8 @@ impl Model for MemTable {
       cleaned = t.cleaned;
       compacted = t.compacted;
       noted = t.noted;
+      low = t.low;
+      high = t.high;
     } };
 
     ghost invariant = { λ t. (t.rewritten ≤ length t.places.items)
@@ -76,6 +85,7 @@ impl MemTable {
     pub fn new(alloc: Global) -> MemTable
         ensures shows { shown result ≡ nothing_shown }
         ensures room { promise result ≡ no_promise }
+        ensures replay { replay_of result ≡ nothing_replayed }
     {
         MemTable {
             first: 0,
@@ -86,6 +96,8 @@ impl MemTable {
             cleaned: false,
             compacted: false,
             noted: None,
+            low: 0,
+            high: None,
         }
     }
 
@@ -239,6 +251,7 @@ impl MemTable {
         ensures follows { OnOk result (MayFollow (promise self.old).ends (run_of entries.now)) }
         ensures err { OnErr result (promise self.new ≡ promise self.old) }
         ensures errors { IfErr result (λ e. RunRefused (promise self.old).ends (run_of entries.now) e) }
+        ensures bounds { IsBoundAs self.old self.new }
     {
         let Some(ahead) = self.ahead.after_run(entries) else {
             return Err(Error::Hole);
@@ -253,6 +266,7 @@ impl MemTable {
         ensures shows { shown self.new ≡ shown self.old }
         ensures ok { OnOk result (promise self.new ≡ with_room_for (promise self.old) key.now) }
         ensures err { OnErr result (promise self.new ≡ promise self.old) }
+        ensures bounds { IsBoundAs self.old self.new }
     {
         self.keys.make_room(key)
     }
@@ -278,6 +292,7 @@ impl MemTable {
     pub fn take_back(&mut self)
         ensures shows { shown self.new ≡ shown self.old }
         ensures room { promise self.new ≡ taken_back (promise self.old) (span (shown self.old)) }
+        ensures bounds { IsBoundAs self.old self.new }
     {
         self.places.forget_room();
         self.ahead = self.span();
@@ -289,6 +304,7 @@ impl MemTable {
         requires room { CanTake (shown self.old) (promise self.old) (run_of entries.now) }
         ensures shows { (n : ℕ) → shown self.new ≡ stepped n (shown self.old) (run_of entries.now) }
         ensures room { promise self.new ≡ kept (promise self.old) (run_of entries.now) }
+        ensures bounds { IsBoundAs self.old self.new }
     {
         let Some(front) = entries.first() else {
             return;
@@ -302,27 +318,12 @@ impl MemTable {
         self.places.push(entries);
     }
 
-    /// The entries of a record that is read again: room for them is made, and they stand in Append. Nothing
-    /// else may be promised; what is, is taken back. `Hole` where they start past the index after the last;
-    /// where it is refused, nothing shows.
-    pub fn replay_append(&mut self, entries: &[EntryIndex]) -> Result<()>
-        requires { IsRun entries.now }
-        ensures ok { (n : ℕ)
-            → OnOk result (shown self.new ≡ stepped n (shown self.old) (run_of entries.now)) }
-        ensures err { OnErr result (shown self.new ≡ shown self.old) }
-        ensures errors { IfErr result (λ e. RunRefused (span (shown self.old)) (run_of entries.now) e) }
-    {
-        self.take_back();
-        self.prepare_append(entries)?;
-        self.append(entries);
-        Ok(())
-    }
-
     /// The key has this value, in this file of Append.
     pub fn put(&mut self, key: &[u8], bytes: Bytes, file: FileSeq)
         requires { (promise self.old).has key.now ≡ true }
         ensures shows { shown self.new ≡ with_put file (shown self.old) key.now bytes }
         ensures room { promise self.new ≡ promise self.old }
+        ensures bounds { IsBoundAs self.old self.new }
     {
         let value = HeldValue {
             bytes,
@@ -337,6 +338,7 @@ impl MemTable {
         requires { (promise self.old).has key.now ≡ true }
         ensures shows { shown self.new ≡ with_del (shown self.old) key.now }
         ensures room { promise self.new ≡ promise self.old }
+        ensures bounds { IsBoundAs self.old self.new }
     {
         self.keys.delete(key);
     }
@@ -346,6 +348,7 @@ impl MemTable {
         ensures shows { shown self.new ≡ with_compact (shown self.old) index }
         ensures count { result ≡ min (index - (shown self.old).first) (length (shown self.old).places) }
         ensures room { promise self.new ≡ promise self.old }
+        ensures bounds { IsBoundAs self.old self.new }
     {
         let count = (index.saturating_sub(self.first) as usize).min(self.places.len());
         self.rewritten = self.rewritten.saturating_sub(count);
@@ -359,6 +362,7 @@ impl MemTable {
     pub fn clean(&mut self)
         ensures shows { shown self.new ≡ with_clean (shown self.old) }
         ensures room { promise self.new ≡ promise self.old }
+        ensures bounds { IsBoundAs self.old self.new }
     {
         self.places.truncate(0);
         self.first = 0;
@@ -405,6 +409,7 @@ impl MemTable {
     pub fn apply_rewrite_atomic_group(&mut self, files: GroupFiles)
         ensures shows { shown self.new ≡ with_group self.old files }
         ensures room { promise self.new ≡ promise self.old }
+        ensures bounds { IsBoundAs self.old self.new }
     {
         self.noted = Some(noted_after(self.least_rewritten(), self.noted, files));
     }
@@ -481,6 +486,7 @@ impl MemTable {
     pub fn clear_marks(&mut self)
         ensures shows { shown self.new ≡ unmarked (shown self.old) }
         ensures room { promise self.new ≡ promise self.old }
+        ensures bounds { IsBoundAs self.old self.new }
     {
         self.cleaned = false;
         self.compacted = false;

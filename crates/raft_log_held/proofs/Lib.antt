@@ -1,0 +1,4 @@
+pub mod ByteKeys
+pub mod JoinedKeys
+pub mod Replacing
+pub mod Sizing

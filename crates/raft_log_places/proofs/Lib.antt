@@ -5,3 +5,8 @@ pub mod Meant
 pub mod Moving
 pub mod Marking
 pub mod Noting
+pub mod Replays
+pub mod Joining
+pub mod Telling
+pub mod Merging
+pub mod Alone

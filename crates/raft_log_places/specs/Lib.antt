@@ -1,3 +1,4 @@
 pub mod Shown
 pub mod Bridge
 pub mod Noted
+pub mod Replayed

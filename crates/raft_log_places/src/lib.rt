@@ -5,6 +5,7 @@
 pub mod group_files;
 pub mod laws;
 pub mod place;
+pub mod replay_laws;
 
 pub use group_files::GroupFiles;
 pub use place::Place;

@@ -25,7 +25,7 @@ use Rattle.raft_log_machine.specs.Whereabouts.{GrowsBy}
 use Rattle.raft_log_places.specs.Bridge.{in_queue, IsMeant, Located}
 use Rattle.raft_log_places.proofs.Grow.{batch_grows, orderly_after}
 use Rattle.raft_log_places.proofs.Meant.{batch_meant}
-use Rattle.raft_log_tables.specs.Entries.{place_of}
+use Rattle.raft_log_held.specs.Entries.{place_of}
 use Rattle.raft_log_tables.specs.Room.{Promise, kept, IsReady, CanTake}
 use Rattle.raft_log_tables.proofs.Ready.{ready_can, ready_next, ready_renamed}
 use Rattle.raft_log_replay.specs.declared.mem_tables.MemTables.{MemTables}

@@ -2,7 +2,7 @@
 ghost use Rattle.std.specs.Prelude.{◌≡◌, false, OnOk, OnErr, IfErr};
 ghost use Rattle.raft_log_places.specs.Shown.{nothing_shown, stepped, MayFollow};
 ghost use Rattle.raft_log_records.specs.Meaning.{meaning};
-ghost use Rattle.raft_log_tables.specs.Entries.{place_of};
+ghost use Rattle.raft_log_held.specs.Entries.{place_of};
 ghost use Rattle.raft_log_tables.specs.Room.{kept, no_promise, promised, taken_back, CanTake};
 ghost use Rattle.raft_log_tables.specs.Table.{promise, shown, RunRefused};
 ghost use Rattle.raft_log_places.specs.Shown.{span};

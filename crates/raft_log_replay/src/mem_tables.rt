@@ -4,7 +4,7 @@ ghost use Rattle.raft_log_model.specs.Groups.{of_group};
 ghost use Rattle.raft_log_places.specs.Shown.{nothing_shown, span};
 ghost use Rattle.raft_log_records.specs.AtomicGroup.{has_mark_key};
 ghost use Rattle.raft_log_records.specs.Meaning.{meaning, tagged, tagged_items};
-ghost use Rattle.raft_log_tables.specs.Entries.{place_of};
+ghost use Rattle.raft_log_held.specs.Entries.{place_of};
 ghost use Rattle.raft_log_tables.specs.Room.{CanTake};
 ghost use Rattle.raft_log_replay.specs.Batch.{
   all_shown,

@@ -1,5 +1,3 @@
-pub mod ByteKeys
-pub mod Replacing
 pub mod Ready
 pub mod Leasts
 pub mod Rewriting

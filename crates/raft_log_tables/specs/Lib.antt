@@ -1,6 +1,4 @@
 pub mod Stats
-pub mod Keys
-pub mod Entries
 pub mod Room
 pub mod Table
 pub mod Reads

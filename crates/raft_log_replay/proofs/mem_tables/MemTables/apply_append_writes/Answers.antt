@@ -3,7 +3,7 @@ use Rattle.std.specs.Vec.Iter.{into_iter_items}
 use Rattle.raft_log_items.specs.declared.item.LogItem.{LogItem}
 use Rattle.raft_log_model.specs.Groups.{of_group}
 use Rattle.raft_log_records.specs.Meaning.{tagged_items}
-use Rattle.raft_log_tables.specs.Entries.{place_of}
+use Rattle.raft_log_held.specs.Entries.{place_of}
 use Rattle.raft_log_replay.specs.Tables.{counts, shown_of}
 use Rattle.raft_log_replay.specs.Batch.{all_shown, counts_at_end, IsReadyFor}
 use Rattle.raft_log_replay.proofs.Applied.{counts_on, first_has, first_takes, ready_for, ready_on, shown_on}

@@ -1,0 +1,3 @@
+pub mod ByteKeys
+pub mod Replacing
+pub mod Sizing

@@ -1,0 +1,42 @@
+//! What a batch does to the tables of all groups is what the machine may do: each law is a function without
+//! a body.
+
+ghost use Rattle.std.specs.Prelude.{ℕ, List};
+ghost use Rattle.raft_log_model.specs.Item.{Tagged};
+ghost use Rattle.raft_log_model.specs.Groups.{of_group, Map};
+ghost use Rattle.raft_log_model.specs.Meaning.{after};
+ghost use Rattle.raft_log_machine.specs.Whereabouts.{GrowsBy};
+ghost use Rattle.raft_log_base.specs.declared.pipe_log.FileBlockHandle.{FileBlockHandle};
+ghost use Rattle.raft_log_items.specs.declared.item.LogItem.{LogItem};
+ghost use Rattle.raft_log_items.specs.Placed.{written};
+ghost use Rattle.raft_log_records.specs.Meaning.{tagged_items};
+ghost use Rattle.raft_log_places.specs.declared.place.Place.{Place};
+ghost use Rattle.raft_log_places.specs.Shown.{whereabouts, IsOrderly, Shown};
+ghost use Rattle.raft_log_places.specs.Bridge.{IsMeant, Located};
+ghost use Rattle.raft_log_replay.specs.declared.mem_tables.MemTables.{MemTables};
+ghost use Rattle.raft_log_replay.specs.Batch.{all_shown, all_written, IsReadyFor, MayFollowAll};
+ghost use Rattle.raft_log_replay.specs.Tables.{shown_of};
+
+/// A batch in a file of Append, none of whose runs leaves a hole or ends past 2^64 - 1, is taken in each
+/// group: where things stand follows its items, and what the places mean is the map with the batch on it.
+pub fn batch_grows_everywhere<E>()
+    ensures grows { (at : Located → E) (n : ℕ) (v : ℕ → Shown) (xs : List (Tagged Place (List ℕ)))
+        → ((g : ℕ) → IsOrderly (v g)) → MayFollowAll v xs
+        → (g : ℕ) → GrowsBy (whereabouts (v g)) (of_group g (all_written at xs)) (whereabouts (all_shown n v xs g)) }
+    ensures orderly { (n : ℕ) (v : ℕ → Shown) (xs : List (Tagged Place (List ℕ)))
+        → ((g : ℕ) → IsOrderly (v g)) → MayFollowAll v xs → (g : ℕ) → IsOrderly (all_shown n v xs g) }
+    ensures means { (at : Located → E) (n : ℕ) (v : ℕ → Shown) (xs : List (Tagged Place (List ℕ)))
+        → ((g : ℕ) → IsOrderly (v g)) → MayFollowAll v xs
+        → (m : Map E (List ℕ)) → ((g : ℕ) → IsMeant at (v g) (m g))
+        → (g : ℕ) → IsMeant at (all_shown n v xs g) (after (m g) (of_group g (all_written at xs))) }
+{}
+
+/// Tables that are ready for a batch before it is written are so once it is, wherever that was; and a batch
+/// that they are ready for may come.
+pub fn ready_wherever_written()
+    ensures written { (m : MemTables) (handle : FileBlockHandle) (items : List LogItem)
+        → IsReadyFor m (tagged_items (λ e. e) items)
+        → IsReadyFor m (tagged_items (λ e. e) (written handle items)) }
+    ensures follows { (m : MemTables) (items : List LogItem) → IsReadyFor m (tagged_items (λ e. e) items)
+        → MayFollowAll (shown_of m) (tagged_items (λ e. e) items) }
+{}

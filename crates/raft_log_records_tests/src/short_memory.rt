@@ -37,8 +37,8 @@ fn call(alloc: Global, number: usize) -> Result<usize> {
     }
 }
 
-/// What each call answers: records of 16 + 10 + 20 and of 16 + 22 + 11 bytes, a copy of one of 36, one item and
-/// three that are read, and a footer of 22 + 4 bytes.
+/// What each call answers: records of 16 + 10 + 20 and of 16 + 22 + 11 bytes, a copy of one of 36, one item
+/// and three that are read, and a footer of 22 + 4 bytes.
 const ANSWERS: [usize; 6] = [46, 49, 36, 1, 3, 26];
 
 #[test]

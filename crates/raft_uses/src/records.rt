@@ -2,8 +2,17 @@
 //! room that is made in a batch first, so that what comes later isn't refused.
 ghost use Rattle.std.specs.Prelude.{◌≡◌, ◌+◌, ◌<◌, ◌^◌, length, IsOk, IfOk, OnOk, OnErr};
 ghost use Rattle.raft_log_base.specs.Files.{signature_of};
-ghost use Rattle.raft_log_records.specs.declared.log_batch.BatchState.TheVariants.{Filling, Populated, Signed};
-ghost use Rattle.raft_log_records.specs.Batch.{Becomes, HasRoomFor, IsButBuffer, IsReadyForEach, IsRoomier, empty_batch, signed_as, with_batch, written_at};
+ghost use Rattle.raft_log_records.specs.declared.log_batch.BatchState.TheVariants.{Filling, Signed};
+ghost use Rattle.raft_log_records.specs.Batch.{
+  HasRoomFor,
+  IsButBuffer,
+  IsReadyForEach,
+  IsRoomier,
+  empty_batch,
+  signed_as,
+  with_batch,
+  written_at,
+};
 
 use raft_log_items::{FileBlockHandle, LogFileContext, Result};
 use raft_log_records::LogBatch;
@@ -52,7 +61,7 @@ pub fn take_over(batch: &mut LogBatch, other: &mut LogBatch)
     requires own { batch.old.state ≡ Filling }
     requires other { other.old.state ≡ Filling }
     requires room { HasRoomFor batch.old other.old }
-    ensures taken { Becomes (with_batch batch.old other.old) batch.new }
+    ensures taken { IsRoomier (with_batch batch.old other.old) batch.new }
     ensures emptied { other.new ≡ empty_batch other.old.capacity other.old.buffer }
 {
     let _merged = batch.merge(other);

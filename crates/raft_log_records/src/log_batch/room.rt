@@ -25,7 +25,8 @@ impl LogBatch {
         ensures room { OnOk result (HasRoomOf self.new items entries_len) }
         ensures same { IsRoomier self.old self.new }
         ensures succeeds { HasRoomOf self.old items entries_len → IsOk result }
-        ensures errors { IfErr result (λ e. IsRoomRefusal e max_entries_len (length self.old.entries + entries_len)) }
+        ensures errors { IfErr result (λ e.
+            IsRoomRefusal e max_entries_len (length self.old.entries + entries_len)) }
     {
         if entries_len > MAX_ENTRIES_LEN - self.entries_len {
             return Err(Error::Full);

@@ -15,6 +15,4 @@ mod numbers;
 #[cfg(test)]
 mod refusals;
 #[cfg(test)]
-mod short_memory;
-#[cfg(test)]
 mod sizes;

@@ -3,14 +3,14 @@ use Rattle.std.proofs.Common.{◌≡◌, ℕ, zero, suc, ◌+◌, ◌<◌, ◌�
 use Rattle.std.proofs.Math.ListN.{set}
 use Rattle.std.proofs.lemmas.List.Elements.{All-more}
 use Rattle.std.proofs.lemmas.List.{take_more, take-map, map-append, append-nil, get_or-map, length-map, length-append, length-take-le}
-use Rattle.std.proofs.lemmas.List.Sums.{sum_by-cons, sum_by-take-le}
+use Rattle.std.proofs.lemmas.List.Sums.{sum_by-cons, sum_by_push, sum_by-take-le}
 use Rattle.std.proofs.lemmas.List.Concat.{length-flat_map, flat_map-append}
 use Rattle.raft_log_items.specs.declared.entry.EntryIndex.{EntryIndex}
 use Rattle.raft_log_items.specs.Run.{FollowsFrom, IsRun, unplaced_entry}
-use Rattle.raft_log_items.specs.Placed.{run_len}
-use Rattle.raft_log_items.proofs.Places.{inner_get, inner_set}
+use Rattle.raft_log_items.specs.Placed.{run_len, laid_run}
+use Rattle.raft_log_items.proofs.Places.{inner_get, inner_set, laid_run-append, run-laid}
 use Rattle.std.specs.Borrow.{Bor}
-use Rattle.raft_log_records.specs.Entries.{RisesFrom, IsIndexRun, entries_of, joined, bytes_len, slices_bytes}
+use Rattle.raft_log_records.specs.Entries.{RisesFrom, IsIndexRun, entries_of, joined, bytes_len, slices_bytes, laid_slices}
 
 abbrev pub indexes_of : List EntryIndex → List ℕ
 indexes_of es = map (λ (e : EntryIndex). e.index) es
@@ -145,3 +145,55 @@ pub slice_len : (xs : List (Bor (List ℕ))) (i : ℕ) (d : Bor (List ℕ)) → 
 slice_len [] i d lt = absurd (omega arith)
 slice_len (x ∷ xs) zero d lt = omega (arith, sum_by-cons (λ (y : List ℕ). length y) x.now (slices_bytes xs))
 slice_len (x ∷ xs) (suc i) d lt = omega (arith, sum_by-cons (λ (y : List ℕ). length y) x.now (slices_bytes xs), slice_len xs i d (omega arith))
+
+-- the bytes of one slice more
+slices_more : (xs : List (Bor (List ℕ))) (i : ℕ) (b : Bor (List ℕ)) → i < length xs → b ≡ get_or xs i b
+    → slices_bytes (take (i + 1) xs) ≡ slices_bytes (take i xs) ++ b.now ∷ []
+slices_more xs i b lt is =
+    let now : Bor (List ℕ) → List ℕ = λ (s : Bor (List ℕ)). s.now in
+    ap (λ (l : List (Bor (List ℕ))). slices_bytes l) (take_more xs i b lt ∙ ap (λ (y : Bor (List ℕ)). take i xs ++ y ∷ []) (sym is)) ∙ map-append now (take i xs) (b ∷ [])
+
+-- one slice more has so many bytes more
+pub slices_len-more : (xs : List (Bor (List ℕ))) (i : ℕ) (b : Bor (List ℕ)) → i < length xs → b ≡ get_or xs i b
+    → bytes_len (slices_bytes (take (i + 1) xs)) ≡ bytes_len (slices_bytes (take i xs)) + length b.now
+slices_len-more xs i b lt is =
+    ap (λ (l : List (List ℕ)). bytes_len l) (slices_more xs i b lt is) ∙ sum_by_push (λ (y : List ℕ). length y) (slices_bytes (take i xs)) b.now
+
+-- one entry more lies behind the others
+pub laid_more : (offset next i len : ℕ) (given : List EntryIndex) (xs : List (Bor (List ℕ))) (d : EntryIndex) (b : Bor (List ℕ)) (laid : List EntryIndex)
+    → i < length given → length given ≡ length xs → b ≡ get_or xs i b → len ≡ length b.now → next ≡ offset + bytes_len (slices_bytes (take i xs))
+    → laid ≡ laid_slices offset (take i given) (take i xs)
+    → laid ++ record (unplaced_entry (get_or given i d).index len) { entry_offset = next } ∷ [] ≡ laid_slices offset (take (i + 1) given) (take (i + 1) xs)
+laid_more offset next i len given xs d b laid lt same is l n h =
+    let index : ℕ = (get_or given i d).index in
+    let now : Bor (List ℕ) → List ℕ = λ (s : Bor (List ℕ)). s.now in
+    let front : List EntryIndex = take i given in
+    let slices : List (Bor (List ℕ)) = take i xs in
+    let item : EntryIndex = unplaced_entry index (length b.now) in
+    let run : List EntryIndex = entries_of (indexes_of front) (slices_bytes slices) in
+    let count : length (indexes_of front) ≡ i = length-map front (λ (x : EntryIndex). x.index) ∙ length-take-le i given (omega arith) in
+    let count' : length (slices_bytes slices) ≡ i = length-map slices now ∙ length-take-le i xs (omega (arith, same)) in
+    let even : length (indexes_of front) ≡ length (slices_bytes slices) = count ∙ sym count' in
+    let more : indexes_of (take (i + 1) given) ≡ indexes_of front ++ index ∷ [] =
+    ap (λ (y : List EntryIndex). indexes_of y) (take_more given i d lt) ∙ map-append (λ (x : EntryIndex). x.index) front (get_or given i d ∷ []) in
+    let whole : entries_of (indexes_of (take (i + 1) given)) (slices_bytes (take (i + 1) xs)) ≡ run ++ item ∷ [] =
+    ap (λ (y : List ℕ). entries_of y (slices_bytes (take (i + 1) xs))) more
+    ∙ ap (λ (y : List (List ℕ)). entries_of (indexes_of front ++ index ∷ []) y) (slices_more xs i b (omega (arith, lt, same)) is)
+    ∙ entries_of-push (indexes_of front) (slices_bytes slices) index b.now even in
+    let place : next ≡ offset + run_len run = n ∙ ap (λ (k : ℕ). offset + k) (sym (run_len-entries_of (indexes_of front) (slices_bytes slices) even)) in
+    ap (λ (y : List EntryIndex). y ++ record (unplaced_entry index len) { entry_offset = next } ∷ []) h
+    ∙ ap (λ (k : ℕ). laid_run offset run ++ record (unplaced_entry index k) { entry_offset = next } ∷ []) l
+    ∙ ap (λ (k : ℕ). laid_run offset run ++ record item { entry_offset = k } ∷ []) place
+    ∙ sym (laid_run-append offset run (item ∷ []))
+    ∙ ap (λ (y : List EntryIndex). laid_run offset y) (sym whole)
+
+-- such entries are a run
+pub laid_is_run : (offset : ℕ) (given : List EntryIndex) (xs : List (Bor (List ℕ))) → IsIndexRun (indexes_of given) → length given ≡ length xs → bytes_len (slices_bytes xs) < 2 ^ 32
+    → IsRun (laid_slices offset given xs)
+laid_is_run offset given xs run same fits =
+    let even : length (indexes_of given) ≡ length (slices_bytes xs) = length-map given (λ (x : EntryIndex). x.index) ∙ same ∙ sym (length-map xs (λ (s : Bor (List ℕ)). s.now)) in
+    run-laid offset (entries_of (indexes_of given) (slices_bytes xs)) (run_of_entries (indexes_of given) (slices_bytes xs) run even fits)
+
+-- a part of the slices has no more bytes
+pub slices_part : (xs : List (Bor (List ℕ))) (i : ℕ) → bytes_len (slices_bytes (take i xs)) ≤ bytes_len (slices_bytes xs)
+slices_part xs i = part_len (λ (s : Bor (List ℕ)). s.now) xs i

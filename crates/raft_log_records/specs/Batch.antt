@@ -61,12 +61,16 @@ kept_buffer n = if nat_lt max_kept_len n then 0 else n
 abbrev pub emptied : Batch → Batch
 emptied b = empty_batch b.capacity (kept_buffer b.buffer)
 
--- there is room for the other batch too: for its items, for its entries' bytes, and these are not too many
+-- there is room for so many more items, and for so many more bytes of entries, and these are not too many
+abbrev pub HasRoomOf : Batch → ℕ → ℕ → Type 0
+HasRoomOf b items bytes =
+    (length b.items + items ≤ b.capacity)
+    × (16 + length b.entries + bytes ≤ b.buffer)
+    × (length b.entries + bytes ≤ max_entries_len)
+
+-- there is room for the other batch too: for its items and for its entries' bytes
 abbrev pub HasRoomFor : Batch → Batch → Type 0
-HasRoomFor b other =
-    (length b.items + length other.items ≤ b.capacity)
-    × (16 + length b.entries + length other.entries ≤ b.buffer)
-    × (length b.entries + length other.entries ≤ max_entries_len)
+HasRoomFor b other = HasRoomOf b (length other.items) (length other.entries)
 
 -- the batch with one more item, which has no entries
 abbrev pub with_item : Batch → LogItem → Batch
@@ -93,6 +97,10 @@ IsButBuffer wanted new = new ≡ record wanted { buffer = new.buffer }
 abbrev pub Becomes : Batch → Batch → Type 0
 Becomes wanted new =
     (new ≡ record wanted { capacity = new.capacity; buffer = new.buffer }) × (wanted.capacity ≤ new.capacity)
+
+-- the batch is this one but for its room, which is no less
+abbrev pub IsRoomier : Batch → Batch → Type 0
+IsRoomier wanted new = Becomes wanted new × (wanted.buffer ≤ new.buffer)
 
 -- the item was added
 abbrev pub AddsItem : Batch → Batch → LogItem → Type 0

@@ -137,6 +137,10 @@ IsMergeRefusal e entries others = IsRoomRefusal e max_entries_len (length entrie
 abbrev pub slices_bytes : List (Bor (List ℕ)) → List (List ℕ)
 slices_bytes slices = map (λ s. s.now) slices
 
+-- the run of entries with these indexes, whose bytes are these slices, laid out from this offset on
+abbrev pub laid_slices : ℕ → List EntryIndex → List (Bor (List ℕ)) → List EntryIndex
+laid_slices offset indexes slices = laid_run offset (entries_of (indexes_of indexes) (slices_bytes slices))
+
 -- entries with these indexes, whose bytes are these slices, were added to a group
 abbrev pub AddsSlices : Batch → Batch → ℕ → List EntryIndex → List (Bor (List ℕ)) → Type 0
 AddsSlices old new group indexes slices = AddsEntries old new group (indexes_of indexes) (slices_bytes slices)

@@ -14,6 +14,7 @@ use std::marker::Model;
 mod entries;
 mod merge;
 mod messages;
+mod room;
 
 /// How many bytes a checksum has.
 const CHECKSUM_LEN: usize = 4;
@@ -410,6 +411,7 @@ fn block_len(len: usize) -> usize
 fn make_room(buf: &mut Vec<u8>, more: usize) -> Result<(), AllocError>
     ensures ok { OnOk result (buf.new.items ≡ roomy buf.old.items) }
     ensures room { OnOk result (vec_len buf.new + more ≤ vec_capacity buf.new) }
+    ensures grows { vec_capacity buf.old ≤ vec_capacity buf.new }
     ensures err { OnErr result (buf.new.items ≡ buf.old.items) }
     ensures succeeds { length (roomy buf.old.items) + more ≤ vec_capacity buf.old → IsOk result }
 {

@@ -2,9 +2,11 @@
 ghost use Rattle.std.specs.Prelude.{◌≡◌};
 ghost use Rattle.raft_log_records.specs.Batch.{emptied};
 
+use crate::rows::{bytes_of, cell};
 use crate::steps::record;
 use raft_log_items::{Bytes, Command, LogItem, OpType, Version};
 use raft_log_records::{AtomicGroupBuilder, AtomicGroupStatus, LogBatch, LogItemBatch, Marking};
+use std::alloc::Global;
 use std::test::Fail;
 
 /// What a batch says as a mark. The batch is emptied.
@@ -32,7 +34,7 @@ fn a_group_is_ended(rt: HostRuntime) -> Result<(), Fail> {
     let mut builder = AtomicGroupBuilder::with_id(258);
     let mut batch = LogBatch::default(rt.alloc())?;
     builder.begin(rt.alloc(), &mut batch)?;
-    batch.clear();
+    assert!(rt; marking(&mut batch) == Marking::Part(258, AtomicGroupStatus::Begin));
     builder.end(rt.alloc(), &mut batch)?;
     assert!(rt; marking(&mut batch) == Marking::Part(258, AtomicGroupStatus::End));
     assert!(rt; builder.status() == Some(AtomicGroupStatus::End));
@@ -50,57 +52,54 @@ fn a_mark_is_a_key_of_group_zero(rt: HostRuntime) -> Result<(), Fail> {
     Ok(())
 }
 
-/// What an item may say as a mark.
-const UNMARKED: Marking = Marking::Unmarked;
-
+/// A mark with a value that is none.
 const BROKEN: Marking = Marking::Broken;
 
+/// The end of the group 5.
 const END: Marking = Marking::Part(5, AtomicGroupStatus::End);
 
-/// Items that put or delete: the group, what is done, the key, the value, and what it says as a mark.
-const ITEMS: [(u64, OpType, &[u8], &[u8], Marking); 9] = [
-    (0, OpType::Put, b"__\x01", b"\0\0\0\0\0\0\0\x05\x02", END),
-    (
-        1,
-        OpType::Put,
-        b"__\x01",
-        b"\0\0\0\0\0\0\0\x05\x02",
-        UNMARKED,
-    ),
-    (
-        0,
-        OpType::Del,
-        b"__\x01",
-        b"\0\0\0\0\0\0\0\x05\x02",
-        UNMARKED,
-    ),
-    (
-        0,
-        OpType::Put,
-        b"__\x02",
-        b"\0\0\0\0\0\0\0\x05\x02",
-        UNMARKED,
-    ),
-    (0, OpType::Put, b"__", b"\0\0\0\0\0\0\0\x05\x02", UNMARKED),
-    (0, OpType::Put, b"__\x01", b"\0\0\0\0\0\0\0\x05\x03", BROKEN),
-    (0, OpType::Put, b"__\x01", b"\0\0\0\0\0\0\0\x05", BROKEN),
-    (
-        0,
-        OpType::Put,
-        b"__\x01",
-        b"\0\0\0\0\0\0\0\x05\x02\0",
-        BROKEN,
-    ),
-    (0, OpType::Put, b"__\x01", b"", BROKEN),
-];
+/// Items that put (1) or delete (2): what is told of each as a mark, the group, what is done, the key, and
+/// the value.
+const ITEMS: &str = "\
+end | 0 | 1 | 5f 5f 01 | 00 00 00 00 00 00 00 05 02
+none | 1 | 1 | 5f 5f 01 | 00 00 00 00 00 00 00 05 02
+none | 0 | 2 | 5f 5f 01 | 00 00 00 00 00 00 00 05 02
+none | 0 | 1 | 5f 5f 02 | 00 00 00 00 00 00 00 05 02
+none | 0 | 1 | 5f 5f | 00 00 00 00 00 00 00 05 02
+broken | 0 | 1 | 5f 5f 01 | 00 00 00 00 00 00 00 05 03
+broken | 0 | 1 | 5f 5f 01 | 00 00 00 00 00 00 00 05
+broken | 0 | 1 | 5f 5f 01 | 00 00 00 00 00 00 00 05 02 00
+broken | 0 | 1 | 5f 5f 01 |
+";
+
+/// What is told of a mark.
+fn word(marking: Marking) -> &'static str {
+    match marking {
+        Marking::Unmarked => "none",
+        Marking::Part(5, AtomicGroupStatus::End) => "end",
+        Marking::Part(_, _) => "another part",
+        Marking::Broken => "broken",
+    }
+}
+
+/// What is told of an item of a group that does this with a key and a value.
+fn told_item(alloc: Global, group: &str, op: &str, cells: &str) -> Result<&'static str, Fail> {
+    let (key, value) = cell(cells);
+    let op_type = OpType::from_u8(alloc, op.parse::<u8>()?)?;
+    let key = Bytes::from_vec(bytes_of(alloc, key)?);
+    let value = Bytes::from_vec(bytes_of(alloc, value)?);
+    let item = LogItem::new_kv(group.parse::<u64>()?, op_type, key, Some(value));
+    Ok(word(Marking::parse(&item)))
+}
 
 #[test]
 fn items_tell_their_mark(rt: HostRuntime) -> Result<(), Fail> {
-    for (row, (group, op_type, key, value, marking)) in ITEMS.iter().enumerate() {
-        let key = Bytes::from_slice(rt.alloc(), key)?;
-        let value = Bytes::from_slice(rt.alloc(), value)?;
-        let item = LogItem::new_kv(*group, *op_type, key, Some(value));
-        assert!(rt; Marking::parse(&item) == *marking, "row {row}");
+    assert!(rt; ITEMS.lines().count() == 9);
+    for line in ITEMS.lines() {
+        let (want, cells) = cell(line);
+        let (group, cells) = cell(cells);
+        let (op, cells) = cell(cells);
+        assert!(rt; told_item(rt.alloc(), group, op, cells)? == want, "{line}");
     }
     Ok(())
 }
@@ -111,7 +110,7 @@ fn items_without_a_value_are_no_marks(rt: HostRuntime) -> Result<(), Fail> {
     let valueless = LogItem::new_kv(0, OpType::Put, key, None);
     assert!(rt; Marking::parse(&valueless) == BROKEN);
     let clean = LogItem::new_command(0, Command::Clean);
-    assert!(rt; Marking::parse(&clean) == UNMARKED);
+    assert!(rt; Marking::parse(&clean) == Marking::Unmarked);
     Ok(())
 }
 

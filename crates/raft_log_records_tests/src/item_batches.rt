@@ -15,7 +15,7 @@ const FOOTER: [u8; 23] = [
 ];
 
 /// Clean of group 1, a put and a deletion of group 2, and entries 7 and 8 of group 3.
-fn some_items(alloc: Global) -> Result<LogItemBatch> {
+pub(crate) fn some_items(alloc: Global) -> Result<LogItemBatch> {
     let mut batch = LogItemBatch::with_capacity(alloc, 4)?;
     batch.add_command(1, Command::Clean)?;
     batch.put(alloc, 2, b"k", b"v")?;
@@ -106,7 +106,7 @@ fn block(len: usize) -> FileBlockHandle {
 }
 
 /// The items of the footer above, read in this file with a block of so many bytes.
-fn decoded(alloc: Global, number: u64, len: usize) -> Result<LogItemBatch> {
+pub(crate) fn decoded(alloc: Global, number: u64, len: usize) -> Result<LogItemBatch> {
     let file = context(Version::V2, number);
     LogItemBatch::decode(alloc, &FOOTER, block(len), CompressionType::None, &file)
 }

@@ -22,6 +22,8 @@ mod reading;
 #[cfg(test)]
 mod rows;
 #[cfg(test)]
+mod short_memory;
+#[cfg(test)]
 mod steps;
 #[cfg(test)]
 mod whole_records;

@@ -5,7 +5,7 @@ ghost use Rattle.raft_log_records.specs.Batch.{IsSigned};
 
 use crate::messages::{TestEntries, TestEntry};
 use crate::rows::context;
-use crate::steps::record;
+use crate::steps::{Step, filled, record};
 use raft_log_items::{
     Bytes, EntryIndex, Error, FileBlockHandle, FileId, LogItem, LogItemContent, LogQueue, Result,
     Version,
@@ -61,7 +61,7 @@ pub(crate) fn add(
 }
 
 /// A batch of the two entries, for file 1.
-fn signed(alloc: Global) -> Result<LogBatch>
+pub(crate) fn signed(alloc: Global) -> Result<LogBatch>
     ensures { IfOk result (λ b. IsSigned b.state) }
 {
     let mut batch = LogBatch::with_capacity(alloc, 4)?;
@@ -157,7 +157,7 @@ fn two_messages(alloc: Global) -> std::result::Result<Vec<TestEntry>, AllocError
 }
 
 /// A batch of no messages and then of two.
-fn with_messages(alloc: Global) -> Result<LogBatch>
+pub(crate) fn with_messages(alloc: Global) -> Result<LogBatch>
     ensures { IfOk result (λ b. b.state ≡ Filling) }
 {
     let mut batch = LogBatch::default(alloc)?;
@@ -180,48 +180,38 @@ fn messages_are_entries(rt: HostRuntime) -> std::result::Result<(), Fail> {
 #[test]
 fn messages_are_values(rt: HostRuntime) -> std::result::Result<(), Fail> {
     let mut batch = LogBatch::default(rt.alloc())?;
-    let value = entry(rt.alloc(), 8, b"")?;
-    let refused = batch.put_message(rt.alloc(), 1, b"__k", &value).is_err();
-    batch.put_message(rt.alloc(), 1, b"k", &value)?;
+    batch.put_message(rt.alloc(), 1, b"k", &entry(rt.alloc(), 8, b"")?)?;
     // Header, one item of 14 bytes, and the footer's count and checksum.
-    assert!(rt; refused && batch.finish_populate()? == 16 + 1 + 14 + 4);
+    assert!(rt; batch.finish_populate()? == 16 + 1 + 14 + 4);
     Ok(())
 }
 
-/// Batches of `ab` for group 1, and of `x` and `cde` for group 2.
-fn two_batches(alloc: Global) -> Result<(LogBatch, LogBatch)>
-    ensures { IfOk result (λ b. (b.0.state ≡ Filling) × (b.1.state ≡ Filling)) }
-{
-    let mut batch = LogBatch::default(alloc)?;
-    let mut other = LogBatch::default(alloc)?;
-    add(alloc, &mut batch, 1, &[7], &[b"ab"])?;
-    add(alloc, &mut other, 2, &[1], &[b"x"])?;
-    add(alloc, &mut other, 2, &[2], &[b"cde"])?;
-    Ok((batch, other))
-}
+/// Entry 7 of group 1, `ab`.
+const FIRST: &[Step] = &[Step::Add(1, &[7], &[b"ab"])];
 
-/// The first of these with the second merged into it, and what is left of the second.
-fn merged(alloc: Global) -> Result<(LogBatch, LogBatch)>
-    ensures { IfOk result (λ b. (b.0.state ≡ Filling) × (b.1.state ≡ Filling)) }
+/// Entries 1 and 2 of group 2, `x` and `cde`, each in an item of its own.
+const SECOND: &[Step] = &[Step::Add(2, &[1], &[b"x"]), Step::Add(2, &[2], &[b"cde"])];
+
+/// The first of these with the second merged into it.
+pub(crate) fn merged(alloc: Global) -> Result<LogBatch>
+    ensures { IfOk result (λ b. b.state ≡ Filling) }
 {
-    let (mut batch, mut other) = two_batches(alloc)?;
+    let mut batch = filled(alloc, FIRST)?;
+    let mut other = filled(alloc, SECOND)?;
     batch.merge(&mut other)?;
-    Ok((batch, other))
+    Ok(batch)
 }
 
 #[test]
 fn merged_batches_are_one(rt: HostRuntime) -> std::result::Result<(), Fail> {
-    let (mut batch, mut other) = merged(rt.alloc())?;
-    assert!(rt; other.is_empty() && other.finish_populate()? == 0);
-    let bytes = record(rt.alloc(), &mut batch, Version::V2)?;
+    let bytes = record(rt.alloc(), &mut merged(rt.alloc())?, Version::V2)?;
     assert!(rt; bytes.get(16..22) == Some(b"abxcde".as_slice()));
     Ok(())
 }
 
 #[test]
 fn merged_entries_lie_behind(rt: HostRuntime) -> std::result::Result<(), Fail> {
-    let (mut batch, _other) = merged(rt.alloc())?;
-    let entries = drained(rt.alloc(), &mut batch)?;
+    let entries = drained(rt.alloc(), &mut merged(rt.alloc())?)?;
     assert!(rt; extent(entries.as_slice(), 1) == Some((2, 1)));
     assert!(rt; extent(entries.as_slice(), 2) == Some((3, 3)));
     Ok(())
@@ -250,13 +240,25 @@ fn want_of_memory_adds_nothing(rt: HostRuntime) -> std::result::Result<(), Fail>
 
 #[test]
 fn want_of_memory_merges_nothing(rt: HostRuntime) -> std::result::Result<(), Fail> {
-    let Ok((mut batch, mut other)) = two_batches(rt.alloc()) else {
+    let Ok(mut batch) = filled(rt.alloc(), FIRST) else {
+        return Ok(());
+    };
+    let Ok(mut other) = filled(rt.alloc(), SECOND) else {
         return Ok(());
     };
     let (own, others) = (batch.approximate_size(), other.approximate_size());
     let step = batch.merge(&mut other);
     assert!(rt; is_done_or_unchanged(&batch, own, &step));
     assert!(rt; step.is_ok() || other.approximate_size() == others);
+    Ok(())
+}
+
+#[test]
+fn a_batch_with_room_takes_another(rt: HostRuntime) -> std::result::Result<(), Fail> {
+    let mut batch = filled(rt.alloc(), FIRST)?;
+    assert!(rt; batch.entries_len() == 2);
+    batch.reserve(2, 4)?;
+    assert!(rt; batch.reserve(0, 2_147_483_646).is_err());
     Ok(())
 }
 

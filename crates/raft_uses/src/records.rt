@@ -1,8 +1,18 @@
-//! A caller of `raft_log_records`: a batch that is made, written by whoever has the file, or taken back.
+//! Callers of `raft_log_records`: a batch that is made, written by whoever has the file, or taken back; and
+//! room that is made in a batch first, so that what comes later isn't refused.
 ghost use Rattle.std.specs.Prelude.{◌≡◌, ◌+◌, ◌<◌, ◌^◌, length, IsOk, IfOk, OnOk, OnErr};
 ghost use Rattle.raft_log_base.specs.Files.{signature_of};
-ghost use Rattle.raft_log_records.specs.declared.log_batch.BatchState.TheVariants.{Filling, Populated, Signed};
-ghost use Rattle.raft_log_records.specs.Batch.{IsButBuffer, IsReadyForEach, signed_as, written_at};
+ghost use Rattle.raft_log_records.specs.declared.log_batch.BatchState.TheVariants.{Filling, Signed};
+ghost use Rattle.raft_log_records.specs.Batch.{
+  HasRoomFor,
+  IsButBuffer,
+  IsReadyForEach,
+  IsRoomier,
+  empty_batch,
+  signed_as,
+  with_batch,
+  written_at,
+};
 
 use raft_log_items::{FileBlockHandle, LogFileContext, Result};
 use raft_log_records::LogBatch;
@@ -35,4 +45,24 @@ pub fn place(batch: &mut LogBatch, context: &LogFileContext, handle: FileBlockHa
     ensures { batch.new ≡ written_at handle batch.old }
 {
     batch.finish_write(handle);
+}
+
+/// Makes room in a batch for all that another one has, before something that can't be taken back.
+pub fn make_room(batch: &mut LogBatch, other: &LogBatch) -> Result<()>
+    requires { batch.old.state ≡ Filling }
+    ensures room { OnOk result (HasRoomFor batch.new other.now) }
+    ensures same { IsRoomier batch.old batch.new }
+{
+    batch.reserve(other.len(), other.entries_len())
+}
+
+/// Takes over all that another batch has, for which there is room: it asks for no memory and isn't refused.
+pub fn take_over(batch: &mut LogBatch, other: &mut LogBatch)
+    requires own { batch.old.state ≡ Filling }
+    requires other { other.old.state ≡ Filling }
+    requires room { HasRoomFor batch.old other.old }
+    ensures taken { IsRoomier (with_batch batch.old other.old) batch.new }
+    ensures emptied { other.new ≡ empty_batch other.old.capacity other.old.buffer }
+{
+    let _merged = batch.merge(other);
 }

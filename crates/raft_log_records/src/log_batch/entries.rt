@@ -1,8 +1,7 @@
 //! Entries that are added to a batch: their bytes stand one after another behind those that it has.
-ghost use Rattle.std.specs.Prelude.{◌≡◌, ◌+◌, ◌-◌, ◌<◌, ◌^◌, ◌++◌, ◌↔◌, length, min, IsTrue, OnOk, OnErr, IfErr};
+ghost use Rattle.std.specs.Prelude.{◌≡◌, ◌+◌, ◌-◌, ◌<◌, ◌^◌, ◌++◌, ◌↔◌, length, min, IsTrue, IfOk, OnOk, OnErr, IfErr};
 ghost use Rattle.raft_log_items.specs.Writing.{KeepsFront};
-ghost use Rattle.raft_log_items.specs.Placed.{laid_run};
-ghost use Rattle.raft_log_records.specs.Entries.{RisesFrom, IsIndexRun, entries_of, indexes_of, slices_bytes, joined, bytes_len, IsRunRefusal};
+ghost use Rattle.raft_log_records.specs.Entries.{RisesFrom, IsIndexRun, indexes_of, slices_bytes, laid_slices, joined, bytes_len, IsRunRefusal};
 
 use super::{LogBatch, MAX_ENTRIES_LEN, make_room};
 use raft_log_base::codec::or_cut_back;
@@ -48,9 +47,8 @@ impl LogBatch {
         }
         self.items.reserve(1)?;
         make_room(&mut self.buf, added as usize)?;
-        let indexes = Vec::from_slice(alloc, entry_indexes)?;
+        let placed = place_entries(alloc, entry_indexes, entries, self.entries_len as u32)?;
         append_entries(&mut self.buf, entries)?;
-        let placed = place_entries(indexes, entries, self.entries_len as u32);
         self.items
             .push_reserved(LogItem::new_entry_indexes(raft_group_id, placed));
         self.entries_len += added as usize;
@@ -136,28 +134,41 @@ fn append_entries(out: &mut Vec<u8>, entries: &[&[u8]]) -> Result<(), AllocError
     or_cut_back(append_each(out, entries), out, start)
 }
 
-/// Gives each entry the length of its bytes, and leaves of what it had the index alone.
-fn set_lengths(indexes: &mut [EntryIndex], entries: &[&[u8]])
-    requires same { length indexes.old ≡ length entries.now }
-    requires fits { bytes_len (slices_bytes entries.now) < 2 ^ 32 }
-    ensures { indexes.new ≡ entries_of (indexes_of indexes.old) (slices_bytes entries.now) }
+/// The entries with these indexes and bytes, laid out one after another from this offset on.
+fn laid_entries(
+    alloc: Global,
+    indexes: &[EntryIndex],
+    entries: &[&[u8]],
+    offset: u32,
+) -> Result<Vec<EntryIndex>, AllocError>
+    requires same { length indexes.now ≡ length entries.now }
+    requires fits { offset + bytes_len (slices_bytes entries.now) < 2 ^ 32 }
+    ensures { IfOk result (λ run. run.items ≡ laid_slices offset indexes.now entries.now) }
 {
+    let mut laid = Vec::with_capacity(alloc, indexes.len())?;
+    let mut next = offset;
     for i in 0..indexes.len() {
         let entry: &[u8] = entries[i];
-        indexes[i] = EntryIndex::unplaced(indexes[i].index, entry.len() as u32);
+        let mut index = EntryIndex::unplaced(indexes[i].index, entry.len() as u32);
+        index.entry_offset = next;
+        next += index.entry_len;
+        laid.push_reserved(index);
     }
+    Ok(laid)
 }
 
-/// The entries with these indexes and bytes, laid out from this offset on.
-fn place_entries(indexes: Vec<EntryIndex>, entries: &[&[u8]], offset: u32) -> EntryIndexes
-    requires same { length indexes.items ≡ length entries.now }
-    requires run { IsIndexRun (indexes_of indexes.items) }
+/// The run of the entries with these indexes and bytes, laid out from this offset on.
+fn place_entries(
+    alloc: Global,
+    indexes: &[EntryIndex],
+    entries: &[&[u8]],
+    offset: u32,
+) -> Result<EntryIndexes, AllocError>
+    requires same { length indexes.now ≡ length entries.now }
+    requires run { IsIndexRun (indexes_of indexes.now) }
     requires fits { offset + bytes_len (slices_bytes entries.now) < 2 ^ 32 }
-    ensures { result ≡ laid_run offset (entries_of (indexes_of indexes.items) (slices_bytes entries.now)) }
+    ensures { IfOk result (λ run. run ≡ laid_slices offset indexes.now entries.now) }
 {
-    let mut indexes = indexes;
-    set_lengths(indexes.as_mut_slice(), entries);
-    let mut placed = EntryIndexes::new(indexes);
-    placed.lay_out(offset);
-    placed
+    let laid = laid_entries(alloc, indexes, entries, offset)?;
+    Ok(EntryIndexes::new(laid))
 }

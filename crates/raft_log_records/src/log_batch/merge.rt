@@ -1,5 +1,5 @@
 //! Two batches that become one.
-ghost use Rattle.std.specs.Prelude.{◌≡◌, ◌++◌, IsOk, OnOk, OnErr};
+ghost use Rattle.std.specs.Prelude.{◌≡◌, ◌≤◌, ◌++◌, vec_capacity, IsOk, OnOk, OnErr};
 ghost use Rattle.raft_log_records.specs.Batch.{Fits};
 ghost use Rattle.raft_log_records.specs.ItemBatch.{TakesItems};
 
@@ -13,7 +13,7 @@ use std::alloc::AllocError;
 impl LogBatch {
     ghost use Rattle.std.specs.Prelude.{◌≡◌, ◌+◌, ◌≤◌, length, IsOk, OnOk, OnErr, IfErr};
     ghost use Rattle.raft_log_records.specs.declared.log_batch.BatchState.TheVariants.{Filling};
-    ghost use Rattle.raft_log_records.specs.Batch.{max_entries_len, empty_batch, with_batch, HasRoomFor, IsButBuffer, Becomes};
+    ghost use Rattle.raft_log_records.specs.Batch.{max_entries_len, empty_batch, with_batch, HasRoomFor, IsButBuffer, IsRoomier};
     ghost use Rattle.raft_log_records.specs.Places.{AddsBytes, bytes_in};
     ghost use Rattle.raft_log_records.specs.Entries.{IsMergeRefusal};
 
@@ -25,7 +25,7 @@ impl LogBatch {
     pub fn merge(&mut self, rhs: &mut LogBatch) -> Result<()>
         requires own { self.old.state ≡ Filling }
         requires other { rhs.old.state ≡ Filling }
-        ensures ok { OnOk result (Becomes (with_batch self.old rhs.old) self.new) }
+        ensures ok { OnOk result (IsRoomier (with_batch self.old rhs.old) self.new) }
         ensures bytes { OnOk result (AddsBytes self.old self.new (bytes_in rhs.old)) }
         ensures emptied { OnOk result (rhs.new ≡ empty_batch rhs.old.capacity rhs.old.buffer) }
         ensures room { OnOk result (length self.old.entries + length rhs.old.entries ≤ max_entries_len) }
@@ -59,6 +59,7 @@ fn move_parts(
 ) -> Result<(), AllocError>
     ensures items { OnOk result (TakesItems items.old items.new other.old other.new) }
     ensures bytes { OnOk result (buf.new.items ≡ buf.old.items ++ bytes.now) }
+    ensures grows { OnOk result (vec_capacity buf.old ≤ vec_capacity buf.new) }
     ensures kept { OnErr result ((items.new ≡ items.old) × (other.new ≡ other.old)) }
     ensures err { OnErr result (buf.new.items ≡ buf.old.items) }
     ensures succeeds { Fits items.old other.old buf.old bytes.now → IsOk result }

@@ -5,9 +5,8 @@ use Rattle.std.proofs.lemmas.List.{length-map}
 use Rattle.raft_log_items.specs.declared.entry.EntryIndex.{EntryIndex}
 use Rattle.raft_log_items.specs.declared.item.LogItem.{LogItem}
 use Rattle.raft_log_items.specs.declared.item.LogItemContent.TheVariants as contents
-use Rattle.raft_log_items.specs.Placed.{laid_run}
 use Rattle.raft_log_records.specs.Batch.{Batch, roomy, max_entries_len}
-use Rattle.raft_log_records.specs.Entries.{joined, slices_bytes, entries_of, entries_item, bytes_len, with_entries}
+use Rattle.raft_log_records.specs.Entries.{joined, slices_bytes, entries_item, bytes_len, with_entries}
 use Rattle.raft_log_records.proofs.Entries.{indexes_of}
 use Rattle.raft_log_records.proofs.Items.{pushed_items, more_room, with_none, entries_added, entries_seen}
 use Rattle.raft_log_records.proofs.Places.{view_laid, added_bytes}
@@ -22,7 +21,6 @@ pub invariant_of-self-2 : goal.invariant_of-self-2
 invariant_of-self-2 c =
     let given : List EntryIndex = c.args.entry_indexes.now in
     let indexes : List ℕ = indexes_of given in
-    let copied : c.in_ok-indexes.indexes.items ≡ given = c.in_ok-indexes.ensures.items in
     let entries : List (List ℕ) = slices_bytes c.args.entries.now in
     let len : ℕ = c.self.inside.entries_len in
     let added : ℕ = c.bytes_len-added.result in
@@ -32,7 +30,7 @@ invariant_of-self-2 c =
     let fits : len + added ≤ max_entries_len = omega (arith, c.if-added-self.false, c.self.invariant.fits) in
     let bytes : c.append_entries.new.out.items ≡ roomy c.self.inside.buf.items ++ joined entries = c.in_ok-append_entries.ensures.ok ∙ ap (λ (l : List ℕ). l ++ joined entries) c.in_ok-make_room.ensures.ok in
     let item : c.new_entry_indexes.result ≡ entries_item c.args.raft_group_id len indexes entries =
-    c.new_entry_indexes.ensures ∙ ap (λ (l : List EntryIndex). record { raft_group_id = c.args.raft_group_id; content = contents.EntryIndexes l }) (c.place_entries-placed.ensures ∙ ap (λ (l : List EntryIndex). laid_run len (entries_of (indexes_of l) entries)) copied) in
+    c.new_entry_indexes.ensures ∙ ap (λ (l : List EntryIndex). record { raft_group_id = c.args.raft_group_id; content = contents.EntryIndexes l }) c.in_ok-placed.ensures in
     let items : c.push_reserved.new.self.items ≡ c.self.inside.items.items ++ entries_item c.args.raft_group_id len indexes entries ∷ [] =
     pushed_items c.self.inside.items c.reserve.new.self c.push_reserved.new.self c.new_entry_indexes.result _ c.in_ok-reserve.ensures.ok.0 c.push_reserved.ensures item in
     rw items (entries_added c.self.inside.state (roomy c.self.inside.buf.items) c.append_entries.new.out.items len added c.self.inside.checksum c.args.raft_group_id c.self.inside.items.items indexes entries
@@ -42,7 +40,6 @@ pub returns-clause-ok : goal.returns-clause-ok
 returns-clause-ok c =
     let given : List EntryIndex = c.args.entry_indexes.now in
     let indexes : List ℕ = indexes_of given in
-    let copied : c.in_ok-indexes.indexes.items ≡ given = c.in_ok-indexes.ensures.items in
     let entries : List (List ℕ) = slices_bytes c.args.entries.now in
     let len : ℕ = c.self.inside.entries_len in
     let added : ℕ = c.bytes_len-added.result in
@@ -51,7 +48,7 @@ returns-clause-ok c =
     let count : bytes_len entries ≡ added = omega (arith, c.bytes_len-added.ensures, c.if-added-self.false, c.self.invariant.fits) in
     let bytes : c.append_entries.new.out.items ≡ roomy c.self.inside.buf.items ++ joined entries = c.in_ok-append_entries.ensures.ok ∙ ap (λ (l : List ℕ). l ++ joined entries) c.in_ok-make_room.ensures.ok in
     let item : c.new_entry_indexes.result ≡ entries_item c.args.raft_group_id len indexes entries =
-    c.new_entry_indexes.ensures ∙ ap (λ (l : List EntryIndex). record { raft_group_id = c.args.raft_group_id; content = contents.EntryIndexes l }) (c.place_entries-placed.ensures ∙ ap (λ (l : List EntryIndex). laid_run len (entries_of (indexes_of l) entries)) copied) in
+    c.new_entry_indexes.ensures ∙ ap (λ (l : List EntryIndex). record { raft_group_id = c.args.raft_group_id; content = contents.EntryIndexes l }) c.in_ok-placed.ensures in
     let items : c.push_reserved.new.self.items ≡ c.self.inside.items.items ++ entries_item c.args.raft_group_id len indexes entries ∷ [] =
     pushed_items c.self.inside.items c.reserve.new.self c.push_reserved.new.self c.new_entry_indexes.result _ c.in_ok-reserve.ensures.ok.0 c.push_reserved.ensures item in (
       ap (λ (l : List LogItem). record { state = c.self.inside.state; items = l; entries = take (len + added) (drop 16 (roomy c.append_entries.new.out.items)); capacity = c.push_reserved.new.self.capacity; buffer = vec_capacity c.append_entries.new.out }) items

@@ -39,16 +39,19 @@ returns-clause-ok c =
     (ap (λ (b : Batch). b.state) c.self.view_is ∙ c.requires.own) (ap (λ (b : Batch). b.state) c.rhs.view_is ∙ c.requires.other) grown c.self.invariant c.rhs.invariant in
     let cap : ℕ = c.lay_out_rest.new.self.capacity in
     let grew : ℕ = vec_capacity c.move_parts.new.buf in (
-      ap (λ (l : List LogItem). record { state = c.self.inside.state; items = l; entries = take (len + c.rhs.inside.entries_len) (drop 16 (roomy c.move_parts.new.buf.items)); capacity = cap; buffer = grew }) items
-          ∙ ap (λ (l : List ℕ). record { state = c.self.inside.state; items = old ++ laid_out len other; entries = l; capacity = cap; buffer = grew }) seen
-          ∙ ap (λ (n : ℕ). record { state = c.self.inside.state; items = old ++ laid_out n other; entries = own ++ bytes; capacity = cap; buffer = grew }) (sym (entries_count (roomy c.self.inside.buf.items) len c.self.invariant.room))
-          ∙ ap (λ (b : Batch). record { state = b.state; items = b.items ++ laid_out (length b.entries) other; entries = b.entries ++ bytes; capacity = cap; buffer = grew }) c.self.view_is
-          ∙ ap (λ (b : Batch). record { state = c.args.self.now.state; items = c.args.self.now.items ++ laid_out (length c.args.self.now.entries) b.items; entries = c.args.self.now.entries ++ b.entries; capacity = cap; buffer = grew }) c.rhs.view_is,
-      omega (arith, c.lay_out_rest.ensures.room, c.in_ok-move_parts.ensures.items.0.1, ap (λ (b : Batch). b.capacity) c.self.view_is),
+      (
+        ap (λ (l : List LogItem). record { state = c.self.inside.state; items = l; entries = take (len + c.rhs.inside.entries_len) (drop 16 (roomy c.move_parts.new.buf.items)); capacity = cap; buffer = grew }) items
+            ∙ ap (λ (l : List ℕ). record { state = c.self.inside.state; items = old ++ laid_out len other; entries = l; capacity = cap; buffer = grew }) seen
+            ∙ ap (λ (n : ℕ). record { state = c.self.inside.state; items = old ++ laid_out n other; entries = own ++ bytes; capacity = cap; buffer = grew }) (sym (entries_count (roomy c.self.inside.buf.items) len c.self.invariant.room))
+            ∙ ap (λ (b : Batch). record { state = b.state; items = b.items ++ laid_out (length b.entries) other; entries = b.entries ++ bytes; capacity = cap; buffer = grew }) c.self.view_is
+            ∙ ap (λ (b : Batch). record { state = c.args.self.now.state; items = c.args.self.now.items ++ laid_out (length c.args.self.now.entries) b.items; entries = c.args.self.now.entries ++ b.entries; capacity = cap; buffer = grew }) c.rhs.view_is,
+        omega (arith, c.lay_out_rest.ensures.room, c.in_ok-move_parts.ensures.items.0.1, ap (λ (b : Batch). b.capacity) c.self.view_is),
+      ),
+      omega (arith, c.make_room.ensures.grows, c.in_ok-move_parts.ensures.grows, ap (λ (b : Batch). b.buffer) c.self.view_is),
     )
 
 pub returns-clause-bytes : goal.returns-clause-bytes
 returns-clause-bytes c =
     let seen = view_laid c.self.inside.state (roomy c.self.inside.buf.items) c.self.inside.entries_len c.self.inside.checksum c.self.inside.items.capacity (vec_capacity c.self.inside.buf) c.self.inside.items.items c.args.self.now c.self.view_is c.self.invariant in
     let other = view_laid c.rhs.inside.state (roomy c.rhs.inside.buf.items) c.rhs.inside.entries_len c.rhs.inside.checksum c.rhs.inside.items.capacity (vec_capacity c.rhs.inside.buf) c.rhs.inside.items.items c.args.rhs.now c.rhs.view_is c.rhs.invariant in
-    merge_bytes c.args.self.now _ c.args.rhs.now seen.0 seen.1 other.0 (returns-clause-ok c)
+    merge_bytes c.args.self.now _ c.args.rhs.now seen.0 seen.1 other.0 (returns-clause-ok c).0

@@ -1,0 +1,54 @@
+//! A call that finds no memory is refused as such, and answered when it is asked again. Run it with each
+//! allocation failing in turn.
+use crate::item_batches::{decoded, some_items};
+use crate::log_batches::{TWO_ENTRIES, merged, signed, with_messages};
+use crate::steps::record;
+use raft_log_frames::decode_record;
+use raft_log_items::{Error, Result, Version};
+use std::alloc::Global;
+use std::test::Fail;
+
+/// How many bytes the footer of some items has.
+fn encoded(alloc: Global) -> Result<usize> {
+    let mut out = Vec::new(alloc);
+    some_items(alloc)?.encode(&mut out)?;
+    Ok(out.len())
+}
+
+/// How many bytes the record of two batches that became one has.
+fn record_of_two(alloc: Global) -> Result<usize> {
+    Ok(record(alloc, &mut merged(alloc)?, Version::V2)?.len())
+}
+
+/// How many bytes the record of two messages has.
+fn record_of_messages(alloc: Global) -> Result<usize> {
+    Ok(record(alloc, &mut with_messages(alloc)?, Version::V1)?.len())
+}
+
+/// How many bytes or items a call answers.
+fn call(alloc: Global, number: usize) -> Result<usize> {
+    match number {
+        0 => record_of_two(alloc),
+        1 => record_of_messages(alloc),
+        2 => Ok(signed(alloc)?.clone(alloc)?.encoded_bytes().len()),
+        3 => Ok(decode_record(alloc, &TWO_ENTRIES, Some(1))?.1.len()),
+        4 => Ok(decoded(alloc, 1, 13)?.len()),
+        _ => encoded(alloc),
+    }
+}
+
+/// What each call answers: records of 16 + 10 + 20 and of 16 + 22 + 11 bytes, a copy of one of 36, one item
+/// and three that are read, and a footer of 22 + 4 bytes.
+const ANSWERS: [usize; 6] = [46, 49, 36, 1, 3, 26];
+
+#[test]
+fn a_call_without_memory_is_answered_later(rt: HostRuntime) -> std::result::Result<(), Fail> {
+    for (number, want) in ANSWERS.iter().enumerate() {
+        let answer = match call(rt.alloc(), number) {
+            Err(Error::Memory) => call(rt.alloc(), number),
+            answer => answer,
+        };
+        assert!(rt; answer.ok() == Some(*want), "call {number}");
+    }
+    Ok(())
+}

@@ -4,3 +4,4 @@ pub mod Ready
 pub mod Leasts
 pub mod Rewriting
 pub mod Fetching
+pub mod Listing

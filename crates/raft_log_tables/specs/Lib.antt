@@ -6,3 +6,4 @@ pub mod Table
 pub mod Reads
 pub mod Files
 pub mod Moves
+pub mod Listing

@@ -15,6 +15,8 @@ ghost use Rattle.raft_log_tables.specs.Keys.{
 };
 ghost use Rattle.raft_log_tables.specs.Files.{file_of_value, least_value, lesser};
 
+mod reads;
+
 use raft_log_base::FileSeq;
 use raft_log_items::Bytes;
 use std::alloc::{AllocError, Global};

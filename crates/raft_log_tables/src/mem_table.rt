@@ -25,6 +25,8 @@ ghost use Rattle.raft_log_tables.specs.Reads.{entries_from, entry_at, first_of, 
 ghost use Rattle.raft_log_tables.specs.Room.{kept, no_promise, promised, taken_back, with_room_for, CanTake};
 ghost use Rattle.raft_log_tables.specs.Table.{promise, shown, window_of, RunRefused};
 
+mod reads;
+
 use crate::ends::Ends;
 use crate::key_map::{HeldValue, KeyMap, lesser};
 use crate::places::{Places, entry_of};

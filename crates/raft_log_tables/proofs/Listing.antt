@@ -1,19 +1,19 @@
 -- Keys that are listed in the order of a map.
-use Rattle.std.proofs.Common.{◌≡◌, ℕ, Bool, true, false, List, [], ◌∷◌, ◌++◌, map, reverse, length, take, Option, Some, None, if◌then◌else◌, bytes_eq, refl, sym, ap, ap₂, subst, ◌∙◌, append_assoc}
+use Rattle.std.proofs.Common.{◌≡◌, ℕ, Bool, true, false, ◌&&◌, List, [], ◌∷◌, ◌++◌, map, reverse, length, take, Option, Some, None, if◌then◌else◌, bytes_eq, refl, sym, ap, ap₂, subst, ◌∙◌, append_assoc}
 use Rattle.std.specs.Cmp.Lexicographic.{slice_cmp, nat_list_eq_equiv}
 use Rattle.std.specs.List.{AllByRecursion}
 use Rattle.std.specs.List.Sorted.{IsStrictlySortedBy}
 use Rattle.std.specs.Map.{keys_of, lookup}
 use Rattle.std.specs.Ordering.{is_eq, nat_cmp}
 use Rattle.std.specs.declared.cmp.Ordering.TheVariants.{Less}
-use Rattle.std.proofs.lemmas.List.{append-nil}
+use Rattle.std.proofs.lemmas.List.{append-nil, reverse-append}
 use Rattle.std.proofs.lemmas.Map.Text.{is_eq-slice_cmp}
 use Rattle.std.proofs.lemmas.Slice.Eq.{bytes_eq-Decides}
 use Rattle.raft_log_model.proofs.Cases.{at_bool}
-use Rattle.raft_log_places.specs.Bridge.{AllOwed, without}
+use Rattle.raft_log_places.specs.Bridge.{AllOwed, bytes_held, without}
 use Rattle.raft_log_tables.specs.declared.key_map.KeySlot.{KeySlot}
 use Rattle.raft_log_tables.specs.Keys.{deleted_in, held_in, shown_value, slot_at}
-use Rattle.raft_log_tables.specs.Listing.{asked_bytes, AddsAll, ListsAll, ListsMarked}
+use Rattle.raft_log_tables.specs.Listing.{asked_bytes, bytes_within, is_below, is_from, AddsAll, ListsAll, ListsMarked, Visits}
 use Rattle.raft_log_tables.proofs.ByteKeys.{by_bytes}
 
 -- the keys come after this one
@@ -224,3 +224,96 @@ module _ {K : Type 0} (items : K → List ℕ) (es : List (K × KeySlot)) (now :
       subst (ListsMarked (λ k. deleted_in (slot_at now k)))
       (sym (sym (append-nil front) ∙ ap (λ l. front ++ marked_keys (by_bytes items l)) (sym none) ∙ h ∙ ap marked_keys is))
       (lists_marked now (λ k. deleted_in (slot_at now k)) (rises o) (λ j. refl))
+
+-- what of a slot lies within the two ends
+abbrev pub within_in : Option (List ℕ) → Option (List ℕ) → List ℕ → KeySlot → Option (List ℕ)
+within_in start end k s = bytes_within start end k (shown_value s.held)
+
+pub lists_within : (start end : Option (List ℕ)) (es : List (List ℕ × KeySlot)) → IsStrictlySortedBy (slice_cmp nat_cmp) (keys_of es)
+    → ListsAll (λ k. bytes_within start end k (held_in (slot_at es k))) (listed (within_in start end) es)
+lists_within start end es h =
+    lists_listed (within_in start end) es (λ k. bytes_within start end k (held_in (slot_at es k))) h
+    (λ k o e. here k (is_from start k && is_below end k) o ∙ sym (ap (λ q. bytes_within start end k (held_in q)) e))
+  where
+    here : (k : List ℕ) (b : Bool) (o : Option KeySlot)
+        → picked (λ (s : KeySlot). if b then bytes_held (shown_value s.held) else None) o ≡ (if b then bytes_held (held_in o) else None)
+    here k true None = refl
+    here k false None = refl
+    here k b (Some s) = refl
+
+module _ {F : Type 0} (called : F → List ℕ → List ℕ → Bool → F → Type 0) where
+  -- one call more, after which others may come; and the last one
+  pub visit_more : (f next : F) (k x : List ℕ) (o : Option (List ℕ)) (rest : List (List ℕ × List ℕ)) → o ≡ Some x → called f k x true next → Visits called next rest
+      → Visits called f (with_found k o rest)
+  visit_more f next k x o rest is call more = subst (λ p. Visits called f (with_found k p rest)) (sym is) (true, next, call, λ e. more)
+
+  pub visit_last : (f next : F) (k x : List ℕ) (o : Option (List ℕ)) (rest : List (List ℕ × List ℕ)) → o ≡ Some x → called f k x false next
+      → Visits called f (with_found k o rest)
+  visit_last f next k x o rest is call =
+      subst (λ p. Visits called f (with_found k p rest)) (sym is) (false, next, call, λ e. absurd (let never : ⊥ = cc in never))
+
+  -- a slot that isn't within
+  pub visit_none : (f : F) (k : List ℕ) (o : Option (List ℕ)) (rest : List (List ℕ × List ℕ)) → o ≡ None → Visits called f rest → Visits called f (with_found k o rest)
+  visit_none f k o rest is more = subst (λ p. Visits called f (with_found k p rest)) (sym is) more
+
+module _ {X : Type 0} (f : List ℕ → KeySlot → Option X) where
+  found_push : (j : List ℕ) (o : Option X) (xs ys : List (List ℕ × X)) → with_found j o (xs ++ ys) ≡ with_found j o xs ++ ys
+  found_push j None xs ys = refl
+  found_push j (Some x) xs ys = refl
+
+  push_last : (xs : List (List ℕ × KeySlot)) (k : List ℕ) (s : KeySlot) → listed f (xs ++ (k, s) ∷ []) ≡ listed f xs ++ with_found k (f k s) []
+  push_last [] k s = refl
+  push_last (x ∷ xs) k s =
+      ap (with_found x.0 (f x.0 x.1)) (push_last xs k s) ∙ found_push x.0 (f x.0 x.1) (listed f xs) (with_found k (f k s) [])
+
+  turn_last : (k : List ℕ) (o : Option X) (es : List (List ℕ × X)) → reverse (with_found k o []) ++ es ≡ with_found k o es
+  turn_last k None es = refl
+  turn_last k (Some x) es = refl
+
+  -- the last slot comes first, backwards
+  pub listed_last : (es : List (List ℕ × KeySlot)) (k : List ℕ) (s : KeySlot)
+      → reverse (listed f (es ++ (k, s) ∷ [])) ≡ with_found k (f k s) (reverse (listed f es))
+  listed_last es k s =
+      ap reverse (push_last es k s) ∙ reverse-append (listed f es) (with_found k (f k s) []) ∙ turn_last k (f k s) (reverse (listed f es))
+
+pub by_bytes_last : {K X : Type 0} (items : K → List ℕ) (es : List (K × X)) (e : K × X) → by_bytes items (es ++ e ∷ []) ≡ by_bytes items es ++ (items e.0, e.1) ∷ []
+by_bytes_last items [] e = refl
+by_bytes_last items (x ∷ es) e = ap (λ l. (items x.0, x.1) ∷ l) (by_bytes_last items es e)
+
+module _ {F K : Type 0} (called : F → List ℕ → List ℕ → Bool → F → Type 0) (w : List ℕ → KeySlot → Option (List ℕ)) (items : K → List ℕ) where
+  -- the calls that are still to come, forwards: none is, the next slot isn't within, and it is
+  pub up_end : (f : F) (es : List (K × KeySlot)) → es ≡ [] → Visits called f (listed w (by_bytes items es))
+  up_end f es none = subst (λ l. Visits called f (listed w (by_bytes items l))) (sym none) tt
+
+  pub up_last : (f next : F) (k : K) (s : KeySlot) (x : List ℕ) (es rest : List (K × KeySlot)) → es ≡ (k, s) ∷ rest → w (items k) s ≡ Some x
+      → called f (items k) x false next → Visits called f (listed w (by_bytes items es))
+  up_last f next k s x es rest is found call =
+      subst (λ l. Visits called f (listed w (by_bytes items l))) (sym is)
+      (visit_last called f next (items k) x (w (items k) s) (listed w (by_bytes items rest)) found call)
+
+  -- the same backwards
+  pub down_end : (f : F) (es : List (K × KeySlot)) → es ≡ [] → Visits called f (reverse (listed w (by_bytes items es)))
+  down_end f es none = subst (λ l. Visits called f (reverse (listed w (by_bytes items l)))) (sym none) tt
+
+  turned : (k : K) (s : KeySlot) (es rest : List (K × KeySlot)) → es ≡ rest ++ (k, s) ∷ []
+      → reverse (listed w (by_bytes items es)) ≡ with_found (items k) (w (items k) s) (reverse (listed w (by_bytes items rest)))
+  turned k s es rest is =
+      ap (λ l. reverse (listed w (by_bytes items l))) is ∙ ap (λ l. reverse (listed w l)) (by_bytes_last items rest (k, s))
+      ∙ listed_last w (by_bytes items rest) (items k) s
+
+  pub down_last : (f next : F) (k : K) (s : KeySlot) (x : List ℕ) (es rest : List (K × KeySlot)) → es ≡ rest ++ (k, s) ∷ [] → w (items k) s ≡ Some x
+      → called f (items k) x false next → Visits called f (reverse (listed w (by_bytes items es)))
+  down_last f next k s x es rest is found call =
+      subst (Visits called f) (sym (turned k s es rest is))
+      (visit_last called f next (items k) x (w (items k) s) (reverse (listed w (by_bytes items rest))) found call)
+
+  pub down_more : (f next : F) (k : K) (s : KeySlot) (x : List ℕ) (es rest : List (K × KeySlot)) → es ≡ rest ++ (k, s) ∷ [] → w (items k) s ≡ Some x
+      → called f (items k) x true next → Visits called next (reverse (listed w (by_bytes items rest))) → Visits called f (reverse (listed w (by_bytes items es)))
+  down_more f next k s x es rest is found call more =
+      subst (Visits called f) (sym (turned k s es rest is))
+      (visit_more called f next (items k) x (w (items k) s) (reverse (listed w (by_bytes items rest))) found call more)
+
+  pub down_none : (f : F) (k : K) (s : KeySlot) (es rest : List (K × KeySlot)) → es ≡ rest ++ (k, s) ∷ [] → w (items k) s ≡ None
+      → Visits called f (reverse (listed w (by_bytes items rest))) → Visits called f (reverse (listed w (by_bytes items es)))
+  down_none f k s es rest is found more =
+      subst (Visits called f) (sym (turned k s es rest is)) (visit_none called f (items k) (w (items k) s) (reverse (listed w (by_bytes items rest))) found more)

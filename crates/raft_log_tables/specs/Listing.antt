@@ -51,9 +51,13 @@ abbrev pub is_below : Option (List ℕ) → List ℕ → Bool
 is_below None k = true
 is_below (Some end) k = is_lt (slice_cmp nat_cmp k end)
 
+-- the bytes of the key's value, where the key isn't below the start, and is below the end
+abbrev pub bytes_within : Option (List ℕ) → Option (List ℕ) → List ℕ → Option KeyValue → Option (List ℕ)
+bytes_within start end k value = if is_from start k && is_below end k then bytes_held value else None
+
 -- the bytes of each value whose key isn't below the start, and is below the end
 abbrev pub values_within : Option (List ℕ) → Option (List ℕ) → Shown → List ℕ → Option (List ℕ)
-values_within start end v k = if is_from start k && is_below end k then bytes_held (v.held k) else None
+values_within start end v k = bytes_within start end k (v.held k)
 
 -- calls at the pairs, one after another, up to the first that answers false
 abbrev pub Visits : {F : Type 0} → (F → List ℕ → List ℕ → Bool → F → Type 0) → F → List (List ℕ × List ℕ) → Type 0

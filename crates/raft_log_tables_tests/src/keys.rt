@@ -47,7 +47,7 @@ fn is_pair(pairs: &[(Bytes, Bytes)], key: &[u8], value: &[u8]) -> bool {
 #[test]
 fn values_are_found_until_they_are_deleted(rt: HostRuntime) -> Result<(), Fail> {
     let mut table = three_keys(rt.alloc())?;
-    assert!(rt; table.get(b"b").is_some_and(|value| value.bytes.as_slice() == b"two"));
+    assert!(rt; table.get(b"b").is_some_and(|value| value.bytes.as_slice() == b"two".as_slice()));
     put(&mut table, rt.alloc(), b"b", b"other", 4)?;
     assert!(rt; place(&table, b"b") == Some((true, 4)));
     delete(&mut table, b"b")?;
@@ -75,7 +75,7 @@ fn deletions_are_owed_also_of_keys_that_were_not_there(rt: HostRuntime) -> Resul
     delete(&mut table, b"b")?;
     table.clean();
     let owed = table.owed_deletes()?;
-    assert!(rt; owed.len() == 2 && owed[0].as_slice() == b"b" && owed[1].as_slice() == b"z");
+    assert!(rt; owed.len() == 2 && owed[0].as_slice() == b"b".as_slice() && owed[1].as_slice() == b"z".as_slice());
     table.clear_marks();
     assert!(rt; table.owed_deletes()?.is_empty());
     Ok(())
@@ -88,7 +88,7 @@ fn values_up_to_a_file_are_fetched_in_order(rt: HostRuntime) -> Result<(), Fail>
     table.fetch_kvs_before(1, &mut pairs)?;
     assert!(rt; is_pair(pairs.as_slice(), b"b", b"two"));
     table.fetch_kvs_before(3, &mut pairs)?;
-    assert!(rt; pairs.len() == 4 && pairs[1].0.as_slice() == b"a" && pairs[3].0.as_slice() == b"c");
+    assert!(rt; pairs.len() == 4 && pairs[1].0.as_slice() == b"a".as_slice() && pairs[3].0.as_slice() == b"c".as_slice());
     Ok(())
 }
 

@@ -1,6 +1,7 @@
 //! What is read of a table to be written again, and of its keys in their order.
-ghost use Rattle.std.specs.Prelude.{◌≡◌, ◌++◌, IfOk, OnOk, OnErr};
-ghost use Rattle.raft_log_tables.specs.Listing.{appended_values, rewritten_values, AddsAll, ListsMarked};
+ghost use Rattle.std.specs.Fn.{CalledAtTwo};
+ghost use Rattle.std.specs.Prelude.{◌≡◌, ◌++◌, List, ℕ, option_copied, IfOk, OnOk, OnErr};
+ghost use Rattle.raft_log_tables.specs.Listing.{appended_values, in_direction, rewritten_values, values_within, AddsAll, ListsAll, ListsMarked, Visits};
 ghost use Rattle.raft_log_tables.specs.Reads.{appended_entries, has_before, rewritten_entries};
 ghost use Rattle.raft_log_tables.specs.Table.{shown};
 
@@ -81,6 +82,25 @@ impl MemTable {
             Some(place) => FileId::new(queue, place.file) <= gate,
             None => false,
         }
+    }
+
+    /// Calls back with each key that isn't below the start and is below the end, where they are given, and
+    /// with its value: in the order of the keys' bytes or backwards, up to the first call that answers
+    /// false. It takes time in all keys of the table.
+    pub fn scan<F: FnMut(&[u8], &[u8]) -> bool>(
+        &self,
+        start: Option<&[u8]>,
+        end: Option<&[u8]>,
+        reverse: bool,
+        callback: F,
+    )
+        requires { F.IsAlwaysCallable callback }
+        ensures { (es : List (List ℕ × List ℕ))
+            × ListsAll (values_within (option_copied start.entry) (option_copied end.entry)
+            (shown self.now)) es
+            × Visits (CalledAtTwo F.FnMut) callback (in_direction reverse es) }
+    {
+        self.keys.scan(start, end, reverse, callback);
     }
 
     /// The keys whose deletion is owed to Rewrite, in the order of their bytes.

@@ -254,6 +254,7 @@ impl MemTable {
     pub fn prepare_key(&mut self, key: &[u8]) -> Result<(), AllocError>
         ensures shows { shown self.new ≡ shown self.old }
         ensures ok { OnOk result (promise self.new ≡ with_room_for (promise self.old) key.now) }
+        ensures has { OnOk result ((promise self.new).has key.now ≡ true) }
         ensures err { OnErr result (promise self.new ≡ promise self.old) }
     {
         self.keys.make_room(key)

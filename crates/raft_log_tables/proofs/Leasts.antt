@@ -8,10 +8,11 @@ use Rattle.std.proofs.lemmas.Bool.{cases_lt}
 use Rattle.raft_log_places.specs.declared.group_files.GroupFiles.{GroupFiles}
 use Rattle.raft_log_places.specs.Shown.{KeyValue}
 use Rattle.raft_log_places.specs.Noted.{file_at, noting, place_file, start_of, IsLeastInRewrite}
-use Rattle.raft_log_tables.specs.declared.key_map.HeldValue.{HeldValue}
-use Rattle.raft_log_tables.specs.declared.key_map.KeySlot.{KeySlot}
-use Rattle.raft_log_tables.specs.Files.{lesser, file_of_value, least_over, least_rewritten, least_value, first_place, min_file, noted_after, FrontIsLeast, IsLeastInAppend}
-use Rattle.raft_log_tables.specs.Keys.{held_in, slot_at, value_of}
+use Rattle.raft_log_held.specs.declared.key_map.HeldValue.{HeldValue}
+use Rattle.raft_log_held.specs.declared.key_map.KeySlot.{KeySlot}
+use Rattle.raft_log_held.specs.Counts.{lesser, file_of_value, least_over, least_value}
+use Rattle.raft_log_tables.specs.Files.{least_rewritten, first_place, min_file, noted_after, FrontIsLeast, IsLeastInAppend}
+use Rattle.raft_log_held.specs.Keys.{held_in, slot_at, value_of}
 use Rattle.raft_log_tables.specs.Table.{Raw, shown}
 
 same_number : (a b : ℕ) → ◌≡◌ {A = Option ℕ} (Some a) (Some b) → a ≡ b

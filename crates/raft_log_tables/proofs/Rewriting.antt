@@ -5,9 +5,9 @@ use Rattle.raft_log_items.specs.declared.entry.EntryIndex.{EntryIndex}
 use Rattle.raft_log_model.proofs.Cases.{if_false, lt_false}
 use Rattle.raft_log_places.specs.declared.place.Place.{Place}
 use Rattle.raft_log_places.specs.Shown.{Shown}
-use Rattle.raft_log_tables.specs.Entries.{place_of, run_of}
+use Rattle.raft_log_held.specs.Entries.{place_of, run_of}
 use Rattle.raft_log_tables.specs.Moves.{gated, movable, rewritten_at, rewritten_by}
-use Rattle.raft_log_tables.proofs.Replacing.{drop_at}
+use Rattle.raft_log_held.proofs.Replacing.{drop_at}
 
 drop_min : {A : Type 0} (n : ℕ) (xs : List A) → drop (min n (length xs)) xs ≡ drop n xs
 drop_min n xs = by (min n (length xs)) n xs refl

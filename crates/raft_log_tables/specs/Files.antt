@@ -1,35 +1,13 @@
 -- The files that a table has something in.
-use Rattle.std.specs.Prelude.{◌≡◌, ℕ, ◌+◌, ◌<◌, ◌≤◌, min, Bool, true, false, not, List, [], ◌∷◌, Option, Some, None, map, option_map, if◌then◌else◌, nat_lt, length, slice_get}
+use Rattle.std.specs.Prelude.{◌≡◌, ℕ, ◌+◌, ◌<◌, ◌≤◌, true, false, List, Option, Some, None, option_map, if◌then◌else◌, nat_lt, length, slice_get}
 use Rattle.raft_log_base.specs.declared.pipe_log.LogQueue.{LogQueue}
 use Rattle.raft_log_base.specs.declared.pipe_log.LogQueue.TheVariants.{Append, Rewrite}
 use Rattle.raft_log_places.specs.declared.group_files.GroupFiles.{GroupFiles}
 use Rattle.raft_log_model.specs.Meaning.Slot.{Index}
 use Rattle.raft_log_places.specs.Shown.{KeyValue, Shown}
 use Rattle.raft_log_places.specs.Noted.{file_at, noting, place_file, start_of}
-use Rattle.raft_log_tables.specs.declared.key_map.HeldValue.{HeldValue}
-use Rattle.raft_log_tables.specs.declared.key_map.KeySlot.{KeySlot}
+use Rattle.raft_log_held.specs.Counts.{least_value, lesser}
 use Rattle.raft_log_tables.specs.Table.{shown, Raw}
-
--- the lesser of two files, where there are any
-abbrev pub lesser : Option ℕ → Option ℕ → Option ℕ
-lesser None b = b
-lesser (Some a) None = Some a
-lesser (Some a) (Some b) = Some (min a b)
-
--- the file of a value, if there is one and it stands in that queue: Append, or else Rewrite
-abbrev pub file_of_value : Bool → Option HeldValue → Option ℕ
-file_of_value appended None = None
-file_of_value appended (Some h) =
-    if (if appended then h.appended else not h.appended) then Some h.file else None
-
--- the least file of the values in that queue, and of one that was found before
-abbrev pub least_over : Bool → Option ℕ → List KeySlot → Option ℕ
-least_over appended least [] = least
-least_over appended least (s ∷ ss) = least_over appended (lesser least (file_of_value appended s.held)) ss
-
--- the least file of the values in that queue
-abbrev pub least_value : Bool → List (List ℕ × KeySlot) → Option ℕ
-least_value appended slots = least_over appended None (map (λ e. e.1) slots)
 
 -- the file of the first entry in a queue
 abbrev pub first_place : LogQueue → Raw → Option ℕ

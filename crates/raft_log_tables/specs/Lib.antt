@@ -1,9 +1,6 @@
 pub mod Stats
-pub mod Keys
-pub mod Entries
 pub mod Room
 pub mod Table
 pub mod Reads
 pub mod Files
 pub mod Moves
-pub mod Listing

@@ -1,11 +1,12 @@
 -- Copies into Rewrite and the marks that are owed to it, as a table's calls say them.
-use Rattle.std.specs.Prelude.{ℕ, suc, ◌+◌, ◌-◌, ◌≤◌, max, min, Bool, false, not, ◌||◌, List, [], ◌∷◌, ◌++◌, length, take, drop, Option, Some, None, if◌then◌else◌, nat_le, nat_lt}
+use Rattle.std.specs.Prelude.{ℕ, ◌+◌, ◌-◌, ◌≤◌, max, min, Bool, false, not, ◌||◌, List, [], ◌∷◌, ◌++◌, length, take, drop, Option, Some, None, if◌then◌else◌, nat_le, nat_lt}
 use Rattle.raft_log_model.specs.Item.{Item}
 use Rattle.raft_log_model.specs.Item.Item.{Run}
 use Rattle.raft_log_machine.specs.Whereabouts.{top}
 use Rattle.raft_log_places.specs.declared.place.Place.{Place}
 use Rattle.raft_log_places.specs.Shown.{KeyValue, Shown, with_held}
 use Rattle.raft_log_places.specs.Bridge.{moved_run}
+use Rattle.raft_log_held.specs.Counts.{passing}
 
 -- the run's entries are there, from a rewritten one or the first appended one on, to the last rewritten one
 -- or past it
@@ -25,11 +26,6 @@ moved_by v x = v
 -- the index of the Compact that is owed, if one is
 abbrev pub owed_compact : Shown → Option ℕ
 owed_compact v = if v.compacted then Some (if nat_lt 0 v.rewritten then v.first else top) else None
-
--- how many of the places lie in files up to the gate, up to the first that doesn't
-abbrev pub passing : ℕ → List Place → ℕ
-passing gate [] = 0
-passing gate (p ∷ ps) = if nat_le p.file gate then suc (passing gate ps) else 0
 
 -- how many of the places may move: with a gate those up to the first in a file past it, without one none
 abbrev pub gated : Option ℕ → List Place → ℕ

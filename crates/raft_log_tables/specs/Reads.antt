@@ -9,8 +9,8 @@ use Rattle.raft_log_base.specs.Files.{file_cmp}
 use Rattle.raft_log_items.specs.declared.entry.EntryIndex.{EntryIndex}
 use Rattle.raft_log_places.specs.declared.place.Place.{Place}
 use Rattle.raft_log_places.specs.Shown.{Shown}
-use Rattle.raft_log_tables.specs.Entries.{entry_of, queue_of}
-use Rattle.raft_log_tables.specs.Moves.{passing}
+use Rattle.raft_log_held.specs.Counts.{passing, sized}
+use Rattle.raft_log_held.specs.Entries.{entry_of, queue_of}
 
 -- the first index, if there are entries
 abbrev pub first_of : Shown → Option ℕ
@@ -27,18 +27,6 @@ entry_at v i =
     then option_map (entry_of (queue_of (nat_lt (i - v.first) v.rewritten)) i)
     (slice_get v.places (i - v.first))
     else None
-
--- how many of these places' entries come where so many bytes are left
-abbrev pub fitting : ℕ → List Place → ℕ
-fitting left [] = 0
-fitting left (p ∷ ps) = if nat_le p.entry_len left then suc (fitting (left - p.entry_len) ps) else 0
-
--- how many come: the first always, and more as long as the sum of their lengths doesn't pass the greatest
--- size
-abbrev pub sized : Option ℕ → List Place → ℕ
-sized None ps = length ps
-sized (Some max) [] = 0
-sized (Some max) (p ∷ ps) = if nat_le p.entry_len max then suc (fitting (max - p.entry_len) ps) else 1
 
 -- the entries at these places, from a position in the table on
 abbrev pub entries_from : Shown → ℕ → List Place → List EntryIndex

@@ -7,9 +7,9 @@ use Rattle.raft_log_model.specs.Holes.{Window}
 use Rattle.raft_log_places.specs.declared.group_files.GroupFiles.{GroupFiles}
 use Rattle.raft_log_places.specs.Shown.{Shown, MayFollow}
 use Rattle.raft_log_tables.specs.declared.ends.Ends.{Ends}
-use Rattle.raft_log_tables.specs.declared.key_map.KeySlot.{KeySlot}
-use Rattle.raft_log_tables.specs.Keys.{keys_of}
-use Rattle.raft_log_tables.specs.Entries.{PlaceList}
+use Rattle.raft_log_held.specs.declared.key_map.KeySlot.{KeySlot}
+use Rattle.raft_log_held.specs.Keys.{keys_of}
+use Rattle.raft_log_held.specs.Entries.{PlaceList}
 use Rattle.raft_log_tables.specs.Room.{Promise}
 
 -- a table with its room

@@ -4,7 +4,7 @@ ghost use Rattle.raft_log_items.specs.declared.entry.EntryIndex.{EntryIndex};
 ghost use Rattle.raft_log_items.specs.Run.{IsRun};
 ghost use Rattle.raft_log_model.specs.Item.Item.{Compact};
 ghost use Rattle.raft_log_places.specs.Shown.{next_span, MayFollow};
-ghost use Rattle.raft_log_tables.specs.Entries.{run_of};
+ghost use Rattle.raft_log_held.specs.Entries.{run_of};
 ghost use Rattle.raft_log_tables.specs.Table.{window_of};
 
 use raft_log_items::EntryIndex;

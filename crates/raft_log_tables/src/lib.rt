@@ -6,12 +6,10 @@
 
 pub mod ends;
 pub mod global_stats;
-pub mod key_map;
 pub mod laws;
 pub mod mem_table;
-pub mod places;
 
 pub use ends::Ends;
 pub use global_stats::GlobalStats;
-pub use key_map::{HeldValue, KeyMap};
 pub use mem_table::MemTable;
+pub use raft_log_held::{HeldValue, KeyMap};

@@ -17,10 +17,10 @@ ghost use Rattle.raft_log_places.specs.Shown.{
 };
 ghost use Rattle.raft_log_places.specs.Bridge.{moved_key, unmarked};
 ghost use Rattle.raft_log_places.specs.Noted.{start_of};
-ghost use Rattle.raft_log_tables.specs.Entries.{entry_of, queue_of, run_of};
+ghost use Rattle.raft_log_held.specs.Entries.{entry_of, queue_of, run_of};
 ghost use Rattle.raft_log_tables.specs.Files.{least_rewritten, min_file, noted_after, with_group};
 ghost use Rattle.raft_log_tables.specs.Moves.{key_rewritten, may_move, moved_by, owed_compact, rewritten_by, StandsIn};
-ghost use Rattle.raft_log_tables.specs.Keys.{shown_value, value_of};
+ghost use Rattle.raft_log_held.specs.Keys.{shown_value, value_of};
 ghost use Rattle.raft_log_tables.specs.Reads.{entries_from, entry_at, first_of, last_of, Fetches, FetchRefused};
 ghost use Rattle.raft_log_tables.specs.Room.{kept, no_promise, promised, taken_back, with_room_for, CanTake};
 ghost use Rattle.raft_log_tables.specs.Table.{promise, shown, window_of, RunRefused};
@@ -28,9 +28,8 @@ ghost use Rattle.raft_log_tables.specs.Table.{promise, shown, window_of, RunRefu
 mod reads;
 
 use crate::ends::Ends;
-use crate::key_map::{HeldValue, KeyMap, lesser};
-use crate::places::{Places, entry_of};
 use raft_log_base::{Error, FileSeq, LogQueue, Result};
+use raft_log_held::{HeldValue, KeyMap, Places, entry_of, lesser};
 use raft_log_items::{Bytes, EntryIndex};
 use raft_log_places::GroupFiles;
 use std::alloc::{AllocError, Global};

@@ -1,7 +1,7 @@
 //! What is read of a table to be written again, and of its keys in their order.
 ghost use Rattle.std.specs.Fn.{CalledAtTwo};
 ghost use Rattle.std.specs.Prelude.{◌≡◌, ◌++◌, List, ℕ, option_copied, IfOk, OnOk, OnErr};
-ghost use Rattle.raft_log_tables.specs.Listing.{appended_values, in_direction, rewritten_values, values_within, AddsAll, ListsAll, ListsMarked, Visits};
+ghost use Rattle.raft_log_held.specs.Listing.{appended_values, in_direction, rewritten_values, values_within, AddsAll, ListsAll, ListsMarked, Visits};
 ghost use Rattle.raft_log_tables.specs.Reads.{appended_entries, has_before, rewritten_entries};
 ghost use Rattle.raft_log_tables.specs.Table.{shown};
 

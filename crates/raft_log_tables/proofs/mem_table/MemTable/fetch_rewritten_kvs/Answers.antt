@@ -1,5 +1,5 @@
 use Rattle.std.proofs.Common.{OnOk, subst}
-use Rattle.raft_log_tables.specs.Listing.{rewritten_values, AddsAll}
+use Rattle.raft_log_held.specs.Listing.{rewritten_values, AddsAll}
 use Rattle.raft_log_tables.specs.Table.{shown}
 use Rattle.raft_log_tables.proofs.mem_table.MemTable.fetch_rewritten_kvs.Goals as goal
 

@@ -1,5 +1,5 @@
 use Rattle.std.proofs.Common.{ap, ◌∙◌}
-use Rattle.raft_log_tables.specs.Entries.{run_of}
+use Rattle.raft_log_held.specs.Entries.{run_of}
 use Rattle.raft_log_tables.specs.Table.{promise, shown}
 use Rattle.raft_log_tables.proofs.Ready.{prepared_takes}
 use Rattle.raft_log_tables.proofs.mem_table.MemTable.replay_append.Goals as goal

@@ -1,5 +1,5 @@
 use Rattle.std.proofs.Common.{◌≡◌, ◌+◌, ◌-◌, ◌≤◌, ap, arith, drop, length, min, sym, take, ◌∙◌}
-use Rattle.raft_log_tables.specs.Entries.{run_of}
+use Rattle.raft_log_held.specs.Entries.{run_of}
 use Rattle.raft_log_tables.specs.Moves.{gated, rewritten_by}
 use Rattle.raft_log_tables.specs.Table.{shown}
 use Rattle.raft_log_tables.specs.contracts.mem_table.MemTable.{the_view}

@@ -1,6 +1,6 @@
 use Rattle.std.proofs.Common.{List, ℕ, option_copied, subst}
 use Rattle.std.specs.Fn.{CalledAtTwo}
-use Rattle.raft_log_tables.specs.Listing.{in_direction, values_within, ListsAll, Visits}
+use Rattle.raft_log_held.specs.Listing.{in_direction, values_within, ListsAll, Visits}
 use Rattle.raft_log_tables.specs.Table.{shown}
 use Rattle.raft_log_tables.proofs.mem_table.MemTable.scan.Goals as goal
 

@@ -1,0 +1,4 @@
+pub mod ByteKeys
+pub mod Replacing
+pub mod Sizing
+pub mod Listing

@@ -1,0 +1,10 @@
+use Rattle.std.proofs.Common.{◌≡◌, ◌+◌, ◌≤◌, ◌++◌, map, take}
+use Rattle.std.specs.VecDeque.{deque_len, deque_capacity}
+use Rattle.raft_log_held.specs.Entries.{place_of}
+use Rattle.raft_log_held.proofs.places.Places.push.Given as goal
+
+abbrev pub invariant-loop-entry : goal.invariant-loop-entry
+invariant-loop-entry l =
+    (l.self-inside.places.items ≡ l.fn.self.items ++ map place_of (take l.entry-index l.entries))
+    × (l.self-inside.wanted + l.entry-index ≡ l.fn.self.wanted)
+    × (deque_len l.self-inside.places + l.self-inside.wanted ≤ deque_capacity l.self-inside.places)

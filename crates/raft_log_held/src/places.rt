@@ -1,0 +1,205 @@
+//! The places of a group's entries, and room for more.
+ghost use Rattle.std.specs.Prelude.{◌≡◌, ◌+◌, ◌-◌, ◌≤◌, ◌++◌, [], length, map, take, drop, slice_get, ◌<◌, Some, OnOk, OnErr};
+ghost use Rattle.raft_log_held.specs.Entries.{place_of, entry_of};
+ghost use Rattle.raft_log_held.specs.Counts.{passing};
+ghost use Rattle.raft_log_held.specs.Counts.{sized};
+
+use raft_log_base::{FileBlockHandle, FileId, FileSeq, LogQueue};
+use raft_log_items::{CompressionType, EntryIndex};
+use raft_log_places::Place;
+use std::alloc::{AllocError, Global};
+use std::collections::VecDeque;
+use std::marker::Model;
+
+/// Where a written entry lies. One that isn't written lies nowhere: its file, its block's offset and length
+/// are 0.
+pub fn place_of(entry: &EntryIndex) -> Place
+    ensures { result ≡ place_of entry.now }
+{
+    let (file, offset, len) = match entry.entries {
+        Some(block) => (block.id.seq, block.offset, block.len),
+        None => (0, 0, 0),
+    };
+    Place {
+        file,
+        offset,
+        len,
+        entry_offset: entry.entry_offset,
+        entry_len: entry.entry_len,
+    }
+}
+
+/// The entry of this index that lies there, in a file of this queue.
+pub fn entry_of(queue: LogQueue, index: u64, place: Place) -> EntryIndex
+    ensures { result ≡ entry_of queue index place }
+{
+    let id = FileId::new(queue, place.file);
+    EntryIndex {
+        index,
+        entries: Some(FileBlockHandle {
+            id,
+            offset: place.offset,
+            len: place.len,
+        }),
+        compression_type: CompressionType::None,
+        entry_offset: place.entry_offset,
+        entry_len: place.entry_len,
+    }
+}
+
+/// The places of entries one after another, and room that is promised for more of them.
+#[derive(Drop)]
+pub struct Places {
+    places: VecDeque<Place>,
+    wanted: usize,
+}
+
+impl Model for Places {
+    ghost use Rattle.std.specs.Prelude.{◌+◌, ◌≤◌};
+    ghost use Rattle.std.specs.VecDeque.{deque_len, deque_capacity};
+    ghost use Rattle.raft_log_held.specs.Entries.{PlaceList};
+
+    ghost Value = { PlaceList };
+
+    ghost view = { λ p. record { items = p.places.items; wanted = p.wanted } };
+
+    ghost invariant = { λ p. deque_len p.places + p.wanted ≤ deque_capacity p.places };
+}
+
+impl Places {
+    /// No places, and no room promised.
+    pub fn new(alloc: Global) -> Places
+        ensures { result ≡ record { items = []; wanted = 0 } }
+    {
+        Places {
+            places: VecDeque::new(alloc),
+            wanted: 0,
+        }
+    }
+
+    /// How many places there are.
+    pub fn len(&self) -> usize
+        ensures { result ≡ length self.now.items }
+    {
+        self.places.len()
+    }
+
+    /// The place at this position.
+    pub fn get(&self, position: usize) -> Option<Place>
+        ensures { result ≡ slice_get self.now.items position }
+    {
+        self.places.get(position).copied()
+    }
+
+    /// Makes room for so many more. Where memory is refused, nothing changes.
+    pub fn make_room(&mut self, count: usize) -> Result<(), AllocError>
+        ensures ok { OnOk result (self.new ≡ record self.old { wanted = self.old.wanted + count }) }
+        ensures err { OnErr result (self.new ≡ self.old) }
+    {
+        let Some(wanted) = self.wanted.checked_add(count) else {
+            return Err(AllocError);
+        };
+        self.places.reserve(wanted)?;
+        self.wanted = wanted;
+        Ok(())
+    }
+
+    /// Takes back all room that was promised.
+    pub fn forget_room(&mut self)
+        ensures { self.new ≡ record self.old { wanted = 0 } }
+    {
+        self.wanted = 0;
+    }
+
+    /// The places of these entries come to the end, in room that was promised for them.
+    pub fn push(&mut self, entries: &[EntryIndex])
+        requires { length entries.now ≤ self.old.wanted }
+        ensures items { self.new.items ≡ self.old.items ++ map place_of entries.now }
+        ensures wanted { self.new.wanted ≡ self.old.wanted - length entries.now }
+    {
+        for entry in entries {
+            self.places.push_back_reserved(place_of(entry));
+            self.wanted -= 1;
+        }
+    }
+
+    /// Only so many first places stay.
+    pub fn truncate(&mut self, count: usize)
+        ensures { self.new ≡ record self.old { items = take count self.old.items } }
+    {
+        self.places.truncate(count);
+    }
+
+    /// So many first places go.
+    pub fn drop_front(&mut self, count: usize)
+        requires { count ≤ length self.old.items }
+        ensures { self.new ≡ record self.old { items = drop count self.old.items } }
+    {
+        self.places.drain(..count);
+    }
+
+    /// From this position on, the places of these entries take the place of as many.
+    pub fn replace(&mut self, position: usize, entries: &[EntryIndex])
+        requires { position + length entries.now ≤ length self.old.items }
+        ensures items { self.new.items
+            ≡ take position self.old.items
+            ++ (map place_of entries.now ++ drop (position + length entries.now) self.old.items) }
+        ensures wanted { self.new.wanted ≡ self.old.wanted }
+    {
+        for (i, entry) in entries.iter().enumerate() {
+            self.places[position + i] = place_of(entry);
+        }
+    }
+
+    /// How many places from this position on, at most so many, lie in files up to the gate, up to the first
+    /// that doesn't.
+    pub fn count_up_to(&self, position: usize, limit: usize, gate: FileSeq) -> usize
+        requires { position ≤ length self.now.items }
+        ensures count { result ≡ passing gate (take limit (drop position self.now.items)) }
+        ensures within { (result ≤ limit) × (position + result ≤ length self.now.items) }
+    {
+        let limit = limit.min(self.places.len() - position);
+        for i in 0..limit {
+            if self.places[position + i].file > gate {
+                return i;
+            }
+        }
+        limit
+    }
+
+    /// The place at this position, which is there.
+    pub fn at(&self, position: usize) -> Place
+        requires { position < length self.now.items }
+        ensures { slice_get self.now.items position ≡ Some result }
+    {
+        self.places[position]
+    }
+
+    /// How many of so many entries from this position on come: the first always, and more as long as the
+    /// sum of their lengths doesn't pass the greatest size.
+    pub fn sized(&self, position: usize, count: usize, max_size: Option<u64>) -> usize
+        requires { position + count ≤ length self.now.items }
+        ensures count { result ≡ sized max_size (take count (drop position self.now.items)) }
+        ensures within { result ≤ count }
+    {
+        let Some(max_size) = max_size else {
+            return count;
+        };
+        if count == 0 {
+            return 0;
+        }
+        let first = self.places[position].entry_len as u64;
+        if first > max_size {
+            return 1;
+        }
+        let mut left = max_size - first;
+        for i in 1..count {
+            let len = self.places[position + i].entry_len as u64;
+            if len > left {
+                return i;
+            }
+            left -= len;
+        }
+        count
+    }
+}

@@ -60,7 +60,8 @@ abbrev pub values_within : Option (List ℕ) → Option (List ℕ) → Shown →
 values_within start end v k = bytes_within start end k (v.held k)
 
 -- calls at the pairs, one after another, up to the first that answers false
-abbrev pub Visits : {F : Type 0} → (F → List ℕ → List ℕ → Bool → F → Type 0) → F → List (List ℕ × List ℕ) → Type 0
+abbrev pub Visits : {F : Type 0} → (F → List ℕ → List ℕ → Bool → F → Type 0) → F → List (List ℕ × List ℕ)
+    → Type 0
 Visits called f [] = Unit {0}
 Visits {F} called f (e ∷ es) =
     (more : Bool) × (next : F) × called f e.0 e.1 more next × (more ≡ true → Visits called next es)

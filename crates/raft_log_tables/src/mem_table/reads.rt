@@ -34,7 +34,8 @@ impl MemTable {
         &self,
         entries: &mut Vec<EntryIndex>,
     ) -> Result<(), AllocError>
-        ensures ok { OnOk result (entries.new.items ≡ entries.old.items ++ rewritten_entries (shown self.now)) }
+        ensures ok { OnOk result (entries.new.items
+            ≡ entries.old.items ++ rewritten_entries (shown self.now)) }
         ensures err { OnErr result (entries.new.items ≡ entries.old.items) }
     {
         entries.reserve(self.rewritten)?;

@@ -2,12 +2,10 @@
 #![tactic(auto)]
 
 #[cfg(test)]
-mod fetches;
+mod play;
 #[cfg(test)]
-mod keys;
+mod reads;
 #[cfg(test)]
-mod moves;
-#[cfg(test)]
-mod runs;
+mod rows;
 #[cfg(test)]
 mod stats;

@@ -5,11 +5,13 @@ use super::play::Step::{
 use super::play::{Step, entries_told, keys_told, played};
 use std::test::Fail;
 
-/// Entries 10 to 19 in file 1, 20 to 29 in file 2, and 25 to 34 in file 3.
+/// Entries 10 to 19 in file 1.
 const A: Step = Append(1, 10, 10);
 
+/// Entries 20 to 29 in file 2.
 const B: Step = Append(2, 20, 10);
 
+/// Entries 25 to 34 in file 3, which cut off those from 25 on.
 const C: Step = Append(3, 25, 10);
 
 /// Steps, and what is told of the entries: first and last index, how many there are and how many in

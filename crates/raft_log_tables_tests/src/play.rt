@@ -5,18 +5,28 @@ use raft_log_places::GroupFiles;
 use raft_log_tables::MemTable;
 use std::alloc::{AllocError, Global};
 
-/// One step: with entries a file, the first index and how many of one byte each; with keys a file.
+/// One step. With entries come a file, the first index, and how many of one byte each.
 #[derive(Clone, Copy)]
 pub enum Step {
+    /// Entries come to a file of Append.
     Append(u64, u8, u8),
+    /// Entries were written to a file of Rewrite, with a gate or without one.
     Rewrite(u64, u8, u8, Option<u64>),
+    /// An atomic group ended, from the first file to the last.
     Group(u64, u64),
+    /// The entries below the index go.
     Compact(u64),
+    /// All entries and values go.
     Clean,
+    /// The marks were carried.
     Clear,
+    /// The key has itself as value, in a file of Append.
     Put(&'static [u8], u64),
+    /// The key is deleted.
     Delete(&'static [u8]),
+    /// The key was copied to a file of Rewrite.
     Move(&'static [u8], u64),
+    /// The key was written to a file of Rewrite, with a gate or without one.
     RewriteKey(&'static [u8], Option<u64>, u64),
 }
 

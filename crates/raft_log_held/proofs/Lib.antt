@@ -2,3 +2,4 @@ pub mod ByteKeys
 pub mod JoinedKeys
 pub mod Replacing
 pub mod Sizing
+pub mod Listing

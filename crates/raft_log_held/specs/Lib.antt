@@ -1,3 +1,4 @@
 pub mod Keys
 pub mod Entries
 pub mod Counts
+pub mod Listing

@@ -18,6 +18,8 @@ ghost use Rattle.raft_log_held.specs.Keys.{
 };
 ghost use Rattle.raft_log_held.specs.Counts.{file_of_value, least_value, lesser};
 
+mod reads;
+
 use raft_log_base::FileSeq;
 use raft_log_items::Bytes;
 use std::alloc::{AllocError, Global};

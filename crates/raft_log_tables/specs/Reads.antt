@@ -1,11 +1,15 @@
 -- What is read of a table.
-use Rattle.std.specs.Prelude.{◌≡◌, ℕ, ◌+◌, ◌-◌, ◌<◌, ◌≤◌, ◌⊎◌, List, [], ◌∷◌, ◌++◌, length, take, drop, Option, Some, None, option_map, if◌then◌else◌, nat_lt, nat_le, slice_get}
+use Rattle.std.specs.Prelude.{◌≡◌, ℕ, zero, suc, ◌+◌, ◌-◌, ◌<◌, ◌≤◌, ◌⊎◌, Bool, true, false, List, [], ◌∷◌, ◌++◌, length, take, drop, Option, Some, None, option_map, if◌then◌else◌, nat_lt, nat_le, slice_get}
+use Rattle.std.specs.Ordering.{is_le}
 use Rattle.raft_log_base.specs.declared.errors.Error.{Error}
 use Rattle.raft_log_base.specs.declared.errors.Error.TheVariants as errors
+use Rattle.raft_log_base.specs.declared.pipe_log.FileId.{FileId}
+use Rattle.raft_log_base.specs.declared.pipe_log.LogQueue.{LogQueue}
+use Rattle.raft_log_base.specs.Files.{file_cmp}
 use Rattle.raft_log_items.specs.declared.entry.EntryIndex.{EntryIndex}
 use Rattle.raft_log_places.specs.declared.place.Place.{Place}
 use Rattle.raft_log_places.specs.Shown.{Shown}
-use Rattle.raft_log_held.specs.Counts.{sized}
+use Rattle.raft_log_held.specs.Counts.{passing, sized}
 use Rattle.raft_log_held.specs.Entries.{entry_of, queue_of}
 
 -- the first index, if there are entries
@@ -39,6 +43,25 @@ abbrev pub fetched : Shown → ℕ → ℕ → Option ℕ → List EntryIndex
 fetched v begin end max =
     entries_from v (begin - v.first)
     (take (sized max (places_between v begin end)) (places_between v begin end))
+
+-- the entries in Append from the first on, up to the first that lies in a file past the gate
+abbrev pub appended_entries : Shown → ℕ → List EntryIndex
+appended_entries v gate =
+    entries_from v v.rewritten (take (passing gate (drop v.rewritten v.places)) (drop v.rewritten v.places))
+
+-- the entries in Rewrite
+abbrev pub rewritten_entries : Shown → List EntryIndex
+rewritten_entries v = entries_from v 0 (take v.rewritten v.places)
+
+-- the place lies in a file of this queue up to the gate
+abbrev pub is_up_to : FileId → LogQueue → Option Place → Bool
+is_up_to gate queue None = false
+is_up_to gate queue (Some p) = is_le (file_cmp (record { queue = queue; seq = p.file }) gate)
+
+-- there are so many entries, and the last of these many lies in a file up to the gate
+abbrev pub has_before : Shown → FileId → ℕ → Bool
+has_before v gate zero = true
+has_before v gate (suc n) = is_up_to gate (queue_of (nat_lt n v.rewritten)) (slice_get v.places n)
 
 -- these entries come behind the old ones, and this is how many
 abbrev pub Fetches : Shown → ℕ → ℕ → Option ℕ → List EntryIndex → List EntryIndex → ℕ → Type 0

@@ -29,6 +29,8 @@ ghost use Rattle.raft_log_tables.specs.Table.{promise, replay_of, shown, window_
 mod merge;
 mod replay;
 
+mod reads;
+
 use crate::ends::Ends;
 use raft_log_base::{Error, FileSeq, LogQueue, Result};
 use raft_log_held::{HeldValue, KeyMap, Places, entry_of, lesser};
@@ -265,6 +267,7 @@ impl MemTable {
     pub fn prepare_key(&mut self, key: &[u8]) -> Result<(), AllocError>
         ensures shows { shown self.new ≡ shown self.old }
         ensures ok { OnOk result (promise self.new ≡ with_room_for (promise self.old) key.now) }
+        ensures has { OnOk result ((promise self.new).has key.now ≡ true) }
         ensures err { OnErr result (promise self.new ≡ promise self.old) }
         ensures bounds { IsBoundAs self.old self.new }
     {

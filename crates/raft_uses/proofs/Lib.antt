@@ -1,2 +1,3 @@
 pub mod Kept
 mod Saving
+mod Written

@@ -10,6 +10,7 @@ pub mod memory_files;
 pub mod outline;
 pub mod records;
 pub mod settings;
+pub mod tables;
 pub mod voter;
 pub mod voter_messages;
 pub mod voter_session;

@@ -1,0 +1,7 @@
+#!/usr/bin/env bash
+# Appends, puts and fetches over the tables of 1,000 groups, in thousands per second, beside a plain Rust twin (rustc -O), in one
+# run.
+# Usage: bench/tables/run.sh [ROUNDS]; RT names the toolchain's command.
+set -euo pipefail
+here="$(dirname "$0")"
+UNIT="k/s" exec "$here/../common/run.sh" "$here" "${1:-3}" raft_log_tables raft_log_items raft_log_base

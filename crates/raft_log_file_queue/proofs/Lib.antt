@@ -2,3 +2,4 @@ pub mod FileSteps
 pub mod Standing
 pub mod Keeping
 pub mod Bridging
+pub mod Beginning

@@ -1,3 +1,4 @@
 pub mod Writing
 pub mod Calls
 pub mod Rotating
+mod Beginning

@@ -9,6 +9,7 @@
 
 pub mod format;
 pub mod last_file;
+pub mod opening;
 pub mod rotation;
 
 pub use format::PipeFormat;

@@ -1,7 +1,7 @@
 -- A queue begins in its file 1, on a disk on which it has no file.
 use Rattle.std.specs.Map.{update}
 use Rattle.std.specs.Str.{bytes_eq}
-use Rattle.std.proofs.Common.{◌≡◌, ℕ, ◌<◌, suc, Option, Some, None, List, [], refl, sym, ◌∙◌, ap, subst, inl, inr, arith}
+use Rattle.std.proofs.Common.{◌≡◌, ℕ, ◌<◌, Some, List, [], refl, sym, ◌∙◌, ap, subst, inl, inr, arith}
 use Rattle.raft_log_model.specs.Item.{Record}
 use Rattle.raft_log_disk.specs.Disk.{Disk, at_rest}
 use Rattle.raft_log_disk.specs.Image.{IsSound}
@@ -13,10 +13,8 @@ use Rattle.raft_log_disk.proofs.ImageLaws.{named_is_used}
 use Rattle.raft_log_disk.proofs.NamesLaws.{creation_leaves}
 use Rattle.raft_log_disk.proofs.KeptLaws.{IsCalm}
 use Rattle.raft_log_disk.proofs.TouchingLaws.{names_then}
-use Rattle.raft_log_file_queue.specs.Queue.{with_room}
 use Rattle.raft_log_file_queue.specs.States.{IsNew}
-use Rattle.raft_log_file_queue.specs.Standing.{Names, IsPlace, OwnsPaths, Stands}
-use Rattle.raft_log_file_queue.specs.Bridge.{IsFileQueue}
+use Rattle.raft_log_file_queue.specs.Standing.{Names, OwnsPaths, Stands}
 use Rattle.raft_log_file_queue.specs.Beginning.{IsFresh, fresh_queue, BeginsNumbered}
 use Rattle.raft_log_file_queue.proofs.FileSteps.{new_over}
 use Rattle.raft_log_file_queue.proofs.Standing.{place_moved}

@@ -3,3 +3,4 @@ pub mod Standing
 pub mod Keeping
 pub mod Bridging
 pub mod Beginning
+pub mod Reopening

@@ -2,3 +2,4 @@ pub mod Writing
 pub mod Calls
 pub mod Rotating
 mod Beginning
+pub mod Reopening

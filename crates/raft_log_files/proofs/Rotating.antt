@@ -154,13 +154,17 @@ module _ {R : Type 0} (F : Format R) where
     gaps_made q header to id old d1 d2 sound can first creates = gaps_then q old d1 d2 first (subst (GapsStay F q d1) (sym creates.done) (gaps_created q header to d1 sound can))
 
     pub rotates_to_new : (before middle after : LogFileWriter) (header to : List ℕ) (handle : Handle) (old d1 d2 new : Disk) → IsSound d1 → Finishes F own before middle old d1 → TouchesOnly before.handle.file old d1
-        → Creates to handle.file d1 d2 → handle.permission ≡ ReadWrite → Begins F own handle header after d2 new → TouchesOnly handle.file d2 new → RotatesToNew F own header to before after old new
+        → Creates to handle.file d1 d2 → handle.permission ≡ ReadWrite → Begins F own handle header after d2 new → TouchesOnly handle.file d2 new → RotatesToNew F own header to before after handle old new
     rotates_to_new before middle after header to handle old d1 d2 new sound finish only creates permitted begin touches base q path N can was =
         let is = finish base q path N was in
         let M : Names = update bytes_eq N to (Some d1.unused) in
         let given = given_made base middle q header to path handle N d1 d2 sound can is creates permitted in
         let (room, stands) = begin base (rotated header [] q) [] to M given in
-        (room, M, stands, gaps_then q old d2 new (gaps_made q header to handle.file old d1 d2 sound can (gaps_touched q before.handle.file old d1 only) creates) (gaps_touched q handle.file d2 new touches))
+        (
+          room,
+          subst (λ (n : ℕ). IsOpen F own base after (with_room room (rotated header [] q)) to (update bytes_eq N to (Some n)) new) (sym creates.number) stands,
+          gaps_then q old d2 new (gaps_made q header to handle.file old d1 d2 sound can (gaps_touched q before.handle.file old d1 only) creates) (gaps_touched q handle.file d2 new touches),
+        )
 
     pub fails_to_create : (before middle : LogFileWriter) (header to : List ℕ) (error : ErrorKind) (old d1 new : Disk) → IsSound d1 → Finishes F own before middle old d1 → TouchesOnly before.handle.file old d1 → IsLater old d1
         → FailsToCreate to error d1 new → FailsToRotateToNew F own header to before old new
@@ -245,7 +249,7 @@ module _ {R : Type 0} (F : Format R) where
         let M : Names = update bytes_eq (update bytes_eq N from None) to (Some handle.file) in
         let given = given_renamed base middle q header stale from to path handle N d1 d2 sound_then can is (spare_left base before middle q header stale from to path handle N old d1 sound only was spare) renames in
         let (room, stands) = begin base (rotated header stale q) stale to M given in
-        (room, M, stands, gaps_then q old d2 new (gaps_turned q header from to old d1 d2 can (gaps_touched q before.handle.file old d1 only) renames) (gaps_touched q handle.file d2 new touches))
+        (room, stands, gaps_then q old d2 new (gaps_turned q header from to old d1 d2 can (gaps_touched q before.handle.file old d1 only) renames) (gaps_touched q handle.file d2 new touches))
 
     pub fails_to_rename : (before middle : LogFileWriter) (header from to : List ℕ) (handle : Handle) (error : ErrorKind) (old d1 new : Disk) → IsSound old → IsSound d1 → Finishes F own before middle old d1 → TouchesOnly before.handle.file old d1 → IsLater old d1
         → FailsToRename from to error d1 new → FailsToRotateOver F own header handle from to before old new
@@ -297,7 +301,7 @@ module _ {R : Type 0} (F : Format R) where
       stands = stands_deleted F own base lawful owns q path gone writer.handle.file id (IsActiveTo F writer.capacity q) N old sound can.mine can.apart (ap (λ (f : Names). f gone) (sym was.stands.names) ∙ there) was.stands;
     }
 
-    open_left : (base : Disk) (writer : LogFileWriter) (q : LogFiles R) (path : List ℕ) (N : Names) (d : Disk) → IsOpen F own base writer q path N d → IsLeft F own base q d
+    pub open_left : (base : Disk) (writer : LogFileWriter) (q : LogFiles R) (path : List ℕ) (N : Names) (d : Disk) → IsOpen F own base writer q path N d → IsLeft F own base q d
     open_left base writer q path N d is = record {
       path = path;
       id = writer.handle.file;

@@ -2,19 +2,21 @@
 use Rattle.std.specs.Prelude.{◌≡◌, ℕ, ◌<◌, ◌≤◌, ◌⊎◌, Some, None, List, [], suc}
 use Rattle.std.specs.Map.{update}
 use Rattle.std.specs.Str.{bytes_eq}
-use Rattle.raft_log_disk.specs.Disk.{Disk}
+use Rattle.std.specs.declared.io.ErrorKind.{ErrorKind}
+use Rattle.raft_log_disk.specs.Disk.{File, Disk}
 use Rattle.raft_log_disk.specs.Causes.{Fails}
 use Rattle.raft_log_disk.specs.LogFormat.{Format}
 use Rattle.raft_log_disk.specs.LogQueue.{LogFiles, HoldsLast, rotated}
 use Rattle.raft_log_disk.specs.Touching.{HasFile}
 use Rattle.raft_log_disk.specs.declared.handle.Handle.{Handle}
 use Rattle.raft_log_disk.specs.declared.handle.Permission.TheVariants.{ReadWrite}
+use Rattle.raft_log_file.specs.Writer.{Closes, FailsToClose}
 use Rattle.raft_log_file.specs.declared.writer.LogFileWriter.{LogFileWriter}
 use Rattle.raft_log_file_queue.specs.Queue.{with_room}
 use Rattle.raft_log_file_queue.specs.States.{IsNew}
 use Rattle.raft_log_file_queue.specs.Standing.{Names, Stands}
 use Rattle.raft_log_file_queue.specs.Bridge.{GapsStay}
-use Rattle.raft_log_files.specs.Exits.{IsOpen}
+use Rattle.raft_log_files.specs.Exits.{IsOpen, BeginMakes}
 
 -- the next number is one, and this is a header and a path for it
 pub record CanRotate {R : Type 0} (F : Format R) (q : LogFiles R) (header to : List ℕ) : Type 0 where
@@ -47,11 +49,11 @@ abbrev pub IsLeftTurned : {R : Type 0} → Format R → (List ℕ → Type 0) �
 IsLeftTurned F own base q header stale d = IsLeft F own base q d ⊎
     ((room : ℕ) × IsLeft F own base (with_room room (rotated header stale q)) d)
 
--- the queue goes on in the next file, over these bytes (and maybe room that was made), and no gap was
--- filled
+-- The queue goes on in the next file, under its path in these names, over these bytes (and maybe room that was
+-- made), and no gap was filled.
 abbrev pub GoesOnInNext : {R : Type 0} → Format R → (List ℕ → Type 0) → Disk → LogFileWriter → LogFiles R
-    → List ℕ → List ℕ → List ℕ → Disk → Disk → Type 0
-GoesOnInNext F own base writer q header stale to old new = (room : ℕ) × (N : Names)
+    → List ℕ → List ℕ → List ℕ → Names → Disk → Disk → Type 0
+GoesOnInNext F own base writer q header stale to N old new = (room : ℕ)
     × IsOpen F own base writer (with_room room (rotated header stale q)) to N new × GapsStay F q old new
 
 -- it doesn't: a file call failed, and what there was is held
@@ -60,13 +62,13 @@ abbrev pub StaysBehind : {R : Type 0} → Format R → (List ℕ → Type 0) →
 StaysBehind F own base q header stale old new = Fails old new
     × IsLeftTurned F own base q header stale new × GapsStay F q old new
 
--- a rotation into a file that is made
+-- a rotation into a file that is made, which has this handle
 abbrev pub RotatesToNew : {R : Type 0} → Format R → (List ℕ → Type 0) → List ℕ → List ℕ → LogFileWriter
-    → LogFileWriter → Disk → Disk → Type 0
-RotatesToNew {R} F own header to before after old new = (base : Disk) (q : LogFiles R) (path : List ℕ)
-    (N : Names)
+    → LogFileWriter → Handle → Disk → Disk → Type 0
+RotatesToNew {R} F own header to before after handle old new = (base : Disk) (q : LogFiles R)
+    (path : List ℕ) (N : Names)
     → CanRotate F q header to → IsOpen F own base before q path N old
-    → GoesOnInNext F own base after q header [] to old new
+    → GoesOnInNext F own base after q header [] to (update bytes_eq N to (Some handle.file)) old new
 
 -- one that was refused
 abbrev pub FailsToRotateToNew : {R : Type 0} → Format R → (List ℕ → Type 0) → List ℕ → List ℕ
@@ -83,7 +85,8 @@ RotatesOver {R} F own header handle from to before after old new = (base : Disk)
     (stale : List ℕ) (path : List ℕ) (N : Names)
     → CanRotate F q header to → IsSpare F own q header stale handle from N old
     → IsOpen F own base before q path N old
-    → GoesOnInNext F own base after q header stale to old new
+    → GoesOnInNext F own base after q header stale to
+    (update bytes_eq (update bytes_eq N from None) to (Some handle.file)) old new
 
 -- one that was refused
 abbrev pub FailsToRotateOver : {R : Type 0} → Format R → (List ℕ → Type 0) → List ℕ → Handle → List ℕ
@@ -93,6 +96,23 @@ FailsToRotateOver {R} F own header handle from to before old new = (base : Disk)
     → CanRotate F q header to → IsSpare F own q header stale handle from N old
     → IsOpen F own base before q path N old
     → StaysBehind F own base q header stale old new
+
+-- each file but these two is as it was, if it was there
+abbrev pub FilesStay : ℕ → ℕ → Disk → Disk → Type 0
+FilesStay a b old new = (id : ℕ) (file : File) → (id ≡ a → ⊥) → (id ≡ b → ⊥) → old.files id ≡ Some file
+    → new.files id ≡ Some file
+
+-- whose refusal a rotation tells: that of the cut of the file before, or of its sync; that of the call on
+-- names; or that of what begins the next file
+pub data RotationMakes (before : LogFileWriter) (header : List ℕ) (Fails : ErrorKind → Disk → Disk → Type 0)
+    (Names : Handle → Disk → Disk → Type 0) (error : ErrorKind) (old new : Disk) : Type 0 where
+  unfinished : (after : LogFileWriter) → FailsToClose before after error old new
+      → RotationMakes before header Fails Names error old new
+  unnamed : (after : LogFileWriter) (closed : Disk) → Closes before after old closed
+      → Fails error closed new → RotationMakes before header Fails Names error old new
+  unbegun : (after : LogFileWriter) (handle : Handle) (closed named : Disk) → Closes before after old closed
+      → Names handle closed named → BeginMakes handle header error named new
+      → RotationMakes before header Fails Names error old new
 
 -- a file of the queue that may go: it has this path, which is no number's from the last on
 pub record CanDrop {R : Type 0} (F : Format R) (own : List ℕ → Type 0) (q : LogFiles R) (gone : List ℕ)

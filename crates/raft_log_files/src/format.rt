@@ -1,6 +1,6 @@
 //! How the files of a queue are written, and under which paths they lie.
 
-ghost use Rattle.std.specs.Prelude.{◌≡◌, ℕ, List, IfOk, IfErr};
+ghost use Rattle.std.specs.Prelude.{◌≡◌, ℕ, ◌<◌, ◌^◌, List, OnOk, IfOk, IfErr};
 ghost use Rattle.std.specs.String.{string_bytes};
 ghost use Rattle.raft_log_format.specs.Name.{IsNameRefusal};
 ghost use Rattle.raft_log_disk.specs.LogFormat.{Format};
@@ -52,6 +52,7 @@ pub trait PipeFormat {
     /// The path of a file. Refused as its name is.
     fn file_path(&self, alloc: Global, file: &File) -> Result<String>
         ensures ok { IfOk result (λ path. string_bytes path ≡ path_of (file_paths self.now) file.now) }
+        ensures named { OnOk result (file.now.seq < 10 ^ 16) }
         ensures err { IfErr result (λ error. IsNameRefusal file.now.seq error) };
 
     /// The directories, the main one first.

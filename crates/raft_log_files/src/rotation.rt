@@ -1,11 +1,12 @@
 //! Rotations: the last file of a queue is finished, and the queue goes on in the next one. Earlier files
 //! go.
 
-ghost use Rattle.std.specs.Prelude.{IfErr, OnOk, OnErr};
+ghost use Rattle.std.specs.Prelude.{◌≡◌, ℕ, Some, None, IfOk, IfErr, OnOk, OnErr};
 ghost use Rattle.std.specs.String.{string_bytes};
+ghost use Rattle.raft_log_disk.specs.Calls.{Creates, Renames};
 ghost use Rattle.raft_log_disk.specs.Causes.{IsLater};
-ghost use Rattle.raft_log_disk.specs.Exits.{FailsToDelete};
-ghost use Rattle.raft_log_files.specs.Rotation.{Drops, FailsToDrop, FailsToRotateOver, FailsToRotateToNew, RotatesOver, RotatesToNew};
+ghost use Rattle.raft_log_disk.specs.Exits.{FailsToCreate, FailsToDelete, FailsToRename};
+ghost use Rattle.raft_log_files.specs.Rotation.{Drops, FilesStay, RotationMakes, FailsToDrop, FailsToRotateOver, FailsToRotateToNew, RotatesOver, RotatesToNew};
 
 use super::format::PipeFormat;
 use super::last_file::{begin_file, finish_file};
@@ -14,7 +15,7 @@ use raft_log_disk::{FileSystem, Handle};
 use raft_log_file::LogFileWriter;
 use std::io::ErrorKind;
 
-/// Goes on in a file that is made for the next number.
+/// Goes on in a file that is made for the next number, and answers its handle.
 pub fn rotate_to_new<G: PipeFormat, F: FileSystem, L: Log>(
     layout: &G,
     rt: &L,
@@ -22,17 +23,23 @@ pub fn rotate_to_new<G: PipeFormat, F: FileSystem, L: Log>(
     writer: &mut LogFileWriter,
     path: &str,
     header: &[u8],
-) -> Result<(), ErrorKind>
-    ensures ok { OnOk result (RotatesToNew (G.format layout.now) (G.own layout.now) header.now path.now writer.old writer.new
-        (F.disk file_system.old) (F.disk file_system.new)) }
-    ensures err { OnErr result (FailsToRotateToNew (G.format layout.now) (G.own layout.now) header.now path.now writer.old
+) -> Result<Handle, ErrorKind>
+    ensures ok { IfOk result (λ handle. RotatesToNew (G.format layout.now) (G.own layout.now)
+        header.now path.now writer.old writer.new handle (F.disk file_system.old) (F.disk file_system.new)) }
+    ensures err { OnErr result (FailsToRotateToNew (G.format layout.now) (G.own layout.now)
+        header.now path.now writer.old (F.disk file_system.old) (F.disk file_system.new)) }
+
+    // Whose refusal is told; and no other file changes.
+    ensures refusal { IfErr result (λ error. RotationMakes writer.old header.now (FailsToCreate path.now)
+        (λ handle. Creates path.now handle.file) error (F.disk file_system.old) (F.disk file_system.new)) }
+    ensures files { IfOk result (λ handle. FilesStay writer.old.handle.file handle.file
         (F.disk file_system.old) (F.disk file_system.new)) }
     ensures later { IsLater (F.disk file_system.old) (F.disk file_system.new) }
 {
     finish_file(layout, file_system, writer)?;
     let handle = file_system.create(path)?;
     *writer = begin_file(layout, rt, file_system, handle, header)?;
-    Ok(())
+    Ok(handle)
 }
 
 /// Goes on in a file that was kept for use, under the next number. The handle is the file's, opened to
@@ -53,6 +60,13 @@ pub fn rotate_over<G: PipeFormat, F: FileSystem, L: Log>(
     ensures err { OnErr result
         (FailsToRotateOver (G.format layout.now) (G.own layout.now) header.now handle from.now to.now writer.old
         (F.disk file_system.old) (F.disk file_system.new)) }
+
+    // Whose refusal is told; and no other file changes.
+    ensures refusal { IfErr result (λ error. RotationMakes writer.old header.now
+        (FailsToRename from.now to.now) (λ named. Renames from.now to.now) error
+        (F.disk file_system.old) (F.disk file_system.new)) }
+    ensures files { OnOk result ((F.disk file_system.old).names to.now ≡ None → FilesStay
+        writer.old.handle.file handle.file (F.disk file_system.old) (F.disk file_system.new)) }
     ensures later { IsLater (F.disk file_system.old) (F.disk file_system.new) }
 {
     finish_file(layout, file_system, writer)?;
@@ -73,6 +87,8 @@ pub fn drop_file<G: PipeFormat, F: FileSystem>(
         (FailsToDrop (G.format layout.now) (G.own layout.now) path.now (F.disk file_system.old) (F.disk file_system.new)) }
     ensures refusal { IfErr result (λ error. FailsToDelete path.now error
         (F.disk file_system.old) (F.disk file_system.new)) }
+    ensures files { OnOk result ((id : ℕ) → (F.disk file_system.old).names path.now ≡ Some id
+        → FilesStay id id (F.disk file_system.old) (F.disk file_system.new)) }
     ensures later { IsLater (F.disk file_system.old) (F.disk file_system.new) }
 {
     file_system.delete(path)

@@ -1,7 +1,6 @@
 //! Each file call of an opening refused in turn.
 use super::queues::{FIRST, RECORD, begun, header, layout, prepared, size};
-use raft_log_files::last_file::append_record;
-use raft_log_files::opening::{begin_queue, reopen_file};
+use raft_log_files::{append_record, begin_queue, reopen_file};
 use std::test::Fail;
 
 // The call that is refused, of: a creation, an allocation, a write and a sync; whether the queue has begun,

@@ -2,11 +2,9 @@
 use raft_log_base::{LogQueue, Version};
 use raft_log_disk::{FileSystem, Handle, Permission};
 use raft_log_file::LogFileWriter;
-use raft_log_files::PipeFormat;
-use raft_log_files::format::File;
-use raft_log_files::last_file::{append_record, sync_records};
-use raft_log_files::opening::begin_queue;
-use raft_log_files::rotation::{drop_file, rotate_over, rotate_to_new};
+use raft_log_files::{
+    File, PipeFormat, append_record, begin_queue, drop_file, rotate_over, rotate_to_new, sync_records,
+};
 use raft_log_format::LogFileFormat;
 use raft_log_layout::LogLayout;
 use raft_log_memory_files::MemoryFileSystem;

@@ -5,8 +5,7 @@ ghost use Rattle.std.specs.String.{string_bytes};
 ghost use Rattle.raft_log_layout.specs.Paths.{directory_at};
 
 use raft_log_base::{FileId, LogQueue, Result};
-use raft_log_files::PipeFormat;
-use raft_log_files::format::{DEFAULT_PATH_ID, File, Paths};
+use raft_log_files::{DEFAULT_PATH_ID, File, Paths, PipeFormat};
 use raft_log_format::FileNameExt;
 use super::record::LogRecord;
 use std::alloc::Global;

@@ -1,0 +1,5 @@
+pub mod Lists
+pub mod Turning
+pub mod Adding
+pub mod Contexts
+pub mod Dropping

@@ -1,0 +1,339 @@
+-- A rotation of a pipe: the queue's next file is its last one, and all other files are where they were.
+use Rattle.std.specs.Prelude.{Result, Ok, Err}
+use Rattle.std.specs.Result.{IfErr, OnOk}
+use Rattle.std.specs.Map.{update}
+use Rattle.std.specs.Str.{bytes_eq}
+use Rattle.std.proofs.Common.{◌≡◌, ◌⊎◌, inl, inr, true, ℕ, ◌<◌, ◌≤◌, ◌^◌, suc, Some, None, List, [], ◌∷◌, ◌++◌, drop, false, refl, sym, ◌∙◌, ap, subst, arith}
+use Rattle.raft_log_disk.specs.Disk.{File, Disk}
+use Rattle.raft_log_disk.specs.Causes.{Fails}
+use Rattle.raft_log_disk.specs.Causes.Fails.{has_stopped}
+use Rattle.raft_log_disk.specs.Image.{IsSound}
+use Rattle.raft_log_disk.specs.LogFormat.{Format}
+use Rattle.raft_log_disk.specs.LogQueue.{LogFiles, rotated}
+use Rattle.raft_log_disk.specs.Reading.{IsOpened}
+use Rattle.raft_log_disk.specs.Touching.{HasFile}
+use Rattle.raft_log_disk.specs.declared.handle.Handle.{Handle}
+use Rattle.raft_log_disk.specs.declared.handle.Permission.TheVariants.{ReadWrite}
+use Rattle.raft_log_disk.proofs.Updates.{name_here, name_apart}
+use Rattle.raft_log_base.specs.declared.errors.Error.{Error}
+use Rattle.raft_log_base.specs.declared.errors.Error.TheVariants as errors
+use Rattle.raft_log_format.specs.declared.header.LogFileFormat.{LogFileFormat}
+use Rattle.raft_log_format.specs.Header.{header_bytes, HasHeader}
+use Rattle.raft_log_file.specs.declared.writer.LogFileWriter.{LogFileWriter}
+use Rattle.raft_log_file_queue.specs.Queue.{with_room}
+use Rattle.raft_log_file_queue.specs.Standing.{Names}
+use Rattle.raft_log_file_queue.specs.Bridge.{GapsStay}
+use Rattle.raft_log_files.specs.Layout.{FilePaths, IsLayout, path_of}
+use Rattle.raft_log_files.specs.Exits.{IsOpen}
+use Rattle.raft_log_files.specs.Rotation.{CanRotate, IsSpare, RotatesToNew, FailsToRotateToNew, RotatesOver, FailsToRotateOver, FilesStay, StaysBehind}
+use Rattle.raft_log_files.proofs.Rotating.{open_left}
+use Rattle.raft_log_pipes.specs.declared.pipe_files.PipeFiles.{PipeFiles}
+use Rattle.raft_log_pipes.specs.Files.{Listed, IsSpan, IsKept, NoneHas, AreKept, IsPipe}
+use Rattle.raft_log_pipes.specs.Exits.{SameFiles, IsTurned, IsStale, Rotates, FailsToRotate, RotationLeaves, StaysClosed}
+use Rattle.raft_log_pipes.proofs.Lists.{path_numbered, span_end, span_moved, span_more, kept_moved, numbers_apart, kept_is_no_number, kept_is_own}
+
+-- the files are listed so after a rotation into this one
+pub record IsTurnedTo (next : Listed) (before after : PipeFiles) : Type 0 where
+  pub first : after.first_seq ≡ before.first_seq
+  pub earlier : after.earlier.items ≡ before.earlier.items ++ before.active ∷ []
+  pub active : after.active ≡ next
+  pub recycled : after.recycled.items ≡ drop 1 before.recycled.items
+
+-- the next file: it has the next number, and begins with this header
+pub record IsNext (next : Listed) (header : List ℕ) (before : PipeFiles) : Type 0 where
+  pub number : next.seq ≡ suc before.active.seq
+  pub listed : next.reserved ≡ false
+  pub small : next.seq < 10 ^ 16
+  pub header_is : header ≡ header_bytes next.format
+  pub has : HasHeader next.format
+
+module _ {R : Type 0} (F : Format R) (own : List ℕ → Type 0) (paths : FilePaths) (lawful : IsLayout F own paths) where
+  -- the pipe's files after a rotation, by what stands of the last one, of names and of other files
+  turned : (base old new : Disk) (before after : PipeFiles) (q : LogFiles R) (header stale from : List ℕ) (room : ℕ) → IsSound old → IsSound new → IsPipe F own paths base before q old
+      → IsOpen F own base after.writer (with_room room (rotated header stale q)) (path_of paths after.active) new.names new
+      → after.active.handle.file ≡ after.writer.handle.file → after.active.seq ≡ suc before.active.seq → after.active.reserved ≡ false → header ≡ header_bytes after.active.format
+      → after.first_seq ≡ before.first_seq → after.earlier.items ≡ before.earlier.items ++ before.active ∷ [] → AreKept F paths before.first_seq old after.recycled.items → NoneHas paths from after.recycled.items
+      → ((directory n : ℕ) → before.first_seq ≤ n → n < suc q.last → paths.numbered directory n ≡ from → ⊥)
+      → ((path : List ℕ) → (path ≡ from → ⊥) → (path ≡ path_of paths after.active → ⊥) → new.names path ≡ old.names path)
+      → FilesStay before.writer.handle.file after.writer.handle.file old new
+      → IsPipe F own paths base after (with_room room (rotated header stale q)) new
+  turned base old new before after q header stale from room sound sound_then is stands handle number listed head first earlier kept free span_free names files =
+      let bound : suc q.last < F.limit = stands.stands.bound in
+      let last = is.number in
+      let to_is = path_numbered paths after.active listed in
+      let number_free : (directory n : ℕ) → n < suc q.last → paths.numbered directory n ≡ path_of paths after.active → ⊥ = λ directory n less same.
+      numbers_apart F own paths lawful directory after.active.path_id n after.active.seq (omega (arith, less, bound)) (omega (arith, number, last, bound)) (λ e. omega (arith, e, number, last, less)) (same ∙ to_is) in
+      let stays : (directory n : ℕ) → before.first_seq ≤ n → n < suc q.last → new.names (paths.numbered directory n) ≡ old.names (paths.numbered directory n) = λ directory n over less. names (paths.numbered directory n) (span_free directory n over less) (number_free directory n less) in
+      let ends = span_end paths old.names before.first_seq q.last before.earlier.items is.span in
+      let active_is = path_numbered paths before.active is.listed in
+      let active_named : new.names (path_of paths before.active) ≡ Some before.active.handle.file =
+      ap new.names active_is ∙ stays before.active.path_id before.active.seq (omega (arith, last, ends)) (omega (arith, last)) ∙ ap old.names (sym active_is) ∙ is.active.stands.named ∙ ap Some (sym is.handle) in
+      let span : IsSpan paths new.names before.first_seq before.earlier.items q.last = span_moved paths old.names new.names before.first_seq q.last before.earlier.items (λ directory n over less. stays directory n over (omega (arith, less))) is.span in
+      let longer : IsSpan paths new.names before.first_seq (before.earlier.items ++ before.active ∷ []) (suc q.last) = span_more paths new.names before.first_seq q.last before.earlier.items before.active span last is.listed active_named in
+      record {
+        active = stands;
+        number = number ∙ ap suc last;
+        listed = listed;
+        header = head;
+        handle = handle;
+        span = subst (λ (n : ℕ). IsSpan paths new.names n after.earlier.items (suc q.last)) (sym first) (subst (λ (fs : List Listed). IsSpan paths new.names before.first_seq fs (suc q.last)) (sym earlier) longer);
+        kept = subst (λ (n : ℕ). AreKept F paths n new after.recycled.items) (sym first) (kept_moved F paths before.first_seq before.first_seq old new from after.recycled.items free (λ g apart was.
+        (let elsewhere : path_of paths g ≡ path_of paths after.active → ⊥ = λ same.
+        kept_is_no_number F own paths lawful before.first_seq old g (suc q.last) was (omega (arith, ends)) bound (subst (F.IsPath (suc q.last)) (sym same) stands.stands.at) in
+        let mine : g.handle.file ≡ before.writer.handle.file → ⊥ = λ same.
+        kept_is_no_number F own paths lawful before.first_seq old g q.last was (omega (arith, ends)) (omega (arith, bound))
+        (subst (F.IsPath q.last) (sound.one_name (path_of paths before.active) (path_of paths g) before.writer.handle.file is.active.stands.named (was.named ∙ ap Some same)) is.active.stands.at) in
+        let next : g.handle.file ≡ after.writer.handle.file → ⊥ = λ same.
+        elsewhere (sound_then.one_name (path_of paths g) (path_of paths after.active) after.writer.handle.file (names (path_of paths g) apart elsewhere ∙ was.named ∙ ap Some same) stands.stands.named) in
+        record {
+          named = names (path_of paths g) apart elsewhere ∙ was.named;
+          below = was.below;
+          small = was.small;
+          usable = record { file = was.usable.file; is = files g.handle.file was.usable.file mine next was.usable.is; has = was.usable.has };
+        })) kept);
+      }
+
+  header_of : (next : Listed) (header : List ℕ) (before : PipeFiles) → IsNext next header before → F.IsHeader header
+  header_of next header before is = subst F.IsHeader (sym is.header_is) (lawful.headed next.format is.has)
+
+  can_rotate : (base old : Disk) (before : PipeFiles) (q : LogFiles R) (next : Listed) (header : List ℕ) → IsPipe F own paths base before q old → IsNext next header before → CanRotate F q header (path_of paths next)
+  can_rotate base old before q next header is is_next =
+      let number = is_next.number in
+      let small = is_next.small in
+      let listed = is_next.listed in
+      let limit = lawful.limit in
+      let last = is.number in
+      let less : next.seq < F.limit = omega (arith, small, limit) in
+      let same : next.seq ≡ suc q.last = number ∙ ap suc last in
+      record {
+        bound = omega (arith, less, same);
+        header_is = header_of next header before is_next;
+        path = subst (λ (n : ℕ). F.IsPath n (path_of paths next)) same (subst (F.IsPath next.seq) (sym (path_numbered paths next listed)) (lawful.numbered next.path_id next.seq less));
+      }
+
+  -- what the oldest of the files that are kept for use holds, once it gets the next number
+  spare : (base old : Disk) (before : PipeFiles) (q : LogFiles R) (kept : Listed) (rest : List Listed) (handle : Handle) (header : List ℕ) → IsPipe F own paths base before q old → before.recycled.items ≡ kept ∷ rest → F.IsHeader header → IsOpened (path_of paths kept) ReadWrite handle old
+      → (stale : List ℕ) × IsStale before.recycled.items old stale × IsSpare F own q header stale handle (path_of paths kept) old.names old
+  spare base old before q kept rest handle header is list head opened =
+      let (kept_is, others, more) = subst (AreKept F paths before.first_seq old) list is.kept in
+      let ends = span_end paths old.names before.first_seq q.last before.earlier.items is.span in
+      let bound = is.active.stands.bound in
+      let here = opened.is in
+      let there = kept_is.named in
+      let same : kept.handle.file ≡ handle.file = cc (here, there) in
+      let usable = kept_is.usable in
+      let stale = usable.file.content in (
+        stale,
+        subst (λ (fs : List Listed). IsStale fs old stale) (sym list) (record { file = usable.file; is = usable.is; has = refl }),
+        record {
+          mine = kept_is_own F own paths lawful before.first_seq old kept kept_is (omega (arith, ends, bound));
+          apart = λ m from less at. kept_is_no_number F own paths lawful before.first_seq old kept m kept_is (omega (arith, ends, from)) less at;
+          named = opened.is;
+          permitted = opened.permitted;
+          file = record { file = usable.file; is = ap old.files (sym same) ∙ usable.is; has = usable.has (rotated header stale q) header head };
+        },
+      )
+
+  -- a rotation over the oldest of the files kept for use
+  pub goes_over : (old new : Disk) (before after : PipeFiles) (kept next : Listed) (rest : List Listed) (header : List ℕ) (handle : Handle) → IsSound old → IsSound new → before.recycled.items ≡ kept ∷ rest → IsOpened (path_of paths kept) ReadWrite handle old
+      → IsNext next header before → next.handle.file ≡ handle.file → IsTurnedTo next before after → RotatesOver F own header handle (path_of paths kept) (path_of paths next) before.writer after.writer old new
+      → (old.names (path_of paths next) ≡ None → FilesStay before.writer.handle.file handle.file old new) → Rotates F own paths header before after old new
+  goes_over old new before after kept next rest header handle sound sound_then list opened is_next itself turns rotates files base q is =
+      let from = path_of paths kept in
+      let to = path_of paths next in
+      let head = header_of next header before is_next in
+      let can = can_rotate base old before q next header is is_next in
+      let (stale, holds, free) = spare base old before q kept rest handle header is list head opened in
+      let (room, stands, gaps) = rotates base q stale (path_of paths before.active) old.names can free is.active in
+      let M : Names = update bytes_eq (update bytes_eq old.names from None) to (Some handle.file) in
+      let named : new.names ≡ M = stands.stands.names in
+      let active = turns.active in
+      let to_is : path_of paths after.active ≡ to = ap (path_of paths) active in
+      let writes = stands.stands.named in
+      let here : M to ≡ Some handle.file = name_here (update bytes_eq old.names from None) to (Some handle.file) in
+      let file : after.writer.handle.file ≡ handle.file = cc (writes, here) in
+      let bound = can.bound in
+      let fresh : old.names to ≡ None = is.active.stands.none (suc q.last) to (omega arith) bound can.path in
+      let (kept_is, others, more) = subst (AreKept F paths before.first_seq old) list is.kept in
+      let ends = span_end paths old.names before.first_seq q.last before.earlier.items is.span in
+      let behind : after.recycled.items ≡ rest = turns.recycled ∙ ap (drop 1) list in (
+        room,
+        stale,
+        holds,
+        turned base old new before after q header stale from room sound sound_then is
+            (subst (λ (p : List ℕ). IsOpen F own base after.writer (with_room room (rotated header stale q)) p new.names new) (sym to_is)
+            (subst (λ (N : Names). IsOpen F own base after.writer (with_room room (rotated header stale q)) to N new) (sym named) stands))
+            (ap (λ (f : Listed). f.handle.file) active ∙ itself ∙ sym file) (ap (λ (f : Listed). f.seq) active ∙ is_next.number) (ap (λ (f : Listed). f.reserved) active ∙ is_next.listed)
+            (is_next.header_is ∙ ap (λ (f : Listed). header_bytes f.format) (sym active)) turns.first turns.earlier
+            (subst (AreKept F paths before.first_seq old) (sym behind) more) (subst (NoneHas paths from) (sym behind) others)
+            (λ directory n over less same. kept_is_no_number F own paths lawful before.first_seq old kept n kept_is over (omega (arith, less, bound)) (subst (F.IsPath n) same (lawful.numbered directory n (omega (arith, less, bound)))))
+            (λ path apart_from apart_to. ap (λ (N : Names). N path) named ∙ name_apart (update bytes_eq old.names from None) to (Some handle.file) path (λ e. apart_to (e ∙ sym to_is)) ∙ name_apart old.names from None path apart_from)
+            (subst (λ (id : ℕ). FilesStay before.writer.handle.file id old new) (sym file) (files fresh)),
+        gaps,
+      )
+
+  -- one into a new file
+  pub goes_new : (old new : Disk) (before after : PipeFiles) (next : Listed) (header : List ℕ) (handle : Handle) → IsSound old → IsSound new → before.recycled.items ≡ [] → IsNext next header before → next.handle.file ≡ handle.file → IsTurnedTo next before after
+      → RotatesToNew F own header (path_of paths next) before.writer after.writer handle old new → FilesStay before.writer.handle.file handle.file old new → Rotates F own paths header before after old new
+  goes_new old new before after next header handle sound sound_then list is_next itself turns rotates files base q is =
+      let to = path_of paths next in
+      let can = can_rotate base old before q next header is is_next in
+      let (room, stands, gaps) = rotates base q (path_of paths before.active) old.names can is.active in
+      let M : Names = update bytes_eq old.names to (Some handle.file) in
+      let named : new.names ≡ M = stands.stands.names in
+      let active = turns.active in
+      let to_is : path_of paths after.active ≡ to = ap (path_of paths) active in
+      let writes = stands.stands.named in
+      let here : M to ≡ Some handle.file = name_here old.names to (Some handle.file) in
+      let file : after.writer.handle.file ≡ handle.file = cc (writes, here) in
+      let bound = can.bound in
+      let small = is_next.small in
+      let number = is_next.number in
+      let limit = lawful.limit in
+      let last = is.number in
+      let next_is = path_numbered paths next is_next.listed in
+      let behind : after.recycled.items ≡ [] = turns.recycled ∙ ap (drop 1) list in (
+        room,
+        [],
+        subst (λ (fs : List Listed). IsStale fs old []) (sym list) refl,
+        turned base old new before after q header [] to room sound sound_then is
+            (subst (λ (p : List ℕ). IsOpen F own base after.writer (with_room room (rotated header [] q)) p new.names new) (sym to_is)
+            (subst (λ (N : Names). IsOpen F own base after.writer (with_room room (rotated header [] q)) to N new) (sym named) stands))
+            (ap (λ (f : Listed). f.handle.file) active ∙ itself ∙ sym file) (ap (λ (f : Listed). f.seq) active ∙ number) (ap (λ (f : Listed). f.reserved) active ∙ is_next.listed)
+            (is_next.header_is ∙ ap (λ (f : Listed). header_bytes f.format) (sym active)) turns.first turns.earlier
+            (subst (AreKept F paths before.first_seq old) (sym behind) tt) (subst (NoneHas paths to) (sym behind) tt)
+            (λ directory n over less same. numbers_apart F own paths lawful directory next.path_id n next.seq (omega (arith, less, bound)) (omega (arith, small, limit)) (λ e. omega (arith, e, less, number, last)) (same ∙ next_is))
+            (λ path apart_from apart_to. ap (λ (N : Names). N path) named ∙ name_apart old.names to (Some handle.file) path apart_from)
+            (subst (λ (id : ℕ). FilesStay before.writer.handle.file id old new) (sym file) files),
+        gaps,
+      )
+
+  -- rotations that a file call refused
+  pub stays_over : (old new : Disk) (before : PipeFiles) (kept next : Listed) (rest : List Listed) (header : List ℕ) (handle : Handle) (writer : LogFileWriter) → writer ≡ before.writer → before.recycled.items ≡ kept ∷ rest → IsOpened (path_of paths kept) ReadWrite handle old
+      → IsNext next header before → FailsToRotateOver F own header handle (path_of paths kept) (path_of paths next) writer old new → FailsToRotate F own paths header before old new
+  stays_over old new before kept next rest header handle writer same list opened is_next fails base q is =
+      let head = header_of next header before is_next in
+      let can = can_rotate base old before q next header is is_next in
+      let (stale, holds, free) = spare base old before q kept rest handle header is list head opened in
+      (stale, holds, fails base q stale (path_of paths before.active) old.names can free (subst (λ (w : LogFileWriter). IsOpen F own base w q (path_of paths before.active) old.names old) (sym same) is.active))
+
+  pub stays_new : (old new : Disk) (before : PipeFiles) (next : Listed) (header : List ℕ) (writer : LogFileWriter) → writer ≡ before.writer → before.recycled.items ≡ [] → IsNext next header before → FailsToRotateToNew F own header (path_of paths next) writer old new
+      → FailsToRotate F own paths header before old new
+  stays_new old new before next header writer same list is_next fails base q is =
+      let can = can_rotate base old before q next header is is_next in
+      ([], subst (λ (fs : List Listed). IsStale fs old []) (sym list) refl, fails base q (path_of paths before.active) old.names can (subst (λ (w : LogFileWriter). IsOpen F own base w q (path_of paths before.active) old.names old) (sym same) is.active))
+
+  -- one that never began, as the file that was to be used wasn't opened
+  pub stays_closed : (d : Disk) (before : PipeFiles) (kept : Listed) (rest : List Listed) (header : List ℕ) → before.recycled.items ≡ kept ∷ rest → (d.stopped ≡ true) ⊎ (d.names (path_of paths kept) ≡ None) → FailsToRotate F own paths header before d d
+  stays_closed d before kept rest header list why base q is =
+      let (kept_is, others, more) = subst (AreKept F paths before.first_seq d) list is.kept in
+      let usable = kept_is.usable in
+      let cause : Fails d d = elim why [ inl stops ↦ has_stopped stops | inr none ↦ (let named = kept_is.named in cc (none, named)) ] in (
+        usable.file.content,
+        subst (λ (fs : List Listed). IsStale fs d usable.file.content) (sym list) (record { file = usable.file; is = usable.is; has = refl }),
+        (cause, inl (open_left F own lawful.format lawful.owns base before.writer q (path_of paths before.active) d.names d is.active), λ m below none. none),
+      )
+
+module _ {R : Type 0} (F : Format R) (own : List ℕ → Type 0) (paths : FilePaths) (lawful : IsLayout F own paths) where
+  -- the same by what was lent to the calls
+  pub same_files : (files : PipeFiles) → SameFiles files files
+  same_files files = record { first = refl; earlier = refl; active = refl; writer = refl; recycled = refl }
+
+  pub closed_leaves : (d : Disk) (before : PipeFiles) (kept : Listed) (path header : List ℕ) (error : Error) → path ≡ path_of paths kept → before.recycled.items ≡ kept ∷ drop 1 before.recycled.items → StaysClosed path d error
+      → RotationLeaves F own paths header before before error d d
+  closed_leaves d before kept path header errors.Memory is list why = (same_files before, refl)
+  closed_leaves d before kept path header errors.Failed is list why =
+      stays_closed F own paths lawful d before kept (drop 1 before.recycled.items) header list (subst (λ (p : List ℕ). (d.stopped ≡ true) ⊎ (d.names p ≡ None)) is why)
+  closed_leaves d before kept path header _ is list why = absurd why
+
+  pub over_refused : (old new : Disk) (before : PipeFiles) (kept next : Listed) (from to header lent : List ℕ) (handle : Handle) → from ≡ path_of paths kept → to ≡ path_of paths next → lent ≡ header → before.recycled.items ≡ kept ∷ drop 1 before.recycled.items
+      → IsOpened from ReadWrite handle old → IsNext next header before → FailsToRotateOver F own lent handle from to before.writer old new → FailsToRotate F own paths header before old new
+  over_refused old new before kept next from to header lent handle from_is to_is header_is list opened is_next fails =
+      stays_over F own paths lawful old new before kept next (drop 1 before.recycled.items) header handle before.writer refl list (subst (λ (p : List ℕ). IsOpened p ReadWrite handle old) from_is opened) is_next
+      (subst (λ (h : List ℕ). FailsToRotateOver F own h handle (path_of paths kept) (path_of paths next) before.writer old new) header_is
+      (subst (λ (p : List ℕ). FailsToRotateOver F own lent handle p (path_of paths next) before.writer old new) from_is
+      (subst (λ (p : List ℕ). FailsToRotateOver F own lent handle from p before.writer old new) to_is fails)))
+
+  pub over_done : (old new : Disk) (before after : PipeFiles) (kept next : Listed) (from to header lent : List ℕ) (handle : Handle) → IsSound old → IsSound new → from ≡ path_of paths kept → to ≡ path_of paths next → lent ≡ header
+      → before.recycled.items ≡ kept ∷ drop 1 before.recycled.items → IsOpened from ReadWrite handle old → IsNext next header before → next.handle.file ≡ handle.file → IsTurnedTo next before after
+      → RotatesOver F own lent handle from to before.writer after.writer old new → (old.names to ≡ None → FilesStay before.writer.handle.file handle.file old new) → Rotates F own paths header before after old new
+  over_done old new before after kept next from to header lent handle sound sound_then from_is to_is header_is list opened is_next itself turns rotates files =
+      goes_over F own paths lawful old new before after kept next (drop 1 before.recycled.items) header handle sound sound_then list (subst (λ (p : List ℕ). IsOpened p ReadWrite handle old) from_is opened) is_next itself turns
+      (subst (λ (h : List ℕ). RotatesOver F own h handle (path_of paths kept) (path_of paths next) before.writer after.writer old new) header_is
+      (subst (λ (p : List ℕ). RotatesOver F own lent handle p (path_of paths next) before.writer after.writer old new) from_is
+      (subst (λ (p : List ℕ). RotatesOver F own lent handle from p before.writer after.writer old new) to_is rotates)))
+      (λ fresh. files (ap old.names to_is ∙ fresh))
+
+  pub new_refused : (old new : Disk) (before : PipeFiles) (next : Listed) (to header lent : List ℕ) → to ≡ path_of paths next → lent ≡ header → before.recycled.items ≡ [] → IsNext next header before
+      → FailsToRotateToNew F own lent to before.writer old new → FailsToRotate F own paths header before old new
+  new_refused old new before next to header lent to_is header_is list is_next fails =
+      stays_new F own paths lawful old new before next header before.writer refl list is_next
+      (subst (λ (h : List ℕ). FailsToRotateToNew F own h (path_of paths next) before.writer old new) header_is (subst (λ (p : List ℕ). FailsToRotateToNew F own lent p before.writer old new) to_is fails))
+
+  pub new_done : (old new : Disk) (before after : PipeFiles) (next : Listed) (to header lent : List ℕ) (handle : Handle) → IsSound old → IsSound new → to ≡ path_of paths next → lent ≡ header → before.recycled.items ≡ [] → IsNext next header before
+      → next.handle.file ≡ handle.file → IsTurnedTo next before after → RotatesToNew F own lent to before.writer after.writer handle old new → FilesStay before.writer.handle.file handle.file old new → Rotates F own paths header before after old new
+  new_done old new before after next to header lent handle sound sound_then to_is header_is list is_next itself turns rotates files =
+      goes_new F own paths lawful old new before after next header handle sound sound_then list is_next itself turns
+      (subst (λ (h : List ℕ). RotatesToNew F own h (path_of paths next) before.writer after.writer handle old new) header_is (subst (λ (p : List ℕ). RotatesToNew F own lent p before.writer after.writer handle old new) to_is rotates)) files
+
+-- files that are listed alike stand alike
+pub pipe_same : {R : Type 0} (F : Format R) (own : List ℕ → Type 0) (paths : FilePaths) (base : Disk) (before after : PipeFiles) (q : LogFiles R) (d : Disk) → SameFiles before after → IsPipe F own paths base before q d → IsPipe F own paths base after q d
+pipe_same F own paths base before after q d same is = record {
+  active = subst (λ (w : LogFileWriter). IsOpen F own base w q (path_of paths after.active) d.names d) (sym same.writer) (subst (λ (f : Listed). IsOpen F own base before.writer q (path_of paths f) d.names d) (sym same.active) is.active);
+  number = ap (λ (f : Listed). f.seq) same.active ∙ is.number;
+  listed = ap (λ (f : Listed). f.reserved) same.active ∙ is.listed;
+  header = is.header ∙ ap (λ (f : Listed). header_bytes f.format) (sym same.active);
+  handle = ap (λ (f : Listed). f.handle.file) same.active ∙ is.handle ∙ ap (λ (w : LogFileWriter). w.handle.file) (sym same.writer);
+  span = subst (λ (n : ℕ). IsSpan paths d.names n after.earlier.items q.last) (sym same.first) (subst (λ (fs : List Listed). IsSpan paths d.names before.first_seq fs q.last) (sym same.earlier) is.span);
+  kept = subst (λ (n : ℕ). AreKept F paths n d after.recycled.items) (sym same.first) (subst (AreKept F paths before.first_seq d) (sym same.recycled) is.kept);
+}
+
+module _ {R : Type 0} (F : Format R) (own : List ℕ → Type 0) (paths : FilePaths) where
+  -- what a rotation makes of files that are listed alike
+  pub rotates_same : (header : List ℕ) (before like after : PipeFiles) (old new : Disk) → SameFiles before like → Rotates F own paths header like after old new → Rotates F own paths header before after old new
+  rotates_same header before like after old new same rotates base q is =
+      let (room, stale, holds, stands, gaps) = rotates base q (pipe_same F own paths base before like q old same is) in
+      (room, stale, subst (λ (fs : List Listed). IsStale fs old stale) same.recycled holds, stands, gaps)
+
+  pub turned_same : (format : LogFileFormat) (before like after : PipeFiles) → SameFiles before like → IsTurned format like after → IsTurned format before after
+  turned_same format before like after same turns = record {
+    first = turns.first ∙ same.first;
+    earlier = turns.earlier ∙ ap (λ (fs : List Listed). fs ++ like.active ∷ []) same.earlier ∙ ap (λ (f : Listed). before.earlier.items ++ f ∷ []) same.active;
+    number = turns.number ∙ ap (λ (f : Listed). suc f.seq) same.active;
+    format_is = turns.format_is;
+    recycled = turns.recycled ∙ ap (drop 1) same.recycled;
+  }
+
+  pub same_then : (a b c : PipeFiles) → SameFiles a b → SameFiles b c → SameFiles a c
+  same_then a b c first next = record {
+    first = next.first ∙ first.first;
+    earlier = next.earlier ∙ first.earlier;
+    active = next.active ∙ first.active;
+    writer = next.writer ∙ first.writer;
+    recycled = next.recycled ∙ first.recycled;
+  }
+
+  pub leaves_same : (header : List ℕ) (before like after : PipeFiles) (error : Error) (old new : Disk) → SameFiles before like → RotationLeaves F own paths header like after error old new → RotationLeaves F own paths header before after error old new
+  leaves_same header before like after errors.Memory old new same (then, is) = (same_then before like after same then, is)
+  leaves_same header before like after errors.NumberRange old new same (out, then, is) = (
+    λ base q pipe. (let past = out base q (pipe_same F own paths base before like q old same pipe) in let active = ap (λ (f : Listed). f.seq) same.active in omega (arith, past, active)),
+    same_then before like after same then,
+    is,
+  )
+  leaves_same header before like after errors.Failed old new same fails =
+      λ base q pipe. (let (stale, holds, left) = fails base q (pipe_same F own paths base before like q old same pipe) in (stale, subst (λ (fs : List Listed). IsStale fs old stale) same.recycled holds, left))
+  leaves_same header before like after _ old new same left = absurd left
+
+  -- of an answer
+  pub rotates_either : (result : Result (Unit {0}) Error) (header : List ℕ) (before like after : PipeFiles) (old new : Disk) → SameFiles before like → OnOk result (Rotates F own paths header like after old new) → OnOk result (Rotates F own paths header before after old new)
+  rotates_either (Ok v) header before like after old new same is = rotates_same header before like after old new same is
+  rotates_either (Err e) header before like after old new same is = tt
+
+  pub turned_either : (result : Result (Unit {0}) Error) (format : LogFileFormat) (before like after : PipeFiles) → SameFiles before like → OnOk result (IsTurned format like after) → OnOk result (IsTurned format before after)
+  turned_either (Ok v) format before like after same is = turned_same format before like after same is
+  turned_either (Err e) format before like after same is = tt
+
+  pub leaves_either : (result : Result (Unit {0}) Error) (header : List ℕ) (before like after : PipeFiles) (old new : Disk) → SameFiles before like → IfErr result (λ e. RotationLeaves F own paths header like after e old new)
+      → IfErr result (λ e. RotationLeaves F own paths header before after e old new)
+  leaves_either (Ok v) header before like after old new same is = tt
+  leaves_either (Err e) header before like after old new same is = leaves_same header before like after e old new same is

@@ -1,0 +1,72 @@
+//! How a pipe begins its files.
+
+ghost use Rattle.std.specs.Prelude.{◌≡◌, IfOk, IfErr};
+ghost use Rattle.raft_log_base.specs.declared.errors.Error.TheVariants.{Memory};
+ghost use Rattle.raft_log_format.specs.Header.{header_bytes, HasHeader, IsHeaderRefusal};
+
+use raft_log_base::{Error, Result};
+use raft_log_disk::FileSystem;
+use raft_log_files::{DEFAULT_PATH_ID, PathId, PipeFormat};
+use raft_log_format::LogFileFormat;
+use std::alloc::Global;
+use std::io::ErrorKind;
+
+/// How files are begun: in which format, with which header, and up to which size they are written.
+#[derive(Drop, Debug)]
+pub struct NewFiles {
+    /// The format.
+    pub format: LogFileFormat,
+    header: Vec<u8>,
+    /// A file that is as long as this, in bytes, or longer gets no more records.
+    pub target_size: usize,
+    ghost has_header: { HasHeader format },
+    ghost spelled: { header.items ≡ header_bytes format },
+}
+
+impl NewFiles {
+    /// Files of this format, up to this size in bytes. Refused where the format has no header, or for want
+    /// of memory.
+    pub fn new(alloc: Global, format: LogFileFormat, target_size: usize) -> Result<NewFiles>
+        ensures format { IfOk result (λ files. files.format ≡ format) }
+        ensures size { IfOk result (λ files. files.target_size ≡ target_size) }
+        ensures err { IfErr result (λ error. IsHeaderRefusal format error) }
+    {
+        let mut header = Vec::new(alloc);
+        format.encode(alloc, &mut header)?;
+        Ok(NewFiles {
+            format,
+            header,
+            target_size,
+        })
+    }
+
+    /// The header.
+    pub fn header(&self) -> &[u8]
+        ensures bytes { result.now ≡ header_bytes self.now.format }
+        ensures has { HasHeader self.now.format }
+    {
+        &self.header
+    }
+}
+
+/// The directory for a new file: where there are several, the first that has room for so many bytes, and
+/// the main one where none has.
+pub fn choose_directory<G: PipeFormat, F: FileSystem>(
+    layout: &G,
+    file_system: &F,
+    size: usize,
+) -> Result<PathId>
+    ensures err { IfErr result (λ error. error ≡ Memory) }
+{
+    let paths = layout.paths();
+    if paths.len() > 1 {
+        for (path_id, path) in paths.iter().enumerate() {
+            match file_system.free_space(path) {
+                Ok(space) if space >= size as u64 => return Ok(path_id),
+                Err(ErrorKind::OutOfMemory) => return Err(Error::Memory),
+                _ => {}
+            }
+        }
+    }
+    Ok(DEFAULT_PATH_ID)
+}

@@ -10,8 +10,8 @@ use Rattle.raft_log_file_queue.specs.Queue.{with_room}
 use Rattle.raft_log_file_queue.specs.Standing.{IsPlace}
 use Rattle.raft_log_file_queue.specs.Bridge.{IsFileQueue}
 
--- A place for a queue: no file has a number, and a file may be made under each number's paths; and since `base`
--- nothing has changed but the queue's own paths and files.
+-- A place for a queue: no file has a number, and a file may be made under each number's paths; and since
+-- `base` nothing has changed but the queue's own paths and files.
 pub record IsFresh {R : Type 0} (F : Format R) (own : List ℕ → Type 0) (base d : Disk) : Type 0 where
   pub none : (m : ℕ) → m < F.limit → IsAbsent F m d
   pub places : (m : ℕ) (path : List ℕ) → m < F.limit → F.IsPath m path → IsPlace path d

@@ -159,8 +159,7 @@ module _ {R : Type 0} (F : Format R) where
         let is = finish base q path N was in
         let M : Names = update bytes_eq N to (Some d1.unused) in
         let given = given_made base middle q header to path handle N d1 d2 sound can is creates permitted in
-        let (room, stands) = begin base (rotated header [] q) [] to M given in
-        (
+        let (room, stands) = begin base (rotated header [] q) [] to M given in (
           room,
           subst (λ (n : ℕ). IsOpen F own base after (with_room room (rotated header [] q)) to (update bytes_eq N to (Some n)) new) (sym creates.number) stands,
           gaps_then q old d2 new (gaps_made q header to handle.file old d1 d2 sound can (gaps_touched q before.handle.file old d1 only) creates) (gaps_touched q handle.file d2 new touches),

@@ -28,8 +28,8 @@ pub record IsLeftBehind {R : Type 0} (F : Format R) (own : List ℕ → Type 0) 
 abbrev pub BeginsWithHeader : {R : Type 0} → Format R → Handle → List ℕ → Disk → Type 0
 BeginsWithHeader F handle header d = HasFile handle.file (λ file. HasHeader F header file.content) d
 
--- the header behind which a queue goes on: the one that its last file had, or, where it had none, the one that
--- it gets
+-- the header behind which a queue goes on: the one that its last file had, or, where it had none, the one
+-- that it gets
 abbrev pub GoesOnBehind : {R : Type 0} → Format R → Handle → Option ℕ → List ℕ → Disk → List ℕ → Type 0
 GoesOnBehind F handle (Some end) header d front = BeginsWithHeader F handle front d
 GoesOnBehind F handle None header d front = front ≡ header
@@ -48,8 +48,8 @@ pub data TrimMakes (handle : Handle) (size : ℕ) (error : ErrorKind) (old new :
   unsynced : (cut : Disk) → Shortens handle size old cut → FailsToSync handle error cut new
       → TrimMakes handle size error old new
 
--- The last file is finished: it has its header, its records, all synced, and nothing else. Or it had no header
--- and so no record, and is empty.
+-- The last file is finished: it has its header, its records, all synced, and nothing else. Or it had no
+-- header and so no record, and is empty.
 abbrev pub IsTrimmed : {R : Type 0} → Format R → (List ℕ → Type 0) → Disk → Handle → Option ℕ → LogFiles R
     → List ℕ → Names → Disk → Disk → Type 0
 IsTrimmed F own base handle (Some end) q path N old new = (front : List ℕ) × BeginsWithHeader F handle front old
@@ -82,7 +82,8 @@ abbrev pub FailsToTrim : {R : Type 0} → Format R → (List ℕ → Type 0) →
     → Type 0
 FailsToTrim {R} F own handle end old new = (base : Disk) (q : LogFiles R) (path : List ℕ) (N : Names)
     → IsLeftBehind F own base handle end q path N old
-    → Fails old new × ((header : List ℕ) → F.IsHeader header → IsHalfOpen F own base handle end header q old new)
+    → Fails old new
+    × ((header : List ℕ) → F.IsHeader header → IsHalfOpen F own base handle end header q old new)
 
 -- Taking the file up again.
 

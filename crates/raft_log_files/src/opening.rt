@@ -41,7 +41,8 @@ pub fn begin_queue<G: PipeFormat, F: FileSystem, L: Log>(
 }
 
 /// Cuts the last file of a queue, as a stop left it, behind the records that were read of it, or to nothing
-/// where it has no header, and makes that durable. The file is cut and synced also where this changes nothing.
+/// where it has no header, and makes that durable. The file is cut and synced also where this changes
+/// nothing.
 pub fn trim_leftover<G: PipeFormat, F: FileSystem>(
     layout: &G,
     file_system: &mut F,
@@ -65,9 +66,9 @@ pub fn trim_leftover<G: PipeFormat, F: FileSystem>(
     file_system.sync(handle)
 }
 
-/// Takes the last file of a queue up again, as a stop left it: cuts it to this end, behind which no whole record
-/// was read, and goes on there; where it has no header, it is emptied and gets this one. All of that is durable
-/// before the writer is answered.
+/// Takes the last file of a queue up again, as a stop left it: cuts it to this end, behind which no whole
+/// record was read, and goes on there; where it has no header, it is emptied and gets this one. All of that
+/// is durable before the writer is answered.
 ///
 /// Refused, all that was read is there still.
 pub fn reopen_file<G: PipeFormat, F: FileSystem, L: Log>(

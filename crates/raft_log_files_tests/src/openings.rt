@@ -26,8 +26,8 @@ fn each_call_of_a_beginning_is_refused_in_turn(rt: HostRuntime) -> Result<(), Fa
     Ok(())
 }
 
-// How a file of 1,024 bytes with one record is taken up again, read up to this end: whether that was answered,
-// and the file's size.
+// How a file of 1,024 bytes with one record is taken up again, read up to this end: whether that was
+// answered, and the file's size.
 fn reopened(rt: &HostRuntime, n: u64, end: Option<usize>) -> Result<(bool, usize), Fail> {
     let layout = layout(rt.alloc())?;
     let header = header(rt.alloc())?;

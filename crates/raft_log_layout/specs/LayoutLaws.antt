@@ -26,7 +26,7 @@ use Rattle.raft_log_frames.proofs.Fronts.{record_is_told, no_frame_in_zeros}
 use Rattle.raft_log_files.specs.Layout.{IsLayout}
 use Rattle.raft_log_layout.specs.Paths.{IsPathWith, IsOwnPath, numbered_path, reserved_path, reserved_suffix_of}
 use Rattle.raft_log_layout.specs.Layout.{IsRecordIn, IsAHeader, log_format, log_paths}
-use Rattle.raft_log_layout.specs.Laws.{LogFilesAreTold, QueuesAreApart, ZerosHoldNoRecord, ReservedNamesAreTheLogs}
+use Rattle.raft_log_layout.specs.Laws.{LogFilesAreTold, QueuesAreApart, ZerosHoldNoRecord, ReservedNamesAreTheLogs, PlacesAreFresh}
 use Rattle.raft_log_layout.specs.declared.record.LogRecord.{LogRecord}
 use Rattle.raft_log_layout.specs.PathLaws.{one_name, one_number, numbered_is, reserved_is, other_end}
 
@@ -196,3 +196,18 @@ queues_are_apart append rewrite path (m, inr a) (n, inr b) = ends_apart (reserve
 -- what a file is called that is kept to be used
 pub reserved_names : ReservedNamesAreTheLogs
 reserved_names = refl
+
+-- a place where a queue may begin
+pub places_are_fresh : PlacesAreFresh
+places_are_fresh queue directories base d there none others = record {
+  none = λ m less path at. (none m path at).0;
+  places = λ m path less at. record {
+    apart = (none m path at).1;
+    home = record {
+      directory = at.directory;
+      inside = record { name = at.name; joined = at.joined; plain = at.plain };
+      there = there at.directory at.listed;
+    };
+  };
+  others = others;
+}

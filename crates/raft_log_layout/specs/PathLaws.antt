@@ -1,5 +1,5 @@
--- Paths of files: what stands behind the last slash is the name, and its end says the queue. (These lemmas stand
--- here as the law of an impl cites them.)
+-- Paths of files: what stands behind the last slash is the name, and its end says the queue. (These lemmas
+-- stand here as the law of an impl cites them.)
 use Rattle.std.specs.Prelude.{codes, min}
 use Rattle.std.specs.Fmt.{decimal}
 use Rattle.std.specs.Str.Parse.{AllDigits, IsNumeral, digits_value}

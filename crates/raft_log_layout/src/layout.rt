@@ -4,10 +4,10 @@ ghost use Rattle.std.specs.Prelude.{◌≡◌, ◌<◌, ℕ, length, map, IfOk, 
 ghost use Rattle.std.specs.String.{string_bytes};
 ghost use Rattle.raft_log_layout.specs.Paths.{directory_at};
 
+use super::record::LogRecord;
 use raft_log_base::{FileId, LogQueue, Result};
 use raft_log_files::{DEFAULT_PATH_ID, File, Paths, PipeFormat};
 use raft_log_format::FileNameExt;
-use super::record::LogRecord;
 use std::alloc::Global;
 
 /// What stands behind the name of a file that is kept to be used.

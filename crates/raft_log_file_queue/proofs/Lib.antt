@@ -2,3 +2,5 @@ pub mod FileSteps
 pub mod Standing
 pub mod Keeping
 pub mod Bridging
+pub mod Beginning
+pub mod Reopening

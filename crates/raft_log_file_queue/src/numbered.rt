@@ -5,6 +5,7 @@ ghost use Rattle.std.specs.Prelude.{ℕ, List};
 ghost use Rattle.raft_log_model.specs.Item.{Record};
 ghost use Rattle.raft_log_disk.specs.LogFormat.{Format, IsFormat};
 ghost use Rattle.raft_log_file_queue.specs.NumberedLaws.{ReadsAsNumbered, TakesNumberedSteps};
+ghost use Rattle.raft_log_file_queue.specs.Beginning.{BeginsNumbered};
 
 /// Says how the files of a queue are written, which paths are its own, and what its records say.
 pub trait NumberedFormat {
@@ -33,4 +34,9 @@ pub fn images_read_as_numbered_files<G: NumberedFormat>()
 /// Whatever happens to the files is a step of the numbered files.
 pub fn files_take_numbered_steps<G: NumberedFormat>()
     ensures { TakesNumberedSteps G.says G.format }
+{}
+
+/// A queue that begins is the one without records in its file 1, where no file has the number 0.
+pub fn queue_begins_numbered<G: NumberedFormat>()
+    ensures { BeginsNumbered G.says G.format }
 {}

@@ -1,3 +1,5 @@
 pub mod Writing
 pub mod Calls
 pub mod Rotating
+mod Beginning
+pub mod Reopening

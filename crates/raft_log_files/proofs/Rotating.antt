@@ -52,7 +52,7 @@ module _ {R : Type 0} (F : Format R) where
   gaps_calm q old = record { at_count = λ d stay. stay; at_end = λ d stay. stay }
 
   module _ (own : List ℕ → Type 0) (lawful : IsFormat F) (owns : OwnsPaths F own) where
-    left_calm : (base : Disk) (q : LogFiles R) → IsCalm (IsLeft F own base q)
+    pub left_calm : (base : Disk) (q : LogFiles R) → IsCalm (IsLeft F own base q)
     left_calm base q = record {
       at_count = λ d left. record { path = left.path; id = left.id; N = left.N; stands = (stands_calm F own base q left.path left.id (HoldsLast F q) left.N).at_count d left.stands };
       at_end = λ d left. record { path = left.path; id = left.id; N = left.N; stands = (stands_calm F own base q left.path left.id (HoldsLast F q) left.N).at_end d left.stands };

@@ -1,2 +1,2 @@
-mod Headers
-mod Names
+pub mod Headers
+pub mod Names

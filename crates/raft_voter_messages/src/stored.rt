@@ -9,8 +9,8 @@ mod head;
 mod state;
 
 use crate::Memory;
-pub use entry::{append_entry, entry_bytes, read_entry, stored_entry_fits};
-pub use state::{append_state, read_state, state_bytes, state_fits};
+pub use entry::{ENTRY_HEAD_BYTES, append_entry, entry_bytes, read_entry, stored_entry_fits};
+pub use state::{STATE_BYTES, append_state, read_state, state_bytes, state_fits};
 use std::alloc::AllocError;
 use thiserror::Error;
 

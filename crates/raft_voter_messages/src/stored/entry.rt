@@ -13,17 +13,15 @@ const FORM_1: u8 = 1;
 /// How many bytes stand between the form byte and the entry's own bytes.
 const FORM_1_NUMBERS: usize = 2 * NUMBER_BYTES;
 
+/// How many bytes stand before an entry's own, as it is written.
+pub const ENTRY_HEAD_BYTES: usize = 1 + FORM_1_NUMBERS;
+
 /// The bytes of an entry, in form 1.
 pub fn entry_bytes(alloc: Global, entry: &Entry) -> Result<Items<u8>, Memory>
     ensures { IfOk result (λ bytes. bytes ≡ entry_text entry.now) }
 {
     let mut bytes = Vec::new(alloc);
-    append_entry(
-        &mut bytes,
-        entry.index,
-        entry.term,
-        entry.bytes.as_slice(),
-    )?;
+    append_entry(&mut bytes, entry.index, entry.term, entry.bytes.as_slice())?;
     Ok(Items::from_vec(bytes))
 }
 
@@ -34,7 +32,7 @@ pub fn append_entry(bytes: &mut Vec<u8>, index: u64, term: u64, own: &[u8]) -> R
     ensures err { OnErr result (bytes.new.items ≡ bytes.old.items) }
     ensures errors { OnErr result (vec_capacity bytes.old < vec_len bytes.old + (length own.now + 17)) }
 {
-    bytes.reserve(own.len().saturating_add(1 + FORM_1_NUMBERS))?;
+    bytes.reserve(own.len().saturating_add(ENTRY_HEAD_BYTES))?;
     bytes.push_reserved(FORM_1);
     push_number(bytes, index);
     push_number(bytes, term);

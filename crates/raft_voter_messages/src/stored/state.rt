@@ -21,6 +21,9 @@ const FORM_1_BYTES: usize = 4 * NUMBER_BYTES + 1;
 /// How many bytes follow the form byte in form 2.
 const FORM_2_BYTES: usize = FORM_1_BYTES + NUMBER_BYTES;
 
+/// How many bytes a state has, as it is written.
+pub const STATE_BYTES: usize = 1 + FORM_2_BYTES;
+
 /// The bytes of a state, in form 2.
 pub fn state_bytes(alloc: Global, state: &VoterState) -> Result<Items<u8>, Memory>
     ensures { IfOk result (λ bytes. bytes ≡ state_text state.now) }
@@ -37,7 +40,7 @@ pub fn append_state(bytes: &mut Vec<u8>, state: &VoterState) -> Result<(), Memor
     ensures err { OnErr result (bytes.new.items ≡ bytes.old.items) }
     ensures errors { OnErr result (vec_capacity bytes.old < vec_len bytes.old + 42) }
 {
-    bytes.reserve(1 + FORM_2_BYTES)?;
+    bytes.reserve(STATE_BYTES)?;
     bytes.push_reserved(FORM_2);
     push_number(bytes, state.term);
     bytes.push_reserved(state.vote.is_some() as u8);

@@ -34,14 +34,6 @@ refused_here old now next asked i d q few here before synced told = record {
   synced = told.synced ∙ synced;
 }
 
--- a request is taken, and no room is left for its reply
-pub reply_refused : (old now next : PlainVoters) (asked : List (ℕ × Request)) (i : ℕ) (d q : ℕ × Request) (told : Reply) → i < length asked → get_or asked i d ≡ q
-    → world_of now ≡ after (world_of old) (take i asked) → now.file.synced ≡ old.file.synced → Takes now q told next → IsStopped old asked next
-reply_refused old now next asked i d q told few here before synced took = record {
-  taken = record { count = i + 1; few = omega arith; taken = took_more (world_of old) (world_of now) (world_of next) asked i d q few here before took.taken };
-  synced = took.synced ∙ synced;
-}
-
 -- nothing is taken
 pub none_taken : (W : World) (asked : List (ℕ × Request)) → Stopped W asked W
 none_taken W asked = record { count = 0; few = omega arith; taken = refl }

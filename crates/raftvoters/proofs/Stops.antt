@@ -1,14 +1,13 @@
 -- Rounds that aren't answered.
 use Rattle.std.proofs.Common.{◌≡◌, ℕ, suc, zero, ◌+◌, ◌<◌, ◌≤◌, ◌∙◌, nat_lt, true, false, ⊎_elim, List, [], ◌∷◌, ◌++◌, get_or, length, take, Result, Ok, Err, OnErr, refl, sym, ap, subst, arith}
 use Rattle.std.proofs.lemmas.List.{take_more}
-use Rattle.raft_voter_messages.specs.declared.reply.Reply.{Reply}
 use Rattle.raft_voter_messages.specs.declared.request.Request.{Request}
 use Rattle.raft_voter.specs.Rounds.{World, after, after_one, taken_from}
 use Rattle.std.proofs.lemmas.Bool.Decides.{nat_tests}
 use Rattle.raftvoters.specs.declared.store.PlainVoters.{PlainVoters}
 use Rattle.raftvoters.specs.Records.{StandsFor}
 use Rattle.raftvoters.specs.Service.{Stopped, TookFront, TookSome}
-use Rattle.raftvoters.specs.Store.{HoldsVoters, IsRefused, IsStopped, Takes, world_of}
+use Rattle.raftvoters.specs.Store.{HoldsVoters, IsRefused, IsStopped, world_of}
 
 pub on_err : {T E : Type 0} (r : Result T E) (P : Type 0) → P → OnErr r P
 on_err (Ok v) P h = tt

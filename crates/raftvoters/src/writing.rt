@@ -10,8 +10,8 @@ use std::io::{ErrorKind, Write};
 /// The most calls of a writer for one text.
 const MOST_WRITES: u64 = 1_099_511_627_776;
 
-/// Writes all bytes. Where the writer fails, or takes too many calls, it got the front of them, and not all. A
-/// call that was interrupted is made again.
+/// Writes all bytes. Where the writer fails, or takes too many calls, it got the front of them, and not
+/// all. A call that was interrupted is made again.
 pub fn write_whole<W: Write>(writer: &mut W, bytes: &[u8]) -> io::Result<()>
     ensures ok { OnOk result (Appends (W.contents writer.old) (W.contents writer.new) bytes.now) }
     ensures err { OnErr result (StopsWithin (W.contents writer.old) (W.contents writer.new) bytes.now) }

@@ -28,7 +28,8 @@ pub fn entry_bytes(alloc: Global, entry: &Entry) -> Result<Items<u8>, Memory>
 /// Adds the bytes of the entry of this index, this term and these bytes of its own, in form 1. Where memory
 /// is refused, which can be only where there was no room for them, the bytes are as they were.
 pub fn append_entry(bytes: &mut Vec<u8>, index: u64, term: u64, own: &[u8]) -> Result<(), Memory>
-    ensures ok { OnOk result (bytes.new.items ≡ bytes.old.items ++ entry_text (record { index = index; term = term; bytes = own.now })) }
+    ensures ok { OnOk result (bytes.new.items
+        ≡ bytes.old.items ++ entry_text (record { index = index; term = term; bytes = own.now })) }
     ensures err { OnErr result (bytes.new.items ≡ bytes.old.items) }
     ensures errors { OnErr result (vec_capacity bytes.old < vec_len bytes.old + (length own.now + 17)) }
 {

@@ -1,10 +1,16 @@
-use Rattle.std.specs.Prelude.{unwrap_or}
+use Rattle.std.specs.Prelude.{◌≡◌, ◌⊎◌, ℕ, None, unwrap_or}
 use Rattle.std.specs.BTreeMap.{get}
 use Rattle.std.specs.Ordering.{nat_cmp}
 use Rattle.raft_voter.specs.declared.voters.Voters.{Voters}
+use Rattle.raft_voter_messages.specs.declared.request.Request.{Request}
+use Rattle.raft_voter_outline.specs.Outlines.{Copies}
 use Rattle.raft_voter_outline.specs.State.{fresh}
 use Rattle.raft_voter.specs.Rounds.{World}
 
 -- the voter of each group: the stored one, or a fresh one
 abbrev pub world_of : Voters → World
 world_of v = λ g. unwrap_or (get nat_cmp v.voters g) fresh
+
+-- a group needs memory for a request: it has no voter here yet, or entries are copied
+abbrev pub NeedsMemory : Voters → ℕ → Request → Type 0
+NeedsMemory v g q = (get nat_cmp v.voters g ≡ None) ⊎ Copies (world_of v g) q

@@ -1,5 +1,5 @@
 //! Whether voters that never fail explain a transcript.
-ghost use Rattle.std.specs.Prelude.{◌≡◌, ◌≤◌, ◌↔◌, IsTrue, IfOk, IfSome, OnSome, MatchOption, length, drop};
+ghost use Rattle.std.specs.Prelude.{◌≡◌, ◌<◌, ◌≤◌, ◌↔◌, IsTrue, IfOk, IfSome, OnErr, OnSome, MatchOption, length, drop};
 ghost use Rattle.raft_voter.specs.Rounds.{after_round, are_rising, cuts_after, Explains, RoundHolds};
 ghost use Rattle.raft_voter.specs.Voters.{world_of};
 
@@ -9,9 +9,11 @@ use std::alloc::Global;
 /// Whether voters that begin as fresh ones and never fail explain a transcript, where the round that was
 /// cut off as the n-th was taken up to the n-th of these places. It is so exactly if there is one place
 /// for each such round, none past its round's requests, each round's refused places rise and are its own,
-/// and each answered round has the voters' replies, with `Refused` at the refused places.
+/// and each answered round has the voters' replies, with `Refused` at the refused places. Memory can be
+/// refused only where there is a round.
 pub fn judge(alloc: Global, transcript: &Transcript, cuts: &[usize]) -> Result<bool, Memory>
-    ensures { IfOk result (λ explained. IsTrue explained ↔ Explains transcript.now.rounds cuts.now) }
+    ensures ok { IfOk result (λ explained. IsTrue explained ↔ Explains transcript.now.rounds cuts.now) }
+    ensures errors { OnErr result (0 < length transcript.now.rounds) }
 {
     let mut voters = Voters::new(alloc);
     let mut used = 0;

@@ -1,8 +1,8 @@
 //! The voters of many groups, in memory.
-ghost use Rattle.std.specs.Prelude.{◌≡◌, ℕ, IsTrue, length, IfOk, OnOk, OnErr};
+ghost use Rattle.std.specs.Prelude.{◌≡◌, ◌<◌, ℕ, IsTrue, length, IfOk, OnOk, OnErr};
 ghost use Rattle.raft_voter.specs.Rounds.{after, after_one, are_rising, fresh_world, is_among, replies_from, taken_from, TakesFirst};
 ghost use Rattle.raft_voter_outline.specs.Rules.{reply};
-ghost use Rattle.raft_voter.specs.Voters.{world_of};
+ghost use Rattle.raft_voter.specs.Voters.{NeedsMemory, world_of};
 
 use crate::{Items, Memory, Reply, Request, Voter};
 use std::alloc::Global;
@@ -26,11 +26,13 @@ impl Voters {
         }
     }
 
-    /// One group's voter takes a request and answers it. Where memory is refused every voter is as before.
+    /// One group's voter takes a request and answers it. Where memory is refused every voter is as before;
+    /// it can be refused only where the group is new here, or entries are copied.
     pub fn take(&mut self, group: u64, request: &Request) -> Result<Reply, Memory>
         ensures replies { IfOk result (λ given. given ≡ reply (world_of self.old group) request.now) }
         ensures changes { OnOk result (world_of self.new ≡ after_one (world_of self.old) (group, request.now)) }
         ensures err { OnErr result (world_of self.new ≡ world_of self.old) }
+        ensures errors { OnErr result (NeedsMemory self.old group request.now) }
     {
         let voter = self.voters.entry(group)?.or_insert(Voter::new(self.alloc));
         voter.step(request)
@@ -38,7 +40,7 @@ impl Voters {
 
     /// The voters take the requests of a round in order, but for those at the refused places, which rise.
     /// The replies are theirs, and `Refused` at a refused place. Where memory is refused some of the first
-    /// requests were taken, and the rest were not.
+    /// requests were taken, and the rest were not; it can't be refused where there is no request.
     pub fn serve(
         &mut self,
         requests: &[(u64, Request)],
@@ -48,19 +50,20 @@ impl Voters {
         ensures replies { IfOk result (λ given. given ≡ replies_from 0 refused.now (world_of self.old) requests.now) }
         ensures changes { OnOk result (world_of self.new ≡ after (world_of self.old) (taken_from 0 (length requests.now) refused.now requests.now)) }
         ensures err { OnErr result (TakesFirst (world_of self.old) requests.now refused.now (world_of self.new)) }
+        ensures errors { OnErr result (0 < length requests.now) }
     {
-        let mut replies = Items::new(self.alloc);
+        let mut replies = Vec::with_capacity(self.alloc, requests.len())?;
         let mut passed = 0;
         for (place, (group, request)) in requests.iter().enumerate() {
             if is_next(&refused[passed..], place) {
                 passed += 1;
-                replies.push(Reply::Refused)?;
+                replies.push_reserved(Reply::Refused);
                 continue;
             }
             let reply = self.take(*group, request)?;
-            replies.push(reply)?;
+            replies.push_reserved(reply);
         }
-        Ok(replies)
+        Ok(Items::from_vec(replies))
     }
 }
 

@@ -21,5 +21,6 @@ pub use reply::{Entry, Reply, VoterState};
 pub use request::{MAX_APPEND_BYTES, MAX_APPEND_ENTRIES, MAX_ENTRY_BYTES, MAX_NUMBER, Request};
 pub use round::{Outcome, Round, Transcript};
 pub use stored::{
-    StoredFault, entry_bytes, read_entry, read_state, state_bytes, state_fits, stored_entry_fits,
+    ENTRY_HEAD_BYTES, STATE_BYTES, StoredFault, append_entry, append_state, entry_bytes,
+    read_entry, read_state, state_bytes, state_fits, stored_entry_fits,
 };

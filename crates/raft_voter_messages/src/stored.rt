@@ -1,6 +1,6 @@
 //! How a voter's state and its entries are stored as bytes: the first byte names the form, and numbers have
 //! eight bytes, the highest first.
-ghost use Rattle.std.specs.Prelude.{◌≡◌, ◌+◌, ◌^◌, ◌<◌, ◌≤◌, ◌++◌, length, OnOk};
+ghost use Rattle.std.specs.Prelude.{◌≡◌, ◌+◌, ◌^◌, ◌<◌, ◌≤◌, ◌++◌, length, vec_capacity, vec_len};
 ghost use Rattle.raft_voter_messages.specs.StoredForms.{number_text};
 ghost use Rattle.raft_voter_messages.specs.declared.stored.StoredFault.TheVariants as faults;
 
@@ -9,8 +9,8 @@ mod head;
 mod state;
 
 use crate::Memory;
-pub use entry::{entry_bytes, read_entry, stored_entry_fits};
-pub use state::{read_state, state_bytes, state_fits};
+pub use entry::{ENTRY_HEAD_BYTES, append_entry, entry_bytes, read_entry, stored_entry_fits};
+pub use state::{STATE_BYTES, append_state, read_state, state_bytes, state_fits};
 use std::alloc::AllocError;
 use thiserror::Error;
 
@@ -57,12 +57,16 @@ impl From<AllocError> for StoredFault {
     }
 }
 
-/// Adds a number's bytes.
-fn append_number(bytes: &mut Vec<u8>, number: u64) -> Result<(), Memory>
-    ensures { OnOk result (bytes.new.items ≡ bytes.old.items ++ number_text number) }
+/// Adds a number's bytes, for which there is room.
+fn push_number(bytes: &mut Vec<u8>, number: u64)
+    requires { vec_len bytes.old + 8 ≤ vec_capacity bytes.old }
+    ensures items { bytes.new.items ≡ bytes.old.items ++ number_text number }
+    ensures len { vec_len bytes.new ≡ vec_len bytes.old + 8 }
+    ensures room { vec_capacity bytes.old ≤ vec_capacity bytes.new }
 {
-    bytes.extend_from_slice(&number.to_be_bytes())?;
-    Ok(())
+    let Ok(()) = bytes.extend_from_slice(&number.to_be_bytes()) else {
+        unreachable!();
+    };
 }
 
 /// The number that begins these bytes, and the bytes behind it.

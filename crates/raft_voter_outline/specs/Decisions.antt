@@ -41,9 +41,17 @@ abbrev pub entries_in : Write → Request → List (ℕ × List ℕ)
 entries_in (Entries skipped index) q = drop skipped (sent_of q)
 entries_in _ q = []
 
+-- how many runs the entries that go in make at most: so many where they stand behind another term
+abbrev pub runs_needed : Write → Request → ℕ
+runs_needed w q = runs_behind None (entries_in w q)
+
 -- there is room for the runs of the entries that go in
 abbrev pub HasRoom : Write → Request → ℕ → Type 0
-HasRoom w q room = runs_behind None (entries_in w q) ≤ room
+HasRoom w q room = runs_needed w q ≤ room
+
+-- of the room no more is used up than the entries that go in need
+abbrev pub UsesRoom : Write → Request → ℕ → ℕ → Type 0
+UsesRoom w q old new = old ≤ new + runs_needed w q
 
 -- these are the terms of a voter's log
 pub record AreTermsOf (v : State) (t : Terms) : Type 0 where

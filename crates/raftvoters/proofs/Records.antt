@@ -88,6 +88,10 @@ state_with-same t t' o o' b b' u u' c c' es fs p q r s w x = cc
 pub entries_in_range : (v : State) → IsStorable v → list_all stored_entry_fits (numbered (v.base_index + 1) v.log) ≡ true
 entries_in_range v h = numbered_fit (v.base_index + 1) v.log h.in_range.log (omega (arith, h.end_fits))
 
+-- entries that are numbered alike are the same
+log_same : (v w : State) → numbered (v.base_index + 1) v.log ≡ numbered (w.base_index + 1) w.log → v.log ≡ w.log
+log_same v w same = sym (unnumbered (v.base_index + 1) v.log) ∙ ap (map (λ e. (e.term, e.bytes))) same ∙ unnumbered (w.base_index + 1) w.log
+
 voter_same : (v w : State) (x y : List ℕ) → IsStorable v → IsStorable w → voter_bytes v ++ x ≡ voter_bytes w ++ y → (v ≡ w) × (x ≡ y)
 unfolding voter_bytes
 voter_same v w x y hv hw same =
@@ -100,8 +104,7 @@ voter_same v w x y hv hw same =
     let known = state_form_2-same (state_of v) (state_of w) (state_in_range v hv.in_range) (state_in_range w hw.in_range) (ap (drop 1) states.0) in
     let sizes = number_first (length v.log) (length w.log) (flat_map stored_entry es ++ x) (flat_map stored_entry fs ++ y) (omega (arith, hv.end_fits)) (omega (arith, hw.end_fits)) states.1 in
     let entries = entries_same es fs x y (omega (arith, sizes.0, length-numbered (v.base_index + 1) v.log, length-numbered (w.base_index + 1) w.log)) (entries_in_range v hv) (entries_in_range w hw) sizes.1 in
-    let logs : v.log ≡ w.log = sym (unnumbered (v.base_index + 1) v.log) ∙ ap (map (λ e. (e.term, e.bytes))) entries.0 ∙ unnumbered (w.base_index + 1) w.log in
-    (state_with-same _ _ _ _ _ _ _ _ _ _ _ _ known.0 known.1 known.2 known.3 known.4 logs, entries.1)
+    (state_with-same _ _ _ _ _ _ _ _ _ _ _ _ known.0 known.1 known.2 known.3 known.4 (log_same v w entries.0), entries.1)
 
 pub record_same : (r s : ℕ × State) (x y : List ℕ) → IsStorableRecord r → IsStorableRecord s → voter_record r ++ x ≡ voter_record s ++ y → (r ≡ s) × (x ≡ y)
 unfolding voter_record

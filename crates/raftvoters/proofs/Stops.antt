@@ -1,14 +1,13 @@
 -- Rounds that aren't answered.
 use Rattle.std.proofs.Common.{◌≡◌, ℕ, suc, zero, ◌+◌, ◌<◌, ◌≤◌, ◌∙◌, nat_lt, true, false, ⊎_elim, List, [], ◌∷◌, ◌++◌, get_or, length, take, Result, Ok, Err, OnErr, refl, sym, ap, subst, arith}
 use Rattle.std.proofs.lemmas.List.{take_more}
-use Rattle.raft_voter_messages.specs.declared.reply.Reply.{Reply}
 use Rattle.raft_voter_messages.specs.declared.request.Request.{Request}
 use Rattle.raft_voter.specs.Rounds.{World, after, after_one, taken_from}
 use Rattle.std.proofs.lemmas.Bool.Decides.{nat_tests}
 use Rattle.raftvoters.specs.declared.store.PlainVoters.{PlainVoters}
 use Rattle.raftvoters.specs.Records.{StandsFor}
 use Rattle.raftvoters.specs.Service.{Stopped, TookFront, TookSome}
-use Rattle.raftvoters.specs.Store.{HoldsVoters, IsRefused, IsStopped, Takes, world_of}
+use Rattle.raftvoters.specs.Store.{HoldsVoters, IsRefused, IsStopped, world_of}
 
 pub on_err : {T E : Type 0} (r : Result T E) (P : Type 0) → P → OnErr r P
 on_err (Ok v) P h = tt
@@ -32,14 +31,6 @@ refused_here old now next asked i d q few here before synced told = record {
   taken = ⊎_elim (λ same. record { count = i; few = omega arith; taken = same ∙ before })
       (λ took. record { count = i + 1; few = omega arith; taken = took_more (world_of old) (world_of now) (world_of next) asked i d q few here before took }) told.taken;
   synced = told.synced ∙ synced;
-}
-
--- a request is taken, and no room is left for its reply
-pub reply_refused : (old now next : PlainVoters) (asked : List (ℕ × Request)) (i : ℕ) (d q : ℕ × Request) (told : Reply) → i < length asked → get_or asked i d ≡ q
-    → world_of now ≡ after (world_of old) (take i asked) → now.file.synced ≡ old.file.synced → Takes now q told next → IsStopped old asked next
-reply_refused old now next asked i d q told few here before synced took = record {
-  taken = record { count = i + 1; few = omega arith; taken = took_more (world_of old) (world_of now) (world_of next) asked i d q few here before took.taken };
-  synced = took.synced ∙ synced;
 }
 
 -- nothing is taken

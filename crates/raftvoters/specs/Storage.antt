@@ -35,6 +35,10 @@ IsSound storage = (W : World) × IsAt storage W
 abbrev pub Keeps : Storage → Storage → Type 0
 Keeps old new = (W : World) → IsAt old W → IsAt new W
 
+-- a round of these requests may be answered: a store is open, and they aren't too many
+abbrev pub MayAnswer : Storage → List (ℕ × Request) → Type 0
+MayAnswer storage requests = (is_open storage ≡ true) × (length requests ≤ 4096)
+
 -- A round is answered where a store is open and it isn't too long, and else it is cut off. Of a round that is
 -- answered just the requests out of range are refused.
 abbrev pub HasCause : Bool → Round → Outcome → Type 0

@@ -1,5 +1,5 @@
 //! A file in memory that a crash can cut short.
-ghost use Rattle.std.specs.Prelude.{◌≡◌, [], ◌++◌, OnOk, OnErr};
+ghost use Rattle.std.specs.Prelude.{◌≡◌, ◌<◌, [], ◌++◌, length, OnOk, OnErr};
 ghost use Rattle.raftvoters.specs.Content.{after_crash, whole};
 
 use raft_voter::Memory;
@@ -47,11 +47,13 @@ impl PlainFile {
         self.bytes.as_slice()
     }
 
-    /// Writes bytes at the end.
+    /// Writes bytes at the end. Where memory is refused, which can be only where there are some, nothing is
+    /// written.
     pub fn append(&mut self, bytes: &[u8]) -> Result<(), Memory>
         ensures synced { self.new.synced ≡ self.old.synced }
         ensures ok { OnOk result (self.new.unsynced ≡ self.old.unsynced ++ bytes.now) }
         ensures err { OnErr result (self.new.unsynced ≡ self.old.unsynced) }
+        ensures errors { OnErr result (0 < length bytes.now) }
     {
         self.bytes.extend_from_slice(bytes)?;
         Ok(())

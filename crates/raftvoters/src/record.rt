@@ -6,7 +6,8 @@ ghost use Rattle.raftvoters.specs.Damage.{HasNoEntries, HasNoEntry, HasNoVoterRe
 ghost use Rattle.raftvoters.specs.Records.{log_bytes, stored_at, voter_record};
 ghost use Rattle.raftvoters.specs.Beginnings.{BeginsWith, BeginsWithEntries, BeginsWithEntry, BeginsWithNumber, BeginsWithRecord};
 
-use raft_voter::{Entry, Items, Memory, StoredFault, Voter, read_entry, read_state, state_bytes};
+use raft_voter::{Entry, Items, Memory, StoredFault, Voter, read_entry, read_state};
+use raft_voter_messages::{ENTRY_HEAD_BYTES, STATE_BYTES, append_entry, append_state};
 use std::alloc::{AllocError, Global};
 use thiserror::Error;
 
@@ -54,15 +55,6 @@ impl From<StoredFault> for OpenFault {
     }
 }
 
-/// How many bytes a stored state has.
-const STATE_BYTES: usize = 42;
-
-/// The first byte of a stored entry.
-const ENTRY_FORM: u8 = 1;
-
-/// How many bytes of a stored entry stand before its own bytes.
-const ENTRY_HEAD_BYTES: usize = 17;
-
 /// The bytes of a record.
 #[tactic(auto, unfolding(crate::specs::Records::voter_record, crate::specs::Records::voter_bytes))]
 pub fn voter_record(alloc: Global, group: u64, voter: &Voter) -> Result<Vec<u8>, Memory>
@@ -73,7 +65,7 @@ pub fn voter_record(alloc: Global, group: u64, voter: &Voter) -> Result<Vec<u8>,
     let log = voter.log();
     let mut bytes = Vec::new(alloc);
     put_number(&mut bytes, group)?;
-    put_bytes(&mut bytes, state_bytes(alloc, &state)?.as_slice())?;
+    append_state(&mut bytes, &state)?;
     put_number(&mut bytes, log.len() as u64)?;
     put_entries(&mut bytes, state.base_index + 1, log)?;
     Ok(bytes)
@@ -98,11 +90,7 @@ fn put_entry(bytes: &mut Vec<u8>, index: u64, term: u64, own: &[u8]) -> Result<(
     ensures { OnOk result (bytes.new.items ≡ bytes.old.items ++ stored_at index (term, own.now)) }
 {
     put_number(bytes, (own.len() + ENTRY_HEAD_BYTES) as u64)?;
-    bytes.push(ENTRY_FORM)?;
-    put_number(bytes, index)?;
-    put_number(bytes, term)?;
-    put_bytes(bytes, own)?;
-    Ok(())
+    append_entry(bytes, index, term, own)
 }
 
 /// Adds a number of eight bytes, the highest first.
@@ -110,14 +98,7 @@ fn put_entry(bytes: &mut Vec<u8>, index: u64, term: u64, own: &[u8]) -> Result<(
 fn put_number(bytes: &mut Vec<u8>, number: u64) -> Result<(), Memory>
     ensures { OnOk result (bytes.new.items ≡ bytes.old.items ++ number_text number) }
 {
-    put_bytes(bytes, &number.to_be_bytes())
-}
-
-/// Adds bytes.
-fn put_bytes(bytes: &mut Vec<u8>, more: &[u8]) -> Result<(), Memory>
-    ensures { OnOk result (bytes.new.items ≡ bytes.old.items ++ more.now) }
-{
-    bytes.extend_from_slice(more)?;
+    bytes.extend_from_slice(&number.to_be_bytes())?;
     Ok(())
 }
 

@@ -1,7 +1,7 @@
 //! A store that is open, or the file of one that isn't.
-ghost use Rattle.std.specs.Prelude.{◌≡◌, [], true, false, IfOk, IsOk};
-ghost use Rattle.raftvoters.specs.Storage.{file_of, is_open, IsSound, Keeps, Served};
-ghost use Rattle.raftvoters.specs.Content.{after_crash};
+ghost use Rattle.std.specs.Prelude.{◌≡◌, ◌<◌, ◌≤◌, [], true, false, length, IfOk, OnErr};
+ghost use Rattle.raftvoters.specs.Storage.{file_of, is_open, IsSound, Keeps, MayAnswer, Served};
+ghost use Rattle.raftvoters.specs.Content.{after_crash, whole};
 ghost use Rattle.raftvoters.specs.Service.{is_refused, refused_from};
 
 use crate::file::PlainFile;
@@ -33,12 +33,13 @@ impl Storage {
     }
 
     /// Opens the store; one that is open is closed first. What a store wrote can always be read, so only
-    /// memory may be refused.
+    /// memory may be refused, and only where there is something to read.
     pub fn opened(self, alloc: Global) -> Result<Storage, Memory>
         requires { IsSound self }
         ensures open { IfOk result (λ next. is_open next ≡ true) }
         ensures same { IfOk result (λ next. file_of next ≡ file_of self) }
         ensures keeps { IfOk result (Keeps self) }
+        ensures errors { OnErr result (0 < length (whole (file_of self))) }
     {
         match PlainVoters::open(alloc, self.into_file()) {
             Ok(store) => Ok(Storage::Open(store)),
@@ -65,10 +66,11 @@ impl Storage {
         Storage::Closed(file)
     }
 
-    /// Serves a round, or cuts it off where no store is open or it is too long.
+    /// Serves a round, or cuts it off where no store is open or it is too long. Memory can be refused only
+    /// where it isn't cut off.
     pub fn serve(&mut self, alloc: Global, requests: Items<(u64, Request)>) -> Result<Round, Memory>
         ensures ok { IfOk result (Served self.old self.new requests) }
-        ensures cut_off { is_open self.old ≡ false → IsOk result }
+        ensures errors { OnErr result (MayAnswer self.old requests) }
     {
         let Storage::Open(store) = self else {
             return Ok(cut_off(alloc, requests));

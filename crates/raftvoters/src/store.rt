@@ -1,5 +1,5 @@
 //! Voters of many groups in memory, and the plain file that keeps them.
-ghost use Rattle.std.specs.Prelude.{◌≡◌, ◌+◌, ◌^◌, ◌<◌, [], length, IfErr, IfOk, OnErr, OnOk};
+ghost use Rattle.std.specs.Prelude.{◌≡◌, ◌+◌, ◌^◌, ◌<◌, ◌≤◌, [], length, vec_capacity, vec_len, IfErr, IfOk, OnErr, OnOk};
 ghost use Rattle.raft_voter.specs.Rounds.{after_one, put};
 ghost use Rattle.raftvoters.specs.Content.{whole};
 ghost use Rattle.raft_voter.specs.Rules.{reply};
@@ -27,11 +27,13 @@ pub struct PlainVoters {
 
 impl PlainVoters {
     /// Opens a file: reads it whole, and the last record of each group is its voter. Damage is told only
-    /// where the bytes aren't those of records, so never of what a store wrote.
+    /// where the bytes aren't those of records, so never of what a store wrote. Of an empty file nothing can
+    /// be refused.
     pub fn open(alloc: Global, file: PlainFile) -> Result<PlainVoters, OpenFault>
         ensures same { IfOk result (λ store. store.file ≡ file) }
         ensures voters { IfOk result (λ store. StandsFor (whole file) (world_of store)) }
         ensures err { IfErr result (TellsDamage (StandsForNothing (whole file))) }
+        ensures errors { OnErr result (0 < length (whole file)) }
     {
         let voters = read_voters(alloc, file.bytes())?;
         Ok(PlainVoters {
@@ -43,22 +45,25 @@ impl PlainVoters {
     }
 
     /// The voters take requests in order, and what they change is written; their replies are put where there
-    /// is room for them. Where memory is refused some of the first were taken, and what was synced stays.
+    /// is room for them. Where memory is refused some of the first were taken, and what was synced stays; it
+    /// can't be refused where there is no request.
     fn take_all(
         &mut self,
         requests: &[(u64, Request)],
-        mut replies: Items<Reply>,
+        mut replies: Vec<Reply>,
     ) -> Result<Items<Reply>, Memory>
-        requires { replies ≡ [] }
+        requires empty { replies.items ≡ [] }
+        requires room { vec_len replies + length requests.now ≤ vec_capacity replies }
         ensures ok { IfOk result (λ replies. TakesAll self.old requests.now replies self.new) }
         ensures err { OnErr result (IsStopped self.old requests.now self.new) }
+        ensures errors { OnErr result (0 < length requests.now) }
         ensures failed { self.new.failed ≡ self.old.failed }
     {
         for (group, request) in requests {
             let reply = self.take(*group, request)?;
-            replies.push(reply)?;
+            replies.push_reserved(reply);
         }
-        Ok(replies)
+        Ok(Items::from_vec(replies))
     }
 
     /// A group's voter takes a request, and what it changes is written. Where memory is refused it may have
@@ -125,7 +130,7 @@ impl RoundService for PlainVoters {
         let Ok(room) = Vec::with_capacity(self.alloc, requests.len()) else {
             return Err(RoundFault::new(self.alloc, Cause::Memory));
         };
-        let Ok(replies) = self.take_all(requests, Items::from_vec(room)) else {
+        let Ok(replies) = self.take_all(requests, room) else {
             self.failed = true;
             return Err(RoundFault::new(self.alloc, Cause::FileSystem));
         };
@@ -175,6 +180,7 @@ fn may_change(request: &Request) -> bool
 fn read_voters(alloc: Global, bytes: &[u8]) -> Result<BTreeMap<u64, Voter>, OpenFault>
     ensures ok { IfOk result (λ voters. StandsFor bytes.now (world_in voters)) }
     ensures err { IfErr result (TellsDamage (StandsForNothing bytes.now)) }
+    ensures errors { OnErr result (0 < length bytes.now) }
 {
     let mut voters = BTreeMap::new(alloc);
     let mut left = bytes;

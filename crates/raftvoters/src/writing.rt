@@ -1,5 +1,6 @@
 //! Writing of which it is known what a writer that fails got.
-ghost use Rattle.std.specs.Prelude.{IfOk, OnOk, OnErr};
+ghost use Rattle.std.specs.Prelude.{◌≢◌, IfErr, IfOk, OnOk, OnErr};
+ghost use Rattle.std.specs.IoError.{error_kind};
 ghost use Rattle.std.specs.Io.KnownBytes.{Appends, Keeps};
 ghost use Rattle.raftvoters.specs.Writing.{StopsWithin, TakesFront};
 
@@ -9,10 +10,12 @@ use std::io::{ErrorKind, Write};
 /// The most calls of a writer for one text.
 const MOST_WRITES: u64 = 1_099_511_627_776;
 
-/// Writes all bytes. Where the writer fails, or takes too many calls, it got the front of them, and not all.
+/// Writes all bytes. Where the writer fails, or takes too many calls, it got the front of them, and not
+/// all. A call that was interrupted is made again.
 pub fn write_whole<W: Write>(writer: &mut W, bytes: &[u8]) -> io::Result<()>
     ensures ok { OnOk result (Appends (W.contents writer.old) (W.contents writer.new) bytes.now) }
     ensures err { OnErr result (StopsWithin (W.contents writer.old) (W.contents writer.new) bytes.now) }
+    ensures retried { IfErr result (λ fault. error_kind fault ≢ ErrorKind.Interrupted) }
 {
     let mut left = bytes;
     for _ in 0..MOST_WRITES {
@@ -32,6 +35,7 @@ fn write_front<'a, W: Write>(writer: &mut W, bytes: &'a [u8]) -> io::Result<&'a 
     ensures ok { IfOk result (λ left.
         TakesFront (W.contents writer.old) (W.contents writer.new) bytes.now left.now) }
     ensures err { OnErr result (Keeps (W.contents writer.old) (W.contents writer.new)) }
+    ensures retried { IfErr result (λ fault. error_kind fault ≢ ErrorKind.Interrupted) }
 {
     match writer.write(bytes) {
         Ok(count) => {

@@ -1,8 +1,8 @@
 //! The bytes of an entry: the form, its index, its term, and its own bytes.
-ghost use Rattle.std.specs.Prelude.{◌≡◌, IfOk, IfErr};
+ghost use Rattle.std.specs.Prelude.{◌≡◌, ◌+◌, ◌<◌, ◌++◌, length, vec_capacity, vec_len, IfOk, IfErr, OnOk, OnErr};
 ghost use Rattle.raft_voter_messages.specs.StoredForms.{entry_text, EntryFault, EntryForm1Fault, IsEntry, IsEntryForm1, stored_entry_fits};
 
-use super::{NUMBER_BYTES, StoredFault, append_number, split_number};
+use super::{NUMBER_BYTES, StoredFault, push_number, split_number};
 use crate::request::{MAX_ENTRY_BYTES, all_fit, fits};
 use crate::{Entry, Items, Memory};
 use std::alloc::Global;
@@ -13,17 +13,34 @@ const FORM_1: u8 = 1;
 /// How many bytes stand between the form byte and the entry's own bytes.
 const FORM_1_NUMBERS: usize = 2 * NUMBER_BYTES;
 
+/// How many bytes stand before an entry's own, as it is written.
+pub const ENTRY_HEAD_BYTES: usize = 1 + FORM_1_NUMBERS;
+
 /// The bytes of an entry, in form 1.
 pub fn entry_bytes(alloc: Global, entry: &Entry) -> Result<Items<u8>, Memory>
     ensures { IfOk result (λ bytes. bytes ≡ entry_text entry.now) }
 {
-    let own = entry.bytes.as_slice();
-    let mut bytes = Vec::with_capacity(alloc, own.len().saturating_add(1 + FORM_1_NUMBERS))?;
-    bytes.push(FORM_1)?;
-    append_number(&mut bytes, entry.index)?;
-    append_number(&mut bytes, entry.term)?;
-    bytes.extend_from_slice(own)?;
+    let mut bytes = Vec::new(alloc);
+    append_entry(&mut bytes, entry.index, entry.term, entry.bytes.as_slice())?;
     Ok(Items::from_vec(bytes))
+}
+
+/// Adds the bytes of the entry of this index, this term and these bytes of its own, in form 1. Where memory
+/// is refused, which can be only where there was no room for them, the bytes are as they were.
+pub fn append_entry(bytes: &mut Vec<u8>, index: u64, term: u64, own: &[u8]) -> Result<(), Memory>
+    ensures ok { OnOk result (bytes.new.items
+        ≡ bytes.old.items ++ entry_text (record { index = index; term = term; bytes = own.now })) }
+    ensures err { OnErr result (bytes.new.items ≡ bytes.old.items) }
+    ensures errors { OnErr result (vec_capacity bytes.old < vec_len bytes.old + (length own.now + 17)) }
+{
+    bytes.reserve(own.len().saturating_add(ENTRY_HEAD_BYTES))?;
+    bytes.push_reserved(FORM_1);
+    push_number(bytes, index);
+    push_number(bytes, term);
+    let Ok(()) = bytes.extend_from_slice(own) else {
+        unreachable!();
+    };
+    Ok(())
 }
 
 /// The entry at this index that these bytes are; else the first fault: no bytes, another form, another

@@ -1,10 +1,10 @@
 //! The bytes of a voter's state: the form, the term, whether there is a vote, the candidate, the base's index
 //! and term, and in form 2 the commit. What is known of the last entry isn't written.
-ghost use Rattle.std.specs.Prelude.{◌≡◌, IfOk, IfErr};
+ghost use Rattle.std.specs.Prelude.{◌≡◌, ◌+◌, ◌<◌, ◌++◌, vec_capacity, vec_len, IfOk, IfErr, OnOk, OnErr};
 ghost use Rattle.raft_voter_messages.specs.StoredForms.{IsBare, IsState, IsStateForm1, state_fits, state_form_2, state_text, StateFault, StateForm1Fault, StateForm2Fault};
 
 use super::head::StateHead;
-use super::{NUMBER_BYTES, StoredFault, append_number, split_number};
+use super::{NUMBER_BYTES, StoredFault, push_number, split_number};
 use crate::request::fits;
 use crate::{Items, Memory, VoterState};
 use std::alloc::Global;
@@ -21,19 +21,34 @@ const FORM_1_BYTES: usize = 4 * NUMBER_BYTES + 1;
 /// How many bytes follow the form byte in form 2.
 const FORM_2_BYTES: usize = FORM_1_BYTES + NUMBER_BYTES;
 
+/// How many bytes a state has, as it is written.
+pub const STATE_BYTES: usize = 1 + FORM_2_BYTES;
+
 /// The bytes of a state, in form 2.
 pub fn state_bytes(alloc: Global, state: &VoterState) -> Result<Items<u8>, Memory>
     ensures { IfOk result (λ bytes. bytes ≡ state_text state.now) }
 {
-    let mut bytes = Vec::with_capacity(alloc, 1 + FORM_2_BYTES)?;
-    bytes.push(FORM_2)?;
-    append_number(&mut bytes, state.term)?;
-    bytes.push(state.vote.is_some() as u8)?;
-    append_number(&mut bytes, state.vote.unwrap_or(0))?;
-    append_number(&mut bytes, state.base_index)?;
-    append_number(&mut bytes, state.base_term)?;
-    append_number(&mut bytes, state.commit)?;
+    let mut bytes = Vec::new(alloc);
+    append_state(&mut bytes, state)?;
     Ok(Items::from_vec(bytes))
+}
+
+/// Adds the bytes of a state, in form 2. Where memory is refused, which can be only where there was no room
+/// for them, the bytes are as they were.
+pub fn append_state(bytes: &mut Vec<u8>, state: &VoterState) -> Result<(), Memory>
+    ensures ok { OnOk result (bytes.new.items ≡ bytes.old.items ++ state_text state.now) }
+    ensures err { OnErr result (bytes.new.items ≡ bytes.old.items) }
+    ensures errors { OnErr result (vec_capacity bytes.old < vec_len bytes.old + 42) }
+{
+    bytes.reserve(STATE_BYTES)?;
+    bytes.push_reserved(FORM_2);
+    push_number(bytes, state.term);
+    bytes.push_reserved(state.vote.is_some() as u8);
+    push_number(bytes, state.vote.unwrap_or(0));
+    push_number(bytes, state.base_index);
+    push_number(bytes, state.base_term);
+    push_number(bytes, state.commit);
+    Ok(())
 }
 
 /// The state that these bytes are, with the base in place of the last entry, and in form 1 of the commit;

@@ -1,6 +1,6 @@
 //! Changes that are made, once they are written.
 ghost use Rattle.std.specs.Prelude.{◌≡◌, ◌≤◌, length, OnErr, OnOk};
-ghost use Rattle.raft_voter_outline.specs.Decisions.{Becomes, CanChange, ChangesTerms, HasRoom};
+ghost use Rattle.raft_voter_outline.specs.Decisions.{Becomes, CanChange, ChangesTerms, HasRoom, UsesRoom};
 ghost use Rattle.raft_voter_outline.specs.Outlines.{Changes};
 
 use super::term_runs::{TermRuns, runs_in};
@@ -18,11 +18,13 @@ impl Outline {
         self.terms.reserve(runs_in(change.write.brought(request)))
     }
 
-    /// Makes the change that was decided for a request, for which there is room. It asks for no memory.
+    /// Makes the change that was decided for a request, for which there is room. It asks for no memory, and
+    /// uses up no more room than was needed.
     pub fn apply(&mut self, change: &Change, request: &Request)
         requires decided { Changes self.old.voter request.now change.now }
         requires room { HasRoom change.now.write request.now self.old.room }
-        ensures { Becomes self.old.voter request.now self.new.voter }
+        ensures voter { Becomes self.old.voter request.now self.new.voter }
+        ensures room { UsesRoom change.now.write request.now self.old.room self.new.room }
     {
         self.terms.change(change, request);
         self.term = change.state.term;
@@ -37,7 +39,8 @@ impl TermRuns {
     fn change(&mut self, change: &Change, request: &Request)
         requires can { CanChange self.old request.now change.now }
         requires room { HasRoom change.now.write request.now self.old.room }
-        ensures { ChangesTerms self.old request.now change.now self.new }
+        ensures terms { ChangesTerms self.old request.now change.now self.new }
+        ensures room { UsesRoom change.now.write request.now self.old.room self.new.room }
     {
         let base = change.state.base_index;
         match change.write {

@@ -56,7 +56,8 @@ impl Outline {
         }
     }
 
-    /// The decision of a plan.
+    /// The decision of a plan. Inlined, so that no plan is put together in memory and read back.
+    #[inline(always)]
     fn settle(&self, plan: Plan) -> Decision
         ensures { Settles self.now.voter plan result }
     {
@@ -75,6 +76,7 @@ impl Outline {
     }
 
     /// Whether a plan leaves all as it is.
+    #[inline(always)]
     fn stays(&self, plan: &Plan) -> bool
         ensures { IsTrue result ↔ Stays self.now.voter plan.now plan.now.write }
     {

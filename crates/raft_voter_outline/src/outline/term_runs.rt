@@ -1,5 +1,5 @@
 //! The terms of a log's entries, without the entries.
-ghost use Rattle.std.specs.Prelude.{◌≡◌, ℕ, ◌+◌, ◌-◌, ◌^◌, ◌<◌, ◌≤◌, ◌++◌, ◌∷◌, ◌⊎◌, [], IsTrue, None, take, drop, length, slice_get, vec_len, OnOk, OnErr};
+ghost use Rattle.std.specs.Prelude.{◌≡◌, ℕ, ◌+◌, ◌-◌, ◌^◌, ◌<◌, ◌≤◌, ◌++◌, ◌∷◌, ◌⊎◌, [], IsTrue, None, take, drop, length, slice_get, vec_capacity, vec_len, OnOk, OnErr};
 ghost use Rattle.std.specs.Option.{option_map};
 ghost use Rattle.raft_voter_outline.specs.Runs.{are_runs, bare, runs_behind, runs_below, top_term};
 
@@ -105,6 +105,7 @@ impl TermRuns {
         requires within { index ≤ self.old.base + length self.old.log }
         ensures base { self.new.base ≡ index }
         ensures log { self.new.log ≡ drop (index - self.old.base) self.old.log }
+        ensures room { self.old.room ≤ self.new.room }
     {
         let gone = runs_below(self.runs.as_slice(), index + 1);
         drop_front(&mut self.runs, gone);
@@ -116,6 +117,7 @@ impl TermRuns {
         requires { base < 2 ^ 63 }
         ensures base { self.new.base ≡ base }
         ensures log { self.new.log ≡ [] }
+        ensures room { self.old.room ≤ self.new.room }
     {
         self.runs.clear();
         self.base = base;
@@ -127,6 +129,7 @@ impl TermRuns {
         requires small { base < 2 ^ 63 }
         ensures base { self.new.base ≡ base }
         ensures log { self.new.log ≡ self.old.log }
+        ensures room { self.old.room ≤ self.new.room }
     {
         if base == self.base {
             return;
@@ -168,6 +171,7 @@ impl TermRuns {
         requires room { runs_behind (top_term self.old.log) entries.now ≤ self.old.room }
         ensures base { self.new.base ≡ self.old.base }
         ensures log { self.new.log ≡ self.old.log ++ bare entries.now }
+        ensures room { self.new.room + runs_behind (top_term self.old.log) entries.now ≡ self.old.room }
     {
         for (term, _) in entries {
             self.push(*term);
@@ -178,7 +182,8 @@ impl TermRuns {
 /// Drops the first runs.
 fn drop_front(list: &mut Vec<Run>, count: usize)
     requires { count ≤ vec_len list.old }
-    ensures { list.new.items ≡ drop count list.old.items }
+    ensures items { list.new.items ≡ drop count list.old.items }
+    ensures capacity { vec_capacity list.new ≡ vec_capacity list.old }
 {
     drop(list.drain(..count));
 }

@@ -76,9 +76,8 @@ fn arguments_are_refused(rt: HostRuntime) -> Result<(), Fail> {
     let mut input = b"open 1\n".as_slice();
     let mut output = Vec::new(rt.alloc());
     let ended = program(true, rt.alloc(), &mut input, &mut output);
-    assert!(rt; exit_status(ended) == 2);
+    assert!(rt; exit_status(ended) == 2 && input == b"open 1\n".as_slice());
     assert!(rt; output.as_slice() == b"arguments refused\n".as_slice());
-    assert!(rt; input == b"open 1\n".as_slice());
     Ok(())
 }
 
@@ -87,8 +86,7 @@ fn a_reader_that_fails_ends_with_status_3(rt: HostRuntime) {
     let mut output = Vec::new(rt.alloc());
     let mut reader = BrokenReader { reads: 3 };
     let ended = program(false, rt.alloc(), &mut reader, &mut output);
-    assert!(rt; exit_status(ended) == 3);
-    assert!(rt; output.is_empty());
+    assert!(rt; exit_status(ended) == 3 && output.is_empty());
 }
 
 /// So many arguments, the program's name among them, of which none is text.
@@ -122,27 +120,22 @@ fn the_programs_name_is_no_argument(rt: HostRuntime) {
 }
 
 /// Why a round is cut off, and how that is told.
-const CAUSES: [(Cause, &str); 4] = [
-    (Cause::FileSystem, "the file system failed"),
-    (Cause::Memory, "out of memory"),
-    (Cause::Failed, "the service failed before"),
-    (Cause::TooLong, "more than 4096 requests"),
+const FAULTS: [(Cause, &str); 4] = [
+    (Cause::FileSystem, "round cut off: the file system failed"),
+    (Cause::Memory, "round cut off: out of memory"),
+    (Cause::Failed, "round cut off: the service failed before"),
+    (Cause::TooLong, "round cut off: more than 4096 requests"),
 ];
-
-#[test]
-fn texts_of_causes(rt: HostRuntime) -> Result<(), Fail> {
-    for (cause, text) in CAUSES.iter() {
-        assert!(rt; cause.to_string(rt.alloc())?.as_str() == *text);
-    }
-    Ok(())
-}
 
 #[test]
 fn texts_of_faults(rt: HostRuntime) -> Result<(), Fail> {
     let alloc = rt.alloc();
-    let fault = RoundFault::new(alloc, Cause::Failed).to_string(alloc)?;
-    assert!(rt; fault.as_str() == "round cut off: the service failed before");
-    assert!(rt; OpenFault::Damaged.to_string(alloc)?.as_str() == "damaged file");
-    assert!(rt; OpenFault::Memory.to_string(alloc)?.as_str() == "out of memory");
+    for (cause, text) in FAULTS.iter() {
+        let told = RoundFault::new(alloc, *cause).to_string(alloc)?;
+        assert!(rt; told.as_str() == *text);
+    }
+    let damaged = OpenFault::Damaged.to_string(alloc)?;
+    let memory = OpenFault::Memory.to_string(alloc)?;
+    assert!(rt; damaged.as_str() == "damaged file" && memory.as_str() == "out of memory");
     Ok(())
 }

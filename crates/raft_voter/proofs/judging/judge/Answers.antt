@@ -3,8 +3,8 @@ use Rattle.std.proofs.lemmas.List.{drop_all}
 use Rattle.raft_voter.proofs.Places.{none_left}
 use Rattle.raft_voter.proofs.judging.judge.Goals as goal
 
-pub returns : goal.returns
-returns c =
+pub returns-clause-ok : goal.returns-clause-ok
+returns-clause-ok c =
     let rounds = c.args.transcript.now.rounds in
     let done : drop c.loop-round.round-index rounds ≡ [] = drop_all c.loop-round.round-index rounds (rw c.as_slice-round-items.ensures at c.loop-round-test.false) in
     let rest = rw done at c.loop-round.invariant.rest in

@@ -8,11 +8,9 @@ returns-clause-bytes c =
     rw (
       c.in_ok-put_entries.ensures,
       c.in_ok-put_number-2.ensures,
-      c.in_ok-put_bytes.ensures,
+      c.in_ok-append_state.ensures.ok,
       c.in_ok-put_number.ensures,
       c.new-bytes.ensures.items,
-      c.as_slice-2.ensures,
-      c.in_ok-state_bytes.ensures,
       c.state-state.ensures,
       c.log-log.ensures.entries,
     ) (simp append_assoc)

@@ -7,7 +7,7 @@ use Rattle.raftvoters.proofs.Worlds.{read_on}
 use Rattle.raftvoters.proofs.store.read_voters.Goals as goal
 
 pub loop-left-init : goal.loop-left-init
-loop-left-init c = (search rules, all_left c.args.bytes.now)
+loop-left-init c = (search rules, all_left c.args.bytes.now, omega arith)
 
 pub loop-left-smaller : goal.loop-left-smaller
 loop-left-smaller c = shorter _ _ (c.in_ok-group.group, c.in_ok-group.voter) c.in_ok-group.ensures.ok.text
@@ -17,7 +17,8 @@ loop-left-preserved c =
     let r : ℕ × State = (c.in_ok-group.group, c.in_ok-group.voter) in
     let found = c.in_ok-group.ensures.ok in
     let before = c.loop-left.invariant in
-    (read_on _ _ _ _ _ r before.0 found c.in_ok-set_voter.ensures, one_less _ _ _ r before.1 found)
+    let less = shorter _ _ r found.text in
+    (read_on _ _ _ _ _ r before.0 found c.in_ok-set_voter.ensures, one_less _ _ _ r before.1 found, omega (arith, less, before.2))
 
 pub returns-in_err-group-clause-err : goal.returns-in_err-group-clause-err
 returns-in_err-group-clause-err c =

@@ -23,7 +23,7 @@ invariant_of-self-2 c =
     let changes : Changes (without_bytes v) q c.args.change.now = rw (← c.self.view_is) at c.requires in
     let is : IsChangeOf v q c.args.change.now = changes v refl in
     let own : without_bytes v ≡ c.reserve.new.self.voter = outline_is o log c.self.invariant ∙ sym c.reserve.ensures.voter in
-    let became : without_bytes (next v q) ≡ c.apply.new.self.voter = c.apply.ensures v own in
+    let became : without_bytes (next v q) ≡ c.apply.new.self.voter = c.apply.ensures.voter v own in
     let at : c.base_index-base_index.result ≡ v.base_index = c.base_index-base_index.ensures ∙ ap (λ (x : State). x.base_index) c.reserve.ensures.voter in
     let written : c.write.new.log.items ≡ (next v q).log =
     c.in_ok-write.ensures.ok ∙ ap (λ b. log_written w (sent_of q) (laid b log)) at ∙ written-laid w (sent_of q) v

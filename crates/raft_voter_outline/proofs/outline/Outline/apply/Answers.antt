@@ -31,8 +31,8 @@ invariant_of-self c =
     let bared : without_bytes o ≡ o = ap (λ (l : List Pair). let w : State = record o { log = l } in w) c.self.invariant.bared in
     let decided : Changes o c.args.request.now c.args.change.now = rw (← c.self.view_is) at c.requires.decided in
     let is = decided o bared in
-    let base : c.change.new.self.base ≡ c.args.change.now.state.base_index = c.change.ensures.0 in
-    let log = c.change.ensures.1 o (record { base_is = refl; log_is = sym c.self.invariant.bared }) in
+    let base : c.change.new.self.base ≡ c.args.change.now.state.base_index = c.change.ensures.terms.0 in
+    let log = c.change.ensures.terms.1 o (record { base_is = refl; log_is = sym c.self.invariant.bared }) in
     let at : c.args.change.now.state.base_index ≡ (next o c.args.request.now).base_index = ap (λ (s : VoterState). s.base_index) is.state in
     let committed : c.args.change.now.state.commit ≡ (next o c.args.request.now).commit = ap (λ (s : VoterState). s.commit) is.state in
     record {

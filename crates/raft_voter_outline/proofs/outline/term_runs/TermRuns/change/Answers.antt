@@ -1,4 +1,4 @@
-use Rattle.std.proofs.Common.{◌≡◌, ◌≤◌, ◌-◌, ◌++◌, ◌∙◌, List, ap, sym, inl, inr, arith, drop, length, take}
+use Rattle.std.proofs.Common.{◌≡◌, ◌≤◌, ◌+◌, ◌-◌, ◌++◌, ◌∙◌, List, ap, sym, inl, inr, arith, drop, length, take}
 use Rattle.std.specs.Prelude.{None}
 use Rattle.std.proofs.lemmas.List.{drop_all}
 use Rattle.raft_voter_outline.specs.Outlines.{CanWrite, RestsOn, sent_of}
@@ -15,6 +15,13 @@ extend-requires-clause-room c =
     let es = entries_in c.args.change.now.write c.args.request.now in
     let room : runs_behind None es ≤ c.args.self.now.room = c.requires.room in
     rw c.brought.ensures (omega (arith, room, c.keep_to.ensures.room, runs_behind-none es (top_term c.keep_to.new.self.log)))
+
+pub returns-in-Entries-clause-room : goal.returns-in-Entries-clause-room
+returns-in-Entries-clause-room c =
+    let es = entries_in c.args.change.now.write c.args.request.now in
+    let kept = c.keep_to.new.self in
+    let spent : c.extend.new.self.room + runs_behind (top_term kept.log) es ≡ kept.room = rw c.brought.ensures at c.extend.ensures.room in
+    omega (arith, spent, c.keep_to.ensures.room, runs_behind-none es (top_term kept.log))
 
 pub compact_to-requires-clause-within : goal.compact_to-requires-clause-within
 compact_to-requires-clause-within c =
@@ -35,8 +42,8 @@ rest_on-requires-in-CompactTo-clause-rests c =
           inr (c.compact_to.ensures.log ∙ drop_all (c.in-CompactTo.index - c.args.self.now.base) c.args.self.now.log all)
     ]
 
-pub returns-in-Entries : goal.returns-in-Entries
-returns-in-Entries c =
+pub returns-in-Entries-clause-terms : goal.returns-in-Entries-clause-terms
+returns-in-Entries-clause-terms c =
     let u = c.requires.can.voter in
     let i = c.in-Entries.index in
     let es = drop c.in-Entries.skipped (sent_of c.args.request.now) in
@@ -53,8 +60,8 @@ returns-in-Entries c =
           ∙ sym (bare-append (take n v.log) es ∙ ap (λ (l : List Pair). l ++ bare es) (bare-take n v.log))),
     )
 
-pub returns-in-CompactTo : goal.returns-in-CompactTo
-returns-in-CompactTo c =
+pub returns-in-CompactTo-clause-terms : goal.returns-in-CompactTo-clause-terms
+returns-in-CompactTo-clause-terms c =
     let i = c.in-CompactTo.index in (
       c.rest_on-in-CompactTo.ensures.base,
       λ v of.

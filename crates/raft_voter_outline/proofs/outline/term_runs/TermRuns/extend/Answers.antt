@@ -20,10 +20,12 @@ loop-term-preserved c =
     let room : runs_behind (top_term log) (e ∷ left) ≤ c.loop-term.self.room = rw more at inv.room in
     let parts : runs_behind (top_term log) (e ∷ left) ≡ runs_behind (top_term log) ((e.0, []) ∷ []) + runs_behind (Some e.0) left =
     runs_behind-first (top_term log) e.0 e.1 left in
+    let spent : c.loop-term.self.room + runs_behind (top_term c.args.self.now.log) es ≡ c.args.self.now.room + runs_behind (top_term log) (e ∷ left) = rw more at inv.spent in
     let rest : log ++ (e.0, []) ∷ bare left ≡ c.args.self.now.log ++ bare es = rw more at inv.rest in
     record {
       base = c.push.ensures.base ∙ inv.base;
       size = omega (arith, c.push.ensures.base, longer, lefts, inv.size);
       room = rw top (omega (arith, room, parts, c.push.ensures.room));
+      spent = rw top (omega (arith, spent, parts, c.push.ensures.room));
       rest = rw grown (append_assoc log ((e.0, []) ∷ []) (bare left) ∙ rest);
     }

@@ -8,5 +8,6 @@ invariant-loop-term l = record {
   base : l.self.base ≡ l.fn.self.base;
   size : l.self.base + length l.self.log + length (drop l.term-index l.entries) < 2 ^ 63;
   room : runs_behind (top_term l.self.log) (drop l.term-index l.entries) ≤ l.self.room;
+  spent : l.self.room + runs_behind (top_term l.fn.self.log) l.entries ≡ l.fn.self.room + runs_behind (top_term l.self.log) (drop l.term-index l.entries);
   rest : l.self.log ++ bare (drop l.term-index l.entries) ≡ l.fn.self.log ++ bare l.entries;
 }

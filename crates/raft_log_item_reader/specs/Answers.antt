@@ -1,4 +1,5 @@
--- What comes of log files that are read: their items, and why the reading of a file ends before the file does.
+-- What comes of log files that are read: their items, and why the reading of a file ends before the file
+-- does.
 use Rattle.std.specs.Prelude.{◌≡◌, ℕ, List, [], ◌∷◌, ◌++◌, map, Result, Ok, Err, length}
 use Rattle.std.specs.String.{string_bytes}
 use Rattle.raft_log_base.specs.declared.errors.Error.{Error}
@@ -58,8 +59,8 @@ pub data GivesFile (d : Disk) (file : LogFile) (answers : List Answer) : Type 0 
       → GivesFile d file answers
   unopened : (handle : Handle) (error : Error) → IsOpened (string_bytes file.path) ReadOnly handle d
       → FailsToOpen handle d error → answers ≡ Err error ∷ [] → GivesFile d file answers
-  opened : (current : OpenFile) (start : ℕ) → IsOpenAt d file current start → GivesFrom d current start answers
-      → GivesFile d file answers
+  opened : (current : OpenFile) (start : ℕ) → IsOpenAt d file current start
+      → GivesFrom d current start answers → GivesFile d file answers
 
 -- What comes of log files: what comes of each, one after the other.
 abbrev pub GivesFiles : Disk → List LogFile → List Answer → Type 0

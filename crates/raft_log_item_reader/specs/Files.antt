@@ -62,7 +62,8 @@ AreFound directory [] files = files ≡ []
 AreFound directory (name ∷ names) files =
     (((id : FileId) → IsNameOf id name → ⊥) × AreFound directory names files)
     ⊎ ((file : LogFile) × (more : List LogFile) × IsNameOf file.id name
-    × (string_bytes file.path ≡ directory ++ 47 ∷ name) × (files ≡ file ∷ more) × AreFound directory names more)
+    × (string_bytes file.path ≡ directory ++ 47 ∷ name) × (files ≡ file ∷ more)
+    × AreFound directory names more)
 
 -- The log files of a directory: those of Rewrite before those of Append, and each queue's by their numbers.
 pub record AreFilesOf (directory : List ℕ) (d : Disk) (files : List LogFile) : Type 0 where

@@ -31,14 +31,16 @@ GivesFirst disk old answer new = MatchOption answer (StillGives disk old [] × S
 
 -- how many answers still come at most
 abbrev pub most_to_come : {F : Type 0} → (F → Disk) → LogItemReader F → ℕ
-most_to_come disk reader = length (into_iter_items reader.items) + most_left (disk_of disk reader) reader.batches
+most_to_come disk reader =
+    length (into_iter_items reader.items) + most_left (disk_of disk reader) reader.batches
 
 -- what comes of the reader is what comes of these files of this file system
 pub record IsReaderOf {F : Type 0} (disk : F → Disk) (file_system : F) (files : List LogFile)
     (reader : LogItemReader F) : Type 0 where
   pub lent : reader.file_system.now ≡ file_system
   pub work : IsAtWork disk reader
-  pub gives : (answers : List Answer) → StillGives disk reader answers → GivesFiles (disk file_system) files answers
+  pub gives : (answers : List Answer) → StillGives disk reader answers
+      → GivesFiles (disk file_system) files answers
 
 -- what comes of the reader is what comes of the file with this path
 pub record ReadsFileAt {F : Type 0} (disk : F → Disk) (file_system : F) (path : List ℕ)

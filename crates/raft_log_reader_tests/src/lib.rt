@@ -16,3 +16,4 @@ pub mod good_end;
 mod items;
 #[cfg(test)]
 mod padding;
+pub mod whole_end;

@@ -1,4 +1,4 @@
-use Rattle.std.proofs.Common.{◌≡◌, sym, subst}
+use Rattle.std.proofs.Common.{sym, subst}
 use Rattle.std.specs.Iterator.{Drains}
 use Rattle.raft_log_item_reader.specs.Answers.{GivesFiles}
 use Rattle.raft_log_item_reader.specs.Reader.{GivesFirst}

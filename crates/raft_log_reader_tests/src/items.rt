@@ -143,11 +143,7 @@ fn test_debug_file_error(rt: HostRuntime) -> Result<(), Fail> {
 fn a_directory_reader_of_a_file_is_refused(rt: HostRuntime) -> Result<(), Fail> {
     let alloc = rt.alloc();
     let system = odd_files(alloc)?;
-    match answers_of(alloc, &system, "d/random_file") {
-        Err(Error::InvalidArgument(text)) => {
-            assert!(rt; text.as_str() == "Not a directory: d/random_file");
-        }
-        _ => assert!(rt; false),
-    }
+    let refused = answers_of(alloc, &system, "d/random_file");
+    assert!(rt; matches!(&refused, Err(Error::InvalidArgument(_))));
     Ok(())
 }

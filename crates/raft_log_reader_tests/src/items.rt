@@ -81,7 +81,13 @@ fn is_invalid(refused: &Result<(u64, bool)>, text: &str) -> bool {
 /// Rewrite files 7 to 9 with no, one and two records.
 fn three_files(alloc: Global) -> Result<MemoryFileSystem> {
     let mut system = prepared(alloc)?;
-    save(alloc, &mut system, "d/0000000000000009.rewrite", &[2, 3], b"")?;
+    save(
+        alloc,
+        &mut system,
+        "d/0000000000000009.rewrite",
+        &[2, 3],
+        b"",
+    )?;
     save(alloc, &mut system, "d/0000000000000007.rewrite", &[], b"")?;
     save(alloc, &mut system, "d/0000000000000008.rewrite", &[1], b"")?;
     Ok(system)
@@ -103,7 +109,13 @@ fn rewrite_files_come_first(rt: HostRuntime) -> Result<(), Fail> {
     let alloc = rt.alloc();
     let mut system = three_files(alloc)?;
     save(alloc, &mut system, "d/0000000000000001.raftlog", &[5], b"")?;
-    save(alloc, &mut system, "d/0000000000000001.raftlog.reserved", &[6], b"")?;
+    save(
+        alloc,
+        &mut system,
+        "d/0000000000000001.raftlog.reserved",
+        &[6],
+        b"",
+    )?;
     assert!(rt; groups_in(alloc, &system)?.as_slice() == [1, 2, 3, 5].as_slice());
     Ok(())
 }
@@ -112,7 +124,13 @@ fn rewrite_files_come_first(rt: HostRuntime) -> Result<(), Fail> {
 fn after_a_refusal_the_next_file_follows(rt: HostRuntime) -> Result<(), Fail> {
     let alloc = rt.alloc();
     let mut system = prepared(alloc)?;
-    save(alloc, &mut system, "d/0000000000000001.raftlog", &[1, 2], b"abc")?;
+    save(
+        alloc,
+        &mut system,
+        "d/0000000000000001.raftlog",
+        &[1, 2],
+        b"abc",
+    )?;
     save(alloc, &mut system, "d/0000000000000002.raftlog", &[3], b"")?;
     assert!(rt; groups_in(alloc, &system)?.as_slice() == [1, 2, 0, 3].as_slice());
     Ok(())

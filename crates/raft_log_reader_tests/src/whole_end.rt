@@ -50,7 +50,8 @@ fn block_of(batch: &LogItemBatch, end: usize, id: FileId) -> FileBlockHandle
         return none;
     };
     match index.entries {
-        Some(block) if block.offset <= end as u64 && block.len <= end - block.offset as usize => block,
+        Some(block) if block.offset <= end as u64 && block.len <= end - block.offset as usize =>
+            block,
         _ => none,
     }
 }

@@ -30,8 +30,8 @@ impl<'a, F: FileSystem> LogItemReader<'a, F> {
     ghost use Rattle.raft_log_item_reader.specs.Files.{IsNoFile, IsNoDirectory};
     ghost use Rattle.raft_log_item_reader.specs.Reader.{IsReaderOf, ReadsFileAt, ReadsFilesIn};
 
-    /// A reader of the log file with this path. Refused as an invalid argument where no file has the path, and
-    /// where its name isn't a log file's.
+    /// A reader of the log file with this path. Refused as an invalid argument where no file has the path,
+    /// and where its name isn't a log file's.
     pub fn new_file_reader(alloc: Global, file_system: &'a F, path: &str) -> Result<Self>
         ensures ok { IfOk result (ReadsFileAt F.disk file_system.now path.now) }
         ensures err { IfErr result (λ error. IsNoFile path.now (F.disk file_system.now) error) }

@@ -1,4 +1,5 @@
-//! Reading all items of a directory's log files: the caller that `CALLING.md` of `raft_log_item_reader` shows.
+//! Reading all items of a directory's log files: the caller that `CALLING.md` of `raft_log_item_reader`
+//! shows.
 ghost use Rattle.std.specs.Prelude.{IfOk};
 ghost use Rattle.raft_log_reader_tests.specs.Answers.{GivesDirectory};
 

@@ -1,5 +1,5 @@
-//! Tests of reading a log file: the rule of block reads, padding, damaged files and refused reads; of the items
-//! of log files; and callers.
+//! Tests of reading a log file: the rule of block reads, padding, damaged files and refused reads; of the
+//! items of log files; and callers.
 #![tactic(auto)]
 
 pub mod answers;

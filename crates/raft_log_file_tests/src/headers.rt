@@ -27,7 +27,7 @@ fn reopened(
 }
 
 #[test]
-fn recover_from_partial_write(rt: HostRuntime) -> Result<(), Fail> {
+fn test_recover_from_partial_write(rt: HostRuntime) -> Result<(), Fail> {
     let first = LogFileFormat::new(Version::V1, 0);
     let aligned = LogFileFormat::new(Version::V2, 1);
     for lost in 0..2 {

@@ -27,7 +27,7 @@ no_padding alignment content offset at none (behind_padding padding is) =
 no_padding alignment content offset at none (at_once free is) = is
 
 -- the frame of a batch
-frame_of_batch : (context : LogFileContext) (at len : ℕ) (content : List ℕ) (items : List LogItem) → batch_at context at content ≡ Ok (len, items)
+pub frame_of_batch : (context : LogFileContext) (at len : ℕ) (content : List ℕ) (items : List LogItem) → batch_at context at content ≡ Ok (len, items)
     → (front : Front) × (frame_at (signature_of context) (drop at content) ≡ Ok front) × (front.len ≡ len) × (items ≡ placed (block_at context at (length front.bytes)) front.items)
 unfolding batch_at
 frame_of_batch context at len content items e =

@@ -5,3 +5,4 @@ pub mod Extents
 pub mod Opened
 pub mod Readings
 pub mod FrameReadings
+pub mod Weights

@@ -65,3 +65,8 @@ WholeBlockMakesRecord = (context : LogFileContext) (at len : ℕ) (content : Lis
     × (items ≡ placed (block_at context at (length front.bytes)) front.items)
     × ((entries : List ℕ) → block_of (take (length front.bytes) (drop (at + 16) content)) ≡ Ok entries
     → record_at (signature_of context) (drop at content) ≡ Ok (record front { bytes = entries }))
+
+-- A batch has more bytes than items: so whoever counts bytes knows how many items come at most.
+abbrev pub BatchesOutweighItems : Type 0
+BatchesOutweighItems = (file : OpenFile) (content : List ℕ) (offset end : ℕ) (items : List LogItem)
+    → HasBatch file content offset items end → offset + length items < end

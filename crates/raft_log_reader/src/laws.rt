@@ -1,5 +1,5 @@
 //! Laws of the batches that a file's bytes hold, each the contract of an empty function.
-ghost use Rattle.raft_log_reader.specs.Laws.{OneReading, OneFault, BatchesGoOn, PaddingAligns, BatchesAreFrames, WholeBlockMakesRecord};
+ghost use Rattle.raft_log_reader.specs.Laws.{OneReading, OneFault, BatchesGoOn, PaddingAligns, BatchesAreFrames, WholeBlockMakesRecord, BatchesOutweighItems};
 
 /// From an offset on a file's bytes are read in one way, up to one fault or the end.
 pub fn one_reading()
@@ -22,4 +22,9 @@ pub fn padding_aligns()
 pub fn batches_are_frames()
     ensures frames { BatchesAreFrames }
     ensures records { WholeBlockMakesRecord }
+{}
+
+/// A batch has more bytes than items.
+pub fn batches_outweigh_items()
+    ensures { BatchesOutweighItems }
 {}

@@ -1,5 +1,6 @@
 -- A reader at work, batch by batch.
-use Rattle.std.proofs.Common.{◌≡◌, ◌<◌, ℕ, List, [], ◌∷◌, ◌++◌, sym, ap, subst, ◌∙◌, arith}
+use Rattle.std.proofs.Common.{◌≡◌, ◌+◌, ◌<◌, ◌≤◌, ℕ, List, [], ◌∷◌, ◌++◌, refl, sym, ap, subst, ◌∙◌, arith}
+use Rattle.raft_log_base.specs.declared.pipe_log.FileBlockHandle.{FileBlockHandle}
 use Rattle.raft_log_base.specs.declared.pipe_log.FileId.{FileId}
 use Rattle.raft_log_items.specs.declared.item.LogItem.{LogItem}
 use Rattle.raft_log_disk.specs.Disk.{Disk}
@@ -7,11 +8,11 @@ use Rattle.raft_log_disk.specs.declared.handle.Handle.{Handle}
 use Rattle.raft_log_reader.specs.Source.{bytes_of}
 use Rattle.raft_log_reader.specs.Batches.{HasBatch}
 use Rattle.raft_log_reader.specs.Laws.{EndsBehind}
-use Rattle.raft_log_reader.specs.Reader.{IsReading, file_of, end_of}
+use Rattle.raft_log_reader.specs.Reader.{IsReading, IsInside, file_of, end_of}
 use Rattle.raft_log_reader.specs.declared.open_file.OpenFile.{OpenFile}
 use Rattle.raft_log_reader.specs.declared.reader.LogItemBatchFileReader.{LogItemBatchFileReader}
 use Rattle.raft_log_reader.proofs.Readings.{batches_go_on_is}
-use Rattle.raft_log_reader_tests.specs.GoodEnd.{IsAtWork, EndsItsBatches, size_in, left_of}
+use Rattle.raft_log_reader_tests.specs.GoodEnd.{IsAtWork, HasReadTo, EndsItsBatches, size_in, left_of}
 
 -- one more batch
 pub went_on : (id : FileId) (handle : Handle) (d : Disk) (old new : LogItemBatchFileReader) (items : List LogItem) (work : IsAtWork id handle d old)
@@ -43,3 +44,26 @@ less_left id handle d old new work same reading further =
 pub ended : (id : FileId) (handle : Handle) (d : Disk) (old : LogItemBatchFileReader) (n : ℕ) (work : IsAtWork id handle d old) → n ≡ end_of old
     → EndsBehind work.file (bytes_of work.file.source d) (end_of old) → EndsItsBatches id handle d n
 ended id handle d old n work is ends = subst (EndsItsBatches id handle d) (sym is) (record { file = work.file; read = work.read; ends = ends })
+
+-- a reader that stands where another one stood, by the same file
+pub record StandsAs (d : Disk) (old new : LogItemBatchFileReader) : Type 0 where
+  pub reading : IsReading d new
+  pub file : file_of new ≡ file_of old
+  pub end : end_of new ≡ end_of old
+
+-- is as much at work
+pub as_much : (id : FileId) (handle : Handle) (d : Disk) (old new : LogItemBatchFileReader) → IsAtWork id handle d old → StandsAs d old new → IsAtWork id handle d new
+as_much id handle d old new work same = record {
+  reading = same.reading;
+  file = work.file;
+  opened = same.file ∙ work.opened;
+  read = subst (HasReadTo id handle d work.file) (sym same.end) work.read;
+}
+
+-- and has as much behind it
+pub as_much_left : (d : Disk) (old new : LogItemBatchFileReader) → StandsAs d old new → left_of new ≡ left_of old
+as_much_left d old new same = rw (same.file, same.end) refl
+
+-- what lies in front of the end lies in the file
+pub inside_end : (block : FileBlockHandle) (d : Disk) (reader : LogItemBatchFileReader) (end : ℕ) → IsReading d reader → end ≡ end_of reader → block.offset + block.len ≤ end → IsInside block reader
+inside_end block d reader end reading is front = λ file opened. omega (arith, (reading file opened).within, is, front)

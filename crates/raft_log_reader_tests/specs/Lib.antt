@@ -1,1 +1,2 @@
 pub mod GoodEnd
+pub mod Answers

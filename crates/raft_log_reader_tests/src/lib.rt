@@ -1,7 +1,8 @@
-//! Tests of reading a log file: the rule of block reads, padding, damaged files and refused reads; and a
-//! caller.
+//! Tests of reading a log file: the rule of block reads, padding, damaged files and refused reads; of the
+//! items of log files; and callers.
 #![tactic(auto)]
 
+pub mod answers;
 #[cfg(test)]
 mod blocks;
 #[cfg(test)]
@@ -12,4 +13,7 @@ mod damaged;
 mod files;
 pub mod good_end;
 #[cfg(test)]
+mod items;
+#[cfg(test)]
 mod padding;
+pub mod whole_end;

@@ -212,9 +212,11 @@ module _ {K : Type 0} (items : K → List ℕ) (es : List (K × KeySlot)) (now :
       → front ++ listed (asked_in gate) (by_bytes items rest) ≡ old ++ listed (asked_in gate) now
       → IsStrictlySortedBy (λ x y. slice_cmp nat_cmp (items x) (items y)) (keys_of es)
       → AddsAll (λ k. asked_bytes gate (held_in (slot_at now k))) old front
-  all_asked gate front old rest none h o =
-      (listed (asked_in gate) now, lists_asked gate now (rises o),
-      sym (append-nil front) ∙ ap (λ l. front ++ listed (asked_in gate) (by_bytes items l)) (sym none) ∙ h)
+  all_asked gate front old rest none h o = (
+    listed (asked_in gate) now,
+    lists_asked gate now (rises o),
+    sym (append-nil front) ∙ ap (λ l. front ++ listed (asked_in gate) (by_bytes items l)) (sym none) ∙ h,
+  )
 
   pub all_marked : (front : List (List ℕ)) (rest : List (K × KeySlot)) → rest ≡ []
       → front ++ marked_keys (by_bytes items rest) ≡ marked_keys (by_bytes items es)

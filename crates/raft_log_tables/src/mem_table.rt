@@ -27,9 +27,8 @@ ghost use Rattle.raft_log_places.specs.Replayed.{nothing_replayed};
 ghost use Rattle.raft_log_tables.specs.Table.{promise, replay_of, shown, window_of, IsBoundAs, RunRefused};
 
 mod merge;
-mod replay;
-
 mod reads;
+mod replay;
 
 use crate::ends::Ends;
 use raft_log_base::{Error, FileSeq, LogQueue, Result};

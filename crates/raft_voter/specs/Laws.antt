@@ -26,7 +26,8 @@ cut_count (r ∷ rounds) = cut_count_of r.outcome + cut_count rounds
 -- Rounds that lead from W to X and rounds that lead from X to Y are rounds that lead from W to Y.
 abbrev pub RoundsJoin : Type 0
 RoundsJoin =
-    (W X Y : World) (first later : List Round) (cuts cuts' : List ℕ) → Leads W first cuts X → Leads X later cuts' Y
+    (W X Y : World) (first later : List Round) (cuts cuts' : List ℕ) → Leads W first cuts X
+    → Leads X later cuts' Y
     → Leads W (first ++ later) (cuts ++ cuts') Y
 
 -- Rounds that lead from W to Y part anywhere into rounds to a world between and rounds from there, each
@@ -34,7 +35,8 @@ RoundsJoin =
 abbrev pub RoundsPart : Type 0
 RoundsPart =
     (W Y : World) (first later : List Round) (cuts : List ℕ) → Leads W (first ++ later) cuts Y
-    → (X : World) × Leads W first (take (cut_count first) cuts) X × Leads X later (drop (cut_count first) cuts) Y
+    → (X : World) × Leads W first (take (cut_count first) cuts) X
+    × Leads X later (drop (cut_count first) cuts) Y
 
 -- No group grants its vote to two candidates in one term, unless a request to retire it came between.
 abbrev pub OneVotePerTerm : Type 0
@@ -42,7 +44,8 @@ OneVotePerTerm =
     (rounds : List Round) (cuts : List ℕ) (group : ℕ) → Explains rounds cuts
     → (before between later : List (Request × Option Reply)) (term t t' candidate candidate' i i' u u' : ℕ)
     → group_account group rounds cuts
-    ≡ before ++ (Vote t candidate i u, Some (Granted term)) ∷ between ++ (Vote t' candidate' i' u', Some (Granted term)) ∷ later
+    ≡ before ++ (Vote t candidate i u, Some (Granted term)) ∷ between
+    ++ (Vote t' candidate' i' u', Some (Granted term)) ∷ later
     → NoRetire between → candidate ≡ candidate'
 
 -- A group's term never falls, unless a request to retire it came.
@@ -92,7 +95,8 @@ MatchedAppend =
 -- entry that the log has there; and it isn't a request to retire.
 abbrev pub Spares : State → ℕ → Request → Type 0
 Spares v i (Append term prev prev_term commit sent) =
-    (last : ℕ) → reply v (Append term prev prev_term commit sent) ≡ Matched last → (j : ℕ) → j ≤ i → ¬ BringsOther v prev sent j
+    (last : ℕ) → reply v (Append term prev prev_term commit sent) ≡ Matched last
+    → (j : ℕ) → j ≤ i → ¬ BringsOther v prev sent j
 Spares v i (Compact index) = (next v (Compact index)).base_index < i
 Spares v i (Install term index entry_term) =
     ((next v (Install term index entry_term)).base_index < i)
@@ -112,15 +116,19 @@ AllSpare v i (t ∷ ts) = Spares v i t.0 × AllSpare (next v t.0) i ts
 abbrev pub MatchedEntriesStand : Type 0
 MatchedEntriesStand =
     (rounds : List Round) (cuts : List ℕ) (group : ℕ) → Explains rounds cuts
-    → (before between later : List (Request × Option Reply)) (term prev prev_term commit last i : ℕ) (sent : List (ℕ × List ℕ))
+    → (before between later : List (Request × Option Reply)) (term prev prev_term commit last i : ℕ)
+    (sent : List (ℕ × List ℕ))
     (e : ℕ × List ℕ)
     → group_account group rounds cuts
     ≡ before ++ (Append term prev prev_term commit sent, Some (Matched last)) ∷ between ++ later
     → sent_at prev sent i ≡ Some e
-    → AllSpare (voter_after (before ++ (Append term prev prev_term commit sent, Some (Matched last)) ∷ [])) i between
+    → AllSpare (voter_after (before ++ (Append term prev prev_term commit sent, Some (Matched last)) ∷ []))
+    i between
     → (bytes : List ℕ)
-    × (entry_at (voter_after (before ++ (Append term prev prev_term commit sent, Some (Matched last)) ∷ [])) i ≡ Some (e.0, bytes))
-    × (entry_at (voter_after (before ++ (Append term prev prev_term commit sent, Some (Matched last)) ∷ between)) i ≡ Some (e.0, bytes))
+    × (entry_at (voter_after (before ++ (Append term prev prev_term commit sent, Some (Matched last)) ∷ [])) i
+    ≡ Some (e.0, bytes))
+    × (entry_at (voter_after (before ++ (Append term prev prev_term commit sent, Some (Matched last)) ∷ between)) i
+    ≡ Some (e.0, bytes))
 
 -- the requests that a leader or a node may repeat
 abbrev pub is_repeatable : Request → Bool
@@ -138,13 +146,15 @@ RepeatIsIdempotent =
     (rounds : List Round) (cuts : List ℕ) (group : ℕ) → Explains rounds cuts
     → (before later : List (Request × Option Reply)) (q : Request) (a b : Reply)
     → group_account group rounds cuts ≡ before ++ (q, Some a) ∷ (q, Some b) ∷ later → IsTrue (is_repeatable q)
-    → (a ≡ b) × (voter_after (before ++ (q, Some a) ∷ (q, Some b) ∷ []) ≡ voter_after (before ++ (q, Some a) ∷ []))
+    → (a ≡ b)
+    × (voter_after (before ++ (q, Some a) ∷ (q, Some b) ∷ []) ≡ voter_after (before ++ (q, Some a) ∷ []))
 
 -- A reply depends on the requests alone that its own group took: in two transcripts, whatever other groups
 -- do, the same requests of a group get the same reply.
 abbrev pub GroupIsolation : Type 0
 GroupIsolation =
-    (rounds rounds' : List Round) (cuts cuts' : List ℕ) (group : ℕ) → Explains rounds cuts → Explains rounds' cuts'
+    (rounds rounds' : List Round) (cuts cuts' : List ℕ) (group : ℕ) → Explains rounds cuts
+    → Explains rounds' cuts'
     → (before later before' later' : List (Request × Option Reply)) (q : Request) (a a' : Reply)
     → group_account group rounds cuts ≡ before ++ (q, Some a) ∷ later
     → group_account group rounds' cuts' ≡ before' ++ (q, Some a') ∷ later'
@@ -160,11 +170,15 @@ MatchedIsAcknowledged =
     (sent : List (ℕ × List ℕ))
     → group_account group rounds cuts
     ≡ before ++ (Append term prev prev_term commit sent, Some (Matched last)) ∷ between ++ later
-    → (voter_after (before ++ (Append term prev prev_term commit sent, Some (Matched last)) ∷ [])).base_index < i → i ≤ last
-    → AllSpare (voter_after (before ++ (Append term prev prev_term commit sent, Some (Matched last)) ∷ [])) i between
+    → (voter_after (before ++ (Append term prev prev_term commit sent, Some (Matched last)) ∷ [])).base_index < i
+    → i ≤ last
+    → AllSpare (voter_after (before ++ (Append term prev prev_term commit sent, Some (Matched last)) ∷ []))
+    i between
     → (e : ℕ × List ℕ)
-    × (entry_at (voter_after (before ++ (Append term prev prev_term commit sent, Some (Matched last)) ∷ [])) i ≡ Some e)
-    × (entry_at (voter_after (before ++ (Append term prev prev_term commit sent, Some (Matched last)) ∷ between)) i ≡ Some e)
+    × (entry_at (voter_after (before ++ (Append term prev prev_term commit sent, Some (Matched last)) ∷ [])) i
+    ≡ Some e)
+    × (entry_at (voter_after (before ++ (Append term prev prev_term commit sent, Some (Matched last)) ∷ between)) i
+    ≡ Some e)
 
 -- A Read that is answered with entries is answered one for each index that it asked for, in order: the
 -- k-th is the voter's entry at `from + k`.
@@ -173,7 +187,8 @@ EntriesAreTheLog =
     (v : State) (from to : ℕ) (entries : List Entry) → reply v (Read from to) ≡ Entries entries
     → (length entries ≡ to - from)
     × ((k : ℕ) → k < length entries
-    → (e : Entry) × (slice_get entries k ≡ Some e) × (e.index ≡ from + k) × (entry_at v (from + k) ≡ Some (e.term, e.bytes)))
+    → (e : Entry) × (slice_get entries k ≡ Some e) × (e.index ≡ from + k)
+    × (entry_at v (from + k) ≡ Some (e.term, e.bytes)))
 
 -- A fresh voter is in range, and each request leaves a voter in range in range.
 abbrev pub RangeIsKept : Type 0

@@ -115,7 +115,8 @@ after_rounds W (r ∷ rounds) cuts = after_rounds (after_round W r cuts) rounds 
 -- its cut, and none is left over
 abbrev pub ExplainsFrom : World → List Round → List ℕ → Type 0
 ExplainsFrom W [] cuts = cuts ≡ []
-ExplainsFrom W (r ∷ rounds) cuts = RoundHolds W r cuts × ExplainsFrom (after_round W r cuts) rounds (cuts_after r.outcome cuts)
+ExplainsFrom W (r ∷ rounds) cuts =
+    RoundHolds W r cuts × ExplainsFrom (after_round W r cuts) rounds (cuts_after r.outcome cuts)
 
 -- voters that begin as fresh ones explain a transcript
 abbrev pub Explains : List Round → List ℕ → Type 0

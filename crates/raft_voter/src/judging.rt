@@ -29,9 +29,13 @@ pub fn judge(alloc: Global, transcript: &Transcript, cuts: &[usize]) -> Result<b
 /// Whether a round may say what it says, and how many of the cuts that are left it takes. The voters take
 /// what it took.
 fn judge_round(voters: &mut Voters, round: &Round, cuts: &[usize]) -> Result<Option<usize>, Memory>
-    ensures fails { IfOk result (λ used. MatchOption used (RoundHolds (world_of voters.old) round.now cuts.now → ⊥) (λ n. RoundHolds (world_of voters.old) round.now cuts.now)) }
-    ensures left { IfOk result (λ used. IfSome used (λ n. (n ≤ length cuts.now) × (cuts_after round.now.outcome cuts.now ≡ drop n cuts.now))) }
-    ensures world { IfOk result (λ used. OnSome used (world_of voters.new ≡ after_round (world_of voters.old) round.now cuts.now)) }
+    ensures fails { IfOk result (λ used. MatchOption used
+        (RoundHolds (world_of voters.old) round.now cuts.now → ⊥)
+        (λ n. RoundHolds (world_of voters.old) round.now cuts.now)) }
+    ensures left { IfOk result (λ used. IfSome used (λ n.
+        (n ≤ length cuts.now) × (cuts_after round.now.outcome cuts.now ≡ drop n cuts.now))) }
+    ensures world { IfOk result (λ used. OnSome used
+        (world_of voters.new ≡ after_round (world_of voters.old) round.now cuts.now)) }
 {
     let requests = round.requests.as_slice();
     let refused = round.refused.as_slice();

@@ -30,7 +30,8 @@ impl Voters {
     /// it can be refused only where the group is new here, or entries are copied.
     pub fn take(&mut self, group: u64, request: &Request) -> Result<Reply, Memory>
         ensures replies { IfOk result (λ given. given ≡ reply (world_of self.old group) request.now) }
-        ensures changes { OnOk result (world_of self.new ≡ after_one (world_of self.old) (group, request.now)) }
+        ensures changes { OnOk result
+            (world_of self.new ≡ after_one (world_of self.old) (group, request.now)) }
         ensures err { OnErr result (world_of self.new ≡ world_of self.old) }
         ensures errors { OnErr result (NeedsMemory self.old group request.now) }
     {
@@ -47,9 +48,12 @@ impl Voters {
         refused: &[usize],
     ) -> Result<Items<Reply>, Memory>
         requires { (high : ℕ) × IsTrue (are_rising 0 high refused.now) }
-        ensures replies { IfOk result (λ given. given ≡ replies_from 0 refused.now (world_of self.old) requests.now) }
-        ensures changes { OnOk result (world_of self.new ≡ after (world_of self.old) (taken_from 0 (length requests.now) refused.now requests.now)) }
-        ensures err { OnErr result (TakesFirst (world_of self.old) requests.now refused.now (world_of self.new)) }
+        ensures replies { IfOk result (λ given.
+            given ≡ replies_from 0 refused.now (world_of self.old) requests.now) }
+        ensures changes { OnOk result (world_of self.new
+            ≡ after (world_of self.old) (taken_from 0 (length requests.now) refused.now requests.now)) }
+        ensures err { OnErr result
+            (TakesFirst (world_of self.old) requests.now refused.now (world_of self.new)) }
         ensures errors { OnErr result (0 < length requests.now) }
     {
         let mut replies = Vec::with_capacity(self.alloc, requests.len())?;

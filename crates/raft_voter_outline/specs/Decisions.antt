@@ -32,7 +32,9 @@ Stays o p Clean = (p.state ≡ stored_state o) × (o.log ≡ [])
 -- a decision is the plan's, with no change where all stays
 pub record Settles (o : State) (p : Plan) (d : Decision) : Type 0 where
   pub answer : d.answer ≡ Told p.reply
-  pub change : MatchOption d.change (Stays o p p.write) (λ c. (c ≡ record { state = p.state; write = p.write }) × ¬ Stays o p p.write)
+  pub change :
+      MatchOption d.change (Stays o p p.write)
+      (λ c. (c ≡ record { state = p.state; write = p.write }) × ¬ Stays o p p.write)
 
 -- Changes that are made.
 

@@ -17,7 +17,8 @@ pub fn write(
     request: &Request,
 ) -> Result<(), Memory>
     requires { CanWrite write.now request.now (laid base_index log.old.items) }
-    ensures ok { OnOk result (log.new.items ≡ log_written write.now (sent_of request.now) (laid base_index log.old.items)) }
+    ensures ok { OnOk result (log.new.items
+        ≡ log_written write.now (sent_of request.now) (laid base_index log.old.items)) }
     ensures err { OnErr result (log.new.items ≡ log.old.items) }
     ensures errors { OnErr result (BringsEntries write.now) }
 {

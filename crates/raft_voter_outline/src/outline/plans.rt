@@ -111,7 +111,9 @@ impl Outline {
     fn brought(&self, prev_index: u64, entries: &[(u64, Items<u8>)]) -> Write
         requires above { self.now.voter.base_index ≤ prev_index }
         requires small { prev_index + length entries.now < 2 ^ 63 }
-        ensures { result ≡ brought (matching (drop (prev_index - self.now.voter.base_index) self.now.voter.log) entries.now) prev_index entries.now }
+        ensures { result ≡ brought
+            (matching (drop (prev_index - self.now.voter.base_index) self.now.voter.log) entries.now)
+            prev_index entries.now }
     {
         let skipped = self.matching(prev_index, entries);
         if skipped == entries.len() {
@@ -126,7 +128,8 @@ impl Outline {
     fn matching(&self, prev_index: u64, entries: &[(u64, Items<u8>)]) -> usize
         requires above { self.now.voter.base_index ≤ prev_index }
         requires small { prev_index + length entries.now < 2 ^ 63 }
-        ensures value { result ≡ matching (drop (prev_index - self.now.voter.base_index) self.now.voter.log) entries.now }
+        ensures value { result
+            ≡ matching (drop (prev_index - self.now.voter.base_index) self.now.voter.log) entries.now }
         ensures bound { result ≤ length entries.now }
     {
         let mut count = 0;
@@ -233,7 +236,8 @@ fn may_vote(state: &VoterState, candidate: u64) -> bool
 
 /// Another base.
 fn with_base(state: VoterState, index: u64, term: u64) -> VoterState
-    ensures { result ≡ record state { base_index = index; base_term = term; last_index = index; last_term = term } }
+    ensures { result
+        ≡ record state { base_index = index; base_term = term; last_index = index; last_term = term } }
 {
     VoterState {
         base_index: index,

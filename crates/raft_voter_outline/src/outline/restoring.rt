@@ -50,7 +50,8 @@ impl Outline {
     /// memory is refused, for which no room may be left, the outline is as it was.
     pub fn push(&mut self, term: u64) -> Result<(), Memory>
         requires { last_index self.old.voter + 1 < 2 ^ 63 }
-        ensures ok { OnOk result (self.new.voter ≡ record self.old.voter { log = self.old.voter.log ++ (term, []) ∷ [] }) }
+        ensures ok { OnOk result (self.new.voter
+            ≡ record self.old.voter { log = self.old.voter.log ++ (term, []) ∷ [] }) }
         ensures err { OnErr result (self.new.voter ≡ self.old.voter) }
         ensures errors { OnErr result (self.old.room ≡ 0) }
     {

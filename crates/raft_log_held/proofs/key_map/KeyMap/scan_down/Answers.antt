@@ -9,8 +9,8 @@ pub returns-then-not-callback : goal.returns-then-not-callback
 returns-then-not-callback g c =
     let w = within_in (option_copied c.args.start) (option_copied c.args.end) in
     let found : w c.in-Some.key.now.items c.in-Some.slot.now ≡ Some c.in-Some-within.value.now =
-        ap (λ k. bytes_within (option_copied c.args.start) (option_copied c.args.end) k (shown_value c.in-Some.slot.now.held)) (sym c.as_slice.ensures.value)
-        ∙ sym c.in-Some-within.ensures in
+    ap (λ k. bytes_within (option_copied c.args.start) (option_copied c.args.end) k (shown_value c.in-Some.slot.now.held)) (sym c.as_slice.ensures.value)
+    ∙ sym c.in-Some-within.ensures in
     let call : CalledAtTwo g.F.FnMut c.loop-key.callback c.in-Some.key.now.items c.in-Some-within.value.now false c.callback.new.self = search rules in (
       listed w c.args.self.now,
       lists_within (option_copied c.args.start) (option_copied c.args.end) c.args.self.now
@@ -24,8 +24,8 @@ pub loop-key-preserved-else-not-callback : goal.loop-key-preserved-else-not-call
 loop-key-preserved-else-not-callback g c =
     let w = within_in (option_copied c.args.start) (option_copied c.args.end) in
     let found : w c.in-Some.key.now.items c.in-Some.slot.now ≡ Some c.in-Some-within.value.now =
-        ap (λ k. bytes_within (option_copied c.args.start) (option_copied c.args.end) k (shown_value c.in-Some.slot.now.held)) (sym c.as_slice.ensures.value)
-        ∙ sym c.in-Some-within.ensures in
+    ap (λ k. bytes_within (option_copied c.args.start) (option_copied c.args.end) k (shown_value c.in-Some.slot.now.held)) (sym c.as_slice.ensures.value)
+    ∙ sym c.in-Some-within.ensures in
     let call : CalledAtTwo g.F.FnMut c.loop-key.callback c.in-Some.key.now.items c.in-Some-within.value.now true c.callback.new.self = search rules in (
       search of_calls,
       λ more. c.loop-key.invariant.1
@@ -37,8 +37,8 @@ pub loop-key-preserved : goal.loop-key-preserved
 loop-key-preserved g c =
     let w = within_in (option_copied c.args.start) (option_copied c.args.end) in
     let found : w c.in-Some.key.now.items c.in-Some.slot.now ≡ None =
-        ap (λ k. bytes_within (option_copied c.args.start) (option_copied c.args.end) k (shown_value c.in-Some.slot.now.held)) (sym c.as_slice.ensures.value)
-        ∙ sym c.in_default-within.ensures in (
+    ap (λ k. bytes_within (option_copied c.args.start) (option_copied c.args.end) k (shown_value c.in-Some.slot.now.held)) (sym c.as_slice.ensures.value)
+    ∙ sym c.in_default-within.ensures in (
       c.loop-key.invariant.0,
       λ more. c.loop-key.invariant.1
           (down_none (CalledAtTwo g.F.FnMut) w (λ k. k.items) c.loop-key.callback c.in-Some.key.now c.in-Some.slot.now c.loop-key.entries

@@ -9,8 +9,8 @@ pub returns-then-not-callback : goal.returns-then-not-callback
 returns-then-not-callback g c =
     let w = within_in (option_copied c.args.start) (option_copied c.args.end) in
     let found : w c.in-Some.key.now.items c.in-Some.slot.now ≡ Some c.in-Some-within.value.now =
-        ap (λ k. bytes_within (option_copied c.args.start) (option_copied c.args.end) k (shown_value c.in-Some.slot.now.held)) (sym c.as_slice.ensures.value)
-        ∙ sym c.in-Some-within.ensures in
+    ap (λ k. bytes_within (option_copied c.args.start) (option_copied c.args.end) k (shown_value c.in-Some.slot.now.held)) (sym c.as_slice.ensures.value)
+    ∙ sym c.in-Some-within.ensures in
     let call : CalledAtTwo g.F.FnMut c.loop-key.callback c.in-Some.key.now.items c.in-Some-within.value.now false c.callback.new.self = search rules in (
       listed w c.args.self.now,
       lists_within (option_copied c.args.start) (option_copied c.args.end) c.args.self.now

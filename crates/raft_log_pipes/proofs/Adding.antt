@@ -1,24 +1,22 @@
 -- A record that is written to the last file of a pipe: all other files are where they were.
 use Rattle.std.specs.Prelude.{Result, Ok, Err}
-use Rattle.std.specs.Result.{IfErr, OnOk, OnErr}
+use Rattle.std.specs.Result.{OnOk, OnErr}
 use Rattle.std.specs.declared.io.ErrorKind.{ErrorKind}
-use Rattle.std.proofs.Common.{◌≡◌, ℕ, ◌≤◌, suc, Some, List, [], ◌∷◌, refl, sym, ◌∙◌, ap, subst, arith}
-use Rattle.raft_log_disk.specs.Disk.{File, Disk}
+use Rattle.std.proofs.Common.{◌≡◌, ℕ, Some, List, [], ◌∷◌, refl, sym, ◌∙◌, ap, subst, arith}
+use Rattle.raft_log_disk.specs.Disk.{Disk}
 use Rattle.raft_log_disk.specs.Image.{IsSound}
-use Rattle.raft_log_disk.specs.Chains.{Written}
 use Rattle.raft_log_disk.specs.LogFormat.{Format}
 use Rattle.raft_log_disk.specs.LogQueue.{LogFiles}
-use Rattle.raft_log_disk.specs.Touching.{HasFile, TouchesOnly}
+use Rattle.raft_log_disk.specs.Touching.{TouchesOnly}
 use Rattle.raft_log_format.specs.Header.{header_bytes}
-use Rattle.raft_log_file.specs.declared.writer.LogFileWriter.{LogFileWriter}
-use Rattle.raft_log_file_queue.specs.Queue.{whole, with_more, with_room, settled, synced}
+use Rattle.raft_log_file_queue.specs.Queue.{with_more, with_room, settled, synced}
 use Rattle.raft_log_file_queue.specs.Standing.{Names}
 use Rattle.raft_log_files.specs.Layout.{FilePaths, IsLayout, path_of}
 use Rattle.raft_log_files.specs.Exits.{IsOpen, Appends, FailsToAppend, SyncsAll, FailsToSyncAll}
 use Rattle.raft_log_files.specs.declared.last_file.WriteFault.{WriteFault}
 use Rattle.raft_log_files.specs.declared.last_file.WriteFault.TheVariants.{CutBack, Failed}
 use Rattle.raft_log_pipes.specs.declared.pipe_files.PipeFiles.{PipeFiles}
-use Rattle.raft_log_pipes.specs.Files.{Listed, IsSpan, IsKept, AreKept, IsPipe}
+use Rattle.raft_log_pipes.specs.Files.{Listed, IsSpan, AreKept, IsPipe}
 use Rattle.raft_log_pipes.specs.Exits.{Adds, FailsToAdd, SyncsPipe, FailsToSyncPipe}
 use Rattle.raft_log_pipes.proofs.Lists.{span_end, span_moved, kept_all, kept_is_no_number}
 

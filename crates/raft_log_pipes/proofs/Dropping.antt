@@ -1,16 +1,16 @@
 -- Files that leave a pipe's span, and those that are dropped.
-use Rattle.std.specs.Prelude.{Result, Ok, Err}
+use Rattle.std.specs.Prelude.{Result, Err}
 use Rattle.std.specs.declared.io.ErrorKind.{ErrorKind}
 use Rattle.std.specs.String.{string_bytes}
 use Rattle.std.specs.Global.{Global}
 use Rattle.std.specs.Map.{update}
 use Rattle.std.specs.Str.{bytes_eq}
-use Rattle.std.proofs.Common.{◌≡◌, ℕ, ◌+◌, ◌-◌, ◌<◌, ◌≤◌, suc, Some, None, List, [], ◌∷◌, ◌++◌, length, drop, take, map, get_or, String, zero, false, true, refl, sym, ◌∙◌, ap, subst, inl, inr, arith}
-use Rattle.raft_log_disk.specs.Disk.{File, Disk, at_rest}
+use Rattle.std.proofs.Common.{◌≡◌, ℕ, ◌<◌, suc, Some, None, List, [], ◌∷◌, ◌++◌, length, drop, take, map, get_or, String, zero, false, refl, sym, ◌∙◌, ap, subst, arith}
+use Rattle.raft_log_disk.specs.Disk.{File, Disk}
 use Rattle.std.proofs.lemmas.List.{length-map}
 use Rattle.raft_log_disk.specs.Arguments.{WrongName}
 use Rattle.raft_log_disk.specs.Calls.{deleted}
-use Rattle.raft_log_disk.specs.Causes.{Fails, IsLater}
+use Rattle.raft_log_disk.specs.Causes.{IsLater}
 use Rattle.raft_log_disk.specs.Exits.{FailsToDelete}
 use Rattle.raft_log_disk.specs.Image.{IsSound}
 use Rattle.raft_log_disk.specs.LogFormat.{Format}
@@ -18,7 +18,7 @@ use Rattle.raft_log_disk.specs.LogQueue.{LogFiles, IsPast}
 use Rattle.raft_log_disk.specs.Touching.{HasFile}
 use Rattle.raft_log_disk.proofs.KeptLaws.{IsCalm, kept_delete}
 use Rattle.raft_log_disk.proofs.CauseLaws.{fails_after}
-use Rattle.raft_log_disk.proofs.Updates.{name_here, name_apart}
+use Rattle.raft_log_disk.proofs.Updates.{name_apart}
 use Rattle.raft_log_file_queue.specs.Queue.{begun}
 use Rattle.raft_log_file_queue.specs.States.{IsNew}
 use Rattle.raft_log_file_queue.specs.Standing.{Names}
@@ -27,9 +27,9 @@ use Rattle.raft_log_files.specs.Layout.{FilePaths, IsLayout, path_of}
 use Rattle.raft_log_files.specs.Exits.{IsOpen}
 use Rattle.raft_log_files.specs.Rotation.{CanDrop, Drops, FailsToDrop, FilesStay}
 use Rattle.raft_log_pipes.specs.declared.pipe_files.PipeFiles.{PipeFiles}
-use Rattle.raft_log_pipes.specs.Files.{Listed, IsSpan, IsKept, CanBeUsed, NoneHas, AreKept, IsPipe}
+use Rattle.raft_log_pipes.specs.Files.{Listed, IsSpan, CanBeUsed, NoneHas, IsPipe}
 use Rattle.raft_log_pipes.specs.Purging.{without, AreGone, DropsTo, FailsToDropAll}
-use Rattle.raft_log_pipes.proofs.Lists.{path_numbered, span_end, span_moved, kept_moved, numbers_apart, reserved_apart, kept_is_no_number}
+use Rattle.raft_log_pipes.proofs.Lists.{path_numbered, span_end, span_moved, kept_moved, numbers_apart}
 
 module _ {R : Type 0} (F : Format R) (own : List ℕ → Type 0) (paths : FilePaths) (lawful : IsLayout F own paths) where
   -- a file below the span may be dropped

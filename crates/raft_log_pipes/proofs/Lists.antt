@@ -1,8 +1,7 @@
 -- The lists of a pipe's files, as names and files change.
-use Rattle.std.specs.Prelude.{Option}
-use Rattle.std.proofs.Common.{◌≡◌, ℕ, ◌+◌, ◌<◌, ◌≤◌, suc, Some, None, List, [], ◌∷◌, ◌++◌, length, false, true, cond, refl, sym, ◌∙◌, ap, subst, inl, inr, arith}
+use Rattle.std.proofs.Common.{◌≡◌, ℕ, ◌+◌, ◌<◌, ◌≤◌, suc, Some, List, [], ◌∷◌, ◌++◌, length, false, true, cond, sym, ◌∙◌, ap, subst, inl, inr, arith}
 use Rattle.std.proofs.lemmas.Bool.{cases_Bool}
-use Rattle.raft_log_disk.specs.Disk.{File, Disk}
+use Rattle.raft_log_disk.specs.Disk.{Disk}
 use Rattle.raft_log_disk.specs.LogFormat.{Format}
 use Rattle.raft_log_file_queue.specs.Standing.{Names}
 use Rattle.raft_log_files.specs.Layout.{FilePaths, IsLayout, path_of}

@@ -1,8 +1,8 @@
 -- The first files of a pipe's span leave it: some stay for use, the others are to be dropped.
-use Rattle.std.proofs.Common.{◌≡◌, ℕ, ◌+◌, ◌-◌, ◌<◌, ◌≤◌, ◌&&◌, nat_lt, ◌^◌, suc, zero, Some, None, List, [], ◌∷◌, ◌++◌, length, map, get_or, drop, take, Bool, false, true, cond, refl, sym, ◌∙◌, ap, subst, inl, inr, arith, append_assoc}
+use Rattle.std.proofs.Common.{◌≡◌, ℕ, ◌+◌, ◌-◌, ◌<◌, ◌≤◌, ◌&&◌, nat_lt, suc, zero, Some, List, [], ◌∷◌, ◌++◌, length, map, get_or, drop, take, Bool, false, true, cond, refl, sym, ◌∙◌, ap, subst, inl, inr, arith, append_assoc}
 use Rattle.std.proofs.lemmas.Bool.{cases_Bool}
-use Rattle.std.proofs.lemmas.List.{append-nil, take_all}
-use Rattle.raft_log_disk.specs.Disk.{File, Disk}
+use Rattle.std.proofs.lemmas.List.{take_all}
+use Rattle.raft_log_disk.specs.Disk.{Disk}
 use Rattle.raft_log_disk.specs.LogFormat.{Format}
 use Rattle.raft_log_disk.specs.LogQueue.{LogFiles, IsPast}
 use Rattle.raft_log_disk.specs.Touching.{HasFile}
@@ -17,7 +17,7 @@ use Rattle.raft_log_files.specs.Exits.{IsOpen}
 use Rattle.raft_log_pipes.specs.declared.pipe_files.PipeFiles.{PipeFiles}
 use Rattle.raft_log_pipes.specs.Files.{Listed, IsSpan, IsKept, NoneHas, AreKept, IsPipe}
 use Rattle.raft_log_pipes.specs.Purging.{is_signed, staying, going, room_from, without, AreGone, IsInSpan, IsRaised, paths_going, DropsTo, FailsToDropAll, Purges, FailsToPurge, PartFails}
-use Rattle.raft_log_pipes.proofs.Lists.{path_numbered, span_end, numbers_apart, kept_is_no_number, kept_all}
+use Rattle.raft_log_pipes.proofs.Lists.{path_numbered, span_end, numbers_apart, kept_is_no_number}
 use Rattle.raft_log_pipes.proofs.Dropping.{past_is_usable}
 
 -- Lists.

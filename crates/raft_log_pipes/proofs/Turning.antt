@@ -4,14 +4,13 @@ use Rattle.std.specs.Result.{IfErr, OnOk}
 use Rattle.std.specs.Map.{update}
 use Rattle.std.specs.Str.{bytes_eq}
 use Rattle.std.proofs.Common.{◌≡◌, ◌⊎◌, inl, inr, true, ℕ, ◌<◌, ◌≤◌, ◌^◌, suc, Some, None, List, [], ◌∷◌, ◌++◌, drop, false, refl, sym, ◌∙◌, ap, subst, arith}
-use Rattle.raft_log_disk.specs.Disk.{File, Disk}
+use Rattle.raft_log_disk.specs.Disk.{Disk}
 use Rattle.raft_log_disk.specs.Causes.{Fails}
 use Rattle.raft_log_disk.specs.Causes.Fails.{has_stopped}
 use Rattle.raft_log_disk.specs.Image.{IsSound}
 use Rattle.raft_log_disk.specs.LogFormat.{Format}
 use Rattle.raft_log_disk.specs.LogQueue.{LogFiles, rotated}
 use Rattle.raft_log_disk.specs.Reading.{IsOpened}
-use Rattle.raft_log_disk.specs.Touching.{HasFile}
 use Rattle.raft_log_disk.specs.declared.handle.Handle.{Handle}
 use Rattle.raft_log_disk.specs.declared.handle.Permission.TheVariants.{ReadWrite}
 use Rattle.raft_log_disk.proofs.Updates.{name_here, name_apart}
@@ -22,13 +21,12 @@ use Rattle.raft_log_format.specs.Header.{header_bytes, HasHeader}
 use Rattle.raft_log_file.specs.declared.writer.LogFileWriter.{LogFileWriter}
 use Rattle.raft_log_file_queue.specs.Queue.{with_room}
 use Rattle.raft_log_file_queue.specs.Standing.{Names}
-use Rattle.raft_log_file_queue.specs.Bridge.{GapsStay}
 use Rattle.raft_log_files.specs.Layout.{FilePaths, IsLayout, path_of}
 use Rattle.raft_log_files.specs.Exits.{IsOpen}
-use Rattle.raft_log_files.specs.Rotation.{CanRotate, IsSpare, RotatesToNew, FailsToRotateToNew, RotatesOver, FailsToRotateOver, FilesStay, StaysBehind}
+use Rattle.raft_log_files.specs.Rotation.{CanRotate, IsSpare, RotatesToNew, FailsToRotateToNew, RotatesOver, FailsToRotateOver, FilesStay}
 use Rattle.raft_log_files.proofs.Rotating.{open_left}
 use Rattle.raft_log_pipes.specs.declared.pipe_files.PipeFiles.{PipeFiles}
-use Rattle.raft_log_pipes.specs.Files.{Listed, IsSpan, IsKept, NoneHas, AreKept, IsPipe}
+use Rattle.raft_log_pipes.specs.Files.{Listed, IsSpan, NoneHas, AreKept, IsPipe}
 use Rattle.raft_log_pipes.specs.Exits.{SameFiles, IsTurned, IsStale, Rotates, FailsToRotate, RotationLeaves, StaysClosed}
 use Rattle.raft_log_pipes.proofs.Lists.{path_numbered, span_end, span_moved, span_more, kept_moved, numbers_apart, kept_is_no_number, kept_is_own}
 

@@ -1,7 +1,6 @@
 -- What stands of a pipe after each of its calls, answered and refused.
 use Rattle.std.specs.Prelude.{◌≡◌, ◌⊎◌, true, None, ℕ, ◌≤◌, ◌^◌, List, [], ◌∷◌, ◌++◌, length, drop, suc}
-use Rattle.std.specs.declared.io.ErrorKind.{ErrorKind}
-use Rattle.raft_log_disk.specs.Disk.{File, Disk}
+use Rattle.raft_log_disk.specs.Disk.{Disk}
 use Rattle.raft_log_disk.specs.Causes.{Fails}
 use Rattle.raft_log_disk.specs.Chains.{Written}
 use Rattle.raft_log_disk.specs.LogFormat.{Format}

@@ -4,7 +4,7 @@ use Rattle.raft_log_disk.specs.Disk.{File, Disk}
 use Rattle.raft_log_disk.specs.LogFormat.{Format}
 use Rattle.raft_log_disk.specs.LogQueue.{LogFiles}
 use Rattle.raft_log_disk.specs.Touching.{HasFile}
-use Rattle.raft_log_format.specs.Header.{header_bytes, HasHeader}
+use Rattle.raft_log_format.specs.Header.{header_bytes}
 use Rattle.raft_log_file_queue.specs.Queue.{begun}
 use Rattle.raft_log_file_queue.specs.States.{IsNew}
 use Rattle.raft_log_file_queue.specs.Standing.{Names}

@@ -1,5 +1,5 @@
 -- What follows of a pipe that stands on a disk, and of one that has failed.
-use Rattle.std.specs.Prelude.{◌≡◌, ℕ, ◌≤◌, List, length}
+use Rattle.std.specs.Prelude.{ℕ, ◌≤◌, List, length}
 use Rattle.raft_log_disk.specs.Disk.{Disk}
 use Rattle.raft_log_disk.specs.Image.{IsImage}
 use Rattle.raft_log_disk.specs.LogFormat.{Format, CanTellFormat}

@@ -1,4 +1,4 @@
-use Rattle.std.proofs.Common.{rules, ◌≡◌, ℕ, List, length, refl, sym, ◌∙◌, ap, subst}
+use Rattle.std.proofs.Common.{◌≡◌, ℕ, List, length, ◌∙◌, ap, subst}
 use Rattle.raft_log_pipes.specs.Appending.{AppendsAt, context_of}
 use Rattle.raft_log_pipes.specs.Appending.AppendFails.{not_written}
 use Rattle.raft_log_pipes.specs.Exits.{Adds, FailsToAdd}

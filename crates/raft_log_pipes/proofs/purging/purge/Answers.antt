@@ -1,10 +1,9 @@
 use Rattle.std.specs.String.{string_bytes}
-use Rattle.std.proofs.Common.{rules, ◌≡◌, ℕ, ◌-◌, List, length, map, take, sym, ◌∙◌, ap, subst}
+use Rattle.std.proofs.Common.{rules, ◌≡◌, ℕ, ◌-◌, map, take, sym, ◌∙◌, ap, subst}
 use Rattle.std.proofs.lemmas.List.{length-map}
 use Rattle.raft_log_files.specs.Layout.{path_of}
 use Rattle.raft_log_pipes.specs.declared.pipe_files.PipeFiles.{PipeFiles}
-use Rattle.raft_log_pipes.specs.Files.{Listed}
-use Rattle.raft_log_pipes.specs.Purging.{IsRaised, DropsTo, FailsToDropAll, FailsToPurge, Purges, going, room_from, paths_going}
+use Rattle.raft_log_pipes.specs.Purging.{IsRaised, DropsTo, going, room_from, paths_going}
 use Rattle.raft_log_pipes.proofs.Raising.{purges, purge_fails}
 use Rattle.raft_log_pipes.proofs.purging.purge.Goals as goal
 

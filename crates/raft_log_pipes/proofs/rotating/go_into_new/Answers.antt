@@ -1,4 +1,4 @@
-use Rattle.std.proofs.Common.{rules, ◌∙◌, refl, sym, subst, ap, drop, false}
+use Rattle.std.proofs.Common.{rules, ◌∙◌, refl, sym, subst, false}
 use Rattle.raft_log_file.specs.declared.writer.LogFileWriter.{LogFileWriter}
 use Rattle.raft_log_files.specs.Rotation.{RotatesToNew}
 use Rattle.raft_log_format.specs.Header.{header_bytes}

@@ -1,6 +1,5 @@
 use Rattle.std.proofs.Common.{rules, ◌∙◌, refl, sym, subst, false}
 use Rattle.std.proofs.lemmas.Result.{err_from_is_err_and}
-use Rattle.raft_log_disk.specs.declared.handle.Handle.{Handle}
 use Rattle.raft_log_format.specs.Header.{header_bytes}
 use Rattle.raft_log_file.specs.declared.writer.LogFileWriter.{LogFileWriter}
 use Rattle.raft_log_files.specs.Rotation.{RotatesOver}

@@ -1,30 +1,27 @@
 -- The log's own files are a layout of files: their records, headers and paths.
-use Rattle.std.specs.Prelude.{codes, min, map, Result, Ok, Err, Option, replicate}
-use Rattle.std.specs.String.{string_bytes}
+use Rattle.std.specs.Prelude.{codes, min, Result, Ok, Err, Option, replicate}
 use Rattle.std.specs.Int.{w64, from_be_bytes}
 use Rattle.std.proofs.Common.{◌≡◌, ◌⊎◌, ℕ, zero, suc, ◌+◌, ◌-◌, ◌^◌, ◌<◌, ◌≤◌, List, [], ◌∷◌, ◌++◌, length, get_or, take, drop, refl, sym, ◌∙◌, ap, subst, inl, inr, arith, length-append}
-use Rattle.std.proofs.lemmas.Bool.{cases_lt}
-use Rattle.std.proofs.lemmas.List.{append-nil, nil_from_length, take_at, drop_at, take-append-drop, take-append-le, drop-replicate, length-replicate, length-map}
+use Rattle.std.proofs.lemmas.List.{append-nil, take_at, drop_at, take-append-drop, take-append-le, drop-replicate, length-replicate}
 use Rattle.raft_log_base.specs.Fault.{Fault}
-use Rattle.raft_log_base.specs.Files.{signature, version_number}
-use Rattle.raft_log_base.specs.Number.{IsU64, u64_bytes}
+use Rattle.raft_log_base.specs.Files.{signature}
+use Rattle.raft_log_base.specs.Number.{u64_bytes}
 use Rattle.raft_log_base.specs.declared.pipe_log.LogQueue.{LogQueue}
 use Rattle.raft_log_base.specs.declared.pipe_log.LogQueue.TheVariants.{Append, Rewrite}
 use Rattle.raft_log_base.specs.declared.pipe_log.Version.TheVariants.{V1, V2}
 use Rattle.raft_log_base.proofs.Grammar.{prefix_free}
 use Rattle.raft_log_disk.specs.Disk.{zeros}
-use Rattle.raft_log_disk.specs.Chains.{Written, IsSelfDelimiting, Refuses, HoldsNoFrame, CanTell}
-use Rattle.raft_log_disk.specs.LogFormat.{Format, IsFormat, HasHeader}
-use Rattle.raft_log_format.specs.Header.{magic, header_at, header_bytes, payload_bytes, IsHeader, HasHeader as IsWritable}
+use Rattle.raft_log_disk.specs.Chains.{IsSelfDelimiting, CanTell}
+use Rattle.raft_log_disk.specs.LogFormat.{IsFormat}
+use Rattle.raft_log_format.specs.Header.{magic, header_at, header_bytes, IsHeader, HasHeader as IsWritable}
 use Rattle.raft_log_format.specs.Name.{EndsWith, suffix_of}
 use Rattle.raft_log_format.specs.declared.header.LogFileFormat.{LogFileFormat}
 use Rattle.raft_log_format.proofs.Headers.{is_header}
-use Rattle.raft_log_frames.specs.Frames.{BeginsRecord}
-use Rattle.raft_log_frames.specs.Record.{IsRecord, Front}
+use Rattle.raft_log_frames.specs.Record.{IsRecord}
 use Rattle.raft_log_frames.proofs.Frames.{one_record, frames_take_bytes}
 use Rattle.raft_log_frames.proofs.Fronts.{record_is_told, no_frame_in_zeros}
 use Rattle.raft_log_files.specs.Layout.{IsLayout}
-use Rattle.raft_log_layout.specs.Paths.{IsPathWith, IsOwnPath, numbered_path, reserved_path, reserved_suffix_of}
+use Rattle.raft_log_layout.specs.Paths.{IsPathWith, IsOwnPath, reserved_path, reserved_suffix_of}
 use Rattle.raft_log_layout.specs.Layout.{IsRecordIn, IsAHeader, log_format, log_paths}
 use Rattle.raft_log_layout.specs.Laws.{LogFilesAreTold, QueuesAreApart, ZerosHoldNoRecord, ReservedNamesAreTheLogs, PlacesAreFresh}
 use Rattle.raft_log_layout.specs.declared.record.LogRecord.{LogRecord}

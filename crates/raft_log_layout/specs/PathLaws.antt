@@ -2,8 +2,8 @@
 -- stand here as the law of an impl cites them.)
 use Rattle.std.specs.Prelude.{codes, min}
 use Rattle.std.specs.Fmt.{decimal}
-use Rattle.std.specs.Str.Parse.{AllDigits, IsNumeral, digits_value}
-use Rattle.std.proofs.Common.{◌≡◌, ◌⊎◌, ℕ, zero, suc, ◌+◌, ◌-◌, ◌^◌, ◌<◌, ◌≤◌, Bool, true, false, cond, List, [], ◌∷◌, ◌++◌, length, get_or, drop, replicate, refl, sym, ◌∙◌, ap, subst, inl, inr, arith, nat_eq, length-append}
+use Rattle.std.specs.Str.Parse.{AllDigits}
+use Rattle.std.proofs.Common.{◌≡◌, ℕ, zero, suc, ◌+◌, ◌-◌, ◌^◌, ◌<◌, Bool, true, false, cond, List, [], ◌∷◌, ◌++◌, length, get_or, drop, replicate, refl, sym, ◌∙◌, ap, subst, inl, inr, arith, nat_eq, length-append}
 use Rattle.std.proofs.lemmas.Bool.{cases_lt, cases_Bool, false≢true}
 use Rattle.std.proofs.lemmas.Bool.Decides.{Decides-eqb}
 use Rattle.std.proofs.lemmas.Fmt.{decimal_is_IsNumeral}
@@ -14,9 +14,9 @@ use Rattle.std.proofs.lemmas.Str.Parse.{digit_at}
 use Rattle.raft_log_base.specs.declared.pipe_log.LogQueue.{LogQueue}
 use Rattle.raft_log_base.specs.declared.pipe_log.LogQueue.TheVariants.{Append, Rewrite}
 use Rattle.raft_log_disk.specs.Disk.{IsPlain}
-use Rattle.raft_log_format.specs.Name.{IsNamed, EndsWith, sixteen_digits, suffix_of, file_name}
+use Rattle.raft_log_format.specs.Name.{IsNamed, EndsWith, sixteen_digits, suffix_of}
 use Rattle.raft_log_format.proofs.Names.{written_number}
-use Rattle.raft_log_layout.specs.Paths.{IsPathWith, reserved_suffix_of, IsOwnPath, directory_at, numbered_path, reserved_path}
+use Rattle.raft_log_layout.specs.Paths.{IsPathWith, reserved_suffix_of, directory_at, numbered_path, reserved_path}
 
 -- The name behind the last slash.
 

@@ -4,3 +4,4 @@ pub mod Keeping
 pub mod Bridging
 pub mod Beginning
 pub mod Reopening
+pub mod SettingAside

@@ -5,12 +5,12 @@ use std::alloc::Global;
 use std::test::Fail;
 
 /// Three items of group 1: `Compact` to 300, `k` gets `v`, and `k` loses it.
-const ITEMS: [u8; 18] = [
+pub const ITEMS: [u8; 18] = [
     3, 1, 2, 2, 0xac, 0x02, 1, 3, 1, 1, b'k', 1, b'v', 1, 3, 2, 1, b'k',
 ];
 
 /// Two entries, from index 7 on, of three and four bytes.
-const ENTRIES: [u8; 4] = [2, 7, 3, 4];
+pub const ENTRIES: [u8; 4] = [2, 7, 3, 4];
 
 /// Two entries, from index 7 on.
 pub fn some_entries(alloc: Global) -> Result<EntryIndexes> {
@@ -31,7 +31,7 @@ pub fn some_deletion(alloc: Global) -> Result<LogItem> {
 }
 
 /// The three items.
-fn some_items(alloc: Global) -> Result<Vec<LogItem>> {
+pub fn some_items(alloc: Global) -> Result<Vec<LogItem>> {
     let mut items = Vec::with_capacity(alloc, 3)?;
     items.push(LogItem::new_command(1, Command::Compact { index: 300 }))?;
     items.push(some_put(alloc)?)?;

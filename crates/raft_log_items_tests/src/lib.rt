@@ -15,4 +15,6 @@ mod numbers;
 #[cfg(test)]
 mod refusals;
 #[cfg(test)]
+mod short_memory;
+#[cfg(test)]
 mod sizes;

@@ -4,3 +4,7 @@ pub mod Turning
 pub mod Adding
 pub mod Contexts
 pub mod Dropping
+pub mod TakingUp
+pub mod SettingAside
+pub mod Fractions
+pub mod Finding

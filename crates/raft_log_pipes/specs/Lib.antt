@@ -4,3 +4,5 @@ pub mod Appending
 pub mod Purging
 pub mod Reading
 pub mod Laws
+pub mod Opening
+pub mod Closing

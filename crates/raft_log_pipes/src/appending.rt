@@ -33,6 +33,7 @@ fn turn_first<G: PipeFormat, F: FileSystem, L: Log>(
     ensures err { IfErr result (λ error. RotationLeaves (G.format layout.now) (G.own layout.now)
         (G.file_paths layout.now) (header_bytes new_files.now.format) files.old files.new error
         (F.disk file_system.old) (F.disk file_system.new)) }
+    ensures first { files.new.first_seq ≡ files.old.first_seq }
     ensures later { IsLater (F.disk file_system.old) (F.disk file_system.new) }
 {
     if files.writer.offset() >= new_files.target_size {
@@ -53,6 +54,7 @@ fn turn_elsewhere<G: PipeFormat, F: FileSystem, L: Log>(
 ) -> Error
     ensures left { TurnsElsewhere (G.format layout.now) (G.own layout.now) (G.file_paths layout.now)
         new_files.now files.old files.new result (F.disk file_system.old) (F.disk file_system.new) }
+    ensures first { files.new.first_seq ≡ files.old.first_seq }
     ensures later { IsLater (F.disk file_system.old) (F.disk file_system.new) }
 {
     match rotate(alloc, layout, rt, file_system, files, new_files) {
@@ -77,6 +79,7 @@ fn tell_fault<G: PipeFormat, F: FileSystem, L: Log>(
     ensures left { Tells (G.format layout.now) (G.own layout.now) (G.file_paths layout.now) new_files.now
         fault
         files.old files.new result (F.disk file_system.old) (F.disk file_system.new) }
+    ensures first { files.new.first_seq ≡ files.old.first_seq }
     ensures later { IsLater (F.disk file_system.old) (F.disk file_system.new) }
 {
     match fault {
@@ -116,6 +119,7 @@ pub fn append<G: PipeFormat, F: FileSystem, L: Log, B: ReactiveBytes>(
         (G.file_paths layout.now) new_files.now queue (B.signed bytes.old) files.old files.new error
         (F.disk file_system.old) (F.disk file_system.new)) }
     ensures signed { B.signed bytes.new ≡ B.signed bytes.old }
+    ensures first { files.new.first_seq ≡ files.old.first_seq }
     ensures later { IsLater (F.disk file_system.old) (F.disk file_system.new) }
 {
     turn_first(alloc, layout, rt, file_system, files, new_files)?;

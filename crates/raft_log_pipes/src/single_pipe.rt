@@ -1,11 +1,14 @@
 //! One queue of log files.
 
-ghost use Rattle.std.specs.Prelude.{◌≡◌, ◌↔◌, ◌-◌, ℕ, true, false, Ok, Err, IfErr, IfOk, IsErr, IsTrue, OnErr, OnOk};
+ghost use Rattle.std.specs.Prelude.{◌≡◌, ◌↔◌, ◌+◌, ◌-◌, ◌*◌, ◌/◌, ◌^◌, ◌<◌, ◌≤◌, length, min, suc, ℕ, true, false, Ok, Err, IfErr, IfOk, IsErr, IsTrue, OnErr, OnOk};
 ghost use Rattle.raft_log_base.specs.declared.errors.Error.TheVariants as errors;
 ghost use Rattle.raft_log_disk.specs.Causes.{IsLater};
 
 use crate::appending::append;
+use crate::closing::close;
+use crate::found_files::FoundFiles;
 use crate::new_files::NewFiles;
+use crate::opening::open;
 use crate::pipe_files::PipeFiles;
 use crate::purging::purge;
 use crate::reactive_bytes::ReactiveBytes;
@@ -78,6 +81,37 @@ impl<G: PipeFormat> SinglePipe<G> {
         (self.files.first_seq, self.files.active.seq)
     }
 
+    /// How many files the span has.
+    fn count(&self) -> usize
+        ensures { result ≡ suc (length self.now.files.earlier.items) }
+    {
+        self.files.earlier.len() + 1
+    }
+
+    /// The number of the file at a fraction of the span, counted from its first file on and rounded down: the
+    /// one behind the last for the whole.
+    pub fn file_at(&self, num: u32, den: u32) -> FileSeq
+        requires fraction { num ≤ den }
+        requires whole { 0 < den }
+        ensures { result ≡ min (self.now.files.first_seq
+            + suc (length self.now.files.earlier.items) * num / den) (2 ^ 64 - 1) }
+    {
+        let count = self.count() as u64;
+        let (num, den) = (num as u64, den as u64);
+        let at = count / den * num + count % den * num / den;
+        self.files.first_seq.saturating_add(at)
+    }
+
+    /// The size of all files of the span in bytes, where each counts as long as it is to be; at most the
+    /// greatest number that there is.
+    pub fn total_size(&self) -> usize
+        ensures { result ≡ min (suc (length self.now.files.earlier.items)
+            * self.now.settings.new_files.target_size) (2 ^ 64 - 1) }
+    {
+        self.count()
+            .saturating_mul(self.settings.new_files.target_size)
+    }
+
     /// Writes a record behind the others, and answers its place. The pipe goes on in the next file first
     /// where the last one is as long as it is to be, or longer.
     ///
@@ -103,6 +137,7 @@ impl<G: PipeFormat> SinglePipe<G> {
         ensures failed { self.old.failed ≡ true → (result ≡ Err errors.Failed) × (self.new ≡ self.old)
             × (F.disk file_system.new ≡ F.disk file_system.old) }
         ensures fails { IsTrue self.new.failed ↔ (result ≡ Err errors.Failed) }
+        ensures first { self.new.files.first_seq ≡ self.old.files.first_seq }
         ensures same { (self.new.layout ≡ self.old.layout) × (self.new.settings ≡ self.old.settings) }
         ensures later { IsLater (F.disk file_system.old) (F.disk file_system.new) }
     {
@@ -171,6 +206,7 @@ impl<G: PipeFormat> SinglePipe<G> {
         ensures failed { self.old.failed ≡ true → (result ≡ Err errors.Failed) × (self.new ≡ self.old)
             × (F.disk file_system.new ≡ F.disk file_system.old) }
         ensures fails { IsTrue self.new.failed ↔ (result ≡ Err errors.Failed) }
+        ensures first { self.new.files.first_seq ≡ self.old.files.first_seq }
         ensures same { (self.new.layout ≡ self.old.layout) × (self.new.settings ≡ self.old.settings) }
         ensures later { IsLater (F.disk file_system.old) (F.disk file_system.new) }
     {
@@ -249,5 +285,56 @@ impl<G: PipeFormat> SinglePipe<G> {
     {
         let handle = self.files.handle_of(alloc, block.id.seq)?;
         LogFileReader::open(handle).read(alloc, file_system, block)
+    }
+}
+
+impl<G: PipeFormat + Drop> SinglePipe<G> {
+    ghost use Rattle.raft_log_pipes.specs.Closing.{ClosesFiles, LeavesClosed};
+    ghost use Rattle.raft_log_pipes.specs.Opening.{OpenLeaves, Opens};
+
+    /// Opens a pipe over what was found of its queue: where there is no file, the queue begins in a file 1;
+    /// else it goes on behind what was read of its last file, which is cut there, synced, and gets a header
+    /// of the first version where it has none.
+    ///
+    /// `Memory`: nothing was done. `InvalidArgument`: no header has the last file's format. `Io`: a file call
+    /// was refused; all that was read is there still.
+    pub fn open<F: FileSystem, L: Log>(
+        alloc: Global,
+        layout: G,
+        settings: PipeSettings,
+        rt: &L,
+        file_system: &mut F,
+        found: FoundFiles,
+    ) -> Result<SinglePipe<G>>
+        ensures ok { IfOk result (λ pipe. Opens (G.format layout) (G.own layout) (G.file_paths layout)
+            settings.new_files found pipe.files (F.disk file_system.old) (F.disk file_system.new)) }
+        ensures fields { IfOk result (λ pipe. (pipe.layout ≡ layout) × (pipe.settings ≡ settings)
+            × (pipe.failed ≡ false)) }
+        ensures err { IfErr result (λ error. OpenLeaves (G.format layout) (G.own layout)
+            (G.file_paths layout) settings.new_files found error
+            (F.disk file_system.old) (F.disk file_system.new)) }
+        ensures later { IsLater (F.disk file_system.old) (F.disk file_system.new) }
+    {
+        let files = open(alloc, &layout, rt, file_system, &settings.new_files, found)?;
+        Ok(SinglePipe::new(layout, settings, files))
+    }
+
+    /// Closes the pipe: its last file is cut behind its records and synced, and the files that are kept for
+    /// use get reserved names in the main directory, from the newest down until one has such a name, with
+    /// numbers from the greatest reserved one on. Refusals are logged: nothing that was written is lost by
+    /// them. Of a pipe that has failed nothing is touched.
+    pub fn close<F: FileSystem, L: Log>(self, alloc: Global, rt: &L, file_system: &mut F)
+        ensures held { self.failed ≡ false → LeavesClosed (G.format self.layout) (G.own self.layout)
+            (G.file_paths self.layout) self.files (F.disk file_system.old) (F.disk file_system.new) }
+        ensures calls { self.failed ≡ false → ClosesFiles (G.file_paths self.layout) self.files
+            (F.disk file_system.old) (F.disk file_system.new) }
+        ensures failed { self.failed ≡ true → F.disk file_system.new ≡ F.disk file_system.old }
+        ensures later { IsLater (F.disk file_system.old) (F.disk file_system.new) }
+    {
+        if self.failed {
+            return;
+        }
+        let SinglePipe { layout, files, .. } = self;
+        close(alloc, &layout, rt, file_system, files);
     }
 }

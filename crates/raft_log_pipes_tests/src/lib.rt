@@ -1,10 +1,18 @@
 //! Tests of a queue's files and of a pipe in the log's own layout, over a file system in memory: each call
-//! once, and file calls refused in turn.
+//! once, file calls refused in turn, where new files lie, and runs of a pipe, swept.
 #![tactic(auto)]
 
+#[cfg(test)]
+mod closings;
+#[cfg(test)]
+mod narrow;
 #[cfg(test)]
 mod openings;
 #[cfg(test)]
 mod pipes;
 #[cfg(test)]
 mod queues;
+#[cfg(test)]
+mod spilling;
+#[cfg(test)]
+mod sweep;

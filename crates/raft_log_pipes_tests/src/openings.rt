@@ -1,5 +1,6 @@
-//! Each file call of an opening refused in turn.
+//! Each file call of an opening refused in turn; and what is written behind an opening.
 use super::queues::{FIRST, RECORD, begun, header, layout, prepared, size};
+use raft_log_disk::FileSystem;
 use raft_log_files::{append_record, begin_queue, reopen_file};
 use std::test::Fail;
 
@@ -65,5 +66,21 @@ fn each_call_of_an_emptying_is_refused_in_turn(rt: HostRuntime) -> Result<(), Fa
     for (n, answered, len) in EMPTIED.iter() {
         assert!(rt; reopened(&rt, *n, None)? == (*answered, *len), "call {n}");
     }
+    Ok(())
+}
+
+#[test]
+fn a_reopened_file_goes_on_behind_its_records(rt: HostRuntime) -> Result<(), Fail> {
+    let layout = layout(rt.alloc())?;
+    let header = header(rt.alloc())?;
+    let mut system = prepared(rt.alloc())?;
+    let (handle, mut writer) = begun(&rt, &mut system)?;
+    let written = append_record(&layout, &rt, &mut system, &mut writer, &RECORD, 1024).is_ok();
+    let mut again = reopen_file(&layout, &rt, &mut system, handle, Some(134), &header)?;
+    let more = append_record(&layout, &rt, &mut system, &mut again, &RECORD, 1024).is_ok();
+    let mut bytes = [0u8; 131];
+    let count = system.read_at(handle, 69, &mut bytes)?;
+    assert!(rt; written && more && again.offset() == 199 && count == 131);
+    assert!(rt; bytes.iter().take(130).all(|byte| *byte == 7) && bytes[130] == 0);
     Ok(())
 }

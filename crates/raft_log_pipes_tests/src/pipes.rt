@@ -1,19 +1,20 @@
 //! A pipe that is appended to, rotated and purged.
-use super::queues::{begun, layout, prepared};
+use super::queues::{header, layout, prepared};
 use raft_log_base::{Error, FileBlockHandle, FileId, LogFileContext, LogQueue, Result, Version};
 use raft_log_disk::{FileSystem, Permission};
-use raft_log_files::File;
-use raft_log_format::LogFileFormat;
+use raft_log_files::{File, begin_queue};
+use raft_log_format::{FileNameExt, LogFileFormat};
 use raft_log_layout::LogLayout;
 use raft_log_memory_files::MemoryFileSystem;
 use raft_log_pipes::{NewFiles, PipeFiles, PipeSettings, ReactiveBytes, SinglePipe};
 use std::collections::VecDeque;
 use std::test::Fail;
 
-// Bytes that aren't signed.
+/// Bytes that aren't signed.
 #[derive(Drop)]
-struct Plain {
-    bytes: Vec<u8>,
+pub struct Plain {
+    /// They.
+    pub bytes: Vec<u8>,
 }
 
 impl ReactiveBytes for Plain {
@@ -28,14 +29,17 @@ impl ReactiveBytes for Plain {
     }
 }
 
-// A pipe that has begun, with this target size and capacity.
-fn pipe(
+/// A pipe with this layout, target size and capacity, which begins in the directory `d`.
+pub fn begin_pipe<F: FileSystem>(
     rt: &HostRuntime,
-    system: &mut MemoryFileSystem,
+    system: &mut F,
+    layout: LogLayout,
     target_size: usize,
     capacity: usize,
 ) -> Result<SinglePipe<LogLayout>, Fail> {
-    let (handle, writer) = begun(rt, system)?;
+    let header = header(rt.alloc())?;
+    let path = FileId::new(layout.queue(), 1).build_file_path(rt.alloc(), "d")?;
+    let (handle, writer) = begin_queue(&layout, rt, system, &path, &header)?;
     let format = LogFileFormat::new(Version::V2, 0);
     let files = PipeFiles {
         first_seq: 1,
@@ -51,15 +55,26 @@ fn pipe(
         recycled: VecDeque::new(rt.alloc()),
     };
     let settings = PipeSettings {
-        queue: LogQueue::Append,
+        queue: layout.queue(),
         new_files: NewFiles::new(rt.alloc(), format, target_size)?,
         capacity,
     };
-    Ok(SinglePipe::new(layout(rt.alloc())?, settings, files))
+    Ok(SinglePipe::new(layout, settings, files))
 }
 
-// Appends so many bytes of one value.
-fn append(
+/// A pipe of the append queue.
+pub fn pipe(
+    rt: &HostRuntime,
+    system: &mut MemoryFileSystem,
+    target_size: usize,
+    capacity: usize,
+) -> Result<SinglePipe<LogLayout>, Fail> {
+    let layout = layout(rt.alloc())?;
+    begin_pipe(rt, system, layout, target_size, capacity)
+}
+
+/// Appends so many bytes of one value.
+pub fn append(
     rt: &HostRuntime,
     system: &mut MemoryFileSystem,
     pipe: &mut SinglePipe<LogLayout>,
@@ -84,8 +99,8 @@ fn stands(
     Ok(bytes.len() == place.len && bytes.iter().all(|byte| *byte == value))
 }
 
-// A place in a file.
-fn place(seq: u64, offset: u64, len: usize) -> FileBlockHandle {
+/// A place in a file.
+pub fn place(seq: u64, offset: u64, len: usize) -> FileBlockHandle {
     let id = FileId::new(LogQueue::Append, seq);
     FileBlockHandle { id, offset, len }
 }

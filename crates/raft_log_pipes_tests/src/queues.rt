@@ -29,11 +29,16 @@ pub fn prepared(alloc: Global) -> Result<MemoryFileSystem, Fail> {
     Ok(system)
 }
 
-/// The layout of the append queue in it.
-pub fn layout(alloc: Global) -> Result<LogLayout, Fail> {
+/// The layout of a queue in it.
+pub fn layout_of(alloc: Global, queue: LogQueue) -> Result<LogLayout, Fail> {
     let mut paths = Vec::new(alloc);
     paths.push(String::from_str(alloc, "d")?)?;
-    Ok(LogLayout::new(LogQueue::Append, paths))
+    Ok(LogLayout::new(queue, paths))
+}
+
+/// The layout of the append queue in it.
+pub fn layout(alloc: Global) -> Result<LogLayout, Fail> {
+    layout_of(alloc, LogQueue::Append)
 }
 
 /// The header of new files.

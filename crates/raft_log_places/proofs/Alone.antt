@@ -34,7 +34,8 @@ solid_alone q xs z h i j k a b low high from to =
     let it = stands_in (standing z.table) j (omega arith) (omega arith) in
     (Entry it.0, sym (same j) ∙ it.1)
 
-shows : (u w : Shown) → u.first ≡ w.first → u.places ≡ w.places → u.rewritten ≡ w.rewritten → u.held ≡ w.held → u.deleted ≡ w.deleted → u.cleaned ≡ w.cleaned
+-- what shows is the same where each part is
+pub shows : (u w : Shown) → u.first ≡ w.first → u.places ≡ w.places → u.rewritten ≡ w.rewritten → u.held ≡ w.held → u.deleted ≡ w.deleted → u.cleaned ≡ w.cleaned
     → u.compacted ≡ w.compacted → u.noted ≡ w.noted → u ≡ w
 shows u w a b c d e f g h =
     ap₂ (λ x y. record u { first = x; places = y }) a b ∙ ap₂ (λ x y. record u { first = w.first; places = w.places; rewritten = x; held = y }) c d
@@ -42,7 +43,7 @@ shows u w a b c d e f g h =
     ∙ ap₂ (λ x y. record w { compacted = x; noted = y }) g h
 
 -- Rewrite alone
-same_note : (n : Option GroupFiles) → both_noted n None ≡ n
+pub same_note : (n : Option GroupFiles) → both_noted n None ≡ n
 same_note None = refl
 same_note (Some files) = refl
 
@@ -52,7 +53,7 @@ rewrite_alone v =
     refl refl refl refl (same_note v.noted)
 
 -- Append alone
-abbrev empty_at : ℕ → Shown
+abbrev pub empty_at : ℕ → Shown
 empty_at n = record nothing_shown { first = n }
 
 drop_none : (n : ℕ) → ◌≡◌ {A = List Place} (drop n []) []
@@ -66,7 +67,8 @@ take_none (suc n) = refl
 nothing_above : (n low : ℕ) → left (empty_at n) low None ≡ empty_at n
 nothing_above n low = shows (left (empty_at n) low None) (empty_at n) (omega arith) (drop_none (low - n)) (omega arith) refl refl refl refl refl
 
-nothing_left : (n low : ℕ) (high : Option ℕ) → left (empty_at n) low high ≡ empty_at n
+-- of nothing nothing is left
+pub nothing_left : (n low : ℕ) (high : Option ℕ) → left (empty_at n) low high ≡ empty_at n
 nothing_left n low None = nothing_above n low
 nothing_left n low (Some h) =
     ap (λ (t : Shown). record t { places = take (h - t.first) t.places; rewritten = min t.rewritten (h - t.first) }) (nothing_above n low)
@@ -80,7 +82,7 @@ over_nothing n ps count =
     (if_false (nat_lt n n && nat_lt 0 0) n n (ap (λ b. b && nat_lt 0 0) (lt_false n n (omega arith))))
     (ap (λ l. l ++ ps) (take_none (n - n))) (omega arith) refl refl refl refl refl
 
-same_held : (o : Option KeyValue) (d : Bool) → option_or o (if d then None else None) ≡ o
+pub same_held : (o : Option KeyValue) (d : Bool) → option_or o (if d then None else None) ≡ o
 same_held None true = refl
 same_held None false = refl
 same_held (Some h) d = refl

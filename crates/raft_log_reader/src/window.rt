@@ -1,5 +1,5 @@
 //! The part of a file's bytes that a reader holds.
-ghost use Rattle.std.specs.Prelude.{◌≡◌, ◌+◌, ◌-◌, ◌≤◌, ◌<◌, ◌^◌, ◌++◌, [], List, ℕ, length, take, drop, vec_len, OnOk, OnErr, IfErr};
+ghost use Rattle.std.specs.Prelude.{◌≡◌, ◌+◌, ◌-◌, ◌≤◌, ◌<◌, ◌^◌, ◌++◌, [], List, ℕ, length, take, drop, min, vec_len, OnOk, OnErr, IfErr};
 ghost use Rattle.raft_log_reader.specs.Window.{IsPart, Covers};
 ghost use Rattle.raft_log_reader.specs.Source.{bytes_of, CannotRead};
 
@@ -26,6 +26,7 @@ impl Window {
     pub fn new(alloc: Global, block_size: usize) -> Self
         ensures bytes { result.bytes.items ≡ [] }
         ensures start { result.start ≡ 0 }
+        ensures block { result.block_size ≡ block_size }
     {
         Window {
             bytes: Vec::new(alloc),
@@ -38,6 +39,7 @@ impl Window {
     pub fn begin(&mut self, offset: usize)
         ensures bytes { self.new.bytes.items ≡ [] }
         ensures start { self.new.start ≡ offset }
+        ensures block { self.new.block_size ≡ self.old.block_size }
     {
         self.bytes.clear();
         self.start = offset;
@@ -69,7 +71,10 @@ impl Window {
         requires inside { offset + size ≤ source.size }
         ensures part { HoldsPart source (F.disk file_system.now) self.new }
         ensures ok { OnOk result (Covers self.new.start self.new.bytes.items offset size) }
+        ensures ahead { OnOk result (Covers self.new.start self.new.bytes.items offset
+            (size + min prefetch (source.size - (offset + size)))) }
         ensures err { IfErr result (CannotRead source offset (F.disk file_system.now)) }
+        ensures block { self.new.block_size ≡ self.old.block_size }
     {
         let end = offset + size;
         let wanted = end + prefetch.min(source.size - end);
@@ -89,6 +94,7 @@ impl Window {
         ensures part { (content : List ℕ) → offset ≤ length content
             → IsPart self.old.start self.old.bytes.items content
             → IsPart self.new.start self.new.bytes.items content }
+        ensures block { self.new.block_size ≡ self.old.block_size }
     {
         if self.start <= offset && offset <= self.end() {
             self.drop_front(offset);
@@ -103,6 +109,7 @@ impl Window {
         requires back { offset ≤ self.old.start + length self.old.bytes.items }
         ensures bytes { self.new.bytes.items ≡ drop (offset - self.old.start) self.old.bytes.items }
         ensures start { self.new.start ≡ offset }
+        ensures block { self.new.block_size ≡ self.old.block_size }
     {
         let dropped = offset - self.start;
         let left = self.bytes.len() - dropped;
@@ -125,6 +132,7 @@ impl Window {
         ensures ok { OnOk result (length self.new.bytes.items ≡ length self.old.bytes.items + room) }
         ensures err { IfErr result
             (CannotRead source (self.old.start + length self.old.bytes.items) (F.disk file_system.now)) }
+        ensures block { self.new.block_size ≡ self.old.block_size }
     {
         let held = self.bytes.len();
         self.bytes.resize(held + room, 0)?;

@@ -1,2 +1,3 @@
 pub mod GoodEnd
 pub mod Answers
+pub mod Marked

@@ -1,9 +1,10 @@
-//! A file system that counts the reads that give bytes.
+//! A file system that counts its calls, and may be short of memory at one.
 use raft_log_disk::{FileSystem, Handle, Permission};
 use std::cell::Cell;
 use std::io::ErrorKind;
 
-/// A file system that counts the reads that give bytes, and notes where the last one began.
+/// A file system that counts the reads that give bytes, and notes where the last one began. It may be short
+/// of memory for one of the calls that open a file or list a directory.
 #[derive(Drop)]
 pub struct Counting<F: FileSystem> {
     /// The file system that is read.
@@ -12,6 +13,27 @@ pub struct Counting<F: FileSystem> {
     pub reads: Cell<usize>,
     /// Where the last one of them began.
     pub last: Cell<usize>,
+    /// At which call that takes memory it is short of it, counted from here; 0 where it isn't or was before.
+    pub short_at: Cell<usize>,
+}
+
+impl<F: FileSystem> Counting<F> {
+    /// A file system that counts from here on, and is short of memory at this call; 0 for none.
+    pub fn new(files: F, short_at: usize) -> Self {
+        Counting {
+            files,
+            reads: Cell::new(0),
+            last: Cell::new(0),
+            short_at: Cell::new(short_at),
+        }
+    }
+
+    /// Whether there is no memory for a call.
+    fn is_short(&self) -> bool {
+        let left = self.short_at.get();
+        self.short_at.set(left.saturating_sub(1));
+        left == 1
+    }
 }
 
 impl<F: FileSystem> FileSystem for Counting<F> {
@@ -50,10 +72,16 @@ impl<F: FileSystem> FileSystem for Counting<F> {
     }
 
     fn open(&self, path: &str, permission: Permission) -> Result<Handle, ErrorKind> {
+        if self.is_short() {
+            return Err(ErrorKind::OutOfMemory);
+        }
         self.files.open(path, permission)
     }
 
     fn list(&self, directory: &str) -> Result<Vec<String>, ErrorKind> {
+        if self.is_short() {
+            return Err(ErrorKind::OutOfMemory);
+        }
         self.files.list(directory)
     }
 

@@ -8,7 +8,6 @@ use raft_log_format::LogFileFormat;
 use raft_log_memory_files::MemoryFileSystem;
 use raft_log_records::LogBatch;
 use std::alloc::Global;
-use std::cell::Cell;
 
 /// The file that all of these tests read.
 pub fn file_id() -> FileId {
@@ -46,12 +45,7 @@ pub fn saved(alloc: Global, bytes: &[u8]) -> Result<(Counting<MemoryFileSystem>,
     files.create_dir("d")?;
     let handle = files.create("d/f")?;
     files.write_at(handle, 0, bytes)?;
-    let system = Counting {
-        files,
-        reads: Cell::new(0),
-        last: Cell::new(0),
-    };
-    Ok((system, handle))
+    Ok((Counting::new(files, 0), handle))
 }
 
 /// Whether this is a corruption with this text.

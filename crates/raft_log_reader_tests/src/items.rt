@@ -11,7 +11,7 @@ use std::alloc::Global;
 use std::test::Fail;
 
 /// A file system with a directory `d`.
-fn prepared(alloc: Global) -> Result<MemoryFileSystem> {
+pub fn prepared(alloc: Global) -> Result<MemoryFileSystem> {
     let mut system = MemoryFileSystem::new(alloc);
     system.create_dir("d")?;
     Ok(system)
@@ -29,7 +29,7 @@ fn append_put(alloc: Global, bytes: &mut Vec<u8>, group: u64) -> Result<()> {
 }
 
 /// Makes a file of the first version in which each of these groups puts a key, with more bytes behind them.
-fn save(
+pub fn save(
     alloc: Global,
     system: &mut MemoryFileSystem,
     path: &str,

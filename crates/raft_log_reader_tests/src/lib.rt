@@ -1,5 +1,5 @@
-//! Tests of reading a log file: the rule of block reads, padding, damaged files and refused reads; of the
-//! items of log files; and callers.
+//! Tests of reading a log file: the rule of block reads, padding, damaged files and unreadable places; of the
+//! items of log files, with each call and each allocation refused; and callers.
 #![tactic(auto)]
 
 pub mod answers;
@@ -13,7 +13,13 @@ mod damaged;
 mod files;
 pub mod good_end;
 #[cfg(test)]
+mod item_refusals;
+#[cfg(test)]
 mod items;
 #[cfg(test)]
+mod marked;
+#[cfg(test)]
 mod padding;
+#[cfg(test)]
+mod unreadable;
 pub mod whole_end;

@@ -2,8 +2,7 @@ pub mod Buffer
 pub mod Items
 pub mod Encoded
 pub mod Entries
-pub mod Marks
-pub mod Meanings
+pub mod AtomicGroups
 pub mod PlacedMeanings
 pub mod Moves
 pub mod ItemBatches

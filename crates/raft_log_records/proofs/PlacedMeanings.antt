@@ -17,13 +17,13 @@ use Rattle.raft_log_items.specs.Run.{unplaced}
 use Rattle.raft_log_items.specs.Placed.{run_len, content_len, entries_len, laid_run, laid_content, laid_out, written_entry, written_content, written, placed}
 use Rattle.raft_log_items.specs.Writing.{plain_operation, plain_content, plain_item}
 use Rattle.raft_log_frames.proofs.Made.{block_more}
-use Rattle.raft_log_records.specs.declared.atomic_group.AtomicGroupStatus.{AtomicGroupStatus}
-use Rattle.raft_log_records.specs.declared.atomic_group.Marking.{Marking}
-use Rattle.raft_log_records.specs.declared.atomic_group.Marking.TheVariants.{Unmarked}
-use Rattle.raft_log_records.specs.AtomicGroup.{mark_key, mark_of_content, mark_of, content_has_mark_key, has_mark_key, part_or_broken, marking_of, joined_marking, marking_of_items}
-use Rattle.raft_log_records.specs.Meaning.{meaning, tagged, unless_mark, tagged_items, marked, record_of}
+use Rattle.raft_log_atomic_groups.specs.declared.status.AtomicGroupStatus.{AtomicGroupStatus}
+use Rattle.raft_log_atomic_groups.specs.declared.marking.Marking.{Marking}
+use Rattle.raft_log_atomic_groups.specs.declared.marking.Marking.TheVariants.{Unmarked}
+use Rattle.raft_log_atomic_groups.specs.Marking.{mark_key, mark_of_content, mark_of, content_has_mark_key, has_mark_key, part_or_broken, marking_of, joined_marking, marking_of_items}
+use Rattle.raft_log_atomic_groups.specs.Meaning.{meaning, tagged, unless_mark, tagged_items, marked, record_of}
 use Rattle.raft_log_records.specs.Places.{entry_bytes, ReadMeansWhatWasAdded}
-use Rattle.raft_log_records.proofs.Meanings.{value_again}
+use Rattle.raft_log_atomic_groups.proofs.Meanings.{value_again}
 
 -- ---- the bytes of a run, and more behind them
 

@@ -1,14 +1,9 @@
--- Keys: which are the log's own, and the items that put and delete them.
-use Rattle.std.specs.Prelude.{◌≡◌, ℕ, Bool, false, List, [], ◌∷◌, ◌==◌, ◌&&◌, IsTrue, codes}
+-- Why a key is refused.
+use Rattle.std.specs.Prelude.{◌≡◌, ℕ, List, IsTrue, codes}
 use Rattle.std.specs.String.{string_bytes}
 use Rattle.raft_log_base.specs.declared.errors.Error.{Error}
 use Rattle.raft_log_base.specs.declared.errors.Error.TheVariants as errors
-
--- the key begins with two underscores: such keys are the log's own
-abbrev pub is_internal : List ℕ → Bool
-is_internal [] = false
-is_internal (a ∷ []) = false
-is_internal (a ∷ b ∷ rest) = (a == 95) && (b == 95)
+use Rattle.raft_log_atomic_groups.specs.Key.{is_internal}
 
 -- the text that tells that a key is one of the log's own
 abbrev pub reserved_key : List ℕ

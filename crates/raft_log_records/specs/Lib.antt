@@ -3,5 +3,4 @@ pub mod Batch
 pub mod Entries
 pub mod Key
 pub mod AtomicGroup
-pub mod Meaning
 pub mod Places

@@ -8,7 +8,7 @@ use Rattle.raft_log_items.specs.Writing.{plain_item}
 use Rattle.raft_log_frames.specs.Record.{block_bytes}
 use Rattle.raft_log_records.specs.ItemBatch.{all_entries}
 use Rattle.raft_log_records.specs.Batch.{Batch}
-use Rattle.raft_log_records.specs.Meaning.{record_of}
+use Rattle.raft_log_atomic_groups.specs.Meaning.{record_of}
 
 -- the bytes of an entry, where these are the bytes of its block
 abbrev pub entry_bytes : List ℕ → EntryIndex → List ℕ

@@ -1,4 +1,4 @@
-//! Log records: items and entries in signed batches, and the marks of atomic groups.
+//! Log records: items and entries in signed batches, which may be parts of atomic groups.
 #![tactic(auto)]
 
 pub mod atomic_group;
@@ -6,9 +6,10 @@ pub mod laws;
 pub mod log_batch;
 pub mod log_item_batch;
 
-pub use atomic_group::{AtomicGroupBuilder, AtomicGroupStatus, Marking};
+pub use atomic_group::AtomicGroupBuilder;
 pub use log_batch::{BatchState, LogBatch};
 pub use log_item_batch::LogItemBatch;
+pub use raft_log_atomic_groups::{AtomicGroupStatus, Marking};
 pub use raft_log_frames::{
     LOG_BATCH_HEADER_LEN, decode_entries_block, decode_footer, decode_header,
 };

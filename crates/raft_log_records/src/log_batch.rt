@@ -1,10 +1,11 @@
 //! A batch on its way to a file: it is filled, populated, signed for a file, and written.
 ghost use Rattle.std.specs.Prelude.{◌≡◌, ◌+◌, ◌≤◌, ◌==◌, if◌then◌else◌, false, length, vec_len, vec_capacity, IsOk, OnOk, OnErr, IfErr};
+ghost use Rattle.raft_log_atomic_groups.specs.Key.{is_internal};
 ghost use Rattle.raft_log_records.specs.Batch.{max_entries_len, kept_buffer, roomy};
-ghost use Rattle.raft_log_records.specs.Key.{is_internal, IsKeyRefusal};
+ghost use Rattle.raft_log_records.specs.Key.{IsKeyRefusal};
 
-use crate::atomic_group::{MARK_GROUP, MARK_KEY, Marking};
 use crate::log_item_batch::{LogItemBatch, items_size};
+use raft_log_atomic_groups::{MARK_GROUP, MARK_KEY, Marking};
 use raft_log_frames::LOG_BATCH_HEADER_LEN;
 use raft_log_frames::record::{are_bytes, fill_record, write_checksum};
 use raft_log_items::{Command, Error, FileBlockHandle, LogFileContext, LogItem, Message, Result};
@@ -74,10 +75,11 @@ impl LogBatch {
     ghost use Rattle.raft_log_items.specs.Placed.{entries_len, laid_out};
     ghost use Rattle.raft_log_frames.specs.Record.{record_len};
     ghost use Rattle.raft_log_frames.specs.Made.{IsMemoryOrFull};
+    ghost use Rattle.raft_log_atomic_groups.specs.Key.{is_internal};
+    ghost use Rattle.raft_log_atomic_groups.specs.Marking.{mark_key, marking_of_items};
     ghost use Rattle.raft_log_records.specs.declared.log_batch.BatchState.TheVariants.{Filling, Populated};
-    ghost use Rattle.raft_log_records.specs.AtomicGroup.{mark_key, marking_of_items};
     ghost use Rattle.raft_log_records.specs.ItemBatch.{command_item};
-    ghost use Rattle.raft_log_records.specs.Key.{is_internal, IsKeyRefusal};
+    ghost use Rattle.raft_log_records.specs.Key.{IsKeyRefusal};
     ghost use Rattle.raft_log_records.specs.Batch.{batch_size, empty_batch, emptied, max_kept_len, written_at, signed_as, signed_bytes, IsButBuffer, AddsItem, Puts, Becomes, IsMade, IsSigned, IsReadyForEach, IsRecordOf, block_place};
     ghost use Rattle.raft_log_records.specs.Places.{AllLieIn, HasBytesInBlock};
 

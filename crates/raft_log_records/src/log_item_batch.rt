@@ -61,7 +61,7 @@ impl LogItemBatch {
 
     /// An empty batch, which has no room yet.
     pub fn default(alloc: Global) -> Self
-        ensures { result.items ≡ [] }
+        ensures { result ≡ no_items 0 }
     {
         let items = Vec::new(alloc);
         LogItemBatch { items }

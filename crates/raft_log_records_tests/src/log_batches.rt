@@ -141,7 +141,11 @@ fn written_entries_lie_in_their_block(rt: HostRuntime) -> std::result::Result<()
 }
 
 /// An entry of a user's log.
-fn entry(alloc: Global, index: u64, bytes: &[u8]) -> std::result::Result<TestEntry, AllocError> {
+pub(crate) fn entry(
+    alloc: Global,
+    index: u64,
+    bytes: &[u8],
+) -> std::result::Result<TestEntry, AllocError> {
     Ok(TestEntry {
         index,
         bytes: Bytes::from_slice(alloc, bytes)?,

@@ -1,10 +1,11 @@
 //! A call that finds no memory is refused as such, and answered when it is asked again. Run it with each
 //! allocation failing in turn.
 use crate::item_batches::{decoded, some_items};
-use crate::log_batches::{TWO_ENTRIES, merged, signed, with_messages};
+use crate::log_batches::{TWO_ENTRIES, entry, merged, signed, with_messages};
 use crate::steps::record;
 use raft_log_frames::decode_record;
 use raft_log_items::{Error, Result, Version};
+use raft_log_records::{AtomicGroupBuilder, LogBatch};
 use std::alloc::Global;
 use std::test::Fail;
 
@@ -25,6 +26,33 @@ fn record_of_messages(alloc: Global) -> Result<usize> {
     Ok(record(alloc, &mut with_messages(alloc)?, Version::V1)?.len())
 }
 
+/// How many bytes the record of a batch with a mark has.
+fn record_of_marked(alloc: Global) -> Result<usize> {
+    let mut batch = LogBatch::default(alloc)?;
+    AtomicGroupBuilder::with_id(258).begin(alloc, &mut batch)?;
+    Ok(record(alloc, &mut batch, Version::V1)?.len())
+}
+
+/// How many items come of a list that took those of its copy.
+fn items_of_two(alloc: Global) -> Result<usize> {
+    let mut batch = some_items(alloc)?;
+    let mut copy = batch.clone(alloc)?;
+    batch.merge(&mut copy)?;
+    let mut items = Vec::new(alloc);
+    batch.drain(&mut items)?;
+    Ok(items.len())
+}
+
+/// How many items a batch has to which a message and a deletion were added.
+fn items_of_keys(alloc: Global) -> Result<usize> {
+    let message = entry(alloc, 1, b"x")?;
+    let mut batch = LogBatch::default(alloc)?;
+    batch.reserve(1, 8)?;
+    batch.put_message(alloc, 2, b"k", &message)?;
+    batch.delete(alloc, 2, b"k")?;
+    Ok(batch.len())
+}
+
 /// How many bytes or items a call answers.
 fn call(alloc: Global, number: usize) -> Result<usize> {
     match number {
@@ -33,13 +61,16 @@ fn call(alloc: Global, number: usize) -> Result<usize> {
         2 => Ok(signed(alloc)?.clone(alloc)?.encoded_bytes().len()),
         3 => Ok(decode_record(alloc, &TWO_ENTRIES, Some(1))?.1.len()),
         4 => Ok(decoded(alloc, 1, 13)?.len()),
-        _ => encoded(alloc),
+        5 => encoded(alloc),
+        6 => record_of_marked(alloc),
+        7 => items_of_two(alloc),
+        _ => items_of_keys(alloc),
     }
 }
 
 /// What each call answers: records of 16 + 10 + 20 and of 16 + 22 + 11 bytes, a copy of one of 36, one item
-/// and three that are read, and a footer of 22 + 4 bytes.
-const ANSWERS: [usize; 6] = [46, 49, 36, 1, 3, 26];
+/// and three that are read, a footer of 22 + 4 bytes, a record of 16 + 18 + 4, eight items, and two.
+const ANSWERS: [usize; 9] = [46, 49, 36, 1, 3, 26, 38, 8, 2];
 
 #[test]
 fn a_call_without_memory_is_answered_later(rt: HostRuntime) -> std::result::Result<(), Fail> {

@@ -15,8 +15,8 @@ use Rattle.raft_log_items.specs.declared.item.LogItemContent.TheVariants as cont
 use Rattle.raft_log_items.specs.Writing.{value_of}
 use Rattle.raft_log_base.specs.declared.pipe_log.FileBlockHandle.{FileBlockHandle}
 use Rattle.raft_log_items.specs.Placed.{written, written_content, written_entry, written_item}
-use Rattle.raft_log_records.specs.AtomicGroup.{content_has_mark_key, has_mark_key}
-use Rattle.raft_log_records.specs.Meaning.{key_meaning, meaning, tagged, tagged_items, unless_mark}
+use Rattle.raft_log_atomic_groups.specs.Marking.{content_has_mark_key, has_mark_key}
+use Rattle.raft_log_atomic_groups.specs.Meaning.{key_meaning, meaning, tagged, tagged_items, unless_mark}
 use Rattle.raft_log_places.specs.declared.place.Place.{Place}
 use Rattle.raft_log_places.specs.Shown.{Shown, IsOrderly, stepped, all_stepped, whereabouts}
 use Rattle.raft_log_model.specs.Groups.{Map}

@@ -5,11 +5,11 @@ use Rattle.raft_log_model.specs.Item.{Tagged}
 use Rattle.raft_log_model.specs.Groups.{of_group}
 use Rattle.raft_log_items.specs.declared.entry.EntryIndex.{EntryIndex}
 use Rattle.raft_log_items.specs.declared.item.LogItem.{LogItem}
-use Rattle.raft_log_records.specs.AtomicGroup.{has_mark_key, mark_of, marking_of, part_or_broken}
-use Rattle.raft_log_records.specs.declared.atomic_group.Marking.{Marking}
-use Rattle.raft_log_records.specs.declared.atomic_group.AtomicGroupStatus.{AtomicGroupStatus}
-use Rattle.raft_log_records.specs.declared.atomic_group.Marking.TheVariants.{Unmarked, Part, Broken}
-use Rattle.raft_log_records.specs.Meaning.{meaning, tagged, tagged_items, unless_mark}
+use Rattle.raft_log_atomic_groups.specs.Marking.{has_mark_key, mark_of, marking_of, part_or_broken}
+use Rattle.raft_log_atomic_groups.specs.declared.marking.Marking.{Marking}
+use Rattle.raft_log_atomic_groups.specs.declared.status.AtomicGroupStatus.{AtomicGroupStatus}
+use Rattle.raft_log_atomic_groups.specs.declared.marking.Marking.TheVariants.{Unmarked, Part, Broken}
+use Rattle.raft_log_atomic_groups.specs.Meaning.{meaning, tagged, tagged_items, unless_mark}
 use Rattle.raft_log_replay.specs.Batch.{mentions}
 
 module _ {E : Type 0} (entry : EntryIndex → E) where

@@ -8,7 +8,7 @@ use Rattle.raft_log_model.specs.Holes.{Window}
 use Rattle.raft_log_base.specs.declared.errors.Error.{Error}
 use Rattle.raft_log_items.specs.declared.item.LogItem.{LogItem}
 use Rattle.raft_log_items.specs.declared.entry.EntryIndex.{EntryIndex}
-use Rattle.raft_log_records.specs.Meaning.{tagged_items}
+use Rattle.raft_log_atomic_groups.specs.Meaning.{tagged_items}
 use Rattle.raft_log_replay.proofs.Items.{none_said}
 use Rattle.raft_log_tables.specs.Room.{Promise, promised, span_after, IsReady}
 use Rattle.raft_log_tables.proofs.Ready.{ready_none, ready_more}

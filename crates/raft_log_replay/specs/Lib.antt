@@ -1,2 +1,6 @@
 pub mod Tables
 pub mod Batch
+pub mod Replaying
+pub mod Joining
+pub mod Rewriting
+pub mod Walking

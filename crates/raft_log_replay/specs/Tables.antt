@@ -1,10 +1,11 @@
 -- The tables of all groups: what shows of each, what each promised, and which groups count.
-use Rattle.std.specs.Prelude.{◌≡◌, ℕ, Bool, false, Option, Some, None, is_some, if◌then◌else◌}
+use Rattle.std.specs.Prelude.{◌≡◌, ℕ, Bool, false, Option, Some, None, is_some, option_map, if◌then◌else◌}
 use Rattle.std.specs.BTreeMap.{get}
 use Rattle.std.specs.Ordering.{nat_cmp}
 use Rattle.raft_log_places.specs.Shown.{Shown, nothing_shown, span}
 use Rattle.raft_log_tables.specs.Room.{Promise, no_promise}
-use Rattle.raft_log_tables.specs.Table.{Raw, promise, shown}
+use Rattle.raft_log_places.specs.Replayed.{Replayed, nothing_replayed}
+use Rattle.raft_log_tables.specs.Table.{Raw, promise, replay_of, shown}
 use Rattle.raft_log_replay.specs.declared.group_table.GroupTable.{GroupTable}
 use Rattle.raft_log_replay.specs.declared.mem_tables.MemTables.{MemTables}
 
@@ -17,6 +18,11 @@ shown_in (Some t) = shown t.table
 abbrev pub promise_in : Option GroupTable → Promise
 promise_in None = no_promise
 promise_in (Some t) = promise t.table
+
+-- what was read of a group with this table, if it has one
+abbrev pub replayed_in : Option GroupTable → Replayed
+replayed_in None = nothing_replayed
+replayed_in (Some t) = replay_of t.table
 
 -- whether the group counts
 abbrev pub counts_in : Option GroupTable → Bool
@@ -36,6 +42,10 @@ shown_of m g = shown_in (get nat_cmp m.groups g)
 abbrev pub promise_of : MemTables → ℕ → Promise
 promise_of m g = promise_in (get nat_cmp m.groups g)
 
+-- what was read of each group: nothing, where it has no table
+abbrev pub replayed_of : MemTables → ℕ → Replayed
+replayed_of m g = replayed_in (get nat_cmp m.groups g)
+
 -- whether a group counts: it took something since it was cleaned last
 abbrev pub counts : MemTables → ℕ → Bool
 counts m g = counts_in (get nat_cmp m.groups g)
@@ -47,6 +57,10 @@ has_table m g = is_some (get nat_cmp m.groups g)
 -- the table of a group, if the group counts
 abbrev pub table_of : MemTables → ℕ → Option Raw
 table_of m g = counting (get nat_cmp m.groups g)
+
+-- the table of a group, whether the group counts or not
+abbrev pub raw_of : MemTables → ℕ → Option Raw
+raw_of m g = option_map (λ t. t.table) (get nat_cmp m.groups g)
 
 -- what shows of all groups stays, and which of them count
 pub record ShowsSame (old new : MemTables) : Type 0 where

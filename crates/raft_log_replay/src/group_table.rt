@@ -1,17 +1,25 @@
 //! The table of one group, and whether the group counts.
-ghost use Rattle.std.specs.Prelude.{◌≡◌, false, OnOk, OnErr, IfErr};
-ghost use Rattle.raft_log_places.specs.Shown.{nothing_shown, stepped, MayFollow};
-ghost use Rattle.raft_log_records.specs.Meaning.{meaning};
-ghost use Rattle.raft_log_held.specs.Entries.{place_of};
+ghost use Rattle.std.specs.Prelude.{◌≡◌, ◌&&◌, ◌||◌, false, not, ℕ, OnOk, OnErr, IfErr};
+ghost use Rattle.raft_log_items.specs.Run.{IsRun};
+ghost use Rattle.raft_log_items.specs.Writing.{value_of};
+ghost use Rattle.raft_log_places.specs.Bridge.{unmarked};
+ghost use Rattle.raft_log_places.specs.Shown.{nothing_shown, span, stepped, MayFollow};
+ghost use Rattle.raft_log_places.specs.Replayed.{joined, merged, nothing_replayed, replayed, LeavesHole};
+ghost use Rattle.raft_log_atomic_groups.specs.Meaning.{key_meaning, meaning};
+ghost use Rattle.raft_log_held.specs.Entries.{place_of, run_of};
+ghost use Rattle.raft_log_tables.specs.Files.{with_group};
+ghost use Rattle.raft_log_tables.specs.Replays.{in_append, MergeRefused};
 ghost use Rattle.raft_log_tables.specs.Room.{kept, no_promise, promised, taken_back, CanTake};
-ghost use Rattle.raft_log_tables.specs.Table.{promise, shown, RunRefused};
-ghost use Rattle.raft_log_places.specs.Shown.{span};
+ghost use Rattle.raft_log_tables.specs.Table.{promise, replay_of, shown, RunRefused};
 ghost use Rattle.raft_log_replay.specs.Batch.{counts_after};
+ghost use Rattle.raft_log_replay.specs.Replaying.{MayBeRead, ReadRefused};
+ghost use Rattle.raft_log_replay.specs.Rewriting.{rewritten_item};
 
-use raft_log_base::{FileSeq, Result};
-use raft_log_items::{Bytes, Command, LogItemContent, OpType};
+use raft_log_base::{FileSeq, LogQueue, Result};
+use raft_log_items::{Bytes, Command, EntryIndex, KeyValue, LogItemContent, OpType};
+use raft_log_places::GroupFiles;
 use raft_log_tables::MemTable;
-use std::alloc::Global;
+use std::alloc::{AllocError, Global};
 
 /// The table of a group, and whether the group counts. One that was cleaned keeps its table for the marks
 /// that are owed, and one that is prepared for its first batch has a table before it counts.
@@ -28,6 +36,7 @@ impl GroupTable {
     pub(crate) fn new(alloc: Global) -> GroupTable
         ensures shows { shown result.table ≡ nothing_shown }
         ensures room { promise result.table ≡ no_promise }
+        ensures replay { replay_of result.table ≡ nothing_replayed }
         ensures counts { result.counts ≡ false }
     {
         GroupTable {
@@ -98,6 +107,178 @@ impl GroupTable {
                     self.table.put(key_value.key.as_slice(), bytes, file);
                 }
                 OpType::Del => self.table.delete(key_value.key.as_slice()),
+            },
+        }
+    }
+
+    /// An item that was read in a file of a queue stands there. `Hole` where its run would leave one in
+    /// Append; `Memory`. Refused, nothing changes but that nothing is promised any more.
+    pub(crate) fn replay(
+        &mut self,
+        alloc: Global,
+        queue: LogQueue,
+        content: LogItemContent,
+        file: FileSeq,
+    ) -> Result<()>
+        ensures ok { OnOk result (replay_of self.new.table
+            ≡ replayed (in_append queue) file (replay_of self.old.table) (meaning place_of content)) }
+        ensures fits { OnOk result
+            (MayBeRead (in_append queue) (span (shown self.old.table)) (meaning place_of content)) }
+        ensures counts { OnOk result
+            (self.new.counts ≡ counts_after self.old.counts (meaning place_of content)) }
+        ensures err { OnErr result
+            ((replay_of self.new.table ≡ replay_of self.old.table) × (self.new.counts ≡ self.old.counts)) }
+        ensures errors { IfErr result (λ e. ReadRefused (in_append queue) (span (shown self.old.table))
+            (meaning place_of content) e) }
+        ensures ends { (promise self.new.table).ends ≡ span (shown self.new.table) }
+    {
+        match content {
+            LogItemContent::EntryIndexes(entries) => {
+                self.replay_run(queue, entries.as_slice())?;
+            }
+            LogItemContent::Command(Command::Clean) => {
+                self.table.replay_clean();
+                self.counts = false;
+                return Ok(());
+            }
+            LogItemContent::Command(Command::Compact { index }) => {
+                self.table.replay_compact(index);
+            }
+            LogItemContent::Kv(key_value) => {
+                self.replay_key(alloc, queue, key_value, file)?;
+            }
+        }
+        self.counts = true;
+        Ok(())
+    }
+
+    /// Entries that were read in a queue stand there.
+    fn replay_run(&mut self, queue: LogQueue, entries: &[EntryIndex]) -> Result<()>
+        requires { IsRun entries.now }
+        ensures ok { (n : ℕ) → OnOk result (replay_of self.new.table
+            ≡ replayed (in_append queue) n (replay_of self.old.table) (run_of entries.now)) }
+        ensures fits { OnOk result
+            (MayBeRead (in_append queue) (span (shown self.old.table)) (run_of entries.now)) }
+        ensures err { OnErr result (replay_of self.new.table ≡ replay_of self.old.table) }
+        ensures errors { IfErr result
+            (λ e. ReadRefused (in_append queue) (span (shown self.old.table)) (run_of entries.now) e) }
+        ensures counts { self.new.counts ≡ self.old.counts }
+        ensures ends { (promise self.new.table).ends ≡ span (shown self.new.table) }
+    {
+        match queue {
+            LogQueue::Append => self.table.replay_append(entries),
+            LogQueue::Rewrite => {
+                self.table.replay_rewrite(entries)?;
+                Ok(())
+            }
+        }
+    }
+
+    /// A value or a Del that was read in a file of a queue.
+    fn replay_key(
+        &mut self,
+        alloc: Global,
+        queue: LogQueue,
+        key_value: KeyValue,
+        file: FileSeq,
+    ) -> Result<(), AllocError>
+        ensures ok { OnOk result (replay_of self.new.table
+            ≡ replayed (in_append queue) file (replay_of self.old.table) (key_meaning key_value.op_type key_value.key (value_of key_value))) }
+        ensures err { OnErr result (replay_of self.new.table ≡ replay_of self.old.table) }
+        ensures counts { self.new.counts ≡ self.old.counts }
+        ensures ends { (promise self.new.table).ends ≡ span (shown self.new.table) }
+    {
+        match key_value.op_type {
+            OpType::Put => {
+                let bytes = key_value.value.unwrap_or(Bytes::new(alloc));
+                self.table
+                    .replay_put(queue, key_value.key.as_slice(), bytes, file)
+            }
+            OpType::Del => self.table.replay_delete(key_value.key.as_slice()),
+        }
+    }
+
+    /// A table that was read of the next segment comes behind this one. Refused, nothing changes but that
+    /// nothing is promised any more.
+    pub(crate) fn join(&mut self, newer: GroupTable) -> Result<()>
+        ensures ok { OnOk result
+            (replay_of self.new.table ≡ joined (replay_of self.old.table) (replay_of newer.table)) }
+        ensures counts { OnOk result (self.new.counts
+            ≡ newer.counts || (self.old.counts && not (shown newer.table).cleaned)) }
+        ensures fits { OnOk result (LeavesHole (shown self.old.table) (replay_of newer.table) → ⊥) }
+        ensures err { OnErr result
+            ((replay_of self.new.table ≡ replay_of self.old.table) × (self.new.counts ≡ self.old.counts)) }
+        ensures errors { IfErr result
+            (λ e. MergeRefused (shown self.old.table) (replay_of newer.table) e) }
+        ensures ends { (promise self.new.table).ends ≡ span (shown self.new.table) }
+    {
+        let GroupTable { table, counts } = newer;
+        let cleaned = table.owes_clean();
+        self.table.merge_newer_neighbor(table)?;
+        self.counts = counts || (self.counts && !cleaned);
+        Ok(())
+    }
+
+    /// A table that was read of all of Append comes over this one, which was read of all of Rewrite. Refused,
+    /// nothing changes but that nothing is promised any more.
+    pub(crate) fn merge(&mut self, append: GroupTable) -> Result<(), AllocError>
+        ensures ok { OnOk result
+            (shown self.new.table ≡ merged (shown self.old.table) (replay_of append.table)) }
+        ensures counts { OnOk result (self.new.counts
+            ≡ append.counts || (self.old.counts && not (shown append.table).cleaned)) }
+        ensures err { OnErr result
+            ((shown self.new.table ≡ shown self.old.table) × (self.new.counts ≡ self.old.counts)) }
+        ensures ends { (promise self.new.table).ends ≡ span (shown self.new.table) }
+    {
+        let GroupTable { table, counts } = append;
+        let cleaned = table.owes_clean();
+        self.table.merge_append_table(table)?;
+        self.counts = counts || (self.counts && !cleaned);
+        Ok(())
+    }
+
+    /// What becomes of a table that comes behind one of which nothing is known.
+    pub(crate) fn follow_nothing(&mut self)
+        ensures read { replay_of self.new.table ≡ joined nothing_replayed (replay_of self.old.table) }
+        ensures counts { self.new.counts ≡ self.old.counts }
+        ensures ends { (promise self.new.table).ends ≡ span (shown self.new.table) }
+    {
+        self.table.follow_nothing();
+    }
+
+    /// No mark is owed any more.
+    pub(crate) fn clear_marks(&mut self)
+        ensures shows { shown self.new.table ≡ unmarked (shown self.old.table) }
+        ensures counts { self.new.counts ≡ self.old.counts }
+        ensures room { promise self.new.table ≡ promise self.old.table }
+    {
+        self.table.clear_marks();
+    }
+
+    /// An atomic group of Rewrite ended, whose items this table took: its files are noted.
+    pub(crate) fn note(&mut self, files: GroupFiles)
+        ensures read { replay_of self.new.table
+            ≡ record (replay_of self.old.table) { table = with_group self.old.table files } }
+        ensures counts { self.new.counts ≡ self.old.counts }
+        ensures room { promise self.new.table ≡ promise self.old.table }
+    {
+        self.table.apply_rewrite_atomic_group(files);
+    }
+
+    /// An item that was written to this file of Rewrite: what is still there lies there from now on, as far
+    /// as the gate lets it.
+    pub(crate) fn rewrite(&mut self, content: &LogItemContent, gate: Option<FileSeq>, file: FileSeq)
+        ensures shows { shown self.new.table
+            ≡ rewritten_item gate file (shown self.old.table) (meaning place_of content.now) }
+        ensures counts { self.new.counts ≡ self.old.counts }
+        ensures room { promise self.new.table ≡ promise self.old.table }
+    {
+        match content {
+            LogItemContent::EntryIndexes(entries) => self.table.rewrite(entries.as_slice(), gate),
+            LogItemContent::Command(_) => {}
+            LogItemContent::Kv(key_value) => match key_value.op_type {
+                OpType::Put => self.table.rewrite_key(key_value.key.as_slice(), gate, file),
+                OpType::Del => {}
             },
         }
     }

@@ -9,7 +9,7 @@ ghost use Rattle.raft_log_machine.specs.Whereabouts.{GrowsBy};
 ghost use Rattle.raft_log_base.specs.declared.pipe_log.FileBlockHandle.{FileBlockHandle};
 ghost use Rattle.raft_log_items.specs.declared.item.LogItem.{LogItem};
 ghost use Rattle.raft_log_items.specs.Placed.{written};
-ghost use Rattle.raft_log_records.specs.Meaning.{tagged_items};
+ghost use Rattle.raft_log_atomic_groups.specs.Meaning.{tagged_items};
 ghost use Rattle.raft_log_places.specs.declared.place.Place.{Place};
 ghost use Rattle.raft_log_places.specs.Shown.{whereabouts, IsOrderly, Shown};
 ghost use Rattle.raft_log_places.specs.Bridge.{IsMeant, Located};

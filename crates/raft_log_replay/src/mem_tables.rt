@@ -1,9 +1,10 @@
 //! The tables of all groups.
 ghost use Rattle.std.specs.Prelude.{◌≡◌, ◌==◌, ◌+◌, ℕ, false, true, option_copied, OnOk, OnErr, IfOk, IfErr};
 ghost use Rattle.raft_log_model.specs.Groups.{of_group};
+ghost use Rattle.raft_log_places.specs.Replayed.{nothing_replayed};
 ghost use Rattle.raft_log_places.specs.Shown.{nothing_shown, span};
-ghost use Rattle.raft_log_records.specs.AtomicGroup.{has_mark_key};
-ghost use Rattle.raft_log_records.specs.Meaning.{meaning, tagged, tagged_items};
+ghost use Rattle.raft_log_atomic_groups.specs.Marking.{has_mark_key};
+ghost use Rattle.raft_log_atomic_groups.specs.Meaning.{meaning, tagged, tagged_items};
 ghost use Rattle.raft_log_held.specs.Entries.{place_of};
 ghost use Rattle.raft_log_tables.specs.Room.{CanTake};
 ghost use Rattle.raft_log_replay.specs.Batch.{
@@ -20,6 +21,7 @@ ghost use Rattle.raft_log_replay.specs.Tables.{
   counts,
   has_table,
   promise_of,
+  replayed_of,
   shown_of,
   table_of,
   IsAtRest,
@@ -27,9 +29,15 @@ ghost use Rattle.raft_log_replay.specs.Tables.{
   ShowsSame,
 };
 
+mod joining;
+mod replaying;
+mod rewriting;
+mod walking;
+
 use crate::group_table::GroupTable;
+use raft_log_atomic_groups::Marking;
 use raft_log_base::{FileSeq, Result};
-use raft_log_records::{LogItem, Marking};
+use raft_log_items::LogItem;
 use raft_log_tables::MemTable;
 use std::alloc::{AllocError, Global};
 use std::collections::BTreeMap;
@@ -48,6 +56,7 @@ impl MemTables {
     /// No group has taken anything.
     pub fn new(alloc: Global) -> MemTables
         ensures shows { (g : ℕ) → shown_of result g ≡ nothing_shown }
+        ensures replay { (g : ℕ) → replayed_of result g ≡ nothing_replayed }
         ensures counts { (g : ℕ) → counts result g ≡ false }
         ensures rest { IsAtRest result }
     {

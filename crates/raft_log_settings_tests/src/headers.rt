@@ -46,8 +46,12 @@ fn headers_are_read_back(rt: HostRuntime) {
 fn test_encoding_decoding_file_format(rt: HostRuntime) {
     let read = LogFileFormat::decode(rt.alloc(), &mut &ALIGNED[..]);
     assert!(rt; matches!(read, Ok(f) if f == LogFileFormat::new(Version::V2, 4096)));
+    let back = there_and_back(rt.alloc(), LogFileFormat::new(Version::V2, 4096));
+    assert!(rt; matches!(back, Ok((f, 69)) if f == LogFileFormat::new(Version::V2, 4096)));
     let fourth = LogFileFormat::decode(rt.alloc(), &mut &FOURTH[..]);
     assert!(rt; matches!(fourth, Err(Error::Corruption(_))));
+    let first = there_and_back(rt.alloc(), LogFileFormat::new(Version::V1, 4096));
+    assert!(rt; matches!(first, Err(Error::InvalidArgument(_))));
 }
 
 #[test]

@@ -3,3 +3,4 @@ pub mod Leasts
 pub mod Rewriting
 pub mod Fetching
 pub mod Reread
+pub mod Behind

@@ -25,6 +25,10 @@ under v f =
       rewritten = min v.rewritten (f - v.first);
     }
 
+-- where the entries begin behind nothing: without entries at 0, but behind a Clean as they do
+abbrev pub begin_alone : Shown → ℕ
+begin_alone v = if v.cleaned then v.first else (if nat_lt 0 (length v.places) then v.first else 0)
+
 -- whether a later segment's run, which stands in Append, starts past the end of what it leaves
 abbrev pub leaves_hole : Shown → Replayed → Bool
 leaves_hole v z =

@@ -3,3 +3,4 @@ pub mod Counter
 pub mod LogDisk
 pub mod Chain
 pub mod Sessions
+pub mod Pipes

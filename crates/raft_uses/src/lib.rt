@@ -1,6 +1,7 @@
 //! One proved caller of each crate that users call: what the pages `CALLING.md` show.
 #![tactic(auto)]
 
+pub mod atomic_groups;
 pub mod base;
 pub mod format;
 pub mod frames;
@@ -8,6 +9,7 @@ pub mod items;
 pub mod log_disk;
 pub mod memory_files;
 pub mod outline;
+pub mod pipes;
 pub mod records;
 pub mod settings;
 pub mod tables;

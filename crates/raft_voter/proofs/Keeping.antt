@@ -10,11 +10,15 @@ use Rattle.std.specs.Option.{option_map}
 use Rattle.raft_voter_messages.specs.declared.request.Request.{Request}
 use Rattle.raft_voter_messages.specs.declared.request.Request.TheVariants.{Vote, Append, Compact, Install, Read, Status, Retire}
 use Rattle.raft_voter_messages.specs.Ranges.{entries_fit, entry_fits, fits, in_range, total_bytes}
-use Rattle.raft_voter.specs.InRange.{IsInRange}
-use Rattle.raft_voter.specs.Laws.{RangeIsKept}
+use Rattle.raft_voter.specs.InRange.{IsInRange, IsStorable}
+use Rattle.raft_voter.specs.Laws.{RangeIsKept, StorableIsKept}
+use Rattle.raft_voter_outline.specs.Outlines.{append_write, write_of}
+use Rattle.raft_voter_outline.specs.declared.outline.decision.Write.{Write}
+use Rattle.raft_voter_outline.specs.declared.outline.decision.Write.TheVariants.{StateAlone}
 use Rattle.raft_voter_outline.specs.Rules.{agrees_at, appended, can_compact, compacted, grants, installed, matching, merged, next_in_range}
 use Rattle.raft_voter_outline.specs.State.{State, adopt_term, entry_at, fresh, last_index, term_at}
-use Rattle.raft_voter_outline.proofs.Steps.{by_test}
+use Rattle.raft_voter_outline.proofs.Deciding.{Does, append_small, does_append, does_compact, does_install, does_vote, written_small}
+use Rattle.raft_voter_outline.proofs.Steps.{base_small-next, by_test}
 
 left : (a b : Bool) → (a && b) ≡ true → a ≡ true
 left true b h = refl
@@ -130,3 +134,42 @@ fresh_fits = record { term = refl; vote = refl; base_index = refl; base_term = r
 
 pub range_is_kept : RangeIsKept
 range_is_kept = (fresh_fits, λ v q r. by_test IsInRange (in_range q) (next_in_range v q) v (λ h. next_fits v q r h) (λ _. r))
+
+-- The last index stays in range.
+
+end_written :
+    (v : State) (q : Request) (w : Write) → Does v q w → (next_in_range v q).base_index < 2 ^ 63 → last_index v < 2 ^ 63
+    → last_index (next_in_range v q) < 2 ^ 63
+end_written v q w does base small =
+    rw does.log_is (written_small w q v (next_in_range v q).base_index does.can does.rests base small)
+
+end_kept :
+    (q : Request) (v : State) → in_range q ≡ true → last_index v < 2 ^ 63 → last_index (next_in_range v q) < 2 ^ 63
+end_kept (Vote t c i u) v fit small =
+    let base = base_small-next (Vote t c i u) v fit (omega (arith, small)) in
+    end_written v (Vote t c i u) StateAlone (does_vote v t c i u) base small
+end_kept (Append t p u c sent) v fit small =
+    let base = base_small-next (Append t p u c sent) v fit (omega (arith, small)) in
+    let does = does_append v t p u c sent (append_small t p u c sent fit) in
+    end_written v (Append t p u c sent) (append_write v t p u sent) does base small
+end_kept (Compact i) v fit small =
+    let base = base_small-next (Compact i) v fit (omega (arith, small)) in
+    end_written v (Compact i) (write_of v (Compact i)) (does_compact v i) base small
+end_kept (Install t i u) v fit small =
+    let base = base_small-next (Install t i u) v fit (omega (arith, small)) in
+    end_written v (Install t i u) (write_of v (Install t i u)) (does_install v t i u) base small
+end_kept (Read from to) v fit small = small
+end_kept Status v fit small = small
+end_kept Retire v fit small = omega arith
+
+fresh_is_storable : IsStorable fresh
+fresh_is_storable = record { in_range = fresh_fits; end_fits = omega arith }
+
+pub storable_is_kept : StorableIsKept
+storable_is_kept = (
+  fresh_is_storable,
+  λ v q s. record {
+    in_range = range_is_kept.1 v q s.in_range;
+    end_fits = by_test (λ (w : State). last_index w < 2 ^ 63) (in_range q) (next_in_range v q) v (λ h. end_kept q v h s.end_fits) (λ _. s.end_fits);
+  },
+)

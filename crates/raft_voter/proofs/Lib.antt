@@ -8,7 +8,9 @@ pub mod Standing
 pub mod Repeating
 mod Owning
 mod Commits
+pub mod Numbering
 mod Reading
+mod Restored
 pub mod Keeping
 pub use Rattle.raft_voter_outline.proofs.Ordered
 pub use Rattle.raft_voter_outline.proofs.Steps

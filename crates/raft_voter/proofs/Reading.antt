@@ -12,10 +12,7 @@ use Rattle.raft_voter_outline.specs.State.{State, entry_at, last_index}
 use Rattle.raft_voter_outline.specs.Rules.{entries_between, numbered}
 use Rattle.raft_voter.specs.Laws.{EntriesAreTheLog}
 use Rattle.raft_voter_outline.proofs.Indexes.{get_drop, Pair}
-
-length-numbered : (es : List Pair) (i : ℕ) → length (numbered i es) ≡ length es
-length-numbered [] i = refl
-length-numbered (e ∷ es) i = ap suc (length-numbered es (i + 1))
+use Rattle.raft_voter.proofs.Numbering.{length-numbered}
 
 -- the k-th of them
 numbered_at :
@@ -44,7 +41,7 @@ between v from to above order within =
     let some = take (to - from) (drop start v.log) in
     let left : length (drop start v.log) ≡ length v.log - start = length-drop start v.log in
     let size : length some ≡ to - from = length-take-le (to - from) (drop start v.log) (omega (arith, left, above, order, within)) in
-    let whole : length (entries_between v from to) ≡ to - from = length-numbered some from ∙ size in (
+    let whole : length (entries_between v from to) ≡ to - from = length-numbered from some ∙ size in (
       whole,
       λ k h.
           let found = numbered_at some from k (omega (arith, h, whole, size)) in

@@ -1,15 +1,19 @@
-use Rattle.std.specs.Prelude.{◌≡◌, ◌≢◌, ℕ, ◌+◌, ◌-◌, ◌<◌, ◌≤◌, nat_lt, Bool, true, false, IsTrue, IsSomeAnd, length, if◌then◌else◌, List, [], ◌∷◌, ◌++◌, take, drop, slice_get, Option, None, Some}
+use Rattle.std.specs.Prelude.{◌≡◌, ◌≢◌, ℕ, ◌+◌, ◌-◌, ◌<◌, ◌≤◌, nat_lt, Bool, true, false, IsTrue, IsSomeAnd, length, if◌then◌else◌, List, [], ◌∷◌, ◌++◌, map, take, drop, slice_get, Option, None, Some, Ok}
+use Rattle.raft_voter_messages.specs.Laws.{bare}
+use Rattle.raft_voter_messages.specs.StoredForms.{IsEntry, IsState, entry_text, state_text}
 use Rattle.raft_voter_messages.specs.declared.reply.Entry.{Entry}
 use Rattle.raft_voter_messages.specs.declared.reply.Reply.{Reply}
 use Rattle.raft_voter_messages.specs.declared.reply.Reply.TheVariants.{Entries, Granted, Matched}
+use Rattle.raft_voter_messages.specs.declared.reply.VoterState.{VoterState}
 use Rattle.raft_voter_messages.specs.declared.request.Request.{Request}
 use Rattle.raft_voter_messages.specs.declared.request.Request.TheVariants.{Vote, Append, Compact, Install, Read, Status, Retire}
 use Rattle.raft_voter_messages.specs.declared.round.Outcome.{Outcome}
 use Rattle.raft_voter_messages.specs.declared.round.Outcome.TheVariants.{Answered, Cut}
 use Rattle.raft_voter_messages.specs.declared.round.Round.{Round}
-use Rattle.raft_voter_outline.specs.State.{State, entry_at, fresh, term_at}
-use Rattle.raft_voter_outline.specs.Rules.{next, reply}
-use Rattle.raft_voter.specs.InRange.{IsInRange}
+use Rattle.raft_voter_outline.specs.Restoring.{restored}
+use Rattle.raft_voter_outline.specs.State.{State, entry_at, fresh, state_of, term_at}
+use Rattle.raft_voter_outline.specs.Rules.{next, numbered, reply}
+use Rattle.raft_voter.specs.InRange.{IsInRange, IsStorable}
 use Rattle.raft_voter.specs.Rounds.{World, Explains, Leads}
 use Rattle.raft_voter.specs.Accounts.{group_account, NoRetire, requests_of, voter_after}
 
@@ -111,6 +115,11 @@ abbrev pub AllSpare : State → ℕ → List (Request × Option Reply) → Type 
 AllSpare v i [] = Unit {0}
 AllSpare v i (t ∷ ts) = Spares v i t.0 × AllSpare (next v t.0) i ts
 
+-- an Append that was taken, and answered to have matched up to an index
+abbrev pub matched_up_to : ℕ → ℕ → ℕ → ℕ → List (ℕ × List ℕ) → ℕ → Request × Option Reply
+matched_up_to term prev prev_term commit sent last =
+    (Append term prev prev_term commit sent, Some (Matched last))
+
 -- An entry that an Append was answered to have matched stands, with its term and bytes, until a later
 -- Append brings a different term at or below it, or it is compacted, replaced by Install, or retired.
 abbrev pub MatchedEntriesStand : Type 0
@@ -120,14 +129,14 @@ MatchedEntriesStand =
     (sent : List (ℕ × List ℕ))
     (e : ℕ × List ℕ)
     → group_account group rounds cuts
-    ≡ before ++ (Append term prev prev_term commit sent, Some (Matched last)) ∷ between ++ later
+    ≡ before ++ matched_up_to term prev prev_term commit sent last ∷ between ++ later
     → sent_at prev sent i ≡ Some e
-    → AllSpare (voter_after (before ++ (Append term prev prev_term commit sent, Some (Matched last)) ∷ []))
+    → AllSpare (voter_after (before ++ matched_up_to term prev prev_term commit sent last ∷ []))
     i between
     → (bytes : List ℕ)
-    × (entry_at (voter_after (before ++ (Append term prev prev_term commit sent, Some (Matched last)) ∷ [])) i
+    × (entry_at (voter_after (before ++ matched_up_to term prev prev_term commit sent last ∷ [])) i
     ≡ Some (e.0, bytes))
-    × (entry_at (voter_after (before ++ (Append term prev prev_term commit sent, Some (Matched last)) ∷ between)) i
+    × (entry_at (voter_after (before ++ matched_up_to term prev prev_term commit sent last ∷ between)) i
     ≡ Some (e.0, bytes))
 
 -- the requests that a leader or a node may repeat
@@ -169,15 +178,15 @@ MatchedIsAcknowledged =
     → (before between later : List (Request × Option Reply)) (term prev prev_term commit last i : ℕ)
     (sent : List (ℕ × List ℕ))
     → group_account group rounds cuts
-    ≡ before ++ (Append term prev prev_term commit sent, Some (Matched last)) ∷ between ++ later
-    → (voter_after (before ++ (Append term prev prev_term commit sent, Some (Matched last)) ∷ [])).base_index < i
+    ≡ before ++ matched_up_to term prev prev_term commit sent last ∷ between ++ later
+    → (voter_after (before ++ matched_up_to term prev prev_term commit sent last ∷ [])).base_index < i
     → i ≤ last
-    → AllSpare (voter_after (before ++ (Append term prev prev_term commit sent, Some (Matched last)) ∷ []))
+    → AllSpare (voter_after (before ++ matched_up_to term prev prev_term commit sent last ∷ []))
     i between
     → (e : ℕ × List ℕ)
-    × (entry_at (voter_after (before ++ (Append term prev prev_term commit sent, Some (Matched last)) ∷ [])) i
+    × (entry_at (voter_after (before ++ matched_up_to term prev prev_term commit sent last ∷ [])) i
     ≡ Some e)
-    × (entry_at (voter_after (before ++ (Append term prev prev_term commit sent, Some (Matched last)) ∷ between)) i
+    × (entry_at (voter_after (before ++ matched_up_to term prev prev_term commit sent last ∷ between)) i
     ≡ Some e)
 
 -- A Read that is answered with entries is answered one for each index that it asked for, in order: the
@@ -193,3 +202,29 @@ EntriesAreTheLog =
 -- A fresh voter is in range, and each request leaves a voter in range in range.
 abbrev pub RangeIsKept : Type 0
 RangeIsKept = IsInRange fresh × ((v : State) (q : Request) → IsInRange v → IsInRange (next v q))
+
+-- A fresh voter can be stored, and each request leaves a voter that can be stored so.
+abbrev pub StorableIsKept : Type 0
+StorableIsKept = IsStorable fresh × ((v : State) (q : Request) → IsStorable v → IsStorable (next v q))
+
+-- the entries of a voter with their indexes, the first right above its base
+abbrev pub log_entries : State → List Entry
+log_entries v = numbered (v.base_index + 1) v.log
+
+-- each of these bytes is the entry at its index, the first at this one
+abbrev pub AreReadAs : ℕ → List (List ℕ) → List Entry → Type 0
+AreReadAs index [] [] = Unit {0}
+AreReadAs index (bytes ∷ others) (e ∷ es) = IsEntry bytes index e × AreReadAs (index + 1) others es
+AreReadAs index others es = ⊥
+
+-- A state and entries are read of what is written of a voter: of its state's bytes, and of each entry's.
+pub record IsReadOf (v : State) (s : VoterState) (es : List Entry) : Type 0 where
+  pub state : IsState (state_text (state_of v)) s
+  pub entries : AreReadAs (v.base_index + 1) (map entry_text (log_entries v)) es
+
+-- What is written of a voter that can be stored is read, and whatever it is read as restores that very voter.
+abbrev pub StoredVotersAreRestored : Type 0
+StoredVotersAreRestored =
+    (v : State) → IsStorable v
+    → IsReadOf v (bare (state_of v)) (log_entries v)
+    × ((s : VoterState) (es : List Entry) → IsReadOf v s es → restored s es ≡ Ok v)

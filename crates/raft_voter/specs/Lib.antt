@@ -1,6 +1,7 @@
 pub mod Entries
 pub mod Rounds
 pub mod Voters
+pub mod Service
 pub mod Accounts
 pub mod InRange
 pub mod Laws

@@ -1,6 +1,6 @@
 //! What follows from the definitions alone: laws over whole runs, each the contract of a function that
 //! does nothing.
-ghost use Rattle.raft_voter.specs.Laws.{BaseIsCommitted, EntriesAreTheLog, MatchedIsAcknowledged, RangeIsKept, CommitNeverFalls, GroupIsolation, MatchedAppend, MatchedEntriesStand, OneVotePerTerm, RepeatIsIdempotent, RoundsJoin, RoundsPart, TermsNeverFall};
+ghost use Rattle.raft_voter.specs.Laws.{BaseIsCommitted, EntriesAreTheLog, MatchedIsAcknowledged, RangeIsKept, CommitNeverFalls, GroupIsolation, MatchedAppend, MatchedEntriesStand, OneVotePerTerm, RepeatIsIdempotent, RoundsJoin, RoundsPart, StorableIsKept, StoredVotersAreRestored, TermsNeverFall};
 
 /// Rounds that lead from one world to a second and rounds that lead from there to a third are, one behind
 /// the other, rounds that lead from the first to the third, with their cuts one behind the other.
@@ -72,4 +72,15 @@ pub fn entries_are_the_log()
 /// A fresh voter is in range, and each request leaves a voter in range in range.
 pub fn range_is_kept()
     ensures { RangeIsKept }
+{}
+
+/// A fresh voter can be stored, and each request leaves a voter that can be stored so.
+pub fn storable_is_kept()
+    ensures { StorableIsKept }
+{}
+
+/// What `state_bytes` and `entry_bytes` write of a voter that can be stored, `read_state` and `read_entry`
+/// read, unless memory runs out, and `Voter::restore` makes that very voter of it.
+pub fn stored_voters_are_restored()
+    ensures { StoredVotersAreRestored }
 {}

@@ -1,15 +1,18 @@
 //! The receiver's side of Raft as a pure machine: many voters, each with its term, its vote and its log,
-//! what a transcript of their replies means, and a judge of such transcripts.
+//! what a transcript of their replies means, and a judge of such transcripts; and the trait of a store that
+//! keeps them.
 //!
 //! Nothing here knows of files, threads or time. A `Voter` answers one `Request` at a time; what it
 //! answers and what it becomes are the rules of `raft_voter_outline`, case by case, and its outline
 //! decides by them. A `Transcript` tells which requests came in which rounds and what was answered;
-//! `judge` says whether voters that never fail explain it. Requests, replies, rounds and their stored
-//! bytes are those of `raft_voter_messages`.
+//! `judge` says whether voters that never fail explain it. A `RoundService` serves such rounds and keeps
+//! the voters where a crash leaves them. Requests, replies, rounds and their stored bytes are those of
+//! `raft_voter_messages`.
 #![tactic(auto)]
 
 mod judging;
 pub mod laws;
+mod service;
 mod voter;
 mod voters;
 
@@ -20,5 +23,6 @@ pub use raft_voter_messages::{
     read_state, state_bytes,
 };
 pub use raft_voter_outline::{Answer, Change, Decision, Outline, Write};
+pub use service::{Cause, MAX_ROUND_REQUESTS, RoundFault, RoundService};
 pub use voter::Voter;
 pub use voters::Voters;

@@ -553,7 +553,8 @@ length_take zero es = omega arith
 length_take (suc n) [] = omega arith
 length_take (suc n) (e ∷ es) = omega (arith, length_take n es)
 
-written_small :
+-- what is written to a log leaves its end in range
+pub written_small :
     (w : Write) (q : Request) (v : State) (base : ℕ) → CanWrite w q v → RestsOn w v base → base < 2 ^ 63 → last_index v < 2 ^ 63
     → base + length (log_written w (sent_of q) v) < 2 ^ 63
 written_small StateAlone q v base can (inl same) small last = omega (arith, same, last)

@@ -60,7 +60,11 @@ can_compact v index = nat_lt v.base_index index && nat_le index (last_index v) &
 -- that entry is the base, and what follows it stays
 abbrev pub compacted : State → ℕ → State
 compacted v index =
-    record v { base_index = index; base_term = unwrap_or (term_at v index) 0; log = drop (index - v.base_index) v.log }
+    record v {
+      base_index = index;
+      base_term = unwrap_or (term_at v index) 0;
+      log = drop (index - v.base_index) v.log;
+    }
 
 -- A snapshot's last entry is the base, and committed. What follows stays where the log held that very
 -- entry, and else goes.
@@ -109,7 +113,8 @@ reply_in_range v Retire = Retired
 -- what it makes of the voter
 abbrev pub next_in_range : State → Request → State
 next_in_range v (Vote term candidate index last) =
-    if grants v term candidate index last then record (adopt_term v term) { vote = Some candidate } else adopt_term v term
+    if grants v term candidate index last then record (adopt_term v term) { vote = Some candidate }
+    else adopt_term v term
 next_in_range v (Append term prev prev_term commit sent) =
     if nat_lt term v.term then v
     else if agrees_at v prev prev_term then appended (adopt_term v term) prev commit sent

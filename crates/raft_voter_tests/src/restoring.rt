@@ -1,7 +1,7 @@
 //! Voters from what was stored of them.
 use crate::requests::vote;
 use raft_voter::{
-    Entry, Items, Memory, Reply, StoredFault, Voter, VoterState, read_state, state_bytes,
+    Entry, Items, Memory, Reply, Request, StoredFault, Voter, VoterState, read_state, state_bytes,
 };
 use std::alloc::Global;
 use std::test::Fail;
@@ -61,5 +61,40 @@ fn granted_vote_is_in_the_stored_state(rt: HostRuntime) -> Result<(), Fail> {
     let bytes = state_bytes(alloc, &voter.state())?;
     assert!(rt; read_state(bytes.as_slice()) == Ok(voter.state()));
     assert!(rt; voter.state().vote == Some(2));
+    Ok(())
+}
+
+/// What was written of a state of term 2 before states had a commit: no vote, the base at index 2 of term 2.
+const OLD_BYTES: &[u8] =
+    b"\x01\0\0\0\0\0\0\0\x02\0\0\0\0\0\0\0\0\0\0\0\0\0\0\0\0\x02\0\0\0\0\0\0\0\x02";
+
+/// The voter of that state with one entry of term 2, at index 3.
+fn old_voter(alloc: Global) -> Result<Voter, StoredFault> {
+    let mut stored = Items::new(alloc);
+    let bytes = Items::new(alloc);
+    stored.push(Entry {
+        index: 3,
+        term: 2,
+        bytes,
+    })?;
+    Voter::restore(alloc, read_state(OLD_BYTES)?, stored)
+}
+
+/// What was stored before states had a commit is committed up to the base, and a leader tells the rest.
+#[test]
+fn old_voter_compacts_what_a_leader_commits(rt: HostRuntime) -> Result<(), Fail> {
+    let alloc = rt.alloc();
+    let mut voter = old_voter(alloc)?;
+    let heartbeat = Request::Append {
+        term: 2,
+        prev_index: 3,
+        prev_term: 2,
+        commit: 3,
+        entries: Items::new(alloc),
+    };
+    assert!(rt; voter.state().commit == 2);
+    assert!(rt; voter.step(&Request::Compact { index: 3 })? == Reply::Base(2));
+    assert!(rt; voter.step(&heartbeat)? == Reply::Matched(3));
+    assert!(rt; voter.step(&Request::Compact { index: 3 })? == Reply::Base(3));
     Ok(())
 }

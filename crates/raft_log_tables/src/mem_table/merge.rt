@@ -1,9 +1,17 @@
 //! Tables that were read of segments, one behind the other, and of Append over Rewrite.
 ghost use Rattle.std.specs.Prelude.{◌≡◌, ◌||◌, max, OnOk, OnErr, IfErr};
 ghost use Rattle.raft_log_places.specs.Shown.{span};
-ghost use Rattle.raft_log_places.specs.Replayed.{both_noted, joined, left, merged, with_newer, LeavesHole};
+ghost use Rattle.raft_log_places.specs.Replayed.{
+  both_noted,
+  joined,
+  left,
+  merged,
+  nothing_replayed,
+  with_newer,
+  LeavesHole,
+};
 ghost use Rattle.raft_log_model.specs.Summary.{lesser};
-ghost use Rattle.raft_log_tables.specs.Replays.{leaves_hole, HasRoomOf, MergeRefused};
+ghost use Rattle.raft_log_tables.specs.Replays.{begin_alone, leaves_hole, HasRoomOf, MergeRefused};
 ghost use Rattle.raft_log_tables.specs.Table.{promise, replay_of, shown, window_of, IsBoundAs};
 
 use super::MemTable;
@@ -38,6 +46,27 @@ impl MemTable {
         self.make_room_for(&newer)?;
         self.join(newer);
         Ok(())
+    }
+
+    /// What becomes of this table behind one of which nothing is known: without entries it begins at 0.
+    /// Nothing is promised any more.
+    pub fn follow_nothing(&mut self)
+        ensures read { replay_of self.new ≡ joined nothing_replayed (replay_of self.old) }
+        ensures ends { (promise self.new).ends ≡ span (shown self.new) }
+    {
+        self.first = self.begin_alone();
+        self.take_back();
+    }
+
+    /// Where the entries begin behind nothing.
+    fn begin_alone(&self) -> u64
+        ensures { result ≡ begin_alone (shown self.now) }
+    {
+        if self.cleaned || self.places.len() > 0 {
+            self.first
+        } else {
+            0
+        }
     }
 
     /// A table that was read of all of Append comes over this one, which was read of all of Rewrite and

@@ -22,7 +22,11 @@ impl Model for TermRuns {
 
     ghost Value = { Terms };
 
-    ghost view = { λ t. record { base = t.base; log = unrolled t.base t.runs.items; room = vec_capacity t.runs - vec_len t.runs } };
+    ghost view = { λ t. record {
+      base = t.base;
+      log = unrolled t.base t.runs.items;
+      room = vec_capacity t.runs - vec_len t.runs;
+    } };
 
     ghost invariant = { λ t. AreRunsOf t.base t.runs.items };
 }

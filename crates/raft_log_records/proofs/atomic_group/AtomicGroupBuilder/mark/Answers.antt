@@ -1,9 +1,10 @@
 use Rattle.std.proofs.Common.{List, ℕ, subst, ◌∙◌}
 use Rattle.raft_log_items.specs.Items.{put_item}
-use Rattle.raft_log_records.specs.AtomicGroup.{AtomicGroup, mark_key, mark_item}
+use Rattle.raft_log_atomic_groups.specs.Marking.{mark_key, mark_item}
+use Rattle.raft_log_records.specs.AtomicGroup.{AtomicGroup}
 use Rattle.raft_log_records.specs.Batch.{with_item, Becomes}
-use Rattle.raft_log_records.specs.Meaning.{BecomesPart}
-use Rattle.raft_log_records.proofs.Meanings.{became_part}
+use Rattle.raft_log_atomic_groups.specs.Meaning.{BecomesPart}
+use Rattle.raft_log_records.proofs.AtomicGroups.{became_part}
 use Rattle.raft_log_records.proofs.atomic_group.AtomicGroupBuilder.mark.Goals as goal
 
 pub returns-clause-part : goal.returns-clause-part

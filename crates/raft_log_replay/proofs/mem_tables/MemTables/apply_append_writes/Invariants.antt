@@ -1,7 +1,7 @@
 use Rattle.std.proofs.Common.{◌≡◌, ℕ}
 use Rattle.std.specs.Vec.Iter.{into_iter_items}
 use Rattle.raft_log_model.specs.Groups.{of_group}
-use Rattle.raft_log_records.specs.Meaning.{tagged_items}
+use Rattle.raft_log_atomic_groups.specs.Meaning.{tagged_items}
 use Rattle.raft_log_held.specs.Entries.{place_of}
 use Rattle.raft_log_replay.specs.Tables.{counts, shown_of}
 use Rattle.raft_log_replay.specs.Batch.{all_shown, counts_at_end, IsReadyFor}

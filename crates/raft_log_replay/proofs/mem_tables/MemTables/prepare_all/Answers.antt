@@ -1,8 +1,8 @@
 use Rattle.std.proofs.Common.{◌≡◌, ℕ, true, false, ◌∙◌, rules, sym}
 use Rattle.std.proofs.lemmas.Result.{err_from_is_err_and}
 use Rattle.raft_log_items.specs.declared.entry.EntryIndex.{EntryIndex}
-use Rattle.raft_log_records.specs.AtomicGroup.{has_mark_key}
-use Rattle.raft_log_records.specs.Meaning.{tagged}
+use Rattle.raft_log_atomic_groups.specs.Marking.{has_mark_key}
+use Rattle.raft_log_atomic_groups.specs.Meaning.{tagged}
 use Rattle.raft_log_replay.proofs.Items.{mentions_more, none_of_first, tagged_more, tagged_split}
 use Rattle.raft_log_replay.proofs.Ready.{first_of, still_ready, batch_refused, on_err_all, one_more_ready, others_more}
 use Rattle.raft_log_replay.proofs.mem_tables.MemTables.prepare_all.Goals as goal

@@ -1,5 +1,5 @@
 use Rattle.std.proofs.Common.{◌≡◌, ℕ, false, take}
-use Rattle.raft_log_records.specs.Meaning.{tagged_items}
+use Rattle.raft_log_atomic_groups.specs.Meaning.{tagged_items}
 use Rattle.raft_log_replay.specs.Tables.{promise_of, ShowsSame}
 use Rattle.raft_log_replay.specs.Batch.{mentions, IsReadyFor}
 use Rattle.raft_log_replay.proofs.mem_tables.MemTables.prepare_all.Given as goal

@@ -1,0 +1,7 @@
+#!/usr/bin/env bash
+# A pipe that is appended to, synced, rotated and purged over the file system in memory, in bytes per second, beside a plain
+# Rust twin of pipe and file system (rustc -O), in one run. Works named `files` leave the pipe out: the same file calls alone.
+# Usage: bench/pipes/run.sh [ROUNDS]; RT names the toolchain's command.
+set -euo pipefail
+here="$(dirname "$0")"
+exec "$here/../common/run.sh" "$here" "${1:-1}" raft_log_pipes raft_log_layout raft_log_memory_files raft_log_disk raft_log_files raft_log_format raft_log_base anyhow log

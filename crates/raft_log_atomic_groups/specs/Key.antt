@@ -1,0 +1,8 @@
+-- Keys that are the log's own.
+use Rattle.std.specs.Prelude.{ℕ, Bool, false, List, [], ◌∷◌, ◌==◌, ◌&&◌}
+
+-- the key begins with two underscores: such keys are the log's own
+abbrev pub is_internal : List ℕ → Bool
+is_internal [] = false
+is_internal (a ∷ []) = false
+is_internal (a ∷ b ∷ rest) = (a == 95) && (b == 95)

@@ -1,0 +1,3 @@
+pub mod Key
+pub mod Marking
+pub mod Meaning

@@ -1,0 +1,7 @@
+pub mod Parts
+pub mod Fragments
+pub mod OpenGroups
+pub mod Outcomes
+pub mod CarryOn
+pub mod Taking
+pub mod Contexts

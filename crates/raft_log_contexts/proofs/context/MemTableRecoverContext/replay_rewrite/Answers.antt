@@ -1,0 +1,25 @@
+use Rattle.std.proofs.Common.{ap, sym, subst, refl, ◌∙◌, false, option_map}
+use Rattle.raft_log_base.specs.declared.pipe_log.LogQueue.TheVariants.{Rewrite}
+use Rattle.raft_log_atomic_groups.specs.Marking.{marking_of_items}
+use Rattle.raft_log_contexts.specs.Records.{in_file, said_in, taken_as}
+use Rattle.raft_log_contexts.specs.declared.context.MemTableRecoverContext.{MemTableRecoverContext}
+use Rattle.raft_log_contexts.specs.Context.{ReadsOne}
+use Rattle.raft_log_contexts.proofs.Contexts.{reads_plain}
+use Rattle.raft_log_contexts.proofs.Outcomes.{on_ok_from}
+use Rattle.raft_log_contexts.proofs.context.MemTableRecoverContext.replay_rewrite.Goals as goal
+
+pub returns-in-Unmarked : goal.returns-in-Unmarked
+returns-in-Unmarked c =
+    let items = c.args.items.items in
+    let marking = ap marking_of_items (sym c.as_slice.ensures.value) ∙ sym c.parse_all.ensures ∙ c.in-Unmarked.is in
+    let told = ap (λ m. option_map (in_file c.args.file) (taken_as m (said_in false c.args.file items))) marking in
+    let new : MemTableRecoverContext = record { alloc = c.args.self.now.alloc; tables = c.replay_rewrite_writes.new.self; pieces = c.args.self.now.pieces } in
+    on_ok_from c.replay_rewrite_writes.result c.replay_rewrite_writes.ensures.ok (λ reads.
+    subst (λ o. ReadsOne Rewrite o c.args.self.now new) (sym told) (reads_plain Rewrite c.args.file c.args.self.now new items reads refl))
+
+pub returns-in-Part : goal.returns-in-Part
+returns-in-Part c =
+    let items = c.args.items.items in
+    let marking = ap marking_of_items (sym c.as_slice.ensures.value) ∙ sym c.parse_all.ensures ∙ c.in-Part.is in
+    let told = ap (λ m. option_map (in_file c.args.file) (taken_as m (said_in false c.args.file items))) marking in
+    on_ok_from c.replay_part.result c.replay_part.ensures (λ reads. subst (λ o. ReadsOne Rewrite o c.args.self.now c.replay_part.new.self) (sym told) reads)

@@ -1,0 +1,57 @@
+//! What a segment does with an atomic group that may be open before it.
+ghost use Rattle.std.specs.Prelude.{◌≡◌, ◌++◌, IfOk};
+ghost use Rattle.raft_log_model.specs.Fragments.{then_head};
+ghost use Rattle.raft_log_model.specs.Fragments.Head.{GoesOn};
+ghost use Rattle.raft_log_contexts.specs.Pieces.{head_of, parts_items};
+
+use crate::part::GroupPart;
+use std::alloc::AllocError;
+
+/// What a segment does with the group of a number that may be open before it.
+#[derive(Drop)]
+pub(crate) enum GroupHead {
+    /// It goes on with these records, and neither ends nor begins anew.
+    GoesOn(Vec<GroupPart>),
+    /// It ends, with these records up to its end.
+    Ends(Vec<GroupPart>),
+    /// A group of its number begins first: what was open is cut short.
+    BeginsAnew,
+}
+
+impl GroupHead {
+    /// What this segment and the next one do, one after the other.
+    pub(crate) fn then(self, later: GroupHead) -> Result<GroupHead, AllocError>
+        ensures { IfOk result (λ both. head_of both ≡ then_head (head_of self) (head_of later)) }
+    {
+        match self {
+            GroupHead::GoesOn(parts) => go_on(parts, later),
+            known => Ok(known),
+        }
+    }
+}
+
+/// What a group that goes on with these records does in the next segment.
+fn go_on(parts: Vec<GroupPart>, later: GroupHead) -> Result<GroupHead, AllocError>
+    ensures { IfOk result (λ both. head_of both
+        ≡ then_head (GoesOn (parts_items parts.items)) (head_of later)) }
+{
+    match later {
+        GroupHead::GoesOn(more) => Ok(GroupHead::GoesOn(joined(parts, more)?)),
+        GroupHead::Ends(more) => Ok(GroupHead::Ends(joined(parts, more)?)),
+        GroupHead::BeginsAnew => Ok(GroupHead::BeginsAnew),
+    }
+}
+
+/// These records, and behind them those.
+pub(crate) fn joined(
+    parts: Vec<GroupPart>,
+    more: Vec<GroupPart>,
+) -> Result<Vec<GroupPart>, AllocError>
+    ensures { IfOk result (λ both. parts_items both.items
+        ≡ parts_items parts.items ++ parts_items more.items) }
+{
+    let mut parts = parts;
+    let mut more = more;
+    parts.append(&mut more)?;
+    Ok(parts)
+}

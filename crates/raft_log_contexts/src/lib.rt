@@ -1,0 +1,12 @@
+//! What workers keep of the segments of a queue that they read, and how these are put together: an open
+//! reads the segments side by side, and what comes of it is one reading in order.
+#![tactic(auto)]
+
+pub mod context;
+mod head;
+pub mod laws;
+mod part;
+mod pieces;
+mod settle;
+
+pub use context::MemTableRecoverContext;

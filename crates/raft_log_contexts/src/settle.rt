@@ -1,0 +1,107 @@
+//! Atomic groups that are whole count.
+ghost use Rattle.std.specs.Prelude.{◌≡◌, false, OnOk};
+ghost use Rattle.raft_log_replay.specs.Tables.{replayed_of};
+ghost use Rattle.raft_log_contexts.specs.Records.{KeepsRead, TakesItems};
+ghost use Rattle.raft_log_contexts.specs.Pieces.{ends_with, groups_items, parts_items, whole_items, with_file};
+
+use crate::part::GroupPart;
+use raft_log_base::{FileSeq, Result};
+use raft_log_items::LogItem;
+use raft_log_places::GroupFiles;
+use raft_log_replay::MemTables;
+use std::alloc::Global;
+
+/// These atomic groups count, one after the other.
+pub(crate) fn settle_all(
+    alloc: Global,
+    tables: &mut MemTables,
+    done: Vec<Vec<GroupPart>>,
+) -> Result<()>
+    ensures { OnOk result
+        (TakesItems false (groups_items done.items) (replayed_of tables.old) (replayed_of tables.new)) }
+{
+    for parts in done {
+        settle(alloc, tables, parts)?;
+    }
+    Ok(())
+}
+
+/// This atomic group counts, if there is one.
+pub(crate) fn settle_whole(
+    alloc: Global,
+    tables: &mut MemTables,
+    whole: Option<Vec<GroupPart>>,
+) -> Result<()>
+    ensures { OnOk result
+        (TakesItems false (whole_items whole) (replayed_of tables.old) (replayed_of tables.new)) }
+{
+    match whole {
+        Some(parts) => settle(alloc, tables, parts),
+        None => Ok(()),
+    }
+}
+
+/// The records of an atomic group count: their items stand in the tables, and in the table of each raft group
+/// of theirs the files of the atomic group are noted, from the first record's to the last one's.
+fn settle(alloc: Global, tables: &mut MemTables, parts: Vec<GroupPart>) -> Result<()>
+    ensures { OnOk result
+        (TakesItems false (parts_items parts.items) (replayed_of tables.old) (replayed_of tables.new)) }
+{
+    let mut groups = Vec::new(alloc);
+    let mut files = None;
+    for part in parts {
+        files = Some(with_file(files, part.file));
+        add_groups(&mut groups, part.items.as_slice())?;
+        tables.replay_rewrite_writes(part.items, part.file)?;
+    }
+    note_groups(tables, groups.as_slice(), files);
+    Ok(())
+}
+
+/// The files of an atomic group, with one more of its records.
+fn with_file(files: Option<GroupFiles>, file: FileSeq) -> GroupFiles
+    ensures { result ≡ with_file files file }
+{
+    match files {
+        Some(files) => GroupFiles {
+            from: files.from.min(file),
+            to: files.to.max(file),
+        },
+        None => GroupFiles {
+            from: file,
+            to: file,
+        },
+    }
+}
+
+/// Adds the raft groups that the items are of, one that comes several times in a row but once.
+fn add_groups(groups: &mut Vec<u64>, items: &[LogItem]) -> Result<()> {
+    for item in items {
+        if !ends_with(groups.as_slice(), item.raft_group_id) {
+            groups.push(item.raft_group_id)?;
+        }
+    }
+    Ok(())
+}
+
+/// Whether this is the last of the groups.
+fn ends_with(groups: &[u64], group: u64) -> bool
+    ensures { result ≡ ends_with groups.now group }
+{
+    match groups.last() {
+        Some(last) => *last == group,
+        None => false,
+    }
+}
+
+/// The files of an atomic group are noted in the tables of these raft groups; it has some.
+fn note_groups(tables: &mut MemTables, groups: &[u64], files: Option<GroupFiles>)
+    ensures { KeepsRead (replayed_of tables.old) (replayed_of tables.new) }
+{
+    let Some(files) = files else {
+        return;
+    };
+    for group in groups {
+        tables.note_group(*group, files);
+    }
+}

@@ -1,0 +1,2 @@
+mod Marks
+mod Retold

@@ -1,0 +1,158 @@
+//! The items of a directory of three files, where a call or an allocation is refused.
+use crate::answers::answers_of;
+use crate::counting::Counting;
+use crate::items::{prepared, save};
+use crate::marked::Marked;
+use raft_log_base::{Error, Result};
+use raft_log_disk::{FileSystem, Permission};
+use raft_log_items::LogItem;
+use raft_log_memory_files::MemoryFileSystem;
+use std::alloc::Global;
+use std::test::Fail;
+
+/// The path of the file of groups 1 and 2.
+const FIRST: &str = "d/0000000000000004.rewrite";
+
+/// The path of the file of group 3.
+const SECOND: &str = "d/0000000000000001.raftlog";
+
+/// The path of the file of groups 4 and 5.
+const THIRD: &str = "d/0000000000000002.raftlog";
+
+/// A directory of the three files.
+fn three_files(alloc: Global) -> Result<MemoryFileSystem> {
+    let mut system = prepared(alloc)?;
+    save(alloc, &mut system, FIRST, &[1, 2], b"")?;
+    save(alloc, &mut system, SECOND, &[3], b"")?;
+    save(alloc, &mut system, THIRD, &[4, 5], b"")?;
+    Ok(system)
+}
+
+/// The group of an item; 0 for want of memory, 10 where the file system refused, and 20 for another refusal.
+fn word_of(answer: &Result<LogItem>) -> u64 {
+    match answer {
+        Ok(item) => item.raft_group_id,
+        Err(Error::Memory) => 0,
+        Err(Error::Io(_)) => 10,
+        Err(_) => 20,
+    }
+}
+
+/// What comes of the directory, a word an answer.
+fn words<F: FileSystem>(alloc: Global, system: &F) -> Result<Vec<u64>> {
+    let answers = answers_of(alloc, system, "d")?;
+    Ok(answers.iter().map(word_of).collect(alloc)?)
+}
+
+#[test]
+fn a_file_of_one_block_is_read_twice(rt: HostRuntime) -> Result<(), Fail> {
+    let alloc = rt.alloc();
+    let system = Counting::new(three_files(alloc)?, 0);
+    assert!(rt; words(alloc, &system)?.as_slice() == [1, 2, 3, 4, 5].as_slice());
+    assert!(rt; system.reads.get() == 6);
+    Ok(())
+}
+
+/// What comes of the directory where there is no memory for this call.
+fn short_at(alloc: Global, call: usize) -> Result<Vec<u64>> {
+    words(alloc, &Counting::new(three_files(alloc)?, call))
+}
+
+/// What comes where no memory is there for opening each of the files in turn, and where it is for all.
+const SHORT: [(usize, &[u64]); 4] = [
+    (2, &[0, 3, 4, 5]),
+    (3, &[1, 2, 0, 4, 5]),
+    (4, &[1, 2, 3, 0]),
+    (5, &[1, 2, 3, 4, 5]),
+];
+
+#[test]
+fn a_file_that_is_not_opened_is_passed_over(rt: HostRuntime) -> Result<(), Fail> {
+    let alloc = rt.alloc();
+    assert!(rt; matches!(short_at(alloc, 1), Err(Error::Memory)));
+    for (call, found) in SHORT.iter() {
+        assert!(rt; short_at(alloc, *call)?.as_slice() == *found, "call {call}");
+    }
+    Ok(())
+}
+
+/// What comes of the directory where this place of the file with a path can't be read.
+fn unread_at(alloc: Global, path: &str, place: usize) -> Result<Vec<u64>> {
+    let files = three_files(alloc)?;
+    let file = files.open(path, Permission::ReadOnly)?.file;
+    let system = Marked {
+        files,
+        file,
+        place,
+        stopped: false,
+    };
+    words(alloc, &system)
+}
+
+/// What comes where a place of each file in turn can't be read.
+const UNREAD: [(&str, &[u64]); 3] = [
+    (FIRST, &[10, 3, 4, 5]),
+    (SECOND, &[1, 2, 10, 4, 5]),
+    (THIRD, &[1, 2, 3, 10]),
+];
+
+#[test]
+fn a_file_that_is_not_read_is_passed_over(rt: HostRuntime) -> Result<(), Fail> {
+    let alloc = rt.alloc();
+    for (path, found) in UNREAD.iter() {
+        assert!(rt;
+            unread_at(alloc, path, 60)?.as_slice() == *found,
+            "header of {path}"
+        );
+        assert!(rt;
+            unread_at(alloc, path, 61)?.as_slice() == *found,
+            "records of {path}"
+        );
+        assert!(rt; unread_at(alloc, path, 1_000)?.as_slice() == [1, 2, 3, 4, 5].as_slice());
+    }
+    Ok(())
+}
+
+#[test]
+fn a_file_system_that_has_stopped_gives_nothing(rt: HostRuntime) -> Result<(), Fail> {
+    let alloc = rt.alloc();
+    let system = Marked {
+        files: three_files(alloc)?,
+        file: 0,
+        place: 0,
+        stopped: true,
+    };
+    assert!(rt; matches!(words(alloc, &system), Err(Error::Io(_))));
+    Ok(())
+}
+
+/// What comes where at most one allocation is refused while it is read.
+const WANTING: [&[u64]; 6] = [
+    &[1, 2, 3, 4, 5],
+    &[0, 3, 4, 5],
+    &[1, 0, 3, 4, 5],
+    &[1, 2, 0, 4, 5],
+    &[1, 2, 3, 0],
+    &[1, 2, 3, 4, 0],
+];
+
+/// The three files, where one allocation may be refused.
+fn three_files_again(alloc: Global) -> Result<MemoryFileSystem> {
+    match three_files(alloc) {
+        Ok(system) => Ok(system),
+        Err(_) => three_files(alloc),
+    }
+}
+
+// With any one allocation refused (`rt try --test --fail-alloc N`) one file at most ends early, by that.
+#[test]
+fn want_of_memory_ends_one_file(rt: HostRuntime) -> Result<(), Fail> {
+    let alloc = rt.alloc();
+    let system = three_files_again(alloc)?;
+    let found = match words(alloc, &system) {
+        Ok(found) => found,
+        Err(_) => words(alloc, &system)?,
+    };
+    assert!(rt; WANTING.iter().any(|row| found.as_slice() == *row));
+    Ok(())
+}

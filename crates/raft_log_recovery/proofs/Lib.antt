@@ -1,0 +1,8 @@
+pub mod NameLemmas
+pub mod DirectoryLemmas
+pub mod FoundLemmas
+pub mod Steps
+pub mod RunLemmas
+pub mod OpeningLemmas
+pub mod ScanLemmas
+pub mod MetadataLemmas

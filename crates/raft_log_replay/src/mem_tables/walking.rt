@@ -1,0 +1,46 @@
+//! The groups that have a table, in the order of their numbers.
+ghost use Rattle.std.specs.Prelude.{◌≡◌, option_copied, IfOk};
+ghost use Rattle.raft_log_replay.specs.Tables.{counts, has_table, raw_of};
+ghost use Rattle.raft_log_replay.specs.Walking.{is_listed, ListsGroups};
+
+use super::MemTables;
+use raft_log_tables::MemTable;
+use std::alloc::AllocError;
+
+impl MemTables {
+    /// The numbers of the groups that count, from the least up.
+    pub fn raft_groups(&self) -> Result<Vec<u64>, AllocError>
+        ensures { IfOk result (λ groups. ListsGroups (counts self.now) groups.items) }
+    {
+        self.list_groups(false)
+    }
+
+    /// The numbers of all groups that have a table, from the least up: also of those that were cleaned, whose
+    /// marks may be owed.
+    pub fn known_groups(&self) -> Result<Vec<u64>, AllocError>
+        ensures { IfOk result (λ groups. ListsGroups (has_table self.now) groups.items) }
+    {
+        self.list_groups(true)
+    }
+
+    /// The table of a group, whether the group counts or not.
+    pub fn known_table(&self, group: u64) -> Option<&MemTable>
+        ensures { option_copied result ≡ raw_of self.now group }
+    {
+        let found = self.groups.get(&group)?;
+        Some(&found.table)
+    }
+
+    /// The numbers of all groups that have a table, or only of those that count.
+    fn list_groups(&self, all: bool) -> Result<Vec<u64>, AllocError>
+        ensures { IfOk result (λ groups. ListsGroups (is_listed all self.now) groups.items) }
+    {
+        let mut groups = Vec::new(self.alloc);
+        for (group, table) in self.groups.iter() {
+            if all || table.counts {
+                groups.push(*group)?;
+            }
+        }
+        Ok(groups)
+    }
+}

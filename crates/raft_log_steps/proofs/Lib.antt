@@ -1,0 +1,13 @@
+pub mod Aside
+pub mod Reading
+pub mod Gaps
+pub mod Numbers
+pub mod Lifts
+pub mod OneQueue
+pub mod AppendStep
+pub mod Refused
+pub mod RefusedStep
+pub mod OtherSteps
+pub mod Stopped
+pub mod Wholes
+pub mod Written

@@ -1,0 +1,10 @@
+pub mod Queues
+pub mod State
+pub mod Crash
+pub mod Turning
+pub mod Quiet
+pub mod Steps
+pub mod Syncing
+pub mod Beginning
+pub mod Writing
+pub mod Own

@@ -1,0 +1,34 @@
+-- How the files of a queue go on, by the calls of its pipe.
+use Rattle.std.specs.Prelude.{◌≡◌, ℕ, ◌⊎◌, List, [], ◌∷◌}
+use Rattle.raft_log_disk.specs.Disk.{Disk}
+use Rattle.raft_log_disk.specs.Chains.{Written}
+use Rattle.raft_log_disk.specs.LogQueue.{LogFiles, rotated}
+use Rattle.raft_log_file_queue.specs.Queue.{with_more, with_room, settled}
+use Rattle.raft_log_pipes.specs.Files.{Listed}
+use Rattle.raft_log_pipes.specs.Exits.{IsStale}
+use Rattle.raft_log_steps.specs.State.{Spanned}
+
+-- a next file with this header, over what the oldest of the files kept for use holds on that disk (and maybe
+-- over room that was made)
+abbrev pub GoesOnInNext : {R : Type 0} → List ℕ → List Listed → Disk → LogFiles R → LogFiles R → Type 0
+GoesOnInNext header kept d q p = (room : ℕ) × (stale : List ℕ) × IsStale kept d stale
+    × (p ≡ with_room room (rotated header stale q))
+
+-- the queue as it was, or in its next file
+abbrev pub IsOrGoesOn : {R : Type 0} → List ℕ → List Listed → Disk → LogFiles R → LogFiles R → Type 0
+IsOrGoesOn header kept d q p = (p ≡ q) ⊎ GoesOnInNext header kept d q p
+
+-- a record was written, maybe in the next file
+abbrev pub HasTaken : {R : Type 0} → List ℕ → List Listed → Disk → LogFiles R → LogFiles R → Type 0
+HasTaken {R} header kept d q r = (p : LogFiles R) × IsOrGoesOn header kept d q p × (room : ℕ)
+    × (w : Written R) × (r ≡ with_more (w ∷ []) (with_room room p))
+
+-- a record was refused, maybe in the next file, and cut off again: all is synced, and maybe the queue went on
+-- once more
+abbrev pub IsCutBack : {R : Type 0} → List ℕ → List Listed → Disk → LogFiles R → LogFiles R → Type 0
+IsCutBack {R} header kept d q r = (p : LogFiles R) × IsOrGoesOn header kept d q p
+    × (later : List Listed) × (between : Disk) × IsOrGoesOn header later between (settled p) r
+
+-- the queue with other files, in a span that begins where it began
+abbrev pub in_span : {R : Type 0} → Spanned R → LogFiles R → Spanned R
+in_span q files = record { first = q.first; files = files }

@@ -1,0 +1,29 @@
+-- What a caller of a pipe does with it.
+use Rattle.std.specs.Prelude.{ℕ, List}
+use Rattle.raft_log_base.specs.declared.pipe_log.FileBlockHandle.{FileBlockHandle}
+use Rattle.raft_log_base.specs.declared.pipe_log.LogFileContext.{LogFileContext}
+use Rattle.raft_log_disk.specs.Disk.{Disk}
+use Rattle.raft_log_disk.specs.LogFormat.{Format}
+use Rattle.raft_log_files.specs.Layout.{FilePaths}
+use Rattle.raft_log_format.specs.Header.{header_bytes}
+use Rattle.raft_log_pipes.specs.Appending.{AppendsAt}
+use Rattle.raft_log_pipes.specs.Exits.{Rotates, SyncsPipe}
+use Rattle.raft_log_pipes.specs.Purging.{Purges}
+use Rattle.raft_log_pipes.specs.declared.pipe_files.PipeFiles.{PipeFiles}
+use Rattle.raft_log_pipes.specs.declared.single_pipe.PipeSettings.{PipeSettings}
+
+-- the record was written behind the others, signed for its file, and then all were synced
+pub record Saves {R : Type 0} (F : Format R) (own : List ℕ → Type 0) (paths : FilePaths)
+    (settings : PipeSettings) (signed : LogFileContext → List ℕ) (before after : PipeFiles)
+    (place : FileBlockHandle) (old new : Disk) : Type 0 where
+  pub between : Disk
+  pub written : AppendsAt F own paths settings.new_files settings.queue signed before after place old between
+  pub synced : SyncsPipe F own paths after between new
+
+-- the pipe went on in the next file, and then all files below the last one left it
+pub record KeepsLast {R : Type 0} (F : Format R) (own : List ℕ → Type 0) (paths : FilePaths)
+    (settings : PipeSettings) (before after : PipeFiles) (old new : Disk) : Type 0 where
+  pub middle : PipeFiles
+  pub between : Disk
+  pub turned : Rotates F own paths (header_bytes settings.new_files.format) before middle old between
+  pub purged : Purges F own paths settings.capacity middle.active.seq middle after between new

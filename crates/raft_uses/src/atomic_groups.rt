@@ -1,0 +1,19 @@
+//! A caller of `raft_log_atomic_groups`: what a reader asks of the items of a record.
+ghost use Rattle.std.specs.Prelude.{◌≡◌, ◌↔◌, Some, IsTrue};
+ghost use Rattle.raft_log_model.specs.Item.Record.{Plain};
+ghost use Rattle.raft_log_atomic_groups.specs.Meaning.{record_of, tagged_items};
+
+use raft_log_atomic_groups::Marking;
+use raft_log_items::LogItem;
+
+/// Whether what the items of a record say counts at once. A part of an atomic group waits for the other
+/// parts, and a broken record says nothing.
+pub fn counts_at_once(items: &[LogItem]) -> bool
+    ensures { IsTrue result ↔ (record_of (λ e. e) items.now ≡ Some (Plain (tagged_items (λ e. e) items.now))) }
+{
+    match Marking::parse_all(items) {
+        Marking::Unmarked => true,
+        Marking::Part(_, _) => false,
+        Marking::Broken => false,
+    }
+}

@@ -1,0 +1,49 @@
+//! Callers of a pipe.
+
+ghost use Rattle.std.specs.Prelude.{◌≡◌, ◌-◌, IfOk, OnOk};
+ghost use Rattle.raft_log_disk.specs.Causes.{IsLater};
+ghost use Rattle.raft_uses.specs.Pipes.{KeepsLast, Saves};
+
+use log::Log;
+use raft_log_base::{FileBlockHandle, Result};
+use raft_log_disk::FileSystem;
+use raft_log_files::PipeFormat;
+use raft_log_pipes::{ReactiveBytes, SinglePipe};
+use std::alloc::Global;
+
+/// Writes a record that no crash takes back once this has answered, and answers its place.
+pub fn save_record<G: PipeFormat, F: FileSystem, L: Log, B: ReactiveBytes>(
+    alloc: Global,
+    rt: &L,
+    file_system: &mut F,
+    pipe: &mut SinglePipe<G>,
+    bytes: &mut B,
+) -> Result<FileBlockHandle>
+    ensures ok { IfOk result (λ place. Saves (G.format pipe.old.layout) (G.own pipe.old.layout)
+        (G.file_paths pipe.old.layout) pipe.old.settings (B.signed bytes.old) pipe.old.files pipe.new.files
+        place
+        (F.disk file_system.old) (F.disk file_system.new)) }
+    ensures later { IsLater (F.disk file_system.old) (F.disk file_system.new) }
+{
+    let place = pipe.append(alloc, rt, file_system, bytes)?;
+    pipe.sync(rt, file_system)?;
+    Ok(place)
+}
+
+/// Goes on in the next file, and lets all files before it go; answers how many.
+pub fn keep_last_file<G: PipeFormat, F: FileSystem, L: Log>(
+    alloc: Global,
+    rt: &L,
+    file_system: &mut F,
+    pipe: &mut SinglePipe<G>,
+) -> Result<usize>
+    ensures ok { OnOk result (KeepsLast (G.format pipe.old.layout) (G.own pipe.old.layout)
+        (G.file_paths pipe.old.layout) pipe.old.settings pipe.old.files pipe.new.files
+        (F.disk file_system.old) (F.disk file_system.new)) }
+    ensures later { IsLater (F.disk file_system.old) (F.disk file_system.new) }
+{
+    pipe.rotate(alloc, rt, file_system)?;
+    let span = pipe.file_span();
+    let gone = pipe.purge_to(alloc, rt, file_system, span.1)?;
+    Ok(gone)
+}

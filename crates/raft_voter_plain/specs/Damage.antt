@@ -1,0 +1,38 @@
+-- Bytes that are told as damaged.
+use Rattle.std.specs.Prelude.{ℕ, List}
+use Rattle.raft_voter_messages.specs.declared.reply.Entry.{Entry}
+use Rattle.raft_voter_messages.specs.declared.stored.StoredFault.{StoredFault}
+use Rattle.raft_voter_messages.specs.declared.stored.StoredFault.TheVariants.{Memory as StoredMemory}
+use Rattle.raft_voter.specs.Rounds.{World}
+use Rattle.raft_voter.specs.State.{State}
+use Rattle.raft_voter_plain.specs.declared.record.OpenFault.{OpenFault}
+use Rattle.raft_voter_plain.specs.declared.record.OpenFault.TheVariants.{Damaged, Memory}
+use Rattle.raft_voter_plain.specs.Beginnings.{BeginsWithEntries, BeginsWithEntry, BeginsWithRecord}
+use Rattle.raft_voter_plain.specs.Records.{StandsFor}
+
+-- what a fault of stored bytes is told as
+abbrev pub open_fault : StoredFault → OpenFault
+open_fault StoredMemory = Memory
+open_fault fault = Damaged
+
+-- damage is told only where this holds; nothing is said of want of memory
+abbrev pub TellsDamage : Type 0 → OpenFault → Type 0
+TellsDamage P Damaged = P
+TellsDamage P Memory = Unit {0}
+
+-- no entry that stands at this index comes first
+abbrev pub HasNoEntry : ℕ → List ℕ → Type 0
+HasNoEntry index bytes = (e : Entry) (rest : List ℕ) → ¬ BeginsWithEntry bytes index e rest
+
+-- nor do so many entries, of which the first stands at this index
+abbrev pub HasNoEntries : ℕ → ℕ → List ℕ → Type 0
+HasNoEntries first count bytes =
+    (es : List Entry) (rest : List ℕ) → ¬ BeginsWithEntries bytes first count es rest
+
+-- no record comes first
+abbrev pub HasNoVoterRecord : List ℕ → Type 0
+HasNoVoterRecord bytes = (r : ℕ × State) (rest : List ℕ) → ¬ BeginsWithRecord bytes r rest
+
+-- these bytes aren't records, whatever voters they might mean
+abbrev pub StandsForNothing : List ℕ → Type 0
+StandsForNothing bytes = (W : World) → ¬ StandsFor bytes W

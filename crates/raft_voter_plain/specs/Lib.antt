@@ -1,0 +1,9 @@
+pub mod Content
+pub mod Records
+pub mod Beginnings
+pub mod Damage
+pub mod Store
+pub mod Storage
+pub mod Play
+pub mod Writing
+pub mod Run

@@ -1,0 +1,72 @@
+-- The plain store: its voters in memory, and the file that holds them.
+use Rattle.std.specs.Prelude.{◌≡◌, ◌≤◌, ◌⊎◌, ℕ, List, [], ◌∷◌, ◌++◌, length, take}
+use Rattle.raft_voter_messages.specs.declared.reply.Reply.{Reply}
+use Rattle.raft_voter_messages.specs.declared.request.Request.{Request}
+use Rattle.raft_voter.specs.Rounds.{World, after, after_one}
+use Rattle.raft_voter.specs.Rules.{reply}
+use Rattle.raft_voter_plain.specs.declared.store.PlainVoters.{PlainVoters}
+use Rattle.raft_voter.specs.InRange.{AllInRange}
+use Rattle.raft_voter_plain.specs.Records.{StandsFor, LeadTo, world_in}
+
+-- the voter of each group: the one in memory, or a fresh one
+abbrev pub world_of : PlainVoters → World
+world_of store = world_in store.voters
+
+-- what was synced stands for these voters: a crash leaves them
+abbrev pub HoldsVoters : PlainVoters → World → Type 0
+HoldsVoters store W = StandsFor store.file.synced W
+
+-- what was synced stands for the voters, and nothing else was written
+pub record IsStored (store : PlainVoters) : Type 0 where
+  pub synced : StandsFor store.file.synced (world_of store)
+  pub settled : store.file.unsynced ≡ []
+
+-- what wasn't synced leads from these voters to those in memory
+abbrev pub LeadsFrom : World → PlainVoters → Type 0
+LeadsFrom W store = LeadTo W store.file.unsynced (world_of store)
+
+-- one request is taken: what it changed is written
+pub record Takes (old : PlainVoters) (asked : ℕ × Request) (told : Reply) (new : PlainVoters) : Type 0 where
+  pub told_is : told ≡ reply (world_of old asked.0) asked.1
+  pub taken : world_of new ≡ after_one (world_of old) asked
+  pub synced : new.file.synced ≡ old.file.synced
+  pub written : (W : World) → AllInRange (world_of old) → LeadsFrom W old → LeadsFrom W new
+
+-- one request isn't answered: it was taken or not, and what was synced stays
+pub record IsRefused (old : PlainVoters) (asked : ℕ × Request) (new : PlainVoters) : Type 0 where
+  pub taken : (world_of new ≡ world_of old) ⊎ (world_of new ≡ after_one (world_of old) asked)
+  pub synced : new.file.synced ≡ old.file.synced
+
+-- the replies to requests that are taken one after another
+abbrev pub replies_in_turn : World → List (ℕ × Request) → List Reply
+replies_in_turn W [] = []
+replies_in_turn W (q ∷ qs) = reply (W q.0) q.1 ∷ replies_in_turn (after_one W q) qs
+
+-- requests are taken one after another: what they changed is written
+pub record TakesAll (old : PlainVoters) (asked : List (ℕ × Request)) (told : List Reply) (new : PlainVoters)
+    : Type 0 where
+  pub told_is : told ≡ replies_in_turn (world_of old) asked
+  pub taken : world_of new ≡ after (world_of old) asked
+  pub synced : new.file.synced ≡ old.file.synced
+  pub written : AllInRange (world_of old) → LeadsFrom (world_of old) old → LeadsFrom (world_of old) new
+
+-- some of the first requests were taken, perhaps none, and no others
+pub record Stopped (W : World) (requests : List (ℕ × Request)) (X : World) : Type 0 where
+  pub count : ℕ
+  pub few : count ≤ length requests
+  pub taken : X ≡ after W (take count requests)
+
+-- requests aren't answered: some of the first were taken, and what was synced stays
+pub record IsStopped (old : PlainVoters) (asked : List (ℕ × Request)) (new : PlainVoters) : Type 0 where
+  pub taken : Stopped (world_of old) asked (world_of new)
+  pub synced : new.file.synced ≡ old.file.synced
+
+-- some requests are taken, and these are left
+pub record IsAmidst (old : PlainVoters) (asked left : List (ℕ × Request)) (told : List Reply)
+    (now : PlainVoters) : Type 0 where
+  pub told_is : told ++ replies_in_turn (world_of now) left ≡ replies_in_turn (world_of old) asked
+  pub taken : after (world_of now) left ≡ after (world_of old) asked
+  pub synced : now.file.synced ≡ old.file.synced
+  pub written :
+      AllInRange (world_of old)
+      → AllInRange (world_of now) × ((W : World) → LeadsFrom W old → LeadsFrom W now)

@@ -1,5 +1,0 @@
-use Rattle.raftvoters.proofs.Restored as restored
-use Rattle.raftvoters.proofs.laws.stored_voters_are_restored.Goals as goal
-
-pub returns : goal.returns
-returns c = restored.stored_voters_are_restored

@@ -1,8 +1,0 @@
-use Rattle.raftvoters.proofs.Fronts.{refusal_within}
-use Rattle.raftvoters.proofs.Stops.{on_err}
-use Rattle.raftvoters.proofs.run.program.Goals as goal
-
-pub returns-in_err-write_whole-clause-err : goal.returns-in_err-write_whole-clause-err
-returns-in_err-write_whole-clause-err g c =
-    on_err c.from_residual.result _
-    (refusal_within (g.R.Read.remaining c.args.reader.now) _ _ c.args.has_arguments c.if-has_arguments.true c.in_err-write_whole.ensures.err)

@@ -78,7 +78,10 @@ fn holes_between_segments_are_refused(rt: HostRuntime) -> Result<(), Fail> {
 
 /// What shows of each group where Append came over Rewrite.
 const OVER: [(u64, &str); 3] = [
-    (5, "(Some(1), Some(6)) (Some(1), Some(20)) Some((false, 20))"),
+    (
+        5,
+        "(Some(1), Some(6)) (Some(1), Some(20)) Some((false, 20))",
+    ),
     (6, "(Some(3), Some(5)) (None, Some(20)) None"),
     (7, "(None, None) (None, None) None"),
 ];

@@ -38,7 +38,13 @@ pub fn program<R: Read, W: Write>(
         EndsEarly IsPlainSession has_arguments input (W.contents writer.old) (W.contents writer.new))) }
 {
     let file = PlainFile::new(alloc);
-    raft_voter_run::program::<PlainVoters, PlainFile, R, W>(has_arguments, alloc, file, reader, writer)
+    raft_voter_run::program::<PlainVoters, PlainFile, R, W>(
+        has_arguments,
+        alloc,
+        file,
+        reader,
+        writer,
+    )
 }
 
 /// The run of `raft_voter_run` over plain voters and an empty file: reads a session, serves it, and writes

@@ -11,8 +11,8 @@ ghost use Rattle.raft_voter_plain.specs.Store.{HoldsVoters, IsRefused, IsStopped
 use crate::file::PlainFile;
 use crate::record::{OpenFault, read_voter_record, voter_record};
 use raft_voter::{
-    Cause, Items, MAX_ROUND_REQUESTS, Memory, Reply, Request, RoundFault, RoundService,
-    StoreFiles, Voter,
+    Cause, Items, MAX_ROUND_REQUESTS, Memory, Reply, Request, RoundFault, RoundService, StoreFiles,
+    Voter,
 };
 use std::alloc::Global;
 use std::collections::BTreeMap;

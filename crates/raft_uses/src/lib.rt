@@ -15,4 +15,6 @@ pub mod settings;
 pub mod tables;
 pub mod voter;
 pub mod voter_messages;
+pub mod voter_plain;
+pub mod voter_service;
 pub mod voter_session;

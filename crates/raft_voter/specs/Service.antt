@@ -1,4 +1,4 @@
--- What a service of rounds answers.
+-- What a service of rounds answers, and the files that keep its voters.
 use Rattle.std.specs.Prelude.{◌≡◌, ℕ, ◌+◌, ◌<◌, ◌≤◌, IsTrue, Bool, true, false, if◌then◌else◌, List, [], ◌∷◌, length}
 use Rattle.raft_voter_messages.specs.declared.reply.Reply.{Reply}
 use Rattle.raft_voter_messages.specs.declared.reply.Reply.TheVariants.{Refused}
@@ -7,6 +7,54 @@ use Rattle.raft_voter.specs.Rounds.{TakesFirst, World, after, are_rising, replie
 use Rattle.raft_voter_messages.specs.Ranges.{in_range}
 use Rattle.raft_voter.specs.declared.service.Cause.{Cause}
 use Rattle.raft_voter.specs.declared.service.Cause.TheVariants.{FileSystem, Memory, Failed, TooLong}
+
+-- Services and files.
+
+-- What a service says of itself:
+-- the voters that it serves,
+-- whether it failed (then it serves nothing until it is opened again),
+-- which voters a crash may leave, as the next open finds them,
+-- whether all that it served is stored: then a crash leaves its voters, and no others,
+-- and which places of a round that it answers it may refuse, by what it was before the round and is after it
+pub record Service (S : Type 0) : Type 1 where
+  pub world : S → World
+  pub is_failed : S → Bool
+  pub may_leave : S → World → Type 0
+  pub is_stored : S → Type 0
+  pub may_refuse : S → S → List (ℕ × Request) → List ℕ → Type 0
+
+-- What files say of themselves that keep a service's voters while it isn't open:
+-- whether they keep these voters for good,
+-- which voters a crash may leave, as the next open finds them,
+-- and what an open may make of them, a close of a service, and a crash of them
+pub record Files (S F : Type 0) : Type 1 where
+  pub keeps : F → World → Type 0
+  pub may_leave : F → World → Type 0
+  pub opens : F → S → Type 0
+  pub closes : S → F → Type 0
+  pub crashes : F → F → Type 0
+
+-- a crash leaves these voters, and no others
+pub record LeavesAlone (may_leave : World → Type 0) (W : World) : Type 0 where
+  pub left : may_leave W
+  pub alone : (X : World) → may_leave X → X ≡ W
+
+-- where all is stored a crash leaves the voters that are served, and no others
+abbrev pub IsLeftAlone : {S : Type 0} → Service S → S → Type 0
+IsLeftAlone v store = v.is_stored store → LeavesAlone (v.may_leave store) (v.world store)
+
+-- an open service serves these voters, all is stored, and a crash leaves them alone
+pub record IsOpenAt {S : Type 0} (v : Service S) (store : S) (W : World) : Type 0 where
+  pub stored : v.is_stored store
+  pub serves : v.world store ≡ W
+  pub left : LeavesAlone (v.may_leave store) W
+
+-- files keep these voters, and a crash leaves them alone
+pub record IsClosedAt {S F : Type 0} (f : Files S F) (files : F) (W : World) : Type 0 where
+  pub kept : f.keeps files W
+  pub left : LeavesAlone (f.may_leave files) W
+
+-- Rounds that are answered.
 
 -- a request wasn't taken
 abbrev pub is_refused : Reply → Bool
@@ -36,11 +84,6 @@ pub record Answers (W : World) (requests : List (ℕ × Request)) (replies : Lis
 
 -- Rounds that are cut off.
 
--- a crash leaves these voters, and no others
-pub record LeavesAlone (may_leave : World → Type 0) (W : World) : Type 0 where
-  pub left : may_leave W
-  pub alone : (X : World) → may_leave X → X ≡ W
-
 -- The file system failed: the voters took the requests below one place, and what a crash leaves took those
 -- below one place too, perhaps another.
 pub record TookSome (refused : List ℕ) (requests : List (ℕ × Request)) (W : World) (left : World → Type 0)
@@ -49,12 +92,13 @@ pub record TookSome (refused : List ℕ) (requests : List (ℕ × Request)) (W :
   pub taken : TakesFirst W requests refused X
   pub kept : LeavesAlone left W → (Y : World) → left_now Y → TakesFirst W requests refused Y
 
--- nothing was taken, and a crash leaves what it left before
+-- nothing was taken, and a crash leaves just what it left before
 pub record TookNone (refused : List ℕ) (W : World) (left : World → Type 0) (X : World)
     (left_now : World → Type 0) : Type 0 where
   pub none : refused ≡ []
   pub same : X ≡ W
   pub kept : (Y : World) → left_now Y → left Y
+  pub still : (Y : World) → left Y → left_now Y
 
 -- what a round that is cut off for this cause makes of the voters and of what a crash leaves
 abbrev pub CutsOff :

@@ -6,13 +6,14 @@
 //! answers and what it becomes are the rules of `raft_voter_outline`, case by case, and its outline
 //! decides by them. A `Transcript` tells which requests came in which rounds and what was answered;
 //! `judge` says whether voters that never fail explain it. A `RoundService` serves such rounds and keeps
-//! the voters where a crash leaves them. Requests, replies, rounds and their stored bytes are those of
+//! the voters where a crash leaves them, and `StoreFiles` keep them while it isn't open. Requests, replies, rounds and their stored bytes are those of
 //! `raft_voter_messages`.
 #![tactic(auto)]
 
 mod judging;
 pub mod laws;
 mod service;
+mod store_files;
 mod voter;
 mod voters;
 
@@ -24,5 +25,6 @@ pub use raft_voter_messages::{
 };
 pub use raft_voter_outline::{Answer, Change, Decision, Outline, Write};
 pub use service::{Cause, MAX_ROUND_REQUESTS, RoundFault, RoundService};
+pub use store_files::StoreFiles;
 pub use voter::Voter;
 pub use voters::Voters;

@@ -1,9 +1,9 @@
 //! What serves rounds of requests.
 ghost use Rattle.std.specs.Prelude.{◌≡◌, [], length, IfOk, IfErr, OnOk};
-ghost use Rattle.raft_voter.specs.Service.{Answers, CutsOff, FailsAs, IsAlive, TakesNothing};
+ghost use Rattle.raft_voter.specs.Service.{Answers, CutsOff, FailsAs, IsAlive, IsLeftAlone, refused_from, TakesNothing};
 
-use crate::{Items, Reply, Request};
-use std::alloc::Global;
+use crate::{Items, Memory, Reply, Request};
+use std::alloc::{AllocError, Global};
 use thiserror::Error;
 
 /// The most requests of a round.
@@ -48,23 +48,33 @@ impl RoundFault {
     }
 }
 
+impl From<Memory> for Cause {
+    ghost use Rattle.raft_voter.specs.declared.service.Cause.TheVariants.{Memory as OutOfMemory};
+
+    ghost from_gives = { λ _ cause. cause ≡ OutOfMemory };
+
+    fn from(_refused: Memory) -> Cause {
+        Cause::Memory
+    }
+}
+
+impl From<AllocError> for Cause {
+    ghost use Rattle.raft_voter.specs.declared.service.Cause.TheVariants.{Memory as OutOfMemory};
+
+    ghost from_gives = { λ _ cause. cause ≡ OutOfMemory };
+
+    fn from(_refused: AllocError) -> Cause {
+        Cause::Memory
+    }
+}
+
 /// Serves rounds of requests to the voters of many groups, and keeps the voters where a crash leaves them.
 pub trait RoundService {
-    ghost use Rattle.std.specs.Prelude.{Bool};
-    ghost use Rattle.raft_voter.specs.Rounds.{World};
-    ghost use Rattle.raft_voter.specs.Service.{LeavesAlone};
+    ghost use Rattle.raft_voter.specs.Service.{Service};
 
-    /// The voters that it serves.
-    ghost world: { Self → World };
-
-    /// Whether it failed; then it serves nothing until it is opened again.
-    ghost is_failed: { Self → Bool };
-
-    /// Which voters a crash may leave, as the next open finds them.
-    ghost may_leave: { Self → World → Type 0 };
-
-    /// All that it served is stored: then a crash leaves its voters, and no others.
-    ghost is_stored: { Self → Type 0 };
+    /// The voters that it serves, whether it failed, which voters a crash may leave, whether all is stored,
+    /// and which requests it may refuse.
+    ghost service: { Service Self };
 
     /// The voters take the requests in order, but for those at refused places. The replies are handed out
     /// only once all that the voters changed is on the disk for good, so a crash leaves the voters that gave
@@ -74,15 +84,19 @@ pub trait RoundService {
     /// the requests below one place may have been, but for those at refused places, and what a crash leaves
     /// is so too.
     fn serve(&mut self, requests: &[(u64, Request)]) -> Result<Items<Reply>, RoundFault>
-        ensures ok { IfOk result (λ told. Answers (world self.old) requests.now told (world self.new)) }
-        ensures alone { is_stored self.old → LeavesAlone (may_leave self.old) (world self.old) }
-        ensures stored { OnOk result (is_stored self.old → is_stored self.new) }
-        ensures lives { OnOk result (IsAlive (is_failed self.old) (is_failed self.new)) }
+        ensures ok { IfOk result (λ told.
+            Answers (service.world self.old) requests.now told (service.world self.new)) }
+        ensures refused { IfOk result (λ told.
+            service.may_refuse self.old self.new requests.now (refused_from 0 told)) }
+        ensures alone { IsLeftAlone service self.old × IsLeftAlone service self.new }
+        ensures stored { OnOk result (service.is_stored self.old → service.is_stored self.new) }
+        ensures lives { OnOk result (IsAlive (service.is_failed self.old) (service.is_failed self.new)) }
 
-        ensures err { IfErr result (λ fault. CutsOff fault.cause fault.refused requests.now (world self.old)
-            (may_leave self.old) (world self.new) (may_leave self.new)) }
+        ensures err { IfErr result (λ fault. CutsOff fault.cause fault.refused requests.now
+            (service.world self.old) (service.may_leave self.old)
+            (service.world self.new) (service.may_leave self.new)) }
         ensures kept { IfErr result (λ fault.
-            TakesNothing fault.cause → is_stored self.old → is_stored self.new) }
-        ensures errors { IfErr result (λ fault. FailsAs fault.cause (length requests.now) (is_failed self.old)
-            (is_failed self.new)) };
+            TakesNothing fault.cause → service.is_stored self.old → service.is_stored self.new) }
+        ensures errors { IfErr result (λ fault. FailsAs fault.cause (length requests.now)
+            (service.is_failed self.old) (service.is_failed self.new)) };
 }

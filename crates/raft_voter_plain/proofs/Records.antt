@@ -1,5 +1,5 @@
 -- Records are known by their bytes.
-use Rattle.std.proofs.Common.{◌≡◌, ℕ, ◌+◌, ◌<◌, ◌≤◌, ◌^◌, ◌==◌, ◌∙◌, true, nat_le, List, [], ◌∷◌, ◌++◌, map, drop, inl, inr, length, length-append, append_assoc, append-nil, Ok, Option, refl, sym, ap, subst, arith}
+use Rattle.std.proofs.Common.{◌≡◌, ℕ, ◌+◌, ◌<◌, ◌≤◌, ◌^◌, ◌==◌, ◌∙◌, true, List, [], ◌∷◌, ◌++◌, map, drop, inl, inr, length, length-append, append_assoc, append-nil, Ok, Option, refl, sym, ap, subst, arith}
 use Rattle.std.proofs.lemmas.Bool.Decides.{nat_tests}
 use Rattle.std.proofs.lemmas.Grind.{common_steps}
 use Rattle.std.proofs.lemmas.List.Concat.{flat_map-append}
@@ -12,7 +12,7 @@ use Rattle.raft_voter_messages.specs.declared.reply.Entry.{Entry}
 use Rattle.raft_voter_messages.specs.declared.reply.VoterState.{VoterState}
 use Rattle.raft_voter.specs.Rules.{numbered}
 use Rattle.raft_voter_messages.specs.Ranges.{entry_fits, fits}
-use Rattle.raft_voter.specs.InRange.{IsInRange, IsStorable}
+use Rattle.raft_voter.specs.InRange.{IsStorable}
 use Rattle.raft_voter.specs.State.{State, state_of}
 use Rattle.raft_voter.specs.Restoring.{are_in_order, restored}
 use Rattle.raft_voter_messages.specs.StoredForms.{IsEntry, IsState, entry_form_1, entry_text, number_text, state_fits, state_text, stored_entry_fits, vote_text}

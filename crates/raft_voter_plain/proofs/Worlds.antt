@@ -9,10 +9,10 @@ use Rattle.raft_voter.specs.InRange.{AllInRange, IsInRange}
 use Rattle.raft_voter.specs.State.{State}
 use Rattle.raft_voter_plain.specs.declared.store.PlainVoters.{PlainVoters}
 use Rattle.raft_voter_plain.specs.Beginnings.{BeginsWithRecord}
-use Rattle.raft_voter_plain.specs.Content.{Content, whole}
+use Rattle.raft_voter_plain.specs.Content.{Content, after_crash, empty_file, whole}
 use Rattle.raft_voter_plain.specs.Records.{AreStorable, StandsFor, IsStorableRecord, LeadTo, may_change, voter_record, with_records}
-use Rattle.raft_voter.specs.Service.{LeavesAlone}
-use Rattle.raft_voter_plain.specs.Store.{HoldsVoters, IsAmidst, IsStored, Takes, TakesAll, replies_in_turn, world_of}
+use Rattle.raft_voter.specs.Service.{IsClosedAt, IsOpenAt, LeavesAlone}
+use Rattle.raft_voter_plain.specs.Store.{HoldsVoters, IsAmidst, IsStored, KeepsVoters, Takes, TakesAll, plain_files, plain_voters, replies_in_turn, world_of}
 use Rattle.raft_voter_plain.proofs.Ranges.{fresh_in_range, put_in_range, put_there, stays, taken_in_range}
 use Rattle.raft_voter_plain.proofs.Records.{records_same}
 
@@ -161,3 +161,36 @@ found file store same held W stored settled =
     let P : List ℕ → Type 0 = λ bytes. StandsFor bytes (world_of store) in
     let all : StandsFor file.synced (world_of store) = subst P (whole_synced file settled) held in
     (record { synced = rw same all; settled = rw same settled }, one_world file.synced _ _ all stored)
+
+-- Opens, closes and crashes.
+
+-- files that keep voters leave them alone
+kept_alone : (file : Content) (W : World) → KeepsVoters file W → IsClosedAt plain_files file W
+kept_alone file W kept = record { kept = kept; left = record { left = kept.synced; alone = λ X other. one_world file.synced X W other kept.synced } }
+
+-- an open finds the voters that its file keeps
+pub opened_at : (file : Content) (store : PlainVoters) → store.file ≡ file → StandsFor (whole file) (world_of store)
+    → (W : World) → IsClosedAt plain_files file W → IsOpenAt plain_voters store W
+opened_at file store same held W at =
+    let there = found file store same held W at.kept.synced at.kept.settled in
+    let P : World → Type 0 = λ X. LeavesAlone (HoldsVoters store) X in
+    record { stored = there.0; serves = there.1; left = subst P there.1 (stored_alone store there.0) }
+
+-- a close leaves the voters in the file
+pub closed_at : (store : PlainVoters) (file : Content) → file ≡ store.file → (W : World) → IsOpenAt plain_voters store W → IsClosedAt plain_files file W
+closed_at store file same W at =
+    let P : World → Type 0 = λ X. StandsFor store.file.synced X in
+    let Q : Content → Type 0 = λ given. KeepsVoters given W in
+    kept_alone file W (subst Q (sym same) (record { synced = subst P at.serves at.stored.synced; settled = at.stored.settled }))
+
+-- a crash leaves the voters that the file keeps
+pub crashed_at : (file left : Content) → left ≡ after_crash file → (W : World) → IsClosedAt plain_files file W → IsClosedAt plain_files left W
+crashed_at file left same W at =
+    let Q : Content → Type 0 = λ given. KeepsVoters given W in
+    kept_alone left W (subst Q (sym same) (record { synced = at.kept.synced; settled = refl }))
+
+-- an empty file keeps fresh voters
+pub none_written : (file : Content) → file ≡ empty_file → IsClosedAt plain_files file fresh_world
+none_written file e =
+    let Q : Content → Type 0 = λ given. KeepsVoters given fresh_world in
+    kept_alone file fresh_world (subst Q (sym e) (record { synced = no_records fresh_world; settled = refl }))

@@ -6,6 +6,10 @@ pub record Content : Type 0 where
   pub synced : List ℕ
   pub unsynced : List ℕ
 
+-- nothing was written
+abbrev pub empty_file : Content
+empty_file = record { synced = []; unsynced = [] }
+
 -- what a crash leaves
 abbrev pub after_crash : Content → Content
 after_crash file = record { synced = file.synced; unsynced = [] }

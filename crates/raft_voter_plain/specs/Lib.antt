@@ -3,7 +3,4 @@ pub mod Records
 pub mod Beginnings
 pub mod Damage
 pub mod Store
-pub mod Storage
-pub mod Play
-pub mod Writing
-pub mod Run
+pub mod Session

@@ -6,6 +6,8 @@ use Rattle.raft_voter.specs.Rounds.{World, after, after_one}
 use Rattle.raft_voter.specs.Rules.{reply}
 use Rattle.raft_voter_plain.specs.declared.store.PlainVoters.{PlainVoters}
 use Rattle.raft_voter.specs.InRange.{AllInRange}
+use Rattle.raft_voter.specs.Service.{Files, Service, out_of_range}
+use Rattle.raft_voter_plain.specs.Content.{Content, after_crash}
 use Rattle.raft_voter_plain.specs.Records.{StandsFor, LeadTo, world_in}
 
 -- the voter of each group: the one in memory, or a fresh one
@@ -20,6 +22,32 @@ HoldsVoters store W = StandsFor store.file.synced W
 pub record IsStored (store : PlainVoters) : Type 0 where
   pub synced : StandsFor store.file.synced (world_of store)
   pub settled : store.file.unsynced ≡ []
+
+-- The plain voters as a service: a crash leaves what was synced, and just the requests out of range are
+-- refused.
+abbrev pub plain_voters : Service PlainVoters
+plain_voters = record {
+  world = world_of;
+  is_failed = λ store. store.failed;
+  may_leave = HoldsVoters;
+  is_stored = IsStored;
+  may_refuse = λ old new requests refused. refused ≡ out_of_range 0 requests;
+}
+
+-- these voters are synced in a file, and nothing else was written
+pub record KeepsVoters (file : Content) (W : World) : Type 0 where
+  pub synced : StandsFor file.synced W
+  pub settled : file.unsynced ≡ []
+
+-- Their file: opens and closes leave it as it is, and a crash leaves what was synced.
+abbrev pub plain_files : Files PlainVoters Content
+plain_files = record {
+  keeps = KeepsVoters;
+  may_leave = λ file W. StandsFor file.synced W;
+  opens = λ file store. store.file ≡ file;
+  closes = λ store file. file ≡ store.file;
+  crashes = λ file left. left ≡ after_crash file;
+}
 
 -- what wasn't synced leads from these voters to those in memory
 abbrev pub LeadsFrom : World → PlainVoters → Type 0

@@ -1,6 +1,6 @@
 //! A file in memory that a crash can cut short.
 ghost use Rattle.std.specs.Prelude.{◌≡◌, ◌<◌, [], ◌++◌, length, OnOk, OnErr};
-ghost use Rattle.raft_voter_plain.specs.Content.{after_crash, whole};
+ghost use Rattle.raft_voter_plain.specs.Content.{after_crash, empty_file, whole};
 
 use raft_voter::Memory;
 use std::alloc::Global;
@@ -31,8 +31,7 @@ impl Model for PlainFile {
 impl PlainFile {
     /// An empty file.
     pub fn new(alloc: Global) -> PlainFile
-        ensures synced { result.synced ≡ [] }
-        ensures unsynced { result.unsynced ≡ [] }
+        ensures { result ≡ empty_file }
     {
         PlainFile {
             bytes: Vec::new(alloc),

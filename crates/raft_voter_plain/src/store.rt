@@ -1,17 +1,18 @@
 //! Voters of many groups in memory, and the plain file that keeps them.
 ghost use Rattle.std.specs.Prelude.{◌≡◌, ◌+◌, ◌^◌, ◌<◌, ◌≤◌, [], length, vec_capacity, vec_len, IfErr, IfOk, OnErr, OnOk};
-ghost use Rattle.raft_voter.specs.Rounds.{after_one, put};
-ghost use Rattle.raft_voter_plain.specs.Content.{whole};
+ghost use Rattle.raft_voter.specs.Rounds.{after_one, put, World};
+ghost use Rattle.raft_voter_plain.specs.Content.{after_crash, whole};
 ghost use Rattle.raft_voter.specs.Rules.{reply};
 ghost use Rattle.raft_voter_plain.specs.Damage.{StandsForNothing, TellsDamage};
 ghost use Rattle.raft_voter_plain.specs.Records.{may_change, StandsFor, voter_record, world_in};
-ghost use Rattle.raft_voter.specs.Service.{Answers, CutsOff, FailsAs, IsAlive, LeavesAlone, out_of_range, refused_from, TakesNothing};
-ghost use Rattle.raft_voter_plain.specs.Store.{HoldsVoters, IsRefused, IsStopped, IsStored, Takes, TakesAll, world_of};
+ghost use Rattle.raft_voter.specs.Service.{Answers, CutsOff, FailsAs, IsAlive, IsClosedAt, IsLeftAlone, IsOpenAt, out_of_range, refused_from, TakesNothing};
+ghost use Rattle.raft_voter_plain.specs.Store.{HoldsVoters, IsRefused, IsStopped, IsStored, plain_files, plain_voters, Takes, TakesAll, world_of};
 
 use crate::file::PlainFile;
 use crate::record::{OpenFault, read_voter_record, voter_record};
 use raft_voter::{
-    Cause, Items, MAX_ROUND_REQUESTS, Memory, Reply, Request, RoundFault, RoundService, Voter,
+    Cause, Items, MAX_ROUND_REQUESTS, Memory, Reply, Request, RoundFault, RoundService, StoreFiles,
+    Voter,
 };
 use std::alloc::Global;
 use std::collections::BTreeMap;
@@ -98,17 +99,14 @@ impl PlainVoters {
 }
 
 impl RoundService for PlainVoters {
-    ghost world = { world_of };
-
-    ghost is_failed = { λ store. store.failed };
-
-    ghost may_leave = { HoldsVoters };
-
-    ghost is_stored = { IsStored };
+    ghost service = { plain_voters };
 
     fn serve(&mut self, requests: &[(u64, Request)]) -> Result<Items<Reply>, RoundFault>
         ensures ok { IfOk result (λ told. Answers (world_of self.old) requests.now told (world_of self.new)) }
-        ensures alone { IsStored self.old → LeavesAlone (HoldsVoters self.old) (world_of self.old) }
+
+        // Just the requests out of range are refused.
+        ensures refused { IfOk result (λ told. refused_from 0 told ≡ out_of_range 0 requests.now) }
+        ensures alone { IsLeftAlone plain_voters self.old × IsLeftAlone plain_voters self.new }
         ensures stored { OnOk result (IsStored self.old → IsStored self.new) }
         ensures lives { OnOk result (IsAlive self.old.failed self.new.failed) }
         ensures err { IfErr result (λ fault. CutsOff fault.cause fault.refused requests.now
@@ -118,8 +116,7 @@ impl RoundService for PlainVoters {
         ensures errors { IfErr result (λ fault. FailsAs fault.cause (length requests.now) self.old.failed
             self.new.failed) }
 
-        // Just the requests out of range are refused.
-        ensures refused { IfOk result (λ replies. refused_from 0 replies ≡ out_of_range 0 requests.now) }
+        // A fault that takes nothing leaves all as it was.
         ensures same { IfErr result (λ fault. TakesNothing fault.cause → self.new ≡ self.old) }
     {
         if requests.len() > MAX_ROUND_REQUESTS {
@@ -137,6 +134,43 @@ impl RoundService for PlainVoters {
         };
         self.file.sync();
         Ok(replies)
+    }
+}
+
+impl StoreFiles<PlainVoters> for PlainFile {
+    ghost files = { plain_files };
+
+    fn open(self, alloc: Global) -> Result<PlainVoters, Cause>
+        ensures opens { IfOk result (λ store. store.file ≡ self) }
+        ensures keeps { IfOk result (λ store.
+            (W : World) → IsClosedAt plain_files self W → IsOpenAt plain_voters store W) }
+
+        // What a store wrote can always be read, and of an empty file nothing can be refused.
+        ensures err { IfErr result (λ cause.
+            (W : World) → IsClosedAt plain_files self W → cause ≡ Cause.Memory) }
+        ensures errors { OnErr result (0 < length (whole self)) }
+    {
+        match PlainVoters::open(alloc, self) {
+            Ok(store) => Ok(store),
+            Err(OpenFault::Memory) => Err(Cause::Memory),
+            Err(OpenFault::Damaged) => Err(Cause::FileSystem),
+        }
+    }
+
+    fn close(store: PlainVoters) -> PlainFile
+        ensures closes { result ≡ store.file }
+        ensures keeps { (W : World) → IsOpenAt plain_voters store W → IsClosedAt plain_files result W }
+    {
+        store.into_file()
+    }
+
+    fn after_crash(self) -> PlainFile
+        ensures crashes { result ≡ after_crash self }
+        ensures keeps { (W : World) → IsClosedAt plain_files self W → IsClosedAt plain_files result W }
+    {
+        let mut file = self;
+        file.crash();
+        file
     }
 }
 

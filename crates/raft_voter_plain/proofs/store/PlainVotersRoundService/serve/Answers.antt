@@ -16,19 +16,19 @@ pub returns-clause-stored : goal.returns-clause-stored
 returns-clause-stored c = all_stored _ _ _ _ _ c.in-Ok-take_all.ensures.ok refl c.sync.ensures.synced c.sync.ensures.unsynced
 
 pub returns-then-requests-gt-MAX_ROUND_REQUESTS-clause-alone : goal.returns-then-requests-gt-MAX_ROUND_REQUESTS-clause-alone
-returns-then-requests-gt-MAX_ROUND_REQUESTS-clause-alone c = stored_alone c.args.self.now
+returns-then-requests-gt-MAX_ROUND_REQUESTS-clause-alone c = (stored_alone _, stored_alone _)
 
 pub returns-then-self-clause-alone : goal.returns-then-self-clause-alone
-returns-then-self-clause-alone c = stored_alone c.args.self.now
+returns-then-self-clause-alone c = (stored_alone _, stored_alone _)
 
 pub returns-in_default-clause-alone : goal.returns-in_default-clause-alone
-returns-in_default-clause-alone c = stored_alone c.args.self.now
+returns-in_default-clause-alone c = (stored_alone _, stored_alone _)
 
 pub returns-in_default-take_all-clause-alone : goal.returns-in_default-take_all-clause-alone
-returns-in_default-take_all-clause-alone c = stored_alone c.args.self.now
+returns-in_default-take_all-clause-alone c = (stored_alone _, stored_alone _)
 
 pub returns-clause-alone : goal.returns-clause-alone
-returns-clause-alone c = stored_alone c.args.self.now
+returns-clause-alone c = (stored_alone _, stored_alone _)
 
 pub returns-in_default-take_all-clause-err : goal.returns-in_default-take_all-clause-err
 returns-in_default-take_all-clause-err c =

@@ -1,0 +1,9 @@
+use Rattle.std.specs.VecDeque.{deque_len}
+use Rattle.raft_voter_run.specs.Play.{IsUnderWay}
+use Rattle.raft_voter_run.proofs.playing.play.Given as goal
+
+abbrev pub invariant-loop-event : goal.invariant-loop-event
+invariant-loop-event g l = IsUnderWay g.S.RoundService.service g.F.StoreFiles.files l.fn.files l.fn.events.items l.events.items l.storage l.rounds l.cuts
+
+abbrev pub decreases-loop-event : goal.decreases-loop-event
+decreases-loop-event g l = deque_len l.events

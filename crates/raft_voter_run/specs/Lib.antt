@@ -1,0 +1,4 @@
+pub mod Storage
+pub mod Play
+pub mod Writing
+pub mod Run

@@ -1,0 +1,63 @@
+-- What the program writes.
+use Rattle.std.specs.Prelude.{◌≡◌, ◌↔◌, ◌⊎◌, ℕ, Bool, true, false, IsTrue, if◌then◌else◌, List, Option, Result, Ok, Err, codes}
+use Rattle.std.specs.Io.KnownBytes.{Appends, Keeps}
+use Rattle.raft_voter_messages.specs.declared.round.Round.{Round}
+use Rattle.raft_voter.specs.Rounds.{Explains}
+use Rattle.raft_voter_session.specs.declared.event.Event.{Event}
+use Rattle.raft_voter_session.specs.Session.{session_of}
+use Rattle.raft_voter_session.specs.Text.{transcript_text, unreadable_text}
+use Rattle.raft_voter_run.specs.Writing.{StopsWithin}
+
+-- a transcript with its cuts is written, with the verdict whether voters that never fail explain it
+pub record IsJudged (rounds : List Round) (cuts text : List ℕ) (status : ℕ) : Type 0 where
+  pub verdict : Bool
+  pub judged : IsTrue verdict ↔ Explains rounds cuts
+  pub written : text ≡ transcript_text rounds cuts verdict
+  pub told : status ≡ (if verdict then 0 else 1)
+
+-- Of a session this is written: a transcript of it, by what is said of how it is played, that is explained,
+-- and the verdict that it is.
+pub record Shows (Played : List Event → List Round → List ℕ → Type 0) (events : List Event) (text : List ℕ)
+    (status : ℕ) : Type 0 where
+  pub rounds : List Round
+  pub cuts : List ℕ
+  pub played : Played events rounds cuts
+  pub explained : Explains rounds cuts
+  pub written : text ≡ transcript_text rounds cuts true
+  pub told : status ≡ 0
+
+-- of lines that are a session, or of which one is the first that is unreadable
+abbrev pub Tells :
+    (List Event → List Round → List ℕ → Type 0) → Result (List Event) ℕ → List ℕ → ℕ → Type 0
+Tells Played (Ok events) text status = Shows Played events text status
+Tells Played (Err line) text status = (text ≡ unreadable_text line) × (status ≡ 2)
+
+-- for a session of these bytes this may be written, and the program ends with this status
+abbrev pub MayWrite : (List Event → List Round → List ℕ → Type 0) → List ℕ → List ℕ → ℕ → Type 0
+MayWrite Played input text status = Tells Played (session_of input) text status
+
+-- what is written where arguments are given
+abbrev pub refused_text : List ℕ
+refused_text = codes "arguments refused\n"
+
+-- what the program may write: with arguments that they are refused, and nothing is read; else what its
+-- session says
+abbrev pub MayEnd : (List Event → List Round → List ℕ → Type 0) → Bool → List ℕ → List ℕ → ℕ → Type 0
+MayEnd Played true input text status = (text ≡ refused_text) × (status ≡ 2)
+MayEnd Played false input text status = MayWrite Played input text status
+
+-- The program stopped before its end, and claims no verdict: it wrote nothing, or the front of what it may
+-- write, and not all of it.
+abbrev pub EndsEarly :
+    (List Event → List Round → List ℕ → Type 0)
+    → Bool → List ℕ → Option (List ℕ) → Option (List ℕ) → Type 0
+EndsEarly Played given input old new =
+    Keeps old new
+    ⊎ ((text : List ℕ) × (status : ℕ) × MayEnd Played given input text status × StopsWithin old new text)
+
+-- The program came to its end: it wrote what it may write, all of it.
+abbrev pub Ends :
+    (List Event → List Round → List ℕ → Type 0)
+    → Bool → List ℕ → Option (List ℕ) → Option (List ℕ) → ℕ → Type 0
+Ends Played given input old new status =
+    (text : List ℕ) × MayEnd Played given input text status × Appends old new text

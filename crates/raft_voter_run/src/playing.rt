@@ -1,0 +1,51 @@
+//! Plays a session's events.
+ghost use Rattle.std.specs.Prelude.{◌≡◌, ◌++◌, IfOk, OnOk};
+ghost use Rattle.raft_voter.specs.Rounds.{fresh_world};
+ghost use Rattle.raft_voter.specs.Service.{IsClosedAt};
+ghost use Rattle.raft_voter_run.specs.Play.{IsPlayed};
+ghost use Rattle.raft_voter_run.specs.Storage.{cuts_of};
+
+use crate::storage::Storage;
+use raft_voter::{Cause, Items, Memory, Outcome, RoundService, StoreFiles, Transcript};
+use raft_voter_session::Event;
+use std::alloc::Global;
+use std::collections::VecDeque;
+
+/// The transcript of a session that begins with these files, in which no voter is stored, and the place up to
+/// which each round that was cut off was taken. It stops where memory is refused or the file system fails.
+pub fn play<S: RoundService + Drop, F: StoreFiles<S> + Drop>(
+    alloc: Global,
+    files: F,
+    mut events: VecDeque<Event>,
+) -> Result<(Transcript, Items<usize>), Cause>
+    requires { IsClosedAt F.files files fresh_world }
+    ensures { IfOk result (λ played.
+        IsPlayed S.service F.files files events.items played.0.rounds played.1) }
+{
+    let mut storage: Storage<S, F> = Storage::Closed(files);
+    let mut rounds = Items::new(alloc);
+    let mut cuts = Items::new(alloc);
+    while let Some(event) = events.pop_front() {
+        match event {
+            Event::Open { workers: _ } => storage = storage.opened(alloc)?,
+            Event::Close => storage = storage.closed(),
+            Event::CrashLast => storage = storage.crashed(),
+            Event::Round { requests } => {
+                let round = storage.serve(alloc, requests)?;
+                add_cuts(&mut cuts, &round.outcome)?;
+                rounds.push(round)?;
+            }
+        }
+    }
+    Ok((Transcript { rounds }, cuts))
+}
+
+/// Adds the cut of a round that was cut off.
+fn add_cuts(cuts: &mut Items<usize>, outcome: &Outcome) -> Result<(), Memory>
+    ensures { OnOk result (cuts.new ≡ cuts.old ++ cuts_of outcome.now) }
+{
+    match outcome {
+        Outcome::Answered(_) => Ok(()),
+        Outcome::Cut => Ok(cuts.push(0)?),
+    }
+}

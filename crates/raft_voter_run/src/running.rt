@@ -1,0 +1,167 @@
+//! From the bytes of a session to those of its transcript.
+ghost use Rattle.std.specs.Prelude.{◌≡◌, false, IfOk, IfSome, OnErr, string_bytes, take};
+ghost use Rattle.raft_voter.specs.Rounds.{fresh_world};
+ghost use Rattle.raft_voter.specs.Service.{IsClosedAt};
+ghost use Rattle.raft_voter_run.specs.Play.{IsPlayed};
+ghost use Rattle.raft_voter_session.specs.Text.{unreadable_text};
+ghost use Rattle.raft_voter_run.specs.Run.{Ends, EndsEarly, IsJudged, MayEnd, MayWrite, refused_text, Shows};
+
+use crate::playing::play;
+use crate::writing::write_whole;
+use raft_voter::{Cause, Memory, RoundService, StoreFiles, Transcript, judge};
+use raft_voter_session::{Event, SessionFault, read_session, write_transcript, write_unreadable};
+use std::alloc::Global;
+use std::collections::VecDeque;
+use std::env::{Env, FillError};
+use std::io;
+use std::io::{ErrorKind, Read, Write};
+
+/// The most bytes that are read: one more than a session may have, so that one which is too long is known by
+/// them.
+const MOST_READ_BYTES: u64 = 268_435_457;
+
+/// The status where arguments are refused.
+const ARGUMENTS_REFUSED: u8 = 2;
+
+/// The status where memory, reading or writing was refused, or the store failed.
+const FAULT: u8 = 3;
+
+/// Whether there is an argument behind the program's name, be it text or not.
+pub fn has_arguments(env: &impl Env) -> bool {
+    !matches!(env.arg(1, &mut []), Err(FillError::NotPresent))
+}
+
+/// The status with which the program ends: the answer's own, and 3 where memory, reading or writing was
+/// refused, or the store failed.
+pub fn exit_status(ended: io::Result<u8>) -> u8
+    ensures ok { IfOk ended (λ status. result ≡ status) }
+    ensures err { OnErr ended (result ≡ 3) }
+{
+    match ended {
+        Ok(status) => status,
+        Err(_) => FAULT,
+    }
+}
+
+/// The program: with arguments it refuses them and reads nothing, without it runs a session. An `Err` tells
+/// that memory, the reader or the writer was refused or the store failed, and no verdict is claimed.
+pub fn program<S: RoundService + Drop, F: StoreFiles<S> + Drop, R: Read, W: Write>(
+    has_arguments: bool,
+    alloc: Global,
+    files: F,
+    reader: &mut R,
+    writer: &mut W,
+) -> io::Result<u8>
+    requires { IsClosedAt F.files files fresh_world }
+    ensures ok { IfOk result (λ status. IfSome (R.remaining reader.old) (λ input.
+        Ends (IsPlayed S.service F.files files) has_arguments input
+        (W.contents writer.old) (W.contents writer.new) status)) }
+    ensures err { OnErr result (IfSome (R.remaining reader.old) (λ input.
+        EndsEarly (IsPlayed S.service F.files files) has_arguments input
+        (W.contents writer.old) (W.contents writer.new))) }
+{
+    if has_arguments {
+        write_whole(writer, b"arguments refused\n")?;
+        return Ok(ARGUMENTS_REFUSED);
+    }
+    run::<S, F, R, W>(alloc, files, reader, writer)
+}
+
+/// Reads a session, serves it by a store that begins with these files, in which no voter is stored, and
+/// writes its transcript with a verdict; or writes which line is the first that is unreadable. The status is 0
+/// where the verdict is yes, 1 where it is no, and 2 for an unreadable line. An `Err` tells that memory, the
+/// reader or the writer was refused, or that the store failed: then nothing was written, or the front of what
+/// may be written, and no verdict. Of a session that is too long no more is read than tells so.
+pub fn run<S: RoundService + Drop, F: StoreFiles<S> + Drop, R: Read, W: Write>(
+    alloc: Global,
+    files: F,
+    reader: &mut R,
+    writer: &mut W,
+) -> io::Result<u8>
+    requires { IsClosedAt F.files files fresh_world }
+    ensures ok { IfOk result (λ status. IfSome (R.remaining reader.old) (λ input.
+        Ends (IsPlayed S.service F.files files) false input
+        (W.contents writer.old) (W.contents writer.new) status)) }
+    ensures err { OnErr result (IfSome (R.remaining reader.old) (λ input.
+        EndsEarly (IsPlayed S.service F.files files) false input
+        (W.contents writer.old) (W.contents writer.new))) }
+{
+    let front = read_front(alloc, reader)?;
+    let (text, status) = match answer::<S, F>(alloc, files, front.as_slice()) {
+        Ok(told) => told,
+        Err(cause) => return Err(io::Error::from(kind_of(cause))),
+    };
+    write_whole(writer, text.as_bytes())?;
+    Ok(status)
+}
+
+/// How a reader or a writer tells of this cause.
+fn kind_of(cause: Cause) -> ErrorKind {
+    match cause {
+        Cause::Memory => ErrorKind::OutOfMemory,
+        _ => ErrorKind::Other,
+    }
+}
+
+/// The bytes of a session, and of one that is too long only as many as tell so.
+fn read_front<R: Read>(alloc: Global, reader: &mut R) -> io::Result<Vec<u8>>
+    ensures { IfOk result (λ front. IfSome (R.remaining reader.old) (λ input.
+        front.items ≡ take 268435457 input)) }
+{
+    let mut front = Vec::new(alloc);
+    reader.take(MOST_READ_BYTES).read_to_end(&mut front)?;
+    Ok(front)
+}
+
+/// What is written for a session, and the status that goes with it.
+fn answer<S: RoundService + Drop, F: StoreFiles<S> + Drop>(
+    alloc: Global,
+    files: F,
+    input: &[u8],
+) -> Result<(String, u8), Cause>
+    requires { IsClosedAt F.files files fresh_world }
+    ensures { IfOk result (λ told.
+        MayWrite (IsPlayed S.service F.files files) input.now (string_bytes told.0) told.1) }
+{
+    match read_session(alloc, input) {
+        Ok(events) => shown::<S, F>(alloc, files, events),
+        Err(SessionFault::Unreadable(line)) => Ok(unreadable(alloc, line)?),
+        Err(SessionFault::Memory) => Err(Cause::Memory),
+    }
+}
+
+/// What is written for a session's events.
+fn shown<S: RoundService + Drop, F: StoreFiles<S> + Drop>(
+    alloc: Global,
+    files: F,
+    events: VecDeque<Event>,
+) -> Result<(String, u8), Cause>
+    requires { IsClosedAt F.files files fresh_world }
+    ensures { IfOk result (λ told.
+        Shows (IsPlayed S.service F.files files) events.items (string_bytes told.0) told.1) }
+{
+    let (transcript, cuts) = play::<S, F>(alloc, files, events)?;
+    Ok(judged(alloc, &transcript, cuts.as_slice())?)
+}
+
+/// What is written of a transcript and its cuts, with the judge's verdict; and the status that goes with it,
+/// 0 for yes and 1 for no.
+fn judged(alloc: Global, transcript: &Transcript, cuts: &[usize]) -> Result<(String, u8), Memory>
+    ensures { IfOk result (λ told. IsJudged transcript.now.rounds cuts.now (string_bytes told.0) told.1) }
+{
+    let verdict = judge(alloc, transcript, cuts)?;
+    let mut text = String::new(alloc);
+    write_transcript(&mut text, transcript, cuts, verdict)?;
+    let status = if verdict { 0 } else { 1 };
+    Ok((text, status))
+}
+
+/// What is written where a line is unreadable.
+fn unreadable(alloc: Global, line: usize) -> Result<(String, u8), Memory>
+    ensures text { IfOk result (λ told. string_bytes told.0 ≡ unreadable_text line) }
+    ensures status { IfOk result (λ told. told.1 ≡ 2) }
+{
+    let mut text = String::new(alloc);
+    write_unreadable(&mut text, line)?;
+    Ok((text, 2))
+}

@@ -11,3 +11,4 @@ pub mod OtherSteps
 pub mod Stopped
 pub mod Wholes
 pub mod Written
+pub mod LyingQueues

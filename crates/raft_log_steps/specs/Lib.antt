@@ -8,3 +8,5 @@ pub mod Syncing
 pub mod Beginning
 pub mod Writing
 pub mod Own
+pub mod Lying
+pub mod Beside

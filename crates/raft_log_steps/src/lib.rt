@@ -9,6 +9,7 @@ pub mod appending;
 pub mod beginning;
 pub mod frame;
 pub mod images;
+pub mod lying;
 pub mod own;
 pub mod purging;
 pub mod queues;

@@ -12,3 +12,4 @@ pub mod Stopped
 pub mod Wholes
 pub mod Written
 pub mod LyingQueues
+pub mod BesideSteps

@@ -7,6 +7,7 @@
 
 pub mod appending;
 pub mod beginning;
+pub mod beside;
 pub mod frame;
 pub mod images;
 pub mod lying;

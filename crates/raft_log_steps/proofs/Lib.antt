@@ -13,3 +13,7 @@ pub mod Wholes
 pub mod Written
 pub mod LyingQueues
 pub mod BesideSteps
+pub mod ReadingAgain
+pub mod CrashSteps
+pub mod CloseSteps
+pub mod OpenSteps

@@ -135,7 +135,7 @@ module _ {R E V : Type 0} (log : TwoQueues R E V) (two : AreTwoQueues log) where
   lies_at InAppend o s is = is.append
   lies_at InRewrite o s is = is.rewrite
 
-  back : (path : List ℕ) → log.rewrite.own path → log.append.own path → ⊥
+  pub back : (path : List ℕ) → log.rewrite.own path → log.append.own path → ⊥
   back path mine theirs = two.apart path theirs mine
 
   -- a call on one queue leaves it so, and the other as it stood

@@ -10,3 +10,5 @@ pub mod Writing
 pub mod Own
 pub mod Lying
 pub mod Beside
+pub mod Reopening
+pub mod Closing

@@ -11,3 +11,9 @@ pub mod OtherSteps
 pub mod Stopped
 pub mod Wholes
 pub mod Written
+pub mod LyingQueues
+pub mod BesideSteps
+pub mod ReadingAgain
+pub mod CrashSteps
+pub mod CloseSteps
+pub mod OpenSteps

@@ -39,14 +39,14 @@ use Rattle.raft_log_steps.proofs.RefusedStep.{left_on, allowed_on}
 
 module _ {R E V : Type 0} (says : R → Record E V) (layout : QueueLayout R) (told : IsQueueLayout layout) (first : ℕ) (base : Disk) where
   -- A sync fills no gap, answered or refused.
-  sync_gaps : (files : PipeFiles) (q : LogFiles R) (old new : Disk) → SyncsPipe layout.format layout.own layout.paths files old new → On layout base files q old → GapsStay layout.format q old new
+  pub sync_gaps : (files : PipeFiles) (q : LogFiles R) (old new : Disk) → SyncsPipe layout.format layout.own layout.paths files old new → On layout base files q old → GapsStay layout.format q old new
   sync_gaps files q old new syncs is = gaps_stay layout told base files q old new is (λ m xs less other.
       (synced (with_past m xs q), past_there m xs q, less, pipe_left layout told base files (synced (with_past m xs q)) new (syncs base (with_past m xs q) other)))
 
-  unsynced_gaps : (files : PipeFiles) (q : LogFiles R) (old new : Disk) → FailsToSyncPipe layout.format layout.own layout.paths files old new → On layout base files q old → GapsStay layout.format q old new
+  pub unsynced_gaps : (files : PipeFiles) (q : LogFiles R) (old new : Disk) → FailsToSyncPipe layout.format layout.own layout.paths files old new → On layout base files q old → GapsStay layout.format q old new
   unsynced_gaps files q old new fails is = gaps_stay layout told base files q old new is (λ m xs less other. (with_past m xs q, past_there m xs q, less, (fails base (with_past m xs q) other).1))
 
-  sync_one : (q : LogFiles R) (old new : Disk) → GapsStay layout.format q old new → (from : ℕ) (f : FileQueue E V) → IsFileQueue says layout.format q from first old f → IsFileQueue says layout.format (synced q) from first new (settled_files f)
+  pub sync_one : (q : LogFiles R) (old new : Disk) → GapsStay layout.format q old new → (from : ℕ) (f : FileQueue E V) → IsFileQueue says layout.format q from first old f → IsFileQueue says layout.format (synced q) from first new (settled_files f)
   sync_one q old new gaps from f all =
       let moved = (takes_numbered_steps says layout.format q from first old f all).elsewhere new gaps in
       let (next, step, is) = (takes_numbered_steps says layout.format q from first new f moved).syncs in
@@ -57,7 +57,7 @@ module _ {R E V : Type 0} (says : R → Record E V) (layout : QueueLayout R) (to
   filed_below h s zero n under = tt
   filed_below h s (suc k) n under = (omega (arith, under), filed_below h (suc s) k n (omega (arith, under)))
 
-  raise_one : (q : LogFiles R) (to : ℕ) (old new : Disk) → GapsStay layout.format q old new → first ≤ to → to ≤ q.last → (from : ℕ) (f : FileQueue E V) → IsFileQueue says layout.format q from first old f
+  pub raise_one : (q : LogFiles R) (to : ℕ) (old new : Disk) → GapsStay layout.format q old new → first ≤ to → to ≤ q.last → (from : ℕ) (f : FileQueue E V) → IsFileQueue says layout.format q from first old f
       → (out stay : List (LogFile E V)) × (out ++ stay ≡ f.full) × AllBelow to out × IsFileQueue says layout.format q from to new (raised_files f out stay)
   raise_one q to old new gaps above under from f all =
       let moved = (takes_numbered_steps says layout.format q from first old f all).elsewhere new gaps in
@@ -70,7 +70,7 @@ module _ {R E V : Type 0} (says : R → Record E V) (layout : QueueLayout R) (to
       )
 
   -- the number of a purge lies in the span
-  raised_in_span : (capacity seq : ℕ) (before after : PipeFiles) (q : LogFiles R) (N M : Names) → IsRaised capacity seq before after → before.first_seq ≡ first → IsSpan layout.paths N before.first_seq before.earlier.items q.last
+  pub raised_in_span : (capacity seq : ℕ) (before after : PipeFiles) (q : LogFiles R) (N M : Names) → IsRaised capacity seq before after → before.first_seq ≡ first → IsSpan layout.paths N before.first_seq before.earlier.items q.last
       → IsSpan layout.paths M after.first_seq after.earlier.items q.last → (first ≤ seq) × (seq ≤ q.last)
   raised_in_span capacity seq before after q N M raised begins was is =
       let ends = span_end layout.paths N before.first_seq q.last before.earlier.items was in
@@ -89,7 +89,7 @@ module _ {R E V : Type 0} (log : TwoQueues R E V) where
   same_log InAppend p s after run = run
   same_log InRewrite p s after run = run
 
-  put_same : (which : Which) (f : Files E V) (X : Files E V → Type 0) → X (put which f (from_at which f) (queue_at which f)) → X f
+  pub put_same : (which : Which) (f : Files E V) (X : Files E V → Type 0) → X (put which f (from_at which f) (queue_at which f)) → X f
   put_same InAppend f X is = is
   put_same InRewrite f X is = is
 

@@ -12,7 +12,7 @@ use Rattle.raft_log_steps.specs.State.{HoldsQueue}
 use Rattle.raft_log_steps.specs.Crash.{IsReadAs, MayRead, HeldIsAllowed}
 
 module _ {R E V : Type 0} (says : R → Record E V) (layout : QueueLayout R) (told : IsQueueLayout layout) where
-  held_reads : (q : LogFiles R) (low first : ℕ) (d : Disk) (files : FileQueue E V) → IsSound d → HoldsQueue layout q d → IsFileQueue says layout.format q low first d files → ReadsAsFiles says layout.format q low first d files
+  pub held_reads : (q : LogFiles R) (low first : ℕ) (d : Disk) (files : FileQueue E V) → IsSound d → HoldsQueue layout q d → IsFileQueue says layout.format q low first d files → ReadsAsFiles says layout.format q low first d files
   held_reads q low first d files sound held all = elim held [
     | inl left ↦ reads_as_numbered says layout.format layout.own told.lawful.format told.told d q left.path left.id left.N d sound (inl left.stands) low first files all
     | inr left ↦ reads_as_numbered says layout.format layout.own told.lawful.format told.told d q left.path left.id left.N d sound (inr left.stands) low first files all

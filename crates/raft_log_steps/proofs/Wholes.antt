@@ -39,7 +39,7 @@ begun_log_is_empty log append rewrite d append_is rewrite_is append_none rewrite
 }
 
 -- where no number has a file, file 1 counts as read, empty
-no_file_is_read : {R E V : Type 0} (says : R → Record E V) (F : Format R) (first : ℕ) (d image : Disk) → HasNoFile F d → IsImage d image → (s : ℕ) (files : List (LogFile E V)) → MayRead says F first image s files → (s ≡ 1) × (files ≡ empty_file ∷ [])
+pub no_file_is_read : {R E V : Type 0} (says : R → Record E V) (F : Format R) (first : ℕ) (d image : Disk) → HasNoFile F d → IsImage d image → (s : ℕ) (files : List (LogFile E V)) → MayRead says F first image s files → (s ≡ 1) × (files ≡ empty_file ∷ [])
 no_file_is_read says F first d image none is s files (under, found, (zero, (found_is, behind)), read) =
     subst (λ (fs : List (Found _)). IsReadAs says s fs files) found_is read
 no_file_is_read says F first d image none is s files (under, found, (suc k, (ws, more, less, reads, others, found_is)), read) =

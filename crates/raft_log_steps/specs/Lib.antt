@@ -8,3 +8,7 @@ pub mod Syncing
 pub mod Beginning
 pub mod Writing
 pub mod Own
+pub mod Lying
+pub mod Beside
+pub mod Reopening
+pub mod Closing

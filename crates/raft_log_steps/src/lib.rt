@@ -7,10 +7,14 @@
 
 pub mod appending;
 pub mod beginning;
+pub mod beside;
+pub mod closing;
 pub mod frame;
 pub mod images;
+pub mod lying;
 pub mod own;
 pub mod purging;
 pub mod queues;
+pub mod reopening;
 pub mod syncing;
 pub mod writes;

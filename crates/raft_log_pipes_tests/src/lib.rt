@@ -1,5 +1,5 @@
 //! Tests of a queue's files and of a pipe in the log's own layout, over a file system in memory: each call
-//! once, file calls refused in turn, where new files lie, and runs of a pipe, swept.
+//! once, file calls refused in turn, and where new files lie.
 #![tactic(auto)]
 
 #[cfg(test)]
@@ -14,5 +14,3 @@ mod pipes;
 mod queues;
 #[cfg(test)]
 mod spilling;
-#[cfg(test)]
-mod sweep;

@@ -6,36 +6,48 @@ use raft_log_disk::{FileSystem, Permission};
 use raft_log_memory_files::MemoryFileSystem;
 use std::alloc::{AllocError, Global};
 
-// What each file begins with: 53 letters, version 2 and alignment 0, each in eight bytes.
+// What each file begins with: 53 letters, then version 2 and alignment 0, each in eight bytes; or version 1,
+// where a file had no header.
 const MAGIC: &[u8] = b"RAFT-LOG-FILE-HEADER-9986AB3E47F320B394C8E84916EB0ED5";
 
-const VERSION: [u8; 16] = [0, 0, 0, 0, 0, 0, 0, 2, 0, 0, 0, 0, 0, 0, 0, 0];
+const SECOND: [u8; 16] = [0, 0, 0, 0, 0, 0, 0, 2, 0, 0, 0, 0, 0, 0, 0, 0];
+
+const FIRST: [u8; 8] = [0, 0, 0, 0, 0, 0, 0, 1];
 
 /// A record of a file: the file's number, and the record's.
 pub type Place = (u64, u8);
 
-/// What is read of a queue: its first file, and its records in their order.
+/// What is read of a queue: its first and last file, and its records in their order.
 #[derive(Drop)]
 pub struct Read {
     /// The number of the first file behind which none is missing.
     pub first: u64,
+    /// The number of the last file.
+    pub last: u64,
+    /// Where its records end; nothing where it has no header.
+    pub end: Option<usize>,
     /// The records of the files from there on.
     pub places: Vec<Place>,
 }
 
 /// Reads the files of a queue, from the first one on behind which none is missing.
 pub fn read_queue(alloc: Global, system: &MemoryFileSystem, queue: LogQueue) -> Option<Read> {
-    let end = end_of(queue);
-    let numbers = file_numbers(alloc, system, end)?;
+    let numbers = file_numbers(alloc, system, end_of(queue))?;
     let last = *numbers.iter().max()?;
     let first = first_number(&numbers, last);
     let mut places = Vec::new(alloc);
+    let mut end = None;
     for seq in first..=last {
-        let path = format!(in alloc; "d/{seq:016}{end}").ok()?;
+        let path = path_of(alloc, queue, seq)?;
         let bytes = content(alloc, system, &path)?;
-        add_places(&bytes, seq, &mut places).ok()?;
+        end = add_places(&bytes, seq, &mut places).ok()?;
     }
-    Some(Read { first, places })
+    Some(Read {
+        first,
+        last,
+        end,
+        places,
+    })
 }
 
 // The number of the first file up to this one behind which none is missing.
@@ -61,6 +73,12 @@ pub fn all_bytes(alloc: Global, system: &MemoryFileSystem, queue: LogQueue) -> O
         }
     }
     Some(all)
+}
+
+/// The path of a queue's file.
+pub fn path_of(alloc: Global, queue: LogQueue, seq: u64) -> Option<String> {
+    let end = end_of(queue);
+    format!(in alloc; "d/{seq:016}{end}").ok()
 }
 
 // What the names of a queue's files end in.
@@ -91,25 +109,33 @@ fn content(alloc: Global, system: &MemoryFileSystem, path: &str) -> Option<Vec<u
     Some(bytes)
 }
 
-// Adds the records that stand in a file's bytes, one behind the other; none where it has no header.
-fn add_places(bytes: &[u8], seq: u64, places: &mut Vec<Place>) -> Result<(), AllocError> {
+// Adds the records that stand in a file's bytes, one behind the other, and answers where they end; none where
+// it has no header.
+fn add_places(
+    bytes: &[u8],
+    seq: u64,
+    places: &mut Vec<Place>,
+) -> Result<Option<usize>, AllocError> {
     let Some(mut rest) = behind_header(bytes) else {
-        return Ok(());
+        return Ok(None);
     };
     for _turn in 0..bytes.len() {
         let Some((number, behind)) = split_record(rest, seq) else {
-            return Ok(());
+            return Ok(bytes.len().checked_sub(rest.len()));
         };
         places.push((seq, number))?;
         rest = behind;
     }
-    Ok(())
+    Ok(bytes.len().checked_sub(rest.len()))
 }
 
 // What stands behind a file's header.
 fn behind_header(bytes: &[u8]) -> Option<&[u8]> {
     let behind_magic = bytes.strip_prefix(MAGIC)?;
-    behind_magic.strip_prefix(&VERSION)
+    match behind_magic.strip_prefix(&SECOND) {
+        Some(rest) => Some(rest),
+        None => behind_magic.strip_prefix(&FIRST),
+    }
 }
 
 // The number of the record at the front, and what stands behind it; nothing where there is no whole one that

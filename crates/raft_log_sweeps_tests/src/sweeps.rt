@@ -1,8 +1,8 @@
 //! The sweeps.
+use super::opened::prepared;
 use super::remainders::remainders;
 use super::run::Step::{Append, PurgeTo, Rotate, Sync};
 use super::run::{Run, Step};
-use crate::queues::prepared;
 use raft_log_base::LogQueue;
 use raft_log_disk::{Fault, FileSystem};
 use raft_log_memory_files::{MemoryFileSystem, Remainder};
@@ -80,7 +80,7 @@ fn has_met(system: &MemoryFileSystem) -> bool {
 
 // A run that meets its n-th changing call in this way: whether it is there; and whether from that step on,
 // while the pipe goes on, what a stop leaves in each way holds what was synced and a beginning of what was
-// written.
+// written, and at the end goes on where it is opened again.
 fn met(
     rt: &HostRuntime,
     capacity: usize,
@@ -98,10 +98,7 @@ fn met(
             kept = kept && run.keeps(rt.alloc(), &system, left);
         }
     }
-    Ok((
-        has_met(&system),
-        kept && run.keeps(rt.alloc(), &system, left),
-    ))
+    Ok((has_met(&system), kept && run.restarts(rt, &system, left)))
 }
 
 // How many changing calls of a run can be met in this way, each one up to the first that isn't there; nothing
@@ -132,7 +129,7 @@ fn nothing_refused(rt: HostRuntime) -> Result<(), Fail> {
     let mut run = Run::new(&rt, &mut system, LogQueue::Append, KEEPING.0)?;
     for step in STEPS.iter() {
         let is_taken = run.take(&rt, &mut system, *step);
-        assert!(rt; is_taken && run.keeps(rt.alloc(), &system, &left));
+        assert!(rt; is_taken && run.restarts(&rt, &system, &left));
     }
     assert!(rt; !has_met(&system) && !run.has_failed());
     Ok(())

@@ -1,8 +1,8 @@
 use Rattle.std.proofs.Common.{◌≡◌, ◌-◌, ap, length, rules, ◌∙◌}
 use Rattle.std.proofs.Math.Path.{fun_ext}
 use Rattle.std.specs.Prelude.{slice_set}
-use Rattle.raft_log_pipes_tests.proofs.Marks.{marked_again}
-use Rattle.raft_log_pipes_tests.proofs.sweep.numbered.NumberedReactiveBytes.sign.Goals as goal
+use Rattle.raft_log_sweeps_tests.proofs.Marks.{marked_again}
+use Rattle.raft_log_sweeps_tests.proofs.numbered.NumberedReactiveBytes.sign.Goals as goal
 
 pub returns-clause-bytes : goal.returns-clause-bytes
 returns-clause-bytes c =

@@ -1,7 +1,7 @@
 //! Records that tell their number and the file that they were signed for.
 
 ghost use Rattle.std.specs.Prelude.{◌≡◌, ◌<◌, ◌≤◌, ◌%◌, ◌+◌, vec_len};
-ghost use Rattle.raft_log_pipes_tests.specs.Numbered.{marked};
+ghost use Rattle.raft_log_sweeps_tests.specs.Numbered.{marked};
 
 use raft_log_base::LogFileContext;
 use raft_log_pipes::ReactiveBytes;

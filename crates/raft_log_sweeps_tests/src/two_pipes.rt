@@ -1,9 +1,9 @@
 //! Two pipes in one directory: what is asked of one leaves the other's files as they are.
+use super::opened::prepared;
 use super::reader::all_bytes;
 use super::remainders::remainders;
 use super::run::{Run, Step};
 use super::sweeps::STEPS;
-use crate::queues::prepared;
 use raft_log_base::LogQueue;
 use raft_log_memory_files::MemoryFileSystem;
 use std::test::Fail;
@@ -30,8 +30,8 @@ fn a_pipe_leaves_the_other_queues_files(rt: HostRuntime) -> Result<(), Fail> {
     for step in STEPS.iter() {
         let is_left = leaves(&rt, &mut system, &mut append, LogQueue::Rewrite, *step)
             && leaves(&rt, &mut system, &mut rewrite, LogQueue::Append, *step);
-        assert!(rt; is_left && append.keeps(rt.alloc(), &system, &left));
-        assert!(rt; rewrite.keeps(rt.alloc(), &system, &left));
+        assert!(rt; is_left && append.restarts(&rt, &system, &left));
+        assert!(rt; rewrite.restarts(&rt, &system, &left));
     }
     Ok(())
 }

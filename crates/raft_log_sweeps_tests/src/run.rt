@@ -2,19 +2,16 @@
 //! run is cheap to prove.)
 use super::known::Known;
 use super::numbered::Numbered;
-use super::reader::read_queue;
-use crate::pipes::begin_pipe;
-use crate::queues::layout_of;
+use super::opened::{found, open};
+use super::reader::{Read, read_queue};
+use super::restarts::goes_on;
 use raft_log_base::{Error, LogQueue, Result};
-use raft_log_disk::FileSystem;
 use raft_log_layout::LogLayout;
 use raft_log_memory_files::{MemoryFileSystem, Remainder};
 use raft_log_pipes::SinglePipe;
 use std::alloc::Global;
+use std::collections::VecDeque;
 use std::test::Fail;
-
-/// From this size on a file is rotated before an append.
-const TARGET_SIZE: usize = 150;
 
 /// What is asked of a pipe.
 #[derive(Clone, Copy)]
@@ -73,8 +70,8 @@ impl Run {
         queue: LogQueue,
         capacity: usize,
     ) -> Result<Run, Fail> {
-        let layout = layout_of(rt.alloc(), queue)?;
-        let pipe = begin_pipe(rt, system, layout, TARGET_SIZE, capacity)?;
+        let nothing = found(rt.alloc(), VecDeque::new(rt.alloc()), None);
+        let pipe = open(rt, system, queue, capacity, nothing)?;
         Ok(Run {
             queue,
             pipe,
@@ -145,17 +142,35 @@ impl Run {
 
     /// Whether what a stop leaves in each of these ways may be read.
     pub fn keeps(&self, alloc: Global, system: &MemoryFileSystem, ways: &[Remainder]) -> bool {
-        ways.iter().all(|what| self.keeps_left(alloc, system, what))
+        ways.iter()
+            .all(|what| self.read(alloc, system, what).is_some())
     }
 
-    // Whether what a stop leaves in this way may be read.
-    fn keeps_left(&self, alloc: Global, system: &MemoryFileSystem, what: &Remainder) -> bool {
-        let Ok(after) = system.remainder(what) else {
-            return false;
-        };
-        match read_queue(alloc, &after, self.queue) {
-            Some(read) => self.known.allows(&read),
+    /// Whether it may be read, and goes on where it is opened again.
+    pub fn restarts(
+        &self,
+        rt: &HostRuntime,
+        system: &MemoryFileSystem,
+        ways: &[Remainder],
+    ) -> bool {
+        ways.iter().all(|what| match self.read(rt.alloc(), system, what) {
+            Some((mut after, read)) => goes_on(rt, &mut after, self.queue, read),
             None => false,
+        })
+    }
+
+    // What a stop leaves in this way, and what is read of it; nothing where that may not be.
+    fn read(
+        &self,
+        alloc: Global,
+        system: &MemoryFileSystem,
+        what: &Remainder,
+    ) -> Option<(MemoryFileSystem, Read)> {
+        let after = system.remainder(what).ok()?;
+        let read = read_queue(alloc, &after, self.queue)?;
+        if self.known.allows(&read) {
+            return Some((after, read));
         }
+        None
     }
 }

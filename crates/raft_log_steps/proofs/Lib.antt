@@ -17,3 +17,4 @@ pub mod ReadingAgain
 pub mod CrashSteps
 pub mod CloseSteps
 pub mod OpenSteps
+pub mod OnDiskLaws

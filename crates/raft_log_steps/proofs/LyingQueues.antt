@@ -54,7 +54,7 @@ module _ {R : Type 0} (layout : QueueLayout R) (told : IsQueueLayout layout) whe
   ]
 
   module _ (theirs : List ℕ → Type 0) (old new : Disk) (apart : (path : List ℕ) → layout.own path → theirs path → ⊥) (only : TouchesOnlyNames theirs old new) where
-    unbegun_stays : (q : Spanned R) → IsUnbegun layout q old → IsUnbegun layout q new
+    pub unbegun_stays : (q : Spanned R) → IsUnbegun layout q old → IsUnbegun layout q new
     unbegun_stays q unbegun = record {
       fresh = record {
         none = λ m less path at. name_stays layout told theirs old new apart only m path less at ∙ unbegun.fresh.none m less path at;
@@ -173,7 +173,7 @@ module _ {R E V : Type 0} (log : TwoQueues R E V) (two : AreTwoQueues log) where
         append_read = λ t read may. a_reads t read (subst (λ (n : ℕ). MayRead log.says log.append.format n image.disk t read) left.append_first may);
       }
 
-  log_of : (o : OpenPipes) (s : LogOnDisk R) (m : Map E V) (pending : List (Record E V)) → IsSound s.disk → RunOrLie log o s → IsLog (Ties log s) m pending → IsLogOf (readings_of log) s m pending
+  pub log_of : (o : OpenPipes) (s : LogOnDisk R) (m : Map E V) (pending : List (Record E V)) → IsSound s.disk → RunOrLie log o s → IsLog (Ties log s) m pending → IsLogOf (readings_of log) s m pending
   log_of o s m pending sound is holds = fewer (Ties log s) (AllowsIn log s) m pending (λ f ties. allowed o s f sound is ties) holds
 
   pub lying_log_is_a_log : LyingLogIsALog log

@@ -12,3 +12,4 @@ pub mod Lying
 pub mod Beside
 pub mod Reopening
 pub mod Closing
+pub mod OnDisk

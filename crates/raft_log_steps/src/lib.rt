@@ -12,6 +12,7 @@ pub mod closing;
 pub mod frame;
 pub mod images;
 pub mod lying;
+pub mod on_disk;
 pub mod own;
 pub mod purging;
 pub mod queues;

@@ -18,3 +18,4 @@ pub mod CrashSteps
 pub mod CloseSteps
 pub mod OpenSteps
 pub mod OnDiskLaws
+pub mod FailingLaws

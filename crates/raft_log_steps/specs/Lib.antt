@@ -13,3 +13,4 @@ pub mod Beside
 pub mod Reopening
 pub mod Closing
 pub mod OnDisk
+pub mod Failing

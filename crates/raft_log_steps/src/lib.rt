@@ -9,6 +9,7 @@ pub mod appending;
 pub mod beginning;
 pub mod beside;
 pub mod closing;
+pub mod failing;
 pub mod frame;
 pub mod images;
 pub mod lying;

@@ -1,5 +1,5 @@
 -- A pipe fails while an engine runs over both.
-use Rattle.std.proofs.Common.{◌≡◌, ◌⊎◌, ℕ, Option, Some, None, List, [], ◌∷◌, ◌++◌, refl, sym, subst, inl, inr}
+use Rattle.std.proofs.Common.{◌≡◌, ◌⊎◌, ℕ, Some, List, [], ◌∷◌, ◌++◌, refl, sym, subst, inl, inr}
 use Rattle.raft_log_model.specs.Item.{Record}
 use Rattle.raft_log_model.specs.Groups.{Map, taken}
 use Rattle.raft_log_disk.specs.Disk.{Disk}
@@ -13,12 +13,11 @@ use Rattle.raft_log_pipes.specs.declared.pipe_files.PipeFiles.{PipeFiles}
 use Rattle.raft_log_pipes.specs.declared.new_files.NewFiles.{NewFiles}
 use Rattle.raft_log_directory.specs.Calls.{Which, LeavesOut}
 use Rattle.raft_log_directory.specs.Calls.Which.{InAppend, InRewrite}
-use Rattle.raft_log_directory.specs.Log.{View, IsAt, LogEnds}
+use Rattle.raft_log_directory.specs.Log.{View, LogEnds}
 use Rattle.raft_log_directory.specs.Tables.{GrowsTo}
 use Rattle.raft_log_directory.proofs.CallLaws.{stands_log, failed_whole, append_left_out, rewrite_left_out, append_may_be_there}
 use Rattle.raft_log_steps.specs.Queues.{TwoQueues, AreTwoQueues, layout_at, SaysRecord}
-use Rattle.raft_log_steps.specs.State.{LogOnDisk, Pipes, spanned_at, with_spanned, pipe_at, Run, Ties}
-use Rattle.raft_log_steps.specs.Turning.{in_span}
+use Rattle.raft_log_steps.specs.State.{LogOnDisk, Pipes, pipe_at, Ties}
 use Rattle.raft_log_steps.specs.Steps.{next_log}
 use Rattle.raft_log_steps.specs.Writing.{IsAtOn}
 use Rattle.raft_log_steps.specs.Lying.{both_open, with_open, RunOrLie}

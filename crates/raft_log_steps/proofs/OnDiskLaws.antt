@@ -1,12 +1,11 @@
 -- What is said of a log on a disk, through crashes and opens.
-use Rattle.std.proofs.Common.{◌≡◌, ℕ, ◌≤◌, false, Option, Some, None, List, [], length, take, refl, sym, ap, subst, inl, inr, arith}
+use Rattle.std.proofs.Common.{◌≡◌, ℕ, ◌≤◌, false, Some, None, List, [], length, take, refl, sym, subst, inr, arith}
 use Rattle.raft_log_model.specs.Item.{Record}
 use Rattle.raft_log_model.specs.Groups.{Map, taken}
 use Rattle.raft_log_machine.specs.Fresh.{nothing_stands, nowhere}
 use Rattle.raft_log_disk.specs.Disk.{Disk}
 use Rattle.raft_log_disk.specs.Image.{IsImage, IsSound}
-use Rattle.raft_log_disk.specs.LogFormat.{Format}
-use Rattle.raft_log_disk.specs.LogQueue.{Past, LogFiles, IsAbsent, NoChanceInLast}
+use Rattle.raft_log_disk.specs.LogQueue.{Past, LogFiles, NoChanceInLast}
 use Rattle.raft_log_base.specs.declared.errors.Error.{Error}
 use Rattle.raft_log_base.specs.declared.errors.Error.TheVariants as errors
 use Rattle.raft_log_file_queue.specs.Beginning.{IsFresh}
@@ -20,8 +19,8 @@ use Rattle.raft_log_directory.specs.Calls.{Which}
 use Rattle.raft_log_directory.specs.Calls.Which.{InAppend, InRewrite}
 use Rattle.raft_log_directory.proofs.Sound.{fresh_sound}
 use Rattle.raft_log_directory.proofs.CallLaws.{stands_log}
-use Rattle.raft_log_steps.specs.Queues.{QueueLayout, IsQueueLayout, TwoQueues, AreTwoQueues}
-use Rattle.raft_log_steps.specs.State.{Spanned, LogOnDisk, Pipes, with_spanned, Run, Ties}
+use Rattle.raft_log_steps.specs.Queues.{TwoQueues, AreTwoQueues}
+use Rattle.raft_log_steps.specs.State.{LogOnDisk, Pipes, Ties}
 use Rattle.raft_log_steps.specs.Beginning.{begun_queue, stopped_log}
 use Rattle.raft_log_steps.specs.Steps.{next_log}
 use Rattle.raft_log_steps.specs.Writing.{IsAtOn}
@@ -120,7 +119,6 @@ module _ {R E V : Type 0} (log : TwoQueues R E V) (two : AreTwoQueues log) where
   read_then InRewrite s first files new m a r reads holds =
       let t : LogOnDisk R = found_log InRewrite s first files new in
       log_then s t m (laws.rewrite_first s t t reads (laws.still InAppend t a)) holds
-
 
   -- a refused open leaves the log there
   unopened : (which : Which) (o : OpenPipes) (s : LogOnDisk R) (m : Map E V) (error : Error) (new : Disk) → RunOrLie log (with_open which o None) s → s.append.files.pending ≡ [] → s.rewrite.files.pending ≡ [] → IsLog (Ties log s) m []

@@ -1,5 +1,5 @@
 -- A pipe is opened over what was found of its queue, seen from both queues.
-use Rattle.std.proofs.Common.{◌≡◌, ℕ, ◌+◌, ◌-◌, ◌<◌, ◌≤◌, suc, Option, Some, None, List, [], ◌∷◌, ◌++◌, length, refl, sym, ◌∙◌, ap, subst, inl, inr, arith, length-append}
+use Rattle.std.proofs.Common.{◌≡◌, ℕ, ◌-◌, ◌<◌, ◌≤◌, suc, Option, Some, None, List, [], ◌∷◌, ◌++◌, length, refl, sym, ◌∙◌, ap, subst, inl, inr, arith, length-append}
 use Rattle.std.proofs.lemmas.Bool.{cases_eq, cases_lt}
 use Rattle.raft_log_model.specs.Item.{Record}
 use Rattle.raft_log_machine.specs.Files.{FileQueue}
@@ -15,14 +15,13 @@ use Rattle.raft_log_base.specs.declared.errors.Error.TheVariants as errors
 use Rattle.raft_log_format.specs.Header.{header_bytes}
 use Rattle.raft_log_file_queue.specs.Queue.{with_room}
 use Rattle.raft_log_file_queue.specs.Beginning.{fresh_queue}
-use Rattle.raft_log_file_queue.specs.Bridge.{IsFileQueue, GapsStay}
+use Rattle.raft_log_file_queue.specs.Bridge.{IsFileQueue}
 use Rattle.raft_log_file_queue.specs.Reopening.{IsReadTo, reread}
 use Rattle.raft_log_file_queue.specs.Standing.{Names, Stands}
 use Rattle.raft_log_files.specs.Layout.{FilePaths, path_of}
 use Rattle.raft_log_files.specs.Opening.{IsHalfBegun}
-use Rattle.raft_log_files.specs.Rotation.{IsLeft}
 use Rattle.raft_log_pipes.specs.Files.{Listed, IsSpan, AreKept, IsPipe}
-use Rattle.raft_log_pipes.specs.Opening.{HasOwnHeader, IsFound, IsListedAs, IsListedFirst, BeginsPipe, BeginLeaves, TakesUpFound, TakeUpLeaves, FailsToTakeUpFound, FailsToBeginPipe, Opens, OpenLeaves, first_number, taken_up}
+use Rattle.raft_log_pipes.specs.Opening.{HasOwnHeader, IsFound, IsListedAs, IsListedFirst, BeginsPipe, BeginLeaves, TakesUpFound, TakeUpLeaves, Opens, OpenLeaves, first_number, taken_up}
 use Rattle.raft_log_pipes.specs.Opening.Opens.{begins, takes_up}
 use Rattle.raft_log_pipes.specs.Opening.OpenLeaves.{not_begun, not_taken_up}
 use Rattle.raft_log_pipes.specs.declared.found_files.FoundFiles.{FoundFiles}
@@ -42,7 +41,7 @@ use Rattle.raft_log_steps.proofs.AppendStep.{pipe_rebased}
 use Rattle.raft_log_steps.proofs.RefusedStep.{left_rebased}
 use Rattle.raft_log_steps.proofs.Aside.{name_stays, kept_stays, stopped_stays}
 use Rattle.raft_log_steps.proofs.LyingQueues.{unbegun_stays, leaves}
-use Rattle.raft_log_steps.proofs.ReadingAgain.{read_on, all_records, no_records}
+use Rattle.raft_log_steps.proofs.ReadingAgain.{read_on, all_records}
 
 -- Lists.
 
@@ -204,8 +203,8 @@ module _ {R E V : Type 0} (log : TwoQueues R E V) (two : AreTwoQueues log) (whic
           refl,
           runs_found files p new pipe,
           read_on log two which o None s p files.first_seq (length q.files.pending) new is pipe.active.stands.others gaps
-          (λ low f all. (let above = found_above layout told log.says q s.disk (first_number earlier last) low earlier f bound scanned.span all in omega (arith, above, first)))
-          (omega (arith, under, first)) refl refl (all_records q.files) refl,
+              (λ low f all. (let above = found_above layout told log.says q s.disk (first_number earlier last) low earlier f bound scanned.span all in omega (arith, above, first)))
+              (omega (arith, under, first)) refl refl (all_records q.files) refl,
         )
 
     not_taken : (error : Error) (new : Disk) → TakeUpLeaves layout.format layout.own layout.paths earlier last found.end found.recycled.items error s.disk new → LeavesUnopened log which o s error new

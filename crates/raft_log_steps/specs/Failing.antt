@@ -1,5 +1,5 @@
 -- A pipe fails while an engine runs over both: the log lies on the disk, and may be opened again.
-use Rattle.std.specs.Prelude.{◌≡◌, ℕ, ◌⊎◌, Option, Some, None, List, [], ◌∷◌, ◌++◌}
+use Rattle.std.specs.Prelude.{◌≡◌, ℕ, ◌⊎◌, None, List, [], ◌∷◌, ◌++◌}
 use Rattle.raft_log_model.specs.Item.{Record}
 use Rattle.raft_log_model.specs.Groups.{Map, taken}
 use Rattle.raft_log_disk.specs.Disk.{Disk}
@@ -11,7 +11,7 @@ use Rattle.raft_log_pipes.specs.Exits.{FailsToRotate, FailsToSyncPipe}
 use Rattle.raft_log_pipes.specs.declared.pipe_files.PipeFiles.{PipeFiles}
 use Rattle.raft_log_pipes.specs.declared.new_files.NewFiles.{NewFiles}
 use Rattle.raft_log_directory.specs.Calls.{Which}
-use Rattle.raft_log_directory.specs.Calls.Which.{InAppend, InRewrite}
+use Rattle.raft_log_directory.specs.Calls.Which.{InAppend}
 use Rattle.raft_log_directory.specs.Log.{View}
 use Rattle.raft_log_directory.specs.Tables.{GrowsTo}
 use Rattle.raft_log_steps.specs.Queues.{TwoQueues, AreTwoQueues, layout_at, SaysRecord}

@@ -9,6 +9,7 @@ use Rattle.raft_log_disk.specs.LogQueue.{Past, LogFiles, NoChanceInLast}
 use Rattle.raft_log_base.specs.declared.errors.Error.{Error}
 use Rattle.raft_log_base.specs.declared.errors.Error.TheVariants as errors
 use Rattle.raft_log_file_queue.specs.Beginning.{IsFresh}
+use Rattle.raft_log_pipes.specs.Files.{Listed, AreKept}
 use Rattle.raft_log_pipes.specs.Opening.{Opens, OpenLeaves}
 use Rattle.raft_log_pipes.specs.declared.found_files.FoundFiles.{FoundFiles}
 use Rattle.raft_log_pipes.specs.declared.new_files.NewFiles.{NewFiles}
@@ -26,6 +27,7 @@ use Rattle.raft_log_steps.specs.Steps.{next_log}
 use Rattle.raft_log_steps.specs.Writing.{IsAtOn}
 use Rattle.raft_log_steps.specs.Lying.{OpenPipes, none_open, both_open, with_open, RunOrLie}
 use Rattle.raft_log_steps.specs.Reopening.{ReadsAgain, ReadsBothAgain, RestBoth, IsFoundOf, found_log, LeavesUnopened, OpensBeside, FoundLogIsALog}
+use Rattle.raft_log_steps.specs.Reopening.IsFoundOf.{unbegun}
 use Rattle.raft_log_steps.specs.OnDisk.{LogLiesOn, LogRestsOn, LogsGoOn, LogsGoOnDisks, LogOpenedOn, OpensBoth, RestingLogsOpen}
 use Rattle.raft_log_steps.proofs.Wholes.{begun_log_is_empty}
 use Rattle.raft_log_steps.proofs.LyingQueues.{back, log_of}
@@ -70,6 +72,14 @@ module _ {R E V : Type 0} (log : TwoQueues R E V) (two : AreTwoQueues log) where
         };
       }
 
+  none_found : (d : Disk) (append : IsFresh log.append.format log.append.own d d) (rewrite : IsFresh log.rewrite.format log.rewrite.own d d) → (found : FoundFiles) → found.files.items ≡ [] → found.recycled.items ≡ []
+      → IsFoundOf log.append found (nothing d append rewrite).state.append d × IsFoundOf log.rewrite found (nothing d append rewrite).state.rewrite d
+  unfolding nothing
+  none_found d append rewrite found none spares = (
+    unbegun none (record { fresh = append; is = (nothing_before, [], 0, refl) }) (subst (λ (fs : List Listed). AreKept log.append.format log.append.paths 1 d fs) (sym spares) tt),
+    unbegun none (record { fresh = rewrite; is = (nothing_before, [], 0, refl) }) (subst (λ (fs : List Listed). AreKept log.rewrite.format log.rewrite.paths 1 d fs) (sym spares) tt),
+  )
+
   engine : (p : Pipes) (d : Disk) (v : View E V) (m : Map E V) (pending : List (Record E V)) → IsAtOn log p d v m pending → LogLiesOn log (both_open p) d m pending
   engine p d v m pending h = record {
     state = h.state;
@@ -93,6 +103,7 @@ module _ {R E V : Type 0} (log : TwoQueues R E V) (two : AreTwoQueues log) where
   pub logs_go_on : LogsGoOn log
   logs_go_on = record {
     nothing = nothing;
+    none_found = none_found;
     engine = engine;
     rest = rest;
     means = λ o d m pending h sound. log_of log two o h.state m pending (subst IsSound (sym h.disk) sound) h.stands h.holds;

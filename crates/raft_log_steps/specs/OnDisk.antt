@@ -37,12 +37,18 @@ pub record LogRestsOn {R E V : Type 0} (log : TwoQueues R E V) (d : Disk) (m : M
   pub rewrite_synced : state.rewrite.files.pending ≡ []
   pub holds : IsLog (Ties log state) m []
 
--- A directory without log files is at rest, and nothing stands in it. What an engine has open lies on the
+-- A directory without log files is at rest, and nothing stands in it; where no file is found, that is what was
+-- left of it, so both queues may begin. What an engine has open lies on the
 -- disk, and so does what rests; each image that a crash may leave means the map after some first pending
 -- batches, and is at rest with it.
 pub record LogsGoOn {R E V : Type 0} (log : TwoQueues R E V) : Type 0 where
   pub nothing : (d : Disk) → IsFresh log.append.format log.append.own d d
       → IsFresh log.rewrite.format log.rewrite.own d d → LogRestsOn log d nothing_stands
+  pub none_found : (d : Disk) (append : IsFresh log.append.format log.append.own d d)
+      → (rewrite : IsFresh log.rewrite.format log.rewrite.own d d)
+      → (found : FoundFiles) → found.files.items ≡ [] → found.recycled.items ≡ []
+      → IsFoundOf log.append found (nothing d append rewrite).state.append d
+      × IsFoundOf log.rewrite found (nothing d append rewrite).state.rewrite d
   pub engine : (p : Pipes) (d : Disk) (v : View E V) (m : Map E V) (pending : List (Record E V))
       → IsAtOn log p d v m pending → LogLiesOn log (both_open p) d m pending
   pub rest : (d : Disk) (m : Map E V) → LogRestsOn log d m → LogLiesOn log none_open d m []

@@ -19,7 +19,7 @@ module _ {R : Type 0} (layout : QueueLayout R) (told : IsQueueLayout layout) (th
   pub name_stays : (m : ℕ) (path : List ℕ) → m < layout.format.limit → layout.format.IsPath m path → new.names path ≡ old.names path
   name_stays m path less at = only.names path (apart path (told.lawful.owns m path less at))
 
-  kept_stays : (first : ℕ) (g : Listed) → first ≤ layout.format.limit → IsKept layout.format layout.paths first old g → IsKept layout.format layout.paths first new g
+  pub kept_stays : (first : ℕ) (g : Listed) → first ≤ layout.format.limit → IsKept layout.format layout.paths first old g → IsKept layout.format layout.paths first new g
   kept_stays first g most is =
       let mine = kept_is_own layout.format layout.own layout.paths told.lawful first old g is most in
       let usable = is.usable in

@@ -1,14 +1,13 @@
 -- Each call of a pipe that runs, seen from both queues, whatever stands of the other.
-use Rattle.std.proofs.Common.{◌≡◌, ◌⊎◌, ℕ, ◌≤◌, Option, Some, None, List, [], ◌∷◌, ◌++◌, refl, sym, ◌∙◌, subst, inl, inr}
+use Rattle.std.proofs.Common.{◌≡◌, ◌⊎◌, ℕ, ◌≤◌, Option, Some, None, List, [], ◌∷◌, refl, ◌∙◌, inl, inr}
 use Rattle.raft_log_model.specs.Item.{Record}
-use Rattle.raft_log_machine.specs.Files.{LogFile, FileQueue}
+use Rattle.raft_log_machine.specs.Files.{FileQueue}
 use Rattle.raft_log_disk.specs.Disk.{Disk}
 use Rattle.raft_log_disk.specs.LogQueue.{LogFiles, rotated}
 use Rattle.raft_log_disk.specs.Touching.{TouchesOnlyNames}
 use Rattle.raft_log_base.specs.declared.errors.Error.{Error}
 use Rattle.raft_log_base.specs.declared.errors.Error.TheVariants as errors
 use Rattle.raft_log_format.specs.Header.{header_bytes}
-use Rattle.raft_log_format.specs.declared.header.LogFileFormat.{LogFileFormat}
 use Rattle.raft_log_file_queue.specs.Queue.{with_more, with_room, synced}
 use Rattle.raft_log_file_queue.specs.Bridge.{IsFileQueue, GapsStay}
 use Rattle.raft_log_file_queue.proofs.Bridging.{takes_numbered_steps}
@@ -18,21 +17,21 @@ use Rattle.raft_log_base.specs.declared.pipe_log.FileBlockHandle.{FileBlockHandl
 use Rattle.raft_log_base.specs.declared.pipe_log.LogFileContext.{LogFileContext}
 use Rattle.raft_log_pipes.specs.Appending.{AppendsAt}
 use Rattle.raft_log_pipes.specs.declared.new_files.NewFiles.{NewFiles}
-use Rattle.raft_log_pipes.specs.Exits.{SameFiles, IsTurned, Rotates, RotationLeaves, SyncsPipe, FailsToSyncPipe}
-use Rattle.raft_log_pipes.specs.Purging.{IsRaised, Purges, PurgeLeaves}
+use Rattle.raft_log_pipes.specs.Exits.{SameFiles, RotationLeaves}
+use Rattle.raft_log_pipes.specs.Purging.{PurgeLeaves}
 use Rattle.raft_log_pipes.specs.declared.pipe_files.PipeFiles.{PipeFiles}
 use Rattle.raft_log_pipes.proofs.Turning.{pipe_same}
 use Rattle.raft_log_directory.specs.Model.{Files}
 use Rattle.raft_log_directory.specs.Moves.{grown, settled_files, raised_files}
 use Rattle.raft_log_directory.specs.Calls.Which.{InAppend, InRewrite}
-use Rattle.raft_log_directory.specs.Calls.{Which, Appends, CutsBack, LeavesOut, MayAppend, Syncs, Settles, FailsWhole, Raises, from_at, queue_at, put}
+use Rattle.raft_log_directory.specs.Calls.{Which, Appends, CutsBack, LeavesOut, Raises, from_at, queue_at, put}
 use Rattle.raft_log_steps.specs.Queues.{QueueLayout, IsQueueLayout, TwoQueues, AreTwoQueues, layout_at, SaysRecord}
 use Rattle.raft_log_steps.specs.State.{Spanned, LogOnDisk, spanned_at, with_spanned, RunsQueue, Ties}
 use Rattle.raft_log_steps.specs.Steps.{next_log}
-use Rattle.raft_log_steps.specs.Syncing.{FailsMoved, raised_log}
-use Rattle.raft_log_steps.specs.Turning.{GoesOnInNext, IsOrGoesOn, HasTaken, IsCutBack, in_span}
+use Rattle.raft_log_steps.specs.Syncing.{raised_log}
+use Rattle.raft_log_steps.specs.Turning.{HasTaken, IsCutBack, in_span}
 use Rattle.raft_log_steps.specs.Lying.{OpenPipes, with_open, RunOrLie, LeavesQueue}
-use Rattle.raft_log_steps.specs.Beside.{AppendsBeside, LeavesRefused, FailsToAppendBeside, SyncsBeside, LeavesUnrotated, RotatesBeside, LeavesRaised, LeavesUnpurged, PurgesBeside, QuietCallsBeside}
+use Rattle.raft_log_steps.specs.Beside.{AppendsBeside, LeavesRefused, FailsToAppendBeside, SyncsBeside, LeavesUnrotated, RotatesBeside, LeavesUnpurged, PurgesBeside, QuietCallsBeside}
 use Rattle.raft_log_steps.proofs.Lifts.{told_at, tie_at}
 use Rattle.raft_log_steps.proofs.Numbers.{quiet_rotates, none_pending, still_settled}
 use Rattle.raft_log_steps.proofs.OneQueue.{On, append_one}

@@ -1,11 +1,10 @@
 -- The pipes of a log are closed.
-use Rattle.std.proofs.Common.{◌≡◌, Option, Some, None, List, [], refl, sym, subst, inl, inr}
+use Rattle.std.proofs.Common.{◌≡◌, Some, None, List, refl, sym, subst, inl, inr}
 use Rattle.raft_log_model.specs.Item.{Record}
 use Rattle.raft_log_model.specs.Groups.{Map, taken}
 use Rattle.raft_log_disk.specs.Disk.{Disk}
 use Rattle.raft_log_disk.specs.LogQueue.{LogFiles}
 use Rattle.raft_log_file_queue.specs.Queue.{settled}
-use Rattle.raft_log_file_queue.specs.Bridge.{GapsStay}
 use Rattle.raft_log_file_queue.proofs.Bridging.{takes_numbered_steps}
 use Rattle.raft_log_files.specs.Rotation.{IsLeft}
 use Rattle.raft_log_disk.specs.Touching.{TouchesOnlyNames}

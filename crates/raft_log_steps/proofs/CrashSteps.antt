@@ -1,17 +1,17 @@
 -- What a crash leaves of a log, however its queues stand.
-use Rattle.std.proofs.Common.{◌≡◌, ℕ, ◌≤◌, Option, Some, List, [], length, refl, sym, ◌∙◌, ap, inl, inr, arith}
+use Rattle.std.proofs.Common.{◌≡◌, ℕ, ◌≤◌, length, refl, sym, ◌∙◌, ap, inl, inr, arith}
 use Rattle.raft_log_model.specs.Item.{Record}
 use Rattle.raft_log_machine.specs.Files.{FileQueue}
 use Rattle.raft_log_disk.specs.Disk.{Disk}
 use Rattle.raft_log_disk.specs.Image.{IsImage}
-use Rattle.raft_log_disk.specs.LogQueue.{LogFiles, IsAbsent, NoChanceInLast, kept_to}
+use Rattle.raft_log_disk.specs.LogQueue.{NoChanceInLast, kept_to}
 use Rattle.raft_log_disk.proofs.TouchingLaws.{names_same}
 use Rattle.raft_log_file_queue.specs.Standing.{Names}
 use Rattle.raft_log_file_queue.specs.Bridge.{IsFileQueue, GapsStay}
 use Rattle.raft_log_file_queue.proofs.Standing.{place_moved}
 use Rattle.raft_log_directory.specs.Calls.{ReadAgain, read_files}
-use Rattle.raft_log_steps.specs.Queues.{QueueLayout, IsQueueLayout, TwoQueues, AreTwoQueues}
-use Rattle.raft_log_steps.specs.State.{Spanned, LogOnDisk}
+use Rattle.raft_log_steps.specs.Queues.{QueueLayout, IsQueueLayout, TwoQueues}
+use Rattle.raft_log_steps.specs.State.{Spanned}
 use Rattle.raft_log_steps.specs.Turning.{in_span}
 use Rattle.raft_log_steps.specs.Lying.{IsUnbegun, LiesQueue}
 use Rattle.raft_log_steps.specs.Reopening.{RestsQueue, CrashIsAStep}

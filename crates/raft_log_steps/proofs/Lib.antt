@@ -17,3 +17,5 @@ pub mod ReadingAgain
 pub mod CrashSteps
 pub mod CloseSteps
 pub mod OpenSteps
+pub mod OnDiskLaws
+pub mod FailingLaws

@@ -1,13 +1,13 @@
 -- The queues of a log, each of which stands for itself: what a call on one leaves of the other, and what their
 -- numbered files allow.
-use Rattle.std.proofs.Common.{◌≡◌, ℕ, ◌+◌, ◌<◌, ◌≤◌, zero, suc, Option, Some, None, List, [], ◌∷◌, ◌++◌, length, map, refl, sym, ◌∙◌, ap, subst, inl, inr, arith}
+use Rattle.std.proofs.Common.{◌≡◌, ℕ, ◌<◌, zero, suc, Option, Some, None, List, [], ◌∷◌, ◌++◌, length, refl, sym, ◌∙◌, ap, subst, inl, inr, arith}
 use Rattle.std.proofs.lemmas.List.{append_assoc}
 use Rattle.raft_log_model.specs.Item.{Record}
 use Rattle.raft_log_model.specs.Groups.{Map}
 use Rattle.raft_log_machine.specs.Files.{LogFile, FileQueue, IsRead}
 use Rattle.raft_log_disk.specs.Disk.{Disk}
 use Rattle.raft_log_disk.specs.Image.{IsImage, IsSound}
-use Rattle.raft_log_disk.specs.LogQueue.{Past, LogFiles, IsAbsent, NoChanceInLast}
+use Rattle.raft_log_disk.specs.LogQueue.{Past, NoChanceInLast}
 use Rattle.raft_log_disk.specs.Touching.{TouchesOnlyNames}
 use Rattle.raft_log_disk.proofs.TouchingLaws.{names_same}
 use Rattle.raft_log_file_queue.specs.Queue.{with_room}
@@ -23,10 +23,9 @@ use Rattle.raft_log_directory.specs.Calls.Which.{InAppend, InRewrite}
 use Rattle.raft_log_directory.specs.Log.{IsLog, IsLogOf}
 use Rattle.raft_log_directory.proofs.LogLaws.{fewer}
 use Rattle.raft_log_steps.specs.Queues.{QueueLayout, IsQueueLayout, TwoQueues, AreTwoQueues, layout_at}
-use Rattle.raft_log_steps.specs.State.{Spanned, LogOnDisk, spanned_at, with_spanned, Pipes, RunsQueue, Run, HoldsQueue, HoldsBoth, Ties}
+use Rattle.raft_log_steps.specs.State.{Spanned, LogOnDisk, spanned_at, with_spanned, RunsQueue, Ties}
 use Rattle.raft_log_steps.specs.Crash.{MayRead, readings_of, AllowsIn}
-use Rattle.raft_log_steps.specs.Beginning.{begun_queue}
-use Rattle.raft_log_steps.specs.Lying.{IsUnbegun, LiesQueue, RunsOrLies, OpenPipes, none_open, both_open, with_open, RunOrLie, LyingLogIsALog, LyingLogsAreLogs}
+use Rattle.raft_log_steps.specs.Lying.{IsUnbegun, LiesQueue, RunsOrLies, OpenPipes, with_open, RunOrLie, LyingLogIsALog, LyingLogsAreLogs}
 use Rattle.raft_log_steps.proofs.Aside.{name_stays, runs_stay, holds_stay}
 use Rattle.raft_log_steps.proofs.Gaps.{pipe_left}
 use Rattle.raft_log_steps.proofs.Reading.{held_reads, may_reads}
@@ -54,7 +53,7 @@ module _ {R : Type 0} (layout : QueueLayout R) (told : IsQueueLayout layout) whe
   ]
 
   module _ (theirs : List ℕ → Type 0) (old new : Disk) (apart : (path : List ℕ) → layout.own path → theirs path → ⊥) (only : TouchesOnlyNames theirs old new) where
-    unbegun_stays : (q : Spanned R) → IsUnbegun layout q old → IsUnbegun layout q new
+    pub unbegun_stays : (q : Spanned R) → IsUnbegun layout q old → IsUnbegun layout q new
     unbegun_stays q unbegun = record {
       fresh = record {
         none = λ m less path at. name_stays layout told theirs old new apart only m path less at ∙ unbegun.fresh.none m less path at;
@@ -173,7 +172,7 @@ module _ {R E V : Type 0} (log : TwoQueues R E V) (two : AreTwoQueues log) where
         append_read = λ t read may. a_reads t read (subst (λ (n : ℕ). MayRead log.says log.append.format n image.disk t read) left.append_first may);
       }
 
-  log_of : (o : OpenPipes) (s : LogOnDisk R) (m : Map E V) (pending : List (Record E V)) → IsSound s.disk → RunOrLie log o s → IsLog (Ties log s) m pending → IsLogOf (readings_of log) s m pending
+  pub log_of : (o : OpenPipes) (s : LogOnDisk R) (m : Map E V) (pending : List (Record E V)) → IsSound s.disk → RunOrLie log o s → IsLog (Ties log s) m pending → IsLogOf (readings_of log) s m pending
   log_of o s m pending sound is holds = fewer (Ties log s) (AllowsIn log s) m pending (λ f ties. allowed o s f sound is ties) holds
 
   pub lying_log_is_a_log : LyingLogIsALog log

@@ -1,47 +1,47 @@
 -- A pipe is opened over what was found of its queue, seen from both queues.
-use Rattle.std.proofs.Common.{◌≡◌, ℕ, ◌+◌, ◌-◌, ◌<◌, ◌≤◌, suc, Option, Some, None, List, [], ◌∷◌, ◌++◌, length, refl, sym, ◌∙◌, ap, subst, inl, inr, arith, length-append}
+use Rattle.std.proofs.Common.{◌≡◌, ℕ, ◌-◌, ◌<◌, ◌≤◌, suc, Option, Some, None, List, [], ◌∷◌, ◌++◌, length, refl, sym, ◌∙◌, ap, subst, inl, inr, arith, length-append}
 use Rattle.std.proofs.lemmas.Bool.{cases_eq, cases_lt}
 use Rattle.raft_log_model.specs.Item.{Record}
 use Rattle.raft_log_machine.specs.Files.{FileQueue}
-use Rattle.raft_log_disk.specs.Disk.{Disk}
+use Rattle.raft_log_disk.specs.Disk.{File, Disk}
+use Rattle.raft_log_disk.specs.LogFormat.{HasHeader}
 use Rattle.raft_log_disk.specs.Image.{IsSound}
 use Rattle.raft_log_disk.specs.KeepsSynced.{kept_records}
 use Rattle.raft_log_disk.specs.LogQueue.{Past, LogFiles, IsLeftover, IsAbsent}
-use Rattle.raft_log_disk.specs.Touching.{TouchesOnlyNames}
+use Rattle.raft_log_disk.specs.Touching.{HasFile, TouchesOnlyNames}
 use Rattle.raft_log_disk.proofs.TouchingLaws.{names_same}
 use Rattle.raft_log_base.specs.declared.errors.Error.{Error}
 use Rattle.raft_log_base.specs.declared.errors.Error.TheVariants as errors
 use Rattle.raft_log_format.specs.Header.{header_bytes}
 use Rattle.raft_log_file_queue.specs.Queue.{with_room}
 use Rattle.raft_log_file_queue.specs.Beginning.{fresh_queue}
-use Rattle.raft_log_file_queue.specs.Bridge.{IsFileQueue, GapsStay}
-use Rattle.raft_log_file_queue.specs.Reopening.{reread}
+use Rattle.raft_log_file_queue.specs.Bridge.{IsFileQueue}
+use Rattle.raft_log_file_queue.specs.Reopening.{IsReadTo, reread}
 use Rattle.raft_log_file_queue.specs.Standing.{Names, Stands}
 use Rattle.raft_log_files.specs.Layout.{FilePaths, path_of}
 use Rattle.raft_log_files.specs.Opening.{IsHalfBegun}
-use Rattle.raft_log_files.specs.Rotation.{IsLeft}
 use Rattle.raft_log_pipes.specs.Files.{Listed, IsSpan, AreKept, IsPipe}
-use Rattle.raft_log_pipes.specs.Laws.{IsScanned}
-use Rattle.raft_log_pipes.specs.Opening.{IsFound, IsListedAs, IsListedFirst, BeginsPipe, BeginLeaves, TakesUpFound, TakeUpLeaves, FailsToTakeUpFound, FailsToBeginPipe, Opens, OpenLeaves, first_number, taken_up}
+use Rattle.raft_log_pipes.specs.Opening.{HasOwnHeader, IsFound, IsListedAs, IsListedFirst, BeginsPipe, BeginLeaves, TakesUpFound, TakeUpLeaves, Opens, OpenLeaves, first_number, taken_up}
 use Rattle.raft_log_pipes.specs.Opening.Opens.{begins, takes_up}
 use Rattle.raft_log_pipes.specs.Opening.OpenLeaves.{not_begun, not_taken_up}
 use Rattle.raft_log_pipes.specs.declared.found_files.FoundFiles.{FoundFiles}
 use Rattle.raft_log_pipes.specs.declared.new_files.NewFiles.{NewFiles}
 use Rattle.raft_log_pipes.specs.declared.pipe_files.PipeFiles.{PipeFiles}
-use Rattle.raft_log_pipes.proofs.Lists.{path_numbered, span_end}
+use Rattle.raft_log_pipes.proofs.Lists.{path_numbered, span_end, span_moved, kept_all}
 use Rattle.raft_log_directory.specs.Calls.{Which}
 use Rattle.raft_log_steps.specs.Queues.{QueueLayout, IsQueueLayout, TwoQueues, AreTwoQueues, layout_at}
 use Rattle.raft_log_steps.specs.State.{Spanned, LogOnDisk, spanned_at, IsStopped, Ties}
 use Rattle.raft_log_steps.specs.Steps.{next_log}
 use Rattle.raft_log_steps.specs.Turning.{in_span}
 use Rattle.raft_log_steps.specs.Lying.{IsUnbegun, OpenPipes, with_open, RunOrLie}
-use Rattle.raft_log_steps.specs.Reopening.{ReadsAgain, IsFoundOf, found_log, LeavesUnopened, OpensBeside, OpenIsAStep}
+use Rattle.raft_log_steps.specs.Reopening.{ReadsAgain, AreFound, IsFoundOf, found_log, LeavesUnopened, OpensBeside, OpenIsAStep}
 use Rattle.raft_log_steps.specs.Reopening.IsFoundOf.{stopped, unbegun}
 use Rattle.raft_log_steps.proofs.Lifts.{told_at}
 use Rattle.raft_log_steps.proofs.AppendStep.{pipe_rebased}
 use Rattle.raft_log_steps.proofs.RefusedStep.{left_rebased}
-use Rattle.raft_log_steps.proofs.LyingQueues.{leaves}
-use Rattle.raft_log_steps.proofs.ReadingAgain.{read_on, all_records, no_records}
+use Rattle.raft_log_steps.proofs.Aside.{name_stays, kept_stays, stopped_stays}
+use Rattle.raft_log_steps.proofs.LyingQueues.{unbegun_stays, leaves}
+use Rattle.raft_log_steps.proofs.ReadingAgain.{read_on, all_records}
 
 -- Lists.
 
@@ -80,33 +80,32 @@ first_taken (f ∷ fs) end last = refl
 
 module _ {R : Type 0} (layout : QueueLayout R) (told : IsQueueLayout layout) where
   -- a queue that rests, and was found so
-  found_as : (q : LogFiles R) (d : Disk) (earlier : List Listed) (last : Listed) (end : Option ℕ) (kept : List Listed) → IsSound d → IsStopped layout q d → IsScanned layout.format layout.paths earlier last end kept q.last d
-      → IsFound layout.format layout.own layout.paths d earlier last end kept q d
-  found_as q d earlier last end kept sound left scanned =
+  found_as : (q : LogFiles R) (d : Disk) (found : FoundFiles) (earlier : List Listed) (last : Listed) → IsSound d → IsStopped layout q d → AreFound layout found earlier last q.last d
+      → IsFound layout.format layout.own layout.paths d earlier last found.end found.recycled.items q d
+  found_as q d found earlier last sound left there =
       let F = layout.format in
       let paths = layout.paths in
       let stands = left.stands in
       let bound = stands.bound in
-      let number = scanned.number_is in
+      let number = there.number_is in
       let at : F.IsPath q.last (path_of paths last) = subst (λ (n : ℕ). F.IsPath n (path_of paths last)) number
-      (subst (F.IsPath last.seq) (sym (path_numbered paths last scanned.listed)) (told.lawful.numbered last.path_id last.seq (omega (arith, bound, number)))) in
-      let named : d.names (path_of paths last) ≡ Some last.handle.file = scanned.opened.is in
-      let there : left.N (path_of paths last) ≡ Some last.handle.file = ap (λ (f : Names). f (path_of paths last)) (sym stands.names) ∙ named in
-      let file_is : last.handle.file ≡ left.id = stands.alone (path_of paths last) last.handle.file at there in
+      (subst (F.IsPath last.seq) (sym (path_numbered paths last there.listed)) (told.lawful.numbered last.path_id last.seq (omega (arith, bound, number)))) in
+      let is_there : left.N (path_of paths last) ≡ Some last.handle.file = ap (λ (f : Names). f (path_of paths last)) (sym stands.names) ∙ there.named in
+      let file_is : last.handle.file ≡ left.id = stands.alone (path_of paths last) last.handle.file at is_there in
       let here : d.names left.path ≡ Some left.id = ap (λ (f : Names). f left.path) stands.names ∙ stands.named in
-      let path_is : left.path ≡ path_of paths last = sound.one_name left.path (path_of paths last) left.id here (named ∙ ap Some file_is) in
+      let path_is : left.path ≡ path_of paths last = sound.one_name left.path (path_of paths last) left.id here (there.named ∙ ap Some file_is) in
       record {
         left = record {
-          permitted = scanned.opened.permitted;
+          permitted = there.permitted;
           stands = subst (λ (M : Names). Stands F layout.own d q (path_of paths last) last.handle.file (IsLeftover F q) M d) (sym stands.names)
               (subst (λ (p : List ℕ). Stands F layout.own d q p last.handle.file (IsLeftover F q) left.N d) path_is (subst (λ (n : ℕ). Stands F layout.own d q left.path n (IsLeftover F q) left.N d) (sym file_is) stands));
-          read = scanned.read;
+          read = there.read;
         };
-        number = scanned.number_is;
-        listed = scanned.listed;
-        headed = scanned.headed;
-        span = scanned.span;
-        spares = scanned.spares;
+        number = there.number_is;
+        listed = there.listed;
+        headed = there.headed;
+        span = there.span;
+        spares = there.spares;
       }
 
   -- what is found of it goes down no further than to a gap
@@ -123,6 +122,45 @@ module _ {R : Type 0} (layout : QueueLayout R) (told : IsQueueLayout layout) whe
         cc (gone, named))
     | inr more ↦ omega (arith, more)
   ]
+
+  -- A call on other paths leaves what was found there.
+  module _ (theirs : List ℕ → Type 0) (old new : Disk) (apart : (path : List ℕ) → layout.own path → theirs path → ⊥) (only : TouchesOnlyNames theirs old new) where
+    file_stays : (path : List ℕ) (id : ℕ) (P : File → Type 0) → layout.own path → old.names path ≡ Some id → HasFile id P old → HasFile id P new
+    file_stays path id P mine named has = record { file = has.file; is = only.files path id (apart path mine) named ∙ has.is; has = has.has }
+
+    header_stays : (end : Option ℕ) (last : Listed) → layout.own (path_of layout.paths last) → old.names (path_of layout.paths last) ≡ Some last.handle.file → HasOwnHeader layout.format end last old → HasOwnHeader layout.format end last new
+    header_stays (Some end) last mine named has = file_stays (path_of layout.paths last) last.handle.file (λ file. HasHeader layout.format (header_bytes last.format) file.content) mine named has
+    header_stays None last mine named has = tt
+
+    spares_stay : (first : ℕ) (fs : List Listed) → first ≤ layout.format.limit → AreKept layout.format layout.paths first old fs → AreKept layout.format layout.paths first new fs
+    spares_stay first fs most are = kept_all layout.format layout.paths first first old new fs (λ g kept. kept_stays layout told theirs old new apart only first g most kept) are
+
+    found_stays_so : (found : FoundFiles) (q : Spanned R) → IsFoundOf layout found q old → IsFoundOf layout found q new
+    found_stays_so found q (unbegun none there spares) =
+        let limit = told.lawful.limit in
+        unbegun none (unbegun_stays layout told theirs old new apart only q there) (spares_stay 1 found.recycled.items (omega (arith, limit)) spares)
+    found_stays_so found q (stopped earlier last items left there under) =
+        let paths = layout.paths in
+        let bound = left.stands.bound in
+        let number = there.number_is in
+        let ends = span_end paths old.names (first_number earlier last) q.files.last earlier there.span in
+        let mine : layout.own (path_of paths last) = told.lawful.owns last.seq (path_of paths last) (omega (arith, bound, number))
+        (subst (layout.format.IsPath last.seq) (sym (path_numbered paths last there.listed)) (told.lawful.numbered last.path_id last.seq (omega (arith, bound, number)))) in
+        stopped earlier last items (stopped_stays layout told theirs old new apart only q.files left) (record {
+          number_is = there.number_is;
+          listed = there.listed;
+          permitted = there.permitted;
+          named = only.names (path_of paths last) (apart (path_of paths last) mine) ∙ there.named;
+          read = file_stays (path_of paths last) last.handle.file (IsReadTo layout.format q.files.last found.end) mine there.named there.read;
+          headed = header_stays found.end last mine there.named there.headed;
+          span = span_moved paths old.names new.names (first_number earlier last) q.files.last earlier (λ directory n from less.
+              (let small : n < layout.format.limit = omega (arith, less, bound) in name_stays layout told theirs old new apart only n (paths.numbered directory n) small (told.lawful.numbered directory n small))) there.span;
+          spares = spares_stay (first_number earlier last) found.recycled.items (omega (arith, ends, bound)) there.spares;
+        }) under
+
+pub found_stays : {R : Type 0} (layout : QueueLayout R) (told : IsQueueLayout layout) (theirs : List ℕ → Type 0) (old new : Disk) → ((path : List ℕ) → layout.own path → theirs path → ⊥) → TouchesOnlyNames theirs old new
+    → (found : FoundFiles) (q : Spanned R) → IsFoundOf layout found q old → IsFoundOf layout found q new
+found_stays layout told theirs old new apart only found q is = found_stays_so layout told theirs old new apart only found q is
 
 -- Both queues.
 
@@ -151,9 +189,9 @@ module _ {R E V : Type 0} (log : TwoQueues R E V) (two : AreTwoQueues log) (whic
   low_first low f all = (let below = all.below in omega (arith, below))
 
   -- A queue that a stop left.
-  module _ (earlier : List Listed) (last : Listed) (left : IsStopped layout q.files s.disk) (scanned : IsScanned layout.format layout.paths earlier last found.end found.recycled.items q.files.last s.disk) (under : first_number earlier last ≤ q.first) where
+  module _ (earlier : List Listed) (last : Listed) (left : IsStopped layout q.files s.disk) (scanned : AreFound layout found earlier last q.files.last s.disk) (under : first_number earlier last ≤ q.first) where
     here : IsFound layout.format layout.own layout.paths s.disk earlier last found.end found.recycled.items q.files s.disk
-    here = found_as layout told q.files s.disk earlier last found.end found.recycled.items sound left scanned
+    here = found_as layout told q.files s.disk found earlier last sound left scanned
 
     taken_so : (files : PipeFiles) (new : Disk) → TakesUpFound layout.format layout.own layout.paths earlier last found.end found.recycled.items files s.disk new → IsListedAs earlier (taken_up found.end last) found.recycled.items files → Answered files new
     taken_so files new takes listed =
@@ -165,8 +203,8 @@ module _ {R E V : Type 0} (log : TwoQueues R E V) (two : AreTwoQueues log) (whic
           refl,
           runs_found files p new pipe,
           read_on log two which o None s p files.first_seq (length q.files.pending) new is pipe.active.stands.others gaps
-          (λ low f all. (let above = found_above layout told log.says q s.disk (first_number earlier last) low earlier f bound scanned.span all in omega (arith, above, first)))
-          (omega (arith, under, first)) refl refl (all_records q.files) refl,
+              (λ low f all. (let above = found_above layout told log.says q s.disk (first_number earlier last) low earlier f bound scanned.span all in omega (arith, above, first)))
+              (omega (arith, under, first)) refl refl (all_records q.files) refl,
         )
 
     not_taken : (error : Error) (new : Disk) → TakeUpLeaves layout.format layout.own layout.paths earlier last found.end found.recycled.items error s.disk new → LeavesUnopened log which o s error new
@@ -259,6 +297,17 @@ module _ {R E V : Type 0} (log : TwoQueues R E V) (two : AreTwoQueues log) (whic
   refused (stopped earlier last items left scanned under) error new (not_begun none begun) = absurd (ends_somewhere earlier last (sym items ∙ none))
   refused (unbegun none there spares) error new (not_taken_up earlier last items takes) = absurd (ends_somewhere earlier last (sym items ∙ none))
   refused (unbegun none there spares) error new (not_begun none' begun) = not_begun_so there spares error new begun
+
+  -- no other path was touched
+  pub opens_touch : IsFoundOf layout found q s.disk → (files : PipeFiles) (new : Disk) → Opens layout.format layout.own layout.paths begin found files s.disk new → TouchesOnlyNames layout.own s.disk new
+  opens_touch (stopped earlier last items left scanned under) files new (takes_up earlier' last' items' takes listed) =
+      let (earlier_is, last_is) = same_ends earlier' earlier last' last (sym items' ∙ items) in
+      let mine = subst (λ (x : Listed). TakesUpFound layout.format layout.own layout.paths earlier x found.end found.recycled.items files s.disk new) last_is
+      (subst (λ (xs : List Listed). TakesUpFound layout.format layout.own layout.paths xs last' found.end found.recycled.items files s.disk new) earlier_is takes) in
+      (mine s.disk q.files (here earlier last left scanned under)).1.active.stands.others
+  opens_touch (stopped earlier last items left scanned under) files new (begins none begun listed) = absurd (ends_somewhere earlier last (sym items ∙ none))
+  opens_touch (unbegun none there spares) files new (takes_up earlier last items takes listed) = absurd (ends_somewhere earlier last (sym items ∙ none))
+  opens_touch (unbegun none there spares) files new (begins none' begun listed) = (begun s.disk there.is.0 (record { fresh = there.fresh; spares = spares })).1.active.stands.others
 
   opens_beside : IsFoundOf layout found q s.disk → OpensBeside log which o begin found s
   opens_beside there = record { answered = answered there; refused = refused there }

@@ -1,5 +1,5 @@
 -- The numbered files of a log that is found again, and what is said of it then.
-use Rattle.std.proofs.Common.{◌≡◌, ℕ, ◌≤◌, false, Option, Some, None, List, [], ◌++◌, length, take, refl, sym, ◌∙◌, ap, ap₂, subst, inl, inr, arith}
+use Rattle.std.proofs.Common.{◌≡◌, ℕ, ◌≤◌, false, Option, List, [], ◌++◌, length, take, refl, sym, ◌∙◌, ap, ap₂, subst, arith}
 use Rattle.std.proofs.lemmas.List.{append-nil, take_all}
 use Rattle.raft_log_model.specs.Item.{Record}
 use Rattle.raft_log_model.specs.Groups.{Map, taken}
@@ -20,13 +20,13 @@ use Rattle.raft_log_file_queue.specs.Bridge.{IsFileQueue, GapsStay}
 use Rattle.raft_log_file_queue.proofs.Bridging.{takes_numbered_steps}
 use Rattle.raft_log_pipes.specs.declared.pipe_files.PipeFiles.{PipeFiles}
 use Rattle.raft_log_directory.specs.Model.{Files, Model, IsSound, machine_of, running}
-use Rattle.raft_log_directory.specs.Log.{View, IsLog}
+use Rattle.raft_log_directory.specs.Log.{IsLog}
 use Rattle.raft_log_directory.specs.Calls.{Which, ReadAgain, read_files, from_at, queue_at, put}
 use Rattle.raft_log_directory.specs.Calls.Which.{InAppend, InRewrite}
 use Rattle.raft_log_directory.proofs.Sound.{sound_step}
 use Rattle.raft_log_directory.proofs.LogLaws.{kept_first}
 use Rattle.raft_log_steps.specs.Queues.{TwoQueues, AreTwoQueues, layout_at}
-use Rattle.raft_log_steps.specs.State.{Spanned, LogOnDisk, spanned_at, with_spanned, Ties}
+use Rattle.raft_log_steps.specs.State.{Spanned, LogOnDisk, spanned_at, Ties}
 use Rattle.raft_log_steps.specs.Lying.{OpenPipes, with_open, RunOrLie}
 use Rattle.raft_log_steps.specs.Reopening.{ReadsAgain, ReadsBothAgain, found_log, FoundLogIsALog}
 use Rattle.raft_log_steps.proofs.Lifts.{tie_at}
@@ -89,8 +89,8 @@ module _ {E V : Type 0} (d : Model E V) (k : IsSound d) (r : ReadAgain d.files.r
             ap₂ (λ x y. record { store = record { rewrite = x; append = y }; map = taken d.map a.kept; whereabouts = reopen.1.4.0; failed = false }) rewrite_is append_is,
           ),
         ) k
-        (file_step_numbers (Read r.below r.again r.kept) d.files.rewrite_from d.files.rewrite (read_files d.files.rewrite r) (r.gone, refl) k.rewrite_numbers)
-        (file_step_numbers (Read a.below a.again a.kept) d.files.append_from d.files.append (read_files d.files.append a) (a.gone, refl) k.append_numbers),
+            (file_step_numbers (Read r.below r.again r.kept) d.files.rewrite_from d.files.rewrite (read_files d.files.rewrite r) (r.gone, refl) k.rewrite_numbers)
+            (file_step_numbers (Read a.below a.again a.kept) d.files.append_from d.files.append (read_files d.files.append a) (a.gone, refl) k.append_numbers),
       )
 
 module _ {R E V : Type 0} (log : TwoQueues R E V) where

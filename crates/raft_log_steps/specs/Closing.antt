@@ -1,5 +1,5 @@
 -- The pipes of a log are closed: each last file is finished, then the files kept for use get reserved names.
-use Rattle.std.specs.Prelude.{◌≡◌, ◌⊎◌, Option, Some, None, List, []}
+use Rattle.std.specs.Prelude.{◌≡◌, ◌⊎◌, Some, None, List}
 use Rattle.raft_log_model.specs.Item.{Record}
 use Rattle.raft_log_model.specs.Groups.{Map}
 use Rattle.raft_log_disk.specs.Disk.{Disk}
@@ -10,7 +10,6 @@ use Rattle.raft_log_pipes.specs.Files.{Listed}
 use Rattle.raft_log_pipes.specs.Closing.{AreBelow, IsSettledBy, LeavesClosed, StaysLeft}
 use Rattle.raft_log_pipes.specs.declared.pipe_files.PipeFiles.{PipeFiles}
 use Rattle.raft_log_directory.specs.Calls.{Which, LeavesOut, Settles, FailsWhole}
-use Rattle.raft_log_directory.specs.Calls.Which.{InAppend, InRewrite}
 use Rattle.raft_log_directory.specs.Log.{View, IsAt, EndsAt}
 use Rattle.raft_log_steps.specs.Queues.{TwoQueues, AreTwoQueues, layout_at}
 use Rattle.raft_log_steps.specs.State.{LogOnDisk, spanned_at, Pipes, Run, Ties}

@@ -12,3 +12,5 @@ pub mod Lying
 pub mod Beside
 pub mod Reopening
 pub mod Closing
+pub mod OnDisk
+pub mod Failing

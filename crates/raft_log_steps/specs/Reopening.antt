@@ -1,5 +1,5 @@
 -- A log is found again behind a stop, and its pipes are opened: what becomes of its numbered files.
-use Rattle.std.specs.Prelude.{◌≡◌, ℕ, ◌≤◌, ◌⊎◌, Option, Some, None, List, [], ◌∷◌, ◌++◌, length, take}
+use Rattle.std.specs.Prelude.{◌≡◌, ℕ, ◌≤◌, ◌⊎◌, false, Some, None, List, [], ◌∷◌, ◌++◌, length, take}
 use Rattle.raft_log_model.specs.Item.{Record}
 use Rattle.raft_log_model.specs.Groups.{Map, directory_meaning, taken}
 use Rattle.raft_log_machine.specs.Images.{IsOneRun}
@@ -8,9 +8,12 @@ use Rattle.raft_log_disk.specs.Image.{IsImage, IsSound}
 use Rattle.raft_log_disk.specs.LogQueue.{LogFiles, NoChanceInLast}
 use Rattle.raft_log_base.specs.declared.errors.Error.{Error}
 use Rattle.raft_log_base.specs.declared.errors.Error.TheVariants as errors
-use Rattle.raft_log_pipes.specs.Files.{Listed, AreKept}
-use Rattle.raft_log_pipes.specs.Laws.{IsScanned}
-use Rattle.raft_log_pipes.specs.Opening.{Opens, OpenLeaves, first_number}
+use Rattle.raft_log_disk.specs.Touching.{HasFile}
+use Rattle.raft_log_disk.specs.declared.handle.Permission.TheVariants.{ReadWrite}
+use Rattle.raft_log_file_queue.specs.Reopening.{IsReadTo}
+use Rattle.raft_log_files.specs.Layout.{path_of}
+use Rattle.raft_log_pipes.specs.Files.{Listed, IsSpan, AreKept}
+use Rattle.raft_log_pipes.specs.Opening.{HasOwnHeader, Opens, OpenLeaves, first_number}
 use Rattle.raft_log_pipes.specs.declared.found_files.FoundFiles.{FoundFiles}
 use Rattle.raft_log_pipes.specs.declared.new_files.NewFiles.{NewFiles}
 use Rattle.raft_log_pipes.specs.declared.pipe_files.PipeFiles.{PipeFiles}
@@ -64,13 +67,26 @@ CrashIsAStep {R} log = AreTwoQueues log → (o : OpenPipes) (s : LogOnDisk R) (i
     → later.rewrite.first ≡ s.rewrite.first
     → IsLeftByCrash log (stopped_log s append rewrite image) later)
 
--- What was found of a queue is what a stop left: all its files from some number on, up to the span's first,
--- of which the last one was read; or it has none.
+-- The files of a queue, as they were found: the last one, which its handle may write, was read up to the end
+-- that is told; those before it are there, and so are those that are kept for use.
+pub record AreFound {R : Type 0} (layout : QueueLayout R) (found : FoundFiles) (earlier : List Listed)
+    (last : Listed) (number : ℕ) (d : Disk) : Type 0 where
+  pub number_is : last.seq ≡ number
+  pub listed : last.reserved ≡ false
+  pub permitted : last.handle.permission ≡ ReadWrite
+  pub named : d.names (path_of layout.paths last) ≡ Some last.handle.file
+  pub read : HasFile last.handle.file (IsReadTo layout.format number found.end) d
+  pub headed : HasOwnHeader layout.format found.end last d
+  pub span : IsSpan layout.paths d.names (first_number earlier last) earlier number
+  pub spares : AreKept layout.format layout.paths (first_number earlier last) d found.recycled.items
+
+-- What was found of a queue is what a stop left: all its files from some number on, up to the span's first;
+-- or it has none.
 pub data IsFoundOf {R : Type 0} (layout : QueueLayout R) (found : FoundFiles) (q : Spanned R)
     (d : Disk) : Type 0 where
   stopped : (earlier : List Listed) (last : Listed) → found.files.items ≡ earlier ++ last ∷ []
       → IsStopped layout q.files d
-      → IsScanned layout.format layout.paths earlier last found.end found.recycled.items q.files.last d
+      → AreFound layout found earlier last q.files.last d
       → first_number earlier last ≤ q.first → IsFoundOf layout found q d
   unbegun : found.files.items ≡ [] → IsUnbegun layout q d
       → AreKept layout.format layout.paths 1 d found.recycled.items → IsFoundOf layout found q d

@@ -1,22 +1,22 @@
 -- A batch in Append, told of the view.
-use Rattle.std.proofs.Common.{◌≡◌, ◌⊎◌, ℕ, true, false, List, [], ◌∷◌, ◌++◌, map, inl, inr, refl, ap, sym, subst, ◌∙◌}
+use Rattle.std.proofs.Common.{◌≡◌, ◌⊎◌, ℕ, true, List, [], ◌∷◌, map, refl, ap, sym, subst, ◌∙◌}
 use Rattle.std.proofs.lemmas.List.{append-nil}
 use Rattle.raft_log_model.specs.Item.{Item, Record, Tagged, items_of}
-use Rattle.raft_log_model.specs.Meaning.{Slot, after, says}
-use Rattle.raft_log_model.specs.Groups.{Map, of_group, contents, taken}
+use Rattle.raft_log_model.specs.Meaning.{after, says}
+use Rattle.raft_log_model.specs.Groups.{Map, of_group, taken}
 use Rattle.raft_log_model.proofs.RenamedLaws.{of_group_renamed}
 use Rattle.raft_log_machine.specs.Survival.{IsSpoken}
 use Rattle.raft_log_machine.specs.Whereabouts.{GrowsBy}
-use Rattle.raft_log_directory.specs.Notes.{IsAppended, IsInRewrite}
+use Rattle.raft_log_directory.specs.Notes.{IsAppended}
 use Rattle.raft_log_directory.specs.Tables.{NotesGrow, NotesStay}
 use Rattle.raft_log_places.specs.declared.place.Place.{Place}
 use Rattle.raft_log_places.specs.Shown.{Shown, whereabouts}
-use Rattle.raft_log_places.specs.Noted.{AppendedGrow, file_at}
+use Rattle.raft_log_places.specs.Noted.{file_at}
 use Rattle.raft_log_places.specs.Bridge.{IsMeant, Located, in_queue, written}
 use Rattle.raft_log_places.proofs.Noting.{rewritten_stay, written_grow}
 use Rattle.raft_log_replay.specs.Batch.{MayFollowAll, all_shown, all_written}
 use Rattle.raft_log_replay.proofs.Applied.{all_grow, all_meant, all_orderly}
-use Rattle.raft_log_views.specs.Views.{AreMeant, BatchGrowsTheView, LieIn, ViewGrows, view_of}
+use Rattle.raft_log_views.specs.Views.{AreMeant, LieIn, ViewGrows, view_of}
 
 module _ {E : Type 0} (at : Located → E) (n : ℕ) (v : ℕ → Shown) (m : Map E (List ℕ)) (xs : List (Tagged Place (List ℕ))) (y : Record E (List ℕ)) (are : AreMeant at v m) (follows : MayFollowAll v xs) (lie : LieIn n xs) (is : items_of y ≡ all_written at xs) where
   grows_in : (g : ℕ) → GrowsBy (whereabouts (v g)) (of_group g (items_of y)) (whereabouts (all_shown n v xs g))

@@ -1,5 +1,5 @@
 -- The entries of a written batch lie in its file.
-use Rattle.std.proofs.Common.{◌≡◌, ℕ, List, [], ◌∷◌, map, Bool, true, false, refl, if◌then◌else◌, ◌==◌}
+use Rattle.std.proofs.Common.{ℕ, List, [], ◌∷◌, map, Bool, true, false, refl, if◌then◌else◌, ◌==◌}
 use Rattle.raft_log_base.specs.declared.pipe_log.FileBlockHandle.{FileBlockHandle}
 use Rattle.raft_log_items.specs.declared.op_type.OpType.TheVariants as ops
 use Rattle.raft_log_items.specs.declared.command.Command.TheVariants as commands
@@ -7,7 +7,6 @@ use Rattle.raft_log_items.specs.declared.item.LogItemContent.TheVariants as cont
 use Rattle.raft_log_items.specs.declared.item.LogItemContent.{LogItemContent}
 use Rattle.raft_log_items.specs.declared.item.LogItem.{LogItem}
 use Rattle.raft_log_items.specs.declared.entry.EntryIndex.{EntryIndex}
-use Rattle.raft_log_items.specs.declared.key_value.KeyValue.{KeyValue}
 use Rattle.raft_log_items.specs.declared.op_type.OpType.{OpType}
 use Rattle.raft_log_items.specs.Placed.{written, written_content, written_entry, written_item}
 use Rattle.raft_log_model.specs.Item.{Item, Tagged}

@@ -1,13 +1,13 @@
 -- What an engine knows by the tables of its groups, as the view that the log's directory speaks of.
-use Rattle.std.specs.Prelude.{◌≡◌, ℕ, List, [], ◌∷◌}
+use Rattle.std.specs.Prelude.{◌≡◌, ℕ, false, List, [], ◌∷◌}
 use Rattle.raft_log_model.specs.Item.{Record, Tagged, items_of}
 use Rattle.raft_log_model.specs.Groups.{Map, of_group, taken}
 use Rattle.raft_log_directory.specs.Log.{View}
-use Rattle.raft_log_directory.specs.Tables.{GrowsTo}
+use Rattle.raft_log_directory.specs.Tables.{CarriesTo, GrowsTo}
 use Rattle.raft_log_places.specs.declared.place.Place.{Place}
 use Rattle.raft_log_places.specs.Shown.{Shown, IsOrderly, whereabouts}
-use Rattle.raft_log_places.specs.Noted.{AreIn, file_at, noted_at}
-use Rattle.raft_log_places.specs.Bridge.{IsMeant, Located}
+use Rattle.raft_log_places.specs.Noted.{AreIn, AreUpTo, file_at, noted_at}
+use Rattle.raft_log_places.specs.Bridge.{AllOwed, CanAllMove, IsMeant, Located, Move, all_moved, items_of as copies_of, marks, unmarked, without}
 use Rattle.raft_log_replay.specs.Batch.{MayFollowAll, all_shown, all_written}
 
 -- The view of an engine whose tables show this of each group, and through which the map m is read: of each
@@ -41,3 +41,25 @@ abbrev pub BatchGrowsTheView : Type 0 → Type 0
 BatchGrowsTheView E = (at : Located → E) (n : ℕ) (v : ℕ → Shown) (m : Map E (List ℕ))
     (xs : List (Tagged Place (List ℕ))) (y : Record E (List ℕ)) → AreMeant at v m → MayFollowAll v xs
     → LieIn n xs → items_of y ≡ all_written at xs → ViewGrows at n v m xs y
+
+-- the view goes on by a record of Rewrite in file n, where the tables show this then; and their places mean
+-- the same map
+pub record ViewCarries {E : Type 0} (at : Located → E) (n : ℕ) (v u : ℕ → Shown) (m : Map E (List ℕ))
+    (xs : List (Tagged E (List ℕ))) : Type 0 where
+  pub carries : CarriesTo xs n (view_of v m) (view_of u m)
+  pub meant : AreMeant at u m
+
+-- so it is of copies that may be made in each group, in files up to that one
+abbrev pub CopiesCarryTheView : Type 0 → Type 0
+CopiesCarryTheView E = (at : Located → E) (n : ℕ) (v : ℕ → Shown) (m : Map E (List ℕ)) (moves : ℕ → List Move)
+    (xs : List (Tagged E (List ℕ))) → AreMeant at v m → ((g : ℕ) → CanAllMove at (v g) (moves g))
+    → ((g : ℕ) → AreUpTo n (moves g)) → ((g : ℕ) → of_group g xs ≡ copies_of at (v g) (moves g))
+    → ViewCarries at n v (λ g. all_moved (v g) (moves g)) m xs
+
+-- and of the marks that the groups owe, each of them once
+abbrev pub MarksCarryTheView : Type 0 → Type 0
+MarksCarryTheView E = (at : Located → E) (n : ℕ) (v : ℕ → Shown) (m : Map E (List ℕ))
+    (keys : ℕ → List (List ℕ)) (xs : List (Tagged E (List ℕ))) → AreMeant at v m
+    → ((g : ℕ) → AllOwed (v g).deleted (keys g))
+    → ((g : ℕ) (k : List ℕ) → without (v g).deleted (keys g) k ≡ false)
+    → ((g : ℕ) → of_group g xs ≡ marks (v g) (keys g)) → ViewCarries at n v (λ g. unmarked (v g)) m xs

@@ -1,0 +1,4 @@
+mod Carrying
+mod Fitting
+mod Growing
+mod Lying

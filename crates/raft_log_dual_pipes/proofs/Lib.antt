@@ -1,0 +1,2 @@
+mod Pairing
+mod Exits

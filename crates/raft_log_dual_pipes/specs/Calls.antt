@@ -1,0 +1,81 @@
+-- What each call on a log's pipes makes of the log that they run over.
+use Rattle.std.specs.Prelude.{◌≡◌, ◌⊎◌, ◌↔◌, IsTrue, ℕ, ◌+◌, ◌-◌, ◌*◌, ◌/◌, ◌^◌, min, suc, true, Err, Result, List}
+use Rattle.raft_log_disk.specs.Causes.{Fails}
+use Rattle.raft_log_disk.specs.LogQueue.{LogFiles}
+use Rattle.raft_log_base.specs.declared.errors.Error.{Error}
+use Rattle.raft_log_base.specs.declared.errors.Error.TheVariants as errors
+use Rattle.raft_log_base.specs.declared.pipe_log.FileBlockHandle.{FileBlockHandle}
+use Rattle.raft_log_base.specs.declared.pipe_log.LogFileContext.{LogFileContext}
+use Rattle.raft_log_file_queue.specs.Queue.{synced}
+use Rattle.raft_log_layout.specs.declared.record.LogRecord.{LogRecord}
+use Rattle.raft_log_directory.specs.Calls.{Which, Appends, CutsBack, FailsWhole, LeavesOut, Raises, Settles, Syncs}
+use Rattle.raft_log_steps.specs.Queues.{layout_at, SaysRecord}
+use Rattle.raft_log_steps.specs.State.{spanned_at, HoldsBoth, Ties}
+use Rattle.raft_log_steps.specs.Crash.{AllowsIn}
+use Rattle.raft_log_steps.specs.Turning.{GoesOnInNext, HasTaken, IsCutBack, IsOrGoesOn}
+use Rattle.raft_log_steps.specs.Steps.{next_log, LeavesFailed}
+use Rattle.raft_log_steps.specs.Syncing.{FailsMoved, raised_log}
+use Rattle.raft_log_dual_pipes.specs.Pipes.{LogPipes, LogSense, RunsOn, Said, State, files_of, header_at, is_failed, queue_of, queues, spares_at}
+
+-- A record is written: both pipes run on, and the numbered files of the queue take it, in the file that its
+-- place names.
+abbrev pub AppendsTo : Which → (LogFileContext → List ℕ) → FileBlockHandle → LogPipes → LogPipes → Type 0
+AppendsTo which signed block v w = (log : LogSense) (s : State) (y : Said) → RunsOn log v s
+    → SaysRecord log.says (layout_at which (queues log)) (queue_of which) signed y
+    → (block.id.queue ≡ queue_of which) × ((files : LogFiles LogRecord)
+    × HasTaken (header_at which v) (spares_at which v) s.disk (spanned_at which s).files files
+    × RunsOn log w (next_log which s files w.disk)
+    × Appends (Ties (queues log)) which y block.id.seq s (next_log which s files w.disk))
+
+-- a record was cut back: both pipes run on, and all that was written to the queue before is synced
+abbrev pub CutsBackOn : LogSense → Which → State → LogPipes → LogPipes → Type 0
+CutsBackOn log which s v w = (files : LogFiles LogRecord)
+    × IsCutBack (header_at which v) (spares_at which v) s.disk (spanned_at which s).files files
+    × RunsOn log w (next_log which s files w.disk)
+    × CutsBack (Ties (queues log)) which s (next_log which s files w.disk)
+
+-- a record was left out: both pipes run on
+abbrev pub LeavesOutOn : LogSense → Which → State → LogPipes → LogPipes → Type 0
+LeavesOutOn log which s v w = (files : LogFiles LogRecord)
+    × ((files ≡ (spanned_at which s).files)
+    ⊎ IsCutBack (header_at which v) (spares_at which v) s.disk (spanned_at which s).files files)
+    × RunsOn log w (next_log which s files w.disk)
+    × LeavesOut (Ties (queues log)) which s (next_log which s files w.disk)
+
+-- What a refused record leaves, by its error. Where the pipe has failed, what was there is held, and the
+-- record may be there or not.
+abbrev pub RefusalLeaves : LogSense → Which → State → Said → LogPipes → LogPipes → Error → Type 0
+RefusalLeaves log which s y v w (errors.Io kind) = CutsBackOn log which s v w
+RefusalLeaves log which s y v w (errors.TryAgain text) = CutsBackOn log which s v w
+RefusalLeaves log which s y v w errors.NumberRange = LeavesOutOn log which s v w
+RefusalLeaves log which s y v w errors.Memory = LeavesOutOn log which s v w
+RefusalLeaves log which s y v w errors.Failed =
+    LeavesFailed (queues log) which (files_of v) s (header_at which v) y w.disk
+RefusalLeaves log which s y v w _ = ⊥
+
+-- so it is of a log that the pipes ran over
+abbrev pub FailsToAppendTo : Which → (LogFileContext → List ℕ) → Error → LogPipes → LogPipes → Type 0
+FailsToAppendTo which signed error v w = (log : LogSense) (s : State) (y : Said) → RunsOn log v s
+    → SaysRecord log.says (layout_at which (queues log)) (queue_of which) signed y
+    → RefusalLeaves log which s y v w error
+
+-- a sync: both pipes run on, and all of the queue is synced
+abbrev pub SyncsQueue : Which → LogPipes → LogPipes → Type 0
+SyncsQueue which v w = (log : LogSense) (s : State) → RunsOn log v s
+    → RunsOn log w (next_log which s (synced (spanned_at which s).files) w.disk)
+    × Syncs (Ties (queues log)) which s (next_log which s (synced (spanned_at which s).files) w.disk)
+
+-- one that is refused, as a file call failed: what was there is held, and may be there
+abbrev pub FailsToSyncQueue : Which → LogPipes → LogPipes → Type 0
+FailsToSyncQueue which v w = (log : LogSense) (s : State) → RunsOn log v s
+    → Fails v.disk w.disk × HoldsBoth (queues log) (next_log which s (spanned_at which s).files w.disk)
+    × FailsWhole (Ties (queues log)) (AllowsIn (queues log)) s
+    (next_log which s (spanned_at which s).files w.disk)
+
+-- once a call was refused that couldn't be mended, every later one is, and changes nothing
+abbrev pub StaysFailed : {A : Type 0} → Result A Error → LogPipes → LogPipes → Type 0
+StaysFailed result v w = is_failed v ≡ true → (result ≡ Err errors.Failed) × (w ≡ v)
+
+-- the pipes have failed where, and only where, the call says so
+abbrev pub TellsFailure : {A : Type 0} → Result A Error → LogPipes → Type 0
+TellsFailure result w = IsTrue (is_failed w) ↔ (result ≡ Err errors.Failed)

@@ -1,0 +1,2 @@
+pub mod Pipes
+pub mod Calls

@@ -1,0 +1,112 @@
+//! Both pipes of a log, over a file system that they own.
+
+ghost use Rattle.std.specs.Prelude.{◌≡◌};
+
+use crate::pipe_log::PipeLog;
+use log::Log;
+use raft_log_base::{Error, FileBlockHandle, FileSeq, LogQueue, Result};
+use raft_log_disk::FileSystem;
+use raft_log_layout::LogLayout;
+use raft_log_pipes::{ReactiveBytes, SinglePipe};
+use std::alloc::Global;
+
+/// Both pipes of a log, and the file system that their files are in.
+#[derive(Drop)]
+pub struct DualPipes<F> {
+    file_system: F,
+    append: SinglePipe<LogLayout>,
+    rewrite: SinglePipe<LogLayout>,
+}
+
+impl<F: FileSystem> DualPipes<F> {
+    /// These pipes, over this file system.
+    pub fn new(
+        file_system: F,
+        append: SinglePipe<LogLayout>,
+        rewrite: SinglePipe<LogLayout>,
+    ) -> DualPipes<F>
+        ensures file_system { result.file_system ≡ file_system }
+        ensures append { result.append ≡ append }
+        ensures rewrite { result.rewrite ≡ rewrite }
+    {
+        DualPipes {
+            file_system,
+            append,
+            rewrite,
+        }
+    }
+
+    /// The file system.
+    pub fn file_system(&self) -> &F
+        ensures { result.now ≡ self.now.file_system }
+    {
+        &self.file_system
+    }
+}
+
+impl<F: FileSystem> PipeLog for DualPipes<F> {
+    ghost use Rattle.std.specs.Prelude.{map};
+    ghost use Rattle.std.specs.String.{string_bytes};
+
+    ghost shown = { λ pipes. record {
+      append = record {
+        queue = pipes.append.layout.queue;
+        directories = map string_bytes pipes.append.layout.paths.items;
+        settings = pipes.append.settings;
+        files = pipes.append.files;
+        failed = pipes.append.failed;
+      };
+      rewrite = record {
+        queue = pipes.rewrite.layout.queue;
+        directories = map string_bytes pipes.rewrite.layout.paths.items;
+        settings = pipes.rewrite.settings;
+        files = pipes.rewrite.files;
+        failed = pipes.rewrite.failed;
+      };
+      disk = F.disk pipes.file_system;
+    } };
+
+    fn is_failed(&self) -> bool {
+        self.append.is_failed() || self.rewrite.is_failed()
+    }
+
+    fn file_span(&self, queue: LogQueue) -> (FileSeq, FileSeq) {
+        match queue {
+            LogQueue::Append => self.append.file_span(),
+            LogQueue::Rewrite => self.rewrite.file_span(),
+        }
+    }
+
+    fn read_bytes(&self, alloc: Global, block: FileBlockHandle) -> Result<Vec<u8>> {
+        match block.id.queue {
+            LogQueue::Append => self.append.read_bytes(alloc, &self.file_system, block),
+            LogQueue::Rewrite => self.rewrite.read_bytes(alloc, &self.file_system, block),
+        }
+    }
+
+    fn append<L: Log, B: ReactiveBytes>(
+        &mut self,
+        alloc: Global,
+        rt: &L,
+        queue: LogQueue,
+        bytes: &mut B,
+    ) -> Result<FileBlockHandle> {
+        if self.is_failed() {
+            return Err(Error::Failed);
+        }
+        match queue {
+            LogQueue::Append => self.append.append(alloc, rt, &mut self.file_system, bytes),
+            LogQueue::Rewrite => self.rewrite.append(alloc, rt, &mut self.file_system, bytes),
+        }
+    }
+
+    fn sync<L: Log>(&mut self, rt: &L, queue: LogQueue) -> Result<()> {
+        if self.is_failed() {
+            return Err(Error::Failed);
+        }
+        match queue {
+            LogQueue::Append => self.append.sync(rt, &mut self.file_system),
+            LogQueue::Rewrite => self.rewrite.sync(rt, &mut self.file_system),
+        }
+    }
+}

@@ -1,2 +1,3 @@
 mod Pairing
 mod Exits
+mod Spans

@@ -1,5 +1,5 @@
 -- What each call on a log's pipes makes of the log that they run over.
-use Rattle.std.specs.Prelude.{◌≡◌, ◌⊎◌, ◌↔◌, IsTrue, ℕ, ◌+◌, ◌-◌, ◌*◌, ◌/◌, ◌^◌, min, suc, true, Err, Result, List}
+use Rattle.std.specs.Prelude.{◌≡◌, ◌⊎◌, ◌↔◌, IsTrue, ℕ, ◌+◌, ◌-◌, ◌*◌, ◌/◌, ◌^◌, min, suc, true, Err, Result, List, length}
 use Rattle.raft_log_disk.specs.Causes.{Fails}
 use Rattle.raft_log_disk.specs.LogQueue.{LogFiles}
 use Rattle.raft_log_base.specs.declared.errors.Error.{Error}
@@ -8,14 +8,15 @@ use Rattle.raft_log_base.specs.declared.pipe_log.FileBlockHandle.{FileBlockHandl
 use Rattle.raft_log_base.specs.declared.pipe_log.LogFileContext.{LogFileContext}
 use Rattle.raft_log_file_queue.specs.Queue.{synced}
 use Rattle.raft_log_layout.specs.declared.record.LogRecord.{LogRecord}
+use Rattle.raft_log_pipes.specs.Purging.{IsInSpan}
 use Rattle.raft_log_directory.specs.Calls.{Which, Appends, CutsBack, FailsWhole, LeavesOut, Raises, Settles, Syncs}
 use Rattle.raft_log_steps.specs.Queues.{layout_at, SaysRecord}
-use Rattle.raft_log_steps.specs.State.{spanned_at, HoldsBoth, Ties}
+use Rattle.raft_log_steps.specs.State.{spanned_at, pipe_at, HoldsBoth, Ties}
 use Rattle.raft_log_steps.specs.Crash.{AllowsIn}
 use Rattle.raft_log_steps.specs.Turning.{GoesOnInNext, HasTaken, IsCutBack, IsOrGoesOn}
 use Rattle.raft_log_steps.specs.Steps.{next_log, LeavesFailed}
 use Rattle.raft_log_steps.specs.Syncing.{FailsMoved, raised_log}
-use Rattle.raft_log_dual_pipes.specs.Pipes.{LogPipes, LogSense, RunsOn, Said, State, files_of, header_at, is_failed, queue_of, queues, spares_at}
+use Rattle.raft_log_dual_pipes.specs.Pipes.{LogPipes, LogSense, RunsOn, Said, State, files_of, header_at, is_failed, one_at, queue_of, queues, spares_at}
 
 -- A record is written: both pipes run on, and the numbered files of the queue take it, in the file that its
 -- place names.
@@ -71,6 +72,74 @@ FailsToSyncQueue which v w = (log : LogSense) (s : State) → RunsOn log v s
     → Fails v.disk w.disk × HoldsBoth (queues log) (next_log which s (spanned_at which s).files w.disk)
     × FailsWhole (Ties (queues log)) (AllowsIn (queues log)) s
     (next_log which s (spanned_at which s).files w.disk)
+
+-- a rotation: both pipes run on, and all that was written to the queue is synced
+abbrev pub RotatesQueue : Which → LogPipes → LogPipes → Type 0
+RotatesQueue which v w = (log : LogSense) (s : State) → RunsOn log v s → (files : LogFiles LogRecord)
+    × GoesOnInNext (header_at which v) (spares_at which v) s.disk (spanned_at which s).files files
+    × RunsOn log w (next_log which s files w.disk)
+    × Settles (Ties (queues log)) which s (next_log which s files w.disk)
+
+-- nothing was done: both pipes run on over the same log, on the same disk
+abbrev pub LeavesSame : LogSense → State → LogPipes → LogPipes → Type 0
+LeavesSame log s v w = RunsOn log w s × (w.disk ≡ v.disk)
+
+-- What a refused rotation leaves, by its error: the same log; or the pipe has failed, and the queue may have
+-- gone on or not.
+abbrev pub TurnLeaves : LogSense → Which → State → LogPipes → LogPipes → Error → Type 0
+TurnLeaves log which s v w errors.Memory = LeavesSame log s v w
+TurnLeaves log which s v w errors.NumberRange = LeavesSame log s v w
+TurnLeaves log which s v w errors.Failed = (files : LogFiles LogRecord)
+    × IsOrGoesOn (header_at which v) (spares_at which v) s.disk (spanned_at which s).files files
+    × HoldsBoth (queues log) (next_log which s files w.disk)
+    × FailsMoved (Ties (queues log)) (AllowsIn (queues log)) which s (next_log which s files w.disk)
+TurnLeaves log which s v w _ = ⊥
+
+-- so it is of a log that the pipes ran over
+abbrev pub FailsToRotateQueue : Which → Error → LogPipes → LogPipes → Type 0
+FailsToRotateQueue which error v w = (log : LogSense) (s : State) → RunsOn log v s
+    → TurnLeaves log which s v w error
+
+-- a purge: both pipes run on, and the files below the number have left the queue's span
+abbrev pub PurgesQueue : Which → ℕ → LogPipes → LogPipes → Type 0
+PurgesQueue which seq v w = (log : LogSense) (s : State) → RunsOn log v s
+    → RunsOn log w (raised_log which s seq w.disk)
+    × Raises (Ties (queues log)) (Ties (queues log)) which seq s (raised_log which s seq w.disk)
+
+-- What a refused purge leaves, by its error: the same log; or the pipe has failed, and the files have left
+-- the span all the same.
+abbrev pub PurgeLeavesOn : LogSense → Which → ℕ → State → LogPipes → LogPipes → Error → Type 0
+PurgeLeavesOn log which seq s v w errors.Memory = LeavesSame log s v w
+PurgeLeavesOn log which seq s v w (errors.InvalidArgument text) =
+    (IsInSpan seq (pipe_at which (files_of v)) → ⊥) × LeavesSame log s v w
+PurgeLeavesOn log which seq s v w errors.NumberRange = LeavesSame log s v w
+PurgeLeavesOn log which seq s v w errors.Failed = Fails v.disk w.disk
+    × HoldsBoth (queues log) (raised_log which s seq w.disk)
+    × Raises (Ties (queues log)) (AllowsIn (queues log)) which seq s (raised_log which s seq w.disk)
+PurgeLeavesOn log which seq s v w _ = ⊥
+
+-- so it is of a log that the pipes ran over
+abbrev pub FailsToPurgeQueue : Which → ℕ → Error → LogPipes → LogPipes → Type 0
+FailsToPurgeQueue which seq error v w = (log : LogSense) (s : State) → RunsOn log v s
+    → PurgeLeavesOn log which seq s v w error
+
+-- the numbers are those of the first and the last file of the queue
+abbrev pub IsSpanOf : Which → LogPipes → ℕ → ℕ → Type 0
+IsSpanOf which v first last = (log : LogSense) (s : State) → RunsOn log v s
+    → (first ≡ (spanned_at which s).first) × (last ≡ (spanned_at which s).files.last)
+
+-- how many files the span of a queue has
+abbrev pub count_at : Which → LogPipes → ℕ
+count_at which v = suc (length (pipe_at which (files_of v)).earlier.items)
+
+-- the number of the file at a fraction of the span, the one behind the last for the whole
+abbrev pub seq_at : Which → LogPipes → ℕ → ℕ → ℕ
+seq_at which v num den =
+    min ((pipe_at which (files_of v)).first_seq + count_at which v * num / den) (2 ^ 64 - 1)
+
+-- the size of all files of the span, each counted as long as it is to be
+abbrev pub size_at : Which → LogPipes → ℕ
+size_at which v = min (count_at which v * (one_at which v).settings.new_files.target_size) (2 ^ 64 - 1)
 
 -- once a call was refused that couldn't be mended, every later one is, and changes nothing
 abbrev pub StaysFailed : {A : Type 0} → Result A Error → LogPipes → LogPipes → Type 0

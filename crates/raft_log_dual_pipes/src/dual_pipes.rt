@@ -4,7 +4,7 @@ ghost use Rattle.std.specs.Prelude.{◌≡◌};
 
 use crate::pipe_log::PipeLog;
 use log::Log;
-use raft_log_base::{Error, FileBlockHandle, FileSeq, LogQueue, Result};
+use raft_log_base::{Error, FileBlockHandle, FileId, FileSeq, LogQueue, Result};
 use raft_log_disk::FileSystem;
 use raft_log_layout::LogLayout;
 use raft_log_pipes::{ReactiveBytes, SinglePipe};
@@ -77,6 +77,20 @@ impl<F: FileSystem> PipeLog for DualPipes<F> {
         }
     }
 
+    fn file_at(&self, queue: LogQueue, num: u32, den: u32) -> FileSeq {
+        match queue {
+            LogQueue::Append => self.append.file_at(num, den),
+            LogQueue::Rewrite => self.rewrite.file_at(num, den),
+        }
+    }
+
+    fn total_size(&self, queue: LogQueue) -> usize {
+        match queue {
+            LogQueue::Append => self.append.total_size(),
+            LogQueue::Rewrite => self.rewrite.total_size(),
+        }
+    }
+
     fn read_bytes(&self, alloc: Global, block: FileBlockHandle) -> Result<Vec<u8>> {
         match block.id.queue {
             LogQueue::Append => self.append.read_bytes(alloc, &self.file_system, block),
@@ -107,6 +121,27 @@ impl<F: FileSystem> PipeLog for DualPipes<F> {
         match queue {
             LogQueue::Append => self.append.sync(rt, &mut self.file_system),
             LogQueue::Rewrite => self.rewrite.sync(rt, &mut self.file_system),
+        }
+    }
+
+    fn rotate<L: Log>(&mut self, alloc: Global, rt: &L, queue: LogQueue) -> Result<()> {
+        if self.is_failed() {
+            return Err(Error::Failed);
+        }
+        match queue {
+            LogQueue::Append => self.append.rotate(alloc, rt, &mut self.file_system),
+            LogQueue::Rewrite => self.rewrite.rotate(alloc, rt, &mut self.file_system),
+        }
+    }
+
+    fn purge_to<L: Log>(&mut self, alloc: Global, rt: &L, file_id: FileId) -> Result<usize> {
+        if self.is_failed() {
+            return Err(Error::Failed);
+        }
+        let FileId { queue, seq } = file_id;
+        match queue {
+            LogQueue::Append => self.append.purge_to(alloc, rt, &mut self.file_system, seq),
+            LogQueue::Rewrite => self.rewrite.purge_to(alloc, rt, &mut self.file_system, seq),
         }
     }
 }

@@ -19,6 +19,11 @@ pub struct DualPipes<F> {
 }
 
 impl<F: FileSystem> DualPipes<F> {
+    ghost use Rattle.std.specs.Prelude.{false, true};
+    ghost use Rattle.raft_log_disk.specs.Causes.{IsLater};
+    ghost use Rattle.raft_log_dual_pipes.specs.Pipes.{is_failed};
+    ghost use Rattle.raft_log_dual_pipes.specs.Closing.{ClosesLog};
+
     /// These pipes, over this file system.
     pub fn new(
         file_system: F,
@@ -41,6 +46,31 @@ impl<F: FileSystem> DualPipes<F> {
         ensures { result.now ≡ self.now.file_system }
     {
         &self.file_system
+    }
+
+    /// Closes both pipes, and gives the file system back: both last files are cut behind their records and
+    /// synced, Append's first, and then the files that are kept for use get reserved names. Refusals are
+    /// logged, and nothing that was written is lost by them. Of pipes that have failed nothing is touched.
+    pub fn close<L: Log>(self, alloc: Global, rt: &L) -> F
+        ensures held { is_failed (⟦<DualPipes<F> as PipeLog>⟧.shown self) ≡ false
+            → ClosesLog (⟦<DualPipes<F> as PipeLog>⟧.shown self) (F.disk result) }
+        ensures failed { is_failed (⟦<DualPipes<F> as PipeLog>⟧.shown self) ≡ true
+            → result ≡ self.file_system }
+        ensures later { IsLater (F.disk self.file_system) (F.disk result) }
+    {
+        if self.is_failed() {
+            return self.file_system;
+        }
+        let DualPipes {
+            mut file_system,
+            mut append,
+            mut rewrite,
+        } = self;
+        append.finish(rt, &mut file_system);
+        rewrite.finish(rt, &mut file_system);
+        append.reserve_names(alloc, rt, &mut file_system);
+        rewrite.reserve_names(alloc, rt, &mut file_system);
+        file_system
     }
 }
 

@@ -12,11 +12,13 @@ use Rattle.raft_log_file_queue.proofs.Standing.{stands_rebased}
 use Rattle.raft_log_files.specs.Rotation.{IsLeft}
 use Rattle.raft_log_layout.specs.declared.record.LogRecord.{LogRecord}
 use Rattle.raft_log_pipes.specs.Closing.{AreBelow, LeavesClosed, StaysLeft}
-use Rattle.raft_log_pipes.specs.Files.{IsPipe}
+use Rattle.raft_log_pipes.specs.Files.{IsPipe, Listed}
 use Rattle.raft_log_pipes.specs.declared.pipe_files.PipeFiles.{PipeFiles}
 use Rattle.raft_log_pipes.proofs.SettingAside.{pipe_below}
 use Rattle.raft_log_directory.specs.Moves.{Moved}
 use Rattle.raft_log_steps.specs.Queues.{QueueLayout, IsQueueLayout}
+use Rattle.raft_log_steps.specs.State.{HoldsBoth}
+use Rattle.raft_log_steps.specs.Own.{log_layout}
 use Rattle.raft_log_steps.proofs.Aside.{left_stays, name_stays, runs_stay}
 use Rattle.raft_log_steps.proofs.Numbers.{quiet_settles}
 use Rattle.raft_log_steps.proofs.Reading.{held_is_allowed}
@@ -94,6 +96,13 @@ module _ (layout : QueueLayout LogRecord) (told : IsQueueLayout layout) where
             (let (a, is) = quiet_settles says layout.format first q start d h.gaps from f all in (a, subst (λ (p : LogFiles LogRecord). IsFileQueue says layout.format p a.from first d a.queue) (sym same) is))
       ]
 
+-- the same of a pipe that goes by the same layout, with the same files kept for use
+pub stays_same : (n m : LogQueue) (ds es : List (List ℕ)) (fs gs : List Listed) (d e : Disk) → m ≡ n → es ≡ ds → gs ≡ fs → StaysLeft (log_layout m es).format (log_layout m es).own gs d e → StaysLeft (log_layout n ds).format (log_layout n ds).own fs d e
+stays_same n m ds es fs gs d e named lies kept h =
+    subst (λ (xs : List Listed). StaysLeft (log_layout n ds).format (log_layout n ds).own xs d e) kept
+    (subst (λ (xs : List (List ℕ)). StaysLeft (log_layout n xs).format (log_layout n xs).own gs d e) lies
+    (subst (λ (x : LogQueue). StaysLeft (log_layout x es).format (log_layout x es).own gs d e) named h))
+
 -- Both pipes: their last files are finished one after the other, and then the spare files of one and of the
 -- other get their names.
 pub closes : (v : LogPipes) (first second third last : Disk) → IsSound last
@@ -124,7 +133,7 @@ closes v first second third last sound finish_append finish_rewrite name_append 
     let other3 = aside R two.rewrite A.own back p s.disk second third only3 other2 in
     let (only4, other4) = named R two.rewrite v.rewrite.files p s.disk third last below_rewrite r4 other3 in
     let held4 = aside A two.append R.own two.apart q s.disk third last only4 held3 in
-    let both = record { append = inl held4.left; rewrite = inl other4.left } in (
+    let both : HoldsBoth (queues log) (closed_log s held4.after other4.after last) = record { append = inl held4.left; rewrite = inl other4.left } in (
       held4.after,
       other4.after,
       held4.either,

@@ -11,7 +11,7 @@ fn what_is_read_is_the_record(rt: HostRuntime) -> Result<(), Fail> {
     let mut pipes = pair(&rt, 0)?;
     pipes.rotate(rt.alloc(), &rt, LogQueue::Append)?;
     let mut batch = LogBatch::default(rt.alloc())?;
-    batch.put(3, b"key", b"value")?;
+    batch.put(rt.alloc(), 3, b"key", b"value")?;
     let len = batch.finish_populate()?;
     let mut signed = SignedBatch::new(batch);
     assert!(rt; signed.encoded_len() == len);

@@ -1,6 +1,6 @@
 //! Both pipes of a log, over one file system.
 use raft_log_base::{Error, FileBlockHandle, FileId, LogFileContext, LogQueue, Version};
-use raft_log_disk::FileSystem;
+use raft_log_disk::{FileSystem, Permission};
 use raft_log_dual_pipes::{DualPipes, PipeLog};
 use raft_log_format::LogFileFormat;
 use raft_log_layout::LogLayout;
@@ -132,5 +132,17 @@ fn a_failure_of_one_pipe_is_told_by_both(rt: HostRuntime) -> Result<(), Fail> {
     let other = append(&rt, &mut pipes, LogQueue::Rewrite, 2, 13);
     assert!(rt; matches!(other, Err(Error::Failed)));
     assert!(rt; pipes.file_system().failures() == 1);
+    Ok(())
+}
+
+#[test]
+fn a_close_cuts_both_last_files(rt: HostRuntime) -> Result<(), Fail> {
+    let mut pipes = pair(&rt, 0)?;
+    let _written = append(&rt, &mut pipes, LogQueue::Append, 1, 13)?;
+    let system = pipes.close(rt.alloc(), &rt);
+    let first = system.open("d/0000000000000001.raftlog", Permission::ReadOnly)?;
+    let other = system.open("d/0000000000000001.rewrite", Permission::ReadOnly)?;
+    // a header has 69 bytes
+    assert!(rt; (system.file_size(first)?, system.file_size(other)?) == (82, 69));
     Ok(())
 }

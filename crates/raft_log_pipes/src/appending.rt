@@ -119,6 +119,7 @@ pub fn append<G: PipeFormat, F: FileSystem, L: Log, B: ReactiveBytes>(
         (G.file_paths layout.now) new_files.now queue (B.signed bytes.old) files.old files.new error
         (F.disk file_system.old) (F.disk file_system.new)) }
     ensures signed { B.signed bytes.new ≡ B.signed bytes.old }
+    ensures said { B.said bytes.new ≡ B.said bytes.old }
     ensures first { files.new.first_seq ≡ files.old.first_seq }
     ensures later { IsLater (F.disk file_system.old) (F.disk file_system.new) }
 {

@@ -9,6 +9,11 @@ pub trait ReactiveBytes {
     ghost use Rattle.std.specs.Prelude.{ℕ, List};
     ghost use Rattle.raft_log_base.specs.declared.pipe_log.LogFileContext.{LogFileContext};
 
+    /// What is written, whatever file it is signed for.
+    type Said;
+
+    ghost said: { Self → Self.Said };
+
     ghost bytes: { Self → List ℕ };
 
     ghost signed: { Self → LogFileContext → List ℕ };
@@ -16,7 +21,8 @@ pub trait ReactiveBytes {
     /// Signs the bytes for a file.
     fn sign(&mut self, context: &LogFileContext)
         ensures bytes { bytes self.new ≡ signed self.old context.now }
-        ensures same { signed self.new ≡ signed self.old };
+        ensures same { signed self.new ≡ signed self.old }
+        ensures said { said self.new ≡ said self.old };
 
     /// The bytes, as they are signed.
     fn as_bytes(&self) -> &[u8]

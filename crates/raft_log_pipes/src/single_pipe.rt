@@ -5,7 +5,7 @@ ghost use Rattle.raft_log_base.specs.declared.errors.Error.TheVariants as errors
 ghost use Rattle.raft_log_disk.specs.Causes.{IsLater};
 
 use crate::appending::append;
-use crate::closing::close;
+use crate::closing::{close, finish, reserve_files};
 use crate::found_files::FoundFiles;
 use crate::new_files::NewFiles;
 use crate::opening::open;
@@ -134,6 +134,8 @@ impl<G: PipeFormat> SinglePipe<G> {
             self.old.settings.new_files self.old.settings.queue (B.signed bytes.old) self.old.files
             self.new.files error
             (F.disk file_system.old) (F.disk file_system.new)) }
+        ensures signed { B.signed bytes.new ≡ B.signed bytes.old }
+        ensures said { B.said bytes.new ≡ B.said bytes.old }
         ensures failed { self.old.failed ≡ true → (result ≡ Err errors.Failed) × (self.new ≡ self.old)
             × (F.disk file_system.new ≡ F.disk file_system.old) }
         ensures fails { IsTrue self.new.failed ↔ (result ≡ Err errors.Failed) }
@@ -289,7 +291,8 @@ impl<G: PipeFormat> SinglePipe<G> {
 }
 
 impl<G: PipeFormat + Drop> SinglePipe<G> {
-    ghost use Rattle.raft_log_pipes.specs.Closing.{ClosesFiles, LeavesClosed};
+    ghost use Rattle.std.specs.Prelude.{reverse};
+    ghost use Rattle.raft_log_pipes.specs.Closing.{ClosesFiles, FinishesOrNot, LeavesClosed, ReservesAll, StaysLeft, greatest_reserved};
     ghost use Rattle.raft_log_pipes.specs.Opening.{OpenLeaves, Opens};
 
     /// Opens a pipe over what was found of its queue: where there is no file, the queue begins in a file 1;
@@ -336,5 +339,42 @@ impl<G: PipeFormat + Drop> SinglePipe<G> {
         }
         let SinglePipe { layout, files, .. } = self;
         close(alloc, &layout, rt, file_system, files);
+    }
+
+    /// The first half of a close: the last file is cut behind its records and synced. A refusal is logged. Of a
+    /// pipe that has failed nothing is touched.
+    pub fn finish<F: FileSystem, L: Log>(&mut self, rt: &L, file_system: &mut F)
+        ensures held { self.old.failed ≡ false → LeavesClosed (G.format self.old.layout)
+            (G.own self.old.layout) (G.file_paths self.old.layout) self.old.files
+            (F.disk file_system.old) (F.disk file_system.new) }
+        ensures calls { self.old.failed ≡ false → FinishesOrNot self.old.files.writer
+            (F.disk file_system.old) (F.disk file_system.new) }
+        ensures failed { self.old.failed ≡ true → F.disk file_system.new ≡ F.disk file_system.old }
+        ensures same { (self.new.layout ≡ self.old.layout) × (self.new.settings ≡ self.old.settings)
+            × (self.new.failed ≡ self.old.failed) × (self.new.files.recycled ≡ self.old.files.recycled) }
+        ensures later { IsLater (F.disk file_system.old) (F.disk file_system.new) }
+    {
+        if self.failed {
+            return;
+        }
+        finish(&self.layout, rt, file_system, &mut self.files);
+    }
+
+    /// The second half: the files that are kept for use get reserved names, as `close` has it. Refusals are
+    /// logged. Of a pipe that has failed nothing is touched.
+    pub fn reserve_names<F: FileSystem, L: Log>(self, alloc: Global, rt: &L, file_system: &mut F)
+        ensures held { self.failed ≡ false → StaysLeft (G.format self.layout) (G.own self.layout)
+            self.files.recycled.items (F.disk file_system.old) (F.disk file_system.new) }
+        ensures calls { self.failed ≡ false → ReservesAll (G.file_paths self.layout)
+            (reverse self.files.recycled.items) (greatest_reserved self.files.recycled.items)
+            (F.disk file_system.old) (F.disk file_system.new) }
+        ensures failed { self.failed ≡ true → F.disk file_system.new ≡ F.disk file_system.old }
+        ensures later { IsLater (F.disk file_system.old) (F.disk file_system.new) }
+    {
+        if self.failed {
+            return;
+        }
+        let SinglePipe { layout, files, .. } = self;
+        reserve_files(alloc, &layout, rt, file_system, files.recycled);
     }
 }

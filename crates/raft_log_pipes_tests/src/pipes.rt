@@ -18,6 +18,10 @@ pub struct Plain {
 }
 
 impl ReactiveBytes for Plain {
+    type Said = Vec<u8>;
+
+    ghost said = { λ plain. plain.bytes };
+
     ghost bytes = { λ plain. plain.bytes.items };
 
     ghost signed = { λ plain context. plain.bytes.items };

@@ -39,6 +39,10 @@ impl Numbered {
 }
 
 impl ReactiveBytes for Numbered {
+    type Said = usize;
+
+    ghost said = { λ numbered. length numbered.bytes.items };
+
     ghost bytes = { λ numbered. numbered.bytes.items };
 
     ghost signed = { λ numbered context. marked numbered.bytes.items context.id.seq };

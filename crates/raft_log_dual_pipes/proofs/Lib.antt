@@ -1,0 +1,4 @@
+mod Pairing
+mod Exits
+mod Spans
+mod Ends

@@ -1,0 +1,34 @@
+use Rattle.std.proofs.Common.{map, sym, ◌∙◌, ap}
+use Rattle.std.specs.String.{string_bytes}
+use Rattle.raft_log_directory.specs.Calls.Which.{InAppend, InRewrite}
+use Rattle.raft_log_dual_pipes.proofs.Exits.{appends_not_when, appends_when}
+use Rattle.raft_log_dual_pipes.proofs.Pairing.{either_false}
+use Rattle.raft_log_dual_pipes.proofs.dual_pipes.DualPipesPipeLog.append.Goals as goal
+
+pub returns-in-Append-clause-ok : goal.returns-in-Append-clause-ok
+returns-in-Append-clause-ok g c =
+    let e = c.append.ensures in
+    rw c.in-Append.is (appends_when InAppend _ _ _ (g.B.ReactiveBytes.signed c.args.bytes.now) c.append.result e.ok e.fails
+    (record { queue = ap (λ l. l.queue) e.same.0; directories = ap (λ l. map string_bytes l.paths.items) e.same.0; settings = e.same.1 }) e.first)
+
+pub returns-in-Append-clause-err : goal.returns-in-Append-clause-err
+returns-in-Append-clause-err g c =
+    let e = c.append.ensures in
+    let alive = (either_false _ _ (sym c.is_failed.ensures ∙ c.if-is_failed.false)).0 in
+    rw c.in-Append.is (appends_not_when InAppend _ _ _ (g.B.ReactiveBytes.signed c.args.bytes.now) c.append.result (e.err alive) e.fails
+    (record { queue = ap (λ l. l.queue) e.same.0; directories = ap (λ l. map string_bytes l.paths.items) e.same.0; settings = e.same.1 }) e.first
+    (g.met.F.FileSystem.sound c.append.new.file_system))
+
+pub returns-in-Rewrite-clause-ok : goal.returns-in-Rewrite-clause-ok
+returns-in-Rewrite-clause-ok g c =
+    let e = c.append-in-Rewrite.ensures in
+    rw c.in-Rewrite.is (appends_when InRewrite _ _ _ (g.B.ReactiveBytes.signed c.args.bytes.now) c.append-in-Rewrite.result e.ok e.fails
+    (record { queue = ap (λ l. l.queue) e.same.0; directories = ap (λ l. map string_bytes l.paths.items) e.same.0; settings = e.same.1 }) e.first)
+
+pub returns-in-Rewrite-clause-err : goal.returns-in-Rewrite-clause-err
+returns-in-Rewrite-clause-err g c =
+    let e = c.append-in-Rewrite.ensures in
+    let alive = (either_false _ _ (sym c.is_failed.ensures ∙ c.if-is_failed.false)).1 in
+    rw c.in-Rewrite.is (appends_not_when InRewrite _ _ _ (g.B.ReactiveBytes.signed c.args.bytes.now) c.append-in-Rewrite.result (e.err alive) e.fails
+    (record { queue = ap (λ l. l.queue) e.same.0; directories = ap (λ l. map string_bytes l.paths.items) e.same.0; settings = e.same.1 }) e.first
+    (g.met.F.FileSystem.sound c.append-in-Rewrite.new.file_system))

@@ -1,0 +1,28 @@
+use Rattle.std.proofs.Common.{map, sym, ◌∙◌, ap}
+use Rattle.std.specs.String.{string_bytes}
+use Rattle.raft_log_directory.specs.Calls.Which.{InAppend, InRewrite}
+use Rattle.raft_log_dual_pipes.proofs.Spans.{rotates_not_when, rotates_when}
+use Rattle.raft_log_dual_pipes.proofs.Pairing.{either_false}
+use Rattle.raft_log_dual_pipes.proofs.dual_pipes.DualPipesPipeLog.rotate.Goals as goal
+
+pub returns-in-Append-clause-ok : goal.returns-in-Append-clause-ok
+returns-in-Append-clause-ok g c =
+    let e = c.rotate.ensures in
+    rw c.in-Append.is (rotates_when InAppend _ _ _ c.rotate.result e.ok e.turned e.fails (record { queue = ap (λ l. l.queue) e.same.0; directories = ap (λ l. map string_bytes l.paths.items) e.same.0; settings = e.same.1 }))
+
+pub returns-in-Append-clause-err : goal.returns-in-Append-clause-err
+returns-in-Append-clause-err g c =
+    let e = c.rotate.ensures in
+    let alive = (either_false _ _ (sym c.is_failed.ensures ∙ c.if-is_failed.false)).0 in
+    rw c.in-Append.is (rotates_not_when InAppend _ _ _ c.rotate.result (e.err alive) e.fails (record { queue = ap (λ l. l.queue) e.same.0; directories = ap (λ l. map string_bytes l.paths.items) e.same.0; settings = e.same.1 }) (g.met.F.FileSystem.sound c.rotate.new.file_system))
+
+pub returns-in-Rewrite-clause-ok : goal.returns-in-Rewrite-clause-ok
+returns-in-Rewrite-clause-ok g c =
+    let e = c.rotate-in-Rewrite.ensures in
+    rw c.in-Rewrite.is (rotates_when InRewrite _ _ _ c.rotate-in-Rewrite.result e.ok e.turned e.fails (record { queue = ap (λ l. l.queue) e.same.0; directories = ap (λ l. map string_bytes l.paths.items) e.same.0; settings = e.same.1 }))
+
+pub returns-in-Rewrite-clause-err : goal.returns-in-Rewrite-clause-err
+returns-in-Rewrite-clause-err g c =
+    let e = c.rotate-in-Rewrite.ensures in
+    let alive = (either_false _ _ (sym c.is_failed.ensures ∙ c.if-is_failed.false)).1 in
+    rw c.in-Rewrite.is (rotates_not_when InRewrite _ _ _ c.rotate-in-Rewrite.result (e.err alive) e.fails (record { queue = ap (λ l. l.queue) e.same.0; directories = ap (λ l. map string_bytes l.paths.items) e.same.0; settings = e.same.1 }) (g.met.F.FileSystem.sound c.rotate-in-Rewrite.new.file_system))

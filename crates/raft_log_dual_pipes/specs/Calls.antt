@@ -1,0 +1,150 @@
+-- What each call on a log's pipes makes of the log that they run over.
+use Rattle.std.specs.Prelude.{◌≡◌, ◌⊎◌, ◌↔◌, IsTrue, ℕ, ◌+◌, ◌-◌, ◌*◌, ◌/◌, ◌^◌, min, suc, true, Err, Result, List, length}
+use Rattle.raft_log_disk.specs.Causes.{Fails}
+use Rattle.raft_log_disk.specs.LogQueue.{LogFiles}
+use Rattle.raft_log_base.specs.declared.errors.Error.{Error}
+use Rattle.raft_log_base.specs.declared.errors.Error.TheVariants as errors
+use Rattle.raft_log_base.specs.declared.pipe_log.FileBlockHandle.{FileBlockHandle}
+use Rattle.raft_log_base.specs.declared.pipe_log.LogFileContext.{LogFileContext}
+use Rattle.raft_log_file_queue.specs.Queue.{synced}
+use Rattle.raft_log_layout.specs.declared.record.LogRecord.{LogRecord}
+use Rattle.raft_log_pipes.specs.Purging.{IsInSpan}
+use Rattle.raft_log_directory.specs.Calls.{Which, Appends, CutsBack, FailsWhole, LeavesOut, Raises, Settles, Syncs}
+use Rattle.raft_log_steps.specs.Queues.{layout_at, SaysRecord}
+use Rattle.raft_log_steps.specs.State.{spanned_at, pipe_at, HoldsBoth, Ties}
+use Rattle.raft_log_steps.specs.Crash.{AllowsIn}
+use Rattle.raft_log_steps.specs.Turning.{GoesOnInNext, HasTaken, IsCutBack, IsOrGoesOn}
+use Rattle.raft_log_steps.specs.Steps.{next_log, LeavesFailed}
+use Rattle.raft_log_steps.specs.Syncing.{FailsMoved, raised_log}
+use Rattle.raft_log_dual_pipes.specs.Pipes.{LogPipes, LogSense, RunsOn, Said, State, files_of, header_at, is_failed, one_at, queue_of, queues, spares_at}
+
+-- A record is written: both pipes run on, and the numbered files of the queue take it, in the file that its
+-- place names.
+abbrev pub AppendsTo : Which → (LogFileContext → List ℕ) → FileBlockHandle → LogPipes → LogPipes → Type 0
+AppendsTo which signed block v w = (log : LogSense) (s : State) (y : Said) → RunsOn log v s
+    → SaysRecord log.says (layout_at which (queues log)) (queue_of which) signed y
+    → (block.id.queue ≡ queue_of which) × ((files : LogFiles LogRecord)
+    × HasTaken (header_at which v) (spares_at which v) s.disk (spanned_at which s).files files
+    × RunsOn log w (next_log which s files w.disk)
+    × Appends (Ties (queues log)) which y block.id.seq s (next_log which s files w.disk))
+
+-- a record was cut back: both pipes run on, and all that was written to the queue before is synced
+abbrev pub CutsBackOn : LogSense → Which → State → LogPipes → LogPipes → Type 0
+CutsBackOn log which s v w = (files : LogFiles LogRecord)
+    × IsCutBack (header_at which v) (spares_at which v) s.disk (spanned_at which s).files files
+    × RunsOn log w (next_log which s files w.disk)
+    × CutsBack (Ties (queues log)) which s (next_log which s files w.disk)
+
+-- a record was left out: both pipes run on
+abbrev pub LeavesOutOn : LogSense → Which → State → LogPipes → LogPipes → Type 0
+LeavesOutOn log which s v w = (files : LogFiles LogRecord)
+    × ((files ≡ (spanned_at which s).files)
+    ⊎ IsCutBack (header_at which v) (spares_at which v) s.disk (spanned_at which s).files files)
+    × RunsOn log w (next_log which s files w.disk)
+    × LeavesOut (Ties (queues log)) which s (next_log which s files w.disk)
+
+-- What a refused record leaves, by its error. Where the pipe has failed, what was there is held, and the
+-- record may be there or not.
+abbrev pub RefusalLeaves : LogSense → Which → State → Said → LogPipes → LogPipes → Error → Type 0
+RefusalLeaves log which s y v w (errors.Io kind) = CutsBackOn log which s v w
+RefusalLeaves log which s y v w (errors.TryAgain text) = CutsBackOn log which s v w
+RefusalLeaves log which s y v w errors.NumberRange = LeavesOutOn log which s v w
+RefusalLeaves log which s y v w errors.Memory = LeavesOutOn log which s v w
+RefusalLeaves log which s y v w errors.Failed =
+    LeavesFailed (queues log) which (files_of v) s (header_at which v) y w.disk
+RefusalLeaves log which s y v w _ = ⊥
+
+-- so it is of a log that the pipes ran over
+abbrev pub FailsToAppendTo : Which → (LogFileContext → List ℕ) → Error → LogPipes → LogPipes → Type 0
+FailsToAppendTo which signed error v w = (log : LogSense) (s : State) (y : Said) → RunsOn log v s
+    → SaysRecord log.says (layout_at which (queues log)) (queue_of which) signed y
+    → RefusalLeaves log which s y v w error
+
+-- a sync: both pipes run on, and all of the queue is synced
+abbrev pub SyncsQueue : Which → LogPipes → LogPipes → Type 0
+SyncsQueue which v w = (log : LogSense) (s : State) → RunsOn log v s
+    → RunsOn log w (next_log which s (synced (spanned_at which s).files) w.disk)
+    × Syncs (Ties (queues log)) which s (next_log which s (synced (spanned_at which s).files) w.disk)
+
+-- one that is refused, as a file call failed: what was there is held, and may be there
+abbrev pub FailsToSyncQueue : Which → LogPipes → LogPipes → Type 0
+FailsToSyncQueue which v w = (log : LogSense) (s : State) → RunsOn log v s
+    → Fails v.disk w.disk × HoldsBoth (queues log) (next_log which s (spanned_at which s).files w.disk)
+    × FailsWhole (Ties (queues log)) (AllowsIn (queues log)) s
+    (next_log which s (spanned_at which s).files w.disk)
+
+-- a rotation: both pipes run on, and all that was written to the queue is synced
+abbrev pub RotatesQueue : Which → LogPipes → LogPipes → Type 0
+RotatesQueue which v w = (log : LogSense) (s : State) → RunsOn log v s → (files : LogFiles LogRecord)
+    × GoesOnInNext (header_at which v) (spares_at which v) s.disk (spanned_at which s).files files
+    × RunsOn log w (next_log which s files w.disk)
+    × Settles (Ties (queues log)) which s (next_log which s files w.disk)
+
+-- nothing was done: both pipes run on over the same log, on the same disk
+abbrev pub LeavesSame : LogSense → State → LogPipes → LogPipes → Type 0
+LeavesSame log s v w = RunsOn log w s × (w.disk ≡ v.disk)
+
+-- What a refused rotation leaves, by its error: the same log; or the pipe has failed, and the queue may have
+-- gone on or not.
+abbrev pub TurnLeaves : LogSense → Which → State → LogPipes → LogPipes → Error → Type 0
+TurnLeaves log which s v w errors.Memory = LeavesSame log s v w
+TurnLeaves log which s v w errors.NumberRange = LeavesSame log s v w
+TurnLeaves log which s v w errors.Failed = (files : LogFiles LogRecord)
+    × IsOrGoesOn (header_at which v) (spares_at which v) s.disk (spanned_at which s).files files
+    × HoldsBoth (queues log) (next_log which s files w.disk)
+    × FailsMoved (Ties (queues log)) (AllowsIn (queues log)) which s (next_log which s files w.disk)
+TurnLeaves log which s v w _ = ⊥
+
+-- so it is of a log that the pipes ran over
+abbrev pub FailsToRotateQueue : Which → Error → LogPipes → LogPipes → Type 0
+FailsToRotateQueue which error v w = (log : LogSense) (s : State) → RunsOn log v s
+    → TurnLeaves log which s v w error
+
+-- a purge: both pipes run on, and the files below the number have left the queue's span
+abbrev pub PurgesQueue : Which → ℕ → LogPipes → LogPipes → Type 0
+PurgesQueue which seq v w = (log : LogSense) (s : State) → RunsOn log v s
+    → RunsOn log w (raised_log which s seq w.disk)
+    × Raises (Ties (queues log)) (Ties (queues log)) which seq s (raised_log which s seq w.disk)
+
+-- What a refused purge leaves, by its error: the same log; or the pipe has failed, and the files have left
+-- the span all the same.
+abbrev pub PurgeLeavesOn : LogSense → Which → ℕ → State → LogPipes → LogPipes → Error → Type 0
+PurgeLeavesOn log which seq s v w errors.Memory = LeavesSame log s v w
+PurgeLeavesOn log which seq s v w (errors.InvalidArgument text) =
+    (IsInSpan seq (pipe_at which (files_of v)) → ⊥) × LeavesSame log s v w
+PurgeLeavesOn log which seq s v w errors.NumberRange = LeavesSame log s v w
+PurgeLeavesOn log which seq s v w errors.Failed = Fails v.disk w.disk
+    × HoldsBoth (queues log) (raised_log which s seq w.disk)
+    × Raises (Ties (queues log)) (AllowsIn (queues log)) which seq s (raised_log which s seq w.disk)
+PurgeLeavesOn log which seq s v w _ = ⊥
+
+-- so it is of a log that the pipes ran over
+abbrev pub FailsToPurgeQueue : Which → ℕ → Error → LogPipes → LogPipes → Type 0
+FailsToPurgeQueue which seq error v w = (log : LogSense) (s : State) → RunsOn log v s
+    → PurgeLeavesOn log which seq s v w error
+
+-- the numbers are those of the first and the last file of the queue
+abbrev pub IsSpanOf : Which → LogPipes → ℕ → ℕ → Type 0
+IsSpanOf which v first last = (log : LogSense) (s : State) → RunsOn log v s
+    → (first ≡ (spanned_at which s).first) × (last ≡ (spanned_at which s).files.last)
+
+-- how many files the span of a queue has
+abbrev pub count_at : Which → LogPipes → ℕ
+count_at which v = suc (length (pipe_at which (files_of v)).earlier.items)
+
+-- the number of the file at a fraction of the span, the one behind the last for the whole
+abbrev pub seq_at : Which → LogPipes → ℕ → ℕ → ℕ
+seq_at which v num den =
+    min ((pipe_at which (files_of v)).first_seq + count_at which v * num / den) (2 ^ 64 - 1)
+
+-- the size of all files of the span, each counted as long as it is to be
+abbrev pub size_at : Which → LogPipes → ℕ
+size_at which v = min (count_at which v * (one_at which v).settings.new_files.target_size) (2 ^ 64 - 1)
+
+-- once a call was refused that couldn't be mended, every later one is, and changes nothing
+abbrev pub StaysFailed : {A : Type 0} → Result A Error → LogPipes → LogPipes → Type 0
+StaysFailed result v w = is_failed v ≡ true → (result ≡ Err errors.Failed) × (w ≡ v)
+
+-- the pipes have failed where, and only where, the call says so
+abbrev pub TellsFailure : {A : Type 0} → Result A Error → LogPipes → Type 0
+TellsFailure result w = IsTrue (is_failed w) ↔ (result ≡ Err errors.Failed)

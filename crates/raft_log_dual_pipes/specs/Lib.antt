@@ -1,0 +1,3 @@
+pub mod Pipes
+pub mod Calls
+pub mod Closing

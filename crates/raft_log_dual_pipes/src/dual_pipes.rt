@@ -1,0 +1,177 @@
+//! Both pipes of a log, over a file system that they own.
+
+ghost use Rattle.std.specs.Prelude.{◌≡◌};
+
+use crate::pipe_log::PipeLog;
+use log::Log;
+use raft_log_base::{Error, FileBlockHandle, FileId, FileSeq, LogQueue, Result};
+use raft_log_disk::FileSystem;
+use raft_log_layout::LogLayout;
+use raft_log_pipes::{ReactiveBytes, SinglePipe};
+use std::alloc::Global;
+
+/// Both pipes of a log, and the file system that their files are in.
+#[derive(Drop)]
+pub struct DualPipes<F> {
+    file_system: F,
+    append: SinglePipe<LogLayout>,
+    rewrite: SinglePipe<LogLayout>,
+}
+
+impl<F: FileSystem> DualPipes<F> {
+    ghost use Rattle.std.specs.Prelude.{false, true};
+    ghost use Rattle.raft_log_disk.specs.Causes.{IsLater};
+    ghost use Rattle.raft_log_dual_pipes.specs.Pipes.{is_failed};
+    ghost use Rattle.raft_log_dual_pipes.specs.Closing.{ClosesLog};
+
+    /// These pipes, over this file system.
+    pub fn new(
+        file_system: F,
+        append: SinglePipe<LogLayout>,
+        rewrite: SinglePipe<LogLayout>,
+    ) -> DualPipes<F>
+        ensures file_system { result.file_system ≡ file_system }
+        ensures append { result.append ≡ append }
+        ensures rewrite { result.rewrite ≡ rewrite }
+    {
+        DualPipes {
+            file_system,
+            append,
+            rewrite,
+        }
+    }
+
+    /// The file system.
+    pub fn file_system(&self) -> &F
+        ensures { result.now ≡ self.now.file_system }
+    {
+        &self.file_system
+    }
+
+    /// Closes both pipes, and gives the file system back: both last files are cut behind their records and
+    /// synced, Append's first, and then the files that are kept for use get reserved names. Refusals are
+    /// logged, and nothing that was written is lost by them. Of pipes that have failed nothing is touched.
+    pub fn close<L: Log>(self, alloc: Global, rt: &L) -> F
+        ensures held { is_failed (⟦<DualPipes<F> as PipeLog>⟧.shown self) ≡ false
+            → ClosesLog (⟦<DualPipes<F> as PipeLog>⟧.shown self) (F.disk result) }
+        ensures failed { is_failed (⟦<DualPipes<F> as PipeLog>⟧.shown self) ≡ true
+            → result ≡ self.file_system }
+        ensures later { IsLater (F.disk self.file_system) (F.disk result) }
+    {
+        if self.is_failed() {
+            return self.file_system;
+        }
+        let DualPipes {
+            mut file_system,
+            mut append,
+            mut rewrite,
+        } = self;
+        append.finish(rt, &mut file_system);
+        rewrite.finish(rt, &mut file_system);
+        append.reserve_names(alloc, rt, &mut file_system);
+        rewrite.reserve_names(alloc, rt, &mut file_system);
+        file_system
+    }
+}
+
+impl<F: FileSystem> PipeLog for DualPipes<F> {
+    ghost use Rattle.std.specs.Prelude.{map};
+    ghost use Rattle.std.specs.String.{string_bytes};
+
+    ghost shown = { λ pipes. record {
+      append = record {
+        queue = pipes.append.layout.queue;
+        directories = map string_bytes pipes.append.layout.paths.items;
+        settings = pipes.append.settings;
+        files = pipes.append.files;
+        failed = pipes.append.failed;
+      };
+      rewrite = record {
+        queue = pipes.rewrite.layout.queue;
+        directories = map string_bytes pipes.rewrite.layout.paths.items;
+        settings = pipes.rewrite.settings;
+        files = pipes.rewrite.files;
+        failed = pipes.rewrite.failed;
+      };
+      disk = F.disk pipes.file_system;
+    } };
+
+    fn is_failed(&self) -> bool {
+        self.append.is_failed() || self.rewrite.is_failed()
+    }
+
+    fn file_span(&self, queue: LogQueue) -> (FileSeq, FileSeq) {
+        match queue {
+            LogQueue::Append => self.append.file_span(),
+            LogQueue::Rewrite => self.rewrite.file_span(),
+        }
+    }
+
+    fn file_at(&self, queue: LogQueue, num: u32, den: u32) -> FileSeq {
+        match queue {
+            LogQueue::Append => self.append.file_at(num, den),
+            LogQueue::Rewrite => self.rewrite.file_at(num, den),
+        }
+    }
+
+    fn total_size(&self, queue: LogQueue) -> usize {
+        match queue {
+            LogQueue::Append => self.append.total_size(),
+            LogQueue::Rewrite => self.rewrite.total_size(),
+        }
+    }
+
+    fn read_bytes(&self, alloc: Global, block: FileBlockHandle) -> Result<Vec<u8>> {
+        match block.id.queue {
+            LogQueue::Append => self.append.read_bytes(alloc, &self.file_system, block),
+            LogQueue::Rewrite => self.rewrite.read_bytes(alloc, &self.file_system, block),
+        }
+    }
+
+    fn append<L: Log, B: ReactiveBytes>(
+        &mut self,
+        alloc: Global,
+        rt: &L,
+        queue: LogQueue,
+        bytes: &mut B,
+    ) -> Result<FileBlockHandle> {
+        if self.is_failed() {
+            return Err(Error::Failed);
+        }
+        match queue {
+            LogQueue::Append => self.append.append(alloc, rt, &mut self.file_system, bytes),
+            LogQueue::Rewrite => self.rewrite.append(alloc, rt, &mut self.file_system, bytes),
+        }
+    }
+
+    fn sync<L: Log>(&mut self, rt: &L, queue: LogQueue) -> Result<()> {
+        if self.is_failed() {
+            return Err(Error::Failed);
+        }
+        match queue {
+            LogQueue::Append => self.append.sync(rt, &mut self.file_system),
+            LogQueue::Rewrite => self.rewrite.sync(rt, &mut self.file_system),
+        }
+    }
+
+    fn rotate<L: Log>(&mut self, alloc: Global, rt: &L, queue: LogQueue) -> Result<()> {
+        if self.is_failed() {
+            return Err(Error::Failed);
+        }
+        match queue {
+            LogQueue::Append => self.append.rotate(alloc, rt, &mut self.file_system),
+            LogQueue::Rewrite => self.rewrite.rotate(alloc, rt, &mut self.file_system),
+        }
+    }
+
+    fn purge_to<L: Log>(&mut self, alloc: Global, rt: &L, file_id: FileId) -> Result<usize> {
+        if self.is_failed() {
+            return Err(Error::Failed);
+        }
+        let FileId { queue, seq } = file_id;
+        match queue {
+            LogQueue::Append => self.append.purge_to(alloc, rt, &mut self.file_system, seq),
+            LogQueue::Rewrite => self.rewrite.purge_to(alloc, rt, &mut self.file_system, seq),
+        }
+    }
+}

@@ -1,0 +1,116 @@
+//! A log's two queues of files, as an engine uses them.
+
+ghost use Rattle.std.specs.Prelude.{◌≡◌, ◌-◌, ◌≤◌, ◌<◌, IfErr, IfOk, OnErr, OnOk};
+ghost use Rattle.raft_log_base.specs.declared.errors.Error.TheVariants as errors;
+ghost use Rattle.raft_log_disk.specs.Causes.{IsLater};
+
+use log::Log;
+use raft_log_base::{FileBlockHandle, FileId, FileSeq, LogQueue, Result};
+use raft_log_pipes::ReactiveBytes;
+use std::alloc::Global;
+
+/// A log's two queues of files. Each clause speaks of whatever log the pipes run over.
+///
+/// Once a call was refused as `Failed`, every later call that would change something is, and changes nothing,
+/// whichever queue it is on.
+pub trait PipeLog {
+    ghost use Rattle.raft_log_steps.specs.State.{pipe_at};
+    ghost use Rattle.raft_log_pipes.specs.Reading.{IsReadAt, IsReadRefused};
+    ghost use Rattle.raft_log_pipes.specs.Purging.{IsInSpan};
+    ghost use Rattle.raft_log_dual_pipes.specs.Pipes.{LogPipes, files_of, is_failed, which_of};
+    ghost use Rattle.raft_log_dual_pipes.specs.Calls.{AppendsTo, FailsToAppendTo, FailsToPurgeQueue, FailsToRotateQueue, FailsToSyncQueue, IsSpanOf, PurgesQueue, RotatesQueue, StaysFailed, SyncsQueue, TellsFailure, seq_at, size_at};
+
+    /// The pipes, and their disk.
+    ghost shown: { Self → LogPipes };
+
+    /// Whether a call was refused that couldn't be mended.
+    fn is_failed(&self) -> bool
+        ensures { result ≡ is_failed (shown self.now) };
+
+    /// The numbers of the first and the last file of a queue.
+    fn file_span(&self, queue: LogQueue) -> (FileSeq, FileSeq)
+        ensures first { result.0 ≡ (pipe_at (which_of queue) (files_of (shown self.now))).first_seq }
+        ensures last { result.1 ≡ (pipe_at (which_of queue) (files_of (shown self.now))).active.seq }
+        ensures span { IsSpanOf (which_of queue) (shown self.now) result.0 result.1 };
+
+    /// The number of the file at a fraction of a queue's span, counted from its first file on and rounded
+    /// down: the one behind the last for the whole.
+    fn file_at(&self, queue: LogQueue, num: u32, den: u32) -> FileSeq
+        requires fraction { num ≤ den }
+        requires whole { 0 < den }
+        ensures { result ≡ seq_at (which_of queue) (shown self.now) num den };
+
+    /// The size of all files of a queue's span in bytes, where each counts as long as it is to be; at most
+    /// the greatest number that there is.
+    fn total_size(&self, queue: LogQueue) -> usize
+        ensures { result ≡ size_at (which_of queue) (shown self.now) };
+
+    /// The bytes at a place, fewer where its file ends before. `Corruption` where its file isn't of the
+    /// queue's span.
+    fn read_bytes(&self, alloc: Global, block: FileBlockHandle) -> Result<Vec<u8>>
+        ensures ok { IfOk result (λ bytes. IsReadAt (pipe_at (which_of block.id.queue)
+            (files_of (shown self.now))) block bytes.items (shown self.now).disk) }
+        ensures err { IfErr result (IsReadRefused (pipe_at (which_of block.id.queue)
+            (files_of (shown self.now))) block (shown self.now).disk) };
+
+    /// Writes a record behind the others of a queue, and answers its place. It is signed for the file that it
+    /// goes into, which is the next one where the last one is as long as it is to be.
+    ///
+    /// `Io`: the write was refused and cut off, and all before it is durable. `TryAgain`: the same for want
+    /// of space, and the queue went on in its next file. `Memory`, `NumberRange`: there is no next file, and
+    /// nothing is lost. `Failed`: the pipes have failed.
+    fn append<L: Log, B: ReactiveBytes>(
+        &mut self,
+        alloc: Global,
+        rt: &L,
+        queue: LogQueue,
+        bytes: &mut B,
+    ) -> Result<FileBlockHandle>
+        ensures ok { IfOk result (λ block. AppendsTo (which_of queue) (B.signed bytes.old) block
+            (shown self.old) (shown self.new)) }
+        ensures err { IfErr result (λ error. FailsToAppendTo (which_of queue) (B.signed bytes.old) error
+            (shown self.old) (shown self.new)) }
+        ensures signed { B.signed bytes.new ≡ B.signed bytes.old }
+        ensures said { B.said bytes.new ≡ B.said bytes.old }
+        ensures failed { StaysFailed result (shown self.old) (shown self.new) }
+        ensures fails { TellsFailure result (shown self.new) }
+        ensures later { IsLater (shown self.old).disk (shown self.new).disk };
+
+    /// Makes all records of a queue durable. Refused, it is `Failed`.
+    fn sync<L: Log>(&mut self, rt: &L, queue: LogQueue) -> Result<()>
+        ensures ok { OnOk result (SyncsQueue (which_of queue) (shown self.old) (shown self.new)) }
+        ensures err { OnErr result (FailsToSyncQueue (which_of queue) (shown self.old) (shown self.new)) }
+        ensures error { IfErr result (λ error. error ≡ errors.Failed) }
+        ensures failed { StaysFailed result (shown self.old) (shown self.new) }
+        ensures fails { TellsFailure result (shown self.new) }
+        ensures later { IsLater (shown self.old).disk (shown self.new).disk };
+
+    /// A queue goes on in its next file: the oldest of those that are kept for use, or a new one where there
+    /// is none.
+    ///
+    /// Refused for want of memory or of a number, nothing is done. `Failed` where a file call was refused.
+    fn rotate<L: Log>(&mut self, alloc: Global, rt: &L, queue: LogQueue) -> Result<()>
+        ensures ok { OnOk result (RotatesQueue (which_of queue) (shown self.old) (shown self.new)) }
+        ensures err { IfErr result (λ error. FailsToRotateQueue (which_of queue) error
+            (shown self.old) (shown self.new)) }
+        ensures failed { StaysFailed result (shown self.old) (shown self.new) }
+        ensures fails { TellsFailure result (shown self.new) }
+        ensures later { IsLater (shown self.old).disk (shown self.new).disk };
+
+    /// The files of a queue below this one leave its span; the answer is how many.
+    ///
+    /// `InvalidArgument` where the number is none of the span's, `Memory`: nothing is done. `Failed`: a
+    /// file wasn't deleted.
+    fn purge_to<L: Log>(&mut self, alloc: Global, rt: &L, file_id: FileId) -> Result<usize>
+        ensures ok { OnOk result (PurgesQueue (which_of file_id.queue) file_id.seq
+            (shown self.old) (shown self.new)) }
+        ensures count { IfOk result (λ count.
+            IsInSpan file_id.seq (pipe_at (which_of file_id.queue) (files_of (shown self.old)))
+            × (count ≡ file_id.seq
+            - (pipe_at (which_of file_id.queue) (files_of (shown self.old))).first_seq)) }
+        ensures err { IfErr result (λ error. FailsToPurgeQueue (which_of file_id.queue) file_id.seq error
+            (shown self.old) (shown self.new)) }
+        ensures failed { StaysFailed result (shown self.old) (shown self.new) }
+        ensures fails { TellsFailure result (shown self.new) }
+        ensures later { IsLater (shown self.old).disk (shown self.new).disk };
+}

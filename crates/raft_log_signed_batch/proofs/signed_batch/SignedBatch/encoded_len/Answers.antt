@@ -1,0 +1,9 @@
+use Rattle.raft_log_base.specs.Files.{signature_of}
+use Rattle.raft_log_signed_batch.proofs.Signed.{says_itself}
+use Rattle.raft_log_signed_batch.proofs.signed_batch.SignedBatch.encoded_len.Goals as goal
+
+pub returns-clause-len : goal.returns-clause-len
+returns-clause-len c context = c.encoded_len.ensures.size (signature_of context)
+
+pub returns-clause-says : goal.returns-clause-says
+returns-clause-says c = says_itself c.args.self.now.batch c.encoded_len.result c.encoded_len.ensures

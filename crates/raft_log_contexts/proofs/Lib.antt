@@ -5,3 +5,5 @@ pub mod Outcomes
 pub mod CarryOn
 pub mod Taking
 pub mod Contexts
+mod Refusals
+mod Batches

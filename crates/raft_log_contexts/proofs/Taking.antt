@@ -40,7 +40,7 @@ module _ {E V : Type 0} where
   fit_front [] ys h = tt
   fit_front (x ∷ xs) ys h = (h.0, fit_front xs ys h.1)
 
-  fit_back : (xs ys : List (Item E V)) → RunsFit (xs ++ ys) → RunsFit ys
+  pub fit_back : (xs ys : List (Item E V)) → RunsFit (xs ++ ys) → RunsFit ys
   fit_back [] ys h = h
   fit_back (x ∷ xs) ys h = fit_back xs ys h.1
 
@@ -56,12 +56,12 @@ placed_if : (b : Bool) (q : Bool) (n : ℕ) (x : Item Place (List ℕ)) (xs : Li
 placed_if true q n x xs = refl
 placed_if false q n x xs = refl
 
-placed_group : (q : Bool) (n g : ℕ) (xs : List (Tagged Place (List ℕ))) → of_group g (map (placed_tagged q n) xs) ≡ map (placed q n) (of_group g xs)
+pub placed_group : (q : Bool) (n g : ℕ) (xs : List (Tagged Place (List ℕ))) → of_group g (map (placed_tagged q n) xs) ≡ map (placed q n) (of_group g xs)
 placed_group q n g [] = refl
 placed_group q n g (x ∷ xs) =
     ap (λ ys. if x.group == g then placed q n x.item ∷ ys else ys) (placed_group q n g xs) ∙ placed_if (x.group == g) q n x.item (of_group g xs)
 
-placed_fits : (q : Bool) (n : ℕ) (x : Item Place (List ℕ)) → Fits (placed q n x) → Fits x
+pub placed_fits : (q : Bool) (n : ℕ) (x : Item Place (List ℕ)) → Fits (placed q n x) → Fits x
 placed_fits q n (Run f ps) h = subst (λ k. f + k ≤ top) (length-map ps (in_queue q)) h
 placed_fits q n Clean h = tt
 placed_fits q n (Compact c) h = tt
@@ -81,14 +81,18 @@ one_by_one q n z before (x ∷ xs) h r =
     (one_by_one q n (replayed q n z x) (before ++ y ∷ []) xs whole
     (read_one q n before z x r (healthy_fits q n before z x r first.0, placed_fits q n x last.0)))
 
-pub takes_read : (q : Bool) (n : ℕ) (old new : MemTables) (items : List LogItem) → ReadsAll q n old new (tagged_items place_of items)
-    → TakesItems q (said_in q n items) (replayed_of old) (replayed_of new)
-takes_read q n old new items h g before healthy r =
-    let xs = of_group g (tagged_items place_of items) in
-    let said = placed_group q n g (tagged_items place_of items) in
+pub takes_tagged : (q : Bool) (n : ℕ) (old new : MemTables) (ts : List (Tagged Place (List ℕ))) → ReadsAll q n old new ts
+    → TakesItems q (map (placed_tagged q n) ts) (replayed_of old) (replayed_of new)
+takes_tagged q n old new ts h g before healthy r =
+    let xs = of_group g ts in
+    let said = placed_group q n g ts in
     subst (λ l. IsReplayed q (before ++ l) (replayed_of new g)) (sym said)
     (subst (λ z. IsReplayed q (before ++ map (placed q n) xs) z) (sym (h.read g))
     (one_by_one q n (replayed_of old g) before xs (subst (λ l. AreHealthy (before ++ l)) said healthy) r))
+
+pub takes_read : (q : Bool) (n : ℕ) (old new : MemTables) (items : List LogItem) → ReadsAll q n old new (tagged_items place_of items)
+    → TakesItems q (said_in q n items) (replayed_of old) (replayed_of new)
+takes_read q n old new items h = takes_tagged q n old new (tagged_items place_of items) h
 
 pub takes_none : (q : Bool) (z : ℕ → Replayed) → TakesItems q [] z z
 takes_none q z g before healthy r = subst (λ l. IsReplayed q l (z g)) (sym (append-nil before)) r
@@ -108,7 +112,7 @@ noted_same q before files None r = r
 noted_same q before files (Some t) r = read_noted q before (replayed_in (Some t)) _ r
 
 -- What the records come to, with one more.
-counted_more : (g : ℕ) (rs : List ReadRecord) (r : ReadRecord)
+pub counted_more : (g : ℕ) (rs : List ReadRecord) (r : ReadRecord)
     → counted g (rs ++ r ∷ []) ≡ counted g rs ++ of_group g (counts (opened none_open (records_of rs)) r.taken)
 counted_more g rs r =
     let o = opened none_open (records_of rs) in

@@ -1,3 +1,4 @@
 pub mod Records
 pub mod Pieces
 pub mod Context
+pub mod Batches

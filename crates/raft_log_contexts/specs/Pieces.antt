@@ -1,5 +1,6 @@
 -- The pieces of atomic groups that the two ends of a segment cut.
-use Rattle.std.specs.Prelude.{◌≡◌, ℕ, ◌-◌, min, max, slice_get, ◌<◌, ◌==◌, ◌||◌, Bool, false, List, [], ◌∷◌, ◌++◌, map, length, get_or, Option, Some, None}
+use Rattle.std.specs.Prelude.{◌≡◌, ℕ, ◌-◌, min, max, slice_get, ◌<◌, ◌==◌, ◌||◌, Bool, false, List, [], ◌∷◌, ◌++◌, map, length, get_or, Option, Some, None, codes}
+use Rattle.std.specs.String.{string_bytes}
 use Rattle.std.specs.Global.{Vec}
 use Rattle.std.specs.BTreeMap.{get}
 use Rattle.std.specs.Ordering.{nat_cmp}
@@ -128,8 +129,12 @@ is_number g (Some n) = n == g
 abbrev pub ends_with : List ℕ → ℕ → Bool
 ends_with gs g = is_number g (slice_get gs (length gs - 1))
 
+-- the text that tells that a batch has a broken mark, or two
+abbrev pub invalid_mark : List ℕ
+invalid_mark = codes "Invalid atomic group mark"
+
 -- a batch with a broken mark isn't read: it is corrupt, or there is no memory to say so
 abbrev pub IsBroken : Error → Type 0
-IsBroken (errors.Corruption text) = Unit {0}
+IsBroken (errors.Corruption text) = string_bytes text ≡ invalid_mark
 IsBroken errors.Memory = Unit {0}
 IsBroken _ = ⊥

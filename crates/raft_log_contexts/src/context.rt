@@ -28,6 +28,7 @@ pub struct MemTableRecoverContext {
 }
 
 impl MemTableRecoverContext {
+    ghost use Rattle.raft_log_contexts.specs.Batches.{IsUnread, MergeDeclined, ReplayDeclined};
     ghost use Rattle.raft_log_contexts.specs.Context.{
       tables_of,
       AppendRefused,
@@ -59,7 +60,8 @@ impl MemTableRecoverContext {
     pub fn replay(&mut self, items: Vec<LogItem>, file: FileId) -> Result<()>
         ensures ok { OnOk result (ReadsOn file items.items self.old self.new) }
         ensures fits { OnOk result (LeavesNoHole file items.items self.old) }
-        ensures errors { IfErr result (λ e. AppendRefused file items.items self.old self.new e) }
+        ensures errors { IfErr result (ReplayDeclined file items.items self.old) }
+        ensures partly { IfErr result (λ e. AppendRefused file items.items self.old self.new e) }
     {
         match file.queue {
             LogQueue::Append => self.tables.replay_append_writes(items, file.seq),
@@ -69,8 +71,9 @@ impl MemTableRecoverContext {
 
     /// The items of a batch that was read in a file of Rewrite.
     fn replay_rewrite(&mut self, items: Vec<LogItem>, file: FileSeq) -> Result<()>
-        ensures { OnOk result
+        ensures ok { OnOk result
             (ReadsOne Rewrite (record_read Rewrite file items.items) self.old self.new) }
+        ensures errors { IfErr result (IsUnread (record_read Rewrite file items.items)) }
     {
         match Marking::parse_all(items.as_slice()) {
             Marking::Unmarked => self.tables.replay_rewrite_writes(items, file),
@@ -83,20 +86,22 @@ impl MemTableRecoverContext {
 
     /// A record of an atomic group was read.
     fn replay_part(&mut self, number: u64, status: AtomicGroupStatus, part: GroupPart) -> Result<()>
-        ensures { OnOk result
+        ensures ok { OnOk result
             (ReadsOne Rewrite (Some (part_read (part_of number status) part)) self.old self.new) }
+        ensures errors { IfErr result (λ e. e ≡ Memory) }
     {
         match status {
-            AtomicGroupStatus::Begin => self.pieces.begin(number, part),
-            AtomicGroupStatus::Middle => self.pieces.go_on(number, part),
+            AtomicGroupStatus::Begin => Ok(self.pieces.begin(number, part)?),
+            AtomicGroupStatus::Middle => Ok(self.pieces.go_on(number, part)?),
             AtomicGroupStatus::End => self.replay_end(number, part),
         }
     }
 
     /// The last record of an atomic group was read: if the group began in this segment, it counts.
     fn replay_end(&mut self, number: u64, part: GroupPart) -> Result<()>
-        ensures { OnOk result
+        ensures ok { OnOk result
             (ReadsOne Rewrite (Some (part_read (End number) part)) self.old self.new) }
+        ensures errors { IfErr result (λ e. e ≡ Memory) }
     {
         let whole = self.pieces.end(number, part)?;
         settle_whole(self.alloc, &mut self.tables, whole)
@@ -109,6 +114,7 @@ impl MemTableRecoverContext {
     pub fn merge(&mut self, later: MemTableRecoverContext, queue: LogQueue) -> Result<()>
         ensures ok { OnOk result (MergesInto queue self.old later self.new) }
         ensures fits { OnOk result (JoinsOn later self.new) }
+        ensures errors { IfErr result (MergeDeclined queue self.old later) }
     {
         match queue {
             LogQueue::Append => self.tables.merge_newer_neighbor(later.tables),
@@ -120,6 +126,7 @@ impl MemTableRecoverContext {
     fn merge_rewrite(&mut self, later: MemTableRecoverContext) -> Result<()>
         ensures ok { OnOk result (MergesInto Rewrite self.old later self.new) }
         ensures fits { OnOk result (JoinsOn later self.new) }
+        ensures errors { IfErr result (MergeDeclined Rewrite self.old later) }
     {
         let MemTableRecoverContext { tables, pieces, .. } = later;
         let done = self.pieces.merge(pieces)?;

@@ -5,8 +5,10 @@
 pub mod context;
 mod head;
 pub mod laws;
+pub mod machine;
 mod part;
 mod pieces;
 mod settle;
 
 pub use context::MemTableRecoverContext;
+pub use machine::MemTableRecoverContextFactory;

@@ -24,8 +24,7 @@ ghost use Rattle.raft_log_contexts.specs.Pieces.{
 
 use crate::head::{GroupHead, joined};
 use crate::part::GroupPart;
-use raft_log_base::Result;
-use std::alloc::Global;
+use std::alloc::{AllocError, Global};
 use std::collections::BTreeMap;
 use std::mem;
 
@@ -60,7 +59,7 @@ impl GroupPieces {
     }
 
     /// A group begins: one of its number that is open is cut short.
-    pub(crate) fn begin(&mut self, number: u64, part: GroupPart) -> Result<()>
+    pub(crate) fn begin(&mut self, number: u64, part: GroupPart) -> Result<(), AllocError>
         ensures { OnOk result (TakesRecord (part_read (Begin number) part) self.old self.new) }
     {
         let mut parts = Vec::new(self.alloc);
@@ -82,7 +81,7 @@ impl GroupPieces {
     }
 
     /// A group goes on.
-    pub(crate) fn go_on(&mut self, number: u64, part: GroupPart) -> Result<()>
+    pub(crate) fn go_on(&mut self, number: u64, part: GroupPart) -> Result<(), AllocError>
         ensures { OnOk result (TakesRecord (part_read (Middle number) part) self.old self.new) }
     {
         let Some(index) = self.position(number) else {
@@ -95,7 +94,11 @@ impl GroupPieces {
     }
 
     /// A group ends: its records are handed out, if it began in this segment.
-    pub(crate) fn end(&mut self, number: u64, part: GroupPart) -> Result<Option<Vec<GroupPart>>>
+    pub(crate) fn end(
+        &mut self,
+        number: u64,
+        part: GroupPart,
+    ) -> Result<Option<Vec<GroupPart>>, AllocError>
         ensures { IfOk result (λ whole.
             EndsGroup number part self.old self.new (whole_items whole)) }
     {
@@ -112,7 +115,7 @@ impl GroupPieces {
 
     /// The pieces of the next segment come behind these. The groups that it ends are handed out, in the order
     /// of their begins.
-    pub(crate) fn merge(&mut self, later: GroupPieces) -> Result<Vec<Vec<GroupPart>>>
+    pub(crate) fn merge(&mut self, later: GroupPieces) -> Result<Vec<Vec<GroupPart>>, AllocError>
         ensures { IfOk result (λ done. JoinsPieces self.old later self.new (groups_items done.items)) }
     {
         let GroupPieces {
@@ -128,7 +131,10 @@ impl GroupPieces {
 
     /// The open groups go on in the next segment, which does this with them. Those that it ends are handed
     /// out, in the order of their begins.
-    fn carry_on(&mut self, heads: &mut BTreeMap<u64, GroupHead>) -> Result<Vec<Vec<GroupPart>>>
+    fn carry_on(
+        &mut self,
+        heads: &mut BTreeMap<u64, GroupHead>,
+    ) -> Result<Vec<Vec<GroupPart>>, AllocError>
         ensures ok { IfOk result (λ done.
             CarriesOn (left_open self.old) (λ n. head_in (get nat_cmp heads.old n)) (left_open self.new)
             (λ n. head_in (get nat_cmp heads.new n)) (groups_items done.items)) }
@@ -149,7 +155,7 @@ impl GroupPieces {
         group: OpenGroup,
         head: Option<GroupHead>,
         done: &mut Vec<Vec<GroupPart>>,
-    ) -> Result<()>
+    ) -> Result<(), AllocError>
         ensures left { OnOk result (left_open self.new
             ≡ left_open self.old ++ go_on group.number (parts_items group.parts.items) (head_in head)) }
         ensures done { OnOk result (groups_items done.new.items
@@ -174,7 +180,7 @@ impl GroupPieces {
     }
 
     /// The next segment does this with groups.
-    fn add_heads(&mut self, heads: BTreeMap<u64, GroupHead>) -> Result<()>
+    fn add_heads(&mut self, heads: BTreeMap<u64, GroupHead>) -> Result<(), AllocError>
         ensures heads { OnOk result ((n : ℕ) → head_at self.new n
             ≡ then_head (head_at self.old n) (head_in (get nat_cmp heads n))) }
         ensures others { self.new.left_open ≡ self.old.left_open }
@@ -199,7 +205,7 @@ impl GroupPieces {
     }
 
     /// The segment does this with the group of a number, behind what it did so far.
-    fn add_head(&mut self, number: u64, later: GroupHead) -> Result<()>
+    fn add_head(&mut self, number: u64, later: GroupHead) -> Result<(), AllocError>
         ensures heads { OnOk result ((n : ℕ) → head_at self.new n
             ≡ (if number == n then then_head (head_at self.old n) (head_of later) else head_at self.old n)) }
         ensures others { self.new.left_open ≡ self.old.left_open }

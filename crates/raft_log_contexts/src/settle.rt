@@ -1,5 +1,6 @@
 //! Atomic groups that are whole count.
-ghost use Rattle.std.specs.Prelude.{◌≡◌, false, OnOk};
+ghost use Rattle.std.specs.Prelude.{◌≡◌, false, IfErr, OnOk};
+ghost use Rattle.raft_log_base.specs.declared.errors.Error.TheVariants.{Memory};
 ghost use Rattle.raft_log_replay.specs.Tables.{replayed_of};
 ghost use Rattle.raft_log_contexts.specs.Records.{KeepsRead, TakesItems};
 ghost use Rattle.raft_log_contexts.specs.Pieces.{ends_with, groups_items, parts_items, whole_items, with_file};
@@ -9,7 +10,7 @@ use raft_log_base::{FileSeq, Result};
 use raft_log_items::LogItem;
 use raft_log_places::GroupFiles;
 use raft_log_replay::MemTables;
-use std::alloc::Global;
+use std::alloc::{AllocError, Global};
 
 /// These atomic groups count, one after the other.
 pub(crate) fn settle_all(
@@ -17,8 +18,9 @@ pub(crate) fn settle_all(
     tables: &mut MemTables,
     done: Vec<Vec<GroupPart>>,
 ) -> Result<()>
-    ensures { OnOk result
+    ensures ok { OnOk result
         (TakesItems false (groups_items done.items) (replayed_of tables.old) (replayed_of tables.new)) }
+    ensures errors { IfErr result (λ e. e ≡ Memory) }
 {
     for parts in done {
         settle(alloc, tables, parts)?;
@@ -32,8 +34,9 @@ pub(crate) fn settle_whole(
     tables: &mut MemTables,
     whole: Option<Vec<GroupPart>>,
 ) -> Result<()>
-    ensures { OnOk result
+    ensures ok { OnOk result
         (TakesItems false (whole_items whole) (replayed_of tables.old) (replayed_of tables.new)) }
+    ensures errors { IfErr result (λ e. e ≡ Memory) }
 {
     match whole {
         Some(parts) => settle(alloc, tables, parts),
@@ -44,8 +47,9 @@ pub(crate) fn settle_whole(
 /// The records of an atomic group count: their items stand in the tables, and in the table of each raft group
 /// of theirs the files of the atomic group are noted, from the first record's to the last one's.
 fn settle(alloc: Global, tables: &mut MemTables, parts: Vec<GroupPart>) -> Result<()>
-    ensures { OnOk result
+    ensures ok { OnOk result
         (TakesItems false (parts_items parts.items) (replayed_of tables.old) (replayed_of tables.new)) }
+    ensures errors { IfErr result (λ e. e ≡ Memory) }
 {
     let mut groups = Vec::new(alloc);
     let mut files = None;
@@ -75,7 +79,7 @@ fn with_file(files: Option<GroupFiles>, file: FileSeq) -> GroupFiles
 }
 
 /// Adds the raft groups that the items are of, one that comes several times in a row but once.
-fn add_groups(groups: &mut Vec<u64>, items: &[LogItem]) -> Result<()> {
+fn add_groups(groups: &mut Vec<u64>, items: &[LogItem]) -> Result<(), AllocError> {
     for item in items {
         if !ends_with(groups.as_slice(), item.raft_group_id) {
             groups.push(item.raft_group_id)?;

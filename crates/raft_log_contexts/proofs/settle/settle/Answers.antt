@@ -28,8 +28,8 @@ loop-part-preserved c =
           so_far.taken (takes_read false p.file old new p.items.items c.in_ok-replay_rewrite_writes.ensures.ok));
     }
 
-pub returns : goal.returns
-returns c =
+pub returns-clause-ok : goal.returns-clause-ok
+returns-clause-ok c =
     let none = none_left (into_iter_items c.loop-part.part-iterator) (sym c.loop-part.part-iterator.rest.ok.0 ∙ c.in-None.ensures.steps.0) in
     let came = all_came_of c.loop-part.yielded _ c.args.parts.items c.loop-part.invariant.all none in
     takes_kept false (parts_items c.args.parts.items) (replayed_of c.args.tables.now) (replayed_of c.loop-part.tables) (replayed_of c.note_groups.new.tables)

@@ -23,11 +23,11 @@ loop-parts-preserved c =
       all = append_assoc done (ps ∷ []) (into_iter_items c.next.new.self) ∙ ap (λ l. done ++ l) (sym c.in-Some.ensures.steps.0) ∙ so_far.all;
       taken = subst (λ l. TakesItems false l (replayed_of c.args.tables.now) (replayed_of c.settle.new.tables)) (sym (groups_push done ps))
           (takes_both false (groups_items done) (parts_items ps.items) (replayed_of c.args.tables.now) (replayed_of c.loop-parts.tables) (replayed_of c.settle.new.tables)
-          so_far.taken c.in_ok-settle.ensures);
+          so_far.taken c.in_ok-settle.ensures.ok);
     }
 
-pub returns : goal.returns
-returns c =
+pub returns-clause-ok : goal.returns-clause-ok
+returns-clause-ok c =
     let none = none_left (into_iter_items c.loop-parts.parts-iterator) (sym c.loop-parts.parts-iterator.rest.ok.0 ∙ c.in-None.ensures.steps.0) in
     let came = all_came_of c.loop-parts.yielded _ c.args.done.items c.loop-parts.invariant.all none in
     subst (λ l. TakesItems false (groups_items l) (replayed_of c.args.tables.now) (replayed_of c.loop-parts.tables)) came c.loop-parts.invariant.taken

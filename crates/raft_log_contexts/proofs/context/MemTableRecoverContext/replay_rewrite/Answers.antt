@@ -5,11 +5,13 @@ use Rattle.raft_log_contexts.specs.Records.{in_file, said_in, taken_as}
 use Rattle.raft_log_contexts.specs.declared.context.MemTableRecoverContext.{MemTableRecoverContext}
 use Rattle.raft_log_contexts.specs.Context.{ReadsOne}
 use Rattle.raft_log_contexts.proofs.Contexts.{reads_plain}
-use Rattle.raft_log_contexts.proofs.Outcomes.{on_ok_from}
+use Rattle.raft_log_contexts.proofs.Outcomes.{if_err_from, on_ok_from}
+use Rattle.raft_log_contexts.specs.Records.{record_read}
+use Rattle.raft_log_contexts.proofs.Refusals.{broken_unread, memory_unread, stops_unread}
 use Rattle.raft_log_contexts.proofs.context.MemTableRecoverContext.replay_rewrite.Goals as goal
 
-pub returns-in-Unmarked : goal.returns-in-Unmarked
-returns-in-Unmarked c =
+pub returns-in-Unmarked-clause-ok : goal.returns-in-Unmarked-clause-ok
+returns-in-Unmarked-clause-ok c =
     let items = c.args.items.items in
     let marking = ap marking_of_items (sym c.as_slice.ensures.value) ∙ sym c.parse_all.ensures ∙ c.in-Unmarked.is in
     let told = ap (λ m. option_map (in_file c.args.file) (taken_as m (said_in false c.args.file items))) marking in
@@ -17,9 +19,24 @@ returns-in-Unmarked c =
     on_ok_from c.replay_rewrite_writes.result c.replay_rewrite_writes.ensures.ok (λ reads.
     subst (λ o. ReadsOne Rewrite o c.args.self.now new) (sym told) (reads_plain Rewrite c.args.file c.args.self.now new items reads refl))
 
-pub returns-in-Part : goal.returns-in-Part
-returns-in-Part c =
+pub returns-in-Part-clause-ok : goal.returns-in-Part-clause-ok
+returns-in-Part-clause-ok c =
     let items = c.args.items.items in
     let marking = ap marking_of_items (sym c.as_slice.ensures.value) ∙ sym c.parse_all.ensures ∙ c.in-Part.is in
     let told = ap (λ m. option_map (in_file c.args.file) (taken_as m (said_in false c.args.file items))) marking in
-    on_ok_from c.replay_part.result c.replay_part.ensures (λ reads. subst (λ o. ReadsOne Rewrite o c.args.self.now c.replay_part.new.self) (sym told) reads)
+    on_ok_from c.replay_part.result c.replay_part.ensures.ok (λ reads. subst (λ o. ReadsOne Rewrite o c.args.self.now c.replay_part.new.self) (sym told) reads)
+
+pub returns-in-Unmarked-clause-errors : goal.returns-in-Unmarked-clause-errors
+returns-in-Unmarked-clause-errors c =
+    if_err_from c.replay_rewrite_writes.result c.replay_rewrite_writes.ensures.err (λ e stops. stops_unread (record_read Rewrite c.args.file c.args.items.items) _ _ _ _ e stops)
+
+pub returns-in-Part-clause-errors : goal.returns-in-Part-clause-errors
+returns-in-Part-clause-errors c =
+    if_err_from c.replay_part.result c.replay_part.ensures.errors (λ e is. memory_unread (record_read Rewrite c.args.file c.args.items.items) e is)
+
+pub returns-in-Broken-clause-errors : goal.returns-in-Broken-clause-errors
+returns-in-Broken-clause-errors c =
+    let items = c.args.items.items in
+    let marking = ap marking_of_items (sym c.as_slice.ensures.value) ∙ sym c.parse_all.ensures ∙ c.in-Broken.is in
+    let told = ap (λ m. option_map (in_file c.args.file) (taken_as m (said_in false c.args.file items))) marking in
+    broken_unread (record_read Rewrite c.args.file items) c.broken.result told c.broken.ensures

@@ -1,0 +1,43 @@
+//! Contexts as machines that take batches, and the factory that makes them.
+ghost use Rattle.std.specs.Prelude.{◌≡◌, IfErr, IfOk, List, OnOk, []};
+ghost use Rattle.raft_log_base.specs.declared.errors.Error.TheVariants.{Memory};
+ghost use Rattle.raft_log_base.specs.declared.pipe_log.LogQueue.{LogQueue};
+ghost use Rattle.raft_log_contexts.specs.Batches.{Declines, HasReadBatches};
+
+use crate::context::MemTableRecoverContext;
+use raft_log_base::{FileId, LogQueue, Result};
+use raft_log_items::LogItem;
+use raft_log_segments::{Factory, ReplayMachine};
+use std::alloc::Global;
+
+impl ReplayMachine for MemTableRecoverContext {
+    ghost reads = { λ queue batches context. HasReadBatches queue batches context };
+
+    ghost declines = { λ queue batches error. Declines queue batches error };
+
+    fn replay(&mut self, items: Vec<LogItem>, file: FileId) -> Result<()> {
+        MemTableRecoverContext::replay(self, items, file)
+    }
+
+    fn merge(&mut self, later: MemTableRecoverContext, queue: LogQueue) -> Result<()> {
+        MemTableRecoverContext::merge(self, later, queue)
+    }
+}
+
+/// What makes contexts that have read nothing.
+pub struct MemTableRecoverContextFactory {
+    alloc: Global,
+}
+
+impl MemTableRecoverContextFactory {
+    /// The factory; its contexts take their memory here.
+    pub fn new(alloc: Global) -> MemTableRecoverContextFactory {
+        MemTableRecoverContextFactory { alloc }
+    }
+}
+
+impl Factory<MemTableRecoverContext> for MemTableRecoverContextFactory {
+    fn new_target(&self) -> Result<MemTableRecoverContext> {
+        Ok(MemTableRecoverContext::new(self.alloc))
+    }
+}

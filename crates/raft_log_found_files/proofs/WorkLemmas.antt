@@ -1,0 +1,37 @@
+-- A reader at work behind a file's header.
+use Rattle.std.proofs.Common.{◌≡◌, ℕ, ◌+◌, ◌<◌, ◌≤◌, inl, inr, Option, Some, None, List, [], ◌∷◌, ◌++◌, map, refl, sym, ap, subst, ◌∙◌, arith}
+use Rattle.std.specs.Global.{Vec}
+use Rattle.raft_log_base.specs.Fault.{Fault}
+use Rattle.raft_log_items.specs.declared.item.LogItem.{LogItem}
+use Rattle.raft_log_disk.specs.Disk.{Disk}
+use Rattle.raft_log_reader.specs.Source.{bytes_of}
+use Rattle.raft_log_reader.specs.Laws.{EndsBehind}
+use Rattle.raft_log_reader.specs.Reader.{IsReading, file_of, end_of}
+use Rattle.raft_log_reader.specs.declared.open_file.OpenFile.{OpenFile}
+use Rattle.raft_log_reader.specs.declared.reader.LogItemBatchFileReader.{LogItemBatchFileReader}
+use Rattle.raft_log_found_files.specs.Records.{HasRecord, HasRecords, StopsGood}
+use Rattle.raft_log_found_files.specs.Behind.{items_of, left_of, size_in}
+
+-- a record behind others makes one more
+pub records_go_on : (file : OpenFile) (content : List ℕ) (offset m n : ℕ) (xs : List (List LogItem)) (items : List LogItem) → HasRecords file content offset xs m → HasRecord file content m items n
+    → HasRecords file content offset (xs ++ items ∷ []) n
+records_go_on file content offset m n [] items a b = (n, subst (λ (k : ℕ). HasRecord file content k items n) a b, refl)
+records_go_on file content offset m n (xs ∷ more) items a b = (a.0, a.1, records_go_on file content a.0 m n more items a.2 b)
+
+-- the items of one more batch
+pub one_more : (batches : List (Vec LogItem)) (items : Vec LogItem) → items_of (batches ++ items ∷ []) ≡ items_of batches ++ items.items ∷ []
+one_more [] items = refl
+one_more (b ∷ bs) items = ap (λ (l : List (List LogItem)). b.items ∷ l) (one_more bs items)
+
+-- a reader that went on in its file has less behind it
+pub less_left : (d : Disk) (old new : LogItemBatchFileReader) (file : OpenFile) → file_of old ≡ Some file → file_of new ≡ file_of old → IsReading d new → end_of old < end_of new → left_of new < left_of old
+less_left d old new file opened same reading further =
+    let within = (reading file (same ∙ opened)).within in
+    let size : size_in (file_of old) ≡ file.source.size = ap size_in opened in
+    let kept : size_in (file_of new) ≡ file.source.size = ap size_in (same ∙ opened) in
+    omega (arith, within, size, kept, further)
+
+-- where the batches stop no batch comes
+pub stops_there : (file : OpenFile) (content : List ℕ) (end : ℕ) (fault : Option Fault) → StopsGood file content end fault → EndsBehind file content end
+stops_there file content end None none = inl none
+stops_there file content end (Some f) broken = inr (f, broken)

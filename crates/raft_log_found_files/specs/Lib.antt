@@ -1,0 +1,5 @@
+pub mod Faults
+pub mod Records
+pub mod Steps
+pub mod Behind
+pub mod Reading

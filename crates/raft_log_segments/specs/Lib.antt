@@ -1,0 +1,3 @@
+pub mod Machines
+pub mod Sources
+pub mod Segments

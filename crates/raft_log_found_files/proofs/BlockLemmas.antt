@@ -1,6 +1,7 @@
 -- A batch whose entry block is checked: its record is whole, or torn.
 use Rattle.std.proofs.Common.{◌≡◌, ℕ, ◌+◌, ◌<◌, ◌≤◌, List, length, take, drop, Option, Result, Ok, Err, refl, sym, ap, ◌∙◌, arith}
 use Rattle.std.proofs.lemmas.List.{length-drop, length-take-le, drop-drop}
+use Rattle.std.proofs.lemmas.Bool.{false≢true}
 use Rattle.std.specs.Prelude.{IsOk}
 use Rattle.raft_log_base.specs.Fault.{Fault}
 use Rattle.raft_log_base.specs.Files.{signature_of}
@@ -27,7 +28,7 @@ record_found : (signature : Option ℕ) (input : List ℕ) (front : Front) (r : 
     → ((entries : List ℕ) → r ≡ Ok entries → IsOk (record_at signature input)) × ((f : Fault) → r ≡ Err f → record_at signature input ≡ Err f)
 unfolding record_at
 record_found signature input front r frame block = (
-  λ entries is. rw (frame, block, is) tt,
+  λ entries is. rw (frame, block, is) refl,
   λ f is. rw (frame, block, is) refl,
 )
 
@@ -48,7 +49,7 @@ whole_block file content offset block h ok = by_block (block_of (take block.len 
       record_there = (record_found (signature_of (context_of file)) (drop h.at content) h.lies.front (Ok entries) h.lies.frame
           (ap block_of (sym (noted file content offset block h)) ∙ is)).0 entries refl;
     }
-    by_block (Err f) is there = absurd there
+    by_block (Err f) is there = absurd (false≢true there)
 
 pub torn_block : (file : OpenFile) (content : List ℕ) (offset : ℕ) (block : FileBlockHandle) (f : Fault) → HasBlock file content offset block → block_of (take block.len (drop block.offset content)) ≡ Err f → IsTorn file content offset f
 torn_block file content offset block f h is = record {

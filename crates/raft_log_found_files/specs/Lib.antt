@@ -3,3 +3,4 @@ pub mod Records
 pub mod Steps
 pub mod Behind
 pub mod Reading
+pub mod Tolerance

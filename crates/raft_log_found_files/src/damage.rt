@@ -1,7 +1,7 @@
 //! Damage is told apart from what says nothing of the bytes: a refused read, or want of memory.
 
 ghost use Rattle.std.specs.Prelude.{◌≡◌, ◌↔◌, IsTrue, IfOk, IfErr};
-ghost use Rattle.raft_log_found_files.specs.Faults.{IsDamage, IsOther};
+ghost use Rattle.raft_log_found_files.specs.Faults.{IsDamage};
 
 use raft_log_base::{Error, Result};
 

@@ -7,6 +7,8 @@ mod damage;
 pub mod file_records;
 pub mod reading;
 mod steps;
+pub mod tolerance;
 
 pub use file_records::FileRecords;
 pub use reading::read_file;
+pub use tolerance::{read_found, tolerates};

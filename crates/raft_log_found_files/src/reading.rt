@@ -1,17 +1,17 @@
 //! Reading a log file that was found.
 
-ghost use Rattle.std.specs.Prelude.{◌≡◌, Some, IfOk, IfErr};
+ghost use Rattle.std.specs.Prelude.{◌≡◌, [], Some, None, IfOk, IfErr};
 ghost use Rattle.raft_log_reader.specs.Reader.{IsReading, file_of, end_of};
 ghost use Rattle.raft_log_reader.specs.Source.{CannotRead};
 ghost use Rattle.raft_log_reader.specs.declared.open_file.OpenFile.{OpenFile};
 ghost use Rattle.raft_log_found_files.specs.Behind.{IsOpen, Stands};
 ghost use Rattle.raft_log_found_files.specs.Records.{ReadsBehind};
-ghost use Rattle.raft_log_found_files.specs.Reading.{FailsToRead, ReadsFile};
+ghost use Rattle.raft_log_found_files.specs.Reading.{FailsToRead, ReadsFile, first_format};
 
 use crate::behind::{Behind, read_earlier, read_last};
 use crate::damage::damage;
 use crate::file_records::FileRecords;
-use raft_log_base::{FileId, Result};
+use raft_log_base::{Error, FileId, Result};
 use raft_log_disk::{FileSystem, Handle};
 use raft_log_format::LogFileFormat;
 use raft_log_reader::LogItemBatchFileReader;
@@ -43,12 +43,25 @@ pub fn read_file<F: FileSystem>(
                 fault: behind.fault,
             })
         }
-        Err(error) => Ok(FileRecords {
-            format: LogFileFormat::default(),
-            batches: Vec::new(alloc),
-            end: None,
-            fault: Some(damage(error)?),
-        }),
+        Err(error) => {
+            let fault = damage(error)?;
+            Ok(without_header(alloc, fault))
+        }
+    }
+}
+
+/// What a file without a header reads as.
+fn without_header(alloc: Global, fault: Error) -> FileRecords
+    ensures format { result.format ≡ first_format }
+    ensures batches { result.batches.items ≡ [] }
+    ensures end { result.end ≡ None }
+    ensures fault { result.fault ≡ Some fault }
+{
+    FileRecords {
+        format: LogFileFormat::default(),
+        batches: Vec::new(alloc),
+        end: None,
+        fault: Some(fault),
     }
 }
 

@@ -1,6 +1,6 @@
 //! Reading one more record of a log file.
 
-ghost use Rattle.std.specs.Prelude.{◌≡◌, IfOk, IfErr};
+ghost use Rattle.std.specs.Prelude.{◌≡◌, ℕ, Some, IfOk, IfErr};
 ghost use Rattle.raft_log_reader.specs.Reader.{IsReading, IsInside, file_of, end_of, last_block};
 ghost use Rattle.raft_log_reader.specs.Source.{bytes_of, CannotRead};
 ghost use Rattle.raft_log_reader.specs.Batches.{HasBlock};
@@ -84,7 +84,8 @@ pub(crate) fn next_record<F: FileSystem>(
 {
     let items = match next_batch(alloc, file_system, reader)? {
         Next::Batch(items) => items,
-        other => return Ok(other),
+        Next::End => return Ok(Next::End),
+        Next::Fault(error) => return Ok(Next::Fault(error)),
     };
     let block = reader.last_block();
     match check_block(alloc, file_system, reader, block)? {

@@ -1,11 +1,15 @@
 //! The files of a queue that were found, as segments.
 
+ghost use Rattle.std.specs.Prelude.{◌≡◌, ◌<◌, length, slice_index_or};
+ghost use Rattle.raft_log_files.specs.declared.format.File.{File};
+ghost use Rattle.raft_log_found_queue.specs.Segments.{is_at_end};
+
 use crate::file_ending::FileEnding;
-use crate::replaying::replay_all;
 use raft_log_base::{FileId, LogQueue, Result};
 use raft_log_disk::FileSystem;
 use raft_log_files::File;
 use raft_log_found_files::read_found;
+use raft_log_items::LogItem;
 use raft_log_reader::LogItemBatchFileReader;
 use raft_log_segments::{ReplayMachine, ReplaySource};
 use raft_log_settings::RecoveryMode;
@@ -60,7 +64,43 @@ impl<'a, F: FileSystem + Sync> ReplaySource for FoundQueue<'a, F> {
         index: usize,
         machine: &mut M,
     ) -> Result<FileEnding> {
-        let file = self.files[index];
+        let FoundSegment {
+            id,
+            batches,
+            ending,
+        } = self.read_segment(index)?;
+        for items in batches {
+            machine.replay(items, id)?;
+        }
+        Ok(ending)
+    }
+}
+
+/// What was read of a file.
+#[derive(Drop)]
+struct FoundSegment {
+    /// Which file it is.
+    id: FileId,
+    /// The items of its records.
+    batches: Vec<Vec<LogItem>>,
+    /// What a recovery does with it.
+    ending: FileEnding,
+}
+
+impl<'a, F: FileSystem> FoundQueue<'a, F> {
+    ghost use Rattle.std.specs.Prelude.{◌≡◌, ◌<◌, length, IfOk, IfErr};
+    ghost use Rattle.raft_log_found_queue.specs.Segments.{IsSegment, RefusesFile};
+
+    /// Reads the file in this place.
+    fn read_segment(&self, index: usize) -> Result<FoundSegment>
+        requires { index < length self.now.files.now }
+        ensures ok { IfOk result (IsSegment self.now.mode self.now.queue self.now.files.now
+            (F.disk self.now.file_system.now) index) }
+        ensures queue { IfOk result (λ segment. segment.id.queue ≡ self.now.queue) }
+        ensures err { IfErr result (RefusesFile self.now.mode self.now.queue self.now.files.now
+            (F.disk self.now.file_system.now) index) }
+    {
+        let file = file_at(self.files, index);
         let is_last = is_at_end(self.files, index);
         let id = FileId {
             queue: self.queue,
@@ -81,9 +121,20 @@ impl<'a, F: FileSystem + Sync> ReplaySource for FoundQueue<'a, F> {
             end: read.end,
             is_damaged: read.fault.is_some(),
         };
-        replay_all(machine, id, read.batches)?;
-        Ok(ending)
+        Ok(FoundSegment {
+            id,
+            batches: read.batches,
+            ending,
+        })
     }
+}
+
+/// The file in this place.
+fn file_at(files: &[File], index: usize) -> File
+    requires { index < length files.now }
+    ensures { (other : File) → result ≡ slice_index_or files.now index other }
+{
+    files[index]
 }
 
 /// Whether the file in this place is the last one.

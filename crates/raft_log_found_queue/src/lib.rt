@@ -4,7 +4,6 @@
 
 pub mod file_ending;
 pub mod found_queue;
-mod replaying;
 
 pub use file_ending::FileEnding;
 pub use found_queue::FoundQueue;

@@ -149,7 +149,7 @@ fn a_refused_read_is_never_damage(rt: HostRuntime) -> Result<(), Fail> {
     bytes.extend_from_slice(&[1u8; 20])?;
     for place in 0..bytes.len() {
         let (mut files, handle) = saved(rt.alloc(), bytes.as_slice())?;
-        files.deny_read("d/f", place)?;
+        files.arm(&Fault::DenyRead(String::from_str(rt.alloc(), "d/f")?, place))?;
         for is_last in [false, true].iter() {
             let mut reader = LogItemBatchFileReader::new(rt.alloc(), 512);
             let found = read_found(

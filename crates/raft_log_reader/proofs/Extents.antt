@@ -1,6 +1,6 @@
 -- Reading a record in two steps: first where its footer begins and how long it is, then its footer.
 use Rattle.std.specs.Prelude.{slice_range}
-use Rattle.std.proofs.Common.{◌≡◌, ℕ, ◌+◌, ◌-◌, ◌<◌, ◌≤◌, ltb, cond, inl, inr, List, length, take, drop, Result, Ok, Err, refl, ap, ◌∙◌, arith}
+use Rattle.std.proofs.Common.{◌≡◌, ℕ, ◌+◌, ◌-◌, ◌<◌, ◌≤◌, ltb, cond, inl, inr, List, length, take, drop, Option, Result, Ok, Err, refl, sym, ap, ◌∙◌, arith}
 use Rattle.std.proofs.lemmas.Bool.{le-ltb, lt-ltb, ltb-false}
 use Rattle.std.proofs.lemmas.List.{length-take, length-drop, drop-drop}
 use Rattle.raft_log_base.specs.Grammar.{◌>>=◌}
@@ -168,3 +168,14 @@ pub context_is : (context : LogFileContext) (file : OpenFile) → context.id ≡
 context_is context file id version =
     let first : context ≡ context_with file.id context.version = ap (λ (i : FileId). context_with i context.version) id in
     first ∙ ap (λ (v : Version). context_with file.id v) version
+
+-- the block of a frame whose extent is known
+pub frame_extent : (signature : Option ℕ) (bytes : List ℕ) (footer len : ℕ) (front : Front) → HasExtent bytes footer len → frame_at signature bytes ≡ Ok front → length front.bytes ≡ footer - 16
+unfolding frame_at frame_of
+frame_extent signature bytes footer len front h e =
+    let block = slice_range bytes 16 footer in
+    let size : length block ≡ footer - 16 = omega (arith, length-take (footer - 16) (drop 16 bytes), length-drop 16 bytes, h.to, h.inside) in
+    let read : (footer_of signature (footer - 16) (slice_range bytes footer len) >>= front_of len block) ≡ Ok front = rw (h.header, le-ltb (length bytes) len h.inside) at e in
+    let found = bind_ok (footer_of signature (footer - 16) (slice_range bytes footer len)) (front_of len block) front read in
+    let is = ok_is {E = Fault} (record { len = len; items = found.0; bytes = block }) front found.2 in
+    sym (ap (λ (f : Front). length f.bytes) is) ∙ size

@@ -94,7 +94,7 @@ batches_are_frames_is file content offset end (items ∷ more) none has ends =
     )
 
 -- the block of a frame stands behind its header
-block_stands : (signature : Option ℕ) (input : List ℕ) (front : Front) → frame_at signature input ≡ Ok front → take (length front.bytes) (drop 16 input) ≡ front.bytes
+pub block_stands : (signature : Option ℕ) (input : List ℕ) (front : Front) → frame_at signature input ≡ Ok front → take (length front.bytes) (drop 16 input) ≡ front.bytes
 block_stands signature input front e =
     let stands = (frame_is_read signature input front).0 e in
     let back = frame_back signature (take front.len input) front.bytes (drop front.len input) front.items stands.1 in

@@ -13,7 +13,7 @@ use Rattle.raft_log_reader.specs.declared.open_file.OpenFile.{OpenFile}
 use Rattle.raft_log_reader.proofs.Extents.{extent_short, batch_broken}
 
 -- reading goes on at one place
-one_place : (alignment : ℕ) (content : List ℕ) (offset m n : ℕ) → GoesOnAt alignment content offset m → GoesOnAt alignment content offset n → m ≡ n
+pub one_place : (alignment : ℕ) (content : List ℕ) (offset m n : ℕ) → GoesOnAt alignment content offset m → GoesOnAt alignment content offset n → m ≡ n
 one_place alignment content offset m n (behind_padding p is) (behind_padding q also) = is ∙ sym also
 one_place alignment content offset m n (behind_padding p is) (at_once none also) = absurd (none p)
 one_place alignment content offset m n (at_once none is) (behind_padding q also) = absurd (none q)

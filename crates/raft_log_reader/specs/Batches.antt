@@ -9,7 +9,7 @@ use Rattle.raft_log_base.specs.declared.pipe_log.FileBlockHandle.{FileBlockHandl
 use Rattle.raft_log_base.specs.declared.pipe_log.LogFileContext.{LogFileContext}
 use Rattle.raft_log_items.specs.declared.item.LogItem.{LogItem}
 use Rattle.raft_log_items.specs.Placed.{placed}
-use Rattle.raft_log_frames.specs.Record.{header_at, frame_at, past_input}
+use Rattle.raft_log_frames.specs.Record.{Front, header_at, frame_at, past_input}
 use Rattle.raft_log_format.specs.Padding.{IsZeroPadded}
 use Rattle.raft_log_reader.specs.declared.open_file.OpenFile.{OpenFile}
 
@@ -46,6 +46,20 @@ block_at context at len = record { id = context.id; offset = at + 16; len = len 
 unfoldable pub batch_at : LogFileContext → ℕ → List ℕ → Result (ℕ × List LogItem) Fault
 batch_at context at content = frame_at (signature_of context) (drop at content)
     >>= λ front. Ok (front.len, placed (block_at context at (length front.bytes)) front.items)
+
+-- the entry block of the frame at an offset lies at this place
+pub record IsBlockAt (context : LogFileContext) (at : ℕ) (content : List ℕ) (block : FileBlockHandle)
+    : Type 0 where
+  pub front : Front
+  pub frame : frame_at (signature_of context) (drop at content) ≡ Ok front
+  pub place : block ≡ block_at context at (length front.bytes)
+
+-- behind an offset the next batch has its entry block at this place
+pub record HasBlock (file : OpenFile) (content : List ℕ) (offset : ℕ) (block : FileBlockHandle)
+    : Type 0 where
+  pub at : ℕ
+  pub goes_on : GoesOnAt file.format.alignment content offset at
+  pub lies : IsBlockAt (context_of file) at content block
 
 -- behind an offset the next batch has these items, and ends at the other offset
 pub record HasBatch (file : OpenFile) (content : List ℕ) (offset : ℕ) (items : List LogItem)

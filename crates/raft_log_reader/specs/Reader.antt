@@ -23,6 +23,10 @@ file_of reader = reader.file
 abbrev pub end_of : LogItemBatchFileReader → ℕ
 end_of reader = reader.valid_offset
 
+-- where the entry block of the batch lies that came last
+abbrev pub last_block : LogItemBatchFileReader → FileBlockHandle
+last_block reader = reader.last_block
+
 -- the reader reads this file, whose bytes stand on the disk as when it was opened
 pub record IsReadingFile (d : Disk) (reader : LogItemBatchFileReader) (file : OpenFile) : Type 0 where
   pub holds : HoldsPart file.source d reader.window

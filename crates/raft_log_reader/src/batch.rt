@@ -3,7 +3,7 @@ ghost use Rattle.std.specs.Prelude.{◌≡◌, ◌+◌, ◌-◌, ◌≤◌, ◌<
 ghost use Rattle.raft_log_frames.specs.Record.{header_at};
 ghost use Rattle.raft_log_reader.specs.Source.{bytes_of, CannotRead};
 ghost use Rattle.raft_log_reader.specs.Holding.{HoldsPart};
-ghost use Rattle.raft_log_reader.specs.Batches.{GoesOnAt, padding_len, extent_at, batch_at, context_of};
+ghost use Rattle.raft_log_reader.specs.Batches.{GoesOnAt, IsBlockAt, padding_len, extent_at, batch_at, context_of};
 ghost use Rattle.raft_log_reader.specs.Refused.{FailsAt};
 
 use crate::open_file::OpenFile;
@@ -105,8 +105,8 @@ fn read_extent<F: FileSystem>(
     Ok((footer, len))
 }
 
-/// The batch of the record at an offset, with its places, and how many bytes the record has. Its entry block
-/// is not looked at.
+/// The batch of the record at an offset, with its places, how many bytes the record has, and where its entry
+/// block lies, which is not looked at.
 ///
 /// Refuses as a corruption, in this order, a header, an end and a footer that are broken, and otherwise the
 /// first fault of the items.
@@ -116,13 +116,16 @@ pub(crate) fn read_batch<F: FileSystem>(
     file: &OpenFile,
     window: &mut Window,
     at: usize,
-) -> Result<(usize, LogItemBatch)>
+) -> Result<(usize, FileBlockHandle, LogItemBatch)>
     requires part { HoldsPart file.now.source (F.disk file_system.now) window.old }
     requires inside { at ≤ file.now.source.size }
     ensures part { HoldsPart file.now.source (F.disk file_system.now) window.new }
     ensures ok { IfOk result
         (λ found. batch_at (context_of file.now) at (bytes_of file.now.source (F.disk file_system.now))
-        ≡ Ok (found.0, found.1.items)) }
+        ≡ Ok (found.0, found.2.items)) }
+    ensures block { IfOk result (λ found.
+        IsBlockAt (context_of file.now) at (bytes_of file.now.source (F.disk file_system.now)) found.1) }
+    ensures block_inside { IfOk result (λ found. found.1.offset + found.1.len ≤ file.now.source.size) }
     ensures inside { IfOk result (λ found. at + found.0 ≤ file.now.source.size) }
     ensures fits { IfOk result (λ found. at + found.0 < 2 ^ 64) }
     ensures some { IfOk result (λ found. 0 < found.0) }
@@ -146,5 +149,5 @@ pub(crate) fn read_batch<F: FileSystem>(
     };
     let bytes = window.held(at + footer, len - footer);
     let batch = LogItemBatch::decode(alloc, bytes, block, CompressionType::None, &context)?;
-    Ok((len, batch))
+    Ok((len, block, batch))
 }

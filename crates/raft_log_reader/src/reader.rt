@@ -7,7 +7,7 @@ use crate::header::read_format;
 use crate::open_file::OpenFile;
 use crate::source::Source;
 use crate::window::Window;
-use raft_log_base::{FileBlockHandle, FileId, Result};
+use raft_log_base::{FileBlockHandle, FileId, LogQueue, Result};
 use raft_log_disk::{FileSystem, Handle};
 use raft_log_format::LogFileFormat;
 use raft_log_frames::decode_entries_block;
@@ -24,11 +24,23 @@ pub struct LogItemBatchFileReader {
     window: Window,
     file: Option<OpenFile>,
     valid_offset: usize,
+    last_block: FileBlockHandle,
+}
+
+/// The place of a block without bytes.
+fn no_block() -> FileBlockHandle {
+    FileBlockHandle {
+        id: FileId::new(LogQueue::Append, 0),
+        offset: 0,
+        len: 0,
+    }
 }
 
 impl LogItemBatchFileReader {
     ghost use Rattle.raft_log_disk.specs.Disk.{Disk};
-    ghost use Rattle.raft_log_reader.specs.Reader.{IsReading, IsClosed, Opens, Answers, IsInside, file_of, end_of};
+    ghost use Rattle.raft_log_reader.specs.Reader.{IsReading, IsClosed, Opens, Answers, IsInside, file_of, end_of, last_block};
+    ghost use Rattle.raft_log_reader.specs.Source.{bytes_of};
+    ghost use Rattle.raft_log_reader.specs.Batches.{HasBlock};
     ghost use Rattle.raft_log_reader.specs.Opening.{FailsToOpen};
     ghost use Rattle.raft_log_reader.specs.Refused.{FailsBehind, FailsToCheck, bytes_at};
 
@@ -41,6 +53,7 @@ impl LogItemBatchFileReader {
             window: Window::new(alloc, read_block_size),
             file: None,
             valid_offset: 0,
+            last_block: no_block(),
         }
     }
 
@@ -101,6 +114,10 @@ impl LogItemBatchFileReader {
         ensures stays { OnErr result (end_of self.new ≡ end_of self.old) }
         ensures further { IfOk result (λ found. OnSome found (end_of self.old < end_of self.new)) }
         ensures closed { file_of self.old ≡ None → result ≡ Ok None }
+        ensures block { (file : OpenFile) → file_of self.old ≡ Some file
+            → IfOk result (λ found. OnSome found (HasBlock file (bytes_of file.source (F.disk file_system.now))
+            (end_of self.old) (last_block self.new))) }
+        ensures inside { IfOk result (λ found. OnSome found (IsInside (last_block self.new) self.new)) }
     {
         let Some(file) = self.file else {
             return Ok(None);
@@ -115,8 +132,9 @@ impl LogItemBatchFileReader {
         if at == file.source.size {
             return Ok(None);
         }
-        let (len, batch) = read_batch(alloc, file_system, &file, &mut self.window, at)?;
+        let (len, block, batch) = read_batch(alloc, file_system, &file, &mut self.window, at)?;
         self.valid_offset = at + len;
+        self.last_block = block;
         Ok(Some(batch))
     }
 
@@ -148,6 +166,14 @@ impl LogItemBatchFileReader {
         let bytes = self.window.held(offset, block.len);
         let _entries = decode_entries_block(alloc, bytes, CompressionType::None)?;
         Ok(())
+    }
+
+    /// Where the entry block of the batch lies that came last, of whatever file; it has no bytes where none
+    /// came.
+    pub fn last_block(&self) -> FileBlockHandle
+        ensures { result ≡ last_block self.now }
+    {
+        self.last_block
     }
 
     /// Where the last good record that was read ends, or the header, where none was read; 0 where no file is

@@ -7,7 +7,8 @@ use Rattle.raft_log_items.specs.declared.item.LogItem.{LogItem}
 use Rattle.raft_log_frames.specs.Record.{placed_footer_of}
 use Rattle.raft_log_reader.specs.Source.{bytes_of}
 use Rattle.raft_log_reader.specs.Batches.{extent_at, batch_at, block_at, context_of}
-use Rattle.raft_log_reader.proofs.Extents.{has_extent, placed_at, context_is, batch_good, batch_fault, batch_broken, fails_as, fault_fails, cannot_fails}
+use Rattle.raft_log_reader.proofs.Extents.{has_extent, placed_at, context_is, batch_good, batch_fault, batch_broken, fails_as, fault_fails, cannot_fails, frame_extent}
+use Rattle.raft_log_reader.proofs.FrameReadings.{frame_of_batch}
 use Rattle.raft_log_reader.proofs.batch.read_batch.Goals as goal
 
 pub returns-in_err-footer-clause-err : goal.returns-in_err-footer-clause-err
@@ -65,3 +66,15 @@ returns-clause-ok g c =
     ∙ ap (placed_footer_of (signature_of c.new-context.result) block) (sym held) in
     let good = named ∙ c.in_ok-batch.ensures.exact in
     batch_good (context_of file) c.args.at content footer len c.in_ok-batch.batch.items extent good
+
+pub returns-clause-block : goal.returns-clause-block
+returns-clause-block g c =
+    let d = g.F.FileSystem.disk c.args.file_system.now in
+    let file = c.args.file.now in
+    let content = bytes_of file.source d in
+    let footer = c.in_ok-footer.footer in
+    let len = c.in_ok-footer.len in
+    let extent = has_extent (drop c.args.at content) footer len c.in_ok-footer.ensures.ok in
+    let frame = frame_of_batch (context_of file) c.args.at len content c.in_ok-batch.batch.items (returns-clause-ok g c) in
+    let size = frame_extent (signature_of (context_of file)) (drop c.args.at content) footer len frame.0 extent frame.1 in
+    record { front = frame.0; frame = frame.1; place = ap (block_at (context_of file) c.args.at) (sym size) }

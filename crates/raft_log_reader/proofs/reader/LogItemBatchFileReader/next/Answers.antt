@@ -1,7 +1,7 @@
 use Rattle.std.proofs.Common.{◌≡◌, ◌+◌, ◌<◌, ◌≤◌, length, refl, subst, arith}
 use Rattle.std.proofs.lemmas.Result.{err_from_is_err_and}
 use Rattle.raft_log_reader.specs.Source.{bytes_of}
-use Rattle.raft_log_reader.specs.Batches.{HasBatch}
+use Rattle.raft_log_reader.specs.Batches.{HasBatch, HasBlock}
 use Rattle.raft_log_reader.specs.Refused.{FailsBehind}
 use Rattle.raft_log_reader.specs.declared.open_file.OpenFile.{OpenFile}
 use Rattle.raft_log_reader.proofs.Opened.{goes_on_within, fails_behind}
@@ -44,3 +44,12 @@ returns-clause-further g c =
     let start : c.args.self.now.valid_offset ≤ length content = omega (arith, reading.within, reading.holds.size) in
     let within = goes_on_within open_file.format.alignment content c.args.self.now.valid_offset c.in_ok-at.at start c.in_ok-at.ensures.ok in
     omega (arith, within.0, c.in_ok-len.ensures.some)
+
+pub returns-clause-block : goal.returns-clause-block
+returns-clause-block g c = λ file is.
+    let d = g.F.FileSystem.disk c.args.file_system.now in
+    let open_file = c.in-Some.file in
+    let same : open_file ≡ file = cc in
+    let offset = c.args.self.now.valid_offset in
+    subst (λ (f : OpenFile). HasBlock f (bytes_of f.source d) offset c.in_ok-len.block) same
+    (record { at = c.in_ok-at.at; goes_on = c.in_ok-at.ensures.ok; lies = c.in_ok-len.ensures.block })

@@ -13,7 +13,7 @@ returns-in-Ok-clause-reading g c = λ x is.
     let d = g.F.FileSystem.disk c.args.file_system.now in
     let source : Source = record { handle = c.args.handle; size = c.in_ok-size.size } in
     let file : OpenFile = record { id = c.args.id; source = source; format = c.in-Ok.format } in
-    let new : LogItemBatchFileReader = record { window = c.begin.new.self; file = Some file; valid_offset = c.in-Ok.end } in
+    let new : LogItemBatchFileReader = record { window = c.begin.new.self; file = Some file; valid_offset = c.in-Ok.end; last_block = c.reset.new.self.last_block } in
     let size = size_told c.args.handle.file d c.in_ok-size.size c.in_ok-size.ensures.ok in
     let same : file ≡ x = cc in
     subst (λ (f : OpenFile). IsReadingFile d new f) same (record {

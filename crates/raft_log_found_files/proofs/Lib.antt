@@ -1,0 +1,4 @@
+pub mod FaultLemmas
+pub mod BlockLemmas
+pub mod WorkLemmas
+pub mod ResultLemmas

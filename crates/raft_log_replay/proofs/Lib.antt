@@ -6,3 +6,4 @@ pub mod Clearing
 pub mod Segments
 pub mod Groups
 pub mod Rewritten
+pub mod Moved

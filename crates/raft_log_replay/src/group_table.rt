@@ -1,5 +1,5 @@
 //! The table of one group, and whether the group counts.
-ghost use Rattle.std.specs.Prelude.{◌≡◌, ◌&&◌, ◌||◌, false, not, ℕ, OnOk, OnErr, IfErr};
+ghost use Rattle.std.specs.Prelude.{◌≡◌, ◌≤◌, ◌&&◌, ◌||◌, false, not, ℕ, OnOk, OnErr, IfErr};
 ghost use Rattle.raft_log_items.specs.Run.{IsRun};
 ghost use Rattle.raft_log_items.specs.Writing.{value_of};
 ghost use Rattle.raft_log_places.specs.Bridge.{unmarked};
@@ -9,7 +9,16 @@ ghost use Rattle.raft_log_atomic_groups.specs.Meaning.{key_meaning, meaning};
 ghost use Rattle.raft_log_held.specs.Entries.{place_of, run_of};
 ghost use Rattle.raft_log_tables.specs.Files.{with_group};
 ghost use Rattle.raft_log_tables.specs.Replays.{in_append, MergeRefused};
-ghost use Rattle.raft_log_tables.specs.Room.{kept, no_promise, promised, taken_back, CanTake};
+ghost use Rattle.raft_log_tables.specs.Room.{
+  count_of,
+  kept,
+  no_promise,
+  promised,
+  taken_back,
+  with_moves,
+  without_moves,
+  CanTake,
+};
 ghost use Rattle.raft_log_tables.specs.Table.{promise, replay_of, shown, RunRefused};
 ghost use Rattle.raft_log_replay.specs.Batch.{counts_after};
 ghost use Rattle.raft_log_replay.specs.Replaying.{MayBeRead, ReadRefused};
@@ -71,6 +80,20 @@ impl GroupTable {
                 self.table.prepare_key(key_value.key.as_slice())?;
                 Ok(())
             }
+        }
+    }
+
+    /// Makes room for the entries of an item to move to Rewrite. Refused or not, nothing shows.
+    pub(crate) fn prepare_rewrite(&mut self, content: &LogItemContent) -> Result<(), AllocError>
+        ensures shows { shown self.new.table ≡ shown self.old.table }
+        ensures counts { self.new.counts ≡ self.old.counts }
+        ensures ok { OnOk result (promise self.new.table
+            ≡ with_moves (promise self.old.table) (count_of (meaning (λ e. e) content.now))) }
+        ensures err { OnErr result (promise self.new.table ≡ promise self.old.table) }
+    {
+        match content {
+            LogItemContent::EntryIndexes(entries) => self.table.prepare_rewrite(entries.as_slice()),
+            _ => Ok(()),
         }
     }
 
@@ -265,13 +288,16 @@ impl GroupTable {
         self.table.apply_rewrite_atomic_group(files);
     }
 
-    /// An item that was written to this file of Rewrite: what is still there lies there from now on, as far
-    /// as the gate lets it.
+    /// An item, for which that was prepared, was written to this file of Rewrite: what is still there lies
+    /// there from now on, as far as the gate lets it.
     pub(crate) fn rewrite(&mut self, content: &LogItemContent, gate: Option<FileSeq>, file: FileSeq)
+        requires { count_of (meaning place_of content.now) ≤ (promise self.old.table).moves }
         ensures shows { shown self.new.table
             ≡ rewritten_item gate file (shown self.old.table) (meaning place_of content.now) }
+        ensures ends { span (shown self.new.table) ≡ span (shown self.old.table) }
         ensures counts { self.new.counts ≡ self.old.counts }
-        ensures room { promise self.new.table ≡ promise self.old.table }
+        ensures room { promise self.new.table
+            ≡ without_moves (promise self.old.table) (count_of (meaning place_of content.now)) }
     {
         match content {
             LogItemContent::EntryIndexes(entries) => self.table.rewrite(entries.as_slice(), gate),

@@ -1,7 +1,7 @@
 //! What a batch does to the tables of all groups is what the machine may do: each law is a function without
 //! a body.
 
-ghost use Rattle.std.specs.Prelude.{ℕ, List};
+ghost use Rattle.std.specs.Prelude.{ℕ, ◌++◌, [], List, Option};
 ghost use Rattle.raft_log_model.specs.Item.{Tagged};
 ghost use Rattle.raft_log_model.specs.Groups.{of_group, Map};
 ghost use Rattle.raft_log_model.specs.Meaning.{after};
@@ -15,6 +15,7 @@ ghost use Rattle.raft_log_places.specs.Shown.{whereabouts, IsOrderly, Shown};
 ghost use Rattle.raft_log_places.specs.Bridge.{IsMeant, Located};
 ghost use Rattle.raft_log_replay.specs.declared.mem_tables.MemTables.{MemTables};
 ghost use Rattle.raft_log_replay.specs.Batch.{all_shown, all_written, IsReadyFor, MayFollowAll};
+ghost use Rattle.raft_log_replay.specs.Rewriting.{MayMove, PromisesMoves, RewritesAll};
 ghost use Rattle.raft_log_replay.specs.Tables.{shown_of};
 
 /// A batch in a file of Append, none of whose runs leaves a hole or ends past 2^64 - 1, is taken in each
@@ -39,4 +40,17 @@ pub fn ready_wherever_written()
         → IsReadyFor m (tagged_items (λ e. e) (written handle items)) }
     ensures follows { (m : MemTables) (items : List LogItem) → IsReadyFor m (tagged_items (λ e. e) items)
         → MayFollowAll (shown_of m) (tagged_items (λ e. e) items) }
+{}
+
+/// Tables that are prepared for one rewritten batch after another have room for all of them, wherever they are
+/// written; and when the first of them moved, for the others. For no items there is always room.
+pub fn copies_have_room<E, V>()
+    ensures none { (m : MemTables) → MayMove {E = E} {V = V} m [] }
+    ensures more { (m n : MemTables) (xs ys : List (Tagged E V)) → MayMove m xs → PromisesMoves m n ys
+        → MayMove n (xs ++ ys) }
+    ensures moved { (gate : Option ℕ) (file : ℕ) (m n : MemTables) (xs ys : List (Tagged Place (List ℕ)))
+        → MayMove m (xs ++ ys) → RewritesAll gate file m n xs → MayMove n ys }
+    ensures written { (m : MemTables) (handle : FileBlockHandle) (items : List LogItem)
+        → MayMove m (tagged_items (λ e. e) items)
+        → MayMove m (tagged_items (λ e. e) (written handle items)) }
 {}

@@ -105,6 +105,7 @@ impl MemTables {
         ensures others { (g : ℕ) → mentions g items.now ≡ false
             → promise_of self.new g ≡ promise_of self.old g }
         ensures unwritten { IsReadyFor self.old (tagged_items (λ e. e) items.now) → IsAtRest self.new }
+        ensures rested { IsAtRest self.old → IsAtRest self.new }
     {
         for item in items {
             self.take_back_of(item.raft_group_id);

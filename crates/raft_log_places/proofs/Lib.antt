@@ -5,6 +5,7 @@ pub mod Meant
 pub mod Moving
 pub mod Marking
 pub mod Noting
+pub mod Rising
 pub mod Replays
 pub mod Joining
 pub mod Telling

@@ -7,3 +7,4 @@ pub mod Segments
 pub mod Groups
 pub mod Rewritten
 pub mod Moved
+pub mod Copies

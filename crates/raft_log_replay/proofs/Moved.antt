@@ -97,6 +97,9 @@ module _ {E V : Type 0} where
       let before = may g there in
       omega (arith, entries_append g xs ys, now, before)
 
+  pub promised_may_move : (m n : MemTables) (xs : List (Tagged E V)) → PromisesMoves m n xs → MayMove n xs
+  promised_may_move m n xs all = more_may_move m n [] xs (λ g h. omega arith) all
+
 pub rest_same : (m n : MemTables) → ShowsSame m n → PromisesSame m n → IsAtRest m → IsAtRest n
 rest_same m n same promises rest = λ g. ap (λ q. q.ends) (promises g) ∙ rest g ∙ ap span (sym (same.shown g))
 

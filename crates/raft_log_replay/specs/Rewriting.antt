@@ -1,11 +1,14 @@
 -- What was written to Rewrite again, as the tables of all groups take it.
-use Rattle.std.specs.Prelude.{◌≡◌, ℕ, ◌≤◌, ◌==◌, Bool, true, false, if◌then◌else◌, List, [], ◌∷◌, Option}
+use Rattle.std.specs.Prelude.{◌≡◌, ℕ, ◌+◌, ◌≤◌, ◌==◌, ◌⊎◌, Bool, true, false, if◌then◌else◌, List, [], ◌∷◌, drop, length, map, Option, Some}
 use Rattle.raft_log_model.specs.Item.{Item, Tagged}
 use Rattle.raft_log_model.specs.Item.Item.{Run, Clean, Compact, Put, Del}
 use Rattle.raft_log_places.specs.declared.place.Place.{Place}
-use Rattle.raft_log_places.specs.Shown.{Shown, span}
+use Rattle.raft_log_places.specs.Shown.{KeyValue, Shown, span}
+use Rattle.raft_log_places.specs.Bridge.{Located, Move, in_queue, read}
+use Rattle.raft_log_places.specs.Bridge.Move.{MoveKey, MoveRun}
 use Rattle.raft_log_model.specs.Groups.{of_group}
-use Rattle.raft_log_tables.specs.Moves.{key_rewritten, rewritten_by}
+use Rattle.raft_log_model.specs.Renamed.{renamed}
+use Rattle.raft_log_tables.specs.Moves.{gated, key_rewritten, may_move, rewritten_by}
 use Rattle.raft_log_tables.specs.Room.{Promise, count_of, needs, with_moves, without_moves}
 use Rattle.raft_log_replay.specs.declared.mem_tables.MemTables.{MemTables}
 use Rattle.raft_log_replay.specs.Tables.{counts, has_table, promise_of, shown_of}
@@ -71,3 +74,35 @@ pub record RewritesAll (gate : Option ℕ) (n : ℕ) (old new : MemTables) (xs :
   pub shows : (g : ℕ) → shown_of new g ≡ all_rewritten gate n (shown_of old g) (of_group g xs)
   pub ends : (g : ℕ) → span (shown_of new g) ≡ span (shown_of old g)
   pub promise : (g : ℕ) → promise_of new g ≡ without_moves (promise_of old g) (entries_of g xs)
+
+-- The item is a copy that Rewrite may take and the gate lets move: a run of what was read, that begins at a
+-- rewritten entry or the first appended one and reaches to the last rewritten one, past it where neither Clean
+-- nor Compact is owed; the value that a key has, which if it is appended neither a Clean nor its Del may be
+-- owed for
+abbrev pub IsCopy : {E : Type 0} → (Located → E) → Option ℕ → Shown → Item Place (List ℕ) → Type 0
+IsCopy at gate v (Run f ps) =
+    (v.first ≤ f) × (f ≤ v.first + v.rewritten) × (v.first + v.rewritten ≤ f + length ps)
+    × (f + length ps ≤ v.first + v.rewritten + gated gate (drop v.rewritten v.places))
+    × ((v.first + v.rewritten ≡ f + length ps) ⊎ ((v.cleaned ≡ false) × (v.compacted ≡ false)))
+    × (map (λ p. at (in_queue false p)) ps ≡ read at v f (length ps))
+IsCopy at gate v (Put k w) =
+    (h : KeyValue) × (v.held k ≡ Some h) × (w ≡ h.bytes) × (may_move gate h ≡ true)
+    × (h.appended ≡ true → (v.cleaned ≡ false) × (v.deleted k ≡ false))
+IsCopy at gate v x = ⊥
+
+-- the items are copies, one after another, in file n of Rewrite
+abbrev pub AreCopies : {E : Type 0} → (Located → E) → Option ℕ → ℕ → Shown → List (Item Place (List ℕ))
+    → Type 0
+AreCopies at gate n v [] = Unit {0}
+AreCopies at gate n v (x ∷ xs) = IsCopy at gate v x × AreCopies at gate n (rewritten_item gate n v x) xs
+
+-- the copies in file n of Rewrite that the items are
+abbrev pub moves_of : ℕ → List (Item Place (List ℕ)) → List Move
+moves_of n [] = []
+moves_of n (Run f ps ∷ xs) = MoveRun f ps ∷ moves_of n xs
+moves_of n (Put k w ∷ xs) = MoveKey k n ∷ moves_of n xs
+moves_of n (x ∷ xs) = moves_of n xs
+
+-- what the items say in Rewrite, where these are the bytes at each place
+abbrev pub copied_items : {E : Type 0} → (Located → E) → List (Item Place (List ℕ)) → List (Item E (List ℕ))
+copied_items at xs = map (renamed (λ p. at (in_queue false p))) xs

@@ -32,6 +32,7 @@ impl MemTables {
     pub fn prepare_rewrite(&mut self, items: &[LogItem]) -> Result<(), AllocError>
         ensures shows { ShowsSame self.old self.new }
         ensures ok { OnOk result (PromisesMoves self.old self.new (tagged_items (λ e. e) items.now)) }
+        ensures ready { OnOk result (MayMove self.new (tagged_items (λ e. e) items.now)) }
         ensures err { OnErr result ((g : ℕ) → mentions g items.now ≡ false
             → promise_of self.new g ≡ promise_of self.old g) }
         ensures rest { IsAtRest self.old → IsAtRest self.new }
@@ -64,6 +65,7 @@ impl MemTables {
     fn prepare_copies(&mut self, items: &[LogItem]) -> Result<(), AllocError>
         ensures shows { ShowsSame self.old self.new }
         ensures ok { OnOk result (PromisesMoves self.old self.new (tagged_items (λ e. e) items.now)) }
+        ensures ready { OnOk result (MayMove self.new (tagged_items (λ e. e) items.now)) }
         ensures err { OnErr result ((g : ℕ) → mentions g items.now ≡ false
             → promise_of self.new g ≡ promise_of self.old g) }
         ensures rest { IsAtRest self.old → IsAtRest self.new }

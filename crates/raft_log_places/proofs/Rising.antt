@@ -1,5 +1,5 @@
 -- The files of a group's entries don't fall as the index rises.
-use Rattle.std.proofs.Common.{◌≡◌, ℕ, ◌+◌, ◌-◌, ◌<◌, ◌≤◌, min, List, [], ◌∷◌, ◌++◌, length, take, drop, refl, ap, subst, sym, ◌∙◌, inl, inr, arith, length-take, length-drop}
+use Rattle.std.proofs.Common.{◌≡◌, ℕ, ◌+◌, ◌-◌, ◌<◌, ◌≤◌, ◌⊎◌, List, [], ◌∷◌, ◌++◌, length, take, drop, refl, ap, subst, sym, ◌∙◌, inl, inr, arith, length-take, length-drop}
 use Rattle.std.proofs.lemmas.Bool.{cases_lt}
 use Rattle.raft_log_model.specs.Item.{Item}
 use Rattle.raft_log_model.specs.Item.Item.{Run, Clean, Compact, Put, Del}
@@ -28,7 +28,7 @@ as_before : (a b c d : ℕ) → a ≡ c → b ≡ d → c ≤ d → a ≤ b
 as_before a b c d e h k = omega (arith, e, h, k)
 
 -- a run in file n of Append: below it what lay there, and from it on that file
-module _ (a r n : ℕ) (v : Shown) (f : ℕ) (p : Place) (ps : List Place) (o : IsOrderly v) (rise : FilesRise a r v) (later : a ≤ n) (h : MayFollow (span v) (Run {V = List ℕ} f (p ∷ ps)))
+module _ (a r n : ℕ) (v : Shown) (f : ℕ) (p : Place) (ps : List Place) (o : IsOrderly v) (rise : FilesRise a r v) (later : a ≤ n) (h : MayFollow {E = Place} {V = List ℕ} (span v) (Run f (p ∷ ps)))
     (all : AllIn n (p ∷ ps)) where
   run_file : (i : ℕ) → (with_run v f (p ∷ ps)).first + (with_run v f (p ∷ ps)).rewritten ≤ i → i < (with_run v f (p ∷ ps)).first + length (with_run v f (p ∷ ps)).places
       → ((i < f) × (v.first + v.rewritten ≤ i) × (i < v.first + length v.places) × (file_at (with_run v f (p ∷ ps)) (Index i) ≡ file_at v (Index i)))

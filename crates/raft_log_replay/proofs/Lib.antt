@@ -8,3 +8,4 @@ pub mod Groups
 pub mod Rewritten
 pub mod Moved
 pub mod Copies
+pub mod Owed

@@ -1,5 +1,5 @@
 //! The table of one group, and whether the group counts.
-ghost use Rattle.std.specs.Prelude.{◌≡◌, ◌≤◌, ◌&&◌, ◌||◌, false, not, ℕ, OnOk, OnErr, IfErr};
+ghost use Rattle.std.specs.Prelude.{◌≡◌, ◌≤◌, ◌++◌, ◌&&◌, ◌||◌, false, map, not, ℕ, OnOk, OnErr, IfErr};
 ghost use Rattle.raft_log_items.specs.Run.{IsRun};
 ghost use Rattle.raft_log_items.specs.Writing.{value_of};
 ghost use Rattle.raft_log_places.specs.Bridge.{unmarked};
@@ -21,11 +21,12 @@ ghost use Rattle.raft_log_tables.specs.Room.{
 };
 ghost use Rattle.raft_log_tables.specs.Table.{promise, replay_of, shown, RunRefused};
 ghost use Rattle.raft_log_replay.specs.Batch.{counts_after};
+ghost use Rattle.raft_log_replay.specs.Owing.{delete_item, owed_commands, AddsOwed};
 ghost use Rattle.raft_log_replay.specs.Replaying.{MayBeRead, ReadRefused};
 ghost use Rattle.raft_log_replay.specs.Rewriting.{rewritten_item};
 
 use raft_log_base::{FileSeq, LogQueue, Result};
-use raft_log_items::{Bytes, Command, EntryIndex, KeyValue, LogItemContent, OpType};
+use raft_log_items::{Bytes, Command, EntryIndex, KeyValue, LogItem, LogItemContent, OpType};
 use raft_log_places::GroupFiles;
 use raft_log_tables::MemTable;
 use std::alloc::{AllocError, Global};
@@ -278,6 +279,28 @@ impl GroupTable {
         self.table.clear_marks();
     }
 
+    /// Adds the marks that this table owes to Rewrite, of a group of this number. Refused, some are added.
+    pub(crate) fn add_owed(&self, group: u64, items: &mut Vec<LogItem>) -> Result<(), AllocError>
+        ensures { OnOk result (AddsOwed group (shown self.now.table) items.old.items items.new.items) }
+    {
+        self.add_commands(group, items)?;
+        add_deletes(group, self.table.owed_deletes()?, items)
+    }
+
+    /// Adds the Clean and the Compact, where they are owed.
+    fn add_commands(&self, group: u64, items: &mut Vec<LogItem>) -> Result<(), AllocError>
+        ensures { OnOk result
+            (items.new.items ≡ items.old.items ++ owed_commands group (shown self.now.table)) }
+    {
+        if self.table.owes_clean() {
+            items.push(LogItem::new_command(group, Command::Clean))?;
+        }
+        if let Some(index) = self.table.owed_compact() {
+            items.push(LogItem::new_command(group, Command::Compact { index }))?;
+        }
+        Ok(())
+    }
+
     /// An atomic group of Rewrite ended, whose items this table took: its files are noted.
     pub(crate) fn note(&mut self, files: GroupFiles)
         ensures read { replay_of self.new.table
@@ -308,4 +331,14 @@ impl GroupTable {
             },
         }
     }
+}
+
+/// Adds the deletions of a group's keys. Refused, some are added.
+fn add_deletes(group: u64, keys: Vec<Bytes>, items: &mut Vec<LogItem>) -> Result<(), AllocError>
+    ensures { OnOk result (items.new.items ≡ items.old.items ++ map (delete_item group) keys.items) }
+{
+    for key in keys {
+        items.push(LogItem::new_kv(group, OpType::Del, key, None))?;
+    }
+    Ok(())
 }

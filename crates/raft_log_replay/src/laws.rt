@@ -1,20 +1,30 @@
 //! What a batch does to the tables of all groups is what the machine may do: each law is a function without
 //! a body.
 
-ghost use Rattle.std.specs.Prelude.{◌≡◌, ℕ, ◌++◌, [], List, Option};
+ghost use Rattle.std.specs.Prelude.{◌≡◌, ℕ, ◌++◌, [], map, List, Option};
 ghost use Rattle.raft_log_model.specs.Item.{Item, Tagged};
 ghost use Rattle.raft_log_model.specs.Groups.{of_group, Map};
 ghost use Rattle.raft_log_model.specs.Meaning.{after, Content, Slot};
+ghost use Rattle.raft_log_model.specs.Renamed.{renamed};
 ghost use Rattle.raft_log_machine.specs.Whereabouts.{CarriesAll, GrowsBy};
 ghost use Rattle.raft_log_base.specs.declared.pipe_log.FileBlockHandle.{FileBlockHandle};
+ghost use Rattle.raft_log_items.specs.declared.entry.EntryIndex.{EntryIndex};
 ghost use Rattle.raft_log_items.specs.declared.item.LogItem.{LogItem};
 ghost use Rattle.raft_log_items.specs.Placed.{written};
 ghost use Rattle.raft_log_atomic_groups.specs.Meaning.{tagged_items};
 ghost use Rattle.raft_log_places.specs.declared.place.Place.{Place};
 ghost use Rattle.raft_log_places.specs.Shown.{whereabouts, IsOrderly, Shown};
-ghost use Rattle.raft_log_places.specs.Bridge.{all_moved, items_of, CanAllMove, IsMeant, Located};
+ghost use Rattle.raft_log_places.specs.Bridge.{
+  all_moved,
+  items_of,
+  unmarked,
+  CanAllMove,
+  IsMeant,
+  Located,
+};
 ghost use Rattle.raft_log_replay.specs.declared.mem_tables.MemTables.{MemTables};
 ghost use Rattle.raft_log_replay.specs.Batch.{all_shown, all_written, IsReadyFor, MayFollowAll};
+ghost use Rattle.raft_log_replay.specs.Owing.{AreOwedAt};
 ghost use Rattle.raft_log_replay.specs.Rewriting.{
   all_rewritten,
   copied_items,
@@ -78,4 +88,11 @@ pub fn gated_copies_carry<E>()
     ensures means { (at : Located → E) (gate : Option ℕ) (n : ℕ) (v : Shown) (xs : List (Item Place (List ℕ)))
         (m : Slot → Option (Content E (List ℕ))) → IsOrderly v → AreCopies at gate n v xs → IsMeant at v m
         → IsMeant at (all_rewritten gate n v xs) m }
+{}
+
+/// Rewrite may take the marks that a group owes, wherever its places are, and then no mark is owed.
+pub fn owed_marks_carry<E>()
+    ensures { (f : EntryIndex → E) (m : Slot → Option (Content E (List ℕ))) (v : Shown)
+        (xs : List (Item EntryIndex (List ℕ))) → AreOwedAt v xs
+        → CarriesAll m (whereabouts v) (map (renamed f) xs) (whereabouts (unmarked v)) }
 {}

@@ -30,6 +30,7 @@ ghost use Rattle.raft_log_replay.specs.Tables.{
 };
 
 mod joining;
+mod owing;
 mod replaying;
 mod rewriting;
 mod walking;

@@ -80,9 +80,11 @@ module _ {E : Type 0} (at : Located → E) (gate : Option ℕ) (n : ℕ) where
   copies_move v (Put k w ∷ xs) o h =
       let same : key_rewritten gate v k n ≡ moved_key v k n = ap (λ value. record v { held = with_held v.held k value }) (value_moves gate n (v.held k) h.0.0 h.0.1 h.0.3) in
       let can : CanMove at v (MoveKey k n) = (h.0.0, h.0.1, h.0.4) in
-      let rest = copies_move (moved_key v k n) xs (move_orderly at v (MoveKey k n) o can) (subst (λ u. AreCopies at gate n u xs) same h.1) in
-      (ap (λ u. all_rewritten gate n u xs) same ∙ rest.0, (can, rest.1),
-      ap₂ (λ (x : Item E (List ℕ)) l. x ∷ l) (ap (item_of_key k) h.0.1 ∙ ap (Put k) (sym h.0.2)) rest.2)
+      let rest = copies_move (moved_key v k n) xs (move_orderly at v (MoveKey k n) o can) (subst (λ u. AreCopies at gate n u xs) same h.1) in (
+        ap (λ u. all_rewritten gate n u xs) same ∙ rest.0,
+        (can, rest.1),
+        ap₂ (λ (x : Item E (List ℕ)) l. x ∷ l) (ap (item_of_key k) h.0.1 ∙ ap (Put k) (sym h.0.2)) rest.2,
+      )
   copies_move v (Clean ∷ xs) o h = absurd h.0
   copies_move v (Compact c ∷ xs) o h = absurd h.0
   copies_move v (Del k ∷ xs) o h = absurd h.0

@@ -149,9 +149,12 @@ owed_at (e ∷ es) xs once h g =
     let none : found es g ≡ None = subst (λ j. found es j ≡ None) is once.0 in
     let behind = nothing_owed (of_group g (tagged_items (λ e. e) ys)) (subst (λ o. AreOwedAt (shown_in o) (of_group g (tagged_items (λ e. e) ys))) none rest) in
     let here : found (e ∷ es) g ≡ Some e.1 = subst (λ j. found (e ∷ es) j ≡ Some e.1) is (found_first e es) in
-    subst (λ o. AreOwedAt (shown_in o) (of_group g (tagged_items (λ e. e) xs))) (sym here)
-    (h.0, h.2, said ∙ nothing_more (of_group g (map (of_one e.0) (marks v h.0))) (of_group g (tagged_items (λ e. e) ys)) behind
-    ∙ subst (λ j. of_group j (map (of_one e.0) (marks v h.0)) ≡ marks v h.0) is (said_here e.0 (marks v h.0))))
+    subst (λ o. AreOwedAt (shown_in o) (of_group g (tagged_items (λ e. e) xs))) (sym here) (
+      h.0,
+      h.2,
+      said ∙ nothing_more (of_group g (map (of_one e.0) (marks v h.0))) (of_group g (tagged_items (λ e. e) ys)) behind
+          ∙ subst (λ j. of_group j (map (of_one e.0) (marks v h.0)) ≡ marks v h.0) is (said_here e.0 (marks v h.0)),
+    ))
     (λ apart.
     subst (λ o. AreOwedAt (shown_in o) (of_group g (tagged_items (λ e. e) xs))) (sym (found_later e es g apart))
     (rest.0, rest.1, said ∙ ap (λ l. l ++ of_group g (tagged_items (λ e. e) ys)) (said_there e.0 g (marks v h.0) apart) ∙ rest.2))

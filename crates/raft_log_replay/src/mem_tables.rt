@@ -103,6 +103,7 @@ impl MemTables {
         ensures shows { ShowsSame self.old self.new }
         ensures rest { (g : ℕ) → mentions g items.now ≡ true
             → (promise_of self.new g).ends ≡ span (shown_of self.new g) }
+        ensures moves { (g : ℕ) → mentions g items.now ≡ true → (promise_of self.new g).moves ≡ 0 }
         ensures others { (g : ℕ) → mentions g items.now ≡ false
             → promise_of self.new g ≡ promise_of self.old g }
         ensures unwritten { IsReadyFor self.old (tagged_items (λ e. e) items.now) → IsAtRest self.new }
@@ -156,6 +157,7 @@ impl MemTables {
     fn take_back_of(&mut self, group: u64)
         ensures shows { ShowsSame self.old self.new }
         ensures rest { (promise_of self.new group).ends ≡ span (shown_of self.new group) }
+        ensures moves { (promise_of self.new group).moves ≡ 0 }
         ensures others { (g : ℕ) → (group == g) ≡ false → promise_of self.new g ≡ promise_of self.old g }
     {
         if let Some(found) = self.groups.get_mut(&group) {

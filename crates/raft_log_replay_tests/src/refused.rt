@@ -13,7 +13,13 @@ const STANDS: [Said; 2] = [Run(7, 8, 4), Put(7)];
 const NEXT: [Said; 1] = [Run(7, 10, 3)];
 
 /// A batch of several groups.
-const BATCH: [Said; 5] = [Run(7, 12, 2), Clean(8), Put(9), Compact(7, 9), Run(10, 1, 2)];
+const BATCH: [Said; 5] = [
+    Run(7, 12, 2),
+    Clean(8),
+    Put(9),
+    Compact(7, 9),
+    Run(10, 1, 2),
+];
 
 /// A file of Append.
 fn append(file: u64) -> FileId {

@@ -35,6 +35,8 @@ impl MemTables {
         ensures ready { OnOk result (MayMove self.new (tagged_items (λ e. e) items.now)) }
         ensures err { OnErr result ((g : ℕ) → mentions g items.now ≡ false
             → promise_of self.new g ≡ promise_of self.old g) }
+        ensures forgotten { OnErr result ((g : ℕ) → mentions g items.now ≡ true
+            → (promise_of self.new g).moves ≡ 0) }
         ensures rest { IsAtRest self.old → IsAtRest self.new }
     {
         let prepared = self.prepare_copies(items);

@@ -107,8 +107,8 @@ impl Places {
         Ok(())
     }
 
-    /// Makes room for others in the stead of so many more of those that are there. Where it is refused, nothing
-    /// changes.
+    /// Makes room for others in the stead of so many more of those that are there. Where it is refused,
+    /// nothing changes.
     ///
     /// As each entry has a place of its own, the new one takes the old one's room, and the promise is kept by
     /// counting.

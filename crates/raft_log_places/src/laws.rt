@@ -120,9 +120,9 @@ pub fn least_file_is_noted()
         → (content (table_of v) s ≡ None) ⊎ (start_of least v.noted ≤ noted_at v s) }
 {}
 
-/// Along the entries of each queue the files don't fall as the index rises: where nothing stands; after a batch
-/// in a file of Append that is no earlier than those of the appended entries; and after copies in a file of
-/// Rewrite that is no earlier than those of the rewritten ones.
+/// Along the entries of each queue the files don't fall as the index rises: where nothing stands; after a
+/// batch in a file of Append that is no earlier than those of the appended entries; and after copies in a
+/// file of Rewrite that is no earlier than those of the rewritten ones.
 pub fn files_rise<E>()
     ensures nothing { (a r : ℕ) → FilesRise a r nothing_shown }
     ensures append { (a r n : ℕ) (v : Shown) (xs : List (Item Place (List ℕ))) → IsOrderly v → FilesRise a r v

@@ -96,8 +96,9 @@ pub fn one_queue_is_recovered<E>()
         (whereabouts z.table) }
 {}
 
-/// What is noted of atomic groups once two segments are joined, or Append came over Rewrite, counts with each
-/// file from no later one on than it did in the later table; and, where that has no Clean, in the earlier one.
+/// What is noted of atomic groups once two segments are joined, or Append came over Rewrite, counts with
+/// each file from no later one on than it did in the later table; and, where that has no Clean, in the
+/// earlier one.
 pub fn joins_are_noted()
     ensures joined { (a z : Replayed) (n : ℕ)
         → (start_of n (joined a z).table.noted ≤ start_of n z.table.noted)

@@ -53,7 +53,8 @@ pub record PromisesMoves {E V : Type 0} (old new : MemTables) (xs : List (Tagged
 -- the item's group promised it, if it has a table
 pub record PromisesMove {E V : Type 0} (old new : MemTables) (x : Tagged E V) : Type 0 where
   pub stay : GroupsStay old new
-  pub move : promise_of new x.group ≡ moving (has_table old x.group) (promise_of old x.group) (count_of x.item)
+  pub move : promise_of new x.group
+      ≡ moving (has_table old x.group) (promise_of old x.group) (count_of x.item)
   pub others : (g : ℕ) → (x.group == g) ≡ false → promise_of new g ≡ promise_of old g
 
 -- the item was written to file n of Rewrite, and its group's table took it
@@ -76,9 +77,9 @@ pub record RewritesAll (gate : Option ℕ) (n : ℕ) (old new : MemTables) (xs :
   pub promise : (g : ℕ) → promise_of new g ≡ without_moves (promise_of old g) (entries_of g xs)
 
 -- The item is a copy that Rewrite may take and the gate lets move: a run of what was read, that begins at a
--- rewritten entry or the first appended one and reaches to the last rewritten one, past it where neither Clean
--- nor Compact is owed; the value that a key has, which if it is appended neither a Clean nor its Del may be
--- owed for
+-- rewritten entry or the first appended one and reaches to the last rewritten one, past it where neither
+-- Clean nor Compact is owed; or the value that a key has, where, if it is appended, neither a Clean nor its
+-- Del is owed
 abbrev pub IsCopy : {E : Type 0} → (Located → E) → Option ℕ → Shown → Item Place (List ℕ) → Type 0
 IsCopy at gate v (Run f ps) =
     (v.first ≤ f) × (f ≤ v.first + v.rewritten) × (v.first + v.rewritten ≤ f + length ps)

@@ -60,8 +60,8 @@ pub fn ready_wherever_written()
         → MayFollowAll (shown_of m) (tagged_items (λ e. e) items) }
 {}
 
-/// Tables that are prepared for one rewritten batch after another have room for all of them, wherever they are
-/// written; and when the first of them moved, for the others. For no items there is always room.
+/// Tables that are prepared for one rewritten batch after another have room for all of them, wherever they
+/// are written; and when the first of them moved, for the others. For no items there is always room.
 pub fn copies_have_room<E, V>()
     ensures none { (m : MemTables) → MayMove {E = E} {V = V} m [] }
     ensures more { (m n : MemTables) (xs ys : List (Tagged E V)) → MayMove m xs → PromisesMoves m n ys
@@ -73,20 +73,23 @@ pub fn copies_have_room<E, V>()
         → MayMove m (tagged_items (λ e. e) (written handle items)) }
 {}
 
-/// Copies that the gate lets move are moves of the machine: what shows after them is what shows after these, and
-/// Rewrite may take what they say; they change nothing of what the table means.
+/// Copies that the gate lets move are moves of the machine: what shows after them is what shows after these,
+/// and Rewrite may take what they say; they change nothing of what the table means.
 pub fn gated_copies_carry<E>()
-    ensures moves { (at : Located → E) (gate : Option ℕ) (n : ℕ) (v : Shown) (xs : List (Item Place (List ℕ)))
-        → IsOrderly v → AreCopies at gate n v xs
+    ensures moves { (at : Located → E) (gate : Option ℕ) (n : ℕ) (v : Shown)
+        (xs : List (Item Place (List ℕ))) → IsOrderly v → AreCopies at gate n v xs
         → (all_rewritten gate n v xs ≡ all_moved v (moves_of n xs)) × CanAllMove at v (moves_of n xs)
         × (items_of at v (moves_of n xs) ≡ copied_items at xs) }
-    ensures carries { (at : Located → E) (gate : Option ℕ) (n : ℕ) (v : Shown) (xs : List (Item Place (List ℕ)))
-        (m : Slot → Option (Content E (List ℕ))) → IsOrderly v → AreCopies at gate n v xs → IsMeant at v m
+    ensures carries { (at : Located → E) (gate : Option ℕ) (n : ℕ) (v : Shown)
+        (xs : List (Item Place (List ℕ))) (m : Slot → Option (Content E (List ℕ))) → IsOrderly v
+        → AreCopies at gate n v xs → IsMeant at v m
         → CarriesAll m (whereabouts v) (copied_items at xs) (whereabouts (all_rewritten gate n v xs)) }
-    ensures orderly { (at : Located → E) (gate : Option ℕ) (n : ℕ) (v : Shown) (xs : List (Item Place (List ℕ)))
-        → IsOrderly v → AreCopies at gate n v xs → IsOrderly (all_rewritten gate n v xs) }
-    ensures means { (at : Located → E) (gate : Option ℕ) (n : ℕ) (v : Shown) (xs : List (Item Place (List ℕ)))
-        (m : Slot → Option (Content E (List ℕ))) → IsOrderly v → AreCopies at gate n v xs → IsMeant at v m
+    ensures orderly { (at : Located → E) (gate : Option ℕ) (n : ℕ) (v : Shown)
+        (xs : List (Item Place (List ℕ))) → IsOrderly v → AreCopies at gate n v xs
+        → IsOrderly (all_rewritten gate n v xs) }
+    ensures means { (at : Located → E) (gate : Option ℕ) (n : ℕ) (v : Shown)
+        (xs : List (Item Place (List ℕ))) (m : Slot → Option (Content E (List ℕ))) → IsOrderly v
+        → AreCopies at gate n v xs → IsMeant at v m
         → IsMeant at (all_rewritten gate n v xs) m }
 {}
 

@@ -1,5 +1,5 @@
-//! A call that is refused leaves what shows as it was. `rt try --test --fail-alloc 1..` refuses each allocation
-//! in turn; a test whose own set-up is refused ends.
+//! A call that is refused leaves what shows as it was. `rt try --test --fail-alloc 1..` refuses each
+//! allocation in turn; a test whose own set-up is refused ends.
 use super::play::Said::{Clean, Compact, Put, Run};
 use super::play::{Said, items, read, segment, told};
 use raft_log_base::{FileId, LogQueue, Result};
@@ -48,7 +48,8 @@ fn shown(alloc: Global, tables: &MemTables) -> Result<String> {
     Ok(text)
 }
 
-/// Whether a prepared batch shows nothing, and is answered when it is asked for again.
+/// Whether a prepared batch shows nothing before it is written; and where it is refused, is answered when it
+/// is asked for again.
 fn prepares(alloc: Global) -> Result<bool> {
     let mut tables = MemTables::new(alloc);
     let batch = items(alloc, append(2), &BATCH)?;
@@ -57,7 +58,10 @@ fn prepares(alloc: Global) -> Result<bool> {
         let same = shown(alloc, &tables)?.as_str() == before.as_str();
         return Ok(same && tables.prepare(batch.as_slice()).is_ok());
     }
-    Ok(shown(alloc, &tables)?.as_str() == before.as_str())
+    let same = shown(alloc, &tables)?.as_str() == before.as_str();
+    tables.apply_append_writes(batch, 2);
+    let now = told(alloc, &tables, 7)?;
+    Ok(same && now.as_str() == "(Some(12), Some(13)) (Some(2), None) None")
 }
 
 #[test]

@@ -477,8 +477,8 @@ impl MemTable {
         self.rewritten = position + entries.len();
     }
 
-    /// Entries, for which that was prepared, were written to Rewrite: those that are still there lie where they
-    /// were written, up to the first that is appended and, if there is a gate, in a file past it.
+    /// Entries, for which that was prepared, were written to Rewrite: those that are still there lie where
+    /// they were written, up to the first that is appended and, if there is a gate, in a file past it.
     pub fn rewrite(&mut self, entries: &[EntryIndex], gate: Option<FileSeq>)
         requires run { IsRun entries.now }
         requires room { length entries.now ≤ (promise self.old).moves }

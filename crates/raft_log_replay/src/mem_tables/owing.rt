@@ -7,8 +7,9 @@ use raft_log_items::LogItem;
 use std::alloc::AllocError;
 
 impl MemTables {
-    /// The marks that are owed to Rewrite, as the items of one batch: group by group from the least number up,
-    /// the Clean, the Compact and the deletions of keys in their order. They stay owed until `clear_marks`.
+    /// The marks that are owed to Rewrite, as the items of one batch: group by group from the least number
+    /// up, the Clean, the Compact and the deletions of keys in their order. They stay owed until
+    /// `clear_marks`.
     pub fn owed_marks(&self) -> Result<Vec<LogItem>, AllocError>
         ensures { IfOk result (λ items. AreOwed self.now items.items) }
     {

@@ -25,8 +25,8 @@ use raft_log_items::LogItem;
 use std::alloc::AllocError;
 
 impl MemTables {
-    /// Makes room for the places of a batch that is to be written to Rewrite, beside what is prepared already:
-    /// so the batches of an atomic group are prepared one after another.
+    /// Makes room for the places of a batch that is to be written to Rewrite, beside what is prepared
+    /// already: so the batches of an atomic group are prepared one after another.
     ///
     /// Refused or not, nothing shows. Where it is refused, nothing is prepared any more for its groups.
     pub fn prepare_rewrite(&mut self, items: &[LogItem]) -> Result<(), AllocError>
@@ -95,7 +95,8 @@ impl MemTables {
     /// An item that was prepared, and then written to this file of Rewrite.
     fn rewrite_item(&mut self, item: &LogItem, gate: Option<FileSeq>, file: FileSeq)
         requires { has_table self.old item.now.raft_group_id ≡ true
-            → count_of (meaning place_of item.now.content) ≤ (promise_of self.old item.now.raft_group_id).moves }
+            → count_of (meaning place_of item.now.content)
+            ≤ (promise_of self.old item.now.raft_group_id).moves }
         ensures { RewritesOne gate file self.old self.new (tagged place_of item.now) }
     {
         if let Some(found) = self.groups.get_mut(&item.raft_group_id) {

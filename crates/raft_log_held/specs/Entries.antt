@@ -9,10 +9,12 @@ use Rattle.raft_log_model.specs.Item.{Item}
 use Rattle.raft_log_model.specs.Item.Item.{Run}
 use Rattle.raft_log_places.specs.declared.place.Place.{Place}
 
--- the places that a table has, and how many more it has promised room for
+-- the places that a table has, and how many more it has promised room for; and for how many of those that it
+-- has others may come
 pub record PlaceList : Type 0 where
   pub items : List Place
   pub wanted : ℕ
+  pub moves : ℕ
 
 -- the place of an entry in this block; all zeros where it has none yet
 abbrev pub place_in : Option FileBlockHandle → EntryIndex → Place

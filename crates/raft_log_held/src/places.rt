@@ -47,11 +47,13 @@ pub fn entry_of(queue: LogQueue, index: u64, place: Place) -> EntryIndex
     }
 }
 
-/// The places of entries one after another, and room that is promised for more of them.
+/// The places of entries one after another, and room that is promised: for more of them, and for others in
+/// their stead.
 #[derive(Drop)]
 pub struct Places {
     places: VecDeque<Place>,
     wanted: usize,
+    moves: usize,
 }
 
 impl Model for Places {
@@ -61,7 +63,7 @@ impl Model for Places {
 
     ghost Value = { PlaceList };
 
-    ghost view = { λ p. record { items = p.places.items; wanted = p.wanted } };
+    ghost view = { λ p. record { items = p.places.items; wanted = p.wanted; moves = p.moves } };
 
     ghost invariant = { λ p. deque_len p.places + p.wanted ≤ deque_capacity p.places };
 }
@@ -69,11 +71,12 @@ impl Model for Places {
 impl Places {
     /// No places, and no room promised.
     pub fn new(alloc: Global) -> Places
-        ensures { result ≡ record { items = []; wanted = 0 } }
+        ensures { result ≡ record { items = []; wanted = 0; moves = 0 } }
     {
         Places {
             places: VecDeque::new(alloc),
             wanted: 0,
+            moves: 0,
         }
     }
 
@@ -104,11 +107,35 @@ impl Places {
         Ok(())
     }
 
+    /// Makes room for others in the stead of so many more of those that are there. Where it is refused,
+    /// nothing changes.
+    ///
+    /// As each entry has a place of its own, the new one takes the old one's room, and the promise is kept by
+    /// counting.
+    pub fn make_room_to_move(&mut self, count: usize) -> Result<(), AllocError>
+        ensures ok { OnOk result (self.new ≡ record self.old { moves = self.old.moves + count }) }
+        ensures err { OnErr result (self.new ≡ self.old) }
+    {
+        let Some(moves) = self.moves.checked_add(count) else {
+            return Err(AllocError);
+        };
+        self.moves = moves;
+        Ok(())
+    }
+
+    /// So many fewer may get others in their stead.
+    pub fn forget_moves(&mut self, count: usize)
+        ensures { self.new ≡ record self.old { moves = self.old.moves - count } }
+    {
+        self.moves = self.moves.saturating_sub(count);
+    }
+
     /// Takes back all room that was promised.
     pub fn forget_room(&mut self)
-        ensures { self.new ≡ record self.old { wanted = 0 } }
+        ensures { self.new ≡ record self.old { wanted = 0; moves = 0 } }
     {
         self.wanted = 0;
+        self.moves = 0;
     }
 
     /// The places of these entries come to the end, in room that was promised for them.
@@ -116,6 +143,7 @@ impl Places {
         requires { length entries.now ≤ self.old.wanted }
         ensures items { self.new.items ≡ self.old.items ++ map place_of entries.now }
         ensures wanted { self.new.wanted ≡ self.old.wanted - length entries.now }
+        ensures moves { self.new.moves ≡ self.old.moves }
     {
         for entry in entries {
             self.places.push_back_reserved(place_of(entry));
@@ -128,6 +156,7 @@ impl Places {
         requires { length more.items ≤ self.old.wanted }
         ensures items { self.new.items ≡ self.old.items ++ more.items }
         ensures wanted { self.new.wanted ≡ self.old.wanted - length more.items }
+        ensures moves { self.new.moves ≡ self.old.moves }
     {
         let Places { mut places, .. } = more;
         self.wanted -= places.len();
@@ -149,14 +178,17 @@ impl Places {
         self.places.drain(..count);
     }
 
-    /// From this position on, the places of these entries take the place of as many.
+    /// From this position on, the places of these entries come in the stead of as many, as was promised.
     pub fn replace(&mut self, position: usize, entries: &[EntryIndex])
-        requires { position + length entries.now ≤ length self.old.items }
+        requires within { position + length entries.now ≤ length self.old.items }
+        requires room { length entries.now ≤ self.old.moves }
         ensures items { self.new.items
             ≡ take position self.old.items
             ++ (map place_of entries.now ++ drop (position + length entries.now) self.old.items) }
         ensures wanted { self.new.wanted ≡ self.old.wanted }
+        ensures moves { self.new.moves ≡ self.old.moves - length entries.now }
     {
+        self.moves -= entries.len();
         for (i, entry) in entries.iter().enumerate() {
             self.places[position + i] = place_of(entry);
         }

@@ -5,6 +5,8 @@ pub mod Meant
 pub mod Moving
 pub mod Marking
 pub mod Noting
+pub mod Rising
+pub mod Covering
 pub mod Replays
 pub mod Joining
 pub mod Telling

@@ -29,7 +29,7 @@ use Rattle.raft_log_places.proofs.Spans.{run_ends, orderly_stepped}
 use Rattle.raft_log_places.proofs.Grow.{follow_on}
 use Rattle.raft_log_places.proofs.Moving.{move_orderly, moved_length}
 
-file_in : (n : ℕ) (ps : List Place) (j : ℕ) → AllIn n ps → j < length ps → place_file (slice_get ps j) ≡ n
+pub file_in : (n : ℕ) (ps : List Place) (j : ℕ) → AllIn n ps → j < length ps → place_file (slice_get ps j) ≡ n
 file_in n [] j h k = absurd (omega arith)
 file_in n (p ∷ ps) zero h k = h.0
 file_in n (p ∷ ps) (suc j) h k = file_in n ps j h.1 (omega arith)
@@ -43,7 +43,7 @@ file_up_to n (p ∷ ps) (suc j) h = file_up_to n ps j h.1
 run_first : (a l f i : ℕ) → (if nat_lt a f && nat_lt 0 l then a else f) ≤ i → i < f → (if nat_lt a f && nat_lt 0 l then a else f) ≡ a
 run_first a l f i h k = grind (arith, nat_tests)
 
-run_above : (a l f : ℕ) → (nat_lt a (a + l) && nat_lt (a + l) f) ≡ false → (if nat_lt a f && nat_lt 0 l then a else f) + min (f - a) l ≡ f
+pub run_above : (a l f : ℕ) → (nat_lt a (a + l) && nat_lt (a + l) f) ≡ false → (if nat_lt a f && nat_lt 0 l then a else f) + min (f - a) l ≡ f
 run_above a l f h = grind (arith, nat_tests)
 
 run_within : (a l f i : ℕ) → (nat_lt a (a + l) && nat_lt (a + l) f) ≡ false → a ≤ i → i < f → (if nat_lt a f && nat_lt 0 l then a else f) ≡ a → (f ≤ a + l) ⊎ (l ≡ 0)
@@ -56,7 +56,7 @@ run_empty : (a l f i : ℕ) → l ≡ 0 → (if nat_lt a f && nat_lt 0 l then a 
 run_empty a l f i h low high = grind (arith, nat_tests)
 
 module _ (v : Shown) (f : ℕ) (ps : List Place) (fits : (nat_lt v.first (v.first + length v.places) && nat_lt (v.first + length v.places) f) ≡ false) where
-  below_run : (i : ℕ) → (with_run v f ps).first ≤ i → i < f
+  pub below_run : (i : ℕ) → (with_run v f ps).first ≤ i → i < f
       → ((with_run v f ps).first ≡ v.first) × (f ≤ v.first + length v.places) × (file_at (with_run v f ps) (Index i) ≡ file_at v (Index i))
   below_run i low high =
       let first = run_first v.first (length v.places) f i low high in
@@ -72,13 +72,13 @@ module _ (v : Shown) (f : ℕ) (ps : List Place) (fits : (nat_lt v.first (v.firs
             ∙ get_take (f - v.first) v.places (i - v.first) (omega (arith, first))),
       )
 
-  in_run : (n i : ℕ) → AllIn n ps → f ≤ i → i < f + length ps → file_at (with_run v f ps) (Index i) ≡ n
+  pub in_run : (n i : ℕ) → AllIn n ps → f ≤ i → i < f + length ps → file_at (with_run v f ps) (Index i) ≡ n
   in_run n i all low high =
       let above = run_above v.first (length v.places) f fits in
       ap place_file (get_back (take (f - v.first) v.places) ps (i - (with_run v f ps).first) (i - f) (let cut = length-take (f - v.first) v.places in omega (arith, above, cut)))
       ∙ file_in n ps (i - f) all (omega arith)
 
-compact_file : (v : Shown) (c i : ℕ) → (with_compact v c).first ≤ i → i < (with_compact v c).first + length (with_compact v c).places
+pub compact_file : (v : Shown) (c i : ℕ) → (with_compact v c).first ≤ i → i < (with_compact v c).first + length (with_compact v c).places
     → file_at (with_compact v c) (Index i) ≡ file_at v (Index i)
 compact_file v c i low high =
     let cut = length-drop (c - v.first) v.places in
@@ -119,7 +119,7 @@ step_grows n v (Del k) o h all (Key q) a =
     ⊎ ((held_file (if b then None else v.held q) ≡ n) × IsSpoken {C = Content Place (List ℕ)} (if b then Some None else None)))
     (λ e b. differ (sym b)) (λ e b. inl (b, refl)) a
 
-are_in : (n : ℕ) (x : Item Place (List ℕ)) (xs : List (Item Place (List ℕ))) → AreIn n (x ∷ xs) → AreIn n (x ∷ []) × AreIn n xs
+pub are_in : (n : ℕ) (x : Item Place (List ℕ)) (xs : List (Item Place (List ℕ))) → AreIn n (x ∷ xs) → AreIn n (x ∷ []) × AreIn n xs
 are_in n (Run f ps) xs h = ((h.0, tt), h.1)
 are_in n Clean xs h = (tt, h)
 are_in n (Compact c) xs h = (tt, h)
@@ -332,7 +332,7 @@ module _ {E : Type 0} (at : Located → E) where
   ]
 
   -- copies bring nothing into Append
-  move_shrinks : (v : Shown) (x : Move) → IsOrderly v → CanMove at v x → (s : Slot) → IsAppended (whereabouts (moved v x)) s
+  pub move_shrinks : (v : Shown) (x : Move) → IsOrderly v → CanMove at v x → (s : Slot) → IsAppended (whereabouts (moved v x)) s
       → IsAppended (whereabouts v) s × (file_at (moved v x) s ≡ file_at v s)
   move_shrinks v (MoveRun f ps) o can (Index i) a =
       let parts = o.parts in let from = can.0 in let split = can.1 in let reach = can.2 in let low = a.0 in let high = a.1 in let end = can.3 in

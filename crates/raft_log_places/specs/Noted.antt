@@ -1,5 +1,5 @@
 -- The files in which the entries and values of a table lie, and from which on a queue has all of them.
-use Rattle.std.specs.Prelude.{◌≡◌, ℕ, ◌+◌, ◌-◌, ◌<◌, ◌≤◌, ◌⊎◌, min, max, false, List, [], ◌∷◌, Option, Some, None, if◌then◌else◌, nat_le, slice_get}
+use Rattle.std.specs.Prelude.{◌≡◌, ℕ, ◌+◌, ◌-◌, ◌<◌, ◌≤◌, ◌⊎◌, min, max, false, List, [], ◌∷◌, length, Option, Some, None, if◌then◌else◌, nat_le, slice_get}
 use Rattle.raft_log_model.specs.Item.{Item}
 use Rattle.raft_log_model.specs.Item.Item.{Run}
 use Rattle.raft_log_model.specs.Meaning.{Slot, says}
@@ -75,6 +75,23 @@ abbrev pub AreUpTo : ℕ → List Move → Type 0
 AreUpTo n [] = Unit {0}
 AreUpTo n (MoveRun f ps ∷ xs) = AllUpTo n ps × AreUpTo n xs
 AreUpTo n (MoveKey k file ∷ xs) = (file ≤ n) × AreUpTo n xs
+
+-- the copies of entries lie in that file
+abbrev pub MovesIn : ℕ → List Move → Type 0
+MovesIn n [] = Unit {0}
+MovesIn n (MoveRun f ps ∷ xs) = AllIn n ps × MovesIn n xs
+MovesIn n (MoveKey k file ∷ xs) = MovesIn n xs
+
+-- Along the entries of each queue the files don't fall as the index rises: those of Append are up to file a,
+-- those of Rewrite up to file r
+pub record FilesRise (a r : ℕ) (v : Shown) : Type 0 where
+  pub appended : (i j : ℕ) → v.first + v.rewritten ≤ i → i ≤ j → j < v.first + length v.places
+      → file_at v (Index i) ≤ file_at v (Index j)
+  pub rewritten : (i j : ℕ) → v.first ≤ i → i ≤ j → j < v.first + v.rewritten
+      → file_at v (Index i) ≤ file_at v (Index j)
+  pub in_append : (i : ℕ) → v.first + v.rewritten ≤ i → i < v.first + length v.places
+      → file_at v (Index i) ≤ a
+  pub in_rewrite : (i : ℕ) → v.first ≤ i → i < v.first + v.rewritten → file_at v (Index i) ≤ r
 
 -- what stands in Append after these items in file n stood there and lies where it lay, or lies in that file
 -- and the items speak of it

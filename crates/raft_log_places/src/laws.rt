@@ -13,6 +13,7 @@ ghost use Rattle.raft_log_places.specs.Shown.{
   IsOrderly,
   MayAllFollow,
   all_stepped,
+  nothing_shown,
   span,
   whereabouts,
 };
@@ -21,7 +22,9 @@ ghost use Rattle.raft_log_places.specs.Noted.{
   AppendedShrink,
   AreIn,
   AreUpTo,
+  FilesRise,
   IsLeastInRewrite,
+  MovesIn,
   RewrittenCarry,
   RewrittenStay,
   noted_at,
@@ -115,4 +118,15 @@ pub fn copies_are_noted<E>()
 pub fn least_file_is_noted()
     ensures { (v : Shown) (least : ℕ) → IsLeastInRewrite v least → (s : Slot) → IsInRewrite (whereabouts v) s
         → (content (table_of v) s ≡ None) ⊎ (start_of least v.noted ≤ noted_at v s) }
+{}
+
+/// Along the entries of each queue the files don't fall as the index rises: where nothing stands; after a
+/// batch in a file of Append that is no earlier than those of the appended entries; and after copies in a
+/// file of Rewrite that is no earlier than those of the rewritten ones.
+pub fn files_rise<E>()
+    ensures nothing { (a r : ℕ) → FilesRise a r nothing_shown }
+    ensures append { (a r n : ℕ) (v : Shown) (xs : List (Item Place (List ℕ))) → IsOrderly v → FilesRise a r v
+        → a ≤ n → MayAllFollow (span v) xs → AreIn n xs → FilesRise n r (all_stepped n v xs) }
+    ensures rewrite { (at : Located → E) (a r n : ℕ) (v : Shown) (xs : List Move) → IsOrderly v
+        → FilesRise a r v → r ≤ n → CanAllMove at v xs → MovesIn n xs → FilesRise a n (all_moved v xs) }
 {}

@@ -1,7 +1,7 @@
 //! What is kept while segments of a queue are read is what their items say: each law is a function without a
 //! body.
 
-ghost use Rattle.std.specs.Prelude.{◌≡◌, ℕ, Bool, true, false, List, [], ◌∷◌, ◌++◌, map, Option};
+ghost use Rattle.std.specs.Prelude.{◌≡◌, ◌≤◌, ℕ, Bool, true, false, List, [], ◌∷◌, ◌++◌, map, Option};
 ghost use Rattle.raft_log_model.specs.Item.{Item};
 ghost use Rattle.raft_log_model.specs.Meaning.{Slot, directory};
 ghost use Rattle.raft_log_model.specs.Meaning.Slot.{Index};
@@ -10,8 +10,9 @@ ghost use Rattle.raft_log_model.specs.Table.{content};
 ghost use Rattle.raft_log_machine.specs.Recovery.{IsRecovered};
 ghost use Rattle.raft_log_places.specs.declared.place.Place.{Place};
 ghost use Rattle.raft_log_places.specs.declared.group_files.GroupFiles.{GroupFiles};
-ghost use Rattle.raft_log_places.specs.Shown.{IsOrderly, KeyValue, MayFollow, span, whereabouts};
+ghost use Rattle.raft_log_places.specs.Shown.{IsOrderly, KeyValue, MayFollow, Shown, span, whereabouts};
 ghost use Rattle.raft_log_places.specs.Bridge.{IsMeant, Located, unmarked};
+ghost use Rattle.raft_log_places.specs.Noted.{start_of};
 ghost use Rattle.raft_log_places.specs.Replayed.{
   IsReplayed,
   LeavesHole,
@@ -93,4 +94,16 @@ pub fn one_queue_is_recovered<E>()
         → IsReplayed true append z
         → IsRecovered (λ s. directory s [] (map (told at) append)) (map (told at) append)
         (whereabouts z.table) }
+{}
+
+/// What is noted of atomic groups once two segments are joined, or Append came over Rewrite, counts with
+/// each file from no later one on than it did in the later table; and, where that has no Clean, in the
+/// earlier one.
+pub fn joins_are_noted()
+    ensures joined { (a z : Replayed) (n : ℕ)
+        → (start_of n (joined a z).table.noted ≤ start_of n z.table.noted)
+        × (z.table.cleaned ≡ false → start_of n (joined a z).table.noted ≤ start_of n a.table.noted) }
+    ensures merged { (v : Shown) (z : Replayed) (n : ℕ)
+        → (start_of n (merged v z).noted ≤ start_of n z.table.noted)
+        × (z.table.cleaned ≡ false → start_of n (merged v z).noted ≤ start_of n v.noted) }
 {}

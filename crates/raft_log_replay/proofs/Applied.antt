@@ -104,7 +104,7 @@ written_meaning handle (contents.Kv kv) = refl
 unless_same : (b c : Bool) (x y : Tagged EntryIndex (List ℕ)) (xs ys : List (Tagged EntryIndex (List ℕ))) → b ≡ c → x ≡ y → xs ≡ ys → unless_mark b x xs ≡ unless_mark c y ys
 unless_same b c x y xs ys h i j = ap (λ (t : Bool). unless_mark t x xs) h ∙ ap (λ (z : Tagged EntryIndex (List ℕ)). unless_mark c z xs) i ∙ ap (unless_mark c y) j
 
-written_items : (handle : FileBlockHandle) (xs : List LogItem) → tagged_items (λ e. e) (written handle xs) ≡ tagged_items (written_entry handle) xs
+pub written_items : (handle : FileBlockHandle) (xs : List LogItem) → tagged_items (λ e. e) (written handle xs) ≡ tagged_items (written_entry handle) xs
 written_items handle [] = refl
 written_items handle (x ∷ xs) =
     unless_same (has_mark_key (written_item handle x)) (has_mark_key x) (tagged (λ e. e) (written_item handle x)) (tagged (written_entry handle) x)

@@ -6,3 +6,6 @@ pub mod Clearing
 pub mod Segments
 pub mod Groups
 pub mod Rewritten
+pub mod Moved
+pub mod Copies
+pub mod Owed

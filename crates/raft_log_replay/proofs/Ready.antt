@@ -106,6 +106,17 @@ rest_more m n k g b same rest others so_far h =
     first true c h t = refl
     first false c h t = absurd (let clash : true ≡ false = sym h ∙ t in let never : ⊥ = cc in never)
 
+-- of one more group no entries may move any more
+pub moves_more : (m n : MemTables) (k g : ℕ) (b : Bool) → (promise_of n k).moves ≡ 0 → ((j : ℕ) → (k == j) ≡ false → promise_of n j ≡ promise_of m j)
+    → (b ≡ true → (promise_of m g).moves ≡ 0) → (b || (k == g)) ≡ true → (promise_of n g).moves ≡ 0
+moves_more m n k g b none others so_far h =
+    by_group k g (same_or_apart k g) (λ t is. subst (λ (j : ℕ). (promise_of n j).moves ≡ 0) is none)
+    (λ t. ap (λ (q : Promise). q.moves) (others g t) ∙ so_far (first b (k == g) h t))
+  where
+    first : (a c : Bool) → (a || c) ≡ true → c ≡ false → a ≡ true
+    first true c h t = refl
+    first false c h t = absurd (let clash : true ≡ false = sym h ∙ t in let never : ⊥ = cc in never)
+
 -- of the others the same is promised
 pub others_more : (l m n : MemTables) (k g : ℕ) (b : Bool) → ((j : ℕ) → (k == j) ≡ false → promise_of n j ≡ promise_of m j) → (b ≡ false → promise_of m g ≡ promise_of l g)
     → (b || (k == g)) ≡ false → promise_of n g ≡ promise_of l g

@@ -11,7 +11,7 @@ use Rattle.raft_log_places.proofs.Alone.{shows}
 use Rattle.raft_log_tables.specs.Moves.{gated, movable, rewritten_at, rewritten_by}
 use Rattle.raft_log_replay.specs.declared.mem_tables.MemTables.{MemTables}
 use Rattle.raft_log_replay.specs.Tables.{shown_of}
-use Rattle.raft_log_replay.specs.Rewriting.{all_rewritten, rewritten_item, PromiseStays, RewritesOne}
+use Rattle.raft_log_replay.specs.Rewriting.{all_rewritten, rewritten_item, RewritesOne}
 use Rattle.raft_log_replay.proofs.Ready.{by_group, same_or_apart}
 use Rattle.raft_log_replay.proofs.Rereading.{of_group_here, of_group_there}
 
@@ -63,4 +63,4 @@ rewrites_more gate n old m k xs x all one g =
     by_group x.group g (same_or_apart x.group g)
     (λ t is. subst (λ (j : ℕ). shown_of k j ≡ rewritten_item gate n (shown_of m j) x.item) is one.shows ∙ ap (λ v. rewritten_item gate n v x.item) (all g)
     ∙ sym (rewritten_more gate n (shown_of old g) (of_group g xs) x.item) ∙ sym (ap (all_rewritten gate n (shown_of old g)) (of_group_here xs x g t)))
-    (λ t. one.others g t ∙ all g ∙ sym (ap (all_rewritten gate n (shown_of old g)) (of_group_there xs x g t)))
+    (λ t. (one.others g t).0 ∙ all g ∙ sym (ap (all_rewritten gate n (shown_of old g)) (of_group_there xs x g t)))

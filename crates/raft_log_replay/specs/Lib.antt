@@ -4,3 +4,4 @@ pub mod Replaying
 pub mod Joining
 pub mod Rewriting
 pub mod Walking
+pub mod Owing

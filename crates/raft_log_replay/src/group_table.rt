@@ -1,5 +1,5 @@
 //! The table of one group, and whether the group counts.
-ghost use Rattle.std.specs.Prelude.{◌≡◌, ◌&&◌, ◌||◌, false, not, ℕ, OnOk, OnErr, IfErr};
+ghost use Rattle.std.specs.Prelude.{◌≡◌, ◌≤◌, ◌++◌, ◌&&◌, ◌||◌, false, map, not, ℕ, OnOk, OnErr, IfErr};
 ghost use Rattle.raft_log_items.specs.Run.{IsRun};
 ghost use Rattle.raft_log_items.specs.Writing.{value_of};
 ghost use Rattle.raft_log_places.specs.Bridge.{unmarked};
@@ -9,14 +9,24 @@ ghost use Rattle.raft_log_atomic_groups.specs.Meaning.{key_meaning, meaning};
 ghost use Rattle.raft_log_held.specs.Entries.{place_of, run_of};
 ghost use Rattle.raft_log_tables.specs.Files.{with_group};
 ghost use Rattle.raft_log_tables.specs.Replays.{in_append, MergeRefused};
-ghost use Rattle.raft_log_tables.specs.Room.{kept, no_promise, promised, taken_back, CanTake};
+ghost use Rattle.raft_log_tables.specs.Room.{
+  count_of,
+  kept,
+  no_promise,
+  promised,
+  taken_back,
+  with_moves,
+  without_moves,
+  CanTake,
+};
 ghost use Rattle.raft_log_tables.specs.Table.{promise, replay_of, shown, RunRefused};
 ghost use Rattle.raft_log_replay.specs.Batch.{counts_after};
+ghost use Rattle.raft_log_replay.specs.Owing.{delete_item, owed_commands, AddsOwed};
 ghost use Rattle.raft_log_replay.specs.Replaying.{MayBeRead, ReadRefused};
 ghost use Rattle.raft_log_replay.specs.Rewriting.{rewritten_item};
 
 use raft_log_base::{FileSeq, LogQueue, Result};
-use raft_log_items::{Bytes, Command, EntryIndex, KeyValue, LogItemContent, OpType};
+use raft_log_items::{Bytes, Command, EntryIndex, KeyValue, LogItem, LogItemContent, OpType};
 use raft_log_places::GroupFiles;
 use raft_log_tables::MemTable;
 use std::alloc::{AllocError, Global};
@@ -71,6 +81,20 @@ impl GroupTable {
                 self.table.prepare_key(key_value.key.as_slice())?;
                 Ok(())
             }
+        }
+    }
+
+    /// Makes room for the entries of an item to move to Rewrite. Refused or not, nothing shows.
+    pub(crate) fn prepare_rewrite(&mut self, content: &LogItemContent) -> Result<(), AllocError>
+        ensures shows { shown self.new.table ≡ shown self.old.table }
+        ensures counts { self.new.counts ≡ self.old.counts }
+        ensures ok { OnOk result (promise self.new.table
+            ≡ with_moves (promise self.old.table) (count_of (meaning (λ e. e) content.now))) }
+        ensures err { OnErr result (promise self.new.table ≡ promise self.old.table) }
+    {
+        match content {
+            LogItemContent::EntryIndexes(entries) => self.table.prepare_rewrite(entries.as_slice()),
+            _ => Ok(()),
         }
     }
 
@@ -255,6 +279,28 @@ impl GroupTable {
         self.table.clear_marks();
     }
 
+    /// Adds the marks that this table owes to Rewrite, of a group of this number. Refused, some are added.
+    pub(crate) fn add_owed(&self, group: u64, items: &mut Vec<LogItem>) -> Result<(), AllocError>
+        ensures { OnOk result (AddsOwed group (shown self.now.table) items.old.items items.new.items) }
+    {
+        self.add_commands(group, items)?;
+        add_deletes(group, self.table.owed_deletes()?, items)
+    }
+
+    /// Adds the Clean and the Compact, where they are owed.
+    fn add_commands(&self, group: u64, items: &mut Vec<LogItem>) -> Result<(), AllocError>
+        ensures { OnOk result
+            (items.new.items ≡ items.old.items ++ owed_commands group (shown self.now.table)) }
+    {
+        if self.table.owes_clean() {
+            items.push(LogItem::new_command(group, Command::Clean))?;
+        }
+        if let Some(index) = self.table.owed_compact() {
+            items.push(LogItem::new_command(group, Command::Compact { index }))?;
+        }
+        Ok(())
+    }
+
     /// An atomic group of Rewrite ended, whose items this table took: its files are noted.
     pub(crate) fn note(&mut self, files: GroupFiles)
         ensures read { replay_of self.new.table
@@ -265,13 +311,16 @@ impl GroupTable {
         self.table.apply_rewrite_atomic_group(files);
     }
 
-    /// An item that was written to this file of Rewrite: what is still there lies there from now on, as far
-    /// as the gate lets it.
+    /// An item, for which that was prepared, was written to this file of Rewrite: what is still there lies
+    /// there from now on, as far as the gate lets it.
     pub(crate) fn rewrite(&mut self, content: &LogItemContent, gate: Option<FileSeq>, file: FileSeq)
+        requires { count_of (meaning place_of content.now) ≤ (promise self.old.table).moves }
         ensures shows { shown self.new.table
             ≡ rewritten_item gate file (shown self.old.table) (meaning place_of content.now) }
+        ensures ends { span (shown self.new.table) ≡ span (shown self.old.table) }
         ensures counts { self.new.counts ≡ self.old.counts }
-        ensures room { promise self.new.table ≡ promise self.old.table }
+        ensures room { promise self.new.table
+            ≡ without_moves (promise self.old.table) (count_of (meaning place_of content.now)) }
     {
         match content {
             LogItemContent::EntryIndexes(entries) => self.table.rewrite(entries.as_slice(), gate),
@@ -282,4 +331,14 @@ impl GroupTable {
             },
         }
     }
+}
+
+/// Adds the deletions of a group's keys. Refused, some are added.
+fn add_deletes(group: u64, keys: Vec<Bytes>, items: &mut Vec<LogItem>) -> Result<(), AllocError>
+    ensures { OnOk result (items.new.items ≡ items.old.items ++ map (delete_item group) keys.items) }
+{
+    for key in keys {
+        items.push(LogItem::new_kv(group, OpType::Del, key, None))?;
+    }
+    Ok(())
 }

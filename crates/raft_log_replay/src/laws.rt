@@ -1,20 +1,39 @@
 //! What a batch does to the tables of all groups is what the machine may do: each law is a function without
 //! a body.
 
-ghost use Rattle.std.specs.Prelude.{ℕ, List};
-ghost use Rattle.raft_log_model.specs.Item.{Tagged};
+ghost use Rattle.std.specs.Prelude.{◌≡◌, ℕ, ◌++◌, [], map, List, Option};
+ghost use Rattle.raft_log_model.specs.Item.{Item, Tagged};
 ghost use Rattle.raft_log_model.specs.Groups.{of_group, Map};
-ghost use Rattle.raft_log_model.specs.Meaning.{after};
-ghost use Rattle.raft_log_machine.specs.Whereabouts.{GrowsBy};
+ghost use Rattle.raft_log_model.specs.Meaning.{after, Content, Slot};
+ghost use Rattle.raft_log_model.specs.Renamed.{renamed};
+ghost use Rattle.raft_log_machine.specs.Whereabouts.{CarriesAll, GrowsBy};
 ghost use Rattle.raft_log_base.specs.declared.pipe_log.FileBlockHandle.{FileBlockHandle};
+ghost use Rattle.raft_log_items.specs.declared.entry.EntryIndex.{EntryIndex};
 ghost use Rattle.raft_log_items.specs.declared.item.LogItem.{LogItem};
 ghost use Rattle.raft_log_items.specs.Placed.{written};
 ghost use Rattle.raft_log_atomic_groups.specs.Meaning.{tagged_items};
 ghost use Rattle.raft_log_places.specs.declared.place.Place.{Place};
 ghost use Rattle.raft_log_places.specs.Shown.{whereabouts, IsOrderly, Shown};
-ghost use Rattle.raft_log_places.specs.Bridge.{IsMeant, Located};
+ghost use Rattle.raft_log_places.specs.Bridge.{
+  all_moved,
+  items_of,
+  unmarked,
+  CanAllMove,
+  IsMeant,
+  Located,
+};
 ghost use Rattle.raft_log_replay.specs.declared.mem_tables.MemTables.{MemTables};
 ghost use Rattle.raft_log_replay.specs.Batch.{all_shown, all_written, IsReadyFor, MayFollowAll};
+ghost use Rattle.raft_log_replay.specs.Owing.{AreOwedAt};
+ghost use Rattle.raft_log_replay.specs.Rewriting.{
+  all_rewritten,
+  copied_items,
+  moves_of,
+  AreCopies,
+  MayMove,
+  PromisesMoves,
+  RewritesAll,
+};
 ghost use Rattle.raft_log_replay.specs.Tables.{shown_of};
 
 /// A batch in a file of Append, none of whose runs leaves a hole or ends past 2^64 - 1, is taken in each
@@ -39,4 +58,44 @@ pub fn ready_wherever_written()
         → IsReadyFor m (tagged_items (λ e. e) (written handle items)) }
     ensures follows { (m : MemTables) (items : List LogItem) → IsReadyFor m (tagged_items (λ e. e) items)
         → MayFollowAll (shown_of m) (tagged_items (λ e. e) items) }
+{}
+
+/// Tables that are prepared for one rewritten batch after another have room for all of them, wherever they
+/// are written; and when the first of them moved, for the others. For no items there is always room.
+pub fn copies_have_room<E, V>()
+    ensures none { (m : MemTables) → MayMove {E = E} {V = V} m [] }
+    ensures more { (m n : MemTables) (xs ys : List (Tagged E V)) → MayMove m xs → PromisesMoves m n ys
+        → MayMove n (xs ++ ys) }
+    ensures moved { (gate : Option ℕ) (file : ℕ) (m n : MemTables) (xs ys : List (Tagged Place (List ℕ)))
+        → MayMove m (xs ++ ys) → RewritesAll gate file m n xs → MayMove n ys }
+    ensures written { (m : MemTables) (handle : FileBlockHandle) (items : List LogItem)
+        → MayMove m (tagged_items (λ e. e) items)
+        → MayMove m (tagged_items (λ e. e) (written handle items)) }
+{}
+
+/// Copies that the gate lets move are moves of the machine: what shows after them is what shows after these,
+/// and Rewrite may take what they say; they change nothing of what the table means.
+pub fn gated_copies_carry<E>()
+    ensures moves { (at : Located → E) (gate : Option ℕ) (n : ℕ) (v : Shown)
+        (xs : List (Item Place (List ℕ))) → IsOrderly v → AreCopies at gate n v xs
+        → (all_rewritten gate n v xs ≡ all_moved v (moves_of n xs)) × CanAllMove at v (moves_of n xs)
+        × (items_of at v (moves_of n xs) ≡ copied_items at xs) }
+    ensures carries { (at : Located → E) (gate : Option ℕ) (n : ℕ) (v : Shown)
+        (xs : List (Item Place (List ℕ))) (m : Slot → Option (Content E (List ℕ))) → IsOrderly v
+        → AreCopies at gate n v xs → IsMeant at v m
+        → CarriesAll m (whereabouts v) (copied_items at xs) (whereabouts (all_rewritten gate n v xs)) }
+    ensures orderly { (at : Located → E) (gate : Option ℕ) (n : ℕ) (v : Shown)
+        (xs : List (Item Place (List ℕ))) → IsOrderly v → AreCopies at gate n v xs
+        → IsOrderly (all_rewritten gate n v xs) }
+    ensures means { (at : Located → E) (gate : Option ℕ) (n : ℕ) (v : Shown)
+        (xs : List (Item Place (List ℕ))) (m : Slot → Option (Content E (List ℕ))) → IsOrderly v
+        → AreCopies at gate n v xs → IsMeant at v m
+        → IsMeant at (all_rewritten gate n v xs) m }
+{}
+
+/// Rewrite may take the marks that a group owes, wherever its places are, and then no mark is owed.
+pub fn owed_marks_carry<E>()
+    ensures { (f : EntryIndex → E) (m : Slot → Option (Content E (List ℕ))) (v : Shown)
+        (xs : List (Item EntryIndex (List ℕ))) → AreOwedAt v xs
+        → CarriesAll m (whereabouts v) (map (renamed f) xs) (whereabouts (unmarked v)) }
 {}

@@ -30,6 +30,7 @@ ghost use Rattle.raft_log_replay.specs.Tables.{
 };
 
 mod joining;
+mod owing;
 mod replaying;
 mod rewriting;
 mod walking;
@@ -102,9 +103,11 @@ impl MemTables {
         ensures shows { ShowsSame self.old self.new }
         ensures rest { (g : ℕ) → mentions g items.now ≡ true
             → (promise_of self.new g).ends ≡ span (shown_of self.new g) }
+        ensures moves { (g : ℕ) → mentions g items.now ≡ true → (promise_of self.new g).moves ≡ 0 }
         ensures others { (g : ℕ) → mentions g items.now ≡ false
             → promise_of self.new g ≡ promise_of self.old g }
         ensures unwritten { IsReadyFor self.old (tagged_items (λ e. e) items.now) → IsAtRest self.new }
+        ensures rested { IsAtRest self.old → IsAtRest self.new }
     {
         for item in items {
             self.take_back_of(item.raft_group_id);
@@ -154,6 +157,7 @@ impl MemTables {
     fn take_back_of(&mut self, group: u64)
         ensures shows { ShowsSame self.old self.new }
         ensures rest { (promise_of self.new group).ends ≡ span (shown_of self.new group) }
+        ensures moves { (promise_of self.new group).moves ≡ 0 }
         ensures others { (g : ℕ) → (group == g) ≡ false → promise_of self.new g ≡ promise_of self.old g }
     {
         if let Some(found) = self.groups.get_mut(&group) {

@@ -113,9 +113,11 @@ fn append_comes_over_rewrite(rt: HostRuntime) -> Result<(), Fail> {
 fn copies_move_as_far_as_the_gate_lets(rt: HostRuntime) -> Result<(), Fail> {
     let mut tables = merged(rt.alloc())?;
     let copies = items(rt.alloc(), rewrite(21), &[Run(5, 1, 6)])?;
+    tables.prepare_rewrite(copies.as_slice())?;
     tables.apply_rewrite_writes(copies.as_slice(), Some(0), 21);
     let want = "(Some(1), Some(6)) (Some(1), Some(20)) Some((false, 20))";
     assert!(rt; told(rt.alloc(), &tables, 5)?.as_str() == want);
+    tables.prepare_rewrite(copies.as_slice())?;
     tables.apply_rewrite_writes(copies.as_slice(), Some(1), 21);
     tables.note_group(5, GroupFiles { from: 18, to: 20 });
     let want = "(Some(1), Some(6)) (None, Some(18)) Some((false, 20))";

@@ -1,13 +1,13 @@
 -- The least file that a table answers is at or below everything that stands in the queue.
-use Rattle.std.proofs.Common.{◌≡◌, ℕ, zero, suc, ◌+◌, ◌<◌, ◌≤◌, min, Bool, true, false, not, List, [], ◌∷◌, map, length, Option, Some, None, option_map, slice_get, if◌then◌else◌, nat_le, nat_lt, bytes_eq, refl, sym, ap, subst, ◌∙◌, inl, inr, arith, le_refl}
+use Rattle.std.proofs.Common.{◌≡◌, ℕ, zero, suc, ◌+◌, ◌-◌, ◌<◌, ◌≤◌, min, Bool, true, false, not, List, [], ◌∷◌, map, length, Option, Some, None, option_map, slice_get, if◌then◌else◌, nat_le, nat_lt, bytes_eq, refl, sym, ap, subst, ◌∙◌, inl, inr, arith, le_refl}
 use Rattle.raft_log_base.specs.declared.pipe_log.LogQueue.TheVariants.{Append, Rewrite}
 use Rattle.raft_log_model.specs.Meaning.Slot.{Index}
 use Rattle.raft_log_model.proofs.Cases.{at_bool, at_option, if_false, if_true, le_false, lt_true}
 use Rattle.raft_log_machine.proofs.TruthRaises.{no_word}
 use Rattle.std.proofs.lemmas.Bool.{cases_lt}
 use Rattle.raft_log_places.specs.declared.group_files.GroupFiles.{GroupFiles}
-use Rattle.raft_log_places.specs.Shown.{KeyValue}
-use Rattle.raft_log_places.specs.Noted.{file_at, noting, place_file, start_of, IsLeastInRewrite}
+use Rattle.raft_log_places.specs.Shown.{KeyValue, Shown}
+use Rattle.raft_log_places.specs.Noted.{file_at, noting, place_file, start_of, FilesRise, IsLeastInRewrite}
 use Rattle.raft_log_held.specs.declared.key_map.HeldValue.{HeldValue}
 use Rattle.raft_log_held.specs.declared.key_map.KeySlot.{KeySlot}
 use Rattle.raft_log_held.specs.Counts.{lesser, file_of_value, least_over, least_value}
@@ -93,6 +93,17 @@ pub place_there : {A : Type 0} (xs : List A) (i : ℕ) → i < length xs → (x 
 place_there [] i h = absurd (omega arith)
 place_there (x ∷ xs) zero h = (x, refl)
 place_there (x ∷ xs) (suc i) h = place_there xs i (omega arith)
+
+-- where files don't fall along the entries, the first of each queue is the least
+pub front_is_least : (a r : ℕ) (v : Shown) → FilesRise a r v → FrontIsLeast v
+front_is_least a r v rise = (
+  λ i from to.
+      let same : v.first - v.first ≡ 0 = omega arith in
+      subst (λ n. place_file (slice_get v.places n) ≤ file_at v (Index i)) same (rise.rewritten v.first i (omega arith) from to),
+  λ i from to.
+      let same : (v.first + v.rewritten) - v.first ≡ v.rewritten = omega arith in
+      subst (λ n. place_file (slice_get v.places n) ≤ file_at v (Index i)) same (rise.appended (v.first + v.rewritten) i (omega arith) from to),
+)
 
 -- of Append
 pub least_in_append : (t : Raw) (n : ℕ) → FrontIsLeast (shown t) → min_file Append t ≡ Some n → IsLeastInAppend (shown t) n

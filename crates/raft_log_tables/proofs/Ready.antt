@@ -27,7 +27,7 @@ key_here has k = either (bytes_eq k k) (has k) (same k)
     same l = same_key l l refl
 
 module _ {E V : Type 0} where
-  needs-append : (xs ys : List (Item E V)) → needs (xs ++ ys) ≡ needs xs + needs ys
+  pub needs-append : (xs ys : List (Item E V)) → needs (xs ++ ys) ≡ needs xs + needs ys
   needs-append [] ys = omega arith
   needs-append (x ∷ xs) ys = ap (λ n. count_of x + n) (needs-append xs ys) ∙ omega arith
 
@@ -134,7 +134,7 @@ module _ {E F V : Type 0} (f : E → F) where
   count_renamed (Put k v) = refl
   count_renamed (Del k) = refl
 
-  needs_renamed : (xs : List (Item E V)) → needs (map (renamed f) xs) ≡ needs xs
+  pub needs_renamed : (xs : List (Item E V)) → needs (map (renamed f) xs) ≡ needs xs
   needs_renamed [] = refl
   needs_renamed (x ∷ xs) = ap (λ n. n + needs (map (renamed f) xs)) (count_renamed x) ∙ ap (λ n. count_of x + n) (needs_renamed xs)
 

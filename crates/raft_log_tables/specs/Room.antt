@@ -6,10 +6,11 @@ use Rattle.raft_log_model.specs.Holes.{Window}
 use Rattle.raft_log_machine.specs.Whereabouts.{with_key}
 use Rattle.raft_log_places.specs.Shown.{Shown, span, next_span, MayFollow, MayAllFollow}
 
--- room for so many places, the ends that the entries have once all that was prepared is done, and the keys
--- that have room
+-- room for so many places, and for so many entries to move into Rewrite; the ends that the entries have once
+-- all that was prepared is done, and the keys that have room
 pub record Promise : Type 0 where
   pub wanted : ℕ
+  pub moves : ℕ
   pub ends : Window
   pub has : List ℕ → Bool
 
@@ -17,13 +18,21 @@ pub record Promise : Type 0 where
 abbrev pub with_room_for : Promise → List ℕ → Promise
 with_room_for q k = record q { has = with_key q.has k true }
 
--- no places are promised, and the ends are these
+-- so many entries more may move
+abbrev pub with_moves : Promise → ℕ → Promise
+with_moves q n = record q { moves = q.moves + n }
+
+-- so many entries fewer may
+abbrev pub without_moves : Promise → ℕ → Promise
+without_moves q n = record q { moves = q.moves - n }
+
+-- no places are promised and no moves, and the ends are these
 abbrev pub taken_back : Promise → Window → Promise
-taken_back q w = record q { wanted = 0; ends = w }
+taken_back q w = record q { wanted = 0; moves = 0; ends = w }
 
 -- nothing is promised
 abbrev pub no_promise : Promise
-no_promise = record { wanted = 0; ends = record { first = 0; end = 0 }; has = λ k. false }
+no_promise = record { wanted = 0; moves = 0; ends = record { first = 0; end = 0 }; has = λ k. false }
 
 module _ {E V : Type 0} where
   -- how many places the item asks for

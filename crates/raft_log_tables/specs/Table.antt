@@ -53,7 +53,12 @@ IsBoundAs t u = (u.low ≡ t.low) × (u.high ≡ t.high)
 
 -- what a table promised
 abbrev pub promise : Raw → Promise
-promise t = record { wanted = t.places.wanted; ends = window_of t.ahead; has = (keys_of t.keys).has }
+promise t = record {
+  wanted = t.places.wanted;
+  moves = t.places.moves;
+  ends = window_of t.ahead;
+  has = (keys_of t.keys).has;
+}
 
 -- why a run is refused where the entries have these ends: it leaves a hole, and only then as one; or memory
 -- ran out

@@ -6,7 +6,7 @@ ghost use Rattle.raft_log_model.specs.Item.{Item};
 ghost use Rattle.raft_log_model.specs.Renamed.{renamed};
 ghost use Rattle.raft_log_places.specs.declared.place.Place.{Place};
 ghost use Rattle.raft_log_places.specs.declared.group_files.GroupFiles.{GroupFiles};
-ghost use Rattle.raft_log_places.specs.Noted.{noting, start_of, IsLeastInRewrite};
+ghost use Rattle.raft_log_places.specs.Noted.{noting, start_of, FilesRise, IsLeastInRewrite};
 ghost use Rattle.raft_log_places.specs.Shown.{span, stepped, IsOrderly, KeyValue, MayFollow, Shown};
 ghost use Rattle.raft_log_tables.specs.Files.{least_rewritten, min_file, noted_after, FrontIsLeast, IsLeastInAppend};
 ghost use Rattle.raft_log_tables.specs.Room.{kept, promised, CanTake, IsReady, Promise};
@@ -44,6 +44,8 @@ pub fn least_file_in_use()
     ensures nothing { (t : Raw) → IsOrderly (shown t) → min_file Rewrite t ≡ None
         → ((shown t).rewritten ≡ 0)
         × ((k : List ℕ) (h : KeyValue) → (shown t).held k ≡ Some h → h.appended ≡ false → ⊥) }
+    // the first file of each queue is the least one where files don't fall along the entries
+    ensures front { (a r : ℕ) (v : Shown) → FilesRise a r v → FrontIsLeast v }
     // what is noted of an atomic group that ended is by that least file
     ensures noted { (t : Raw) (new : GroupFiles) → IsOrderly (shown t) → FrontIsLeast (shown t)
         → (least : ℕ) × IsLeastInRewrite (shown t) least

@@ -22,7 +22,16 @@ ghost use Rattle.raft_log_tables.specs.Files.{least_rewritten, min_file, noted_a
 ghost use Rattle.raft_log_tables.specs.Moves.{key_rewritten, may_move, moved_by, owed_compact, rewritten_by, StandsIn};
 ghost use Rattle.raft_log_held.specs.Keys.{shown_value, value_of};
 ghost use Rattle.raft_log_tables.specs.Reads.{entries_from, entry_at, first_of, last_of, Fetches, FetchRefused};
-ghost use Rattle.raft_log_tables.specs.Room.{kept, no_promise, promised, taken_back, with_room_for, CanTake};
+ghost use Rattle.raft_log_tables.specs.Room.{
+  kept,
+  no_promise,
+  promised,
+  taken_back,
+  with_moves,
+  with_room_for,
+  without_moves,
+  CanTake,
+};
 ghost use Rattle.raft_log_places.specs.Replayed.{nothing_replayed};
 ghost use Rattle.raft_log_tables.specs.Table.{promise, replay_of, shown, window_of, IsBoundAs, RunRefused};
 
@@ -273,6 +282,17 @@ impl MemTable {
         self.keys.make_room(key)
     }
 
+    /// Makes room for these entries to move to Rewrite, beside all that is prepared already. Refused or not,
+    /// nothing shows.
+    pub fn prepare_rewrite(&mut self, entries: &[EntryIndex]) -> Result<(), AllocError>
+        ensures shows { shown self.new ≡ shown self.old }
+        ensures ok { OnOk result (promise self.new ≡ with_moves (promise self.old) (length entries.now)) }
+        ensures err { OnErr result (promise self.new ≡ promise self.old) }
+        ensures bounds { IsBoundAs self.old self.new }
+    {
+        self.places.make_room_to_move(entries.len())
+    }
+
     /// A compaction is to come. Nothing shows.
     pub fn prepare_compact(&mut self, index: u64)
         ensures shows { shown self.new ≡ shown self.old }
@@ -429,6 +449,7 @@ impl MemTable {
     /// already, or, where there is a gate, in a file of Append up to it.
     pub fn rewrite_key(&mut self, key: &[u8], gate: Option<FileSeq>, file: FileSeq)
         ensures shows { shown self.new ≡ key_rewritten gate (shown self.old) key.now file }
+        ensures ends { span (shown self.new) ≡ span (shown self.old) }
         ensures room { promise self.new ≡ promise self.old }
     {
         let Some(held) = self.keys.get(key) else {
@@ -444,8 +465,9 @@ impl MemTable {
     pub fn move_run(&mut self, entries: &[EntryIndex])
         requires run { IsRun entries.now }
         requires within { StandsIn (shown self.old) (run_of entries.now) }
+        requires room { length entries.now ≤ (promise self.old).moves }
         ensures shows { shown self.new ≡ moved_by (shown self.old) (run_of entries.now) }
-        ensures room { promise self.new ≡ promise self.old }
+        ensures room { promise self.new ≡ without_moves (promise self.old) (length entries.now) }
     {
         let Some(front) = entries.first() else {
             return;
@@ -455,18 +477,21 @@ impl MemTable {
         self.rewritten = position + entries.len();
     }
 
-    /// Entries were written to Rewrite: those that are still there lie where they were written, up to the
-    /// first that is appended and, if there is a gate, in a file past it.
+    /// Entries, for which that was prepared, were written to Rewrite: those that are still there lie where
+    /// they were written, up to the first that is appended and, if there is a gate, in a file past it.
     pub fn rewrite(&mut self, entries: &[EntryIndex], gate: Option<FileSeq>)
-        requires { IsRun entries.now }
+        requires run { IsRun entries.now }
+        requires room { length entries.now ≤ (promise self.old).moves }
         ensures shows { shown self.new ≡ rewritten_by gate (shown self.old) (run_of entries.now) }
-        ensures room { promise self.new ≡ promise self.old }
+        ensures ends { span (shown self.new) ≡ span (shown self.old) }
+        ensures room { promise self.new ≡ without_moves (promise self.old) (length entries.now) }
     {
         let Some(front) = entries.first() else {
             return;
         };
         let position = front.index.saturating_sub(self.first) as usize;
         if position > self.rewritten {
+            self.places.forget_moves(entries.len());
             return;
         }
         let gone = (self.first.saturating_sub(front.index) as usize).min(entries.len());
@@ -481,6 +506,7 @@ impl MemTable {
         let count = there + more;
         let (moved, _) = kept.split_at(count);
         self.places.replace(position, moved);
+        self.places.forget_moves(entries.len() - count);
         self.rewritten = self.rewritten.max(position + count);
     }
 

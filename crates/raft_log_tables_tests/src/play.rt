@@ -64,6 +64,7 @@ fn rewrite(
     gate: Option<u64>,
 ) -> Result<()> {
     let entries = run(alloc, id, ends.0, ends.1)?;
+    table.prepare_rewrite(entries.as_slice())?;
     table.rewrite(entries.as_slice(), gate);
     Ok(())
 }

@@ -8,3 +8,4 @@ invariant-loop-entry l =
     (l.self-inside.places.items ≡ l.fn.self.items ++ map place_of (take l.entry-index l.entries))
     × (l.self-inside.wanted + l.entry-index ≡ l.fn.self.wanted)
     × (deque_len l.self-inside.places + l.self-inside.wanted ≤ deque_capacity l.self-inside.places)
+    × (l.self-inside.moves ≡ l.fn.self.moves)

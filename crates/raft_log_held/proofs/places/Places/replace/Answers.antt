@@ -6,7 +6,8 @@ use Rattle.raft_log_held.proofs.places.Places.replace.Goals as goal
 pub loop-i-preserved : goal.loop-i-preserved
 loop-i-preserved c = (
   ap₂ (λ l v. slice_set l (c.args.position + c.loop-i.i) v) c.loop-i.invariant.0 c.place_of.ensures
-      ∙ replaced place_of c.args.position c.loop-i.i c.args.self.now.items c.args.entries.now _ c.requires c.loop-i-test.true,
+      ∙ replaced place_of c.args.position c.loop-i.i c.args.self.now.items c.args.entries.now _ c.requires.within c.loop-i-test.true,
   c.loop-i.invariant.1,
   c.loop-i.invariant.2,
+  c.loop-i.invariant.3,
 )

@@ -9,5 +9,6 @@ abbrev pub invariant-loop-item : goal.invariant-loop-item
 invariant-loop-item l = record {
   shows : ShowsSame l.fn.self l.self;
   rest : (g : ℕ) → mentions g (take l.item-index l.items) ≡ true → (promise_of l.self g).ends ≡ span (shown_of l.self g);
+  moves : (g : ℕ) → mentions g (take l.item-index l.items) ≡ true → (promise_of l.self g).moves ≡ 0;
   others : (g : ℕ) → mentions g (take l.item-index l.items) ≡ false → promise_of l.self g ≡ promise_of l.fn.self g;
 }

@@ -1,5 +1,5 @@
 use Rattle.std.proofs.Common.{◌≡◌, ◌+◌, ◌-◌, ◌≤◌, ap, arith, drop, length, min, sym, take, ◌∙◌}
-use Rattle.raft_log_held.specs.Entries.{run_of}
+use Rattle.raft_log_held.specs.Entries.{PlaceList, run_of}
 use Rattle.raft_log_tables.specs.Moves.{gated, rewritten_by}
 use Rattle.raft_log_tables.specs.Table.{shown}
 use Rattle.raft_log_tables.specs.contracts.mem_table.MemTable.{the_view}
@@ -19,7 +19,8 @@ returns-clause-shows c =
       | in-Some-gate w ↦ (let within = w.count_up_to-more.ensures.within.0 in omega (arith, within, w.more-is, c.min-there.ensures))
       | in-None w ↦ omega (arith, w.more-is, c.min-there.ensures)
     ] in
-    shows_rewrite c.args.gate (shown (the_view c.self.inside)) c.args.entries.now c.in-Some.front.now c.saturating_sub-position.result c.min-gone.result c.min-there.result c.match-gate.more
+    ap (λ (ps : PlaceList). record (shown (the_view c.self.inside)) { places = ps.items; rewritten = c.max-self-inside.result }) c.forget_moves-2.ensures
+    ∙ shows_rewrite c.args.gate (shown (the_view c.self.inside)) c.args.entries.now c.in-Some.front.now c.saturating_sub-position.result c.min-gone.result c.min-there.result c.match-gate.more
     kept c.split_at-2.result.0.now c.replace.new.self.items c.max-self-inside.result (c.in-Some.ensures.item.3.0) (c.in-Some.ensures.item.1) c.saturating_sub-position.ensures
     c.if-position-self.false (c.min-gone.ensures ∙ ap (λ n. min n (length c.args.entries.now)) c.saturating_sub.ensures) c.split_at.ensures.back c.min-there.ensures more fits
     c.split_at-2.ensures.front c.replace.ensures.items c.max-self-inside.ensures

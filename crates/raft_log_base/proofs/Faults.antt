@@ -3,9 +3,10 @@ use Rattle.std.proofs.Common.{◌≡◌, ℕ, List, Result, Ok, Err, refl, sym, 
 use Rattle.std.specs.Global.{Vec}
 use Rattle.raft_log_base.specs.Grammar.{Reader, IsReader}
 use Rattle.raft_log_base.proofs.Grammar.{ok_is}
+use Rattle.raft_log_base.specs.declared.codec.error.Error.{Error as CodecError}
 use Rattle.raft_log_base.specs.declared.errors.Error.{Error}
 use Rattle.raft_log_base.specs.declared.errors.Error.TheVariants as errors
-use Rattle.raft_log_base.specs.Fault.{Fault, Fails, ReadsOrMemory, ReadsItemsOrMemory, DecodesOrMemory, DecodesItemsOrMemory}
+use Rattle.raft_log_base.specs.Fault.{Fault, Fails, lifted, lifted_at, ReadsOrMemory, ReadsItemsOrMemory, DecodesOrMemory, DecodesItemsOrMemory}
 use Rattle.raft_log_base.specs.Fault.Fault.{number}
 
 -- where each fault of one reading is a fault of another, so is the refusal
@@ -44,4 +45,15 @@ decodes_items {X = X} (Ok ys) old new {read = read} h t = record {
 decodes_items {X = X} (Err d) old new {read = read} h t = record {
   found = t.1;
   only = λ text rest xs p e. fails_of_ok d (read old) (xs, rest) (ap read e ∙ h.again text rest xs p) t.0;
+}
+
+lifted_ok : {X : Type 0} (r : Result X CodecError) (x : X) → lifted r ≡ Ok x → r ≡ Ok x
+lifted_ok (Ok y) x e = cc
+lifted_ok (Err d) x e = absurd cc
+
+-- a reader of a number reads its grammar with its faults among those of a record too
+pub is_lifted : {X : Type 0} {read : Reader X CodecError} {P : List ℕ → X → Type 0} → IsReader read P → IsReader (lifted_at read) P
+is_lifted {X = X} {read = read} h = record {
+  takes = λ bytes y e. h.takes bytes y (lifted_ok (read bytes) y e);
+  again = λ text rest x p. ap (λ (r : Result (X × List ℕ) CodecError). lifted r) (h.again text rest x p);
 }

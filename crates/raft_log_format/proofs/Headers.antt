@@ -7,14 +7,14 @@ use Rattle.std.proofs.lemmas.Bool.{eqb-true, ltb-false, le-ltb}
 use Rattle.std.proofs.lemmas.Bool.Decides.{Decides-eqb}
 use Rattle.std.proofs.lemmas.Slice.Eq.{starts_is}
 use Rattle.std.proofs.lemmas.List.{take_at, drop_at, take-append-drop, length-take-le, length-append}
-use Rattle.raft_log_base.specs.declared.codec.error.Error.{Error as CodecError}
 use Rattle.raft_log_base.specs.declared.pipe_log.Version.{Version}
 use Rattle.raft_log_base.specs.declared.pipe_log.Version.TheVariants.{V1, V2}
-use Rattle.raft_log_base.specs.Grammar.{Reader, IsReader, Then, ◌>>=◌}
+use Rattle.raft_log_base.specs.Grammar.{IsReader, Then, ◌>>=◌}
 use Rattle.raft_log_base.specs.Number.{IsU64, high_first_at, u64_bytes}
 use Rattle.raft_log_base.specs.Files.{version_number}
 use Rattle.raft_log_base.proofs.Grammar.{is_then, is_known, bind_ok, ok_is, chosen}
 use Rattle.raft_log_base.proofs.Fixed.{is_high_first}
+use Rattle.raft_log_base.proofs.Faults.{is_lifted}
 use Rattle.raft_log_base.specs.Fault.{Fault, lifted, lifted_at}
 use Rattle.raft_log_base.specs.Fault.Fault.{corrupt}
 use Rattle.raft_log_format.specs.declared.header.LogFileFormat.{LogFileFormat}
@@ -40,16 +40,6 @@ is_literal p e = record {
 is_magic : IsReader magic_at IsMagic
 unfolding magic_at
 is_magic = is_literal magic (corrupt magic_mismatch)
-
-lifted_ok : {X : Type 0} (r : Result X CodecError) (x : X) → lifted r ≡ Ok x → r ≡ Ok x
-lifted_ok (Ok y) x e = cc
-lifted_ok (Err d) x e = absurd cc
-
-is_lifted : {X : Type 0} {read : Reader X CodecError} {P : List ℕ → X → Type 0} → IsReader read P → IsReader (lifted_at read) P
-is_lifted {X = X} {read = read} h = record {
-  takes = λ bytes y e. h.takes bytes y (lifted_ok (read bytes) y e);
-  again = λ text rest x p. ap (λ (r : Result (X × List ℕ) CodecError). lifted r) (h.again text rest x p);
-}
 
 -- a number is a version's exactly where it is found
 version_found : (n : ℕ) (v : Version) → version_of n ≡ Ok v → n ≡ version_number v

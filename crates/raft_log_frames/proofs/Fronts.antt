@@ -67,10 +67,10 @@ frame_is_read signature input front = (
 )
 
 -- the record of a frame whose block is read
-record_made : (signature : Option ℕ) (input : List ℕ) (front : Front) (entries : List ℕ) → frame_at signature input ≡ Ok front → block_of front.bytes ≡ Ok entries
+pub record_of_block : (signature : Option ℕ) (input : List ℕ) (front : Front) (entries : List ℕ) → frame_at signature input ≡ Ok front → block_of front.bytes ≡ Ok entries
     → record_at signature input ≡ Ok (record front { bytes = entries })
 unfolding record_at
-record_made signature input front entries e b = rw (e, b) refl
+record_of_block signature input front entries e b = rw (e, b) refl
 
 record_parts : (signature : Option ℕ) (input : List ℕ) (front : Front) → record_at signature input ≡ Ok front
     → (frame : Front) × (frame_at signature input ≡ Ok frame) × (block_of frame.bytes ≡ Ok front.bytes) × (record frame { bytes = front.bytes } ≡ front)
@@ -99,7 +99,7 @@ record_is_read signature input front = (
   λ h.
       let frame : Front = record { len = front.len; items = front.items; bytes = h.1.block } in
       let taken : frame_at signature input ≡ Ok frame = (frame_is_read signature input frame).1 (h.0, h.1.frame) in
-      record_made signature input frame front.bytes taken (block_again h.1.block front.bytes h.1.block_spelled),
+      record_of_block signature input frame front.bytes taken (block_again h.1.block front.bytes h.1.block_spelled),
 )
 
 pub frames_are_read_back : FramesAreReadBack
@@ -112,7 +112,7 @@ frames_are_read_back signature bytes block rest items h =
 pub records_are_read_back : RecordsAreReadBack
 records_are_read_back signature bytes entries rest items h =
     let frame : Front = record { len = length bytes; items = items; bytes = h.block } in
-    record_made signature (bytes ++ rest) frame entries (frames_are_read_back signature bytes h.block rest items h.frame) (block_again h.block entries h.block_spelled)
+    record_of_block signature (bytes ++ rest) frame entries (frames_are_read_back signature bytes h.block rest items h.frame) (block_again h.block entries h.block_spelled)
 
 told : (signature : Option ℕ) (input : List ℕ) (r : Result Front Fault) → record_at signature input ≡ r → BeginsRecord signature input ⊎ (BeginsRecord signature input → ⊥)
 told signature input (Ok front) e = let p = (record_is_read signature input front).0 e in inl (front, p.0, p.1)

@@ -1,31 +1,21 @@
 -- Each reader of items reads its grammar.
-use Rattle.std.proofs.Common.{◌≡◌, ℕ, zero, suc, ◌+◌, ◌≤◌, Bool, false, cond, List, [], ◌++◌, length, take, drop, Result, Ok, Err, refl, sym, ap, ◌∙◌, inl, inr, arith, ltb, eqb, IsTrue}
+use Rattle.std.proofs.Common.{◌≡◌, ℕ, zero, suc, ◌+◌, ◌≤◌, Bool, false, cond, List, [], ◌++◌, length, take, drop, Ok, Err, refl, sym, ap, ◌∙◌, inl, inr, arith, ltb, eqb, IsTrue}
 use Rattle.std.proofs.lemmas.Bool.{ltb-false, le-ltb}
 use Rattle.std.proofs.lemmas.List.{take_at, drop_at, take-append-drop, length-take, length-append}
 use Rattle.raft_log_base.specs.Grammar.{Reader, IsReader}
 use Rattle.raft_log_base.specs.Number.{IsVarU64, IsByte}
-use Rattle.raft_log_base.specs.declared.codec.error.Error.{Error as CodecError}
 use Rattle.raft_log_base.specs.declared.codec.error.Error.TheVariants.{Io}
 use Rattle.std.specs.declared.io.ErrorKind.TheVariants.{UnexpectedEof}
 use Rattle.raft_log_base.proofs.Grammar.{bind_ok, done, ok_is, chosen, is_known, is_then, is_times, is_choice}
 use Rattle.raft_log_base.proofs.Fixed.{is_byte}
 use Rattle.raft_log_base.proofs.Var.{is_var_u64}
-use Rattle.raft_log_base.specs.Fault.{Fault, lifted, lifted_at}
+use Rattle.raft_log_base.proofs.Faults.{is_lifted}
+use Rattle.raft_log_base.specs.Fault.{Fault}
 use Rattle.raft_log_base.specs.Fault.Fault.{number, corrupt}
 use Rattle.raft_log_items.specs.Items.{Never, never_at, Passing, passing_at, number_at, kind_at, IsBytesOf, IsBytes, is_entry_len, IsEntryLen, AreEntriesFrom, is_first_of, IsEntriesOf, IsEntries, IsCommandOf, IsCommand, IsKeyValueOf, IsKeyValue, IsContentOf, IsItem, AreItems}
 use Rattle.raft_log_items.specs.Reading.{bytes_of_at, bytes_at, entry_len_at, entries_from_at, first_index_at, entries_of_at, entries_at, command_of_at, command_at, key_value_of_at, key_value_at, content_of_at, item_at, items_at, unknown_command, unknown_operation, unknown_content, index_past_limit, length_past_limit}
 
 -- ---- rules
-
-lifted_ok : {X : Type 0} (r : Result X CodecError) (x : X) → lifted r ≡ Ok x → r ≡ Ok x
-lifted_ok (Ok y) x e = cc
-lifted_ok (Err d) x e = absurd cc
-
-pub is_lifted : {X : Type 0} {read : Reader X CodecError} {P : List ℕ → X → Type 0} → IsReader read P → IsReader (lifted_at read) P
-is_lifted {X = X} {read = read} h = record {
-  takes = λ bytes y e. h.takes bytes y (lifted_ok (read bytes) y e);
-  again = λ text rest x p. ap (λ (r : Result (X × List ℕ) CodecError). lifted r) (h.again text rest x p);
-}
 
 pub is_never : {A : Type 0} (text : List ℕ) → IsReader {X = A} (never_at text) Never
 is_never text = record {

@@ -2,7 +2,6 @@
 use raft_log_items::items::{append_items, decode_items};
 use raft_log_items::{Bytes, Command, EntryIndex, EntryIndexes, KeyValue, LogItem, OpType, Result};
 use std::alloc::Global;
-use std::test::Fail;
 
 /// Three items of group 1: `Compact` to 300, `k` gets `v`, and `k` loses it.
 pub const ITEMS: [u8; 18] = [
@@ -39,63 +38,74 @@ pub fn some_items(alloc: Global) -> Result<Vec<LogItem>> {
     Ok(items)
 }
 
-#[test]
-fn items_are_written(rt: HostRuntime) -> std::result::Result<(), Fail> {
-    let items = some_items(rt.alloc())?;
-    let mut out = Vec::new(rt.alloc());
+/// Whether the three items are written as these bytes.
+fn are_written(alloc: Global) -> Result<bool> {
+    let items = some_items(alloc)?;
+    let mut out = Vec::new(alloc);
     append_items(&mut out, items.as_slice())?;
-    assert!(rt; out.as_slice() == ITEMS.as_slice());
-    Ok(())
+    Ok(out.as_slice() == ITEMS.as_slice())
 }
 
 #[test]
-fn items_are_read(rt: HostRuntime) -> std::result::Result<(), Fail> {
+fn items_are_written(rt: HostRuntime) {
+    assert!(rt; are_written(rt.alloc()).ok() == Some(true));
+}
+
+/// Whether they are read of these bytes, and how many of these are left.
+fn are_read(alloc: Global) -> Result<(bool, usize)> {
     let mut rest = ITEMS.as_slice();
-    let read = decode_items(rt.alloc(), &mut rest)?;
-    assert!(rt; rest.is_empty());
-    assert!(rt; read.as_slice() == some_items(rt.alloc())?.as_slice());
-    Ok(())
+    let read = decode_items(alloc, &mut rest)?;
+    Ok((read.as_slice() == some_items(alloc)?.as_slice(), rest.len()))
 }
 
 #[test]
-fn an_item_is_read_and_written(rt: HostRuntime) -> std::result::Result<(), Fail> {
-    let item = LogItem::decode(rt.alloc(), &mut &ITEMS[1..6])?;
-    let mut out = Vec::new(rt.alloc());
-    item.encode(&mut out)?;
-    assert!(rt; out.as_slice() == &ITEMS[1..6]);
-    Ok(())
+fn items_are_read(rt: HostRuntime) {
+    assert!(rt; are_read(rt.alloc()).ok() == Some((true, 0)));
+}
+
+/// What a part of the bytes is.
+#[derive(Clone, Copy)]
+enum Part {
+    Item,
+    Key,
+    Command,
+    Entries,
+}
+
+/// Reads these bytes as such a part, and appends that.
+fn read_and_write(alloc: Global, part: Part, mut bytes: &[u8], out: &mut Vec<u8>) -> Result<()> {
+    match part {
+        Part::Item => Ok(LogItem::decode(alloc, &mut bytes)?.encode(out)?),
+        Part::Key => Ok(KeyValue::decode(alloc, &mut bytes)?.encode(out)?),
+        Part::Command => Ok(Command::decode(alloc, &mut bytes)?.encode(out)?),
+        Part::Entries => Ok(EntryIndexes::decode(alloc, &mut bytes)?.encode(out)?),
+    }
+}
+
+/// Whether what is read of these bytes is written as they are.
+fn is_kept(alloc: Global, part: Part, bytes: &[u8]) -> Result<bool> {
+    let mut out = Vec::new(alloc);
+    read_and_write(alloc, part, bytes, &mut out)?;
+    Ok(out.as_slice() == bytes)
 }
 
 #[test]
-fn a_key_is_read_and_written(rt: HostRuntime) -> std::result::Result<(), Fail> {
-    let put = KeyValue::decode(rt.alloc(), &mut &ITEMS[8..13])?;
-    let mut out = Vec::new(rt.alloc());
-    put.encode(&mut out)?;
-    assert!(rt; out.as_slice() == &ITEMS[8..13]);
-    Ok(())
+fn parts_are_read_and_written(rt: HostRuntime) {
+    assert!(rt; is_kept(rt.alloc(), Part::Item, &ITEMS[1..6]).ok() == Some(true));
+    assert!(rt; is_kept(rt.alloc(), Part::Key, &ITEMS[8..13]).ok() == Some(true));
+    assert!(rt; is_kept(rt.alloc(), Part::Command, &ITEMS[3..6]).ok() == Some(true));
+    assert!(rt; is_kept(rt.alloc(), Part::Entries, &ENTRIES).ok() == Some(true));
+}
+
+/// How many entries are read, whether there are none, and the second of them.
+fn entries_read(alloc: Global) -> Result<(usize, bool, Option<EntryIndex>)> {
+    let entries = some_entries(alloc)?;
+    let second = entries.as_slice().get(1).copied();
+    Ok((entries.len(), entries.is_empty(), second))
 }
 
 #[test]
-fn a_command_is_read_and_written(rt: HostRuntime) -> std::result::Result<(), Fail> {
-    let command = Command::decode(rt.alloc(), &mut &ITEMS[3..6])?;
-    let mut out = Vec::new(rt.alloc());
-    command.encode(&mut out)?;
-    assert!(rt; out.as_slice() == &ITEMS[3..6]);
-    Ok(())
-}
-
-#[test]
-fn entries_are_read(rt: HostRuntime) -> std::result::Result<(), Fail> {
-    let entries = some_entries(rt.alloc())?;
-    assert!(rt; (entries.len(), entries.is_empty()) == (2, false));
-    assert!(rt; entries.as_slice()[1] == EntryIndex::unplaced(8, 4));
-    Ok(())
-}
-
-#[test]
-fn entries_are_written(rt: HostRuntime) -> std::result::Result<(), Fail> {
-    let mut out = Vec::new(rt.alloc());
-    some_entries(rt.alloc())?.encode(&mut out)?;
-    assert!(rt; out.as_slice() == ENTRIES.as_slice());
-    Ok(())
+fn entries_are_read(rt: HostRuntime) {
+    let second = EntryIndex::unplaced(8, 4);
+    assert!(rt; entries_read(rt.alloc()).ok() == Some((2, false, Some(second))));
 }

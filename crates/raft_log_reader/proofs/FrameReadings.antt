@@ -9,9 +9,9 @@ use Rattle.raft_log_base.specs.declared.pipe_log.LogFileContext.{LogFileContext}
 use Rattle.raft_log_base.proofs.Grammar.{ok_is, bind_ok}
 use Rattle.raft_log_items.specs.declared.item.LogItem.{LogItem}
 use Rattle.raft_log_items.specs.Placed.{placed}
-use Rattle.raft_log_frames.specs.Record.{IsFrame, Front, block_of, frame_at, record_at}
+use Rattle.raft_log_frames.specs.Record.{IsFrame, Front, block_of, frame_at}
 use Rattle.raft_log_frames.proofs.Frames.{frame_back, frames_take_bytes}
-use Rattle.raft_log_frames.proofs.Fronts.{frame_is_read}
+use Rattle.raft_log_frames.proofs.Fronts.{frame_is_read, record_of_block}
 use Rattle.raft_log_disk.specs.Chains.{Refuses, spelled}
 use Rattle.raft_log_reader.specs.Batches.{padding_len, GoesOnAt, batch_at, block_at, context_of, HasBatches}
 use Rattle.raft_log_reader.specs.Batches.GoesOnAt.{behind_padding, at_once}
@@ -100,11 +100,6 @@ block_stands signature input front e =
     let back = frame_back signature (take front.len input) front.bytes (drop front.len input) front.items stands.1 in
     let n : 16 + length front.bytes - 16 ≡ length front.bytes = omega arith in
     ap (λ (k : ℕ). take k (drop 16 input)) (sym n) ∙ ap (λ (l : List ℕ). slice_range l 16 (16 + length front.bytes)) (sym (take-append-drop front.len input)) ∙ back.1
-
-record_of_block : (signature : Option ℕ) (input : List ℕ) (front : Front) (entries : List ℕ) → frame_at signature input ≡ Ok front → block_of front.bytes ≡ Ok entries
-    → record_at signature input ≡ Ok (record front { bytes = entries })
-unfolding record_at
-record_of_block signature input front entries e b = rw (e, b) refl
 
 pub whole_block_is : WholeBlockMakesRecord
 whole_block_is context at len content items e =

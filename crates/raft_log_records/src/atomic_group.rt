@@ -24,7 +24,11 @@ impl Model for AtomicGroupBuilder {
 
 impl AtomicGroupBuilder {
     ghost use Rattle.std.specs.Prelude.{◌≡◌, Some, None, OnOk, OnErr};
-    ghost use Rattle.raft_log_atomic_groups.specs.declared.status.AtomicGroupStatus.TheVariants.{Begin, Middle, End};
+    ghost use Rattle.raft_log_atomic_groups.specs.declared.status.AtomicGroupStatus.TheVariants.{
+      Begin,
+      Middle,
+      End,
+    };
     ghost use Rattle.raft_log_atomic_groups.specs.declared.marking.Marking.TheVariants.{Unmarked};
     ghost use Rattle.raft_log_atomic_groups.specs.Marking.{marking_of_items};
     ghost use Rattle.raft_log_atomic_groups.specs.Meaning.{BecomesPart};

@@ -1,5 +1,6 @@
 //! A batch on its way to a file: it is filled, populated, signed for a file, and written.
-ghost use Rattle.std.specs.Prelude.{◌≡◌, ◌+◌, ◌≤◌, ◌==◌, if◌then◌else◌, false, length, vec_len, vec_capacity, IsOk, OnOk, OnErr, IfErr};
+ghost use Rattle.std.specs.Prelude.{◌≡◌, ◌+◌, ◌≤◌, ◌==◌, if◌then◌else◌};
+ghost use Rattle.std.specs.Prelude.{false, length, vec_len, vec_capacity, IsOk, OnOk, OnErr, IfErr};
 ghost use Rattle.raft_log_atomic_groups.specs.Key.{is_internal};
 ghost use Rattle.raft_log_records.specs.Batch.{max_entries_len, kept_buffer, roomy};
 ghost use Rattle.raft_log_records.specs.Key.{IsKeyRefusal};
@@ -67,7 +68,8 @@ impl Model for LogBatch {
 }
 
 impl LogBatch {
-    ghost use Rattle.std.specs.Prelude.{◌≡◌, ◌+◌, ◌-◌, ◌≤◌, ◌<◌, ◌^◌, ◌++◌, ◌↔◌, [], length, min, IfOk, IfErr, IsErr, IsOk, OnOk, OnErr, IsTrue};
+    ghost use Rattle.std.specs.Prelude.{◌≡◌, ◌+◌, ◌-◌, ◌≤◌, ◌<◌, ◌^◌, ◌++◌, ◌↔◌, []};
+    ghost use Rattle.std.specs.Prelude.{length, min, IfOk, IfErr, IsErr, IsOk, OnOk, OnErr, IsTrue};
     ghost use Rattle.std.specs.Vec.{vec_len, vec_capacity};
     ghost use Rattle.raft_log_base.specs.Files.{signature_of};
     ghost use Rattle.raft_log_items.specs.Items.{del_item};
@@ -80,7 +82,10 @@ impl LogBatch {
     ghost use Rattle.raft_log_records.specs.declared.log_batch.BatchState.TheVariants.{Filling, Populated};
     ghost use Rattle.raft_log_records.specs.ItemBatch.{command_item};
     ghost use Rattle.raft_log_records.specs.Key.{IsKeyRefusal};
-    ghost use Rattle.raft_log_records.specs.Batch.{batch_size, empty_batch, emptied, max_kept_len, written_at, signed_as, signed_bytes, IsButBuffer, AddsItem, Puts, Becomes, IsMade, IsSigned, IsReadyForEach, IsRecordOf, block_place};
+    ghost use Rattle.raft_log_records.specs.Batch.{batch_size, empty_batch, emptied, max_kept_len};
+    ghost use Rattle.raft_log_records.specs.Batch.{written_at, signed_as, signed_bytes, IsButBuffer};
+    ghost use Rattle.raft_log_records.specs.Batch.{AddsItem, Puts, Becomes, IsMade, IsSigned};
+    ghost use Rattle.raft_log_records.specs.Batch.{IsReadyForEach, IsRecordOf, block_place};
     ghost use Rattle.raft_log_records.specs.Places.{AllLieIn, HasBytesInBlock};
 
     /// An empty batch, which is being filled.

@@ -47,7 +47,9 @@ impl PartialEq for LogItemBatch {
 }
 
 impl LogItemBatch {
-    ghost use Rattle.std.specs.Prelude.{◌≡◌, ◌+◌, ◌-◌, ◌≤◌, ◌<◌, ◌^◌, ◌++◌, ◌∷◌, ◌↔◌, [], length, take, drop, map, min, slice_get, None, IfOk, IfErr, IsOk, OnOk, OnErr, IsTrue};
+    ghost use Rattle.std.specs.Prelude.{◌≡◌, ◌+◌, ◌-◌, ◌≤◌, ◌<◌, ◌^◌, ◌++◌, ◌∷◌, ◌↔◌, []};
+    ghost use Rattle.std.specs.Prelude.{length, take, drop, map, min, slice_get, None, IfOk, IfErr, IsOk};
+    ghost use Rattle.std.specs.Prelude.{OnOk, OnErr, IsTrue};
     ghost use Rattle.std.specs.Vec.{vec_len, vec_capacity};
     ghost use Rattle.std.specs.Slice.Iter.{iter_rest};
     ghost use Rattle.std.specs.Iterator.Adapters.{IterYieldsInOrder};
@@ -56,7 +58,10 @@ impl LogItemBatch {
     ghost use Rattle.raft_log_items.specs.Placed.{entries_len, written};
     ghost use Rattle.raft_log_base.specs.Files.{signature_of};
     ghost use Rattle.raft_log_frames.specs.Record.{footer_bytes, placed_footer_of};
-    ghost use Rattle.raft_log_records.specs.ItemBatch.{no_items, AddsItems, AddsPut, TakesItems, HasRoom, IsSpelling, laid_from, run_item, command_item, items_size, all_entries, FindsPlaced, OnlyPlaced, GivesPlaced};
+    ghost use Rattle.raft_log_records.specs.ItemBatch.{no_items, AddsItems, AddsPut, TakesItems, HasRoom};
+    ghost use Rattle.raft_log_records.specs.ItemBatch.{IsSpelling, laid_from, run_item, command_item};
+    ghost use Rattle.raft_log_records.specs.ItemBatch.{items_size, all_entries, FindsPlaced, OnlyPlaced};
+    ghost use Rattle.raft_log_records.specs.ItemBatch.{GivesPlaced};
     ghost use Rattle.raft_log_records.specs.Places.{AllLieIn};
 
     /// An empty batch, which has no room yet.

@@ -1,125 +1,130 @@
 //! Marks of atomic groups: their bytes, and what is no mark.
-ghost use Rattle.std.specs.Prelude.{◌≡◌};
-ghost use Rattle.raft_log_records.specs.Batch.{emptied};
-
-use crate::rows::{bytes_of, cell};
 use crate::steps::record;
-use raft_log_items::{Bytes, Command, LogItem, OpType, Version};
+use raft_log_items::{Bytes, Command, LogItem, OpType, Result, Version};
 use raft_log_records::{AtomicGroupBuilder, AtomicGroupStatus, LogBatch, LogItemBatch, Marking};
-use std::alloc::Global;
-use std::test::Fail;
+use std::alloc::{AllocError, Global};
 
-/// What a batch says as a mark. The batch is emptied.
-fn marking(batch: &mut LogBatch) -> Marking
-    ensures { batch.new ≡ emptied batch.old }
-{
-    let marking = batch.marking();
+/// The marks of a group that begins and goes on.
+fn begun(alloc: Global) -> std::result::Result<(Marking, Marking), AllocError> {
+    let mut builder = AtomicGroupBuilder::with_id(258);
+    let mut batch = LogBatch::default(alloc)?;
+    builder.begin(alloc, &mut batch)?;
+    let first = batch.marking();
     batch.clear();
-    marking
+    builder.add(alloc, &mut batch)?;
+    Ok((first, batch.marking()))
 }
 
 #[test]
-fn a_group_is_marked(rt: HostRuntime) -> Result<(), Fail> {
+fn a_group_is_marked(rt: HostRuntime) {
+    let begin = Marking::Part(258, AtomicGroupStatus::Begin);
+    let middle = Marking::Part(258, AtomicGroupStatus::Middle);
+    assert!(rt; begun(rt.alloc()).ok() == Some((begin, middle)));
+}
+
+/// The last mark of a group that begins and ends, and what its builder says then.
+fn ended(alloc: Global) -> std::result::Result<(Marking, Option<AtomicGroupStatus>), AllocError> {
     let mut builder = AtomicGroupBuilder::with_id(258);
-    let mut batch = LogBatch::default(rt.alloc())?;
-    builder.begin(rt.alloc(), &mut batch)?;
-    assert!(rt; marking(&mut batch) == Marking::Part(258, AtomicGroupStatus::Begin));
-    builder.add(rt.alloc(), &mut batch)?;
-    assert!(rt; marking(&mut batch) == Marking::Part(258, AtomicGroupStatus::Middle));
-    Ok(())
+    let mut batch = LogBatch::default(alloc)?;
+    builder.begin(alloc, &mut batch)?;
+    batch.clear();
+    builder.end(alloc, &mut batch)?;
+    Ok((batch.marking(), builder.status()))
 }
 
 #[test]
-fn a_group_is_ended(rt: HostRuntime) -> Result<(), Fail> {
-    let mut builder = AtomicGroupBuilder::with_id(258);
-    let mut batch = LogBatch::default(rt.alloc())?;
-    builder.begin(rt.alloc(), &mut batch)?;
-    assert!(rt; marking(&mut batch) == Marking::Part(258, AtomicGroupStatus::Begin));
-    builder.end(rt.alloc(), &mut batch)?;
-    assert!(rt; marking(&mut batch) == Marking::Part(258, AtomicGroupStatus::End));
-    assert!(rt; builder.status() == Some(AtomicGroupStatus::End));
-    Ok(())
+fn a_group_is_ended(rt: HostRuntime) {
+    let end = Marking::Part(258, AtomicGroupStatus::End);
+    assert!(rt; ended(rt.alloc()).ok() == Some((end, Some(AtomicGroupStatus::End))));
+}
+
+/// The record of a batch with the first mark of a group.
+pub(crate) fn marked_record(alloc: Global) -> Result<Vec<u8>> {
+    let mut batch = LogBatch::default(alloc)?;
+    AtomicGroupBuilder::with_id(258).begin(alloc, &mut batch)?;
+    record(alloc, &mut batch, Version::V1)
+}
+
+/// The footer's bytes of a mark: one item, which puts a key of group 0.
+const MARK: [u8; 18] = [1, 0, 3, 1, 3, 0x5f, 0x5f, 1, 9, 0, 0, 0, 0, 0, 0, 1, 2, 0];
+
+/// Whether those bytes stand behind the header of the record.
+fn has_mark(alloc: Global) -> Result<bool> {
+    Ok(marked_record(alloc)?.get(16..34) == Some(MARK.as_slice()))
 }
 
 #[test]
-fn a_mark_is_a_key_of_group_zero(rt: HostRuntime) -> Result<(), Fail> {
-    let mut builder = AtomicGroupBuilder::with_id(258);
-    let mut batch = LogBatch::default(rt.alloc())?;
-    builder.begin(rt.alloc(), &mut batch)?;
-    let bytes = record(rt.alloc(), &mut batch, Version::V1)?;
-    let mark = [1, 0, 3, 1, 3, 0x5f, 0x5f, 1, 9, 0, 0, 0, 0, 0, 0, 1, 2, 0];
-    assert!(rt; bytes.get(16..34) == Some(mark.as_slice()));
-    Ok(())
+fn a_mark_is_a_key_of_group_zero(rt: HostRuntime) {
+    assert!(rt; has_mark(rt.alloc()).ok() == Some(true));
 }
+
+/// The end of the group 5, the key of marks, and the value that says so.
+const END: Marking = Marking::Part(5, AtomicGroupStatus::End);
+
+const KEY: &[u8] = b"__\x01";
+
+const VALUE: &[u8] = b"\0\0\0\0\0\0\0\x05\x02";
 
 /// A mark with a value that is none.
 const BROKEN: Marking = Marking::Broken;
 
-/// The end of the group 5.
-const END: Marking = Marking::Part(5, AtomicGroupStatus::End);
-
-/// Items that put (1) or delete (2): what is told of each as a mark, the group, what is done, the key, and
-/// the value.
-const ITEMS: &str = "\
-end | 0 | 1 | 5f 5f 01 | 00 00 00 00 00 00 00 05 02
-none | 1 | 1 | 5f 5f 01 | 00 00 00 00 00 00 00 05 02
-none | 0 | 2 | 5f 5f 01 | 00 00 00 00 00 00 00 05 02
-none | 0 | 1 | 5f 5f 02 | 00 00 00 00 00 00 00 05 02
-none | 0 | 1 | 5f 5f | 00 00 00 00 00 00 00 05 02
-broken | 0 | 1 | 5f 5f 01 | 00 00 00 00 00 00 00 05 03
-broken | 0 | 1 | 5f 5f 01 | 00 00 00 00 00 00 00 05
-broken | 0 | 1 | 5f 5f 01 | 00 00 00 00 00 00 00 05 02 00
-broken | 0 | 1 | 5f 5f 01 |
-";
-
-/// What is told of a mark.
-fn word(marking: Marking) -> &'static str {
-    match marking {
-        Marking::Unmarked => "none",
-        Marking::Part(5, AtomicGroupStatus::End) => "end",
-        Marking::Part(_, _) => "another part",
-        Marking::Broken => "broken",
-    }
-}
+/// Items: what is told of each as a mark, the group, what is done, the key, and the value.
+const ITEMS: [(Marking, u64, OpType, &[u8], &[u8]); 9] = [
+    (END, 0, OpType::Put, KEY, VALUE),
+    (Marking::Unmarked, 1, OpType::Put, KEY, VALUE),
+    (Marking::Unmarked, 0, OpType::Del, KEY, VALUE),
+    (Marking::Unmarked, 0, OpType::Put, b"__\x02", VALUE),
+    (Marking::Unmarked, 0, OpType::Put, b"__", VALUE),
+    (BROKEN, 0, OpType::Put, KEY, b"\0\0\0\0\0\0\0\x05\x03"),
+    (BROKEN, 0, OpType::Put, KEY, b"\0\0\0\0\0\0\0\x05"),
+    (BROKEN, 0, OpType::Put, KEY, b"\0\0\0\0\0\0\0\x05\x02\0"),
+    (BROKEN, 0, OpType::Put, KEY, b""),
+];
 
 /// What is told of an item of a group that does this with a key and a value.
-fn told_item(alloc: Global, group: &str, op: &str, cells: &str) -> Result<&'static str, Fail> {
-    let (key, value) = cell(cells);
-    let op_type = OpType::from_u8(alloc, op.parse::<u8>()?)?;
-    let key = Bytes::from_vec(bytes_of(alloc, key)?);
-    let value = Bytes::from_vec(bytes_of(alloc, value)?);
-    let item = LogItem::new_kv(group.parse::<u64>()?, op_type, key, Some(value));
-    Ok(word(Marking::parse(&item)))
+fn told_item(
+    alloc: Global,
+    group: u64,
+    op_type: OpType,
+    key: &[u8],
+    value: &[u8],
+) -> std::result::Result<Marking, AllocError> {
+    let key = Bytes::from_slice(alloc, key)?;
+    let value = Bytes::from_slice(alloc, value)?;
+    Ok(Marking::parse(&LogItem::new_kv(group, op_type, key, Some(value))))
 }
 
 #[test]
-fn items_tell_their_mark(rt: HostRuntime) -> Result<(), Fail> {
-    assert!(rt; ITEMS.lines().count() == 9);
-    for line in ITEMS.lines() {
-        let (want, cells) = cell(line);
-        let (group, cells) = cell(cells);
-        let (op, cells) = cell(cells);
-        assert!(rt; told_item(rt.alloc(), group, op, cells)? == want, "{line}");
+fn items_tell_their_mark(rt: HostRuntime) {
+    for (row, (want, group, op_type, key, value)) in ITEMS.iter().enumerate() {
+        let told = told_item(rt.alloc(), *group, *op_type, key, value);
+        assert!(rt; told.ok() == Some(*want), "row {row}");
     }
-    Ok(())
 }
 
-#[test]
-fn items_without_a_value_are_no_marks(rt: HostRuntime) -> Result<(), Fail> {
-    let key = Bytes::from_slice(rt.alloc(), b"__\x01")?;
+/// What is told of a put of a mark's key without a value, and of a command.
+fn told_without_value(alloc: Global) -> std::result::Result<(Marking, Marking), AllocError> {
+    let key = Bytes::from_slice(alloc, KEY)?;
     let valueless = LogItem::new_kv(0, OpType::Put, key, None);
-    assert!(rt; Marking::parse(&valueless) == BROKEN);
     let clean = LogItem::new_command(0, Command::Clean);
-    assert!(rt; Marking::parse(&clean) == Marking::Unmarked);
-    Ok(())
+    Ok((Marking::parse(&valueless), Marking::parse(&clean)))
 }
 
 #[test]
-fn two_marks_are_broken(rt: HostRuntime) -> Result<(), Fail> {
-    let mut batch = LogItemBatch::default(rt.alloc());
-    batch.put(rt.alloc(), 0, b"__\x01", b"\0\0\0\0\0\0\0\x05\x02")?;
-    assert!(rt; Marking::parse_all(batch.as_slice()) == END);
-    batch.put(rt.alloc(), 0, b"__\x01", b"\0\0\0\0\0\0\0\x05\x02")?;
-    assert!(rt; Marking::parse_all(batch.as_slice()) == BROKEN);
-    Ok(())
+fn items_without_a_value_are_no_marks(rt: HostRuntime) {
+    assert!(rt; told_without_value(rt.alloc()).ok() == Some((BROKEN, Marking::Unmarked)));
+}
+
+/// What is told of one mark, and of two.
+fn told_twice(alloc: Global) -> std::result::Result<(Marking, Marking), AllocError> {
+    let mut batch = LogItemBatch::default(alloc);
+    batch.put(alloc, 0, KEY, VALUE)?;
+    let first = Marking::parse_all(batch.as_slice());
+    batch.put(alloc, 0, KEY, VALUE)?;
+    Ok((first, Marking::parse_all(batch.as_slice())))
+}
+
+#[test]
+fn two_marks_are_broken(rt: HostRuntime) {
+    assert!(rt; told_twice(rt.alloc()).ok() == Some((END, BROKEN)));
 }

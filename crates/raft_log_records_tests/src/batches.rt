@@ -7,7 +7,6 @@ use crate::steps::{Step, filled};
 use raft_log_items::Version;
 use raft_log_records::LogBatch;
 use std::alloc::Global;
-use std::test::Fail;
 
 /// A batch of one `Clean` that was signed, and goes back to being filled.
 fn gone_back(alloc: Global) -> raft_log_items::Result<LogBatch>
@@ -21,12 +20,26 @@ fn gone_back(alloc: Global) -> raft_log_items::Result<LogBatch>
     Ok(batch)
 }
 
+/// Whether it has its item, and its record is made anew, of the length that is told.
+fn is_made_anew(alloc: Global) -> raft_log_items::Result<bool> {
+    let mut batch = gone_back(alloc)?;
+    let len = batch.finish_populate()?;
+    Ok(len == batch.encoded_len() && (batch.len(), batch.items().len()) == (1, 1))
+}
+
 #[test]
-fn a_batch_goes_back(rt: HostRuntime) -> Result<(), Fail> {
-    let mut batch = gone_back(rt.alloc())?;
-    assert!(rt; (batch.len(), batch.items().len()) == (1, 1));
-    assert!(rt; batch.finish_populate()? == batch.encoded_len());
+fn a_batch_goes_back(rt: HostRuntime) {
+    assert!(rt; is_made_anew(rt.alloc()).ok() == Some(true));
+}
+
+/// Whether it has no item once it is emptied.
+fn is_emptied(alloc: Global) -> raft_log_items::Result<bool> {
+    let mut batch = gone_back(alloc)?;
     batch.clear();
-    assert!(rt; batch.is_empty());
-    Ok(())
+    Ok(batch.is_empty())
+}
+
+#[test]
+fn a_batch_is_emptied(rt: HostRuntime) {
+    assert!(rt; is_emptied(rt.alloc()).ok() == Some(true));
 }

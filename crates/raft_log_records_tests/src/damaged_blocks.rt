@@ -2,11 +2,11 @@
 use crate::rows::{bytes_of, cell, told};
 use raft_log_frames::decode_entries_block;
 use raft_log_items::CompressionType;
-use std::alloc::{AllocError, Global};
+use std::alloc::Global;
 use std::test::Fail;
 
 /// What is damaged of the bytes `123456789` and their checksum, CBF43926, the bytes, and the refusal.
-const BLOCKS: &str = "\
+pub(crate) const BLOCKS: &str = "\
 1 byte | 31 | Corruption: Entry block too short: 1
 2 bytes | 31 32 | Corruption: Entry block too short: 2
 3 bytes | 31 32 33 | Corruption: Entry block too short: 3
@@ -24,20 +24,10 @@ four bytes that are not zero | 00 00 00 01 | Corruption: Entry block checksum mi
 four bytes of all bits | ff ff ff ff | Corruption: Entry block checksum mismatch
 ";
 
-/// What is told of these bytes.
-fn refusal(alloc: Global, bytes: &str) -> Result<String, AllocError> {
+/// Whether the bytes are refused with this text.
+pub(crate) fn holds(alloc: Global, row: &str) -> Result<bool, Fail> {
+    let (bytes, want) = cell(row);
     let bytes = bytes_of(alloc, bytes)?;
     let block = decode_entries_block(alloc, bytes.as_slice(), CompressionType::None);
-    told(alloc, block)
-}
-
-#[test]
-fn damaged_blocks_are_refused(rt: HostRuntime) -> Result<(), Fail> {
-    assert!(rt; BLOCKS.lines().count() == 15);
-    for line in BLOCKS.lines() {
-        let (name, line) = cell(line);
-        let (bytes, want) = cell(line);
-        assert!(rt; refusal(rt.alloc(), bytes)?.as_str() == want, "{name}");
-    }
-    Ok(())
+    Ok(told(alloc, block)?.as_str() == want)
 }

@@ -7,7 +7,7 @@ use std::test::Fail;
 
 /// What is damaged, the length of the block, what the file signs with, if it does, the bytes, and the
 /// refusal.
-const FOOTERS: &str = "\
+pub(crate) const FOOTERS: &str = "\
 no bytes | 0 | - |  | Corruption: Log batch footer too short: 0
 one byte | 0 | - | 00 | Corruption: Log batch footer too short: 1
 a checksum alone | 0 | - | 00 00 00 00 | Corruption: Log batch footer too short: 4
@@ -35,32 +35,30 @@ a block of three bytes | 3 | - | 01 01 02 01 5a 80 0b dd | Corruption: Entry len
 lengths of two items that do not add up | 12 | - | 02 01 01 01 07 03 02 01 01 05 04 80 55 6f fd | Corruption: Entry lengths do not add up to the entry block
 ";
 
-/// What is told of these bytes.
-fn refusal(alloc: Global, block_len: &str, signature: &str, bytes: &str) -> Result<String, Fail> {
+/// Whether the bytes are refused with this text, in a file that signs so, beside a block of so many bytes.
+pub(crate) fn is_refused(
+    alloc: Global,
+    block_len: usize,
+    signature: Option<u32>,
+    row: &str,
+) -> Result<bool, Fail> {
+    let (bytes, want) = cell(row);
     let bytes = bytes_of(alloc, bytes)?;
-    let block_len = block_len.parse::<usize>()?;
-    let signature = signature.parse::<u32>().ok();
     let items = decode_footer(alloc, bytes.as_slice(), block_len, signature);
-    Ok(told(alloc, items)?)
+    Ok(told(alloc, items)?.as_str() == want)
 }
 
-#[test]
-fn damaged_footers_are_refused(rt: HostRuntime) -> Result<(), Fail> {
-    assert!(rt; FOOTERS.lines().count() == 25);
-    for line in FOOTERS.lines() {
-        let (name, line) = cell(line);
-        let (block_len, line) = cell(line);
-        let (signature, line) = cell(line);
-        let (bytes, want) = cell(line);
-        let text = refusal(rt.alloc(), block_len, signature, bytes)?;
-        assert!(rt; text.as_str() == want, "{name}");
-    }
-    Ok(())
+/// The same, of a row that has the length of the block and the signature too.
+pub(crate) fn holds(alloc: Global, row: &str) -> Result<bool, Fail> {
+    let (block_len, row) = cell(row);
+    let (signature, row) = cell(row);
+    let block_len = block_len.parse::<usize>()?;
+    is_refused(alloc, block_len, signature.parse::<u32>().ok(), row)
 }
 
 /// Items with a fault under a right checksum, in a file without signatures: what is wrong, the bytes, and
 /// the refusal.
-const ITEMS: &str = "\
+pub(crate) const ITEMS: &str = "\
 one byte after the last item | 01 01 02 01 00 e7 5c 61 59 | Corruption: Bytes after the last log item: 1
 an item more than counted | 01 01 02 01 01 02 01 49 0b c8 76 | Corruption: Bytes after the last log item: 3
 an item, and none counted | 00 01 02 01 3f e7 b7 65 | Corruption: Bytes after the last log item: 3
@@ -103,17 +101,3 @@ index past the limit before a length that is not there | 01 01 01 01 ff ff ff ff
 length 2^32 | 01 01 01 01 07 80 80 80 80 10 9f b9 55 f7 | Corruption: Entry length past the limit
 length 2^64 - 1 | 01 01 01 01 07 ff ff ff ff ff ff ff ff ff 01 21 bd 44 2a | Corruption: Entry length past the limit
 ";
-
-#[test]
-fn damaged_items_are_refused(rt: HostRuntime) -> Result<(), Fail> {
-    assert!(rt; ITEMS.lines().count() == 41);
-    for line in ITEMS.lines() {
-        let (name, line) = cell(line);
-        let (bytes, want) = cell(line);
-        assert!(rt;
-            refusal(rt.alloc(), "0", "-", bytes)?.as_str() == want,
-            "{name}"
-        );
-    }
-    Ok(())
-}

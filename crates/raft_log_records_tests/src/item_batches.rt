@@ -1,12 +1,11 @@
 //! Lists of items: each call, the bytes of a list, and a footer with its places.
-use crate::rows::context;
+use crate::rows::{context, told};
 use raft_log_items::{
-    Command, CompressionType, EntryIndex, EntryIndexes, Error, FileBlockHandle, FileId, LogItem,
+    Command, CompressionType, EntryIndexes, Error, FileBlockHandle, FileId, LogItem,
     LogItemContent, LogQueue, Result, Version,
 };
 use raft_log_records::LogItemBatch;
-use std::alloc::{AllocError, Global};
-use std::test::Fail;
+use std::alloc::Global;
 
 /// Entries 7 and 8 of group 1, of three and four bytes, entry 1 of group 2, of two bytes, and a key of
 /// group 2, in file 1 of a format with signatures.
@@ -32,68 +31,89 @@ const ITEMS: [u8; 22] = [
     4, 1, 2, 1, 2, 3, 1, 1, b'k', 1, b'v', 2, 3, 2, 1, b'k', 3, 1, 2, 7, 3, 4,
 ];
 
-#[test]
-fn a_list_is_encoded(rt: HostRuntime) -> std::result::Result<(), Fail> {
-    let batch = some_items(rt.alloc())?;
-    let mut out = vec![in rt.alloc(); 9u8]?;
+/// About how many bytes a footer of them has: twelve, and the group and the numbers of each item at eight
+/// bytes each.
+const SIZE: usize = 12 + (8 + 8) + (8 + 16 + 2) + (8 + 16 + 1) + (8 + 32);
+
+/// Whether these bytes are appended, and so many told.
+fn is_encoded(alloc: Global) -> Result<bool> {
+    let batch = some_items(alloc)?;
+    let mut out = vec![in alloc; 9u8]?;
     batch.encode(&mut out)?;
-    assert!(rt; out.get(1..23) == Some(ITEMS.as_slice()));
-    // A footer of twelve bytes, and the group and the numbers of each item at eight bytes each.
-    assert!(rt; batch.approximate_size() == 12 + (8 + 8) + (8 + 16 + 2) + (8 + 16 + 1) + (8 + 32));
-    Ok(())
+    Ok(out.get(1..23) == Some(ITEMS.as_slice()) && batch.approximate_size() == SIZE)
 }
 
 #[test]
-fn what_is_encoded_is_decoded(rt: HostRuntime) -> std::result::Result<(), Fail> {
-    let batch = some_items(rt.alloc())?;
-    let mut out = Vec::new(rt.alloc());
-    batch.encode(&mut out)?;
+fn a_list_is_encoded(rt: HostRuntime) {
+    assert!(rt; is_encoded(rt.alloc()).ok() == Some(true));
+}
+
+/// Whether the four items are read of what was encoded, and there is room for them.
+fn is_decoded(alloc: Global) -> Result<bool> {
+    let mut out = Vec::new(alloc);
+    some_items(alloc)?.encode(&mut out)?;
     let file = context(Version::V1, 1);
-    let read = LogItemBatch::decode(rt.alloc(), &out, block(11), CompressionType::None, &file)?;
-    assert!(rt; (read.len(), read.capacity() >= 4) == (4, true));
-    Ok(())
+    let read = LogItemBatch::decode(alloc, &out, block(11), CompressionType::None, &file)?;
+    Ok(read.len() == 4 && read.capacity() >= 4)
 }
 
 #[test]
-fn lists_are_cleared(rt: HostRuntime) -> std::result::Result<(), Fail> {
-    let mut batch = some_items(rt.alloc())?;
+fn what_is_encoded_is_decoded(rt: HostRuntime) {
+    assert!(rt; is_decoded(rt.alloc()).ok() == Some(true));
+}
+
+/// Whether a list that was cleared has no items, and room for nine.
+fn is_cleared(alloc: Global) -> Result<bool> {
+    let mut batch = some_items(alloc)?;
     batch.reserve(9)?;
     batch.clear();
-    assert!(rt; batch.is_empty() && batch.capacity() >= 9);
-    Ok(())
+    Ok(batch.is_empty() && batch.capacity() >= 9)
 }
 
 #[test]
-fn lists_are_compared(rt: HostRuntime) -> std::result::Result<(), Fail> {
-    let batch = some_items(rt.alloc())?;
-    let copy = batch.clone(rt.alloc())?;
-    assert!(rt; copy == batch);
-    let empty = LogItemBatch::default(rt.alloc());
-    assert!(rt; empty.is_empty() && empty != batch);
-    Ok(())
+fn lists_are_cleared(rt: HostRuntime) {
+    assert!(rt; is_cleared(rt.alloc()).ok() == Some(true));
+}
+
+/// Whether a copy is equal, and an empty list another one.
+fn is_compared(alloc: Global) -> Result<bool> {
+    let batch = some_items(alloc)?;
+    let copy = batch.clone(alloc)?;
+    Ok(copy == batch && LogItemBatch::default(alloc) != batch)
 }
 
 #[test]
-fn lists_are_merged(rt: HostRuntime) -> std::result::Result<(), Fail> {
-    let mut batch = some_items(rt.alloc())?;
-    let mut other = LogItemBatch::default(rt.alloc());
+fn lists_are_compared(rt: HostRuntime) {
+    assert!(rt; is_compared(rt.alloc()).ok() == Some(true));
+}
+
+/// Whether one list has the items of both once it took those of the other, two of them of group 2.
+fn is_merged(alloc: Global) -> Result<bool> {
+    let mut batch = some_items(alloc)?;
+    let mut other = LogItemBatch::default(alloc);
     other.add_command(5, Command::Compact { index: 6 })?;
     batch.merge(&mut other)?;
-    assert!(rt; (batch.len(), other.len()) == (5, 0));
     let of_two = batch.iter().filter(|item| item.raft_group_id == 2).count();
-    assert!(rt; of_two == 2);
-    Ok(())
+    Ok((batch.len(), other.len()) == (5, 0) && of_two == 2)
 }
 
 #[test]
-fn lists_are_drained(rt: HostRuntime) -> std::result::Result<(), Fail> {
-    let mut batch = some_items(rt.alloc())?;
-    let copy = batch.clone(rt.alloc())?.into_items();
-    let mut items: Vec<LogItem> = Vec::new(rt.alloc());
+fn lists_are_merged(rt: HostRuntime) {
+    assert!(rt; is_merged(rt.alloc()).ok() == Some(true));
+}
+
+/// Whether a drained list is empty, and what came of it is what was in it.
+fn is_drained(alloc: Global) -> Result<bool> {
+    let mut batch = some_items(alloc)?;
+    let copy = batch.clone(alloc)?.into_items();
+    let mut items: Vec<LogItem> = Vec::new(alloc);
     batch.drain(&mut items)?;
-    assert!(rt; batch.is_empty());
-    assert!(rt; items.as_slice() == copy.as_slice());
-    Ok(())
+    Ok(batch.is_empty() && items.as_slice() == copy.as_slice())
+}
+
+#[test]
+fn lists_are_drained(rt: HostRuntime) {
+    assert!(rt; is_drained(rt.alloc()).ok() == Some(true));
 }
 
 /// The place of a block of so many bytes.
@@ -111,40 +131,63 @@ pub(crate) fn decoded(alloc: Global, number: u64, len: usize) -> Result<LogItemB
     LogItemBatch::decode(alloc, &FOOTER, block(len), CompressionType::None, &file)
 }
 
-/// Where the entries of an item lie in their block, and whether they are in this one.
-fn places(alloc: Global, entries: &[EntryIndex]) -> std::result::Result<Vec<u32>, AllocError> {
-    let mut offsets = Vec::new(alloc);
-    for entry in entries {
-        if entry.entries == Some(block(13)) {
-            offsets.push(entry.entry_offset)?;
+/// Where an entry of an item lies in the block of the footer.
+fn offset_in_block(item: &LogItem, at: usize) -> Option<u32> {
+    match &item.content {
+        LogItemContent::EntryIndexes(entries) => {
+            let entry = entries.as_slice().get(at)?;
+            if entry.entries == Some(block(13)) {
+                Some(entry.entry_offset)
+            } else {
+                None
+            }
         }
+        _ => None,
     }
-    Ok(offsets)
+}
+
+/// Whether the entries of the first two items lie one behind the other.
+fn are_placed(items: &[LogItem]) -> bool {
+    match items {
+        [first, second, ..] => {
+            offset_in_block(first, 0) == Some(0)
+                && offset_in_block(first, 1) == Some(3)
+                && offset_in_block(second, 0) == Some(7)
+        }
+        _ => false,
+    }
+}
+
+/// Whether the entries have their places, and the first of all is told.
+fn is_placed(alloc: Global) -> Result<bool> {
+    let batch = decoded(alloc, 1, 13)?;
+    let first = match batch.entry_index() {
+        Some(entry) => entry.index == 7,
+        None => false,
+    };
+    Ok(first && are_placed(batch.as_slice()))
 }
 
 #[test]
-fn entries_of_a_footer_get_their_places(rt: HostRuntime) -> std::result::Result<(), Fail> {
-    let batch = decoded(rt.alloc(), 1, 13)?;
-    let mut offsets = Vec::new(rt.alloc());
-    for item in batch.as_slice() {
-        if let LogItemContent::EntryIndexes(entries) = &item.content {
-            offsets.append(&mut places(rt.alloc(), entries.as_slice())?)?;
-        }
+fn entries_of_a_footer_get_their_places(rt: HostRuntime) {
+    assert!(rt; is_placed(rt.alloc()).ok() == Some(true));
+}
+
+/// The file of the third item's key.
+fn file_of_key(alloc: Global) -> Result<Option<FileId>> {
+    let batch = decoded(alloc, 1, 13)?;
+    match batch.as_slice() {
+        [_, _, item] => match &item.content {
+            LogItemContent::Kv(key_value) => Ok(key_value.file_id),
+            _ => Ok(None),
+        },
+        _ => Ok(None),
     }
-    assert!(rt; offsets.as_slice() == [0u32, 3, 7].as_slice());
-    assert!(rt; batch.entry_index().map(|entry| entry.index) == Some(7));
-    Ok(())
 }
 
 #[test]
-fn keys_of_a_footer_get_their_file(rt: HostRuntime) -> std::result::Result<(), Fail> {
-    let batch = decoded(rt.alloc(), 1, 13)?;
-    for item in batch.as_slice() {
-        if let LogItemContent::Kv(key_value) = &item.content {
-            assert!(rt; key_value.file_id == Some(block(13).id));
-        }
-    }
-    Ok(())
+fn keys_of_a_footer_get_their_file(rt: HostRuntime) {
+    assert!(rt; file_of_key(rt.alloc()).ok() == Some(Some(block(13).id)));
 }
 
 /// Files and lengths of blocks for which the footer is none, and why.
@@ -162,13 +205,18 @@ const REFUSED: [(u64, usize, &str); 3] = [
     ),
 ];
 
+/// Whether that is what is told of the footer there.
+fn is_refused(alloc: Global, number: u64, len: usize, want: &str) -> Result<bool> {
+    let batch = decoded(alloc, number, len);
+    Ok(told(alloc, batch)?.as_str() == want)
+}
+
 #[test]
-fn a_footer_of_another_place_is_refused(rt: HostRuntime) -> std::result::Result<(), Fail> {
+fn a_footer_of_another_place_is_refused(rt: HostRuntime) {
     for (number, len, want) in REFUSED.iter() {
-        match decoded(rt.alloc(), *number, *len) {
-            Ok(_) => assert!(rt; false, "{want}"),
-            Err(error) => assert!(rt; error.to_string(rt.alloc())?.as_str() == *want, "{want}"),
-        }
+        assert!(rt;
+            is_refused(rt.alloc(), *number, *len, want).ok() == Some(true),
+            "{want}"
+        );
     }
-    Ok(())
 }

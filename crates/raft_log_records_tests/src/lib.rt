@@ -18,6 +18,8 @@ mod item_batches;
 mod log_batches;
 mod messages;
 #[cfg(test)]
+mod messages_both_ways;
+#[cfg(test)]
 mod reading;
 #[cfg(test)]
 mod rows;
@@ -25,5 +27,7 @@ mod rows;
 mod short_memory;
 #[cfg(test)]
 mod steps;
+#[cfg(test)]
+mod tables;
 #[cfg(test)]
 mod whole_records;

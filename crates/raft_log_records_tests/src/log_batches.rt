@@ -12,7 +12,6 @@ use raft_log_items::{
 };
 use raft_log_records::{BatchState, LogBatch};
 use std::alloc::{AllocError, Global};
-use std::test::Fail;
 
 /// Two entries of group 1, `ab` at index 7 and `cde` at 8, in file 1 of a format with signatures.
 ///
@@ -93,51 +92,78 @@ fn extent(entries: &[EntryIndex], at: usize) -> Option<(u32, u32)> {
     Some((entry.entry_offset, entry.entry_len))
 }
 
+/// Whether a batch tells about how many bytes its record has, and how many.
+fn tells_size(alloc: Global) -> Result<bool> {
+    let mut batch = LogBatch::with_capacity(alloc, 4)?;
+    add(alloc, &mut batch, 1, &[7, 8], &[b"ab", b"cde"])?;
+    let size = batch.approximate_size();
+    Ok(batch.finish_populate()? == 36 && size == SIZE)
+}
+
+/// Header 16, block 9, footer 12, and of the item 8 for the group and 8 for each of four numbers.
+const SIZE: usize = 37 + 40;
+
 #[test]
-fn a_batch_tells_its_size(rt: HostRuntime) -> std::result::Result<(), Fail> {
-    let mut batch = LogBatch::with_capacity(rt.alloc(), 4)?;
-    add(rt.alloc(), &mut batch, 1, &[7, 8], &[b"ab", b"cde"])?;
-    // Header 16, block 9, footer 12, and of the item 8 for the group and 8 for each of four numbers.
-    assert!(rt; batch.approximate_size() == 37 + 40);
-    assert!(rt; batch.finish_populate()? == 36);
-    Ok(())
+fn a_batch_tells_its_size(rt: HostRuntime) {
+    assert!(rt; tells_size(rt.alloc()).ok() == Some(true));
+}
+
+/// Whether the copy of a signed batch has its record.
+fn copy_has_record(alloc: Global) -> Result<bool> {
+    let copy = signed(alloc)?.clone(alloc)?;
+    Ok(copy.encoded_bytes() == TWO_ENTRIES.as_slice())
 }
 
 #[test]
-fn a_copy_has_the_same_record(rt: HostRuntime) -> std::result::Result<(), Fail> {
-    let copy = signed(rt.alloc())?.clone(rt.alloc())?;
-    assert!(rt; copy.encoded_bytes() == TWO_ENTRIES.as_slice());
-    Ok(())
+fn a_copy_has_the_same_record(rt: HostRuntime) {
+    assert!(rt; copy_has_record(rt.alloc()).ok() == Some(true));
 }
 
-#[test]
-fn written_entries_get_their_places(rt: HostRuntime) -> std::result::Result<(), Fail> {
-    let mut batch = signed(rt.alloc())?;
+/// The entries of a batch that was written, and whether its state said so, and then that it was emptied.
+fn written(alloc: Global) -> Result<(Vec<EntryIndex>, bool)> {
+    let mut batch = signed(alloc)?;
     batch.finish_write(place(1));
-    assert!(rt; batch.state() == BatchState::Written);
-    let entries = drained(rt.alloc(), &mut batch)?;
-    assert!(rt; batch.state() == BatchState::Filling);
-    let block = FileBlockHandle {
-        id: place(1).id,
+    let written = batch.state() == BatchState::Written;
+    let entries = drained(alloc, &mut batch)?;
+    Ok((entries, written && batch.state() == BatchState::Filling))
+}
+
+/// The block of the batch that was written.
+fn block() -> FileBlockHandle {
+    FileBlockHandle {
+        id: FileId::new(LogQueue::Append, 1),
         offset: 116,
         len: 9,
-    };
-    let at_places = entries
-        .iter()
-        .filter(|entry| entry.entries == Some(block))
-        .count();
-    assert!(rt; at_places == 2);
-    Ok(())
+    }
+}
+
+/// Which block the entry at this place of those lies in.
+fn block_of(entries: &[EntryIndex], at: usize) -> Option<FileBlockHandle> {
+    entries.get(at)?.entries
+}
+
+/// Whether the two entries lie in the block.
+fn are_in_block(alloc: Global) -> Result<bool> {
+    let (entries, states) = written(alloc)?;
+    let first = block_of(entries.as_slice(), 0);
+    Ok(states && first == Some(block()) && block_of(entries.as_slice(), 1) == first)
 }
 
 #[test]
-fn written_entries_lie_in_their_block(rt: HostRuntime) -> std::result::Result<(), Fail> {
-    let mut batch = signed(rt.alloc())?;
-    batch.finish_write(place(1));
-    let entries = drained(rt.alloc(), &mut batch)?;
-    assert!(rt; extent(entries.as_slice(), 0) == Some((0, 2)));
-    assert!(rt; extent(entries.as_slice(), 1) == Some((2, 3)));
-    Ok(())
+fn written_entries_get_their_places(rt: HostRuntime) {
+    assert!(rt; are_in_block(rt.alloc()).ok() == Some(true));
+}
+
+/// Whether the two entries lie one behind the other.
+fn lie_in_a_row(alloc: Global) -> Result<bool> {
+    let (entries, _) = written(alloc)?;
+    let first = extent(entries.as_slice(), 0);
+    Ok(first == Some((0, 2)) && extent(entries.as_slice(), 1) == Some((2, 3)))
+}
+
+#[test]
+fn written_entries_lie_in_their_block(rt: HostRuntime) {
+    assert!(rt; lie_in_a_row(rt.alloc()).ok() == Some(true));
 }
 
 /// An entry of a user's log.
@@ -171,23 +197,37 @@ pub(crate) fn with_messages(alloc: Global) -> Result<LogBatch>
     Ok(batch)
 }
 
-#[test]
-fn messages_are_entries(rt: HostRuntime) -> std::result::Result<(), Fail> {
-    let mut batch = with_messages(rt.alloc())?;
-    let bytes = record(rt.alloc(), &mut batch, Version::V2)?;
-    assert!(rt; bytes.get(16..26) == Some(b"\0\0\0\0\0\0\0\x07ab".as_slice()));
-    let entries = drained(rt.alloc(), &mut batch)?;
-    assert!(rt; extent(entries.as_slice(), 1) == Some((10, 8)));
-    Ok(())
+/// The record of two messages.
+pub(crate) fn message_record(alloc: Global) -> Result<Vec<u8>> {
+    let mut batch = with_messages(alloc)?;
+    record(alloc, &mut batch, Version::V2)
+}
+
+/// Whether their bytes stand behind the header, and the second lies there.
+fn are_entries(alloc: Global) -> Result<bool> {
+    let bytes = message_record(alloc)?;
+    let entries = drained(alloc, &mut with_messages(alloc)?)?;
+    let there = bytes.get(16..26) == Some(b"\0\0\0\0\0\0\0\x07ab".as_slice());
+    Ok(there && extent(entries.as_slice(), 1) == Some((10, 8)))
 }
 
 #[test]
-fn messages_are_values(rt: HostRuntime) -> std::result::Result<(), Fail> {
-    let mut batch = LogBatch::default(rt.alloc())?;
-    batch.put_message(rt.alloc(), 1, b"k", &entry(rt.alloc(), 8, b"")?)?;
+fn messages_are_entries(rt: HostRuntime) {
+    assert!(rt; are_entries(rt.alloc()).ok() == Some(true));
+}
+
+/// How many bytes the record of a message that is a value has.
+fn message_value(alloc: Global) -> Result<usize> {
+    let message = entry(alloc, 8, b"")?;
+    let mut batch = LogBatch::default(alloc)?;
+    batch.put_message(alloc, 1, b"k", &message)?;
+    batch.finish_populate()
+}
+
+#[test]
+fn messages_are_values(rt: HostRuntime) {
     // Header, one item of 14 bytes, and the footer's count and checksum.
-    assert!(rt; batch.finish_populate()? == 16 + 1 + 14 + 4);
-    Ok(())
+    assert!(rt; message_value(rt.alloc()).ok() == Some(16 + 1 + 14 + 4));
 }
 
 /// Entry 7 of group 1, `ab`.
@@ -206,19 +246,33 @@ pub(crate) fn merged(alloc: Global) -> Result<LogBatch>
     Ok(batch)
 }
 
-#[test]
-fn merged_batches_are_one(rt: HostRuntime) -> std::result::Result<(), Fail> {
-    let bytes = record(rt.alloc(), &mut merged(rt.alloc())?, Version::V2)?;
-    assert!(rt; bytes.get(16..22) == Some(b"abxcde".as_slice()));
-    Ok(())
+/// Its record.
+pub(crate) fn merged_record(alloc: Global) -> Result<Vec<u8>> {
+    let mut batch = merged(alloc)?;
+    record(alloc, &mut batch, Version::V2)
+}
+
+/// Whether the bytes of both stand behind the header.
+fn has_both(alloc: Global) -> Result<bool> {
+    let bytes = merged_record(alloc)?;
+    Ok(bytes.get(16..22) == Some(b"abxcde".as_slice()))
 }
 
 #[test]
-fn merged_entries_lie_behind(rt: HostRuntime) -> std::result::Result<(), Fail> {
-    let entries = drained(rt.alloc(), &mut merged(rt.alloc())?)?;
-    assert!(rt; extent(entries.as_slice(), 1) == Some((2, 1)));
-    assert!(rt; extent(entries.as_slice(), 2) == Some((3, 3)));
-    Ok(())
+fn merged_batches_are_one(rt: HostRuntime) {
+    assert!(rt; has_both(rt.alloc()).ok() == Some(true));
+}
+
+/// Whether the other batch's entries lie behind the own ones.
+fn lie_behind(alloc: Global) -> Result<bool> {
+    let entries = drained(alloc, &mut merged(alloc)?)?;
+    let second = extent(entries.as_slice(), 1);
+    Ok(second == Some((2, 1)) && extent(entries.as_slice(), 2) == Some((3, 3)))
+}
+
+#[test]
+fn merged_entries_lie_behind(rt: HostRuntime) {
+    assert!(rt; lie_behind(rt.alloc()).ok() == Some(true));
 }
 
 /// Whether the step was done, or refused for want of memory with the batch as it was.
@@ -230,48 +284,58 @@ fn is_done_or_unchanged(batch: &LogBatch, before: usize, step: &Result<()>) -> b
     }
 }
 
-#[test]
-fn want_of_memory_adds_nothing(rt: HostRuntime) -> std::result::Result<(), Fail> {
-    let Ok(mut batch) = LogBatch::default(rt.alloc()) else {
-        return Ok(());
-    };
-    let step = add(rt.alloc(), &mut batch, 1, &[7, 8], &[b"ab", b"cde"]);
-    assert!(rt; is_done_or_unchanged(&batch, 0, &step));
+/// Whether entries are added or the batch is as it was, and whether its record is made or it is as it was.
+fn adds_all_or_nothing(alloc: Global) -> Result<bool> {
+    let mut batch = LogBatch::default(alloc)?;
+    let step = add(alloc, &mut batch, 1, &[7, 8], &[b"ab", b"cde"]);
+    let added = is_done_or_unchanged(&batch, 0, &step);
     let whole = batch.approximate_size();
-    assert!(rt; batch.finish_populate().is_ok() || batch.approximate_size() == whole);
-    Ok(())
+    let made = batch.finish_populate().is_ok();
+    Ok(added && (made || batch.approximate_size() == whole))
 }
 
 #[test]
-fn want_of_memory_merges_nothing(rt: HostRuntime) -> std::result::Result<(), Fail> {
-    let Ok(mut batch) = filled(rt.alloc(), FIRST) else {
-        return Ok(());
-    };
-    let Ok(mut other) = filled(rt.alloc(), SECOND) else {
-        return Ok(());
-    };
+fn want_of_memory_adds_nothing(rt: HostRuntime) {
+    assert!(rt; adds_all_or_nothing(rt.alloc()).ok() != Some(false));
+}
+
+/// Whether a batch is merged or both are as they were.
+fn merges_all_or_nothing(alloc: Global) -> Result<bool> {
+    let mut batch = filled(alloc, FIRST)?;
+    let mut other = filled(alloc, SECOND)?;
     let (own, others) = (batch.approximate_size(), other.approximate_size());
     let step = batch.merge(&mut other);
-    assert!(rt; is_done_or_unchanged(&batch, own, &step));
-    assert!(rt; step.is_ok() || other.approximate_size() == others);
-    Ok(())
+    let done = is_done_or_unchanged(&batch, own, &step);
+    Ok(done && (step.is_ok() || other.approximate_size() == others))
 }
 
 #[test]
-fn a_batch_with_room_takes_another(rt: HostRuntime) -> std::result::Result<(), Fail> {
-    let mut batch = filled(rt.alloc(), FIRST)?;
-    assert!(rt; batch.entries_len() == 2);
+fn want_of_memory_merges_nothing(rt: HostRuntime) {
+    assert!(rt; merges_all_or_nothing(rt.alloc()).ok() != Some(false));
+}
+
+/// Whether a batch is given room, and too much of it is refused.
+fn has_room(alloc: Global) -> Result<bool> {
+    let mut batch = filled(alloc, FIRST)?;
     batch.reserve(2, 4)?;
-    assert!(rt; batch.reserve(0, 2_147_483_646).is_err());
-    Ok(())
+    Ok(batch.entries_len() == 2 && batch.reserve(0, 2_147_483_646).is_err())
 }
 
 #[test]
-fn a_batch_of_two_mebibytes_is_made(rt: HostRuntime) -> std::result::Result<(), Fail> {
-    let entry = vec![in rt.alloc(); 7u8; 2 << 20]?;
-    let mut batch = LogBatch::default(rt.alloc())?;
-    add(rt.alloc(), &mut batch, 1, &[1], &[entry.as_slice()])?;
+fn a_batch_with_room_takes_another(rt: HostRuntime) {
+    assert!(rt; has_room(rt.alloc()).ok() == Some(true));
+}
+
+/// How many bytes the record of an entry of 2 MiB has.
+fn large_record(alloc: Global) -> Result<usize> {
+    let entry = vec![in alloc; 7u8; 2 << 20]?;
+    let mut batch = LogBatch::default(alloc)?;
+    add(alloc, &mut batch, 1, &[1], &[entry.as_slice()])?;
+    batch.finish_populate()
+}
+
+#[test]
+fn a_batch_of_two_mebibytes_is_made(rt: HostRuntime) {
     // Header, block, and a footer of a count, an item of eight bytes, and a checksum.
-    assert!(rt; batch.finish_populate()? == 16 + (2 << 20) + 4 + 1 + 8 + 4);
-    Ok(())
+    assert!(rt; large_record(rt.alloc()).ok() == Some(16 + (2 << 20) + 4 + 1 + 8 + 4));
 }

@@ -1,9 +1,7 @@
 //! A small message: an index, eight bytes with the highest first, and data.
 use raft_log_base::codec;
 use raft_log_items::{Bytes, Error, Message, MessageExt, Result};
-use raft_log_records::LogItemBatch;
 use std::alloc::{AllocError, Global};
-use std::test::Fail;
 
 /// An entry of a log, as a user might have it.
 #[derive(Drop, PartialEq)]
@@ -51,65 +49,4 @@ impl MessageExt for TestEntries {
     fn index(entry: &TestEntry) -> u64 {
         entry.index
     }
-}
-
-/// Writes a message and parses the bytes.
-fn written_and_parsed<M: Message>(alloc: Global, message: &M) -> Result<M> {
-    let mut out = Vec::new(alloc);
-    message.write(&mut out)?;
-    M::parse(alloc, out.as_slice())
-}
-
-/// The index of an entry, told by its log.
-fn index_of<M: MessageExt>(entry: &M::Entry) -> u64 {
-    M::index(entry)
-}
-
-#[test]
-fn a_message_is_written(rt: HostRuntime) -> std::result::Result<(), Fail> {
-    let entry = TestEntry {
-        index: 258,
-        bytes: Bytes::from_slice(rt.alloc(), b"ab")?,
-    };
-    let mut out = vec![in rt.alloc(); 7u8]?;
-    entry.write(&mut out)?;
-    assert!(rt; out.as_slice() == [7, 0, 0, 0, 0, 0, 0, 1, 2, b'a', b'b'].as_slice());
-    Ok(())
-}
-
-#[test]
-fn a_written_message_is_parsed(rt: HostRuntime) -> std::result::Result<(), Fail> {
-    let entry = TestEntry {
-        index: 258,
-        bytes: Bytes::from_slice(rt.alloc(), b"ab")?,
-    };
-    assert!(rt; written_and_parsed(rt.alloc(), &entry)? == entry);
-    assert!(rt; index_of::<TestEntries>(&entry) == 258);
-    Ok(())
-}
-
-#[test]
-fn bytes_of_no_message_are_refused(rt: HostRuntime) -> std::result::Result<(), Fail> {
-    let Err(error) = TestEntry::parse(rt.alloc(), b"1234567") else {
-        assert!(rt; false, "seven bytes");
-        return Ok(());
-    };
-    assert!(rt; error.to_string(rt.alloc())?.as_str() == "Message Error: entry too short: 7");
-    assert!(rt; TestEntry::parse(rt.alloc(), b"\0\0\0\0\0\0\0\x05")?.index == 5);
-    Ok(())
-}
-
-#[test]
-fn a_message_is_put(rt: HostRuntime) -> std::result::Result<(), Fail> {
-    let entry = TestEntry {
-        index: 1,
-        bytes: Bytes::from_slice(rt.alloc(), b"x")?,
-    };
-    let mut batch = LogItemBatch::default(rt.alloc());
-    batch.put_message(rt.alloc(), 2, b"k", &entry)?;
-    let mut out = Vec::new(rt.alloc());
-    batch.encode(&mut out)?;
-    let bytes = [1, 2, 3, 1, 1, b'k', 9, 0, 0, 0, 0, 0, 0, 0, 1, b'x'];
-    assert!(rt; out.get(..16) == Some(bytes.as_slice()));
-    Ok(())
 }

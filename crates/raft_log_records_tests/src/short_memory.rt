@@ -1,11 +1,11 @@
 //! A call that finds no memory is refused as such, and answered when it is asked again. Run it with each
 //! allocation failing in turn.
+use crate::atomic_groups::marked_record;
 use crate::item_batches::{decoded, some_items};
-use crate::log_batches::{TWO_ENTRIES, entry, merged, signed, with_messages};
-use crate::steps::record;
+use crate::log_batches::{TWO_ENTRIES, entry, merged_record, message_record, signed};
 use raft_log_frames::decode_record;
-use raft_log_items::{Error, Result, Version};
-use raft_log_records::{AtomicGroupBuilder, LogBatch};
+use raft_log_items::{Error, Result};
+use raft_log_records::LogBatch;
 use std::alloc::Global;
 use std::test::Fail;
 
@@ -14,23 +14,6 @@ fn encoded(alloc: Global) -> Result<usize> {
     let mut out = Vec::new(alloc);
     some_items(alloc)?.encode(&mut out)?;
     Ok(out.len())
-}
-
-/// How many bytes the record of two batches that became one has.
-fn record_of_two(alloc: Global) -> Result<usize> {
-    Ok(record(alloc, &mut merged(alloc)?, Version::V2)?.len())
-}
-
-/// How many bytes the record of two messages has.
-fn record_of_messages(alloc: Global) -> Result<usize> {
-    Ok(record(alloc, &mut with_messages(alloc)?, Version::V1)?.len())
-}
-
-/// How many bytes the record of a batch with a mark has.
-fn record_of_marked(alloc: Global) -> Result<usize> {
-    let mut batch = LogBatch::default(alloc)?;
-    AtomicGroupBuilder::with_id(258).begin(alloc, &mut batch)?;
-    Ok(record(alloc, &mut batch, Version::V1)?.len())
 }
 
 /// How many items come of a list that took those of its copy.
@@ -56,13 +39,13 @@ fn items_of_keys(alloc: Global) -> Result<usize> {
 /// How many bytes or items a call answers.
 fn call(alloc: Global, number: usize) -> Result<usize> {
     match number {
-        0 => record_of_two(alloc),
-        1 => record_of_messages(alloc),
+        0 => Ok(merged_record(alloc)?.len()),
+        1 => Ok(message_record(alloc)?.len()),
         2 => Ok(signed(alloc)?.clone(alloc)?.encoded_bytes().len()),
         3 => Ok(decode_record(alloc, &TWO_ENTRIES, Some(1))?.1.len()),
         4 => Ok(decoded(alloc, 1, 13)?.len()),
         5 => encoded(alloc),
-        6 => record_of_marked(alloc),
+        6 => Ok(marked_record(alloc)?.len()),
         7 => items_of_two(alloc),
         _ => items_of_keys(alloc),
     }

@@ -8,7 +8,6 @@ use crate::rows::{CLEAN_SIGNED, CLEAN_UNSIGNED, context, told};
 use raft_log_items::{Command, Result, Version};
 use raft_log_records::LogBatch;
 use std::alloc::Global;
-use std::test::Fail;
 
 /// What is added to a batch.
 pub(crate) enum Step {
@@ -67,13 +66,18 @@ const RECORDS: [(&[Step], Version, &[u8]); 4] = [
     ),
 ];
 
+/// Whether the batch of these steps has this record.
+fn has_record(alloc: Global, steps: &[Step], version: Version, want: &[u8]) -> Result<bool> {
+    let bytes = record(alloc, &mut filled(alloc, steps)?, version)?;
+    Ok(bytes.as_slice() == want)
+}
+
 #[test]
-fn records_are_written(rt: HostRuntime) -> std::result::Result<(), Fail> {
+fn records_are_written(rt: HostRuntime) {
     for (row, (steps, version, want)) in RECORDS.iter().enumerate() {
-        let bytes = record(rt.alloc(), &mut filled(rt.alloc(), steps)?, *version)?;
-        assert!(rt; bytes.as_slice() == *want, "row {row}");
+        let hit = has_record(rt.alloc(), steps, *version, want);
+        assert!(rt; hit.ok() == Some(true), "row {row}");
     }
-    Ok(())
 }
 
 /// Batches, and how many bytes their records have: one underscore begins no key of the log; no entries add
@@ -92,15 +96,16 @@ const LENGTHS: [(&[Step], usize); 5] = [
     ),
 ];
 
+/// How many bytes the record of these steps has.
+fn length(alloc: Global, steps: &[Step]) -> Result<usize> {
+    filled(alloc, steps)?.finish_populate()
+}
+
 #[test]
-fn lengths_are_told(rt: HostRuntime) -> std::result::Result<(), Fail> {
+fn lengths_are_told(rt: HostRuntime) {
     for (steps, want) in LENGTHS.iter() {
-        assert!(rt;
-            filled(rt.alloc(), steps)?.finish_populate()? == *want,
-            "{want}"
-        );
+        assert!(rt; length(rt.alloc(), steps).ok() == Some(*want), "{want}");
     }
-    Ok(())
 }
 
 /// The text of a refusal of indexes that are no run.
@@ -127,12 +132,19 @@ const REFUSED: [(Step, &str); 7] = [
     ),
 ];
 
+/// Whether that is what is told of a step on an empty batch.
+fn is_told(alloc: Global, step: &Step, want: &str) -> Result<bool> {
+    let mut batch = LogBatch::default(alloc)?;
+    let step = take(alloc, &mut batch, step);
+    Ok(told(alloc, step)?.as_str() == want)
+}
+
 #[test]
-fn wrong_steps_are_refused(rt: HostRuntime) -> std::result::Result<(), Fail> {
+fn wrong_steps_are_refused(rt: HostRuntime) {
     for (step, want) in REFUSED.iter() {
-        let mut batch = LogBatch::default(rt.alloc())?;
-        let step = take(rt.alloc(), &mut batch, step);
-        assert!(rt; told(rt.alloc(), step)?.as_str() == *want, "{want}");
+        assert!(rt;
+            is_told(rt.alloc(), step, want).ok() == Some(true),
+            "{want}"
+        );
     }
-    Ok(())
 }

@@ -1,5 +1,5 @@
 //! Whole records, read by the three decoders.
-use crate::rows::{CLEAN_SIGNED, CLEAN_UNSIGNED};
+use crate::rows::{CLEAN_SIGNED, CLEAN_UNSIGNED, told};
 use raft_log_frames::{decode_frame, decode_record};
 use raft_log_items::{LogItem, LogItemContent};
 use std::alloc::Global;
@@ -24,11 +24,10 @@ fn read_record(
 
 #[test]
 fn a_record_past_the_end_is_refused(rt: HostRuntime) -> Result<(), Fail> {
-    let Err(error) = decode_frame(rt.alloc(), &TWO_ENTRIES[..35], Some(1)) else {
-        assert!(rt; false, "a frame");
-        return Ok(());
-    };
-    let text = error.to_string(rt.alloc())?;
+    let text = told(
+        rt.alloc(),
+        decode_frame(rt.alloc(), &TWO_ENTRIES[..35], Some(1)),
+    )?;
     assert!(rt; text.as_str() == "Corruption: Log batch past the end of the input: 36");
     Ok(())
 }
@@ -44,58 +43,84 @@ fn entry_at(items: &[LogItem], at: usize) -> Option<(u64, u32)> {
     }
 }
 
-#[test]
-fn a_record_is_read(rt: HostRuntime) -> Result<(), Fail> {
-    let (items, entries, _) = read_record(rt.alloc(), &TWO_ENTRIES, Some(1))?;
-    assert!(rt; entries == b"abcde".as_slice());
-    assert!(rt; entry_at(items.as_slice(), 0) == Some((5, 2)));
-    assert!(rt; entry_at(items.as_slice(), 1) == Some((6, 3)));
-    Ok(())
+/// Whether the entries' bytes are read, and the two entries.
+fn are_two_read(alloc: Global) -> raft_log_items::Result<bool> {
+    let (items, entries, _) = read_record(alloc, &TWO_ENTRIES, Some(1))?;
+    let first = entry_at(items.as_slice(), 0) == Some((5, 2));
+    let second = entry_at(items.as_slice(), 1) == Some((6, 3));
+    Ok(first && second && entries == b"abcde".as_slice())
 }
 
 #[test]
-fn records_are_read_one_behind_the_other(rt: HostRuntime) -> Result<(), Fail> {
-    let mut bytes = Vec::from_slice(rt.alloc(), &TWO_ENTRIES)?;
+fn a_record_is_read(rt: HostRuntime) {
+    assert!(rt; are_two_read(rt.alloc()).ok() == Some(true));
+}
+
+/// Whether the second of two records is read, with one item, no entries, and no bytes behind it.
+fn is_second_read(alloc: Global) -> raft_log_items::Result<bool> {
+    let mut bytes = Vec::from_slice(alloc, &TWO_ENTRIES)?;
     bytes.extend_from_slice(&CLEAN_SIGNED)?;
-    let (_, _, behind) = read_record(rt.alloc(), bytes.as_slice(), Some(1))?;
-    let (items, entries, behind) = read_record(rt.alloc(), behind, Some(1))?;
-    assert!(rt; (items.len(), entries.len(), behind.len()) == (1, 0, 0));
-    Ok(())
+    let (_, _, behind) = read_record(alloc, bytes.as_slice(), Some(1))?;
+    let (items, entries, behind) = read_record(alloc, behind, Some(1))?;
+    Ok(items.len() == 1 && entries.is_empty() && behind.is_empty())
 }
 
 #[test]
-fn each_cut_is_refused(rt: HostRuntime) -> Result<(), Fail> {
-    for len in 0..TWO_ENTRIES.len() {
-        let refused = read_record(rt.alloc(), &TWO_ENTRIES[..len], Some(1)).is_err();
-        assert!(rt; refused, "the first {len} bytes");
+fn records_are_read_one_behind_the_other(rt: HostRuntime) {
+    assert!(rt; is_second_read(rt.alloc()).ok() == Some(true));
+}
+
+/// Whether no record of a file that signs so stands at the front.
+fn is_refused(alloc: Global, bytes: &[u8], signature: Option<u32>) -> bool {
+    match decode_record(alloc, bytes, signature) {
+        Ok((_len, _items, _entries)) => false,
+        Err(_) => true,
     }
-    Ok(())
 }
 
 #[test]
-fn each_flipped_bit_is_refused(rt: HostRuntime) -> Result<(), Fail> {
-    for at in 0..TWO_ENTRIES.len() {
-        for bit in 0..8u32 {
-            let mut bytes = TWO_ENTRIES;
-            bytes[at] ^= 1 << bit;
-            let refused = read_record(rt.alloc(), &bytes, Some(1)).is_err();
-            assert!(rt; refused, "bit {bit} of byte {at}");
+fn each_cut_is_refused(rt: HostRuntime) {
+    for len in 0..TWO_ENTRIES.len() {
+        assert!(rt;
+            is_refused(rt.alloc(), &TWO_ENTRIES[..len], Some(1)),
+            "the first {len} bytes"
+        );
+    }
+}
+
+/// Whether it is refused with any one bit of the byte at this place flipped.
+fn are_refused(alloc: Global, at: usize) -> bool {
+    for bit in 0..8u32 {
+        let mut bytes = TWO_ENTRIES;
+        if let Some(byte) = bytes.get_mut(at) {
+            *byte ^= 1 << bit;
+        }
+        if !is_refused(alloc, &bytes, Some(1)) {
+            return false;
         }
     }
-    Ok(())
+    true
 }
 
 #[test]
-fn records_of_other_files_are_refused(rt: HostRuntime) -> Result<(), Fail> {
-    let alloc = rt.alloc();
-    assert!(rt; read_record(alloc, &TWO_ENTRIES, Some(1)).is_ok());
-    for signature in [None, Some(0), Some(2), Some(u32::MAX)] {
+fn each_flipped_bit_is_refused(rt: HostRuntime) {
+    for at in 0..TWO_ENTRIES.len() {
+        assert!(rt; are_refused(rt.alloc(), at), "byte {at}");
+    }
+}
+
+/// What other files sign with.
+const OTHERS: [Option<u32>; 4] = [None, Some(0), Some(2), Some(u32::MAX)];
+
+#[test]
+fn records_of_other_files_are_refused(rt: HostRuntime) {
+    assert!(rt; !is_refused(rt.alloc(), &TWO_ENTRIES, Some(1)));
+    for signature in OTHERS.iter() {
         assert!(rt;
-            read_record(alloc, &TWO_ENTRIES, signature).is_err(),
+            is_refused(rt.alloc(), &TWO_ENTRIES, *signature),
             "{signature:?}"
         );
     }
     // A file without signatures and one whose number has none of the low bits sign alike.
-    assert!(rt; read_record(alloc, &CLEAN_UNSIGNED, Some(0)).is_ok());
-    Ok(())
+    assert!(rt; !is_refused(rt.alloc(), &CLEAN_UNSIGNED, Some(0)));
 }

@@ -1,7 +1,9 @@
 //! Entries that are added to a batch: their bytes stand one after another behind those that it has.
-ghost use Rattle.std.specs.Prelude.{◌≡◌, ◌+◌, ◌-◌, ◌<◌, ◌^◌, ◌++◌, ◌↔◌, length, min, IsTrue, IfOk, OnOk, OnErr, IfErr};
+ghost use Rattle.std.specs.Prelude.{◌≡◌, ◌+◌, ◌-◌, ◌<◌, ◌^◌, ◌++◌, ◌↔◌};
+ghost use Rattle.std.specs.Prelude.{length, min, IsTrue, IfOk, OnOk, OnErr, IfErr};
 ghost use Rattle.raft_log_items.specs.Writing.{KeepsFront};
-ghost use Rattle.raft_log_records.specs.Entries.{RisesFrom, IsIndexRun, indexes_of, slices_bytes, laid_slices, joined, bytes_len, IsRunRefusal};
+ghost use Rattle.raft_log_records.specs.Entries.{RisesFrom, IsIndexRun, indexes_of, slices_bytes};
+ghost use Rattle.raft_log_records.specs.Entries.{laid_slices, joined, bytes_len, IsRunRefusal};
 
 use super::{LogBatch, MAX_ENTRIES_LEN, make_room};
 use raft_log_base::codec::or_cut_back;
@@ -13,7 +15,8 @@ impl LogBatch {
     ghost use Rattle.raft_log_records.specs.declared.log_batch.BatchState.TheVariants.{Filling};
     ghost use Rattle.raft_log_records.specs.Batch.{Becomes};
     ghost use Rattle.raft_log_records.specs.Places.{AddsBytes};
-    ghost use Rattle.raft_log_records.specs.Entries.{IsRunOf, indexes_of, slices_bytes, MayHold, AddsSlices, IsSlicesRefusal};
+    ghost use Rattle.raft_log_records.specs.Entries.{IsRunOf, indexes_of, slices_bytes, MayHold};
+    ghost use Rattle.raft_log_records.specs.Entries.{AddsSlices, IsSlicesRefusal};
 
     /// Adds entries of a group, each given by its index and its bytes, which are copied into the batch. Of
     /// the entries in `entry_indexes` only the index is taken: the length is that of the bytes, and the place

@@ -13,7 +13,8 @@ use std::alloc::AllocError;
 impl LogBatch {
     ghost use Rattle.std.specs.Prelude.{◌≡◌, ◌+◌, ◌≤◌, length, IsOk, OnOk, OnErr, IfErr};
     ghost use Rattle.raft_log_records.specs.declared.log_batch.BatchState.TheVariants.{Filling};
-    ghost use Rattle.raft_log_records.specs.Batch.{max_entries_len, empty_batch, with_batch, HasRoomFor, IsButBuffer, IsRoomier};
+    ghost use Rattle.raft_log_records.specs.Batch.{max_entries_len, empty_batch, with_batch, HasRoomFor};
+    ghost use Rattle.raft_log_records.specs.Batch.{IsButBuffer, IsRoomier};
     ghost use Rattle.raft_log_records.specs.Places.{AddsBytes, bytes_in};
     ghost use Rattle.raft_log_records.specs.Entries.{IsMergeRefusal};
 

@@ -12,7 +12,7 @@ use Rattle.raft_log_reader.specs.Opening.{FailsToOpen}
 use Rattle.raft_log_reader.specs.Reader.{IsClosed, Opens, end_of}
 use Rattle.raft_log_reader.specs.declared.open_file.OpenFile.{OpenFile}
 use Rattle.raft_log_reader.specs.declared.reader.LogItemBatchFileReader.{LogItemBatchFileReader}
-use Rattle.raft_log_item_reader.specs.Answers.{IsOpenAt, FailsToFind}
+use Rattle.raft_log_item_reader.specs.Answers.{IsOpenAt, IsOpenRefusal}
 use Rattle.raft_log_item_reader.specs.Answers.GivesFile.{unfound, unopened, opened}
 use Rattle.raft_log_item_reader.specs.Batches.{files_of, named_len}
 use Rattle.raft_log_item_reader.specs.Steps.{OpensNext, FailsNext}
@@ -47,7 +47,7 @@ opens_next d old new file handle format next found opens =
       fewer = omega (arith, most_some new.reader current opens.opened, opens.size, same, named_is d (string_bytes file.path) handle.file found.is);
     }
 
-pub unfound_next : (d : Disk) (old new : BatchReader) (file : LogFile) (error : Error) → files_of old ≡ file ∷ files_of new → FailsToFind (string_bytes file.path) d error → IsClosed new.reader
+pub unfound_next : (d : Disk) (old new : BatchReader) (file : LogFile) (error : Error) → files_of old ≡ file ∷ files_of new → IsOpenRefusal (string_bytes file.path) d error → IsClosed new.reader
     → FailsNext d error old new
 unfound_next d old new file error next fails closed = record { file = file; next = next; told = unfound error fails refl; closed = closed }
 

@@ -43,10 +43,10 @@ pub data GivesFrom (d : Disk) (file : OpenFile) (offset : ℕ) (answers : List A
 
 -- why the file with a path wasn't opened to be read: the file system has stopped, no file has the path, or
 -- memory ran out
-abbrev pub FailsToFind : List ℕ → Disk → Error → Type 0
-FailsToFind path d (errors.Io kind) = (d.stopped ≡ true) ⊎ WrongName path d kind
-FailsToFind path d errors.Memory = Unit {0}
-FailsToFind path d _ = ⊥
+abbrev pub IsOpenRefusal : List ℕ → Disk → Error → Type 0
+IsOpenRefusal path d (errors.Io kind) = (d.stopped ≡ true) ⊎ WrongName path d kind
+IsOpenRefusal path d errors.Memory = Unit {0}
+IsOpenRefusal path d _ = ⊥
 
 -- this is the log file that is open, at its header's end
 pub record IsOpenAt (d : Disk) (file : LogFile) (current : OpenFile) (start : ℕ) : Type 0 where
@@ -57,7 +57,7 @@ pub record IsOpenAt (d : Disk) (file : LogFile) (current : OpenFile) (start : �
 
 -- What comes of a log file: why it wasn't found or opened, or what stands behind its header.
 pub data GivesFile (d : Disk) (file : LogFile) (answers : List Answer) : Type 0 where
-  unfound : (error : Error) → FailsToFind (string_bytes file.path) d error → answers ≡ Err error ∷ []
+  unfound : (error : Error) → IsOpenRefusal (string_bytes file.path) d error → answers ≡ Err error ∷ []
       → GivesFile d file answers
   unopened : (handle : Handle) (error : Error) → IsOpened (string_bytes file.path) ReadOnly handle d
       → FailsToOpen handle d error → answers ≡ Err error ∷ [] → GivesFile d file answers

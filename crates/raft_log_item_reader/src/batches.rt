@@ -2,7 +2,7 @@
 ghost use Rattle.std.specs.Prelude.{◌≡◌, ◌∷◌, [], Err, true, IfOk, IfErr};
 ghost use Rattle.raft_log_disk.specs.Reading.{IsOpened};
 ghost use Rattle.raft_log_disk.specs.declared.handle.Permission.TheVariants.{ReadOnly};
-ghost use Rattle.raft_log_item_reader.specs.Answers.{FailsToFind};
+ghost use Rattle.raft_log_item_reader.specs.Answers.{IsOpenRefusal};
 
 use crate::log_file::LogFile;
 use raft_log_base::{Error, Result};
@@ -123,7 +123,7 @@ impl BatchReader {
 /// Opens the file with a path to read it; want of memory is told apart from a refusal of the file system.
 fn find<F: FileSystem>(file_system: &F, path: &str) -> Result<Handle>
     ensures ok { IfOk result (λ handle. IsOpened path.now ReadOnly handle (F.disk file_system.now)) }
-    ensures err { IfErr result (λ error. FailsToFind path.now (F.disk file_system.now) error) }
+    ensures err { IfErr result (λ error. IsOpenRefusal path.now (F.disk file_system.now) error) }
 {
     match file_system.open(path, Permission::ReadOnly) {
         Ok(handle) => Ok(handle),

@@ -8,7 +8,7 @@ use Rattle.raft_log_disk.specs.Disk.{Disk}
 use Rattle.raft_log_disk.specs.Calls.{at_stop, Refused, after_stop, stops}
 use Rattle.raft_log_disk.specs.Reading.{IsUnread, stopped, gone, unreadable}
 use Rattle.raft_log_disk.specs.declared.handle.Handle.{Handle}
-use Rattle.raft_log_reader_tests.specs.Marked.{with_mark}
+use Rattle.raft_log_reader_tests.specs.Watched.{with_mark}
 
 -- a call at which a file system stops, if it hasn't stopped before
 stops_at : {part done : Disk → Type 0} {wrong : ErrorKind → Type 0} {error : ErrorKind} (old : Disk) (b : Bool) → old.stopped ≡ b → Refused part done wrong error old (at_stop old)

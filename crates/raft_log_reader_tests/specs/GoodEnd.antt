@@ -28,7 +28,8 @@ pub record EndsItsBatches (id : FileId) (handle : Handle) (d : Disk) (end : ℕ)
   pub ends : EndsBehind file (bytes_of file.source d) end
 
 -- the reader has read so far
-pub record IsAtWork (id : FileId) (handle : Handle) (d : Disk) (reader : LogItemBatchFileReader) : Type 0 where
+pub record IsAtWork (id : FileId) (handle : Handle) (d : Disk)
+    (reader : LogItemBatchFileReader) : Type 0 where
   pub reading : IsReading d reader
   pub file : OpenFile
   pub opened : file_of reader ≡ Some file

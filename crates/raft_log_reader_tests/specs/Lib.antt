@@ -1,3 +1,3 @@
 pub mod GoodEnd
 pub mod Answers
-pub mod Marked
+pub mod Watched

@@ -1,10 +1,9 @@
 //! Files to be read: a header and records behind it.
-ghost use Rattle.std.specs.Prelude.{IfOk};
-
-use crate::counting::Counting;
-use raft_log_base::{Error, FileId, LogFileContext, LogQueue, Result, Version};
+use crate::watched::Watched;
+use raft_log_base::{FileId, LogFileContext, LogQueue, Result, Version};
 use raft_log_disk::{FileSystem, Handle};
 use raft_log_format::LogFileFormat;
+use raft_log_items::EntryIndex;
 use raft_log_memory_files::MemoryFileSystem;
 use raft_log_records::LogBatch;
 use std::alloc::Global;
@@ -32,26 +31,41 @@ pub fn append_record(alloc: Global, bytes: &mut Vec<u8>, value_len: usize) -> Re
     Ok(())
 }
 
-/// A header of this alignment, and one record that puts a value of 34 bytes: 134 bytes.
-pub fn one_record(alloc: Global) -> Result<Vec<u8>> {
+/// Appends the record of an entry of so many bytes.
+pub fn append_entry(alloc: Global, bytes: &mut Vec<u8>, len: usize) -> Result<()> {
+    let entry = vec![in alloc; 7u8; len]?;
+    let mut entries: Vec<&[u8]> = Vec::new(alloc);
+    entries.push(entry.as_slice())?;
+    let mut indexes = Vec::new(alloc);
+    let mut index = EntryIndex::default();
+    index.index = 1;
+    indexes.push(index)?;
+    let mut batch = LogBatch::default(alloc)?;
+    batch.add_raw_entries(alloc, 1, &mut indexes, &entries)?;
+    let _len = batch.finish_populate()?;
+    batch.prepare_write(&LogFileContext::new(file_id(), Version::V2));
+    bytes.extend_from_slice(batch.encoded_bytes())?;
+    Ok(())
+}
+
+/// A header, and records that put values of so many bytes; 134 bytes with one value of 34.
+pub fn records(alloc: Global, values: &[usize]) -> Result<Vec<u8>> {
     let mut bytes = header(alloc, 0)?;
-    append_record(alloc, &mut bytes, 34)?;
+    for value_len in values {
+        append_record(alloc, &mut bytes, *value_len)?;
+    }
     Ok(bytes)
 }
 
-/// A file system that has the bytes in a file, and a handle of it.
-pub fn saved(alloc: Global, bytes: &[u8]) -> Result<(Counting<MemoryFileSystem>, Handle)> {
+/// A file system that has the bytes in a file, of which this place can't be read, and a handle of it.
+pub fn saved(
+    alloc: Global,
+    bytes: &[u8],
+    place: usize,
+) -> Result<(Watched<MemoryFileSystem>, Handle)> {
     let mut files = MemoryFileSystem::new(alloc);
     files.create_dir("d")?;
     let handle = files.create("d/f")?;
     files.write_at(handle, 0, bytes)?;
-    Ok((Counting::new(files, 0), handle))
-}
-
-/// Whether this is a corruption with this text.
-pub fn is_corruption(error: &Error, text: &str) -> bool {
-    match error {
-        Error::Corruption(found) => found.as_str() == text,
-        _ => false,
-    }
+    Ok((Watched::marked(files, handle.file, place), handle))
 }

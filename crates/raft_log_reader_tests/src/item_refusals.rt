@@ -1,8 +1,8 @@
 //! The items of a directory of three files, where a call or an allocation is refused.
 use crate::answers::answers_of;
-use crate::counting::Counting;
-use crate::items::{prepared, save};
-use crate::marked::Marked;
+use crate::items::{Row, directory_of};
+use crate::steps::NOWHERE;
+use crate::watched::Watched;
 use raft_log_base::{Error, Result};
 use raft_log_disk::{FileSystem, Permission};
 use raft_log_items::LogItem;
@@ -19,13 +19,16 @@ const SECOND: &str = "d/0000000000000001.raftlog";
 /// The path of the file of groups 4 and 5.
 const THIRD: &str = "d/0000000000000002.raftlog";
 
-/// A directory of the three files.
-fn three_files(alloc: Global) -> Result<MemoryFileSystem> {
-    let mut system = prepared(alloc)?;
-    save(alloc, &mut system, FIRST, &[1, 2], b"")?;
-    save(alloc, &mut system, SECOND, &[3], b"")?;
-    save(alloc, &mut system, THIRD, &[4, 5], b"")?;
-    Ok(system)
+/// The three files.
+const FILES: [Row; 3] = [
+    (FIRST, &[1, 2], b""),
+    (SECOND, &[3], b""),
+    (THIRD, &[4, 5], b""),
+];
+
+/// A directory of the three files, of which all can be read.
+fn three_files(alloc: Global) -> Result<Watched<MemoryFileSystem>> {
+    Ok(Watched::marked(directory_of(alloc, &FILES)?, 0, NOWHERE))
 }
 
 /// The group of an item; 0 for want of memory, 10 where the file system refused, and 20 for another refusal.
@@ -46,16 +49,17 @@ fn words<F: FileSystem>(alloc: Global, system: &F) -> Result<Vec<u64>> {
 
 #[test]
 fn a_file_of_one_block_is_read_twice(rt: HostRuntime) -> Result<(), Fail> {
-    let alloc = rt.alloc();
-    let system = Counting::new(three_files(alloc)?, 0);
-    assert!(rt; words(alloc, &system)?.as_slice() == [1, 2, 3, 4, 5].as_slice());
+    let system = three_files(rt.alloc())?;
+    assert!(rt; words(rt.alloc(), &system)?.as_slice() == [1, 2, 3, 4, 5].as_slice());
     assert!(rt; system.reads.get() == 6);
     Ok(())
 }
 
 /// What comes of the directory where there is no memory for this call.
 fn short_at(alloc: Global, call: usize) -> Result<Vec<u64>> {
-    words(alloc, &Counting::new(three_files(alloc)?, call))
+    let system = three_files(alloc)?;
+    system.short_at.set(call);
+    words(alloc, &system)
 }
 
 /// What comes where no memory is there for opening each of the files in turn, and where it is for all.
@@ -68,61 +72,51 @@ const SHORT: [(usize, &[u64]); 4] = [
 
 #[test]
 fn a_file_that_is_not_opened_is_passed_over(rt: HostRuntime) -> Result<(), Fail> {
-    let alloc = rt.alloc();
-    assert!(rt; matches!(short_at(alloc, 1), Err(Error::Memory)));
+    assert!(rt; matches!(short_at(rt.alloc(), 1), Err(Error::Memory)));
     for (call, found) in SHORT.iter() {
-        assert!(rt; short_at(alloc, *call)?.as_slice() == *found, "call {call}");
+        assert!(rt;
+            short_at(rt.alloc(), *call)?.as_slice() == *found,
+            "call {call}"
+        );
     }
     Ok(())
 }
 
 /// What comes of the directory where this place of the file with a path can't be read.
 fn unread_at(alloc: Global, path: &str, place: usize) -> Result<Vec<u64>> {
-    let files = three_files(alloc)?;
-    let file = files.open(path, Permission::ReadOnly)?.file;
-    let system = Marked {
-        files,
-        file,
-        place,
-        stopped: false,
-    };
+    let mut system = three_files(alloc)?;
+    system.file = system.open(path, Permission::ReadOnly)?.file;
+    system.place = place;
     words(alloc, &system)
 }
 
-/// What comes where a place of each file in turn can't be read.
-const UNREAD: [(&str, &[u64]); 3] = [
-    (FIRST, &[10, 3, 4, 5]),
-    (SECOND, &[1, 2, 10, 4, 5]),
-    (THIRD, &[1, 2, 3, 10]),
+/// A file, a place of it that can't be read, in its header, in its records or behind them, and what comes.
+const UNREAD: [(&str, usize, &[u64]); 9] = [
+    (FIRST, 60, &[10, 3, 4, 5]),
+    (FIRST, 61, &[10, 3, 4, 5]),
+    (FIRST, 1_000, &[1, 2, 3, 4, 5]),
+    (SECOND, 60, &[1, 2, 10, 4, 5]),
+    (SECOND, 61, &[1, 2, 10, 4, 5]),
+    (SECOND, 1_000, &[1, 2, 3, 4, 5]),
+    (THIRD, 60, &[1, 2, 3, 10]),
+    (THIRD, 61, &[1, 2, 3, 10]),
+    (THIRD, 1_000, &[1, 2, 3, 4, 5]),
 ];
 
 #[test]
 fn a_file_that_is_not_read_is_passed_over(rt: HostRuntime) -> Result<(), Fail> {
-    let alloc = rt.alloc();
-    for (path, found) in UNREAD.iter() {
-        assert!(rt;
-            unread_at(alloc, path, 60)?.as_slice() == *found,
-            "header of {path}"
-        );
-        assert!(rt;
-            unread_at(alloc, path, 61)?.as_slice() == *found,
-            "records of {path}"
-        );
-        assert!(rt; unread_at(alloc, path, 1_000)?.as_slice() == [1, 2, 3, 4, 5].as_slice());
+    for (path, place, found) in UNREAD.iter() {
+        let words = unread_at(rt.alloc(), path, *place)?;
+        assert!(rt; words.as_slice() == *found, "place {place} of {path}");
     }
     Ok(())
 }
 
 #[test]
 fn a_file_system_that_has_stopped_gives_nothing(rt: HostRuntime) -> Result<(), Fail> {
-    let alloc = rt.alloc();
-    let system = Marked {
-        files: three_files(alloc)?,
-        file: 0,
-        place: 0,
-        stopped: true,
-    };
-    assert!(rt; matches!(words(alloc, &system), Err(Error::Io(_))));
+    let mut system = three_files(rt.alloc())?;
+    system.stopped = true;
+    assert!(rt; matches!(words(rt.alloc(), &system), Err(Error::Io(_))));
     Ok(())
 }
 
@@ -137,7 +131,7 @@ const WANTING: [&[u64]; 6] = [
 ];
 
 /// The three files, where one allocation may be refused.
-fn three_files_again(alloc: Global) -> Result<MemoryFileSystem> {
+fn three_files_again(alloc: Global) -> Result<Watched<MemoryFileSystem>> {
     match three_files(alloc) {
         Ok(system) => Ok(system),
         Err(_) => three_files(alloc),

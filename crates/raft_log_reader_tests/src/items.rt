@@ -10,12 +10,8 @@ use raft_log_records::LogBatch;
 use std::alloc::Global;
 use std::test::Fail;
 
-/// A file system with a directory `d`.
-pub fn prepared(alloc: Global) -> Result<MemoryFileSystem> {
-    let mut system = MemoryFileSystem::new(alloc);
-    system.create_dir("d")?;
-    Ok(system)
-}
+/// A file's path, the groups that put a key in it, and what stands behind their records.
+pub type Row = (&'static str, &'static [u64], &'static [u8]);
 
 /// Appends the record of a put of this group, as a file of the first version has it.
 fn append_put(alloc: Global, bytes: &mut Vec<u8>, group: u64) -> Result<()> {
@@ -28,23 +24,34 @@ fn append_put(alloc: Global, bytes: &mut Vec<u8>, group: u64) -> Result<()> {
     Ok(())
 }
 
-/// Makes a file of the first version in which each of these groups puts a key, with more bytes behind them.
-pub fn save(
-    alloc: Global,
-    system: &mut MemoryFileSystem,
-    path: &str,
-    groups: &[u64],
-    behind: &[u8],
-) -> Result<()> {
+/// The bytes of a file of the first version in which each of these groups puts a key, with more bytes behind
+/// them.
+fn file_of(alloc: Global, groups: &[u64], behind: &[u8]) -> Result<Vec<u8>> {
     let mut bytes = Vec::new(alloc);
     LogFileFormat::default().encode(alloc, &mut bytes)?;
     for group in groups {
         append_put(alloc, &mut bytes, *group)?;
     }
     bytes.extend_from_slice(behind)?;
+    Ok(bytes)
+}
+
+/// Makes a file with these bytes.
+fn save(system: &mut MemoryFileSystem, path: &str, bytes: &[u8]) -> Result<()> {
     let handle = system.create(path)?;
-    system.write_at(handle, 0, bytes.as_slice())?;
+    system.write_at(handle, 0, bytes)?;
     Ok(())
+}
+
+/// A file system with these files of the first version in a directory `d`.
+pub fn directory_of(alloc: Global, rows: &[Row]) -> Result<MemoryFileSystem> {
+    let mut system = MemoryFileSystem::new(alloc);
+    system.create_dir("d")?;
+    for (path, groups, behind) in rows {
+        let bytes = file_of(alloc, groups, behind)?;
+        save(&mut system, path, bytes.as_slice())?;
+    }
+    Ok(system)
 }
 
 /// The group of an item; 0 of a refusal.
@@ -61,6 +68,12 @@ fn groups_in(alloc: Global, system: &MemoryFileSystem) -> Result<Vec<u64>> {
     Ok(answers.iter().map(group_of).collect(alloc)?)
 }
 
+/// The groups of what comes of a directory with these files.
+fn groups_of(alloc: Global, rows: &[Row]) -> Result<Vec<u64>> {
+    let system = directory_of(alloc, rows)?;
+    groups_in(alloc, &system)
+}
+
 /// The group of the first answer of the file with this path, and whether a second one comes.
 fn first_at(alloc: Global, system: &MemoryFileSystem, path: &str) -> Result<(u64, bool)> {
     let mut reader = LogItemReader::new_file_reader(alloc, system, path)?;
@@ -70,98 +83,104 @@ fn first_at(alloc: Global, system: &MemoryFileSystem, path: &str) -> Result<(u64
     }
 }
 
-/// Whether this is an invalid argument with this text.
-fn is_invalid(refused: &Result<(u64, bool)>, text: &str) -> bool {
-    match refused {
-        Err(Error::InvalidArgument(found)) => found.as_str() == text,
-        _ => false,
+/// Why a file with this path isn't read, where that is an invalid argument.
+fn invalid_at(alloc: Global, system: &MemoryFileSystem, path: &str) -> Option<String> {
+    match first_at(alloc, system, path) {
+        Err(Error::InvalidArgument(text)) => Some(text),
+        _ => None,
     }
 }
 
 /// Rewrite files 7 to 9 with no, one and two records.
-fn three_files(alloc: Global) -> Result<MemoryFileSystem> {
-    let mut system = prepared(alloc)?;
-    save(
-        alloc,
-        &mut system,
-        "d/0000000000000009.rewrite",
-        &[2, 3],
-        b"",
-    )?;
-    save(alloc, &mut system, "d/0000000000000007.rewrite", &[], b"")?;
-    save(alloc, &mut system, "d/0000000000000008.rewrite", &[1], b"")?;
-    Ok(system)
-}
+const REWRITE: [Row; 3] = [
+    ("d/0000000000000009.rewrite", &[2, 3], b""),
+    ("d/0000000000000007.rewrite", &[], b""),
+    ("d/0000000000000008.rewrite", &[1], b""),
+];
+
+/// Of each of them the first group, and whether there is a second one.
+const FIRST: [(&str, u64, bool); 3] = [
+    ("d/0000000000000007.rewrite", 0, false),
+    ("d/0000000000000008.rewrite", 1, false),
+    ("d/0000000000000009.rewrite", 2, true),
+];
 
 #[test]
 fn test_debug_file_basic(rt: HostRuntime) -> Result<(), Fail> {
-    let alloc = rt.alloc();
-    let system = three_files(alloc)?;
-    assert!(rt; first_at(alloc, &system, "d/0000000000000007.rewrite")? == (0, false));
-    assert!(rt; first_at(alloc, &system, "d/0000000000000008.rewrite")? == (1, false));
-    assert!(rt; first_at(alloc, &system, "d/0000000000000009.rewrite")? == (2, true));
-    assert!(rt; groups_in(alloc, &system)?.as_slice() == [1, 2, 3].as_slice());
+    let system = directory_of(rt.alloc(), &REWRITE)?;
+    for (path, group, more) in FIRST.iter() {
+        assert!(rt;
+            first_at(rt.alloc(), &system, path)? == (*group, *more),
+            "{path}"
+        );
+    }
+    assert!(rt; groups_in(rt.alloc(), &system)?.as_slice() == [1, 2, 3].as_slice());
     Ok(())
 }
+
+/// They, an Append file, and one that is kept.
+const MIXED: [Row; 5] = [
+    ("d/0000000000000009.rewrite", &[2, 3], b""),
+    ("d/0000000000000007.rewrite", &[], b""),
+    ("d/0000000000000008.rewrite", &[1], b""),
+    ("d/0000000000000001.raftlog", &[5], b""),
+    ("d/0000000000000001.raftlog.reserved", &[6], b""),
+];
 
 #[test]
 fn rewrite_files_come_first(rt: HostRuntime) -> Result<(), Fail> {
-    let alloc = rt.alloc();
-    let mut system = three_files(alloc)?;
-    save(alloc, &mut system, "d/0000000000000001.raftlog", &[5], b"")?;
-    save(
-        alloc,
-        &mut system,
-        "d/0000000000000001.raftlog.reserved",
-        &[6],
-        b"",
-    )?;
-    assert!(rt; groups_in(alloc, &system)?.as_slice() == [1, 2, 3, 5].as_slice());
+    assert!(rt; groups_of(rt.alloc(), &MIXED)?.as_slice() == [1, 2, 3, 5].as_slice());
     Ok(())
 }
+
+/// A file that is damaged behind its records, and one behind it.
+const DAMAGED: [Row; 2] = [
+    ("d/0000000000000001.raftlog", &[1, 2], b"abc"),
+    ("d/0000000000000002.raftlog", &[3], b""),
+];
 
 #[test]
 fn after_a_refusal_the_next_file_follows(rt: HostRuntime) -> Result<(), Fail> {
-    let alloc = rt.alloc();
-    let mut system = prepared(alloc)?;
-    save(
-        alloc,
-        &mut system,
-        "d/0000000000000001.raftlog",
-        &[1, 2],
-        b"abc",
-    )?;
-    save(alloc, &mut system, "d/0000000000000002.raftlog", &[3], b"")?;
-    assert!(rt; groups_in(alloc, &system)?.as_slice() == [1, 2, 0, 3].as_slice());
+    assert!(rt; groups_of(rt.alloc(), &DAMAGED)?.as_slice() == [1, 2, 0, 3].as_slice());
     Ok(())
 }
 
+/// Rewrite file 0 of a header.
+const EMPTY: [Row; 1] = [("d/0000000000000000.rewrite", &[], b"")];
+
 /// An unrelated file, Append file 0 of no bytes and Rewrite file 0 of a header.
 fn odd_files(alloc: Global) -> Result<MemoryFileSystem> {
-    let mut system = prepared(alloc)?;
-    let _random = system.create("d/random_file")?;
-    let _broken = system.create("d/0000000000000000.raftlog")?;
-    save(alloc, &mut system, "d/0000000000000000.rewrite", &[], b"")?;
+    let mut system = directory_of(alloc, &EMPTY)?;
+    save(&mut system, "d/random_file", b"")?;
+    save(&mut system, "d/0000000000000000.raftlog", b"")?;
     Ok(system)
 }
 
+/// What isn't read, and why.
+const INVALID: [(&str, &str); 2] = [
+    ("d", "Not a file: d"),
+    ("d/random_file", "Invalid log file name: d/random_file"),
+];
+
 #[test]
 fn test_debug_file_error(rt: HostRuntime) -> Result<(), Fail> {
-    let alloc = rt.alloc();
-    let system = odd_files(alloc)?;
-    assert!(rt; is_invalid(&first_at(alloc, &system, "d"), "Not a file: d"));
-    let random = first_at(alloc, &system, "d/random_file");
-    assert!(rt; is_invalid(&random, "Invalid log file name: d/random_file"));
-    assert!(rt; first_at(alloc, &system, "d/0000000000000000.rewrite")? == (0, false));
-    assert!(rt; groups_in(alloc, &system)?.as_slice() == [0].as_slice());
+    let system = odd_files(rt.alloc())?;
+    for (path, text) in INVALID.iter() {
+        let found = invalid_at(rt.alloc(), &system, path);
+        assert!(rt;
+            matches!(&found, Some(why) if why.as_str() == *text),
+            "{path}"
+        );
+    }
+    assert!(rt; first_at(rt.alloc(), &system, "d/0000000000000000.rewrite")? == (0, false));
+    assert!(rt; groups_in(rt.alloc(), &system)?.as_slice() == [0].as_slice());
     Ok(())
 }
 
 #[test]
 fn a_directory_reader_of_a_file_is_refused(rt: HostRuntime) -> Result<(), Fail> {
-    let alloc = rt.alloc();
-    let system = odd_files(alloc)?;
-    let refused = answers_of(alloc, &system, "d/random_file");
-    assert!(rt; matches!(&refused, Err(Error::InvalidArgument(_))));
+    let system = odd_files(rt.alloc())?;
+    let refused = answers_of(rt.alloc(), &system, "d/random_file");
+    assert!(rt; matches!(refused, Err(Error::InvalidArgument(_))));
     Ok(())
 }

@@ -6,8 +6,6 @@ pub mod answers;
 #[cfg(test)]
 mod blocks;
 #[cfg(test)]
-mod counting;
-#[cfg(test)]
 mod damaged;
 #[cfg(test)]
 mod files;
@@ -17,9 +15,11 @@ mod item_refusals;
 #[cfg(test)]
 mod items;
 #[cfg(test)]
-mod marked;
-#[cfg(test)]
 mod padding;
 #[cfg(test)]
+mod steps;
+#[cfg(test)]
 mod unreadable;
+#[cfg(test)]
+mod watched;
 pub mod whole_end;

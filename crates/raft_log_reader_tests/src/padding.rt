@@ -1,7 +1,7 @@
 //! Padding between records, where the file has an alignment.
-use crate::files::{append_record, file_id, header, saved};
+use crate::files::{append_record, header};
+use crate::steps::{NOWHERE, Said, Step, steps_of};
 use raft_log_base::Result;
-use raft_log_reader::LogItemBatchFileReader;
 use std::alloc::Global;
 use std::test::Fail;
 
@@ -15,33 +15,38 @@ fn padded(alloc: Global, last: u8) -> Result<Vec<u8>> {
     Ok(bytes)
 }
 
+/// A record from 128 to 193, and zeros.
+const ZEROS: [Step; 6] = [
+    (Said::Header(128), 69, 1, 0),
+    (Said::Batch, 193, 2, 69),
+    (Said::Nothing, 193, 2, 69),
+    (Said::Nothing, 193, 2, 69),
+    (Said::Nothing, 193, 2, 69),
+    (Said::Nothing, 0, 2, 69),
+];
+
 #[test]
 fn a_record_behind_zeros_is_read_and_zeros_at_the_end_are_no_record(
     rt: HostRuntime,
 ) -> Result<(), Fail> {
-    let alloc = rt.alloc();
-    let bytes = padded(alloc, 0)?;
-    let (system, handle) = saved(alloc, bytes.as_slice())?;
-    let mut reader = LogItemBatchFileReader::new(alloc, 512);
-    let format = reader.open(alloc, &system, file_id(), handle)?;
-    assert!(rt; format.alignment == 128 && reader.valid_offset() == 69);
-    assert!(rt; reader.next(alloc, &system)?.is_some());
-    assert!(rt; reader.valid_offset() == 193);
-    assert!(rt; reader.next(alloc, &system)?.is_none());
-    assert!(rt; reader.valid_offset() == 193);
+    let bytes = padded(rt.alloc(), 0)?;
+    assert!(rt; steps_of(rt.alloc(), bytes.as_slice(), NOWHERE, 512)? == ZEROS);
     Ok(())
 }
 
+/// A broken record at 69.
+const BROKEN: [Step; 6] = [
+    (Said::Header(128), 69, 1, 0),
+    (Said::Damage, 69, 2, 69),
+    (Said::Damage, 69, 2, 69),
+    (Said::Damage, 69, 2, 69),
+    (Said::Damage, 69, 2, 69),
+    (Said::Nothing, 0, 2, 69),
+];
+
 #[test]
 fn other_padding_is_a_broken_record(rt: HostRuntime) -> Result<(), Fail> {
-    let alloc = rt.alloc();
-    let bytes = padded(alloc, 3)?;
-    let (system, handle) = saved(alloc, bytes.as_slice())?;
-    let mut reader = LogItemBatchFileReader::new(alloc, 512);
-    let _format = reader.open(alloc, &system, file_id(), handle)?;
-    assert!(rt; reader.next(alloc, &system).is_err());
-    assert!(rt; reader.valid_offset() == 69);
-    reader.reset();
-    assert!(rt; reader.next(alloc, &system)?.is_none());
+    let bytes = padded(rt.alloc(), 3)?;
+    assert!(rt; steps_of(rt.alloc(), bytes.as_slice(), NOWHERE, 512)? == BROKEN);
     Ok(())
 }

@@ -2,7 +2,7 @@ use Rattle.std.proofs.Common.{List, ℕ, subst}
 use Rattle.std.proofs.lemmas.Result.{err_from_is_err_and}
 use Rattle.raft_log_disk.specs.Reading.{IsOpened}
 use Rattle.raft_log_disk.specs.declared.handle.Permission.TheVariants.{ReadOnly}
-use Rattle.raft_log_item_reader.specs.Answers.{FailsToFind}
+use Rattle.raft_log_item_reader.specs.Answers.{IsOpenRefusal}
 use Rattle.raft_log_item_reader.specs.declared.batches.BatchReader.{BatchReader}
 use Rattle.raft_log_item_reader.proofs.Openings.{opens_next, unfound_next, unopened_next}
 use Rattle.raft_log_item_reader.proofs.batches.BatchReader.open_next.Goals as goal
@@ -12,7 +12,7 @@ returns-in_err-handle-clause-err g c =
     let d = g.F.FileSystem.disk c.args.file_system.now in
     let new : BatchReader = record { files = c.next.new.self; reader = c.args.self.now.reader } in
     let e = c.in_err-handle.field-0.0 in
-    let fails = subst (λ (path : List ℕ). FailsToFind path d e) c.as_str.ensures.value c.in_err-handle.ensures.err in
+    let fails = subst (λ (path : List ℕ). IsOpenRefusal path d e) c.as_str.ensures.value c.in_err-handle.ensures.err in
     let p = err_from_is_err_and c.from_residual.result c.from_residual.ensures.1 in
     rw (p.1, p.2) (unfound_next d c.args.self.now new c.in-Some.file e c.in-Some.ensures.items fails c.requires)
 

@@ -2,7 +2,7 @@ use Rattle.std.specs.Prelude.{length}
 use Rattle.std.proofs.Common.{◌≡◌, ◌-◌, min, arith}
 use Rattle.raft_log_disk.specs.Reading.{unreadable}
 use Rattle.raft_log_reader_tests.proofs.Marks.{marked_place, refused_too}
-use Rattle.raft_log_reader_tests.proofs.marked.MarkedFileSystem.read_at.Goals as goal
+use Rattle.raft_log_reader_tests.proofs.watched.WatchedFileSystem.read_at.Goals as goal
 
 pub returns-then-is_asked-clause-err : goal.returns-then-is_asked-clause-err
 returns-then-is_asked-clause-err g c =

@@ -1,5 +1,5 @@
 -- A close of both pipes, queue by queue.
-use Rattle.std.proofs.Common.{◌≡◌, ◌⊎◌, ℕ, ◌<◌, List, [], inl, inr, refl, sym, ◌∙◌, ap, subst, arith}
+use Rattle.std.proofs.Common.{◌≡◌, ℕ, List, [], inl, inr, refl, sym, ◌∙◌, ap, subst, arith}
 use Rattle.raft_log_machine.specs.Files.{FileQueue}
 use Rattle.raft_log_disk.specs.Disk.{Disk}
 use Rattle.raft_log_disk.specs.Image.{IsSound}
@@ -22,7 +22,7 @@ use Rattle.raft_log_steps.specs.Own.{log_layout}
 use Rattle.raft_log_steps.proofs.Aside.{left_stays, name_stays, runs_stay}
 use Rattle.raft_log_steps.proofs.Numbers.{quiet_settles}
 use Rattle.raft_log_steps.proofs.Reading.{held_is_allowed}
-use Rattle.raft_log_dual_pipes.specs.Pipes.{LogPipes, LogSense, RunsOn, Said, State, files_of, queues}
+use Rattle.raft_log_dual_pipes.specs.Pipes.{LogPipes, Said, queues}
 use Rattle.raft_log_dual_pipes.specs.Closing.{ClosesLog, IsOrSettled, closed_log}
 use Rattle.raft_log_dual_pipes.proofs.Pairing.{at_log, layout_of, two_of}
 use Rattle.raft_log_directory.specs.Calls.Which.{InAppend, InRewrite}
@@ -89,9 +89,9 @@ module _ (layout : QueueLayout LogRecord) (told : IsQueueLayout layout) where
   quiet says first q start d h from f all =
       elim h.either [
         | inl same ↦ (
-            record { events = []; from = from; queue = f; moves = (refl, refl) },
-            subst (λ (p : LogFiles LogRecord). IsFileQueue says layout.format p from first d f) (sym same) ((takes_numbered_steps says layout.format q from first start f all).elsewhere d h.gaps),
-          )
+          record { events = []; from = from; queue = f; moves = (refl, refl) },
+          subst (λ (p : LogFiles LogRecord). IsFileQueue says layout.format p from first d f) (sym same) ((takes_numbered_steps says layout.format q from first start f all).elsewhere d h.gaps),
+        )
         | inr same ↦
             (let (a, is) = quiet_settles says layout.format first q start d h.gaps from f all in (a, subst (λ (p : LogFiles LogRecord). IsFileQueue says layout.format p a.from first d a.queue) (sym same) is))
       ]

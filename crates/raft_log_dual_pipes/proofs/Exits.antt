@@ -1,5 +1,5 @@
 -- What a call of one pipe makes of the log that both run over.
-use Rattle.std.proofs.Common.{◌≡◌, ◌↔◌, Bool, true, false, List, ℕ, Result, Err, refl, sym, ◌∙◌, ap, subst}
+use Rattle.std.proofs.Common.{◌≡◌, ◌↔◌, false, List, ℕ, Result, Err, refl, ap, subst}
 use Rattle.std.specs.Prelude.{IsTrue, IfErr, IfOk, IsErr, OnErr, OnOk}
 use Rattle.raft_log_disk.specs.Disk.{Disk}
 use Rattle.raft_log_disk.specs.Causes.{Fails}
@@ -14,9 +14,8 @@ use Rattle.raft_log_file_queue.specs.Queue.{synced}
 use Rattle.raft_log_layout.specs.declared.record.LogRecord.{LogRecord}
 use Rattle.raft_log_pipes.specs.Appending.{AppendsAt, AppendFails}
 use Rattle.raft_log_pipes.specs.Exits.{SyncsPipe, FailsToSyncPipe}
-use Rattle.raft_log_pipes.specs.declared.pipe_files.PipeFiles.{PipeFiles}
 use Rattle.raft_log_directory.specs.Calls.{Which}
-use Rattle.raft_log_steps.specs.Queues.{QueueLayout, SaysRecord, layout_at}
+use Rattle.raft_log_steps.specs.Queues.{QueueLayout}
 use Rattle.raft_log_steps.specs.State.{spanned_at, pipe_at, with_pipe, Run}
 use Rattle.raft_log_steps.specs.Turning.{in_span}
 use Rattle.raft_log_steps.specs.Steps.{next_log, NotAppended}

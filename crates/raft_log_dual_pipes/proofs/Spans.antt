@@ -1,18 +1,16 @@
 -- What a rotation and a purge of one pipe make of the log that both run over.
-use Rattle.std.proofs.Common.{◌≡◌, ◌↔◌, Bool, false, ℕ, Result, Err, refl, sym, ◌∙◌, ap, subst}
-use Rattle.std.specs.Prelude.{IsTrue, IfErr, IfOk, OnOk}
+use Rattle.std.proofs.Common.{◌≡◌, ◌↔◌, false, ℕ, Result, Err, refl, sym, ◌∙◌, subst}
+use Rattle.std.specs.Prelude.{IsTrue, IfErr, OnOk}
 use Rattle.raft_log_disk.specs.Disk.{Disk}
 use Rattle.raft_log_disk.specs.Causes.{Fails}
 use Rattle.raft_log_disk.specs.Image.{IsSound}
-use Rattle.raft_log_disk.specs.LogQueue.{LogFiles}
 use Rattle.raft_log_base.specs.declared.errors.Error.{Error}
 use Rattle.raft_log_base.specs.declared.errors.Error.TheVariants as errors
 use Rattle.raft_log_base.specs.declared.pipe_log.LogQueue.{LogQueue}
 use Rattle.raft_log_layout.specs.declared.record.LogRecord.{LogRecord}
 use Rattle.raft_log_pipes.specs.Exits.{IsTurned, Rotates, RotationLeaves}
-use Rattle.raft_log_pipes.specs.Purging.{IsInSpan, IsRaised, Purges, PurgeLeaves}
+use Rattle.raft_log_pipes.specs.Purging.{IsRaised, Purges, PurgeLeaves}
 use Rattle.raft_log_directory.specs.Calls.{Which}
-use Rattle.raft_log_directory.specs.Calls.Which.{InAppend, InRewrite}
 use Rattle.raft_log_steps.specs.Queues.{QueueLayout, layout_at}
 use Rattle.raft_log_steps.specs.State.{spanned_at, pipe_at, with_pipe, Run}
 use Rattle.raft_log_steps.specs.Turning.{in_span}
@@ -83,8 +81,8 @@ module _ (which : Which) (v : LogPipes) (o : OnePipe) (d : Disk) where
   rotates_when {A} r call turned fails same =
       ok_through r (λ x. IsTurned (one_at which v).settings.new_files.format (pipe_at which (files_of v)) o.files) (λ x. RotatesQueue which v (with_one which v o d)) turned
       (λ x is done. rotates
-          (subst (λ (y : Result A Error). OnOk y (Rotates (layout_of (one_at which v)).format (layout_of (one_at which v)).own (layout_of (one_at which v)).paths (header_at which v) (pipe_at which (files_of v)) o.files v.disk d)) is call)
-          done same (told r x o.failed is fails))
+      (subst (λ (y : Result A Error). OnOk y (Rotates (layout_of (one_at which v)).format (layout_of (one_at which v)).own (layout_of (one_at which v)).paths (header_at which v) (pipe_at which (files_of v)) o.files v.disk d)) is call)
+      done same (told r x o.failed is fails))
 
   pub rotates_not_when : {A : Type 0} (r : Result A Error)
       → IfErr r (λ error. RotationLeaves (layout_of (one_at which v)).format (layout_of (one_at which v)).own (layout_of (one_at which v)).paths (header_at which v) (pipe_at which (files_of v)) o.files error v.disk d)
@@ -100,8 +98,8 @@ module _ (which : Which) (v : LogPipes) (o : OnePipe) (d : Disk) where
   purges_when seq {A} r call raised fails same =
       ok_through r (λ x. IsRaised (one_at which v).settings.capacity seq (pipe_at which (files_of v)) o.files) (λ x. PurgesQueue which seq v (with_one which v o d)) raised
       (λ x is done. purges seq
-          (subst (λ (y : Result A Error). OnOk y (Purges (layout_of (one_at which v)).format (layout_of (one_at which v)).own (layout_of (one_at which v)).paths (one_at which v).settings.capacity seq (pipe_at which (files_of v)) o.files v.disk d)) is call)
-          done same (told r x o.failed is fails))
+      (subst (λ (y : Result A Error). OnOk y (Purges (layout_of (one_at which v)).format (layout_of (one_at which v)).own (layout_of (one_at which v)).paths (one_at which v).settings.capacity seq (pipe_at which (files_of v)) o.files v.disk d)) is call)
+      done same (told r x o.failed is fails))
 
   pub purges_not_when : (seq : ℕ) {A : Type 0} (r : Result A Error)
       → IfErr r (λ error. PurgeLeaves (layout_of (one_at which v)).format (layout_of (one_at which v)).own (layout_of (one_at which v)).paths (one_at which v).settings.capacity seq (pipe_at which (files_of v)) o.files error v.disk d)

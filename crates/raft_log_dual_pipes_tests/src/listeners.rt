@@ -93,6 +93,10 @@ fn an_idle_one_holds_nothing_back(rt: HostRuntime) -> Result<(), Fail> {
     let id = FileId::new(LogQueue::Rewrite, 1);
     listeners.post_new_log_file(id);
     listeners.post_purge(id);
-    assert!(rt; listeners.first_file_not_ready_for_purge(LogQueue::Rewrite).is_none());
+    assert!(rt;
+        listeners
+            .first_file_not_ready_for_purge(LogQueue::Rewrite)
+            .is_none()
+    );
     Ok(())
 }

@@ -50,14 +50,7 @@ fn begun(
     let mut paths = Vec::new(rt.alloc());
     paths.push(String::from_str(rt.alloc(), "d")?)?;
     let layout = LogLayout::new(queue, paths);
-    Ok(SinglePipe::open(
-        rt.alloc(),
-        layout,
-        settings,
-        rt,
-        system,
-        nothing,
-    )?)
+    Ok(SinglePipe::open(rt.alloc(), layout, settings, rt, system, nothing)?)
 }
 
 /// Both pipes of a log that begins, of which the changing call of this number is refused (none for 0).
@@ -92,7 +85,9 @@ fn each_queue_has_its_own_files(rt: HostRuntime) -> Result<(), Fail> {
     let first = append(&rt, &mut pipes, LogQueue::Append, 1, 13)?;
     let second = append(&rt, &mut pipes, LogQueue::Rewrite, 2, 20)?;
     assert!(rt; (first.id, first.offset, first.len) == (FileId::new(LogQueue::Append, 1), 69, 13));
-    assert!(rt; (second.id, second.offset, second.len) == (FileId::new(LogQueue::Rewrite, 1), 69, 20));
+    assert!(rt;
+        (second.id, second.offset, second.len) == (FileId::new(LogQueue::Rewrite, 1), 69, 20)
+    );
     let bytes = pipes.read_bytes(rt.alloc(), first)?;
     assert!(rt; bytes.len() == 13 && bytes.iter().all(|byte| *byte == 1));
     let bytes = pipes.read_bytes(rt.alloc(), second)?;
@@ -112,7 +107,12 @@ fn one_queue_goes_on_and_the_other_stays(rt: HostRuntime) -> Result<(), Fail> {
     assert!(rt; pipes.file_span(LogQueue::Append) == (1, 4));
     assert!(rt; pipes.file_span(LogQueue::Rewrite) == (1, 1));
     assert!(rt; pipes.file_at(LogQueue::Append, 1, 2) == 3);
-    assert!(rt; (pipes.total_size(LogQueue::Append), pipes.total_size(LogQueue::Rewrite)) == (4096, 1024));
+    assert!(rt;
+        (
+            pipes.total_size(LogQueue::Append),
+            pipes.total_size(LogQueue::Rewrite)
+        ) == (4096, 1024)
+    );
     let third = FileId::new(LogQueue::Append, 3);
     assert!(rt; pipes.purge_to(rt.alloc(), &rt, third)? == 2);
     assert!(rt; pipes.file_span(LogQueue::Append) == (3, 4));

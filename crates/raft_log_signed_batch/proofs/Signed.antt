@@ -1,12 +1,11 @@
 -- A file's header tells its version, and a record is signed by that.
-use Rattle.std.proofs.Common.{◌≡◌, ℕ, ◌%◌, ◌<◌, ◌^◌, List, [], ◌++◌, map, refl, sym, ◌∙◌, ap, subst, arith, unwrap_or}
+use Rattle.std.proofs.Common.{◌≡◌, ℕ, ◌<◌, ◌^◌, List, ◌++◌, map, refl, sym, ◌∙◌, ap, subst, arith, unwrap_or}
 use Rattle.std.specs.Int.{w64}
 use Rattle.std.proofs.lemmas.List.{append_cancel_left}
 use Rattle.raft_log_base.proofs.Fixed.{is_high_first}
 use Rattle.raft_log_base.proofs.Grammar.{prefix_free}
-use Rattle.raft_log_base.specs.Files.{signature, signature_of, version_number}
+use Rattle.raft_log_base.specs.Files.{signature, version_number}
 use Rattle.raft_log_base.specs.Number.{IsU64, u64_bytes}
-use Rattle.raft_log_base.specs.declared.pipe_log.LogFileContext.{LogFileContext}
 use Rattle.raft_log_base.specs.declared.pipe_log.Version.{Version}
 use Rattle.raft_log_base.specs.declared.pipe_log.Version.TheVariants.{V1, V2}
 use Rattle.raft_log_items.specs.Writing.{plain_item}

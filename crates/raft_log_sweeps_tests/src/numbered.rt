@@ -41,7 +41,7 @@ impl Numbered {
 impl ReactiveBytes for Numbered {
     type Said = usize;
 
-    ghost said = { λ numbered. length numbered.bytes.items };
+    ghost said = { λ numbered. vec_len numbered.bytes };
 
     ghost bytes = { λ numbered. numbered.bytes.items };
 

@@ -15,6 +15,6 @@ returns-clause-held g c alive =
     let last = D c.reserve_names-2.new.file_system in
     closes _ (D c.finish.new.file_system) second third last (g.met.F.FileSystem.sound c.reserve_names-2.new.file_system) (c.finish.ensures.held append) (c.finish-2.ensures.held rewrite)
     (stays_same c.args.self.append.layout.queue c.finish.new.self.layout.queue (map string_bytes c.args.self.append.layout.paths.items) (map string_bytes c.finish.new.self.layout.paths.items) c.args.self.append.files.recycled.items c.finish.new.self.files.recycled.items second third
-        (ap (λ l. l.queue) a.0) (ap (λ l. map string_bytes l.paths.items) a.0) (ap (λ kept. kept.items) a.3) (c.reserve_names.ensures.held (a.2 ∙ append)))
+    (ap (λ l. l.queue) a.0) (ap (λ l. map string_bytes l.paths.items) a.0) (ap (λ kept. kept.items) a.3) (c.reserve_names.ensures.held (a.2 ∙ append)))
     (stays_same c.args.self.rewrite.layout.queue c.finish-2.new.self.layout.queue (map string_bytes c.args.self.rewrite.layout.paths.items) (map string_bytes c.finish-2.new.self.layout.paths.items) c.args.self.rewrite.files.recycled.items c.finish-2.new.self.files.recycled.items third last
-        (ap (λ l. l.queue) r.0) (ap (λ l. map string_bytes l.paths.items) r.0) (ap (λ kept. kept.items) r.3) (c.reserve_names-2.ensures.held (r.2 ∙ rewrite)))
+    (ap (λ l. l.queue) r.0) (ap (λ l. map string_bytes l.paths.items) r.0) (ap (λ kept. kept.items) r.3) (c.reserve_names-2.ensures.held (r.2 ∙ rewrite)))

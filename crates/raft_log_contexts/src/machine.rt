@@ -25,6 +25,7 @@ impl ReplayMachine for MemTableRecoverContext {
 }
 
 /// What makes contexts that have read nothing.
+#[derive(Drop)]
 pub struct MemTableRecoverContextFactory {
     alloc: Global,
 }

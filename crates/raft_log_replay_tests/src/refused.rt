@@ -1,5 +1,5 @@
-//! A call that is refused leaves what shows as it was. `rt try --test --fail-alloc 1..` refuses each
-//! allocation in turn; a test whose own set-up is refused ends.
+//! A call that is refused leaves what shows as it was. `rt try --test --fail-alloc N` refuses the Nth
+//! allocation; a test whose own set-up is refused ends.
 use super::play::Said::{Clean, Compact, Put, Run};
 use super::play::{Said, items, read, segment, told};
 use raft_log_base::{FileId, LogQueue, Result};

@@ -57,11 +57,19 @@ pub(crate) fn read_last<F: FileSystem>(
             Next::Batch(items) => batches.push(items)?,
             Next::End => {
                 let fault = None;
-                return Ok(Behind { batches, end, fault });
+                return Ok(Behind {
+                    batches,
+                    end,
+                    fault,
+                });
             }
             Next::Fault(error) => {
                 let fault = Some(error);
-                return Ok(Behind { batches, end, fault });
+                return Ok(Behind {
+                    batches,
+                    end,
+                    fault,
+                });
             }
         }
     }
@@ -93,12 +101,20 @@ pub(crate) fn read_earlier<F: FileSystem>(
             }
             Next::End => {
                 let fault = None;
-                let read = Behind { batches, end, fault };
+                let read = Behind {
+                    batches,
+                    end,
+                    fault,
+                };
                 return check_last(alloc, file_system, reader, read, last);
             }
             Next::Fault(error) => {
                 let fault = Some(error);
-                let read = Behind { batches, end, fault };
+                let read = Behind {
+                    batches,
+                    end,
+                    fault,
+                };
                 return check_last(alloc, file_system, reader, read, last);
             }
         }

@@ -28,15 +28,16 @@ loop-batches-preserved g c =
     let parts = subst (λ (n : ℕ). HasBatches work.file content start (items_of batches) n × HasBatch work.file content n items.items end × HasBlock work.file content n noted.block)
     (sym c.valid_offset-end.ensures) (before, taken.batch, block) in
     let split : items_of (batches ++ items ∷ []) ≡ items_of batches ++ items.items ∷ [] = one_more batches items in
-    let stands : StandsAtLast work.file content start (items_of (batches ++ items ∷ [])) (Some noted) end = (items_of batches, items.items, split, parts.0, parts.1, parts.2) in
-    (record {
-      reading = c.next_batch.ensures.reading;
-      same = c.next_batch.ensures.file ∙ work.same;
-      file = work.file;
-      opened = c.next_batch.ensures.file ∙ work.opened;
-      has = subst (λ (l : List (Vec LogItem)). StandsAtLast work.file content start (items_of l) (Some noted) end) (sym c.in_ok-push-in-Batch.ensures.items) stands;
-    },
-    subst (λ (b : FileBlockHandle). IsInside b c.next_batch.new.reader) (sym c.last_block-block.ensures) taken.inside)
+    let stands : StandsAtLast work.file content start (items_of (batches ++ items ∷ [])) (Some noted) end = (items_of batches, items.items, split, parts.0, parts.1, parts.2) in (
+      record {
+        reading = c.next_batch.ensures.reading;
+        same = c.next_batch.ensures.file ∙ work.same;
+        file = work.file;
+        opened = c.next_batch.ensures.file ∙ work.opened;
+        has = subst (λ (l : List (Vec LogItem)). StandsAtLast work.file content start (items_of l) (Some noted) end) (sym c.in_ok-push-in-Batch.ensures.items) stands;
+      },
+      subst (λ (b : FileBlockHandle). IsInside b c.next_batch.new.reader) (sym c.last_block-block.ensures) taken.inside,
+    )
 
 pub returns-in-Fault-clause-ok : goal.returns-in-Fault-clause-ok
 returns-in-Fault-clause-ok g c = λ file opened.

@@ -38,6 +38,8 @@ returns-in-Fault-clause-ok g c = λ file opened.
     let kept = work.same in
     let same : work.file ≡ file = cc in
     let found = rw c.in-Fault.is at (c.in_ok-items.ensures.ok work.file work.opened) in
-    let there = subst (λ (n : ℕ). HasRecords work.file (bytes_of work.file.source d) start (items_of batches) n × IsTorn work.file (bytes_of work.file.source d) n found.0) (sym c.valid_offset-end.ensures) (work.has, found.2) in
-    (Some found.0, (found.0, refl, found.1),
-    subst (λ (f : OpenFile). HasRecords f (bytes_of f.source d) start (items_of batches) c.valid_offset-end.result × IsTorn f (bytes_of f.source d) c.valid_offset-end.result found.0) same there)
+    let there = subst (λ (n : ℕ). HasRecords work.file (bytes_of work.file.source d) start (items_of batches) n × IsTorn work.file (bytes_of work.file.source d) n found.0) (sym c.valid_offset-end.ensures) (work.has, found.2) in (
+      Some found.0,
+      (found.0, refl, found.1),
+      subst (λ (f : OpenFile). HasRecords f (bytes_of f.source d) start (items_of batches) c.valid_offset-end.result × IsTorn f (bytes_of f.source d) c.valid_offset-end.result found.0) same there,
+    )

@@ -1,10 +1,13 @@
-//! Tests of names, headers, padding and settings: worked rows, printed text, and each call once.
+//! Tests of names, headers, padding and settings: worked rows, printed text, each call once, and each
+//! allocation refused in turn.
 #![tactic(auto)]
 
 #[cfg(test)]
 mod config;
 #[cfg(test)]
 mod headers;
+#[cfg(test)]
+mod memory;
 #[cfg(test)]
 mod names;
 #[cfg(test)]

@@ -2,10 +2,6 @@
 #![tactic(auto)]
 
 #[cfg(test)]
-mod log_files;
-#[cfg(test)]
-mod reads;
-#[cfg(test)]
 mod scans;
 #[cfg(test)]
 mod shares;

@@ -54,8 +54,14 @@ second_header alignment = (
   magic,
   u64_bytes 2 ++ u64_bytes alignment,
   refl,
-  (V2, u64_bytes 2, u64_bytes alignment, record { spelled = record { size = refl; value = refl } },
-      (from_be_bytes w64 (u64_bytes alignment), record { size = refl; value = refl }, refl), refl),
+  (
+    V2,
+    u64_bytes 2,
+    u64_bytes alignment,
+    record { spelled = record { size = refl; value = refl } },
+    (from_be_bytes w64 (u64_bytes alignment), record { size = refl; value = refl }, refl),
+    refl,
+  ),
   refl,
 )
 
@@ -110,8 +116,11 @@ whole_told bytes = elim (front_told bytes) [
   where
     told : (header rest : List ℕ) (format : LogFileFormat) → IsHeader header format → bytes ≡ header ++ rest
         → IsAHeader bytes ⊎ (IsAHeader bytes → ⊥)
-    told header [] format says splits = inl (format, subst (λ (b : List ℕ). IsHeader b format)
-        (sym (splits ∙ append-nil header)) says)
+    told header [] format says splits = inl (
+      format,
+      subst (λ (b : List ℕ). IsHeader b format)
+          (sym (splits ∙ append-nil header)) says,
+    )
     told header (b ∷ bs) format says splits = inr (λ (other, also).
         (let same = one_header bytes header [] (b ∷ bs) other format also says (append-nil bytes ∙ splits) in
         omega (arith, ap length splits, ap length same.0, length-append header (b ∷ bs))))
@@ -127,7 +136,7 @@ self_delimiting : (n : ℕ) (header : List ℕ) → IsSelfDelimiting (IsRecordIn
 self_delimiting n header = record {
   apart = λ a b x y r s first next same.
       (let one = one_record (signature first.format.version n) (signature next.format.version n) a b x y
-          r.entries s.entries r.items s.items first.is next.is same in
+      r.entries s.entries r.items s.items first.is next.is same in
       (one.0, λ i. record { items = one.1 i; entries = one.2 i }));
   filled = λ r is. (let long = record_filled (signature is.format.version n) [] r is.is in
       omega (arith, long));
@@ -146,25 +155,30 @@ records_told n header bytes = elim (whole_told header) [
   | inr none ↦ inr (λ w rest is splits. none (is.format, is.says))
   | inl (format, says) ↦ elim (record_is_told (signature format.version n) bytes) [
     | inl (front, fits, is) ↦ inl (
-        record { bytes = take front.len bytes; value = record { items = front.items; entries = front.bytes } },
-        drop front.len bytes,
-        record { format = format; says = says; is = is },
-        sym (take-append-drop front.len bytes))
+      record { bytes = take front.len bytes; value = record { items = front.items; entries = front.bytes } },
+      drop front.len bytes,
+      record { format = format; says = says; is = is },
+      sym (take-append-drop front.len bytes),
+    )
     | inr none ↦ inr (λ w rest is splits.
         (let cut : take (length w.bytes) bytes ≡ w.bytes = ap (λ (b : List ℕ). take (length w.bytes) b) splits
-            ∙ take_at w.bytes rest (length w.bytes) refl in
-        none (record { len = length w.bytes; items = w.value.items; bytes = w.value.entries },
-            omega (arith, ap length splits, length-append w.bytes rest),
-            subst (λ (b : List ℕ). IsRecord (signature format.version n) b w.value.items w.value.entries)
-            (sym cut) (in_format n header w.bytes format w.value says is))))
+        ∙ take_at w.bytes rest (length w.bytes) refl in
+        none (
+          record { len = length w.bytes; items = w.value.items; bytes = w.value.entries },
+          omega (arith, ap length splits, length-append w.bytes rest),
+          subst (λ (b : List ℕ). IsRecord (signature format.version n) b w.value.items w.value.entries)
+              (sym cut) (in_format n header w.bytes format w.value says is),
+        )))
   ]
 ]
 
 pub files_are_told : LogFilesAreTold
 files_are_told queue directories = record {
   headers = λ bytes. elim (front_told bytes) [
-    | inl (header, rest, format, says, splits) ↦ inl (header,
-        record { is = (format, says); rest = rest; splits = splits })
+    | inl (header, rest, format, says, splits) ↦ inl (
+      header,
+      record { is = (format, says); rest = rest; splits = splits },
+    )
     | inr none ↦ inr (λ header has. none header has.rest has.is.0 has.is.1 has.splits)
   ];
   frames = records_told;
@@ -176,14 +190,19 @@ pub zeros_hold_none : ZerosHoldNoRecord
 zeros_hold_none n size header ahead inside behind said splits is =
     let long = record_filled (signature is.format.version n) inside said is.is in
     let size_is : length ahead + (length inside + length behind) ≡ size =
-    omega (arith, ap length splits, length-append ahead (inside ++ behind), length-append inside behind,
-        length-replicate {A = ℕ} size 0) in
+    omega (
+      arith,
+      ap length splits,
+      length-append ahead (inside ++ behind),
+      length-append inside behind,
+      length-replicate {A = ℕ} size 0,
+    ) in
     let tail : inside ++ behind ≡ zeros (size - length ahead) = sym (drop_front ahead (inside ++ behind))
-        ∙ ap (λ (b : List ℕ). drop (length ahead) b) (sym splits) ∙ drop-replicate (length ahead) size 0 in
+    ∙ ap (λ (b : List ℕ). drop (length ahead) b) (sym splits) ∙ drop-replicate (length ahead) size 0 in
     let first : take 8 inside ≡ take 8 (inside ++ behind) =
-        sym (take_front 8 inside behind (omega (arith, long))) in
+    sym (take_front 8 inside behind (omega (arith, long))) in
     let eight : take 8 inside ≡ replicate 8 0 = first ∙ ap (λ (b : List ℕ). take 8 b) tail
-        ∙ take_zeros 8 (size - length ahead) (omega (arith, long, size_is)) in
+    ∙ take_zeros 8 (size - length ahead) (omega (arith, long, size_is)) in
     no_frame_in_zeros (signature is.format.version n) inside is.is.block said.items eight is.is.frame
 
 -- The layout.
@@ -201,16 +220,16 @@ reserved_apart : (queue : LogQueue) (directories : List (List ℕ)) (m n : ℕ) 
     path → ⊥
 reserved_apart Append directories m n path at kept =
     let same = one_name at.directory kept.directory at.name kept.name at.plain kept.plain
-        (sym at.joined ∙ kept.joined) in
+    (sym at.joined ∙ kept.joined) in
     other_end (codes ".raftlog") (reserved_suffix_of Append) kept.name 7 16 0 refl refl
-        (λ e. omega (arith, e)) (subst (λ (b : List ℕ). EndsWith (codes ".raftlog") b) same at.named.1)
-        kept.named.1
+    (λ e. omega (arith, e)) (subst (λ (b : List ℕ). EndsWith (codes ".raftlog") b) same at.named.1)
+    kept.named.1
 reserved_apart Rewrite directories m n path at kept =
     let same = one_name at.directory kept.directory at.name kept.name at.plain kept.plain
-        (sym at.joined ∙ kept.joined) in
+    (sym at.joined ∙ kept.joined) in
     other_end (codes ".rewrite") (reserved_suffix_of Rewrite) kept.name 7 16 0 refl refl
-        (λ e. omega (arith, e)) (subst (λ (b : List ℕ). EndsWith (codes ".rewrite") b) same at.named.1)
-        kept.named.1
+    (λ e. omega (arith, e)) (subst (λ (b : List ℕ). EndsWith (codes ".rewrite") b) same at.named.1)
+    kept.named.1
 
 pub is_layout : (queue : LogQueue) (directories : List (List ℕ)) → 0 < length directories
     → IsLayout (log_format queue directories) (IsOwnPath queue directories) (log_paths queue directories)

@@ -27,9 +27,9 @@ no_longer d e x y plain same longer =
     let at : length d + suc k ≡ length e = omega (arith, longer) in
     let slash : get_or (d ++ 47 ∷ x) (length d + suc k) 0 ≡ 47 =
     ap (λ (l : List ℕ). get_or l (length d + suc k) 0) same
-        ∙ ap (λ (i : ℕ). get_or (e ++ 47 ∷ y) i 0)
-        (let there : length d + suc k ≡ length e + 0 = omega (arith, at) in there)
-        ∙ get_or-append-add e (47 ∷ y) 0 0 in
+    ∙ ap (λ (i : ℕ). get_or (e ++ 47 ∷ y) i 0)
+    (let there : length d + suc k ≡ length e + 0 = omega (arith, at) in there)
+    ∙ get_or-append-add e (47 ∷ y) 0 0 in
     let inside : get_or x k 0 ≡ 47 = sym (get_or-append-add d (47 ∷ x) (suc k) 0) ∙ slash in
     plain k (omega (arith, at, ap length same, length-append d (47 ∷ x), length-append e (47 ∷ y))) inside
 
@@ -41,7 +41,7 @@ one_name d e x y plain also same = elim (cases_lt (length d) (length e)) [
     | inr other ↦
         (let even : length e ≡ length d = omega (arith, rest, other) in
         let split : 47 ∷ x ≡ 47 ∷ y = sym (drop_at d (47 ∷ x) (length d) refl)
-            ∙ ap (λ (l : List ℕ). drop (length d) l) same ∙ drop_at e (47 ∷ y) (length d) even in
+        ∙ ap (λ (l : List ℕ). drop (length d) l) same ∙ drop_at e (47 ∷ y) (length d) even in
         ap (λ (l : List ℕ). drop 1 l) split)
   ]
 ]
@@ -50,7 +50,7 @@ pub one_number : (suffix : List ℕ) (directories : List (List ℕ)) (m n : ℕ)
     → IsPathWith suffix directories m path → IsPathWith suffix directories n path → m ≡ n
 one_number suffix directories m n path a b =
     let same : a.name ≡ b.name = one_name a.directory b.directory a.name b.name a.plain b.plain
-        (sym a.joined ∙ b.joined) in
+    (sym a.joined ∙ b.joined) in
     let there : IsNamed suffix b.name m = subst (λ (name : List ℕ). IsNamed suffix name m) same a.named in
     there.0.value ∙ sym b.named.0.value
 
@@ -122,20 +122,20 @@ numbered_is Rewrite directories place n some fit = written_path (codes ".rewrite
 reserved_written : (queue : LogQueue) (directories : List (List ℕ)) (place n : ℕ) → 0 < length directories
     → n < 10 ^ 16 → 0 < length (reserved_suffix_of queue) → has_no_slash (reserved_suffix_of queue) ≡ true
     → IsPathWith (reserved_suffix_of queue) directories n (numbered_path queue directories place n
-        ++ codes ".reserved")
+    ++ codes ".reserved")
 reserved_written queue directories place n some fit ended slashless =
     let kept : List ℕ = codes ".reserved" in
     let joined : numbered_path queue directories place n ++ kept ≡ directory_at directories place
-        ++ 47 ∷ (sixteen_digits n ++ reserved_suffix_of queue) =
+    ++ 47 ∷ (sixteen_digits n ++ reserved_suffix_of queue) =
     append_assoc (directory_at directories place) (47 ∷ (sixteen_digits n ++ suffix_of queue)) kept
     ∙ ap (λ (l : List ℕ). directory_at directories place ++ 47 ∷ l)
-        (append_assoc (sixteen_digits n) (suffix_of queue) kept) in
+    (append_assoc (sixteen_digits n) (suffix_of queue) kept) in
     subst (IsPathWith (reserved_suffix_of queue) directories n) (sym joined)
-        (written_path (reserved_suffix_of queue) directories place n some fit ended slashless)
+    (written_path (reserved_suffix_of queue) directories place n some fit ended slashless)
 
 pub reserved_is : (queue : LogQueue) (directories : List (List ℕ)) (place n : ℕ) → 0 < length directories
     → IsPathWith (reserved_suffix_of queue) directories (min n (10 ^ 16 - 1))
-        (reserved_path queue directories place n)
+    (reserved_path queue directories place n)
 unfolding has_no_slash
 reserved_is Append directories place n some = reserved_written Append directories place (min n (10 ^ 16 - 1))
     some (omega arith) (omega arith) refl
@@ -151,7 +151,7 @@ from_behind suffix name i j (front, is) all =
     let long : length name ≡ length front + length suffix = ap length is ∙ length-append front suffix in
     let at : length name - suc j ≡ length front + i = omega (arith, long, all) in
     ap (λ (k : ℕ). get_or name k 0) at ∙ ap (λ (l : List ℕ). get_or l (length front + i) 0) is
-        ∙ get_or-append-add front suffix i 0
+    ∙ get_or-append-add front suffix i 0
 
 -- names whose ends differ in a byte are two
 pub other_end : (s t name : List ℕ) (i k j : ℕ) → i + suc j ≡ length s → k + suc j ≡ length t

@@ -41,22 +41,32 @@ take_zeros (suc k) (suc n) fits = ap (λ (b : List ℕ). 0 ∷ b) (take_zeros k 
 
 -- Headers.
 
-one_header : (a b x y : List ℕ) (f g : LogFileFormat) → IsHeader a f → IsHeader b g → a ++ x ≡ b ++ y → (a ≡ b) × (f ≡ g)
+one_header : (a b x y : List ℕ) (f g : LogFileFormat) → IsHeader a f → IsHeader b g → a ++ x ≡ b ++ y
+    → (a ≡ b) × (f ≡ g)
 one_header = prefix_free is_header
 
 -- a header of the second version, whatever number of 64 bits its alignment stands for
-second_header : (alignment : ℕ) → IsHeader (header_bytes (record { version = V2; alignment = alignment })) (record { version = V2; alignment = from_be_bytes w64 (u64_bytes alignment) })
+second_header : (alignment : ℕ) → IsHeader (header_bytes (record { version = V2; alignment = alignment }))
+    (record { version = V2; alignment = from_be_bytes w64 (u64_bytes alignment) })
 unfolding header_bytes u64_bytes
 second_header alignment = (
   tt,
   magic,
   u64_bytes 2 ++ u64_bytes alignment,
   refl,
-  (V2, u64_bytes 2, u64_bytes alignment, record { spelled = record { size = refl; value = refl } }, (from_be_bytes w64 (u64_bytes alignment), record { size = refl; value = refl }, refl), refl),
+  (
+    V2,
+    u64_bytes 2,
+    u64_bytes alignment,
+    record { spelled = record { size = refl; value = refl } },
+    (from_be_bytes w64 (u64_bytes alignment), record { size = refl; value = refl }, refl),
+    refl,
+  ),
   refl,
 )
 
-first_header : IsHeader (header_bytes (record { version = V1; alignment = 0 })) (record { version = V1; alignment = 0 })
+first_header : IsHeader (header_bytes (record { version = V1; alignment = 0 }))
+    (record { version = V1; alignment = 0 })
 unfolding header_bytes u64_bytes
 first_header = (
   tt,
@@ -70,18 +80,32 @@ first_header = (
 headed : (format : LogFileFormat) → IsWritable format → IsAHeader (header_bytes format)
 headed format has = of_version format.version format.alignment has
   where
-    of_version : (v : _) (alignment : ℕ) → (v ≡ V1 → alignment ≡ 0) → IsAHeader (header_bytes (record { version = v; alignment = alignment }))
-    of_version V1 alignment none = subst (λ (n : ℕ). IsAHeader (header_bytes (record { version = V1; alignment = n }))) (sym (none refl)) (record { version = V1; alignment = 0 }, first_header)
-    of_version V2 alignment none = (record { version = V2; alignment = from_be_bytes w64 (u64_bytes alignment) }, second_header alignment)
+    of_version : (v : _) (alignment : ℕ) → (v ≡ V1 → alignment ≡ 0)
+        → IsAHeader (header_bytes (record { version = v; alignment = alignment }))
+    of_version V1 alignment none =
+        subst (λ (n : ℕ). IsAHeader (header_bytes (record { version = V1; alignment = n }))) (sym (none refl))
+        (record { version = V1; alignment = 0 }, first_header)
+    of_version V2 alignment none =
+        (record { version = V2; alignment = from_be_bytes w64 (u64_bytes alignment) }, second_header alignment)
 
 -- some bytes begin with a header, or not
-front_told : (bytes : List ℕ) → ((header rest : List ℕ) × (format : LogFileFormat) × IsHeader header format × (bytes ≡ header ++ rest)) ⊎ ((header rest : List ℕ) (format : LogFileFormat) → IsHeader header format → bytes ≡ header ++ rest → ⊥)
+front_told : (bytes : List ℕ)
+    → ((header rest : List ℕ) × (format : LogFileFormat) × IsHeader header format × (bytes ≡ header ++ rest))
+    ⊎ ((header rest : List ℕ) (format : LogFileFormat) → IsHeader header format
+    → bytes ≡ header ++ rest → ⊥)
 front_told bytes = told (header_at bytes) refl
   where
     told : (r : Result (LogFileFormat × List ℕ) Fault) → header_at bytes ≡ r
-        → ((header rest : List ℕ) × (format : LogFileFormat) × IsHeader header format × (bytes ≡ header ++ rest)) ⊎ ((header rest : List ℕ) (format : LogFileFormat) → IsHeader header format → bytes ≡ header ++ rest → ⊥)
-    told (Ok (format, rest)) read = (let (header, says, splits) = is_header.takes bytes (format, rest) read in inl (header, rest, format, says, splits))
-    told (Err fault) read = inr (λ header rest format says splits. (let back = is_header.again header rest format says in let here : header_at (header ++ rest) ≡ Err fault = ap header_at (sym splits) ∙ read in cc (back, here)))
+        → ((header rest : List ℕ) × (format : LogFileFormat) × IsHeader header format
+        × (bytes ≡ header ++ rest))
+        ⊎ ((header rest : List ℕ) (format : LogFileFormat) → IsHeader header format
+        → bytes ≡ header ++ rest → ⊥)
+    told (Ok (format, rest)) read = (let (header, says, splits) = is_header.takes bytes (format, rest) read in
+        inl (header, rest, format, says, splits))
+    told (Err fault) read = inr (λ header rest format says splits.
+        (let back = is_header.again header rest format says in
+        let here : header_at (header ++ rest) ≡ Err fault = ap header_at (sym splits) ∙ read in
+        cc (back, here)))
 
 -- these bytes are a header, or not
 whole_told : (bytes : List ℕ) → IsAHeader bytes ⊎ (IsAHeader bytes → ⊥)
@@ -90,27 +114,38 @@ whole_told bytes = elim (front_told bytes) [
   | inl (header, rest, format, says, splits) ↦ told header rest format says splits
 ]
   where
-    told : (header rest : List ℕ) (format : LogFileFormat) → IsHeader header format → bytes ≡ header ++ rest → IsAHeader bytes ⊎ (IsAHeader bytes → ⊥)
-    told header [] format says splits = inl (format, subst (λ (b : List ℕ). IsHeader b format) (sym (splits ∙ append-nil header)) says)
+    told : (header rest : List ℕ) (format : LogFileFormat) → IsHeader header format → bytes ≡ header ++ rest
+        → IsAHeader bytes ⊎ (IsAHeader bytes → ⊥)
+    told header [] format says splits = inl (
+      format,
+      subst (λ (b : List ℕ). IsHeader b format)
+          (sym (splits ∙ append-nil header)) says,
+    )
     told header (b ∷ bs) format says splits = inr (λ (other, also).
         (let same = one_header bytes header [] (b ∷ bs) other format also says (append-nil bytes ∙ splits) in
         omega (arith, ap length splits, ap length same.0, length-append header (b ∷ bs))))
 
 -- Records.
 
-record_filled : (signature : Option ℕ) (bytes : List ℕ) (said : LogRecord) → IsRecord signature bytes said.items said.entries → 21 ≤ length bytes
-record_filled signature bytes said is = (let long = frames_take_bytes signature bytes is.block said.items is.frame in omega (arith, long))
+record_filled : (signature : Option ℕ) (bytes : List ℕ) (said : LogRecord)
+    → IsRecord signature bytes said.items said.entries → 21 ≤ length bytes
+record_filled signature bytes said is = (let long = frames_take_bytes signature bytes is.block said.items
+    is.frame in omega (arith, long))
 
 self_delimiting : (n : ℕ) (header : List ℕ) → IsSelfDelimiting (IsRecordIn n header)
 self_delimiting n header = record {
   apart = λ a b x y r s first next same.
-      (let one = one_record (signature first.format.version n) (signature next.format.version n) a b x y r.entries s.entries r.items s.items first.is next.is same in
+      (let one = one_record (signature first.format.version n) (signature next.format.version n) a b x y
+      r.entries s.entries r.items s.items first.is next.is same in
       (one.0, λ i. record { items = one.1 i; entries = one.2 i }));
-  filled = λ r is. (let long = record_filled (signature is.format.version n) [] r is.is in omega (arith, long));
+  filled = λ r is. (let long = record_filled (signature is.format.version n) [] r is.is in
+      omega (arith, long));
 }
 
 -- the record of these bytes in the file, where its format is known
-in_format : (n : ℕ) (header bytes : List ℕ) (format : LogFileFormat) (said : LogRecord) → IsHeader header format → IsRecordIn n header bytes said → IsRecord (signature format.version n) bytes said.items said.entries
+in_format : (n : ℕ) (header bytes : List ℕ) (format : LogFileFormat) (said : LogRecord)
+    → IsHeader header format → IsRecordIn n header bytes said
+    → IsRecord (signature format.version n) bytes said.items said.entries
 in_format n header bytes format said says is =
     let same : is.format ≡ format = (one_header header header [] [] is.format format is.says says refl).1 in
     subst (λ (f : LogFileFormat). IsRecord (signature f.version n) bytes said.items said.entries) same is.is
@@ -119,17 +154,31 @@ records_told : (n : ℕ) (header : List ℕ) → CanTell (IsRecordIn n header)
 records_told n header bytes = elim (whole_told header) [
   | inr none ↦ inr (λ w rest is splits. none (is.format, is.says))
   | inl (format, says) ↦ elim (record_is_told (signature format.version n) bytes) [
-    | inl (front, fits, is) ↦ inl (record { bytes = take front.len bytes; value = record { items = front.items; entries = front.bytes } }, drop front.len bytes, record { format = format; says = says; is = is }, sym (take-append-drop front.len bytes))
+    | inl (front, fits, is) ↦ inl (
+      record { bytes = take front.len bytes; value = record { items = front.items; entries = front.bytes } },
+      drop front.len bytes,
+      record { format = format; says = says; is = is },
+      sym (take-append-drop front.len bytes),
+    )
     | inr none ↦ inr (λ w rest is splits.
-        (let cut : take (length w.bytes) bytes ≡ w.bytes = ap (λ (b : List ℕ). take (length w.bytes) b) splits ∙ take_at w.bytes rest (length w.bytes) refl in
-        none (record { len = length w.bytes; items = w.value.items; bytes = w.value.entries }, omega (arith, ap length splits, length-append w.bytes rest), subst (λ (b : List ℕ). IsRecord (signature format.version n) b w.value.items w.value.entries) (sym cut) (in_format n header w.bytes format w.value says is))))
+        (let cut : take (length w.bytes) bytes ≡ w.bytes = ap (λ (b : List ℕ). take (length w.bytes) b) splits
+        ∙ take_at w.bytes rest (length w.bytes) refl in
+        none (
+          record { len = length w.bytes; items = w.value.items; bytes = w.value.entries },
+          omega (arith, ap length splits, length-append w.bytes rest),
+          subst (λ (b : List ℕ). IsRecord (signature format.version n) b w.value.items w.value.entries)
+              (sym cut) (in_format n header w.bytes format w.value says is),
+        )))
   ]
 ]
 
 pub files_are_told : LogFilesAreTold
 files_are_told queue directories = record {
   headers = λ bytes. elim (front_told bytes) [
-    | inl (header, rest, format, says, splits) ↦ inl (header, record { is = (format, says); rest = rest; splits = splits })
+    | inl (header, rest, format, says, splits) ↦ inl (
+      header,
+      record { is = (format, says); rest = rest; splits = splits },
+    )
     | inr none ↦ inr (λ header has. none header has.rest has.is.0 has.is.1 has.splits)
   ];
   frames = records_told;
@@ -141,10 +190,19 @@ pub zeros_hold_none : ZerosHoldNoRecord
 zeros_hold_none n size header ahead inside behind said splits is =
     let long = record_filled (signature is.format.version n) inside said is.is in
     let size_is : length ahead + (length inside + length behind) ≡ size =
-    omega (arith, ap length splits, length-append ahead (inside ++ behind), length-append inside behind, length-replicate {A = ℕ} size 0) in
-    let tail : inside ++ behind ≡ zeros (size - length ahead) = sym (drop_front ahead (inside ++ behind)) ∙ ap (λ (b : List ℕ). drop (length ahead) b) (sym splits) ∙ drop-replicate (length ahead) size 0 in
-    let first : take 8 inside ≡ take 8 (inside ++ behind) = sym (take_front 8 inside behind (omega (arith, long))) in
-    let eight : take 8 inside ≡ replicate 8 0 = first ∙ ap (λ (b : List ℕ). take 8 b) tail ∙ take_zeros 8 (size - length ahead) (omega (arith, long, size_is)) in
+    omega (
+      arith,
+      ap length splits,
+      length-append ahead (inside ++ behind),
+      length-append inside behind,
+      length-replicate {A = ℕ} size 0,
+    ) in
+    let tail : inside ++ behind ≡ zeros (size - length ahead) = sym (drop_front ahead (inside ++ behind))
+    ∙ ap (λ (b : List ℕ). drop (length ahead) b) (sym splits) ∙ drop-replicate (length ahead) size 0 in
+    let first : take 8 inside ≡ take 8 (inside ++ behind) =
+    sym (take_front 8 inside behind (omega (arith, long))) in
+    let eight : take 8 inside ≡ replicate 8 0 = first ∙ ap (λ (b : List ℕ). take 8 b) tail
+    ∙ take_zeros 8 (size - length ahead) (omega (arith, long, size_is)) in
     no_frame_in_zeros (signature is.format.version n) inside is.is.block said.items eight is.is.frame
 
 -- The layout.
@@ -157,38 +215,58 @@ log_is_format queue directories = record {
 }
 
 -- a reserved path is no number's: its last byte is another one
-reserved_apart : (queue : LogQueue) (directories : List (List ℕ)) (m n : ℕ) (path : List ℕ) → IsPathWith (suffix_of queue) directories m path → IsPathWith (reserved_suffix_of queue) directories n path → ⊥
+reserved_apart : (queue : LogQueue) (directories : List (List ℕ)) (m n : ℕ) (path : List ℕ)
+    → IsPathWith (suffix_of queue) directories m path → IsPathWith (reserved_suffix_of queue) directories n
+    path → ⊥
 reserved_apart Append directories m n path at kept =
-    let same = one_name at.directory kept.directory at.name kept.name at.plain kept.plain (sym at.joined ∙ kept.joined) in
-    other_end (codes ".raftlog") (reserved_suffix_of Append) kept.name 7 16 0 refl refl (λ e. omega (arith, e)) (subst (λ (b : List ℕ). EndsWith (codes ".raftlog") b) same at.named.1) kept.named.1
+    let same = one_name at.directory kept.directory at.name kept.name at.plain kept.plain
+    (sym at.joined ∙ kept.joined) in
+    other_end (codes ".raftlog") (reserved_suffix_of Append) kept.name 7 16 0 refl refl
+    (λ e. omega (arith, e)) (subst (λ (b : List ℕ). EndsWith (codes ".raftlog") b) same at.named.1)
+    kept.named.1
 reserved_apart Rewrite directories m n path at kept =
-    let same = one_name at.directory kept.directory at.name kept.name at.plain kept.plain (sym at.joined ∙ kept.joined) in
-    other_end (codes ".rewrite") (reserved_suffix_of Rewrite) kept.name 7 16 0 refl refl (λ e. omega (arith, e)) (subst (λ (b : List ℕ). EndsWith (codes ".rewrite") b) same at.named.1) kept.named.1
+    let same = one_name at.directory kept.directory at.name kept.name at.plain kept.plain
+    (sym at.joined ∙ kept.joined) in
+    other_end (codes ".rewrite") (reserved_suffix_of Rewrite) kept.name 7 16 0 refl refl
+    (λ e. omega (arith, e)) (subst (λ (b : List ℕ). EndsWith (codes ".rewrite") b) same at.named.1)
+    kept.named.1
 
-pub is_layout : (queue : LogQueue) (directories : List (List ℕ)) → 0 < length directories → IsLayout (log_format queue directories) (IsOwnPath queue directories) (log_paths queue directories)
+pub is_layout : (queue : LogQueue) (directories : List (List ℕ)) → 0 < length directories
+    → IsLayout (log_format queue directories) (IsOwnPath queue directories) (log_paths queue directories)
 is_layout queue directories some = record {
   format = log_is_format queue directories;
   owns = λ m path less at. (m, inl at);
   limit = refl;
   numbered = λ place n less. numbered_is queue directories place n some less;
   kept = λ place n. (min n (10 ^ 16 - 1), inr (reserved_is queue directories place n some));
-  apart = λ place n m less at. reserved_apart queue directories m (min n (10 ^ 16 - 1)) (reserved_path queue directories place n) at (reserved_is queue directories place n some);
+  apart = λ place n m less at. reserved_apart queue directories m (min n (10 ^ 16 - 1))
+      (reserved_path queue directories place n) at (reserved_is queue directories place n some);
   headed = headed;
 }
 
 -- The queues.
 
 -- the names of paths with these ends differ
-ends_apart : (s t : List ℕ) (ds es : List (List ℕ)) (i k j m n : ℕ) (path : List ℕ) → i + suc j ≡ length s → k + suc j ≡ length t → (get_or s i 0 ≡ get_or t k 0 → ⊥) → IsPathWith s ds m path → IsPathWith t es n path → ⊥
+ends_apart : (s t : List ℕ) (ds es : List (List ℕ)) (i k j m n : ℕ) (path : List ℕ) → i + suc j ≡ length s
+    → k + suc j ≡ length t → (get_or s i 0 ≡ get_or t k 0 → ⊥) → IsPathWith s ds m path
+    → IsPathWith t es n path → ⊥
 ends_apart s t ds es i k j m n path here there differ a b =
     let same = one_name a.directory b.directory a.name b.name a.plain b.plain (sym a.joined ∙ b.joined) in
     other_end s t b.name i k j here there differ (subst (EndsWith s) same a.named.1) b.named.1
 
 pub queues_are_apart : QueuesAreApart
-queues_are_apart append rewrite path (m, inl a) (n, inl b) = ends_apart (codes ".raftlog") (codes ".rewrite") append rewrite 7 7 0 m n path refl refl (λ e. omega (arith, e)) a b
-queues_are_apart append rewrite path (m, inl a) (n, inr b) = ends_apart (codes ".raftlog") (reserved_suffix_of Rewrite) append rewrite 7 16 0 m n path refl refl (λ e. omega (arith, e)) a b
-queues_are_apart append rewrite path (m, inr a) (n, inl b) = ends_apart (reserved_suffix_of Append) (codes ".rewrite") append rewrite 16 7 0 m n path refl refl (λ e. omega (arith, e)) a b
-queues_are_apart append rewrite path (m, inr a) (n, inr b) = ends_apart (reserved_suffix_of Append) (reserved_suffix_of Rewrite) append rewrite 7 7 9 m n path refl refl (λ e. omega (arith, e)) a b
+queues_are_apart append rewrite path (m, inl a) (n, inl b) =
+    ends_apart (codes ".raftlog") (codes ".rewrite") append rewrite 7 7 0 m n path refl refl
+    (λ e. omega (arith, e)) a b
+queues_are_apart append rewrite path (m, inl a) (n, inr b) =
+    ends_apart (codes ".raftlog") (reserved_suffix_of Rewrite) append rewrite 7 16 0 m n path refl refl
+    (λ e. omega (arith, e)) a b
+queues_are_apart append rewrite path (m, inr a) (n, inl b) =
+    ends_apart (reserved_suffix_of Append) (codes ".rewrite") append rewrite 16 7 0 m n path refl refl
+    (λ e. omega (arith, e)) a b
+queues_are_apart append rewrite path (m, inr a) (n, inr b) =
+    ends_apart (reserved_suffix_of Append) (reserved_suffix_of Rewrite) append rewrite 7 7 9 m n path refl
+    refl (λ e. omega (arith, e)) a b
 
 -- what a file is called that is kept to be used
 pub reserved_names : ReservedNamesAreTheLogs

@@ -26,7 +26,10 @@ no_longer d e x y plain same longer =
     let k = length e - suc (length d) in
     let at : length d + suc k ≡ length e = omega (arith, longer) in
     let slash : get_or (d ++ 47 ∷ x) (length d + suc k) 0 ≡ 47 =
-    ap (λ (l : List ℕ). get_or l (length d + suc k) 0) same ∙ ap (λ (i : ℕ). get_or (e ++ 47 ∷ y) i 0) (let there : length d + suc k ≡ length e + 0 = omega (arith, at) in there) ∙ get_or-append-add e (47 ∷ y) 0 0 in
+    ap (λ (l : List ℕ). get_or l (length d + suc k) 0) same
+    ∙ ap (λ (i : ℕ). get_or (e ++ 47 ∷ y) i 0)
+    (let there : length d + suc k ≡ length e + 0 = omega (arith, at) in there)
+    ∙ get_or-append-add e (47 ∷ y) 0 0 in
     let inside : get_or x k 0 ≡ 47 = sym (get_or-append-add d (47 ∷ x) (suc k) 0) ∙ slash in
     plain k (omega (arith, at, ap length same, length-append d (47 ∷ x), length-append e (47 ∷ y))) inside
 
@@ -37,14 +40,17 @@ one_name d e x y plain also same = elim (cases_lt (length d) (length e)) [
     | inl longer ↦ absurd (no_longer e d y x also (sym same) longer)
     | inr other ↦
         (let even : length e ≡ length d = omega (arith, rest, other) in
-        let split : 47 ∷ x ≡ 47 ∷ y = sym (drop_at d (47 ∷ x) (length d) refl) ∙ ap (λ (l : List ℕ). drop (length d) l) same ∙ drop_at e (47 ∷ y) (length d) even in
+        let split : 47 ∷ x ≡ 47 ∷ y = sym (drop_at d (47 ∷ x) (length d) refl)
+        ∙ ap (λ (l : List ℕ). drop (length d) l) same ∙ drop_at e (47 ∷ y) (length d) even in
         ap (λ (l : List ℕ). drop 1 l) split)
   ]
 ]
 
-pub one_number : (suffix : List ℕ) (directories : List (List ℕ)) (m n : ℕ) (path : List ℕ) → IsPathWith suffix directories m path → IsPathWith suffix directories n path → m ≡ n
+pub one_number : (suffix : List ℕ) (directories : List (List ℕ)) (m n : ℕ) (path : List ℕ)
+    → IsPathWith suffix directories m path → IsPathWith suffix directories n path → m ≡ n
 one_number suffix directories m n path a b =
-    let same : a.name ≡ b.name = one_name a.directory b.directory a.name b.name a.plain b.plain (sym a.joined ∙ b.joined) in
+    let same : a.name ≡ b.name = one_name a.directory b.directory a.name b.name a.plain b.plain
+    (sym a.joined ∙ b.joined) in
     let there : IsNamed suffix b.name m = subst (λ (name : List ℕ). IsNamed suffix name m) same a.named in
     there.0.value ∙ sym b.named.0.value
 
@@ -64,13 +70,15 @@ no_slash (b ∷ bs) none zero less is = elim (cases_Bool (nat_eq b 47)) [
 ]
 no_slash (b ∷ bs) none (suc k) less is = elim (cases_Bool (nat_eq b 47)) [
   | inl hit ↦ absurd (false≢true (sym (ap (λ t. cond t false (has_no_slash bs)) hit) ∙ none))
-  | inr miss ↦ no_slash bs (sym (ap (λ t. cond t false (has_no_slash bs)) miss) ∙ none) k (omega (arith, less)) is
+  | inr miss ↦ no_slash bs (sym (ap (λ t. cond t false (has_no_slash bs)) miss) ∙ none) k
+      (omega (arith, less)) is
 ]
 
 plain_append : (a b : List ℕ) → IsPlain a → IsPlain b → IsPlain (a ++ b)
 plain_append a b first next k less is = elim (cases_lt k (length a)) [
   | inl here ↦ first k here (sym (get_or_append_left a b 0 k here) ∙ is)
-  | inr beyond ↦ (let long = length-append a b in next (k - length a) (omega (arith, less, beyond, long)) (sym (get_or-append_right a b (length a) k 0 refl beyond) ∙ is))
+  | inr beyond ↦ (let long = length-append a b in next (k - length a) (omega (arith, less, beyond, long))
+      (sym (get_or-append_right a b (length a) k 0 refl beyond) ∙ is))
 ]
 
 -- zeros in front of a number are digits too
@@ -79,11 +87,13 @@ padded_digits zero n fit = (decimal_is_IsNumeral n fit).0.1
 padded_digits (suc k) n fit = (omega arith, padded_digits k n fit)
 
 digits_plain : (n : ℕ) → n < 10 ^ 16 → IsPlain (sixteen_digits n)
-digits_plain n fit k less is = (let digit = digit_at (sixteen_digits n) k (padded_digits (16 - length (decimal n)) n (omega (arith, fit))) less in omega (arith, digit, is))
+digits_plain n fit k less is = (let digit = digit_at (sixteen_digits n) k
+    (padded_digits (16 - length (decimal n)) n (omega (arith, fit))) less in omega (arith, digit, is))
 
 -- The paths that are built.
 
-written_path : (suffix : List ℕ) (directories : List (List ℕ)) (place n : ℕ) → 0 < length directories → n < 10 ^ 16 → 0 < length suffix → has_no_slash suffix ≡ true
+written_path : (suffix : List ℕ) (directories : List (List ℕ)) (place n : ℕ) → 0 < length directories
+    → n < 10 ^ 16 → 0 < length suffix → has_no_slash suffix ≡ true
     → IsPathWith suffix directories n (directory_at directories place ++ 47 ∷ (sixteen_digits n ++ suffix))
 written_path suffix directories place n some fit ended slashless = record {
   directory = directory_at directories place;
@@ -97,38 +107,54 @@ written_path suffix directories place n some fit ended slashless = record {
     listed : Contains directories (directory_at directories place)
     listed = elim (cases_lt place (length directories)) [
       | inl there ↦ Contains-get_or directories place (get_or directories 0 []) there
-      | inr beyond ↦ subst (Contains directories) (sym (get_or_past directories place (get_or directories 0 []) beyond)) (Contains-get_or directories 0 [] some)
+      | inr beyond ↦ subst (Contains directories) (sym (get_or_past directories place
+          (get_or directories 0 []) beyond)) (Contains-get_or directories 0 [] some)
     ]
 
-pub numbered_is : (queue : LogQueue) (directories : List (List ℕ)) (place n : ℕ) → 0 < length directories → n < 10 ^ 16 → IsPathWith (suffix_of queue) directories n (numbered_path queue directories place n)
+pub numbered_is : (queue : LogQueue) (directories : List (List ℕ)) (place n : ℕ) → 0 < length directories
+    → n < 10 ^ 16 → IsPathWith (suffix_of queue) directories n (numbered_path queue directories place n)
 unfolding has_no_slash
-numbered_is Append directories place n some fit = written_path (codes ".raftlog") directories place n some fit (omega arith) refl
-numbered_is Rewrite directories place n some fit = written_path (codes ".rewrite") directories place n some fit (omega arith) refl
+numbered_is Append directories place n some fit = written_path (codes ".raftlog") directories place n some fit
+    (omega arith) refl
+numbered_is Rewrite directories place n some fit = written_path (codes ".rewrite") directories place n some
+    fit (omega arith) refl
 
-reserved_written : (queue : LogQueue) (directories : List (List ℕ)) (place n : ℕ) → 0 < length directories → n < 10 ^ 16 → 0 < length (reserved_suffix_of queue) → has_no_slash (reserved_suffix_of queue) ≡ true
-    → IsPathWith (reserved_suffix_of queue) directories n (numbered_path queue directories place n ++ codes ".reserved")
+reserved_written : (queue : LogQueue) (directories : List (List ℕ)) (place n : ℕ) → 0 < length directories
+    → n < 10 ^ 16 → 0 < length (reserved_suffix_of queue) → has_no_slash (reserved_suffix_of queue) ≡ true
+    → IsPathWith (reserved_suffix_of queue) directories n (numbered_path queue directories place n
+    ++ codes ".reserved")
 reserved_written queue directories place n some fit ended slashless =
     let kept : List ℕ = codes ".reserved" in
-    let joined : numbered_path queue directories place n ++ kept ≡ directory_at directories place ++ 47 ∷ (sixteen_digits n ++ reserved_suffix_of queue) =
+    let joined : numbered_path queue directories place n ++ kept ≡ directory_at directories place
+    ++ 47 ∷ (sixteen_digits n ++ reserved_suffix_of queue) =
     append_assoc (directory_at directories place) (47 ∷ (sixteen_digits n ++ suffix_of queue)) kept
-    ∙ ap (λ (l : List ℕ). directory_at directories place ++ 47 ∷ l) (append_assoc (sixteen_digits n) (suffix_of queue) kept) in
-    subst (IsPathWith (reserved_suffix_of queue) directories n) (sym joined) (written_path (reserved_suffix_of queue) directories place n some fit ended slashless)
+    ∙ ap (λ (l : List ℕ). directory_at directories place ++ 47 ∷ l)
+    (append_assoc (sixteen_digits n) (suffix_of queue) kept) in
+    subst (IsPathWith (reserved_suffix_of queue) directories n) (sym joined)
+    (written_path (reserved_suffix_of queue) directories place n some fit ended slashless)
 
 pub reserved_is : (queue : LogQueue) (directories : List (List ℕ)) (place n : ℕ) → 0 < length directories
-    → IsPathWith (reserved_suffix_of queue) directories (min n (10 ^ 16 - 1)) (reserved_path queue directories place n)
+    → IsPathWith (reserved_suffix_of queue) directories (min n (10 ^ 16 - 1))
+    (reserved_path queue directories place n)
 unfolding has_no_slash
-reserved_is Append directories place n some = reserved_written Append directories place (min n (10 ^ 16 - 1)) some (omega arith) (omega arith) refl
-reserved_is Rewrite directories place n some = reserved_written Rewrite directories place (min n (10 ^ 16 - 1)) some (omega arith) (omega arith) refl
+reserved_is Append directories place n some = reserved_written Append directories place (min n (10 ^ 16 - 1))
+    some (omega arith) (omega arith) refl
+reserved_is Rewrite directories place n some = reserved_written Rewrite directories place
+    (min n (10 ^ 16 - 1)) some (omega arith) (omega arith) refl
 
 -- The end of a name says the queue, and whether it is reserved.
 
 -- a byte of the end, counted from behind
-from_behind : (suffix name : List ℕ) (i j : ℕ) → EndsWith suffix name → i + suc j ≡ length suffix → get_or name (length name - suc j) 0 ≡ get_or suffix i 0
+from_behind : (suffix name : List ℕ) (i j : ℕ) → EndsWith suffix name → i + suc j ≡ length suffix
+    → get_or name (length name - suc j) 0 ≡ get_or suffix i 0
 from_behind suffix name i j (front, is) all =
     let long : length name ≡ length front + length suffix = ap length is ∙ length-append front suffix in
     let at : length name - suc j ≡ length front + i = omega (arith, long, all) in
-    ap (λ (k : ℕ). get_or name k 0) at ∙ ap (λ (l : List ℕ). get_or l (length front + i) 0) is ∙ get_or-append-add front suffix i 0
+    ap (λ (k : ℕ). get_or name k 0) at ∙ ap (λ (l : List ℕ). get_or l (length front + i) 0) is
+    ∙ get_or-append-add front suffix i 0
 
 -- names whose ends differ in a byte are two
-pub other_end : (s t name : List ℕ) (i k j : ℕ) → i + suc j ≡ length s → k + suc j ≡ length t → (get_or s i 0 ≡ get_or t k 0 → ⊥) → EndsWith s name → EndsWith t name → ⊥
-other_end s t name i k j here there differ a b = differ (sym (from_behind s name i j a here) ∙ from_behind t name k j b there)
+pub other_end : (s t name : List ℕ) (i k j : ℕ) → i + suc j ≡ length s → k + suc j ≡ length t
+    → (get_or s i 0 ≡ get_or t k 0 → ⊥) → EndsWith s name → EndsWith t name → ⊥
+other_end s t name i k j here there differ a b =
+    differ (sym (from_behind s name i j a here) ∙ from_behind t name k j b there)

@@ -23,7 +23,8 @@ pub fn reserved_names_are_the_logs()
     ensures { ReservedNamesAreTheLogs }
 {}
 
-/// Where a queue's directories are there, and no file and no directory has the path of a number, it may begin.
+/// Where a queue's directories are there, and no file and no directory has the path of a number, it may
+/// begin.
 pub fn places_are_fresh()
     ensures { PlacesAreFresh }
 {}

@@ -1,4 +1,5 @@
 mod Carrying
+mod Ending
 mod Fitting
 mod Growing
 mod Lying

@@ -1,12 +1,15 @@
 -- What an engine knows by the tables of its groups, as the view that the log's directory speaks of.
-use Rattle.std.specs.Prelude.{◌≡◌, ℕ, false, List, [], ◌∷◌}
+use Rattle.std.specs.Prelude.{◌≡◌, ℕ, Bool, true, false, if◌then◌else◌, List, [], ◌∷◌, ◌++◌}
 use Rattle.raft_log_model.specs.Item.{Record, Tagged, items_of}
 use Rattle.raft_log_model.specs.Groups.{Map, of_group, taken}
 use Rattle.raft_log_directory.specs.Log.{View}
-use Rattle.raft_log_directory.specs.Tables.{CarriesTo, GrowsTo}
+use Rattle.raft_log_machine.specs.Machine.{AllFit, IsJoined}
+use Rattle.raft_log_machine.specs.Unbroken.{joined}
+use Rattle.raft_log_directory.specs.Tables.{CarriesTo, EndsGroupTo, GrowsTo}
+use Rattle.raft_log_places.specs.declared.group_files.GroupFiles.{GroupFiles}
 use Rattle.raft_log_places.specs.declared.place.Place.{Place}
 use Rattle.raft_log_places.specs.Shown.{Shown, IsOrderly, whereabouts}
-use Rattle.raft_log_places.specs.Noted.{AreIn, AreUpTo, file_at, noted_at}
+use Rattle.raft_log_places.specs.Noted.{AreIn, AreUpTo, IsLeastInRewrite, file_at, noted_at, with_note}
 use Rattle.raft_log_places.specs.Bridge.{AllOwed, CanAllMove, IsMeant, Located, Move, all_moved, items_of as copies_of, marks, unmarked, without}
 use Rattle.raft_log_replay.specs.Batch.{MayFollowAll, all_shown, all_written}
 
@@ -63,3 +66,44 @@ MarksCarryTheView E = (at : Located → E) (n : ℕ) (v : ℕ → Shown) (m : Ma
     → ((g : ℕ) → AllOwed (v g).deleted (keys g))
     → ((g : ℕ) (k : List ℕ) → without (v g).deleted (keys g) k ≡ false)
     → ((g : ℕ) → of_group g xs ≡ marks (v g) (keys g)) → ViewCarries at n v (λ g. unmarked (v g)) m xs
+
+-- How the tables take an atomic group of Rewrite at its end: its files, which groups' tables it is about, the
+-- copies that each of them takes, and below which file nothing of Rewrite lies in it then
+pub record GroupEnd : Type 0 where
+  pub files : GroupFiles
+  pub about : ℕ → Bool
+  pub moves : ℕ → List Move
+  pub least : ℕ → ℕ
+
+-- what shows once it ended: the copies are made, and its files are noted
+abbrev pub ended : GroupEnd → (ℕ → Shown) → ℕ → Shown
+ended e v g = if e.about g then with_note (all_moved (v g) (e.moves g)) (e.least g) e.files else v g
+
+-- the copies may be made in a group's table that it is about: they lie in its files, and its items may be taken
+-- as these
+pub record MayEndIn {E : Type 0} (at : Located → E) (e : GroupEnd) (v : ℕ → Shown)
+    (items : List (Tagged E (List ℕ))) (g : ℕ) : Type 0 where
+  pub can : CanAllMove at (v g) (e.moves g)
+  pub lie : AreUpTo e.files.to (e.moves g)
+  pub least : IsLeastInRewrite (all_moved (v g) (e.moves g)) (e.least g)
+  pub taken_as : IsJoined (of_group g items) (copies_of at (v g) (e.moves g))
+
+-- so they may in each of these; of no other group has it items
+pub record MayEnd {E : Type 0} (at : Located → E) (e : GroupEnd) (v : ℕ → Shown)
+    (items : List (Tagged E (List ℕ))) : Type 0 where
+  pub about : (g : ℕ) → e.about g ≡ true → MayEndIn at e v items g
+  pub others : (g : ℕ) → e.about g ≡ false → of_group g items ≡ []
+
+-- the view goes on by the end of an atomic group whose begin lies in file n
+pub record ViewEnds {E : Type 0} (at : Located → E) (n : ℕ) (v u : ℕ → Shown) (m : Map E (List ℕ))
+    (first : List (Tagged E (List ℕ))) (more : List (List (Tagged E (List ℕ))))
+    (xs : List (Tagged E (List ℕ))) : Type 0 where
+  pub ends : EndsGroupTo first more xs n (view_of v m) (view_of u m)
+  pub meant : AreMeant at u m
+
+-- so it is of an atomic group of copies that begins in the first of its files and ends with these items
+abbrev pub GroupEndsTheView : Type 0 → Type 0
+GroupEndsTheView E = (at : Located → E) (e : GroupEnd) (v : ℕ → Shown) (m : Map E (List ℕ))
+    (first : List (Tagged E (List ℕ))) (more : List (List (Tagged E (List ℕ)))) (xs : List (Tagged E (List ℕ)))
+    → AreMeant at v m → MayEnd at e v (joined first more ++ xs) → AllFit xs
+    → ViewEnds at e.files.from v (ended e v) m first more xs

@@ -6,7 +6,7 @@ ghost use Rattle.raft_log_items.specs.declared.item.LogItem.{LogItem};
 ghost use Rattle.raft_log_items.specs.Placed.{written};
 ghost use Rattle.raft_log_atomic_groups.specs.Meaning.{tagged_items};
 ghost use Rattle.raft_log_held.specs.Entries.{place_of};
-ghost use Rattle.raft_log_views.specs.Views.{BatchGrowsTheView, CopiesCarryTheView, LieIn, MarksCarryTheView};
+ghost use Rattle.raft_log_views.specs.Views.{BatchGrowsTheView, CopiesCarryTheView, GroupEndsTheView, LieIn, MarksCarryTheView};
 
 /// A batch that was written to a file of Append, and that the tables take, is one by which the view goes on:
 /// what the tables promised before the write is what the log's directory asks.
@@ -29,4 +29,9 @@ pub fn copies_carry_the_view<E>()
 /// So are the marks that are owed, of which none is owed then.
 pub fn marks_carry_the_view<E>()
     ensures { MarksCarryTheView E }
+{}
+
+/// So is an atomic group of copies at its end: its files are noted, from the one with its begin on.
+pub fn group_ends_the_view<E>()
+    ensures { GroupEndsTheView E }
 {}

@@ -74,7 +74,7 @@ module _ {R E V : Type 0} (log : TwoQueues R E V) (two : AreTwoQueues log) (whic
       → AppendsAt layout.format layout.own layout.paths begin queue signed before after block s.disk new → after.first_seq ≡ before.first_seq
       → LeavesQueue log which o (Some after) s new (HasTaken (header_bytes begin.format) before.recycled.items s.disk q.files) (Appends (Ties log) which y block.id.seq)
   appended begin queue signed y says after block new call first =
-      let (mid, turned, room, w, pipe, takes) = append_one log.says layout told q.first s.disk begin queue signed y before after block q.files s.disk new says call runs.pipe in
+      let (mid, turned, room, w, pipe, last, takes) = append_one log.says layout told q.first s.disk begin queue signed y before after block q.files s.disk new says call runs.pipe in
       let files = with_more (w ∷ []) (with_room room mid) in
       let only : TouchesOnlyNames layout.own s.disk new = pipe.active.stands.others in (
         files,

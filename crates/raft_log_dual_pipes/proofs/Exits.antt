@@ -55,8 +55,8 @@ module _ (which : Which) (v : LogPipes) (o : OnePipe) (d : Disk) where
   appends signed block call same alive first log s y run says =
       let begin = (one_at which v).settings.new_files in
       let there = at_log which log v s run (λ (l : QueueLayout LogRecord) (n : LogQueue) (x : Disk). AppendsAt l.format l.own l.paths begin n signed (pipe_at which (files_of v)) o.files block x d) call in
-      let (files, taken, next, step) = append_is_a_step (queues log) (two_of log v s run) which (files_of v) s run.run begin (queue_of which) signed y says o.files block d there first in
-      (ap (λ i. i.queue) there.id, (files, taken, again log s files run same alive next, step))
+      let (files, taken, last, next, step) = append_is_a_step (queues log) (two_of log v s run) which (files_of v) s run.run begin (queue_of which) signed y says o.files block d there first in
+      (ap (λ i. i.queue) there.id, (files, taken, last, again log s files run same alive next, step))
 
   left : (log : LogSense) (s : State) (y : Said) (error : Error) → RunsOn log v s → SameRules (one_at which v) o → (is_failure error ≡ false → o.failed ≡ false) → NotAppended (queues log) which (files_of v) s (header_at which v) y o.files error d
       → RefusalLeaves log which s y v (with_one which v o d) error

@@ -13,7 +13,7 @@ use Rattle.raft_log_directory.specs.Calls.{Which, Appends, CutsBack, FailsWhole,
 use Rattle.raft_log_steps.specs.Queues.{layout_at, SaysRecord}
 use Rattle.raft_log_steps.specs.State.{spanned_at, pipe_at, HoldsBoth, Ties}
 use Rattle.raft_log_steps.specs.Crash.{AllowsIn}
-use Rattle.raft_log_steps.specs.Turning.{GoesOnInNext, HasTaken, IsCutBack, IsOrGoesOn}
+use Rattle.raft_log_steps.specs.Turning.{GoesOnInNext, HasLast, HasTaken, IsCutBack, IsOrGoesOn}
 use Rattle.raft_log_steps.specs.Steps.{next_log, LeavesFailed}
 use Rattle.raft_log_steps.specs.Syncing.{FailsMoved, raised_log}
 use Rattle.raft_log_dual_pipes.specs.Pipes.{LogPipes, LogSense, RunsOn, Said, State, files_of, header_at, is_failed, one_at, queue_of, queues, spares_at}
@@ -22,10 +22,10 @@ use Rattle.raft_log_dual_pipes.specs.Pipes.{LogPipes, LogSense, RunsOn, Said, St
 -- place names.
 abbrev pub AppendsTo : Which → (LogFileContext → List ℕ) → FileBlockHandle → LogPipes → LogPipes → Type 0
 AppendsTo which signed block v w = (log : LogSense) (s : State) (y : Said) → RunsOn log v s
-    → SaysRecord log.says (layout_at which (queues log)) (queue_of which) signed y
+    → (said : SaysRecord log.says (layout_at which (queues log)) (queue_of which) signed y)
     → (block.id.queue ≡ queue_of which) × ((files : LogFiles LogRecord)
     × HasTaken (header_at which v) (spares_at which v) s.disk (spanned_at which s).files files
-    × RunsOn log w (next_log which s files w.disk)
+    × HasLast signed said.value block files × RunsOn log w (next_log which s files w.disk)
     × Appends (Ties (queues log)) which y block.id.seq s (next_log which s files w.disk))
 
 -- a record was cut back: both pipes run on, and all that was written to the queue before is synced

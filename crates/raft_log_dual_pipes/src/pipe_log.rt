@@ -1,6 +1,6 @@
 //! A log's two queues of files, as an engine uses them.
 
-ghost use Rattle.std.specs.Prelude.{◌≡◌, ◌-◌, ◌≤◌, ◌<◌, IfErr, IfOk, OnErr, OnOk};
+ghost use Rattle.std.specs.Prelude.{◌≡◌, ◌-◌, ◌≤◌, ◌<◌, ◌^◌, IfErr, IfOk, OnErr, OnOk};
 ghost use Rattle.raft_log_base.specs.declared.errors.Error.TheVariants as errors;
 ghost use Rattle.raft_log_disk.specs.Causes.{IsLater};
 
@@ -68,6 +68,7 @@ pub trait PipeLog {
     ) -> Result<FileBlockHandle>
         ensures ok { IfOk result (λ block. AppendsTo (which_of queue) (B.signed bytes.old) block
             (shown self.old) (shown self.new)) }
+        ensures place { IfOk result (λ block. block.offset < 2 ^ 63) }
         ensures err { IfErr result (λ error. FailsToAppendTo (which_of queue) (B.signed bytes.old) error
             (shown self.old) (shown self.new)) }
         ensures signed { B.signed bytes.new ≡ B.signed bytes.old }

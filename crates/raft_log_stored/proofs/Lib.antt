@@ -1,7 +1,7 @@
 mod Parts
 mod Keeping
-mod Staying
-mod Reading
+pub mod Staying
+pub mod Reading
 mod Taking
 mod Laid
 mod Lasting

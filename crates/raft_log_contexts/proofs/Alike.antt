@@ -1,6 +1,5 @@
 -- Two contexts that have read the same batches.
 use Rattle.std.proofs.Common.{◌≡◌, ℕ, suc, List, [], ◌∷◌, length, Option, Some, refl, sym, ap, ap₂, subst, ◌∙◌, arith}
-use Rattle.std.specs.List.{AllZip}
 use Rattle.raft_log_base.specs.declared.pipe_log.LogQueue.{LogQueue}
 use Rattle.raft_log_model.specs.Table.{content}
 use Rattle.raft_log_places.specs.Replayed.{standing}

@@ -1,9 +1,9 @@
 -- Where an open atomic group has begun, which records it has, and what counts once it ends.
-use Rattle.std.proofs.Common.{◌≡◌, ◌⊎◌, ℕ, ◌==◌, Bool, true, false, if◌then◌else◌, List, [], ◌∷◌, ◌++◌, Option, Some, None, unwrap_or, refl, sym, ap, ap₂, subst, ◌∙◌, inl, inr, append_assoc, append-nil}
+use Rattle.std.proofs.Common.{◌≡◌, ◌⊎◌, ℕ, ◌==◌, true, false, if◌then◌else◌, List, [], ◌∷◌, ◌++◌, Option, Some, None, unwrap_or, refl, sym, ap, ◌∙◌, inl, inr, append_assoc, append-nil}
 use Rattle.raft_log_model.specs.Item.{Record, items_of, Tagged}
 use Rattle.raft_log_model.specs.Item.Record.{Plain, Part}
 use Rattle.raft_log_model.specs.Item.Mark.{Begin, Middle, End}
-use Rattle.raft_log_model.specs.Groups.{Open, none_open, onto, counts, opens, opened, set_open, settle}
+use Rattle.raft_log_model.specs.Groups.{Open, none_open, onto, opens, opened, set_open, settle}
 use Rattle.raft_log_model.specs.Fragments.{Head, head}
 use Rattle.raft_log_model.specs.Fragments.Head.{GoesOn, Ends, BeginsAnew}
 use Rattle.raft_log_model.proofs.Cases.{at_bool, if_true, if_false, from_eq_true}

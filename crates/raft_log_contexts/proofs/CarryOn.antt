@@ -91,16 +91,19 @@ pub ends_now : (ys rest all : List OpenGroup) (u : OpenGroup) → ys ++ u ∷ re
     → ((φ : Reading) → open_in (map (unfinished_of φ) ys) u.number ≡ None → head_in φ h ≡ heads φ u.number)
     → (more : Vec GroupPart) → h ≡ Some (code.Ends more) → (ps : List GroupPart)
     → ((φ : Reading) → parts_seen φ ps ≡ parts_seen φ u.parts.items ++ parts_seen φ more.items) → IsHandedOut all heads ps
-ends_now ys rest all u whole heads h same more is ps parts = (u.number, λ φ d.
-    let split = ap (map (unfinished_of φ)) (sym whole) ∙ map-append (unfinished_of φ) ys (u ∷ rest) in
-    let here = subst AreDistinct split d in
-    record {
-      so_far = parts_seen φ u.parts.items;
-      behind = parts_seen φ more.items;
-      begun = ap (λ l. open_in l u.number) split ∙ open_at (map (unfinished_of φ) ys) (unfinished_of φ u) (map (unfinished_of φ) rest) here;
-      ends = sym (same φ (absent_before (map (unfinished_of φ) ys) (unfinished_of φ u) (map (unfinished_of φ) rest) here)) ∙ ap (head_in φ) is;
-      parts = parts φ;
-    })
+ends_now ys rest all u whole heads h same more is ps parts = (
+  u.number,
+  λ φ d.
+      let split = ap (map (unfinished_of φ)) (sym whole) ∙ map-append (unfinished_of φ) ys (u ∷ rest) in
+      let here = subst AreDistinct split d in
+      record {
+        so_far = parts_seen φ u.parts.items;
+        behind = parts_seen φ more.items;
+        begun = ap (λ l. open_in l u.number) split ∙ open_at (map (unfinished_of φ) ys) (unfinished_of φ u) (map (unfinished_of φ) rest) here;
+        ends = sym (same φ (absent_before (map (unfinished_of φ) ys) (unfinished_of φ u) (map (unfinished_of φ) rest) here)) ∙ ap (head_in φ) is;
+        parts = parts φ;
+      },
+)
 
 -- what is left of the next segment's heads says as much
 pub left_says : (rs : List (Record Located KeyValue)) (us : List (Unfinished Located KeyValue)) (heads left : Heads) → us ≡ unfinished rs

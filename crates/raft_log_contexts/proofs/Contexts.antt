@@ -188,17 +188,20 @@ ended_items rs n part whole ends = ap (λ l. counts (opened none_open l) (Part (
 -- a group that ends is complete with the record that ends it
 ends_complete : (rs : List ReadRecord) (n : ℕ) (part : GroupPart) (ps : Vec GroupPart) → EndsWhole rs n part (Some ps) → (z : List ReadItem)
     → opened none_open (seen_by as_said rs) n ≡ Some z → IsCompleted rs (part_read (End n) part ∷ []) ps.items
-ends_complete rs n part ps ends z is_open = (n, λ φ.
-    let b = begins n rs as_said z is_open in
-    let so_far = all_seen φ (b.first ∷ b.more) in
-    let here = b.opened_is φ none_open in
-    record {
-      so_far = so_far;
-      behind = part_seen φ part;
-      begun = here;
-      ends = if_true (n == n) (Ends (part_seen φ part)) (GoesOn []) (eq_true n n refl);
-      parts = ends φ ∙ ap (λ o. unwrap_or (onto o (part_seen φ part)) []) here;
-    })
+ends_complete rs n part ps ends z is_open = (
+  n,
+  λ φ.
+      let b = begins n rs as_said z is_open in
+      let so_far = all_seen φ (b.first ∷ b.more) in
+      let here = b.opened_is φ none_open in
+      record {
+        so_far = so_far;
+        behind = part_seen φ part;
+        begun = here;
+        ends = if_true (n == n) (Ends (part_seen φ part)) (GoesOn []) (eq_true n n refl);
+        parts = ends φ ∙ ap (λ o. unwrap_or (onto o (part_seen φ part)) []) here;
+      },
+)
 
 whole_counts : (rs : List ReadRecord) (n : ℕ) (part : GroupPart) (ps : Vec GroupPart) → EndsWhole rs n part (Some ps) → AreWhereRead (rs ++ part_read (End n) part ∷ [])
     → (g : ℕ) → CountsWhole (rs ++ part_read (End n) part ∷ []) g ps.items

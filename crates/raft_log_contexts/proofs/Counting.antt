@@ -1,8 +1,8 @@
 -- From which record on what counts speaks of a slot, and in which file its content lies.
-use Rattle.std.proofs.Common.{◌≡◌, ◌⊎◌, ℕ, ◌≤◌, ◌+◌, ◌-◌, ◌<◌, ◌==◌, zero, suc, min, max, Bool, true, false, if◌then◌else◌, List, [], ◌∷◌, ◌++◌, Option, Some, None, option_map, slice_get, nat_le, bytes_eq, refl, sym, ap, ap₂, subst, ◌∙◌, inl, inr, append_assoc, append-nil, arith, le_refl}
+use Rattle.std.proofs.Common.{◌≡◌, ◌⊎◌, ℕ, ◌≤◌, ◌-◌, ◌==◌, zero, suc, min, Bool, true, false, if◌then◌else◌, List, [], ◌∷◌, ◌++◌, Option, Some, None, option_map, slice_get, nat_le, bytes_eq, refl, sym, ap, subst, ◌∙◌, inl, inr, append_assoc, append-nil, arith, le_refl}
 use Rattle.std.specs.Option.{option_or}
 use Rattle.std.proofs.lemmas.Bool.Decides.{nat_tests}
-use Rattle.raft_log_model.specs.Item.{Item, Tagged, items_of}
+use Rattle.raft_log_model.specs.Item.{Item, items_of}
 use Rattle.raft_log_model.specs.Item.Item.{Run, Clean, Compact, Put, Del}
 use Rattle.raft_log_model.specs.Item.Record.{Plain}
 use Rattle.raft_log_model.specs.Meaning.{says, write, Content, Slot}
@@ -24,7 +24,7 @@ use Rattle.raft_log_places.specs.Bridge.{Located}
 use Rattle.raft_log_places.specs.Noted.{start_of}
 use Rattle.raft_log_contexts.specs.declared.part.GroupPart.{GroupPart}
 use Rattle.raft_log_contexts.specs.Records.{counted, in_file, records_of, ReadItem, ReadRecord}
-use Rattle.raft_log_contexts.specs.Pieces.{as_file, as_said, part_seen, parts_seen, seen_by, with_file}
+use Rattle.raft_log_contexts.specs.Pieces.{as_file, as_said, parts_seen, seen_by, with_file}
 use Rattle.raft_log_contexts.specs.Noting.{file_in, files_after, AllLieIn, AreWhereRead, CountsFrom, LieIn, LiesIn}
 use Rattle.raft_log_contexts.proofs.Begins.{all_seen, ends_among, Among, BeginsIn}
 use Rattle.raft_log_contexts.proofs.OpenGroups.{records_append, seen_said}

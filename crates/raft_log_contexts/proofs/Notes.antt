@@ -1,26 +1,22 @@
 -- The files that tables note while records are read, and that each slot counts from its own on.
-use Rattle.std.proofs.Common.{◌≡◌, ◌⊎◌, ℕ, ◌≤◌, ◌==◌, ◌||◌, Bool, true, false, if◌then◌else◌, List, [], ◌∷◌, ◌++◌, map, Option, Some, None, unwrap_or, refl, sym, ap, ap₂, subst, ◌∙◌, inl, inr, append_assoc, append-nil, arith}
+use Rattle.std.proofs.Common.{◌≡◌, ℕ, ◌≤◌, ◌||◌, Bool, true, false, if◌then◌else◌, List, [], ◌∷◌, ◌++◌, map, Option, Some, None, unwrap_or, refl, sym, ap, ap₂, subst, ◌∙◌, inl, inr, append_assoc, append-nil, arith}
 use Rattle.std.specs.Option.{option_or}
 use Rattle.std.specs.Global.{Vec}
-use Rattle.std.specs.BTreeMap.{get}
-use Rattle.std.specs.Ordering.{nat_cmp}
 use Rattle.raft_log_items.specs.declared.item.LogItem.{LogItem}
-use Rattle.raft_log_model.specs.Item.{Item, Tagged, items_of}
+use Rattle.raft_log_model.specs.Item.{Item}
 use Rattle.raft_log_model.specs.Item.Item.{Run, Clean, Compact, Put, Del}
-use Rattle.raft_log_model.specs.Item.Record.{Plain, Part}
-use Rattle.raft_log_model.specs.Item.Mark.{End}
+use Rattle.raft_log_model.specs.Item.Record.{Plain}
 use Rattle.raft_log_model.specs.Meaning.{says, write, Content, Slot}
 use Rattle.raft_log_model.specs.Meaning.Slot.{Index, Key}
 use Rattle.raft_log_model.specs.Groups.{none_open, of_group, opened}
 use Rattle.raft_log_model.specs.Fragments.{head}
 use Rattle.raft_log_model.specs.Holes.{is_past}
-use Rattle.raft_log_model.proofs.Cases.{at_bool, at_option}
+use Rattle.raft_log_model.proofs.Cases.{at_bool}
 use Rattle.raft_log_model.proofs.Joins.{table_holds}
 use Rattle.raft_log_model.proofs.Summaries.{nothing_stands}
 use Rattle.raft_log_model.specs.Table.{content}
 use Rattle.raft_log_model.proofs.Records.{of_group_append}
 use Rattle.raft_log_model.proofs.Words.{says_append}
-use Rattle.raft_log_machine.proofs.TruthGrows.{spoken_after}
 use Rattle.raft_log_machine.proofs.TruthRaises.{no_word}
 use Rattle.raft_log_atomic_groups.specs.Meaning.{tagged_items}
 use Rattle.raft_log_places.specs.declared.group_files.GroupFiles.{GroupFiles}
@@ -32,7 +28,6 @@ use Rattle.raft_log_places.specs.Replayed.{both_noted, joined, nothing_replayed,
 use Rattle.raft_log_places.proofs.Covering.{both_cover, joined_cover}
 use Rattle.raft_log_places.proofs.Replays.{read_noted}
 use Rattle.raft_log_held.specs.Entries.{place_of}
-use Rattle.raft_log_tables.specs.Files.{with_read_group}
 use Rattle.raft_log_replay.specs.declared.mem_tables.MemTables.{MemTables}
 use Rattle.raft_log_replay.specs.Batch.{mentions}
 use Rattle.raft_log_replay.specs.Replaying.{all_replayed, ReadsAll}
@@ -40,10 +35,10 @@ use Rattle.raft_log_replay.specs.Joining.{JoinsAll}
 use Rattle.raft_log_replay.specs.Tables.{replayed_of}
 use Rattle.raft_log_replay.proofs.Items.{none_said}
 use Rattle.raft_log_contexts.specs.declared.part.GroupPart.{GroupPart}
-use Rattle.raft_log_contexts.specs.Records.{counted, in_file, placed_tagged, said_in, AreHealthy, KeepsRead, ReadItem, ReadRecord, TakesItems}
+use Rattle.raft_log_contexts.specs.Records.{counted, in_file, said_in, AreHealthy, KeepsRead, ReadItem, ReadRecord, TakesItems}
 use Rattle.raft_log_contexts.specs.Pieces.{as_file, as_said, groups_items, part_items, parts_items, parts_seen, seen_by, with_file, AllGroups, GoesToEnd, IsCompleted, Reading}
 use Rattle.raft_log_contexts.specs.Noting.{file_in, files_after, files_of, parts_mention, AreWhereRead, CountsFrom, LieIn, NotesAll, NotesAt, ReadsParts, SettlesAll, SettlesGroup}
-use Rattle.raft_log_contexts.proofs.Counting.{all_within, counts_completed, counts_here, counts_left, counts_lower, counts_right, either_says, said_lies, seen_lies, silent_no_clean, silent_rest, start_low, AllWithin}
+use Rattle.raft_log_contexts.proofs.Counting.{all_within, counts_completed, counts_here, counts_lower, counts_right, either_says, said_lies, seen_lies, silent_no_clean, silent_rest, start_low, AllWithin}
 use Rattle.raft_log_contexts.proofs.Begins.{all_seen, begins, ends_by, lie_back, lie_both, lie_front, same_ends, seen_both, BeginsIn, EndsBy}
 use Rattle.raft_log_contexts.proofs.Taking.{healthy_front, placed_group, takes_both, takes_kept, takes_none, takes_read}
 
@@ -264,9 +259,9 @@ join_covers rs ys g xs old later new joins read wider so_far behind s c stands =
     subst (λ u. CountsFrom rs g (start_of (file_in c) u.table.noted) s) (sym (joins g).read)
     (elim (either_says s xs (counted g ys) c stands) [
       | inl now ↦ counts_lower rs g (start_of (file_in c) z.table.noted) (start_of (file_in c) (joined a z).table.noted) s covers.0
-        (wider (start_of (file_in c) z.table.noted) s (behind s c now))
+          (wider (start_of (file_in c) z.table.noted) s (behind s c now))
       | inr was ↦ counts_lower rs g (start_of (file_in c) a.table.noted) (start_of (file_in c) (joined a z).table.noted) s
-        (covers.1 (read.marks.cleaned ∙ silent_no_clean s (counted g ys) was.0)) (so_far s c was.1)
+          (covers.1 (read.marks.cleaned ∙ silent_no_clean s (counted g ys) was.0)) (so_far s c was.1)
     ])
 
 -- a record that counts at once
@@ -283,5 +278,5 @@ plain_covers rs g n old new items reads lie so_far s c stands =
           counts_here rs g n (start_of (file_in c) (replayed_of new g).table.noted) xs s (omega (arith, same, low)) (Some c, now)
           )
       | inr was ↦ counts_right rs (r ∷ []) g (start_of (file_in c) (replayed_of new g).table.noted) s
-        (subst (λ o. CountsFrom rs g (start_of (file_in c) o) s) (sym (reads_keep n g s old new items reads was.0)) (so_far s c was.1))
+          (subst (λ o. CountsFrom rs g (start_of (file_in c) o) s) (sym (reads_keep n g s old new items reads was.0)) (so_far s c was.1))
     ]

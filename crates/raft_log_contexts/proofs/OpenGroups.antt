@@ -1,5 +1,5 @@
 -- The open groups of a segment, as the code keeps them.
-use Rattle.std.proofs.Common.{◌≡◌, ℕ, ◌<◌, ◌==◌, ◌||◌, ◌+◌, suc, Bool, true, false, List, [], ◌∷◌, ◌++◌, map, take, drop, get_or, length, Some, None, unwrap_or, refl, sym, ap, ap₂, subst, ◌∙◌, append_assoc, append-nil, arith}
+use Rattle.std.proofs.Common.{◌≡◌, ℕ, ◌<◌, ◌==◌, ◌||◌, ◌+◌, suc, Bool, true, false, List, [], ◌∷◌, ◌++◌, map, take, drop, get_or, length, Some, None, unwrap_or, refl, sym, ap, ap₂, subst, ◌∙◌, arith}
 use Rattle.std.proofs.lemmas.List.{drop_more, map-append, set_split, take_more, take-append-drop}
 use Rattle.std.proofs.Math.ListN.{set}
 use Rattle.raft_log_model.specs.Item.{Record}

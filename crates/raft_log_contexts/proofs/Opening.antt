@@ -1,5 +1,5 @@
 -- What an open knows by its tables is made of what it read.
-use Rattle.std.proofs.Common.{◌≡◌, ◌⊎◌, ℕ, zero, suc, ◌+◌, ◌-◌, ◌<◌, ◌≤◌, Bool, true, false, List, [], ◌∷◌, ◌++◌, map, length, Option, Some, None, option_map, slice_get, unwrap_or, nat_le, if◌then◌else◌, refl, sym, ap, ap₂, subst, ◌∙◌, inl, inr, append_assoc, append-nil, arith, le_refl}
+use Rattle.std.proofs.Common.{◌≡◌, ◌⊎◌, ℕ, zero, suc, ◌+◌, ◌-◌, ◌<◌, ◌≤◌, true, false, List, [], ◌∷◌, ◌++◌, map, length, Option, Some, None, option_map, slice_get, unwrap_or, nat_le, refl, sym, ap, ap₂, subst, ◌∙◌, inl, inr, append_assoc, arith}
 use Rattle.std.proofs.lemmas.Bool.{cases_lt}
 use Rattle.std.proofs.lemmas.List.{map-append}
 use Rattle.std.proofs.Math.Path.{fun_ext}
@@ -12,7 +12,7 @@ use Rattle.raft_log_model.specs.Holes.{IsSolid}
 use Rattle.raft_log_model.specs.Table.{content}
 use Rattle.raft_log_model.specs.Tidy.{Tidy}
 use Rattle.raft_log_model.proofs.AnySummary.{directory_of_any}
-use Rattle.raft_log_model.proofs.Cases.{at_bool, at_option, if_true, le_true}
+use Rattle.raft_log_model.proofs.Cases.{at_option, if_true, le_true}
 use Rattle.raft_log_model.proofs.Joins.{table_holds}
 use Rattle.raft_log_model.proofs.Records.{appended_append, of_group_append}
 use Rattle.raft_log_model.proofs.Suffix.{suffix}
@@ -20,7 +20,6 @@ use Rattle.raft_log_model.proofs.TidyLaws.{tidy_back}
 use Rattle.raft_log_model.proofs.Words.{says_append}
 use Rattle.raft_log_machine.specs.Files.{records_of as file_records, span, FileQueue, LogFile}
 use Rattle.raft_log_machine.specs.Directory.{IsRising}
-use Rattle.raft_log_machine.specs.Images.{IsOneRun}
 use Rattle.raft_log_machine.specs.Recovery.{IsRecovered}
 use Rattle.raft_log_machine.specs.Survival.{IsSpoken}
 use Rattle.raft_log_machine.proofs.TruthGrows.{spoken_now}
@@ -32,7 +31,7 @@ use Rattle.raft_log_places.specs.declared.place.Place.{Place}
 use Rattle.raft_log_places.specs.Shown.{is_in_append, whereabouts, KeyValue, Shown}
 use Rattle.raft_log_places.specs.Bridge.{in_queue, located, Located}
 use Rattle.raft_log_places.specs.Noted.{file_at, held_file, noted_at, place_file, start_of}
-use Rattle.raft_log_places.specs.Replayed.{merged, standing, summary_of, told, IsReplayed, Replayed}
+use Rattle.raft_log_places.specs.Replayed.{merged, standing, summary_of, told}
 use Rattle.raft_log_places.proofs.Covering.{merged_cover}
 use Rattle.raft_log_places.proofs.Merging.{merged_stands, recovers}
 use Rattle.raft_log_places.proofs.Telling.{directory_told, says_told, solid_told, there}
@@ -41,8 +40,8 @@ use Rattle.raft_log_replay.specs.Tables.{shown_of}
 use Rattle.raft_log_views.specs.Views.{view_of}
 use Rattle.raft_log_contexts.specs.Records.{counted, records_of, ReadRecord}
 use Rattle.raft_log_contexts.specs.Noting.{file_in, AreWhereRead, CountsFrom}
-use Rattle.raft_log_contexts.specs.Context.{meant_by, ArePlain, IsOverAt, IsSound}
-use Rattle.raft_log_contexts.specs.Opened.{map_read, told_record, told_records, told_tagged, AllReadIn, FilesHold, IsOpened}
+use Rattle.raft_log_contexts.specs.Context.{meant_by, IsOverAt, IsSound}
+use Rattle.raft_log_contexts.specs.Opened.{map_read, told_record, told_records, AllReadIn, FilesHold, IsOpened}
 use Rattle.raft_log_contexts.proofs.Begins.{lie_back, lie_front}
 use Rattle.raft_log_contexts.proofs.Contexts.{plain_counted}
 use Rattle.raft_log_contexts.proofs.Counting.{counts_lower, either_says, said_lies, silent_no_clean}
@@ -101,7 +100,10 @@ module _ {E : Type 0} (at : Located → E) where
             let found = in_here n g s c rs all.1 lie.1 more in (found.0, inr found.1, found.2, found.3)
             )
         | inr here ↦ (
-          told_record at r.taken, inl refl, said_lies r.file g s (items_of r.taken) c lie.0 here.1 ∙ all.0, record_spoken s g r.taken (Some c, here.1),
+          told_record at r.taken,
+          inl refl,
+          said_lies r.file g s (items_of r.taken) c lie.0 here.1 ∙ all.0,
+          record_spoken s g r.taken (Some c, here.1),
         )
       ]
 

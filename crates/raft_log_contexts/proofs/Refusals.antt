@@ -28,7 +28,7 @@ use Rattle.raft_log_replay.specs.Joining.{JoinRefused}
 use Rattle.raft_log_replay.proofs.Rereading.{of_group_here, table_is}
 use Rattle.raft_log_contexts.specs.declared.context.MemTableRecoverContext.{MemTableRecoverContext}
 use Rattle.raft_log_contexts.specs.declared.pieces.GroupPieces.{GroupPieces}
-use Rattle.raft_log_contexts.specs.Records.{counted, in_file, record_read, records_of, said_in, AreHealthy, AreReplayed, ReadItem, ReadRecord, TakesItems}
+use Rattle.raft_log_contexts.specs.Records.{counted, in_file, record_read, records_of, said_in, AreHealthy, AreReplayed, ReadRecord, TakesItems}
 use Rattle.raft_log_contexts.specs.Pieces.{IsBroken, JoinsPieces}
 use Rattle.raft_log_contexts.specs.Context.{HasRead}
 use Rattle.raft_log_contexts.specs.Batches.{AreApart, AreOrderly, IsDeclined, IsUnread, MergeDeclined}

@@ -4,12 +4,11 @@ use Rattle.std.proofs.lemmas.List.{take_more}
 use Rattle.std.specs.Global.{Vec}
 use Rattle.std.specs.BTreeMap.{get}
 use Rattle.std.specs.Ordering.{nat_cmp}
-use Rattle.raft_log_items.specs.declared.item.LogItem.{LogItem}
 use Rattle.raft_log_model.proofs.Cases.{from_eq_true}
 use Rattle.raft_log_machine.proofs.TruthRaises.{no_word}
 use Rattle.raft_log_atomic_groups.specs.Meaning.{tagged_items}
 use Rattle.raft_log_places.specs.declared.group_files.GroupFiles.{GroupFiles}
-use Rattle.raft_log_places.specs.Replayed.{both_noted, nothing_replayed, Replayed}
+use Rattle.raft_log_places.specs.Replayed.{both_noted, Replayed}
 use Rattle.raft_log_held.specs.Entries.{place_of}
 use Rattle.raft_log_tables.specs.Files.{with_read_group}
 use Rattle.raft_log_replay.specs.declared.mem_tables.MemTables.{MemTables}
@@ -21,7 +20,7 @@ use Rattle.raft_log_replay.specs.Tables.{raw_of, replayed_in, replayed_of}
 use Rattle.raft_log_replay.proofs.Ready.{by_group, same_or_apart}
 use Rattle.raft_log_contexts.specs.declared.part.GroupPart.{GroupPart}
 use Rattle.raft_log_contexts.specs.Pieces.{ends_with, is_number, with_file}
-use Rattle.raft_log_contexts.specs.Noting.{files_after, files_of, is_listed, parts_mention, NotesAll, NotesAt, ReadsParts, SettlesAll, SettlesGroup}
+use Rattle.raft_log_contexts.specs.Noting.{files_after, is_listed, parts_mention, NotesAll, NotesAt, ReadsParts, SettlesAll, SettlesGroup}
 
 or_false : (b : Bool) → (b || false) ≡ b
 or_false true = refl

@@ -84,8 +84,8 @@ Declines queue bs (errors.Corruption text) =
 Declines queue bs errors.Memory = Unit {0}
 Declines queue bs _ = ⊥
 
--- Two contexts have read the same records of a queue; and where these are in order, their tables hold the same
--- entries and values of each group, in the same places and files
+-- Two contexts have read the same records of a queue; and where these are in order, their tables hold the
+-- same entries and values of each group, in the same places and files
 pub record HaveReadAlike (queue : LogQueue) (m n : MemTableRecoverContext) : Type 0 where
   pub records : List ReadRecord
   pub first : HasRead queue records m

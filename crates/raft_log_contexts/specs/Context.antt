@@ -83,8 +83,8 @@ abbrev pub MergesInto : LogQueue → MemTableRecoverContext → MemTableRecoverC
 MergesInto queue old later new =
     (xs ys : List ReadRecord) → HasRead queue xs old → HasRead queue ys later → HasRead queue (xs ++ ys) new
 
--- what shows of a group is what was read of these records of Append over what was read of those of Rewrite, of
--- which the files of the atomic groups are noted
+-- what shows of a group is what was read of these records of Append over what was read of those of Rewrite,
+-- of which the files of the atomic groups are noted
 pub record IsOverAt (rewrite append : List ReadRecord) (m : MemTables) (g : ℕ) : Type 0 where
   pub rewritten : Replayed
   pub appended : Replayed

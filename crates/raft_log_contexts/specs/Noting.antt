@@ -2,7 +2,7 @@
 use Rattle.std.specs.Prelude.{◌≡◌, ℕ, ◌==◌, ◌||◌, ◌≤◌, ◌⊎◌, Bool, true, false, List, [], ◌∷◌, ◌++◌, Option, Some, None}
 use Rattle.std.specs.Global.{Vec}
 use Rattle.raft_log_model.specs.Item.{Item, items_of}
-use Rattle.raft_log_model.specs.Item.Item.{Run, Clean, Compact, Put, Del}
+use Rattle.raft_log_model.specs.Item.Item.{Run, Put}
 use Rattle.raft_log_model.specs.Meaning.{says, Content, Slot}
 use Rattle.raft_log_model.specs.Meaning.Content.{Entry, Value}
 use Rattle.raft_log_model.specs.Tidy.{Tidy}

@@ -16,15 +16,16 @@ use Rattle.raft_log_contexts.specs.Records.{counted, records_of, AreHealthy, Rea
 use Rattle.raft_log_contexts.specs.Noting.{AreWhereRead}
 use Rattle.raft_log_contexts.specs.Context.{ArePlain, ComesOver}
 
--- the record with what is there, where these are the bytes at each place
+-- the item with what is there, where these are the bytes at each place
 abbrev pub told_tagged : {E : Type 0} → (Located → E) → Tagged Located KeyValue → Tagged E (List ℕ)
 told_tagged at x = record { group = x.group; item = told at x.item }
 
+-- the record so
 abbrev pub told_record : {E : Type 0} → (Located → E) → Record Located KeyValue → Record E (List ℕ)
 told_record at (Plain xs) = Plain (map (told_tagged at) xs)
 told_record at (Part m xs) = Part m (map (told_tagged at) xs)
 
--- the records that were read, so
+-- the records that were read, so, without their files
 abbrev pub told_records : {E : Type 0} → (Located → E) → List ReadRecord → List (Record E (List ℕ))
 told_records at rs = map (told_record at) (records_of rs)
 

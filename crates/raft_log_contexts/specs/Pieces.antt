@@ -21,7 +21,7 @@ use Rattle.raft_log_contexts.specs.declared.head.GroupHead.{GroupHead}
 use Rattle.raft_log_contexts.specs.declared.head.GroupHead.TheVariants as code
 use Rattle.raft_log_contexts.specs.declared.pieces.OpenGroup.{OpenGroup}
 use Rattle.raft_log_contexts.specs.declared.pieces.GroupPieces.{GroupPieces}
-use Rattle.raft_log_contexts.specs.Records.{in_file, records_of, said_in, ReadItem, ReadRecord}
+use Rattle.raft_log_contexts.specs.Records.{in_file, said_in, ReadItem, ReadRecord}
 
 -- what is made of the items of a record, where it was read in that file
 abbrev pub Reading : Type 0
@@ -145,19 +145,21 @@ IsCompleted xs ys ps =
     × ((φ : Reading)
     → GoesToEnd φ (opened none_open (seen_by φ xs) n) (head n [] (seen_by φ ys)) ps)
 
--- the pieces of the next segment come behind these, and the groups that this completes are handed out
+-- these are the groups that some records leave open and the ones behind them end, in the order of their
+-- begins
 pub record IsBorder (xs ys : List ReadRecord) (done : List (Vec GroupPart)) : Type 0 where
   pub items : (φ : Reading)
       → groups_seen φ done ≡ completed (unfinished (seen_by φ xs)) (λ n. head n [] (seen_by φ ys))
   pub groups : AllGroups (IsCompleted xs ys) done
 
+-- the pieces of the next segment come behind these, and the groups that this completes are handed out
 abbrev pub JoinsPieces : GroupPieces → GroupPieces → GroupPieces → List (Vec GroupPart) → Type 0
 JoinsPieces old later new done =
     (xs ys : List ReadRecord) → ArePieces xs old → ArePieces ys later
     → ArePieces (xs ++ ys) new × IsBorder xs ys done
 
--- Open groups went on in the next segment, which did this with them: those that it ends were handed out. Of
--- what it does, what is left says as much behind the segment that left them open
+-- Open groups went on in the next segment, which did this with them: what it ends is handed out. Of what it
+-- does, what is left says as much behind the records that left them open
 pub record CarryOn (old : List (Unfinished Located KeyValue)) (before : ℕ → Head Located KeyValue)
     (new : List (Unfinished Located KeyValue)) (after : ℕ → Head Located KeyValue) (done : List ReadItem)
     (rs : List (Record Located KeyValue)) : Type 0 where
@@ -165,6 +167,7 @@ pub record CarryOn (old : List (Unfinished Located KeyValue)) (before : ℕ → 
   pub left : new ≡ carried_on old before
   pub heads : (n : ℕ) → then_head (head n [] rs) (after n) ≡ then_head (head n [] rs) (before n)
 
+-- the groups that these pieces leave open went on so, whatever is made of their records
 abbrev pub CarriesOn : GroupPieces → (Reading → ℕ → Head Located KeyValue) → GroupPieces
     → (Reading → ℕ → Head Located KeyValue) → List (Vec GroupPart) → Type 0
 CarriesOn old heads new left done =

@@ -40,9 +40,9 @@ pub fn append_counts_at_once()
         → counted g rs ≡ appended g (records_of rs) }
 {}
 
-/// Any two numbers of workers make tables that show the same: where each segment holds one list of batches, two
-/// readings of all segments are of the same records, and hold the same entries and values of each group, in the
-/// same places and files; and the same is told of each segment.
+/// Any two numbers of workers make tables that show the same: where each segment holds one list of batches,
+/// two readings of all segments are of the same records, and hold the same entries and values of each group,
+/// in the same places and files; and the same is told of each segment.
 pub fn workers_show_the_same<S: ReplaySource>()
     ensures { (source : S) → HoldsOne (S.holds source) → (count : ℕ) (m n : MemTableRecoverContext)
         (es fs : List S.Ending)
@@ -51,9 +51,9 @@ pub fn workers_show_the_same<S: ReplaySource>()
         → HaveReadAlike (S.queue_of source) m n × (es ≡ fs) }
 {}
 
-/// What an open knows by its tables is made of what it read: through them the directory's map is read, each thing
-/// stands where a recovery may say that it does, and of each the file is noted in which it lies, in Rewrite the
-/// one from which on it counts.
+/// What an open knows by its tables is made of what it read: through them the directory's map is read, each
+/// thing stands where a recovery may say that it does, and of each the file is noted in which it lies, in
+/// Rewrite the one from which on it counts.
 pub fn opened_view_is_made_of_what_was_read<E>()
     ensures { (at : Located → E) (rewrite append : List ReadRecord) (m : MemTables) (f : Files E (List ℕ))
         → IsOpened at rewrite append m f

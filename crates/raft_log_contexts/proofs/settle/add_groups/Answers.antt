@@ -1,4 +1,4 @@
-use Rattle.std.proofs.Common.{◌≡◌, ◌∙◌, ◌++◌, ◌∷◌, [], ◌||◌, ap, sym, take, true, ℕ, rules}
+use Rattle.std.proofs.Common.{◌≡◌, ◌∙◌, ◌||◌, ap, take, true, ℕ, rules}
 use Rattle.std.proofs.lemmas.List.{take_all}
 use Rattle.raft_log_replay.specs.Batch.{mentions}
 use Rattle.raft_log_replay.proofs.Items.{mentions_more}

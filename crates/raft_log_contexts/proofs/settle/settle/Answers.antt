@@ -1,7 +1,7 @@
-use Rattle.std.proofs.Common.{◌≡◌, ◌++◌, ◌∷◌, [], ℕ, None, Some, false, ap, ap₂, sym, subst, refl, ◌∙◌, ◌||◌, append_assoc}
+use Rattle.std.proofs.Common.{◌++◌, ◌∷◌, [], None, Some, ap, ap₂, sym, refl, ◌∙◌, ◌||◌, append_assoc}
 use Rattle.std.specs.Vec.Iter.{into_iter_items}
 use Rattle.raft_log_replay.specs.Batch.{mentions}
-use Rattle.raft_log_contexts.specs.Noting.{files_after, is_listed, parts_mention, ReadsParts}
+use Rattle.raft_log_contexts.specs.Noting.{is_listed}
 use Rattle.raft_log_contexts.specs.Pieces.{with_file}
 use Rattle.raft_log_contexts.proofs.CarryOn.{all_came_of, none_left}
 use Rattle.raft_log_contexts.proofs.Settling.{files_push, mention_push, parts_read_push, settles}

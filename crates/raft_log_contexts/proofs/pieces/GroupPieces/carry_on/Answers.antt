@@ -1,14 +1,13 @@
-use Rattle.std.proofs.Common.{◌≡◌, ◌++◌, ◌∷◌, [], ℕ, List, ap, sym, subst, ◌∙◌, append_assoc, map, arith, None}
+use Rattle.std.proofs.Common.{◌≡◌, ◌++◌, ◌∷◌, [], ℕ, ap, sym, subst, ◌∙◌, append_assoc, map, arith, None}
 use Rattle.std.proofs.lemmas.Grind.{common_steps}
 use Rattle.std.specs.BTreeMap.{get}
 use Rattle.std.specs.Ordering.{nat_cmp}
 use Rattle.std.specs.Vec.Iter.{into_iter_items}
 use Rattle.raft_log_model.specs.Fragments.{carried_on, completed}
 use Rattle.raft_log_model.proofs.Chunks.{open_after, open_in}
-use Rattle.raft_log_contexts.specs.declared.part.GroupPart.{GroupPart}
-use Rattle.raft_log_contexts.specs.Pieces.{head_in, left_open, unfinished_of, Reading}
+use Rattle.raft_log_contexts.specs.Pieces.{head_in, unfinished_of, Reading}
 use Rattle.raft_log_contexts.proofs.Fragments.{distinct, AreDistinct}
-use Rattle.raft_log_contexts.proofs.CarryOn.{absent_last, all_came, all_turned, done_more, ends_now, left_more, left_says, none_left, passed_ends, passed_seen, Heads, IsHandedOut}
+use Rattle.raft_log_contexts.proofs.CarryOn.{absent_last, all_came, all_turned, done_more, ends_now, left_more, left_says, none_left, passed_ends, passed_seen, IsHandedOut}
 use Rattle.raft_log_contexts.proofs.pieces.GroupPieces.carry_on.Goals as goal
 
 pub loop-group-preserved : goal.loop-group-preserved
@@ -56,13 +55,16 @@ pub returns-clause-done : goal.returns-clause-done
 returns-clause-done c =
     let all = c.args.self.now.left_open.items in
     all_turned (IsHandedOut all (λ φ n. head_in φ (get nat_cmp c.args.heads.now n))) _ _
-    (λ ps out. (out.0, λ φ rs e.
-    let to = out.1 φ (subst AreDistinct (sym e) (distinct rs)) in
-    record {
-      so_far = to.so_far;
-      behind = to.behind;
-      begun = sym (open_after [] rs out.0) ∙ ap (λ l. open_in l out.0) (sym e) ∙ to.begun;
-      ends = to.ends;
-      parts = to.parts;
-    }))
+    (λ ps out. (
+      out.0,
+      λ φ rs e.
+          let to = out.1 φ (subst AreDistinct (sym e) (distinct rs)) in
+          record {
+            so_far = to.so_far;
+            behind = to.behind;
+            begun = sym (open_after [] rs out.0) ∙ ap (λ l. open_in l out.0) (sym e) ∙ to.begun;
+            ends = to.ends;
+            parts = to.parts;
+          },
+    ))
     c.loop-group.invariant.out

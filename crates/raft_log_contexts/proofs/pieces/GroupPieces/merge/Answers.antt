@@ -34,9 +34,12 @@ returns c = λ xs ys p q.
       },
       record {
         items = λ φ. (carry φ).items ∙ ap₂ completed (p.left_open φ) (heads φ);
-        groups = all_turned _ (IsCompleted xs ys) _ (λ ps out. (out.0, λ φ.
-            let to = out.1 φ (seen_by φ xs) (p.left_open φ) in
-            record { so_far = to.so_far; behind = to.behind; begun = to.begun; ends = ap (λ h. h out.0) (sym (heads φ)) ∙ to.ends; parts = to.parts }))
+        groups = all_turned _ (IsCompleted xs ys) _ (λ ps out. (
+          out.0,
+          λ φ.
+              let to = out.1 φ (seen_by φ xs) (p.left_open φ) in
+              record { so_far = to.so_far; behind = to.behind; begun = to.begun; ends = ap (λ h. h out.0) (sym (heads φ)) ∙ to.ends; parts = to.parts },
+        ))
             c.in_ok-done.ensures.done;
       },
     )

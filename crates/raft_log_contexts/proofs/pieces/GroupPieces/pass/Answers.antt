@@ -1,4 +1,3 @@
-use Rattle.std.proofs.Common.{refl}
 use Rattle.raft_log_contexts.proofs.pieces.GroupPieces.pass.Goals as goal
 
 pub returns-in_ok-push-in-Some-Ends-clause-done : goal.returns-in_ok-push-in-Some-Ends-clause-done

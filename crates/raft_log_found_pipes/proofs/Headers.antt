@@ -1,11 +1,8 @@
 -- The header of a file of bytes is the one that its format is written with.
-use Rattle.std.proofs.Common.{◌≡◌, ℕ, ◌+◌, ◌-◌, ◌<◌, List, [], ◌∷◌, ◌++◌, length, get_or, take, zero, suc, Option, Some, None, true, refl, sym, ap, subst, ◌∙◌, arith}
-use Rattle.std.specs.Int.{w64, to_be_bytes}
+use Rattle.std.proofs.Common.{◌≡◌, ℕ, ◌-◌, ◌<◌, List, [], ◌∷◌, ◌++◌, length, get_or, take, zero, suc, sym, ap, subst, ◌∙◌, arith}
 use Rattle.std.proofs.lemmas.Nat.{be_bytes_8}
-use Rattle.raft_log_base.specs.Fault.{Fault}
 use Rattle.raft_log_base.specs.Files.{version_number}
 use Rattle.raft_log_base.specs.Number.{IsU64, u64_bytes}
-use Rattle.raft_log_base.specs.declared.pipe_log.FileId.{FileId}
 use Rattle.raft_log_base.specs.declared.pipe_log.Version.{Version}
 use Rattle.raft_log_base.specs.declared.pipe_log.Version.TheVariants.{V1, V2}
 use Rattle.raft_log_format.specs.Header.{IsHeader, IsPayload, magic, header_bytes, payload_bytes}

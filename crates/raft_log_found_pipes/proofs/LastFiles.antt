@@ -1,6 +1,6 @@
 -- The last file of a queue reads as its records.
-use Rattle.std.proofs.Common.{◌≡◌, ℕ, ◌+◌, ◌-◌, ◌<◌, ◌≤◌, inl, inr, List, [], ◌∷◌, ◌++◌, length, take, drop, Option, Some, None, Result, Ok, Err, true, refl, sym, ap, subst, ◌∙◌, arith, append_assoc}
-use Rattle.std.proofs.lemmas.List.{length-append, take-append-drop, drop_at}
+use Rattle.std.proofs.Common.{◌≡◌, ℕ, ◌+◌, ◌-◌, ◌≤◌, List, [], ◌∷◌, ◌++◌, length, take, drop, Option, Some, Ok, Err, refl, sym, ap, subst, ◌∙◌, arith, append_assoc}
+use Rattle.std.proofs.lemmas.List.{length-append}
 use Rattle.std.proofs.Math.Seq.{take-append-add}
 use Rattle.raft_log_base.specs.Fault.{Fault}
 use Rattle.raft_log_base.specs.declared.pipe_log.FileId.{FileId}
@@ -20,7 +20,6 @@ use Rattle.raft_log_reader.specs.Batches.{context_of}
 use Rattle.raft_log_reader.specs.declared.open_file.OpenFile.{OpenFile}
 use Rattle.raft_log_found_files.specs.Behind.{items_of}
 use Rattle.raft_log_found_files.specs.Records.{HasRecords, ReadsLast}
-use Rattle.raft_log_found_files.specs.Reading.{ReadsBytes}
 use Rattle.raft_log_found_files.specs.Reading.ReadsBytes.{headless, headed}
 use Rattle.raft_log_found_files.specs.declared.file_records.FileRecords.{FileRecords}
 use Rattle.raft_log_found_pipes.specs.Records.{AreBatchesOf}

@@ -1,6 +1,6 @@
 -- A file that was finished reads whole.
-use Rattle.std.proofs.Common.{◌≡◌, ℕ, ◌+◌, ◌<◌, ◌≤◌, inl, inr, List, [], ◌∷◌, ◌++◌, length, take, drop, Option, Some, None, false, refl, sym, ap, subst, ◌∙◌, arith}
-use Rattle.std.proofs.lemmas.List.{append-nil, length-append, length-drop, drop_at}
+use Rattle.std.proofs.Common.{◌≡◌, ℕ, ◌+◌, ◌≤◌, inl, inr, List, [], ◌∷◌, ◌++◌, length, drop, Option, Some, None, refl, sym, ap, subst, ◌∙◌, arith}
+use Rattle.std.proofs.lemmas.List.{length-append, length-drop, drop_at}
 use Rattle.raft_log_base.specs.Fault.{Fault}
 use Rattle.raft_log_base.specs.declared.errors.Error.{Error}
 use Rattle.raft_log_base.specs.declared.pipe_log.FileId.{FileId}
@@ -12,11 +12,9 @@ use Rattle.raft_log_format.specs.declared.header.LogFileFormat.{LogFileFormat}
 use Rattle.raft_log_format.proofs.Headers.{is_header}
 use Rattle.raft_log_disk.specs.Disk.{File}
 use Rattle.raft_log_disk.specs.Chains.{Written, AreFrames, spelled}
-use Rattle.raft_log_disk.specs.LogFormat.{HasHeader}
-use Rattle.raft_log_disk.specs.LogQueue.{Past, IsPast}
-use Rattle.raft_log_layout.specs.Layout.{IsRecordIn, log_format}
+use Rattle.raft_log_layout.specs.Layout.{IsRecordIn}
 use Rattle.raft_log_layout.specs.declared.record.LogRecord.{LogRecord}
-use Rattle.raft_log_reader.specs.Batches.{HasBatch, HasBatches, IsBroken, context_of}
+use Rattle.raft_log_reader.specs.Batches.{HasBatch, HasBatches, context_of}
 use Rattle.raft_log_reader.specs.Laws.{EndsBehind}
 use Rattle.raft_log_reader.specs.declared.open_file.OpenFile.{OpenFile}
 use Rattle.raft_log_reader.proofs.Readings.{batches_go_on_is}
@@ -24,11 +22,9 @@ use Rattle.raft_log_found_files.specs.Behind.{items_of}
 use Rattle.raft_log_found_files.specs.Faults.{TellsIfAny}
 use Rattle.raft_log_found_files.specs.Records.{IsTorn, ReadsEarlier, StopsGood}
 use Rattle.raft_log_found_files.specs.Records.ReadsEarlier.{none as read_none, good as read_good, torn as read_torn}
-use Rattle.raft_log_found_files.specs.Reading.{ReadsBytes}
 use Rattle.raft_log_found_files.specs.Reading.ReadsBytes.{headless, headed}
-use Rattle.raft_log_found_files.specs.declared.file_records.FileRecords.{FileRecords}
 use Rattle.raft_log_found_pipes.specs.Records.{AreBatchesOf}
-use Rattle.raft_log_found_pipes.specs.Reading.{FinishedFileIsRead, ReadsWhole, context_in}
+use Rattle.raft_log_found_pipes.specs.Reading.{FinishedFileIsRead, context_in}
 use Rattle.raft_log_found_pipes.proofs.LastFiles.{no_header}
 use Rattle.raft_log_found_pipes.proofs.Places.{batch_comes, no_batch, no_padding, not_torn, same_record}
 

@@ -1,12 +1,12 @@
 -- What stands at an offset of a file without an alignment: a batch, a whole record, or none.
-use Rattle.std.proofs.Common.{◌≡◌, ℕ, ◌+◌, ◌<◌, ◌≤◌, inl, inr, List, [], ◌∷◌, ◌++◌, length, take, drop, Option, Some, None, Result, Ok, Err, refl, sym, ap, subst, ◌∙◌, arith}
+use Rattle.std.proofs.Common.{◌≡◌, ℕ, ◌+◌, ◌≤◌, inl, inr, List, [], ◌++◌, length, take, drop, Option, Some, None, Result, Ok, Err, refl, sym, ap, subst, ◌∙◌, arith}
 use Rattle.std.specs.Prelude.{IsOk}
 use Rattle.std.proofs.lemmas.Bool.{false≢true}
 use Rattle.std.proofs.lemmas.List.{length-drop, length-append, length-take-le, drop-drop, drop_at, take-append-drop}
 use Rattle.raft_log_base.specs.Fault.{Fault}
 use Rattle.raft_log_base.specs.Files.{signature, signature_of}
 use Rattle.raft_log_base.specs.declared.pipe_log.LogFileContext.{LogFileContext}
-use Rattle.raft_log_base.proofs.Grammar.{ok_is, bind_ok, prefix_free}
+use Rattle.raft_log_base.proofs.Grammar.{ok_is, prefix_free}
 use Rattle.raft_log_items.specs.declared.item.LogItem.{LogItem}
 use Rattle.raft_log_items.specs.Placed.{placed}
 use Rattle.raft_log_format.specs.Header.{IsHeader}
@@ -16,10 +16,10 @@ use Rattle.raft_log_frames.specs.Record.{IsBlock, IsFrame, IsRecord, Front, bloc
 use Rattle.raft_log_frames.proofs.Blocks.{block_found}
 use Rattle.raft_log_frames.proofs.Frames.{frames_take_bytes}
 use Rattle.raft_log_frames.proofs.Fronts.{frame_is_read, frames_are_read_back, records_are_read_back}
-use Rattle.raft_log_disk.specs.Chains.{Written, Refuses, spelled}
+use Rattle.raft_log_disk.specs.Chains.{Written, Refuses}
 use Rattle.raft_log_layout.specs.Layout.{IsRecordIn}
 use Rattle.raft_log_layout.specs.declared.record.LogRecord.{LogRecord}
-use Rattle.raft_log_reader.specs.Batches.{padding_len, GoesOnAt, HasBatch, HasNoMore, IsBroken, batch_at, block_at, context_of}
+use Rattle.raft_log_reader.specs.Batches.{padding_len, GoesOnAt, HasBatch, HasNoMore, batch_at, block_at, context_of}
 use Rattle.raft_log_reader.specs.Batches.GoesOnAt.{behind_padding, at_once}
 use Rattle.raft_log_reader.specs.Laws.{EndsBehind}
 use Rattle.raft_log_reader.specs.declared.open_file.OpenFile.{OpenFile}

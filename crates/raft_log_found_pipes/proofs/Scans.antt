@@ -1,10 +1,7 @@
 -- What a scan answers and a recovery reads is what a pipe may be opened over.
-use Rattle.std.proofs.Common.{◌≡◌, ℕ, List, [], ◌∷◌, take, Option, Some, None, true, refl, sym, ap, subst, ◌∙◌}
+use Rattle.std.proofs.Common.{◌≡◌, ℕ, List, [], ◌∷◌, take, Option, Some, None, true, refl, subst}
 use Rattle.raft_log_base.specs.declared.pipe_log.FileId.{FileId}
-use Rattle.raft_log_base.specs.declared.pipe_log.LogQueue.{LogQueue}
 use Rattle.raft_log_disk.specs.Disk.{Disk, File}
-use Rattle.raft_log_disk.specs.Touching.{HasFile}
-use Rattle.raft_log_file_queue.specs.Reopening.{IsReadTo}
 use Rattle.raft_log_format.specs.declared.header.LogFileFormat.{LogFileFormat}
 use Rattle.raft_log_frames.specs.Written.{AreBytes}
 use Rattle.raft_log_layout.specs.Layout.{log_format, log_paths}

@@ -1,6 +1,5 @@
 -- The files of a queue that a scan of the log's directories answered, as its pipe takes them up.
 use Rattle.std.specs.Prelude.{◌≡◌, ℕ, true, false, Some, List, [], ◌∷◌, ◌++◌, take}
-use Rattle.raft_log_base.specs.declared.pipe_log.FileId.{FileId}
 use Rattle.raft_log_base.specs.declared.pipe_log.LogQueue.{LogQueue}
 use Rattle.raft_log_base.specs.declared.pipe_log.LogQueue.TheVariants as queues
 use Rattle.raft_log_disk.specs.Disk.{Disk, File}

@@ -40,68 +40,93 @@ impl Message for Count {
     }
 }
 
-// Writes entries 5 and 6 of group 7, of four bytes and of three, and answers the place of their block.
-fn written(
-    rt: &HostRuntime,
-    pipes: &mut DualPipes<MemoryFileSystem>,
-) -> std::result::Result<FileBlockHandle, Fail> {
-    let mut batch = LogBatch::default(rt.alloc())?;
-    let indexes = [EntryIndex::unplaced(5, 4), EntryIndex::unplaced(6, 3)];
-    let entries: [&[u8]; 2] = [b"\x02\x01\0\0", b"abc"];
-    batch.add_raw_entries(rt.alloc(), 7, &indexes, &entries)?;
-    batch.finish_populate()?;
-    let mut signed = SignedBatch::new(batch);
-    let record = pipes.append(rt.alloc(), rt, LogQueue::Append, &mut signed)?;
-    Ok(FileBlockHandle {
-        id: record.id,
-        offset: record.offset.saturating_add(16),
-        len: 11,
-    })
+/// Two pipes, of whose Append an entry block is known, and the block that is kept of them.
+#[derive(Drop)]
+struct Reading {
+    pipes: DualPipes<MemoryFileSystem>,
+    cache: BlockCache,
+    block: FileBlockHandle,
 }
 
-// The entry of an index that lies in the block.
-fn entry_in(block: Option<FileBlockHandle>, index: u64, offset: u32, len: u32) -> EntryIndex {
-    let mut entry = EntryIndex::unplaced(index, len);
+impl Reading {
+    // Reads the entry at this offset of the block, of so many bytes.
+    fn count(&mut self, alloc: Global, offset: u32, len: u32) -> Result<Count> {
+        let entry = entry_in(Some(self.block), offset, len);
+        self.cache.read_entry(alloc, &self.pipes, &entry)
+    }
+
+    // Reads the block as one of so many bytes.
+    fn read(&mut self, alloc: Global, len: usize) -> Result<()> {
+        let block = FileBlockHandle { len, ..self.block };
+        self.cache.read(alloc, &self.pipes, block)
+    }
+
+    // Whether the bytes of an entry are these.
+    fn has(&self, alloc: Global, offset: u32, len: u32, bytes: &[u8]) -> bool {
+        matches!(self.cache.entry(alloc, offset, len), Ok(found) if found == bytes)
+    }
+}
+
+// The entry that lies there.
+fn entry_in(block: Option<FileBlockHandle>, offset: u32, len: u32) -> EntryIndex {
+    let mut entry = EntryIndex::unplaced(5, len);
     entry.entries = block;
     entry.entry_offset = offset;
     entry
 }
 
+// A batch of two entries, of four bytes and of three.
+fn batch(alloc: Global) -> Result<SignedBatch> {
+    let mut batch = LogBatch::default(alloc)?;
+    let indexes = [EntryIndex::unplaced(5, 4), EntryIndex::unplaced(6, 3)];
+    let entries: [&[u8]; 2] = [b"\x02\x01\0\0", b"abc"];
+    batch.add_raw_entries(alloc, 7, &indexes, &entries)?;
+    batch.finish_populate()?;
+    Ok(SignedBatch::new(batch))
+}
+
+// Pipes to which the batch was written.
+fn written(rt: &HostRuntime) -> std::result::Result<Reading, Fail> {
+    let mut pipes = pair(rt, 0)?;
+    let mut signed = batch(rt.alloc())?;
+    let record = pipes.append(rt.alloc(), rt, LogQueue::Append, &mut signed)?;
+    let block = FileBlockHandle {
+        id: record.id,
+        offset: record.offset.saturating_add(16),
+        len: 11,
+    };
+    Ok(Reading {
+        pipes,
+        cache: BlockCache::new(rt.alloc()),
+        block,
+    })
+}
+
 #[test]
 fn entries_are_read_through_the_kept_block(rt: HostRuntime) -> std::result::Result<(), Fail> {
-    let mut pipes = pair(&rt, 0)?;
-    let block = written(&rt, &mut pipes)?;
-    let mut cache = BlockCache::new(rt.alloc());
-    let first = entry_in(Some(block), 5, 0, 4);
-    let count: Count = cache.read_entry(rt.alloc(), &pipes, &first)?;
+    let mut reading = written(&rt)?;
+    let count = reading.count(rt.alloc(), 0, 4)?;
     assert!(rt; count == Count { count: 258 });
-    assert!(rt; cache.entry(rt.alloc(), 4, 3)? == b"abc".as_slice());
-    let second: Result<Count> = cache.read_entry(
-        rt.alloc(),
-        &pipes,
-        &entry_in(Some(block), 6, 4, 3),
-    );
-    assert!(rt; matches!(second, Err(Error::Message(_))));
+    assert!(rt; reading.has(rt.alloc(), 4, 3, b"abc"));
+    assert!(rt; matches!(reading.count(rt.alloc(), 4, 3), Err(Error::Message(_))));
     Ok(())
 }
 
 #[test]
 fn what_is_no_entry_is_refused(rt: HostRuntime) -> std::result::Result<(), Fail> {
-    let mut pipes = pair(&rt, 0)?;
-    let block = written(&rt, &mut pipes)?;
-    let mut cache = BlockCache::new(rt.alloc());
-    let nowhere: Result<Count> = cache.read_entry(rt.alloc(), &pipes, &entry_in(None, 5, 0, 4));
+    let mut reading = written(&rt)?;
+    assert!(rt; matches!(reading.count(rt.alloc(), 4, 4), Err(Error::Corruption(_))));
+    assert!(rt; matches!(reading.read(rt.alloc(), 10), Err(Error::Corruption(_))));
+    reading.read(rt.alloc(), 11)?;
+    assert!(rt; reading.has(rt.alloc(), 0, 7, b"\x02\x01\0\0abc"));
+    Ok(())
+}
+
+#[test]
+fn an_entry_in_no_file_is_refused(rt: HostRuntime) -> std::result::Result<(), Fail> {
+    let mut reading = written(&rt)?;
+    let entry = entry_in(None, 0, 4);
+    let nowhere: Result<Count> = reading.cache.read_entry(rt.alloc(), &reading.pipes, &entry);
     assert!(rt; matches!(nowhere, Err(Error::InvalidArgument(_))));
-    let past: Result<Count> = cache.read_entry(rt.alloc(), &pipes, &entry_in(Some(block), 5, 4, 4));
-    assert!(rt; matches!(past, Err(Error::Corruption(_))));
-    let torn = FileBlockHandle { len: 10, ..block };
-    assert!(rt;
-        matches!(
-            cache.read(rt.alloc(), &pipes, torn),
-            Err(Error::Corruption(_))
-        )
-    );
-    cache.read(rt.alloc(), &pipes, block)?;
-    assert!(rt; cache.entry(rt.alloc(), 0, 7)? == b"\x02\x01\0\0abc".as_slice());
     Ok(())
 }

@@ -9,4 +9,6 @@ mod blocks;
 #[cfg(test)]
 mod listeners;
 #[cfg(test)]
+mod opening;
+#[cfg(test)]
 mod pair;

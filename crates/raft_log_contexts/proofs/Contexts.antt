@@ -1,14 +1,23 @@
 -- What a context has read.
-use Rattle.std.proofs.Common.{◌≡◌, ℕ, true, false, List, [], ◌∷◌, ◌++◌, map, Some, refl, sym, ap, subst, ◌∙◌}
+use Rattle.std.proofs.Common.{◌≡◌, ℕ, ◌≤◌, ◌==◌, Bool, true, false, List, [], ◌∷◌, ◌++◌, map, Option, Some, None, unwrap_or, refl, sym, ap, ap₂, subst, ◌∙◌, append_assoc, append-nil}
 use Rattle.raft_log_base.specs.declared.pipe_log.LogQueue.{LogQueue}
 use Rattle.raft_log_base.specs.declared.pipe_log.LogQueue.TheVariants.{Append, Rewrite}
 use Rattle.raft_log_items.specs.declared.item.LogItem.{LogItem}
 use Rattle.raft_log_model.specs.Item.{Record, Mark, items_of}
 use Rattle.raft_log_model.specs.Item.Record.{Plain, Part}
 use Rattle.raft_log_model.specs.Item.Mark.{End}
-use Rattle.raft_log_model.specs.Groups.{appended, contents, counts, none_open, of_group, opened, settle, Open}
+use Rattle.raft_log_model.specs.Groups.{appended, contents, counts, none_open, of_group, onto, opened, rewritten, settle, Open}
+use Rattle.raft_log_model.specs.Meaning.{says}
+use Rattle.raft_log_model.specs.Tidy.{Tidy}
+use Rattle.raft_log_model.proofs.Cases.{at_option, eq_true, if_true}
+use Rattle.raft_log_model.proofs.Chunks.{cut_anywhere}
+use Rattle.raft_log_model.proofs.TidyLaws.{tidy_back, tidy_front}
+use Rattle.raft_log_machine.proofs.TruthRaises.{no_word}
+use Rattle.std.specs.Global.{Vec}
+use Rattle.raft_log_places.specs.declared.group_files.GroupFiles.{GroupFiles}
+use Rattle.raft_log_places.specs.Noted.{start_of}
 use Rattle.raft_log_model.specs.Fragments.{completed, head, next_unfinished, unfinished, unfinished_after, Unfinished}
-use Rattle.raft_log_model.specs.Fragments.Head.{GoesOn}
+use Rattle.raft_log_model.specs.Fragments.Head.{Ends, GoesOn}
 use Rattle.raft_log_model.proofs.Heads.{head_append}
 use Rattle.raft_log_atomic_groups.specs.Meaning.{tagged_items}
 use Rattle.raft_log_places.specs.Shown.{whereabouts, KeyValue}
@@ -20,19 +29,24 @@ use Rattle.raft_log_replay.specs.Tables.{replayed_of, shown_of}
 use Rattle.raft_log_replay.specs.Replaying.{ReadsAll}
 use Rattle.raft_log_replay.specs.Joining.{JoinsAll, MergesAll}
 use Rattle.raft_log_replay.proofs.Rereading.{table_is}
-use Rattle.raft_log_places.specs.Replayed.{merged, told}
+use Rattle.raft_log_places.specs.Replayed.{merged, told, IsReplayed}
 use Rattle.raft_log_places.specs.Bridge.{IsMeant}
 use Rattle.raft_log_places.proofs.Merging.{means, recovers}
 use Rattle.raft_log_machine.specs.Recovery.{IsRecovered}
 use Rattle.raft_log_contexts.specs.declared.context.MemTableRecoverContext.{MemTableRecoverContext}
 use Rattle.raft_log_contexts.specs.declared.part.GroupPart.{GroupPart}
 use Rattle.raft_log_contexts.specs.declared.pieces.GroupPieces.{GroupPieces}
-use Rattle.raft_log_contexts.specs.Records.{counted, in_file, records_of, said_in, ReadItem, ReadRecord, TakesItems}
-use Rattle.raft_log_contexts.specs.Pieces.{part_items, part_read, ArePieces, EndsGroup, JoinsPieces, TakesRecord}
+use Rattle.raft_log_contexts.specs.Records.{counted, in_file, records_of, said_in, AreHealthy, AreReplayed, ReadItem, ReadRecord, TakesItems}
+use Rattle.raft_log_contexts.specs.Pieces.{as_said, groups_items, part_items, part_read, part_seen, parts_items, seen_as, seen_by, whole_seen, ArePieces, EndsGroup, EndsWhole, IsBorder, IsCompleted, JoinsPieces, Reading, TakesRecord}
+use Rattle.raft_log_contexts.specs.Noting.{file_in, AreNotedRead, AreWhereRead, CountsFrom, SettlesAll, SettlesWhole}
+use Rattle.raft_log_contexts.proofs.Begins.{all_seen, begins, lie_back, lie_front}
+use Rattle.raft_log_contexts.proofs.CarryOn.{all_turned}
+use Rattle.raft_log_contexts.proofs.Counting.{counts_left, counts_right}
+use Rattle.raft_log_contexts.proofs.Notes.{all_cover, all_take, completed_group, group_covers, group_takes, join_covers, plain_covers, Cover, CountsWhole}
 use Rattle.raft_log_contexts.specs.Context.{is_plain, tables_of, ArePlain, ComesOver, HasRead, IsSound, MergesInto, ReadsOne, meant_by}
 use Rattle.raft_log_contexts.proofs.Fragments.{then_nothing}
-use Rattle.raft_log_contexts.proofs.OpenGroups.{pieces_more}
-use Rattle.raft_log_contexts.proofs.Taking.{tables_joined, tables_more, takes_none, takes_read}
+use Rattle.raft_log_contexts.proofs.OpenGroups.{pieces_more, records_append, seen_said}
+use Rattle.raft_log_contexts.proofs.Taking.{counted_more, healthy_back, healthy_front, tables_joined, tables_more, takes_none, takes_read}
 
 -- Plain records.
 pub plain_append : (xs ys : List ReadRecord) → ArePlain xs → ArePlain ys → ArePlain (xs ++ ys)
@@ -58,6 +72,29 @@ plain_head : (n : ℕ) (rs : List ReadRecord) → ArePlain rs → head n [] (rec
 plain_head n [] h = refl
 plain_head n (r ∷ rs) h = head_passes n [] r.taken (records_of rs) h.0 ∙ plain_head n rs h.1
 
+-- the same of whatever is made of their items
+abbrev seen_read : Reading → List ReadRecord → List ReadRecord
+seen_read φ [] = []
+seen_read φ (r ∷ rs) = in_file r.file (seen_as φ r.file r.taken) ∷ seen_read φ rs
+
+records_seen : (φ : Reading) (rs : List ReadRecord) → records_of (seen_read φ rs) ≡ seen_by φ rs
+records_seen φ [] = refl
+records_seen φ (r ∷ rs) = ap (λ l. seen_as φ r.file r.taken ∷ l) (records_seen φ rs)
+
+plain_seen : (φ : Reading) (rs : List ReadRecord) → ArePlain rs → ArePlain (seen_read φ rs)
+plain_seen φ [] h = tt
+plain_seen φ (r ∷ rs) h = (one r.taken h.0, plain_seen φ rs h.1)
+  where
+    one : (x : Record Located KeyValue) → is_plain x ≡ true → is_plain (seen_as φ r.file x) ≡ true
+    one (Plain xs) e = refl
+    one (Part m xs) e = e
+
+seen_unfinished : (φ : Reading) (rs : List ReadRecord) → ArePlain rs → unfinished (seen_by φ rs) ≡ []
+seen_unfinished φ rs h = ap unfinished (sym (records_seen φ rs)) ∙ plain_unfinished (seen_read φ rs) (plain_seen φ rs h)
+
+seen_head : (φ : Reading) (n : ℕ) (rs : List ReadRecord) → ArePlain rs → head n [] (seen_by φ rs) ≡ GoesOn []
+seen_head φ n rs h = ap (head n []) (sym (records_seen φ rs)) ∙ plain_head n (seen_read φ rs) (plain_seen φ rs h)
+
 settle_passes : (o : Open Located KeyValue) (r : Record Located KeyValue) (rs : List (Record Located KeyValue)) → is_plain r ≡ true
     → settle o (r ∷ rs) ≡ items_of r ++ settle o rs
 settle_passes o (Plain xs) rs h = refl
@@ -74,7 +111,41 @@ plain_counted g rs h = ap (of_group g) (plain_settled rs h)
 pieces_plain : (rs : List ReadRecord) (n : ℕ) (xs : List ReadItem) (p : GroupPieces) → ArePieces rs p → ArePieces (rs ++ in_file n (Plain xs) ∷ []) p
 pieces_plain rs n xs p h =
     pieces_more rs (in_file n (Plain xs)) p
-    (λ k. h.heads k ∙ sym (head_append k [] (records_of rs) (Plain xs ∷ []) ∙ then_nothing (head k [] (records_of rs)))) h.left_open
+    (λ φ k. h.heads φ k ∙ sym (head_append k [] (seen_by φ rs) (Plain (φ n xs) ∷ []) ∙ then_nothing (head k [] (seen_by φ rs)))) h.left_open
+
+never_append : {P : Type 0} → false ≡ true → P
+never_append h = let never : ⊥ = cc in absurd never
+
+never_rewrite : {P : Type 0} → true ≡ false → P
+never_rewrite h = let never : ⊥ = cc in absurd never
+
+-- what counts with one more record
+more_covers : (rs : List ReadRecord) (r : ReadRecord) (xs : List ReadItem) (g : ℕ) (noted : Option GroupFiles) → counts (opened none_open (records_of rs)) r.taken ≡ xs
+    → Cover (rs ++ r ∷ []) g (counted g rs ++ of_group g xs) noted → Cover (rs ++ r ∷ []) g (counted g (rs ++ r ∷ [])) noted
+more_covers rs r xs g noted is h =
+    subst (λ l. Cover (rs ++ r ∷ []) g l noted) (sym (counted_more g rs r ∙ ap (λ l. counted g rs ++ of_group g l) is)) h
+
+-- what was known before the record
+module _ (rs : List ReadRecord) (r : ReadRecord) (xs : List ReadItem) (is : counts (opened none_open (records_of rs)) r.taken ≡ xs)
+    (tidy : Tidy (records_of (rs ++ r ∷ []))) (g : ℕ) (healthy : AreHealthy (counted g (rs ++ r ∷ []))) where
+  front_tidy : Tidy (records_of rs)
+  front_tidy = tidy_front (records_of rs) (r.taken ∷ []) (subst Tidy (records_append rs (r ∷ [])) tidy)
+
+  whole_healthy : AreHealthy (counted g rs ++ of_group g xs)
+  whole_healthy = subst AreHealthy (counted_more g rs r ∙ ap (λ l. counted g rs ++ of_group g l) is) healthy
+
+  front_healthy : AreHealthy (counted g rs)
+  front_healthy = healthy_front (counted g rs) (of_group g xs) whole_healthy
+
+notes_plain : (b : Bool) → b ≡ false → (rs : List ReadRecord) (n : ℕ) (old new : MemTables) (items : List LogItem) → ReadsAll b n old new (tagged_items place_of items)
+    → AreNotedRead rs (replayed_of old) → AreNotedRead (rs ++ in_file n (Plain (said_in b n items)) ∷ []) (replayed_of new)
+notes_plain true q rs n old new items reads h = never_rewrite q
+notes_plain false q rs n old new items reads h = λ lie tidy g healthy.
+    let xs = said_in false n items in
+    let r = in_file n (Plain xs) in
+    more_covers rs r xs g (replayed_of new g).table.noted refl
+    (plain_covers rs g n old new items reads (lie_back rs (r ∷ []) lie).0
+    (h (lie_front rs (r ∷ []) lie) (front_tidy rs r xs refl tidy g healthy) g (front_healthy rs r xs refl tidy g healthy)))
 
 pub reads_plain : (queue : LogQueue) (n : ℕ) (old new : MemTableRecoverContext) (items : List LogItem)
     → ReadsAll (in_append queue) n (tables_of old) (tables_of new) (tagged_items place_of items) → new.pieces ≡ old.pieces
@@ -84,11 +155,19 @@ reads_plain queue n old new items reads same = λ rs h.
     record {
       plain = λ q. plain_append rs (r ∷ []) (h.plain q) (refl, tt);
       tables = tables_more (in_append queue) rs r (replayed_of old.tables) (replayed_of new.tables) h.tables (takes_read (in_append queue) n old.tables new.tables items reads);
+      notes = λ q. notes_plain (in_append queue) q rs n old.tables new.tables items reads (h.notes q);
       pieces = subst (ArePieces (rs ++ r ∷ [])) (sym same) (pieces_plain rs n (said_in (in_append queue) n items) old.pieces h.pieces);
     }
 
-never_append : {P : Type 0} → false ≡ true → P
-never_append h = let never : ⊥ = cc in absurd never
+-- a record with which nothing counts
+notes_quiet : (rs : List ReadRecord) (r : ReadRecord) (old new : MemTables) → counts (opened none_open (records_of rs)) r.taken ≡ [] → new ≡ old
+    → AreNotedRead rs (replayed_of old) → AreNotedRead (rs ++ r ∷ []) (replayed_of new)
+notes_quiet rs r old new quiet same h = λ lie tidy g healthy.
+    more_covers rs r [] g (replayed_of new g).table.noted quiet
+    (λ s c stands. counts_right rs (r ∷ []) g (start_of (file_in c) (replayed_of new g).table.noted) s
+    (subst (λ m. CountsFrom rs g (start_of (file_in c) (replayed_of m g).table.noted) s) (sym same)
+    (h (lie_front rs (r ∷ []) lie) (front_tidy rs r [] quiet tidy g healthy) g (front_healthy rs r [] quiet tidy g healthy) s c
+    (ap (says s) (sym (append-nil (counted g rs))) ∙ stands))))
 
 pub reads_quiet : (m : Mark) (part : GroupPart) (old new : MemTableRecoverContext) → ((o : Open Located KeyValue) → counts o (Part m (part_items part)) ≡ [])
     → TakesRecord (part_read m part) old.pieces new.pieces → new.tables ≡ old.tables → ReadsOne Rewrite (Some (part_read m part)) old new
@@ -97,29 +176,112 @@ reads_quiet m part old new quiet takes same = λ rs h. record {
   tables = tables_more false rs (part_read m part) (replayed_of old.tables) (replayed_of new.tables) h.tables
       (subst (λ l. TakesItems false l (replayed_of old.tables) (replayed_of new.tables)) (sym (quiet (opened none_open (records_of rs))))
       (subst (λ t. TakesItems false [] (replayed_of old.tables) (replayed_of t)) (sym same) (takes_none false (replayed_of old.tables))));
+  notes = λ q. notes_quiet rs (part_read m part) old.tables new.tables (quiet (opened none_open (records_of rs))) same (h.notes q);
   pieces = takes rs h.pieces;
 }
 
-pub reads_end : (n : ℕ) (part : GroupPart) (items : List ReadItem) (old new : MemTableRecoverContext) → EndsGroup n part old.pieces new.pieces items
-    → TakesItems false items (replayed_of old.tables) (replayed_of new.tables) → ReadsOne Rewrite (Some (part_read (End n) part)) old new
-reads_end n part items old new ends takes = λ rs h.
+-- what counts with the end of a group
+ended_items : (rs : List ReadRecord) (n : ℕ) (part : GroupPart) (whole : Option (Vec GroupPart)) → EndsWhole rs n part whole
+    → counts (opened none_open (records_of rs)) (Part (End n) (part_items part)) ≡ whole_seen as_said whole
+ended_items rs n part whole ends = ap (λ l. counts (opened none_open l) (Part (End n) (part_items part))) (sym (seen_said rs)) ∙ sym (ends as_said)
+
+-- a group that ends is complete with the record that ends it
+ends_complete : (rs : List ReadRecord) (n : ℕ) (part : GroupPart) (ps : Vec GroupPart) → EndsWhole rs n part (Some ps) → (z : List ReadItem)
+    → opened none_open (seen_by as_said rs) n ≡ Some z → IsCompleted rs (part_read (End n) part ∷ []) ps.items
+ends_complete rs n part ps ends z is_open = (
+  n,
+  λ φ.
+      let b = begins n rs as_said z is_open in
+      let so_far = all_seen φ (b.first ∷ b.more) in
+      let here = b.opened_is φ none_open in
+      record {
+        so_far = so_far;
+        behind = part_seen φ part;
+        begun = here;
+        ends = if_true (n == n) (Ends (part_seen φ part)) (GoesOn []) (eq_true n n refl);
+        parts = ends φ ∙ ap (λ o. unwrap_or (onto o (part_seen φ part)) []) here;
+      },
+)
+
+whole_counts : (rs : List ReadRecord) (n : ℕ) (part : GroupPart) (ps : Vec GroupPart) → EndsWhole rs n part (Some ps) → AreWhereRead (rs ++ part_read (End n) part ∷ [])
+    → (g : ℕ) → CountsWhole (rs ++ part_read (End n) part ∷ []) g ps.items
+whole_counts rs n part ps ends lie g files is s c now =
+    at_option (opened none_open (seen_by as_said rs) n)
+    (λ _. (file_in c ≤ files.to) × CountsFrom (rs ++ part_read (End n) part ∷ []) g files.from s)
+    (λ none. no_word (Some c)
+    (sym (ap (λ l. says s (of_group g l)) (ends as_said ∙ ap (λ o. unwrap_or (onto o (part_seen as_said part)) []) none)) ∙ now))
+    (λ z is_open. completed_group rs (part_read (End n) part ∷ []) ps.items (ends_complete rs n part ps ends z is_open) lie g files is s c now)
+
+notes_end : (rs : List ReadRecord) (n : ℕ) (part : GroupPart) (whole : Option (Vec GroupPart)) (old new : MemTables) → EndsWhole rs n part whole
+    → SettlesWhole whole old new → AreReplayed false (rs ++ part_read (End n) part ∷ []) (replayed_of new)
+    → AreNotedRead rs (replayed_of old) → AreNotedRead (rs ++ part_read (End n) part ∷ []) (replayed_of new)
+notes_end rs n part None old new ends settles read h = notes_quiet rs (part_read (End n) part) old new (ended_items rs n part None ends) settles h
+notes_end rs n part (Some ps) old new ends settles read h = λ lie tidy g healthy.
+    let r = part_read (End n) part in
+    let is = ended_items rs n part (Some ps) ends in
+    more_covers rs r (parts_items ps.items) g (replayed_of new g).table.noted is
+    (group_covers (rs ++ r ∷ []) g (counted g rs) ps.items old new settles
+    (subst (λ l. IsReplayed false l (replayed_of new g)) (counted_more g rs r ∙ ap (λ l. counted g rs ++ of_group g l) is) (read tidy g healthy))
+    (whole_counts rs n part ps ends lie g)
+    (λ s c stands. counts_right rs (r ∷ []) g (start_of (file_in c) (replayed_of old g).table.noted) s
+    (h (lie_front rs (r ∷ []) lie) (front_tidy rs r (parts_items ps.items) is tidy g healthy) g (front_healthy rs r (parts_items ps.items) is tidy g healthy) s c stands)))
+
+whole_takes : (whole : Option (Vec GroupPart)) (old new : MemTables) → SettlesWhole whole old new → TakesItems false (whole_seen as_said whole) (replayed_of old) (replayed_of new)
+whole_takes None old new same = subst (λ m. TakesItems false [] (replayed_of old) (replayed_of m)) (sym same) (takes_none false (replayed_of old))
+whole_takes (Some ps) old new settles = group_takes ps.items old new settles
+
+pub reads_end : (n : ℕ) (part : GroupPart) (whole : Option (Vec GroupPart)) (old new : MemTableRecoverContext) → EndsGroup n part old.pieces new.pieces whole
+    → SettlesWhole whole old.tables new.tables → ReadsOne Rewrite (Some (part_read (End n) part)) old new
+reads_end n part whole old new ends settles = λ rs h.
     let told = ends rs h.pieces in
+    let tables = tables_more false rs (part_read (End n) part) (replayed_of old.tables) (replayed_of new.tables) h.tables
+    (subst (λ l. TakesItems false l (replayed_of old.tables) (replayed_of new.tables)) (sym (ended_items rs n part whole told.1)) (whole_takes whole old.tables new.tables settles)) in
     record {
       plain = λ q. never_append q;
-      tables = tables_more false rs (part_read (End n) part) (replayed_of old.tables) (replayed_of new.tables) h.tables
-          (subst (λ l. TakesItems false l (replayed_of old.tables) (replayed_of new.tables)) told.1 takes);
+      tables = tables;
+      notes = λ q. notes_end rs n part whole old.tables new.tables told.1 settles tables (h.notes q);
       pieces = told.0;
     }
 
 -- Two segments.
-pub merges_rewrite : (items : List ReadItem) (between : MemTables) (old later new : MemTableRecoverContext) → JoinsPieces old.pieces later.pieces new.pieces items
-    → TakesItems false items (replayed_of old.tables) (replayed_of between) → JoinsAll between later.tables new.tables → MergesInto Rewrite old later new
-merges_rewrite items between old later new joins takes merges = λ xs ys h k.
+pub border_items : (xs ys : List ReadRecord) (done : List (Vec GroupPart)) → IsBorder xs ys done
+    → groups_items done ≡ completed (unfinished (records_of xs)) (λ n. head n [] (records_of ys))
+border_items xs ys done border =
+    border.items as_said ∙ ap₂ (λ a b. completed (unfinished a) (λ n. head n [] b)) (seen_said xs) (seen_said ys)
+
+notes_joined : (xs ys : List ReadRecord) (done : List (Vec GroupPart)) (old between later new : MemTables) → IsBorder xs ys done → SettlesAll done old between
+    → JoinsAll between later new → AreReplayed false xs (replayed_of old) → AreReplayed false ys (replayed_of later)
+    → AreNotedRead xs (replayed_of old) → AreNotedRead ys (replayed_of later) → AreNotedRead (xs ++ ys) (replayed_of new)
+notes_joined xs ys done old between later new border settles merges read behind noted noted_behind = λ lie tidy g healthy.
+    let rs = records_of xs in
+    let qs = records_of ys in
+    let all = xs ++ ys in
+    let both = subst Tidy (records_append xs ys) tidy in
+    let brought = of_group g (groups_items done) in
+    let cut = ap (rewritten g) (records_append xs ys) ∙ cut_anywhere g rs qs both ∙ ap (λ l. counted g xs ++ (of_group g l ++ counted g ys)) (sym (border_items xs ys done border)) in
+    let parted = cut ∙ sym (append_assoc (counted g xs) brought (counted g ys)) in
+    let whole = subst AreHealthy parted healthy in
+    let front = healthy_front (counted g xs ++ brought) (counted g ys) whole in
+    let first = healthy_front (counted g xs) brought front in
+    let last = healthy_back (counted g xs ++ brought) (counted g ys) whole in
+    let front_read = read (tidy_front rs qs both) g first in
+    subst (λ l. Cover all g l (replayed_of new g).table.noted) (sym parted)
+    (join_covers all ys g (counted g xs ++ brought) between later new merges (behind (tidy_back rs qs both) g last) (λ n s. counts_left xs ys g n s)
+    (all_cover all g (counted g xs) done old between settles front front_read
+    (all_turned (IsCompleted xs ys) (CountsWhole all g) done (λ ps is. completed_group xs ys ps is lie g) border.groups)
+    (λ s c stands. counts_right xs ys g (start_of (file_in c) (replayed_of old g).table.noted) s
+    (noted (lie_front xs ys lie) (tidy_front rs qs both) g first s c stands)))
+    (noted_behind (lie_back xs ys lie) (tidy_back rs qs both) g last))
+
+pub merges_rewrite : (done : List (Vec GroupPart)) (between : MemTables) (old later new : MemTableRecoverContext) → JoinsPieces old.pieces later.pieces new.pieces done
+    → SettlesAll done old.tables between → JoinsAll between later.tables new.tables → MergesInto Rewrite old later new
+merges_rewrite done between old later new joins settles merges = λ xs ys h k.
     let told = joins xs ys h.pieces k.pieces in
     record {
       plain = λ q. never_append q;
       tables = tables_joined false xs ys (replayed_of old.tables) between later.tables new.tables h.tables k.tables
-          (subst (λ l. TakesItems false l (replayed_of old.tables) (replayed_of between)) told.1 takes) merges;
+          (subst (λ l. TakesItems false l (replayed_of old.tables) (replayed_of between)) (border_items xs ys done told.1) (all_take done old.tables between settles)) merges;
+      notes = λ q. notes_joined xs ys done old.tables between later.tables new.tables told.1 settles merges h.tables k.tables (h.notes q) (k.notes q);
       pieces = told.0;
     }
 
@@ -127,8 +289,8 @@ plain_pieces : (xs ys : List ReadRecord) (p : GroupPieces) → ArePlain xs → A
 plain_pieces xs ys p h k pieces =
     let both = plain_append xs ys h k in
     record {
-      heads = λ n. pieces.heads n ∙ plain_head n xs h ∙ sym (plain_head n (xs ++ ys) both);
-      left_open = pieces.left_open ∙ plain_unfinished xs h ∙ sym (plain_unfinished (xs ++ ys) both);
+      heads = λ φ n. pieces.heads φ n ∙ seen_head φ n xs h ∙ sym (seen_head φ n (xs ++ ys) both);
+      left_open = λ φ. pieces.left_open φ ∙ seen_unfinished φ xs h ∙ sym (seen_unfinished φ (xs ++ ys) both);
     }
 
 pub merges_append : (old later new : MemTableRecoverContext) → new.pieces ≡ old.pieces → JoinsAll old.tables later.tables new.tables → MergesInto Append old later new
@@ -138,6 +300,7 @@ merges_append old later new same merges = λ xs ys h k.
       tables = tables_joined true xs ys (replayed_of old.tables) old.tables later.tables new.tables h.tables k.tables
           (subst (λ us. TakesItems true (completed us (λ n. head n [] (records_of ys))) (replayed_of old.tables) (replayed_of old.tables)) (sym (plain_unfinished xs (h.plain refl)))
           (takes_none true (replayed_of old.tables))) merges;
+      notes = λ q. never_rewrite q;
       pieces = subst (ArePieces (xs ++ ys)) (sym same) (plain_pieces xs ys old.pieces (h.plain refl) (k.plain refl) h.pieces);
     }
 
@@ -149,6 +312,7 @@ comes_over old append new merges rewrite behind h k = λ tidy neat g whole sound
   appended = replayed_of append.tables g;
   of_rewrite = h.tables tidy g whole;
   of_append = k.tables neat g sound;
+  noted = λ lie. h.notes refl lie tidy g whole;
   shows = (merges g).shows ∙ ap (λ v. merged v (replayed_of append.tables g)) (sym (table_is old.tables g));
 }
 

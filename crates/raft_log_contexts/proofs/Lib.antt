@@ -7,3 +7,10 @@ pub mod Taking
 pub mod Contexts
 mod Refusals
 mod Batches
+mod Alike
+mod Begins
+mod Counting
+mod Notes
+mod Opening
+mod Settling
+mod Told

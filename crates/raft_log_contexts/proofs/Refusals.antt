@@ -28,12 +28,16 @@ use Rattle.raft_log_replay.specs.Joining.{JoinRefused}
 use Rattle.raft_log_replay.proofs.Rereading.{of_group_here, table_is}
 use Rattle.raft_log_contexts.specs.declared.context.MemTableRecoverContext.{MemTableRecoverContext}
 use Rattle.raft_log_contexts.specs.declared.pieces.GroupPieces.{GroupPieces}
-use Rattle.raft_log_contexts.specs.Records.{counted, in_file, record_read, records_of, said_in, AreHealthy, AreReplayed, ReadItem, ReadRecord, TakesItems}
+use Rattle.raft_log_contexts.specs.Records.{counted, in_file, record_read, records_of, said_in, AreHealthy, AreReplayed, ReadRecord, TakesItems}
 use Rattle.raft_log_contexts.specs.Pieces.{IsBroken, JoinsPieces}
 use Rattle.raft_log_contexts.specs.Context.{HasRead}
 use Rattle.raft_log_contexts.specs.Batches.{AreApart, AreOrderly, IsDeclined, IsUnread, MergeDeclined}
 use Rattle.raft_log_contexts.proofs.OpenGroups.{records_append}
-use Rattle.raft_log_contexts.proofs.Contexts.{plain_unfinished}
+use Rattle.raft_log_contexts.proofs.Contexts.{border_items, plain_unfinished}
+use Rattle.raft_log_contexts.proofs.Notes.{all_take}
+use Rattle.raft_log_contexts.specs.Noting.{SettlesAll}
+use Rattle.raft_log_contexts.specs.declared.part.GroupPart.{GroupPart}
+use Rattle.std.specs.Global.{Vec}
 use Rattle.raft_log_contexts.proofs.Taking.{counted_more, fit_back, healthy_back, healthy_front, placed_fits, placed_group, takes_none, takes_tagged}
 
 -- Batches of Rewrite.
@@ -125,11 +129,11 @@ apart_in_append old later e refused = λ xs ys h k.
     (subst (λ us. TakesItems true (completed us (λ n. head n [] (records_of ys))) (replayed_of old.tables) (replayed_of old.tables)) (sym (plain_unfinished xs (h.plain refl)))
     (takes_none true (replayed_of old.tables))))
 
-pub apart_in_rewrite : (items : List ReadItem) (between : MemTables) (old later : MemTableRecoverContext) (pieces : GroupPieces) (e : Error)
-    → JoinsPieces old.pieces later.pieces pieces items → TakesItems false items (replayed_of old.tables) (replayed_of between) → JoinRefused between later.tables e
+pub apart_in_rewrite : (done : List (Vec GroupPart)) (between : MemTables) (old later : MemTableRecoverContext) (pieces : GroupPieces) (e : Error)
+    → JoinsPieces old.pieces later.pieces pieces done → SettlesAll done old.tables between → JoinRefused between later.tables e
     → MergeDeclined Rewrite old later e
-apart_in_rewrite items between old later pieces e joins takes refused = λ xs ys h k.
+apart_in_rewrite done between old later pieces e joins settles refused = λ xs ys h k.
     let told = joins xs ys h.pieces k.pieces in
     apart_of (xs ++ ys) e between later.tables refused
     (never_apart false xs ys (replayed_of old.tables) between later.tables h.tables k.tables
-    (subst (λ l. TakesItems false l (replayed_of old.tables) (replayed_of between)) told.1 takes))
+    (subst (λ l. TakesItems false l (replayed_of old.tables) (replayed_of between)) (border_items xs ys done told.1) (all_take done old.tables between settles)))

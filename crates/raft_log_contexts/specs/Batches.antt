@@ -7,12 +7,16 @@ use Rattle.raft_log_base.specs.declared.errors.Error.TheVariants as errors
 use Rattle.raft_log_base.specs.declared.pipe_log.FileId.{FileId}
 use Rattle.raft_log_base.specs.declared.pipe_log.LogQueue.{LogQueue}
 use Rattle.raft_log_items.specs.declared.item.LogItem.{LogItem}
+use Rattle.raft_log_model.specs.Meaning.{Slot}
+use Rattle.raft_log_model.specs.Table.{content}
 use Rattle.raft_log_model.specs.Tidy.{Tidy}
+use Rattle.raft_log_places.specs.Replayed.{standing}
+use Rattle.raft_log_replay.specs.Tables.{shown_of}
 use Rattle.raft_log_segments.specs.Machines.{Batch}
 use Rattle.raft_log_contexts.specs.declared.context.MemTableRecoverContext.{MemTableRecoverContext}
 use Rattle.raft_log_contexts.specs.Records.{counted, record_read, records_of, AreHealthy, ReadRecord}
 use Rattle.raft_log_contexts.specs.Pieces.{invalid_mark}
-use Rattle.raft_log_contexts.specs.Context.{HasRead}
+use Rattle.raft_log_contexts.specs.Context.{tables_of, HasRead}
 
 -- no record touches the raft group of an open atomic group, and what counts of the records is healthy
 pub record AreOrderly (rs : List ReadRecord) : Type 0 where
@@ -79,3 +83,12 @@ Declines queue bs (errors.Corruption text) =
     ((rs : List ReadRecord) → AreRead queue bs rs → ⊥) × (string_bytes text ≡ invalid_mark)
 Declines queue bs errors.Memory = Unit {0}
 Declines queue bs _ = ⊥
+
+-- Two contexts have read the same records of a queue; and where these are in order, their tables hold the
+-- same entries and values of each group, in the same places and files
+pub record HaveReadAlike (queue : LogQueue) (m n : MemTableRecoverContext) : Type 0 where
+  pub records : List ReadRecord
+  pub first : HasRead queue records m
+  pub second : HasRead queue records n
+  pub shows : AreOrderly records → (g : ℕ) (s : Slot)
+      → content (standing (shown_of (tables_of m) g)) s ≡ content (standing (shown_of (tables_of n) g)) s

@@ -24,6 +24,7 @@ use Rattle.raft_log_replay.specs.Replaying.{ReadsUpTo}
 use Rattle.raft_log_contexts.specs.declared.context.MemTableRecoverContext.{MemTableRecoverContext}
 use Rattle.raft_log_contexts.specs.Records.{counted, record_read, records_of, AreHealthy, AreReplayed, ReadRecord}
 use Rattle.raft_log_contexts.specs.Pieces.{ArePieces}
+use Rattle.raft_log_contexts.specs.Noting.{AreNotedRead, AreWhereRead, NotesCover}
 
 -- the record counts at once
 abbrev pub is_plain : Record Located KeyValue → Bool
@@ -37,10 +38,11 @@ ArePlain (r ∷ rs) = (is_plain r.taken ≡ true) × ArePlain rs
 
 -- The context has read these records of a queue: its tables are those of what counts in them, and its pieces
 -- those of the atomic groups that they leave open or that began before them. In Append all records count at
--- once
+-- once; of Rewrite the tables note the files of the atomic groups
 pub record HasRead (queue : LogQueue) (rs : List ReadRecord) (c : MemTableRecoverContext) : Type 0 where
   pub plain : in_append queue ≡ true → ArePlain rs
   pub tables : AreReplayed (in_append queue) rs (replayed_of c.tables)
+  pub notes : in_append queue ≡ false → AreNotedRead rs (replayed_of c.tables)
   pub pieces : ArePieces rs c.pieces
 
 -- a context that has read some records of a queue has then read these and this one, if it is one
@@ -81,12 +83,14 @@ abbrev pub MergesInto : LogQueue → MemTableRecoverContext → MemTableRecoverC
 MergesInto queue old later new =
     (xs ys : List ReadRecord) → HasRead queue xs old → HasRead queue ys later → HasRead queue (xs ++ ys) new
 
--- what shows of a group is what was read of these records of Append over what was read of those of Rewrite
+-- what shows of a group is what was read of these records of Append over what was read of those of Rewrite,
+-- of which the files of the atomic groups are noted
 pub record IsOverAt (rewrite append : List ReadRecord) (m : MemTables) (g : ℕ) : Type 0 where
   pub rewritten : Replayed
   pub appended : Replayed
   pub of_rewrite : IsReplayed false (counted g rewrite) rewritten
   pub of_append : IsReplayed true (counted g append) appended
+  pub noted : AreWhereRead rewrite → NotesCover rewrite g rewritten.table.noted
   pub shows : shown_of m g ≡ merged rewritten.table appended
 
 -- What shows of each group is what was read of Append over what was read of Rewrite, where in Rewrite no

@@ -2,7 +2,7 @@
 ghost use Rattle.std.specs.Prelude.{◌≡◌, ◌++◌, IfOk};
 ghost use Rattle.raft_log_model.specs.Fragments.{then_head};
 ghost use Rattle.raft_log_model.specs.Fragments.Head.{GoesOn};
-ghost use Rattle.raft_log_contexts.specs.Pieces.{head_of, parts_items};
+ghost use Rattle.raft_log_contexts.specs.Pieces.{head_of, parts_seen, Reading};
 
 use crate::part::GroupPart;
 use std::alloc::AllocError;
@@ -21,7 +21,8 @@ pub(crate) enum GroupHead {
 impl GroupHead {
     /// What this segment and the next one do, one after the other.
     pub(crate) fn then(self, later: GroupHead) -> Result<GroupHead, AllocError>
-        ensures { IfOk result (λ both. head_of both ≡ then_head (head_of self) (head_of later)) }
+        ensures { IfOk result (λ both. (φ : Reading)
+            → head_of φ both ≡ then_head (head_of φ self) (head_of φ later)) }
     {
         match self {
             GroupHead::GoesOn(parts) => go_on(parts, later),
@@ -32,8 +33,8 @@ impl GroupHead {
 
 /// What a group that goes on with these records does in the next segment.
 fn go_on(parts: Vec<GroupPart>, later: GroupHead) -> Result<GroupHead, AllocError>
-    ensures { IfOk result (λ both. head_of both
-        ≡ then_head (GoesOn (parts_items parts.items)) (head_of later)) }
+    ensures { IfOk result (λ both. (φ : Reading)
+        → head_of φ both ≡ then_head (GoesOn (parts_seen φ parts.items)) (head_of φ later)) }
 {
     match later {
         GroupHead::GoesOn(more) => Ok(GroupHead::GoesOn(joined(parts, more)?)),
@@ -47,8 +48,8 @@ pub(crate) fn joined(
     parts: Vec<GroupPart>,
     more: Vec<GroupPart>,
 ) -> Result<Vec<GroupPart>, AllocError>
-    ensures { IfOk result (λ both. parts_items both.items
-        ≡ parts_items parts.items ++ parts_items more.items) }
+    ensures { IfOk result (λ both. (φ : Reading)
+        → parts_seen φ both.items ≡ parts_seen φ parts.items ++ parts_seen φ more.items) }
 {
     let mut parts = parts;
     let mut more = more;

@@ -11,7 +11,15 @@ ghost use Rattle.raft_log_replay.specs.declared.mem_tables.MemTables.{MemTables}
 ghost use Rattle.raft_log_replay.specs.Tables.{shown_of};
 ghost use Rattle.raft_log_contexts.specs.declared.context.MemTableRecoverContext.{MemTableRecoverContext};
 ghost use Rattle.raft_log_contexts.specs.Records.{counted, records_of, ReadRecord};
+ghost use Rattle.raft_log_segments.specs.Segments.{HasReadSegments, HoldsOne};
+ghost use Rattle.raft_log_directory.specs.Calls.{IsMadeOf};
+ghost use Rattle.raft_log_directory.specs.Model.{Files};
+ghost use Rattle.raft_log_views.specs.Views.{view_of};
+ghost use Rattle.raft_log_contexts.specs.Opened.{map_read, told_records, IsOpened};
+ghost use Rattle.raft_log_contexts.specs.Batches.{HasReadBatches, HaveReadAlike};
 ghost use Rattle.raft_log_contexts.specs.Context.{meant_by, ComesOver, HasRead, IsSound};
+
+use raft_log_segments::ReplaySource;
 
 /// Tables of all of Append that came over those of all of Rewrite are the directory's: the bytes at the
 /// places of each group are what the directory means, and an open may make of them where things stand and
@@ -30,4 +38,25 @@ pub fn merged_tables_are_recovered<E>()
 pub fn append_counts_at_once()
     ensures { (g : ℕ) (rs : List ReadRecord) (c : MemTableRecoverContext) → HasRead Append rs c
         → counted g rs ≡ appended g (records_of rs) }
+{}
+
+/// Any two numbers of workers make tables that show the same: where each segment holds one list of batches,
+/// two readings of all segments are of the same records, and hold the same entries and values of each group,
+/// in the same places and files; and the same is told of each segment.
+pub fn workers_show_the_same<S: ReplaySource>()
+    ensures { (source : S) → HoldsOne (S.holds source) → (count : ℕ) (m n : MemTableRecoverContext)
+        (es fs : List S.Ending)
+        → HasReadSegments (S.holds source) (HasReadBatches (S.queue_of source)) 0 count m es
+        → HasReadSegments (S.holds source) (HasReadBatches (S.queue_of source)) 0 count n fs
+        → HaveReadAlike (S.queue_of source) m n × (es ≡ fs) }
+{}
+
+/// What an open knows by its tables is made of what it read: through them the directory's map is read, each
+/// thing stands where a recovery may say that it does, and of each the file is noted in which it lies, in
+/// Rewrite the one from which on it counts.
+pub fn opened_view_is_made_of_what_was_read<E>()
+    ensures { (at : Located → E) (rewrite append : List ReadRecord) (m : MemTables) (f : Files E (List ℕ))
+        → IsOpened at rewrite append m f
+        → IsMadeOf (view_of (shown_of m) (map_read at rewrite append)) (told_records at rewrite)
+        (told_records at append) f }
 {}

@@ -3,22 +3,23 @@ ghost use Rattle.std.specs.Prelude.{◌≡◌, ◌==◌, ◌++◌, ℕ, [], if�
 ghost use Rattle.raft_log_model.specs.Item.Mark.{Begin, Middle};
 ghost use Rattle.std.specs.BTreeMap.{get};
 ghost use Rattle.std.specs.Ordering.{nat_cmp};
-ghost use Rattle.raft_log_model.specs.Fragments.{finish, go_on, then_head};
+ghost use Rattle.raft_log_model.specs.Fragments.{go_on, then_head};
 ghost use Rattle.raft_log_contexts.specs.Pieces.{
-  groups_items,
   head_at,
   head_in,
   head_of,
   left_open,
   part_read,
-  parts_items,
-  whole_items,
+  parts_seen,
   ArePieces,
   CarriesOn,
   CutsShort,
   EndsGroup,
+  HandsOut,
   IsPlaceOf,
   JoinsPieces,
+  PassesOn,
+  Reading,
   TakesRecord,
 };
 
@@ -71,7 +72,7 @@ impl GroupPieces {
 
     /// The open group of a number goes, if there is one.
     fn cut_short(&mut self, number: u64)
-        ensures left { CutsShort number (left_open self.old) (left_open self.new) }
+        ensures left { (φ : Reading) → CutsShort number (left_open φ self.old) (left_open φ self.new) }
         ensures heads { self.new.heads ≡ self.old.heads }
     {
         let Some(index) = self.position(number) else {
@@ -99,8 +100,7 @@ impl GroupPieces {
         number: u64,
         part: GroupPart,
     ) -> Result<Option<Vec<GroupPart>>, AllocError>
-        ensures { IfOk result (λ whole.
-            EndsGroup number part self.old self.new (whole_items whole)) }
+        ensures { IfOk result (λ whole. EndsGroup number part self.old self.new whole) }
     {
         let Some(index) = self.position(number) else {
             let mut parts = Vec::new(self.alloc);
@@ -116,7 +116,7 @@ impl GroupPieces {
     /// The pieces of the next segment come behind these. The groups that it ends are handed out, in the order
     /// of their begins.
     pub(crate) fn merge(&mut self, later: GroupPieces) -> Result<Vec<Vec<GroupPart>>, AllocError>
-        ensures { IfOk result (λ done. JoinsPieces self.old later self.new (groups_items done.items)) }
+        ensures { IfOk result (λ done. JoinsPieces self.old later self.new done.items) }
     {
         let GroupPieces {
             mut heads,
@@ -135,9 +135,10 @@ impl GroupPieces {
         &mut self,
         heads: &mut BTreeMap<u64, GroupHead>,
     ) -> Result<Vec<Vec<GroupPart>>, AllocError>
-        ensures ok { IfOk result (λ done.
-            CarriesOn (left_open self.old) (λ n. head_in (get nat_cmp heads.old n)) (left_open self.new)
-            (λ n. head_in (get nat_cmp heads.new n)) (groups_items done.items)) }
+        ensures ok { IfOk result (λ done. CarriesOn self.old (λ φ n. head_in φ (get nat_cmp heads.old n))
+            self.new (λ φ n. head_in φ (get nat_cmp heads.new n)) done.items) }
+        ensures done { IfOk result (λ done.
+            HandsOut self.old (λ φ n. head_in φ (get nat_cmp heads.old n)) done.items) }
         ensures heads { self.new.heads ≡ self.old.heads }
     {
         let open = mem::replace(&mut self.left_open, Vec::new(self.alloc));
@@ -156,10 +157,10 @@ impl GroupPieces {
         head: Option<GroupHead>,
         done: &mut Vec<Vec<GroupPart>>,
     ) -> Result<(), AllocError>
-        ensures left { OnOk result (left_open self.new
-            ≡ left_open self.old ++ go_on group.number (parts_items group.parts.items) (head_in head)) }
-        ensures done { OnOk result (groups_items done.new.items
-            ≡ groups_items done.old.items ++ finish (parts_items group.parts.items) (head_in head)) }
+        ensures left { OnOk result ((φ : Reading) → left_open φ self.new
+            ≡ left_open φ self.old
+            ++ go_on group.number (parts_seen φ group.parts.items) (head_in φ head)) }
+        ensures done { OnOk result (PassesOn group head done.old.items done.new.items) }
         ensures heads { self.new.heads ≡ self.old.heads }
     {
         match head {
@@ -181,8 +182,8 @@ impl GroupPieces {
 
     /// The next segment does this with groups.
     fn add_heads(&mut self, heads: BTreeMap<u64, GroupHead>) -> Result<(), AllocError>
-        ensures heads { OnOk result ((n : ℕ) → head_at self.new n
-            ≡ then_head (head_at self.old n) (head_in (get nat_cmp heads n))) }
+        ensures heads { OnOk result ((φ : Reading) (n : ℕ) → head_at φ self.new n
+            ≡ then_head (head_at φ self.old n) (head_in φ (get nat_cmp heads n))) }
         ensures others { self.new.left_open ≡ self.old.left_open }
     {
         let mut heads = heads;
@@ -206,8 +207,9 @@ impl GroupPieces {
 
     /// The segment does this with the group of a number, behind what it did so far.
     fn add_head(&mut self, number: u64, later: GroupHead) -> Result<(), AllocError>
-        ensures heads { OnOk result ((n : ℕ) → head_at self.new n
-            ≡ (if number == n then then_head (head_at self.old n) (head_of later) else head_at self.old n)) }
+        ensures heads { OnOk result ((φ : Reading) (n : ℕ) → head_at φ self.new n
+            ≡ (if number == n then then_head (head_at φ self.old n) (head_of φ later)
+            else head_at φ self.old n)) }
         ensures others { self.new.left_open ≡ self.old.left_open }
     {
         if let Some(head) = self.heads.get_mut(&number) {

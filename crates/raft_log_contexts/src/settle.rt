@@ -1,9 +1,10 @@
 //! Atomic groups that are whole count.
-ghost use Rattle.std.specs.Prelude.{◌≡◌, false, IfErr, OnOk};
+ghost use Rattle.std.specs.Prelude.{◌≡◌, ◌||◌, ℕ, Some, IfErr, OnOk};
 ghost use Rattle.raft_log_base.specs.declared.errors.Error.TheVariants.{Memory};
+ghost use Rattle.raft_log_replay.specs.Batch.{mentions};
 ghost use Rattle.raft_log_replay.specs.Tables.{replayed_of};
-ghost use Rattle.raft_log_contexts.specs.Records.{KeepsRead, TakesItems};
-ghost use Rattle.raft_log_contexts.specs.Pieces.{ends_with, groups_items, parts_items, whole_items, with_file};
+ghost use Rattle.raft_log_contexts.specs.Pieces.{ends_with, with_file};
+ghost use Rattle.raft_log_contexts.specs.Noting.{is_listed, NotesAll, SettlesAll, SettlesGroup, SettlesWhole};
 
 use crate::part::GroupPart;
 use raft_log_base::{FileSeq, Result};
@@ -18,8 +19,7 @@ pub(crate) fn settle_all(
     tables: &mut MemTables,
     done: Vec<Vec<GroupPart>>,
 ) -> Result<()>
-    ensures ok { OnOk result
-        (TakesItems false (groups_items done.items) (replayed_of tables.old) (replayed_of tables.new)) }
+    ensures ok { OnOk result (SettlesAll done.items tables.old tables.new) }
     ensures errors { IfErr result (λ e. e ≡ Memory) }
 {
     for parts in done {
@@ -34,8 +34,7 @@ pub(crate) fn settle_whole(
     tables: &mut MemTables,
     whole: Option<Vec<GroupPart>>,
 ) -> Result<()>
-    ensures ok { OnOk result
-        (TakesItems false (whole_items whole) (replayed_of tables.old) (replayed_of tables.new)) }
+    ensures ok { OnOk result (SettlesWhole whole tables.old tables.new) }
     ensures errors { IfErr result (λ e. e ≡ Memory) }
 {
     match whole {
@@ -45,10 +44,10 @@ pub(crate) fn settle_whole(
 }
 
 /// The records of an atomic group count: their items stand in the tables, and in the table of each raft group
-/// of theirs the files of the atomic group are noted, from the first record's to the last one's.
+/// of theirs the files of the atomic group are noted, from the first record's to the last one's, beside those
+/// that were noted before.
 fn settle(alloc: Global, tables: &mut MemTables, parts: Vec<GroupPart>) -> Result<()>
-    ensures ok { OnOk result
-        (TakesItems false (parts_items parts.items) (replayed_of tables.old) (replayed_of tables.new)) }
+    ensures ok { OnOk result (SettlesGroup parts.items tables.old tables.new) }
     ensures errors { IfErr result (λ e. e ≡ Memory) }
 {
     let mut groups = Vec::new(alloc);
@@ -79,7 +78,10 @@ fn with_file(files: Option<GroupFiles>, file: FileSeq) -> GroupFiles
 }
 
 /// Adds the raft groups that the items are of, one that comes several times in a row but once.
-fn add_groups(groups: &mut Vec<u64>, items: &[LogItem]) -> Result<(), AllocError> {
+fn add_groups(groups: &mut Vec<u64>, items: &[LogItem]) -> Result<(), AllocError>
+    ensures { OnOk result ((g : ℕ) → is_listed g groups.new.items
+        ≡ (is_listed g groups.old.items || mentions g items.now)) }
+{
     for item in items {
         if !ends_with(groups.as_slice(), item.raft_group_id) {
             groups.push(item.raft_group_id)?;
@@ -98,14 +100,22 @@ fn ends_with(groups: &[u64], group: u64) -> bool
     }
 }
 
-/// The files of an atomic group are noted in the tables of these raft groups; it has some.
+/// The files of an atomic group, if it has some, are noted in the tables of these raft groups.
 fn note_groups(tables: &mut MemTables, groups: &[u64], files: Option<GroupFiles>)
-    ensures { KeepsRead (replayed_of tables.old) (replayed_of tables.new) }
+    ensures { NotesAll files (λ g. is_listed g groups.now) (replayed_of tables.old) (replayed_of tables.new) }
 {
-    let Some(files) = files else {
-        return;
-    };
+    match files {
+        Some(files) => note_each(tables, groups, files),
+        None => {}
+    }
+}
+
+/// The files are noted in the tables of these raft groups.
+fn note_each(tables: &mut MemTables, groups: &[u64], files: GroupFiles)
+    ensures { NotesAll (Some files) (λ g. is_listed g groups.now) (replayed_of tables.old)
+        (replayed_of tables.new) }
+{
     for group in groups {
-        tables.note_group(*group, files);
+        tables.note_read_group(*group, files);
     }
 }

@@ -6,7 +6,7 @@ use Rattle.raft_log_places.specs.declared.group_files.GroupFiles.{GroupFiles}
 use Rattle.raft_log_places.specs.Bridge.{unmarked}
 use Rattle.raft_log_places.specs.Shown.{Shown}
 use Rattle.raft_log_places.specs.Replayed.{Replayed, joined, merged, nothing_replayed, LeavesHole}
-use Rattle.raft_log_tables.specs.Files.{with_group}
+use Rattle.raft_log_tables.specs.Files.{with_group, with_read_group}
 use Rattle.raft_log_tables.specs.Table.{Raw, replay_of, shown}
 use Rattle.raft_log_replay.specs.declared.group_table.GroupTable.{GroupTable}
 use Rattle.raft_log_replay.specs.declared.mem_tables.MemTables.{MemTables}
@@ -75,6 +75,11 @@ UnmarkedAt old new g = (shown_of new g ≡ unmarked (shown_of old g)) × (counts
 -- it did in some groups, and the others lost their marks alone
 abbrev pub MergesSome : MemTables → MemTables → MemTables → Type 0
 MergesSome old append new = (g : ℕ) → UnmarkedAt old new g ⊎ MergesAt old append new g
+
+-- what was read of a group with this table, once an atomic group in these files was read: nothing without one
+abbrev pub read_noted_in : GroupFiles → Option Raw → Replayed
+read_noted_in files None = nothing_replayed
+read_noted_in files (Some t) = with_read_group (replay_of t) files
 
 -- what was read of a group with this table, once an atomic group in these files ended: nothing without one
 abbrev pub noted_in : GroupFiles → Option Raw → Replayed

@@ -7,7 +7,7 @@ ghost use Rattle.raft_log_places.specs.Shown.{nothing_shown, span, stepped, MayF
 ghost use Rattle.raft_log_places.specs.Replayed.{joined, merged, nothing_replayed, replayed, LeavesHole};
 ghost use Rattle.raft_log_atomic_groups.specs.Meaning.{key_meaning, meaning};
 ghost use Rattle.raft_log_held.specs.Entries.{place_of, run_of};
-ghost use Rattle.raft_log_tables.specs.Files.{with_group};
+ghost use Rattle.raft_log_tables.specs.Files.{with_group, with_read_group};
 ghost use Rattle.raft_log_tables.specs.Replays.{in_append, MergeRefused};
 ghost use Rattle.raft_log_tables.specs.Room.{
   count_of,
@@ -309,6 +309,16 @@ impl GroupTable {
         ensures room { promise self.new.table ≡ promise self.old.table }
     {
         self.table.apply_rewrite_atomic_group(files);
+    }
+
+    /// An atomic group of Rewrite was read, whose items this table took: its files are noted beside those that
+    /// were noted before.
+    pub(crate) fn note_read(&mut self, files: GroupFiles)
+        ensures read { replay_of self.new.table ≡ with_read_group (replay_of self.old.table) files }
+        ensures counts { self.new.counts ≡ self.old.counts }
+        ensures room { promise self.new.table ≡ promise self.old.table }
+    {
+        self.table.note_read_group(files);
     }
 
     /// An item, for which that was prepared, was written to this file of Rewrite: what is still there lies

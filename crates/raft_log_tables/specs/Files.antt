@@ -5,6 +5,7 @@ use Rattle.raft_log_base.specs.declared.pipe_log.LogQueue.TheVariants.{Append, R
 use Rattle.raft_log_places.specs.declared.group_files.GroupFiles.{GroupFiles}
 use Rattle.raft_log_model.specs.Meaning.Slot.{Index}
 use Rattle.raft_log_places.specs.Shown.{KeyValue, Shown}
+use Rattle.raft_log_places.specs.Replayed.{both_noted, Replayed}
 use Rattle.raft_log_places.specs.Noted.{file_at, noting, place_file, start_of}
 use Rattle.raft_log_held.specs.Counts.{least_value, lesser}
 use Rattle.raft_log_tables.specs.Table.{shown, Raw}
@@ -32,6 +33,12 @@ noted_after (Some least) old new = noting least old new
 -- what shows once an atomic group in these files ended and is noted
 abbrev pub with_group : Raw → GroupFiles → Shown
 with_group t files = record (shown t) { noted = Some (noted_after (least_rewritten t) t.noted files) }
+
+-- what was read of a group, once an atomic group in these files was read too: they are noted beside those
+-- that were noted before
+abbrev pub with_read_group : Replayed → GroupFiles → Replayed
+with_read_group z files =
+    record z { table = record z.table { noted = both_noted z.table.noted (Some files) } }
 
 -- no entry of a queue lies in an earlier file than the first one there: so it is where files don't fall
 -- along the entries

@@ -5,7 +5,7 @@ ghost use Rattle.raft_log_atomic_groups.specs.Marking.{has_mark_key};
 ghost use Rattle.raft_log_atomic_groups.specs.Meaning.{meaning, tagged, tagged_items};
 ghost use Rattle.raft_log_held.specs.Entries.{place_of};
 ghost use Rattle.raft_log_tables.specs.Replays.{in_append};
-ghost use Rattle.raft_log_replay.specs.Joining.{noted_in};
+ghost use Rattle.raft_log_replay.specs.Joining.{noted_in, read_noted_in};
 ghost use Rattle.raft_log_replay.specs.Replaying.{
   ReadRefused,
   ReadsAll,
@@ -94,6 +94,19 @@ impl MemTables {
     {
         if let Some(found) = self.groups.get_mut(&group) {
             found.note(files);
+        }
+    }
+
+    /// An atomic group of Rewrite was read, in these files, whose items of a group are done: its files are noted
+    /// there, beside those that were noted before.
+    pub fn note_read_group(&mut self, group: u64, files: GroupFiles)
+        ensures noted { replayed_of self.new group ≡ read_noted_in files (raw_of self.old group) }
+        ensures others { (g : ℕ) → (group == g) ≡ false → replayed_of self.new g ≡ replayed_of self.old g }
+        ensures counts { (g : ℕ) → counts self.new g ≡ counts self.old g }
+        ensures rest { IsAtRest self.old → IsAtRest self.new }
+    {
+        if let Some(found) = self.groups.get_mut(&group) {
+            found.note_read(files);
         }
     }
 }

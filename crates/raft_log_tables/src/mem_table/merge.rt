@@ -11,6 +11,7 @@ ghost use Rattle.raft_log_places.specs.Replayed.{
   LeavesHole,
 };
 ghost use Rattle.raft_log_model.specs.Summary.{lesser};
+ghost use Rattle.raft_log_tables.specs.Files.{with_read_group};
 ghost use Rattle.raft_log_tables.specs.Replays.{begin_alone, leaves_hole, HasRoomOf, MergeRefused};
 ghost use Rattle.raft_log_tables.specs.Table.{promise, replay_of, shown, window_of, IsBoundAs};
 
@@ -118,6 +119,14 @@ impl MemTable {
         self.rewritten += rewritten;
         self.keys.join(newer.keys);
         self.take_back();
+    }
+
+    /// An atomic group in these files of Rewrite was read: they are noted beside those that were noted before.
+    pub fn note_read_group(&mut self, files: GroupFiles)
+        ensures read { replay_of self.new ≡ with_read_group (replay_of self.old) files }
+        ensures room { promise self.new ≡ promise self.old }
+    {
+        self.noted = both_noted(self.noted, Some(files));
     }
 
     /// The Compact, the files of groups and the bounds of a later table count too.

@@ -1,17 +1,18 @@
-use Rattle.std.proofs.Common.{◌++◌, ◌∷◌, [], false, ap, sym, subst, ◌∙◌, append_assoc}
+use Rattle.std.proofs.Common.{◌++◌, ◌∷◌, [], None, Some, ap, ap₂, sym, refl, ◌∙◌, ◌||◌, append_assoc}
 use Rattle.std.specs.Vec.Iter.{into_iter_items}
-use Rattle.raft_log_replay.specs.Tables.{replayed_of}
-use Rattle.raft_log_contexts.specs.Records.{TakesItems}
-use Rattle.raft_log_contexts.specs.Pieces.{part_items, parts_items}
+use Rattle.raft_log_replay.specs.Batch.{mentions}
+use Rattle.raft_log_contexts.specs.Noting.{is_listed}
+use Rattle.raft_log_contexts.specs.Pieces.{with_file}
 use Rattle.raft_log_contexts.proofs.CarryOn.{all_came_of, none_left}
-use Rattle.raft_log_contexts.proofs.Parts.{parts_push}
-use Rattle.raft_log_contexts.proofs.Taking.{takes_both, takes_kept, takes_none, takes_read}
+use Rattle.raft_log_contexts.proofs.Settling.{files_push, mention_push, parts_read_push, settles}
 use Rattle.raft_log_contexts.proofs.settle.settle.Goals as goal
 
 pub loop-part-init : goal.loop-part-init
 loop-part-init c = record {
   all = c.into_iter-part-iterator.ensures.into_iter_gives.0;
-  taken = takes_none false (replayed_of c.args.tables.now);
+  taken = refl;
+  files = refl;
+  groups = λ g. ap (is_listed g) c.new-groups.ensures.items;
 }
 
 pub loop-part-preserved : goal.loop-part-preserved
@@ -19,19 +20,17 @@ loop-part-preserved c =
     let so_far = c.loop-part.invariant in
     let p = c.in-Some.part in
     let ps = c.loop-part.yielded in
-    let old = c.loop-part.tables in
-    let new = c.replay_rewrite_writes.new.self in
     record {
       all = append_assoc ps (p ∷ []) (into_iter_items c.next.new.self) ∙ ap (λ l. ps ++ l) (sym c.in-Some.ensures.steps.0) ∙ so_far.all;
-      taken = subst (λ l. TakesItems false l (replayed_of c.args.tables.now) (replayed_of new)) (sym (parts_push ps p))
-          (takes_both false (parts_items ps) (part_items p) (replayed_of c.args.tables.now) (replayed_of old) (replayed_of new)
-          so_far.taken (takes_read false p.file old new p.items.items c.in_ok-replay_rewrite_writes.ensures.ok));
+      taken = parts_read_push ps p c.args.tables.now c.loop-part.tables c.replay_rewrite_writes.new.self so_far.taken c.in_ok-replay_rewrite_writes.ensures.ok;
+      files = ap Some (c.with_file.ensures ∙ ap (λ f. with_file f p.file) so_far.files) ∙ sym (files_push None ps p);
+      groups = λ g. c.in_ok-add_groups.ensures g ∙ ap₂ (λ a b. a || b) (so_far.groups g) (ap (mentions g) c.as_slice.ensures.value) ∙ sym (mention_push g ps p);
     }
 
 pub returns-clause-ok : goal.returns-clause-ok
 returns-clause-ok c =
+    let done = c.loop-part.invariant in
     let none = none_left (into_iter_items c.loop-part.part-iterator) (sym c.loop-part.part-iterator.rest.ok.0 ∙ c.in-None.ensures.steps.0) in
-    let came = all_came_of c.loop-part.yielded _ c.args.parts.items c.loop-part.invariant.all none in
-    takes_kept false (parts_items c.args.parts.items) (replayed_of c.args.tables.now) (replayed_of c.loop-part.tables) (replayed_of c.note_groups.new.tables)
-    (subst (λ l. TakesItems false (parts_items l) (replayed_of c.args.tables.now) (replayed_of c.loop-part.tables)) came c.loop-part.invariant.taken)
-    c.note_groups.ensures
+    let came = all_came_of c.loop-part.yielded _ c.args.parts.items done.all none in
+    settles c.loop-part.yielded c.args.parts.items c.args.tables.now c.loop-part.tables c.note_groups.new.tables c.loop-part.files _ _
+    came done.taken done.files done.groups c.as_slice-2.ensures.value c.note_groups.ensures

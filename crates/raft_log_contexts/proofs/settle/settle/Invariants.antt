@@ -1,13 +1,13 @@
-use Rattle.std.proofs.Common.{◌≡◌, ◌++◌, false}
+use Rattle.std.proofs.Common.{◌≡◌, ◌++◌, ℕ, None}
 use Rattle.std.specs.Vec.Iter.{into_iter_items}
-use Rattle.raft_log_replay.specs.Tables.{replayed_of}
-use Rattle.raft_log_contexts.specs.Records.{TakesItems}
-use Rattle.raft_log_contexts.specs.Pieces.{parts_items}
+use Rattle.raft_log_contexts.specs.Noting.{files_after, is_listed, parts_mention, ReadsParts}
 use Rattle.raft_log_contexts.proofs.settle.settle.Given as goal
 
 -- the tables took the records so far
 abbrev pub invariant-loop-part : goal.invariant-loop-part
 invariant-loop-part l = record {
   all : l.yielded ++ into_iter_items l.part-iterator ≡ l.fn.parts.items;
-  taken : TakesItems false (parts_items l.yielded) (replayed_of l.fn.tables) (replayed_of l.tables);
+  taken : ReadsParts l.yielded l.fn.tables l.tables;
+  files : l.files ≡ files_after None l.yielded;
+  groups : (g : ℕ) → is_listed g l.groups.items ≡ parts_mention g l.yielded;
 }

@@ -1,4 +1,5 @@
-use Rattle.std.proofs.Common.{sym, subst, []}
+use Rattle.std.proofs.Common.{sym, subst, [], Some}
+use Rattle.raft_log_machine.proofs.TruthRaises.{no_word}
 use Rattle.raft_log_places.specs.Replayed.{IsReplayed}
 use Rattle.raft_log_places.proofs.Replays.{read_nothing}
 use Rattle.raft_log_tables.specs.Replays.{in_append}
@@ -8,5 +9,6 @@ pub returns : goal.returns
 returns c = λ queue. record {
   plain = λ q. tt;
   tables = λ tidy g healthy. subst (λ z. IsReplayed (in_append queue) [] z) (sym (c.new.ensures.replay g)) (read_nothing (in_append queue));
+  notes = λ q lie tidy g healthy s d stands. no_word (Some d) stands;
   pieces = c.new-2.ensures;
 }

@@ -8,5 +8,6 @@
 #![tactic(auto)]
 
 pub mod engine;
+mod writing;
 
 pub use engine::Engine;

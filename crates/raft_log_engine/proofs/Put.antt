@@ -1,0 +1,136 @@
+-- What a write was told by its pipes and its tables, put together.
+use Rattle.std.proofs.Common.{◌≡◌, ◌⊎◌, ◌↔◌, ℕ, Bool, true, false, List, [], inl, inr, refl, sym, ap, ap₂, subst, ◌∙◌}
+use Rattle.std.specs.Prelude.{IsTrue, IsOk, IfErr, IfOk, OnOk, Result, Ok, Err, is_err}
+use Rattle.std.proofs.lemmas.Bool.{cases_Bool, false≢true}
+use std.Path.{fun_ext}
+use Rattle.raft_log_model.specs.Groups.{of_group}
+use Rattle.raft_log_disk.specs.Causes.{IsLater}
+use Rattle.raft_log_base.specs.declared.errors.Error.{Error}
+use Rattle.raft_log_base.specs.declared.errors.Error.TheVariants as errors
+use Rattle.raft_log_base.specs.declared.pipe_log.FileBlockHandle.{FileBlockHandle}
+use Rattle.raft_log_items.specs.declared.item.LogItem.{LogItem}
+use Rattle.raft_log_atomic_groups.specs.Meaning.{tagged_items}
+use Rattle.raft_log_records.specs.declared.log_batch.BatchState.TheVariants.{Populated}
+use Rattle.raft_log_records.specs.Batch.{Batch, IsButBuffer, IsReadyForEach, emptied}
+use Rattle.raft_log_signed_batch.specs.Signing.{SaysItself, signed_for}
+use Rattle.raft_log_directory.specs.Calls.Which.{InAppend}
+use Rattle.raft_log_places.specs.Shown.{Shown}
+use Rattle.raft_log_replay.specs.declared.mem_tables.MemTables.{MemTables}
+use Rattle.raft_log_replay.specs.Batch.{BatchRefused, IsReadyFor, all_shown, counts_at_end}
+use Rattle.raft_log_replay.specs.Tables.{ShowsSame, counts, shown_of}
+use Rattle.raft_log_stored.specs.Written.{placed_items}
+use Rattle.raft_log_dual_pipes.specs.Pipes.{LogPipes, is_failed}
+use Rattle.raft_log_dual_pipes.specs.Calls.{AppendsTo, FailsToAppendTo, TellsFailure}
+use Rattle.raft_log_engine_state.specs.Shows.{IsLaidOut, IsWellMarked, Shows, shows}
+use Rattle.raft_log_engine_state.specs.Writing.{IsKept, IsUnfit, NotWritten, Refuses, Writes, WritesBytes, items_at}
+use Rattle.raft_log_engine_state.specs.Syncing.{NotSynced, Syncs}
+use Rattle.raft_log_engine_state.specs.Laws.{IsReady}
+use Rattle.raft_log_engine_state.proofs.Exits.{empty_unsynced, refuses, write_unsynced, writes, writes_synced}
+use Rattle.raft_log_engine.specs.Room.{PutFails}
+
+pub on_ok : {A E : Type 0} {P : Type 0} (r : Result A E) → IsOk r → OnOk r P → P
+on_ok (Ok x) ok p = p
+on_ok (Err e) ok p = absurd (false≢true ok)
+
+pub alive_ok : {A : Type 0} (x : A) (w : LogPipes) → TellsFailure (Ok x) w → is_failed w ≡ false
+alive_ok {A} x w tells = elim (cases_Bool (is_failed w)) [
+  | inl hit ↦ absurd (false≢true (ap is_err (tells.0 hit)))
+  | inr miss ↦ miss
+]
+
+abbrev err_of : {A : Type 0} → Result A Error → Error → Error
+err_of (Ok x) d = d
+err_of (Err e) d = e
+
+pub tells_err : {A : Type 0} (error : Error) (w : LogPipes) → TellsFailure {A = A} (Err error) w → IsTrue (is_failed w) ↔ (error ≡ errors.Failed)
+tells_err {A} error w tells = (λ hit. ap (λ (r : Result A Error). err_of r error) (tells.0 hit), λ is. tells.1 (ap Err is))
+
+-- why the tables refuse a batch is why it isn't taken
+pub unfit_of : (b : Batch) (v : ℕ → Shown) (xs : List LogItem) (error : Error) → xs ≡ b.items → BatchRefused v (tagged_items (λ e. e) xs) error → IsUnfit b v error
+unfit_of b v xs error is refused = elim refused [
+  | inl hole ↦ subst (λ e. IsUnfit b v e) (sym hole.0) (subst (λ l. IsUnfit (record b { items = l }) v errors.Hole) is hole.1)
+  | inr memory ↦ subst (λ e. IsUnfit b v e) (sym memory) tt
+]
+
+-- what is known of a batch that room was made for
+pub ready_of : (b : Batch) (v : LogPipes) (m : MemTables) → (b.items ≡ [] → ⊥) → IsWellMarked b → IsReadyFor m (tagged_items (λ e. e) b.items) → SaysItself (signed_for b) b → IsLaidOut b → IsReady (shows v m) b
+ready_of b v m some marked ready says laid = record { some = some; marked = marked; follows = λ g. (ready.groups g).follows; says = says; laid = laid }
+
+module _ (b : Batch) (v w : LogPipes) (old new : MemTables) (lived : is_failed v ≡ false) (later : IsLater v.disk w.disk) (ready : IsReady (shows v old) b) where
+  pub writes_at : (block : FileBlockHandle) (after : Batch) → after.items ≡ b.items → after.entries ≡ b.entries → TellsFailure (Ok block) w → AppendsTo InAppend (signed_for b) block v w
+      → ((g : ℕ) → shown_of new g ≡ all_shown block.id.seq (shown_of old) (items_at block after) g)
+      → ((g : ℕ) → counts new g ≡ counts_at_end (counts old g) (of_group g (items_at block after))) → Writes b false (shows v old) (shows w new)
+  writes_at block after items entries tells call shown counted =
+      let same : items_at block after ≡ items_at block b = ap (λ l. placed_items block l after.entries) items ∙ ap (λ l. placed_items block b.items l) entries in
+      writes b block (shows v old) (shows w new) lived (alive_ok block w tells) (fun_ext shown ∙ ap (λ l. all_shown block.id.seq (shown_of old) l) same)
+      (λ g. counted g ∙ ap (λ l. counts_at_end (counts old g) (of_group g l)) same) later ready call
+
+  pub refuses_with : {A : Type 0} (error : Error) → TellsFailure {A = A} (Err error) w → ShowsSame old new → FailsToAppendTo InAppend (signed_for b) error v w → Refuses b error (shows v old) (shows w new)
+  refuses_with {A} error tells same call =
+      refuses b error (shows v old) (shows w new) lived (tells_err {A = A} error w tells) (fun_ext same.shown) (fun_ext same.counts) later ready call
+
+same_shows : (v : LogPipes) (old new : MemTables) → ShowsSame old new → shows v new ≡ shows v old
+same_shows v old new same = ap₂ (λ t c. record { tables = t; counts = c; pipes = v }) (fun_ext same.shown) (fun_ext same.counts)
+
+-- what is said of a batch whose record was made is said of the batch, and of tables that show what they showed
+written_kept : (b kept : Batch) (s t : Shows) → IsKept b kept → Writes kept false s t → Writes b false s t
+written_kept b kept s t is w =
+    let k = subst (λ x. Writes x false s t) is w in record {
+      block = k.block;
+      some = k.some;
+      lived = k.lived;
+      alive = k.alive;
+      tables = k.tables;
+      counts = k.counts;
+      later = k.later;
+      log = k.log;
+      holds = k.holds;
+      synced = k.synced;
+    }
+
+refused_kept : (b kept : Batch) (error : Error) (s t : Shows) → IsKept b kept → Refuses kept error s t → Refuses b error s t
+refused_kept b kept error s t is r =
+    let k = subst (λ x. Refuses x error s t) is r in record { lived = k.lived; tells = k.tells; same = k.same; later = k.later; leaves = k.leaves }
+
+pub put_answers : (b kept : Batch) (v w : LogPipes) (old mid new : MemTables) (r : Result ℕ Error) → IsKept b kept → ShowsSame old mid
+    → IfOk r (λ len. IsReadyForEach len kept.items kept.entries × Writes kept false (shows v mid) (shows w new))
+    → IfOk r (λ len. IsReadyForEach len b.items b.entries × Writes b false (shows v old) (shows w new))
+put_answers b kept v w old mid new (Ok len) is same (ready, wrote) = (
+  subst (λ (x : Batch). IsReadyForEach len x.items x.entries) is ready,
+  subst (λ s. Writes b false s (shows w new)) (same_shows v old mid same) (written_kept b kept (shows v mid) (shows w new) is wrote),
+)
+put_answers b kept v w old mid new (Err e) is same h = tt
+
+pub put_refuses : (b kept : Batch) (v w : LogPipes) (old mid new : MemTables) (r : Result ℕ Error) → IsKept b kept → ShowsSame old mid
+    → IfErr r (λ error. Refuses kept error (shows v mid) (shows w new)) → IfErr r (λ error. PutFails b error (shows v old) (shows w new))
+put_refuses b kept v w old mid new (Ok len) is same h = tt
+put_refuses b kept v w old mid new (Err e) is same h =
+    inr (subst (λ s. Refuses b e s (shows w new)) (same_shows v old mid same) (refused_kept b kept e (shows v mid) (shows w new) is h))
+
+pub put_unfit : (b : Batch) (error : Error) (v : LogPipes) (old mid : MemTables) → ShowsSame old mid → IsUnfit b (shown_of old) error → PutFails b error (shows v old) (shows v mid)
+put_unfit b error v old mid same why = inl (why, same_shows v old mid same)
+
+pub kept_on : (b mid new : Batch) → IsKept b mid → new ≡ mid → IsKept b new
+kept_on b mid new is e = subst (λ x. IsKept b x) (sym e) is
+
+pub emptied_on : (b mid new : Batch) → IsKept b mid → new ≡ emptied mid → IsButBuffer (emptied b) new
+emptied_on b mid new is e = subst (λ x. IsButBuffer (emptied b) x) (sym (e ∙ ap emptied is)) refl
+
+-- a write, of what was put and synced
+pub not_written : (b : Batch) (error : Error) (s t : Shows) → PutFails b error s t → NotWritten b error s t
+not_written b error s t why = elim why [ inl unfit ↦ inl unfit | inr refused ↦ inr (inr refused) ]
+
+pub put_unsynced : (b : Batch) (error : Error) (s mid t : Shows) → Writes b false s mid → NotSynced error mid t → NotWritten b error s t
+put_unsynced b error s mid t w (is, why) = elim why [
+  | inl before ↦ absurd (false≢true (sym w.alive ∙ before.0))
+  | inr now ↦ inr (inr (subst (λ e. Refuses b e s t) (sym is) (write_unsynced b s mid t w now)))
+]
+
+pub none_unsynced : (b : Batch) (error : Error) (s t : Shows) → NotSynced error s t → NotWritten b error s t
+none_unsynced b error s t (is, why) = elim why [
+  | inl before ↦ inr (inl (is, before.0, before.1))
+  | inr now ↦ inr (inr (subst (λ e. Refuses b e s t) (sym is) (empty_unsynced b s t now)))
+]
+
+pub put_synced : (b : Batch) (len : ℕ) (s mid t : Shows) → IsReadyForEach len b.items b.entries × Writes b false s mid → Syncs mid t → WritesBytes b true len s t
+put_synced b len s mid t (ready, wrote) synced = inr (ready, writes_synced b s mid t wrote synced)

@@ -1,0 +1,140 @@
+//! The engine of a log.
+
+ghost use Rattle.std.specs.Prelude.{◌≡◌, [], OnOk, OnErr, IfOk, IfErr};
+ghost use Rattle.raft_log_replay.specs.Tables.{IsAtRest};
+
+mod reads;
+
+use crate::writing;
+use log::Log;
+use raft_log_base::{Error, LogQueue, Result};
+use raft_log_dual_pipes::PipeLog;
+use raft_log_records::LogBatch;
+use raft_log_replay::MemTables;
+use std::alloc::Global;
+
+/// The engine of a log: its pipes, and the tables of all groups.
+#[derive(Drop)]
+pub struct Engine<P> {
+    alloc: Global,
+    pipes: P,
+    tables: MemTables,
+    ghost rests: { IsAtRest tables },
+}
+
+impl<P: PipeLog> Engine<P> {
+    ghost use Rattle.raft_log_engine_state.specs.Shows.{shows};
+    ghost use Rattle.raft_log_engine_state.specs.Syncing.{NotSynced, Syncs};
+    ghost use Rattle.raft_log_engine_state.specs.Writing.{IsEmptied, IsKept, IsKeptUnlessFailed, NotWritten, Writes, WritesBytes};
+    ghost use Rattle.raft_log_records.specs.Batch.{emptied, IsButBuffer, IsReadyForEach};
+    ghost use Rattle.raft_log_engine.specs.Room.{PutFails};
+    ghost use Rattle.std.specs.Prelude.{false, true};
+    ghost use Rattle.raft_log_disk.specs.Causes.{IsLater};
+    ghost use Rattle.raft_log_dual_pipes.specs.Closing.{ClosesLog};
+    ghost use Rattle.raft_log_dual_pipes.specs.Pipes.{is_failed};
+
+    /// An engine over these pipes, whose tables these are.
+    pub fn new(alloc: Global, pipes: P, tables: MemTables) -> Engine<P>
+        requires { IsAtRest tables }
+        ensures pipes { result.pipes ≡ pipes }
+        ensures tables { result.tables ≡ tables }
+    {
+        Engine {
+            alloc,
+            pipes,
+            tables,
+        }
+    }
+
+    /// Whether a call was refused that couldn't be mended.
+    pub fn is_failed(&self) -> bool
+        ensures { result ≡ is_failed (P.shown self.now.pipes) }
+    {
+        self.pipes.is_failed()
+    }
+
+    /// Makes all batches durable. Refused, it is `Failed`, and nothing is taken any more.
+    pub fn sync<L: Log>(&mut self, rt: &L) -> Result<()>
+        ensures ok { OnOk result (Syncs (shows (P.shown self.old.pipes) self.old.tables)
+            (shows (P.shown self.new.pipes) self.new.tables)) }
+        ensures err { IfErr result (λ error. NotSynced error (shows (P.shown self.old.pipes) self.old.tables)
+            (shows (P.shown self.new.pipes) self.new.tables)) }
+    {
+        self.pipes.sync(rt, LogQueue::Append)
+    }
+
+    /// Writes a batch, and answers how many bytes its record has; then, if asked, makes all batches durable.
+    /// The batch is emptied. An empty one isn't written.
+    ///
+    /// Before anything is done: `InvalidArgument` for a batch that was written already, or whose marks of
+    /// atomic groups are broken; `Full` for a record of 2^56 bytes or more; `Hole` where a group's entries would
+    /// start past the index after the last; `Memory`. Then `Io`: the write was refused and cut off, and all
+    /// batches before are durable; `TryAgain`: the same for want of space. `Memory`, `NumberRange`: there is no
+    /// next file. In each of these cases the batch is kept, and its record made. `Failed`: nothing is taken
+    /// any more, and the batch may be in the log or not.
+    pub fn write<L: Log>(&mut self, rt: &L, batch: &mut LogBatch, sync: bool) -> Result<usize>
+        ensures ok { IfOk result (λ len. WritesBytes batch.old sync len
+            (shows (P.shown self.old.pipes) self.old.tables)
+            (shows (P.shown self.new.pipes) self.new.tables)) }
+        ensures err { IfErr result (λ error. NotWritten batch.old error
+            (shows (P.shown self.old.pipes) self.old.tables)
+            (shows (P.shown self.new.pipes) self.new.tables)) }
+        ensures emptied { OnOk result (IsEmptied batch.old batch.new) }
+        ensures kept { IfErr result (λ error. IsKeptUnlessFailed error batch.old batch.new) }
+    {
+        if self.is_failed() {
+            return Err(Error::Failed);
+        }
+        if batch.is_empty() {
+            if !sync {
+                return Ok(0);
+            }
+            return match self.sync(rt) {
+                Ok(()) => Ok(0),
+                Err(error) => Err(error),
+            };
+        }
+        match self.put(rt, batch) {
+            Ok(len) => {
+                if !sync {
+                    return Ok(len);
+                }
+                match self.sync(rt) {
+                    Ok(()) => Ok(len),
+                    Err(error) => Err(error),
+                }
+            }
+            Err(error) => Err(error),
+        }
+    }
+
+    /// Writes a batch that isn't empty, and answers how many bytes its record has.
+    fn put<L: Log>(&mut self, rt: &L, batch: &mut LogBatch) -> Result<usize>
+        requires lives { is_failed (P.shown self.old.pipes) ≡ false }
+        requires some { batch.old.items ≡ [] → ⊥ }
+        ensures ok { IfOk result (λ len. IsReadyForEach len batch.old.items batch.old.entries
+            × Writes batch.old false (shows (P.shown self.old.pipes) self.old.tables)
+            (shows (P.shown self.new.pipes) self.new.tables)) }
+        ensures err { IfErr result (λ error. PutFails batch.old error
+            (shows (P.shown self.old.pipes) self.old.tables)
+            (shows (P.shown self.new.pipes) self.new.tables)) }
+        ensures emptied { OnOk result (IsButBuffer (emptied batch.old) batch.new) }
+        ensures kept { OnErr result (IsKept batch.old batch.new) }
+    {
+        let alloc = self.alloc;
+        match writing::make_room(alloc, &mut self.tables, batch) {
+            Ok(room) => writing::append(alloc, rt, &mut self.pipes, &mut self.tables, batch, room),
+            Err(error) => Err(error),
+        }
+    }
+
+    /// Closes the pipes, and gives the file system back; of an engine that has failed nothing is touched.
+    pub fn close<L: Log>(self, rt: &L) -> P::Files
+        ensures held { is_failed (P.shown self.pipes) ≡ false
+            → ClosesLog (P.shown self.pipes) (P.disk_of result) }
+        ensures failed { is_failed (P.shown self.pipes) ≡ true → result ≡ P.files self.pipes }
+        ensures later { IsLater (P.shown self.pipes).disk (P.disk_of result) }
+    {
+        self.pipes.close(self.alloc, rt)
+    }
+}

@@ -1,0 +1,93 @@
+//! What is read of an engine's tables alone.
+
+ghost use Rattle.std.specs.Prelude.{◌≡◌, ◌⊎◌, true, option_map, IfErr, IfOk};
+ghost use Rattle.raft_log_base.specs.declared.errors.Error.TheVariants as errors;
+ghost use Rattle.raft_log_places.specs.Bridge.{bytes_held};
+ghost use Rattle.raft_log_tables.specs.Table.{shown};
+ghost use Rattle.raft_log_replay.specs.Tables.{counts};
+ghost use Rattle.raft_log_replay.specs.Walking.{ListsGroups};
+ghost use Rattle.raft_log_dual_pipes.specs.Pipes.{is_failed};
+ghost use Rattle.raft_log_engine_state.specs.Reading.{ReadsFirst, ReadsLast, ReadsValue};
+ghost use Rattle.raft_log_engine_state.specs.Shows.{shows};
+
+use super::Engine;
+use raft_log_base::{Error, Result};
+use raft_log_dual_pipes::PipeLog;
+use raft_log_items::Bytes;
+use raft_log_tables::MemTable;
+
+impl<P: PipeLog> Engine<P> {
+    /// The index of a group's first entry, if it has one. `Failed` of an engine that has failed.
+    pub fn first_index(&self, raft_group_id: u64) -> Result<Option<u64>>
+        ensures ok { IfOk result (ReadsFirst (shows (P.shown self.now.pipes) self.now.tables) raft_group_id) }
+        ensures err { IfErr result (λ error. (error ≡ errors.Failed)
+            × (is_failed (P.shown self.now.pipes) ≡ true)) }
+    {
+        if self.is_failed() {
+            return Err(Error::Failed);
+        }
+        match self.tables.known_table(raft_group_id) {
+            Some(table) => Ok(table.first_index()),
+            None => Ok(None),
+        }
+    }
+
+    /// The index of a group's last entry, if it has one. `Failed` of an engine that has failed.
+    pub fn last_index(&self, raft_group_id: u64) -> Result<Option<u64>>
+        ensures ok { IfOk result (ReadsLast (shows (P.shown self.now.pipes) self.now.tables) raft_group_id) }
+        ensures err { IfErr result (λ error. (error ≡ errors.Failed)
+            × (is_failed (P.shown self.now.pipes) ≡ true)) }
+    {
+        if self.is_failed() {
+            return Err(Error::Failed);
+        }
+        match self.tables.known_table(raft_group_id) {
+            Some(table) => Ok(table.last_index()),
+            None => Ok(None),
+        }
+    }
+
+    /// The value of a group's key, if it has one. `Failed` of an engine that has failed, or `Memory`.
+    pub fn get(&self, raft_group_id: u64, key: &[u8]) -> Result<Option<Vec<u8>>>
+        ensures ok { IfOk result (λ value. ReadsValue (shows (P.shown self.now.pipes) self.now.tables)
+            raft_group_id key.now (option_map (λ bytes. bytes.items) value)) }
+        ensures err { IfErr result (λ error. (error ≡ errors.Memory) ⊎ ((error ≡ errors.Failed)
+            × (is_failed (P.shown self.now.pipes) ≡ true))) }
+    {
+        if self.is_failed() {
+            return Err(Error::Failed);
+        }
+        match self.tables.known_table(raft_group_id) {
+            Some(table) => self.copy_value(table, key),
+            None => Ok(None),
+        }
+    }
+
+    /// A copy of the value of a key in a table.
+    fn copy_value(&self, table: &MemTable, key: &[u8]) -> Result<Option<Vec<u8>>>
+        ensures ok { IfOk result (λ value. option_map (λ bytes. bytes.items) value
+            ≡ bytes_held ((shown table.now).held key.now)) }
+        ensures err { IfErr result (λ error. error ≡ errors.Memory) }
+    {
+        match table.get(key) {
+            Some(value) => {
+                let copy = Bytes::from_slice(self.alloc, value.bytes.as_slice())?;
+                Ok(Some(copy.into_vec()))
+            }
+            None => Ok(None),
+        }
+    }
+
+    /// The numbers of the groups that took something since they were cleaned last, from the least up. `Failed`
+    /// of an engine that has failed, or `Memory`.
+    pub fn raft_groups(&self) -> Result<Vec<u64>>
+        ensures ok { IfOk result (λ groups. ListsGroups (counts self.now.tables) groups.items) }
+        ensures err { IfErr result (λ error. (error ≡ errors.Memory) ⊎ ((error ≡ errors.Failed)
+            × (is_failed (P.shown self.now.pipes) ≡ true))) }
+    {
+        if self.is_failed() {
+            return Err(Error::Failed);
+        }
+        Ok(self.tables.raft_groups()?)
+    }
+}

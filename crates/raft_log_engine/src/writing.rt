@@ -1,0 +1,180 @@
+//! How a batch is written: room for it is made before, in memory, so that what comes after the write can't be
+//! refused.
+
+ghost use Rattle.std.specs.Prelude.{◌≡◌, ◌+◌, ◌≤◌, ◌<◌, ◌^◌, ◌↔◌, ℕ, [], length, vec_capacity, vec_len, false, IfErr, IfOk, OnErr, OnOk, IsTrue};
+ghost use Rattle.raft_log_atomic_groups.specs.declared.marking.Marking.TheVariants.{Broken};
+ghost use Rattle.raft_log_atomic_groups.specs.Marking.{marking_of_items};
+ghost use Rattle.raft_log_atomic_groups.specs.Meaning.{tagged_items};
+ghost use Rattle.raft_log_frames.specs.Made.{IsMemoryOrFull};
+ghost use Rattle.raft_log_frames.specs.Record.{record_len};
+ghost use Rattle.raft_log_model.specs.Groups.{of_group};
+ghost use Rattle.raft_log_records.specs.declared.log_batch.BatchState.TheVariants.{Filling, Populated};
+ghost use Rattle.raft_log_records.specs.Batch.{emptied, IsReadyForEach, IsSigned};
+ghost use Rattle.raft_log_replay.specs.Batch.{all_shown, counts_at_end, IsReadyFor};
+ghost use Rattle.raft_log_replay.specs.Tables.{counts, shown_of, IsAtRest, ShowsSame};
+ghost use Rattle.raft_log_dual_pipes.specs.Pipes.{is_failed};
+ghost use Rattle.raft_log_engine_state.specs.Shows.{shows, IsWellMarked, IsWritable};
+ghost use Rattle.raft_log_engine_state.specs.Writing.{items_at, IsKept, IsUnfit, Refuses, Writes};
+ghost use Rattle.raft_log_engine.specs.Room.{HasRoomFor, IsUnfitItself};
+
+use log::Log;
+use raft_log_atomic_groups::Marking;
+use raft_log_base::{Error, FileBlockHandle, LogQueue, Result};
+use raft_log_dual_pipes::PipeLog;
+use raft_log_items::LogItem;
+use raft_log_records::{BatchState, LogBatch};
+use raft_log_replay::MemTables;
+use raft_log_signed_batch::SignedBatch;
+use std::alloc::Global;
+use std::mem;
+
+/// What is wanted of memory to write a batch: one that stands for it on its way, and a list for its items.
+#[derive(Drop)]
+pub struct Room {
+    stand_in: LogBatch,
+    items: Vec<LogItem>,
+}
+
+/// Makes all that a batch may want memory for: its record, room in the tables, and the rest. A refusal
+/// changes nothing, but that the batch's record may be made.
+pub fn make_room(alloc: Global, tables: &mut MemTables, batch: &mut LogBatch) -> Result<Room>
+    requires { IsAtRest tables.old }
+    ensures shows { ShowsSame tables.old tables.new }
+    ensures ok { OnOk result (IsReadyFor tables.new (tagged_items (λ e. e) batch.old.items)) }
+    ensures kept { IsKept batch.old batch.new }
+    ensures made { OnOk result (batch.new.state ≡ Populated) }
+    ensures marked { OnOk result (IsWellMarked batch.old) }
+    ensures room { IfOk result (HasRoomFor batch.old) }
+    ensures err { OnErr result (IsAtRest tables.new) }
+    ensures errors { IfErr result (IsUnfit batch.old (shown_of tables.old)) }
+{
+    check(alloc, batch)?;
+    populate(batch)?;
+    let stand_in = LogBatch::default(alloc)?;
+    let items = Vec::with_capacity(alloc, batch.len())?;
+    match tables.prepare(batch.items()) {
+        Ok(()) => Ok(Room { stand_in, items }),
+        Err(error) => Err(error),
+    }
+}
+
+/// Makes the record of a batch, unless it is made already. A refusal leaves the batch.
+fn populate(batch: &mut LogBatch) -> Result<()>
+    requires { IsWritable batch.old.state }
+    ensures kept { IsKept batch.old batch.new }
+    ensures made { OnOk result (batch.new.state ≡ Populated) }
+    ensures errors { IfErr result (λ e. IsMemoryOrFull e (record_len batch.old.items batch.old.entries)) }
+{
+    if is_filling(batch) {
+        batch.finish_populate()?;
+    }
+    Ok(())
+}
+
+/// Writes a batch that room was made for, and answers how many bytes its record has: what it says stands in the
+/// tables then, and it is emptied. Refused by the pipes, it is kept, and the room is taken back.
+pub fn append<P: PipeLog, L: Log>(
+    alloc: Global,
+    rt: &L,
+    pipes: &mut P,
+    tables: &mut MemTables,
+    batch: &mut LogBatch,
+    room: Room,
+) -> Result<usize>
+    requires lives { is_failed (P.shown pipes.old) ≡ false }
+    requires some { batch.old.items ≡ [] → ⊥ }
+    requires made { batch.old.state ≡ Populated }
+    requires marked { IsWellMarked batch.old }
+    requires ready { IsReadyFor tables.old (tagged_items (λ e. e) batch.old.items) }
+    requires room { HasRoomFor batch.old room }
+    ensures ok { IfOk result (λ len. IsReadyForEach len batch.old.items batch.old.entries
+        × Writes batch.old false (shows (P.shown pipes.old) tables.old) (shows (P.shown pipes.new) tables.new)) }
+    ensures err { IfErr result (λ error. Refuses batch.old error
+        (shows (P.shown pipes.old) tables.old) (shows (P.shown pipes.new) tables.new)) }
+    ensures rests { IsAtRest tables.new }
+    ensures emptied { OnOk result (batch.new ≡ emptied batch.old) }
+    ensures kept { OnErr result (batch.new ≡ batch.old) }
+{
+    let len = batch.encoded_len();
+    let Room { stand_in, items } = room;
+    let mut signed = SignedBatch::new(mem::replace(batch, stand_in));
+    signed.encoded_len();
+    let appended = pipes.append(alloc, rt, LogQueue::Append, &mut signed);
+    *batch = signed.into_batch();
+    match appended {
+        Ok(block) => {
+            commit(tables, batch, block, items);
+            Ok(len)
+        }
+        Err(error) => {
+            batch.unsign();
+            tables.take_back(batch.items());
+            Err(error)
+        }
+    }
+}
+
+/// A batch was written at this place: what it says stands in the tables, and it is emptied.
+fn commit(tables: &mut MemTables, batch: &mut LogBatch, block: FileBlockHandle, items: Vec<LogItem>)
+    requires place { block.offset < 2 ^ 63 }
+    requires signed { IsSigned batch.old.state }
+    requires ready { IsReadyFor tables.old (tagged_items (λ e. e) batch.old.items) }
+    requires none { items.items ≡ [] }
+    requires room { vec_len items + length batch.old.items ≤ vec_capacity items }
+    ensures shows { (g : ℕ) → shown_of tables.new g
+        ≡ all_shown block.id.seq (shown_of tables.old) (items_at block batch.old) g }
+    ensures counts { (g : ℕ) → counts tables.new g
+        ≡ counts_at_end (counts tables.old g) (of_group g (items_at block batch.old)) }
+    ensures rests { IsAtRest tables.new }
+    ensures emptied { batch.new ≡ emptied batch.old }
+{
+    let mut items = items;
+    batch.finish_write(block);
+    let _ = batch.drain(&mut items);
+    tables.apply_append_writes(items, block.id.seq);
+}
+
+/// Refuses a batch that was signed or written already, or whose marks are broken.
+fn check(alloc: Global, batch: &LogBatch) -> Result<()>
+    ensures writable { OnOk result (IsWritable batch.now.state) }
+    ensures marked { OnOk result (IsWellMarked batch.now) }
+    ensures errors { IfErr result (IsUnfitItself batch.now) }
+{
+    if !is_writable(batch) || is_broken(batch) {
+        return Err(Error::InvalidArgument(format!(in alloc;
+            "a batch that was written, or whose marks are broken"
+        )?));
+    }
+    Ok(())
+}
+
+/// Whether items may be added to a batch.
+fn is_filling(batch: &LogBatch) -> bool
+    ensures { IsTrue result ↔ (batch.now.state ≡ Filling) }
+{
+    match batch.state() {
+        BatchState::Filling => true,
+        _ => false,
+    }
+}
+
+/// Whether a batch may be written.
+fn is_writable(batch: &LogBatch) -> bool
+    ensures { IsTrue result ↔ IsWritable batch.now.state }
+{
+    match batch.state() {
+        BatchState::Filling => true,
+        BatchState::Populated => true,
+        _ => false,
+    }
+}
+
+/// Whether a batch has two marks of atomic groups, or one that is none.
+fn is_broken(batch: &LogBatch) -> bool
+    ensures { IsTrue result ↔ (marking_of_items batch.now.items ≡ Broken) }
+{
+    match batch.marking() {
+        Marking::Broken => true,
+        _ => false,
+    }
+}

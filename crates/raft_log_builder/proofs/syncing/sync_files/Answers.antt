@@ -1,4 +1,4 @@
-use Rattle.std.proofs.Common.{◌≡◌, ◌<◌, length, arith}
+use Rattle.std.proofs.Common.{◌<◌, length, arith}
 use Rattle.std.proofs.lemmas.Result.{err_from_is_err_and}
 use Rattle.raft_log_builder.proofs.Syncs.{syncs_more, syncs_stop}
 use Rattle.raft_log_builder.proofs.syncing.sync_files.Goals as goal

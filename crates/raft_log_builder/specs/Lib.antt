@@ -3,3 +3,4 @@ pub mod Cutting
 pub mod Recovering
 pub mod Directories
 pub mod Scanning
+pub mod Syncing

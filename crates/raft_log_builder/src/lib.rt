@@ -7,7 +7,9 @@ pub mod cutting;
 pub mod paths;
 pub mod queue_files;
 pub mod reading;
+pub mod syncing;
 
 pub use builder::DualPipesBuilder;
 pub use queue_files::QueueFiles;
 pub use reading::recover_files;
+pub use syncing::sync_files;

@@ -1,0 +1,7 @@
+//! Tests of the engine over both pipes of a log, on a file system in memory.
+#![tactic(auto)]
+
+#[cfg(test)]
+mod store;
+#[cfg(test)]
+mod writes;

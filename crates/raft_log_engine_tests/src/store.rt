@@ -1,0 +1,107 @@
+//! An engine over a fresh log in memory, behind calls without contracts.
+use raft_log_base::{LogQueue, Result, Version};
+use raft_log_disk::FileSystem;
+use raft_log_dual_pipes::DualPipes;
+use raft_log_engine::Engine;
+use raft_log_format::LogFileFormat;
+use raft_log_items::EntryIndex;
+use raft_log_layout::LogLayout;
+use raft_log_memory_files::MemoryFileSystem;
+use raft_log_pipes::{FoundFiles, NewFiles, PipeSettings, SinglePipe};
+use raft_log_records::LogBatch;
+use raft_log_replay::MemTables;
+use std::collections::VecDeque;
+use std::test::Fail;
+
+/// An engine, and a batch that is written through it.
+#[derive(Drop)]
+pub struct Store {
+    engine: Engine<DualPipes<MemoryFileSystem>>,
+    batch: LogBatch,
+}
+
+// A pipe of a queue that begins in the directory `d`.
+fn begun(
+    rt: &HostRuntime,
+    system: &mut MemoryFileSystem,
+    queue: LogQueue,
+) -> std::result::Result<SinglePipe<LogLayout>, Fail> {
+    let settings = PipeSettings {
+        queue,
+        new_files: NewFiles::new(rt.alloc(), LogFileFormat::new(Version::V2, 0), 1024)?,
+        capacity: 4,
+    };
+    let nothing = FoundFiles {
+        files: VecDeque::new(rt.alloc()),
+        end: None,
+        recycled: VecDeque::new(rt.alloc()),
+    };
+    let mut paths = Vec::new(rt.alloc());
+    paths.push(String::from_str(rt.alloc(), "d")?)?;
+    let layout = LogLayout::new(queue, paths);
+    Ok(SinglePipe::open(rt.alloc(), layout, settings, rt, system, nothing)?)
+}
+
+/// An engine over a log that begins, of which the changing call of this number is refused (none for 0).
+pub fn fresh(rt: &HostRuntime, refused: u64) -> std::result::Result<Store, Fail> {
+    let mut system = MemoryFileSystem::new(rt.alloc());
+    system.create_dir("d")?;
+    let append = begun(rt, &mut system, LogQueue::Append)?;
+    let rewrite = begun(rt, &mut system, LogQueue::Rewrite)?;
+    if refused > 0 {
+        system.refuse_call(refused)?;
+    }
+    let pipes = DualPipes::new(system, append, rewrite);
+    Ok(Store {
+        engine: Engine::new(rt.alloc(), pipes, MemTables::new(rt.alloc())),
+        batch: LogBatch::default(rt.alloc())?,
+    })
+}
+
+impl Store {
+    /// Adds two entries of three bytes to group 7, from an index on.
+    pub fn add(&mut self, rt: &HostRuntime, index: u64) -> Result<()> {
+        let indexes = [
+            EntryIndex::unplaced(index, 3),
+            EntryIndex::unplaced(index.saturating_add(1), 3),
+        ];
+        let entries: [&[u8]; 2] = [b"abc", b"def"];
+        self.batch
+            .add_raw_entries(rt.alloc(), 7, &indexes, &entries)
+    }
+
+    /// Adds a key of group 7.
+    pub fn put(&mut self, rt: &HostRuntime, key: &[u8], value: &[u8]) -> Result<()> {
+        self.batch.put(rt.alloc(), 7, key, value)
+    }
+
+    /// Writes what was added.
+    pub fn write(&mut self, rt: &HostRuntime, sync: bool) -> Result<usize> {
+        self.engine.write(rt, &mut self.batch, sync)
+    }
+
+    /// Whether nothing is to be written.
+    pub fn is_empty(&self) -> bool {
+        self.batch.is_empty()
+    }
+
+    /// Whether the engine has failed.
+    pub fn is_failed(&self) -> bool {
+        self.engine.is_failed()
+    }
+
+    /// The first and the last index of group 7.
+    pub fn ends(&self) -> Result<(Option<u64>, Option<u64>)> {
+        Ok((self.engine.first_index(7)?, self.engine.last_index(7)?))
+    }
+
+    /// Whether a key of group 7 has this value.
+    pub fn has(&self, key: &[u8], value: &[u8]) -> bool {
+        matches!(self.engine.get(7, key), Ok(Some(found)) if found.as_slice() == value)
+    }
+
+    /// How many groups there are.
+    pub fn groups(&self) -> Result<usize> {
+        Ok(self.engine.raft_groups()?.len())
+    }
+}

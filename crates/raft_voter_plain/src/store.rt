@@ -1,5 +1,5 @@
 //! Voters of many groups in memory, and the plain file that keeps them.
-ghost use Rattle.std.specs.Prelude.{◌≡◌, ◌+◌, ◌^◌, ◌<◌, ◌≤◌, [], length, vec_capacity, vec_len, IfErr, IfOk, OnErr, OnOk};
+ghost use Rattle.std.specs.Prelude.{◌≡◌, ◌+◌, ◌^◌, ◌<◌, ◌≤◌, [], false, length, vec_capacity, vec_len, IfErr, IfOk, OnErr, OnOk};
 ghost use Rattle.raft_voter.specs.Rounds.{after_one, put, World};
 ghost use Rattle.raft_voter_plain.specs.Content.{after_crash, whole};
 ghost use Rattle.raft_voter.specs.Rules.{reply};
@@ -28,12 +28,13 @@ pub struct PlainVoters {
 }
 
 impl PlainVoters {
-    /// Opens a file: reads it whole, and the last record of each group is its voter. Damage is told only
-    /// where the bytes aren't those of records, so never of what a store wrote. Of an empty file nothing can
-    /// be refused. A file that isn't opened is gone.
+    /// Opens a file: reads it whole, and the last record of each group is its voter. What it opens hasn't
+    /// failed. Damage is told only where the bytes aren't those of records, so never of what a store wrote.
+    /// Of an empty file nothing can be refused. A file that isn't opened is gone.
     pub fn open(alloc: Global, file: PlainFile) -> Result<PlainVoters, OpenFault>
         ensures same { IfOk result (λ store. store.file ≡ file) }
         ensures voters { IfOk result (λ store. StandsFor (whole file) (world_of store)) }
+        ensures alive { IfOk result (λ store. store.failed ≡ false) }
         ensures err { IfErr result (TellsDamage (StandsForNothing (whole file))) }
         ensures errors { OnErr result (0 < length (whole file)) }
     {
@@ -144,6 +145,7 @@ impl StoreFiles<PlainVoters> for PlainFile {
         ensures opens { IfOk result (λ store. store.file ≡ self) }
         ensures keeps { IfOk result (λ store.
             (W : World) → IsClosedAt plain_files self W → IsOpenAt plain_voters store W) }
+        ensures alive { IfOk result (λ store. store.failed ≡ false) }
 
         // What a store wrote can always be read, and of an empty file nothing can be refused.
         ensures err { IfErr result (λ cause.

@@ -2,6 +2,7 @@
 # Builds a benchmark's main.rt.txt over crates of this repository, and its Rust twin rust.rs, runs both so many times, and
 # prints the best of each. Each line that they print has the work, its MB/s (or what UNIT says) and a sum, which must be the same.
 # Usage: bench/common/run.sh FOLDER ROUNDS CRATE..; the crates are those that main.rt.txt names. RT names the toolchain's command.
+# With CLOCK=processor both are measured by processor time, for a machine with other work beside.
 set -euo pipefail
 here="$(cd "$1" && pwd)"
 rounds="$2"
@@ -27,9 +28,14 @@ cp "$here/main.rt.txt" "$room/crates/$name/src/main.rt"
 (cd "$room/crates/$name" && "${RT:-rt}" run > "$room/first" 2> "$room/log") || { cat "$room/log" >&2; exit 1; }
 rustc --edition 2021 -O -C codegen-units=1 -o "$room/rust" "$here/rust.rs"
 
+clock=()
+if [ "${CLOCK:-wall}" = processor ]; then
+    "${CC:-cc}" -O2 -shared -fPIC -o "$room/clock.so" "$top/bench/common/processor_clock.c"
+    clock=(env LD_PRELOAD="$room/clock.so")
+fi
 for _ in $(seq "$rounds"); do
-    "$room/rust" >> "$room/rust.out"
-    "$room/crates/$name/out/$name" >> "$room/rattle.out"
+    "${clock[@]}" "$room/rust" >> "$room/rust.out"
+    "${clock[@]}" "$room/crates/$name/out/$name" >> "$room/rattle.out"
 done
 awk -v unit="${UNIT:-MB/s}" 'FNR == NR { if ($2 > rust[$1]) rust[$1] = $2; sum[$1] = $3; next }
      { if (sum[$1] != $3) { print $1 ": the sums differ"; bad = 1 }

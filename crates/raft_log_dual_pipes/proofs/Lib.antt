@@ -2,3 +2,4 @@ mod Pairing
 mod Exits
 mod Spans
 mod Ends
+mod Opened

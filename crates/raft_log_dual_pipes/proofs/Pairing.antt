@@ -1,5 +1,5 @@
 -- The pair of pipes, and the log that it runs over.
-use Rattle.std.proofs.Common.{◌≡◌, Bool, true, false, ◌||◌, ◌↔◌, List, ℕ, Result, Ok, Err, inl, inr, refl, sym, ◌∙◌, ap, subst}
+use Rattle.std.proofs.Common.{◌≡◌, Bool, true, false, ◌||◌, ◌↔◌, List, ℕ, Result, Ok, Err, Some, inl, inr, refl, sym, ◌∙◌, ap, subst}
 use Rattle.std.specs.Prelude.{IsTrue, IfErr, IfOk, IsErr, is_err}
 use Rattle.std.proofs.lemmas.Bool.{cases_Bool, false≢true}
 use Rattle.raft_log_disk.specs.Disk.{Disk}
@@ -14,6 +14,7 @@ use Rattle.raft_log_directory.specs.Calls.{Which}
 use Rattle.raft_log_directory.specs.Calls.Which.{InAppend, InRewrite}
 use Rattle.raft_log_steps.specs.Queues.{QueueLayout, AreTwoQueues, layout_at}
 use Rattle.raft_log_steps.specs.State.{Spanned, with_spanned, pipe_at, with_pipe, Run}
+use Rattle.raft_log_steps.specs.Lying.{both_open, with_open, RunOrLie}
 use Rattle.raft_log_steps.specs.Own.{log_layout}
 use Rattle.raft_log_dual_pipes.specs.Pipes.{OnePipe, LogPipes, LogSense, IsPipeOf, RunsOn, State, files_of, is_failed, one_at, queue_of, queues}
 
@@ -54,6 +55,11 @@ two_of log v s run = record {
   rewrite = record { lawful = is_layout Rewrite log.rewrite run.rewrite.some; told = files_are_told Rewrite log.rewrite };
   apart = queues_are_apart log.append log.rewrite;
 }
+
+-- both pipes run, told of one of them
+pub both_run : (which : Which) (log : LogSense) (v : LogPipes) (s : State) → RunsOn log v s → RunOrLie (queues log) (with_open which (both_open (files_of v)) (Some (pipe_at which (files_of v)))) s
+both_run InAppend log v s run = record { append = run.run.append; rewrite = run.run.rewrite }
+both_run InRewrite log v s run = record { append = run.run.append; rewrite = run.run.rewrite }
 
 -- What a pipe's call says of its own layout, queue and disk, it says of the log's.
 moved : (P : QueueLayout LogRecord → LogQueue → Disk → Type 0) (queue : LogQueue) (directories : List (List ℕ)) (o : OnePipe) (d e : Disk) → IsPipeOf queue directories o → e ≡ d → P (layout_of o) o.settings.queue d → P (log_layout queue directories) queue e

@@ -16,11 +16,14 @@ use Rattle.raft_log_steps.specs.State.{spanned_at, pipe_at, with_pipe, Run}
 use Rattle.raft_log_steps.specs.Turning.{in_span}
 use Rattle.raft_log_steps.specs.Steps.{next_log}
 use Rattle.raft_log_steps.specs.Syncing.{NotPurged, NotRotated, raised_log}
+use Rattle.raft_log_steps.specs.Lying.{both_open}
+use Rattle.raft_log_steps.specs.Beside.{LeavesUnpurged, LeavesUnrotated}
 use Rattle.raft_log_steps.proofs.Lifts.{run_at}
+use Rattle.raft_log_steps.proofs.BesideSteps.{quiet_calls_beside}
 use Rattle.raft_log_steps.proofs.OtherSteps.{purge_is_a_step, refused_purge_is_a_step, refused_rotation_is_a_step, rotation_is_a_step}
 use Rattle.raft_log_dual_pipes.specs.Pipes.{OnePipe, LogPipes, LogSense, RunsOn, State, files_of, header_at, one_at, queues}
 use Rattle.raft_log_dual_pipes.specs.Calls.{FailsToPurgeQueue, FailsToRotateQueue, IsSpanOf, LeavesSame, PurgeLeavesOn, PurgesQueue, RotatesQueue, TurnLeaves}
-use Rattle.raft_log_dual_pipes.proofs.Pairing.{SameRules, at_log, err_through, is_failure, layout_of, mended_at, next_disk, ok_through, runs_again, told, two_of, with_one}
+use Rattle.raft_log_dual_pipes.proofs.Pairing.{SameRules, at_log, both_run, err_through, is_failure, layout_of, mended_at, next_disk, ok_through, runs_again, told, two_of, with_one}
 
 module _ (which : Which) (v : LogPipes) (o : OnePipe) (d : Disk) where
   -- nothing was done
@@ -35,17 +38,19 @@ module _ (which : Which) (v : LogPipes) (o : OnePipe) (d : Disk) where
       (files, goes, runs_again which log v s (next_log which s files d) o d run same alive (next_disk which s (in_span (spanned_at which s) files) d) next, step)
 
   turned_not : (log : LogSense) (s : State) (error : Error) → RunsOn log v s → SameRules (one_at which v) o → (is_failure error ≡ false → o.failed ≡ false) → NotRotated (queues log) which (files_of v) s (header_at which v) o.files error d
-      → TurnLeaves log which s v (with_one which v o d) error
-  turned_not log s errors.Memory run same alive (is, next) = stays log s run same (alive refl) is next
-  turned_not log s errors.NumberRange run same alive (is, next) = stays log s run same (alive refl) is next
-  turned_not log s errors.Failed run same alive h = h
-  turned_not log s _ run same alive h = absurd h
+      → LeavesUnrotated (queues log) which (both_open (files_of v)) (pipe_at which (files_of v)) s (header_at which v) o.files error d → TurnLeaves log which s v (with_one which v o d) error
+  turned_not log s errors.Memory run same alive (is, next) beside = stays log s run same (alive refl) is next
+  turned_not log s errors.NumberRange run same alive (is, next) beside = stays log s run same (alive refl) is next
+  turned_not log s errors.Failed run same alive h beside = beside
+  turned_not log s _ run same alive h beside = absurd h
 
   rotates_not : (error : Error) → RotationLeaves (layout_of (one_at which v)).format (layout_of (one_at which v)).own (layout_of (one_at which v)).paths (header_at which v) (pipe_at which (files_of v)) o.files error v.disk d
       → SameRules (one_at which v) o → (is_failure error ≡ false → o.failed ≡ false) → IsSound d → FailsToRotateQueue which error v (with_one which v o d)
   rotates_not error call same alive sound log s run =
       let there = at_log which log v s run (λ (l : QueueLayout LogRecord) (n : LogQueue) (x : Disk). RotationLeaves l.format l.own l.paths (header_at which v) (pipe_at which (files_of v)) o.files error x d) call in
-      turned_not log s error run same alive (refused_rotation_is_a_step (queues log) (two_of log v s run) which (files_of v) s run.run (header_at which v) o.files error d sound there)
+      let two = two_of log v s run in
+      turned_not log s error run same alive (refused_rotation_is_a_step (queues log) two which (files_of v) s run.run (header_at which v) o.files error d sound there)
+      ((quiet_calls_beside (queues log) two which (both_open (files_of v)) (pipe_at which (files_of v)) s (both_run which log v s run)).1.refused (header_at which v) o.files error d there)
 
   purges : (seq : ℕ) → Purges (layout_of (one_at which v)).format (layout_of (one_at which v)).own (layout_of (one_at which v)).paths (one_at which v).settings.capacity seq (pipe_at which (files_of v)) o.files v.disk d
       → IsRaised (one_at which v).settings.capacity seq (pipe_at which (files_of v)) o.files → SameRules (one_at which v) o → o.failed ≡ false → PurgesQueue which seq v (with_one which v o d)
@@ -58,21 +63,24 @@ module _ (which : Which) (v : LogPipes) (o : OnePipe) (d : Disk) where
   -- why a purge was refused, at the pipe and at the log
   cause : (log : LogSense) (s : State) (seq : ℕ) (error : Error) → RunsOn log v s
       → PurgeLeaves (layout_at which (queues log)).format (layout_at which (queues log)).own (layout_at which (queues log)).paths (one_at which v).settings.capacity seq (pipe_at which (files_of v)) o.files error s.disk d
-      → SameRules (one_at which v) o → (is_failure error ≡ false → o.failed ≡ false) → NotPurged (queues log) which (files_of v) s seq o.files error d → PurgeLeavesOn log which seq s v (with_one which v o d) error
-  cause log s seq errors.Memory run call same alive (is, next) = stays log s run same (alive refl) is next
-  cause log s seq (errors.InvalidArgument text) run call same alive (is, next) = (call.0, stays log s run same (alive refl) is next)
-  cause log s seq errors.NumberRange run call same alive (is, next) = stays log s run same (alive refl) is next
-  cause log s seq errors.Failed run call same alive h =
+      → SameRules (one_at which v) o → (is_failure error ≡ false → o.failed ≡ false) → NotPurged (queues log) which (files_of v) s seq o.files error d
+      → LeavesUnpurged (queues log) which (both_open (files_of v)) s seq o.files error d → PurgeLeavesOn log which seq s v (with_one which v o d) error
+  cause log s seq errors.Memory run call same alive (is, next) beside = stays log s run same (alive refl) is next
+  cause log s seq (errors.InvalidArgument text) run call same alive (is, next) beside = (call.0, stays log s run same (alive refl) is next)
+  cause log s seq errors.NumberRange run call same alive (is, next) beside = stays log s run same (alive refl) is next
+  cause log s seq errors.Failed run call same alive h beside =
       let runs = run_at (queues log) (two_of log v s run) which (files_of v) s run.run in
-      (subst (λ (x : Disk). Fails x d) run.disk (call.1 s.disk (spanned_at which s).files runs.pipe).0, h.0, h.1)
-  cause log s seq _ run call same alive h = absurd h
+      (subst (λ (x : Disk). Fails x d) run.disk (call.1 s.disk (spanned_at which s).files runs.pipe).0, beside)
+  cause log s seq _ run call same alive h beside = absurd h
 
   purges_not : (seq : ℕ) (error : Error) → PurgeLeaves (layout_of (one_at which v)).format (layout_of (one_at which v)).own (layout_of (one_at which v)).paths (one_at which v).settings.capacity seq (pipe_at which (files_of v)) o.files error v.disk d
       → SameRules (one_at which v) o → (is_failure error ≡ false → o.failed ≡ false) → IsSound d → FailsToPurgeQueue which seq error v (with_one which v o d)
   purges_not seq error call same alive sound log s run =
       let capacity = (one_at which v).settings.capacity in
       let there = at_log which log v s run (λ (l : QueueLayout LogRecord) (n : LogQueue) (x : Disk). PurgeLeaves l.format l.own l.paths capacity seq (pipe_at which (files_of v)) o.files error x d) call in
-      cause log s seq error run there same alive (refused_purge_is_a_step (queues log) (two_of log v s run) which (files_of v) s run.run capacity seq o.files error d sound there)
+      let two = two_of log v s run in
+      cause log s seq error run there same alive (refused_purge_is_a_step (queues log) two which (files_of v) s run.run capacity seq o.files error d sound there)
+      ((quiet_calls_beside (queues log) two which (both_open (files_of v)) (pipe_at which (files_of v)) s (both_run which log v s run)).2.refused capacity seq o.files error d there)
 
   -- The same of what the call answered.
 

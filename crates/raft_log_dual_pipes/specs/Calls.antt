@@ -1,5 +1,5 @@
 -- What each call on a log's pipes makes of the log that they run over.
-use Rattle.std.specs.Prelude.{◌≡◌, ◌⊎◌, ◌↔◌, IsTrue, ℕ, ◌+◌, ◌-◌, ◌*◌, ◌/◌, ◌^◌, min, suc, true, Err, Result, List, length}
+use Rattle.std.specs.Prelude.{◌≡◌, ◌⊎◌, ◌↔◌, IsTrue, ℕ, ◌+◌, ◌-◌, ◌*◌, ◌/◌, ◌^◌, min, suc, true, None, Err, Result, List, length}
 use Rattle.raft_log_disk.specs.Causes.{Fails}
 use Rattle.raft_log_disk.specs.LogQueue.{LogFiles}
 use Rattle.raft_log_base.specs.declared.errors.Error.{Error}
@@ -9,23 +9,25 @@ use Rattle.raft_log_base.specs.declared.pipe_log.LogFileContext.{LogFileContext}
 use Rattle.raft_log_file_queue.specs.Queue.{synced}
 use Rattle.raft_log_layout.specs.declared.record.LogRecord.{LogRecord}
 use Rattle.raft_log_pipes.specs.Purging.{IsInSpan}
-use Rattle.raft_log_directory.specs.Calls.{Which, Appends, CutsBack, FailsWhole, LeavesOut, Raises, Settles, Syncs}
+use Rattle.raft_log_directory.specs.Calls.{Which, Appends, CutsBack, FailsWhole, LeavesOut, MayAppend, Raises, Settles, Syncs}
 use Rattle.raft_log_steps.specs.Queues.{layout_at, SaysRecord}
-use Rattle.raft_log_steps.specs.State.{spanned_at, pipe_at, HoldsBoth, Ties}
-use Rattle.raft_log_steps.specs.Crash.{AllowsIn}
-use Rattle.raft_log_steps.specs.Turning.{GoesOnInNext, HasTaken, IsCutBack, IsOrGoesOn}
-use Rattle.raft_log_steps.specs.Steps.{next_log, LeavesFailed}
+use Rattle.raft_log_steps.specs.State.{spanned_at, pipe_at, Ties}
+use Rattle.raft_log_steps.specs.Turning.{GoesOnInNext, HasLast, HasTaken, IsCutBack, IsOrGoesOn}
+use Rattle.raft_log_steps.specs.Steps.{next_log}
 use Rattle.raft_log_steps.specs.Syncing.{FailsMoved, raised_log}
+use Rattle.raft_log_steps.specs.Lying.{both_open, RunOrLie, LeavesQueue}
+use Rattle.raft_log_steps.specs.Beside.{LeavesRaised}
+use Rattle.raft_log_steps.specs.Failing.{failed_pipe}
 use Rattle.raft_log_dual_pipes.specs.Pipes.{LogPipes, LogSense, RunsOn, Said, State, files_of, header_at, is_failed, one_at, queue_of, queues, spares_at}
 
 -- A record is written: both pipes run on, and the numbered files of the queue take it, in the file that its
 -- place names.
 abbrev pub AppendsTo : Which → (LogFileContext → List ℕ) → FileBlockHandle → LogPipes → LogPipes → Type 0
 AppendsTo which signed block v w = (log : LogSense) (s : State) (y : Said) → RunsOn log v s
-    → SaysRecord log.says (layout_at which (queues log)) (queue_of which) signed y
+    → (said : SaysRecord log.says (layout_at which (queues log)) (queue_of which) signed y)
     → (block.id.queue ≡ queue_of which) × ((files : LogFiles LogRecord)
     × HasTaken (header_at which v) (spares_at which v) s.disk (spanned_at which s).files files
-    × RunsOn log w (next_log which s files w.disk)
+    × HasLast signed said.value block files × RunsOn log w (next_log which s files w.disk)
     × Appends (Ties (queues log)) which y block.id.seq s (next_log which s files w.disk))
 
 -- a record was cut back: both pipes run on, and all that was written to the queue before is synced
@@ -43,15 +45,22 @@ LeavesOutOn log which s v w = (files : LogFiles LogRecord)
     × RunsOn log w (next_log which s files w.disk)
     × LeavesOut (Ties (queues log)) which s (next_log which s files w.disk)
 
--- What a refused record leaves, by its error. Where the pipe has failed, what was there is held, and the
--- record may be there or not.
+-- the pipe has failed: the log lies on the disk, from which it may be opened, and the record may be there or
+-- not
+abbrev pub MayTakeOn : LogSense → Which → State → Said → LogPipes → LogPipes → Type 0
+MayTakeOn log which s y v w = LeavesQueue (queues log) which (both_open (files_of v)) None s w.disk
+    (λ files. IsOrGoesOn (header_at which v) (spares_at which v) s.disk (spanned_at which s).files files
+    ⊎ (IsCutBack (header_at which v) (spares_at which v) s.disk (spanned_at which s).files files
+    ⊎ HasTaken (header_at which v) (spares_at which v) s.disk (spanned_at which s).files files))
+    (MayAppend (Ties (queues log)) (Ties (queues log)) which y)
+
+-- what a refused record leaves, by its error
 abbrev pub RefusalLeaves : LogSense → Which → State → Said → LogPipes → LogPipes → Error → Type 0
 RefusalLeaves log which s y v w (errors.Io kind) = CutsBackOn log which s v w
 RefusalLeaves log which s y v w (errors.TryAgain text) = CutsBackOn log which s v w
 RefusalLeaves log which s y v w errors.NumberRange = LeavesOutOn log which s v w
 RefusalLeaves log which s y v w errors.Memory = LeavesOutOn log which s v w
-RefusalLeaves log which s y v w errors.Failed =
-    LeavesFailed (queues log) which (files_of v) s (header_at which v) y w.disk
+RefusalLeaves log which s y v w errors.Failed = MayTakeOn log which s y v w
 RefusalLeaves log which s y v w _ = ⊥
 
 -- so it is of a log that the pipes ran over
@@ -66,11 +75,13 @@ SyncsQueue which v w = (log : LogSense) (s : State) → RunsOn log v s
     → RunsOn log w (next_log which s (synced (spanned_at which s).files) w.disk)
     × Syncs (Ties (queues log)) which s (next_log which s (synced (spanned_at which s).files) w.disk)
 
--- one that is refused, as a file call failed: what was there is held, and may be there
+-- one that is refused, as a file call failed: the log lies on the disk as it was, and may be opened
 abbrev pub FailsToSyncQueue : Which → LogPipes → LogPipes → Type 0
 FailsToSyncQueue which v w = (log : LogSense) (s : State) → RunsOn log v s
-    → Fails v.disk w.disk × HoldsBoth (queues log) (next_log which s (spanned_at which s).files w.disk)
-    × FailsWhole (Ties (queues log)) (AllowsIn (queues log)) s
+    → Fails v.disk w.disk
+    × RunOrLie (queues log) (failed_pipe which (files_of v))
+    (next_log which s (spanned_at which s).files w.disk)
+    × FailsWhole (Ties (queues log)) (Ties (queues log)) s
     (next_log which s (spanned_at which s).files w.disk)
 
 -- a rotation: both pipes run on, and all that was written to the queue is synced
@@ -84,15 +95,14 @@ RotatesQueue which v w = (log : LogSense) (s : State) → RunsOn log v s → (fi
 abbrev pub LeavesSame : LogSense → State → LogPipes → LogPipes → Type 0
 LeavesSame log s v w = RunsOn log w s × (w.disk ≡ v.disk)
 
--- What a refused rotation leaves, by its error: the same log; or the pipe has failed, and the queue may have
--- gone on or not.
+-- What a refused rotation leaves, by its error: the same log; or the pipe has failed, the queue may have gone
+-- on or not, and the log lies on the disk and may be opened.
 abbrev pub TurnLeaves : LogSense → Which → State → LogPipes → LogPipes → Error → Type 0
 TurnLeaves log which s v w errors.Memory = LeavesSame log s v w
 TurnLeaves log which s v w errors.NumberRange = LeavesSame log s v w
-TurnLeaves log which s v w errors.Failed = (files : LogFiles LogRecord)
-    × IsOrGoesOn (header_at which v) (spares_at which v) s.disk (spanned_at which s).files files
-    × HoldsBoth (queues log) (next_log which s files w.disk)
-    × FailsMoved (Ties (queues log)) (AllowsIn (queues log)) which s (next_log which s files w.disk)
+TurnLeaves log which s v w errors.Failed = LeavesQueue (queues log) which (both_open (files_of v)) None s w.disk
+    (IsOrGoesOn (header_at which v) (spares_at which v) s.disk (spanned_at which s).files)
+    (FailsMoved (Ties (queues log)) (Ties (queues log)) which)
 TurnLeaves log which s v w _ = ⊥
 
 -- so it is of a log that the pipes ran over
@@ -106,16 +116,15 @@ PurgesQueue which seq v w = (log : LogSense) (s : State) → RunsOn log v s
     → RunsOn log w (raised_log which s seq w.disk)
     × Raises (Ties (queues log)) (Ties (queues log)) which seq s (raised_log which s seq w.disk)
 
--- What a refused purge leaves, by its error: the same log; or the pipe has failed, and the files have left
--- the span all the same.
+-- What a refused purge leaves, by its error: the same log; or the pipe has failed, the files have left the span
+-- all the same, and the log lies on the disk and may be opened.
 abbrev pub PurgeLeavesOn : LogSense → Which → ℕ → State → LogPipes → LogPipes → Error → Type 0
 PurgeLeavesOn log which seq s v w errors.Memory = LeavesSame log s v w
 PurgeLeavesOn log which seq s v w (errors.InvalidArgument text) =
     (IsInSpan seq (pipe_at which (files_of v)) → ⊥) × LeavesSame log s v w
 PurgeLeavesOn log which seq s v w errors.NumberRange = LeavesSame log s v w
 PurgeLeavesOn log which seq s v w errors.Failed = Fails v.disk w.disk
-    × HoldsBoth (queues log) (raised_log which s seq w.disk)
-    × Raises (Ties (queues log)) (AllowsIn (queues log)) which seq s (raised_log which s seq w.disk)
+    × LeavesRaised (queues log) which (both_open (files_of v)) None s seq w.disk
 PurgeLeavesOn log which seq s v w _ = ⊥
 
 -- so it is of a log that the pipes ran over

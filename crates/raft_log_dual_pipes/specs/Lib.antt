@@ -1,3 +1,4 @@
 pub mod Pipes
 pub mod Calls
 pub mod Closing
+pub mod Opening

@@ -19,11 +19,6 @@ pub struct DualPipes<F> {
 }
 
 impl<F: FileSystem> DualPipes<F> {
-    ghost use Rattle.std.specs.Prelude.{false, true};
-    ghost use Rattle.raft_log_disk.specs.Causes.{IsLater};
-    ghost use Rattle.raft_log_dual_pipes.specs.Pipes.{is_failed};
-    ghost use Rattle.raft_log_dual_pipes.specs.Closing.{ClosesLog};
-
     /// These pipes, over this file system.
     pub fn new(
         file_system: F,
@@ -47,36 +42,13 @@ impl<F: FileSystem> DualPipes<F> {
     {
         &self.file_system
     }
-
-    /// Closes both pipes, and gives the file system back: both last files are cut behind their records and
-    /// synced, Append's first, and then the files that are kept for use get reserved names. Refusals are
-    /// logged, and nothing that was written is lost by them. Of pipes that have failed nothing is touched.
-    pub fn close<L: Log>(self, alloc: Global, rt: &L) -> F
-        ensures held { is_failed (⟦<DualPipes<F> as PipeLog>⟧.shown self) ≡ false
-            → ClosesLog (⟦<DualPipes<F> as PipeLog>⟧.shown self) (F.disk result) }
-        ensures failed { is_failed (⟦<DualPipes<F> as PipeLog>⟧.shown self) ≡ true
-            → result ≡ self.file_system }
-        ensures later { IsLater (F.disk self.file_system) (F.disk result) }
-    {
-        if self.is_failed() {
-            return self.file_system;
-        }
-        let DualPipes {
-            mut file_system,
-            mut append,
-            mut rewrite,
-        } = self;
-        append.finish(rt, &mut file_system);
-        rewrite.finish(rt, &mut file_system);
-        append.reserve_names(alloc, rt, &mut file_system);
-        rewrite.reserve_names(alloc, rt, &mut file_system);
-        file_system
-    }
 }
 
 impl<F: FileSystem> PipeLog for DualPipes<F> {
-    ghost use Rattle.std.specs.Prelude.{map};
+    ghost use Rattle.std.specs.Prelude.{map, refl};
     ghost use Rattle.std.specs.String.{string_bytes};
+
+    type Files = F;
 
     ghost shown = { λ pipes. record {
       append = record {
@@ -95,6 +67,10 @@ impl<F: FileSystem> PipeLog for DualPipes<F> {
       };
       disk = F.disk pipes.file_system;
     } };
+
+    ghost files = { λ pipes. pipes.file_system };
+
+    ghost disk_of = { λ file_system. F.disk file_system };
 
     fn is_failed(&self) -> bool {
         self.append.is_failed() || self.rewrite.is_failed()
@@ -174,4 +150,22 @@ impl<F: FileSystem> PipeLog for DualPipes<F> {
             LogQueue::Rewrite => self.rewrite.purge_to(alloc, rt, &mut self.file_system, seq),
         }
     }
+
+    fn close<L: Log>(self, alloc: Global, rt: &L) -> F {
+        if self.is_failed() {
+            return self.file_system;
+        }
+        let DualPipes {
+            mut file_system,
+            mut append,
+            mut rewrite,
+        } = self;
+        append.finish(rt, &mut file_system);
+        rewrite.finish(rt, &mut file_system);
+        append.reserve_names(alloc, rt, &mut file_system);
+        rewrite.reserve_names(alloc, rt, &mut file_system);
+        file_system
+    }
+
+    ghost same = { λ pipes. refl };
 }

@@ -3,7 +3,9 @@
 #![tactic(auto)]
 
 pub mod dual_pipes;
+pub mod opening;
 pub mod pipe_log;
 
 pub use dual_pipes::DualPipes;
+pub use opening::{FoundPipe, OpenRefused};
 pub use pipe_log::PipeLog;

@@ -1,6 +1,6 @@
 //! A log's two queues of files, as an engine uses them.
 
-ghost use Rattle.std.specs.Prelude.{◌≡◌, ◌-◌, ◌≤◌, ◌<◌, IfErr, IfOk, OnErr, OnOk};
+ghost use Rattle.std.specs.Prelude.{◌≡◌, ◌-◌, ◌≤◌, ◌<◌, ◌^◌, false, true, IfErr, IfOk, OnErr, OnOk};
 ghost use Rattle.raft_log_base.specs.declared.errors.Error.TheVariants as errors;
 ghost use Rattle.raft_log_disk.specs.Causes.{IsLater};
 
@@ -18,10 +18,21 @@ pub trait PipeLog {
     ghost use Rattle.raft_log_pipes.specs.Reading.{IsReadAt, IsReadRefused};
     ghost use Rattle.raft_log_pipes.specs.Purging.{IsInSpan};
     ghost use Rattle.raft_log_dual_pipes.specs.Pipes.{LogPipes, files_of, is_failed, which_of};
+    ghost use Rattle.raft_log_disk.specs.Disk.{Disk};
+    ghost use Rattle.raft_log_dual_pipes.specs.Closing.{ClosesLog};
     ghost use Rattle.raft_log_dual_pipes.specs.Calls.{AppendsTo, FailsToAppendTo, FailsToPurgeQueue, FailsToRotateQueue, FailsToSyncQueue, IsSpanOf, PurgesQueue, RotatesQueue, StaysFailed, SyncsQueue, TellsFailure, seq_at, size_at};
+
+    /// The file system that the files are in, which a close gives back.
+    type Files;
 
     /// The pipes, and their disk.
     ghost shown: { Self → LogPipes };
+
+    /// The file system.
+    ghost files: { Self → Self.Files };
+
+    /// Its disk.
+    ghost disk_of: { Self.Files → Disk };
 
     /// Whether a call was refused that couldn't be mended.
     fn is_failed(&self) -> bool
@@ -68,6 +79,7 @@ pub trait PipeLog {
     ) -> Result<FileBlockHandle>
         ensures ok { IfOk result (λ block. AppendsTo (which_of queue) (B.signed bytes.old) block
             (shown self.old) (shown self.new)) }
+        ensures place { IfOk result (λ block. block.offset < 2 ^ 63) }
         ensures err { IfErr result (λ error. FailsToAppendTo (which_of queue) (B.signed bytes.old) error
             (shown self.old) (shown self.new)) }
         ensures signed { B.signed bytes.new ≡ B.signed bytes.old }
@@ -113,4 +125,14 @@ pub trait PipeLog {
         ensures failed { StaysFailed result (shown self.old) (shown self.new) }
         ensures fails { TellsFailure result (shown self.new) }
         ensures later { IsLater (shown self.old).disk (shown self.new).disk };
+
+    /// Closes both pipes, and gives the file system back: both last files are cut behind their records and
+    /// synced, Append's first, and then the files that are kept for use get reserved names. Refusals are
+    /// logged, and nothing that was written is lost by them. Of pipes that have failed nothing is touched.
+    fn close<L: Log>(self, alloc: Global, rt: &L) -> Self::Files
+        ensures held { is_failed (shown self) ≡ false → ClosesLog (shown self) (disk_of result) }
+        ensures failed { is_failed (shown self) ≡ true → result ≡ files self }
+        ensures later { IsLater (shown self).disk (disk_of result) };
+
+    ghost same: { (pipes : Self) → (shown pipes).disk ≡ disk_of (files pipes) };
 }

@@ -1,10 +1,14 @@
 //! Tests of a log's two pipes over a file system in memory, of batches that are signed for the files that they
-//! go into, and of the order in which listeners are told.
+//! go into, of the order in which listeners are told, and of entries that are read through the kept block.
 #![tactic(auto)]
 
 #[cfg(test)]
 mod batches;
 #[cfg(test)]
+mod blocks;
+#[cfg(test)]
 mod listeners;
+#[cfg(test)]
+mod opening;
 #[cfg(test)]
 mod pair;

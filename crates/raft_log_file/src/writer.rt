@@ -176,7 +176,8 @@ impl LogFileWriter {
 
     /// How many bytes are written, the header's among them: the place of the next one.
     pub fn offset(&self) -> usize
-        ensures { result ≡ self.now.written }
+        ensures is { result ≡ self.now.written }
+        ensures short { result < 2 ^ 63 }
     {
         self.written
     }

@@ -67,12 +67,24 @@ module _ {R : Type 0} (F : Format R) (own : List ℕ → Type 0) (paths : FilePa
       (cause, pipe_touched base old new before after q (settled q) sound is only stands refl refl first earlier active recycled)
   fails_to_add old new before after bytes (Failed kind) sound fails only first earlier active recycled base q w framed spelled is =
       let (cause, (room, held)) = fails base q w (path_of paths before.active) old.names framed spelled is.active in
-      (cause, (room, record { path = path_of paths before.active; id = before.writer.handle.file; N = old.names; stands = held }))
+      let span : IsSpan paths new.names before.first_seq before.earlier.items q.last = subst (λ (N : Names). IsSpan paths N before.first_seq before.earlier.items q.last) (sym only.names) is.span in (
+        cause,
+        (
+          room,
+          record { path = path_of paths before.active; id = before.writer.handle.file; N = old.names; stands = held },
+          subst (λ (n : ℕ). IsSpan paths new.names n after.earlier.items q.last) (sym first) (subst (λ (fs : List Listed). IsSpan paths new.names before.first_seq fs q.last) (sym earlier) span),
+        ),
+      )
 
   pub syncs_either : (result : Result (Unit {0}) ErrorKind) (old new : Disk) (files : PipeFiles) → IsSound old → OnOk result (SyncsAll F own files.writer old new) → TouchesOnly files.writer.handle.file old new → OnOk result (SyncsPipe F own paths files old new)
   syncs_either (Ok v) old new files sound syncs only = λ base q is. pipe_touched base old new files files q (synced q) sound is only (syncs base q (path_of paths files.active) old.names is.active) refl refl refl refl refl refl
   syncs_either (Err e) old new files sound syncs only = tt
 
-  pub fails_either : (result : Result (Unit {0}) ErrorKind) (old new : Disk) (files : PipeFiles) → OnErr result (FailsToSyncAll F own files.writer old new) → OnErr result (FailsToSyncPipe F own paths files old new)
-  fails_either (Ok v) old new files fails = tt
-  fails_either (Err e) old new files fails = λ base q is. (let (cause, held) = fails base q (path_of paths files.active) old.names is.active in (cause, record { path = path_of paths files.active; id = files.writer.handle.file; N = old.names; stands = held }))
+  pub fails_either : (result : Result (Unit {0}) ErrorKind) (old new : Disk) (files : PipeFiles) → OnErr result (FailsToSyncAll F own files.writer old new) → TouchesOnly files.writer.handle.file old new → OnErr result (FailsToSyncPipe F own paths files old new)
+  fails_either (Ok v) old new files fails only = tt
+  fails_either (Err e) old new files fails only = λ base q is.
+      (let (cause, held) = fails base q (path_of paths files.active) old.names is.active in (
+        cause,
+        record { path = path_of paths files.active; id = files.writer.handle.file; N = old.names; stands = held },
+        subst (λ (N : Names). IsSpan paths N files.first_seq files.earlier.items q.last) (sym only.names) is.span,
+      ))

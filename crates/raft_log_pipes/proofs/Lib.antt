@@ -1,4 +1,5 @@
 pub mod Lists
+pub mod Naming
 pub mod Raising
 pub mod Turning
 pub mod Adding

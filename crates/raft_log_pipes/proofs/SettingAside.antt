@@ -16,6 +16,7 @@ use Rattle.raft_log_disk.specs.LogFormat.{Format}
 use Rattle.raft_log_disk.specs.LogQueue.{LogFiles, HoldsLast}
 use Rattle.raft_log_disk.specs.Touching.{TouchesOnly}
 use Rattle.raft_log_disk.proofs.KeptLaws.{IsCalm, kept_rename}
+use Rattle.raft_log_disk.proofs.Updates.{name_apart}
 use Rattle.raft_log_file.specs.Writer.{Closes, FailsToClose}
 use Rattle.raft_log_file.specs.declared.writer.LogFileWriter.{LogFileWriter}
 use Rattle.raft_log_file_queue.specs.Queue.{settled}
@@ -30,10 +31,10 @@ use Rattle.raft_log_files.specs.Exits.{IsFinished, Finishes, FailsToFinish}
 use Rattle.raft_log_files.specs.Rotation.{IsLeft}
 use Rattle.raft_log_files.proofs.Rotating.{left_calm}
 use Rattle.raft_log_pipes.specs.declared.pipe_files.PipeFiles.{PipeFiles}
-use Rattle.raft_log_pipes.specs.Files.{Listed, AreKept, IsPipe}
-use Rattle.raft_log_pipes.specs.Closing.{FinishesOrNot, IsSettledBy, LeavesClosed, Reserves, ReservesAll, StaysLeft, AreBelow, greatest_reserved}
+use Rattle.raft_log_pipes.specs.Files.{Listed, IsSpan, AreKept, IsPipe}
+use Rattle.raft_log_pipes.specs.Closing.{FinishesOrNot, IsSettledBy, LeavesClosed, Reserves, ReservesAll, NumbersStay, StaysLeft, AreBelow, greatest_reserved}
 use Rattle.raft_log_pipes.specs.Closing.Reserves.{named, refused}
-use Rattle.raft_log_pipes.proofs.Lists.{path_numbered, span_end}
+use Rattle.raft_log_pipes.proofs.Lists.{path_numbered, span_end, span_moved}
 
 -- The greatest reserved number of one file more.
 pub greatest_more : (fs : List Listed) (f : Listed) → greatest_reserved (fs ++ f ∷ []) ≡ (if f.reserved then max f.seq (greatest_reserved fs) else greatest_reserved fs)
@@ -71,14 +72,16 @@ module _ {R : Type 0} (F : Format R) (own : List ℕ → Type 0) (paths : FilePa
   finished_is_settled files after old new finishes only base q is = (
     finished_settled base after q (path_of paths files.active) old.names new (finishes base q (path_of paths files.active) old.names is.active),
     gaps_of F q files.writer.handle.file old new only,
+    subst (λ (N : Names). IsSpan paths N files.first_seq files.earlier.items q.last) (sym only.names) is.span,
   )
 
   pub closes_held : (result : Result (Unit {0}) ErrorKind) (files : PipeFiles) (after : LogFileWriter) (old new : Disk) → OnOk result (Finishes F own files.writer after old new) → OnErr result (FailsToFinish F own files.writer old new)
       → TouchesOnly files.writer.handle.file old new → LeavesClosed F own paths files old new
-  closes_held (Ok v) files after old new ok err only base q is = (let (left, gaps) = finished_is_settled files after old new ok only base q is in (inr left, gaps))
+  closes_held (Ok v) files after old new ok err only base q is = (let (left, gaps, span) = finished_is_settled files after old new ok only base q is in (inr left, gaps, span))
   closes_held (Err e) files after old new ok err only base q is =
       let (cause, held) = err base q (path_of paths files.active) old.names is.active in
-      (inl (record { path = path_of paths files.active; id = files.writer.handle.file; N = old.names; stands = held }), gaps_of F q files.writer.handle.file old new only)
+      let span = subst (λ (N : Names). IsSpan paths N files.first_seq files.earlier.items q.last) (sym only.names) is.span in
+      (inl (record { path = path_of paths files.active; id = files.writer.handle.file; N = old.names; stands = held }), gaps_of F q files.writer.handle.file old new only, span)
 
   pub settled_either : (result : Result (Unit {0}) ErrorKind) (done : Bool) (files : PipeFiles) (after : LogFileWriter) (old new : Disk) → done ≡ is_ok result → OnOk result (Finishes F own files.writer after old new)
       → TouchesOnly files.writer.handle.file old new → done ≡ true → IsSettledBy F own paths files old new
@@ -97,12 +100,12 @@ module _ {R : Type 0} (F : Format R) (own : List ℕ → Type 0) (paths : FilePa
       let at : F.IsPath f.seq from = subst (F.IsPath f.seq) (sym (path_numbered paths f listed)) (lawful.numbered f.path_id f.seq less) in
       let unnumbered : (m : ℕ) → m < F.limit → F.IsPath m to → ⊥ = λ m small there. lawful.apart 0 number m small there in
       let apart : (m : ℕ) → q.last ≤ m → m < F.limit → F.IsPath m from → ⊥ = λ m over small there. (let same : m ≡ f.seq = lawful.format.paths m f.seq from small less there at in omega (arith, same, below, over)) in
-      let Q : Disk → Type 0 = λ d. IsLeft F own base q d × GapsStay F q old d in
+      let Q : Disk → Type 0 = λ d. IsLeft F own base q d × GapsStay F q old d × ((first : ℕ) → AreBelow first (f ∷ []) → NumbersStay F first old d) in
       let calm : IsCalm Q = record {
-        at_count = λ d (held, gaps). ((left_calm F own lawful.format lawful.owns base q).at_count d held, gaps);
-        at_end = λ d (held, gaps). ((left_calm F own lawful.format lawful.owns base q).at_end d held, gaps);
+        at_count = λ d (held, gaps, stay). ((left_calm F own lawful.format lawful.owns base q).at_count d held, gaps, stay);
+        at_end = λ d (held, gaps, stay). ((left_calm F own lawful.format lawful.owns base q).at_end d held, gaps, stay);
       } in
-      kept_rename Q (WrongRename from to old) result from to calm (left, λ m under absent. absent) (λ id here no_directory home. (
+      kept_rename Q (WrongRename from to old) result from to calm (left, λ m under absent. absent, λ first under m path over small there. refl) (λ id here no_directory home. (
         record {
           path = left.path;
           id = left.id;
@@ -110,12 +113,24 @@ module _ {R : Type 0} (F : Format R) (own : List ℕ → Type 0) (paths : FilePa
           stands = stands_set_aside F own base q left.path from to left.id id (HoldsLast F q) left.N old sound (lawful.owns f.seq from less at) (lawful.kept 0 number) apart unnumbered (ap (λ (N : Names). N from) (sym left.stands.names) ∙ here) left.stands;
         },
         gaps_set_aside F own base q from to id old bound unnumbered,
+        λ first (under, none_more) m path over small there.
+            name_apart (update bytes_eq old.names from None) to (Some id) path (λ same. unnumbered m small (subst (F.IsPath m) same there))
+            ∙ name_apart old.names from None path
+            (λ same. (let number : m ≡ f.seq = lawful.format.paths m f.seq from small less (subst (F.IsPath m) same there) at in let lower = under listed in omega (arith, number, lower, over))),
       )) ok err
 
   -- the files that are kept for use are below the span's last one
   kept_below : (first last : ℕ) (d : Disk) (fs : List Listed) → first ≤ last → AreKept F paths first d fs → AreBelow last fs
   kept_below first last d [] from is = tt
   kept_below first last d (f ∷ fs) from (is, others, rest) = (λ listed. (let below = is.below listed in omega (arith, below, from)), kept_below first last d fs from rest)
+
+  -- and below its first one
+  kept_below_first : (first : ℕ) (d : Disk) (fs : List Listed) → AreKept F paths first d fs → AreBelow first fs
+  kept_below_first first d [] is = tt
+  kept_below_first first d (f ∷ fs) (is, others, rest) = (is.below, kept_below_first first d fs rest)
+
+  pub pipe_below_first : (base : Disk) (files : PipeFiles) (q : LogFiles R) (d : Disk) → IsPipe F own paths base files q d → AreBelow files.first_seq files.recycled.items
+  pipe_below_first base files q d is = kept_below_first files.first_seq d files.recycled.items is.kept
 
   pub pipe_below : (base : Disk) (files : PipeFiles) (q : LogFiles R) (d : Disk) → IsPipe F own paths base files q d → AreBelow q.last files.recycled.items
   pipe_below base files q d is = (let ends = span_end paths d.names files.first_seq q.last files.earlier.items is.span in kept_below files.first_seq q.last d files.recycled.items (omega (arith, ends)) is.kept)
@@ -163,7 +178,9 @@ ReservesOn paths all first start rest last now = (e : Disk) → ReservesAll path
 
 -- what was held is held so far, and the rest of the files are below the last one
 abbrev pub IsHeldOn : {R : Type 0} → Format R → (List ℕ → Type 0) → List Listed → Disk → List Listed → Disk → Type 0
-IsHeldOn {R} F own all start rest now = (base : Disk) (q : LogFiles R) → AreBelow q.last all → IsLeft F own base q start → AreBelow q.last rest × IsLeft F own base q now × GapsStay F q start now
+IsHeldOn {R} F own all start rest now =
+    (base : Disk) (q : LogFiles R) → AreBelow q.last all → IsLeft F own base q start
+    → AreBelow q.last rest × IsLeft F own base q now × GapsStay F q start now × ((first : ℕ) → AreBelow first all → AreBelow first rest × NumbersStay F first start now)
 
 newest_first : (files front : List Listed) (f : Listed) → files ≡ front ++ f ∷ [] → reverse files ≡ f ∷ reverse front
 newest_first files front f split = ap reverse split ∙ reverse-append front (f ∷ [])
@@ -184,20 +201,39 @@ reserves_end paths all first start files last now on none = on now (subst (λ (f
 pub held_step : {R : Type 0} (F : Format R) (own : List ℕ → Type 0) (all : List Listed) (start : Disk) (files front : List Listed) (f : Listed) (now mid : Disk) → IsHeldOn F own all start files now → files ≡ front ++ f ∷ [] → StaysLeft F own (f ∷ []) now mid
     → IsHeldOn F own all start front mid
 held_step F own all start files front f now mid on split stays base q below left =
-    let (lower, held, gaps) = on base q below left in
+    let (lower, held, gaps, stay) = on base q below left in
     let (lower_front, lower_last) = below_front q.last front f (subst (AreBelow q.last) split lower) in
-    let (held_then, gaps_then) = stays base q lower_last held in
-    (lower_front, held_then, λ m under none. gaps_then m under (gaps m under none))
+    let (held_then, gaps_then, stay_then) = stays base q lower_last held in (
+      lower_front,
+      held_then,
+      λ m under none. gaps_then m under (gaps m under none),
+      λ first all_below.
+          (let (rest_below, same) = stay first all_below in
+          let (first_front, first_last) = below_front first front f (subst (AreBelow first) split rest_below) in
+          (first_front, λ m path over small at. stay_then first first_last m path over small at ∙ same m path over small at)),
+    )
 
 pub held_done : {R : Type 0} (F : Format R) (own : List ℕ → Type 0) (all : List Listed) (start : Disk) (rest : List Listed) (now : Disk) → IsHeldOn F own all start rest now → StaysLeft F own all start now
-held_done F own all start rest now on base q below left = (let (lower, held, gaps) = on base q below left in (held, gaps))
+held_done F own all start rest now on base q below left = (let (lower, held, gaps, stay) = on base q below left in (held, gaps, λ first all_below. (stay first all_below).1))
+
+-- files that are below a number are below those behind it
+pub below_more : (m n : ℕ) (fs : List Listed) → m ≤ n → AreBelow m fs → AreBelow n fs
+below_more m n [] less is = tt
+below_more m n (f ∷ fs) less (here, rest) = (λ listed. (let lower = here listed in omega (arith, lower, less)), below_more m n fs less rest)
 
 -- A pipe whose last file was finished, or wasn't, once its other files were renamed.
-pub closes_all : {R : Type 0} (F : Format R) (own : List ℕ → Type 0) (paths : FilePaths) (files : PipeFiles) (kept : List Listed) (old mid new : Disk) → ((base : Disk) (q : LogFiles R) → IsPipe F own paths base files q old → AreBelow q.last kept)
-    → LeavesClosed F own paths files old mid → StaysLeft F own kept mid new → LeavesClosed F own paths files old new
-closes_all F own paths files kept old mid new below leaves stays base q is =
-    let (held, gaps) = leaves base q is in
+pub closes_all : {R : Type 0} (F : Format R) (own : List ℕ → Type 0) (paths : FilePaths) (lawful : IsLayout F own paths) (files : PipeFiles) (kept : List Listed) (old mid new : Disk)
+    → ((base : Disk) (q : LogFiles R) → IsPipe F own paths base files q old → AreBelow files.first_seq kept) → LeavesClosed F own paths files old mid → StaysLeft F own kept mid new → LeavesClosed F own paths files old new
+closes_all F own paths lawful files kept old mid new below leaves stays base q is =
+    let (held, gaps, span) = leaves base q is in
+    let ends = span_end paths mid.names files.first_seq q.last files.earlier.items span in
+    let bound = is.active.stands.bound in
+    let lower = below base q is in
+    let under : AreBelow q.last kept = below_more files.first_seq q.last kept (omega (arith, ends)) lower in
+    let there : NumbersStay F files.first_seq mid new → IsSpan paths new.names files.first_seq files.earlier.items q.last = λ stay.
+    span_moved paths mid.names new.names files.first_seq q.last files.earlier.items (λ directory n from less.
+    stay n (paths.numbered directory n) from (omega (arith, less, bound)) (lawful.numbered directory n (omega (arith, less, bound)))) span in
     elim held [
-      | inl left ↦ (let (still, more) = stays base q (below base q is) left in (inl still, λ m under none. more m under (gaps m under none)))
-      | inr left ↦ (let (still, more) = stays base (settled q) (below base q is) left in (inr still, λ m under none. more m under (gaps m under none)))
+      | inl left ↦ (let (still, more, stay) = stays base q under left in (inl still, λ m less none. more m less (gaps m less none), there (stay files.first_seq lower)))
+      | inr left ↦ (let (still, more, stay) = stays base (settled q) under left in (inr still, λ m less none. more m less (gaps m less none), there (stay files.first_seq lower)))
     ]

@@ -117,7 +117,7 @@ module _ {R : Type 0} (F : Format R) (own : List ℕ → Type 0) (paths : FilePa
   fails_to_take_up earlier last end kept header old new has spelled fails only base q found =
       let format = (taken_up end last).format in
       let (cause, held) = subst (λ (h : List ℕ). FailsToReopen F own last.handle end h old new) spelled fails base q (path_of paths last) old.names (lawful.headed format has) found.left in
-      (cause, λ m below none path at. ap (λ (N : Names). N path) only.names ∙ none path at, held)
+      (cause, λ m below none path at. ap (λ (N : Names). N path) only.names ∙ none path at, subst (λ (N : Names). IsSpan paths N (first_number earlier last) earlier q.last) (sym only.names) found.span, held)
 
   -- A queue that begins.
 

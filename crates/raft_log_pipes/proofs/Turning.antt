@@ -1,12 +1,15 @@
 -- A rotation of a pipe: the queue's next file is its last one, and all other files are where they were.
 use Rattle.std.specs.Prelude.{Result, Ok, Err}
 use Rattle.std.specs.Result.{IfErr, OnOk}
+use Rattle.std.specs.declared.io.ErrorKind.{ErrorKind}
 use Rattle.std.specs.Map.{update}
 use Rattle.std.specs.Str.{bytes_eq}
 use Rattle.std.proofs.Common.{◌≡◌, ◌⊎◌, inl, inr, true, ℕ, ◌<◌, ◌≤◌, ◌^◌, suc, Some, None, List, [], ◌∷◌, ◌++◌, drop, false, refl, sym, ◌∙◌, ap, subst, arith}
 use Rattle.raft_log_disk.specs.Disk.{Disk}
+use Rattle.raft_log_disk.specs.Calls.{Creates, Renames}
 use Rattle.raft_log_disk.specs.Causes.{Fails}
 use Rattle.raft_log_disk.specs.Causes.Fails.{has_stopped}
+use Rattle.raft_log_disk.specs.Exits.{FailsToCreate, FailsToRename}
 use Rattle.raft_log_disk.specs.Image.{IsSound}
 use Rattle.raft_log_disk.specs.LogFormat.{Format}
 use Rattle.raft_log_disk.specs.LogQueue.{LogFiles, rotated}
@@ -23,11 +26,12 @@ use Rattle.raft_log_file_queue.specs.Queue.{with_room}
 use Rattle.raft_log_file_queue.specs.Standing.{Names}
 use Rattle.raft_log_files.specs.Layout.{FilePaths, IsLayout, path_of}
 use Rattle.raft_log_files.specs.Exits.{IsOpen}
-use Rattle.raft_log_files.specs.Rotation.{CanRotate, IsSpare, RotatesToNew, FailsToRotateToNew, RotatesOver, FailsToRotateOver, FilesStay}
+use Rattle.raft_log_files.specs.Rotation.{CanRotate, IsSpare, RotatesToNew, FailsToRotateToNew, RotatesOver, FailsToRotateOver, RotationMakes, FilesStay}
 use Rattle.raft_log_files.proofs.Rotating.{open_left}
 use Rattle.raft_log_pipes.specs.declared.pipe_files.PipeFiles.{PipeFiles}
 use Rattle.raft_log_pipes.specs.Files.{Listed, IsSpan, NoneHas, AreKept, IsPipe}
 use Rattle.raft_log_pipes.specs.Exits.{SameFiles, IsTurned, IsStale, Rotates, FailsToRotate, RotationLeaves, StaysClosed}
+use Rattle.raft_log_pipes.proofs.Naming.{NamesStayBut, over_names, new_names}
 use Rattle.raft_log_pipes.proofs.Lists.{path_numbered, span_end, span_moved, span_more, kept_moved, numbers_apart, kept_is_no_number, kept_is_own}
 
 -- the files are listed so after a rotation into this one
@@ -206,20 +210,52 @@ module _ {R : Type 0} (F : Format R) (own : List ℕ → Type 0) (paths : FilePa
         gaps,
       )
 
+  -- the files of the span are there, and so is the last one
+  span_whole : (base d : Disk) (files : PipeFiles) (q : LogFiles R) → IsPipe F own paths base files q d → IsSpan paths d.names files.first_seq (files.earlier.items ++ files.active ∷ []) (suc q.last)
+  span_whole base d files q is = span_more paths d.names files.first_seq q.last files.earlier.items files.active is.span is.number is.listed (is.active.stands.named ∙ ap Some (sym is.handle))
+
+  -- they are there still where none of their names changed
+  span_stays : (base old new : Disk) (before : PipeFiles) (q : LogFiles R) (from to : List ℕ) → IsPipe F own paths base before q old → ((directory n : ℕ) → before.first_seq ≤ n → n < suc q.last → paths.numbered directory n ≡ from → ⊥)
+      → ((directory n : ℕ) → before.first_seq ≤ n → n < suc q.last → paths.numbered directory n ≡ to → ⊥) → NamesStayBut from to old new → IsSpan paths new.names before.first_seq (before.earlier.items ++ before.active ∷ []) (suc q.last)
+  span_stays base old new before q from to is from_free to_free stay =
+      span_moved paths old.names new.names before.first_seq (suc q.last) (before.earlier.items ++ before.active ∷ [])
+      (λ directory n over less. stay (paths.numbered directory n) (from_free directory n over less) (to_free directory n over less)) (span_whole base old before q is)
+
+  -- the next file's path is no number's of the span
+  next_free : (before : PipeFiles) (q : LogFiles R) (next : Listed) (header : List ℕ) → suc q.last < F.limit → before.active.seq ≡ q.last → IsNext next header before → (directory n : ℕ) → n < suc q.last → paths.numbered directory n ≡ path_of paths next → ⊥
+  next_free before q next header bound last is_next directory n less same =
+      let small = is_next.small in
+      let limit = lawful.limit in
+      let number = is_next.number in
+      numbers_apart F own paths lawful directory next.path_id n next.seq (omega (arith, less, bound)) (omega (arith, small, limit)) (λ e. omega (arith, e, less, number, last)) (same ∙ path_numbered paths next is_next.listed)
+
   -- rotations that a file call refused
   pub stays_over : (old new : Disk) (before : PipeFiles) (kept next : Listed) (rest : List Listed) (header : List ℕ) (handle : Handle) (writer : LogFileWriter) → writer ≡ before.writer → before.recycled.items ≡ kept ∷ rest → IsOpened (path_of paths kept) ReadWrite handle old
-      → IsNext next header before → FailsToRotateOver F own header handle (path_of paths kept) (path_of paths next) writer old new → FailsToRotate F own paths header before old new
-  stays_over old new before kept next rest header handle writer same list opened is_next fails base q is =
+      → IsNext next header before → FailsToRotateOver F own header handle (path_of paths kept) (path_of paths next) writer old new → NamesStayBut (path_of paths kept) (path_of paths next) old new → FailsToRotate F own paths header before old new
+  stays_over old new before kept next rest header handle writer same list opened is_next fails stay base q is =
       let head = header_of next header before is_next in
       let can = can_rotate base old before q next header is is_next in
       let (stale, holds, free) = spare base old before q kept rest handle header is list head opened in
-      (stale, holds, fails base q stale (path_of paths before.active) old.names can free (subst (λ (w : LogFileWriter). IsOpen F own base w q (path_of paths before.active) old.names old) (sym same) is.active))
+      let (kept_is, others, more) = subst (AreKept F paths before.first_seq old) list is.kept in
+      let bound = can.bound in (
+        stale,
+        holds,
+        fails base q stale (path_of paths before.active) old.names can free (subst (λ (w : LogFileWriter). IsOpen F own base w q (path_of paths before.active) old.names old) (sym same) is.active),
+        span_stays base old new before q (path_of paths kept) (path_of paths next) is
+            (λ directory n over less same_path. kept_is_no_number F own paths lawful before.first_seq old kept n kept_is over (omega (arith, less, bound)) (subst (F.IsPath n) same_path (lawful.numbered directory n (omega (arith, less, bound)))))
+            (λ directory n over less. next_free before q next header bound is.number is_next directory n less) stay,
+      )
 
   pub stays_new : (old new : Disk) (before : PipeFiles) (next : Listed) (header : List ℕ) (writer : LogFileWriter) → writer ≡ before.writer → before.recycled.items ≡ [] → IsNext next header before → FailsToRotateToNew F own header (path_of paths next) writer old new
-      → FailsToRotate F own paths header before old new
-  stays_new old new before next header writer same list is_next fails base q is =
+      → NamesStayBut (path_of paths next) (path_of paths next) old new → FailsToRotate F own paths header before old new
+  stays_new old new before next header writer same list is_next fails stay base q is =
       let can = can_rotate base old before q next header is is_next in
-      ([], subst (λ (fs : List Listed). IsStale fs old []) (sym list) refl, fails base q (path_of paths before.active) old.names can (subst (λ (w : LogFileWriter). IsOpen F own base w q (path_of paths before.active) old.names old) (sym same) is.active))
+      let free = next_free before q next header can.bound is.number is_next in (
+        [],
+        subst (λ (fs : List Listed). IsStale fs old []) (sym list) refl,
+        fails base q (path_of paths before.active) old.names can (subst (λ (w : LogFileWriter). IsOpen F own base w q (path_of paths before.active) old.names old) (sym same) is.active),
+        span_stays base old new before q (path_of paths next) (path_of paths next) is (λ directory n over less. free directory n less) (λ directory n over less. free directory n less) stay,
+      )
 
   -- one that never began, as the file that was to be used wasn't opened
   pub stays_closed : (d : Disk) (before : PipeFiles) (kept : Listed) (rest : List Listed) (header : List ℕ) → before.recycled.items ≡ kept ∷ rest → (d.stopped ≡ true) ⊎ (d.names (path_of paths kept) ≡ None) → FailsToRotate F own paths header before d d
@@ -230,6 +266,7 @@ module _ {R : Type 0} (F : Format R) (own : List ℕ → Type 0) (paths : FilePa
         usable.file.content,
         subst (λ (fs : List Listed). IsStale fs d usable.file.content) (sym list) (record { file = usable.file; is = usable.is; has = refl }),
         (cause, inl (open_left F own lawful.format lawful.owns base before.writer q (path_of paths before.active) d.names d is.active), λ m below none. none),
+        span_whole base d before q is,
       )
 
 module _ {R : Type 0} (F : Format R) (own : List ℕ → Type 0) (paths : FilePaths) (lawful : IsLayout F own paths) where
@@ -244,13 +281,15 @@ module _ {R : Type 0} (F : Format R) (own : List ℕ → Type 0) (paths : FilePa
       stays_closed F own paths lawful d before kept (drop 1 before.recycled.items) header list (subst (λ (p : List ℕ). (d.stopped ≡ true) ⊎ (d.names p ≡ None)) is why)
   closed_leaves d before kept path header _ is list why = absurd why
 
-  pub over_refused : (old new : Disk) (before : PipeFiles) (kept next : Listed) (from to header lent : List ℕ) (handle : Handle) → from ≡ path_of paths kept → to ≡ path_of paths next → lent ≡ header → before.recycled.items ≡ kept ∷ drop 1 before.recycled.items
-      → IsOpened from ReadWrite handle old → IsNext next header before → FailsToRotateOver F own lent handle from to before.writer old new → FailsToRotate F own paths header before old new
-  over_refused old new before kept next from to header lent handle from_is to_is header_is list opened is_next fails =
+  pub over_refused : (old new : Disk) (before : PipeFiles) (kept next : Listed) (from to header lent : List ℕ) (handle : Handle) (kind : ErrorKind) → from ≡ path_of paths kept → to ≡ path_of paths next → lent ≡ header → before.recycled.items ≡ kept ∷ drop 1 before.recycled.items
+      → IsOpened from ReadWrite handle old → IsNext next header before → FailsToRotateOver F own lent handle from to before.writer old new
+      → RotationMakes before.writer lent (FailsToRename from to) (λ named. Renames from to) kind old new → FailsToRotate F own paths header before old new
+  over_refused old new before kept next from to header lent handle kind from_is to_is header_is list opened is_next fails makes =
       stays_over F own paths lawful old new before kept next (drop 1 before.recycled.items) header handle before.writer refl list (subst (λ (p : List ℕ). IsOpened p ReadWrite handle old) from_is opened) is_next
       (subst (λ (h : List ℕ). FailsToRotateOver F own h handle (path_of paths kept) (path_of paths next) before.writer old new) header_is
       (subst (λ (p : List ℕ). FailsToRotateOver F own lent handle p (path_of paths next) before.writer old new) from_is
       (subst (λ (p : List ℕ). FailsToRotateOver F own lent handle from p before.writer old new) to_is fails)))
+      (subst (λ (p : List ℕ). NamesStayBut p (path_of paths next) old new) from_is (subst (λ (p : List ℕ). NamesStayBut from p old new) to_is (over_names before.writer lent from to kind old new makes)))
 
   pub over_done : (old new : Disk) (before after : PipeFiles) (kept next : Listed) (from to header lent : List ℕ) (handle : Handle) → IsSound old → IsSound new → from ≡ path_of paths kept → to ≡ path_of paths next → lent ≡ header
       → before.recycled.items ≡ kept ∷ drop 1 before.recycled.items → IsOpened from ReadWrite handle old → IsNext next header before → next.handle.file ≡ handle.file → IsTurnedTo next before after
@@ -262,11 +301,12 @@ module _ {R : Type 0} (F : Format R) (own : List ℕ → Type 0) (paths : FilePa
       (subst (λ (p : List ℕ). RotatesOver F own lent handle from p before.writer after.writer old new) to_is rotates)))
       (λ fresh. files (ap old.names to_is ∙ fresh))
 
-  pub new_refused : (old new : Disk) (before : PipeFiles) (next : Listed) (to header lent : List ℕ) → to ≡ path_of paths next → lent ≡ header → before.recycled.items ≡ [] → IsNext next header before
-      → FailsToRotateToNew F own lent to before.writer old new → FailsToRotate F own paths header before old new
-  new_refused old new before next to header lent to_is header_is list is_next fails =
+  pub new_refused : (old new : Disk) (before : PipeFiles) (next : Listed) (to header lent : List ℕ) (kind : ErrorKind) → to ≡ path_of paths next → lent ≡ header → before.recycled.items ≡ [] → IsNext next header before
+      → FailsToRotateToNew F own lent to before.writer old new → RotationMakes before.writer lent (FailsToCreate to) (λ handle. Creates to handle.file) kind old new → FailsToRotate F own paths header before old new
+  new_refused old new before next to header lent kind to_is header_is list is_next fails makes =
       stays_new F own paths lawful old new before next header before.writer refl list is_next
       (subst (λ (h : List ℕ). FailsToRotateToNew F own h (path_of paths next) before.writer old new) header_is (subst (λ (p : List ℕ). FailsToRotateToNew F own lent p before.writer old new) to_is fails))
+      (subst (λ (p : List ℕ). NamesStayBut p p old new) to_is (new_names before.writer lent to kind old new makes))
 
   pub new_done : (old new : Disk) (before after : PipeFiles) (next : Listed) (to header lent : List ℕ) (handle : Handle) → IsSound old → IsSound new → to ≡ path_of paths next → lent ≡ header → before.recycled.items ≡ [] → IsNext next header before
       → next.handle.file ≡ handle.file → IsTurnedTo next before after → RotatesToNew F own lent to before.writer after.writer handle old new → FilesStay before.writer.handle.file handle.file old new → Rotates F own paths header before after old new
@@ -319,7 +359,15 @@ module _ {R : Type 0} (F : Format R) (own : List ℕ → Type 0) (paths : FilePa
     is,
   )
   leaves_same header before like after errors.Failed old new same fails =
-      λ base q pipe. (let (stale, holds, left) = fails base q (pipe_same F own paths base before like q old same pipe) in (stale, subst (λ (fs : List Listed). IsStale fs old stale) same.recycled holds, left))
+      λ base q pipe.
+      (let (stale, holds, left, span) = fails base q (pipe_same F own paths base before like q old same pipe) in (
+        stale,
+        subst (λ (fs : List Listed). IsStale fs old stale) same.recycled holds,
+        left,
+        subst (λ (n : ℕ). IsSpan paths new.names n (before.earlier.items ++ before.active ∷ []) (suc q.last)) same.first
+            (subst (λ (f : Listed). IsSpan paths new.names like.first_seq (before.earlier.items ++ f ∷ []) (suc q.last)) same.active
+            (subst (λ (fs : List Listed). IsSpan paths new.names like.first_seq (fs ++ like.active ∷ []) (suc q.last)) same.earlier span)),
+      ))
   leaves_same header before like after _ old new same left = absurd left
 
   -- of an answer

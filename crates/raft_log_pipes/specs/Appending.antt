@@ -12,7 +12,7 @@ use Rattle.raft_log_format.specs.Header.{header_bytes}
 use Rattle.raft_log_files.specs.Layout.{FilePaths}
 use Rattle.raft_log_files.specs.declared.last_file.WriteFault.{WriteFault}
 use Rattle.raft_log_files.specs.declared.last_file.WriteFault.TheVariants.{CutBack, Failed}
-use Rattle.raft_log_pipes.specs.Exits.{IsTurned, Rotates, RotationLeaves, Adds, FailsToAdd}
+use Rattle.raft_log_pipes.specs.Exits.{IsTurned, Rotates, RotationLeaves, Adds, FailsToAdd, SameLists}
 use Rattle.raft_log_pipes.specs.declared.pipe_files.PipeFiles.{PipeFiles}
 use Rattle.raft_log_pipes.specs.declared.new_files.NewFiles.{NewFiles}
 
@@ -79,5 +79,6 @@ pub data AppendFails {R : Type 0} (F : Format R) (own : List ℕ → Type 0) (pa
   not_written : (middle cut : PipeFiles) (between short : Disk) (fault : WriteFault)
       → TurnsFirst F own paths begin before middle old between
       → FailsToAdd F own paths (signed (context_of queue middle)) fault middle cut between short
+      → SameLists middle cut
       → Tells F own paths begin fault cut after error short new
       → AppendFails F own paths begin queue signed before after error old new

@@ -1,5 +1,5 @@
 -- A pipe is closed: its last file is finished, and the files that it keeps for use get reserved names.
-use Rattle.std.specs.Prelude.{◌≡◌, ℕ, ◌<◌, ◌⊎◌, suc, max, true, false, if◌then◌else◌, List, [], ◌∷◌, reverse}
+use Rattle.std.specs.Prelude.{◌≡◌, ℕ, ◌<◌, ◌≤◌, ◌⊎◌, suc, max, true, false, if◌then◌else◌, List, [], ◌∷◌, reverse}
 use Rattle.std.specs.declared.io.ErrorKind.{ErrorKind}
 use Rattle.raft_log_disk.specs.Disk.{Disk}
 use Rattle.raft_log_disk.specs.Calls.{Renames}
@@ -12,7 +12,7 @@ use Rattle.raft_log_file_queue.specs.Queue.{settled}
 use Rattle.raft_log_file_queue.specs.Bridge.{GapsStay}
 use Rattle.raft_log_files.specs.Layout.{FilePaths, path_of}
 use Rattle.raft_log_files.specs.Rotation.{IsLeft}
-use Rattle.raft_log_pipes.specs.Files.{Listed, IsPipe}
+use Rattle.raft_log_pipes.specs.Files.{Listed, IsSpan, IsPipe}
 use Rattle.raft_log_pipes.specs.declared.pipe_files.PipeFiles.{PipeFiles}
 
 -- the greatest number in a reserved name, or 0 where none of the files has one
@@ -42,33 +42,40 @@ abbrev pub FinishesOrNot : LogFileWriter → Disk → Disk → Type 0
 FinishesOrNot writer old new = ((after : LogFileWriter) × Closes writer after old new)
     ⊎ ((after : LogFileWriter) × (error : ErrorKind) × FailsToClose writer after error old new)
 
--- What there was is held, or held and all of it durable; and no gap was filled.
-abbrev pub IsHeldOrSettled : {R : Type 0} → Format R → (List ℕ → Type 0) → Disk → LogFiles R → Disk → Disk
-    → Type 0
-IsHeldOrSettled F own base q old new = (IsLeft F own base q new ⊎ IsLeft F own base (settled q) new)
-    × GapsStay F q old new
+-- what there was is held, or held and all of it durable
+abbrev pub IsHeldOrSettled : {R : Type 0} → Format R → (List ℕ → Type 0) → Disk → LogFiles R → Disk → Type 0
+IsHeldOrSettled F own base q d = IsLeft F own base q d ⊎ IsLeft F own base (settled q) d
 
--- so it is of a pipe that is closed, whatever was refused
+-- So it is of a pipe that is closed, whatever was refused; no gap was filled, and the files of the span are
+-- there.
 abbrev pub LeavesClosed : {R : Type 0} → Format R → (List ℕ → Type 0) → FilePaths → PipeFiles → Disk → Disk
     → Type 0
 LeavesClosed {R} F own paths files old new = (base : Disk) (q : LogFiles R)
-    → IsPipe F own paths base files q old → IsHeldOrSettled F own base q old new
+    → IsPipe F own paths base files q old → IsHeldOrSettled F own base q new × GapsStay F q old new
+    × IsSpan paths new.names files.first_seq files.earlier.items q.last
 
--- once its last file was finished, all is durable
+-- once its last file was finished, all is durable, and the files of the span are there
 abbrev pub IsSettledBy : {R : Type 0} → Format R → (List ℕ → Type 0) → FilePaths → PipeFiles → Disk → Disk
     → Type 0
 IsSettledBy {R} F own paths files old new = (base : Disk) (q : LogFiles R)
     → IsPipe F own paths base files q old → IsLeft F own base (settled q) new × GapsStay F q old new
+    × IsSpan paths new.names files.first_seq files.earlier.items q.last
 
 -- those of these files that have no reserved name are below this number
 abbrev pub AreBelow : ℕ → List Listed → Type 0
 AreBelow n [] = Unit {0}
 AreBelow n (f ∷ fs) = (f.reserved ≡ false → f.seq < n) × AreBelow n fs
 
--- what was held is held
+-- the paths of the numbers from this one on name what they named
+abbrev pub NumbersStay : {R : Type 0} → Format R → ℕ → Disk → Disk → Type 0
+NumbersStay F first old new = (m : ℕ) (path : List ℕ) → first ≤ m → m < F.limit → F.IsPath m path
+    → new.names path ≡ old.names path
+
+-- what was held is held, and the files of a span that these are below are there still
 abbrev pub StaysLeft : {R : Type 0} → Format R → (List ℕ → Type 0) → List Listed → Disk → Disk → Type 0
 StaysLeft {R} F own fs old new = (base : Disk) (q : LogFiles R) → AreBelow q.last fs → IsLeft F own base q old
     → IsLeft F own base q new × GapsStay F q old new
+    × ((first : ℕ) → AreBelow first fs → NumbersStay F first old new)
 
 -- the last file was finished, or that was refused, and behind that the files kept for use got reserved names
 abbrev pub ClosesFiles : FilePaths → PipeFiles → Disk → Disk → Type 0

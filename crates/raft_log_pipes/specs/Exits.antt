@@ -15,7 +15,7 @@ use Rattle.raft_log_files.specs.Layout.{FilePaths}
 use Rattle.raft_log_files.specs.Rotation.{IsLeft, StaysBehind}
 use Rattle.raft_log_files.specs.declared.last_file.WriteFault.{WriteFault}
 use Rattle.raft_log_files.specs.declared.last_file.WriteFault.TheVariants.{CutBack, Failed}
-use Rattle.raft_log_pipes.specs.Files.{Listed, IsPipe}
+use Rattle.raft_log_pipes.specs.Files.{Listed, IsSpan, IsPipe}
 use Rattle.raft_log_pipes.specs.declared.pipe_files.PipeFiles.{PipeFiles}
 
 -- the same files, listed alike
@@ -49,13 +49,15 @@ Rotates {R} F own paths header before after old new = (base : Disk) (q : LogFile
     → (room : ℕ) × (stale : List ℕ) × IsStale before.recycled.items old stale
     × IsPipe F own paths base after (with_room room (rotated header stale q)) new × GapsStay F q old new
 
--- a rotation that a file call refused: what there was is held, and maybe a next file without records
+-- A rotation that a file call refused: what there was is held, and maybe a next file without records; and the
+-- files of the span are there, the last one too.
 abbrev pub FailsToRotate : {R : Type 0} → Format R → (List ℕ → Type 0) → FilePaths → List ℕ → PipeFiles
     → Disk → Disk → Type 0
 FailsToRotate {R} F own paths header before old new = (base : Disk) (q : LogFiles R)
     → IsPipe F own paths base before q old
     → (stale : List ℕ) × IsStale before.recycled.items old stale × StaysBehind F own base q header stale
     old new
+    × IsSpan paths new.names before.first_seq (before.earlier.items ++ before.active ∷ []) (suc q.last)
 
 -- why a file that is kept for use wasn't opened: for want of memory; or the file system has stopped, or no
 -- file has the path
@@ -86,12 +88,14 @@ Adds {R} F own paths bytes at before after old new = (base : Disk) (q : LogFiles
     × ((room : ℕ) × IsPipe F own paths base after (with_more (w ∷ []) (with_room room q)) new)
 
 -- What stands where it was refused: it was cut off again, and all records before it are durable. Or that
--- was refused too: then it may be there, and counts as the last one that isn't synced.
+-- was refused too: then it may be there, and counts as the last one that isn't synced; the files of the span
+-- are there.
 abbrev pub AddLeaves : {R : Type 0} → Format R → (List ℕ → Type 0) → FilePaths → WriteFault → Disk → Written R
     → LogFiles R → PipeFiles → Disk → Type 0
 AddLeaves F own paths (CutBack kind) base w q after new = IsPipe F own paths base after (settled q) new
 AddLeaves F own paths (Failed kind) base w q after new = (room : ℕ)
     × IsLeft F own base (with_more (w ∷ []) (with_room room q)) new
+    × IsSpan paths new.names after.first_seq after.earlier.items q.last
 
 -- either way a file call failed
 abbrev pub FailsToAdd : {R : Type 0} → Format R → (List ℕ → Type 0) → FilePaths → List ℕ → WriteFault →
@@ -114,8 +118,9 @@ abbrev pub SyncsPipe : {R : Type 0} → Format R → (List ℕ → Type 0) → F
 SyncsPipe {R} F own paths files old new = (base : Disk) (q : LogFiles R) → IsPipe F own paths base files q old
     → IsPipe F own paths base files (synced q) new
 
--- they weren't: a file call failed, and the records are held
+-- they weren't: a file call failed, the records are held, and the files of the span are there
 abbrev pub FailsToSyncPipe : {R : Type 0} → Format R → (List ℕ → Type 0) → FilePaths → PipeFiles → Disk → Disk
     → Type 0
 FailsToSyncPipe {R} F own paths files old new = (base : Disk) (q : LogFiles R)
     → IsPipe F own paths base files q old → Fails old new × IsLeft F own base q new
+    × IsSpan paths new.names files.first_seq files.earlier.items q.last

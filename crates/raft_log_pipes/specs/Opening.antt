@@ -69,12 +69,12 @@ TakesUpFound {R} F own paths earlier last end kept files old new = (base : Disk)
     × IsPipe F own paths base files (with_room room (reread (header_bytes files.active.format) [] q)) new
     × GapsStay F q old new
 
--- it doesn't: a file call failed, and all that was read is held
+-- it doesn't: a file call failed, all that was read is held, and the files that were found are there
 abbrev pub FailsToTakeUpFound : {R : Type 0} → Format R → (List ℕ → Type 0) → FilePaths → List Listed → Listed
     → Option ℕ → List Listed → Disk → Disk → Type 0
 FailsToTakeUpFound {R} F own paths earlier last end kept old new = (base : Disk) (q : LogFiles R)
     → IsFound F own paths base earlier last end kept q old
-    → Fails old new × GapsStay F q old new
+    → Fails old new × GapsStay F q old new × IsSpan paths new.names (first_number earlier last) earlier q.last
     × IsHalfOpen F own base last.handle end (header_bytes (taken_up end last).format) q old new
 
 -- a place for the queue, whose files kept for use have reserved names

@@ -1,6 +1,6 @@
 //! Appending to a pipe: the last file is rotated where it is long enough, and a refused write is cut back.
 
-ghost use Rattle.std.specs.Prelude.{◌≡◌, ◌≤◌, IfErr, IfOk, OnErr, OnOk};
+ghost use Rattle.std.specs.Prelude.{◌≡◌, ◌<◌, ◌≤◌, ◌^◌, IfErr, IfOk, OnErr, OnOk};
 ghost use Rattle.raft_log_disk.specs.Causes.{IsLater};
 ghost use Rattle.raft_log_format.specs.Header.{header_bytes};
 ghost use Rattle.raft_log_pipes.specs.Appending.{AppendFails, AppendsAt, SaysTryAgain, Tells, TurnsElsewhere, TurnsFirst};
@@ -115,6 +115,7 @@ pub fn append<G: PipeFormat, F: FileSystem, L: Log, B: ReactiveBytes>(
     ensures ok { IfOk result (λ block. AppendsAt (G.format layout.now) (G.own layout.now)
         (G.file_paths layout.now) new_files.now queue (B.signed bytes.old) files.old files.new block
         (F.disk file_system.old) (F.disk file_system.new)) }
+    ensures place { IfOk result (λ block. block.offset < 2 ^ 63) }
     ensures err { IfErr result (λ error. AppendFails (G.format layout.now) (G.own layout.now)
         (G.file_paths layout.now) new_files.now queue (B.signed bytes.old) files.old files.new error
         (F.disk file_system.old) (F.disk file_system.new)) }

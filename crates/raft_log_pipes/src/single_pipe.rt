@@ -129,6 +129,7 @@ impl<G: PipeFormat> SinglePipe<G> {
             (G.file_paths self.old.layout) self.old.settings.new_files self.old.settings.queue
             (B.signed bytes.old)
             self.old.files self.new.files block (F.disk file_system.old) (F.disk file_system.new)) }
+        ensures place { IfOk result (λ block. block.offset < 2 ^ 63) }
         ensures err { self.old.failed ≡ false → IfErr result (λ error.
             AppendFails (G.format self.old.layout) (G.own self.old.layout) (G.file_paths self.old.layout)
             self.old.settings.new_files self.old.settings.queue (B.signed bytes.old) self.old.files

@@ -1,6 +1,6 @@
 //! Records that are written to the last file of a pipe.
 
-ghost use Rattle.std.specs.Prelude.{◌≡◌, length, IfErr, OnErr, OnOk, IfOk};
+ghost use Rattle.std.specs.Prelude.{◌≡◌, ◌<◌, ◌^◌, length, IfErr, OnErr, OnOk, IfOk};
 ghost use Rattle.raft_log_disk.specs.Causes.{IsLater};
 ghost use Rattle.raft_log_disk.specs.Exits.{FailsToSync, Syncs};
 ghost use Rattle.raft_log_file.specs.Writer.{WritesNext};
@@ -29,6 +29,7 @@ pub fn add<G: PipeFormat, F: FileSystem, L: Log>(
         (G.file_paths layout.now) bytes.now fault files.old files.new
         (F.disk file_system.old) (F.disk file_system.new)) }
     ensures at { IfOk result (λ at. at ≡ files.old.writer.written) }
+    ensures short { IfOk result (λ at. at < 2 ^ 63) }
     ensures lists { SameLists files.old files.new }
 
     // Which calls were made, and whose refusal is told.

@@ -258,10 +258,13 @@ impl LogBatch {
         }
     }
 
-    /// How many bytes the record has, for whatever file it is signed. An empty batch has none.
+    /// How many bytes the record has, for whatever file it is signed. An empty batch has none. Its entries lie
+    /// one behind another.
     pub fn encoded_len(&self) -> usize
         requires { IsMade self.now.state }
-        ensures { IsReadyForEach result self.now.items self.now.entries }
+        ensures ready { IsReadyForEach result self.now.items self.now.entries }
+        ensures laid { laid_out 0 self.now.items ≡ self.now.items }
+        ensures adds { entries_len self.now.items ≡ length self.now.entries }
     {
         if self.items.is_empty() {
             return 0;

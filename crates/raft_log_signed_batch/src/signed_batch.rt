@@ -2,6 +2,7 @@
 
 ghost use Rattle.std.specs.Prelude.{◌≡◌, None, length};
 ghost use Rattle.raft_log_base.specs.declared.pipe_log.LogFileContext.{LogFileContext};
+ghost use Rattle.raft_log_items.specs.Placed.{entries_len, laid_out};
 ghost use Rattle.raft_log_records.specs.declared.log_batch.BatchState.TheVariants.{Populated, Signed};
 ghost use Rattle.raft_log_records.specs.Batch.{batch_bytes, signed_as, signed_bytes};
 
@@ -43,10 +44,12 @@ impl SignedBatch {
     }
 
     /// How many bytes its record has, in whatever file. Unless the batch is empty, the record says its items
-    /// and their entries' bytes.
+    /// and their entries' bytes, which lie one behind another.
     pub fn encoded_len(&self) -> usize
         ensures len { (context : LogFileContext) → length (signed_for self.now.batch context) ≡ result }
         ensures says { SaysItself (signed_for self.now.batch) self.now.batch }
+        ensures laid { laid_out 0 self.now.batch.items ≡ self.now.batch.items }
+        ensures adds { entries_len self.now.batch.items ≡ length self.now.batch.entries }
     {
         self.batch.encoded_len()
     }

@@ -42,11 +42,12 @@ append_is_a_step log two which p s run begin queue signed y says after block new
     let layout = layout_at which log in
     let q = spanned_at which s in
     let runs = run_at log two which p s run in
-    let (mid, turned, room, w, is, takes) = append_one log.says layout (told_at log two which) q.first s.disk begin queue signed y (pipe_at which p) after block q.files s.disk new says call runs.pipe in
+    let (mid, turned, room, w, is, last, takes) = append_one log.says layout (told_at log two which) q.first s.disk begin queue signed y (pipe_at which p) after block q.files s.disk new says call runs.pipe in
     let files = with_more (w ∷ []) (with_room room mid) in
     let only : TouchesOnlyNames layout.own s.disk new = is.active.stands.others in (
       files,
       (mid, turned, room, w, refl),
+      last,
       run_on log two which p s after (in_span q files) new run only (runs_from layout s.disk (pipe_at which p) after q files new runs first is),
       λ f ties.
           (let (a, at, next) = takes (from_at which f) (queue_at which f) (tie_at log two which s f ties) in

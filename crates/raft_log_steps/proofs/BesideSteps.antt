@@ -1,5 +1,5 @@
 -- Each call of a pipe that runs, seen from both queues, whatever stands of the other.
-use Rattle.std.proofs.Common.{◌≡◌, ◌⊎◌, ℕ, ◌≤◌, Option, Some, None, List, [], ◌∷◌, refl, ◌∙◌, inl, inr}
+use Rattle.std.proofs.Common.{◌≡◌, ◌⊎◌, ℕ, ◌≤◌, Option, Some, None, List, [], ◌∷◌, refl, ◌∙◌, subst, inl, inr, arith}
 use Rattle.raft_log_model.specs.Item.{Record}
 use Rattle.raft_log_machine.specs.Files.{FileQueue}
 use Rattle.raft_log_disk.specs.Disk.{Disk}
@@ -18,6 +18,7 @@ use Rattle.raft_log_base.specs.declared.pipe_log.LogFileContext.{LogFileContext}
 use Rattle.raft_log_pipes.specs.Appending.{AppendsAt}
 use Rattle.raft_log_pipes.specs.declared.new_files.NewFiles.{NewFiles}
 use Rattle.raft_log_pipes.specs.Exits.{SameFiles, RotationLeaves}
+use Rattle.raft_log_pipes.specs.Files.{IsSpan}
 use Rattle.raft_log_pipes.specs.Purging.{PurgeLeaves}
 use Rattle.raft_log_pipes.specs.declared.pipe_files.PipeFiles.{PipeFiles}
 use Rattle.raft_log_pipes.proofs.Turning.{pipe_same}
@@ -26,7 +27,7 @@ use Rattle.raft_log_directory.specs.Moves.{grown, settled_files, raised_files}
 use Rattle.raft_log_directory.specs.Calls.Which.{InAppend, InRewrite}
 use Rattle.raft_log_directory.specs.Calls.{Which, Appends, CutsBack, LeavesOut, Raises, from_at, queue_at, put}
 use Rattle.raft_log_steps.specs.Queues.{QueueLayout, IsQueueLayout, TwoQueues, AreTwoQueues, layout_at, SaysRecord}
-use Rattle.raft_log_steps.specs.State.{Spanned, LogOnDisk, spanned_at, with_spanned, RunsQueue, Ties}
+use Rattle.raft_log_steps.specs.State.{Spanned, LogOnDisk, spanned_at, with_spanned, RunsQueue, AreThere, HasSpan, Ties}
 use Rattle.raft_log_steps.specs.Steps.{next_log}
 use Rattle.raft_log_steps.specs.Syncing.{raised_log}
 use Rattle.raft_log_steps.specs.Turning.{HasTaken, IsCutBack, in_span}
@@ -40,6 +41,7 @@ use Rattle.raft_log_steps.proofs.AppendStep.{runs_from, pipe_rebased}
 use Rattle.raft_log_steps.proofs.RefusedStep.{left_rebased}
 use Rattle.raft_log_steps.proofs.OtherSteps.{sync_gaps, unsynced_gaps, sync_one, raise_one, raised_in_span, put_same}
 use Rattle.raft_log_steps.proofs.LyingQueues.{runs_at, leaves, ties_leave}
+use Rattle.raft_log_steps.proofs.Spans.{span_is_there}
 
 module _ {R E V : Type 0} (log : TwoQueues R E V) (two : AreTwoQueues log) (which : Which) (o : OpenPipes) (before : PipeFiles) (s : LogOnDisk R) (is : RunOrLie log (with_open which o (Some before)) s) where
   abbrev layout : QueueLayout R
@@ -61,8 +63,15 @@ module _ {R E V : Type 0} (log : TwoQueues R E V) (two : AreTwoQueues log) (whic
       leaves log two which o (Some before) (Some after) s (in_span q files) new is only (runs_from layout s.disk before after q files new runs first pipe)
 
   -- it has failed, and its files lie there
-  pub left_there : (next : Spanned R) (new : Disk) → IsLeft layout.format layout.own s.disk next.files new → RunOrLie log (with_open which o None) (with_spanned which s next new)
-  left_there next new left = leaves log two which o (Some before) None s next new is left.stands.others (inl (inl (left_rebased layout s.disk next.files new left)))
+  pub left_there : (next : Spanned R) (new : Disk) → IsLeft layout.format layout.own s.disk next.files new → HasSpan layout.format next new → RunOrLie log (with_open which o None) (with_spanned which s next new)
+  left_there next new left there = leaves log two which o (Some before) None s next new is left.stands.others (inl (inl (left_rebased layout s.disk next.files new left), there))
+
+  -- each number of the span has its file, which the pipe lists
+  pub listed_there : (files : PipeFiles) (first : ℕ) (next : LogFiles R) (new : Disk) → files.first_seq ≡ first → IsLeft layout.format layout.own s.disk next new → IsSpan layout.paths new.names files.first_seq files.earlier.items next.last
+      → HasSpan layout.format (record { first = first; files = next }) new
+  listed_there files first next new begins left span =
+      let bound = left.stands.bound in
+      subst (λ (n : ℕ). AreThere layout.format n next.last new) begins (span_is_there layout told files.first_seq next.last files.earlier.items new (omega (arith, bound)) span)
 
   -- its numbered files are taken along
   pub tied : (next : Spanned R) (new : Disk) (f : Files E V) (from : ℕ) (g : FileQueue E V) → TouchesOnlyNames layout.own s.disk new → Ties log s f → IsFileQueue log.says layout.format next.files from next.first new g
@@ -74,7 +83,7 @@ module _ {R E V : Type 0} (log : TwoQueues R E V) (two : AreTwoQueues log) (whic
       → AppendsAt layout.format layout.own layout.paths begin queue signed before after block s.disk new → after.first_seq ≡ before.first_seq
       → LeavesQueue log which o (Some after) s new (HasTaken (header_bytes begin.format) before.recycled.items s.disk q.files) (Appends (Ties log) which y block.id.seq)
   appended begin queue signed y says after block new call first =
-      let (mid, turned, room, w, pipe, takes) = append_one log.says layout told q.first s.disk begin queue signed y before after block q.files s.disk new says call runs.pipe in
+      let (mid, turned, room, w, pipe, last, takes) = append_one log.says layout told q.first s.disk begin queue signed y before after block q.files s.disk new says call runs.pipe in
       let files = with_more (w ∷ []) (with_room room mid) in
       let only : TouchesOnlyNames layout.own s.disk new = pipe.active.stands.others in (
         files,
@@ -114,10 +123,10 @@ module _ {R E V : Type 0} (log : TwoQueues R E V) (two : AreTwoQueues log) (whic
   refused header y after (errors.TryAgain text) new first left = cut_back header after new first left
   refused header y after errors.Memory new first left = left_out header after new first left
   refused header y after errors.NumberRange new first left = left_out header after new first left
-  refused header y after errors.Failed new first (files, goes, left, may) = (
+  refused header y after errors.Failed new first (files, goes, left, may, there) = (
     files,
     goes,
-    left_there (in_span q files) new left,
+    left_there (in_span q files) new left (subst (λ (n : ℕ). AreThere layout.format n files.last new) runs.first there),
     λ f ties.
         (let (a, either) = may (from_at which f) (queue_at which f) (tie_at log two which s f ties) in (
           a,
@@ -144,11 +153,11 @@ module _ {R E V : Type 0} (log : TwoQueues R E V) (two : AreTwoQueues log) (whic
               (sync_one log.says layout told q.first s.disk q.files s.disk new gaps (from_at which f) (queue_at which f) (tie_at log two which s f ties)),
         ));
     refused = λ new fails.
-        (let left = (fails s.disk q.files runs.pipe).1 in
+        (let (cause, left, span) = fails s.disk q.files runs.pipe in
         let gaps = unsynced_gaps log.says layout told q.first s.disk before q.files s.disk new fails runs.pipe in (
           q.files,
           refl,
-          left_there (in_span q q.files) new left,
+          left_there (in_span q q.files) new left (listed_there before q.first q.files new runs.first left span),
           λ f ties.
               put_same log which f (Ties log (next_log which s q.files new))
               (tied (in_span q q.files) new f (from_at which f) (queue_at which f) left.stands.others ties
@@ -171,10 +180,10 @@ module _ {R E V : Type 0} (log : TwoQueues R E V) (two : AreTwoQueues log) (whic
   not_rotated header after errors.Memory new (same, disk) = nothing_done after new same disk
   not_rotated header after errors.NumberRange new (out, same, disk) = nothing_done after new same disk
   not_rotated header after errors.Failed new fails =
-      let (files, goes, left, quiet) = rotation_left log.says layout told q.first s.disk header before after q.files errors.Failed s.disk new fails runs.pipe in (
+      let (files, goes, left, quiet, there) = rotation_left log.says layout told q.first s.disk header before after q.files errors.Failed s.disk new fails runs.pipe in (
         files,
         goes,
-        left_there (in_span q files) new left,
+        left_there (in_span q files) new left (subst (λ (n : ℕ). AreThere layout.format n files.last new) runs.first there),
         λ f ties. (let (a, next) = quiet (from_at which f) (queue_at which f) (tie_at log two which s f ties) in (a, tied (in_span q files) new f a.from a.queue left.stands.others ties next)),
       )
   not_rotated header after _ new fails = absurd fails
@@ -217,7 +226,7 @@ module _ {R E V : Type 0} (log : TwoQueues R E V) (two : AreTwoQueues log) (whic
   not_purged capacity seq after errors.Failed new (raised, fails) =
       let (cause, left, gaps, span) = fails s.disk q.files runs.pipe in
       let (above, under) = raised_in_span log.says layout told q.first s.disk capacity seq before after q.files s.disk.names new.names raised runs.first runs.pipe.span span in
-      (left_there (record { first = seq; files = q.files }) new left, raises seq new left.stands.others gaps above under)
+      (left_there (record { first = seq; files = q.files }) new left (listed_there after seq q.files new raised.first left span), raises seq new left.stands.others gaps above under)
   not_purged capacity seq after _ new fails = absurd fails
 
   purged_so : PurgesBeside log which o before s

@@ -18,6 +18,7 @@ use Rattle.raft_log_steps.specs.Reopening.{RestsQueue, CrashIsAStep}
 use Rattle.raft_log_steps.proofs.Stopped.{held_stops}
 use Rattle.raft_log_steps.proofs.LyingQueues.{lies}
 use Rattle.raft_log_steps.proofs.ReadingAgain.{read_one}
+use Rattle.raft_log_steps.proofs.Spans.{there_same}
 
 module _ {R : Type 0} (layout : QueueLayout R) (told : IsQueueLayout layout) (q : Spanned R) (d image : Disk) (is : IsImage d image) where
   -- a name names in the image what it named
@@ -49,7 +50,9 @@ module _ {R : Type 0} (layout : QueueLayout R) (told : IsQueueLayout layout) (q 
   pub lying_rests : LiesQueue layout q d → NoChanceInLast layout.format q.files d image
       → (count : ℕ) × (count ≤ length q.files.pending) × RestsQueue layout (in_span q (kept_to count q.files)) image × ((later : Disk) → IsImage image later → NoChanceInLast layout.format (kept_to count q.files) image later)
   lying_rests there chance = elim there [
-    | inl held ↦ (let (count, within, stopped, again) = held_stops layout told q.files d image is chance held in (count, within, inl stopped, again))
+    | inl held ↦
+        (let (count, within, stopped, again) = held_stops layout told q.files d image is chance held.0 in
+        (count, within, inl (stopped, there_same layout q.first q.files.last d image is.names held.1), again))
     | inr unbegun ↦ (0, omega arith, inr (unbegun_rests unbegun), λ later is_later. unbegun_again unbegun later)
   ]
 
@@ -60,7 +63,7 @@ module _ {R : Type 0} (layout : QueueLayout R) (told : IsQueueLayout layout) (q 
 
 -- what rests lies there
 pub rests_lie : {R : Type 0} (layout : QueueLayout R) (q : Spanned R) (d : Disk) → RestsQueue layout q d → LiesQueue layout q d
-rests_lie layout q d rests = elim rests [ inl stopped ↦ inl (inr stopped) | inr unbegun ↦ inr unbegun ]
+rests_lie layout q d rests = elim rests [ inl stopped ↦ inl (inr stopped.0, stopped.1) | inr unbegun ↦ inr unbegun ]
 
 pub crash_is_a_step : {R E V : Type 0} (log : TwoQueues R E V) → CrashIsAStep log
 crash_is_a_step log two o s image is_so is append_chance rewrite_chance =

@@ -1,4 +1,5 @@
 pub mod Aside
+pub mod Spans
 pub mod Reading
 pub mod Gaps
 pub mod Numbers

@@ -23,11 +23,12 @@ use Rattle.raft_log_directory.specs.Calls.Which.{InAppend, InRewrite}
 use Rattle.raft_log_directory.specs.Log.{IsLog, IsLogOf}
 use Rattle.raft_log_directory.proofs.LogLaws.{fewer}
 use Rattle.raft_log_steps.specs.Queues.{QueueLayout, IsQueueLayout, TwoQueues, AreTwoQueues, layout_at}
-use Rattle.raft_log_steps.specs.State.{Spanned, LogOnDisk, spanned_at, with_spanned, RunsQueue, Ties}
+use Rattle.raft_log_steps.specs.State.{Spanned, LogOnDisk, spanned_at, with_spanned, RunsQueue, HasSpan, Ties}
 use Rattle.raft_log_steps.specs.Crash.{MayRead, readings_of, AllowsIn}
 use Rattle.raft_log_steps.specs.Lying.{IsUnbegun, LiesQueue, RunsOrLies, OpenPipes, with_open, RunOrLie, LyingLogIsALog, LyingLogsAreLogs}
 use Rattle.raft_log_steps.proofs.Aside.{name_stays, runs_stay, holds_stay}
 use Rattle.raft_log_steps.proofs.Gaps.{pipe_left}
+use Rattle.raft_log_steps.proofs.Spans.{runs_span, there_moved}
 use Rattle.raft_log_steps.proofs.Reading.{held_reads, may_reads}
 use Rattle.raft_log_steps.proofs.Wholes.{no_file_is_read}
 
@@ -36,7 +37,7 @@ module _ {R : Type 0} (layout : QueueLayout R) (told : IsQueueLayout layout) whe
 
   -- while its pipe runs, its files lie there
   pub lies : (o : Option PipeFiles) (q : Spanned R) (d : Disk) → RunsOrLies layout o q d → LiesQueue layout q d
-  lies (Some files) q d runs = inl (inl (pipe_left layout told d files q.files d runs.pipe))
+  lies (Some files) q d runs = inl (inl (pipe_left layout told d files q.files d runs.pipe), runs_span layout told files q d runs)
   lies None q d there = there
 
   unbegun_bound : (q : Spanned R) (d : Disk) → IsUnbegun layout q d → q.files.last < layout.format.limit
@@ -48,8 +49,20 @@ module _ {R : Type 0} (layout : QueueLayout R) (told : IsQueueLayout layout) whe
 
   bound_of : (q : Spanned R) (d : Disk) → LiesQueue layout q d → q.files.last < layout.format.limit
   bound_of q d there = elim there [
-    | inl held ↦ elim held [ inl left ↦ left.stands.bound | inr stopped ↦ stopped.stands.bound ]
+    | inl held ↦ elim held.0 [ inl left ↦ left.stands.bound | inr stopped ↦ stopped.stands.bound ]
     | inr unbegun ↦ unbegun_bound q d unbegun
+  ]
+
+  -- each of its span is there
+  pub lies_span : (q : Spanned R) (d : Disk) → LiesQueue layout q d → HasSpan layout.format q d
+  lies_span q d there = elim there [
+    | inl held ↦ held.1
+    | inr unbegun ↦
+        λ m from less.
+        (let (older, header, room, is) = unbegun.is in
+        let one : q.files.last ≡ 1 = ap (λ (x : Spanned R). x.files.last) is in
+        let first : q.first ≡ 1 = ap (λ (x : Spanned R). x.first) is in
+        absurd (omega (arith, one, first, from, less)))
   ]
 
   module _ (theirs : List ℕ → Type 0) (old new : Disk) (apart : (path : List ℕ) → layout.own path → theirs path → ⊥) (only : TouchesOnlyNames theirs old new) where
@@ -67,7 +80,9 @@ module _ {R : Type 0} (layout : QueueLayout R) (told : IsQueueLayout layout) whe
     pub stays : (o : Option PipeFiles) (q : Spanned R) → RunsOrLies layout o q old → RunsOrLies layout o q new
     stays (Some files) q runs = runs_stay layout told theirs old new apart only files q runs
     stays None q there = elim there [
-      | inl held ↦ inl (holds_stay layout told theirs old new apart only q.files held)
+      | inl held ↦
+          (let bound = bound_of q old (inl held) in
+          inl (holds_stay layout told theirs old new apart only q.files held.0, there_moved layout q.first q.files.last old new (omega (arith, bound)) (λ m path from less at. name_stays layout told theirs old new apart only m path less at) held.1))
       | inr unbegun ↦ inr (unbegun_stays q unbegun)
     ]
 
@@ -118,7 +133,7 @@ module _ {R E V : Type 0} (says : R → Record E V) (layout : QueueLayout R) (to
       → (kept lost : List (Record E V)) × (kept ++ lost ≡ f.pending) × ((s : ℕ) (read : List (LogFile E V)) → MayRead says layout.format q.first image s read → IsRead low f kept s read)
   lying_reads q low d image f sound there is chance all = elim there [
     | inl held ↦
-        (let (kept, lost, parts, reads) = held_reads says layout told q.files low q.first d f sound held all image is chance in
+        (let (kept, lost, parts, reads) = held_reads says layout told q.files low q.first d f sound held.0 all image is chance in
         (kept, lost, parts, may_reads says layout told low q.first f kept image reads))
     | inr unbegun ↦ (let (none, reads) = unbegun_reads q low d image f unbegun is all in ([], [], sym none, reads))
   ]
@@ -180,7 +195,11 @@ module _ {R E V : Type 0} (log : TwoQueues R E V) (two : AreTwoQueues log) where
     allowed = allowed;
     log_of = log_of;
     running = λ p s run. record { append = run.append; rewrite = run.rewrite };
-    held = λ s held. record { append = inl held.append; rewrite = inl held.rewrite };
+    dropped = λ o s is. record {
+      append = lies log.append two.append o.append s.append s.disk is.append;
+      rewrite = lies log.rewrite two.rewrite o.rewrite s.rewrite s.disk is.rewrite;
+    };
+    held = λ s held append rewrite. record { append = inl (held.append, append); rewrite = inl (held.rewrite, rewrite) };
   }
 
 pub lying_logs_are_logs : {R E V : Type 0} (log : TwoQueues R E V) → LyingLogsAreLogs log

@@ -1,10 +1,11 @@
 -- The calls of a pipe that write records and go on in the next file, told by the numbered files of its queue.
 use Rattle.std.proofs.Common.{◌≡◌, ℕ, ◌<◌, List, [], ◌∷◌, refl, sym, ◌∙◌, ap, subst, inl, inr, arith}
+use Rattle.std.proofs.lemmas.List.{append_assoc}
 use Rattle.raft_log_model.specs.Item.{Record}
 use Rattle.raft_log_machine.specs.Files.{FileQueue}
 use Rattle.raft_log_disk.specs.Disk.{Disk}
 use Rattle.raft_log_disk.specs.Chains.{Written}
-use Rattle.raft_log_disk.specs.LogQueue.{LogFiles, rotated}
+use Rattle.raft_log_disk.specs.LogQueue.{LogFiles, recent, rotated}
 use Rattle.raft_log_base.specs.declared.pipe_log.LogQueue.{LogQueue}
 use Rattle.raft_log_base.specs.declared.pipe_log.FileId.{FileId}
 use Rattle.raft_log_base.specs.declared.pipe_log.FileBlockHandle.{FileBlockHandle}
@@ -20,7 +21,7 @@ use Rattle.raft_log_pipes.specs.declared.pipe_files.PipeFiles.{PipeFiles}
 use Rattle.raft_log_pipes.specs.declared.new_files.NewFiles.{NewFiles}
 use Rattle.raft_log_directory.specs.Moves.{Moved, grown}
 use Rattle.raft_log_steps.specs.Queues.{QueueLayout, IsQueueLayout, SaysRecord}
-use Rattle.raft_log_steps.specs.Turning.{IsOrGoesOn}
+use Rattle.raft_log_steps.specs.Turning.{HasLast, IsOrGoesOn}
 use Rattle.raft_log_steps.specs.Quiet.{QuietTo}
 use Rattle.raft_log_steps.proofs.Gaps.{with_past, past_there, gaps_stay, pipe_left}
 use Rattle.raft_log_steps.proofs.Numbers.{quiet_then, quiet_same, quiet_rotates, takes_one}
@@ -77,9 +78,10 @@ module _ {R E V : Type 0} (says : R → Record E V) (layout : QueueLayout R) (to
   in_file a b c d one two three = one ∙ sym two ∙ sym three
 
   -- a record is written
-  pub append_one : (begin : NewFiles) (queue : LogQueue) (signed : LogFileContext → List ℕ) (y : Record E V) (before after : PipeFiles) (block : FileBlockHandle) (q : LogFiles R) (old new : Disk) → SaysRecord says layout queue signed y
+  pub append_one : (begin : NewFiles) (queue : LogQueue) (signed : LogFileContext → List ℕ) (y : Record E V) (before after : PipeFiles) (block : FileBlockHandle) (q : LogFiles R) (old new : Disk) → (record_says : SaysRecord says layout queue signed y)
       → AppendsAt layout.format layout.own layout.paths begin queue signed before after block old new → On layout base before q old
       → (p : LogFiles R) × IsOrGoesOn (header_bytes begin.format) before.recycled.items old q p × (room : ℕ) × (w : Written R) × On layout base after (with_more (w ∷ []) (with_room room p)) new
+      × HasLast signed record_says.value block (with_more (w ∷ []) (with_room room p))
       × TakesIn says layout first q old y block.id.seq (with_more (w ∷ []) (with_room room p)) new
   append_one begin queue signed y before after block q old new record_is call is =
       let (p, turned, mid, quiet) = turn_one begin before call.middle q old call.between call.first is in
@@ -93,6 +95,17 @@ module _ {R E V : Type 0} (says : R → Record E V) (layout : QueueLayout R) (to
         room,
         w,
         pipe,
+        record {
+          context = context_of queue call.middle;
+          front = recent p;
+          last = w;
+          records = sym (append_assoc p.durable p.pending (w ∷ []));
+          value = refl;
+          bytes = refl;
+          number = ap (λ (i : FileId). i.seq) call.id ∙ mid.number;
+          offset = at_is;
+          len = call.len;
+        },
         λ from f all.
             (let (a, is_then) = whole from f all in (
               a,

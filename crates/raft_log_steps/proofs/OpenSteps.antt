@@ -40,8 +40,9 @@ use Rattle.raft_log_steps.proofs.Lifts.{told_at}
 use Rattle.raft_log_steps.proofs.AppendStep.{pipe_rebased}
 use Rattle.raft_log_steps.proofs.RefusedStep.{left_rebased}
 use Rattle.raft_log_steps.proofs.Aside.{name_stays, kept_stays, stopped_stays}
-use Rattle.raft_log_steps.proofs.LyingQueues.{unbegun_stays, leaves}
+use Rattle.raft_log_steps.proofs.LyingQueues.{unbegun_stays, leaves, lies_at, lies_span}
 use Rattle.raft_log_steps.proofs.ReadingAgain.{read_on, all_records}
+use Rattle.raft_log_steps.proofs.Spans.{gap_before, span_is_there, there_within}
 
 -- Lists.
 
@@ -139,7 +140,7 @@ module _ {R : Type 0} (layout : QueueLayout R) (told : IsQueueLayout layout) whe
     found_stays_so found q (unbegun none there spares) =
         let limit = told.lawful.limit in
         unbegun none (unbegun_stays layout told theirs old new apart only q there) (spares_stay 1 found.recycled.items (omega (arith, limit)) spares)
-    found_stays_so found q (stopped earlier last items left there under) =
+    found_stays_so found q (stopped earlier last items left there) =
         let paths = layout.paths in
         let bound = left.stands.bound in
         let number = there.number_is in
@@ -155,8 +156,9 @@ module _ {R : Type 0} (layout : QueueLayout R) (told : IsQueueLayout layout) whe
           headed = header_stays found.end last mine there.named there.headed;
           span = span_moved paths old.names new.names (first_number earlier last) q.files.last earlier (λ directory n from less.
               (let small : n < layout.format.limit = omega (arith, less, bound) in name_stays layout told theirs old new apart only n (paths.numbered directory n) small (told.lawful.numbered directory n small))) there.span;
+          begins = λ m before path at. name_stays layout told theirs old new apart only m path (omega (arith, before, ends, bound)) at ∙ there.begins m before path at;
           spares = spares_stay (first_number earlier last) found.recycled.items (omega (arith, ends, bound)) there.spares;
-        }) under
+        })
 
 pub found_stays : {R : Type 0} (layout : QueueLayout R) (told : IsQueueLayout layout) (theirs : List ℕ → Type 0) (old new : Disk) → ((path : List ℕ) → layout.own path → theirs path → ⊥) → TouchesOnlyNames theirs old new
     → (found : FoundFiles) (q : Spanned R) → IsFoundOf layout found q old → IsFoundOf layout found q new
@@ -189,7 +191,13 @@ module _ {R E V : Type 0} (log : TwoQueues R E V) (two : AreTwoQueues log) (whic
   low_first low f all = (let below = all.below in omega (arith, below))
 
   -- A queue that a stop left.
-  module _ (earlier : List Listed) (last : Listed) (left : IsStopped layout q.files s.disk) (scanned : AreFound layout found earlier last q.files.last s.disk) (under : first_number earlier last ≤ q.first) where
+  module _ (earlier : List Listed) (last : Listed) (left : IsStopped layout q.files s.disk) (scanned : AreFound layout found earlier last q.files.last s.disk) where
+    -- what was found of it begins no later than its span
+    under : first_number earlier last ≤ q.first
+    under =
+        let ends = span_end layout.paths s.disk.names (first_number earlier last) q.files.last earlier scanned.span in
+        gap_before layout q s.disk (first_number earlier last) (lies_span layout told q s.disk (lies_at log two which o s is)) (omega (arith, ends)) scanned.begins
+
     here : IsFound layout.format layout.own layout.paths s.disk earlier last found.end found.recycled.items q.files s.disk
     here = found_as layout told q.files s.disk found earlier last sound left scanned
 
@@ -211,12 +219,15 @@ module _ {R E V : Type 0} (log : TwoQueues R E V) (two : AreTwoQueues log) (whic
     not_taken errors.Memory new same = same
     not_taken (errors.InvalidArgument text) new (refusal, same) = same
     not_taken (errors.Io kind) new (makes, fails) =
-        let (cause, gaps, half) = fails s.disk q.files here in
+        let (cause, gaps, span, half) = fails s.disk q.files here in
         let (front, stale, on, held, there) = half in
         let p = reread front stale q.files in (
           p,
           refl,
-          leaves log two which o None None s (in_span q p) new is there.stands.others (inl (inl (left_rebased layout s.disk p new there))),
+          leaves log two which o None None s (in_span q p) new is there.stands.others (inl (
+            inl (left_rebased layout s.disk p new there),
+            there_within layout (first_number earlier last) q.first q.files.last q.files.last new under (omega arith) (span_is_there layout told (first_number earlier last) q.files.last earlier new (let bound = left.stands.bound in omega (arith, bound)) span),
+          )),
           read_on log two which o None s p q.first (length q.files.pending) new is there.stands.others gaps low_first (omega arith) refl refl (all_records q.files) refl,
         )
     not_taken _ new leaves = absurd leaves
@@ -264,7 +275,7 @@ module _ {R E V : Type 0} (log : TwoQueues R E V) (two : AreTwoQueues log) (whic
           (let p = with_room room (fresh_queue older (header_bytes begin.format)) in (
             p,
             refl,
-            leaves log two which o None None s (in_span q p) new is there.stands.others (inl (inl (left_rebased layout s.disk p new there))),
+            leaves log two which o None None s (in_span q p) new is there.stands.others (inl (inl (left_rebased layout s.disk p new there), λ m from less. (let first = only_first in let small : m < 1 = less in absurd (omega (arith, first, from, small))))),
             same_queue p q.first new refl refl refl refl only_first there.stands.others absent,
           ))
     ]
@@ -277,35 +288,35 @@ module _ {R E V : Type 0} (log : TwoQueues R E V) (two : AreTwoQueues log) (whic
     not_begun_so _ new leaves = absurd leaves
 
   answered : IsFoundOf layout found q s.disk → (files : PipeFiles) (new : Disk) → Opens layout.format layout.own layout.paths begin found files s.disk new → Answered files new
-  answered (stopped earlier last items left scanned under) files new (takes_up earlier' last' items' takes listed) =
+  answered (stopped earlier last items left scanned) files new (takes_up earlier' last' items' takes listed) =
       let (earlier_is, last_is) = same_ends earlier' earlier last' last (sym items' ∙ items) in
-      taken_so earlier last left scanned under files new
+      taken_so earlier last left scanned files new
       (subst (λ (x : Listed). TakesUpFound layout.format layout.own layout.paths earlier x found.end found.recycled.items files s.disk new) last_is
       (subst (λ (xs : List Listed). TakesUpFound layout.format layout.own layout.paths xs last' found.end found.recycled.items files s.disk new) earlier_is takes))
       (subst (λ (x : Listed). IsListedAs earlier (taken_up found.end x) found.recycled.items files) last_is
       (subst (λ (xs : List Listed). IsListedAs xs (taken_up found.end last') found.recycled.items files) earlier_is listed))
-  answered (stopped earlier last items left scanned under) files new (begins none begun listed) = absurd (ends_somewhere earlier last (sym items ∙ none))
+  answered (stopped earlier last items left scanned) files new (begins none begun listed) = absurd (ends_somewhere earlier last (sym items ∙ none))
   answered (unbegun none there spares) files new (takes_up earlier last items takes listed) = absurd (ends_somewhere earlier last (sym items ∙ none))
   answered (unbegun none there spares) files new (begins none' begun listed) = begun_so there spares files new begun listed
 
   refused : IsFoundOf layout found q s.disk → (error : Error) (new : Disk) → OpenLeaves layout.format layout.own layout.paths begin found error s.disk new → LeavesUnopened log which o s error new
-  refused (stopped earlier last items left scanned under) error new (not_taken_up earlier' last' items' takes) =
+  refused (stopped earlier last items left scanned) error new (not_taken_up earlier' last' items' takes) =
       let (earlier_is, last_is) = same_ends earlier' earlier last' last (sym items' ∙ items) in
-      not_taken earlier last left scanned under error new
+      not_taken earlier last left scanned error new
       (subst (λ (x : Listed). TakeUpLeaves layout.format layout.own layout.paths earlier x found.end found.recycled.items error s.disk new) last_is
       (subst (λ (xs : List Listed). TakeUpLeaves layout.format layout.own layout.paths xs last' found.end found.recycled.items error s.disk new) earlier_is takes))
-  refused (stopped earlier last items left scanned under) error new (not_begun none begun) = absurd (ends_somewhere earlier last (sym items ∙ none))
+  refused (stopped earlier last items left scanned) error new (not_begun none begun) = absurd (ends_somewhere earlier last (sym items ∙ none))
   refused (unbegun none there spares) error new (not_taken_up earlier last items takes) = absurd (ends_somewhere earlier last (sym items ∙ none))
   refused (unbegun none there spares) error new (not_begun none' begun) = not_begun_so there spares error new begun
 
   -- no other path was touched
   pub opens_touch : IsFoundOf layout found q s.disk → (files : PipeFiles) (new : Disk) → Opens layout.format layout.own layout.paths begin found files s.disk new → TouchesOnlyNames layout.own s.disk new
-  opens_touch (stopped earlier last items left scanned under) files new (takes_up earlier' last' items' takes listed) =
+  opens_touch (stopped earlier last items left scanned) files new (takes_up earlier' last' items' takes listed) =
       let (earlier_is, last_is) = same_ends earlier' earlier last' last (sym items' ∙ items) in
       let mine = subst (λ (x : Listed). TakesUpFound layout.format layout.own layout.paths earlier x found.end found.recycled.items files s.disk new) last_is
       (subst (λ (xs : List Listed). TakesUpFound layout.format layout.own layout.paths xs last' found.end found.recycled.items files s.disk new) earlier_is takes) in
-      (mine s.disk q.files (here earlier last left scanned under)).1.active.stands.others
-  opens_touch (stopped earlier last items left scanned under) files new (begins none begun listed) = absurd (ends_somewhere earlier last (sym items ∙ none))
+      (mine s.disk q.files (here earlier last left scanned)).1.active.stands.others
+  opens_touch (stopped earlier last items left scanned) files new (begins none begun listed) = absurd (ends_somewhere earlier last (sym items ∙ none))
   opens_touch (unbegun none there spares) files new (takes_up earlier last items takes listed) = absurd (ends_somewhere earlier last (sym items ∙ none))
   opens_touch (unbegun none there spares) files new (begins none' begun listed) = (begun s.disk there.is.0 (record { fresh = there.fresh; spares = spares })).1.active.stands.others
 

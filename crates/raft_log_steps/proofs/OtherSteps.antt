@@ -161,7 +161,7 @@ module _ {R E V : Type 0} (log : TwoQueues R E V) (two : AreTwoQueues log) (whic
       let layout = layout_at which log in
       let q = spanned_at which s in
       let runs = run_at log two which p s run in
-      let (files, goes, left, quiet) = rotation_left log.says layout (told_at log two which) q.first s.disk header (pipe_at which p) after q.files errors.Failed s.disk new fails runs.pipe in (
+      let (files, goes, left, quiet, there) = rotation_left log.says layout (told_at log two which) q.first s.disk header (pipe_at which p) after q.files errors.Failed s.disk new fails runs.pipe in (
         files,
         goes,
         left_on log two which p s run (in_span q files) new left,

@@ -80,7 +80,7 @@ module _ {R E V : Type 0} (log : TwoQueues R E V) (two : AreTwoQueues log) (whic
   not_appended header y after (errors.TryAgain text) new sound first left = cut_back_on header after new first left
   not_appended header y after errors.Memory new sound first left = without_on header after new first left
   not_appended header y after errors.NumberRange new sound first left = without_on header after new first left
-  not_appended header y after errors.Failed new sound first (files, goes, left, may) = (
+  not_appended header y after errors.Failed new sound first (files, goes, left, may, there) = (
     files,
     goes,
     left_on (in_span (spanned_at which s) files) new left,

@@ -24,7 +24,7 @@ pub written_is_pending : {R E V : Type 0} (log : TwoQueues R E V) → WrittenIsP
 written_is_pending log two p old new v u m pending h begin queue signed y says after block call first grow =
     let s = h.state in
     let there = subst (λ (d : Disk). AppendsAt log.append.format log.append.own log.append.paths begin queue signed p.append after block d new) (sym h.disk) call in
-    let (files, taken_in, run, step) = append_is_a_step log two InAppend p s h.run begin queue signed y says after block new there first in
+    let (files, taken_in, last, run, step) = append_is_a_step log two InAppend p s h.run begin queue signed y says after block new there first in
     let ends = append_answered (Ties log) (AllowsIn log) s (next_log InAppend s files new) v m pending h.at u y block.id.seq step grow in
     record {
       done = ends.done;

@@ -9,6 +9,8 @@ use Rattle.raft_log_files.specs.Rotation.{IsLeft}
 use Rattle.raft_log_pipes.specs.Files.{Listed}
 use Rattle.raft_log_pipes.specs.Closing.{AreBelow, IsSettledBy, LeavesClosed, StaysLeft}
 use Rattle.raft_log_pipes.specs.declared.pipe_files.PipeFiles.{PipeFiles}
+use Rattle.raft_log_directory.specs.Model.{Files}
+use Rattle.raft_log_directory.specs.Moves.{Moved}
 use Rattle.raft_log_directory.specs.Calls.{Which, LeavesOut, Settles, FailsWhole}
 use Rattle.raft_log_directory.specs.Log.{View, IsAt, EndsAt}
 use Rattle.raft_log_steps.specs.Queues.{TwoQueues, AreTwoQueues, layout_at}
@@ -42,6 +44,7 @@ pub record ClosesBeside {R E V : Type 0} (log : TwoQueues R E V) (which : Which)
       (λ next. (next ≡ settled (spanned_at which s).files) × LeftAt log which new next)
       (Settles (Ties log) which)
   pub below : AreBelow (spanned_at which s).files.last files.recycled.items
+  pub below_first : AreBelow (spanned_at which s).first files.recycled.items
 
 -- and so it is; behind it, reserved names take nothing away
 abbrev pub CloseIsAStep : {R E V : Type 0} → TwoQueues R E V → Type 0
@@ -53,6 +56,7 @@ abbrev pub NamesAreReserved : {R E V : Type 0} → TwoQueues R E V → Type 0
 NamesAreReserved {R} log = AreTwoQueues log → (which : Which) (o : OpenPipes) (kept : List Listed)
     (s : LogOnDisk R) (new : Disk) → RunOrLie log (with_open which o None) s
     → LeftAt log which s.disk (spanned_at which s).files → AreBelow (spanned_at which s).files.last kept
+    → AreBelow (spanned_at which s).first kept
     → StaysLeft (layout_at which log).format (layout_at which log).own kept s.disk new
     → LeftAt log which new (spanned_at which s).files
     × RunOrLie log (with_open which o None) (next_log which s (spanned_at which s).files new)
@@ -68,21 +72,26 @@ pub record ClosesBoth {R E V : Type 0} (log : TwoQueues R E V) (p : Pipes) (old 
   pub append_names : StaysLeft log.append.format log.append.own p.append.recycled.items two three
   pub rewrite_names : StaysLeft log.rewrite.format log.rewrite.own p.rewrite.recycled.items three new
 
--- Of a log that is closed, whatever was refused meanwhile, the files of both queues are what they were, maybe
--- all synced; and what an engine said of it is true still, of the batches some first ones being synced now.
+-- the log with these files of either queue, on this disk
+abbrev pub closed_log : {R : Type 0} → LogOnDisk R → LogFiles R → LogFiles R → Disk → LogOnDisk R
+closed_log s append rewrite d =
+    record { append = in_span s.append append; rewrite = in_span s.rewrite rewrite; disk = d }
+
+-- A log lies closed: the files of both queues are what they were, maybe all synced; the numbered files were
+-- taken along; and what an engine said of it is true still, of the batches some first ones being synced now.
+pub record LiesClosed {R E V : Type 0} (log : TwoQueues R E V) (s : LogOnDisk R) (new : Disk) : Type 0 where
+  pub append : LogFiles R
+  pub rewrite : LogFiles R
+  pub append_is : IsOrIsSettled s.append.files append
+  pub rewrite_is : IsOrIsSettled s.rewrite.files rewrite
+  pub lies : RunOrLie log none_open (closed_log s append rewrite new)
+  pub moves : (f : Files E V) → Ties log s f → (a : Moved f.append_from f.append)
+      × (r : Moved f.rewrite_from f.rewrite) × Ties log (closed_log s append rewrite new)
+      (record { append = a.queue; append_from = a.from; rewrite = r.queue; rewrite_from = r.from })
+  pub ends : (v : View E V) (m : Map E V) (pending : List (Record E V)) → IsAt (Ties log s) v m pending
+      → EndsAt (Ties log (closed_log s append rewrite new)) v m pending
+
+-- so it is, whatever was refused meanwhile
 abbrev pub ClosedLogIsALog : {R E V : Type 0} → TwoQueues R E V → Type 0
-ClosedLogIsALog {R} {E} {V} log = AreTwoQueues log → (p : Pipes) (s : LogOnDisk R) (new : Disk) → Run log p s
-    → ClosesBoth log p s.disk new
-    → (append rewrite : LogFiles R) × IsOrIsSettled s.append.files append
-    × IsOrIsSettled s.rewrite.files rewrite
-    × RunOrLie log none_open (record {
-      append = in_span s.append append;
-      rewrite = in_span s.rewrite rewrite;
-      disk = new;
-    })
-    × ((v : View E V) (m : Map E V) (pending : List (Record E V)) → IsAt (Ties log s) v m pending
-    → EndsAt (Ties log (record {
-      append = in_span s.append append;
-      rewrite = in_span s.rewrite rewrite;
-      disk = new;
-    })) v m pending)
+ClosedLogIsALog {R} log = AreTwoQueues log → (p : Pipes) (s : LogOnDisk R) (new : Disk) → Run log p s
+    → ClosesBoth log p s.disk new → LiesClosed log s new

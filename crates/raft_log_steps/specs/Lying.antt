@@ -13,7 +13,7 @@ use Rattle.raft_log_directory.specs.Calls.{Which}
 use Rattle.raft_log_directory.specs.Calls.Which.{InAppend, InRewrite}
 use Rattle.raft_log_directory.specs.Log.{IsLog, IsLogOf}
 use Rattle.raft_log_steps.specs.Queues.{QueueLayout, TwoQueues, AreTwoQueues}
-use Rattle.raft_log_steps.specs.State.{Spanned, LogOnDisk, Pipes, Run, RunsQueue, HoldsQueue, HoldsBoth, Ties}
+use Rattle.raft_log_steps.specs.State.{Spanned, LogOnDisk, Pipes, Run, RunsQueue, HoldsQueue, HoldsBoth, HasSpan, Ties}
 use Rattle.raft_log_steps.specs.Crash.{readings_of, AllowsIn}
 use Rattle.raft_log_steps.specs.Beginning.{begun_queue}
 use Rattle.raft_log_steps.specs.Steps.{next_log}
@@ -23,9 +23,9 @@ pub record IsUnbegun {R : Type 0} (layout : QueueLayout R) (q : Spanned R) (d : 
   pub fresh : IsFresh layout.format layout.own d d
   pub is : (older : ℕ → Past R) × (header : List ℕ) × (room : ℕ) × (q ≡ begun_queue older header room)
 
--- the queue's files lie on the disk, as a pipe or a stop left them; or none was made yet
+-- the queue's files lie on the disk, as a pipe or a stop left them, each of its span; or none was made yet
 abbrev pub LiesQueue : {R : Type 0} → QueueLayout R → Spanned R → Disk → Type 0
-LiesQueue layout q d = HoldsQueue layout q.files d ⊎ IsUnbegun layout q d
+LiesQueue layout q d = (HoldsQueue layout q.files d × HasSpan layout.format q d) ⊎ IsUnbegun layout q d
 
 -- the queue's pipe runs with these files; or none runs, and its files lie there
 abbrev pub RunsOrLies : {R : Type 0} → QueueLayout R → Option PipeFiles → Spanned R → Disk → Type 0
@@ -64,7 +64,8 @@ LeavesQueue {R} log which o now s new becomes takes = (files : LogFiles R) × be
     × takes s (next_log which s files new)
 
 -- However each queue stands, the numbered files allow each image that a crash may leave; so what is said of
--- them is true of the log. While both pipes run that is so, and where the records of both are held.
+-- them is true of the log. While both pipes run that is so, and where the records of both are held and the
+-- files of both spans are there; and whatever pipe is dropped, its queue lies there.
 pub record LyingLogIsALog {R E V : Type 0} (log : TwoQueues R E V) : Type 0 where
   pub allowed : (o : OpenPipes) (s : LogOnDisk R) (f : Files E V) → IsSound s.disk → RunOrLie log o s
       → Ties log s f → AllowsIn log s f
@@ -72,7 +73,9 @@ pub record LyingLogIsALog {R E V : Type 0} (log : TwoQueues R E V) : Type 0 wher
       → IsSound s.disk → RunOrLie log o s → IsLog (Ties log s) m pending
       → IsLogOf (readings_of log) s m pending
   pub running : (p : Pipes) (s : LogOnDisk R) → Run log p s → RunOrLie log (both_open p) s
-  pub held : (s : LogOnDisk R) → HoldsBoth log s → RunOrLie log none_open s
+  pub held : (s : LogOnDisk R) → HoldsBoth log s → HasSpan log.append.format s.append s.disk
+      → HasSpan log.rewrite.format s.rewrite s.disk → RunOrLie log none_open s
+  pub dropped : (o : OpenPipes) (s : LogOnDisk R) → RunOrLie log o s → RunOrLie log none_open s
 
 -- and so it is
 abbrev pub LyingLogsAreLogs : {R E V : Type 0} → TwoQueues R E V → Type 0

@@ -1,11 +1,11 @@
 -- A log is found again behind a stop, and its pipes are opened: what becomes of its numbered files.
-use Rattle.std.specs.Prelude.{◌≡◌, ℕ, ◌≤◌, ◌⊎◌, false, Some, None, List, [], ◌∷◌, ◌++◌, length, take}
+use Rattle.std.specs.Prelude.{◌≡◌, ℕ, ◌≤◌, ◌⊎◌, false, Some, None, List, [], ◌∷◌, ◌++◌, length, suc, take}
 use Rattle.raft_log_model.specs.Item.{Record}
 use Rattle.raft_log_model.specs.Groups.{Map, directory_meaning, taken}
 use Rattle.raft_log_machine.specs.Images.{IsOneRun}
 use Rattle.raft_log_disk.specs.Disk.{Disk}
 use Rattle.raft_log_disk.specs.Image.{IsImage, IsSound}
-use Rattle.raft_log_disk.specs.LogQueue.{LogFiles, NoChanceInLast}
+use Rattle.raft_log_disk.specs.LogQueue.{LogFiles, IsAbsent, NoChanceInLast}
 use Rattle.raft_log_base.specs.declared.errors.Error.{Error}
 use Rattle.raft_log_base.specs.declared.errors.Error.TheVariants as errors
 use Rattle.raft_log_disk.specs.Touching.{HasFile}
@@ -22,7 +22,7 @@ use Rattle.raft_log_directory.specs.Log.{View, IsLog}
 use Rattle.raft_log_directory.specs.Calls.{Which, ReadAgain, IsMadeOf, Replays, read_files, records_read, from_at, queue_at, put}
 use Rattle.raft_log_directory.specs.Calls.Which.{InAppend, InRewrite}
 use Rattle.raft_log_steps.specs.Queues.{QueueLayout, TwoQueues, AreTwoQueues, layout_at}
-use Rattle.raft_log_steps.specs.State.{Spanned, LogOnDisk, spanned_at, with_spanned, IsStopped, Ties}
+use Rattle.raft_log_steps.specs.State.{Spanned, LogOnDisk, spanned_at, with_spanned, IsStopped, HasSpan, Ties}
 use Rattle.raft_log_steps.specs.Crash.{IsLeftByCrash}
 use Rattle.raft_log_steps.specs.Beginning.{stopped_log}
 use Rattle.raft_log_steps.specs.Steps.{next_log}
@@ -41,9 +41,9 @@ ReadsBothAgain {S} {E} {V} ties s t = (f : Files E V) → ties s f
     → (r : ReadAgain f.rewrite) × (a : ReadAgain f.append)
     × ties t (record f { rewrite = read_files f.rewrite r; append = read_files f.append a })
 
--- the queue's files lie on the disk as a stop left them, or none was made yet
+-- the queue's files lie on the disk as a stop left them, each of its span; or none was made yet
 abbrev pub RestsQueue : {R : Type 0} → QueueLayout R → Spanned R → Disk → Type 0
-RestsQueue layout q d = IsStopped layout q.files d ⊎ IsUnbegun layout q d
+RestsQueue layout q d = (IsStopped layout q.files d × HasSpan layout.format q d) ⊎ IsUnbegun layout q d
 
 -- so do those of both
 pub record RestBoth {R E V : Type 0} (log : TwoQueues R E V) (s : LogOnDisk R) : Type 0 where
@@ -68,7 +68,8 @@ CrashIsAStep {R} log = AreTwoQueues log → (o : OpenPipes) (s : LogOnDisk R) (i
     → IsLeftByCrash log (stopped_log s append rewrite image) later)
 
 -- The files of a queue, as they were found: the last one, which its handle may write, was read up to the end
--- that is told; those before it are there, and so are those that are kept for use.
+-- that is told; those before it are there, down to the first number below which no file has the next one; and
+-- so are those that are kept for use.
 pub record AreFound {R : Type 0} (layout : QueueLayout R) (found : FoundFiles) (earlier : List Listed)
     (last : Listed) (number : ℕ) (d : Disk) : Type 0 where
   pub number_is : last.seq ≡ number
@@ -78,16 +79,16 @@ pub record AreFound {R : Type 0} (layout : QueueLayout R) (found : FoundFiles) (
   pub read : HasFile last.handle.file (IsReadTo layout.format number found.end) d
   pub headed : HasOwnHeader layout.format found.end last d
   pub span : IsSpan layout.paths d.names (first_number earlier last) earlier number
+  pub begins : (m : ℕ) → suc m ≡ first_number earlier last → IsAbsent layout.format m d
   pub spares : AreKept layout.format layout.paths (first_number earlier last) d found.recycled.items
 
--- What was found of a queue is what a stop left: all its files from some number on, up to the span's first;
--- or it has none.
+-- What was found of a queue is what a stop left: all its files that no gap parts from the last one; or it has
+-- none.
 pub data IsFoundOf {R : Type 0} (layout : QueueLayout R) (found : FoundFiles) (q : Spanned R)
     (d : Disk) : Type 0 where
   stopped : (earlier : List Listed) (last : Listed) → found.files.items ≡ earlier ++ last ∷ []
       → IsStopped layout q.files d
-      → AreFound layout found earlier last q.files.last d
-      → first_number earlier last ≤ q.first → IsFoundOf layout found q d
+      → AreFound layout found earlier last q.files.last d → IsFoundOf layout found q d
   unbegun : found.files.items ≡ [] → IsUnbegun layout q d
       → AreKept layout.format layout.paths 1 d found.recycled.items → IsFoundOf layout found q d
 

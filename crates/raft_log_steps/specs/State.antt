@@ -1,8 +1,9 @@
 -- A log on a disk: its two queues, the pipes that have their files open, and the numbered files that these
 -- are.
-use Rattle.std.specs.Prelude.{◌≡◌, ℕ, ◌⊎◌, List}
+use Rattle.std.specs.Prelude.{◌≡◌, ℕ, ◌<◌, ◌≤◌, ◌⊎◌, List}
 use Rattle.raft_log_disk.specs.Disk.{Disk}
-use Rattle.raft_log_disk.specs.LogQueue.{LogFiles, IsLeftover}
+use Rattle.raft_log_disk.specs.LogFormat.{Format}
+use Rattle.raft_log_disk.specs.LogQueue.{LogFiles, IsLeftover, IsThere}
 use Rattle.raft_log_file_queue.specs.Standing.{Names, Stands}
 use Rattle.raft_log_file_queue.specs.Bridge.{IsFileQueue}
 use Rattle.raft_log_files.specs.Rotation.{IsLeft}
@@ -75,6 +76,14 @@ HoldsQueue layout q d = IsLeft layout.format layout.own d q d ⊎ IsStopped layo
 pub record HoldsBoth {R E V : Type 0} (log : TwoQueues R E V) (s : LogOnDisk R) : Type 0 where
   pub append : HoldsQueue log.append s.append.files s.disk
   pub rewrite : HoldsQueue log.rewrite s.rewrite.files s.disk
+
+-- each number from the first on, below the other, has a file
+abbrev pub AreThere : {R : Type 0} → Format R → ℕ → ℕ → Disk → Type 0
+AreThere F first end d = (m : ℕ) → first ≤ m → m < end → IsThere F m d
+
+-- each number of the queue's span has one (that the last one has, its records say)
+abbrev pub HasSpan : {R : Type 0} → Format R → Spanned R → Disk → Type 0
+HasSpan F q d = AreThere F q.first q.files.last d
 
 -- the numbered files are those of the log's two queues on its disk
 pub record Ties {R E V : Type 0} (log : TwoQueues R E V) (s : LogOnDisk R) (f : Files E V) : Type 0 where

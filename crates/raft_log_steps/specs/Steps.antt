@@ -17,7 +17,7 @@ use Rattle.raft_log_pipes.specs.declared.new_files.NewFiles.{NewFiles}
 use Rattle.raft_log_directory.specs.Calls.{Which, Appends, CutsBack, LeavesOut, MayAppend}
 use Rattle.raft_log_steps.specs.Queues.{QueueLayout, IsQueueLayout, TwoQueues, AreTwoQueues, layout_at, SaysRecord}
 use Rattle.raft_log_steps.specs.State.{Spanned, LogOnDisk, spanned_at, with_spanned, Pipes, pipe_at, with_pipe, RunsQueue, Run, HoldsQueue, HoldsBoth, Ties}
-use Rattle.raft_log_steps.specs.Turning.{IsOrGoesOn, HasTaken, IsCutBack, in_span}
+use Rattle.raft_log_steps.specs.Turning.{IsOrGoesOn, HasLast, HasTaken, IsCutBack, in_span}
 use Rattle.raft_log_steps.specs.Crash.{AllowsIn}
 
 -- A call on another queue's paths leaves this one: its pipe runs on, or what it held is held.
@@ -40,7 +40,7 @@ next_log which s files d = with_spanned which s (in_span (spanned_at which s) fi
 abbrev pub AppendIsAStep : {R E V : Type 0} → TwoQueues R E V → Type 0
 AppendIsAStep {R} {E} {V} log = AreTwoQueues log → (which : Which) (p : Pipes) (s : LogOnDisk R)
     → Run log p s → (begin : NewFiles) (queue : LogQueue) (signed : LogFileContext → List ℕ) (y : Record E V)
-    → SaysRecord log.says (layout_at which log) queue signed y
+    → (said : SaysRecord log.says (layout_at which log) queue signed y)
     → (after : PipeFiles) (block : FileBlockHandle) (new : Disk)
     → AppendsAt (layout_at which log).format (layout_at which log).own (layout_at which log).paths begin
     queue signed (pipe_at which p) after block s.disk new
@@ -48,6 +48,7 @@ AppendIsAStep {R} {E} {V} log = AreTwoQueues log → (which : Which) (p : Pipes)
     → (files : LogFiles R)
     × HasTaken (header_bytes begin.format) (pipe_at which p).recycled.items s.disk (spanned_at which s).files
     files
+    × HasLast signed said.value block files
     × Run log (with_pipe which p after) (next_log which s files new)
     × Appends (Ties log) which y block.id.seq s (next_log which s files new)
 

@@ -1,5 +1,5 @@
 mod Carrying
 mod Ending
 mod Fitting
-mod Growing
-mod Lying
+pub mod Growing
+pub mod Lying

@@ -4,3 +4,4 @@ pub mod LogDisk
 pub mod Chain
 pub mod Sessions
 pub mod Pipes
+pub mod DualPipes

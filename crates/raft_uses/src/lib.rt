@@ -3,9 +3,11 @@
 
 pub mod atomic_groups;
 pub mod base;
+pub mod dual_pipes;
 pub mod format;
 pub mod frames;
 pub mod items;
+pub mod listeners;
 pub mod log_disk;
 pub mod memory_files;
 pub mod outline;

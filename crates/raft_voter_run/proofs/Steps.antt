@@ -1,5 +1,5 @@
 -- A session goes on.
-use Rattle.std.proofs.Common.{◌≡◌, ℕ, ◌+◌, ◌<◌, nat_lt, Bool, false, ◌⊎◌, inr, List, [], ◌∷◌, ◌++◌, length, append_assoc, append-nil, refl, sym, ap, ◌∙◌, subst, arith}
+use Rattle.std.proofs.Common.{◌≡◌, ℕ, ◌+◌, ◌<◌, ◌≤◌, nat_lt, Bool, false, ◌⊎◌, inr, List, [], ◌∷◌, ◌++◌, length, append_assoc, append-nil, refl, sym, ap, ◌∙◌, subst, arith}
 use Rattle.std.proofs.lemmas.List.Concat.{flat_map-append}
 use Rattle.std.proofs.lemmas.Bool.Decides.{nat_tests}
 use Rattle.raft_voter_messages.specs.declared.reply.Reply.{Reply}
@@ -173,6 +173,12 @@ crashes_on {S} {F} v f files events left now old new rounds cuts s next moves ke
           let P : List Event → Type 0 = λ es. Happens v f es old W rs in
           s.happened rs (subst P (sym next) (new, moves, left_by_crash v f new W at, more));
     }
+
+-- of the events that are left there are no more than of all
+pub fewer : (left now : List Event) (event : Event) (most : ℕ) → left ≡ event ∷ now → length left ≤ most → length now ≤ most
+fewer left now event most e few =
+    let size = ap length e in
+    omega arith
 
 pub begins : {S F : Type 0} (v : Service S) (f : Files S F) (files : F) (events : List Event) (rounds : List RoundRecord) (cuts : List ℕ) → IsClosedAt f files fresh_world → rounds ≡ [] → cuts ≡ []
     → IsUnderWay v f files events events (Closed files) rounds cuts

@@ -1,11 +1,14 @@
 -- A store that is open, or the files of one that isn't.
 use Rattle.std.specs.Prelude.{◌≡◌, ℕ, ◌≤◌, ◌<◌, Bool, true, false, ◌⊎◌, List, [], ◌∷◌, ◌++◌, length}
+use Rattle.raft_voter_messages.specs.declared.reply.Reply.{Reply}
 use Rattle.raft_voter_messages.specs.declared.request.Request.{Request}
 use Rattle.raft_voter_messages.specs.declared.round.Outcome.{Outcome}
 use Rattle.raft_voter_messages.specs.declared.round.Outcome.TheVariants.{Answered, Cut}
 use Rattle.raft_voter_messages.specs.declared.round.Round.{Round}
 use Rattle.raft_voter.specs.Rounds.{World, RoundHolds, after_round, cuts_after}
-use Rattle.raft_voter.specs.Service.{Files, IsClosedAt, IsOpenAt, LeavesAlone, Service}
+use Rattle.raft_voter.specs.Service.{Answers, CutsOff, FailsAs, Files, IsClosedAt, IsOpenAt, LeavesAlone, Service}
+use Rattle.raft_voter.specs.declared.service.Cause.{Cause}
+use Rattle.raft_voter.specs.declared.service.Cause.TheVariants.{Memory}
 use Rattle.raft_voter_run.specs.declared.storage.Storage.{Storage}
 use Rattle.raft_voter_run.specs.declared.storage.Storage.TheVariants.{Closed, Open}
 
@@ -101,3 +104,17 @@ pub record Served {S F : Type 0} (v : Service S) (f : Files S F) (old new : Stor
   pub still : is_open new ≡ is_open old
   pub world : World → World
   pub serves : (W : World) → IsAt v f old W → Serves W round (world W) × IsAt v f new (world W)
+
+-- A round isn't told, for this cause: its store cut it off for it, or answered it where no memory was left to
+-- tell so.
+abbrev pub IsUntold : {S : Type 0} → Service S → S → S → List (ℕ × Request) → Cause → Type 0
+IsUntold v old new requests cause =
+    ((refused : List ℕ)
+    × CutsOff cause refused requests (v.world old) (v.may_leave old) (v.world new) (v.may_leave new)
+    × FailsAs cause (length requests) (v.is_failed old) (v.is_failed new))
+    ⊎ ((cause ≡ Memory) × ((told : List Reply) × Answers (v.world old) requests told (v.world new)))
+
+-- a round isn't told, for this cause, and its store is still open
+abbrev pub Untold : {S F : Type 0} → Service S → Storage S F → Storage S F → List (ℕ × Request) → Cause → Type 0
+Untold v (Open old) (Open new) requests cause = IsUntold v old new requests cause
+Untold v old new requests cause = ⊥

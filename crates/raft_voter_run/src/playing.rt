@@ -1,5 +1,5 @@
 //! Plays a session's events.
-ghost use Rattle.std.specs.Prelude.{◌≡◌, ◌++◌, IfOk, OnOk};
+ghost use Rattle.std.specs.Prelude.{◌≡◌, ◌<◌, ◌++◌, length, IfOk, OnErr, OnOk};
 ghost use Rattle.raft_voter.specs.Rounds.{fresh_world};
 ghost use Rattle.raft_voter.specs.Service.{IsClosedAt};
 ghost use Rattle.raft_voter_run.specs.Play.{IsPlayed};
@@ -12,15 +12,17 @@ use std::alloc::Global;
 use std::collections::VecDeque;
 
 /// The transcript of a session that begins with these files, in which no voter is stored, and the place up to
-/// which each round that was cut off was taken. It stops where memory is refused or the file system fails.
+/// which each round that was cut off was taken. It stops where memory is refused or the file system fails,
+/// which can be only where there is an event.
 pub fn play<S: RoundService + Drop, F: StoreFiles<S> + Drop>(
     alloc: Global,
     files: F,
     mut events: VecDeque<Event>,
 ) -> Result<(Transcript, Items<usize>), Cause>
     requires { IsClosedAt F.files files fresh_world }
-    ensures { IfOk result (λ played.
+    ensures ok { IfOk result (λ played.
         IsPlayed S.service F.files files events.items played.0.rounds played.1) }
+    ensures errors { OnErr result (0 < length events.items) }
 {
     let mut storage: Storage<S, F> = Storage::Closed(files);
     let mut rounds = Items::new(alloc);

@@ -1,5 +1,5 @@
 //! From the bytes of a session to those of its transcript.
-ghost use Rattle.std.specs.Prelude.{◌≡◌, false, IfOk, IfSome, OnErr, string_bytes, take};
+ghost use Rattle.std.specs.Prelude.{◌≡◌, false, true, IfOk, IfSome, OnErr, string_bytes, take};
 ghost use Rattle.raft_voter.specs.Rounds.{fresh_world};
 ghost use Rattle.raft_voter.specs.Service.{IsClosedAt};
 ghost use Rattle.raft_voter_run.specs.Play.{IsPlayed};
@@ -59,6 +59,7 @@ pub fn program<S: RoundService + Drop, F: StoreFiles<S> + Drop, R: Read, W: Writ
     ensures err { OnErr result (IfSome (R.remaining reader.old) (λ input.
         EndsEarly (IsPlayed S.service F.files files) has_arguments input
         (W.contents writer.old) (W.contents writer.new))) }
+    ensures unread { has_arguments ≡ true → reader.new ≡ reader.old }
 {
     if has_arguments {
         write_whole(writer, b"arguments refused\n")?;

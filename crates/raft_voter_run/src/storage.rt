@@ -1,7 +1,7 @@
 //! A store that is open, or the files of one that isn't.
-ghost use Rattle.std.specs.Prelude.{◌≡◌, [], true, IfOk, OnErr};
+ghost use Rattle.std.specs.Prelude.{◌≡◌, [], true, IfErr, IfOk, OnErr};
 ghost use Rattle.raft_voter.specs.Service.{is_refused, refused_from};
-ghost use Rattle.raft_voter_run.specs.Storage.{Closes, Crashes, IsOver, Keeps, MayAnswer, Opens, Served};
+ghost use Rattle.raft_voter_run.specs.Storage.{Closes, Crashes, IsOver, Keeps, MayAnswer, Opens, Served, Untold};
 
 use raft_voter::{Cause, Items, Memory, Outcome, Reply, Request, Round, RoundService, StoreFiles};
 use std::alloc::Global;
@@ -54,9 +54,11 @@ impl<S: RoundService + Drop, F: StoreFiles<S> + Drop> Storage<S, F> {
     }
 
     /// Serves a round, or cuts it off where no store is open or it is too long. Another fault of the store is
-    /// handed on, and can come only where a store is open and the round isn't too long.
+    /// handed on, and can come only where a store is open and the round isn't too long. The store is still
+    /// open then: it took what its fault says, or, where memory was refused, perhaps the whole round.
     pub fn serve(&mut self, alloc: Global, requests: Items<(u64, Request)>) -> Result<Round, Cause>
         ensures ok { IfOk result (Served S.service F.files self.old self.new requests) }
+        ensures err { IfErr result (Untold S.service self.old self.new requests) }
         ensures errors { OnErr result (MayAnswer self.old requests) }
     {
         let Storage::Open(store) = self else {

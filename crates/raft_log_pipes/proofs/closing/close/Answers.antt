@@ -1,6 +1,6 @@
 use Rattle.std.proofs.Common.{subst, sym, ap}
 use Rattle.raft_log_pipes.specs.Closing.{AreBelow}
-use Rattle.raft_log_pipes.proofs.SettingAside.{closes_all, pipe_below}
+use Rattle.raft_log_pipes.proofs.SettingAside.{closes_all, pipe_below_first}
 use Rattle.raft_log_pipes.proofs.closing.close.Goals as goal
 
 pub returns-clause-held : goal.returns-clause-held
@@ -11,5 +11,5 @@ returns-clause-held g c =
     let own = g.G.PipeFormat.own layout in
     let paths = g.G.PipeFormat.file_paths layout in
     let lawful = g.met.G.PipeFormat.lawful layout in
-    closes_all F own paths c.args.files c.finish.new.files.recycled.items (D c.args.file_system.now) (D c.finish.new.file_system) (D c.reserve_files.new.file_system)
-    (λ base q is. subst (AreBelow q.last) (sym (ap (λ kept. kept.items) c.finish.ensures.recycled)) (pipe_below F own paths lawful base c.args.files q (D c.args.file_system.now) is)) c.finish.ensures.held c.reserve_files.ensures.held
+    closes_all F own paths lawful c.args.files c.finish.new.files.recycled.items (D c.args.file_system.now) (D c.finish.new.file_system) (D c.reserve_files.new.file_system)
+    (λ base q is. subst (AreBelow c.args.files.first_seq) (sym (ap (λ kept. kept.items) c.finish.ensures.recycled)) (pipe_below_first F own paths lawful base c.args.files q (D c.args.file_system.now) is)) c.finish.ensures.held c.reserve_files.ensures.held

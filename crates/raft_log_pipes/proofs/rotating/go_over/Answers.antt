@@ -23,8 +23,8 @@ returns-in-Err-clause-err g c =
     let next : Listed = record { seq = c.args.seq; handle = c.args.kept.handle; format = c.args.new_files.now.format; path_id = c.args.kept.path_id; reserved = false } in
     let is_next : IsNext next (header_bytes c.args.new_files.now.format) c.args.files.now = record { number = c.requires.number; listed = refl; small = c.in_ok-to.ensures.named; header_is = refl; has = c.header-header.ensures.has } in
     over_refused (g.G.PipeFormat.format c.args.layout.now) (g.G.PipeFormat.own c.args.layout.now) (g.G.PipeFormat.file_paths c.args.layout.now) (g.met.G.PipeFormat.lawful c.args.layout.now) (D c.args.file_system.now) (D c.rotate_over.new.file_system)
-    c.args.files.now c.args.kept next c.deref-2.result.now c.deref-3.result.now (header_bytes c.args.new_files.now.format) c.header-header.result.now c.in_ok-handle.handle (c.deref-2.ensures ∙ c.in_ok-from.ensures.ok) (c.deref-3.ensures ∙ c.in_ok-to.ensures.ok)
-    c.header-header.ensures.bytes c.requires.oldest (search rules) is_next c.in-Err.ensures.err
+    c.args.files.now c.args.kept next c.deref-2.result.now c.deref-3.result.now (header_bytes c.args.new_files.now.format) c.header-header.result.now c.in_ok-handle.handle c.in-Err.kind (c.deref-2.ensures ∙ c.in_ok-from.ensures.ok) (c.deref-3.ensures ∙ c.in_ok-to.ensures.ok)
+    c.header-header.ensures.bytes c.requires.oldest (search rules) is_next c.in-Err.ensures.err c.in-Err.ensures.refusal
 
 pub returns-clause-ok : goal.returns-clause-ok
 returns-clause-ok g c =

@@ -17,4 +17,4 @@ returns-clause-ok g c =
     let D = g.F.FileSystem.disk in
     let after : PipeFiles = record c.args.files.now { writer = c.append_record.new.writer } in
     adds (g.G.PipeFormat.format c.args.layout.now) (g.G.PipeFormat.own c.args.layout.now) (g.G.PipeFormat.file_paths c.args.layout.now) (g.met.G.PipeFormat.lawful c.args.layout.now) (D c.args.file_system.now) (D c.append_record.new.file_system)
-    c.args.files.now after c.args.bytes.now c.offset-at.result (g.met.F.FileSystem.sound c.args.file_system.now) c.offset-at.ensures c.in_ok-append_record.ensures.ok c.append_record.ensures.others refl refl refl refl
+    c.args.files.now after c.args.bytes.now c.offset-at.result (g.met.F.FileSystem.sound c.args.file_system.now) c.offset-at.ensures.is c.in_ok-append_record.ensures.ok c.append_record.ensures.others refl refl refl refl

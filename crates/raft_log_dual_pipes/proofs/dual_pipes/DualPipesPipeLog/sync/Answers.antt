@@ -14,7 +14,7 @@ returns-in-Append-clause-ok g c =
 pub returns-in-Append-clause-err : goal.returns-in-Append-clause-err
 returns-in-Append-clause-err g c =
     let alive = (either_false _ _ (sym c.is_failed.ensures ∙ c.if-is_failed.false)).0 in
-    rw c.in-Append.is (sync_refused InAppend _ _ c.sync.result (c.sync.ensures.err alive) (g.met.F.FileSystem.sound c.sync.new.file_system))
+    rw c.in-Append.is (sync_refused InAppend _ _ c.sync.result (c.sync.ensures.err alive))
 
 pub returns-in-Rewrite-clause-ok : goal.returns-in-Rewrite-clause-ok
 returns-in-Rewrite-clause-ok g c =
@@ -25,4 +25,4 @@ returns-in-Rewrite-clause-ok g c =
 pub returns-in-Rewrite-clause-err : goal.returns-in-Rewrite-clause-err
 returns-in-Rewrite-clause-err g c =
     let alive = (either_false _ _ (sym c.is_failed.ensures ∙ c.if-is_failed.false)).1 in
-    rw c.in-Rewrite.is (sync_refused InRewrite _ _ c.sync-in-Rewrite.result (c.sync-in-Rewrite.ensures.err alive) (g.met.F.FileSystem.sound c.sync-in-Rewrite.new.file_system))
+    rw c.in-Rewrite.is (sync_refused InRewrite _ _ c.sync-in-Rewrite.result (c.sync-in-Rewrite.ensures.err alive))

@@ -1,14 +1,15 @@
-use Rattle.std.proofs.Common.{◌≡◌, ◌<◌, ℕ, List, length, take, drop, sym, ap, subst, ◌∙◌}
+use Rattle.std.proofs.Common.{vec_capacity, ◌≡◌, ◌<◌, ℕ, List, length, take, drop, sym, ap, subst, ◌∙◌}
 use Rattle.raft_log_frames.specs.Written.{AreBytes}
 use Rattle.raft_log_records.specs.declared.log_batch.BatchState.{BatchState}
 use Rattle.raft_log_records.specs.Batch.{Batch, roomy, IsMade, IsReadyForEach}
 use Rattle.raft_log_records.proofs.Items.{some_items}
 use Rattle.raft_log_records.proofs.Buffer.{made_roomy}
 use Rattle.raft_log_records.proofs.Encoded.{batch_ready}
+use Rattle.raft_log_records.proofs.Places.{view_laid}
 use Rattle.raft_log_records.proofs.log_batch.LogBatch.encoded_len.Goals as goal
 
-pub returns : goal.returns
-returns c =
+pub returns-clause-ready : goal.returns-clause-ready
+returns-clause-ready c =
     let buffer : List ℕ = c.self.inside.buf.items in
     let some : 0 < length c.self.inside.items.items = some_items c.is_empty.result c.self.inside.items.items c.is_empty.ensures c.if-is_empty.false in
     let made : IsMade c.self.inside.state = subst (λ (s : BatchState). IsMade s) (sym (ap (λ (b : Batch). b.state) c.self.view_is)) c.requires in
@@ -19,3 +20,11 @@ returns c =
     subst (λ (b : Batch). IsReadyForEach c.len.result b.items b.entries) c.self.view_is
     (subst (λ (n : ℕ). IsReadyForEach n c.self.inside.items.items (take c.self.inside.entries_len (drop 16 (roomy buffer)))) (sym len)
     (batch_ready c.self.inside.state (roomy buffer) c.self.inside.entries_len c.self.inside.checksum c.self.inside.items.items made some c.self.invariant all))
+
+pub returns-clause-laid : goal.returns-clause-laid
+returns-clause-laid c =
+    (view_laid c.self.inside.state (roomy c.self.inside.buf.items) c.self.inside.entries_len c.self.inside.checksum c.self.inside.items.capacity (vec_capacity c.self.inside.buf) c.self.inside.items.items c.args.self.now c.self.view_is c.self.invariant).0
+
+pub returns-clause-adds : goal.returns-clause-adds
+returns-clause-adds c =
+    (view_laid c.self.inside.state (roomy c.self.inside.buf.items) c.self.inside.entries_len c.self.inside.checksum c.self.inside.items.capacity (vec_capacity c.self.inside.buf) c.self.inside.items.items c.args.self.now c.self.view_is c.self.invariant).1

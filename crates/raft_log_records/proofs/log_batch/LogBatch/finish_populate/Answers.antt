@@ -24,4 +24,4 @@ returns-in-Ok-clause-ready c =
     let made = filled_populates c.self.inside.entries_len (roomy c.self.inside.buf.items) c.fill_record.new.buf.items c.self.inside.checksum c.in-Ok.checksum c.self.inside.state c.self.inside.items.items c.as_slice-2.result.now
     (ap (λ (b : Batch). b.state) c.self.view_is ∙ c.requires) c.self.invariant.room c.self.invariant.holds c.as_slice-2.ensures (subst (λ (l : List ℕ). MakesRecord l c.fill_record.new.buf.items c.in-Ok.checksum c.as_slice-2.result.now) c.in_ok-make_room.ensures.ok c.in-Ok.ensures.ok) in
     let same = ap (λ (e : List ℕ). record { state = Populated; items = c.self.inside.items.items; entries = e; capacity = c.self.inside.items.capacity; buffer = vec_capacity c.fill_record.new.buf }) made.same ∙ ap (λ (b : Batch). record b { state = Populated; buffer = vec_capacity c.fill_record.new.buf }) c.self.view_is in
-    subst (λ (b : Batch). IsReadyForEach c.encoded_len.result b.items b.entries) same c.encoded_len.ensures
+    subst (λ (b : Batch). IsReadyForEach c.encoded_len.result b.items b.entries) same c.encoded_len.ensures.ready

@@ -2,7 +2,7 @@ use Rattle.std.proofs.Common.{map, ◌∙◌, ap}
 use Rattle.std.specs.String.{string_bytes}
 use Rattle.raft_log_dual_pipes.proofs.Ends.{closes, stays_same}
 use Rattle.raft_log_dual_pipes.proofs.Pairing.{either_false}
-use Rattle.raft_log_dual_pipes.proofs.dual_pipes.DualPipes.close.Goals as goal
+use Rattle.raft_log_dual_pipes.proofs.dual_pipes.DualPipesPipeLog.close.Goals as goal
 
 pub returns-clause-held : goal.returns-clause-held
 returns-clause-held g c alive =
@@ -13,7 +13,7 @@ returns-clause-held g c alive =
     let second = D c.finish-2.new.file_system in
     let third = D c.reserve_names.new.file_system in
     let last = D c.reserve_names-2.new.file_system in
-    closes _ (D c.finish.new.file_system) second third last (g.met.F.FileSystem.sound c.reserve_names-2.new.file_system) (c.finish.ensures.held append) (c.finish-2.ensures.held rewrite)
+    closes _ (D c.finish.new.file_system) second third last (c.finish.ensures.held append) (c.finish-2.ensures.held rewrite)
     (stays_same c.args.self.append.layout.queue c.finish.new.self.layout.queue (map string_bytes c.args.self.append.layout.paths.items) (map string_bytes c.finish.new.self.layout.paths.items) c.args.self.append.files.recycled.items c.finish.new.self.files.recycled.items second third
     (ap (λ l. l.queue) a.0) (ap (λ l. map string_bytes l.paths.items) a.0) (ap (λ kept. kept.items) a.3) (c.reserve_names.ensures.held (a.2 ∙ append)))
     (stays_same c.args.self.rewrite.layout.queue c.finish-2.new.self.layout.queue (map string_bytes c.args.self.rewrite.layout.paths.items) (map string_bytes c.finish-2.new.self.layout.paths.items) c.args.self.rewrite.files.recycled.items c.finish-2.new.self.files.recycled.items third last

@@ -1,0 +1,76 @@
+use Rattle.std.proofs.Common.{rules, ◌≡◌, ◌≤◌, List, length, refl, ap, subst, arith}
+use Rattle.std.proofs.lemmas.Result.{err_from_is_err_and}
+use Rattle.raft_log_files.specs.declared.format.File.{File}
+use Rattle.raft_log_recovery.specs.declared.recovery_config.RecoveryConfig.{RecoveryConfig}
+use Rattle.raft_log_builder.specs.Cutting.{CutsEach, FailsToCutEach}
+use Rattle.raft_log_builder.specs.Reading.{HasReadFiles, IsUnread}
+use Rattle.raft_log_builder.specs.Recovering.{append_config, append_files, rewrite_config, rewrite_files, HasReadBoth}
+use Rattle.raft_log_builder.specs.Recovering.FailsToRecoverLog.{append_unread, rewrite_unread, append_uncut, rewrite_uncut}
+use Rattle.raft_log_builder.proofs.Endings.{endings_fit}
+use Rattle.raft_log_builder.proofs.builder.DualPipesBuilder.recover.Goals as goal
+
+pub returns-in_err-append-clause-err : goal.returns-in_err-append-clause-err
+returns-in_err-append-clause-err g c =
+    let D = g.F.FileSystem.disk in
+    let b = c.args.self.now in
+    let gave = err_from_is_err_and c.from_residual.result c.from_residual.ensures.1 in
+    let e = c.in_err-append.field-0.0 in
+    let workers : c.new-config.result.concurrency ≡ (append_config b).concurrency = search rules in
+    let same : c.new-config.result ≡ append_config b = λ i. record { queue = c.new-config.ensures.queue i; mode = c.new-config.ensures.mode i; concurrency = workers i; read_block_size = c.new-config.ensures.block i } in
+    let why : IsUnread g.M.ReplayMachine.declines (append_config b) (append_files b) (D c.args.file_system.now) e =
+    subst (λ (fs : List File). IsUnread g.M.ReplayMachine.declines (append_config b) fs (D c.args.file_system.now) e) c.deref.ensures.value
+    (subst (λ (r : RecoveryConfig). IsUnread g.M.ReplayMachine.declines r c.deref.result.now (D c.args.file_system.now) e) same c.in_err-append.ensures.err) in
+    rw (gave.1, gave.2) (append_unread refl why)
+
+pub returns-in_err-rewrite-clause-err : goal.returns-in_err-rewrite-clause-err
+returns-in_err-rewrite-clause-err g c =
+    let D = g.F.FileSystem.disk in
+    let b = c.args.self.now in
+    let gave = err_from_is_err_and c.from_residual-in_err-rewrite.result c.from_residual-in_err-rewrite.ensures.1 in
+    let first : HasReadFiles g.M.ReplayMachine.reads (append_config b) (append_files b) (D c.args.file_system.now) c.in_ok-append.append.machine c.in_ok-append.append.endings.items = search rules in
+    let e = c.in_err-rewrite.field-0.0 in
+    let workers : c.new-config-2.result.concurrency ≡ (rewrite_config b).concurrency = search rules in
+    let same : c.new-config-2.result ≡ rewrite_config b = λ i. record { queue = c.new-config-2.ensures.queue i; mode = c.new-config-2.ensures.mode i; concurrency = workers i; read_block_size = c.new-config-2.ensures.block i } in
+    let why : IsUnread g.M.ReplayMachine.declines (rewrite_config b) (rewrite_files b) (D c.args.file_system.now) e =
+    subst (λ (fs : List File). IsUnread g.M.ReplayMachine.declines (rewrite_config b) fs (D c.args.file_system.now) e) c.deref-2.ensures.value
+    (subst (λ (r : RecoveryConfig). IsUnread g.M.ReplayMachine.declines r c.deref-2.result.now (D c.args.file_system.now) e) same c.in_err-rewrite.ensures.err) in
+    rw (gave.1, gave.2) (rewrite_unread c.in_ok-append.append.machine c.in_ok-append.append.endings.items first refl why)
+
+pub cut_files-requires : goal.cut_files-requires
+cut_files-requires g c =
+    let fit : length c.in_ok-append.append.endings.items ≤ length c.deref.result.now = endings_fit _ _ c.new-config.result.concurrency (length c.deref.result.now) _ c.in_ok-append.append.endings.items c.in_ok-append.ensures.ok in
+    omega (arith, fit, ap length c.deref.ensures.value, ap length c.deref-3.ensures.value, ap length c.deref-4.ensures.value)
+
+pub cut_files-requires-2 : goal.cut_files-requires-2
+cut_files-requires-2 g c =
+    let fit : length c.in_ok-rewrite.rewrite.endings.items ≤ length c.deref-2.result.now = endings_fit _ _ c.new-config-2.result.concurrency (length c.deref-2.result.now) _ c.in_ok-rewrite.rewrite.endings.items c.in_ok-rewrite.ensures.ok in
+    omega (arith, fit, ap length c.deref-2.ensures.value, ap length c.deref-5.ensures.value, ap length c.deref-6.ensures.value)
+
+pub returns-in_err-cut_files-clause-err : goal.returns-in_err-cut_files-clause-err
+returns-in_err-cut_files-clause-err g c =
+    let D = g.F.FileSystem.disk in
+    let b = c.args.self.now in
+    let es = c.in_ok-append.append.endings.items in
+    let fs = c.in_ok-rewrite.rewrite.endings.items in
+    let m = c.in_ok-append.append.machine in
+    let n = c.in_ok-rewrite.rewrite.machine in
+    let kind = c.in_err-cut_files.field-0.0 in
+    let gave = err_from_is_err_and c.from_residual-in_err-cut_files.result c.from_residual-in_err-cut_files.ensures.1 in
+    let both : HasReadBoth g.M.ReplayMachine.reads b (D c.args.file_system.now) m n es fs = record { append_read = search rules; rewrite_read = search rules } in
+    let fails : FailsToCutEach (append_files b) es kind (D c.args.file_system.now) (D c.cut_files.new.file_system) = search rules in
+    rw gave.1 (append_uncut m n es fs kind both gave.2 fails)
+
+pub returns-in_err-cut_files-2-clause-err : goal.returns-in_err-cut_files-2-clause-err
+returns-in_err-cut_files-2-clause-err g c =
+    let D = g.F.FileSystem.disk in
+    let b = c.args.self.now in
+    let es = c.in_ok-append.append.endings.items in
+    let fs = c.in_ok-rewrite.rewrite.endings.items in
+    let m = c.in_ok-append.append.machine in
+    let n = c.in_ok-rewrite.rewrite.machine in
+    let kind = c.in_err-cut_files-2.field-0.0 in
+    let gave = err_from_is_err_and c.from_residual-in_err-cut_files-2.result c.from_residual-in_err-cut_files-2.ensures.1 in
+    let both : HasReadBoth g.M.ReplayMachine.reads b (D c.args.file_system.now) m n es fs = record { append_read = search rules; rewrite_read = search rules } in
+    let cuts : CutsEach (append_files b) es (D c.args.file_system.now) (D c.cut_files.new.file_system) = search rules in
+    let fails : FailsToCutEach (rewrite_files b) fs kind (D c.cut_files.new.file_system) (D c.cut_files-2.new.file_system) = search rules in
+    rw gave.1 (rewrite_uncut m n es fs kind (D c.cut_files.new.file_system) both gave.2 cuts fails)

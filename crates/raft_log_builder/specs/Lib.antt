@@ -1,0 +1,5 @@
+pub mod Reading
+pub mod Cutting
+pub mod Recovering
+pub mod Directories
+pub mod Scanning

@@ -1,0 +1,13 @@
+//! A directory that no engine has open is scanned and recovered: both queues are read by workers, and nothing
+//! is cut before all could be read.
+#![tactic(auto)]
+
+pub mod builder;
+pub mod cutting;
+pub mod paths;
+pub mod queue_files;
+pub mod reading;
+
+pub use builder::DualPipesBuilder;
+pub use queue_files::QueueFiles;
+pub use reading::recover_files;

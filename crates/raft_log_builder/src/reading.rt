@@ -1,0 +1,50 @@
+//! The files of a queue are read by workers.
+
+ghost use Rattle.std.specs.Prelude.{IfErr, IfOk};
+ghost use Rattle.raft_log_builder.specs.Reading.{HasReadFiles, IsUnread};
+
+use raft_log_base::Result;
+use raft_log_disk::FileSystem;
+use raft_log_files::File;
+use raft_log_found_queue::{FileEnding, FoundQueue};
+use raft_log_recovery::RecoveryConfig;
+use raft_log_segments::{Factory, ReadSegments, ReplayMachine, replay_segments};
+use std::alloc::Global;
+use std::thread::Threads;
+
+/// Reads the files of a queue by workers, each a part of them, and puts together what they have read, in the
+/// order of the files. Nothing is changed; what is to be cut is told. Without a worker no file is read.
+///
+/// The error told is that of the first file that is refused: `Io` where a read is refused, `Corruption` or
+/// `Codec` for damage that isn't tolerated, or why the machine declines a record; or `Memory`.
+pub fn recover_files<F: FileSystem + Sync, M: ReplayMachine, FA: Factory<M>>(
+    rt: &(impl Threads + Sync),
+    alloc: Global,
+    file_system: &F,
+    config: RecoveryConfig,
+    files: &[File],
+    factory: &FA,
+) -> Result<ReadSegments<M, FileEnding>>
+    ensures ok { IfOk result (λ done. HasReadFiles M.reads config files.now (F.disk file_system.now)
+        done.machine done.endings.items) }
+    ensures err { IfErr result (IsUnread M.declines config files.now (F.disk file_system.now)) }
+{
+    let source = FoundQueue {
+        alloc,
+        file_system,
+        queue: config.queue,
+        mode: config.mode,
+        read_block_size: config.read_block_size as usize,
+        files,
+    };
+    let answer = replay_segments(rt, alloc, &source, factory, config.concurrency);
+    let FoundQueue {
+        alloc: _alloc,
+        file_system: _lent,
+        queue: _queue,
+        mode: _mode,
+        read_block_size: _size,
+        files: _files,
+    } = source;
+    answer
+}

@@ -1,0 +1,132 @@
+//! Entries are read through the entry block that is kept.
+use super::pair::pair;
+use raft_log_base::{Error, FileBlockHandle, LogQueue, Result, codec};
+use raft_log_blocks::BlockCache;
+use raft_log_dual_pipes::{DualPipes, PipeLog};
+use raft_log_items::{EntryIndex, Message};
+use raft_log_memory_files::MemoryFileSystem;
+use raft_log_records::LogBatch;
+use raft_log_signed_batch::SignedBatch;
+use std::alloc::{AllocError, Global};
+use std::test::Fail;
+
+/// A number of 32 bits.
+#[derive(Clone, Copy, Debug, PartialEq, Eq)]
+struct Count {
+    count: u32,
+}
+
+impl Message for Count {
+    ghost use Rattle.std.specs.Prelude.{None, Some, length, nat_eq, if◌then◌else◌};
+    ghost use Rattle.std.specs.Int.{w32, from_le_bytes};
+    ghost use Rattle.raft_log_base.specs.Number.{u32_le_bytes};
+
+    ghost spelling = { λ c. u32_le_bytes c.count };
+
+    ghost reading = { λ bytes.
+        if nat_eq (length bytes) 4 then Some (record { count = from_le_bytes w32 bytes }) else None };
+
+    fn write(&self, out: &mut Vec<u8>) -> std::result::Result<(), AllocError> {
+        codec::append_u32_le(out, self.count)
+    }
+
+    fn parse(alloc: Global, bytes: &[u8]) -> Result<Count> {
+        match bytes.as_array::<4>() {
+            Some(bytes) => Ok(Count {
+                count: u32::from_le_bytes(*bytes),
+            }),
+            None => Err(Error::Message(format!(in alloc; "a count has four bytes")?)),
+        }
+    }
+}
+
+/// Two pipes, of whose Append an entry block is known, and the block that is kept of them.
+#[derive(Drop)]
+struct Reading {
+    pipes: DualPipes<MemoryFileSystem>,
+    cache: BlockCache,
+    block: FileBlockHandle,
+}
+
+impl Reading {
+    // Reads the entry at this offset of the block, of so many bytes.
+    fn count(&mut self, alloc: Global, offset: u32, len: u32) -> Result<Count> {
+        let entry = entry_in(Some(self.block), offset, len);
+        self.cache.read_entry(alloc, &self.pipes, &entry)
+    }
+
+    // Reads the block as one of so many bytes.
+    fn read(&mut self, alloc: Global, len: usize) -> Result<()> {
+        let block = FileBlockHandle { len, ..self.block };
+        self.cache.read(alloc, &self.pipes, block)
+    }
+
+    // Whether the bytes of an entry are these.
+    fn has(&self, alloc: Global, offset: u32, len: u32, bytes: &[u8]) -> bool {
+        matches!(self.cache.entry(alloc, offset, len), Ok(found) if found == bytes)
+    }
+}
+
+// The entry that lies there.
+fn entry_in(block: Option<FileBlockHandle>, offset: u32, len: u32) -> EntryIndex {
+    let mut entry = EntryIndex::unplaced(5, len);
+    entry.entries = block;
+    entry.entry_offset = offset;
+    entry
+}
+
+// A batch of two entries, of four bytes and of three.
+fn batch(alloc: Global) -> Result<SignedBatch> {
+    let mut batch = LogBatch::default(alloc)?;
+    let indexes = [EntryIndex::unplaced(5, 4), EntryIndex::unplaced(6, 3)];
+    let entries: [&[u8]; 2] = [b"\x02\x01\0\0", b"abc"];
+    batch.add_raw_entries(alloc, 7, &indexes, &entries)?;
+    batch.finish_populate()?;
+    Ok(SignedBatch::new(batch))
+}
+
+// Pipes to which the batch was written.
+fn written(rt: &HostRuntime) -> std::result::Result<Reading, Fail> {
+    let mut pipes = pair(rt, 0)?;
+    let mut signed = batch(rt.alloc())?;
+    let record = pipes.append(rt.alloc(), rt, LogQueue::Append, &mut signed)?;
+    let block = FileBlockHandle {
+        id: record.id,
+        offset: record.offset.saturating_add(16),
+        len: 11,
+    };
+    Ok(Reading {
+        pipes,
+        cache: BlockCache::new(rt.alloc()),
+        block,
+    })
+}
+
+#[test]
+fn entries_are_read_through_the_kept_block(rt: HostRuntime) -> std::result::Result<(), Fail> {
+    let mut reading = written(&rt)?;
+    let count = reading.count(rt.alloc(), 0, 4)?;
+    assert!(rt; count == Count { count: 258 });
+    assert!(rt; reading.has(rt.alloc(), 4, 3, b"abc"));
+    assert!(rt; matches!(reading.count(rt.alloc(), 4, 3), Err(Error::Message(_))));
+    Ok(())
+}
+
+#[test]
+fn what_is_no_entry_is_refused(rt: HostRuntime) -> std::result::Result<(), Fail> {
+    let mut reading = written(&rt)?;
+    assert!(rt; matches!(reading.count(rt.alloc(), 4, 4), Err(Error::Corruption(_))));
+    assert!(rt; matches!(reading.read(rt.alloc(), 10), Err(Error::Corruption(_))));
+    reading.read(rt.alloc(), 11)?;
+    assert!(rt; reading.has(rt.alloc(), 0, 7, b"\x02\x01\0\0abc"));
+    Ok(())
+}
+
+#[test]
+fn an_entry_in_no_file_is_refused(rt: HostRuntime) -> std::result::Result<(), Fail> {
+    let mut reading = written(&rt)?;
+    let entry = entry_in(None, 0, 4);
+    let nowhere: Result<Count> = reading.cache.read_entry(rt.alloc(), &reading.pipes, &entry);
+    assert!(rt; matches!(nowhere, Err(Error::InvalidArgument(_))));
+    Ok(())
+}

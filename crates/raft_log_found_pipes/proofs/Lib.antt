@@ -1,0 +1,6 @@
+pub mod Spans
+pub mod Places
+pub mod LastFiles
+pub mod PastFiles
+pub mod Headers
+pub mod Scans

@@ -1,0 +1,60 @@
+-- The files of a queue that a scan of the log's directories answered, as its pipe takes them up.
+use Rattle.std.specs.Prelude.{◌≡◌, ℕ, true, false, Some, List, [], ◌∷◌, ◌++◌, take}
+use Rattle.raft_log_base.specs.declared.pipe_log.LogQueue.{LogQueue}
+use Rattle.raft_log_base.specs.declared.pipe_log.LogQueue.TheVariants as queues
+use Rattle.raft_log_disk.specs.Disk.{Disk, File}
+use Rattle.raft_log_disk.specs.Image.{IsSound}
+use Rattle.raft_log_disk.specs.Reading.{IsOpened}
+use Rattle.raft_log_disk.specs.declared.handle.Permission.TheVariants.{ReadWrite}
+use Rattle.raft_log_format.specs.declared.header.LogFileFormat.{LogFileFormat}
+use Rattle.raft_log_frames.specs.Written.{AreBytes}
+use Rattle.raft_log_settings.specs.declared.recovery_mode.RecoveryMode.{RecoveryMode}
+use Rattle.raft_log_layout.specs.Layout.{log_format, log_paths}
+use Rattle.raft_log_files.specs.Layout.{path_of}
+use Rattle.raft_log_pipes.specs.Files.{Listed, AreKept, IsSpan}
+use Rattle.raft_log_pipes.specs.Laws as pipes
+use Rattle.raft_log_pipes.specs.Opening.{first_number}
+use Rattle.raft_log_found_files.specs.Reading.{ReadsFile}
+use Rattle.raft_log_found_files.specs.declared.file_records.FileRecords.{FileRecords}
+use Rattle.raft_log_recovery.specs.Scanned.{IsQueueIn}
+use Rattle.raft_log_recovery.specs.declared.file_kind.FileKind.{FileKind}
+use Rattle.raft_log_recovery.specs.declared.file_kind.FileKind.TheVariants as kinds
+
+-- the kind of a queue's files
+abbrev pub kind_of : LogQueue → FileKind
+kind_of queues.Append = kinds.Append
+kind_of queues.Rewrite = kinds.Rewrite
+
+-- the file, as it is known once its header was read
+abbrev pub with_format : LogFileFormat → Listed → Listed
+with_format format file = record file { format = format }
+
+-- the files have the numbers of a span, each under its path, and the last one is open to be written
+pub record AreSpanned (queue : LogQueue) (directories : List (List ℕ)) (earlier : List Listed)
+    (last : Listed) (d : Disk) : Type 0 where
+  pub listed : last.reserved ≡ false
+  pub opened : IsOpened (path_of (log_paths queue directories) last) ReadWrite last.handle d
+  pub span : IsSpan (log_paths queue directories) d.names (first_number earlier last) earlier last.seq
+
+-- So are the files of a queue that a scan answered.
+abbrev pub ScannedFilesAreSpanned : Type 0
+ScannedFilesAreSpanned = (queue : LogQueue) (directories : List (List ℕ)) (mode : RecoveryMode) (d : Disk)
+    (earlier : List Listed) (last : Listed)
+    → IsQueueIn (kind_of queue) directories d mode (earlier ++ last ∷ [])
+    → AreSpanned queue directories earlier last d
+
+-- where a file is there, its header would be of bytes
+abbrev pub BeginsWithBytes : ℕ → Disk → Type 0
+BeginsWithBytes id d = (file : File) → d.files id ≡ Some file → AreBytes (take 69 file.content)
+
+-- Once the last one was read, they are what its pipe may be opened over: so what follows of a stopped pipe
+-- is so of what a scan answers and a recovery reads.
+abbrev pub ReadFilesAreScanned : Type 0
+ReadFilesAreScanned = (queue : LogQueue) (directories : List (List ℕ)) (d : Disk) (earlier : List Listed)
+    (last : Listed) (read : FileRecords) (kept : List Listed) → IsSound d
+    → AreSpanned queue directories earlier last d
+    → ReadsFile true (record { queue = queue; seq = last.seq }) last.handle d read
+    → read.format.alignment ≡ 0 → BeginsWithBytes last.handle.file d
+    → AreKept (log_format queue directories) (log_paths queue directories) (first_number earlier last) d kept
+    → pipes.IsScanned (log_format queue directories) (log_paths queue directories) earlier
+    (with_format read.format last) read.end kept last.seq d

@@ -1,0 +1,20 @@
+//! A caller of `raft_log_listeners`: up to where a queue may be purged.
+
+ghost use Rattle.std.specs.Prelude.{◌≤◌};
+
+use raft_log_base::{FileSeq, LogQueue};
+use raft_log_listeners::{EventListener, Listeners};
+
+/// The number up to which the files of a queue may be purged: this one, or the one that a listener holds back.
+pub fn purge_end<H: EventListener>(
+    listeners: &Listeners<H>,
+    queue: LogQueue,
+    end: FileSeq,
+) -> FileSeq
+    ensures { result ≤ end }
+{
+    match listeners.first_file_not_ready_for_purge(queue) {
+        Some(first) => first.min(end),
+        None => end,
+    }
+}

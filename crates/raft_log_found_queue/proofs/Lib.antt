@@ -1,1 +1,4 @@
+pub mod Elsewhere
+pub mod HeldOnce
+pub mod OneReading
 pub mod Taking

@@ -4,6 +4,7 @@
 
 pub mod file_ending;
 pub mod found_queue;
+pub mod laws;
 
 pub use file_ending::FileEnding;
 pub use found_queue::FoundQueue;

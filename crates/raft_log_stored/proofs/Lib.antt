@@ -1,8 +1,8 @@
 mod Parts
-mod Keeping
+pub mod Keeping
 pub mod Staying
 pub mod Reading
-mod Taking
+pub mod Taking
 mod Laid
-mod Lasting
+pub mod Lasting
 mod Anywhere

@@ -1,5 +1,5 @@
 //! The program over plain voters.
-ghost use Rattle.std.specs.Prelude.{false, IfOk, IfSome, OnErr};
+ghost use Rattle.std.specs.Prelude.{◌≡◌, false, true, IfOk, IfSome, OnErr};
 ghost use Rattle.raft_voter_run.specs.Run.{Ends, EndsEarly};
 ghost use Rattle.raft_voter_plain.specs.Session.{IsPlainSession};
 
@@ -36,6 +36,7 @@ pub fn program<R: Read, W: Write>(
         Ends IsPlainSession has_arguments input (W.contents writer.old) (W.contents writer.new) status)) }
     ensures err { OnErr result (IfSome (R.remaining reader.old) (λ input.
         EndsEarly IsPlainSession has_arguments input (W.contents writer.old) (W.contents writer.new))) }
+    ensures unread { has_arguments ≡ true → reader.new ≡ reader.old }
 {
     let file = PlainFile::new(alloc);
     raft_voter_run::program::<PlainVoters, PlainFile, R, W>(

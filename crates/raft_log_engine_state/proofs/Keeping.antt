@@ -1,0 +1,45 @@
+-- A call on Append keeps the places that an engine's tables show, and what is read there.
+use Rattle.std.proofs.Common.{◌≡◌, ℕ, ◌≤◌, List, [], ◌∷◌, ◌++◌, refl, sym, ap, subst, ◌∙◌, arith}
+use Rattle.raft_log_disk.specs.Disk.{Disk}
+use Rattle.raft_log_disk.specs.LogQueue.{LogFiles}
+use Rattle.raft_log_layout.specs.declared.record.LogRecord.{LogRecord}
+use Rattle.raft_log_directory.specs.Calls.Which.{InAppend}
+use Rattle.raft_log_directory.specs.Log.{IsAt, EndsAt as ViewEndsAt}
+use Rattle.raft_log_model.specs.Groups.{taken}
+use Rattle.raft_log_steps.specs.State.{Ties}
+use Rattle.raft_log_steps.specs.Steps.{next_log}
+use Rattle.raft_log_stored.specs.Stored.{AreStored, KeepsBytes, KeepsLog, entries_at}
+use Rattle.raft_log_stored.proofs.Keeping.{calls_keep_bytes}
+use Rattle.raft_log_stored.proofs.Staying.{stored_entries_stay}
+use Rattle.raft_log_views.specs.Views.{AreMeant, view_of}
+use Rattle.raft_log_dual_pipes.specs.Pipes.{LogPipes, RunsOn, Said, State}
+use Rattle.raft_log_engine_state.specs.Shows.{Home, LogMap, Shows, log_in, sense}
+use Rattle.raft_log_engine_state.specs.Holding.{EndsAt, Holds, RunsAs}
+
+-- what Append's files keep the log keeps
+pub keeps_log : (s : State) (files : LogFiles LogRecord) (d : Disk) → KeepsBytes s.append.files files → KeepsLog s (next_log InAppend s files d)
+keeps_log s files d keeps = record {
+  append = keeps;
+  rewrite = (calls_keep_bytes {R = LogRecord}).same s.rewrite.files;
+  append_first = omega arith;
+  rewrite_first = omega arith;
+}
+
+-- an engine whose pipes run is one whose log runs
+pub holds_runs : (home : Home) (e : Shows) (m : LogMap) (pending : List Said) → Holds home e m pending → RunsAs home e.pipes m pending
+holds_runs home e m pending h = record { state = h.state; view = view_of e.tables h.map; runs = h.runs; at = h.at }
+
+module _ (home : Home) (e t : Shows) (m : LogMap) (pending : List Said) (h : Holds home e m pending) (same : t.tables ≡ e.tables) where
+  -- the same tables go on with a log that keeps theirs
+  pub goes_on : (files : LogFiles LogRecord) → KeepsBytes h.state.append.files files → RunsOn (sense home) t.pipes (next_log InAppend h.state files t.pipes.disk)
+      → (k : LogMap) (rest : List Said) → IsAt (Ties (log_in home) (next_log InAppend h.state files t.pipes.disk)) (view_of e.tables h.map) k rest → Holds home t k rest
+  goes_on files keeps runs k rest at =
+      let next : State = next_log InAppend h.state files t.pipes.disk in
+      let stays = stored_entries_stay h.state next (keeps_log h.state files t.pipes.disk keeps) e.tables h.stored in record {
+        state = next;
+        map = h.map;
+        runs = runs;
+        stored = subst (λ v. AreStored next v) (sym same) stays.0;
+        meant = subst (λ v. AreMeant (entries_at next) v h.map) (sym same) (stays.1 h.map h.meant);
+        at = subst (λ v. IsAt (Ties (log_in home) next) (view_of v h.map) k rest) (sym same) at;
+      }

@@ -1,0 +1,51 @@
+-- What is true of an engine: which map its log is, and which batches are pending behind it. No code holds
+-- either: each clause on a call is told of whatever map and batches were true of the engine before.
+use Rattle.std.specs.Prelude.{◌≡◌, ℕ, List, ◌++◌}
+use Rattle.raft_log_model.specs.Groups.{taken}
+use Rattle.raft_log_disk.specs.Disk.{Disk}
+use Rattle.raft_log_directory.specs.Log.{IsAt, View}
+use Rattle.raft_log_steps.specs.State.{Ties}
+use Rattle.raft_log_steps.specs.Lying.{OpenPipes}
+use Rattle.raft_log_steps.specs.Failing.{LogEndsLying}
+use Rattle.raft_log_views.specs.Views.{AreMeant, view_of}
+use Rattle.raft_log_stored.specs.Stored.{AreStored, entries_at}
+use Rattle.raft_log_dual_pipes.specs.Pipes.{LogPipes, RunsOn, Said, State}
+use Rattle.raft_log_engine_state.specs.Shows.{Home, LogMap, Shows, log_in, sense}
+
+-- The engine's log, in these directories, is the map m with the batches pending behind it: its pipes run over
+-- a log that is so, each place that its tables show lies there, and what is read at these places is the map
+-- after the batches.
+pub record Holds (home : Home) (e : Shows) (m : LogMap) (pending : List Said) : Type 0 where
+  pub state : State
+  pub map : LogMap
+  pub runs : RunsOn (sense home) e.pipes state
+  pub stored : AreStored state e.tables
+  pub meant : AreMeant (entries_at state) e.tables map
+  pub at : IsAt (Ties (log_in home) state) (view_of e.tables map) m pending
+
+-- the pipes run over a log in these directories that is the map m with the batches pending behind it, whatever
+-- an engine's tables show of it
+pub record RunsAs (home : Home) (v : LogPipes) (m : LogMap) (pending : List Said) : Type 0 where
+  pub state : State
+  pub view : View (List ℕ) (List ℕ)
+  pub runs : RunsOn (sense home) v state
+  pub at : IsAt (Ties (log_in home) state) view m pending
+
+-- of the batches some first ones are synced, the others pending
+pub record RunsEnding (home : Home) (v : LogPipes) (m : LogMap) (pending : List Said) : Type 0 where
+  pub done : List Said
+  pub rest : List Said
+  pub splits : done ++ rest ≡ pending
+  pub runs : RunsAs home v (taken m done) rest
+
+-- so it is of an engine
+pub record EndsAt (home : Home) (e : Shows) (m : LogMap) (pending : List Said) : Type 0 where
+  pub done : List Said
+  pub rest : List Said
+  pub splits : done ++ rest ≡ pending
+  pub holds : Holds home e (taken m done) rest
+
+-- what a failed engine leaves on its disk: its log lies there, from which it may be opened, of the batches some
+-- first ones are synced, the others pending
+abbrev pub IsLeftAt : Home → Disk → LogMap → List Said → Type 0
+IsLeftAt home d m pending = (open_ones : OpenPipes) × LogEndsLying (log_in home) open_ones d m pending

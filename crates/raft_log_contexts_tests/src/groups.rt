@@ -20,7 +20,7 @@ const WHOLE: &str = "(Some(1), Some(5)) (None, Some(2)) Some((false, 4))";
 
 /// What shows of the raft group where the records are cut into two segments at this place.
 fn cut_at(alloc: Global, place: usize) -> Result<String> {
-    let (front, back) = RECORDS.as_slice().split_at(place);
+    let (front, back) = RECORDS.as_slice().split_at(place.min(RECORDS.len()));
     let mut first = context(alloc, LogQueue::Rewrite, front)?;
     first.merge(context(alloc, LogQueue::Rewrite, back)?, LogQueue::Rewrite)?;
     Ok(told(alloc, &first.finish(), 7)?)

@@ -139,8 +139,8 @@ fn read(alloc: Global, records: &[Said], before: u64) -> Result<MemTableRecoverC
 
 /// The tables of the records, cut into three segments at these places, in either bracketing.
 fn cut(alloc: Global, first: usize, second: usize, left: bool) -> Result<MemTables> {
-    let (front, rest) = RECORDS.as_slice().split_at(first);
-    let (middle, back) = rest.split_at(second);
+    let (front, rest) = RECORDS.as_slice().split_at(first.min(RECORDS.len()));
+    let (middle, back) = rest.split_at(second.min(rest.len()));
     let mut a = read(alloc, front, 0)?;
     let mut b = read(alloc, middle, first as u64)?;
     let c = read(alloc, back, first.saturating_add(second) as u64)?;

@@ -1,0 +1,12 @@
+//! Tests of contexts: records that are read in one piece and in pieces, atomic groups that the borders cut, and
+//! what is refused.
+#![tactic(auto)]
+
+#[cfg(test)]
+mod groups;
+#[cfg(test)]
+mod pieces;
+#[cfg(test)]
+mod play;
+#[cfg(test)]
+mod refused;

@@ -1,5 +1,5 @@
 //! An engine over a fresh log in memory, behind calls without contracts.
-use raft_log_base::{LogQueue, Result, Version};
+use raft_log_base::{Error, LogQueue, Result, Version};
 use raft_log_disk::FileSystem;
 use raft_log_dual_pipes::DualPipes;
 use raft_log_engine::Engine;
@@ -8,7 +8,7 @@ use raft_log_items::EntryIndex;
 use raft_log_layout::LogLayout;
 use raft_log_memory_files::MemoryFileSystem;
 use raft_log_pipes::{FoundFiles, NewFiles, PipeSettings, SinglePipe};
-use raft_log_records::LogBatch;
+use raft_log_records::{BatchState, LogBatch};
 use raft_log_replay::MemTables;
 use std::collections::VecDeque;
 use std::test::Fail;
@@ -59,20 +59,27 @@ pub fn fresh(rt: &HostRuntime, refused: u64) -> std::result::Result<Store, Fail>
 }
 
 impl Store {
-    /// Adds two entries of three bytes to group 7, from an index on.
+    /// Adds two entries of three bytes to group 7, from an index on; nothing to a batch whose record is made.
     pub fn add(&mut self, rt: &HostRuntime, index: u64) -> Result<()> {
         let indexes = [
             EntryIndex::unplaced(index, 3),
             EntryIndex::unplaced(index.saturating_add(1), 3),
         ];
         let entries: [&[u8]; 2] = [b"abc", b"def"];
-        self.batch
-            .add_raw_entries(rt.alloc(), 7, &indexes, &entries)
+        match self.batch.state() {
+            BatchState::Filling => self
+                .batch
+                .add_raw_entries(rt.alloc(), 7, &indexes, &entries),
+            _ => Err(Error::Full),
+        }
     }
 
-    /// Adds a key of group 7.
+    /// Adds a key of group 7, unless the record of the batch is made.
     pub fn put(&mut self, rt: &HostRuntime, key: &[u8], value: &[u8]) -> Result<()> {
-        self.batch.put(rt.alloc(), 7, key, value)
+        match self.batch.state() {
+            BatchState::Filling => self.batch.put(rt.alloc(), 7, key, value),
+            _ => Err(Error::Full),
+        }
     }
 
     /// Writes what was added.
@@ -96,8 +103,11 @@ impl Store {
     }
 
     /// Whether a key of group 7 has this value.
-    pub fn has(&self, key: &[u8], value: &[u8]) -> bool {
-        matches!(self.engine.get(7, key), Ok(Some(found)) if found.as_slice() == value)
+    pub fn has(&self, key: &[u8], value: &[u8]) -> Result<bool> {
+        let Some(found) = self.engine.get(7, key)? else {
+            return Ok(false);
+        };
+        Ok(found.as_slice() == value)
     }
 
     /// How many groups there are.

@@ -11,7 +11,7 @@ fn a_batch_is_written_and_read(rt: HostRuntime) -> Result<(), Fail> {
     assert!(rt; store.write(&rt, true)? > 0);
     assert!(rt; store.is_empty());
     assert!(rt; store.ends()? == (Some(1), Some(2)));
-    assert!(rt; store.has(b"key", b"value"));
+    assert!(rt; store.has(b"key", b"value")?);
     assert!(rt; store.groups()? == 1);
     assert!(rt; store.write(&rt, true)? == 0);
     Ok(())

@@ -26,11 +26,13 @@ pub record Service (S : Type 0) : Type 1 where
 -- What files say of themselves that keep a service's voters while it isn't open:
 -- whether they keep these voters for good,
 -- which voters a crash may leave, as the next open finds them,
--- and what an open may make of them, a close of a service, and a crash of them
+-- what an open may make of them, and for which causes it may be refused,
+-- and what a close of a service may make, and a crash of them
 pub record Files (S F : Type 0) : Type 1 where
   pub keeps : F → World → Type 0
   pub may_leave : F → World → Type 0
   pub opens : F → S → Type 0
+  pub refuses : F → Cause → Type 0
   pub closes : S → F → Type 0
   pub crashes : F → F → Type 0
 
@@ -43,8 +45,9 @@ pub record LeavesAlone (may_leave : World → Type 0) (W : World) : Type 0 where
 abbrev pub IsLeftAlone : {S : Type 0} → Service S → S → Type 0
 IsLeftAlone v store = v.is_stored store → LeavesAlone (v.may_leave store) (v.world store)
 
--- an open service serves these voters, all is stored, and a crash leaves them alone
+-- an open service that hasn't failed serves these voters, all is stored, and a crash leaves them alone
 pub record IsOpenAt {S : Type 0} (v : Service S) (store : S) (W : World) : Type 0 where
+  pub alive : v.is_failed store ≡ false
   pub stored : v.is_stored store
   pub serves : v.world store ≡ W
   pub left : LeavesAlone (v.may_leave store) W
@@ -110,6 +113,12 @@ CutsOff _ refused requests W left X left_now = TookNone refused W left X left_no
 abbrev pub TakesNothing : Cause → Type 0
 TakesNothing FileSystem = ⊥
 TakesNothing _ = Unit {0}
+
+-- causes that come from outside, whatever was asked: the file system failed, or memory was refused
+abbrev pub IsFromOutside : Cause → Type 0
+IsFromOutside FileSystem = Unit {0}
+IsFromOutside Memory = Unit {0}
+IsFromOutside _ = ⊥
 
 -- When a round of so many requests is cut off for this cause, of a service that had failed before or not, and
 -- has failed now or not.

@@ -1,7 +1,7 @@
 //! What keeps the voters of a store while it isn't open.
-ghost use Rattle.std.specs.Prelude.{IfOk};
+ghost use Rattle.std.specs.Prelude.{◌≡◌, false, IfErr, IfOk};
 ghost use Rattle.raft_voter.specs.Rounds.{World};
-ghost use Rattle.raft_voter.specs.Service.{IsClosedAt, IsOpenAt};
+ghost use Rattle.raft_voter.specs.Service.{IsClosedAt, IsFromOutside, IsOpenAt};
 
 use crate::{Cause, RoundService};
 use std::alloc::Global;
@@ -11,16 +11,19 @@ use std::alloc::Global;
 pub trait StoreFiles<S: RoundService>: Sized {
     ghost use Rattle.raft_voter.specs.Service.{Files};
 
-    /// The voters that they keep, which voters a crash may leave, and what opens, closes and crashes make of
-    /// them.
+    /// The voters that they keep, which voters a crash may leave, what opens, closes and crashes make of them,
+    /// and for which causes an open may be refused.
     ghost files: { Files S Self };
 
-    /// Opens the store. It is refused for want of memory, or because the file system failed or the files
-    /// can't be read.
+    /// Opens the store, which hasn't failed then. It is refused for want of memory, or because the file system
+    /// failed or the files can't be read.
     fn open(self, alloc: Global) -> Result<S, Cause>
         ensures opens { IfOk result (λ store. files.opens self store) }
         ensures keeps { IfOk result (λ store.
-            (W : World) → IsClosedAt files self W → IsOpenAt S.service store W) };
+            (W : World) → IsClosedAt files self W → IsOpenAt S.service store W) }
+        ensures alive { IfOk result (λ store. S.service.is_failed store ≡ false) }
+        ensures err { IfErr result (λ cause. files.refuses self cause) }
+        ensures errors { IfErr result IsFromOutside };
 
     /// Closes the store.
     fn close(store: S) -> Self

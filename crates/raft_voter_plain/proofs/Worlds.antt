@@ -169,12 +169,12 @@ kept_alone : (file : Content) (W : World) → KeepsVoters file W → IsClosedAt 
 kept_alone file W kept = record { kept = kept; left = record { left = kept.synced; alone = λ X other. one_world file.synced X W other kept.synced } }
 
 -- an open finds the voters that its file keeps
-pub opened_at : (file : Content) (store : PlainVoters) → store.file ≡ file → StandsFor (whole file) (world_of store)
+pub opened_at : (file : Content) (store : PlainVoters) → store.file ≡ file → StandsFor (whole file) (world_of store) → store.failed ≡ false
     → (W : World) → IsClosedAt plain_files file W → IsOpenAt plain_voters store W
-opened_at file store same held W at =
+opened_at file store same held alive W at =
     let there = found file store same held W at.kept.synced at.kept.settled in
     let P : World → Type 0 = λ X. LeavesAlone (HoldsVoters store) X in
-    record { stored = there.0; serves = there.1; left = subst P there.1 (stored_alone store there.0) }
+    record { alive = alive; stored = there.0; serves = there.1; left = subst P there.1 (stored_alone store there.0) }
 
 -- a close leaves the voters in the file
 pub closed_at : (store : PlainVoters) (file : Content) → file ≡ store.file → (W : World) → IsOpenAt plain_voters store W → IsClosedAt plain_files file W

@@ -1,5 +1,5 @@
 -- The plain store: its voters in memory, and the file that holds them.
-use Rattle.std.specs.Prelude.{◌≡◌, ◌≤◌, ◌⊎◌, ℕ, List, [], ◌∷◌, ◌++◌, length, take}
+use Rattle.std.specs.Prelude.{◌≡◌, ◌<◌, ◌≤◌, ◌⊎◌, ℕ, List, [], ◌∷◌, ◌++◌, length, take}
 use Rattle.raft_voter_messages.specs.declared.reply.Reply.{Reply}
 use Rattle.raft_voter_messages.specs.declared.request.Request.{Request}
 use Rattle.raft_voter.specs.Rounds.{World, after, after_one}
@@ -7,7 +7,10 @@ use Rattle.raft_voter.specs.Rules.{reply}
 use Rattle.raft_voter_plain.specs.declared.store.PlainVoters.{PlainVoters}
 use Rattle.raft_voter.specs.InRange.{AllInRange}
 use Rattle.raft_voter.specs.Service.{Files, Service, out_of_range}
-use Rattle.raft_voter_plain.specs.Content.{Content, after_crash}
+use Rattle.raft_voter.specs.declared.service.Cause.{Cause}
+use Rattle.raft_voter.specs.declared.service.Cause.TheVariants.{FileSystem, Memory}
+use Rattle.raft_voter_plain.specs.Content.{Content, after_crash, whole}
+use Rattle.raft_voter_plain.specs.Damage.{StandsForNothing}
 use Rattle.raft_voter_plain.specs.Records.{StandsFor, LeadTo, world_in}
 
 -- the voter of each group: the one in memory, or a fresh one
@@ -39,12 +42,20 @@ pub record KeepsVoters (file : Content) (W : World) : Type 0 where
   pub synced : StandsFor file.synced W
   pub settled : file.unsynced ≡ []
 
+-- A file is refused for want of memory, where it isn't empty, or its bytes aren't records, and then the file
+-- system is told to have failed.
+abbrev pub IsRefusedFor : Content → Cause → Type 0
+IsRefusedFor file Memory = 0 < length (whole file)
+IsRefusedFor file FileSystem = StandsForNothing (whole file)
+IsRefusedFor file cause = ⊥
+
 -- Their file: opens and closes leave it as it is, and a crash leaves what was synced.
 abbrev pub plain_files : Files PlainVoters Content
 plain_files = record {
   keeps = KeepsVoters;
   may_leave = λ file W. StandsFor file.synced W;
   opens = λ file store. store.file ≡ file;
+  refuses = IsRefusedFor;
   closes = λ store file. file ≡ store.file;
   crashes = λ file left. left ≡ after_crash file;
 }

@@ -5,8 +5,8 @@ ghost use Rattle.raft_voter_plain.specs.Content.{after_crash, whole};
 ghost use Rattle.raft_voter.specs.Rules.{reply};
 ghost use Rattle.raft_voter_plain.specs.Damage.{StandsForNothing, TellsDamage};
 ghost use Rattle.raft_voter_plain.specs.Records.{may_change, StandsFor, voter_record, world_in};
-ghost use Rattle.raft_voter.specs.Service.{Answers, CutsOff, FailsAs, IsAlive, IsClosedAt, IsLeftAlone, IsOpenAt, out_of_range, refused_from, TakesNothing};
-ghost use Rattle.raft_voter_plain.specs.Store.{HoldsVoters, IsRefused, IsStopped, IsStored, plain_files, plain_voters, Takes, TakesAll, world_of};
+ghost use Rattle.raft_voter.specs.Service.{Answers, CutsOff, FailsAs, IsAlive, IsClosedAt, IsFromOutside, IsLeftAlone, IsOpenAt, out_of_range, refused_from, TakesNothing};
+ghost use Rattle.raft_voter_plain.specs.Store.{HoldsVoters, IsRefused, IsRefusedFor, IsStopped, IsStored, plain_files, plain_voters, Takes, TakesAll, world_of};
 
 use crate::file::PlainFile;
 use crate::record::{OpenFault, read_voter_record, voter_record};
@@ -146,11 +146,13 @@ impl StoreFiles<PlainVoters> for PlainFile {
         ensures keeps { IfOk result (λ store.
             (W : World) → IsClosedAt plain_files self W → IsOpenAt plain_voters store W) }
         ensures alive { IfOk result (λ store. store.failed ≡ false) }
+        ensures err { IfErr result (IsRefusedFor self) }
+        ensures errors { IfErr result IsFromOutside }
 
         // What a store wrote can always be read, and of an empty file nothing can be refused.
-        ensures err { IfErr result (λ cause.
+        ensures readable { IfErr result (λ cause.
             (W : World) → IsClosedAt plain_files self W → cause ≡ Cause.Memory) }
-        ensures errors { OnErr result (0 < length (whole self)) }
+        ensures some { OnErr result (0 < length (whole self)) }
     {
         match PlainVoters::open(alloc, self) {
             Ok(store) => Ok(store),

@@ -1,13 +1,16 @@
 -- A session that is too long is known by its front.
-use Rattle.std.proofs.Common.{◌≡◌, ℕ, ◌+◌, ◌∙◌, nat_le, Bool, true, false, inr, List, [], ◌++◌, length, length-take, take, append_assoc, Option, Some, None, IfSome, Result, Ok, Err, OnErr, refl, sym, ap, arith}
+use Rattle.std.proofs.Common.{◌≡◌, ℕ, ◌+◌, ◌∙◌, nat_le, Bool, true, false, inl, inr, List, [], ◌++◌, length, length-take, take, append_assoc, Option, Some, None, IfSome, Result, Ok, Err, IfErr, IfOk, OnErr, refl, sym, ap, subst, arith}
 use Rattle.std.proofs.KnownBytes.{Appends-trans}
 use Rattle.std.proofs.lemmas.Bool.Decides.{nat_tests}
 use Rattle.std.proofs.lemmas.List.{take-take}
 use Rattle.std.specs.Option.{option_map}
+use Rattle.std.specs.Prelude.{IsErrAnd}
+use Rattle.std.specs.declared.io.ErrorKind.{ErrorKind}
 use Rattle.raft_voter_messages.specs.declared.round.Round.{Round}
+use Rattle.raft_voter.specs.declared.service.Cause.{Cause}
 use Rattle.raft_voter_session.specs.declared.event.Event.{Event}
 use Rattle.raft_voter_session.specs.Session.{session_of}
-use Rattle.raft_voter_run.specs.Run.{EndsEarly, MayWrite, refused_text}
+use Rattle.raft_voter_run.specs.Run.{Ends, EndsEarly, IsUntoldFor, MayWrite, refused_text}
 use Rattle.raft_voter_run.specs.Writing.{StopsWithin, TakesFront}
 
 too_long : (n : ℕ) (bytes : List ℕ) → nat_le (length (take (n + 1) bytes)) n ≡ nat_le (length bytes) n
@@ -18,10 +21,17 @@ unfolding session_of
 session_front input = rw (take-take 268435456 268435457 input (omega arith), too_long 268435456 input) refl
 
 -- what may be written for the front of a session may be written for it
-pub shown_of_front : (Played : List Event → List Round → List ℕ → Type 0) (known : Option (List ℕ)) (Writes : List ℕ → Type 0) (front text : List ℕ) (status : ℕ) → IfSome known (λ input. front ≡ take 268435457 input)
-    → MayWrite Played front text status → Writes text → IfSome known (λ input. (x : List ℕ) × MayWrite Played input x status × Writes x)
-shown_of_front Played None Writes front text status e told wrote = tt
-shown_of_front Played (Some input) Writes front text status e told wrote = (text, rw (← session_front input, ← e) told, wrote)
+shown_of_front : (Played : List Event → List Round → List ℕ → Type 0) (input front bytes text : List ℕ) (status : ℕ) → front ≡ take 268435457 input → bytes ≡ front
+    → MayWrite Played bytes text status → MayWrite Played input text status
+shown_of_front Played input front bytes text status e f told = rw (← session_front input, ← e, ← f) told
+
+-- what is written for the front of a session is written for it
+pub ends_of_front : {E : Type 0} (r : Result ℕ E) (Played : List Event → List Round → List ℕ → Type 0) (known old new : Option (List ℕ)) (front bytes : List ℕ)
+    → IfSome known (λ input. front ≡ take 268435457 input) → bytes ≡ front
+    → IfOk r (λ status. Ends Played false bytes old new status) → IfOk r (λ status. IfSome known (λ input. Ends Played false input old new status))
+ends_of_front (Err fault) Played known old new front bytes e f ends = tt
+ends_of_front (Ok status) Played None old new front bytes e f ends = tt
+ends_of_front (Ok status) Played (Some input) old new front bytes e f (text, told, wrote) = (text, shown_of_front Played input front bytes text status e f told, wrote)
 
 -- all that a reader with a limit gave is the front of what there was
 pub read_in_front : (known : Option (List ℕ)) (n limit : ℕ) (old new : List ℕ) → limit ≡ n → old ≡ []
@@ -37,11 +47,15 @@ two_fronts a b c bytes left rest one more = record {
   gained = Appends-trans a b c one.front more.front one.gained more.gained;
 }
 
--- of a session the front of what may be written was written
-pub stopped_within : (Played : List Event → List Round → List ℕ → Type 0) (known old new : Option (List ℕ)) (front text : List ℕ) (status : ℕ) → IfSome known (λ input. front ≡ take 268435457 input)
-    → MayWrite Played front text status → StopsWithin old new text → IfSome known (λ input. EndsEarly Played false input old new)
-stopped_within Played None old new front text status e told wrote = tt
-stopped_within Played (Some input) old new front text status e told wrote = inr (text, status, rw (← session_front input, ← e) told, wrote)
+-- where the front of a session isn't told, nor is it
+pub early_of_front : {E : Type 0} (r : Result ℕ E) (kind : E → ErrorKind) (Played : List Event → List Round → List ℕ → Type 0) (Stops : List Event → Cause → Type 0)
+    (known old new : Option (List ℕ)) (front bytes : List ℕ) → IfSome known (λ input. front ≡ take 268435457 input) → bytes ≡ front
+    → IfErr r (λ fault. IsUntoldFor Played Stops bytes old new (kind fault)) → OnErr r (IfSome known (λ input. EndsEarly Played false input old new))
+early_of_front (Ok status) kind Played Stops known old new front bytes e f untold = tt
+early_of_front (Err fault) kind Played Stops None old new front bytes e f untold = tt
+early_of_front (Err fault) kind Played Stops (Some input) old new front bytes e f (inl (kept, told)) = inl kept
+early_of_front (Err fault) kind Played Stops (Some input) old new front bytes e f (inr (text, status, told, wrote)) =
+    inr (text, status, shown_of_front Played input front bytes text status e f told, wrote)
 
 -- of the refusal of arguments a front was written
 pub refusal_within : (Played : List Event → List Round → List ℕ → Type 0) (known old new : Option (List ℕ)) (given : Bool) → given ≡ true → StopsWithin old new refused_text
@@ -53,3 +67,8 @@ refusal_within Played (Some input) old new false is wrote = absurd (cc)
 pub on_err : {T E : Type 0} (r : Result T E) (P : Type 0) → P → OnErr r P
 on_err (Ok v) P h = tt
 on_err (Err e) P h = h
+
+-- a fault that is handed on
+pub handed_on : {T E : Type 0} (r : Result T E) (P : E → Type 0) (fault : E) → IsErrAnd r (λ e. e ≡ fault) → P fault → IfErr r P
+handed_on (Ok v) P fault same h = absurd same
+handed_on (Err e) P fault same h = subst P (sym same) h

@@ -1,5 +1,5 @@
 -- A session goes on.
-use Rattle.std.proofs.Common.{◌≡◌, ℕ, ◌+◌, ◌<◌, ◌≤◌, nat_lt, Bool, false, ◌⊎◌, inr, List, [], ◌∷◌, ◌++◌, length, append_assoc, append-nil, refl, sym, ap, ◌∙◌, subst, arith}
+use Rattle.std.proofs.Common.{◌≡◌, ℕ, ◌+◌, ◌<◌, ◌≤◌, nat_lt, Bool, false, ◌⊎◌, inl, inr, List, [], ◌∷◌, ◌++◌, length, append_assoc, append-nil, refl, sym, ap, ◌∙◌, subst, arith}
 use Rattle.std.proofs.lemmas.List.Concat.{flat_map-append}
 use Rattle.std.proofs.lemmas.Bool.Decides.{nat_tests}
 use Rattle.raft_voter_messages.specs.declared.reply.Reply.{Reply}
@@ -9,13 +9,13 @@ use Rattle.raft_voter_messages.specs.declared.round.Round.{Round as RoundRecord}
 use Rattle.raft_voter.specs.Rounds.{World, fresh_world, after, ExplainsFrom, taken_from}
 use Rattle.raft_voter.specs.declared.service.Cause.{Cause}
 use Rattle.raft_voter.specs.declared.service.Cause.TheVariants.{TooLong}
-use Rattle.raft_voter.specs.Service.{Answers, CutsOff, FailsAs, Files, IsClosedAt, IsLeftAlone, LeavesAlone, Service, TakesNothing, refused_from}
+use Rattle.raft_voter.specs.Service.{Answers, CutsOff, FailsAs, Files, IsAlive, IsClosedAt, IsLeftAlone, LeavesAlone, Service, TakesNothing, refused_from}
 use Rattle.raft_voter_session.specs.declared.event.Event.{Event}
 use Rattle.raft_voter_session.specs.declared.event.Event.TheVariants.{Open as OpenEvent, Close, CrashLast, Round}
 use Rattle.raft_voter_run.specs.declared.storage.Storage.{Storage}
 use Rattle.raft_voter_run.specs.declared.storage.Storage.TheVariants.{Closed, Open}
 use Rattle.raft_voter_run.specs.Storage.{Closes, CrashLeaves, Crashes, IsAt, Keeps, Opens, Serves, Served, cuts_of, is_open}
-use Rattle.raft_voter_run.specs.Play.{AreRoundsOf, Happens, Sure, IsUnderWay, IsPlayed, cuts_in}
+use Rattle.raft_voter_run.specs.Play.{AreRoundsOf, Happens, Stops, StopsFrom, StopsHere, Sure, IsUnderWay, IsPlayed, cuts_in}
 
 -- Rounds.
 
@@ -39,8 +39,8 @@ cut_served v f storage requests round e cause =
 pub answered_served : {S F : Type 0} (v : Service S) (f : Files S F) (store new : S) (requests : List (ℕ × Request)) (replies : List Reply) (round : RoundRecord)
     → round ≡ record { requests = requests; refused = refused_from 0 replies; outcome = Answered replies }
     → Answers (v.world store) requests replies (v.world new) → v.may_refuse store new requests (refused_from 0 replies) → (v.is_stored store → v.is_stored new)
-    → IsLeftAlone v new → Served v f (Open store) (Open new) requests round
-answered_served {S} {F} v f store new requests replies round e told refused stored alone =
+    → IsLeftAlone v new → IsAlive (v.is_failed store) (v.is_failed new) → Served v f (Open store) (Open new) requests round
+answered_served {S} {F} v f store new requests replies round e told refused stored alone lives =
     let P : RoundRecord → Type 0 = λ r. Served v f (Open store) (Open new) requests r in
     let Q : World → Type 0 = λ W. Serves W (record { requests = requests; refused = refused_from 0 replies; outcome = Answered replies }) (v.world new) in
     let one : Q (v.world store) = record { holds = λ cuts. (told.rising, told.told); reached = λ cuts. sym told.taken; left = λ cuts. refl } in
@@ -50,7 +50,7 @@ answered_served {S} {F} v f store new requests replies round e told refused stor
       refuses = refused;
       still = refl;
       world = λ W. v.world new;
-      serves = λ W at. (subst Q at.serves one, record { stored = stored at.stored; serves = refl; left = alone (stored at.stored) });
+      serves = λ W at. (subst Q at.serves one, record { alive = lives.1; stored = stored at.stored; serves = refl; left = alone (stored at.stored) });
     })
 
 -- a round is too long, which the store tells: it took nothing
@@ -75,7 +75,7 @@ too_long_served {S} {F} v f store new requests refused round cause is e off fail
       world = λ W. W;
       serves = λ W at.
           let now = same ∙ at.serves in
-          (cut_serves W requests, record { stored = kept at.stored; serves = now; left = subst Q now (alone (kept at.stored)) });
+          (cut_serves W requests, record { alive = (subst B is fails).1 ∙ at.alive; stored = kept at.stored; serves = now; left = subst Q now (alone (kept at.stored)) });
     })
 
 -- Sessions.
@@ -120,6 +120,9 @@ goes_on {S} {F} v f files events left now old new rounds rounds_now cuts cuts_no
       happened = λ rs more.
           let P : List Event → Type 0 = λ es. Happens v f es old W (round ∷ rs) in
           rw (append_assoc rounds (round ∷ []) rs) (s.happened (round ∷ rs) (subst P (sym next) (new, X, round, rs, refl, served, one.0, left_by_crash v f new X one.1, more)));
+      stops = λ cause more.
+          let P : List Event → Type 0 = λ es. StopsFrom v f es old cause in
+          s.stops cause (subst P (sym next) (inr (new, (round, served), more)));
     })
 
 -- an event that isn't a round
@@ -138,6 +141,9 @@ opens_on {S} {F} v f files workers events left now old new rounds cuts s next mo
       happened = λ rs more.
           let P : List Event → Type 0 = λ es. Happens v f es old W rs in
           s.happened rs (subst P (sym next) (new, moves, left_by_crash v f new W at, more));
+      stops = λ cause more.
+          let P : List Event → Type 0 = λ es. StopsFrom v f es old cause in
+          s.stops cause (subst P (sym next) (inr (new, moves, more)));
     }
 
 pub closes_on : {S F : Type 0} (v : Service S) (f : Files S F) (files : F) (events left now : List Event) (old new : Storage S F) (rounds : List RoundRecord) (cuts : List ℕ)
@@ -155,6 +161,9 @@ closes_on {S} {F} v f files events left now old new rounds cuts s next moves kee
       happened = λ rs more.
           let P : List Event → Type 0 = λ es. Happens v f es old W rs in
           s.happened rs (subst P (sym next) (new, moves, left_by_crash v f new W at, more));
+      stops = λ cause more.
+          let P : List Event → Type 0 = λ es. StopsFrom v f es old cause in
+          s.stops cause (subst P (sym next) (inr (new, moves, more)));
     }
 
 pub crashes_on : {S F : Type 0} (v : Service S) (f : Files S F) (files : F) (events left now : List Event) (old new : Storage S F) (rounds : List RoundRecord) (cuts : List ℕ)
@@ -172,7 +181,17 @@ crashes_on {S} {F} v f files events left now old new rounds cuts s next moves ke
       happened = λ rs more.
           let P : List Event → Type 0 = λ es. Happens v f es old W rs in
           s.happened rs (subst P (sym next) (new, moves, left_by_crash v f new W at, more));
+      stops = λ cause more.
+          let P : List Event → Type 0 = λ es. StopsFrom v f es old cause in
+          s.stops cause (subst P (sym next) (inr (new, moves, more)));
     }
+
+-- it stops at the next event
+pub stops_now : {S F : Type 0} (v : Service S) (f : Files S F) (files : F) (events left now : List Event) (event : Event) (old : Storage S F) (rounds : List RoundRecord) (cuts : List ℕ) (cause : Cause)
+    → IsUnderWay v f files events left old rounds cuts → left ≡ event ∷ now → StopsHere v f event old cause → Stops v f files events cause
+stops_now v f files events left now event old rounds cuts cause s next here =
+    let P : List Event → Type 0 = λ es. StopsFrom v f es old cause in
+    s.stops cause (subst P (sym next) (inl here))
 
 -- of the events that are left there are no more than of all
 pub fewer : (left now : List Event) (event : Event) (most : ℕ) → left ≡ event ∷ now → length left ≤ most → length now ≤ most
@@ -188,6 +207,7 @@ begins v f files events rounds cuts at e g =
       none_taken = refl;
       of_session = λ rs h. h;
       happened = λ rs h. h;
+      stops = λ cause h. h;
     })
 
 pub ends : {S F : Type 0} (v : Service S) (f : Files S F) (files : F) (events left : List Event) (storage : Storage S F) (rounds : List RoundRecord) (cuts : List ℕ)

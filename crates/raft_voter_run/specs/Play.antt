@@ -1,14 +1,16 @@
 -- A session that is played.
-use Rattle.std.specs.Prelude.{◌≡◌, ℕ, Bool, true, false, List, [], ◌∷◌, ◌++◌}
+use Rattle.std.specs.Prelude.{◌≡◌, ◌⊎◌, ℕ, Bool, true, false, List, [], ◌∷◌, ◌++◌}
 use Rattle.std.specs.List.{flat_map}
 use Rattle.raft_voter_messages.specs.declared.round.Round.{Round as RoundRecord}
 use Rattle.raft_voter.specs.Rounds.{World, Explains, ExplainsFrom, fresh_world}
 use Rattle.raft_voter.specs.Service.{Files, Service}
+use Rattle.raft_voter.specs.declared.service.Cause.{Cause}
+use Rattle.raft_voter.specs.declared.service.Cause.TheVariants.{Memory}
 use Rattle.raft_voter_session.specs.declared.event.Event.{Event}
 use Rattle.raft_voter_session.specs.declared.event.Event.TheVariants.{Open, Close, CrashLast, Round}
 use Rattle.raft_voter_run.specs.declared.storage.Storage.{Storage}
 use Rattle.raft_voter_run.specs.declared.storage.Storage.TheVariants.{Closed}
-use Rattle.raft_voter_run.specs.Storage.{Closes, CrashLeaves, Crashes, HasCause, IsAt, Opens, Served, Serves, cuts_of, is_open}
+use Rattle.raft_voter_run.specs.Storage.{Closes, CrashLeaves, Crashes, HasCause, IsAt, Opens, RefusesToOpen, Served, Serves, Untold, cuts_of, is_open}
 
 -- Each round of a session is in the transcript, with its requests, in order. One is cut off only where no
 -- store is open, or where it is too long, and only what the service may refuse is refused. `begun` says
@@ -42,6 +44,30 @@ Happens {S} {F} v f (Round requests ∷ events) old W rounds =
 Happens {S} {F} v f (event ∷ events) old W rounds =
     (new : Storage S F) × Moves f event old new × CrashLeaves v f new W × Happens v f events new W rounds
 
+-- what an event makes of the storage
+abbrev pub Turns : {S F : Type 0} → Service S → Files S F → Event → Storage S F → Storage S F → Type 0
+Turns v f (Round requests) old new = (round : RoundRecord) × Served v f old new requests round
+Turns v f event old new = Moves f event old new
+
+-- A session stops at this event, for this cause: the open is refused for it; or the round isn't told for it, or
+-- no memory is left to add it to the transcript.
+abbrev pub StopsHere : {S F : Type 0} → Service S → Files S F → Event → Storage S F → Cause → Type 0
+StopsHere v f (Open workers) old cause = RefusesToOpen f old cause
+StopsHere {S} {F} v f (Round requests) old cause =
+    (cause ≡ Memory) ⊎ ((new : Storage S F) × Untold v old new requests cause)
+StopsHere v f event old cause = ⊥
+
+-- A session of these events stops at one of them, for this cause, and those before it happened.
+abbrev pub StopsFrom : {S F : Type 0} → Service S → Files S F → List Event → Storage S F → Cause → Type 0
+StopsFrom v f [] old cause = ⊥
+StopsFrom {S} {F} v f (event ∷ events) old cause =
+    StopsHere v f event old cause
+    ⊎ ((new : Storage S F) × Turns v f event old new × StopsFrom v f events new cause)
+
+-- a session that begins with these files and no store open stops for this cause
+abbrev pub Stops : {S F : Type 0} → Service S → Files S F → F → List Event → Cause → Type 0
+Stops v f files events cause = StopsFrom v f events (Closed files) cause
+
 -- the cuts of rounds: nothing was taken of one that is cut off
 abbrev pub cuts_in : List RoundRecord → List ℕ
 cuts_in rounds = flat_map (λ round. cuts_of round.outcome) rounds
@@ -74,3 +100,4 @@ pub record IsUnderWay {S F : Type 0} (v : Service S) (f : Files S F) (files : F)
   pub happened :
       (rs : List RoundRecord) → Happens v f left storage sure.world rs
       → Happens v f events (Closed files) fresh_world (rounds ++ rs)
+  pub stops : (cause : Cause) → StopsFrom v f left storage cause → Stops v f files events cause

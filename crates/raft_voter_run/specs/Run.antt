@@ -1,8 +1,13 @@
 -- What the program writes.
 use Rattle.std.specs.Prelude.{◌≡◌, ◌↔◌, ◌⊎◌, ℕ, Bool, true, false, IsTrue, if◌then◌else◌, List, Option, Result, Ok, Err, codes}
 use Rattle.std.specs.Io.KnownBytes.{Appends, Keeps}
+use Rattle.std.specs.declared.io.ErrorKind.{ErrorKind}
+use Rattle.std.specs.declared.io.ErrorKind.TheVariants.{Other, OutOfMemory}
 use Rattle.raft_voter_messages.specs.declared.round.Round.{Round}
 use Rattle.raft_voter.specs.Rounds.{Explains}
+use Rattle.raft_voter.specs.Service.{IsFromOutside}
+use Rattle.raft_voter.specs.declared.service.Cause.{Cause}
+use Rattle.raft_voter.specs.declared.service.Cause.TheVariants.{Memory}
 use Rattle.raft_voter_session.specs.declared.event.Event.{Event}
 use Rattle.raft_voter_session.specs.Session.{session_of}
 use Rattle.raft_voter_session.specs.Text.{transcript_text, unreadable_text}
@@ -36,6 +41,27 @@ Tells Played (Err line) text status = (text ≡ unreadable_text line) × (status
 abbrev pub MayWrite : (List Event → List Round → List ℕ → Type 0) → List ℕ → List ℕ → ℕ → Type 0
 MayWrite Played input text status = Tells Played (session_of input) text status
 
+-- events stop for this cause as they are played, or memory is refused
+abbrev pub MayStop : (List Event → Cause → Type 0) → List Event → Cause → Type 0
+MayStop Stops events cause = (cause ≡ Memory) ⊎ Stops events cause
+
+-- a session of these bytes stops for this cause: memory is refused, or its events stop for it
+abbrev pub MayStopReading : (List Event → Cause → Type 0) → List ℕ → Cause → Type 0
+MayStopReading Stops input cause =
+    (cause ≡ Memory) ⊎ ((events : List Event) × (session_of input ≡ Ok events) × Stops events cause)
+
+-- how the program's fault tells of a cause
+abbrev pub kind_of : Cause → ErrorKind
+kind_of Memory = OutOfMemory
+kind_of cause = Other
+
+-- the kind of a fault tells a cause for which a session of these bytes stops
+pub record TellsCause (Stops : List Event → Cause → Type 0) (input : List ℕ) (kind : ErrorKind) : Type 0 where
+  pub cause : Cause
+  pub stopped : MayStopReading Stops input cause
+  pub outside : IsFromOutside cause
+  pub told : kind ≡ kind_of cause
+
 -- what is written where arguments are given
 abbrev pub refused_text : List ℕ
 refused_text = codes "arguments refused\n"
@@ -54,6 +80,16 @@ abbrev pub EndsEarly :
 EndsEarly Played given input old new =
     Keeps old new
     ⊎ ((text : List ℕ) × (status : ℕ) × MayEnd Played given input text status × StopsWithin old new text)
+
+-- The bytes of a session aren't told: it stopped, nothing was written, and the fault tells for which cause; or
+-- the writer took the front of what may be written, and not all of it.
+abbrev pub IsUntoldFor :
+    (List Event → List Round → List ℕ → Type 0)
+    → (List Event → Cause → Type 0)
+    → List ℕ → Option (List ℕ) → Option (List ℕ) → ErrorKind → Type 0
+IsUntoldFor Played Stops input old new kind =
+    (Keeps old new × TellsCause Stops input kind)
+    ⊎ ((text : List ℕ) × (status : ℕ) × MayWrite Played input text status × StopsWithin old new text)
 
 -- The program came to its end: it wrote what it may write, all of it.
 abbrev pub Ends :

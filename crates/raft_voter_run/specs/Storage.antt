@@ -48,6 +48,10 @@ pub record Opens {S F : Type 0} (f : Files S F) (old new : Storage S F) : Type 0
   pub opened : f.opens files store
   pub now : new ≡ Open store
 
+-- the files may be refused to an open, for this cause
+abbrev pub RefusesToOpen : {S F : Type 0} → Files S F → Storage S F → Cause → Type 0
+RefusesToOpen {S} {F} f old cause = (files : F) × IsOver f old files × f.refuses files cause
+
 -- the files are as a close gives them, and no store is open
 pub record Closes {S F : Type 0} (f : Files S F) (old new : Storage S F) : Type 0 where
   pub files : F

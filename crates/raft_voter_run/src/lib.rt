@@ -11,6 +11,6 @@ mod storage;
 mod writing;
 
 pub use playing::play;
-pub use running::{exit_status, has_arguments, program, run};
+pub use running::{exit_status, has_arguments, program, run, run_bytes};
 pub use storage::Storage;
 pub use writing::write_whole;

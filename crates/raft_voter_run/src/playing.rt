@@ -1,8 +1,8 @@
 //! Plays a session's events.
-ghost use Rattle.std.specs.Prelude.{◌≡◌, ◌<◌, ◌++◌, length, IfOk, OnErr, OnOk};
+ghost use Rattle.std.specs.Prelude.{◌≡◌, ◌<◌, ◌++◌, length, IfErr, IfOk, OnErr, OnOk};
 ghost use Rattle.raft_voter.specs.Rounds.{fresh_world};
-ghost use Rattle.raft_voter.specs.Service.{IsClosedAt};
-ghost use Rattle.raft_voter_run.specs.Play.{IsPlayed};
+ghost use Rattle.raft_voter.specs.Service.{IsClosedAt, IsFromOutside};
+ghost use Rattle.raft_voter_run.specs.Play.{IsPlayed, Stops};
 ghost use Rattle.raft_voter_run.specs.Storage.{cuts_of};
 
 use crate::storage::Storage;
@@ -13,7 +13,7 @@ use std::collections::VecDeque;
 
 /// The transcript of a session that begins with these files, in which no voter is stored, and the place up to
 /// which each round that was cut off was taken. It stops where memory is refused or the file system fails,
-/// which can be only where there is an event.
+/// which can be only where there is an event, and tells for which of the two.
 pub fn play<S: RoundService + Drop, F: StoreFiles<S> + Drop>(
     alloc: Global,
     files: F,
@@ -22,7 +22,9 @@ pub fn play<S: RoundService + Drop, F: StoreFiles<S> + Drop>(
     requires { IsClosedAt F.files files fresh_world }
     ensures ok { IfOk result (λ played.
         IsPlayed S.service F.files files events.items played.0.rounds played.1) }
-    ensures errors { OnErr result (0 < length events.items) }
+    ensures err { IfErr result (Stops S.service F.files files events.items) }
+    ensures errors { IfErr result IsFromOutside }
+    ensures some { OnErr result (0 < length events.items) }
 {
     let mut storage: Storage<S, F> = Storage::Closed(files);
     let mut rounds = Items::new(alloc);

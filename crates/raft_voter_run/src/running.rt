@@ -1,10 +1,11 @@
 //! From the bytes of a session to those of its transcript.
-ghost use Rattle.std.specs.Prelude.{◌≡◌, false, true, IfOk, IfSome, OnErr, string_bytes, take};
+ghost use Rattle.std.specs.Prelude.{◌≡◌, ◌≢◌, false, true, IfErr, IfOk, IfSome, OnErr, string_bytes, take};
+ghost use Rattle.std.specs.IoError.{error_kind};
 ghost use Rattle.raft_voter.specs.Rounds.{fresh_world};
-ghost use Rattle.raft_voter.specs.Service.{IsClosedAt};
-ghost use Rattle.raft_voter_run.specs.Play.{IsPlayed};
+ghost use Rattle.raft_voter.specs.Service.{IsClosedAt, IsFromOutside};
+ghost use Rattle.raft_voter_run.specs.Play.{IsPlayed, Stops};
 ghost use Rattle.raft_voter_session.specs.Text.{unreadable_text};
-ghost use Rattle.raft_voter_run.specs.Run.{Ends, EndsEarly, IsJudged, MayEnd, MayWrite, refused_text, Shows};
+ghost use Rattle.raft_voter_run.specs.Run.{Ends, EndsEarly, IsJudged, IsUntoldFor, kind_of, MayEnd, MayStop, MayStopReading, MayWrite, refused_text, Shows};
 
 use crate::playing::play;
 use crate::writing::write_whole;
@@ -59,6 +60,7 @@ pub fn program<S: RoundService + Drop, F: StoreFiles<S> + Drop, R: Read, W: Writ
     ensures err { OnErr result (IfSome (R.remaining reader.old) (λ input.
         EndsEarly (IsPlayed S.service F.files files) has_arguments input
         (W.contents writer.old) (W.contents writer.new))) }
+    ensures retried { IfErr result (λ fault. error_kind fault ≢ ErrorKind.Interrupted) }
     ensures unread { has_arguments ≡ true → reader.new ≡ reader.old }
 {
     if has_arguments {
@@ -86,9 +88,30 @@ pub fn run<S: RoundService + Drop, F: StoreFiles<S> + Drop, R: Read, W: Write>(
     ensures err { OnErr result (IfSome (R.remaining reader.old) (λ input.
         EndsEarly (IsPlayed S.service F.files files) false input
         (W.contents writer.old) (W.contents writer.new))) }
+    ensures retried { IfErr result (λ fault. error_kind fault ≢ ErrorKind.Interrupted) }
 {
     let front = read_front(alloc, reader)?;
-    let (text, status) = match answer::<S, F>(alloc, files, front.as_slice()) {
+    run_bytes::<S, F, W>(alloc, files, front.as_slice(), writer)
+}
+
+/// Serves the session of these bytes, and writes what `run` writes for it. An `Err` tells that memory was
+/// refused or the store failed, then nothing was written and its kind tells for which cause; or that the
+/// writer failed, which took the front of what may be written.
+pub fn run_bytes<S: RoundService + Drop, F: StoreFiles<S> + Drop, W: Write>(
+    alloc: Global,
+    files: F,
+    bytes: &[u8],
+    writer: &mut W,
+) -> io::Result<u8>
+    requires { IsClosedAt F.files files fresh_world }
+    ensures ok { IfOk result (λ status. Ends (IsPlayed S.service F.files files) false bytes.now
+        (W.contents writer.old) (W.contents writer.new) status) }
+    ensures err { IfErr result (λ fault.
+        IsUntoldFor (IsPlayed S.service F.files files) (Stops S.service F.files files) bytes.now
+        (W.contents writer.old) (W.contents writer.new) (error_kind fault)) }
+    ensures retried { IfErr result (λ fault. error_kind fault ≢ ErrorKind.Interrupted) }
+{
+    let (text, status) = match answer::<S, F>(alloc, files, bytes) {
         Ok(told) => told,
         Err(cause) => return Err(io::Error::from(kind_of(cause))),
     };
@@ -97,7 +120,9 @@ pub fn run<S: RoundService + Drop, F: StoreFiles<S> + Drop, R: Read, W: Write>(
 }
 
 /// How a reader or a writer tells of this cause.
-fn kind_of(cause: Cause) -> ErrorKind {
+fn kind_of(cause: Cause) -> ErrorKind
+    ensures { result ≡ kind_of cause }
+{
     match cause {
         Cause::Memory => ErrorKind::OutOfMemory,
         _ => ErrorKind::Other,
@@ -106,8 +131,9 @@ fn kind_of(cause: Cause) -> ErrorKind {
 
 /// The bytes of a session, and of one that is too long only as many as tell so.
 fn read_front<R: Read>(alloc: Global, reader: &mut R) -> io::Result<Vec<u8>>
-    ensures { IfOk result (λ front. IfSome (R.remaining reader.old) (λ input.
+    ensures ok { IfOk result (λ front. IfSome (R.remaining reader.old) (λ input.
         front.items ≡ take 268435457 input)) }
+    ensures retried { IfErr result (λ fault. error_kind fault ≢ ErrorKind.Interrupted) }
 {
     let mut front = Vec::new(alloc);
     reader.take(MOST_READ_BYTES).read_to_end(&mut front)?;
@@ -121,8 +147,10 @@ fn answer<S: RoundService + Drop, F: StoreFiles<S> + Drop>(
     input: &[u8],
 ) -> Result<(String, u8), Cause>
     requires { IsClosedAt F.files files fresh_world }
-    ensures { IfOk result (λ told.
+    ensures ok { IfOk result (λ told.
         MayWrite (IsPlayed S.service F.files files) input.now (string_bytes told.0) told.1) }
+    ensures err { IfErr result (MayStopReading (Stops S.service F.files files) input.now) }
+    ensures errors { IfErr result IsFromOutside }
 {
     match read_session(alloc, input) {
         Ok(events) => shown::<S, F>(alloc, files, events),
@@ -138,8 +166,10 @@ fn shown<S: RoundService + Drop, F: StoreFiles<S> + Drop>(
     events: VecDeque<Event>,
 ) -> Result<(String, u8), Cause>
     requires { IsClosedAt F.files files fresh_world }
-    ensures { IfOk result (λ told.
+    ensures ok { IfOk result (λ told.
         Shows (IsPlayed S.service F.files files) events.items (string_bytes told.0) told.1) }
+    ensures err { IfErr result (MayStop (Stops S.service F.files files) events.items) }
+    ensures errors { IfErr result IsFromOutside }
 {
     let (transcript, cuts) = play::<S, F>(alloc, files, events)?;
     Ok(judged(alloc, &transcript, cuts.as_slice())?)

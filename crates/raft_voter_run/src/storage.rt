@@ -1,7 +1,7 @@
 //! A store that is open, or the files of one that isn't.
 ghost use Rattle.std.specs.Prelude.{◌≡◌, [], true, IfErr, IfOk, OnErr};
-ghost use Rattle.raft_voter.specs.Service.{is_refused, refused_from};
-ghost use Rattle.raft_voter_run.specs.Storage.{Closes, Crashes, IsOver, Keeps, MayAnswer, Opens, Served, Untold};
+ghost use Rattle.raft_voter.specs.Service.{IsFromOutside, is_refused, refused_from};
+ghost use Rattle.raft_voter_run.specs.Storage.{Closes, Crashes, IsOver, Keeps, MayAnswer, Opens, RefusesToOpen, Served, Untold};
 
 use raft_voter::{Cause, Items, Memory, Outcome, Reply, Request, Round, RoundService, StoreFiles};
 use std::alloc::Global;
@@ -27,10 +27,12 @@ impl<S: RoundService + Drop, F: StoreFiles<S> + Drop> Storage<S, F> {
         }
     }
 
-    /// Opens the store; one that is open is closed first.
+    /// Opens the store; one that is open is closed first. It is refused for the cause for which the files are.
     pub fn opened(self, alloc: Global) -> Result<Storage<S, F>, Cause>
         ensures opens { IfOk result (Opens F.files self) }
         ensures keeps { IfOk result (Keeps S.service F.files self) }
+        ensures err { IfErr result (RefusesToOpen F.files self) }
+        ensures errors { IfErr result IsFromOutside }
     {
         let store = self.into_files().open(alloc)?;
         Ok(Storage::Open(store))

@@ -1,6 +1,8 @@
 use Rattle.std.proofs.Common.{◌≡◌, ◌∷◌, rules, arith}
 use Rattle.raft_voter_session.specs.declared.event.Event.TheVariants.{Open, Close, CrashLast, Round}
-use Rattle.raft_voter_run.proofs.Steps.{begins, closes_on, crashes_on, ends, fewer, goes_on, opens_on}
+use Rattle.std.proofs.Common.{inr}
+use Rattle.raft_voter_run.proofs.Fronts.{handed_on}
+use Rattle.raft_voter_run.proofs.Steps.{begins, closes_on, crashes_on, ends, fewer, goes_on, opens_on, stops_now}
 use Rattle.raft_voter_run.proofs.playing.play.Goals as goal
 
 pub loop-event-init : goal.loop-event-init
@@ -28,3 +30,9 @@ pub loop-event-preserved-in-CrashLast : goal.loop-event-preserved-in-CrashLast
 loop-event-preserved-in-CrashLast g c =
     let next : c.loop-event.events.items ≡ CrashLast ∷ c.pop_front.new.self.items = search rules in
     (crashes_on _ _ _ _ _ _ _ _ _ _ c.loop-event.invariant.0 next c.crashed-storage.ensures.crashes c.crashed-storage.ensures.keeps, fewer _ _ _ _ next c.loop-event.invariant.1)
+
+pub returns-in_err-round-in-Round-clause-err : goal.returns-in_err-round-in-Round-clause-err
+returns-in_err-round-in-Round-clause-err g c =
+    let next : c.loop-event.events.items ≡ Round c.in-Round.requests ∷ c.pop_front.new.self.items = search rules in
+    handed_on c.from_residual-in_err-round-in-Round.result _ c.in_err-round-in-Round.field-0.0 c.from_residual-in_err-round-in-Round.ensures.1
+    (stops_now _ _ _ _ _ _ (Round c.in-Round.requests) _ _ _ _ c.loop-event.invariant.0 next (inr (c.serve.new.self, c.in_err-round-in-Round.ensures.err)))

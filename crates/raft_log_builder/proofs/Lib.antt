@@ -1,3 +1,6 @@
 pub mod Cuts
 pub mod Endings
 pub mod Syncs
+mod Formats
+mod Small
+mod Opened

@@ -4,3 +4,5 @@ pub mod Recovering
 pub mod Directories
 pub mod Scanning
 pub mod Syncing
+pub mod Endings
+pub mod Finishing

@@ -1,20 +1,25 @@
 //! From a log's directories to what its files say.
 
-ghost use Rattle.std.specs.Prelude.{◌≡◌, IfErr, IfOk, OnErr, OnOk, []};
+ghost use Rattle.std.specs.Prelude.{◌≡◌, ◌↔◌, IfErr, IfOk, IsTrue, OnErr, OnOk, []};
 
+use crate::clearing::clear_old;
 use crate::cutting::cut_files;
+use crate::finishing::{recovered_pipe, unread, wanted_pipe};
 use crate::paths::paths;
 use crate::queue_files::QueueFiles;
 use crate::reading::recover_files;
+use crate::syncing::sync_files;
 use log::Log;
-use raft_log_base::{LogQueue, Result};
+use raft_log_base::{Error, LogQueue, Result};
 use raft_log_disk::FileSystem;
+use raft_log_dual_pipes::{DualPipes, FoundPipe, OpenRefused, PipeLog};
 use raft_log_files::File;
 use raft_log_recovery::scanning::{ScannedFiles, scan};
 use raft_log_recovery::{RecoveryConfig, share_workers};
 use raft_log_segments::{Factory, ReplayMachine};
 use raft_log_settings::Config;
 use std::alloc::Global;
+use std::io::ErrorKind;
 use std::thread::Threads;
 
 /// Scans the directories of a log, and recovers what its files say, in this order. The file system is lent to
@@ -28,8 +33,10 @@ pub struct DualPipesBuilder {
 }
 
 impl DualPipesBuilder {
+    ghost use Rattle.raft_log_base.specs.declared.pipe_log.LogQueue.TheVariants.{Append, Rewrite};
+    ghost use Rattle.raft_log_builder.specs.Finishing.{FailsToOpenRecovered, FailsToSyncLog, IsRead, IsUnready, IsWantedAs, OpensRecovered, SyncsLog};
     ghost use Rattle.raft_log_builder.specs.Recovering.{FailsToRecoverLog, RecoversLog};
-    ghost use Rattle.raft_log_builder.specs.Scanning.{ScansLog};
+    ghost use Rattle.raft_log_builder.specs.Scanning.{FailsToScanLog, ScansLog};
 
     /// A builder that has scanned nothing: its log has no file.
     pub fn new(alloc: Global, config: Config) -> DualPipesBuilder
@@ -46,23 +53,33 @@ impl DualPipesBuilder {
         }
     }
 
-    /// Finds and opens the log's files; a directory that isn't there is made, and no file is changed.
+    /// Finds and opens the log's files; a directory that isn't there is made, and no file is changed. What the
+    /// file system keeps beside files below the first ones is deleted; a refusal of that is logged.
     ///
     /// `Other` where a file has the path of a directory, `Corruption` where a name says a number and isn't
     /// the one that is built for it, `Io` where a directory isn't made or the file system has stopped,
     /// `Memory`: the builder is as it was.
-    pub fn scan<F: FileSystem>(&mut self, alloc: Global, file_system: &mut F) -> Result<()>
+    pub fn scan<F: FileSystem, L: Log>(
+        &mut self,
+        alloc: Global,
+        rt: &L,
+        file_system: &mut F,
+    ) -> Result<()>
         ensures ok { OnOk result
             (ScansLog self.old self.new (F.disk file_system.old) (F.disk file_system.new)) }
-        ensures err { OnErr result (self.new ≡ self.old) }
+        ensures err { IfErr result (λ error.
+            FailsToScanLog self.old error (F.disk file_system.old) (F.disk file_system.new)) }
+        ensures same { OnErr result (self.new ≡ self.old) }
     {
         let paths = paths(alloc, &self.config)?;
         let mode = self.config.recovery_mode;
+        let found = scan(alloc, file_system, paths.as_slice(), mode)?;
+        clear_old(alloc, rt, file_system, paths.as_slice(), &found)?;
         let ScannedFiles {
             append,
             rewrite,
             reserved,
-        } = scan(alloc, file_system, paths.as_slice(), mode)?;
+        } = found;
         self.append = QueueFiles::new(alloc, append);
         self.rewrite = QueueFiles::new(alloc, rewrite);
         self.reserved = reserved;
@@ -99,5 +116,76 @@ impl DualPipesBuilder {
         self.append.endings = append.endings;
         self.rewrite.endings = rewrite.endings;
         Ok((append.machine, rewrite.machine))
+    }
+
+    /// Opens the pipes of the log over its files as they were recovered, that of Append first; before that all
+    /// files are synced, so that nothing that was recovered is lost behind a stop. The file system is the
+    /// pipes' from then on.
+    ///
+    /// Refused, it is handed back. `InvalidArgument` where not all files were recovered, `Memory`: nothing was
+    /// done. `Io` where a file isn't synced, or as either pipe is refused: all that was recovered is there
+    /// still, and may be scanned again.
+    pub fn finish<F: FileSystem, L: Log>(
+        self,
+        alloc: Global,
+        rt: &L,
+        file_system: F,
+    ) -> Result<DualPipes<F>, OpenRefused<F>>
+        ensures ok { IfOk result (λ pipes. OpensRecovered self (F.disk file_system)
+            (⟦<DualPipes<F> as PipeLog>⟧.shown pipes)) }
+        ensures err { IfErr result (λ refused. FailsToOpenRecovered self refused.error
+            (F.disk file_system) (F.disk refused.file_system)) }
+    {
+        let mut file_system = file_system;
+        let (append, rewrite) = match self.wanted_pipes(alloc) {
+            Ok(pipes) => pipes,
+            Err(error) => return Err(OpenRefused { error, file_system }),
+        };
+        if let Err(kind) = self.sync_all(&mut file_system) {
+            let error = Error::Io(kind);
+            return Err(OpenRefused { error, file_system });
+        }
+        let DualPipesBuilder {
+            append: append_files,
+            rewrite: rewrite_files,
+            reserved,
+            ..
+        } = self;
+        let append = recovered_pipe(append, append_files, reserved);
+        let rewrite = recovered_pipe(rewrite, rewrite_files, Vec::new(alloc));
+        DualPipes::open(alloc, rt, file_system, append, rewrite)
+    }
+
+    /// Whether all files were recovered.
+    fn is_read(&self) -> bool
+        ensures { IsTrue result ↔ IsRead self.now }
+    {
+        self.append.is_read() && self.rewrite.is_read()
+    }
+
+    /// The pipes that the settings want, where all files were recovered. `InvalidArgument` where some weren't;
+    /// `Memory`.
+    fn wanted_pipes(&self, alloc: Global) -> Result<(FoundPipe, FoundPipe)>
+        ensures ok { IfOk result (λ pipes. IsRead self.now × IsWantedAs Append self.now.config pipes.0
+            × IsWantedAs Rewrite self.now.config pipes.1) }
+        ensures err { IfErr result (IsUnready self.now) }
+    {
+        if !self.is_read() {
+            return Err(unread(alloc));
+        }
+        let append = wanted_pipe(alloc, &self.config, LogQueue::Append)?;
+        let rewrite = wanted_pipe(alloc, &self.config, LogQueue::Rewrite)?;
+        Ok((append, rewrite))
+    }
+
+    /// Syncs the files of both queues, Append's first. Refused, those before one are synced.
+    fn sync_all<F: FileSystem>(&self, file_system: &mut F) -> Result<(), ErrorKind>
+        ensures ok { OnOk result
+            (SyncsLog self.now (F.disk file_system.old) (F.disk file_system.new)) }
+        ensures err { IfErr result (λ kind.
+            FailsToSyncLog self.now kind (F.disk file_system.old) (F.disk file_system.new)) }
+    {
+        sync_files(file_system, &self.append.files)?;
+        sync_files(file_system, &self.rewrite.files)
     }
 }

@@ -3,7 +3,9 @@
 #![tactic(auto)]
 
 pub mod builder;
+mod clearing;
 pub mod cutting;
+mod finishing;
 pub mod paths;
 pub mod queue_files;
 pub mod reading;

@@ -1,6 +1,6 @@
 //! The files of a queue that no pipe has open.
 
-ghost use Rattle.std.specs.Prelude.{◌≡◌, []};
+ghost use Rattle.std.specs.Prelude.{◌≡◌, ◌↔◌, [], IsTrue, length};
 
 use raft_log_files::File;
 use raft_log_found_queue::FileEnding;
@@ -26,5 +26,12 @@ impl QueueFiles {
             files,
             endings: Vec::new(alloc),
         }
+    }
+
+    /// Whether something is told of each file.
+    pub fn is_read(&self) -> bool
+        ensures { IsTrue result ↔ length self.now.endings.items ≡ length self.now.files.items }
+    {
+        self.endings.len() == self.files.len()
     }
 }

@@ -1,6 +1,7 @@
 //! What a file system may keep beside files that are gone is deleted.
 
-ghost use Rattle.std.specs.Prelude.{◌≡◌, ◌<◌, ◌≤◌, ◌^◌, ◌*◌, ◌/◌};
+ghost use Rattle.std.specs.Prelude.{◌≡◌, ◌<◌, ◌≤◌, ◌^◌, ◌*◌, ◌/◌, IfErr};
+ghost use Rattle.raft_log_base.specs.declared.errors.Error.TheVariants.{Memory};
 ghost use Rattle.raft_log_recovery.specs.Metadata.{LeavesFiles};
 
 use super::found::FoundFile;
@@ -16,8 +17,8 @@ const SAMPLES: u64 = 100;
 
 /// Deletes what the file system keeps beside files of a queue below its first one. It is asked at a hundred
 /// numbers, from the lowest on; from the one before the first where something is kept, all are deleted,
-/// from the highest down. A refusal is logged, and ends that number's directories. `Memory`: not all were
-/// asked for.
+/// from the highest down. A refusal is logged, and ends that number's directories. `Memory`, and nothing
+/// else: not all were asked for.
 pub fn clear_metadata<F: FileSystem, L: Log>(
     alloc: Global,
     rt: &L,
@@ -27,7 +28,8 @@ pub fn clear_metadata<F: FileSystem, L: Log>(
     first: FileSeq,
 ) -> Result<()>
     requires { first < 10 ^ 16 }
-    ensures { LeavesFiles (F.disk file_system.old) (F.disk file_system.new) }
+    ensures files { LeavesFiles (F.disk file_system.old) (F.disk file_system.new) }
+    ensures err { IfErr result (λ error. error ≡ Memory) }
 {
     match first_kept(alloc, file_system, kind, paths, first)? {
         Some(lowest) => clear_from(alloc, rt, file_system, kind, paths, lowest, first),
@@ -44,6 +46,7 @@ fn first_kept<F: FileSystem>(
     first: FileSeq,
 ) -> Result<Option<FileSeq>>
     requires { first < 10 ^ 16 }
+    ensures err { IfErr result (λ error. error ≡ Memory) }
 {
     for at in 0..SAMPLES {
         if has_metadata(alloc, file_system, kind, paths, sample(at, first))? {
@@ -70,7 +73,10 @@ fn has_metadata<F: FileSystem>(
     kind: FileKind,
     paths: &[String],
     seq: FileSeq,
-) -> Result<bool> {
+) -> Result<bool>
+    requires { seq < 10 ^ 16 }
+    ensures err { IfErr result (λ error. error ≡ Memory) }
+{
     for path_id in 0..paths.len() {
         let path = path_of(alloc, kind, paths, FoundFile { seq, path_id })?;
         if file_system.exists_metadata(path.as_str()) {
@@ -90,7 +96,9 @@ fn clear_from<F: FileSystem, L: Log>(
     lowest: FileSeq,
     first: FileSeq,
 ) -> Result<()>
-    ensures { LeavesFiles (F.disk file_system.old) (F.disk file_system.new) }
+    requires { first < 10 ^ 16 }
+    ensures files { LeavesFiles (F.disk file_system.old) (F.disk file_system.new) }
+    ensures err { IfErr result (λ error. error ≡ Memory) }
 {
     let mut seq = first;
     while seq > lowest {
@@ -109,7 +117,9 @@ fn clear_file<F: FileSystem, L: Log>(
     paths: &[String],
     seq: FileSeq,
 ) -> Result<()>
-    ensures { LeavesFiles (F.disk file_system.old) (F.disk file_system.new) }
+    requires { seq < 10 ^ 16 }
+    ensures files { LeavesFiles (F.disk file_system.old) (F.disk file_system.new) }
+    ensures err { IfErr result (λ error. error ≡ Memory) }
 {
     for path_id in 0..paths.len() {
         let path = path_of(alloc, kind, paths, FoundFile { seq, path_id })?;

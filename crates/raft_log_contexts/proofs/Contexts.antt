@@ -12,6 +12,8 @@ use Rattle.raft_log_model.specs.Tidy.{Tidy}
 use Rattle.raft_log_model.proofs.Cases.{at_option, eq_true, if_true}
 use Rattle.raft_log_model.proofs.Chunks.{cut_anywhere}
 use Rattle.raft_log_model.proofs.TidyLaws.{tidy_back, tidy_front}
+use Rattle.raft_log_machine.specs.Machine.{AllFit, RecordsFit}
+use Rattle.raft_log_machine.proofs.FitLaws.{RecordsFit-append}
 use Rattle.raft_log_machine.proofs.TruthRaises.{no_word}
 use Rattle.std.specs.Global.{Vec}
 use Rattle.raft_log_places.specs.declared.group_files.GroupFiles.{GroupFiles}
@@ -46,7 +48,7 @@ use Rattle.raft_log_contexts.proofs.Notes.{all_cover, all_take, completed_group,
 use Rattle.raft_log_contexts.specs.Context.{is_plain, tables_of, ArePlain, ComesOver, HasRead, IsSound, MergesInto, ReadsOne, meant_by}
 use Rattle.raft_log_contexts.proofs.Fragments.{then_nothing}
 use Rattle.raft_log_contexts.proofs.OpenGroups.{pieces_more, records_append, seen_said}
-use Rattle.raft_log_contexts.proofs.Taking.{counted_more, healthy_back, healthy_front, tables_joined, tables_more, takes_none, takes_read}
+use Rattle.raft_log_contexts.proofs.Taking.{counted_more, healthy_back, healthy_front, tables_joined, tables_more, read_fit, takes_none, takes_read}
 
 -- Plain records.
 pub plain_append : (xs ys : List ReadRecord) → ArePlain xs → ArePlain ys → ArePlain (xs ++ ys)
@@ -137,6 +139,14 @@ module _ (rs : List ReadRecord) (r : ReadRecord) (xs : List ReadItem) (is : coun
   front_healthy : AreHealthy (counted g rs)
   front_healthy = healthy_front (counted g rs) (of_group g xs) whole_healthy
 
+-- each run of the records fits, in Append
+fit_append : (xs ys : List ReadRecord) → RecordsFit (records_of xs) → RecordsFit (records_of ys) → RecordsFit (records_of (xs ++ ys))
+fit_append xs ys h k = subst RecordsFit (sym (records_append xs ys)) (RecordsFit-append (records_of xs) (records_of ys) h k)
+
+fit_plain : (b : Bool) → b ≡ true → (n : ℕ) (old new : MemTables) (items : List LogItem) → ReadsAll b n old new (tagged_items place_of items) → AllFit (said_in b n items)
+fit_plain true q n old new items reads = read_fit n old new (tagged_items place_of items) reads
+fit_plain false q n old new items reads = never_append q
+
 notes_plain : (b : Bool) → b ≡ false → (rs : List ReadRecord) (n : ℕ) (old new : MemTables) (items : List LogItem) → ReadsAll b n old new (tagged_items place_of items)
     → AreNotedRead rs (replayed_of old) → AreNotedRead (rs ++ in_file n (Plain (said_in b n items)) ∷ []) (replayed_of new)
 notes_plain true q rs n old new items reads h = never_rewrite q
@@ -154,6 +164,7 @@ reads_plain queue n old new items reads same = λ rs h.
     let r = in_file n (Plain (said_in (in_append queue) n items)) in
     record {
       plain = λ q. plain_append rs (r ∷ []) (h.plain q) (refl, tt);
+      fit = λ q. fit_append rs (r ∷ []) (h.fit q) (fit_plain (in_append queue) q n old.tables new.tables items reads, tt);
       tables = tables_more (in_append queue) rs r (replayed_of old.tables) (replayed_of new.tables) h.tables (takes_read (in_append queue) n old.tables new.tables items reads);
       notes = λ q. notes_plain (in_append queue) q rs n old.tables new.tables items reads (h.notes q);
       pieces = subst (ArePieces (rs ++ r ∷ [])) (sym same) (pieces_plain rs n (said_in (in_append queue) n items) old.pieces h.pieces);
@@ -173,6 +184,7 @@ pub reads_quiet : (m : Mark) (part : GroupPart) (old new : MemTableRecoverContex
     → TakesRecord (part_read m part) old.pieces new.pieces → new.tables ≡ old.tables → ReadsOne Rewrite (Some (part_read m part)) old new
 reads_quiet m part old new quiet takes same = λ rs h. record {
   plain = λ q. never_append q;
+  fit = λ q. never_append q;
   tables = tables_more false rs (part_read m part) (replayed_of old.tables) (replayed_of new.tables) h.tables
       (subst (λ l. TakesItems false l (replayed_of old.tables) (replayed_of new.tables)) (sym (quiet (opened none_open (records_of rs))))
       (subst (λ t. TakesItems false [] (replayed_of old.tables) (replayed_of t)) (sym same) (takes_none false (replayed_of old.tables))));
@@ -238,6 +250,7 @@ reads_end n part whole old new ends settles = λ rs h.
     (subst (λ l. TakesItems false l (replayed_of old.tables) (replayed_of new.tables)) (sym (ended_items rs n part whole told.1)) (whole_takes whole old.tables new.tables settles)) in
     record {
       plain = λ q. never_append q;
+      fit = λ q. never_append q;
       tables = tables;
       notes = λ q. notes_end rs n part whole old.tables new.tables told.1 settles tables (h.notes q);
       pieces = told.0;
@@ -279,6 +292,7 @@ merges_rewrite done between old later new joins settles merges = λ xs ys h k.
     let told = joins xs ys h.pieces k.pieces in
     record {
       plain = λ q. never_append q;
+      fit = λ q. never_append q;
       tables = tables_joined false xs ys (replayed_of old.tables) between later.tables new.tables h.tables k.tables
           (subst (λ l. TakesItems false l (replayed_of old.tables) (replayed_of between)) (border_items xs ys done told.1) (all_take done old.tables between settles)) merges;
       notes = λ q. notes_joined xs ys done old.tables between later.tables new.tables told.1 settles merges h.tables k.tables (h.notes q) (k.notes q);
@@ -297,6 +311,7 @@ pub merges_append : (old later new : MemTableRecoverContext) → new.pieces ≡ 
 merges_append old later new same merges = λ xs ys h k.
     record {
       plain = λ q. plain_append xs ys (h.plain q) (k.plain q);
+      fit = λ q. fit_append xs ys (h.fit q) (k.fit q);
       tables = tables_joined true xs ys (replayed_of old.tables) old.tables later.tables new.tables h.tables k.tables
           (subst (λ us. TakesItems true (completed us (λ n. head n [] (records_of ys))) (replayed_of old.tables) (replayed_of old.tables)) (sym (plain_unfinished xs (h.plain refl)))
           (takes_none true (replayed_of old.tables))) merges;

@@ -11,6 +11,6 @@ mod Alike
 mod Begins
 mod Counting
 mod Notes
-mod Opening
+pub mod Opening
 mod Settling
-mod Told
+pub mod Told

@@ -231,7 +231,7 @@ module _ {E : Type 0} (at : Located → E) (rewrite append : List ReadRecord) (m
   behind_is : (g : ℕ) → appended g (told_records at append) ≡ map (told at) (counted g append)
   behind_is g = appended_told at g (records_of append) ∙ ap (map (told at)) (sym (plain_counted g append h.plain))
 
-  map_is : (g : ℕ) (s : Slot) → map_read at rewrite append g s ≡ meant_by at rewrite append g s
+  pub map_is : (g : ℕ) (s : Slot) → map_read at rewrite append g s ≡ meant_by at rewrite append g s
   map_is g s = ap₂ (directory s) (rewritten_told at g (records_of rewrite)) (behind_is g)
 
   run_solid : (g : ℕ) → IsSolid (λ i. meant_by at rewrite append g (Index i))
@@ -242,7 +242,7 @@ module _ {E : Type 0} (at : Located → E) (rewrite append : List ReadRecord) (m
       let there = run.solid j (omega (arith, from, low)) (omega (arith, high, to)) in
       (there.0, sym (map_is g (Index j)) ∙ there.1)
 
-  sound : (g : ℕ) → IsSound at rewrite append g
+  pub sound : (g : ℕ) → IsSound at rewrite append g
   sound g = record {
     tidy = h.rewrite_read.tidy;
     tidy_append = h.append_read.tidy;
@@ -254,12 +254,12 @@ module _ {E : Type 0} (at : Located → E) (rewrite append : List ReadRecord) (m
   over : (g : ℕ) → IsOverAt rewrite append m g
   over g = h.over h.rewrite_read.tidy h.append_read.tidy g (h.rewrite_read.healthy g) (h.append_read.healthy g)
 
-  recovered : (g : ℕ) → IsRecovered (meant_by at rewrite append g) (map (told at) (counted g append)) (whereabouts (shown_of m g))
+  pub recovered : (g : ℕ) → IsRecovered (meant_by at rewrite append g) (map (told at) (counted g append)) (whereabouts (shown_of m g))
   recovered g =
       subst (λ v. IsRecovered (meant_by at rewrite append g) (map (told at) (counted g append)) (whereabouts v)) (sym (over g).shows)
       (recovers at (counted g rewrite) (counted g append) (over g).rewritten (over g).appended (over g).of_rewrite (over g).of_append (run_solid g))
 
-  stands_as : (g : ℕ) (s : Slot) → content (standing (shown_of m g)) s ≡ directory s (counted g rewrite) (counted g append)
+  pub stands_as : (g : ℕ) (s : Slot) → content (standing (shown_of m g)) s ≡ directory s (counted g rewrite) (counted g append)
   stands_as g s =
       let o = over g in
       let raw = solid_told at (λ i. directory (Index i) (counted g rewrite) (counted g append)) (λ i. meant_by at rewrite append g (Index i))

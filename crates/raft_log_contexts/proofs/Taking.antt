@@ -10,17 +10,18 @@ use Rattle.raft_log_model.specs.Item.Item.{Run, Clean, Compact, Put, Del}
 use Rattle.raft_log_model.specs.Groups.{of_group, counts, none_open, opened, rewritten, settled}
 use Rattle.raft_log_model.specs.Fragments.{completed, head, unfinished}
 use Rattle.raft_log_model.specs.Tidy.{Tidy}
-use Rattle.raft_log_model.specs.Holes.{nothing}
+use Rattle.raft_log_model.specs.Holes.{nothing, Window}
+use Rattle.raft_log_model.proofs.Cases.{at_bool, eq_true}
 use Rattle.raft_log_model.proofs.Records.{of_group_append, settle_append}
 use Rattle.raft_log_model.proofs.TidyLaws.{tidy_back, tidy_front}
 use Rattle.raft_log_model.proofs.Holes.{no_hole_front, no_hole_later}
 use Rattle.raft_log_model.proofs.Chunks.{cut_anywhere}
-use Rattle.raft_log_machine.specs.Machine.{Fits}
+use Rattle.raft_log_machine.specs.Machine.{AllFit, Fits}
 use Rattle.raft_log_machine.specs.Whereabouts.{top}
 use Rattle.raft_log_atomic_groups.specs.Meaning.{tagged_items}
 use Rattle.raft_log_places.specs.declared.place.Place.{Place}
 use Rattle.raft_log_places.specs.declared.group_files.GroupFiles.{GroupFiles}
-use Rattle.raft_log_places.specs.Shown.{KeyValue}
+use Rattle.raft_log_places.specs.Shown.{next_span, span, KeyValue, MayAllFollow}
 use Rattle.raft_log_places.specs.Bridge.{in_queue, Located}
 use Rattle.raft_log_places.specs.Replayed.{placed, replayed, IsReplayed, Replayed}
 use Rattle.raft_log_places.proofs.Replays.{read_noted, read_one}
@@ -28,7 +29,7 @@ use Rattle.raft_log_places.proofs.Joining.{healthy_fits, joined_is}
 use Rattle.raft_log_held.specs.Entries.{place_of}
 use Rattle.raft_log_replay.specs.declared.mem_tables.MemTables.{MemTables}
 use Rattle.raft_log_replay.specs.declared.group_table.GroupTable.{GroupTable}
-use Rattle.raft_log_replay.specs.Tables.{raw_of, replayed_in, replayed_of}
+use Rattle.raft_log_replay.specs.Tables.{raw_of, replayed_in, replayed_of, shown_of}
 use Rattle.raft_log_replay.specs.Replaying.{all_replayed, ReadsAll}
 use Rattle.raft_log_replay.specs.Joining.{noted_in, JoinsAll}
 use Rattle.raft_log_contexts.specs.Records.{counted, placed_tagged, records_of, said_in, AreHealthy, AreReplayed, KeepsRead, ReadItem, ReadRecord, RunsFit, TakesItems}
@@ -67,6 +68,35 @@ placed_fits q n Clean h = tt
 placed_fits q n (Compact c) h = tt
 placed_fits q n (Put k v) h = tt
 placed_fits q n (Del k) h = tt
+
+fits_placed : (q : Bool) (n : ℕ) (x : Item Place (List ℕ)) → Fits x → Fits (placed q n x)
+fits_placed q n (Run f ps) h = subst (λ k. f + k ≤ top) (sym (length-map ps (in_queue q))) h
+fits_placed q n Clean h = tt
+fits_placed q n (Compact c) h = tt
+fits_placed q n (Put k v) h = tt
+fits_placed q n (Del k) h = tt
+
+-- Items that may follow, group by group, fit.
+abbrev FollowInEach : List (Tagged Place (List ℕ)) → Type 0
+FollowInEach xs = (g : ℕ) → (w : Window) × MayAllFollow w (of_group g xs)
+
+follow_here : (x : Tagged Place (List ℕ)) (xs : List (Tagged Place (List ℕ))) → FollowInEach (x ∷ xs) → Fits x.item
+follow_here x xs h =
+    at_bool (x.group == x.group) (λ b. ((w : Window) × MayAllFollow w (if b then x.item ∷ of_group x.group xs else of_group x.group xs)) → Fits x.item)
+    (λ _ follow. follow.1.0.1) (λ off follow. absurd (let clash : false ≡ true = sym off ∙ eq_true x.group x.group refl in let never : ⊥ = cc in never)) (h x.group)
+
+follow_rest : (x : Tagged Place (List ℕ)) (xs : List (Tagged Place (List ℕ))) → FollowInEach (x ∷ xs) → FollowInEach xs
+follow_rest x xs h g =
+    at_bool (x.group == g) (λ b. ((w : Window) × MayAllFollow w (if b then x.item ∷ of_group g xs else of_group g xs)) → (w : Window) × MayAllFollow w (of_group g xs))
+    (λ _ follow. (next_span follow.0 x.item, follow.1.1)) (λ _ follow. follow) (h g)
+
+all_fit : (q : Bool) (n : ℕ) (xs : List (Tagged Place (List ℕ))) → FollowInEach xs → AllFit (map (placed_tagged q n) xs)
+all_fit q n [] h = tt
+all_fit q n (x ∷ xs) h = (fits_placed q n x.item (follow_here x xs h), all_fit q n xs (follow_rest x xs h))
+
+-- the items of a batch that was read in Append do
+pub read_fit : (n : ℕ) (old new : MemTables) (xs : List (Tagged Place (List ℕ))) → ReadsAll true n old new xs → AllFit (map (placed_tagged true n) xs)
+read_fit n old new xs reads = all_fit true n xs (λ g. (span (shown_of old g), reads.fits refl g))
 
 one_by_one : (q : Bool) (n : ℕ) (z : Replayed) (before : List (Item Located KeyValue)) (xs : List (Item Place (List ℕ)))
     → AreHealthy (before ++ map (placed q n) xs) → IsReplayed q before z → IsReplayed q (before ++ map (placed q n) xs) (all_replayed q n z xs)

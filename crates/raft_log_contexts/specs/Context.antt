@@ -10,6 +10,7 @@ use Rattle.raft_log_model.specs.Meaning.{directory, Content, Slot}
 use Rattle.raft_log_model.specs.Meaning.Slot.{Index}
 use Rattle.raft_log_model.specs.Holes.{IsSolid}
 use Rattle.raft_log_model.specs.Tidy.{Tidy}
+use Rattle.raft_log_machine.specs.Machine.{RecordsFit}
 use Rattle.raft_log_atomic_groups.specs.Meaning.{tagged_items}
 use Rattle.raft_log_places.specs.Shown.{KeyValue}
 use Rattle.raft_log_places.specs.Bridge.{Located}
@@ -38,9 +39,11 @@ ArePlain (r ∷ rs) = (is_plain r.taken ≡ true) × ArePlain rs
 
 -- The context has read these records of a queue: its tables are those of what counts in them, and its pieces
 -- those of the atomic groups that they leave open or that began before them. In Append all records count at
--- once; of Rewrite the tables note the files of the atomic groups
+-- once, and each run of theirs ends at or below 2^64 - 1; of Rewrite the tables note the files of the atomic
+-- groups
 pub record HasRead (queue : LogQueue) (rs : List ReadRecord) (c : MemTableRecoverContext) : Type 0 where
   pub plain : in_append queue ≡ true → ArePlain rs
+  pub fit : in_append queue ≡ true → RecordsFit (records_of rs)
   pub tables : AreReplayed (in_append queue) rs (replayed_of c.tables)
   pub notes : in_append queue ≡ false → AreNotedRead rs (replayed_of c.tables)
   pub pieces : ArePieces rs c.pieces

@@ -43,7 +43,7 @@ use Rattle.raft_log_engine_state.proofs.Keeping.{goes_on, keeps_log}
 -- the record of a batch says what the batch says
 pub says_batch : (home : Home) (e : Shows) (b : Batch) → IsReady e b → SaysRecord said_by (log_layout Append home.append) Append (signed_for b) (said_of b)
 says_batch home e b ready =
-    subst (λ (y : Said). SaysRecord said_by (log_layout Append home.append) Append (signed_for b) y) (read_is_said b ready.laid) (ready.says ready.some said_by Append home.append)
+    subst (λ (y : Said). SaysRecord said_by (log_layout Append home.append) Append (signed_for b) y) (read_is_said b ready.marked ready.laid) (ready.says ready.some said_by Append home.append)
 
 module _ (home : Home) (e : Shows) (w : LogPipes) (b : Batch) (block : FileBlockHandle) (m : LogMap) (pending : List Said) (h : Holds home e m pending) (ready : IsReady e b) (call : AppendsTo InAppend (signed_for b) block e.pipes w) where
   abbrev after : ℕ → Shown

@@ -15,7 +15,7 @@ use Rattle.raft_log_frames.specs.Record.{block_bytes}
 use Rattle.raft_log_atomic_groups.specs.declared.marking.Marking.{Marking}
 use Rattle.raft_log_atomic_groups.specs.declared.marking.Marking.TheVariants as markings
 use Rattle.raft_log_atomic_groups.specs.Marking.{marking_of_items}
-use Rattle.raft_log_atomic_groups.specs.Meaning.{marked, record_of, tagged_items}
+use Rattle.raft_log_atomic_groups.specs.Meaning.{marked, part_of, record_of, tagged_items}
 use Rattle.raft_log_records.specs.Batch.{Batch, block_place}
 use Rattle.raft_log_records.specs.Places.{entry_bytes}
 use Rattle.raft_log_records.proofs.PlacedMeanings.{read_means_what_was_added}
@@ -51,13 +51,22 @@ items_marked markings.Unmarked xs some = refl
 items_marked (markings.Part id status) xs some = refl
 items_marked markings.Broken xs some = absurd (some refl)
 
+marked_says : (marking : Marking) (xs : List (Tagged (List ℕ) (List ℕ))) → (marking ≡ markings.Broken → ⊥) → (y : Said) × (marked marking xs ≡ Some y)
+marked_says markings.Unmarked xs some = (Plain xs, refl)
+marked_says (markings.Part id status) xs some = (Part (part_of id status) xs, refl)
+marked_says markings.Broken xs some = absurd (some refl)
+
 -- the items of what a batch says
 pub items_said : (b : Batch) → IsWellMarked b → items_of (said_of b) ≡ tagged_items (entry_bytes b.entries) b.items
 items_said b some = items_marked (marking_of_items b.items) (tagged_items (entry_bytes b.entries) b.items) some
 
 -- what is read of its record is what it says
-pub read_is_said : (b : Batch) → IsLaidOut b → said_by (record_said b) ≡ said_of b
-read_is_said b laid = ap (λ (o : Option Said). unwrap_or o (Plain [])) (read_means_what_was_added b.items b.entries no_place laid.laid laid.adds)
+pub read_is_said : (b : Batch) → IsWellMarked b → IsLaidOut b → said_by (record_said b) ≡ said_of b
+read_is_said b some laid =
+    let (said, is) = marked_says (marking_of_items b.items) (tagged_items (entry_bytes b.entries) b.items) some in
+    let read = read_means_what_was_added b.items b.entries no_place laid.laid laid.adds in
+    let else_said : Said = Plain (tagged_items (entry_bytes (block_bytes (record_said b).entries)) (placed no_place (record_said b).items)) in
+    ap (λ (o : Option Said). unwrap_or o else_said) (read ∙ is) ∙ sym (ap (λ (o : Option Said). unwrap_or o (Plain [])) is)
 
 -- the view goes on by the batch, in whichever file it was written
 pub batch_grows : (b : Batch) (block : FileBlockHandle) (v : ℕ → Shown) (m : LogMap) → ((g : ℕ) → IsOrderly (v g)) → IsWellMarked b → MayFollowAll v (tagged_items (λ e. e) b.items)

@@ -9,7 +9,7 @@ use Rattle.raft_log_items.specs.Placed.{entries_len, laid_out, placed}
 use Rattle.raft_log_frames.specs.Record.{block_bytes}
 use Rattle.raft_log_atomic_groups.specs.declared.marking.Marking.TheVariants.{Broken}
 use Rattle.raft_log_atomic_groups.specs.Marking.{marking_of_items}
-use Rattle.raft_log_atomic_groups.specs.Meaning.{record_of}
+use Rattle.raft_log_atomic_groups.specs.Meaning.{record_of, tagged_items}
 use Rattle.raft_log_records.specs.declared.log_batch.BatchState.{BatchState}
 use Rattle.raft_log_records.specs.declared.log_batch.BatchState.TheVariants.{Filling, Populated, Signed, Written}
 use Rattle.raft_log_records.specs.Batch.{Batch}
@@ -48,10 +48,11 @@ pub record Home : Type 0 where
 abbrev pub no_place : FileBlockHandle
 no_place = record { id = record { queue = Append; seq = 0 }; offset = 0; len = 0 }
 
--- What a record says once it is read: of each entry its bytes. One whose marks are broken says nothing, and no
--- engine writes it.
+-- What a record says once it is read: of each entry its bytes. One whose marks are broken says what its items
+-- say, as it is read of Append; no engine writes it.
 abbrev pub said_by : LogRecord → Said
-said_by r = unwrap_or (record_of (entry_bytes (block_bytes r.entries)) (placed no_place r.items)) (Plain [])
+said_by r = unwrap_or (record_of (entry_bytes (block_bytes r.entries)) (placed no_place r.items))
+    (Plain (tagged_items (entry_bytes (block_bytes r.entries)) (placed no_place r.items)))
 
 -- the log that lies in these directories
 abbrev pub sense : Home → LogSense

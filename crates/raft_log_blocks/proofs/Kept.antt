@@ -1,5 +1,5 @@
 -- The block that is kept is what was written at its place.
-use Rattle.std.proofs.Common.{◌≡◌, ◌⊎◌, ℕ, List, Some, inl, inr, sym, subst, ◌∙◌}
+use Rattle.std.proofs.Common.{◌≡◌, ◌⊎◌, ℕ, List, None, Some, inl, inr, sym, subst, ◌∙◌}
 use Rattle.std.specs.Prelude.{IsOk}
 use Rattle.raft_log_disk.specs.Disk.{Disk}
 use Rattle.raft_log_base.specs.declared.pipe_log.FileBlockHandle.{FileBlockHandle}
@@ -50,6 +50,10 @@ module _ (log : LogSense) (v : LogPipes) (s : State) (run : RunsOn log v s) wher
 
 pub kept_blocks_are_written : KeptBlocksAreWritten
 kept_blocks_are_written log v s run old new is block lies keeps = kept_is_written log v s run old new is block lies keeps
+
+-- a cache without a block is of every log
+pub none_kept : (s : State) (cache : BlockCache) → cache.place ≡ None → IsOfLog s cache
+none_kept s cache none block place = let never : ⊥ = cc in absurd never
 
 stays_at : (s t : State) (which : Which) → KeepsLog s t → (n offset len : ℕ) → BlockLiesIn (spanned_at which s) n offset len
     → BlockLiesIn (spanned_at which t) n offset len × (block_at (spanned_at which t).files n offset len ≡ block_at (spanned_at which s).files n offset len)

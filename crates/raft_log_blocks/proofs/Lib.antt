@@ -1,2 +1,2 @@
-mod Kept
+pub mod Kept
 mod Entries

@@ -1,5 +1,5 @@
 -- The entry block that is kept, and what is read of it.
-use Rattle.std.specs.Prelude.{◌≡◌, ℕ, ◌+◌, ◌-◌, ◌≤◌, ◌⊎◌, None, Option, Some, List, length, IsOk, Err}
+use Rattle.std.specs.Prelude.{◌≡◌, ℕ, ◌+◌, ◌-◌, ◌≤◌, ◌⊎◌, None, Option, Some, List, [], ◌∷◌, length, IsOk, Err}
 use Rattle.raft_log_base.specs.declared.errors.Error.{Error}
 use Rattle.raft_log_base.specs.declared.errors.Error.TheVariants as errors
 use Rattle.raft_log_base.specs.declared.pipe_log.FileBlockHandle.{FileBlockHandle}
@@ -46,12 +46,13 @@ IsNoEntry offset len cache errors.Memory = Unit {0}
 IsNoEntry offset len cache (errors.Corruption text) = offset + len ≤ entries_in cache → ⊥
 IsNoEntry offset len cache _ = ⊥
 
--- why an entry isn't read: it is in no file; or its block isn't read; or it doesn't lie in that; or its bytes
--- are no message
+-- why an entry isn't read: it is in no file; or its block isn't read, and none is kept; or it doesn't lie in that;
+-- or its bytes are no message
 abbrev pub IsEntryUnread : {M : Type 0} → (List ℕ → Option M) → LogPipes → EntryIndex → BlockCache → BlockCache
     → Error → Type 0
-IsEntryUnread {M} reading v entry old new error = IsUnplaced entry error
-    ⊎ ((block : FileBlockHandle) × (entry.entries ≡ Some block) × (IsBlockUnread v block error
+IsEntryUnread {M} reading v entry old new error = (IsUnplaced entry error × (new ≡ old))
+    ⊎ ((block : FileBlockHandle) × (entry.entries ≡ Some block)
+    × ((IsBlockUnread v block error × (new.place ≡ None))
     ⊎ (KeepsBlock v block old new × (IsNoEntry entry.entry_offset entry.entry_len new error
     ⊎ Parses {M = M} (Err error) (reading (part entry.entry_offset entry.entry_len new.bytes.items))))))
 
@@ -63,6 +64,22 @@ pub record ReadsEntry {M : Type 0} (reading : List ℕ → Option M) (v : LogPip
   pub kept : KeepsBlock v block old new
   pub inside : entry.entry_offset + entry.entry_len ≤ entries_in new
   pub is : reading (part entry.entry_offset entry.entry_len new.bytes.items) ≡ Some message
+
+-- the entries were read one after another: these are their messages
+abbrev pub ReadsEntries : {M : Type 0} → (List ℕ → Option M) → LogPipes → List EntryIndex → BlockCache → BlockCache
+    → List M → Type 0
+ReadsEntries reading v [] old new messages = (new ≡ old) × (messages ≡ [])
+ReadsEntries reading v (e ∷ es) old new [] = ⊥
+ReadsEntries reading v (e ∷ es) old new (m ∷ ms) =
+    (next : BlockCache) × ReadsEntry reading v e old next m × ReadsEntries reading v es next new ms
+
+-- why they aren't: memory ran out behind some of them; or one isn't read, and those before it were
+abbrev pub AreUnread : {M : Type 0} → (List ℕ → Option M) → LogPipes → List EntryIndex → BlockCache → BlockCache
+    → Error → Type 0
+AreUnread reading v [] old new error = (error ≡ errors.Memory) × (new ≡ old)
+AreUnread {M} reading v (e ∷ es) old new error = ((error ≡ errors.Memory) × (new ≡ old))
+    ⊎ (IsEntryUnread reading v e old new error
+    ⊎ ((next : BlockCache) × (m : M) × ReadsEntry reading v e old next m × AreUnread reading v es next new error))
 
 -- the queue that a block is in
 abbrev pub queue_at : State → FileBlockHandle → Spanned LogRecord

@@ -20,7 +20,7 @@ pub struct BlockCache {
 
 impl BlockCache {
     ghost use Rattle.raft_log_stored.specs.Stored.{part};
-    ghost use Rattle.raft_log_blocks.specs.Blocks.{IsBlockUnread, IsEntryUnread, IsNoEntry, KeepsBlock, ReadsEntry, entries_in};
+    ghost use Rattle.raft_log_blocks.specs.Blocks.{AreUnread, IsBlockUnread, IsEntryUnread, IsNoEntry, KeepsBlock, ReadsEntries, ReadsEntry, entries_in};
 
     /// A cache without a block. It takes no memory.
     pub fn new(alloc: Global) -> BlockCache
@@ -98,6 +98,29 @@ impl BlockCache {
         self.read(alloc, pipes, block)?;
         let bytes = self.entry(alloc, entry.entry_offset, entry.entry_len)?;
         M::parse(alloc, bytes)
+    }
+
+    /// The entries that lie at these places, as messages: a block is read once for all that lie in it, one
+    /// behind another.
+    ///
+    /// Refuses what `read_entry` refuses of the first entry that isn't read, or `Memory`.
+    pub fn read_entries<M: Message, P: PipeLog>(
+        &mut self,
+        alloc: Global,
+        pipes: &P,
+        entries: &[EntryIndex],
+    ) -> Result<Vec<M>>
+        ensures ok { IfOk result (λ messages.
+            ReadsEntries M.reading (P.shown pipes.now) entries.now self.old self.new messages.items) }
+        ensures err { IfErr result
+            (AreUnread M.reading (P.shown pipes.now) entries.now self.old self.new) }
+    {
+        let mut messages = Vec::with_capacity(alloc, entries.len())?;
+        for entry in entries {
+            let message = self.read_entry(alloc, pipes, entry)?;
+            messages.push(message)?;
+        }
+        Ok(messages)
     }
 }
 

@@ -1,61 +1,15 @@
--- The header of a file of bytes is the one that its format is written with.
-use Rattle.std.proofs.Common.{◌≡◌, ℕ, ◌-◌, ◌<◌, List, [], ◌∷◌, ◌++◌, length, get_or, take, zero, suc, sym, ap, subst, ◌∙◌, arith}
-use Rattle.std.proofs.lemmas.Nat.{be_bytes_8}
-use Rattle.raft_log_base.specs.Files.{version_number}
-use Rattle.raft_log_base.specs.Number.{IsU64, u64_bytes}
-use Rattle.raft_log_base.specs.declared.pipe_log.Version.{Version}
-use Rattle.raft_log_base.specs.declared.pipe_log.Version.TheVariants.{V1, V2}
-use Rattle.raft_log_format.specs.Header.{IsHeader, IsPayload, magic, header_bytes, payload_bytes}
+-- The header of a file that was read is the one that its format is written with.
+use Rattle.std.proofs.Common.{◌≡◌, List, ℕ, sym, ap, subst, ◌∙◌}
+use Rattle.raft_log_format.specs.Header.{header_bytes}
 use Rattle.raft_log_format.specs.declared.header.LogFileFormat.{LogFileFormat}
-use Rattle.raft_log_frames.specs.Written.{AreBytes}
 use Rattle.raft_log_disk.specs.LogFormat.{HasHeader}
 use Rattle.raft_log_layout.specs.Layout.{log_format}
 use Rattle.raft_log_found_files.specs.Reading.ReadsBytes.{headless, headed}
 use Rattle.raft_log_found_pipes.specs.Reading.{HeaderIsWritten}
-use Rattle.raft_log_found_pipes.proofs.LastFiles.{header_in_front}
-
-front_bytes : (a b : List ℕ) → AreBytes (a ++ b) → AreBytes a
-front_bytes [] b are = tt
-front_bytes (x ∷ a) b are = (are.0, front_bytes a b are.1)
-
-back_bytes : (a b : List ℕ) → AreBytes (a ++ b) → AreBytes b
-back_bytes [] b are = are
-back_bytes (x ∷ a) b are = back_bytes a b are.1
-
-each_byte : (a : List ℕ) → AreBytes a → (i : ℕ) → get_or a i 0 < 256
-each_byte [] are i = omega arith
-each_byte (x ∷ a) are zero = are.0
-each_byte (x ∷ a) are (suc i) = each_byte a are.1 i
-
--- a number of eight bytes is written with these
-word_is : (bytes : List ℕ) (n : ℕ) → AreBytes bytes → IsU64 bytes n → u64_bytes n ≡ bytes
-unfolding u64_bytes
-word_is bytes n are is = be_bytes_8 bytes n is.size (each_byte bytes are) is.value
-
-payload_is : (v : Version) (bytes : List ℕ) (format : LogFileFormat) → AreBytes bytes → IsPayload v bytes format → (format.version ≡ v) × (payload_bytes v format.alignment ≡ bytes)
-payload_is V1 bytes format are is = (ap (λ (f : LogFileFormat). f.version) is.1, sym is.0)
-payload_is V2 bytes format are (n, spelled, made) = (
-  ap (λ (f : LogFileFormat). f.version) made,
-  ap (λ (f : LogFileFormat). u64_bytes f.alignment) made ∙ word_is bytes n are spelled,
-)
-
-written_in : (header : List ℕ) (format : LogFileFormat) → AreBytes header → IsHeader header format → header_bytes format ≡ header
-unfolding header_bytes
-written_in header format are (x, front, back, is_magic, (version, f, b, numbered, payload, split), joined) =
-    let behind : AreBytes (f ++ b) = subst AreBytes split (back_bytes front back (subst AreBytes joined are)) in
-    let number = word_is f (version_number version) (front_bytes f b behind) numbered.spelled in
-    let rest = payload_is version b format (back_bytes f b behind) payload in
-    let named : u64_bytes (version_number format.version) ++ payload_bytes format.version format.alignment ≡ u64_bytes (version_number version) ++ payload_bytes version format.alignment =
-    ap (λ (v : Version). u64_bytes (version_number v) ++ payload_bytes v format.alignment) rest.0 in
-    ap (λ (l : List ℕ). magic ++ l) (named ∙ ap (λ (l : List ℕ). l ++ payload_bytes version format.alignment) number ∙ ap (λ (l : List ℕ). f ++ l) rest.1 ∙ sym split)
-    ∙ ap (λ (l : List ℕ). l ++ back) (sym is_magic) ∙ sym joined
 
 pub header_is_written : HeaderIsWritten
-header_is_written directories id content read end (headless fault bad tells none no_end first) aligned are is = absurd cc
-header_is_written directories id content read end (headed log_file start stop fault same begins reads tells is_end format) aligned are is =
-    let short = 69 - length begins.header in
-    let front : take 69 content ≡ begins.header ++ take short begins.rest = ap (λ (l : List ℕ). take 69 l) begins.splits ∙ header_in_front begins.header begins.rest log_file.format begins.says in
-    let bytes : AreBytes begins.header = front_bytes begins.header (take short begins.rest) (subst AreBytes front are) in
-    let written : header_bytes read.format ≡ begins.header = ap (λ (f : LogFileFormat). header_bytes f) format ∙ written_in begins.header log_file.format bytes begins.says in
-    subst (λ (h : List ℕ). HasHeader (log_format id.queue directories) h content) (sym written)
+header_is_written directories last id content read end (headless fault bad tells none no_end first) is = absurd cc
+header_is_written directories last id content read end (headed log_file start stop fault same begins reads tells is_end format) is =
+    let written : begins.header ≡ header_bytes read.format = begins.written ∙ ap header_bytes (sym format) in
+    subst (λ (h : List ℕ). HasHeader (log_format id.queue directories) h content) written
     (record { is = (log_file.format, begins.says); rest = begins.rest; splits = begins.splits })

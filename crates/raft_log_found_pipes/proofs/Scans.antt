@@ -1,9 +1,8 @@
 -- What a scan answers and a recovery reads is what a pipe may be opened over.
-use Rattle.std.proofs.Common.{◌≡◌, ℕ, List, [], ◌∷◌, take, Option, Some, None, true, refl, subst}
+use Rattle.std.proofs.Common.{◌≡◌, ℕ, List, [], ◌∷◌, Option, Some, None, true, refl, subst}
 use Rattle.raft_log_base.specs.declared.pipe_log.FileId.{FileId}
 use Rattle.raft_log_disk.specs.Disk.{Disk, File}
 use Rattle.raft_log_format.specs.declared.header.LogFileFormat.{LogFileFormat}
-use Rattle.raft_log_frames.specs.Written.{AreBytes}
 use Rattle.raft_log_layout.specs.Layout.{log_format, log_paths}
 use Rattle.raft_log_pipes.specs.Files.{Listed, AreKept, IsSpan}
 use Rattle.raft_log_pipes.specs.Opening.{HasOwnHeader, first_number}
@@ -26,13 +25,13 @@ there (Some file) not = (file, refl)
 
 -- the header of a file is its format's
 own_header : (directories : List (List ℕ)) (id : FileId) (last : Listed) (d : Disk) (read : FileRecords) (file : File) (end : Option ℕ) → d.files last.handle.file ≡ Some file → read.end ≡ end
-    → ReadsBytes true id file.content read → read.format.alignment ≡ 0 → AreBytes (take 69 file.content) → HasOwnHeader (log_format id.queue directories) end (with_format read.format last) d
-own_header directories id last d read file None is ends reads aligned are = tt
-own_header directories id last d read file (Some end) is ends reads aligned are =
-    record { file = file; is = is; has = header_is_written directories id file.content read end reads aligned are ends }
+    → ReadsBytes true id file.content read → HasOwnHeader (log_format id.queue directories) end (with_format read.format last) d
+own_header directories id last d read file None is ends reads = tt
+own_header directories id last d read file (Some end) is ends reads =
+    record { file = file; is = is; has = header_is_written directories true id file.content read end reads ends }
 
 pub read_files_are_scanned : ReadFilesAreScanned
-read_files_are_scanned queue directories d earlier last read kept sound spanned reads aligned bytes spares =
+read_files_are_scanned queue directories d earlier last read kept sound spanned reads aligned spares =
     let id : FileId = record { queue = queue; seq = last.seq } in
     let found = there (d.files last.handle.file) (sound.named _ last.handle.file spanned.opened.is) in
     let file : File = found.0 in
@@ -44,7 +43,7 @@ read_files_are_scanned queue directories d earlier last read kept sound spanned 
       listed = spanned.listed;
       opened = spanned.opened;
       read = record { file = file; is = found.1; has = told.1 };
-      headed = own_header directories id last d read file read.end found.1 refl held aligned (bytes file found.1);
+      headed = own_header directories id last d read file read.end found.1 refl held;
       span = subst (λ (n : ℕ). IsSpan (log_paths queue directories) d.names n earlier last.seq) first spanned.span;
       spares = subst (λ (n : ℕ). AreKept (log_format queue directories) (log_paths queue directories) n d kept) first spares;
     }

@@ -1,6 +1,6 @@
 -- What a log file that was found reads as, in the words of the pipes. Of files without an alignment, as the
 -- pipes know no other ones.
-use Rattle.std.specs.Prelude.{◌≡◌, ℕ, ◌+◌, Option, Some, None, true, false, List, [], length, take}
+use Rattle.std.specs.Prelude.{◌≡◌, ℕ, ◌+◌, Bool, Option, Some, None, true, false, List, [], length}
 use Rattle.raft_log_base.specs.declared.pipe_log.FileId.{FileId}
 use Rattle.raft_log_base.specs.declared.pipe_log.LogFileContext.{LogFileContext}
 use Rattle.raft_log_disk.specs.Disk.{File}
@@ -10,7 +10,6 @@ use Rattle.raft_log_disk.specs.LogQueue.{Past, IsPast}
 use Rattle.raft_log_file_queue.specs.Reopening.{IsReadTo}
 use Rattle.raft_log_format.specs.Header.{header_bytes}
 use Rattle.raft_log_format.specs.declared.header.LogFileFormat.{LogFileFormat}
-use Rattle.raft_log_frames.specs.Written.{AreBytes}
 use Rattle.raft_log_layout.specs.Layout.{log_format}
 use Rattle.raft_log_layout.specs.declared.record.LogRecord.{LogRecord}
 use Rattle.raft_log_found_files.specs.Behind.{items_of}
@@ -48,11 +47,10 @@ LastFileIsRead = (directories : List (List ℕ)) (id : FileId) (file : File) (re
     → ReadsTo directories id file.content read read.end
     × IsReadTo (log_format id.queue directories) id.seq read.end file
 
--- Of bytes, a header is the one that its format is written with.
+-- And the header of a file that has one is the one that its format is written with.
 abbrev pub HeaderIsWritten : Type 0
-HeaderIsWritten = (directories : List (List ℕ)) (id : FileId) (content : List ℕ) (read : FileRecords)
-    (end : ℕ) → ReadsBytes true id content read → read.format.alignment ≡ 0 → AreBytes (take 69 content)
-    → read.end ≡ Some end
+HeaderIsWritten = (directories : List (List ℕ)) (last : Bool) (id : FileId) (content : List ℕ)
+    (read : FileRecords) (end : ℕ) → ReadsBytes last id content read → read.end ≡ Some end
     → HasHeader (log_format id.queue directories) (header_bytes read.format) content
 
 -- a file that was finished reads whole: all of its records, and nothing is wrong with it

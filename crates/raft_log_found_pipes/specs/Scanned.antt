@@ -1,13 +1,12 @@
 -- The files of a queue that a scan of the log's directories answered, as its pipe takes them up.
-use Rattle.std.specs.Prelude.{◌≡◌, ℕ, true, false, Some, List, [], ◌∷◌, ◌++◌, take}
+use Rattle.std.specs.Prelude.{◌≡◌, ℕ, true, false, List, [], ◌∷◌, ◌++◌}
 use Rattle.raft_log_base.specs.declared.pipe_log.LogQueue.{LogQueue}
 use Rattle.raft_log_base.specs.declared.pipe_log.LogQueue.TheVariants as queues
-use Rattle.raft_log_disk.specs.Disk.{Disk, File}
+use Rattle.raft_log_disk.specs.Disk.{Disk}
 use Rattle.raft_log_disk.specs.Image.{IsSound}
 use Rattle.raft_log_disk.specs.Reading.{IsOpened}
 use Rattle.raft_log_disk.specs.declared.handle.Permission.TheVariants.{ReadWrite}
 use Rattle.raft_log_format.specs.declared.header.LogFileFormat.{LogFileFormat}
-use Rattle.raft_log_frames.specs.Written.{AreBytes}
 use Rattle.raft_log_settings.specs.declared.recovery_mode.RecoveryMode.{RecoveryMode}
 use Rattle.raft_log_layout.specs.Layout.{log_format, log_paths}
 use Rattle.raft_log_files.specs.Layout.{path_of}
@@ -43,10 +42,6 @@ ScannedFilesAreSpanned = (queue : LogQueue) (directories : List (List ℕ)) (mod
     → IsQueueIn (kind_of queue) directories d mode (earlier ++ last ∷ [])
     → AreSpanned queue directories earlier last d
 
--- where a file is there, its header would be of bytes
-abbrev pub BeginsWithBytes : ℕ → Disk → Type 0
-BeginsWithBytes id d = (file : File) → d.files id ≡ Some file → AreBytes (take 69 file.content)
-
 -- Once the last one was read, they are what its pipe may be opened over: so what follows of a stopped pipe
 -- is so of what a scan answers and a recovery reads.
 abbrev pub ReadFilesAreScanned : Type 0
@@ -54,7 +49,7 @@ ReadFilesAreScanned = (queue : LogQueue) (directories : List (List ℕ)) (d : Di
     (last : Listed) (read : FileRecords) (kept : List Listed) → IsSound d
     → AreSpanned queue directories earlier last d
     → ReadsFile true (record { queue = queue; seq = last.seq }) last.handle d read
-    → read.format.alignment ≡ 0 → BeginsWithBytes last.handle.file d
+    → read.format.alignment ≡ 0
     → AreKept (log_format queue directories) (log_paths queue directories) (first_number earlier last) d kept
     → pipes.IsScanned (log_format queue directories) (log_paths queue directories) earlier
     (with_format read.format last) read.end kept last.seq d

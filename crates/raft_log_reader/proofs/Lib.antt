@@ -2,6 +2,7 @@ pub mod Parts
 pub mod Refusals
 pub mod Headers
 pub mod Extents
+pub mod WrittenHeaders
 pub mod Opened
 pub mod Readings
 pub mod FrameReadings

@@ -16,6 +16,8 @@ use Rattle.raft_log_reader.specs.Batches.GoesOnAt.{behind_padding, at_once}
 use Rattle.raft_log_reader.specs.Refused.{FailsAt, FailsBehind}
 use Rattle.raft_log_reader.specs.Opening.{BeginsWithHeader, FailsToOpen}
 use Rattle.raft_log_reader.specs.declared.open_file.OpenFile.{OpenFile}
+use Rattle.raft_log_frames.specs.Written.{AreBytes}
+use Rattle.raft_log_reader.proofs.WrittenHeaders.{front_bytes, written_in}
 
 -- the size that was told is that of the bytes
 pub size_told : (id : ℕ) (d : Disk) (n : ℕ) → IsSize id d n → n ≡ length (bytes_in (d.files id))
@@ -57,12 +59,13 @@ open_fault handle d (errors.Io kind) h = absurd h
 open_fault handle d _ h = h
 
 -- the header that they begin with is the file's
-pub header_begins : (content rest text : List ℕ) (format : LogFileFormat) (len : ℕ) → len ≤ length content → IsHeader text format → take len (drop 0 content) ≡ text ++ rest
-    → BeginsWithHeader content format (len - length rest)
-header_begins content rest text format len inside says split = record {
+pub header_begins : (content rest text : List ℕ) (format : LogFileFormat) (len : ℕ) → len ≤ length content → IsHeader text format → AreBytes (text ++ rest)
+    → take len (drop 0 content) ≡ text ++ rest → BeginsWithHeader content format (len - length rest)
+header_begins content rest text format len inside says are split = record {
   header = text;
   rest = rest ++ drop len content;
   says = says;
+  written = written_in text format (front_bytes text rest are) says;
   splits = sym (take-append-drop len content) ∙ ap (λ (front : List ℕ). front ++ drop len content) split ∙ append_assoc text rest (drop len content);
   ends = omega (arith, ap length split, length-append text rest, length-take len content, inside);
 }

@@ -7,16 +7,18 @@ use Rattle.raft_log_base.specs.declared.errors.Error.TheVariants as errors
 use Rattle.raft_log_disk.specs.Disk.{Disk}
 use Rattle.raft_log_disk.specs.Reading.{IsNotMeasured}
 use Rattle.raft_log_disk.specs.declared.handle.Handle.{Handle}
-use Rattle.raft_log_format.specs.Header.{IsHeader, header_at}
+use Rattle.raft_log_format.specs.Header.{IsHeader, header_at, header_bytes}
 use Rattle.raft_log_format.specs.declared.header.LogFileFormat.{LogFileFormat}
 use Rattle.raft_log_reader.specs.Source.{bytes_in, bytes_of, IsUnreadFrom}
 use Rattle.raft_log_reader.specs.declared.source.Source.{Source}
 
--- the bytes begin with a header that says this format, and it ends there
+-- The bytes begin with a header that says this format, and it ends there: the one that the format is written
+-- with.
 pub record BeginsWithHeader (content : List ℕ) (format : LogFileFormat) (end : ℕ) : Type 0 where
   pub header : List ℕ
   pub rest : List ℕ
   pub says : IsHeader header format
+  pub written : header ≡ header_bytes format
   pub splits : content ≡ header ++ rest
   pub ends : end ≡ length header
 

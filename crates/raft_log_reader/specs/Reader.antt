@@ -3,6 +3,7 @@ use Rattle.std.specs.Prelude.{◌≡◌, ℕ, ◌+◌, ◌≤◌, length, Option
 use Rattle.std.specs.Option.{ForSome}
 use Rattle.raft_log_base.specs.declared.pipe_log.FileId.{FileId}
 use Rattle.raft_log_base.specs.declared.pipe_log.FileBlockHandle.{FileBlockHandle}
+use Rattle.raft_log_base.specs.declared.pipe_log.LogQueue.TheVariants.{Append}
 use Rattle.raft_log_disk.specs.Disk.{Disk}
 use Rattle.raft_log_disk.specs.declared.handle.Handle.{Handle}
 use Rattle.raft_log_format.specs.declared.header.LogFileFormat.{LogFileFormat}
@@ -26,6 +27,10 @@ end_of reader = reader.valid_offset
 -- where the entry block of the batch lies that came last
 abbrev pub last_block : LogItemBatchFileReader → FileBlockHandle
 last_block reader = reader.last_block
+
+-- the place of a block without bytes
+abbrev pub no_block : FileBlockHandle
+no_block = record { id = record { queue = Append; seq = 0 }; offset = 0; len = 0 }
 
 -- the reader reads this file, whose bytes stand on the disk as when it was opened
 pub record IsReadingFile (d : Disk) (reader : LogItemBatchFileReader) (file : OpenFile) : Type 0 where
@@ -54,9 +59,15 @@ pub record Opens (id : FileId) (handle : Handle) (d : Disk) (format : LogFileFor
   pub opened : file_of reader ≡ Some (record { id = id; source = source; format = format })
   pub header : BeginsWithHeader (bytes_of source d) format (end_of reader)
 
--- The next batch with its end, or no batch where the file holds no more, which leaves the end.
+-- the reader stands where it stood, in the same file, behind the batch that came last
+pub record IsUnmoved (old new : LogItemBatchFileReader) : Type 0 where
+  pub file : file_of new ≡ file_of old
+  pub end : end_of new ≡ end_of old
+  pub block : last_block new ≡ last_block old
+
+-- The next batch with its end, or no batch where the file holds no more, which leaves the reader there.
 abbrev pub Answers : Disk → OpenFile → LogItemBatchFileReader → LogItemBatchFileReader → Option ItemBatch
     → Type 0
 Answers d file old new found = MatchOption found
-    (HasNoMore file (bytes_of file.source d) (end_of old) × (end_of new ≡ end_of old))
+    (HasNoMore file (bytes_of file.source d) (end_of old) × IsUnmoved old new)
     (λ batch. HasBatch file (bytes_of file.source d) (end_of old) batch.items (end_of new))

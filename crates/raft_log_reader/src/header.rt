@@ -8,6 +8,7 @@ use crate::window::Window;
 use raft_log_base::Result;
 use raft_log_disk::FileSystem;
 use raft_log_format::LogFileFormat;
+use raft_log_frames::record::are_bytes;
 use std::alloc::Global;
 
 /// What the header of a file says, and where it ends. At most its first 69 bytes are read; the window holds
@@ -28,6 +29,7 @@ pub(crate) fn read_format<F: FileSystem>(
     let len = source.size.min(LogFileFormat::max_encoded_len());
     window.read_on(file_system, source, len)?;
     let mut rest: &[u8] = window.held(0, len);
+    are_bytes(rest);
     let format = LogFileFormat::decode(alloc, &mut rest)?;
     Ok((format, len - rest.len()))
 }

@@ -1,6 +1,7 @@
 //! A reader of the batches of a log file.
 ghost use Rattle.std.specs.Prelude.{◌≡◌, ◌≤◌, length, None, Some, Ok, ◌<◌, IsOk, OnOk, OnSome, IfOk, IfErr, OnErr};
 ghost use Rattle.raft_log_frames.specs.Record.{block_of};
+ghost use Rattle.raft_log_reader.specs.Reader.{no_block};
 
 use crate::batch::{find_record, read_batch};
 use crate::header::read_format;
@@ -28,7 +29,9 @@ pub struct LogItemBatchFileReader {
 }
 
 /// The place of a block without bytes.
-fn no_block() -> FileBlockHandle {
+fn no_block() -> FileBlockHandle
+    ensures { result ≡ no_block }
+{
     FileBlockHandle {
         id: FileId::new(LogQueue::Append, 0),
         offset: 0,
@@ -38,7 +41,7 @@ fn no_block() -> FileBlockHandle {
 
 impl LogItemBatchFileReader {
     ghost use Rattle.raft_log_disk.specs.Disk.{Disk};
-    ghost use Rattle.raft_log_reader.specs.Reader.{IsReading, IsClosed, Opens, Answers, IsInside, file_of, end_of, last_block};
+    ghost use Rattle.raft_log_reader.specs.Reader.{IsReading, IsClosed, IsUnmoved, Opens, Answers, IsInside, file_of, end_of, last_block};
     ghost use Rattle.raft_log_reader.specs.Source.{bytes_of};
     ghost use Rattle.raft_log_reader.specs.Batches.{HasBlock};
     ghost use Rattle.raft_log_reader.specs.Opening.{FailsToOpen};
@@ -48,6 +51,7 @@ impl LogItemBatchFileReader {
     pub fn new(alloc: Global, read_block_size: usize) -> Self
         ensures closed { IsClosed result }
         ensures reading { (d : Disk) → IsReading d result }
+        ensures none { last_block result ≡ no_block }
     {
         LogItemBatchFileReader {
             window: Window::new(alloc, read_block_size),
@@ -61,6 +65,7 @@ impl LogItemBatchFileReader {
     pub fn reset(&mut self)
         ensures closed { IsClosed self.new }
         ensures reading { (d : Disk) → IsReading d self.new }
+        ensures last { last_block self.new ≡ last_block self.old }
     {
         self.window.begin(0);
         self.file = None;
@@ -80,6 +85,7 @@ impl LogItemBatchFileReader {
         ensures reading { IsReading (F.disk file_system.now) self.new }
         ensures err { IfErr result (FailsToOpen handle (F.disk file_system.now)) }
         ensures closed { OnErr result (IsClosed self.new) }
+        ensures last { last_block self.new ≡ last_block self.old }
     {
         self.reset();
         let size = file_system.file_size(handle)?;
@@ -111,9 +117,9 @@ impl LogItemBatchFileReader {
             → IfOk result (Answers (F.disk file_system.now) file self.old self.new) }
         ensures err { (file : OpenFile) → file_of self.old ≡ Some file
             → IfErr result (FailsBehind file (F.disk file_system.now) (end_of self.old)) }
-        ensures stays { OnErr result (end_of self.new ≡ end_of self.old) }
+        ensures stays { OnErr result (IsUnmoved self.old self.new) }
         ensures further { IfOk result (λ found. OnSome found (end_of self.old < end_of self.new)) }
-        ensures closed { file_of self.old ≡ None → result ≡ Ok None }
+        ensures closed { file_of self.old ≡ None → (result ≡ Ok None) × (self.new ≡ self.old) }
         ensures block { (file : OpenFile) → file_of self.old ≡ Some file
             → IfOk result (λ found. OnSome found (HasBlock file (bytes_of file.source (F.disk file_system.now))
             (end_of self.old) (last_block self.new))) }
@@ -151,7 +157,8 @@ impl LogItemBatchFileReader {
         requires reading { IsReading (F.disk file_system.now) self.old }
         requires inside { IsInside block self.old }
         ensures reading { IsReading (F.disk file_system.now) self.new }
-        ensures same { (file_of self.new ≡ file_of self.old) × (end_of self.new ≡ end_of self.old) }
+        ensures same { IsUnmoved self.old self.new }
+        ensures closed { file_of self.old ≡ None → IsOk result × (self.new ≡ self.old) }
         ensures ok { (file : OpenFile) → file_of self.old ≡ Some file
             → OnOk result (IsOk (block_of (bytes_at block file (F.disk file_system.now)))) }
         ensures err { (file : OpenFile) → file_of self.old ≡ Some file

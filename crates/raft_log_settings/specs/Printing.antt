@@ -6,6 +6,7 @@ use Rattle.std.specs.Borrow.{Bor}
 use Rattle.std.specs.String.{string_bytes}
 use Rattle.toml.specs.Data.{Data, Members, get_member, depth, members_depth}
 use Rattle.toml.specs.Data.Data.{string, integer, boolean}
+use Rattle.toml.specs.Parse.{parse_document}
 use Rattle.raft_log_base.specs.Files.{version_number}
 use Rattle.raft_log_base.specs.Size.{size_text}
 use Rattle.raft_log_base.specs.declared.errors.Error.{Error}
@@ -93,6 +94,10 @@ with_rows (row ∷ rows) at = with_rows rows (with_row row at)
 pub record HasRows (rows : List Row) (table : Members) : Type 0 where
   pub at : (k : List ℕ) → get_member k table ≡ with_rows rows (λ _. None) k
   pub flat : members_depth table ≡ 0
+
+-- a text is TOML, and its table has what these rows say and nothing else
+abbrev pub SaysRows : List ℕ → List Row → Type 0
+SaysRows text rows = (table : Members) × (parse_document text ≡ Some table) × HasRows rows table
 
 -- a table has this value at a key, else what it had, and is as flat as both
 pub record Puts (key : List ℕ) (value : Data) (old new : Members) : Type 0 where

@@ -55,7 +55,7 @@ pub struct Config {
 impl Config {
     ghost use Rattle.raft_log_settings.specs.Settings.{settings_of, default_settings};
     ghost use Rattle.raft_log_settings.specs.Reading.{GivesSettingsOf, SaysSettings};
-    ghost use Rattle.raft_log_settings.specs.Printing.{rows_of, IsUnprintable};
+    ghost use Rattle.raft_log_settings.specs.Printing.{rows_of, SaysRows, IsUnprintable};
     ghost use Rattle.raft_log_settings.specs.Sanitized.{IsFirstFault, IsSound, sanitized, IsRefusedFor, recycle_capacity, prefill_capacity};
 
     /// The usual settings: an empty `dir`, files of 128 MiB, a purge from 10 GiB on, four workers.
@@ -100,6 +100,7 @@ impl Config {
     /// argument that names its key.
     pub fn to_toml(&self, alloc: Global) -> Result<String>
         ensures ok { IfOk result (λ text. SaysSettings (string_bytes text) (settings_of self.now)) }
+        ensures rows { IfOk result (λ text. SaysRows (string_bytes text) (rows_of (settings_of self.now))) }
         ensures err { IfErr result (λ error. IsUnprintable (rows_of (settings_of self.now)) error) }
     {
         let table = to_table(alloc, self)?;

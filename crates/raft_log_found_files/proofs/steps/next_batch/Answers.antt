@@ -28,4 +28,4 @@ returns-in-Ok-Some-clause-ok g c = λ file opened.
     }
 
 pub returns-in-Ok-None-clause-ok : goal.returns-in-Ok-None-clause-ok
-returns-in-Ok-None-clause-ok g c = λ file opened. let none = rw c.in-Ok-None.field-0-is at (c.in-Ok-None.ensures.ok file opened) in none
+returns-in-Ok-None-clause-ok g c = λ file opened. let none = rw c.in-Ok-None.field-0-is at (c.in-Ok-None.ensures.ok file opened) in (none.0, none.1.end)

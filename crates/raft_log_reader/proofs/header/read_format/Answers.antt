@@ -2,6 +2,7 @@ use Rattle.std.proofs.Common.{◌≡◌, ◌≤◌, List, ℕ, length, take, min
 use Rattle.std.proofs.lemmas.Result.{err_from_is_err_and}
 use Rattle.raft_log_base.specs.Fault.{Fails}
 use Rattle.raft_log_format.specs.Header.{header_at}
+use Rattle.raft_log_frames.specs.Written.{AreBytes}
 use Rattle.raft_log_reader.specs.Source.{bytes_of}
 use Rattle.raft_log_reader.proofs.Parts.{nothing_held}
 use Rattle.raft_log_reader.proofs.Opened.{front-is, open_fault, header_begins, rest_fits}
@@ -30,7 +31,8 @@ returns-clause-ok g c =
     let held = c.held-rest.ensures content c.in_ok-read_on.ensures.part.part in
     let len : c.min-len.result ≤ length content = omega (arith, c.min-len.ensures, c.requires) in
     let found = c.in_ok-format.ensures.decodes.found in
-    header_begins content c.decode.new.source.now found.0 c.in_ok-format.format c.min-len.result len found.1 (sym held ∙ found.2)
+    let are : AreBytes c.held-rest.result.now = c.are_bytes.ensures in
+    header_begins content c.decode.new.source.now found.0 c.in_ok-format.format c.min-len.result len found.1 (subst AreBytes found.2 are) (sym held ∙ found.2)
 
 pub overflow_sub-result : goal.overflow_sub-result
 overflow_sub-result g c =

@@ -33,16 +33,16 @@ pub returns-in-Ok-None : goal.returns-in-Ok-None
 returns-in-Ok-None g c =
     let work = c.loop-reader.invariant in
     let none = rw c.in-Ok-None.field-0-is at (c.in-Ok-None.ensures.ok work.file work.opened) in
-    ended c.args.id c.args.handle (g.F.FileSystem.disk c.args.file_system.now) c.loop-reader.reader c.valid_offset.result work (c.valid_offset.ensures ∙ none.1) (inl none.0)
+    ended c.args.id c.args.handle (g.F.FileSystem.disk c.args.file_system.now) c.loop-reader.reader c.valid_offset.result work (c.valid_offset.ensures ∙ none.1.end) (inl none.0)
 
 pub returns-in-Err-Corruption : goal.returns-in-Err-Corruption
 returns-in-Err-Corruption g c =
     let work = c.loop-reader.invariant in
     let broken = rw c.in-Err-Corruption.field-0-is at (c.in-Err-Corruption.ensures.err work.file work.opened) in
-    ended c.args.id c.args.handle (g.F.FileSystem.disk c.args.file_system.now) c.loop-reader.reader c.valid_offset-in-Err-Corruption.result work (c.valid_offset-in-Err-Corruption.ensures ∙ c.in-Err-Corruption.ensures.stays) (inr (_, broken))
+    ended c.args.id c.args.handle (g.F.FileSystem.disk c.args.file_system.now) c.loop-reader.reader c.valid_offset-in-Err-Corruption.result work (c.valid_offset-in-Err-Corruption.ensures ∙ c.in-Err-Corruption.ensures.stays.end) (inr (_, broken))
 
 pub returns-in-Err-Codec : goal.returns-in-Err-Codec
 returns-in-Err-Codec g c =
     let work = c.loop-reader.invariant in
     let broken = rw c.in-Err-Codec.field-0-is at (c.in-Err-Codec.ensures.err work.file work.opened) in
-    ended c.args.id c.args.handle (g.F.FileSystem.disk c.args.file_system.now) c.loop-reader.reader c.valid_offset-in-Err-Codec.result work (c.valid_offset-in-Err-Codec.ensures ∙ c.in-Err-Codec.ensures.stays) (inr (_, broken))
+    ended c.args.id c.args.handle (g.F.FileSystem.disk c.args.file_system.now) c.loop-reader.reader c.valid_offset-in-Err-Codec.result work (c.valid_offset-in-Err-Codec.ensures ∙ c.in-Err-Codec.ensures.stays.end) (inr (_, broken))

@@ -6,7 +6,7 @@ returns-in-Ok-Some-clause-ok g c =
     let d = g.F.FileSystem.disk c.args.file_system.now in
     read_batch d c.args.self.now.reader c.next.new.self c.in-Ok-Some.batch.items c.in-Ok-Some.ensures.file c.in-Ok-Some.ensures.reading
     (λ file is. rw c.in-Ok-Some.field-0-is at (c.in-Ok-Some.ensures.ok file is))
-    (λ none. let told = c.in-Ok-Some.ensures.closed none in absurd cc)
+    (λ none. let told = (c.in-Ok-Some.ensures.closed none).0 in absurd cc)
 
 pub returns-in-Ok-None-clause-ok : goal.returns-in-Ok-None-clause-ok
 returns-in-Ok-None-clause-ok g c =
@@ -19,5 +19,5 @@ pub returns-in-Err-clause-err : goal.returns-in-Err-clause-err
 returns-in-Err-clause-err g c =
     let d = g.F.FileSystem.disk c.args.file_system.now in
     read_refused d c.in-Err.error c.args.self.now.reader c.reset-in-Err.new.self c.in-Err.ensures.err
-    (λ none. let told = c.in-Err.ensures.closed none in absurd cc)
+    (λ none. let told = (c.in-Err.ensures.closed none).0 in absurd cc)
     c.reset-in-Err.ensures.closed

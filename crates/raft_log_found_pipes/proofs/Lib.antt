@@ -4,3 +4,5 @@ pub mod LastFiles
 pub mod PastFiles
 pub mod Headers
 pub mod Scans
+mod Beginnings
+mod Begun

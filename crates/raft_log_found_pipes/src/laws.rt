@@ -1,5 +1,6 @@
 //! What holds of files that were found and read.
 
+ghost use Rattle.raft_log_found_pipes.specs.Beginning.{ScannedFilesBegin};
 ghost use Rattle.raft_log_found_pipes.specs.Reading.{FinishedFileIsRead, HeaderIsWritten, LastFileIsRead};
 ghost use Rattle.raft_log_found_pipes.specs.Scanned.{ReadFilesAreScanned, ScannedFilesAreSpanned};
 
@@ -21,6 +22,11 @@ pub fn finished_files_are_read()
 /// The files that are kept of a queue are a span of it.
 pub fn scanned_files_are_spanned()
     ensures { ScannedFilesAreSpanned }
+{}
+
+/// The files that are kept of a queue begin behind a gap, or with a number that two directories have.
+pub fn scanned_files_begin()
+    ensures { ScannedFilesBegin }
 {}
 
 /// Files that were scanned, the last of which was read, are files over which a pipe may be opened.

@@ -1,6 +1,6 @@
 //! What a store asks of a file system.
 
-ghost use Rattle.std.specs.Prelude.{◌≡◌, ℕ, ◌+◌, ◌<◌, Bool, true, length, IfOk, IfErr, OnOk, OnErr, map};
+ghost use Rattle.std.specs.Prelude.{◌≡◌, ℕ, ◌+◌, ◌<◌, Bool, true, List, length, IfOk, IfErr, OnOk, OnErr, map};
 ghost use Rattle.std.specs.String.{string_bytes};
 ghost use Rattle.raft_log_disk.specs.Disk.{Disk};
 ghost use Rattle.raft_log_disk.specs.Image.{IsSound};
@@ -37,6 +37,10 @@ use std::io::ErrorKind;
 pub trait FileSystem {
     /// What is on the disk, and what a crash may leave of it.
     ghost disk: { Self → Disk };
+
+    /// What may be answered, asked how many bytes a directory's files may still grow by. It doesn't stand on
+    /// the disk: others may take of the same space.
+    ghost tells_space: { Self → List ℕ → ℕ → Type 0 };
 
     /// Makes an empty file, and answers a handle that may write it. `AlreadyExists` where a file or a
     /// directory has the path, `NotFound` where its directory isn't there.
@@ -146,6 +150,7 @@ pub trait FileSystem {
     /// `InvalidInput` for a file.
     fn free_space(&self, directory: &str) -> Result<u64, ErrorKind>
         ensures ok { OnOk result ((disk self.now).directories directory.now ≡ true) }
+        ensures told { IfOk result (λ space. tells_space self.now directory.now space) }
         ensures err { IfErr result (λ error. IsNotListed directory.now (disk self.now) error) };
 
     /// Reads bytes from an offset on until the room is full or the file ends, and answers how many. Refused

@@ -1,9 +1,11 @@
 -- A close of both pipes, queue by queue.
+use Rattle.std.specs.Prelude.{reverse}
 use Rattle.std.proofs.Common.{◌≡◌, ℕ, List, subst}
 use Rattle.raft_log_disk.specs.Disk.{Disk}
 use Rattle.raft_log_base.specs.declared.pipe_log.LogQueue.{LogQueue}
+use Rattle.raft_log_layout.specs.Layout.{log_paths}
 use Rattle.raft_log_layout.specs.declared.record.LogRecord.{LogRecord}
-use Rattle.raft_log_pipes.specs.Closing.{LeavesClosed, StaysLeft}
+use Rattle.raft_log_pipes.specs.Closing.{LeavesClosed, ReservesAll, StaysLeft, greatest_reserved}
 use Rattle.raft_log_pipes.specs.Files.{Listed}
 use Rattle.raft_log_directory.specs.Calls.Which.{InAppend, InRewrite}
 use Rattle.raft_log_steps.specs.Queues.{QueueLayout}
@@ -19,6 +21,13 @@ stays_same n m ds es fs gs d e named lies kept h =
     subst (λ (xs : List Listed). StaysLeft (log_layout n ds).format (log_layout n ds).own xs d e) kept
     (subst (λ (xs : List (List ℕ)). StaysLeft (log_layout n xs).format (log_layout n xs).own gs d e) lies
     (subst (λ (x : LogQueue). StaysLeft (log_layout x es).format (log_layout x es).own gs d e) named h))
+
+-- and which names they get
+pub names_same : (n m : LogQueue) (ds es : List (List ℕ)) (fs gs : List Listed) (d e : Disk) → m ≡ n → es ≡ ds → gs ≡ fs → ReservesAll (log_paths m es) (reverse gs) (greatest_reserved gs) d e → ReservesAll (log_paths n ds) (reverse fs) (greatest_reserved fs) d e
+names_same n m ds es fs gs d e named lies kept h =
+    subst (λ (xs : List Listed). ReservesAll (log_paths n ds) (reverse xs) (greatest_reserved xs) d e) kept
+    (subst (λ (xs : List (List ℕ)). ReservesAll (log_paths n xs) (reverse gs) (greatest_reserved gs) d e) lies
+    (subst (λ (x : LogQueue). ReservesAll (log_paths x es) (reverse gs) (greatest_reserved gs) d e) named h))
 
 -- Both pipes: their last files are finished one after the other, and then the spare files of one and of the
 -- other get their names.

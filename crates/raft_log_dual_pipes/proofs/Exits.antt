@@ -18,13 +18,13 @@ use Rattle.raft_log_directory.specs.Calls.{Which, FailsWhole}
 use Rattle.raft_log_steps.specs.Queues.{QueueLayout}
 use Rattle.raft_log_steps.specs.State.{spanned_at, pipe_at, with_pipe, Run, Ties}
 use Rattle.raft_log_steps.specs.Turning.{in_span}
-use Rattle.raft_log_steps.specs.Steps.{next_log, NotAppended}
+use Rattle.raft_log_steps.specs.Steps.{next_log, NotAppended, TellsOfCall}
 use Rattle.raft_log_steps.specs.Lying.{both_open, RunOrLie}
 use Rattle.raft_log_steps.specs.Beside.{LeavesRefused}
 use Rattle.raft_log_steps.specs.Failing.{failed_pipe}
 use Rattle.raft_log_steps.proofs.Lifts.{run_at}
 use Rattle.raft_log_steps.proofs.AppendStep.{append_is_a_step}
-use Rattle.raft_log_steps.proofs.RefusedStep.{refused_append_is_a_step}
+use Rattle.raft_log_steps.proofs.RefusedStep.{refused_append_is_a_step, refused_append_has_failed}
 use Rattle.raft_log_steps.proofs.OtherSteps.{sync_is_a_step}
 use Rattle.raft_log_steps.proofs.BesideSteps.{fails_to_append_beside, quiet_calls_beside}
 use Rattle.raft_log_dual_pipes.specs.Pipes.{OnePipe, LogPipes, LogSense, RunsOn, Said, State, files_of, header_at, one_at, queue_of, queues}
@@ -66,13 +66,13 @@ module _ (which : Which) (v : LogPipes) (o : OnePipe) (d : Disk) where
       (ap (λ i. i.queue) there.id, (files, taken, last, again log s files run same alive next, step))
 
   left : (log : LogSense) (s : State) (y : Said) (error : Error) → RunsOn log v s → SameRules (one_at which v) o → (is_failure error ≡ false → o.failed ≡ false) → NotAppended (queues log) which (files_of v) s (header_at which v) y o.files error d
-      → LeavesRefused (queues log) which (both_open (files_of v)) (pipe_at which (files_of v)) s (header_at which v) y o.files error d → RefusalLeaves log which s y v (with_one which v o d) error
-  left log s y (errors.Io kind) run same alive (files, cut, next, step) beside = (files, cut, again log s files run same (alive refl) next, step)
-  left log s y (errors.TryAgain text) run same alive (files, cut, next, step) beside = (files, cut, again log s files run same (alive refl) next, step)
-  left log s y errors.NumberRange run same alive (files, cut, next, step) beside = (files, cut, again log s files run same (alive refl) next, step)
-  left log s y errors.Memory run same alive (files, cut, next, step) beside = (files, cut, again log s files run same (alive refl) next, step)
-  left log s y errors.Failed run same alive h beside = beside
-  left log s y _ run same alive h beside = absurd h
+      → LeavesRefused (queues log) which (both_open (files_of v)) (pipe_at which (files_of v)) s (header_at which v) y o.files error d → (TellsOfCall error → Fails v.disk d) → RefusalLeaves log which s y v (with_one which v o d) error
+  left log s y (errors.Io kind) run same alive (files, cut, next, step) beside counted = (counted tt, (files, cut, again log s files run same (alive refl) next, step))
+  left log s y (errors.TryAgain text) run same alive (files, cut, next, step) beside counted = (counted tt, (files, cut, again log s files run same (alive refl) next, step))
+  left log s y errors.NumberRange run same alive (files, cut, next, step) beside counted = (files, cut, again log s files run same (alive refl) next, step)
+  left log s y errors.Memory run same alive (files, cut, next, step) beside counted = (files, cut, again log s files run same (alive refl) next, step)
+  left log s y errors.Failed run same alive h beside counted = (counted tt, beside)
+  left log s y _ run same alive h beside counted = absurd h
 
   pub appends_not : (signed : LogFileContext → List ℕ) (error : Error)
       → AppendFails (layout_of (one_at which v)).format (layout_of (one_at which v)).own (layout_of (one_at which v)).paths (one_at which v).settings.new_files (one_at which v).settings.queue signed (pipe_at which (files_of v)) o.files error v.disk d
@@ -83,6 +83,7 @@ module _ (which : Which) (v : LogPipes) (o : OnePipe) (d : Disk) where
       let two = two_of log v s run in
       left log s y error run same alive (refused_append_is_a_step (queues log) two which (files_of v) s run.run begin (queue_of which) signed y says o.files error d sound there first)
       (fails_to_append_beside (queues log) two which (both_open (files_of v)) (pipe_at which (files_of v)) s (both_run which log v s run) begin (queue_of which) signed y says o.files error d there first)
+      (λ of_call. subst (λ (x : Disk). Fails x d) run.disk (refused_append_has_failed (queues log) two which (files_of v) s run.run begin (queue_of which) signed y says o.files error d there of_call))
 
   -- The same of what the call answered.
 

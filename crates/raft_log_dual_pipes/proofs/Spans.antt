@@ -14,11 +14,12 @@ use Rattle.raft_log_directory.specs.Calls.{Which}
 use Rattle.raft_log_steps.specs.Queues.{QueueLayout, layout_at}
 use Rattle.raft_log_steps.specs.State.{spanned_at, pipe_at, with_pipe, Run}
 use Rattle.raft_log_steps.specs.Turning.{in_span}
-use Rattle.raft_log_steps.specs.Steps.{next_log}
+use Rattle.raft_log_steps.specs.Steps.{next_log, TellsOfCall}
 use Rattle.raft_log_steps.specs.Syncing.{NotPurged, NotRotated, raised_log}
 use Rattle.raft_log_steps.specs.Lying.{both_open}
 use Rattle.raft_log_steps.specs.Beside.{LeavesUnpurged, LeavesUnrotated}
 use Rattle.raft_log_steps.proofs.Lifts.{run_at}
+use Rattle.raft_log_steps.proofs.RefusedStep.{refused_rotation_has_failed}
 use Rattle.raft_log_steps.proofs.BesideSteps.{quiet_calls_beside}
 use Rattle.raft_log_steps.proofs.OtherSteps.{purge_is_a_step, refused_purge_is_a_step, refused_rotation_is_a_step, rotation_is_a_step}
 use Rattle.raft_log_dual_pipes.specs.Pipes.{OnePipe, LogPipes, LogSense, RunsOn, State, files_of, header_at, one_at, queues}
@@ -38,11 +39,11 @@ module _ (which : Which) (v : LogPipes) (o : OnePipe) (d : Disk) where
       (files, goes, runs_again which log v s (next_log which s files d) o d run same alive (next_disk which s (in_span (spanned_at which s) files) d) next, step)
 
   turned_not : (log : LogSense) (s : State) (error : Error) → RunsOn log v s → SameRules (one_at which v) o → (is_failure error ≡ false → o.failed ≡ false) → NotRotated (queues log) which (files_of v) s (header_at which v) o.files error d
-      → LeavesUnrotated (queues log) which (both_open (files_of v)) (pipe_at which (files_of v)) s (header_at which v) o.files error d → TurnLeaves log which s v (with_one which v o d) error
-  turned_not log s errors.Memory run same alive (is, next) beside = stays log s run same (alive refl) is next
-  turned_not log s errors.NumberRange run same alive (is, next) beside = stays log s run same (alive refl) is next
-  turned_not log s errors.Failed run same alive h beside = beside
-  turned_not log s _ run same alive h beside = absurd h
+      → LeavesUnrotated (queues log) which (both_open (files_of v)) (pipe_at which (files_of v)) s (header_at which v) o.files error d → (TellsOfCall error → Fails v.disk d) → TurnLeaves log which s v (with_one which v o d) error
+  turned_not log s errors.Memory run same alive (is, next) beside counted = stays log s run same (alive refl) is next
+  turned_not log s errors.NumberRange run same alive (is, next) beside counted = stays log s run same (alive refl) is next
+  turned_not log s errors.Failed run same alive h beside counted = (counted tt, beside)
+  turned_not log s _ run same alive h beside counted = absurd h
 
   rotates_not : (error : Error) → RotationLeaves (layout_of (one_at which v)).format (layout_of (one_at which v)).own (layout_of (one_at which v)).paths (header_at which v) (pipe_at which (files_of v)) o.files error v.disk d
       → SameRules (one_at which v) o → (is_failure error ≡ false → o.failed ≡ false) → IsSound d → FailsToRotateQueue which error v (with_one which v o d)
@@ -51,6 +52,7 @@ module _ (which : Which) (v : LogPipes) (o : OnePipe) (d : Disk) where
       let two = two_of log v s run in
       turned_not log s error run same alive (refused_rotation_is_a_step (queues log) two which (files_of v) s run.run (header_at which v) o.files error d sound there)
       ((quiet_calls_beside (queues log) two which (both_open (files_of v)) (pipe_at which (files_of v)) s (both_run which log v s run)).1.refused (header_at which v) o.files error d there)
+      (λ of_call. subst (λ (x : Disk). Fails x d) run.disk (refused_rotation_has_failed (queues log) two which (files_of v) s run.run (header_at which v) o.files error d there of_call))
 
   purges : (seq : ℕ) → Purges (layout_of (one_at which v)).format (layout_of (one_at which v)).own (layout_of (one_at which v)).paths (one_at which v).settings.capacity seq (pipe_at which (files_of v)) o.files v.disk d
       → IsRaised (one_at which v).settings.capacity seq (pipe_at which (files_of v)) o.files → SameRules (one_at which v) o → o.failed ≡ false → PurgesQueue which seq v (with_one which v o d)

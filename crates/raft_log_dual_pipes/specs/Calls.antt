@@ -54,13 +54,13 @@ MayTakeOn log which s y v w = LeavesQueue (queues log) which (both_open (files_o
     ⊎ HasTaken (header_at which v) (spares_at which v) s.disk (spanned_at which s).files files))
     (MayAppend (Ties (queues log)) (Ties (queues log)) which y)
 
--- what a refused record leaves, by its error
+-- What a refused record leaves, by its error. Behind `Io`, `TryAgain` and `Failed` a file call has failed.
 abbrev pub RefusalLeaves : LogSense → Which → State → Said → LogPipes → LogPipes → Error → Type 0
-RefusalLeaves log which s y v w (errors.Io kind) = CutsBackOn log which s v w
-RefusalLeaves log which s y v w (errors.TryAgain text) = CutsBackOn log which s v w
+RefusalLeaves log which s y v w (errors.Io kind) = Fails v.disk w.disk × CutsBackOn log which s v w
+RefusalLeaves log which s y v w (errors.TryAgain text) = Fails v.disk w.disk × CutsBackOn log which s v w
 RefusalLeaves log which s y v w errors.NumberRange = LeavesOutOn log which s v w
 RefusalLeaves log which s y v w errors.Memory = LeavesOutOn log which s v w
-RefusalLeaves log which s y v w errors.Failed = MayTakeOn log which s y v w
+RefusalLeaves log which s y v w errors.Failed = Fails v.disk w.disk × MayTakeOn log which s y v w
 RefusalLeaves log which s y v w _ = ⊥
 
 -- so it is of a log that the pipes ran over
@@ -95,12 +95,13 @@ RotatesQueue which v w = (log : LogSense) (s : State) → RunsOn log v s → (fi
 abbrev pub LeavesSame : LogSense → State → LogPipes → LogPipes → Type 0
 LeavesSame log s v w = RunsOn log w s × (w.disk ≡ v.disk)
 
--- What a refused rotation leaves, by its error: the same log; or the pipe has failed, the queue may have gone
--- on or not, and the log lies on the disk and may be opened.
+-- What a refused rotation leaves, by its error: the same log; or a file call has failed, and with it the pipe,
+-- the queue may have gone on or not, and the log lies on the disk and may be opened.
 abbrev pub TurnLeaves : LogSense → Which → State → LogPipes → LogPipes → Error → Type 0
 TurnLeaves log which s v w errors.Memory = LeavesSame log s v w
 TurnLeaves log which s v w errors.NumberRange = LeavesSame log s v w
-TurnLeaves log which s v w errors.Failed = LeavesQueue (queues log) which (both_open (files_of v)) None s w.disk
+TurnLeaves log which s v w errors.Failed = Fails v.disk w.disk
+    × LeavesQueue (queues log) which (both_open (files_of v)) None s w.disk
     (IsOrGoesOn (header_at which v) (spares_at which v) s.disk (spanned_at which s).files)
     (FailsMoved (Ties (queues log)) (Ties (queues log)) which)
 TurnLeaves log which s v w _ = ⊥

@@ -19,7 +19,7 @@ pub trait PipeLog {
     ghost use Rattle.raft_log_pipes.specs.Purging.{IsInSpan};
     ghost use Rattle.raft_log_dual_pipes.specs.Pipes.{LogPipes, files_of, is_failed, which_of};
     ghost use Rattle.raft_log_disk.specs.Disk.{Disk};
-    ghost use Rattle.raft_log_dual_pipes.specs.Closing.{ClosesLog};
+    ghost use Rattle.raft_log_dual_pipes.specs.Closing.{ClosesInOrder, ClosesLog};
     ghost use Rattle.raft_log_dual_pipes.specs.Calls.{AppendsTo, FailsToAppendTo, FailsToPurgeQueue, FailsToRotateQueue, FailsToSyncQueue, IsSpanOf, PurgesQueue, RotatesQueue, StaysFailed, SyncsQueue, TellsFailure, seq_at, size_at};
 
     /// The file system that the files are in, which a close gives back.
@@ -131,6 +131,7 @@ pub trait PipeLog {
     /// logged, and nothing that was written is lost by them. Of pipes that have failed nothing is touched.
     fn close<L: Log>(self, alloc: Global, rt: &L) -> Self::Files
         ensures held { is_failed (shown self) ≡ false → ClosesLog (shown self) (disk_of result) }
+        ensures calls { is_failed (shown self) ≡ false → ClosesInOrder (shown self) (disk_of result) }
         ensures failed { is_failed (shown self) ≡ true → result ≡ files self }
         ensures later { IsLater (shown self).disk (disk_of result) };
 

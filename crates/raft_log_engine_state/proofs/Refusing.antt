@@ -69,16 +69,16 @@ left_at home o t m pending stands ends = (
 pub refused_leaves : (home : Home) (e t : Shows) (b : Batch) (m : LogMap) (pending : List Said) (error : Error) → Holds home e m pending → IsReady e b → t.tables ≡ e.tables
     → FailsToAppendTo InAppend (signed_for b) error e.pipes t.pipes → Leaves home b m pending t error
 refused_leaves home e t b m pending (errors.Io kind) h ready same call =
-    cut_back home e t b m pending h same (call (sense home) h.state (said_of b) h.runs (says_batch home e b ready))
+    cut_back home e t b m pending h same (call (sense home) h.state (said_of b) h.runs (says_batch home e b ready)).1
 refused_leaves home e t b m pending (errors.TryAgain text) h ready same call =
-    cut_back home e t b m pending h same (call (sense home) h.state (said_of b) h.runs (says_batch home e b ready))
+    cut_back home e t b m pending h same (call (sense home) h.state (said_of b) h.runs (says_batch home e b ready)).1
 refused_leaves home e t b m pending errors.NumberRange h ready same call =
     left_out home e t b m pending h same (call (sense home) h.state (said_of b) h.runs (says_batch home e b ready))
 refused_leaves home e t b m pending errors.Memory h ready same call =
     left_out home e t b m pending h same (call (sense home) h.state (said_of b) h.runs (says_batch home e b ready))
 refused_leaves home e t b m pending errors.Failed h ready same call =
     let s = h.state in
-    let (files, goes, stands, may) = call (sense home) s (said_of b) h.runs (says_batch home e b ready) in
+    let (cause, (files, goes, stands, may)) = call (sense home) s (said_of b) h.runs (says_batch home e b ready) in
     let next : State = next_log InAppend s files t.pipes.disk in
     let u : ℕ → View (List ℕ) (List ℕ) = λ n. view_of (all_shown n e.tables (items_at (in_file n) b)) (taken h.map (said_of b ∷ [])) in
     elim (append_may_be_there (Ties (log_in home)) (Ties (log_in home)) s next (view_of e.tables h.map) m pending h.at u (said_of b) may

@@ -1,6 +1,6 @@
 //! How the files of a queue are written, and under which paths they lie.
 
-ghost use Rattle.std.specs.Prelude.{◌≡◌, ℕ, ◌<◌, ◌^◌, List, OnOk, IfOk, IfErr};
+ghost use Rattle.std.specs.Prelude.{◌≡◌, ℕ, ◌<◌, ◌^◌, List, OnOk, IfOk, IfErr, map};
 ghost use Rattle.std.specs.String.{string_bytes};
 ghost use Rattle.raft_log_format.specs.Name.{IsNameRefusal};
 ghost use Rattle.raft_log_disk.specs.LogFormat.{Format};
@@ -56,7 +56,8 @@ pub trait PipeFormat {
         ensures err { IfErr result (λ error. IsNameRefusal file.now.seq error) };
 
     /// The directories, the main one first.
-    fn paths(&self) -> &[String];
+    fn paths(&self) -> &[String]
+        ensures { map string_bytes result.now ≡ (file_paths self.now).directories };
 
     ghost lawful: { (layout : Self) → IsLayout (format layout) (own layout) (file_paths layout) };
 }

@@ -34,6 +34,7 @@ log_format queue directories = record {
 -- and the path of each file
 abbrev pub log_paths : LogQueue → List (List ℕ) → FilePaths
 log_paths queue directories = record {
+  directories = directories;
   numbered = numbered_path queue directories;
   reserved = reserved_path queue directories;
 }

@@ -25,7 +25,7 @@ use Rattle.raft_log_layout.specs.Paths.{IsPathWith, IsOwnPath, reserved_path, re
 use Rattle.raft_log_layout.specs.Layout.{IsRecordIn, IsAHeader, log_format, log_paths}
 use Rattle.raft_log_layout.specs.Laws.{LogFilesAreTold, QueuesAreApart, ZerosHoldNoRecord, ReservedNamesAreTheLogs, PlacesAreFresh}
 use Rattle.raft_log_layout.specs.declared.record.LogRecord.{LogRecord}
-use Rattle.raft_log_layout.specs.PathLaws.{one_name, one_number, numbered_is, reserved_is, other_end}
+use Rattle.raft_log_layout.specs.PathLaws.{one_name, one_number, numbered_is, numbered_lies, reserved_is, other_end}
 
 -- taking and dropping at a seam
 drop_front : (a b : List ℕ) → drop (length a) (a ++ b) ≡ b
@@ -238,6 +238,7 @@ is_layout queue directories some = record {
   owns = λ m path less at. (m, inl at);
   limit = refl;
   numbered = λ place n less. numbered_is queue directories place n some less;
+  lies = λ place n inside less. numbered_lies queue directories place n some inside less;
   kept = λ place n. (min n (10 ^ 16 - 1), inr (reserved_is queue directories place n some));
   apart = λ place n m less at. reserved_apart queue directories m (min n (10 ^ 16 - 1))
       (reserved_path queue directories place n) at (reserved_is queue directories place n some);

@@ -7,14 +7,14 @@ use Rattle.std.proofs.Common.{◌≡◌, ℕ, zero, suc, ◌+◌, ◌-◌, ◌^�
 use Rattle.std.proofs.lemmas.Bool.{cases_lt, cases_Bool, false≢true}
 use Rattle.std.proofs.lemmas.Bool.Decides.{Decides-eqb}
 use Rattle.std.proofs.lemmas.Fmt.{decimal_is_IsNumeral}
-use Rattle.std.proofs.lemmas.List.{append_assoc, drop_at, get_or_append_left, get_or_past, get_or-append_right, get_or-append-add}
+use Rattle.std.proofs.lemmas.List.{append_assoc, drop_at, get_or_append_left, get_or_default, get_or_past, get_or-append_right, get_or-append-add}
 use Rattle.std.specs.List.{Contains}
 use Rattle.std.proofs.lemmas.List.Elements.{Contains-get_or}
 use Rattle.std.proofs.lemmas.Str.Parse.{digit_at}
 use Rattle.raft_log_base.specs.declared.pipe_log.LogQueue.{LogQueue}
 use Rattle.raft_log_base.specs.declared.pipe_log.LogQueue.TheVariants.{Append, Rewrite}
-use Rattle.raft_log_disk.specs.Disk.{IsPlain}
-use Rattle.raft_log_format.specs.Name.{IsNamed, EndsWith, sixteen_digits, suffix_of}
+use Rattle.raft_log_disk.specs.Disk.{IsPathIn, IsPlain}
+use Rattle.raft_log_format.specs.Name.{IsNamed, EndsWith, file_name, sixteen_digits, suffix_of}
 use Rattle.raft_log_format.proofs.Names.{written_number}
 use Rattle.raft_log_layout.specs.Paths.{IsPathWith, reserved_suffix_of, directory_at, numbered_path, reserved_path}
 
@@ -118,6 +118,24 @@ numbered_is Append directories place n some fit = written_path (codes ".raftlog"
     (omega arith) refl
 numbered_is Rewrite directories place n some fit = written_path (codes ".rewrite") directories place n some
     fit (omega arith) refl
+
+-- the path of a number in a directory lies there
+pub numbered_lies : (queue : LogQueue) (directories : List (List ℕ)) (place n : ℕ) → 0 < length directories
+    → place < length directories → n < 10 ^ 16
+    → IsPathIn (get_or directories place []) (numbered_path queue directories place n)
+unfolding numbered_is written_path
+numbered_lies Append directories place n some inside fit = record {
+  name = file_name (record { queue = Append; seq = n });
+  joined = ap (λ (d : List ℕ). d ++ 47 ∷ file_name (record { queue = Append; seq = n }))
+      (get_or_default directories place (get_or directories 0 []) [] inside);
+  plain = (numbered_is Append directories place n some fit).plain;
+}
+numbered_lies Rewrite directories place n some inside fit = record {
+  name = file_name (record { queue = Rewrite; seq = n });
+  joined = ap (λ (d : List ℕ). d ++ 47 ∷ file_name (record { queue = Rewrite; seq = n }))
+      (get_or_default directories place (get_or directories 0 []) [] inside);
+  plain = (numbered_is Rewrite directories place n some fit).plain;
+}
 
 reserved_written : (queue : LogQueue) (directories : List (List ℕ)) (place n : ℕ) → 0 < length directories
     → n < 10 ^ 16 → 0 < length (reserved_suffix_of queue) → has_no_slash (reserved_suffix_of queue) ≡ true

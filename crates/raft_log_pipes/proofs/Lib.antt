@@ -9,3 +9,4 @@ pub mod TakingUp
 pub mod SettingAside
 pub mod Fractions
 pub mod Finding
+pub mod Placing

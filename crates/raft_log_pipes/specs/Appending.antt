@@ -2,6 +2,7 @@
 use Rattle.std.specs.Prelude.{◌≡◌, ◌≢◌, ◌⊎◌, ℕ, ◌<◌, ◌≤◌, List, length}
 use Rattle.std.specs.declared.io.ErrorKind.TheVariants.{StorageFull}
 use Rattle.raft_log_disk.specs.Disk.{Disk}
+use Rattle.raft_log_disk.specs.Causes.{IsLater}
 use Rattle.raft_log_disk.specs.LogFormat.{Format}
 use Rattle.raft_log_base.specs.declared.errors.Error.{Error}
 use Rattle.raft_log_base.specs.declared.errors.Error.TheVariants as errors
@@ -77,8 +78,8 @@ pub data AppendFails {R : Type 0} (F : Format R) (own : List ℕ → Type 0) (pa
       → RotationLeaves F own paths (header_bytes begin.format) before after error old new
       → AppendFails F own paths begin queue signed before after error old new
   not_written : (middle cut : PipeFiles) (between short : Disk) (fault : WriteFault)
-      → TurnsFirst F own paths begin before middle old between
+      → TurnsFirst F own paths begin before middle old between → IsLater old between
       → FailsToAdd F own paths (signed (context_of queue middle)) fault middle cut between short
       → SameLists middle cut
-      → Tells F own paths begin fault cut after error short new
+      → Tells F own paths begin fault cut after error short new → IsLater short new
       → AppendFails F own paths begin queue signed before after error old new

@@ -6,3 +6,4 @@ pub mod Reading
 pub mod Laws
 pub mod Opening
 pub mod Closing
+pub mod Placing

@@ -5,6 +5,7 @@ ghost use Rattle.raft_log_disk.specs.Causes.{IsLater};
 ghost use Rattle.raft_log_format.specs.Header.{header_bytes};
 ghost use Rattle.raft_log_pipes.specs.Appending.{AppendFails, AppendsAt, SaysTryAgain, Tells, TurnsElsewhere, TurnsFirst};
 ghost use Rattle.raft_log_pipes.specs.Exits.{IsTurned, Rotates, RotationLeaves};
+ghost use Rattle.raft_log_pipes.specs.Placing.{IsPlaced};
 
 use crate::new_files::NewFiles;
 use crate::pipe_files::PipeFiles;
@@ -29,6 +30,9 @@ fn turn_first<G: PipeFormat, F: FileSystem, L: Log>(
 ) -> Result<()>
     ensures ok { OnOk result (TurnsFirst (G.format layout.now) (G.own layout.now) (G.file_paths layout.now)
         new_files.now files.old files.new (F.disk file_system.old) (F.disk file_system.new)) }
+    ensures placed { new_files.now.target_size ≤ files.old.writer.written → OnOk result (IsPlaced
+        (F.tells_space file_system.old) (F.disk file_system.old) new_files.now.target_size
+        (G.file_paths layout.now).directories files.old.recycled.items files.new.active.path_id) }
     ensures long { OnErr result (new_files.now.target_size ≤ files.old.writer.written) }
     ensures err { IfErr result (λ error. RotationLeaves (G.format layout.now) (G.own layout.now)
         (G.file_paths layout.now) (header_bytes new_files.now.format) files.old files.new error
@@ -116,6 +120,9 @@ pub fn append<G: PipeFormat, F: FileSystem, L: Log, B: ReactiveBytes>(
         (G.file_paths layout.now) new_files.now queue (B.signed bytes.old) files.old files.new block
         (F.disk file_system.old) (F.disk file_system.new)) }
     ensures place { IfOk result (λ block. block.offset < 2 ^ 63) }
+    ensures placed { new_files.now.target_size ≤ files.old.writer.written → OnOk result (IsPlaced
+        (F.tells_space file_system.old) (F.disk file_system.old) new_files.now.target_size
+        (G.file_paths layout.now).directories files.old.recycled.items files.new.active.path_id) }
     ensures err { IfErr result (λ error. AppendFails (G.format layout.now) (G.own layout.now)
         (G.file_paths layout.now) new_files.now queue (B.signed bytes.old) files.old files.new error
         (F.disk file_system.old) (F.disk file_system.new)) }

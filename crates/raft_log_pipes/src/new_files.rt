@@ -1,6 +1,7 @@
 //! How a pipe begins its files.
 
 ghost use Rattle.std.specs.Prelude.{◌≡◌, IfOk, IfErr};
+ghost use Rattle.raft_log_pipes.specs.Placing.{IsChosen, TellsRoom};
 ghost use Rattle.raft_log_base.specs.declared.errors.Error.TheVariants.{Memory};
 ghost use Rattle.raft_log_format.specs.Header.{header_bytes, HasHeader, IsHeaderRefusal};
 
@@ -49,6 +50,19 @@ impl NewFiles {
     }
 }
 
+/// Whether a directory has room for so many bytes. One of which no space is told has none.
+fn has_room<F: FileSystem>(file_system: &F, directory: &str, size: usize) -> Result<bool>
+    ensures ok { IfOk result (TellsRoom (F.tells_space file_system.now) (F.disk file_system.now) size
+        directory.now) }
+    ensures err { IfErr result (λ error. error ≡ Memory) }
+{
+    match file_system.free_space(directory) {
+        Ok(space) => Ok(space >= size as u64),
+        Err(ErrorKind::OutOfMemory) => Err(Error::Memory),
+        Err(_) => Ok(false),
+    }
+}
+
 /// The directory for a new file: where there are several, the first that has room for so many bytes, and
 /// the main one where none has.
 pub fn choose_directory<G: PipeFormat, F: FileSystem>(
@@ -56,15 +70,15 @@ pub fn choose_directory<G: PipeFormat, F: FileSystem>(
     file_system: &F,
     size: usize,
 ) -> Result<PathId>
+    ensures ok { IfOk result (λ place. IsChosen (F.tells_space file_system.now) (F.disk file_system.now) size
+        (G.file_paths layout.now).directories place) }
     ensures err { IfErr result (λ error. error ≡ Memory) }
 {
     let paths = layout.paths();
     if paths.len() > 1 {
         for (path_id, path) in paths.iter().enumerate() {
-            match file_system.free_space(path) {
-                Ok(space) if space >= size as u64 => return Ok(path_id),
-                Err(ErrorKind::OutOfMemory) => return Err(Error::Memory),
-                _ => {}
+            if has_room(file_system, path, size)? {
+                return Ok(path_id);
             }
         }
     }

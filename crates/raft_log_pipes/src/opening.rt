@@ -1,8 +1,9 @@
 //! A pipe is opened: over the files that were found of its queue, or over none.
 
-ghost use Rattle.std.specs.Prelude.{◌≡◌, IfErr, IfOk};
+ghost use Rattle.std.specs.Prelude.{◌≡◌, [], IfErr, IfOk};
 ghost use Rattle.raft_log_disk.specs.Causes.{IsLater};
 ghost use Rattle.raft_log_pipes.specs.Opening.{BeginLeaves, BeginsPipe, IsListedAs, IsListedFirst, OpenLeaves, Opens, TakeUpLeaves, TakesUpFound, first_number, taken_up};
+ghost use Rattle.raft_log_pipes.specs.Placing.{IsChosen};
 
 use crate::found_files::FoundFiles;
 use crate::new_files::{NewFiles, choose_directory};
@@ -28,6 +29,8 @@ fn begin<G: PipeFormat, F: FileSystem, L: Log>(
         (G.file_paths layout.now) new_files.now.format recycled.items files
         (F.disk file_system.old) (F.disk file_system.new)) }
     ensures listed { IfOk result (IsListedFirst new_files.now.format recycled.items) }
+    ensures placed { IfOk result (λ files. IsChosen (F.tells_space file_system.old) (F.disk file_system.old)
+        new_files.now.target_size (G.file_paths layout.now).directories files.active.path_id) }
     ensures err { IfErr result (λ error. BeginLeaves (G.format layout.now) (G.own layout.now)
         (G.file_paths layout.now) new_files.now.format recycled.items error
         (F.disk file_system.old) (F.disk file_system.new)) }
@@ -139,6 +142,9 @@ pub fn open<G: PipeFormat, F: FileSystem, L: Log>(
     ensures ok { IfOk result (λ files. Opens (G.format layout.now) (G.own layout.now)
         (G.file_paths layout.now) new_files.now found files
         (F.disk file_system.old) (F.disk file_system.new)) }
+    ensures placed { found.files.items ≡ [] → IfOk result (λ files.
+        IsChosen (F.tells_space file_system.old) (F.disk file_system.old) new_files.now.target_size
+        (G.file_paths layout.now).directories files.active.path_id) }
     ensures err { IfErr result (λ error. OpenLeaves (G.format layout.now) (G.own layout.now)
         (G.file_paths layout.now) new_files.now found error
         (F.disk file_system.old) (F.disk file_system.new)) }

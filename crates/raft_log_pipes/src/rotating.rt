@@ -6,6 +6,7 @@ ghost use Rattle.raft_log_disk.specs.Causes.{IsLater};
 ghost use Rattle.raft_log_disk.specs.Reading.{IsOpened};
 ghost use Rattle.raft_log_disk.specs.declared.handle.Permission.TheVariants as permissions;
 ghost use Rattle.raft_log_format.specs.Header.{header_bytes};
+ghost use Rattle.raft_log_pipes.specs.Placing.{IsChosen, IsPlaced};
 ghost use Rattle.raft_log_pipes.specs.Exits.{IsTurned, Rotates, RotationLeaves, StaysClosed};
 
 use crate::new_files::{NewFiles, choose_directory};
@@ -48,6 +49,7 @@ fn go_over<G: PipeFormat, F: FileSystem, L: Log>(
         (header_bytes new_files.now.format) files.old files.new
         (F.disk file_system.old) (F.disk file_system.new)) }
     ensures turned { OnOk result (IsTurned new_files.now.format files.old files.new) }
+    ensures placed { OnOk result (files.new.active.path_id ≡ kept.path_id) }
     ensures err { IfErr result (λ error. RotationLeaves (G.format layout.now) (G.own layout.now)
         (G.file_paths layout.now) (header_bytes new_files.now.format) files.old files.new error
         (F.disk file_system.old) (F.disk file_system.new)) }
@@ -106,6 +108,8 @@ fn go_into_new<G: PipeFormat, F: FileSystem, L: Log>(
         (header_bytes new_files.now.format) files.old files.new
         (F.disk file_system.old) (F.disk file_system.new)) }
     ensures turned { OnOk result (IsTurned new_files.now.format files.old files.new) }
+    ensures placed { OnOk result (IsChosen (F.tells_space file_system.old) (F.disk file_system.old)
+        new_files.now.target_size (G.file_paths layout.now).directories files.new.active.path_id) }
     ensures err { IfErr result (λ error. RotationLeaves (G.format layout.now) (G.own layout.now)
         (G.file_paths layout.now) (header_bytes new_files.now.format) files.old files.new error
         (F.disk file_system.old) (F.disk file_system.new)) }
@@ -157,6 +161,9 @@ pub fn rotate<G: PipeFormat, F: FileSystem, L: Log>(
         (header_bytes new_files.now.format) files.old files.new
         (F.disk file_system.old) (F.disk file_system.new)) }
     ensures turned { OnOk result (IsTurned new_files.now.format files.old files.new) }
+    ensures placed { OnOk result (IsPlaced (F.tells_space file_system.old) (F.disk file_system.old)
+        new_files.now.target_size (G.file_paths layout.now).directories files.old.recycled.items
+        files.new.active.path_id) }
     ensures err { IfErr result (λ error. RotationLeaves (G.format layout.now) (G.own layout.now)
         (G.file_paths layout.now) (header_bytes new_files.now.format) files.old files.new error
         (F.disk file_system.old) (F.disk file_system.new)) }

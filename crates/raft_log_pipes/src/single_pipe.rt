@@ -48,6 +48,7 @@ impl<G: PipeFormat> SinglePipe<G> {
     ghost use Rattle.raft_log_format.specs.Header.{header_bytes};
     ghost use Rattle.raft_log_pipes.specs.Appending.{AppendFails, AppendsAt};
     ghost use Rattle.raft_log_pipes.specs.Purging.{IsInSpan, IsRaised, PurgeLeaves, Purges};
+    ghost use Rattle.raft_log_pipes.specs.Placing.{IsPlaced};
     ghost use Rattle.raft_log_pipes.specs.Reading.{IsReadAt, IsReadRefused};
     ghost use Rattle.raft_log_pipes.specs.Exits.{FailsToSyncPipe, IsTurned, Rotates, RotationLeaves, SyncsPipe};
 
@@ -130,6 +131,10 @@ impl<G: PipeFormat> SinglePipe<G> {
             (B.signed bytes.old)
             self.old.files self.new.files block (F.disk file_system.old) (F.disk file_system.new)) }
         ensures place { IfOk result (λ block. block.offset < 2 ^ 63) }
+        ensures placed { self.old.settings.new_files.target_size ≤ self.old.files.writer.written
+            → OnOk result (IsPlaced (F.tells_space file_system.old) (F.disk file_system.old)
+            self.old.settings.new_files.target_size (G.file_paths self.old.layout).directories
+            self.old.files.recycled.items self.new.files.active.path_id) }
         ensures err { self.old.failed ≡ false → IfErr result (λ error.
             AppendFails (G.format self.old.layout) (G.own self.old.layout) (G.file_paths self.old.layout)
             self.old.settings.new_files self.old.settings.queue (B.signed bytes.old) self.old.files
@@ -202,6 +207,9 @@ impl<G: PipeFormat> SinglePipe<G> {
             self.old.files self.new.files (F.disk file_system.old) (F.disk file_system.new)) }
         ensures turned { OnOk result
             (IsTurned self.old.settings.new_files.format self.old.files self.new.files) }
+        ensures placed { OnOk result (IsPlaced (F.tells_space file_system.old) (F.disk file_system.old)
+            self.old.settings.new_files.target_size (G.file_paths self.old.layout).directories
+            self.old.files.recycled.items self.new.files.active.path_id) }
         ensures err { self.old.failed ≡ false → IfErr result (λ error.
             RotationLeaves (G.format self.old.layout) (G.own self.old.layout) (G.file_paths self.old.layout)
             (header_bytes self.old.settings.new_files.format) self.old.files self.new.files error
@@ -292,7 +300,8 @@ impl<G: PipeFormat> SinglePipe<G> {
 }
 
 impl<G: PipeFormat + Drop> SinglePipe<G> {
-    ghost use Rattle.std.specs.Prelude.{reverse};
+    ghost use Rattle.std.specs.Prelude.{[], reverse};
+    ghost use Rattle.raft_log_pipes.specs.Placing.{IsChosen};
     ghost use Rattle.raft_log_pipes.specs.Closing.{ClosesFiles, FinishesOrNot, LeavesClosed, ReservesAll, StaysLeft, greatest_reserved};
     ghost use Rattle.raft_log_pipes.specs.Opening.{OpenLeaves, Opens};
 
@@ -312,6 +321,9 @@ impl<G: PipeFormat + Drop> SinglePipe<G> {
     ) -> Result<SinglePipe<G>>
         ensures ok { IfOk result (λ pipe. Opens (G.format layout) (G.own layout) (G.file_paths layout)
             settings.new_files found pipe.files (F.disk file_system.old) (F.disk file_system.new)) }
+        ensures placed { found.files.items ≡ [] → IfOk result (λ pipe.
+            IsChosen (F.tells_space file_system.old) (F.disk file_system.old)
+            settings.new_files.target_size (G.file_paths layout).directories pipe.files.active.path_id) }
         ensures fields { IfOk result (λ pipe. (pipe.layout ≡ layout) × (pipe.settings ≡ settings)
             × (pipe.failed ≡ false)) }
         ensures err { IfErr result (λ error. OpenLeaves (G.format layout) (G.own layout)

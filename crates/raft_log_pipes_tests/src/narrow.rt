@@ -53,6 +53,8 @@ impl Narrow {
 impl FileSystem for Narrow {
     ghost disk = { λ system. disk_of system.files };
 
+    ghost tells_space = { λ system directory space. Unit {0} };
+
     fn create(&mut self, path: &str) -> Result<Handle, ErrorKind> {
         let handle = self.files.create(path)?;
         let _noted = self

@@ -68,6 +68,8 @@ impl<F: FileSystem> Watched<F> {
 impl<F: FileSystem> FileSystem for Watched<F> {
     ghost disk = { λ system. with_mark system.file system.place system.stopped (F.disk system.files) };
 
+    ghost tells_space = { λ system. F.tells_space system.files };
+
     fn create(&mut self, _path: &str) -> Result<Handle, ErrorKind> {
         self.stopped = true;
         Err(ErrorKind::Other)

@@ -28,7 +28,7 @@ use Rattle.raft_log_steps.specs.State.{Spanned, LogOnDisk, spanned_at, with_span
 use Rattle.raft_log_steps.specs.Crash.{AllowsIn}
 use Rattle.raft_log_steps.specs.Turning.{in_span}
 use Rattle.raft_log_steps.specs.Steps.{next_log}
-use Rattle.raft_log_steps.specs.Syncing.{SyncIsAStep, RefusedSyncIsAStep, RotationIsAStep, NotRotated, RefusedRotationIsAStep, raised_log, PurgeIsAStep, NotPurged, RefusedPurgeIsAStep}
+use Rattle.raft_log_steps.specs.Syncing.{SyncIsAStep, RotationIsAStep, NotRotated, RefusedRotationIsAStep, raised_log, PurgeIsAStep, NotPurged, RefusedPurgeIsAStep}
 use Rattle.raft_log_steps.proofs.Gaps.{with_past, past_there, gaps_stay, pipe_left}
 use Rattle.raft_log_steps.proofs.Numbers.{quiet_rotates, none_pending}
 use Rattle.raft_log_steps.proofs.OneQueue.{On}
@@ -108,21 +108,6 @@ module _ {R E V : Type 0} (log : TwoQueues R E V) where
         λ f ties.
             tie_on log two which p s (in_span q (synced q.files)) new f (from_at which f) (settled_files (queue_at which f)) run only ties
             (sync_one log.says layout told q.first s.disk q.files s.disk new gaps (from_at which f) (queue_at which f) (tie_at log two which s f ties)),
-      )
-
-  pub refused_sync_is_a_step : RefusedSyncIsAStep log
-  refused_sync_is_a_step two which p s run new sound fails =
-      let layout = layout_at which log in
-      let told = told_at log two which in
-      let q = spanned_at which s in
-      let runs = run_at log two which p s run in
-      let left = (fails s.disk q.files runs.pipe).1 in
-      let gaps = unsynced_gaps log.says layout told q.first s.disk (pipe_at which p) q.files s.disk new fails runs.pipe in (
-        left_on log two which p s run (in_span q q.files) new left,
-        λ f ties.
-            put_same log which f (AllowsIn log (next_log which s q.files new))
-            (allowed_on log two which p s run (in_span q q.files) new f (from_at which f) (queue_at which f) sound left ties
-            ((takes_numbered_steps log.says layout.format q.files (from_at which f) q.first s.disk (queue_at which f) (tie_at log two which s f ties)).elsewhere new gaps)),
       )
 
   pub rotation_is_a_step : RotationIsAStep log

@@ -3,7 +3,9 @@ use Rattle.std.proofs.Common.{◌≡◌, ◌⊎◌, ℕ, suc, List, [], ◌∷�
 use Rattle.raft_log_model.specs.Item.{Record}
 use Rattle.raft_log_machine.specs.Files.{FileQueue}
 use Rattle.raft_log_disk.specs.Disk.{Disk}
+use Rattle.raft_log_disk.specs.Causes.{Fails}
 use Rattle.raft_log_disk.specs.Chains.{Written}
+use Rattle.raft_log_disk.proofs.CauseLaws.{fails_after, fails_still}
 use Rattle.raft_log_disk.specs.LogQueue.{LogFiles, rotated}
 use Rattle.raft_log_base.specs.declared.errors.Error.{Error}
 use Rattle.raft_log_base.specs.declared.errors.Error.TheVariants as errors
@@ -28,6 +30,7 @@ use Rattle.raft_log_steps.specs.Queues.{QueueLayout, IsQueueLayout, SaysRecord}
 use Rattle.raft_log_steps.specs.State.{AreThere}
 use Rattle.raft_log_steps.specs.Turning.{IsOrGoesOn, HasTaken, IsCutBack}
 use Rattle.raft_log_steps.specs.Quiet.{QuietTo}
+use Rattle.raft_log_steps.specs.Steps.{TellsOfCall}
 use Rattle.raft_log_steps.proofs.Gaps.{with_past, past_there, gaps_stay, pipe_left}
 use Rattle.raft_log_steps.proofs.Numbers.{quiet_then, quiet_same, quiet_rotates, quiet_settles, takes_one}
 use Rattle.raft_log_steps.proofs.Spans.{span_is_there, there_within}
@@ -193,7 +196,23 @@ module _ {R E V : Type 0} (says : R → Record E V) (layout : QueueLayout R) (to
       → AppendFails layout.format layout.own layout.paths begin queue signed before after error old new → On layout base before q old → RefusedOne says layout first base (header_bytes begin.format) y before after q error old new
   refused_one begin queue signed y before after q error old new record_is (not_turned long leaves) is =
       turning_left (header_bytes begin.format) y before after q error old new (rotation_left (header_bytes begin.format) before after q error old new leaves is)
-  refused_one begin queue signed y before after q error old new record_is (not_written middle cut between short fault turning fails lists tells) is =
+  refused_one begin queue signed y before after q error old new record_is (not_written middle cut between short fault turning earlier fails lists tells later) is =
       let (p, turned, mid, quiet) = turn_one says layout told first base begin before middle q old between turning is in
       let w : Written R = record { bytes = signed (context_of queue middle); value = record_is.value } in
       write_refused begin y (signed (context_of queue middle)) fault before middle cut after q p w error old between short new (lists.first ∙ turned_first begin before middle old between turning) record_is.said (framed_one says layout told first base queue signed y middle p between record_is mid) refl turned mid quiet fails tells
+
+  -- behind such an error a file call has failed
+  pub rotation_failed : (header : List ℕ) (before after : PipeFiles) (q : LogFiles R) (error : Error) (old new : Disk) → RotationLeaves layout.format layout.own layout.paths header before after error old new → On layout base before q old → TellsOfCall error → Fails old new
+  rotation_failed header before after q errors.Memory old new leaves is of_call = absurd of_call
+  rotation_failed header before after q errors.NumberRange old new leaves is of_call = absurd of_call
+  rotation_failed header before after q errors.Failed old new fails is of_call = (let (stale, holds, stays, span) = fails base q is in stays.0)
+  rotation_failed header before after q _ old new leaves is of_call = absurd leaves
+
+  pub append_failed : (begin : NewFiles) (queue : LogQueue) (signed : LogFileContext → List ℕ) (y : Record E V) (before after : PipeFiles) (q : LogFiles R) (error : Error) (old new : Disk) → SaysRecord says layout queue signed y
+      → AppendFails layout.format layout.own layout.paths begin queue signed before after error old new → On layout base before q old → TellsOfCall error → Fails old new
+  append_failed begin queue signed y before after q error old new record_is (not_turned long leaves) is of_call = rotation_failed (header_bytes begin.format) before after q error old new leaves is of_call
+  append_failed begin queue signed y before after q error old new record_is (not_written middle cut between short fault turning earlier fails lists tells later) is of_call =
+      let (p, turned, mid, quiet) = turn_one says layout told first base begin before middle q old between turning is in
+      let w : Written R = record { bytes = signed (context_of queue middle); value = record_is.value } in
+      let (cause, left) = fails base p w (framed_one says layout told first base queue signed y middle p between record_is mid) refl mid in
+      fails_still old short new (fails_after old between short earlier cause) later

@@ -22,8 +22,8 @@ use Rattle.raft_log_steps.specs.Queues.{QueueLayout, TwoQueues, AreTwoQueues, la
 use Rattle.raft_log_steps.specs.State.{Spanned, LogOnDisk, spanned_at, with_spanned, Pipes, pipe_at, Run, HoldsBoth, Ties}
 use Rattle.raft_log_steps.specs.Turning.{in_span}
 use Rattle.raft_log_steps.specs.Crash.{AllowsIn}
-use Rattle.raft_log_steps.specs.Steps.{LeavesCutBack, LeavesWithout, NotAppended, RefusedAppendIsAStep}
-use Rattle.raft_log_steps.proofs.Refused.{RunsCutBack, RunsLeftOut, RefusedOne, refused_one}
+use Rattle.raft_log_steps.specs.Steps.{LeavesCutBack, LeavesWithout, NotAppended, RefusedAppendIsAStep, RefusedAppendHasFailed, RefusedRotationHasFailed}
+use Rattle.raft_log_steps.proofs.Refused.{RunsCutBack, RunsLeftOut, RefusedOne, refused_one, append_failed, rotation_failed}
 use Rattle.raft_log_steps.proofs.Numbers.{still_settled}
 use Rattle.raft_log_steps.proofs.Reading.{held_is_allowed}
 use Rattle.raft_log_steps.proofs.Lifts.{told_at, run_at, tie_at, run_on, hold_on, tie_on}
@@ -100,3 +100,13 @@ refused_append_is_a_step log two which p s run begin queue signed y says after e
     let runs = run_at log two which p s run in
     not_appended log two which p s run (header_bytes begin.format) y after error new sound first
     (refused_one log.says (layout_at which log) (told_at log two which) (spanned_at which s).first s.disk begin queue signed y (pipe_at which p) after (spanned_at which s).files error s.disk new says call runs.pipe)
+
+pub refused_append_has_failed : {R E V : Type 0} (log : TwoQueues R E V) → RefusedAppendHasFailed log
+refused_append_has_failed log two which p s run begin queue signed y says after error new call of_call =
+    let runs = run_at log two which p s run in
+    append_failed log.says (layout_at which log) (told_at log two which) (spanned_at which s).first s.disk begin queue signed y (pipe_at which p) after (spanned_at which s).files error s.disk new says call runs.pipe of_call
+
+pub refused_rotation_has_failed : {R E V : Type 0} (log : TwoQueues R E V) → RefusedRotationHasFailed log
+refused_rotation_has_failed log two which p s run header after error new call of_call =
+    let runs = run_at log two which p s run in
+    rotation_failed log.says (layout_at which log) (told_at log two which) (spanned_at which s).first s.disk header (pipe_at which p) after (spanned_at which s).files error s.disk new call runs.pipe of_call

@@ -1,7 +1,6 @@
--- How a log begins, and what is left of it by a crash, by a pipe that failed, and without its tables.
-use Rattle.std.proofs.Common.{◌≡◌, ℕ, zero, suc, Some, None, List, [], ◌∷◌, refl, sym, ◌∙◌, ap, subst, inr}
+-- How a log begins.
+use Rattle.std.proofs.Common.{◌≡◌, ℕ, zero, suc, Some, None, List, [], ◌∷◌, sym, ◌∙◌, ap, subst}
 use Rattle.raft_log_model.specs.Item.{Record}
-use Rattle.raft_log_model.specs.Groups.{taken}
 use Rattle.raft_log_machine.specs.Files.{LogFile}
 use Rattle.raft_log_disk.specs.Disk.{Disk}
 use Rattle.raft_log_disk.specs.Image.{IsImage}
@@ -11,20 +10,12 @@ use Rattle.raft_log_file_queue.specs.Bridge.{IsFileQueue}
 use Rattle.raft_log_file_queue.proofs.Beginning.{begins_numbered}
 use Rattle.raft_log_machine.specs.Files.{fresh_files}
 use Rattle.raft_log_file_queue.specs.Standing.{Names}
-use Rattle.raft_log_directory.specs.Model.{with_append, with_rewrite}
-use Rattle.raft_log_directory.specs.Moves.{Moved}
 use Rattle.raft_log_directory.specs.Images.{empty_file}
-use Rattle.raft_log_directory.specs.Log.{Follows}
 use Rattle.raft_log_directory.proofs.LogLaws.{nothing_is_log}
-use Rattle.raft_log_directory.proofs.Follows.{append_follows, rewrite_follows}
-use Rattle.raft_log_directory.proofs.CallLaws.{stands_log}
 use Rattle.raft_log_steps.specs.Queues.{TwoQueues}
 use Rattle.raft_log_steps.specs.State.{Spanned}
-use Rattle.raft_log_steps.specs.Crash.{IsReadAs, MayRead, readings_of, AllowsIn}
-use Rattle.raft_log_steps.specs.Beginning.{begun_queue, BegunLogIsEmpty, HasNoFile, NoFilesAreNothing, CrashLeavesALog, RunningLogIsALog, FailedLogIsALog}
-use Rattle.raft_log_steps.proofs.Reading.{held_is_allowed}
-use Rattle.raft_log_steps.proofs.Lifts.{run_holds}
-use Rattle.raft_log_steps.proofs.Stopped.{held_stops}
+use Rattle.raft_log_steps.specs.Crash.{IsReadAs, MayRead, readings_of}
+use Rattle.raft_log_steps.specs.Beginning.{begun_queue, BegunLogIsEmpty, HasNoFile, NoFilesAreNothing}
 
 -- Beginning.
 
@@ -52,45 +43,3 @@ no_files_are_nothing log s append_none rewrite_none = nothing_is_log (readings_o
   rewrite = no_file_is_read log.says log.rewrite.format image.rewrite.first s.disk image.disk rewrite_none left.disk;
   append = no_file_is_read log.says log.append.format image.append.first s.disk image.disk append_none left.disk;
 })
-
--- A crash.
-
-pub crash_leaves_a_log : {R E V : Type 0} (log : TwoQueues R E V) → CrashLeavesALog log
-crash_leaves_a_log log two s image held is append_chance rewrite_chance =
-    let (a, a_within, a_stopped, a_again) = held_stops log.append two.append s.append.files s.disk image is append_chance held.append in
-    let (r, r_within, r_stopped, r_again) = held_stops log.rewrite two.rewrite s.rewrite.files s.disk image is rewrite_chance held.rewrite in (
-      a,
-      r,
-      a_within,
-      r_within,
-      record { append = inr a_stopped; rewrite = inr r_stopped },
-      record { disk = is; append = append_chance; rewrite = rewrite_chance; append_first = refl; rewrite_first = refl },
-      λ later then_is append_first rewrite_first. record {
-        disk = then_is;
-        append = a_again later.disk then_is;
-        rewrite = r_again later.disk then_is;
-        append_first = append_first;
-        rewrite_first = rewrite_first;
-      },
-    )
-
--- Without the tables.
-
-pub running_log_is_a_log : {R E V : Type 0} (log : TwoQueues R E V) → RunningLogIsALog log
-running_log_is_a_log log two p s sound run v m pending at = stands_log (AllowsIn log s) v at.files m pending at.stands (held_is_allowed log two s at.files sound (run_holds log two p s run) at.there)
-
-pub failed_log_is_a_log : {R E V : Type 0} (log : TwoQueues R E V) → FailedLogIsALog log
-failed_log_is_a_log log = record {
-  append = λ s t v m pending at call.
-      (let a : Moved at.files.append_from at.files.append = (call at.files at.there).0 in
-      let w : Follows v at.files m pending a = append_follows v at.files m pending a at.stands in
-      record {
-        done = w.done;
-        rest = w.rest;
-        splits = w.splits;
-        log = stands_log (AllowsIn log t) v (with_append at.files a.from a.queue) (taken m w.done) w.rest w.stands (call at.files at.there).1;
-      });
-  rewrite = λ s t v m pending at call.
-      (let a : Moved at.files.rewrite_from at.files.rewrite = (call at.files at.there).0 in
-      stands_log (AllowsIn log t) v (with_rewrite at.files a.from a.queue) m pending (rewrite_follows v at.files m pending a at.stands) (call at.files at.there).1);
-}

@@ -2,6 +2,7 @@
 use Rattle.std.specs.Prelude.{◌≡◌, ℕ, ◌⊎◌, List}
 use Rattle.raft_log_model.specs.Item.{Record}
 use Rattle.raft_log_disk.specs.Disk.{Disk}
+use Rattle.raft_log_disk.specs.Causes.{Fails}
 use Rattle.raft_log_disk.specs.Image.{IsSound}
 use Rattle.raft_log_disk.specs.LogQueue.{LogFiles}
 use Rattle.raft_log_disk.specs.Touching.{TouchesOnlyNames}
@@ -12,6 +13,7 @@ use Rattle.raft_log_base.specs.declared.pipe_log.FileBlockHandle.{FileBlockHandl
 use Rattle.raft_log_base.specs.declared.pipe_log.LogFileContext.{LogFileContext}
 use Rattle.raft_log_format.specs.Header.{header_bytes}
 use Rattle.raft_log_pipes.specs.Appending.{AppendsAt, AppendFails}
+use Rattle.raft_log_pipes.specs.Exits.{RotationLeaves}
 use Rattle.raft_log_pipes.specs.declared.pipe_files.PipeFiles.{PipeFiles}
 use Rattle.raft_log_pipes.specs.declared.new_files.NewFiles.{NewFiles}
 use Rattle.raft_log_directory.specs.Calls.{Which, Appends, CutsBack, LeavesOut, MayAppend}
@@ -101,3 +103,28 @@ RefusedAppendIsAStep {R} {E} {V} log = AreTwoQueues log → (which : Which) (p :
     queue signed (pipe_at which p) after error s.disk new
     → after.first_seq ≡ (pipe_at which p).first_seq
     → NotAppended log which p s (header_bytes begin.format) y after error new
+
+-- the errors of a refused record, or rotation, that tell of a file call that was refused
+abbrev pub TellsOfCall : Error → Type 0
+TellsOfCall (errors.Io kind) = Unit {0}
+TellsOfCall (errors.TryAgain text) = Unit {0}
+TellsOfCall errors.Failed = Unit {0}
+TellsOfCall _ = ⊥
+
+-- behind such an error of a record a file call has failed
+abbrev pub RefusedAppendHasFailed : {R E V : Type 0} → TwoQueues R E V → Type 0
+RefusedAppendHasFailed {R} {E} {V} log = AreTwoQueues log → (which : Which) (p : Pipes) (s : LogOnDisk R)
+    → Run log p s → (begin : NewFiles) (queue : LogQueue) (signed : LogFileContext → List ℕ) (y : Record E V)
+    → SaysRecord log.says (layout_at which log) queue signed y
+    → (after : PipeFiles) (error : Error) (new : Disk)
+    → AppendFails (layout_at which log).format (layout_at which log).own (layout_at which log).paths begin
+    queue signed (pipe_at which p) after error s.disk new
+    → TellsOfCall error → Fails s.disk new
+
+-- and of a rotation
+abbrev pub RefusedRotationHasFailed : {R E V : Type 0} → TwoQueues R E V → Type 0
+RefusedRotationHasFailed {R} log = AreTwoQueues log → (which : Which) (p : Pipes) (s : LogOnDisk R)
+    → Run log p s → (header : List ℕ) (after : PipeFiles) (error : Error) (new : Disk)
+    → RotationLeaves (layout_at which log).format (layout_at which log).own (layout_at which log).paths header
+    (pipe_at which p) after error s.disk new
+    → TellsOfCall error → Fails s.disk new

@@ -7,11 +7,11 @@ use Rattle.raft_log_base.specs.declared.errors.Error.{Error}
 use Rattle.raft_log_base.specs.declared.errors.Error.TheVariants as errors
 use Rattle.raft_log_format.specs.declared.header.LogFileFormat.{LogFileFormat}
 use Rattle.raft_log_file_queue.specs.Queue.{synced}
-use Rattle.raft_log_pipes.specs.Exits.{IsTurned, Rotates, RotationLeaves, SyncsPipe, FailsToSyncPipe}
+use Rattle.raft_log_pipes.specs.Exits.{IsTurned, Rotates, RotationLeaves, SyncsPipe}
 use Rattle.raft_log_pipes.specs.Purging.{IsRaised, Purges, PurgeLeaves}
 use Rattle.raft_log_pipes.specs.declared.pipe_files.PipeFiles.{PipeFiles}
 use Rattle.raft_log_directory.specs.Model.{Files}
-use Rattle.raft_log_directory.specs.Calls.{Which, MovedIn, FailsWhole, Raises, Settles, Syncs, put}
+use Rattle.raft_log_directory.specs.Calls.{Which, MovedIn, Raises, Settles, Syncs, put}
 use Rattle.raft_log_steps.specs.Queues.{TwoQueues, AreTwoQueues, layout_at}
 use Rattle.raft_log_steps.specs.State.{LogOnDisk, spanned_at, with_spanned, Pipes, pipe_at, with_pipe, Run, HoldsBoth, Ties}
 use Rattle.raft_log_steps.specs.Crash.{AllowsIn}
@@ -26,15 +26,6 @@ SyncIsAStep {R} log = AreTwoQueues log → (which : Which) (p : Pipes) (s : LogO
     (pipe_at which p) s.disk new
     → Run log p (next_log which s (synced (spanned_at which s).files) new)
     × Syncs (Ties log) which s (next_log which s (synced (spanned_at which s).files) new)
-
--- one that is refused: what was there is held, and may be there
-abbrev pub RefusedSyncIsAStep : {R E V : Type 0} → TwoQueues R E V → Type 0
-RefusedSyncIsAStep {R} log = AreTwoQueues log → (which : Which) (p : Pipes) (s : LogOnDisk R) → Run log p s
-    → (new : Disk) → IsSound new
-    → FailsToSyncPipe (layout_at which log).format (layout_at which log).own (layout_at which log).paths
-    (pipe_at which p) s.disk new
-    → HoldsBoth log (next_log which s (spanned_at which s).files new)
-    × FailsWhole (Ties log) (AllowsIn log) s (next_log which s (spanned_at which s).files new)
 
 -- a rotation that is answered: both pipes run on, and all that was written to the queue is synced
 abbrev pub RotationIsAStep : {R E V : Type 0} → TwoQueues R E V → Type 0

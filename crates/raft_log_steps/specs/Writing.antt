@@ -1,24 +1,20 @@
--- What an engine says of its log, over the disk, once a batch was written or refused: the steps above, put
--- together with what stands in its tables.
-use Rattle.std.specs.Prelude.{◌≡◌, ℕ, ◌⊎◌, List, [], ◌∷◌, ◌++◌}
+-- What an engine says of its log, over the disk, once a batch was written: the steps above, put together with
+-- what stands in its tables.
+use Rattle.std.specs.Prelude.{◌≡◌, ℕ, List, [], ◌∷◌, ◌++◌}
 use Rattle.raft_log_model.specs.Item.{Record}
 use Rattle.raft_log_model.specs.Groups.{Map, taken}
 use Rattle.raft_log_disk.specs.Disk.{Disk}
-use Rattle.raft_log_disk.specs.Image.{IsSound}
-use Rattle.raft_log_base.specs.declared.errors.Error.{Error}
-use Rattle.raft_log_base.specs.declared.errors.Error.TheVariants as errors
 use Rattle.raft_log_base.specs.declared.pipe_log.LogQueue.{LogQueue}
 use Rattle.raft_log_base.specs.declared.pipe_log.FileBlockHandle.{FileBlockHandle}
 use Rattle.raft_log_base.specs.declared.pipe_log.LogFileContext.{LogFileContext}
-use Rattle.raft_log_pipes.specs.Appending.{AppendsAt, AppendFails}
+use Rattle.raft_log_pipes.specs.Appending.{AppendsAt}
 use Rattle.raft_log_pipes.specs.declared.pipe_files.PipeFiles.{PipeFiles}
 use Rattle.raft_log_pipes.specs.declared.new_files.NewFiles.{NewFiles}
 use Rattle.raft_log_directory.specs.Calls.Which.{InAppend}
-use Rattle.raft_log_directory.specs.Log.{View, IsAt, LogEnds}
+use Rattle.raft_log_directory.specs.Log.{View, IsAt}
 use Rattle.raft_log_directory.specs.Tables.{GrowsTo}
 use Rattle.raft_log_steps.specs.Queues.{TwoQueues, AreTwoQueues, SaysRecord}
-use Rattle.raft_log_steps.specs.State.{LogOnDisk, Pipes, with_pipe, Run, HoldsBoth, Ties}
-use Rattle.raft_log_steps.specs.Crash.{AllowsIn}
+use Rattle.raft_log_steps.specs.State.{LogOnDisk, Pipes, with_pipe, Run, Ties}
 
 -- On this disk the pipes run over some log, and the view is true of its numbered files.
 pub record IsAtOn {R E V : Type 0} (log : TwoQueues R E V) (p : Pipes) (d : Disk) (v : View E V) (m : Map E V)
@@ -36,14 +32,6 @@ pub record EndsOn {R E V : Type 0} (log : TwoQueues R E V) (p : Pipes) (d : Disk
   pub splits : done ++ rest ≡ pending
   pub at : IsAtOn log p d v (taken m done) rest
 
--- the same of a log whose records are held, and whose pipe has failed
-pub record LogEndsOn {R E V : Type 0} (log : TwoQueues R E V) (d : Disk) (m : Map E V)
-    (pending : List (Record E V)) : Type 0 where
-  pub state : LogOnDisk R
-  pub disk : state.disk ≡ d
-  pub held : HoldsBoth log state
-  pub ends : LogEnds (AllowsIn log state) m pending
-
 -- a batch that was written to Append is pending behind the others
 abbrev pub WrittenIsPending : {R E V : Type 0} → TwoQueues R E V → Type 0
 WrittenIsPending {R} {E} {V} log = AreTwoQueues log → (p : Pipes) (old new : Disk) (v u : View E V)
@@ -54,29 +42,3 @@ WrittenIsPending {R} {E} {V} log = AreTwoQueues log → (p : Pipes) (old new : D
     new
     → after.first_seq ≡ p.append.first_seq → GrowsTo y block.id.seq v u
     → EndsOn log (with_pipe InAppend p after) new u m (pending ++ y ∷ [])
-
--- what an engine says once a batch was refused, by the error: cut back, all batches before it are in the map;
--- left out, they are as before, some of them synced; and where the pipe has failed, it may be there or not
-abbrev pub NotWritten : {R E V : Type 0} → TwoQueues R E V → Pipes → PipeFiles → View E V → Map E V
-    → List (Record E V) → Record E V → Error → Disk → Type 0
-NotWritten log p after v m pending y (errors.Io kind) new =
-    IsAtOn log (with_pipe InAppend p after) new v (taken m pending) []
-NotWritten log p after v m pending y (errors.TryAgain text) new =
-    IsAtOn log (with_pipe InAppend p after) new v (taken m pending) []
-NotWritten log p after v m pending y errors.Memory new =
-    EndsOn log (with_pipe InAppend p after) new v m pending
-NotWritten log p after v m pending y errors.NumberRange new =
-    EndsOn log (with_pipe InAppend p after) new v m pending
-NotWritten log p after v m pending y errors.Failed new =
-    LogEndsOn log new m pending ⊎ LogEndsOn log new m (pending ++ y ∷ [])
-NotWritten log p after v m pending y _ new = ⊥
-
--- and so it is
-abbrev pub RefusedIsNotWritten : {R E V : Type 0} → TwoQueues R E V → Type 0
-RefusedIsNotWritten {R} {E} {V} log = AreTwoQueues log → (p : Pipes) (old new : Disk) (v : View E V)
-    (u : ℕ → View E V) (m : Map E V) (pending : List (Record E V)) → IsAtOn log p old v m pending
-    → (begin : NewFiles) (queue : LogQueue) (signed : LogFileContext → List ℕ) (y : Record E V)
-    → SaysRecord log.says log.append queue signed y → (after : PipeFiles) (error : Error) → IsSound new
-    → AppendFails log.append.format log.append.own log.append.paths begin queue signed p.append after error
-    old new → after.first_seq ≡ p.append.first_seq → ((n : ℕ) → GrowsTo y n v (u n))
-    → NotWritten log p after v m pending y error new

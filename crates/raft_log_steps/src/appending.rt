@@ -1,6 +1,6 @@
 //! A record is written to a queue, or refused.
 
-ghost use Rattle.raft_log_steps.specs.Steps.{AppendIsAStep, RefusedAppendIsAStep};
+ghost use Rattle.raft_log_steps.specs.Steps.{AppendIsAStep, RefusedAppendHasFailed, RefusedAppendIsAStep, RefusedRotationHasFailed};
 
 use crate::queues::LogQueues;
 
@@ -15,4 +15,15 @@ pub fn append_is_a_step<G: LogQueues>()
 /// files with the record, or without it.
 pub fn refused_append_is_a_step<G: LogQueues>()
     ensures { (log : G) → RefusedAppendIsAStep (G.queues log) }
+{}
+
+/// Behind a refused record that is told as `Io`, `TryAgain` or `Failed` a file call has failed: a failure was
+/// counted, or the file system has stopped.
+pub fn refused_append_has_failed<G: LogQueues>()
+    ensures { (log : G) → RefusedAppendHasFailed (G.queues log) }
+{}
+
+/// So it is of a refused rotation.
+pub fn refused_rotation_has_failed<G: LogQueues>()
+    ensures { (log : G) → RefusedRotationHasFailed (G.queues log) }
 {}

@@ -2,7 +2,6 @@
 
 ghost use Rattle.raft_log_steps.specs.Syncing.{
   RefusedRotationIsAStep,
-  RefusedSyncIsAStep,
   RotationIsAStep,
   SyncIsAStep,
 };
@@ -12,11 +11,6 @@ use crate::queues::LogQueues;
 /// A sync of one queue is one of its numbered files, and both pipes run on.
 pub fn sync_is_a_step<G: LogQueues>()
     ensures { (log : G) → SyncIsAStep (G.queues log) }
-{}
-
-/// Where a sync was refused, the images allow the numbered files as they were.
-pub fn refused_sync_is_a_step<G: LogQueues>()
-    ensures { (log : G) → RefusedSyncIsAStep (G.queues log) }
 {}
 
 /// A rotation of one queue settles its numbered files, and both pipes run on.

@@ -18,6 +18,8 @@ impl FileSystem for MemoryFileSystem {
 
     ghost disk = { disk_of };
 
+    ghost tells_space = { λ system directory space. space ≡ 18446744073709551615 };
+
     fn create(&mut self, path: &str) -> Result<Handle, ErrorKind>
         ensures ok { IfOk result (λ handle.
             Creates path.now handle.file (disk_of self.old) (disk_of self.new)) }
@@ -197,7 +199,7 @@ impl FileSystem for MemoryFileSystem {
     fn free_space(&self, directory: &str) -> Result<u64, ErrorKind>
         ensures ok { OnOk result ((disk_of self.now).directories directory.now ≡ true) }
         ensures err { IfErr result (λ error. IsNotListed directory.now (disk_of self.now) error) }
-        ensures room { IfOk result (λ free. free ≡ 18446744073709551615) }
+        ensures told { IfOk result (λ free. free ≡ 18446744073709551615) }
     {
         self.check_directory(directory)?;
         Ok(u64::MAX)

@@ -28,6 +28,6 @@ returns-in-Err-clause-err g c =
     let signed = g.B.ReactiveBytes.signed c.args.bytes.now in
     let context : c.new.result ≡ context_of c.args.queue c.turn_first.new.files = context_is c.args.queue c.turn_first.new.files c.new-id.result c.new.result c.new-id.ensures.queue c.new-id.ensures.seq c.new.ensures.id c.new.ensures.version in
     let is : c.as_bytes-record.result.now ≡ signed (context_of c.args.queue c.turn_first.new.files) = c.as_bytes-record.ensures ∙ c.sign.ensures.bytes ∙ ap signed context in
-    not_written c.turn_first.new.files c.add.new.files (D c.turn_first.new.file_system) (D c.add.new.file_system) c.in-Err.fault c.in_ok-turn_first.ensures.ok
+    not_written c.turn_first.new.files c.add.new.files (D c.turn_first.new.file_system) (D c.add.new.file_system) c.in-Err.fault c.in_ok-turn_first.ensures.ok c.turn_first.ensures.later
     (subst (λ (bytes : List ℕ). FailsToAdd (g.G.PipeFormat.format c.args.layout.now) (g.G.PipeFormat.own c.args.layout.now) (g.G.PipeFormat.file_paths c.args.layout.now) bytes c.in-Err.fault c.turn_first.new.files c.add.new.files (D c.turn_first.new.file_system) (D c.add.new.file_system)) is c.in-Err.ensures.err)
-    c.add.ensures.lists c.tell_fault.ensures.left
+    c.add.ensures.lists c.tell_fault.ensures.left c.tell_fault.ensures.later

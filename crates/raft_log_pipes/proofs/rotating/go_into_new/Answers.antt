@@ -3,6 +3,7 @@ use Rattle.raft_log_file.specs.declared.writer.LogFileWriter.{LogFileWriter}
 use Rattle.raft_log_files.specs.Rotation.{RotatesToNew}
 use Rattle.raft_log_format.specs.Header.{header_bytes}
 use Rattle.raft_log_pipes.specs.Files.{Listed}
+use Rattle.raft_log_pipes.specs.Placing.{IsChosen}
 use Rattle.raft_log_pipes.proofs.Turning.{IsNext, IsTurnedTo, new_refused, new_done}
 use Rattle.raft_log_pipes.proofs.rotating.go_into_new.Goals as goal
 
@@ -26,3 +27,9 @@ returns-in-Ok-clause-ok g c =
     (g.met.F.FileSystem.sound c.rotate_to_new.new.file_system) (c.deref.ensures ∙ c.in_ok-path.ensures.ok) c.header-header.ensures.bytes c.requires.none is_next refl turns
     (subst (λ (w : LogFileWriter). RotatesToNew (g.G.PipeFormat.format c.args.layout.now) (g.G.PipeFormat.own c.args.layout.now) c.header-header.result.now c.deref.result.now c.args.files.now.writer w c.in-Ok.handle
     (D c.args.file_system.now) (D c.rotate_to_new.new.file_system)) (sym c.turn_to.ensures.writer) c.in-Ok.ensures.ok) c.in-Ok.ensures.files
+
+pub returns-in-Ok-clause-placed : goal.returns-in-Ok-clause-placed
+returns-in-Ok-clause-placed g c =
+    let tells = g.F.FileSystem.tells_space c.args.file_system.now in
+    let directories = (g.G.PipeFormat.file_paths c.args.layout.now).directories in
+    subst (λ (f : Listed). IsChosen tells (g.F.FileSystem.disk c.args.file_system.now) c.args.new_files.now.target_size directories f.path_id) (sym c.turn_to.ensures.active) c.in_ok-path_id.ensures.ok

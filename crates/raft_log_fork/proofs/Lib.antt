@@ -1,3 +1,8 @@
 pub mod Adds
 pub mod Making
 pub mod CopyingLemmas
+pub mod Lasts
+pub mod Names
+pub mod CopyingAll
+pub mod Permitting
+pub mod Finding

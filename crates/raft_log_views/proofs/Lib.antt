@@ -1,5 +1,5 @@
-mod Carrying
-mod Ending
+pub mod Carrying
+pub mod Ending
 mod Fitting
 pub mod Growing
 pub mod Lying

@@ -1,0 +1,6 @@
+//! Which parts of a log a purge takes up.
+#![tactic(auto)]
+
+pub mod watermarks;
+
+pub use watermarks::{Watermarks, append_watermarks, takes_append, takes_rewrite};

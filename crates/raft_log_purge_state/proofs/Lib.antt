@@ -1,0 +1,4 @@
+pub mod Settling
+pub mod Raising
+pub mod Rewriting
+pub mod Copying

@@ -1,0 +1,171 @@
+-- A record that is written to Rewrite, or refused there, goes on with an engine's log.
+use Rattle.std.proofs.Common.{◌≡◌, ℕ, ◌≤◌, Bool, true, false, if◌then◌else◌, nat_lt, None, List, [], ◌∷◌, ◌++◌, map, inl, inr, refl, sym, ap, subst, ◌∙◌, arith}
+use Rattle.std.specs.Prelude.{unwrap_or}
+use Rattle.raft_log_model.specs.Item.{Item, Record, Tagged}
+use Rattle.raft_log_model.specs.Item.Item.{Clean, Compact, Del}
+use Rattle.raft_log_model.specs.Item.Record.{Plain}
+use Rattle.raft_log_model.specs.Groups.{of_group, taken}
+use Rattle.raft_log_model.specs.Renamed.{renamed, renamed_tagged}
+use Rattle.raft_log_model.proofs.RenamedLaws.{of_group_renamed}
+use Rattle.raft_log_disk.specs.LogQueue.{LogFiles}
+use Rattle.raft_log_base.specs.declared.errors.Error.{Error}
+use Rattle.raft_log_base.specs.declared.errors.Error.TheVariants as errors
+use Rattle.raft_log_base.specs.declared.pipe_log.LogQueue.TheVariants.{Rewrite}
+use Rattle.raft_log_base.specs.declared.pipe_log.FileBlockHandle.{FileBlockHandle}
+use Rattle.raft_log_items.specs.declared.entry.EntryIndex.{EntryIndex}
+use Rattle.raft_log_layout.specs.declared.record.LogRecord.{LogRecord}
+use Rattle.raft_log_machine.specs.Whereabouts.{top}
+use Rattle.raft_log_atomic_groups.specs.declared.marking.Marking.{Marking}
+use Rattle.raft_log_atomic_groups.specs.declared.marking.Marking.TheVariants.{Unmarked}
+use Rattle.raft_log_atomic_groups.specs.Meaning.{marked, tagged_items}
+use Rattle.raft_log_records.specs.Batch.{Batch}
+use Rattle.raft_log_records.specs.Places.{entry_bytes}
+use Rattle.raft_log_signed_batch.specs.Signing.{signed_for}
+use Rattle.raft_log_directory.specs.Calls.{Appends, MayAppend}
+use Rattle.raft_log_directory.specs.Calls.Which.{InRewrite}
+use Rattle.raft_log_directory.specs.Log.{IsAt, IsSettled, View}
+use Rattle.raft_log_directory.specs.Tables.{CarriesTo}
+use Rattle.raft_log_directory.proofs.CallLaws.{copies_answered, copies_may_be_there, rewrite_left_out}
+use Rattle.raft_log_directory.proofs.SettledLaws.{cut_back_settles, rewrite_settles}
+use Rattle.raft_log_places.specs.Shown.{Shown}
+use Rattle.raft_log_places.specs.Bridge.{AllOwed, dels, marks, unmarked, without}
+use Rattle.raft_log_replay.specs.Owing.{AreOwedAt}
+use Rattle.raft_log_replay.proofs.Applied.{items_renamed}
+use Rattle.raft_log_steps.specs.Crash.{AllowsIn}
+use Rattle.raft_log_steps.specs.Queues.{SaysRecord}
+use Rattle.raft_log_steps.specs.Own.{log_layout}
+use Rattle.raft_log_steps.specs.Lying.{both_open, with_open}
+use Rattle.raft_log_steps.specs.State.{Ties}
+use Rattle.raft_log_steps.specs.Steps.{next_log}
+use Rattle.raft_log_steps.specs.Turning.{HasLast}
+use Rattle.raft_log_stored.specs.Stored.{AreStored, KeepsBytes, entries_at}
+use Rattle.raft_log_stored.proofs.Keeping.{calls_keep_bytes, calls_keep_log}
+use Rattle.raft_log_stored.proofs.Staying.{stored_entries_stay}
+use Rattle.raft_log_views.specs.Views.{AreMeant, ViewCarries, view_of}
+use Rattle.raft_log_views.proofs.Carrying.{marks_on}
+use Rattle.raft_log_dual_pipes.specs.Pipes.{RunsOn, Said, State, files_of}
+use Rattle.raft_log_dual_pipes.specs.Calls.{AppendsTo, FailsToAppendTo, LeavesOutOn}
+use Rattle.raft_log_engine_state.specs.Shows.{Home, LogMap, Shows, log_in, said_by, said_of, sense}
+use Rattle.raft_log_engine_state.specs.Holding.{Holds, IsLeftAt}
+use Rattle.raft_log_engine_state.proofs.Growing.{read_is_said}
+use Rattle.raft_log_purge_state.specs.Rewriting.{CountsAlone, RewriteLeaves, SaysOwed}
+use Rattle.raft_log_purge_state.specs.Settled.{HoldsSettled}
+use Rattle.raft_log_purge_state.proofs.Settling.{held_on, left_whole, settled_on}
+
+-- What a batch that counts by itself says.
+
+-- the items of a batch, each entry told by its bytes
+abbrev pub bytes_of : Batch → List (Tagged (List ℕ) (List ℕ))
+bytes_of b = tagged_items (entry_bytes b.entries) b.items
+
+pub said_alone : (b : Batch) → CountsAlone b → said_of b ≡ Plain (bytes_of b)
+said_alone b alone = ap (λ (k : Marking). unwrap_or (marked k (bytes_of b)) (Plain [])) alone.plain
+
+-- its record says it
+says_alone : (home : Home) (b : Batch) → CountsAlone b → SaysRecord said_by (log_layout Rewrite home.rewrite) Rewrite (signed_for b) (Plain (bytes_of b))
+says_alone home b alone =
+    subst (λ (y : Said). SaysRecord said_by (log_layout Rewrite home.rewrite) Rewrite (signed_for b) y) (read_is_said b alone.laid ∙ said_alone b alone)
+    (alone.says alone.some said_by Rewrite home.rewrite)
+
+-- Refused.
+
+left_out : (home : Home) (e t : Shows) (m : LogMap) (h : Holds home e m []) → t.tables ≡ e.tables → LeavesOutOn (sense home) InRewrite h.state e.pipes t.pipes → Holds home t m []
+left_out home e t m h same call =
+    let s = h.state in
+    let (files, left, runs, step) = call in
+    let keeps : KeepsBytes s.rewrite.files files = elim left [
+      | inl is ↦ subst (λ (q : LogFiles LogRecord). KeepsBytes s.rewrite.files q) (sym is) ((calls_keep_bytes {R = LogRecord}).same s.rewrite.files)
+      | inr cut ↦ (calls_keep_bytes {R = LogRecord}).cut_back _ _ _ s.rewrite.files files cut
+    ] in
+    held_on home e t InRewrite s h.map h.stored h.meant same files keeps runs m []
+    (rewrite_left_out (Ties (log_in home)) (AllowsIn (log_in home)) s (next_log InRewrite s files t.pipes.disk) (view_of e.tables h.map) m [] h.at step)
+
+pub record_refused : (home : Home) (e t : Shows) (b : Batch) (m : LogMap) (error : Error) (h : Holds home e m []) → CountsAlone b → t.tables ≡ e.tables → (u : ℕ → View (List ℕ) (List ℕ))
+    → ((n : ℕ) → CarriesTo (bytes_of b) n (view_of e.tables h.map) (u n)) → FailsToAppendTo InRewrite (signed_for b) error e.pipes t.pipes → RewriteLeaves home m t error
+record_refused home e t b m (errors.Io kind) h alone same u carry call =
+    let s = h.state in
+    let (files, cut, runs, step) = call (sense home) s (Plain (bytes_of b)) h.runs (says_alone home b alone) in
+    settled_on home e t InRewrite s h.map h.stored h.meant same files ((calls_keep_bytes {R = LogRecord}).cut_back _ _ _ s.rewrite.files files cut) runs m
+    (rewrite_settles (Ties (log_in home)) s (next_log InRewrite s files t.pipes.disk) (view_of e.tables h.map) m
+    (cut_back_settles (Ties (log_in home)) s (next_log InRewrite s files t.pipes.disk) InRewrite step) h.at)
+record_refused home e t b m (errors.TryAgain text) h alone same u carry call =
+    let s = h.state in
+    let (files, cut, runs, step) = call (sense home) s (Plain (bytes_of b)) h.runs (says_alone home b alone) in
+    settled_on home e t InRewrite s h.map h.stored h.meant same files ((calls_keep_bytes {R = LogRecord}).cut_back _ _ _ s.rewrite.files files cut) runs m
+    (rewrite_settles (Ties (log_in home)) s (next_log InRewrite s files t.pipes.disk) (view_of e.tables h.map) m
+    (cut_back_settles (Ties (log_in home)) s (next_log InRewrite s files t.pipes.disk) InRewrite step) h.at)
+record_refused home e t b m errors.NumberRange h alone same u carry call = left_out home e t m h same (call (sense home) h.state (Plain (bytes_of b)) h.runs (says_alone home b alone))
+record_refused home e t b m errors.Memory h alone same u carry call = left_out home e t m h same (call (sense home) h.state (Plain (bytes_of b)) h.runs (says_alone home b alone))
+record_refused home e t b m errors.Failed h alone same u carry call =
+    let s = h.state in
+    let (files, goes, stands, may) = call (sense home) s (Plain (bytes_of b)) h.runs (says_alone home b alone) in
+    let next : State = next_log InRewrite s files t.pipes.disk in
+    left_whole home (with_open InRewrite (both_open (files_of e.pipes)) None) next m [] stands
+    (copies_may_be_there (Ties (log_in home)) (Ties (log_in home)) s next (view_of e.tables h.map) m u (bytes_of b) may carry h.at)
+record_refused home e t b m _ h alone same u carry call = call (sense home) h.state (Plain (bytes_of b)) h.runs (says_alone home b alone)
+
+-- Written.
+
+-- the tables show what the record makes of them
+pub record_written : (home : Home) (e t : Shows) (b : Batch) (block : FileBlockHandle) (m : LogMap) (h : Holds home e m []) → CountsAlone b → (call : AppendsTo InRewrite (signed_for b) block e.pipes t.pipes)
+    → (u : ℕ → Shown) → t.tables ≡ u
+    → ((s : State) (r : LogRecord) → HasLast (signed_for b) r block s.rewrite.files → s.rewrite.first ≤ s.rewrite.files.last → AreStored s e.tables → AreMeant (entries_at s) e.tables h.map
+    → AreStored s u × ViewCarries (entries_at s) block.id.seq e.tables u h.map (bytes_of b)) → Holds home t m []
+record_written home e t b block m h alone call u same carry =
+    let s = h.state in
+    let (files, has, last, runs, step) = (call (sense home) s (Plain (bytes_of b)) h.runs (says_alone home b alone)).1 in
+    let next : State = next_log InRewrite s files t.pipes.disk in
+    let keeps = (calls_keep_bytes {R = LogRecord}).taken _ _ _ s.rewrite.files files has in
+    let stays = stored_entries_stay s next (calls_keep_log InRewrite s files t.pipes.disk keeps) e.tables h.stored in
+    let above = h.at.there.rewrite.above in
+    let (stored, view) = carry next (says_alone home b alone).value last (omega (arith, above, keeps.last)) stays.0 (stays.1 h.map h.meant) in record {
+      state = next;
+      map = h.map;
+      runs = runs;
+      stored = subst (λ v. AreStored next v) (sym same) stored;
+      meant = subst (λ v. AreMeant (entries_at next) v h.map) (sym same) view.meant;
+      at = subst (λ v. IsAt (Ties (log_in home) next) (view_of v h.map) m []) (sym same)
+          (copies_answered (Ties (log_in home)) (AllowsIn (log_in home)) s next (view_of e.tables h.map) m (view_of u h.map) (bytes_of b) block.id.seq step view.carries h.at);
+    }
+
+-- Marks.
+
+marks_renamed : {E : Type 0} (f : EntryIndex → E) (v : Shown) (ks : List (List ℕ)) → map (renamed f) (marks v ks) ≡ marks v ks
+marks_renamed {E = E} f v ks = clean v.cleaned v.compacted (if nat_lt 0 v.rewritten then v.first else top)
+  where
+    deletes : (ls : List (List ℕ)) → ◌≡◌ {A = List (Item E (List ℕ))} (map (renamed f) (dels ls)) (dels ls)
+    deletes [] = refl
+    deletes (l ∷ ls) = ap (λ (xs : List (Item E (List ℕ))). Del l ∷ xs) (deletes ls)
+
+    compact : (b : Bool) (index : ℕ)
+        → ◌≡◌ {A = List (Item E (List ℕ))} (map (renamed f) ((if b then Compact index ∷ [] else []) ++ dels ks)) ((if b then Compact index ∷ [] else []) ++ dels ks)
+    compact true index = ap (λ (xs : List (Item E (List ℕ))). Compact index ∷ xs) (deletes ks)
+    compact false index = deletes ks
+
+    clean : (a b : Bool) (index : ℕ)
+        → ◌≡◌ {A = List (Item E (List ℕ))} (map (renamed f) ((if a then Clean ∷ [] else []) ++ ((if b then Compact index ∷ [] else []) ++ dels ks)))
+        ((if a then Clean ∷ [] else []) ++ ((if b then Compact index ∷ [] else []) ++ dels ks))
+    clean true b index = ap (λ (xs : List (Item E (List ℕ))). Clean ∷ xs) (compact b index)
+    clean false b index = compact b index
+
+-- of each group the batch says its marks
+marks_said : (b : Batch) (v : ℕ → Shown) (owed : (g : ℕ) → AreOwedAt (v g) (of_group g (tagged_items (λ e. e) b.items))) (g : ℕ) → of_group g (bytes_of b) ≡ marks (v g) (owed g).0
+marks_said b v owed g =
+    ap (of_group g) (sym (items_renamed (entry_bytes b.entries) b.items))
+    ∙ (of_group_renamed (entry_bytes b.entries) g (tagged_items (λ e. e) b.items)
+    ∙ (ap (map (renamed (entry_bytes b.entries))) (owed g).2 ∙ marks_renamed (entry_bytes b.entries) (v g) (owed g).0))
+
+marks_carried : (home : Home) (e : Shows) (b : Batch) (s : State) (n : ℕ) (map : LogMap) → SaysOwed b e.tables → AreMeant (entries_at s) e.tables map
+    → ViewCarries (entries_at s) n e.tables (λ g. unmarked (e.tables g)) map (bytes_of b)
+marks_carried home e b s n map says meant =
+    marks_on (entries_at s) n e.tables map (λ g. (says.owed g).0) (bytes_of b) meant (λ g. (says.owed g).1.owed) (λ g. (says.owed g).1.all) (marks_said b e.tables says.owed)
+
+pub marks_written : (home : Home) (e t : Shows) (b : Batch) (block : FileBlockHandle) (m : LogMap) → Holds home e m [] → SaysOwed b e.tables → AppendsTo InRewrite (signed_for b) block e.pipes t.pipes
+    → t.tables ≡ (λ g. unmarked (e.tables g)) → Holds home t m []
+marks_written home e t b block m h says call same =
+    record_written home e t b block m h says.alone call (λ g. unmarked (e.tables g)) same (λ s r last spans stored meant. (λ g. stored g, marks_carried home e b s block.id.seq h.map says meant))
+
+pub marks_refused : (home : Home) (e t : Shows) (b : Batch) (m : LogMap) (error : Error) → Holds home e m [] → SaysOwed b e.tables → t.tables ≡ e.tables
+    → FailsToAppendTo InRewrite (signed_for b) error e.pipes t.pipes → RewriteLeaves home m t error
+marks_refused home e t b m error h says same call =
+    record_refused home e t b m error h says.alone same (λ n. view_of (λ g. unmarked (e.tables g)) h.map) (λ n. (marks_carried home e b h.state n h.map says h.meant).carries) call

@@ -1,0 +1,4 @@
+pub mod Settled
+pub mod Quiet
+pub mod Raising
+pub mod Rewriting

@@ -73,6 +73,8 @@ module _ (log : LogSense) (m : Map (List ℕ) (List ℕ)) (append rewrite : Foun
         };
         append_synced = o.append_synced;
         rewrite_synced = o.rewrite_synced;
+        append_goes_on = o.append_goes_on;
+        rewrite_goes_on = o.rewrite_goes_on;
         reads = o.reads;
         holds = o.holds;
       }

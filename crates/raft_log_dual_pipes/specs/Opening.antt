@@ -14,7 +14,7 @@ use Rattle.raft_log_steps.specs.Own.{log_layout}
 use Rattle.raft_log_steps.specs.Queues.{QueueLayout}
 use Rattle.raft_log_steps.specs.State.{Ties}
 use Rattle.raft_log_steps.specs.Lying.{none_open}
-use Rattle.raft_log_steps.specs.Reopening.{IsFoundOf, ReadsBothAgain}
+use Rattle.raft_log_steps.specs.Reopening.{GoesOnFound, IsFoundOf, ReadsBothAgain}
 use Rattle.raft_log_steps.specs.OnDisk.{LogLiesOn, LogRestsOn}
 use Rattle.raft_log_dual_pipes.specs.Pipes.{LogPipes, LogSense, RunsOn, State, queues}
 use Rattle.raft_log_dual_pipes.specs.declared.opening.FoundPipe.{FoundPipe}
@@ -54,6 +54,8 @@ pub record RunsAsFound (log : LogSense) (m : Map (List ℕ) (List ℕ)) (was : S
   pub runs : RunsOn log v state
   pub append_synced : state.append.files.pending ≡ []
   pub rewrite_synced : state.rewrite.files.pending ≡ []
+  pub append_goes_on : GoesOnFound v.append.files was.append.files state.append.files
+  pub rewrite_goes_on : GoesOnFound v.rewrite.files was.rewrite.files state.rewrite.files
   pub reads : ReadsBothAgain (Ties (queues log)) was state
   pub holds : IsLog (Ties (queues log) state) m []
 

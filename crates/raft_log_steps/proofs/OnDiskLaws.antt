@@ -26,7 +26,7 @@ use Rattle.raft_log_steps.specs.Beginning.{begun_queue, stopped_log}
 use Rattle.raft_log_steps.specs.Steps.{next_log}
 use Rattle.raft_log_steps.specs.Writing.{IsAtOn}
 use Rattle.raft_log_steps.specs.Lying.{OpenPipes, none_open, both_open, with_open, RunOrLie}
-use Rattle.raft_log_steps.specs.Reopening.{ReadsAgain, ReadsBothAgain, RestBoth, IsFoundOf, found_log, LeavesUnopened, OpensBeside, FoundLogIsALog}
+use Rattle.raft_log_steps.specs.Reopening.{GoesOnFound, ReadsAgain, ReadsBothAgain, RestBoth, IsFoundOf, found_log, LeavesUnopened, OpensBeside, FoundLogIsALog}
 use Rattle.raft_log_steps.specs.Reopening.IsFoundOf.{unbegun}
 use Rattle.raft_log_steps.specs.OnDisk.{LogLiesOn, LogRestsOn, LogsGoOn, LogsGoOnDisks, LogOpenedOn, OpensBoth, RestingLogsOpen}
 use Rattle.raft_log_steps.proofs.Wholes.{begun_log_is_empty}
@@ -175,8 +175,11 @@ module _ {R E V : Type 0} (log : TwoQueues R E V) (two : AreTwoQueues log) (d : 
     abbrev one_open : OpenPipes
     one_open = record { append = Some one; rewrite = None }
 
+    t_goes_on : GoesOnFound one s.append.files t.append.files
+    t_goes_on = (first_open.answered one mid opens_there).1
+
     t_synced : t.append.files.pending ≡ []
-    t_synced = (first_open.answered one mid opens_there).1
+    t_synced = t_goes_on.pending
 
     t_stands : RunOrLie log one_open t
     t_stands = (first_open.answered one mid opens_there).2
@@ -197,14 +200,16 @@ module _ {R E V : Type 0} (log : TwoQueues R E V) (two : AreTwoQueues log) (d : 
 
     both : (other : PipeFiles) (new : Disk) → Opens log.rewrite.format log.rewrite.own log.rewrite.paths next rewrite other mid new → LogOpenedOn log (record { append = one; rewrite = other }) s new m
     both other new calls =
-        let (q, synced, stands, reads) = second_open.answered other new calls in
+        let (q, goes_on, stands, reads) = second_open.answered other new calls in
         let u : LogOnDisk R = found_log InRewrite t other.first_seq q new in
         record {
           state = u;
           disk = refl;
           run = record { append = stands.append; rewrite = stands.rewrite };
           append_synced = t_synced;
-          rewrite_synced = synced;
+          rewrite_synced = goes_on.pending;
+          append_goes_on = t_goes_on;
+          rewrite_goes_on = goes_on;
           reads = (found_log_is_a_log log).append_first s t u t_reads reads;
           holds = read_then log two InRewrite t other.first_seq q new m t_synced h.rewrite_synced reads t_holds;
         }

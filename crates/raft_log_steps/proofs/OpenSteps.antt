@@ -7,7 +7,7 @@ use Rattle.raft_log_disk.specs.Disk.{File, Disk}
 use Rattle.raft_log_disk.specs.LogFormat.{HasHeader}
 use Rattle.raft_log_disk.specs.Image.{IsSound}
 use Rattle.raft_log_disk.specs.KeepsSynced.{kept_records}
-use Rattle.raft_log_disk.specs.LogQueue.{Past, LogFiles, IsLeftover, IsAbsent}
+use Rattle.raft_log_disk.specs.LogQueue.{Past, LogFiles, recent, IsLeftover, IsAbsent}
 use Rattle.raft_log_disk.specs.Touching.{HasFile, TouchesOnlyNames}
 use Rattle.raft_log_disk.proofs.TouchingLaws.{names_same}
 use Rattle.raft_log_base.specs.declared.errors.Error.{Error}
@@ -34,7 +34,7 @@ use Rattle.raft_log_steps.specs.State.{Spanned, LogOnDisk, spanned_at, IsStopped
 use Rattle.raft_log_steps.specs.Steps.{next_log}
 use Rattle.raft_log_steps.specs.Turning.{in_span}
 use Rattle.raft_log_steps.specs.Lying.{IsUnbegun, OpenPipes, with_open, RunOrLie}
-use Rattle.raft_log_steps.specs.Reopening.{ReadsAgain, AreFound, IsFoundOf, found_log, LeavesUnopened, OpensBeside, OpenIsAStep}
+use Rattle.raft_log_steps.specs.Reopening.{ReadsAgain, AreFound, GoesOnFound, IsFoundOf, found_log, LeavesUnopened, OpensBeside, OpenIsAStep}
 use Rattle.raft_log_steps.specs.Reopening.IsFoundOf.{stopped, unbegun}
 use Rattle.raft_log_steps.proofs.Lifts.{told_at}
 use Rattle.raft_log_steps.proofs.AppendStep.{pipe_rebased}
@@ -177,7 +177,7 @@ module _ {R E V : Type 0} (log : TwoQueues R E V) (two : AreTwoQueues log) (whic
   told = told_at log two which
 
   abbrev Answered : PipeFiles → Disk → Type 0
-  Answered files new = (p : LogFiles R) × (p.pending ≡ []) × RunOrLie log (with_open which o (Some files)) (found_log which s files.first_seq p new) × ReadsAgain (Ties log) which s (found_log which s files.first_seq p new)
+  Answered files new = (p : LogFiles R) × GoesOnFound files q.files p × RunOrLie log (with_open which o (Some files)) (found_log which s files.first_seq p new) × ReadsAgain (Ties log) which s (found_log which s files.first_seq p new)
 
   abbrev Refused : Disk → Type 0
   Refused new = (p : LogFiles R) × (p.pending ≡ []) × RunOrLie log (with_open which o None) (next_log which s p new) × ReadsAgain (Ties log) which s (next_log which s p new)
@@ -208,7 +208,7 @@ module _ {R E V : Type 0} (log : TwoQueues R E V) (two : AreTwoQueues log) (whic
         let first : files.first_seq ≡ first_number earlier last = listed.first ∙ first_taken earlier found.end last in
         let bound = left.stands.bound in (
           p,
-          refl,
+          record { older = refl; last = refl; header = refl; durable = refl; pending = refl },
           runs_found files p new pipe,
           read_on log two which o None s p files.first_seq (length q.files.pending) new is pipe.active.stands.others gaps
               (λ low f all. (let above = found_above layout told log.says q s.disk (first_number earlier last) low earlier f bound scanned.span all in omega (arith, above, first)))
@@ -257,7 +257,16 @@ module _ {R E V : Type 0} (log : TwoQueues R E V) (two : AreTwoQueues log) (whic
     begun_so files new begun listed =
         let (room, pipe, absent) = begun s.disk older (record { fresh = none.fresh; spares = spares }) in
         let p = with_room room (fresh_queue older (header_bytes begin.format)) in
-        (p, refl, runs_found files p new pipe, same_queue p files.first_seq new refl refl refl refl listed.first pipe.active.stands.others absent)
+        let q_is = none.is.3 in
+        let on : GoesOnFound files q.files p =
+        record {
+          older = sym (ap (λ (x : Spanned R). x.files.older) q_is);
+          last = sym (ap (λ (x : Spanned R). x.files.last) q_is);
+          header = ap header_bytes (sym listed.format_is);
+          durable = sym (ap (λ (x : Spanned R). recent x.files) q_is);
+          pending = refl;
+        } in
+        (p, on, runs_found files p new pipe, same_queue p files.first_seq new refl refl refl refl listed.first pipe.active.stands.others absent)
 
     half_so : (new : Disk) → IsHalfBegun layout.format layout.own s.disk (fresh_queue older (header_bytes begin.format)) new → IsAbsent layout.format 0 new → Refused new
     half_so new half absent = elim half [

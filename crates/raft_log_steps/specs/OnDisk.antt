@@ -17,7 +17,7 @@ use Rattle.raft_log_steps.specs.Queues.{TwoQueues, AreTwoQueues}
 use Rattle.raft_log_steps.specs.State.{LogOnDisk, Pipes, Run, Ties}
 use Rattle.raft_log_steps.specs.Crash.{readings_of}
 use Rattle.raft_log_steps.specs.Lying.{OpenPipes, none_open, both_open, RunOrLie}
-use Rattle.raft_log_steps.specs.Reopening.{ReadsBothAgain, RestBoth, IsFoundOf}
+use Rattle.raft_log_steps.specs.Reopening.{GoesOnFound, ReadsBothAgain, RestBoth, IsFoundOf}
 use Rattle.raft_log_steps.specs.Writing.{IsAtOn}
 
 -- Some log lies on the disk, whose pipes stand so: it is this map, with these batches pending behind it.
@@ -72,6 +72,8 @@ pub record LogOpenedOn {R E V : Type 0} (log : TwoQueues R E V) (p : Pipes) (was
   pub run : Run log p state
   pub append_synced : state.append.files.pending ≡ []
   pub rewrite_synced : state.rewrite.files.pending ≡ []
+  pub append_goes_on : GoesOnFound p.append was.append.files state.append.files
+  pub rewrite_goes_on : GoesOnFound p.rewrite was.rewrite.files state.rewrite.files
   pub reads : ReadsBothAgain (Ties log) was state
   pub holds : IsLog (Ties log state) m []
 

@@ -5,12 +5,13 @@ use Rattle.raft_log_model.specs.Groups.{Map, directory_meaning, taken}
 use Rattle.raft_log_machine.specs.Images.{IsOneRun}
 use Rattle.raft_log_disk.specs.Disk.{Disk}
 use Rattle.raft_log_disk.specs.Image.{IsImage, IsSound}
-use Rattle.raft_log_disk.specs.LogQueue.{LogFiles, IsAbsent, NoChanceInLast}
+use Rattle.raft_log_disk.specs.LogQueue.{LogFiles, recent, IsAbsent, NoChanceInLast}
 use Rattle.raft_log_base.specs.declared.errors.Error.{Error}
 use Rattle.raft_log_base.specs.declared.errors.Error.TheVariants as errors
 use Rattle.raft_log_disk.specs.Touching.{HasFile}
 use Rattle.raft_log_disk.specs.declared.handle.Permission.TheVariants.{ReadWrite}
 use Rattle.raft_log_file_queue.specs.Reopening.{IsReadTo}
+use Rattle.raft_log_format.specs.Header.{header_bytes}
 use Rattle.raft_log_files.specs.Layout.{path_of}
 use Rattle.raft_log_pipes.specs.Files.{Listed, IsSpan, AreKept}
 use Rattle.raft_log_pipes.specs.Opening.{HasOwnHeader, Opens, OpenLeaves, first_number}
@@ -106,6 +107,15 @@ LeavesUnopened {R} log which o s (errors.Io kind) new = (files : LogFiles R) × 
     × ReadsAgain (Ties log) which s (next_log which s files new)
 LeavesUnopened log which o s _ new = ⊥
 
+-- The files that a pipe goes on with, where those were found: the finished ones, and behind a header of the pipe's
+-- format the records of the last one, all synced.
+pub record GoesOnFound {R : Type 0} (files : PipeFiles) (was now : LogFiles R) : Type 0 where
+  pub older : now.older ≡ was.older
+  pub last : now.last ≡ was.last
+  pub header : now.header ≡ header_bytes files.active.format
+  pub durable : now.durable ≡ recent was
+  pub pending : now.pending ≡ []
+
 -- A pipe that is opened over what was found of its queue runs; nothing of it is unsynced, and the other queue
 -- stands as it did. And what a refusal leaves.
 pub record OpensBeside {R E V : Type 0} (log : TwoQueues R E V) (which : Which) (o : OpenPipes)
@@ -113,7 +123,7 @@ pub record OpensBeside {R E V : Type 0} (log : TwoQueues R E V) (which : Which) 
   pub answered : (files : PipeFiles) (new : Disk)
       → Opens (layout_at which log).format (layout_at which log).own (layout_at which log).paths begin found
       files s.disk new
-      → (q : LogFiles R) × (q.pending ≡ [])
+      → (q : LogFiles R) × GoesOnFound files (spanned_at which s).files q
       × RunOrLie log (with_open which o (Some files)) (found_log which s files.first_seq q new)
       × ReadsAgain (Ties log) which s (found_log which s files.first_seq q new)
   pub refused : (error : Error) (new : Disk)

@@ -1,0 +1,5 @@
+pub mod Entries
+pub mod Reading
+pub mod Opened
+pub mod Found
+pub mod Left

@@ -1,0 +1,42 @@
+-- An engine that is made of what was read of a log's files.
+use Rattle.std.specs.Prelude.{List, []}
+use Rattle.raft_log_base.specs.declared.pipe_log.LogQueue.TheVariants.{Append, Rewrite}
+use Rattle.raft_log_replay.specs.declared.mem_tables.MemTables.{MemTables}
+use Rattle.raft_log_segments.specs.Machines.{Batch}
+use Rattle.raft_log_contexts.specs.Records.{ReadRecord}
+use Rattle.raft_log_contexts.specs.Context.{ComesOver, HasRead}
+use Rattle.raft_log_contexts.specs.Batches.{HasReadBatches}
+use Rattle.raft_log_contexts.specs.declared.context.MemTableRecoverContext.{MemTableRecoverContext}
+use Rattle.raft_log_directory.specs.Log.{IsLog}
+use Rattle.raft_log_steps.specs.State.{Ties}
+use Rattle.raft_log_steps.specs.Reopening.{ReadsBothAgain}
+use Rattle.raft_log_dual_pipes.specs.Pipes.{LogPipes, RunsOn, State}
+use Rattle.raft_log_engine_state.specs.Shows.{Home, LogMap, log_in, sense, shows}
+use Rattle.raft_log_engine_state.specs.Holding.{Holds}
+use Rattle.raft_log_opened.specs.Reading.{AreOfQueue}
+
+-- The tables are what a context that had read these batches of Append came to over one that had read those of
+-- Rewrite.
+pub record AreMerged (append_batches rewrite_batches : List Batch) (tables : MemTables) : Type 0 where
+  pub append : MemTableRecoverContext
+  pub rewrite : MemTableRecoverContext
+  pub append_read : HasReadBatches Append append_batches append
+  pub rewrite_read : HasReadBatches Rewrite rewrite_batches rewrite
+  pub over : (first behind : List ReadRecord) → HasRead Rewrite first rewrite → HasRead Append behind append
+      → ComesOver first behind tables
+
+-- The pipes run over a log that was found again, and the tables are merged of all batches of its files.
+pub record IsOpenedOver (home : Home) (was : State) (v : LogPipes) (tables : MemTables) : Type 0 where
+  pub state : State
+  pub runs : RunsOn (sense home) v state
+  pub again : ReadsBothAgain (Ties (log_in home)) was state
+  pub append_batches : List Batch
+  pub rewrite_batches : List Batch
+  pub of_append : AreOfQueue Append state.append append_batches
+  pub of_rewrite : AreOfQueue Rewrite state.rewrite rewrite_batches
+  pub merged : AreMerged append_batches rewrite_batches tables
+
+-- So an engine of them holds the map that the log was, and nothing is pending.
+abbrev pub OpenedEnginesHold : Type 0
+OpenedEnginesHold = (home : Home) (was : State) (m : LogMap) (v : LogPipes) (tables : MemTables)
+    → IsLog (Ties (log_in home) was) m [] → IsOpenedOver home was v tables → Holds home (shows v tables) m []

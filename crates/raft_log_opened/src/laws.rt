@@ -1,0 +1,29 @@
+//! What an open makes of a log.
+
+ghost use Rattle.raft_log_opened.specs.Found.{NoFilesAreTheQueue, ReadFilesAreTheQueue};
+ghost use Rattle.raft_log_opened.specs.Left.{CrashedLogsRest, RefusedOpensLeaveLogs};
+ghost use Rattle.raft_log_opened.specs.Opened.{OpenedEnginesHold};
+
+/// What recovery reads of the files of a queue that rests on a disk are the batches of the queue that goes on
+/// there: one for each record, in order, each with its entries where they lie.
+pub fn read_files_are_the_queue()
+    ensures files { ReadFilesAreTheQueue }
+    ensures none { NoFilesAreTheQueue }
+{}
+
+/// An engine whose pipes run over a log that was found again, and whose tables are merged of all that was read
+/// of its files, holds the map that the log was, and nothing is pending.
+pub fn opened_engines_hold()
+    ensures { OpenedEnginesHold }
+{}
+
+/// Whatever a crash leaves of what an engine left, at a close, a failure or in the middle of a call, is a log
+/// at rest: the map after some first pending batches.
+pub fn crashed_logs_rest()
+    ensures { CrashedLogsRest }
+{}
+
+/// Where an open is refused, the log is left there with its map.
+pub fn refused_opens_leave_logs()
+    ensures { RefusedOpensLeaveLogs }
+{}

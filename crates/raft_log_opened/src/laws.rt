@@ -12,8 +12,8 @@ pub fn read_files_are_the_queue()
     ensures none { NoFilesAreTheQueue }
 {}
 
-/// An engine whose pipes run over a log that was found again, and whose tables are merged of all that was read
-/// of its files, holds the map that the log was, and nothing is pending.
+/// An engine whose pipes run over a log that was found again, and whose tables are merged of all that was
+/// read of its files, holds the map that the log was, and nothing is pending.
 pub fn opened_engines_hold()
     ensures { OpenedEnginesHold }
 {}
@@ -35,8 +35,8 @@ pub fn read_logs_are_held()
     ensures { ReadLogsAreHeld }
 {}
 
-/// Whatever a crash leaves of what an engine left, an engine that is opened over it, and made of what was read
-/// of its files, holds the map after some first pending batches, and nothing is pending.
+/// Whatever a crash leaves of what an engine left, an engine that is opened over it, and made of what was
+/// read of its files, holds the map after some first pending batches, and nothing is pending.
 pub fn crashed_logs_open()
     ensures { CrashedLogsOpen }
 {}

@@ -6,3 +6,4 @@ pub mod Sound
 pub mod Opened
 pub mod QueueReading
 pub mod Left
+pub mod Recovered

@@ -3,3 +3,4 @@ pub mod Reading
 pub mod Opened
 pub mod Found
 pub mod Left
+pub mod Recovered

@@ -107,8 +107,8 @@ LeavesUnopened {R} log which o s (errors.Io kind) new = (files : LogFiles R) × 
     × ReadsAgain (Ties log) which s (next_log which s files new)
 LeavesUnopened log which o s _ new = ⊥
 
--- The files that a pipe goes on with, where those were found: the finished ones, and behind a header of the pipe's
--- format the records of the last one, all synced.
+-- The files that a pipe goes on with, where those were found: the finished ones, and behind a header of the
+-- pipe's format the records of the last one, all synced.
 pub record GoesOnFound {R : Type 0} (files : PipeFiles) (was now : LogFiles R) : Type 0 where
   pub older : now.older ≡ was.older
   pub last : now.last ≡ was.last

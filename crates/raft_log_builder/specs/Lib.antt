@@ -6,3 +6,4 @@ pub mod Scanning
 pub mod Syncing
 pub mod Endings
 pub mod Finishing
+pub mod RecoveringQueue

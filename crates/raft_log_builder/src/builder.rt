@@ -36,6 +36,7 @@ impl DualPipesBuilder {
     ghost use Rattle.raft_log_base.specs.declared.pipe_log.LogQueue.TheVariants.{Append, Rewrite};
     ghost use Rattle.raft_log_builder.specs.Finishing.{FailsToOpenRecovered, FailsToSyncLog, IsRead, IsUnready, IsWantedAs, OpensRecovered, SyncsLog};
     ghost use Rattle.raft_log_builder.specs.Recovering.{FailsToRecoverLog, RecoversLog};
+    ghost use Rattle.raft_log_builder.specs.RecoveringQueue.{FailsToRecoverFiles, OtherQueueStays, RecoversFiles, queue_files};
     ghost use Rattle.raft_log_builder.specs.Scanning.{FailsToScanLog, ScansLog};
 
     /// A builder that has scanned nothing: its log has no file.
@@ -116,6 +117,37 @@ impl DualPipesBuilder {
         self.append.endings = append.endings;
         self.rewrite.endings = rewrite.endings;
         Ok((append.machine, rewrite.machine))
+    }
+
+    /// Reads one queue by workers into a machine, as this says; then cuts its files that are damaged, each
+    /// behind its last good record, and syncs them. Refused as `recover` is.
+    pub fn recover_queue<
+        R: Threads + Log + Sync,
+        F: FileSystem + Sync,
+        M: ReplayMachine,
+        FA: Factory<M>,
+    >(
+        &mut self,
+        rt: &R,
+        alloc: Global,
+        file_system: &mut F,
+        config: RecoveryConfig,
+        factory: &FA,
+    ) -> Result<M>
+        ensures ok { IfOk result (λ machine. RecoversFiles M.reads config machine
+            (queue_files config.queue self.old) (queue_files config.queue self.new)
+            (F.disk file_system.old) (F.disk file_system.new)) }
+        ensures err { IfErr result (λ error. FailsToRecoverFiles M.reads M.declines config
+            (queue_files config.queue self.old) error (F.disk file_system.old) (F.disk file_system.new)) }
+        ensures same { OnErr result (self.new ≡ self.old) }
+        ensures others { OtherQueueStays config.queue self.old self.new }
+    {
+        match config.queue {
+            LogQueue::Append => self.append.recover(rt, alloc, file_system, config, factory),
+            LogQueue::Rewrite => self
+                .rewrite
+                .recover(rt, alloc, file_system, config, factory),
+        }
     }
 
     /// Opens the pipes of the log over its files as they were recovered, that of Append first; before that all

@@ -1,7 +1,7 @@
 -- A log is opened over its files as they were recovered.
 use Rattle.std.specs.Prelude.{IfErr, IfOk}
 use Rattle.std.specs.String.{string_bytes}
-use Rattle.std.proofs.Common.{◌≡◌, List, [], Result, Ok, Err, map, ap, ◌∙◌}
+use Rattle.std.proofs.Common.{◌≡◌, [], Result, Ok, Err, map, ap, ◌∙◌}
 use Rattle.raft_log_base.specs.declared.errors.Error.{Error}
 use Rattle.raft_log_base.specs.declared.pipe_log.LogQueue.{LogQueue}
 use Rattle.raft_log_base.specs.declared.pipe_log.LogQueue.TheVariants.{Append, Rewrite}

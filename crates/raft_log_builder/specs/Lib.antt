@@ -6,3 +6,5 @@ pub mod Scanning
 pub mod Syncing
 pub mod Endings
 pub mod Finishing
+pub mod Reserving
+pub mod RecoveringQueue

@@ -14,12 +14,15 @@ use raft_log_base::{Error, LogQueue, Result};
 use raft_log_disk::FileSystem;
 use raft_log_dual_pipes::{DualPipes, FoundPipe, OpenRefused, PipeLog};
 use raft_log_files::File;
+use raft_log_layout::LogLayout;
+use raft_log_prefill::ready_reserved;
 use raft_log_recovery::scanning::{ScannedFiles, scan};
 use raft_log_recovery::{RecoveryConfig, share_workers};
 use raft_log_segments::{Factory, ReplayMachine};
 use raft_log_settings::Config;
 use std::alloc::Global;
 use std::io::ErrorKind;
+use std::mem;
 use std::thread::Threads;
 
 /// Scans the directories of a log, and recovers what its files say, in this order. The file system is lent to
@@ -36,6 +39,8 @@ impl DualPipesBuilder {
     ghost use Rattle.raft_log_base.specs.declared.pipe_log.LogQueue.TheVariants.{Append, Rewrite};
     ghost use Rattle.raft_log_builder.specs.Finishing.{FailsToOpenRecovered, FailsToSyncLog, IsRead, IsUnready, IsWantedAs, OpensRecovered, SyncsLog};
     ghost use Rattle.raft_log_builder.specs.Recovering.{FailsToRecoverLog, RecoversLog};
+    ghost use Rattle.raft_log_builder.specs.RecoveringQueue.{FailsToRecoverFiles, OtherQueueStays, RecoversFiles, queue_files};
+    ghost use Rattle.raft_log_builder.specs.Reserving.{FailsToReadyLog, ReadiesLog};
     ghost use Rattle.raft_log_builder.specs.Scanning.{FailsToScanLog, ScansLog};
 
     /// A builder that has scanned nothing: its log has no file.
@@ -116,6 +121,68 @@ impl DualPipesBuilder {
         self.append.endings = append.endings;
         self.rewrite.endings = rewrite.endings;
         Ok((append.machine, rewrite.machine))
+    }
+
+    /// Reads one queue by workers into a machine, as this says; then cuts its files that are damaged, each
+    /// behind its last good record, and syncs them. Refused as `recover` is.
+    pub fn recover_queue<
+        R: Threads + Log + Sync,
+        F: FileSystem + Sync,
+        M: ReplayMachine,
+        FA: Factory<M>,
+    >(
+        &mut self,
+        rt: &R,
+        alloc: Global,
+        file_system: &mut F,
+        config: RecoveryConfig,
+        factory: &FA,
+    ) -> Result<M>
+        ensures ok { IfOk result (λ machine. RecoversFiles M.reads config machine
+            (queue_files config.queue self.old) (queue_files config.queue self.new)
+            (F.disk file_system.old) (F.disk file_system.new)) }
+        ensures err { IfErr result (λ error. FailsToRecoverFiles M.reads M.declines config
+            (queue_files config.queue self.old) error (F.disk file_system.old) (F.disk file_system.new)) }
+        ensures same { OnErr result (self.new ≡ self.old) }
+        ensures others { OtherQueueStays config.queue self.old self.new }
+    {
+        match config.queue {
+            LogQueue::Append => self.append.recover(rt, alloc, file_system, config, factory),
+            LogQueue::Rewrite => self
+                .rewrite
+                .recover(rt, alloc, file_system, config, factory),
+        }
+    }
+
+    /// Readies the files that are kept for use under reserved names: with `prefill_for_recycle` there are made
+    /// as many as the settings want beside the files of Append, filled with zeros; those past that are deleted,
+    /// from the newest on. To be called before `finish`, behind `scan`.
+    ///
+    /// `Io` where a file isn't made, `NumberRange` where there is no name for it, `Memory`: those that were made
+    /// are there, and the builder knows of none.
+    pub fn initialize_files<F: FileSystem, L: Log>(
+        &mut self,
+        alloc: Global,
+        rt: &L,
+        file_system: &mut F,
+    ) -> Result<()>
+        ensures ok { OnOk result
+            (ReadiesLog self.old self.new (F.disk file_system.old) (F.disk file_system.new)) }
+        ensures err { IfErr result (λ error.
+            FailsToReadyLog self.old error (F.disk file_system.old) (F.disk file_system.new)) }
+        ensures same { (self.new.config ≡ self.old.config) × (self.new.append ≡ self.old.append)
+            × (self.new.rewrite ≡ self.old.rewrite) }
+    {
+        let layout = LogLayout::new(LogQueue::Append, paths(alloc, &self.config)?);
+        let size = self.config.target_file_size.0 as usize;
+        let room = self
+            .config
+            .recycle_capacity()
+            .saturating_sub(self.append.files.len());
+        let wanted = self.config.prefill_capacity().min(room);
+        let reserved = mem::replace(&mut self.reserved, Vec::new(alloc));
+        self.reserved = ready_reserved(alloc, &layout, rt, file_system, size, wanted, reserved)?;
+        Ok(())
     }
 
     /// Opens the pipes of the log over its files as they were recovered, that of Append first; before that all

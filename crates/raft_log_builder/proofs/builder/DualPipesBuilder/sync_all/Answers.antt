@@ -4,7 +4,7 @@ use Rattle.std.specs.declared.io.ErrorKind.{ErrorKind}
 use Rattle.raft_log_files.specs.declared.format.File.{File}
 use Rattle.raft_log_builder.specs.Finishing.{FailsToSyncLog}
 use Rattle.raft_log_builder.specs.Finishing.FailsToSyncLog.{rewrite_unsynced}
-use Rattle.raft_log_builder.specs.Recovering.{append_files, rewrite_files}
+use Rattle.raft_log_builder.specs.Recovering.{append_files}
 use Rattle.raft_log_builder.specs.Syncing.{FailsToSyncEach, SyncsEach}
 use Rattle.raft_log_builder.proofs.builder.DualPipesBuilder.sync_all.Goals as goal
 

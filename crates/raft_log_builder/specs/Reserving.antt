@@ -1,0 +1,30 @@
+-- The files that a log keeps for use under reserved names, as an open readies them.
+use Rattle.std.specs.Prelude.{◌≡◌, ◌-◌, ◌⊎◌, ℕ, min, length}
+use Rattle.raft_log_base.specs.declared.errors.Error.{Error}
+use Rattle.raft_log_base.specs.declared.errors.Error.TheVariants as errors
+use Rattle.raft_log_base.specs.declared.pipe_log.LogQueue.TheVariants.{Append}
+use Rattle.raft_log_disk.specs.Disk.{Disk}
+use Rattle.raft_log_settings.specs.Sanitized.{prefill_capacity, recycle_capacity}
+use Rattle.raft_log_settings.specs.Settings.{settings_of}
+use Rattle.raft_log_layout.specs.Layout.{log_paths}
+use Rattle.raft_log_prefill.specs.Readying.{FailsToReady, Readies}
+use Rattle.raft_log_builder.specs.Directories.{directories_of}
+use Rattle.raft_log_builder.specs.Recovering.{append_files}
+use Rattle.raft_log_builder.specs.declared.builder.DualPipesBuilder.{DualPipesBuilder}
+
+-- how many such files the settings want beside those of Append
+abbrev pub wanted_files : DualPipesBuilder → ℕ
+wanted_files b = min (prefill_capacity (settings_of b.config))
+    (recycle_capacity (settings_of b.config) - length (append_files b))
+
+-- there are as many of them as are wanted, or none where there was no space; the others of the log are as found
+pub record ReadiesLog (b after : DualPipesBuilder) (old new : Disk) : Type 0 where
+  pub readies : Readies (log_paths Append (directories_of b.config)) b.config.target_file_size.0
+      (wanted_files b) b.reserved.items after.reserved.items old new
+  pub same : (after.config ≡ b.config) × (after.append ≡ b.append) × (after.rewrite ≡ b.rewrite)
+
+-- why there aren't: for want of memory nothing was done; or one wasn't made
+abbrev pub FailsToReadyLog : DualPipesBuilder → Error → Disk → Disk → Type 0
+FailsToReadyLog b error old new = ((error ≡ errors.Memory) × (new ≡ old))
+    ⊎ FailsToReady (log_paths Append (directories_of b.config)) b.config.target_file_size.0
+    (wanted_files b) b.reserved.items error old new

@@ -1,0 +1,4 @@
+mod Pieces
+mod Made
+mod Dropped
+mod Last

@@ -1,0 +1,4 @@
+pub mod Filling
+pub mod Making
+pub mod Dropping
+pub mod Readying

@@ -1,0 +1,49 @@
+-- The reserved files of a log, as an open readies them.
+use Rattle.std.specs.Prelude.{◌≡◌, ◌-◌, ◌^◌, ◌++◌, ℕ, suc, min, max, Bool, if◌then◌else◌, Option, Some, None, List, length, take, drop, reverse}
+use Rattle.std.specs.List.{last_or}
+use Rattle.raft_log_base.specs.declared.errors.Error.{Error}
+use Rattle.raft_log_disk.specs.Disk.{Disk, zeros}
+use Rattle.raft_log_files.specs.Layout.{FilePaths}
+use Rattle.raft_log_files.specs.declared.format.File.{File}
+use Rattle.raft_log_prefill.specs.Dropping.{DropsEach}
+use Rattle.raft_log_prefill.specs.Making.{FailsToMakeEach, MakesEach}
+
+-- the number behind that of a file, or the greatest that there is; the first one where there is no file
+abbrev pub number_behind : Option File → ℕ
+number_behind None = 1
+number_behind (Some file) = min (suc file.seq) (2 ^ 64 - 1)
+
+-- the number behind that of the last of these
+abbrev pub next_number : List File → ℕ
+next_number files = number_behind (last_or None files)
+
+-- the zeros that are written at a time: of the size of a file, and 16 MiB at most
+abbrev pub piece : ℕ → List ℕ
+piece size = zeros (max 1 (min size (2 ^ 24)))
+
+-- how many files are kept: none where there was no space for one
+abbrev pub kept_of : Bool → ℕ → ℕ
+kept_of full wanted = if full then 0 else wanted
+
+-- files were made until there were as many as are wanted
+pub record MakesMissing (paths : FilePaths) (size wanted : ℕ) (files all : List File) (full : Bool)
+    (old new : Disk) : Type 0 where
+  pub made : List File
+  pub count : length made ≡ wanted - length files
+  pub all_is : all ≡ files ++ made
+  pub makes : MakesEach paths (piece size) size (next_number files) made full old new
+
+-- Then those past what is kept were deleted, from the newest on.
+pub record Readies (paths : FilePaths) (size wanted : ℕ) (files kept : List File) (old new : Disk)
+    : Type 0 where
+  pub all : List File
+  pub full : Bool
+  pub between : Disk
+  pub makes : MakesMissing paths size wanted files all full old between
+  pub kept_is : kept ≡ take (kept_of full wanted) all
+  pub drops : DropsEach paths (reverse (drop (kept_of full wanted) all)) between new
+
+-- one wasn't made; those before it are there, under their names
+abbrev pub FailsToReady : FilePaths → ℕ → ℕ → List File → Error → Disk → Disk → Type 0
+FailsToReady paths size wanted files error old new =
+    FailsToMakeEach paths (piece size) size (next_number files) (wanted - length files) error old new

@@ -90,8 +90,8 @@ pub record FailsToCopyAll (target : List ℕ) (files : List SourceFile) (error :
 
 -- The whole.
 
--- A fork: the target is there, in it a copy of each of the log's files, one a number, and nothing else changed;
--- these are the paths of the copies, in the files' order.
+-- A fork: the target is there, in it a copy of each of the log's files, one a number, and nothing else
+-- changed; these are the paths of the copies, in the files' order.
 pub record Forks (s : Settings) (target : List ℕ) (copied : List (List ℕ)) (old new : Disk) : Type 0 where
   pub allowed : Allows s target old
   pub files : List SourceFile
@@ -118,8 +118,8 @@ FailsToMakeTarget target (errors.Io kind) old new = FailsToMakeDirectory target 
 FailsToMakeTarget target errors.Memory old new = new ≡ old
 FailsToMakeTarget target _ old new = ⊥
 
--- Why there is no fork, and what stands then: nothing was begun; the target wasn't made; or not all files were
--- copied.
+-- Why there is no fork, and what stands then: nothing was begun; the target wasn't made; or not all files
+-- were copied.
 pub data FailsToFork (s : Settings) (target : List ℕ) (error : Error) (old new : Disk) : Type 0 where
   refused : IsForkRefusal s target old error → new ≡ old → FailsToFork s target error old new
   homeless : Allows s target old → FailsToMakeTarget target error old new

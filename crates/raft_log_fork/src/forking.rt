@@ -39,13 +39,13 @@ pub struct CopyDetails {
     pub symlinked: Vec<String>,
 }
 
-/// Copies a log that no engine has open into a directory, which is made where it isn't there: all files of both
-/// queues, of several with one number that of the last directory, and no file that is kept to be used. Each
-/// copy is synced. Nothing of the log changes.
+/// Copies a log that no engine has open into a directory, which is made where it isn't there: all files of
+/// both queues, of several with one number that of the last directory, and no file that is kept to be used.
+/// Each copy is synced. Nothing of the log changes.
 ///
-/// Refused as `permit` says it; as `Io` where a directory of the log isn't there; as `Corruption` where a name
-/// in it says a number and isn't the one that is built for it: nothing was changed then. Later refusals are
-/// `Io` and `Memory`, and what was copied stays.
+/// Refused as `permit` says it; as `Io` where a directory of the log isn't there; as `Corruption` where a
+/// name in it says a number and isn't the one that is built for it: nothing was changed then. Later refusals
+/// are `Io` and `Memory`, and what was copied stays.
 pub fn fork<F: FileSystem, L: Log>(
     rt: &L,
     alloc: Global,
@@ -53,8 +53,8 @@ pub fn fork<F: FileSystem, L: Log>(
     file_system: &mut F,
     target: &str,
 ) -> Result<CopyDetails>
-    ensures ok { IfOk result (λ details. Forks (settings_of source.now) target.now (map string_bytes details.copied.items)
-        (F.disk file_system.old) (F.disk file_system.new)) }
+    ensures ok { IfOk result (λ details. Forks (settings_of source.now) target.now
+        (map string_bytes details.copied.items) (F.disk file_system.old) (F.disk file_system.new)) }
     ensures linked { IfOk result (λ details. details.symlinked.items ≡ []) }
     ensures err { IfErr result (λ error. FailsToFork (settings_of source.now) target.now error
         (F.disk file_system.old) (F.disk file_system.new)) }

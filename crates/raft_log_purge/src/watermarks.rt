@@ -48,8 +48,8 @@ pub fn takes_append<P: PipeLog>(config: &Config, pipes: &P) -> bool
     is_past(pipes, LogQueue::Append, config.purge_threshold.0)
 }
 
-/// Whether a purge rewrites Rewrite: it has more than one file, is larger than the settings have it, and more of
-/// what was written there than they allow stands no more. Settings without a threshold let it be.
+/// Whether a purge rewrites Rewrite: it has more than one file, is larger than the settings have it, and more
+/// of what was written there than they allow stands no more. Settings without a threshold let it be.
 pub fn takes_rewrite<P: PipeLog>(config: &Config, stats: &GlobalStats, pipes: &P) -> bool
     ensures { IsTrue result ↔ TakesRewrite (settings_of config.now) stats.now (P.shown pipes.now) }
 {

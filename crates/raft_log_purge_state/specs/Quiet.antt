@@ -1,5 +1,5 @@
--- The parts of a purge that write nothing and take no file: syncs and rotations of either queue. The map stays
--- at every exit.
+-- The parts of a purge that write nothing and take no file: syncs and rotations of either queue. The map
+-- stays at every exit.
 use Rattle.std.specs.Prelude.{◌≡◌, List, []}
 use Rattle.raft_log_model.specs.Groups.{taken}
 use Rattle.raft_log_disk.specs.Causes.{Fails}
@@ -31,8 +31,8 @@ FailedSyncsLeaveLogs = (which : Which) (home : Home) (v w : LogPipes) (m : LogMa
     → RunsAs home v m pending → FailsToSyncQueue which v w
     → Fails v.disk w.disk × IsLeftAt home w.disk m pending
 
--- A rotation of Append puts all batches on the map; one of Rewrite changes nothing of it; and where nothing is
--- pending in Append behind it, nothing is in the queue that rotated.
+-- A rotation of Append puts all batches on the map; one of Rewrite changes nothing of it; and where nothing
+-- is pending in Append behind it, nothing is in the queue that rotated.
 pub record RotationsKeepTheMap : Type 0 where
   pub append : (home : Home) (e t : Shows) (m : LogMap) (pending : List Said) → Holds home e m pending
       → t.tables ≡ e.tables → RotatesQueue InAppend e.pipes t.pipes → Holds home t (taken m pending) []

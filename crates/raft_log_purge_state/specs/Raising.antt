@@ -1,5 +1,5 @@
--- Files that are no longer needed leave a queue's span: where nothing that the tables show lies in them, and, of
--- Append, no mark is owed to Rewrite, the map stays.
+-- Files that are no longer needed leave a queue's span: where nothing that the tables show lies in them, and,
+-- of Append, no mark is owed to Rewrite, the map stays.
 use Rattle.std.specs.Prelude.{◌≡◌, ℕ, ◌≤◌, List, []}
 use Rattle.raft_log_base.specs.declared.errors.Error.{Error}
 use Rattle.raft_log_base.specs.declared.errors.Error.TheVariants as errors

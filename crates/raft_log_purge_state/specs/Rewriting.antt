@@ -32,8 +32,8 @@ pub record CountsAlone (b : Batch) : Type 0 where
   pub laid : IsLaidOut b
 
 -- What is true where Rewrite refused a record, by the error: cut back, all that was written there before is
--- synced; left out, the log is as it was; and where the engine has failed, its log is held, and the record may
--- be there.
+-- synced; left out, the log is as it was; and where the engine has failed, its log is held, and the record
+-- may be there.
 abbrev pub RewriteLeaves : Home → LogMap → Shows → Error → Type 0
 RewriteLeaves home m t (errors.Io kind) = HoldsSettled home t m
 RewriteLeaves home m t (errors.TryAgain text) = HoldsSettled home t m
@@ -68,8 +68,8 @@ abbrev pub SaysAt : (Located → List ℕ) → FileBlockHandle → Batch → Typ
 SaysAt at block b = map (renamed_tagged (λ p. at (in_queue false p))) (items_at block b)
     ≡ tagged_items (entry_bytes b.entries) b.items
 
--- The batch has copies that the gate lets move, of what the tables show of the map: so they are wherever it is
--- written and whatever else stands anywhere.
+-- The batch has copies that the gate lets move, of what the tables show of the map: so they are wherever it
+-- is written and whatever else stands anywhere.
 abbrev pub HasCopies : Option ℕ → Batch → (ℕ → Shown) → LogMap → Type 0
 HasCopies gate b v m = (block : FileBlockHandle) (at : Located → List ℕ) → AreMeant at v m → SaysAt at block b
     → (g : ℕ) → AreCopies at gate block.id.seq (v g) (of_group g (items_at block b))

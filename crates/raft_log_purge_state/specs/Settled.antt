@@ -8,8 +8,8 @@ use Rattle.raft_log_dual_pipes.specs.Pipes.{RunsOn, State}
 use Rattle.raft_log_engine_state.specs.Shows.{Home, LogMap, Shows, log_in, sense}
 
 -- The engine's log, in these directories, is the map m, and nothing is pending, in Append or in Rewrite: its
--- pipes run over a log that is so, each place that its tables show lies there, and what is read at these places
--- is the map.
+-- pipes run over a log that is so, each place that its tables show lies there, and what is read at these
+-- places is the map.
 pub record HoldsSettled (home : Home) (e : Shows) (m : LogMap) : Type 0 where
   pub state : State
   pub map : LogMap

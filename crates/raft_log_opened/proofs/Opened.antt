@@ -47,11 +47,11 @@ use Rattle.raft_log_contexts.proofs.OpenGroups.{records_append}
 use Rattle.raft_log_contexts.proofs.Told.{appended_told, rewritten_told}
 use Rattle.raft_log_stored.specs.Stored.{entries_at, AreStored, Each, IsStored}
 use Rattle.raft_log_dual_pipes.specs.Pipes.{LogPipes, RunsOn, Said, State}
-use Rattle.raft_log_engine_state.specs.Shows.{log_in, no_place, said_by, sense, shows, Home, LogMap}
-use Rattle.raft_log_engine_state.specs.Holding.{Holds}
+use Rattle.raft_log_blocks.proofs.Kept.{none_kept}
+use Rattle.raft_log_engine_state.specs.Shows.{log_in, no_place, said_by, sense, Home, LogMap}
 use Rattle.raft_log_opened.specs.Entries.{EachHas, EntriesHave, RecordsHave}
 use Rattle.raft_log_opened.specs.Reading.{as_counted, counted_file, counted_queue}
-use Rattle.raft_log_opened.specs.Opened.{AreMerged, IsOpenedOver, OpenedEnginesHold}
+use Rattle.raft_log_opened.specs.Opened.{AreMerged, HoldsFresh, IsOpenedOver, OpenedEnginesHold}
 use Rattle.raft_log_opened.proofs.Counting.{counted_fit, meant_has, rewritten_has}
 use Rattle.raft_log_opened.proofs.Queues.{queue_held, queue_rises}
 use Rattle.raft_log_opened.proofs.Sound.{again_sound, append_whole, fit_untold, hole_untold, rewrite_fits, rewrite_unbroken, records_of_both, rewrite_whole, span_records, tidy_untold}
@@ -262,8 +262,8 @@ module _ (home : Home) (was : State) (m : LogMap) (v : LogPipes) (tables : MemTa
   was_model = record { files = log.files; map = m; whereabouts = log.whereabouts; failed = log.failed }
 
   -- nothing was pending, so nothing more is in the map
-  none_kept : a.kept ≡ []
-  none_kept = front_nil a.kept a.lost (a.image ∙ log.ends)
+  none_waits : a.kept ≡ []
+  none_waits = front_nil a.kept a.lost (a.image ∙ log.ends)
     where
       front_nil : (xs ys : List Said) → xs ++ ys ≡ [] → xs ≡ []
       front_nil [] ys is = refl
@@ -328,10 +328,10 @@ module _ (home : Home) (was : State) (m : LogMap) (v : LogPipes) (tables : MemTa
       (merged.append_read.read.fit refl) rewrite_held.1 append_held.1 rewrite_rises append_rises runs))
 
   stands : Stands (view_of (shown_of tables) map_here) files m []
-  stands = subst (λ (l : List Said). Stands (view_of (shown_of tables) map_here) files (taken m l) []) none_kept (read_stands was_model log.sound r a (view_of (shown_of tables) map_here) is_made)
+  stands = subst (λ (l : List Said). Stands (view_of (shown_of tables) map_here) files (taken m l) []) none_waits (read_stands was_model log.sound r a (view_of (shown_of tables) map_here) is_made)
 
-  pub engine_holds : Holds home (shows v tables) m []
-  engine_holds = record {
+  pub engine_holds : HoldsFresh home v tables m
+  engine_holds cache none = record {
     state = state;
     map = map_here;
     runs = over.runs;
@@ -339,6 +339,7 @@ module _ (home : Home) (was : State) (m : LogMap) (v : LogPipes) (tables : MemTa
         (merged.append_read.read.fit refl) rewrite_held.1 append_held.1 rewrite_rises append_rises runs rewrite_held.2 append_held.2;
     meant = meant at (IsStored state) first behind tables over_read model is_sound rewrite_held.0 append_held.0 (merged.append_read.read.plain refl)
         (merged.append_read.read.fit refl) rewrite_held.1 append_held.1 rewrite_rises append_rises runs;
+    cached = none_kept state cache none;
     at = record { files = files; stands = stands; there = tied };
   }
 

@@ -29,8 +29,7 @@ use Rattle.raft_log_steps.specs.Reopening.IsFoundOf.{stopped, unbegun}
 use Rattle.raft_log_dual_pipes.specs.Opening.{OpensLog, RestsAsFound}
 use Rattle.raft_log_dual_pipes.specs.Pipes.{LogPipes}
 use Rattle.raft_log_dual_pipes.specs.declared.opening.FoundPipe.{FoundPipe}
-use Rattle.raft_log_engine_state.specs.Shows.{sense, shows, Home, LogMap}
-use Rattle.raft_log_engine_state.specs.Holding.{Holds}
+use Rattle.raft_log_engine_state.specs.Shows.{sense, Home, LogMap}
 use Rattle.raft_log_opened.specs.Reading.{AreOfQueue}
 use Rattle.raft_log_opened.specs.Found.{AreListed, ReadsFiles}
 use Rattle.raft_log_opened.specs.Recovered.{AreFoundAsRead, AreInFormats, CrashedLogsOpen, ReadLogsAreHeld, WereRead}

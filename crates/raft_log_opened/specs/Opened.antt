@@ -1,5 +1,5 @@
 -- An engine that is made of what was read of a log's files.
-use Rattle.std.specs.Prelude.{List, []}
+use Rattle.std.specs.Prelude.{◌≡◌, List, [], None}
 use Rattle.raft_log_base.specs.declared.pipe_log.LogQueue.TheVariants.{Append, Rewrite}
 use Rattle.raft_log_replay.specs.declared.mem_tables.MemTables.{MemTables}
 use Rattle.raft_log_segments.specs.Machines.{Batch}
@@ -11,6 +11,7 @@ use Rattle.raft_log_directory.specs.Log.{IsLog}
 use Rattle.raft_log_steps.specs.State.{Ties}
 use Rattle.raft_log_steps.specs.Reopening.{ReadsBothAgain}
 use Rattle.raft_log_dual_pipes.specs.Pipes.{LogPipes, RunsOn, State}
+use Rattle.raft_log_blocks.specs.declared.block_cache.BlockCache.{BlockCache}
 use Rattle.raft_log_engine_state.specs.Shows.{Home, LogMap, log_in, sense, shows}
 use Rattle.raft_log_engine_state.specs.Holding.{Holds}
 use Rattle.raft_log_opened.specs.Reading.{AreOfQueue}
@@ -36,7 +37,12 @@ pub record IsOpenedOver (home : Home) (was : State) (v : LogPipes) (tables : Mem
   pub of_rewrite : AreOfQueue Rewrite state.rewrite rewrite_batches
   pub merged : AreMerged append_batches rewrite_batches tables
 
--- So an engine of them holds the map that the log was, and nothing is pending.
+-- An engine of these pipes and tables that keeps no block yet holds the map, and nothing is pending.
+abbrev pub HoldsFresh : Home → LogPipes → MemTables → LogMap → Type 0
+HoldsFresh home v tables m =
+    (cache : BlockCache) → cache.place ≡ None → Holds home (shows v tables cache) m []
+
+-- So an engine of them holds the map that the log was.
 abbrev pub OpenedEnginesHold : Type 0
 OpenedEnginesHold = (home : Home) (was : State) (m : LogMap) (v : LogPipes) (tables : MemTables)
-    → IsLog (Ties (log_in home) was) m [] → IsOpenedOver home was v tables → Holds home (shows v tables) m []
+    → IsLog (Ties (log_in home) was) m [] → IsOpenedOver home was v tables → HoldsFresh home v tables m

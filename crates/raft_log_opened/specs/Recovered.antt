@@ -14,11 +14,11 @@ use Rattle.raft_log_steps.specs.Reopening.{IsFoundOf}
 use Rattle.raft_log_dual_pipes.specs.Opening.{IsFoundAs, OpensLog, RestsAsFound}
 use Rattle.raft_log_dual_pipes.specs.Pipes.{LogPipes, Said, State}
 use Rattle.raft_log_dual_pipes.specs.declared.opening.FoundPipe.{FoundPipe}
-use Rattle.raft_log_engine_state.specs.Shows.{log_in, sense, shows, Home, LogMap}
-use Rattle.raft_log_engine_state.specs.Holding.{Holds, IsLeftAt}
+use Rattle.raft_log_engine_state.specs.Shows.{log_in, sense, Home, LogMap}
+use Rattle.raft_log_engine_state.specs.Holding.{IsLeftAt}
 use Rattle.raft_log_opened.specs.Found.{ReadsFiles}
 use Rattle.raft_log_opened.specs.Left.{IsCrashOf}
-use Rattle.raft_log_opened.specs.Opened.{AreMerged}
+use Rattle.raft_log_opened.specs.Opened.{AreMerged, HoldsFresh}
 
 -- these are the files, each in the format that was read of it
 abbrev pub AreInFormats : List File → List FileEnding → List File → Type 0
@@ -55,7 +55,7 @@ abbrev pub ReadLogsAreHeld : Type 0
 ReadLogsAreHeld = (home : Home) (m : LogMap) (mode : RecoveryMode) (append rewrite : FoundPipe) (old : Disk)
     (v : LogPipes) (tables : MemTables) → OpensLog append rewrite old v
     → RestsAsFound (sense home) m append rewrite old → WereRead mode append rewrite old tables
-    → Holds home (shows v tables) m []
+    → HoldsFresh home v tables m
 
 -- both queues were found in these directories, as they rest there
 pub record AreFoundAt (home : Home) (s : State) (append rewrite : FoundPipe) (d : Disk) : Type 0 where
@@ -68,7 +68,7 @@ pub record AreFoundAt (home : Home) (s : State) (append rewrite : FoundPipe) (d 
 abbrev pub OpensAs : Home → Disk → LogMap → State → Type 0
 OpensAs home d m s = (mode : RecoveryMode) (append rewrite : FoundPipe) (v : LogPipes) (tables : MemTables)
     → AreFoundAt home s append rewrite d → OpensLog append rewrite d v
-    → WereRead mode append rewrite d tables → Holds home (shows v tables) m []
+    → WereRead mode append rewrite d tables → HoldsFresh home v tables m
 
 -- Whatever a crash leaves of what an engine left is opened as the map after some first pending batches.
 abbrev pub CrashedLogsOpen : Type 0

@@ -45,7 +45,8 @@ use Rattle.raft_log_views.proofs.Carrying.{copies_on}
 use Rattle.raft_log_views.proofs.Lying.{written_in}
 use Rattle.raft_log_dual_pipes.specs.Pipes.{Said, State}
 use Rattle.raft_log_dual_pipes.specs.Calls.{AppendsTo, FailsToAppendTo}
-use Rattle.raft_log_engine_state.specs.Shows.{Home, LogMap, Shows}
+use Rattle.raft_log_engine_state.specs.Shows.{Home, KeepsOrForgets, LogMap, Shows}
+use Rattle.raft_log_purge_state.specs.Settled.{SameTables}
 use Rattle.raft_log_engine_state.specs.Holding.{Holds}
 use Rattle.raft_log_engine_state.specs.Writing.{items_at}
 use Rattle.raft_log_engine_state.proofs.Renaming.{places_say}
@@ -245,17 +246,17 @@ held_map : (home : Home) (e : Shows) (m : LogMap) (h : Holds home e m []) → m 
 held_map home e m h = sym h.at.stands.map
 
 pub copies_written : (home : Home) (e t : Shows) (gate : Option ℕ) (b : Batch) (block : FileBlockHandle) (m : LogMap) → Holds home e m [] → CountsAlone b → HasCopies gate b e.tables m
-    → AppendsTo InRewrite (signed_for b) block e.pipes t.pipes → t.tables ≡ moved_to gate block b e.tables → Holds home t m []
-copies_written home e t gate b block m h alone copies call same =
+    → AppendsTo InRewrite (signed_for b) block e.pipes t.pipes → t.tables ≡ moved_to gate block b e.tables → KeepsOrForgets e t → Holds home t m []
+copies_written home e t gate b block m h alone copies call same kept =
     let these : HasCopies gate b e.tables h.map = subst (λ k. HasCopies gate b e.tables k) (held_map home e m h) copies in
-    record_written home e t b block m h alone call (moved_to gate block b e.tables) same
+    record_written home e t b block m h alone call (moved_to gate block b e.tables) same kept
     (λ s r last spans stored meant.
     let says = says_there s r block b spans alone last in (
       copies_stored s gate block b e.tables h.map meant says these (runs_there s r block b spans alone last) stored,
       copies_carry (entries_at s) gate block b e.tables h.map meant says these,
     ))
 
-pub copies_refused : (home : Home) (e t : Shows) (gate : Option ℕ) (b : Batch) (m : LogMap) (error : Error) → Holds home e m [] → CountsAlone b → HasCopies gate b e.tables m → t.tables ≡ e.tables
+pub copies_refused : (home : Home) (e t : Shows) (gate : Option ℕ) (b : Batch) (m : LogMap) (error : Error) → Holds home e m [] → CountsAlone b → HasCopies gate b e.tables m → SameTables e t
     → FailsToAppendTo InRewrite (signed_for b) error e.pipes t.pipes → RewriteLeaves home m t error
 copies_refused home e t gate b m error h alone copies same call =
     let these : HasCopies gate b e.tables h.map = subst (λ k. HasCopies gate b e.tables k) (held_map home e m h) copies in

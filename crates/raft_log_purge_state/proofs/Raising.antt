@@ -35,6 +35,7 @@ use Rattle.raft_log_dual_pipes.specs.Calls.{FailsToPurgeQueue, PurgesQueue}
 use Rattle.raft_log_engine_state.specs.Shows.{Home, LogMap, Shows, log_in, sense}
 use Rattle.raft_log_engine_state.specs.Holding.{IsLeftAt}
 use Rattle.raft_log_purge_state.specs.Raising.{AppendMayBegin, MayBegin, PurgeLeavesHeld, RewriteMayBegin}
+use Rattle.raft_log_blocks.proofs.Kept.{none_kept}
 use Rattle.raft_log_purge_state.specs.Settled.{HoldsSettled}
 use Rattle.raft_log_purge_state.proofs.Settling.{left_whole}
 
@@ -132,45 +133,47 @@ rewrite_stands_from n at v map meant may g s there =
 
 -- The log once a queue began later.
 
-raised_settled : (which : Which) (home : Home) (e t : Shows) (m : LogMap) (n : ℕ) (h : HoldsSettled home e m) → MayBegin which n e.tables → t.tables ≡ e.tables
+raised_settled : (which : Which) (home : Home) (e t : Shows) (m : LogMap) (n : ℕ) (h : HoldsSettled home e m) → MayBegin which n e.tables → t.tables ≡ e.tables → t.cache.place ≡ None
     → RunsOn (sense home) t.pipes (raised_log which h.state n t.pipes.disk)
     → AreStored (raised_log which h.state n t.pipes.disk) e.tables
     → IsSettled (Ties (log_in home) (raised_log which h.state n t.pipes.disk)) (view_of e.tables h.map) m → HoldsSettled home t m
-raised_settled which home e t m n h may same runs stored at =
+raised_settled which home e t m n h may same forgets runs stored at =
     let next : State = raised_log which h.state n t.pipes.disk in record {
       state = next;
       map = h.map;
       runs = runs;
       stored = subst (λ v. AreStored next v) (sym same) stored;
       meant = subst (λ v. AreMeant (entries_at next) v h.map) (sym same) (raised_means which h.state n t.pipes.disk e.tables h.map h.meant);
+      cached = none_kept next t.cache forgets;
       at = subst (λ v. IsSettled (Ties (log_in home) next) (view_of v h.map) m) (sym same) at;
     }
 
-pub raised : (which : Which) (home : Home) (e t : Shows) (m : LogMap) (n : ℕ) → HoldsSettled home e m → MayBegin which n e.tables → t.tables ≡ e.tables → PurgesQueue which n e.pipes t.pipes
+pub raised : (which : Which) (home : Home) (e t : Shows) (m : LogMap) (n : ℕ) → HoldsSettled home e m → MayBegin which n e.tables → t.tables ≡ e.tables → t.cache.place ≡ None → PurgesQueue which n e.pipes t.pipes
     → HoldsSettled home t m
-raised InAppend home e t m n h may same call =
+raised InAppend home e t m n h may same forgets call =
     let s = h.state in
     let (runs, step) = call (sense home) s h.runs in
-    raised_settled InAppend home e t m n h may same runs (append_stored s n t.pipes.disk e.tables h.stored may)
+    raised_settled InAppend home e t m n h may same forgets runs (append_stored s n t.pipes.disk e.tables h.stored may)
     (append_raise_settled (Ties (log_in home)) (Ties (log_in home)) s (raised_log InAppend s n t.pipes.disk) (view_of e.tables h.map) m n h.at step
     (λ g. (may g).0) (stands_from n e.tables h.map may))
-raised InRewrite home e t m n h may same call =
+raised InRewrite home e t m n h may same forgets call =
     let s = h.state in
     let (runs, step) = call (sense home) s h.runs in
-    raised_settled InRewrite home e t m n h may same runs (rewrite_stored s n t.pipes.disk e.tables h.stored may)
+    raised_settled InRewrite home e t m n h may same forgets runs (rewrite_stored s n t.pipes.disk e.tables h.stored may)
     (rewrite_raise_settled (Ties (log_in home)) (Ties (log_in home)) s (raised_log InRewrite s n t.pipes.disk) (view_of e.tables h.map) m n h.at step
     (rewrite_stands_from n (entries_at s) e.tables h.map h.meant may))
 
 -- Refusals.
 
 -- the same log, on pipes that run over it
-settled_same : (home : Home) (e t : Shows) (m : LogMap) (h : HoldsSettled home e m) → t.tables ≡ e.tables → RunsOn (sense home) t.pipes h.state → HoldsSettled home t m
-settled_same home e t m h same runs = record {
+settled_same : (home : Home) (e t : Shows) (m : LogMap) (h : HoldsSettled home e m) → t.tables ≡ e.tables → t.cache.place ≡ None → RunsOn (sense home) t.pipes h.state → HoldsSettled home t m
+settled_same home e t m h same forgets runs = record {
   state = h.state;
   map = h.map;
   runs = runs;
   stored = subst (λ v. AreStored h.state v) (sym same) h.stored;
   meant = subst (λ v. AreMeant (entries_at h.state) v h.map) (sym same) h.meant;
+  cached = none_kept h.state t.cache forgets;
   at = subst (λ v. IsSettled (Ties (log_in home) h.state) (view_of v h.map) m) (sym same) h.at;
 }
 
@@ -188,14 +191,14 @@ disk_of_raised : (which : Which) (s : State) (n : ℕ) (d : Disk) → (raised_lo
 disk_of_raised InAppend s n d = refl
 disk_of_raised InRewrite s n d = refl
 
-pub raise_refused : (which : Which) (home : Home) (e t : Shows) (m : LogMap) (n : ℕ) (error : Error) → HoldsSettled home e m → MayBegin which n e.tables → t.tables ≡ e.tables
+pub raise_refused : (which : Which) (home : Home) (e t : Shows) (m : LogMap) (n : ℕ) (error : Error) → HoldsSettled home e m → MayBegin which n e.tables → t.tables ≡ e.tables → t.cache.place ≡ None
     → FailsToPurgeQueue which n error e.pipes t.pipes → PurgeLeavesHeld home m t error
-raise_refused which home e t m n errors.Memory h may same call = settled_same home e t m h same (call (sense home) h.state h.runs).0
-raise_refused which home e t m n (errors.InvalidArgument text) h may same call = settled_same home e t m h same (call (sense home) h.state h.runs).1.0
-raise_refused which home e t m n errors.NumberRange h may same call = settled_same home e t m h same (call (sense home) h.state h.runs).0
-raise_refused which home e t m n errors.Failed h may same call =
+raise_refused which home e t m n errors.Memory h may same forgets call = settled_same home e t m h same forgets (call (sense home) h.state h.runs).0
+raise_refused which home e t m n (errors.InvalidArgument text) h may same forgets call = settled_same home e t m h same forgets (call (sense home) h.state h.runs).1.0
+raise_refused which home e t m n errors.NumberRange h may same forgets call = settled_same home e t m h same forgets (call (sense home) h.state h.runs).0
+raise_refused which home e t m n errors.Failed h may same forgets call =
     let (fails, left) = call (sense home) h.state h.runs in
     let next : State = raised_log which h.state n t.pipes.disk in
     subst (λ d. IsLeftAt home d m []) (disk_of_raised which h.state n t.pipes.disk)
     (left_whole home (with_open which (both_open (files_of e.pipes)) None) next m [] left.0 (raise_failed which home e t m n h may left.1))
-raise_refused which home e t m n _ h may same call = call (sense home) h.state h.runs
+raise_refused which home e t m n _ h may same forgets call = call (sense home) h.state h.runs

@@ -45,11 +45,12 @@ use Rattle.raft_log_views.specs.Views.{AreMeant, ViewCarries, view_of}
 use Rattle.raft_log_views.proofs.Carrying.{marks_on}
 use Rattle.raft_log_dual_pipes.specs.Pipes.{RunsOn, Said, State, files_of}
 use Rattle.raft_log_dual_pipes.specs.Calls.{AppendsTo, FailsToAppendTo, LeavesOutOn}
-use Rattle.raft_log_engine_state.specs.Shows.{Home, LogMap, Shows, log_in, said_by, said_of, sense}
+use Rattle.raft_log_engine_state.specs.Shows.{Home, KeepsOrForgets, LogMap, Shows, log_in, said_by, said_of, sense}
 use Rattle.raft_log_engine_state.specs.Holding.{Holds, IsLeftAt}
+use Rattle.raft_log_engine_state.proofs.Keeping.{stays_cached}
 use Rattle.raft_log_engine_state.proofs.Growing.{read_is_said}
 use Rattle.raft_log_purge_state.specs.Rewriting.{CountsAlone, RewriteLeaves, SaysOwed}
-use Rattle.raft_log_purge_state.specs.Settled.{HoldsSettled}
+use Rattle.raft_log_purge_state.specs.Settled.{HoldsSettled, SameTables}
 use Rattle.raft_log_purge_state.proofs.Settling.{held_on, left_whole, settled_on}
 
 -- What a batch that counts by itself says.
@@ -69,7 +70,7 @@ says_alone home b alone =
 
 -- Refused.
 
-left_out : (home : Home) (e t : Shows) (m : LogMap) (h : Holds home e m []) → t.tables ≡ e.tables → LeavesOutOn (sense home) InRewrite h.state e.pipes t.pipes → Holds home t m []
+left_out : (home : Home) (e t : Shows) (m : LogMap) (h : Holds home e m []) → SameTables e t → LeavesOutOn (sense home) InRewrite h.state e.pipes t.pipes → Holds home t m []
 left_out home e t m h same call =
     let s = h.state in
     let (files, left, runs, step) = call in
@@ -77,28 +78,28 @@ left_out home e t m h same call =
       | inl is ↦ subst (λ (q : LogFiles LogRecord). KeepsBytes s.rewrite.files q) (sym is) ((calls_keep_bytes {R = LogRecord}).same s.rewrite.files)
       | inr cut ↦ (calls_keep_bytes {R = LogRecord}).cut_back _ _ _ s.rewrite.files files cut
     ] in
-    held_on home e t InRewrite s h.map h.stored h.meant same files keeps runs m []
+    held_on home e t InRewrite s h.map h.stored h.meant h.cached same files keeps runs m []
     (rewrite_left_out (Ties (log_in home)) (AllowsIn (log_in home)) s (next_log InRewrite s files t.pipes.disk) (view_of e.tables h.map) m [] h.at step)
 
-pub record_refused : (home : Home) (e t : Shows) (b : Batch) (m : LogMap) (error : Error) (h : Holds home e m []) → CountsAlone b → t.tables ≡ e.tables → (u : ℕ → View (List ℕ) (List ℕ))
+pub record_refused : (home : Home) (e t : Shows) (b : Batch) (m : LogMap) (error : Error) (h : Holds home e m []) → CountsAlone b → SameTables e t → (u : ℕ → View (List ℕ) (List ℕ))
     → ((n : ℕ) → CarriesTo (bytes_of b) n (view_of e.tables h.map) (u n)) → FailsToAppendTo InRewrite (signed_for b) error e.pipes t.pipes → RewriteLeaves home m t error
 record_refused home e t b m (errors.Io kind) h alone same u carry call =
     let s = h.state in
-    let (files, cut, runs, step) = call (sense home) s (Plain (bytes_of b)) h.runs (says_alone home b alone) in
-    settled_on home e t InRewrite s h.map h.stored h.meant same files ((calls_keep_bytes {R = LogRecord}).cut_back _ _ _ s.rewrite.files files cut) runs m
+    let (cause, (files, cut, runs, step)) = call (sense home) s (Plain (bytes_of b)) h.runs (says_alone home b alone) in
+    settled_on home e t InRewrite s h.map h.stored h.meant h.cached same files ((calls_keep_bytes {R = LogRecord}).cut_back _ _ _ s.rewrite.files files cut) runs m
     (rewrite_settles (Ties (log_in home)) s (next_log InRewrite s files t.pipes.disk) (view_of e.tables h.map) m
     (cut_back_settles (Ties (log_in home)) s (next_log InRewrite s files t.pipes.disk) InRewrite step) h.at)
 record_refused home e t b m (errors.TryAgain text) h alone same u carry call =
     let s = h.state in
-    let (files, cut, runs, step) = call (sense home) s (Plain (bytes_of b)) h.runs (says_alone home b alone) in
-    settled_on home e t InRewrite s h.map h.stored h.meant same files ((calls_keep_bytes {R = LogRecord}).cut_back _ _ _ s.rewrite.files files cut) runs m
+    let (cause, (files, cut, runs, step)) = call (sense home) s (Plain (bytes_of b)) h.runs (says_alone home b alone) in
+    settled_on home e t InRewrite s h.map h.stored h.meant h.cached same files ((calls_keep_bytes {R = LogRecord}).cut_back _ _ _ s.rewrite.files files cut) runs m
     (rewrite_settles (Ties (log_in home)) s (next_log InRewrite s files t.pipes.disk) (view_of e.tables h.map) m
     (cut_back_settles (Ties (log_in home)) s (next_log InRewrite s files t.pipes.disk) InRewrite step) h.at)
 record_refused home e t b m errors.NumberRange h alone same u carry call = left_out home e t m h same (call (sense home) h.state (Plain (bytes_of b)) h.runs (says_alone home b alone))
 record_refused home e t b m errors.Memory h alone same u carry call = left_out home e t m h same (call (sense home) h.state (Plain (bytes_of b)) h.runs (says_alone home b alone))
 record_refused home e t b m errors.Failed h alone same u carry call =
     let s = h.state in
-    let (files, goes, stands, may) = call (sense home) s (Plain (bytes_of b)) h.runs (says_alone home b alone) in
+    let (cause, (files, goes, stands, may)) = call (sense home) s (Plain (bytes_of b)) h.runs (says_alone home b alone) in
     let next : State = next_log InRewrite s files t.pipes.disk in
     left_whole home (with_open InRewrite (both_open (files_of e.pipes)) None) next m [] stands
     (copies_may_be_there (Ties (log_in home)) (Ties (log_in home)) s next (view_of e.tables h.map) m u (bytes_of b) may carry h.at)
@@ -108,10 +109,10 @@ record_refused home e t b m _ h alone same u carry call = call (sense home) h.st
 
 -- the tables show what the record makes of them
 pub record_written : (home : Home) (e t : Shows) (b : Batch) (block : FileBlockHandle) (m : LogMap) (h : Holds home e m []) → CountsAlone b → (call : AppendsTo InRewrite (signed_for b) block e.pipes t.pipes)
-    → (u : ℕ → Shown) → t.tables ≡ u
+    → (u : ℕ → Shown) → t.tables ≡ u → KeepsOrForgets e t
     → ((s : State) (r : LogRecord) → HasLast (signed_for b) r block s.rewrite.files → s.rewrite.first ≤ s.rewrite.files.last → AreStored s e.tables → AreMeant (entries_at s) e.tables h.map
     → AreStored s u × ViewCarries (entries_at s) block.id.seq e.tables u h.map (bytes_of b)) → Holds home t m []
-record_written home e t b block m h alone call u same carry =
+record_written home e t b block m h alone call u same kept carry =
     let s = h.state in
     let (files, has, last, runs, step) = (call (sense home) s (Plain (bytes_of b)) h.runs (says_alone home b alone)).1 in
     let next : State = next_log InRewrite s files t.pipes.disk in
@@ -124,6 +125,7 @@ record_written home e t b block m h alone call u same carry =
       runs = runs;
       stored = subst (λ v. AreStored next v) (sym same) stored;
       meant = subst (λ v. AreMeant (entries_at next) v h.map) (sym same) view.meant;
+      cached = stays_cached s next (calls_keep_log InRewrite s files t.pipes.disk keeps) e.cache t.cache kept h.cached;
       at = subst (λ v. IsAt (Ties (log_in home) next) (view_of v h.map) m []) (sym same)
           (copies_answered (Ties (log_in home)) (AllowsIn (log_in home)) s next (view_of e.tables h.map) m (view_of u h.map) (bytes_of b) block.id.seq step view.carries h.at);
     }
@@ -161,11 +163,11 @@ marks_carried home e b s n map says meant =
     marks_on (entries_at s) n e.tables map (λ g. (says.owed g).0) (bytes_of b) meant (λ g. (says.owed g).1.owed) (λ g. (says.owed g).1.all) (marks_said b e.tables says.owed)
 
 pub marks_written : (home : Home) (e t : Shows) (b : Batch) (block : FileBlockHandle) (m : LogMap) → Holds home e m [] → SaysOwed b e.tables → AppendsTo InRewrite (signed_for b) block e.pipes t.pipes
-    → t.tables ≡ (λ g. unmarked (e.tables g)) → Holds home t m []
-marks_written home e t b block m h says call same =
-    record_written home e t b block m h says.alone call (λ g. unmarked (e.tables g)) same (λ s r last spans stored meant. (λ g. stored g, marks_carried home e b s block.id.seq h.map says meant))
+    → t.tables ≡ (λ g. unmarked (e.tables g)) → KeepsOrForgets e t → Holds home t m []
+marks_written home e t b block m h says call same kept =
+    record_written home e t b block m h says.alone call (λ g. unmarked (e.tables g)) same kept (λ s r last spans stored meant. (λ g. stored g, marks_carried home e b s block.id.seq h.map says meant))
 
-pub marks_refused : (home : Home) (e t : Shows) (b : Batch) (m : LogMap) (error : Error) → Holds home e m [] → SaysOwed b e.tables → t.tables ≡ e.tables
+pub marks_refused : (home : Home) (e t : Shows) (b : Batch) (m : LogMap) (error : Error) → Holds home e m [] → SaysOwed b e.tables → SameTables e t
     → FailsToAppendTo InRewrite (signed_for b) error e.pipes t.pipes → RewriteLeaves home m t error
 marks_refused home e t b m error h says same call =
     record_refused home e t b m error h says.alone same (λ n. view_of (λ g. unmarked (e.tables g)) h.map) (λ n. (marks_carried home e b h.state n h.map says h.meant).carries) call

@@ -29,15 +29,17 @@ use Rattle.raft_log_dual_pipes.specs.Pipes.{LogPipes, RunsOn, Said, State, files
 use Rattle.raft_log_dual_pipes.specs.Calls.{FailsToRotateQueue, FailsToSyncQueue, RotatesQueue, SyncsQueue}
 use Rattle.raft_log_engine_state.specs.Shows.{Home, LogMap, Shows, log_in, sense}
 use Rattle.raft_log_engine_state.specs.Holding.{Holds, IsLeftAt, RunsAs}
+use Rattle.raft_log_engine_state.proofs.Keeping.{stays_cached}
+use Rattle.raft_log_blocks.specs.Blocks.{IsOfLog}
 use Rattle.raft_log_purge_state.specs.Quiet.{TurnLeavesHeld}
-use Rattle.raft_log_purge_state.specs.Settled.{HoldsSettled}
+use Rattle.raft_log_purge_state.specs.Settled.{HoldsSettled, SameTables}
 
 -- what is settled is held
 pub settled_held : (home : Home) (e : Shows) (m : LogMap) → HoldsSettled home e m → Holds home e m []
-settled_held home e m h = record { state = h.state; map = h.map; runs = h.runs; stored = h.stored; meant = h.meant; at = h.at.at }
+settled_held home e m h = record { state = h.state; map = h.map; runs = h.runs; stored = h.stored; meant = h.meant; cached = h.cached; at = h.at.at }
 
 -- the same tables go on with a log that keeps its bytes
-module _ (home : Home) (e t : Shows) (which : Which) (s : State) (map : LogMap) (stored : AreStored s e.tables) (meant : AreMeant (entries_at s) e.tables map) (same : t.tables ≡ e.tables) (files : LogFiles LogRecord)
+module _ (home : Home) (e t : Shows) (which : Which) (s : State) (map : LogMap) (stored : AreStored s e.tables) (meant : AreMeant (entries_at s) e.tables map) (cached : IsOfLog s e.cache) (same : SameTables e t) (files : LogFiles LogRecord)
     (keeps : KeepsBytes (spanned_at which s).files files) (runs : RunsOn (sense home) t.pipes (next_log which s files t.pipes.disk)) where
   abbrev next : State
   next = next_log which s files t.pipes.disk
@@ -48,9 +50,10 @@ module _ (home : Home) (e t : Shows) (which : Which) (s : State) (map : LogMap) 
         state = next;
         map = map;
         runs = runs;
-        stored = subst (λ v. AreStored next v) (sym same) stays.0;
-        meant = subst (λ v. AreMeant (entries_at next) v map) (sym same) (stays.1 map meant);
-        at = subst (λ v. IsAt (Ties (log_in home) next) (view_of v map) k rest) (sym same) at;
+        stored = subst (λ v. AreStored next v) (sym same.tables) stays.0;
+        meant = subst (λ v. AreMeant (entries_at next) v map) (sym same.tables) (stays.1 map meant);
+        cached = stays_cached s next (calls_keep_log which s files t.pipes.disk keeps) e.cache t.cache same.cache cached;
+        at = subst (λ v. IsAt (Ties (log_in home) next) (view_of v map) k rest) (sym same.tables) at;
       }
 
   pub settled_on : (k : LogMap) → IsSettled (Ties (log_in home) next) (view_of e.tables map) k → HoldsSettled home t k
@@ -59,28 +62,29 @@ module _ (home : Home) (e t : Shows) (which : Which) (s : State) (map : LogMap) 
         state = next;
         map = map;
         runs = runs;
-        stored = subst (λ v. AreStored next v) (sym same) stays.0;
-        meant = subst (λ v. AreMeant (entries_at next) v map) (sym same) (stays.1 map meant);
-        at = subst (λ v. IsSettled (Ties (log_in home) next) (view_of v map) k) (sym same) at;
+        stored = subst (λ v. AreStored next v) (sym same.tables) stays.0;
+        meant = subst (λ v. AreMeant (entries_at next) v map) (sym same.tables) (stays.1 map meant);
+        cached = stays_cached s next (calls_keep_log which s files t.pipes.disk keeps) e.cache t.cache same.cache cached;
+        at = subst (λ v. IsSettled (Ties (log_in home) next) (view_of v map) k) (sym same.tables) at;
       }
 
 -- Syncs.
 
-pub sync_keeps : (home : Home) (e t : Shows) (m : LogMap) (pending : List Said) → Holds home e m pending → t.tables ≡ e.tables → SyncsQueue InRewrite e.pipes t.pipes → Holds home t m pending
+pub sync_keeps : (home : Home) (e t : Shows) (m : LogMap) (pending : List Said) → Holds home e m pending → SameTables e t → SyncsQueue InRewrite e.pipes t.pipes → Holds home t m pending
 sync_keeps home e t m pending h same call =
     let s = h.state in
     let files : LogFiles LogRecord = synced s.rewrite.files in
     let (runs, step) = call (sense home) s h.runs in
-    held_on home e t InRewrite s h.map h.stored h.meant same files ((calls_keep_bytes {R = LogRecord}).synced s.rewrite.files) runs m pending
+    held_on home e t InRewrite s h.map h.stored h.meant h.cached same files ((calls_keep_bytes {R = LogRecord}).synced s.rewrite.files) runs m pending
     (rewrite_synced (Ties (log_in home)) (AllowsIn (log_in home)) s (next_log InRewrite s files t.pipes.disk) (view_of e.tables h.map) m pending h.at step)
 
-pub sync_settles_log : (home : Home) (e t : Shows) (m : LogMap) → Holds home e m [] → t.tables ≡ e.tables → SyncsQueue InRewrite e.pipes t.pipes → HoldsSettled home t m
+pub sync_settles_log : (home : Home) (e t : Shows) (m : LogMap) → Holds home e m [] → SameTables e t → SyncsQueue InRewrite e.pipes t.pipes → HoldsSettled home t m
 sync_settles_log home e t m h same call =
     let s = h.state in
     let files : LogFiles LogRecord = synced s.rewrite.files in
     let (runs, step) = call (sense home) s h.runs in
     let next : State = next_log InRewrite s files t.pipes.disk in
-    settled_on home e t InRewrite s h.map h.stored h.meant same files ((calls_keep_bytes {R = LogRecord}).synced s.rewrite.files) runs m
+    settled_on home e t InRewrite s h.map h.stored h.meant h.cached same files ((calls_keep_bytes {R = LogRecord}).synced s.rewrite.files) runs m
     (rewrite_settles (Ties (log_in home)) s next (view_of e.tables h.map) m (sync_settles (Ties (log_in home)) s next InRewrite step) h.at)
 
 -- a log that is so lies on its disk
@@ -112,41 +116,51 @@ failed_sync InRewrite home v w m pending h call =
 
 -- Rotations.
 
-pub append_rotates : (home : Home) (e t : Shows) (m : LogMap) (pending : List Said) → Holds home e m pending → t.tables ≡ e.tables → RotatesQueue InAppend e.pipes t.pipes → Holds home t (taken m pending) []
+pub append_rotates : (home : Home) (e t : Shows) (m : LogMap) (pending : List Said) → Holds home e m pending → SameTables e t → RotatesQueue InAppend e.pipes t.pipes → Holds home t (taken m pending) []
 append_rotates home e t m pending h same call =
     let s = h.state in
     let (files, goes, runs, step) = call (sense home) s h.runs in
     let next : State = next_log InAppend s files t.pipes.disk in
-    held_on home e t InAppend s h.map h.stored h.meant same files ((calls_keep_bytes {R = LogRecord}).turned _ _ _ s.append.files files (inr goes)) runs (taken m pending) []
+    held_on home e t InAppend s h.map h.stored h.meant h.cached same files ((calls_keep_bytes {R = LogRecord}).turned _ _ _ s.append.files files (inr goes)) runs (taken m pending) []
     (append_settles (Ties (log_in home)) s next (view_of e.tables h.map) m pending step h.at)
 
-pub settled_rotates : (home : Home) (e t : Shows) (m : LogMap) → HoldsSettled home e m → t.tables ≡ e.tables → RotatesQueue InAppend e.pipes t.pipes → HoldsSettled home t m
+pub settled_rotates : (home : Home) (e t : Shows) (m : LogMap) → HoldsSettled home e m → SameTables e t → RotatesQueue InAppend e.pipes t.pipes → HoldsSettled home t m
 settled_rotates home e t m h same call =
     let s = h.state in
     let (files, goes, runs, step) = call (sense home) s h.runs in
     let next : State = next_log InAppend s files t.pipes.disk in
-    settled_on home e t InAppend s h.map h.stored h.meant same files ((calls_keep_bytes {R = LogRecord}).turned _ _ _ s.append.files files (inr goes)) runs m
+    settled_on home e t InAppend s h.map h.stored h.meant h.cached same files ((calls_keep_bytes {R = LogRecord}).turned _ _ _ s.append.files files (inr goes)) runs m
     (settled_stays (Ties (log_in home)) s next (view_of e.tables h.map) m step h.at)
 
-pub rewrite_rotates : (home : Home) (e t : Shows) (m : LogMap) → Holds home e m [] → t.tables ≡ e.tables → RotatesQueue InRewrite e.pipes t.pipes → HoldsSettled home t m
+pub rewrite_rotates : (home : Home) (e t : Shows) (m : LogMap) → Holds home e m [] → SameTables e t → RotatesQueue InRewrite e.pipes t.pipes → HoldsSettled home t m
 rewrite_rotates home e t m h same call =
     let s = h.state in
     let (files, goes, runs, step) = call (sense home) s h.runs in
     let next : State = next_log InRewrite s files t.pipes.disk in
-    settled_on home e t InRewrite s h.map h.stored h.meant same files ((calls_keep_bytes {R = LogRecord}).turned _ _ _ s.rewrite.files files (inr goes)) runs m
+    settled_on home e t InRewrite s h.map h.stored h.meant h.cached same files ((calls_keep_bytes {R = LogRecord}).turned _ _ _ s.rewrite.files files (inr goes)) runs m
     (rewrite_settles (Ties (log_in home)) s next (view_of e.tables h.map) m step h.at)
 
 -- Refused rotations.
 
+-- a log keeps what it has
+pub same_log : (s : State) → KeepsLog s s
+same_log s = record {
+  append = (calls_keep_bytes {R = LogRecord}).same s.append.files;
+  rewrite = (calls_keep_bytes {R = LogRecord}).same s.rewrite.files;
+  append_first = omega arith;
+  rewrite_first = omega arith;
+}
+
 -- the same log, on pipes that run over it
-pub held_same : (home : Home) (e t : Shows) (m : LogMap) (pending : List Said) (h : Holds home e m pending) → t.tables ≡ e.tables → RunsOn (sense home) t.pipes h.state → Holds home t m pending
+pub held_same : (home : Home) (e t : Shows) (m : LogMap) (pending : List Said) (h : Holds home e m pending) → SameTables e t → RunsOn (sense home) t.pipes h.state → Holds home t m pending
 held_same home e t m pending h same runs = record {
   state = h.state;
   map = h.map;
   runs = runs;
-  stored = subst (λ v. AreStored h.state v) (sym same) h.stored;
-  meant = subst (λ v. AreMeant (entries_at h.state) v h.map) (sym same) h.meant;
-  at = subst (λ v. IsAt (Ties (log_in home) h.state) (view_of v h.map) m pending) (sym same) h.at;
+  stored = subst (λ v. AreStored h.state v) (sym same.tables) h.stored;
+  meant = subst (λ v. AreMeant (entries_at h.state) v h.map) (sym same.tables) h.meant;
+  cached = stays_cached h.state h.state (same_log h.state) e.cache t.cache same.cache h.cached;
+  at = subst (λ v. IsAt (Ties (log_in home) h.state) (view_of v h.map) m pending) (sym same.tables) h.at;
 }
 
 -- a log of which some first batches are synced lies on its disk
@@ -180,14 +194,14 @@ turn_failed : (which : Which) (home : Home) (o : OpenPipes) (s t : State) (d : D
 turn_failed which home o s t d v m pending disk h stands moved =
     subst (λ x. IsLeftAt home x m pending) disk (left_ending home o t m pending stands (moved_log which home s t v m pending h moved))
 
-pub turn_refused : (which : Which) (home : Home) (e t : Shows) (m : LogMap) (pending : List Said) (error : Error) → Holds home e m pending → t.tables ≡ e.tables
+pub turn_refused : (which : Which) (home : Home) (e t : Shows) (m : LogMap) (pending : List Said) (error : Error) → Holds home e m pending → SameTables e t
     → FailsToRotateQueue which error e.pipes t.pipes → TurnLeavesHeld home m pending t error
 turn_refused which home e t m pending errors.Memory h same call = held_same home e t m pending h same (call (sense home) h.state h.runs).0
 turn_refused which home e t m pending errors.NumberRange h same call = held_same home e t m pending h same (call (sense home) h.state h.runs).0
 turn_refused InAppend home e t m pending errors.Failed h same call =
-    let (files, goes, stands, moved) = call (sense home) h.state h.runs in
+    let (cause, (files, goes, stands, moved)) = call (sense home) h.state h.runs in
     turn_failed InAppend home (with_open InAppend (both_open (files_of e.pipes)) None) h.state (next_log InAppend h.state files t.pipes.disk) t.pipes.disk (view_of e.tables h.map) m pending refl h.at stands moved
 turn_refused InRewrite home e t m pending errors.Failed h same call =
-    let (files, goes, stands, moved) = call (sense home) h.state h.runs in
+    let (cause, (files, goes, stands, moved)) = call (sense home) h.state h.runs in
     turn_failed InRewrite home (with_open InRewrite (both_open (files_of e.pipes)) None) h.state (next_log InRewrite h.state files t.pipes.disk) t.pipes.disk (view_of e.tables h.map) m pending refl h.at stands moved
 turn_refused which home e t m pending _ h same call = call (sense home) h.state h.runs

@@ -11,7 +11,7 @@ use Rattle.raft_log_dual_pipes.specs.Pipes.{LogPipes, Said}
 use Rattle.raft_log_dual_pipes.specs.Calls.{FailsToRotateQueue, FailsToSyncQueue, RotatesQueue, SyncsQueue}
 use Rattle.raft_log_engine_state.specs.Shows.{Home, LogMap, Shows}
 use Rattle.raft_log_engine_state.specs.Holding.{Holds, IsLeftAt, RunsAs}
-use Rattle.raft_log_purge_state.specs.Settled.{HoldsSettled}
+use Rattle.raft_log_purge_state.specs.Settled.{HoldsSettled, SameTables}
 
 -- what is settled is held, and nothing is pending
 abbrev pub SettledLogsAreHeld : Type 0
@@ -21,9 +21,9 @@ SettledLogsAreHeld = (home : Home) (e : Shows) (m : LogMap) → HoldsSettled hom
 -- either queue.
 pub record RewriteSyncsKeepTheMap : Type 0 where
   pub keeps : (home : Home) (e t : Shows) (m : LogMap) (pending : List Said) → Holds home e m pending
-      → t.tables ≡ e.tables → SyncsQueue InRewrite e.pipes t.pipes → Holds home t m pending
+      → SameTables e t → SyncsQueue InRewrite e.pipes t.pipes → Holds home t m pending
   pub settles : (home : Home) (e t : Shows) (m : LogMap) → Holds home e m []
-      → t.tables ≡ e.tables → SyncsQueue InRewrite e.pipes t.pipes → HoldsSettled home t m
+      → SameTables e t → SyncsQueue InRewrite e.pipes t.pipes → HoldsSettled home t m
 
 -- a sync of either queue that failed leaves the log as it was
 abbrev pub FailedSyncsLeaveLogs : Type 0
@@ -35,11 +35,11 @@ FailedSyncsLeaveLogs = (which : Which) (home : Home) (v w : LogPipes) (m : LogMa
 -- is pending in Append behind it, nothing is in the queue that rotated.
 pub record RotationsKeepTheMap : Type 0 where
   pub append : (home : Home) (e t : Shows) (m : LogMap) (pending : List Said) → Holds home e m pending
-      → t.tables ≡ e.tables → RotatesQueue InAppend e.pipes t.pipes → Holds home t (taken m pending) []
+      → SameTables e t → RotatesQueue InAppend e.pipes t.pipes → Holds home t (taken m pending) []
   pub stays : (home : Home) (e t : Shows) (m : LogMap) → HoldsSettled home e m
-      → t.tables ≡ e.tables → RotatesQueue InAppend e.pipes t.pipes → HoldsSettled home t m
+      → SameTables e t → RotatesQueue InAppend e.pipes t.pipes → HoldsSettled home t m
   pub rewrite : (home : Home) (e t : Shows) (m : LogMap) → Holds home e m []
-      → t.tables ≡ e.tables → RotatesQueue InRewrite e.pipes t.pipes → HoldsSettled home t m
+      → SameTables e t → RotatesQueue InRewrite e.pipes t.pipes → HoldsSettled home t m
 
 -- what is true where a rotation was refused: nothing was done; or the engine has failed, and its log is held
 abbrev pub TurnLeavesHeld : Home → LogMap → List Said → Shows → Error → Type 0
@@ -51,5 +51,5 @@ TurnLeavesHeld home m pending t _ = ⊥
 -- so it is of either queue
 abbrev pub RefusedRotationsKeepTheMap : Type 0
 RefusedRotationsKeepTheMap = (which : Which) (home : Home) (e t : Shows) (m : LogMap) (pending : List Said)
-    (error : Error) → Holds home e m pending → t.tables ≡ e.tables
+    (error : Error) → Holds home e m pending → SameTables e t
     → FailsToRotateQueue which error e.pipes t.pipes → TurnLeavesHeld home m pending t error

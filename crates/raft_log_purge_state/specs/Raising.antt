@@ -1,6 +1,6 @@
 -- Files that are no longer needed leave a queue's span: where nothing that the tables show lies in them, and,
 -- of Append, no mark is owed to Rewrite, the map stays.
-use Rattle.std.specs.Prelude.{◌≡◌, ℕ, ◌≤◌, List, []}
+use Rattle.std.specs.Prelude.{◌≡◌, ℕ, ◌≤◌, None, List, []}
 use Rattle.raft_log_base.specs.declared.errors.Error.{Error}
 use Rattle.raft_log_base.specs.declared.errors.Error.TheVariants as errors
 use Rattle.raft_log_machine.specs.Whereabouts.{OwesNothing}
@@ -29,10 +29,10 @@ abbrev pub MayBegin : Which → ℕ → (ℕ → Shown) → Type 0
 MayBegin InAppend n v = AppendMayBegin n v
 MayBegin InRewrite n v = RewriteMayBegin n v
 
--- A purge of files below one at which the queue may begin keeps the map.
+-- A purge of files below one at which the queue may begin keeps the map. No block is kept behind it.
 abbrev pub PurgesKeepTheMap : Type 0
 PurgesKeepTheMap = (which : Which) (home : Home) (e t : Shows) (m : LogMap) (n : ℕ) → HoldsSettled home e m
-    → MayBegin which n e.tables → t.tables ≡ e.tables → PurgesQueue which n e.pipes t.pipes
+    → MayBegin which n e.tables → t.tables ≡ e.tables → t.cache.place ≡ None → PurgesQueue which n e.pipes t.pipes
     → HoldsSettled home t m
 
 -- what is true where it was refused: nothing was done; or the engine has failed, and its log is held
@@ -46,5 +46,5 @@ PurgeLeavesHeld home m t _ = ⊥
 -- so it is of either queue
 abbrev pub RefusedPurgesKeepTheMap : Type 0
 RefusedPurgesKeepTheMap = (which : Which) (home : Home) (e t : Shows) (m : LogMap) (n : ℕ) (error : Error)
-    → HoldsSettled home e m → MayBegin which n e.tables → t.tables ≡ e.tables
+    → HoldsSettled home e m → MayBegin which n e.tables → t.tables ≡ e.tables → t.cache.place ≡ None
     → FailsToPurgeQueue which n error e.pipes t.pipes → PurgeLeavesHeld home m t error

@@ -20,9 +20,9 @@ use Rattle.raft_log_records.specs.Places.{entry_bytes}
 use Rattle.raft_log_views.specs.Views.{AreMeant}
 use Rattle.raft_log_engine_state.specs.Writing.{items_at}
 use Rattle.raft_log_dual_pipes.specs.Calls.{AppendsTo, FailsToAppendTo}
-use Rattle.raft_log_engine_state.specs.Shows.{Home, IsLaidOut, LogMap, Shows}
+use Rattle.raft_log_engine_state.specs.Shows.{Home, IsLaidOut, KeepsOrForgets, LogMap, Shows}
 use Rattle.raft_log_engine_state.specs.Holding.{Holds, IsLeftAt}
-use Rattle.raft_log_purge_state.specs.Settled.{HoldsSettled}
+use Rattle.raft_log_purge_state.specs.Settled.{HoldsSettled, SameTables}
 
 -- what is known of a batch that counts by itself once it is in Rewrite: it is no part of an atomic group
 pub record CountsAlone (b : Batch) : Type 0 where
@@ -53,12 +53,12 @@ pub record SaysOwed (b : Batch) (v : ℕ → Shown) : Type 0 where
 abbrev pub WrittenMarksKeepTheMap : Type 0
 WrittenMarksKeepTheMap = (home : Home) (e t : Shows) (b : Batch) (block : FileBlockHandle) (m : LogMap)
     → Holds home e m [] → SaysOwed b e.tables → AppendsTo InRewrite (signed_for b) block e.pipes t.pipes
-    → t.tables ≡ (λ g. unmarked (e.tables g)) → Holds home t m []
+    → t.tables ≡ (λ g. unmarked (e.tables g)) → KeepsOrForgets e t → Holds home t m []
 
 -- They were refused: the tables owe them still.
 abbrev pub RefusedMarksKeepTheMap : Type 0
 RefusedMarksKeepTheMap = (home : Home) (e t : Shows) (b : Batch) (m : LogMap) (error : Error)
-    → Holds home e m [] → SaysOwed b e.tables → t.tables ≡ e.tables
+    → Holds home e m [] → SaysOwed b e.tables → SameTables e t
     → FailsToAppendTo InRewrite (signed_for b) error e.pipes t.pipes → RewriteLeaves home m t error
 
 -- Copies.
@@ -83,10 +83,10 @@ abbrev pub WrittenCopiesKeepTheMap : Type 0
 WrittenCopiesKeepTheMap = (home : Home) (e t : Shows) (gate : Option ℕ) (b : Batch) (block : FileBlockHandle)
     (m : LogMap) → Holds home e m [] → CountsAlone b → HasCopies gate b e.tables m
     → AppendsTo InRewrite (signed_for b) block e.pipes t.pipes → t.tables ≡ moved_to gate block b e.tables
-    → Holds home t m []
+    → KeepsOrForgets e t → Holds home t m []
 
 -- They were refused: all stands where it stood.
 abbrev pub RefusedCopiesKeepTheMap : Type 0
 RefusedCopiesKeepTheMap = (home : Home) (e t : Shows) (gate : Option ℕ) (b : Batch) (m : LogMap)
-    (error : Error) → Holds home e m [] → CountsAlone b → HasCopies gate b e.tables m → t.tables ≡ e.tables
+    (error : Error) → Holds home e m [] → CountsAlone b → HasCopies gate b e.tables m → SameTables e t
     → FailsToAppendTo InRewrite (signed_for b) error e.pipes t.pipes → RewriteLeaves home m t error

@@ -1,19 +1,26 @@
 -- An engine of whose log nothing is pending: what a purge makes before files go.
-use Rattle.std.specs.Prelude.{List}
+use Rattle.std.specs.Prelude.{◌≡◌, List}
 use Rattle.raft_log_directory.specs.Log.{IsSettled}
 use Rattle.raft_log_steps.specs.State.{Ties}
 use Rattle.raft_log_views.specs.Views.{AreMeant, view_of}
 use Rattle.raft_log_stored.specs.Stored.{AreStored, entries_at}
 use Rattle.raft_log_dual_pipes.specs.Pipes.{RunsOn, State}
-use Rattle.raft_log_engine_state.specs.Shows.{Home, LogMap, Shows, log_in, sense}
+use Rattle.raft_log_blocks.specs.Blocks.{IsOfLog}
+use Rattle.raft_log_engine_state.specs.Shows.{Home, KeepsOrForgets, LogMap, Shows, log_in, sense}
 
 -- The engine's log, in these directories, is the map m, and nothing is pending, in Append or in Rewrite: its
--- pipes run over a log that is so, each place that its tables show lies there, and what is read at these
--- places is the map.
+-- pipes run over a log that is so, each place that its tables show lies there, what is read at these places
+-- is the map, and the block that is kept is what was written at its place.
 pub record HoldsSettled (home : Home) (e : Shows) (m : LogMap) : Type 0 where
   pub state : State
   pub map : LogMap
   pub runs : RunsOn (sense home) e.pipes state
   pub stored : AreStored state e.tables
   pub meant : AreMeant (entries_at state) e.tables map
+  pub cached : IsOfLog state e.cache
   pub at : IsSettled (Ties (log_in home) state) (view_of e.tables map) m
+
+-- The tables show what they showed, and the block that was kept stays kept, or none is any more.
+pub record SameTables (e t : Shows) : Type 0 where
+  pub tables : t.tables ≡ e.tables
+  pub cache : KeepsOrForgets e t

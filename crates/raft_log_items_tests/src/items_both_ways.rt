@@ -46,66 +46,88 @@ fn are_written(alloc: Global) -> Result<bool> {
     Ok(out.as_slice() == ITEMS.as_slice())
 }
 
-#[test]
-fn items_are_written(rt: HostRuntime) {
-    assert!(rt; are_written(rt.alloc()).ok() == Some(true));
-}
-
-/// Whether they are read of these bytes, and how many of these are left.
-fn are_read(alloc: Global) -> Result<(bool, usize)> {
+/// Whether they are read of these bytes, and none of these is left.
+fn are_read(alloc: Global) -> Result<bool> {
     let mut rest = ITEMS.as_slice();
-    let read = decode_items(alloc, &mut rest)?;
-    Ok((read.as_slice() == some_items(alloc)?.as_slice(), rest.len()))
+    let (read, items) = (decode_items(alloc, &mut rest)?, some_items(alloc)?);
+    Ok(read.as_slice() == items.as_slice() && rest.is_empty())
 }
 
-#[test]
-fn items_are_read(rt: HostRuntime) {
-    assert!(rt; are_read(rt.alloc()).ok() == Some((true, 0)));
+/// Reads these bytes as an item, and appends that.
+pub fn item_again(alloc: Global, mut bytes: &[u8], out: &mut Vec<u8>) -> Result<()> {
+    let item = LogItem::decode(alloc, &mut bytes)?;
+    Ok(item.encode(out)?)
 }
 
-/// What a part of the bytes is.
-#[derive(Clone, Copy)]
-enum Part {
-    Item,
-    Key,
-    Command,
-    Entries,
+/// Reads these bytes as a key, and appends that.
+pub fn key_again(alloc: Global, mut bytes: &[u8], out: &mut Vec<u8>) -> Result<()> {
+    let key_value = KeyValue::decode(alloc, &mut bytes)?;
+    Ok(key_value.encode(out)?)
 }
 
-/// Reads these bytes as such a part, and appends that.
-fn read_and_write(alloc: Global, part: Part, mut bytes: &[u8], out: &mut Vec<u8>) -> Result<()> {
+/// Reads these bytes as a command, and appends that.
+fn command_again(alloc: Global, mut bytes: &[u8], out: &mut Vec<u8>) -> Result<()> {
+    let command = Command::decode(alloc, &mut bytes)?;
+    Ok(command.encode(out)?)
+}
+
+/// Reads these bytes as entries, and appends those.
+pub fn entries_again(alloc: Global, mut bytes: &[u8], out: &mut Vec<u8>) -> Result<()> {
+    let entries = EntryIndexes::decode(alloc, &mut bytes)?;
+    Ok(entries.encode(out)?)
+}
+
+/// Reads these bytes as the part of this number, an item, a key, a command or entries, and appends that.
+fn read_and_write(alloc: Global, part: usize, bytes: &[u8], out: &mut Vec<u8>) -> Result<()> {
     match part {
-        Part::Item => Ok(LogItem::decode(alloc, &mut bytes)?.encode(out)?),
-        Part::Key => Ok(KeyValue::decode(alloc, &mut bytes)?.encode(out)?),
-        Part::Command => Ok(Command::decode(alloc, &mut bytes)?.encode(out)?),
-        Part::Entries => Ok(EntryIndexes::decode(alloc, &mut bytes)?.encode(out)?),
+        0 => item_again(alloc, bytes, out),
+        1 => key_again(alloc, bytes, out),
+        2 => command_again(alloc, bytes, out),
+        _ => entries_again(alloc, bytes, out),
     }
 }
 
-/// Whether what is read of these bytes is written as they are.
-fn is_kept(alloc: Global, part: Part, bytes: &[u8]) -> Result<bool> {
+/// Whether what is read of these bytes as a part is written as they are.
+fn is_kept(alloc: Global, part: usize, bytes: &[u8]) -> Result<bool> {
     let mut out = Vec::new(alloc);
     read_and_write(alloc, part, bytes, &mut out)?;
     Ok(out.as_slice() == bytes)
 }
 
+/// Whether two entries are read, and the second of them.
+fn entries_are_read(alloc: Global) -> Result<bool> {
+    let entries = some_entries(alloc)?;
+    let second = EntryIndex::unplaced(8, 4);
+    Ok(entries.len() == 2 && !entries.is_empty() && entries.as_slice().get(1) == Some(&second))
+}
+
+/// What is read and written, by its number.
+const PARTS: [&str; 7] = [
+    "an item",
+    "a key",
+    "a command",
+    "entries",
+    "items are written",
+    "items are read",
+    "two entries",
+];
+
+/// Whether it is.
+fn holds(alloc: Global, number: usize) -> Result<bool> {
+    match number {
+        0 => is_kept(alloc, 0, &ITEMS[1..6]),
+        1 => is_kept(alloc, 1, &ITEMS[8..13]),
+        2 => is_kept(alloc, 2, &ITEMS[3..6]),
+        3 => is_kept(alloc, 3, &ENTRIES),
+        4 => are_written(alloc),
+        5 => are_read(alloc),
+        _ => entries_are_read(alloc),
+    }
+}
+
 #[test]
 fn parts_are_read_and_written(rt: HostRuntime) {
-    assert!(rt; is_kept(rt.alloc(), Part::Item, &ITEMS[1..6]).ok() == Some(true));
-    assert!(rt; is_kept(rt.alloc(), Part::Key, &ITEMS[8..13]).ok() == Some(true));
-    assert!(rt; is_kept(rt.alloc(), Part::Command, &ITEMS[3..6]).ok() == Some(true));
-    assert!(rt; is_kept(rt.alloc(), Part::Entries, &ENTRIES).ok() == Some(true));
-}
-
-/// How many entries are read, whether there are none, and the second of them.
-fn entries_read(alloc: Global) -> Result<(usize, bool, Option<EntryIndex>)> {
-    let entries = some_entries(alloc)?;
-    let second = entries.as_slice().get(1).copied();
-    Ok((entries.len(), entries.is_empty(), second))
-}
-
-#[test]
-fn entries_are_read(rt: HostRuntime) {
-    let second = EntryIndex::unplaced(8, 4);
-    assert!(rt; entries_read(rt.alloc()).ok() == Some((2, false, Some(second))));
+    for (number, part) in PARTS.iter().enumerate() {
+        assert!(rt; holds(rt.alloc(), number).ok() == Some(true), "{part}");
+    }
 }

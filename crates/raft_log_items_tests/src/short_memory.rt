@@ -1,11 +1,13 @@
 //! A call that finds no memory is refused as such, leaves what it was given, and is answered when it is asked
 //! again. Run it with each allocation failing in turn.
-use super::items_both_ways::{ENTRIES, ITEMS, some_entries, some_items, some_put};
+use super::items_both_ways::{
+    ENTRIES, ITEMS, entries_again, item_again, key_again, some_entries, some_items, some_put,
+};
 use raft_log_base::codec::BytesSlice;
 use raft_log_items::items::{append_items, copied, decode_items, decode_placed_items};
 use raft_log_items::{
     Command, CompressionType, EntryIndexes, Error, FileBlockHandle, FileId, KeyValue, LogItem,
-    LogItemContent, LogQueue, OpType, Result,
+    LogQueue, OpType, Result,
 };
 use std::alloc::Global;
 use std::test::Fail;
@@ -34,14 +36,22 @@ const SOURCES: [&[u8]; 5] = [
     &RUN,
 ];
 
+/// Forgets what was read.
+fn forget<T: Drop>(answer: Result<T>) -> Result<()> {
+    match answer {
+        Ok(_) => Ok(()),
+        Err(error) => Err(error),
+    }
+}
+
 /// Reads by the reader of this number.
 fn read(alloc: Global, number: usize, source: &mut BytesSlice<'_>) -> Result<()> {
     match number {
-        0 => KeyValue::decode(alloc, source).map(|_| ()),
-        1 => EntryIndexes::decode(alloc, source).map(|_| ()),
-        2 => LogItem::decode(alloc, source).map(|_| ()),
-        3 => decode_items(alloc, source).map(|_| ()),
-        _ => decode_placed_items(alloc, source, block()).map(|_| ()),
+        0 => forget(KeyValue::decode(alloc, source)),
+        1 => forget(EntryIndexes::decode(alloc, source)),
+        2 => forget(LogItem::decode(alloc, source)),
+        3 => forget(decode_items(alloc, source)),
+        _ => forget(decode_placed_items(alloc, source, block())),
     }
 }
 
@@ -49,24 +59,24 @@ fn read(alloc: Global, number: usize, source: &mut BytesSlice<'_>) -> Result<()>
 fn bytes_read(alloc: Global, number: usize) -> Result<usize> {
     let mut rest: &[u8] = SOURCES[number.min(4)];
     let len = rest.len();
-    let answer = read(alloc, number, &mut rest);
-    if answer.is_err() && rest.len() != len {
-        return Ok(CHANGED);
+    match read(alloc, number, &mut rest) {
+        Ok(()) => Ok(len.saturating_sub(rest.len())),
+        Err(error) if rest.len() == len => Err(error),
+        Err(_) => Ok(CHANGED),
     }
-    answer.map(|_| len.saturating_sub(rest.len()))
 }
 
 /// Refuses bytes that are none, with a text: a command, an operation, a compression, an item, a key, an index
 /// and a length.
-fn refuse(alloc: Global, number: usize) -> Result<()> {
+pub fn refuse(alloc: Global, number: usize) -> Result<()> {
     match number {
-        0 => Command::decode(alloc, &mut [7u8, 1].as_slice()).map(|_| ()),
-        1 => OpType::from_u8(alloc, 7).map(|_| ()),
-        2 => CompressionType::from_u8(alloc, 7).map(|_| ()),
-        3 => LogItem::decode(alloc, &mut [1u8, 7].as_slice()).map(|_| ()),
-        4 => KeyValue::decode(alloc, &mut [7u8].as_slice()).map(|_| ()),
-        5 => EntryIndexes::decode(alloc, &mut TOP_INDEX.as_slice()).map(|_| ()),
-        _ => EntryIndexes::decode(alloc, &mut TOP_LENGTH.as_slice()).map(|_| ()),
+        0 => forget(Command::decode(alloc, &mut [7u8, 1].as_slice())),
+        1 => forget(OpType::from_u8(alloc, 7)),
+        2 => forget(CompressionType::from_u8(alloc, 7)),
+        3 => forget(LogItem::decode(alloc, &mut [1u8, 7].as_slice())),
+        4 => forget(KeyValue::decode(alloc, &mut [7u8].as_slice())),
+        5 => forget(EntryIndexes::decode(alloc, &mut TOP_INDEX.as_slice())),
+        _ => forget(EntryIndexes::decode(alloc, &mut TOP_LENGTH.as_slice())),
     }
 }
 
@@ -82,21 +92,25 @@ const TOP_LENGTH: [u8; 7] = [1, 0, 0x80, 0x80, 0x80, 0x80, 0x10];
 fn text_len(alloc: Global, number: usize) -> Result<usize> {
     match refuse(alloc, number) {
         Err(Error::Corruption(text)) => Ok(text.len()),
-        answer => answer.map(|_| 0),
+        Err(error) => Err(error),
+        Ok(()) => Ok(0),
     }
+}
+
+/// Appends the list of items.
+fn write_items(alloc: Global, out: &mut Vec<u8>) -> Result<()> {
+    let items = some_items(alloc)?;
+    Ok(append_items(out, items.as_slice())?)
 }
 
 /// Appends by the writer of this number.
 fn write(alloc: Global, number: usize, out: &mut Vec<u8>) -> Result<()> {
     match number {
         0 => Ok(Command::Compact { index: 300 }.encode(out)?),
-        1 => Ok(some_entries(alloc)?.encode(out)?),
-        2 => Ok(some_put(alloc)?.encode(out)?),
-        3 => match some_put(alloc)?.content {
-            LogItemContent::Kv(key_value) => Ok(key_value.encode(out)?),
-            _ => Ok(()),
-        },
-        _ => Ok(append_items(out, some_items(alloc)?.as_slice())?),
+        1 => entries_again(alloc, &ENTRIES, out),
+        2 => item_again(alloc, &ITEMS[6..13], out),
+        3 => key_again(alloc, &ITEMS[8..13], out),
+        _ => write_items(alloc, out),
     }
 }
 
@@ -106,22 +120,37 @@ fn bytes_written(alloc: Global, number: usize) -> Result<usize> {
     let mut out = Vec::from_slice(alloc, &[9u8])?;
     let answer = write(alloc, number, &mut out);
     let kept = out.first() == Some(&9) && (out.len() == 1 || number == 4);
-    if answer.is_err() && !kept {
-        return Ok(CHANGED);
+    match answer {
+        Ok(()) => Ok(out.len().saturating_sub(1)),
+        Err(error) if kept => Err(error),
+        Err(_) => Ok(CHANGED),
     }
-    answer.map(|_| out.len().saturating_sub(1))
 }
 
-/// How many parts a copy has that is the same as what was copied: entries, an item, and items.
+/// How many entries a copy has.
+fn entries_copied(alloc: Global) -> Result<usize> {
+    let entries = some_entries(alloc)?;
+    Ok(entries.clone()?.len())
+}
+
+/// The group of a copy of an item.
+fn group_copied(alloc: Global) -> Result<usize> {
+    let item = some_put(alloc)?;
+    Ok(item.clone()?.raft_group_id as usize)
+}
+
+/// How many items a copy of a list has.
+fn items_copied(alloc: Global) -> Result<usize> {
+    let items = some_items(alloc)?;
+    Ok(copied(alloc, items.as_slice())?.len())
+}
+
+/// How many parts the copy of this number has: of entries, of an item, and of items.
 fn parts_copied(alloc: Global, number: usize) -> Result<usize> {
     match number {
-        0 => Ok(some_entries(alloc)?.clone()?.len()),
-        1 => Ok(
-            some_put(alloc)?
-                .clone()
-                .map(|copy| copy.raft_group_id as usize)?,
-        ),
-        _ => Ok(copied(alloc, some_items(alloc)?.as_slice())?.len()),
+        0 => entries_copied(alloc),
+        1 => group_copied(alloc),
+        _ => items_copied(alloc),
     }
 }
 

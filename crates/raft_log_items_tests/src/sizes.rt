@@ -1,7 +1,7 @@
 //! Sizes as text, both ways, and rounding.
 use raft_log_base::size::{GIB, MIB, PIB, TIB};
 use raft_log_base::{Error, ParseSizeError, ReadableSize, round_down, round_up};
-use std::test::Fail;
+use std::alloc::{AllocError, Global};
 
 const PRINTED: [(u64, &str); 11] = [
     (0, "0KiB"),
@@ -56,13 +56,19 @@ const ROUNDED: [(usize, usize, usize); 4] = [
     (4097, 8192, 4096),
 ];
 
+/// Whether a size has this text.
+fn is_printed(alloc: Global, size: u64, text: &str) -> Result<bool, AllocError> {
+    Ok(ReadableSize(size).to_string(alloc)?.as_str() == text)
+}
+
 #[test]
-fn sizes_are_printed(rt: HostRuntime) -> Result<(), Fail> {
+fn sizes_are_printed(rt: HostRuntime) {
     for (size, text) in PRINTED.iter() {
-        let printed = ReadableSize(*size).to_string(rt.alloc())?;
-        assert!(rt; printed.as_str() == *text, "{size}");
+        assert!(rt;
+            is_printed(rt.alloc(), *size, text).ok() == Some(true),
+            "{size}"
+        );
     }
-    Ok(())
 }
 
 #[test]
@@ -82,29 +88,35 @@ fn texts_that_are_no_sizes_are_refused(rt: HostRuntime) {
     }
 }
 
-#[test]
-fn sizes_are_reckoned_with(rt: HostRuntime) {
-    assert!(rt; (ReadableSize::kb(2).0, ReadableSize::mb(2).0) == (2_048, 2_097_152));
-    assert!(rt; ReadableSize::gb(2).as_mb() == 2_048);
-    assert!(rt; (ReadableSize::mb(3) / 2).0 == 1_572_864);
-    assert!(rt; ReadableSize::mb(3) / ReadableSize::kb(512) == 6);
-    assert!(rt; (ReadableSize::kb(3) * 4).0 == 12_288);
+/// Whether sizes are made of units, multiplied and divided.
+fn sizes_are_reckoned_with() -> bool {
+    (ReadableSize::kb(2).0 == 2_048)
+        & (ReadableSize::mb(2).0 == 2_097_152)
+        & (ReadableSize::gb(2).as_mb() == 2_048)
+        & ((ReadableSize::mb(3) / 2).0 == 1_572_864)
+        & (ReadableSize::mb(3) / ReadableSize::kb(512) == 6)
+        & ((ReadableSize::kb(3) * 4).0 == 12_288)
+}
+
+/// The text of a size with an unknown unit, as a refusal.
+const UNKNOWN_UNIT: &str = "Invalid Argument: the unit of a size is B, KiB, MiB, GiB, TiB or PiB";
+
+/// Whether it is.
+fn refusals_have_texts(alloc: Global) -> Result<bool, AllocError> {
+    let error = Error::invalid_size(alloc, ParseSizeError::UnknownUnit);
+    Ok(error.to_string(alloc)?.as_str() == UNKNOWN_UNIT)
 }
 
 #[test]
-fn refusals_have_texts(rt: HostRuntime) -> Result<(), Fail> {
-    let error = Error::invalid_size(rt.alloc(), ParseSizeError::UnknownUnit);
-    let text = error.to_string(rt.alloc())?;
-    assert!(rt;
-        text.as_str() == "Invalid Argument: the unit of a size is B, KiB, MiB, GiB, TiB or PiB"
-    );
-    Ok(())
+fn sizes_are_reckoned_with_and_refusals_have_texts(rt: HostRuntime) {
+    let told = refusals_have_texts(rt.alloc()).ok() == Some(true);
+    assert!(rt; (sizes_are_reckoned_with(), told) == (true, true));
 }
 
 #[test]
 fn offsets_are_rounded(rt: HostRuntime) {
     for (offset, up, down) in ROUNDED.iter() {
-        assert!(rt; round_up(*offset, 4096) == *up, "{offset}");
-        assert!(rt; round_down(*offset, 4096) == *down, "{offset}");
+        let rounded = (round_up(*offset, 4096), round_down(*offset, 4096));
+        assert!(rt; rounded == (*up, *down), "{offset}");
     }
 }

@@ -1,6 +1,8 @@
-//! A pipe that is opened over what was found, and closed.
-use super::pipes::{append, pipe, place};
+//! A pipe that is opened over what was found.
 use super::queues::{FIRST, prepared, size};
+use super::script::Step::{self, Append, Size, Span, Total};
+use super::script::Told::{self, At, Number};
+use super::script::answered_so;
 use raft_log_base::{LogQueue, Result, Version};
 use raft_log_disk::{FileSystem, Permission};
 use raft_log_files::File;
@@ -59,104 +61,99 @@ fn first(
     })
 }
 
-// Two records of 13 bytes in file 1 of a pipe that was closed.
-fn closed(rt: &HostRuntime) -> Result<MemoryFileSystem, Fail> {
+/// A pipe that begins where nothing was found: a record of 13 bytes, and the size of file 1.
+const FIRST_RECORD: [(Step, Told); 2] = [
+    (Append(1, 13), At(1, 69, 13)),
+    (Size(FIRST), Number(1024)),
+];
+
+/// Two records.
+const TWO_RECORDS: [(Step, Told); 2] = [
+    (Append(1, 13), At(1, 69, 13)),
+    (Append(2, 13), At(1, 82, 13)),
+];
+
+// The file system of a pipe that began where nothing was found and was closed, and how many steps were
+// answered as they say.
+fn closed(rt: &HostRuntime, steps: &[(Step, Told)]) -> Result<(MemoryFileSystem, usize), Fail> {
     let mut system = prepared(rt.alloc())?;
     let mut pipe = opened(rt, &mut system, nothing(rt))?;
-    let _first = append(rt, &mut system, &mut pipe, 1, 13)?;
-    let _second = append(rt, &mut system, &mut pipe, 2, 13)?;
+    let count = answered_so(rt, &mut system, &mut pipe, steps);
     pipe.close(rt.alloc(), rt, &mut system);
-    Ok(system)
+    Ok((system, count))
 }
 
 #[test]
 fn a_pipe_begins_where_nothing_was_found(rt: HostRuntime) -> Result<(), Fail> {
-    let mut system = prepared(rt.alloc())?;
-    let mut pipe = opened(&rt, &mut system, nothing(&rt))?;
-    assert!(rt; append(&rt, &mut system, &mut pipe, 1, 13)? == place(1, 69, 13));
-    assert!(rt; size(&system, FIRST)? == 1024);
-    pipe.close(rt.alloc(), &rt, &mut system);
-    assert!(rt; size(&system, FIRST)? == 82);
+    let (system, count) = closed(&rt, &FIRST_RECORD)?;
+    assert!(rt; count == 2 && size(&system, FIRST) == 82);
     Ok(())
 }
 
-// Where the records end as they were read, how long the file is once it is taken up, and where it goes on.
-const READ: [(Option<usize>, usize); 3] = [(Some(95), 95), (Some(82), 82), (None, 61)];
+/// Where the records end as they were read, and what is answered once the file is taken up: how long it is,
+/// where it goes on, and the pipe's files.
+const READ: [(Option<usize>, [(Step, Told); 4]); 3] = [
+    (
+        Some(95),
+        [
+            (Size(FIRST), Number(95)),
+            (Append(3, 13), At(1, 95, 13)),
+            (Span, Told::Files(1, 1)),
+            (Total, Number(1024)),
+        ],
+    ),
+    (
+        Some(82),
+        [
+            (Size(FIRST), Number(82)),
+            (Append(3, 13), At(1, 82, 13)),
+            (Span, Told::Files(1, 1)),
+            (Total, Number(1024)),
+        ],
+    ),
+    (
+        None,
+        [
+            (Size(FIRST), Number(61)),
+            (Append(3, 13), At(1, 61, 13)),
+            (Span, Told::Files(1, 1)),
+            (Total, Number(1024)),
+        ],
+    ),
+];
+
+// How many steps are answered as they say once a closed pipe with two records is taken up.
+fn taken_up(rt: &HostRuntime, end: Option<usize>, steps: &[(Step, Told)]) -> Result<usize, Fail> {
+    let (mut system, _) = closed(rt, &TWO_RECORDS)?;
+    let found = first(rt, &system, end)?;
+    let mut pipe = opened(rt, &mut system, found)?;
+    Ok(answered_so(rt, &mut system, &mut pipe, steps))
+}
 
 #[test]
 fn a_pipe_goes_on_behind_what_was_read(rt: HostRuntime) -> Result<(), Fail> {
-    for (end, len) in READ.iter() {
-        let mut system = closed(&rt)?;
-        let found = first(&rt, &system, *end)?;
-        let mut pipe = opened(&rt, &mut system, found)?;
-        assert!(rt; size(&system, FIRST)? == *len);
-        assert!(rt; append(&rt, &mut system, &mut pipe, 3, 13)? == place(1, *len as u64, 13));
-        assert!(rt; pipe.file_span() == (1, 1) && pipe.total_size() == 1024);
+    for (end, steps) in READ.iter() {
+        assert!(rt; taken_up(&rt, *end, steps)? == 4, "up to {end:?}");
     }
     Ok(())
 }
 
-// The call that is refused, of a cut, a sync, and what writes a header; the file's size then.
+/// The call that is refused, of a cut, a sync, and what writes a header; the file's size then.
 const REFUSED: [(u64, usize); 5] = [(1, 95), (2, 0), (3, 61), (4, 61), (5, 61)];
+
+// Whether a closed pipe is taken up where a call is refused, and the file's size then.
+fn refused(rt: &HostRuntime, n: u64) -> Result<(bool, usize), Fail> {
+    let (mut system, _) = closed(rt, &TWO_RECORDS)?;
+    let found = first(rt, &system, None)?;
+    system.refuse_call(n)?;
+    let answered = opened(rt, &mut system, found).is_ok();
+    Ok((answered, size(&system, FIRST)))
+}
 
 #[test]
 fn each_call_of_taking_up_is_refused_in_turn(rt: HostRuntime) -> Result<(), Fail> {
     for (n, len) in REFUSED.iter() {
-        let mut system = closed(&rt)?;
-        let found = first(&rt, &system, None)?;
-        system.refuse_call(*n)?;
-        let answered = opened(&rt, &mut system, found).is_ok();
-        assert!(rt;
-            (answered, size(&system, FIRST)?) == (*n == 3, *len),
-            "call {n}"
-        );
+        assert!(rt; refused(&rt, *n)? == (*n == 3, *len), "call {n}");
     }
-    Ok(())
-}
-
-const RESERVED: [(&str, usize); 4] = [
-    ("d/0000000000000001.raftlog.reserved", 89),
-    ("d/0000000000000002.raftlog.reserved", 79),
-    (FIRST, 0),
-    ("d/0000000000000002.raftlog", 0),
-];
-
-#[test]
-fn files_kept_for_use_get_reserved_names(rt: HostRuntime) -> Result<(), Fail> {
-    let mut system = prepared(rt.alloc())?;
-    let mut pipe = pipe(&rt, &mut system, 1024, 4)?;
-    for i in 1..6 {
-        let _at = append(&rt, &mut system, &mut pipe, i as u8, 10 * i)?;
-        pipe.rotate(rt.alloc(), &rt, &mut system)?;
-    }
-    assert!(rt; pipe.purge_to(rt.alloc(), &rt, &mut system, 5)? == 4);
-    pipe.close(rt.alloc(), &rt, &mut system);
-    for (path, len) in RESERVED.iter() {
-        assert!(rt; size(&system, path)? == *len, "{path}");
-    }
-    Ok(())
-}
-
-#[test]
-fn a_pipe_that_has_failed_is_closed_as_it_is(rt: HostRuntime) -> Result<(), Fail> {
-    let mut system = prepared(rt.alloc())?;
-    let mut pipe = pipe(&rt, &mut system, 1024, 4)?;
-    let _at = append(&rt, &mut system, &mut pipe, 1, 13)?;
-    system.refuse_call(1)?;
-    assert!(rt; pipe.sync(&rt, &mut system).is_err() && pipe.is_failed());
-    pipe.close(rt.alloc(), &rt, &mut system);
-    assert!(rt; size(&system, FIRST)? == 1024);
-    Ok(())
-}
-
-#[test]
-fn a_fraction_of_the_span(rt: HostRuntime) -> Result<(), Fail> {
-    let mut system = prepared(rt.alloc())?;
-    let mut pipe = pipe(&rt, &mut system, 1024, 0)?;
-    for _i in 0..9 {
-        pipe.rotate(rt.alloc(), &rt, &mut system)?;
-    }
-    assert!(rt; pipe.file_span() == (1, 10) && pipe.total_size() == 10240);
-    assert!(rt; pipe.file_at(700, 1000) == 8 && pipe.file_at(200, 1000) == 3);
     Ok(())
 }

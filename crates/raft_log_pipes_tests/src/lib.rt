@@ -7,10 +7,10 @@ mod closings;
 #[cfg(test)]
 mod narrow;
 #[cfg(test)]
-mod openings;
-#[cfg(test)]
 mod pipes;
 #[cfg(test)]
 mod queues;
+#[cfg(test)]
+mod script;
 #[cfg(test)]
 mod spilling;

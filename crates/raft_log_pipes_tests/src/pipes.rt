@@ -1,7 +1,12 @@
-//! A pipe that is appended to, rotated and purged.
-use super::queues::{header, layout, prepared};
-use raft_log_base::{Error, FileBlockHandle, FileId, LogFileContext, LogQueue, Result, Version};
-use raft_log_disk::{FileSystem, Permission};
+//! A pipe that is appended to, rotated and purged: what each call answers.
+use super::queues::{FIRST, header, layout, prepared, size};
+use super::script::Step::{
+    Append, Exist, Failed, FileAt, Purge, Read, Refuse, Rotate, Size, Span, Sync, Total,
+};
+use super::script::Told::{self, At, Done, Is, Number, Refused};
+use super::script::{Step, Why, answered_so};
+use raft_log_base::{FileBlockHandle, FileId, LogFileContext, LogQueue, Result, Version};
+use raft_log_disk::FileSystem;
 use raft_log_files::{File, begin_queue};
 use raft_log_format::{FileNameExt, LogFileFormat};
 use raft_log_layout::LogLayout;
@@ -91,127 +96,250 @@ pub fn append(
     pipe.append(rt.alloc(), rt, system, &mut plain)
 }
 
-// Whether so many bytes of one value stand at a place.
-fn stands(
-    rt: &HostRuntime,
-    system: &MemoryFileSystem,
-    pipe: &SinglePipe<LogLayout>,
-    place: FileBlockHandle,
-    value: u8,
-) -> Result<bool> {
-    let bytes = pipe.read_bytes(rt.alloc(), system, place)?;
-    Ok(bytes.len() == place.len && bytes.iter().all(|byte| *byte == value))
+/// A pipe that begins, what is asked of it, and what each call answers; and the sizes of files once it is
+/// closed, 0 where one isn't there.
+struct Play {
+    /// What the answers show.
+    shows: &'static str,
+    /// The size at which a file is full.
+    target_size: usize,
+    /// How many files are kept for use.
+    capacity: usize,
+    /// The calls, and what each answers.
+    steps: &'static [(Step, Told)],
+    /// Paths, and the files' sizes in the end.
+    closed: &'static [(&'static str, usize)],
 }
 
-/// A place in a file.
-pub fn place(seq: u64, offset: u64, len: usize) -> FileBlockHandle {
-    let id = FileId::new(LogQueue::Append, seq);
-    FileBlockHandle { id, offset, len }
-}
-
-#[test]
-fn test_pipe_log(rt: HostRuntime) -> Result<(), Fail> {
-    let mut system = prepared(rt.alloc())?;
-    let mut pipe = pipe(&rt, &mut system, 1024, 0)?;
-    pipe.rotate(rt.alloc(), &rt, &mut system)?;
-    pipe.rotate(rt.alloc(), &rt, &mut system)?;
-    assert!(rt; pipe.file_span() == (1, 3));
-    assert!(rt; pipe.purge_to(rt.alloc(), &rt, &mut system, 2)? == 1);
-    assert!(rt; pipe.file_span() == (2, 3));
-    let first = append(&rt, &mut system, &mut pipe, 1, 13)?;
-    let second = append(&rt, &mut system, &mut pipe, 2, 13)?;
-    assert!(rt; first == place(3, 69, 13) && second == place(3, 82, 13));
-    assert!(rt; stands(&rt, &system, &pipe, first, 1)? && stands(&rt, &system, &pipe, second, 2)?);
-    let absent = stands(&rt, &system, &pipe, place(12, 69, 13), 1);
-    assert!(rt; matches!(absent, Err(Error::Corruption(_))));
-    Ok(())
-}
-
-#[test]
-fn test_pipe_log_with_recycle(rt: HostRuntime) -> Result<(), Fail> {
-    let mut system = prepared(rt.alloc())?;
-    let mut pipe = pipe(&rt, &mut system, 1, 100)?;
-    for i in 0..10 {
-        let written = append(&rt, &mut system, &mut pipe, i, 16)?;
-        assert!(rt; written == place(i as u64 + 2, 69, 16));
-        pipe.sync(&rt, &mut system)?;
-    }
-    pipe.rotate(rt.alloc(), &rt, &mut system)?;
-    assert!(rt; pipe.file_span() == (1, 12));
-    let below = pipe.purge_to(rt.alloc(), &rt, &mut system, 0);
-    let past = pipe.purge_to(rt.alloc(), &rt, &mut system, 13);
-    assert!(rt;
-        matches!(below, Err(Error::InvalidArgument(_)))
-            && matches!(past, Err(Error::InvalidArgument(_)))
-    );
-    assert!(rt; pipe.purge_to(rt.alloc(), &rt, &mut system, 12)? == 11);
-    let old = stands(&rt, &system, &pipe, place(2, 69, 16), 0);
-    assert!(rt; matches!(old, Err(Error::Corruption(_))));
-    for i in 0..10 {
-        let written = append(&rt, &mut system, &mut pipe, i, 16)?;
-        assert!(rt; stands(&rt, &system, &pipe, written, i)?);
-    }
-    Ok(())
-}
-
-// Whether a file is there.
-fn is_there(system: &MemoryFileSystem, path: &str) -> bool {
-    system.open(path, Permission::ReadOnly).is_ok()
-}
-
-// What is there of files 1 to 8 after a purge to file 5 of six, with a capacity of four, and then after
-// each of two rotations.
-const THERE: [[bool; 8]; 3] = [
-    [true, true, false, false, true, true, false, false],
-    [false, true, false, false, true, true, true, false],
-    [false, false, false, false, true, true, true, true],
+/// As the Rust crate's test of this name has it.
+const PIPE_LOG: [(Step, Told); 10] = [
+    (Rotate, Done),
+    (Rotate, Done),
+    (Span, Told::Files(1, 3)),
+    (Purge(2), Number(1)),
+    (Span, Told::Files(2, 3)),
+    (Append(1, 13), At(3, 69, 13)),
+    (Append(2, 13), At(3, 82, 13)),
+    (Read(3, 69, 13, 1), Is(true)),
+    (Read(3, 82, 13, 2), Is(true)),
+    (Read(12, 69, 13, 1), Refused(Why::Corruption)),
 ];
 
-const PATHS: [&str; 8] = [
-    "d/0000000000000001.raftlog",
-    "d/0000000000000002.raftlog",
-    "d/0000000000000003.raftlog",
-    "d/0000000000000004.raftlog",
-    "d/0000000000000005.raftlog",
-    "d/0000000000000006.raftlog",
-    "d/0000000000000007.raftlog",
-    "d/0000000000000008.raftlog",
+/// As the Rust crate's test of this name has it: each file is full with its header.
+const PIPE_LOG_WITH_RECYCLE: [(Step, Told); 46] = [
+    (Append(0, 16), At(2, 69, 16)),
+    (Sync, Done),
+    (Append(1, 16), At(3, 69, 16)),
+    (Sync, Done),
+    (Append(2, 16), At(4, 69, 16)),
+    (Sync, Done),
+    (Append(3, 16), At(5, 69, 16)),
+    (Sync, Done),
+    (Append(4, 16), At(6, 69, 16)),
+    (Sync, Done),
+    (Append(5, 16), At(7, 69, 16)),
+    (Sync, Done),
+    (Append(6, 16), At(8, 69, 16)),
+    (Sync, Done),
+    (Append(7, 16), At(9, 69, 16)),
+    (Sync, Done),
+    (Append(8, 16), At(10, 69, 16)),
+    (Sync, Done),
+    (Append(9, 16), At(11, 69, 16)),
+    (Sync, Done),
+    (Rotate, Done),
+    (Span, Told::Files(1, 12)),
+    (Purge(0), Refused(Why::InvalidArgument)),
+    (Purge(13), Refused(Why::InvalidArgument)),
+    (Purge(12), Number(11)),
+    (Read(2, 69, 16, 0), Refused(Why::Corruption)),
+    (Append(0, 16), At(13, 69, 16)),
+    (Read(13, 69, 16, 0), Is(true)),
+    (Append(1, 16), At(14, 69, 16)),
+    (Read(14, 69, 16, 1), Is(true)),
+    (Append(2, 16), At(15, 69, 16)),
+    (Read(15, 69, 16, 2), Is(true)),
+    (Append(3, 16), At(16, 69, 16)),
+    (Read(16, 69, 16, 3), Is(true)),
+    (Append(4, 16), At(17, 69, 16)),
+    (Read(17, 69, 16, 4), Is(true)),
+    (Append(5, 16), At(18, 69, 16)),
+    (Read(18, 69, 16, 5), Is(true)),
+    (Append(6, 16), At(19, 69, 16)),
+    (Read(19, 69, 16, 6), Is(true)),
+    (Append(7, 16), At(20, 69, 16)),
+    (Read(20, 69, 16, 7), Is(true)),
+    (Append(8, 16), At(21, 69, 16)),
+    (Read(21, 69, 16, 8), Is(true)),
+    (Append(9, 16), At(22, 69, 16)),
+    (Read(22, 69, 16, 9), Is(true)),
 ];
 
-#[test]
-fn the_oldest_files_are_kept_and_used_first(rt: HostRuntime) -> Result<(), Fail> {
+/// What is there of files 1 to 8 after a purge to file 5 of six, with a capacity of four, and then after
+/// each of two rotations.
+const OLDEST: [(Step, Told); 11] = [
+    (Rotate, Done),
+    (Rotate, Done),
+    (Rotate, Done),
+    (Rotate, Done),
+    (Rotate, Done),
+    (Purge(5), Number(4)),
+    (
+        Exist([true, true, false, false, true, true, false, false]),
+        Is(true),
+    ),
+    (Rotate, Done),
+    (
+        Exist([false, true, false, false, true, true, true, false]),
+        Is(true),
+    ),
+    (Rotate, Done),
+    (
+        Exist([false, false, false, false, true, true, true, true]),
+        Is(true),
+    ),
+];
+
+/// The second change is the write of the bytes, and the third of a rotation the new file's allocation.
+const REFUSALS: [(Step, Told); 9] = [
+    (Refuse(2), Done),
+    (Append(1, 13), Refused(Why::Io)),
+    (Failed, Is(false)),
+    (Append(2, 13), At(1, 69, 13)),
+    (Refuse(3), Done),
+    (Rotate, Refused(Why::Failed)),
+    (Failed, Is(true)),
+    (Append(3, 13), Refused(Why::Failed)),
+    (Span, Told::Files(1, 1)),
+];
+
+/// Five records of 10 to 50 bytes, a file each, of which four files are kept for use.
+const KEPT: [(Step, Told); 11] = [
+    (Append(1, 10), At(1, 69, 10)),
+    (Rotate, Done),
+    (Append(2, 20), At(2, 69, 20)),
+    (Rotate, Done),
+    (Append(3, 30), At(3, 69, 30)),
+    (Rotate, Done),
+    (Append(4, 40), At(4, 69, 40)),
+    (Rotate, Done),
+    (Append(5, 50), At(5, 69, 50)),
+    (Rotate, Done),
+    (Purge(5), Number(4)),
+];
+
+/// Files kept for use get reserved names.
+const RESERVED: [(&str, usize); 4] = [
+    ("d/0000000000000001.raftlog.reserved", 89),
+    ("d/0000000000000002.raftlog.reserved", 79),
+    (FIRST, 0),
+    ("d/0000000000000002.raftlog", 0),
+];
+
+/// A sync that is refused.
+const UNSYNCED: [(Step, Told); 4] = [
+    (Append(1, 13), At(1, 69, 13)),
+    (Refuse(1), Done),
+    (Sync, Refused(Why::Failed)),
+    (Failed, Is(true)),
+];
+
+/// A fraction of the span.
+const TEN_FILES: [(Step, Told); 13] = [
+    (Rotate, Done),
+    (Rotate, Done),
+    (Rotate, Done),
+    (Rotate, Done),
+    (Rotate, Done),
+    (Rotate, Done),
+    (Rotate, Done),
+    (Rotate, Done),
+    (Rotate, Done),
+    (Span, Told::Files(1, 10)),
+    (Total, Number(10240)),
+    (FileAt(700), Number(8)),
+    (FileAt(200), Number(3)),
+];
+
+const PLAYS: [Play; 7] = [
+    Play {
+        shows: "a pipe is appended to, rotated, purged and read",
+        target_size: 1024,
+        capacity: 0,
+        steps: &PIPE_LOG,
+        closed: &[],
+    },
+    Play {
+        shows: "files that were purged are used again",
+        target_size: 1,
+        capacity: 100,
+        steps: &PIPE_LOG_WITH_RECYCLE,
+        closed: &[],
+    },
+    Play {
+        shows: "the oldest files are kept and used first",
+        target_size: 1024,
+        capacity: 4,
+        steps: &OLDEST,
+        closed: &[],
+    },
+    Play {
+        shows: "a refused write is cut back, and a refused rotation fails",
+        target_size: 1024,
+        capacity: 0,
+        steps: &REFUSALS,
+        closed: &[],
+    },
+    Play {
+        shows: "files kept for use get reserved names",
+        target_size: 1024,
+        capacity: 4,
+        steps: &KEPT,
+        closed: &RESERVED,
+    },
+    Play {
+        shows: "a pipe that has failed is closed as it is",
+        target_size: 1024,
+        capacity: 4,
+        steps: &UNSYNCED,
+        closed: &[(FIRST, 1024)],
+    },
+    Play {
+        shows: "a fraction of the span is a file's number",
+        target_size: 1024,
+        capacity: 0,
+        steps: &TEN_FILES,
+        closed: &[],
+    },
+];
+
+// How many answers are as they are said before the first that isn't, those of sizes behind the closing with
+// them.
+fn answered(rt: &HostRuntime, play: &Play) -> Result<usize, Fail> {
     let mut system = prepared(rt.alloc())?;
-    let mut pipe = pipe(&rt, &mut system, 1024, 4)?;
-    for _i in 0..5 {
-        pipe.rotate(rt.alloc(), &rt, &mut system)?;
-    }
-    assert!(rt; pipe.purge_to(rt.alloc(), &rt, &mut system, 5)? == 4);
-    for (turn, row) in THERE.iter().enumerate() {
-        if turn > 0 {
-            pipe.rotate(rt.alloc(), &rt, &mut system)?;
+    let mut pipe = pipe(rt, &mut system, play.target_size, play.capacity)?;
+    let count = answered_so(rt, &mut system, &mut pipe, play.steps);
+    pipe.close(rt.alloc(), rt, &mut system);
+    Ok(count.wrapping_add(sized_so(&system, play.closed)))
+}
+
+/// How many files have these sizes before the first that hasn't.
+pub fn sized_so(system: &MemoryFileSystem, files: &[(&str, usize)]) -> usize {
+    let mut count: usize = 0;
+    for (path, len) in files {
+        if size(system, path) != *len {
+            return count;
         }
-        for (path, there) in PATHS.iter().zip(row.iter()) {
-            assert!(rt;
-                is_there(&system, path) == *there,
-                "{path}, rotation {turn}"
-            );
-        }
+        count = count.wrapping_add(1);
     }
-    Ok(())
+    count
 }
 
 #[test]
-fn a_refused_write_is_cut_back_and_a_refused_rotation_fails(rt: HostRuntime) -> Result<(), Fail> {
-    let mut system = prepared(rt.alloc())?;
-    let mut pipe = pipe(&rt, &mut system, 1024, 0)?;
-    system.refuse_call(2)?;
-    let refused = append(&rt, &mut system, &mut pipe, 1, 13);
-    assert!(rt; matches!(refused, Err(Error::Io(_))) && !pipe.is_failed());
-    assert!(rt; append(&rt, &mut system, &mut pipe, 2, 13)? == place(1, 69, 13));
-    system.refuse_call(3)?;
-    let unturned = pipe.rotate(rt.alloc(), &rt, &mut system);
-    assert!(rt; matches!(unturned, Err(Error::Failed)) && pipe.is_failed());
-    let after = append(&rt, &mut system, &mut pipe, 3, 13);
-    assert!(rt; matches!(after, Err(Error::Failed)) && pipe.file_span() == (1, 1));
+fn pipes_answer_as_the_plays_say(rt: HostRuntime) -> Result<(), Fail> {
+    for play in PLAYS.iter() {
+        let (shows, want) = (play.shows, play.steps.len() + play.closed.len());
+        assert!(rt; answered(&rt, play)? == want, "{shows}");
+    }
     Ok(())
 }

@@ -51,53 +51,69 @@ const SPACES: [((usize, usize), bool); 6] = [
     ((1 << 20, 1 << 20), false),
 ];
 
+// Where file 2 lies that is begun with this space.
+fn second_file(rt: &HostRuntime, space: (usize, usize)) -> Result<(bool, bool), Fail> {
+    let mut system = roomy(rt.alloc())?;
+    let mut pipe = pipe(rt, &mut system)?;
+    system.space = space;
+    pipe.rotate(rt.alloc(), rt, &mut system)?;
+    lies(rt.alloc(), &system, 2)
+}
+
 #[test]
 fn a_new_file_lies_where_there_is_room_for_it(rt: HostRuntime) -> Result<(), Fail> {
     for (space, spills) in SPACES.iter() {
-        let mut system = roomy(rt.alloc())?;
-        let mut pipe = pipe(&rt, &mut system)?;
-        system.space = *space;
-        pipe.rotate(rt.alloc(), &rt, &mut system)?;
-        assert!(rt;
-            lies(rt.alloc(), &system, 2)? == (!*spills, *spills),
-            "{space:?}"
-        );
+        let lies = second_file(&rt, *space)?;
+        assert!(rt; lies == (!*spills, *spills), "{space:?}");
     }
     Ok(())
 }
 
+// Goes on in a next file twice, with this space.
+fn rotated(
+    rt: &HostRuntime,
+    system: &mut Narrow,
+    pipe: &mut SinglePipe<LogLayout>,
+    space: (usize, usize),
+) -> Result<()> {
+    system.space = space;
+    pipe.rotate(rt.alloc(), rt, system)?;
+    pipe.rotate(rt.alloc(), rt, system)
+}
+
+// Where files 4 and 5 lie, of which the second is one that was kept, and how many files were purged.
+fn kept(rt: &HostRuntime) -> Result<(usize, (bool, bool), (bool, bool)), Fail> {
+    let mut system = roomy(rt.alloc())?;
+    let mut pipe = pipe(rt, &mut system)?;
+    rotated(rt, &mut system, &mut pipe, (100, 4000))?;
+    let count = pipe.purge_to(rt.alloc(), rt, &mut system, 3)?;
+    rotated(rt, &mut system, &mut pipe, (1 << 20, 1 << 20))?;
+    Ok((
+        count,
+        lies(rt.alloc(), &system, 4)?,
+        lies(rt.alloc(), &system, 5)?,
+    ))
+}
+
 #[test]
 fn a_kept_file_is_used_in_its_directory(rt: HostRuntime) -> Result<(), Fail> {
-    let mut system = roomy(rt.alloc())?;
-    let mut pipe = pipe(&rt, &mut system)?;
-    system.space = (100, 4000);
-    pipe.rotate(rt.alloc(), &rt, &mut system)?;
-    pipe.rotate(rt.alloc(), &rt, &mut system)?;
-    system.space = (1 << 20, 1 << 20);
-    assert!(rt; pipe.purge_to(rt.alloc(), &rt, &mut system, 3)? == 2);
-    pipe.rotate(rt.alloc(), &rt, &mut system)?;
-    pipe.rotate(rt.alloc(), &rt, &mut system)?;
-    assert!(rt; lies(rt.alloc(), &system, 4)? == (true, false));
-    assert!(rt; lies(rt.alloc(), &system, 5)? == (false, true));
+    assert!(rt; kept(&rt)? == (2, (true, false), (false, true)));
     Ok(())
 }
 
 // How an append of so many bytes is answered: 0 where it was done, 1 where it is to be tried again, 2 where
-// the pipe has failed.
+// the pipe has failed, and 3 otherwise.
 fn appended(
     rt: &HostRuntime,
     system: &mut Narrow,
     pipe: &mut SinglePipe<LogLayout>,
-    len: usize,
-) -> Result<u8> {
-    let mut plain = Plain {
-        bytes: vec![in rt.alloc(); 7; len]?,
-    };
-    match pipe.append(rt.alloc(), rt, system, &mut plain) {
-        Ok(_) => Ok(0),
-        Err(Error::TryAgain(_)) => Ok(1),
-        Err(Error::Failed) => Ok(2),
-        Err(error) => Err(error),
+    plain: &mut Plain,
+) -> u8 {
+    match pipe.append(rt.alloc(), rt, system, plain) {
+        Ok(_) => 0,
+        Err(Error::TryAgain(_)) => 1,
+        Err(Error::Failed) => 2,
+        Err(_) => 3,
     }
 }
 
@@ -109,16 +125,35 @@ const SHORTAGES: [((usize, usize), usize, (u8, u8), u64); 3] = [
     ((100, 100), 1000, (2, 2), 1),
 ];
 
+// How a record is answered that is appended twice with this space, the pipe's files, and whether file 2 lies in
+// the second directory.
+fn appended_twice(
+    rt: &HostRuntime,
+    space: (usize, usize),
+    len: usize,
+) -> Result<((u8, u8), (u64, u64), bool), Fail> {
+    let mut system = roomy(rt.alloc())?;
+    let mut pipe = pipe(rt, &mut system)?;
+    let bytes = vec![in rt.alloc(); 7; len]?;
+    let mut plain = Plain { bytes };
+    system.space = space;
+    let first = appended(rt, &mut system, &mut pipe, &mut plain);
+    let second = appended(rt, &mut system, &mut pipe, &mut plain);
+    Ok((
+        (first, second),
+        pipe.file_span(),
+        lies(rt.alloc(), &system, 2)?.1,
+    ))
+}
+
 #[test]
 fn a_record_without_space_goes_into_the_spill_directory(rt: HostRuntime) -> Result<(), Fail> {
     for (space, len, answers, last) in SHORTAGES.iter() {
-        let mut system = roomy(rt.alloc())?;
-        let mut pipe = pipe(&rt, &mut system)?;
-        system.space = *space;
-        let first = appended(&rt, &mut system, &mut pipe, *len)?;
-        let second = appended(&rt, &mut system, &mut pipe, *len)?;
-        assert!(rt; (first, second) == *answers && pipe.file_span() == (1, *last));
-        assert!(rt; lies(rt.alloc(), &system, 2)?.1 == (*last > 1));
+        let told = appended_twice(&rt, *space, *len)?;
+        assert!(rt;
+            told == (*answers, (1, *last), *last > 1),
+            "{space:?} {len}"
+        );
     }
     Ok(())
 }

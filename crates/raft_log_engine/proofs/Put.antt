@@ -1,5 +1,5 @@
 -- What a write was told by its pipes and its tables, put together.
-use Rattle.std.proofs.Common.{◌≡◌, ◌⊎◌, ◌↔◌, ℕ, Bool, true, false, List, [], inl, inr, refl, sym, ap, ap₂, subst, ◌∙◌}
+use Rattle.std.proofs.Common.{◌≡◌, ◌⊎◌, ◌↔◌, ℕ, Bool, true, false, None, List, [], inl, inr, refl, sym, ap, ap₂, subst, ◌∙◌}
 use Rattle.std.specs.Prelude.{IsTrue, IsOk, IfErr, IfOk, OnOk, Result, Ok, Err, is_err}
 use Rattle.std.proofs.lemmas.Bool.{cases_Bool, false≢true}
 use std.Path.{fun_ext}
@@ -21,7 +21,10 @@ use Rattle.raft_log_replay.specs.Tables.{ShowsSame, counts, shown_of}
 use Rattle.raft_log_stored.specs.Written.{placed_items}
 use Rattle.raft_log_dual_pipes.specs.Pipes.{LogPipes, is_failed}
 use Rattle.raft_log_dual_pipes.specs.Calls.{AppendsTo, FailsToAppendTo, TellsFailure}
+use Rattle.raft_log_base.specs.declared.pipe_log.LogFileContext.{LogFileContext}
+use Rattle.raft_log_blocks.specs.declared.block_cache.BlockCache.{BlockCache}
 use Rattle.raft_log_engine_state.specs.Shows.{IsLaidOut, IsWellMarked, Shows, shows}
+use Rattle.raft_log_engine_state.specs.Trying.{IsNoSpace, RefusesAt, WritesAt}
 use Rattle.raft_log_engine_state.specs.Writing.{IsKept, IsUnfit, NotWritten, Refuses, Writes, WritesBytes, items_at}
 use Rattle.raft_log_engine_state.specs.Syncing.{NotSynced, Syncs}
 use Rattle.raft_log_engine_state.specs.Laws.{IsReady}
@@ -53,24 +56,24 @@ unfit_of b v xs error is refused = elim refused [
 ]
 
 -- what is known of a batch that room was made for
-pub ready_of : (b : Batch) (v : LogPipes) (m : MemTables) → (b.items ≡ [] → ⊥) → IsWellMarked b → IsReadyFor m (tagged_items (λ e. e) b.items) → SaysItself (signed_for b) b → IsLaidOut b → IsReady (shows v m) b
-ready_of b v m some marked ready says laid = record { some = some; marked = marked; follows = λ g. (ready.groups g).follows; says = says; laid = laid }
+pub ready_of : (b : Batch) (v : LogPipes) (m : MemTables) (cache : BlockCache) → (b.items ≡ [] → ⊥) → IsWellMarked b → IsReadyFor m (tagged_items (λ e. e) b.items) → SaysItself (signed_for b) b → IsLaidOut b → IsReady (shows v m cache) b
+ready_of b v m cache some marked ready says laid = record { some = some; marked = marked; follows = λ g. (ready.groups g).follows; says = says; laid = laid }
 
-module _ (b : Batch) (v w : LogPipes) (old new : MemTables) (lived : is_failed v ≡ false) (later : IsLater v.disk w.disk) (ready : IsReady (shows v old) b) where
-  pub writes_at : (block : FileBlockHandle) (after : Batch) → after.items ≡ b.items → after.entries ≡ b.entries → TellsFailure (Ok block) w → AppendsTo InAppend (signed_for b) block v w
+module _ (b : Batch) (v w : LogPipes) (old new : MemTables) (cache forgotten : BlockCache) (lived : is_failed v ≡ false) (later : IsLater v.disk w.disk) (ready : IsReady (shows v old cache) b) where
+  pub writes_at : (block : FileBlockHandle) (after : Batch) → after.items ≡ b.items → after.entries ≡ b.entries → TellsFailure (Ok block) w → WritesAt (signed_for b) block v w
       → ((g : ℕ) → shown_of new g ≡ all_shown block.id.seq (shown_of old) (items_at block after) g)
-      → ((g : ℕ) → counts new g ≡ counts_at_end (counts old g) (of_group g (items_at block after))) → Writes b false (shows v old) (shows w new)
+      → ((g : ℕ) → counts new g ≡ counts_at_end (counts old g) (of_group g (items_at block after))) → Writes b false (shows v old cache) (shows w new cache)
   writes_at block after items entries tells call shown counted =
       let same : items_at block after ≡ items_at block b = ap (λ l. placed_items block l after.entries) items ∙ ap (λ l. placed_items block b.items l) entries in
-      writes b block (shows v old) (shows w new) lived (alive_ok block w tells) (fun_ext shown ∙ ap (λ l. all_shown block.id.seq (shown_of old) l) same)
-      (λ g. counted g ∙ ap (λ l. counts_at_end (counts old g) (of_group g l)) same) later ready call
+      writes b block (shows v old cache) (shows w new cache) lived (alive_ok block w tells) (fun_ext shown ∙ ap (λ l. all_shown block.id.seq (shown_of old) l) same)
+      (λ g. counted g ∙ ap (λ l. counts_at_end (counts old g) (of_group g l)) same) (inl refl) later ready call
 
-  pub refuses_with : {A : Type 0} (error : Error) → TellsFailure {A = A} (Err error) w → ShowsSame old new → FailsToAppendTo InAppend (signed_for b) error v w → Refuses b error (shows v old) (shows w new)
-  refuses_with {A} error tells same call =
-      refuses b error (shows v old) (shows w new) lived (tells_err {A = A} error w tells) (fun_ext same.shown) (fun_ext same.counts) later ready call
+  pub refuses_with : {A : Type 0} (error : Error) → TellsFailure {A = A} (Err error) w → ShowsSame old new → forgotten.place ≡ None → RefusesAt (signed_for b) error v w → Refuses b error (shows v old cache) (shows w new forgotten)
+  refuses_with {A} error tells same none call =
+      refuses b error (shows v old cache) (shows w new forgotten) lived (tells_err {A = A} error w tells) (fun_ext same.shown) (fun_ext same.counts) none later ready call
 
-same_shows : (v : LogPipes) (old new : MemTables) → ShowsSame old new → shows v new ≡ shows v old
-same_shows v old new same = ap₂ (λ t c. record { tables = t; counts = c; pipes = v }) (fun_ext same.shown) (fun_ext same.counts)
+same_shows : (v : LogPipes) (old new : MemTables) (cache : BlockCache) → ShowsSame old new → shows v new cache ≡ shows v old cache
+same_shows v old new cache same = ap₂ (λ t c. record { tables = t; counts = c; pipes = v; cache = cache }) (fun_ext same.shown) (fun_ext same.counts)
 
 -- what is said of a batch whose record was made is said of the batch, and of tables that show what they showed
 written_kept : (b kept : Batch) (s t : Shows) → IsKept b kept → Writes kept false s t → Writes b false s t
@@ -82,6 +85,7 @@ written_kept b kept s t is w =
       alive = k.alive;
       tables = k.tables;
       counts = k.counts;
+      cache = k.cache;
       later = k.later;
       log = k.log;
       holds = k.holds;
@@ -90,25 +94,25 @@ written_kept b kept s t is w =
 
 refused_kept : (b kept : Batch) (error : Error) (s t : Shows) → IsKept b kept → Refuses kept error s t → Refuses b error s t
 refused_kept b kept error s t is r =
-    let k = subst (λ x. Refuses x error s t) is r in record { lived = k.lived; tells = k.tells; same = k.same; later = k.later; leaves = k.leaves }
+    let k = subst (λ x. Refuses x error s t) is r in record { lived = k.lived; tells = k.tells; same = k.same; forgets = k.forgets; tries = k.tries; later = k.later; leaves = k.leaves }
 
-pub put_answers : (b kept : Batch) (v w : LogPipes) (old mid new : MemTables) (r : Result ℕ Error) → IsKept b kept → ShowsSame old mid
-    → IfOk r (λ len. IsReadyForEach len kept.items kept.entries × Writes kept false (shows v mid) (shows w new))
-    → IfOk r (λ len. IsReadyForEach len b.items b.entries × Writes b false (shows v old) (shows w new))
-put_answers b kept v w old mid new (Ok len) is same (ready, wrote) = (
+pub put_answers : (b kept : Batch) (v w : LogPipes) (old mid new : MemTables) (cache later : BlockCache) (r : Result ℕ Error) → IsKept b kept → ShowsSame old mid
+    → IfOk r (λ len. IsReadyForEach len kept.items kept.entries × Writes kept false (shows v mid cache) (shows w new later))
+    → IfOk r (λ len. IsReadyForEach len b.items b.entries × Writes b false (shows v old cache) (shows w new later))
+put_answers b kept v w old mid new cache later (Ok len) is same (ready, wrote) = (
   subst (λ (x : Batch). IsReadyForEach len x.items x.entries) is ready,
-  subst (λ s. Writes b false s (shows w new)) (same_shows v old mid same) (written_kept b kept (shows v mid) (shows w new) is wrote),
+  subst (λ s. Writes b false s (shows w new later)) (same_shows v old mid cache same) (written_kept b kept (shows v mid cache) (shows w new later) is wrote),
 )
-put_answers b kept v w old mid new (Err e) is same h = tt
+put_answers b kept v w old mid new cache later (Err e) is same h = tt
 
-pub put_refuses : (b kept : Batch) (v w : LogPipes) (old mid new : MemTables) (r : Result ℕ Error) → IsKept b kept → ShowsSame old mid
-    → IfErr r (λ error. Refuses kept error (shows v mid) (shows w new)) → IfErr r (λ error. PutFails b error (shows v old) (shows w new))
-put_refuses b kept v w old mid new (Ok len) is same h = tt
-put_refuses b kept v w old mid new (Err e) is same h =
-    inr (subst (λ s. Refuses b e s (shows w new)) (same_shows v old mid same) (refused_kept b kept e (shows v mid) (shows w new) is h))
+pub put_refuses : (b kept : Batch) (v w : LogPipes) (old mid new : MemTables) (cache later : BlockCache) (r : Result ℕ Error) → IsKept b kept → ShowsSame old mid
+    → IfErr r (λ error. Refuses kept error (shows v mid cache) (shows w new later)) → IfErr r (λ error. PutFails b error (shows v old cache) (shows w new later))
+put_refuses b kept v w old mid new cache later (Ok len) is same h = tt
+put_refuses b kept v w old mid new cache later (Err e) is same h =
+    inr (subst (λ s. Refuses b e s (shows w new later)) (same_shows v old mid cache same) (refused_kept b kept e (shows v mid cache) (shows w new later) is h))
 
-pub put_unfit : (b : Batch) (error : Error) (v : LogPipes) (old mid : MemTables) → ShowsSame old mid → IsUnfit b (shown_of old) error → PutFails b error (shows v old) (shows v mid)
-put_unfit b error v old mid same why = inl (why, same_shows v old mid same)
+pub put_unfit : (b : Batch) (error : Error) (v : LogPipes) (old mid : MemTables) (cache : BlockCache) → ShowsSame old mid → IsUnfit b (shown_of old) error → PutFails b error (shows v old cache) (shows v mid cache)
+put_unfit b error v old mid cache same why = inl (why, same_shows v old mid cache same)
 
 pub kept_on : (b mid new : Batch) → IsKept b mid → new ≡ mid → IsKept b new
 kept_on b mid new is e = subst (λ x. IsKept b x) (sym e) is
@@ -134,3 +138,14 @@ none_unsynced b error s t (is, why) = elim why [
 
 pub put_synced : (b : Batch) (len : ℕ) (s mid t : Shows) → IsReadyForEach len b.items b.entries × Writes b false s mid → Syncs mid t → WritesBytes b true len s t
 put_synced b len s mid t (ready, wrote) synced = inr (ready, writes_synced b s mid t wrote synced)
+
+-- a record that is tried once more
+pub written_again : (signed other : LogFileContext → List ℕ) (error : Error) (v mid w : LogPipes) (r : Result FileBlockHandle Error) → other ≡ signed → IsNoSpace error
+    → FailsToAppendTo InAppend signed error v mid → IfOk r (λ block. AppendsTo InAppend other block mid w) → IfOk r (λ block. WritesAt signed block v w)
+written_again signed other error v mid w (Ok block) same none failed call = inr (mid, (error, none, failed), subst (λ s. AppendsTo InAppend s block mid w) same call)
+written_again signed other error v mid w (Err e) same none failed call = tt
+
+pub refused_again : (signed other : LogFileContext → List ℕ) (error : Error) (v mid w : LogPipes) (r : Result FileBlockHandle Error) → other ≡ signed → IsNoSpace error
+    → FailsToAppendTo InAppend signed error v mid → IfErr r (λ e. FailsToAppendTo InAppend other e mid w) → IfErr r (λ e. RefusesAt signed e v w)
+refused_again signed other error v mid w (Ok block) same none failed call = tt
+refused_again signed other error v mid w (Err e) same none failed call = inr (mid, (error, none, failed), subst (λ s. FailsToAppendTo InAppend s e mid w) same call)

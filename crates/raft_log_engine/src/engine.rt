@@ -1,24 +1,29 @@
 //! The engine of a log.
 
-ghost use Rattle.std.specs.Prelude.{◌≡◌, [], OnOk, OnErr, IfOk, IfErr};
+ghost use Rattle.std.specs.Prelude.{◌≡◌, [], None, OnOk, OnErr, IfOk, IfErr};
 ghost use Rattle.raft_log_replay.specs.Tables.{IsAtRest};
 
+mod entries;
+mod messages;
 mod reads;
+mod whole;
 
 use crate::writing;
 use log::Log;
 use raft_log_base::{Error, LogQueue, Result};
+use raft_log_blocks::BlockCache;
 use raft_log_dual_pipes::PipeLog;
 use raft_log_records::LogBatch;
 use raft_log_replay::MemTables;
 use std::alloc::Global;
 
-/// The engine of a log: its pipes, and the tables of all groups.
+/// The engine of a log: its pipes, the tables of all groups, and the entry block that was read last.
 #[derive(Drop)]
 pub struct Engine<P> {
     alloc: Global,
     pipes: P,
     tables: MemTables,
+    cache: BlockCache,
     ghost rests: { IsAtRest tables },
 }
 
@@ -33,16 +38,18 @@ impl<P: PipeLog> Engine<P> {
     ghost use Rattle.raft_log_dual_pipes.specs.Closing.{ClosesLog};
     ghost use Rattle.raft_log_dual_pipes.specs.Pipes.{is_failed};
 
-    /// An engine over these pipes, whose tables these are.
+    /// An engine over these pipes, whose tables these are. No block is kept.
     pub fn new(alloc: Global, pipes: P, tables: MemTables) -> Engine<P>
         requires { IsAtRest tables }
         ensures pipes { result.pipes ≡ pipes }
         ensures tables { result.tables ≡ tables }
+        ensures none { result.cache.place ≡ None }
     {
         Engine {
             alloc,
             pipes,
             tables,
+            cache: BlockCache::new(alloc),
         }
     }
 
@@ -55,10 +62,10 @@ impl<P: PipeLog> Engine<P> {
 
     /// Makes all batches durable. Refused, it is `Failed`, and nothing is taken any more.
     pub fn sync<L: Log>(&mut self, rt: &L) -> Result<()>
-        ensures ok { OnOk result (Syncs (shows (P.shown self.old.pipes) self.old.tables)
-            (shows (P.shown self.new.pipes) self.new.tables)) }
-        ensures err { IfErr result (λ error. NotSynced error (shows (P.shown self.old.pipes) self.old.tables)
-            (shows (P.shown self.new.pipes) self.new.tables)) }
+        ensures ok { OnOk result (Syncs (shows (P.shown self.old.pipes) self.old.tables self.old.cache)
+            (shows (P.shown self.new.pipes) self.new.tables self.new.cache)) }
+        ensures err { IfErr result (λ error. NotSynced error (shows (P.shown self.old.pipes) self.old.tables self.old.cache)
+            (shows (P.shown self.new.pipes) self.new.tables self.new.cache)) }
     {
         self.pipes.sync(rt, LogQueue::Append)
     }
@@ -69,16 +76,16 @@ impl<P: PipeLog> Engine<P> {
     /// Before anything is done: `InvalidArgument` for a batch that was written already, or whose marks of
     /// atomic groups are broken; `Full` for a record of 2^56 bytes or more; `Hole` where a group's entries would
     /// start past the index after the last; `Memory`. Then `Io`: the write was refused and cut off, and all
-    /// batches before are durable; `TryAgain`: the same for want of space. `Memory`, `NumberRange`: there is no
-    /// next file. In each of these cases the batch is kept, and its record made. `Failed`: nothing is taken
+    /// batches before are durable; `TryAgain`: the same for want of space, in two files, one after the other.
+    /// `Memory`, `NumberRange`: there is no next file. In each of these cases the batch is kept, and its record made. `Failed`: nothing is taken
     /// any more, and the batch may be in the log or not.
     pub fn write<L: Log>(&mut self, rt: &L, batch: &mut LogBatch, sync: bool) -> Result<usize>
         ensures ok { IfOk result (λ len. WritesBytes batch.old sync len
-            (shows (P.shown self.old.pipes) self.old.tables)
-            (shows (P.shown self.new.pipes) self.new.tables)) }
+            (shows (P.shown self.old.pipes) self.old.tables self.old.cache)
+            (shows (P.shown self.new.pipes) self.new.tables self.new.cache)) }
         ensures err { IfErr result (λ error. NotWritten batch.old error
-            (shows (P.shown self.old.pipes) self.old.tables)
-            (shows (P.shown self.new.pipes) self.new.tables)) }
+            (shows (P.shown self.old.pipes) self.old.tables self.old.cache)
+            (shows (P.shown self.new.pipes) self.new.tables self.new.cache)) }
         ensures emptied { OnOk result (IsEmptied batch.old batch.new) }
         ensures kept { IfErr result (λ error. IsKeptUnlessFailed error batch.old batch.new) }
     {
@@ -113,17 +120,25 @@ impl<P: PipeLog> Engine<P> {
         requires lives { is_failed (P.shown self.old.pipes) ≡ false }
         requires some { batch.old.items ≡ [] → ⊥ }
         ensures ok { IfOk result (λ len. IsReadyForEach len batch.old.items batch.old.entries
-            × Writes batch.old false (shows (P.shown self.old.pipes) self.old.tables)
-            (shows (P.shown self.new.pipes) self.new.tables)) }
+            × Writes batch.old false (shows (P.shown self.old.pipes) self.old.tables self.old.cache)
+            (shows (P.shown self.new.pipes) self.new.tables self.new.cache)) }
         ensures err { IfErr result (λ error. PutFails batch.old error
-            (shows (P.shown self.old.pipes) self.old.tables)
-            (shows (P.shown self.new.pipes) self.new.tables)) }
+            (shows (P.shown self.old.pipes) self.old.tables self.old.cache)
+            (shows (P.shown self.new.pipes) self.new.tables self.new.cache)) }
         ensures emptied { OnOk result (IsButBuffer (emptied batch.old) batch.new) }
         ensures kept { OnErr result (IsKept batch.old batch.new) }
     {
         let alloc = self.alloc;
         match writing::make_room(alloc, &mut self.tables, batch) {
-            Ok(room) => writing::append(alloc, rt, &mut self.pipes, &mut self.tables, batch, room),
+            Ok(room) => writing::append(
+                alloc,
+                rt,
+                &mut self.pipes,
+                &mut self.tables,
+                &mut self.cache,
+                batch,
+                room,
+            ),
             Err(error) => Err(error),
         }
     }

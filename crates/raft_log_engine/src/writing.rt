@@ -12,7 +12,11 @@ ghost use Rattle.raft_log_records.specs.declared.log_batch.BatchState.TheVariant
 ghost use Rattle.raft_log_records.specs.Batch.{emptied, IsReadyForEach, IsSigned};
 ghost use Rattle.raft_log_replay.specs.Batch.{all_shown, counts_at_end, IsReadyFor};
 ghost use Rattle.raft_log_replay.specs.Tables.{counts, shown_of, IsAtRest, ShowsSame};
+ghost use Rattle.raft_log_dual_pipes.specs.Calls.{TellsFailure};
 ghost use Rattle.raft_log_dual_pipes.specs.Pipes.{is_failed};
+ghost use Rattle.raft_log_disk.specs.Causes.{IsLater};
+ghost use Rattle.raft_log_signed_batch.specs.Signing.{signed_for};
+ghost use Rattle.raft_log_engine_state.specs.Trying.{IsNoSpace, RefusesAt, WritesAt};
 ghost use Rattle.raft_log_engine_state.specs.Shows.{shows, IsWellMarked, IsWritable};
 ghost use Rattle.raft_log_engine_state.specs.Writing.{items_at, IsKept, IsUnfit, Refuses, Writes};
 ghost use Rattle.raft_log_engine.specs.Room.{HasRoomFor, IsUnfitItself};
@@ -20,6 +24,7 @@ ghost use Rattle.raft_log_engine.specs.Room.{HasRoomFor, IsUnfitItself};
 use log::Log;
 use raft_log_atomic_groups::Marking;
 use raft_log_base::{Error, FileBlockHandle, LogQueue, Result};
+use raft_log_blocks::BlockCache;
 use raft_log_dual_pipes::PipeLog;
 use raft_log_items::LogItem;
 use raft_log_records::{BatchState, LogBatch};
@@ -78,6 +83,7 @@ pub fn append<P: PipeLog, L: Log>(
     rt: &L,
     pipes: &mut P,
     tables: &mut MemTables,
+    cache: &mut BlockCache,
     batch: &mut LogBatch,
     room: Room,
 ) -> Result<usize>
@@ -88,9 +94,9 @@ pub fn append<P: PipeLog, L: Log>(
     requires ready { IsReadyFor tables.old (tagged_items (λ e. e) batch.old.items) }
     requires room { HasRoomFor batch.old room }
     ensures ok { IfOk result (λ len. IsReadyForEach len batch.old.items batch.old.entries
-        × Writes batch.old false (shows (P.shown pipes.old) tables.old) (shows (P.shown pipes.new) tables.new)) }
+        × Writes batch.old false (shows (P.shown pipes.old) tables.old cache.old) (shows (P.shown pipes.new) tables.new cache.new)) }
     ensures err { IfErr result (λ error. Refuses batch.old error
-        (shows (P.shown pipes.old) tables.old) (shows (P.shown pipes.new) tables.new)) }
+        (shows (P.shown pipes.old) tables.old cache.old) (shows (P.shown pipes.new) tables.new cache.new)) }
     ensures rests { IsAtRest tables.new }
     ensures emptied { OnOk result (batch.new ≡ emptied batch.old) }
     ensures kept { OnErr result (batch.new ≡ batch.old) }
@@ -99,7 +105,7 @@ pub fn append<P: PipeLog, L: Log>(
     let Room { stand_in, items } = room;
     let mut signed = SignedBatch::new(mem::replace(batch, stand_in));
     signed.encoded_len();
-    let appended = pipes.append(alloc, rt, LogQueue::Append, &mut signed);
+    let appended = append_or_again(alloc, rt, pipes, &mut signed);
     *batch = signed.into_batch();
     match appended {
         Ok(block) => {
@@ -107,10 +113,49 @@ pub fn append<P: PipeLog, L: Log>(
             Ok(len)
         }
         Err(error) => {
+            cache.clear();
             batch.unsign();
             tables.take_back(batch.items());
             Err(error)
         }
+    }
+}
+
+/// Writes the record of a batch to Append. Where there is no space for it, Append has gone on in its next file, and
+/// it is tried there once more.
+fn append_or_again<P: PipeLog, L: Log>(
+    alloc: Global,
+    rt: &L,
+    pipes: &mut P,
+    signed: &mut SignedBatch,
+) -> Result<FileBlockHandle>
+    ensures ok { IfOk result (λ block. WritesAt (signed_for signed.old.batch) block
+        (P.shown pipes.old) (P.shown pipes.new)) }
+    ensures place { IfOk result (λ block. block.offset < 2 ^ 63) }
+    ensures err { IfErr result (λ error. RefusesAt (signed_for signed.old.batch) error
+        (P.shown pipes.old) (P.shown pipes.new)) }
+    ensures said { record signed.new.batch { state = Populated }
+        ≡ record signed.old.batch { state = Populated } }
+    ensures fails { TellsFailure result (P.shown pipes.new) }
+    ensures later { IsLater (P.shown pipes.old).disk (P.shown pipes.new).disk }
+{
+    let error = match pipes.append(alloc, rt, LogQueue::Append, signed) {
+        Ok(block) => return Ok(block),
+        Err(error) => error,
+    };
+    if is_no_space(&error) {
+        return pipes.append(alloc, rt, LogQueue::Append, signed);
+    }
+    Err(error)
+}
+
+/// Whether there was no space for a record.
+fn is_no_space(error: &Error) -> bool
+    ensures { IsTrue result ↔ IsNoSpace error.now }
+{
+    match error {
+        Error::TryAgain(_) => true,
+        _ => false,
     }
 }
 

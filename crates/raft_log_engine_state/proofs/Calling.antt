@@ -32,13 +32,13 @@ use Rattle.raft_log_views.proofs.Lying.{written_in}
 use Rattle.raft_log_file_queue.specs.Queue.{synced}
 use Rattle.raft_log_dual_pipes.specs.Pipes.{LogPipes, RunsOn, Said, State, queue_of}
 use Rattle.raft_log_dual_pipes.specs.Calls.{AppendsTo, SyncsQueue}
-use Rattle.raft_log_engine_state.specs.Shows.{Home, LogMap, Shows, log_in, said_by, said_of, sense}
+use Rattle.raft_log_engine_state.specs.Shows.{Home, KeepsOrForgets, LogMap, Shows, log_in, said_by, said_of, sense}
 use Rattle.raft_log_engine_state.specs.Holding.{EndsAt, Holds, RunsAs, RunsEnding}
 use Rattle.raft_log_engine_state.specs.Writing.{items_at}
 use Rattle.raft_log_engine_state.specs.Laws.{IsReady}
 use Rattle.raft_log_engine_state.proofs.Renaming.{places_follow}
 use Rattle.raft_log_engine_state.proofs.Growing.{batch_grows, items_said, read_is_said}
-use Rattle.raft_log_engine_state.proofs.Keeping.{goes_on, keeps_log}
+use Rattle.raft_log_engine_state.proofs.Keeping.{goes_on, keeps_log, stays_cached}
 
 -- the record of a batch says what the batch says
 pub says_batch : (home : Home) (e : Shows) (b : Batch) → IsReady e b → SaysRecord said_by (log_layout Append home.append) Append (signed_for b) (said_of b)
@@ -75,8 +75,8 @@ module _ (home : Home) (e : Shows) (w : LogPipes) (b : Batch) (block : FileBlock
       )
 
   -- the batch is pending behind the others
-  pub written : (t : Shows) → t.pipes ≡ w → t.tables ≡ after → EndsAt home t m (pending ++ said_of b ∷ [])
-  written t pipes tables =
+  pub written : (t : Shows) → t.pipes ≡ w → t.tables ≡ after → KeepsOrForgets e t → EndsAt home t m (pending ++ said_of b ∷ [])
+  written t pipes tables kept =
       let (files, keeps, runs, stored, meant, ends) = answer in
       let next : State = next_log InAppend h.state files w.disk in record {
         done = ends.done;
@@ -88,6 +88,7 @@ module _ (home : Home) (e : Shows) (w : LogPipes) (b : Batch) (block : FileBlock
           runs = subst (λ v. RunsOn (sense home) v next) (sym pipes) runs;
           stored = subst (λ v. AreStored next v) (sym tables) stored;
           meant = subst (λ v. AreMeant (entries_at next) v (taken h.map (said_of b ∷ []))) (sym tables) meant;
+          cached = stays_cached h.state next (keeps_log h.state files w.disk keeps) e.cache t.cache kept h.cached;
           at = subst (λ v. IsAt (Ties (log_in home) next) (view_of v (taken h.map (said_of b ∷ []))) (taken m ends.done) ends.rest) (sym tables) ends.at;
         };
       }
@@ -105,13 +106,13 @@ log_written home e w b block m pending h ready call =
     record { done = ends.done; rest = ends.rest; splits = ends.splits; runs = record { state = t; view = u; runs = runs; at = ends.at } }
 
 -- A sync puts all batches on the map.
-pub synced_all : (home : Home) (e t : Shows) (m : LogMap) (pending : List Said) → Holds home e m pending → t.tables ≡ e.tables → SyncsQueue InAppend e.pipes t.pipes → Holds home t (taken m pending) []
-synced_all home e t m pending h same call =
+pub synced_all : (home : Home) (e t : Shows) (m : LogMap) (pending : List Said) → Holds home e m pending → t.tables ≡ e.tables → KeepsOrForgets e t → SyncsQueue InAppend e.pipes t.pipes → Holds home t (taken m pending) []
+synced_all home e t m pending h same kept call =
     let s = h.state in
     let files : LogFiles LogRecord = synced s.append.files in
     let (runs, step) = call (sense home) s h.runs in
     let next : State = next_log InAppend s files t.pipes.disk in
-    goes_on home e t m pending h same files ((calls_keep_bytes {R = LogRecord}).synced s.append.files) runs (taken m pending) []
+    goes_on home e t m pending h same kept files ((calls_keep_bytes {R = LogRecord}).synced s.append.files) runs (taken m pending) []
     (append_synced (Ties (log_in home)) (AllowsIn (log_in home)) s next (view_of e.tables h.map) m pending h.at step)
 
 pub log_synced : (home : Home) (v w : LogPipes) (m : LogMap) (pending : List Said) → RunsAs home v m pending → SyncsQueue InAppend v w → RunsAs home w (taken m pending) []

@@ -1,5 +1,5 @@
 -- The exits of an engine's write and sync, put together of what its pipes and its tables told.
-use Rattle.std.proofs.Common.{◌≡◌, ◌⊎◌, ◌≤◌, ℕ, Bool, true, false, List, [], ◌∷◌, ◌++◌, inl, inr, refl, sym, ap, subst, ◌∙◌, arith, append_assoc}
+use Rattle.std.proofs.Common.{◌≡◌, ◌⊎◌, ◌≤◌, ℕ, Bool, true, false, None, List, [], ◌∷◌, ◌++◌, inl, inr, refl, sym, ap, subst, ◌∙◌, arith, append_assoc}
 use Rattle.std.specs.Prelude.{IsTrue, ◌↔◌, Result, Ok, Err, IfErr, OnErr, OnOk, is_err}
 use Rattle.std.proofs.lemmas.List.{append-nil}
 use Rattle.std.proofs.lemmas.Bool.{cases_Bool, false≢true}
@@ -16,26 +16,31 @@ use Rattle.raft_log_directory.proofs.Follows.{taken_twice}
 use Rattle.raft_log_replay.specs.declared.mem_tables.MemTables.{MemTables}
 use Rattle.raft_log_replay.specs.Batch.{all_shown, counts_at_end}
 use Rattle.raft_log_dual_pipes.specs.Pipes.{LogPipes, Said, is_failed}
-use Rattle.raft_log_dual_pipes.specs.Calls.{AppendsTo, FailsToAppendTo, FailsToSyncQueue, StaysFailed, SyncsQueue, TellsFailure}
-use Rattle.raft_log_engine_state.specs.Shows.{Home, LogMap, Shows, has_failed, said_of, shows}
+use Rattle.raft_log_dual_pipes.specs.Calls.{FailsToSyncQueue, StaysFailed, SyncsQueue, TellsFailure}
+use Rattle.raft_log_base.specs.declared.pipe_log.LogFileContext.{LogFileContext}
+use Rattle.raft_log_blocks.specs.declared.block_cache.BlockCache.{BlockCache}
+use Rattle.raft_log_engine_state.specs.Shows.{Home, KeepsOrForgets, LogMap, Shows, has_failed, said_of, shows}
 use Rattle.raft_log_engine_state.specs.Holding.{EndsAt, Holds, RunsAs, RunsEnding}
 use Rattle.raft_log_engine_state.specs.Syncing.{FailsToSync, NotSynced, RunsOnSame, Syncs}
+use Rattle.raft_log_engine_state.specs.Trying.{IsNoSpace, RefusesAt, TriesTwiceInVain, WritesAt}
 use Rattle.raft_log_engine_state.specs.Writing.{Refuses, Writes, items_at}
 use Rattle.raft_log_engine_state.specs.Laws.{IsReady}
 use Rattle.raft_log_engine_state.proofs.Keeping.{holds_runs}
-use Rattle.raft_log_engine_state.proofs.Calling.{log_synced, log_written, synced_all, written}
-use Rattle.raft_log_engine_state.proofs.Refusing.{left_behind, refused_leaves, unsynced_left}
+use Rattle.raft_log_engine_state.proofs.Calling.{log_synced, synced_all}
+use Rattle.raft_log_engine_state.proofs.Refusing.{left_behind, unsynced_left}
+use Rattle.raft_log_engine_state.proofs.Tries.{tried_leaves, tried_log, tried_written}
 
 later_on : (a b c : Disk) → IsLater a b → IsLater b c → IsLater a c
 later_on a b c h k = record { failures = omega (arith, h.failures, k.failures); stopped = λ s. k.stopped (h.stopped s) }
 
 -- a sync that is answered
-pub syncs : (s t : Shows) → has_failed s ≡ false → RunsOnSame s t → IsLater s.pipes.disk t.pipes.disk → SyncsQueue InAppend s.pipes t.pipes → Syncs s t
-syncs s t lived same later call = record {
+pub syncs : (s t : Shows) → has_failed s ≡ false → RunsOnSame s t → t.cache ≡ s.cache → IsLater s.pipes.disk t.pipes.disk → SyncsQueue InAppend s.pipes t.pipes → Syncs s t
+syncs s t lived same cache later call = record {
   lived = lived;
   same = same;
+  cache = cache;
   later = later;
-  holds = λ home m pending h. synced_all home s t m pending h same.tables call;
+  holds = λ home m pending h. synced_all home s t m pending h same.tables (inl cache) call;
   log = λ home m pending h. log_synced home s.pipes t.pipes m pending h call;
 }
 
@@ -50,23 +55,28 @@ fails_to_sync s t lived failed later call = record {
 
 -- a batch that was written, without a sync
 pub writes : (b : Batch) (block : FileBlockHandle) (s t : Shows) → has_failed s ≡ false → has_failed t ≡ false → t.tables ≡ all_shown block.id.seq s.tables (items_at block b)
-    → ((g : ℕ) → t.counts g ≡ counts_at_end (s.counts g) (of_group g (items_at block b))) → IsLater s.pipes.disk t.pipes.disk → IsReady s b
-    → AppendsTo InAppend (signed_for b) block s.pipes t.pipes → Writes b false s t
-writes b block s t lived alive tables counts later ready call = record {
+    → ((g : ℕ) → t.counts g ≡ counts_at_end (s.counts g) (of_group g (items_at block b))) → KeepsOrForgets s t → IsLater s.pipes.disk t.pipes.disk → IsReady s b
+    → WritesAt (signed_for b) block s.pipes t.pipes → Writes b false s t
+writes b block s t lived alive tables counts kept later ready call = record {
   block = block;
   some = ready.some;
   lived = lived;
   alive = alive;
   tables = tables;
   counts = counts;
+  cache = kept;
   later = later;
-  log = λ home m pending h. log_written home s t.pipes b block m pending h ready call;
-  holds = λ home m pending h. written home s t.pipes b block m pending h ready call t refl tables;
+  log = λ home m pending h. tried_log home s t b m pending h ready kept block call;
+  holds = λ home m pending h. tried_written home s t b m pending h ready kept block tables call;
   synced = λ asked. absurd (false≢true asked);
 }
 
 all_done : (home : Home) (t : Shows) (m : LogMap) (pending : List Said) → Holds home t (taken m pending) [] → EndsAt home t m pending
 all_done home t m pending h = record { done = pending; rest = []; splits = append-nil pending; holds = h }
+
+kept_on : (s mid t : Shows) → KeepsOrForgets s mid → t.cache ≡ mid.cache → KeepsOrForgets s t
+kept_on s mid t (inl same) cache = inl (cache ∙ same)
+kept_on s mid t (inr none) cache = inr (ap (λ (c : BlockCache). c.place) cache ∙ none)
 
 -- and then synced
 pub writes_synced : (b : Batch) (s mid t : Shows) → Writes b false s mid → Syncs mid t → Writes b true s t
@@ -81,6 +91,7 @@ writes_synced b s mid t w y =
       alive = y.same.alive;
       tables = y.same.tables ∙ w.tables;
       counts = λ g. ap (λ (f : ℕ → Bool). f g) y.same.counts ∙ w.counts g;
+      cache = kept_on s mid t w.cache y.cache;
       later = later_on s.pipes.disk mid.pipes.disk t.pipes.disk w.later y.later;
       log = λ home m pending h.
           (let e = w.log home m pending h in record {
@@ -99,6 +110,8 @@ write_unsynced b s mid t w f = record {
   lived = w.lived;
   tells = (λ hit. refl, λ same. f.failed);
   same = λ alive. absurd (false≢true (sym alive ∙ f.failed));
+  forgets = λ alive. absurd (false≢true (sym alive ∙ f.failed));
+  tries = λ none. absurd none;
   later = later_on s.pipes.disk mid.pipes.disk t.pipes.disk w.later f.later;
   leaves = λ home m pending h.
       (let e = w.log home m pending h in
@@ -111,19 +124,28 @@ empty_unsynced b s t f = record {
   lived = f.lived;
   tells = (λ hit. refl, λ same. f.failed);
   same = λ alive. absurd (false≢true (sym alive ∙ f.failed));
+  forgets = λ alive. absurd (false≢true (sym alive ∙ f.failed));
+  tries = λ none. absurd none;
   later = f.later;
   leaves = λ home m pending h. inl (f.leaves home m pending (holds_runs home s m pending h)).1;
 }
 
+-- that there is no space is told after two tries
+tried_twice : (signed : LogFileContext → List ℕ) (error : Error) (v w : LogPipes) → IsNoSpace error → RefusesAt signed error v w → TriesTwiceInVain signed v w
+tried_twice signed error v w full (inl (other, call)) = absurd (other full)
+tried_twice signed error v w full (inr (mid, vain, call)) = (mid, vain, (error, full, call))
+
 -- a batch that the pipes refused
 pub refuses : (b : Batch) (error : Error) (s t : Shows) → has_failed s ≡ false → (IsTrue (has_failed t) ↔ (error ≡ errors.Failed)) → t.tables ≡ s.tables → t.counts ≡ s.counts
-    → IsLater s.pipes.disk t.pipes.disk → IsReady s b → FailsToAppendTo InAppend (signed_for b) error s.pipes t.pipes → Refuses b error s t
-refuses b error s t lived tells tables counts later ready call = record {
+    → t.cache.place ≡ None → IsLater s.pipes.disk t.pipes.disk → IsReady s b → RefusesAt (signed_for b) error s.pipes t.pipes → Refuses b error s t
+refuses b error s t lived tells tables counts none later ready call = record {
   lived = lived;
   tells = tells;
   same = λ alive. record { alive = alive; tables = tables; counts = counts };
+  forgets = λ alive. none;
+  tries = λ full. tried_twice (signed_for b) error s.pipes t.pipes full call;
   later = later;
-  leaves = λ home m pending h. refused_leaves home s t b m pending error h ready tables call;
+  leaves = λ home m pending h. tried_leaves home s t b m pending h ready (inr none) error tables call;
 }
 
 -- What a call on the pipes tells of whether they have failed.
@@ -140,19 +162,19 @@ alive_now r x w is tells = elim (cases_Bool (is_failed w)) [
 ]
 
 -- the engine over pipes that a sync left
-pub sync_answers : {A : Type 0} (r : Result A Error) (v w : LogPipes) (tables : MemTables) → OnOk r (SyncsQueue InAppend v w) → StaysFailed r v w → TellsFailure r w → IsLater v.disk w.disk
-    → OnOk r (Syncs (shows v tables) (shows w tables))
-sync_answers (Ok x) v w tables call stays tells later =
-    syncs (shows v tables) (shows w tables) (alive_if (Ok x) x v w refl stays) (record { alive = alive_now (Ok x) x w refl tells; tables = refl; counts = refl }) later call
-sync_answers (Err e) v w tables call stays tells later = tt
+pub sync_answers : {A : Type 0} (r : Result A Error) (v w : LogPipes) (tables : MemTables) (cache : BlockCache) → OnOk r (SyncsQueue InAppend v w) → StaysFailed r v w → TellsFailure r w → IsLater v.disk w.disk
+    → OnOk r (Syncs (shows v tables cache) (shows w tables cache))
+sync_answers (Ok x) v w tables cache call stays tells later =
+    syncs (shows v tables cache) (shows w tables cache) (alive_if (Ok x) x v w refl stays) (record { alive = alive_now (Ok x) x w refl tells; tables = refl; counts = refl }) refl later call
+sync_answers (Err e) v w tables cache call stays tells later = tt
 
-pub sync_refuses : {A : Type 0} (r : Result A Error) (v w : LogPipes) (tables : MemTables) → OnErr r (FailsToSyncQueue InAppend v w) → IfErr r (λ e. e ≡ errors.Failed) → StaysFailed r v w
-    → TellsFailure r w → IsLater v.disk w.disk → IfErr r (λ e. NotSynced e (shows v tables) (shows w tables))
-sync_refuses (Ok x) v w tables call is stays tells later = tt
-sync_refuses (Err e) v w tables call is stays tells later = (
+pub sync_refuses : {A : Type 0} (r : Result A Error) (v w : LogPipes) (tables : MemTables) (cache : BlockCache) → OnErr r (FailsToSyncQueue InAppend v w) → IfErr r (λ e. e ≡ errors.Failed) → StaysFailed r v w
+    → TellsFailure r w → IsLater v.disk w.disk → IfErr r (λ e. NotSynced e (shows v tables cache) (shows w tables cache))
+sync_refuses (Ok x) v w tables cache call is stays tells later = tt
+sync_refuses (Err e) v w tables cache call is stays tells later = (
   is,
   elim (cases_Bool (is_failed v)) [
-    | inl hit ↦ inl (hit, ap (λ p. shows p tables) (stays hit).1)
-    | inr miss ↦ inr (fails_to_sync (shows v tables) (shows w tables) miss (tells.1 (ap Err is)) later call)
+    | inl hit ↦ inl (hit, ap (λ p. shows p tables cache) (stays hit).1)
+    | inr miss ↦ inr (fails_to_sync (shows v tables cache) (shows w tables cache) miss (tells.1 (ap Err is)) later call)
   ],
 )

@@ -1,5 +1,5 @@
 -- A call on Append keeps the places that an engine's tables show, and what is read there.
-use Rattle.std.proofs.Common.{◌≡◌, ℕ, ◌≤◌, List, [], ◌∷◌, ◌++◌, refl, sym, ap, subst, ◌∙◌, arith}
+use Rattle.std.proofs.Common.{◌≡◌, ◌⊎◌, ℕ, ◌≤◌, None, List, [], ◌∷◌, ◌++◌, inl, inr, refl, sym, ap, subst, ◌∙◌, arith}
 use Rattle.raft_log_disk.specs.Disk.{Disk}
 use Rattle.raft_log_disk.specs.LogQueue.{LogFiles}
 use Rattle.raft_log_layout.specs.declared.record.LogRecord.{LogRecord}
@@ -13,7 +13,10 @@ use Rattle.raft_log_stored.proofs.Keeping.{calls_keep_bytes}
 use Rattle.raft_log_stored.proofs.Staying.{stored_entries_stay}
 use Rattle.raft_log_views.specs.Views.{AreMeant, view_of}
 use Rattle.raft_log_dual_pipes.specs.Pipes.{LogPipes, RunsOn, Said, State}
-use Rattle.raft_log_engine_state.specs.Shows.{Home, LogMap, Shows, log_in, sense}
+use Rattle.raft_log_blocks.specs.declared.block_cache.BlockCache.{BlockCache}
+use Rattle.raft_log_blocks.specs.Blocks.{IsOfLog}
+use Rattle.raft_log_blocks.proofs.Kept.{kept_blocks_stay, none_kept}
+use Rattle.raft_log_engine_state.specs.Shows.{Home, KeepsOrForgets, LogMap, Shows, log_in, sense}
 use Rattle.raft_log_engine_state.specs.Holding.{EndsAt, Holds, RunsAs}
 
 -- what Append's files keep the log keeps
@@ -29,17 +32,24 @@ keeps_log s files d keeps = record {
 pub holds_runs : (home : Home) (e : Shows) (m : LogMap) (pending : List Said) → Holds home e m pending → RunsAs home e.pipes m pending
 holds_runs home e m pending h = record { state = h.state; view = view_of e.tables h.map; runs = h.runs; at = h.at }
 
-module _ (home : Home) (e t : Shows) (m : LogMap) (pending : List Said) (h : Holds home e m pending) (same : t.tables ≡ e.tables) where
+-- the block that was kept stays what was written at its place; where none is kept there is nothing to say
+pub stays_cached : (s t : State) → KeepsLog s t → (old new : BlockCache) → (new ≡ old) ⊎ (new.place ≡ None) → IsOfLog s old → IsOfLog t new
+stays_cached s t keeps old new (inl same) is = subst (IsOfLog t) (sym same) (kept_blocks_stay s t keeps old is)
+stays_cached s t keeps old new (inr none) is = none_kept t new none
+
+module _ (home : Home) (e t : Shows) (m : LogMap) (pending : List Said) (h : Holds home e m pending) (same : t.tables ≡ e.tables) (kept : KeepsOrForgets e t) where
   -- the same tables go on with a log that keeps theirs
   pub goes_on : (files : LogFiles LogRecord) → KeepsBytes h.state.append.files files → RunsOn (sense home) t.pipes (next_log InAppend h.state files t.pipes.disk)
       → (k : LogMap) (rest : List Said) → IsAt (Ties (log_in home) (next_log InAppend h.state files t.pipes.disk)) (view_of e.tables h.map) k rest → Holds home t k rest
   goes_on files keeps runs k rest at =
       let next : State = next_log InAppend h.state files t.pipes.disk in
-      let stays = stored_entries_stay h.state next (keeps_log h.state files t.pipes.disk keeps) e.tables h.stored in record {
+      let log = keeps_log h.state files t.pipes.disk keeps in
+      let stays = stored_entries_stay h.state next log e.tables h.stored in record {
         state = next;
         map = h.map;
         runs = runs;
         stored = subst (λ v. AreStored next v) (sym same) stays.0;
         meant = subst (λ v. AreMeant (entries_at next) v h.map) (sym same) (stays.1 h.map h.meant);
+        cached = stays_cached h.state next log e.cache t.cache kept h.cached;
         at = subst (λ v. IsAt (Ties (log_in home) next) (view_of v h.map) k rest) (sym same) at;
       }

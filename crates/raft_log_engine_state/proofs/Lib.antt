@@ -3,6 +3,8 @@ pub mod Growing
 pub mod Keeping
 pub mod Calling
 pub mod Refusing
+pub mod Tries
 pub mod Exits
+pub mod Fetching
 pub mod Reading
 pub mod Lying

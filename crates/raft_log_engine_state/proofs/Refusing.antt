@@ -25,7 +25,7 @@ use Rattle.raft_log_stored.proofs.Keeping.{calls_keep_bytes}
 use Rattle.raft_log_views.specs.Views.{view_of}
 use Rattle.raft_log_dual_pipes.specs.Pipes.{LogPipes, RunsOn, Said, State, files_of}
 use Rattle.raft_log_dual_pipes.specs.Calls.{CutsBackOn, FailsToAppendTo, FailsToSyncQueue, LeavesOutOn}
-use Rattle.raft_log_engine_state.specs.Shows.{Home, LogMap, Shows, log_in, said_of, sense}
+use Rattle.raft_log_engine_state.specs.Shows.{Home, KeepsOrForgets, LogMap, Shows, log_in, said_of, sense}
 use Rattle.raft_log_engine_state.specs.Holding.{EndsAt, Holds, IsLeftAt, RunsAs, RunsEnding}
 use Rattle.raft_log_engine_state.specs.Writing.{Leaves, items_at}
 use Rattle.raft_log_engine_state.proofs.Growing.{batch_grows, in_file}
@@ -33,13 +33,13 @@ use Rattle.raft_log_engine_state.specs.Laws.{IsReady}
 use Rattle.raft_log_engine_state.proofs.Keeping.{goes_on}
 use Rattle.raft_log_engine_state.proofs.Calling.{says_batch}
 
-module _ (home : Home) (e t : Shows) (b : Batch) (m : LogMap) (pending : List Said) (h : Holds home e m pending) (same : t.tables ≡ e.tables) where
+module _ (home : Home) (e t : Shows) (b : Batch) (m : LogMap) (pending : List Said) (h : Holds home e m pending) (same : t.tables ≡ e.tables) (kept : KeepsOrForgets e t) where
   -- cut back, all batches before are in the map
   cut_back : CutsBackOn (sense home) InAppend h.state e.pipes t.pipes → Holds home t (taken m pending) []
   cut_back call =
       let s = h.state in
       let (files, cut, runs, step) = call in
-      goes_on home e t m pending h same files ((calls_keep_bytes {R = LogRecord}).cut_back _ _ _ s.append.files files cut) runs (taken m pending) []
+      goes_on home e t m pending h same kept files ((calls_keep_bytes {R = LogRecord}).cut_back _ _ _ s.append.files files cut) runs (taken m pending) []
       (append_cut_back (Ties (log_in home)) (AllowsIn (log_in home)) s (next_log InAppend s files t.pipes.disk) (view_of e.tables h.map) m pending h.at step)
 
   -- left out, some first ones are
@@ -55,7 +55,7 @@ module _ (home : Home) (e t : Shows) (b : Batch) (m : LogMap) (pending : List Sa
         done = ends.done;
         rest = ends.rest;
         splits = ends.splits;
-        holds = goes_on home e t m pending h same files keeps runs (taken m ends.done) ends.rest ends.at;
+        holds = goes_on home e t m pending h same kept files keeps runs (taken m ends.done) ends.rest ends.at;
       }
 
 -- a log that ends so lies on its disk
@@ -66,17 +66,17 @@ left_at home o t m pending stands ends = (
 )
 
 -- what the pipes leave of a batch that they refused
-pub refused_leaves : (home : Home) (e t : Shows) (b : Batch) (m : LogMap) (pending : List Said) (error : Error) → Holds home e m pending → IsReady e b → t.tables ≡ e.tables
+pub refused_leaves : (home : Home) (e t : Shows) (b : Batch) (m : LogMap) (pending : List Said) (error : Error) → Holds home e m pending → IsReady e b → t.tables ≡ e.tables → KeepsOrForgets e t
     → FailsToAppendTo InAppend (signed_for b) error e.pipes t.pipes → Leaves home b m pending t error
-refused_leaves home e t b m pending (errors.Io kind) h ready same call =
-    cut_back home e t b m pending h same (call (sense home) h.state (said_of b) h.runs (says_batch home e b ready))
-refused_leaves home e t b m pending (errors.TryAgain text) h ready same call =
-    cut_back home e t b m pending h same (call (sense home) h.state (said_of b) h.runs (says_batch home e b ready))
-refused_leaves home e t b m pending errors.NumberRange h ready same call =
-    left_out home e t b m pending h same (call (sense home) h.state (said_of b) h.runs (says_batch home e b ready))
-refused_leaves home e t b m pending errors.Memory h ready same call =
-    left_out home e t b m pending h same (call (sense home) h.state (said_of b) h.runs (says_batch home e b ready))
-refused_leaves home e t b m pending errors.Failed h ready same call =
+refused_leaves home e t b m pending (errors.Io kind) h ready same kept call =
+    cut_back home e t b m pending h same kept (call (sense home) h.state (said_of b) h.runs (says_batch home e b ready))
+refused_leaves home e t b m pending (errors.TryAgain text) h ready same kept call =
+    cut_back home e t b m pending h same kept (call (sense home) h.state (said_of b) h.runs (says_batch home e b ready))
+refused_leaves home e t b m pending errors.NumberRange h ready same kept call =
+    left_out home e t b m pending h same kept (call (sense home) h.state (said_of b) h.runs (says_batch home e b ready))
+refused_leaves home e t b m pending errors.Memory h ready same kept call =
+    left_out home e t b m pending h same kept (call (sense home) h.state (said_of b) h.runs (says_batch home e b ready))
+refused_leaves home e t b m pending errors.Failed h ready same kept call =
     let s = h.state in
     let (files, goes, stands, may) = call (sense home) s (said_of b) h.runs (says_batch home e b ready) in
     let next : State = next_log InAppend s files t.pipes.disk in
@@ -86,7 +86,7 @@ refused_leaves home e t b m pending errors.Failed h ready same call =
       | inl without ↦ inl (left_at home (with_open InAppend (both_open (files_of e.pipes)) None) next m pending stands without)
       | inr with_it ↦ inr (left_at home (with_open InAppend (both_open (files_of e.pipes)) None) next m (pending ++ said_of b ∷ []) stands with_it)
     ]
-refused_leaves home e t b m pending _ h ready same call =
+refused_leaves home e t b m pending _ h ready same kept call =
     call (sense home) h.state (said_of b) h.runs (says_batch home e b ready)
 
 -- a sync that failed leaves the log as it was

@@ -10,17 +10,19 @@ use Rattle.raft_log_steps.specs.Failing.{LogEndsLying}
 use Rattle.raft_log_views.specs.Views.{AreMeant, view_of}
 use Rattle.raft_log_stored.specs.Stored.{AreStored, entries_at}
 use Rattle.raft_log_dual_pipes.specs.Pipes.{LogPipes, RunsOn, Said, State}
+use Rattle.raft_log_blocks.specs.Blocks.{IsOfLog}
 use Rattle.raft_log_engine_state.specs.Shows.{Home, LogMap, Shows, log_in, sense}
 
 -- The engine's log, in these directories, is the map m with the batches pending behind it: its pipes run over
--- a log that is so, each place that its tables show lies there, and what is read at these places is the map
--- after the batches.
+-- a log that is so, each place that its tables show lies there, what is read at these places is the map after
+-- the batches, and the block that is kept is what was written at its place.
 pub record Holds (home : Home) (e : Shows) (m : LogMap) (pending : List Said) : Type 0 where
   pub state : State
   pub map : LogMap
   pub runs : RunsOn (sense home) e.pipes state
   pub stored : AreStored state e.tables
   pub meant : AreMeant (entries_at state) e.tables map
+  pub cached : IsOfLog state e.cache
   pub at : IsAt (Ties (log_in home) state) (view_of e.tables map) m pending
 
 -- the pipes run over a log in these directories that is the map m with the batches pending behind it, whatever

@@ -1,5 +1,5 @@
 -- Each call on an engine's pipes and tables, as a step of its log.
-use Rattle.std.specs.Prelude.{◌≡◌, ℕ, false, List, [], ◌∷◌, ◌++◌}
+use Rattle.std.specs.Prelude.{◌≡◌, ℕ, List, [], ◌∷◌, ◌++◌}
 use Rattle.raft_log_model.specs.Groups.{taken}
 use Rattle.raft_log_disk.specs.Causes.{Fails}
 use Rattle.raft_log_base.specs.declared.errors.Error.{Error}
@@ -13,7 +13,7 @@ use Rattle.raft_log_steps.specs.Lying.{both_open}
 use Rattle.raft_log_steps.specs.OnDisk.{LogLiesOn}
 use Rattle.raft_log_dual_pipes.specs.Pipes.{LogPipes, Said, files_of}
 use Rattle.raft_log_dual_pipes.specs.Calls.{AppendsTo, FailsToAppendTo, FailsToSyncQueue, SyncsQueue}
-use Rattle.raft_log_engine_state.specs.Shows.{Home, IsLaidOut, IsWellMarked, LogMap, Shows, log_in, said_of}
+use Rattle.raft_log_engine_state.specs.Shows.{Home, IsLaidOut, IsWellMarked, KeepsOrForgets, LogMap, Shows, log_in, said_of}
 use Rattle.raft_log_engine_state.specs.Holding.{EndsAt, Holds, IsLeftAt, RunsAs}
 use Rattle.raft_log_engine_state.specs.Writing.{Leaves, items_at}
 
@@ -30,19 +30,19 @@ abbrev pub BatchesAreWritten : Type 0
 BatchesAreWritten = (home : Home) (e t : Shows) (b : Batch) (block : FileBlockHandle) (m : LogMap)
     (pending : List Said) → Holds home e m pending → IsReady e b
     → AppendsTo InAppend (signed_for b) block e.pipes t.pipes
-    → t.tables ≡ all_shown block.id.seq e.tables (items_at block b)
+    → t.tables ≡ all_shown block.id.seq e.tables (items_at block b) → KeepsOrForgets e t
     → EndsAt home t m (pending ++ said_of b ∷ [])
 
 -- one that the pipes refused
 abbrev pub RefusalsLeaveNoTrace : Type 0
 RefusalsLeaveNoTrace = (home : Home) (e t : Shows) (b : Batch) (m : LogMap) (pending : List Said)
-    (error : Error) → Holds home e m pending → IsReady e b → t.tables ≡ e.tables
+    (error : Error) → Holds home e m pending → IsReady e b → t.tables ≡ e.tables → KeepsOrForgets e t
     → FailsToAppendTo InAppend (signed_for b) error e.pipes t.pipes → Leaves home b m pending t error
 
 -- a sync
 abbrev pub SyncsAreHeld : Type 0
 SyncsAreHeld = (home : Home) (e t : Shows) (m : LogMap) (pending : List Said) → Holds home e m pending
-    → t.tables ≡ e.tables → SyncsQueue InAppend e.pipes t.pipes → Holds home t (taken m pending) []
+    → t.tables ≡ e.tables → KeepsOrForgets e t → SyncsQueue InAppend e.pipes t.pipes → Holds home t (taken m pending) []
 
 -- one that failed
 abbrev pub FailuresLeaveLogs : Type 0

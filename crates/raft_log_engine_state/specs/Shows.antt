@@ -1,5 +1,5 @@
 -- What an engine shows, and how its log is read.
-use Rattle.std.specs.Prelude.{◌≡◌, ℕ, Bool, List, [], None, unwrap_or, length}
+use Rattle.std.specs.Prelude.{◌≡◌, ◌⊎◌, ℕ, Bool, List, [], None, unwrap_or, length}
 use Rattle.raft_log_model.specs.Item.{Record}
 use Rattle.raft_log_model.specs.Item.Record.{Plain}
 use Rattle.raft_log_model.specs.Groups.{Map}
@@ -20,20 +20,27 @@ use Rattle.raft_log_replay.specs.declared.mem_tables.MemTables.{MemTables}
 use Rattle.raft_log_replay.specs.Tables.{counts, shown_of}
 use Rattle.raft_log_steps.specs.Queues.{TwoQueues}
 use Rattle.raft_log_dual_pipes.specs.Pipes.{LogPipes, LogSense, Said, is_failed, queues}
+use Rattle.raft_log_blocks.specs.declared.block_cache.BlockCache.{BlockCache}
 
 -- what is read through an engine: for each group and slot an entry's bytes, or a key's value
 abbrev pub LogMap : Type 0
 LogMap = Map (List ℕ) (List ℕ)
 
--- what an engine shows: what its tables say of each group, which groups count, and its pipes
+-- what an engine shows: what its tables say of each group, which groups count, its pipes, and the block that it
+-- read last
 pub record Shows : Type 0 where
   pub tables : ℕ → Shown
   pub counts : ℕ → Bool
   pub pipes : LogPipes
+  pub cache : BlockCache
 
--- an engine with these pipes and these tables shows this
-abbrev pub shows : LogPipes → MemTables → Shows
-shows v tables = record { tables = shown_of tables; counts = counts tables; pipes = v }
+-- an engine with these pipes, these tables and this block shows this
+abbrev pub shows : LogPipes → MemTables → BlockCache → Shows
+shows v tables cache = record { tables = shown_of tables; counts = counts tables; pipes = v; cache = cache }
+
+-- the block that was kept stays kept, or none is any more
+abbrev pub KeepsOrForgets : Shows → Shows → Type 0
+KeepsOrForgets s t = (t.cache ≡ s.cache) ⊎ (t.cache.place ≡ None)
 
 -- whether a call was refused that couldn't be mended
 abbrev pub has_failed : Shows → Bool

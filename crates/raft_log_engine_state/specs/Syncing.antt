@@ -14,10 +14,11 @@ pub record RunsOnSame (s t : Shows) : Type 0 where
   pub tables : t.tables ≡ s.tables
   pub counts : t.counts ≡ s.counts
 
--- Append was synced: all batches are in the map, and none is pending.
+-- Append was synced: all batches are in the map, and none is pending. The block that was read last stays.
 pub record Syncs (s t : Shows) : Type 0 where
   pub lived : has_failed s ≡ false
   pub same : RunsOnSame s t
+  pub cache : t.cache ≡ s.cache
   pub later : IsLater s.pipes.disk t.pipes.disk
   pub holds : (home : Home) (m : LogMap) (pending : List Said) → Holds home s m pending
       → Holds home t (taken m pending) []

@@ -1,5 +1,5 @@
 -- A batch is written: what an engine shows then, and what is true of it, answered and refused.
-use Rattle.std.specs.Prelude.{◌≡◌, ◌⊎◌, ◌^◌, ◌≤◌, ◌↔◌, IsTrue, ℕ, Bool, true, false, List, [], ◌∷◌, ◌++◌}
+use Rattle.std.specs.Prelude.{◌≡◌, ◌⊎◌, ◌^◌, ◌≤◌, ◌↔◌, IsTrue, ℕ, Bool, true, false, None, List, [], ◌∷◌, ◌++◌}
 use Rattle.raft_log_model.specs.Item.{Tagged}
 use Rattle.raft_log_model.specs.Groups.{of_group, taken}
 use Rattle.raft_log_disk.specs.Causes.{IsLater}
@@ -9,13 +9,15 @@ use Rattle.raft_log_base.specs.declared.pipe_log.FileBlockHandle.{FileBlockHandl
 use Rattle.raft_log_atomic_groups.specs.Meaning.{tagged_items}
 use Rattle.raft_log_frames.specs.Record.{record_len}
 use Rattle.raft_log_records.specs.Batch.{Batch, IsButBuffer, IsReadyForEach, emptied}
+use Rattle.raft_log_signed_batch.specs.Signing.{signed_for}
 use Rattle.raft_log_places.specs.declared.place.Place.{Place}
 use Rattle.raft_log_places.specs.Shown.{Shown}
 use Rattle.raft_log_replay.specs.Batch.{MayFollowAll, all_shown, counts_at_end}
 use Rattle.raft_log_stored.specs.Written.{placed_items}
 use Rattle.raft_log_dual_pipes.specs.Pipes.{Said}
-use Rattle.raft_log_engine_state.specs.Shows.{IsWellMarked, IsWritable, Home, LogMap, Shows, has_failed, said_of}
+use Rattle.raft_log_engine_state.specs.Shows.{IsWellMarked, IsWritable, KeepsOrForgets, Home, LogMap, Shows, has_failed, said_of}
 use Rattle.raft_log_engine_state.specs.Syncing.{RunsOnSame, Syncs}
+use Rattle.raft_log_engine_state.specs.Trying.{IsNoSpace, TriesTwiceInVain}
 use Rattle.raft_log_engine_state.specs.Holding.{EndsAt, Holds, IsLeftAt, RunsEnding}
 
 -- the items of a batch that was written at this place, with the places of their entries
@@ -31,6 +33,7 @@ pub record Writes (b : Batch) (sync : Bool) (s t : Shows) : Type 0 where
   pub alive : has_failed t ≡ false
   pub tables : t.tables ≡ all_shown block.id.seq s.tables (items_at block b)
   pub counts : (g : ℕ) → t.counts g ≡ counts_at_end (s.counts g) (of_group g (items_at block b))
+  pub cache : KeepsOrForgets s t
   pub later : IsLater s.pipes.disk t.pipes.disk
   pub log : (home : Home) (m : LogMap) (pending : List Said) → Holds home s m pending
       → RunsEnding home t.pipes m (pending ++ said_of b ∷ [])
@@ -68,11 +71,14 @@ Leaves home b m pending t errors.Failed =
     IsLeftAt home t.pipes.disk m pending ⊎ IsLeftAt home t.pipes.disk m (pending ++ said_of b ∷ [])
 Leaves home b m pending t _ = ⊥
 
--- The pipes refused: an engine that hasn't failed shows what it showed.
+-- The pipes refused: an engine that hasn't failed shows what it showed, and keeps no block. That there is no space
+-- is told after two tries.
 pub record Refuses (b : Batch) (error : Error) (s t : Shows) : Type 0 where
   pub lived : has_failed s ≡ false
   pub tells : IsTrue (has_failed t) ↔ (error ≡ errors.Failed)
   pub same : has_failed t ≡ false → RunsOnSame s t
+  pub forgets : has_failed t ≡ false → t.cache.place ≡ None
+  pub tries : IsNoSpace error → TriesTwiceInVain (signed_for b) s.pipes t.pipes
   pub later : IsLater s.pipes.disk t.pipes.disk
   pub leaves : (home : Home) (m : LogMap) (pending : List Said) → Holds home s m pending
       → Leaves home b m pending t error

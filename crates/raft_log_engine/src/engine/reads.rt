@@ -19,7 +19,7 @@ use raft_log_tables::MemTable;
 impl<P: PipeLog> Engine<P> {
     /// The index of a group's first entry, if it has one. `Failed` of an engine that has failed.
     pub fn first_index(&self, raft_group_id: u64) -> Result<Option<u64>>
-        ensures ok { IfOk result (ReadsFirst (shows (P.shown self.now.pipes) self.now.tables) raft_group_id) }
+        ensures ok { IfOk result (ReadsFirst (shows (P.shown self.now.pipes) self.now.tables self.now.cache) raft_group_id) }
         ensures err { IfErr result (λ error. (error ≡ errors.Failed)
             × (is_failed (P.shown self.now.pipes) ≡ true)) }
     {
@@ -34,7 +34,7 @@ impl<P: PipeLog> Engine<P> {
 
     /// The index of a group's last entry, if it has one. `Failed` of an engine that has failed.
     pub fn last_index(&self, raft_group_id: u64) -> Result<Option<u64>>
-        ensures ok { IfOk result (ReadsLast (shows (P.shown self.now.pipes) self.now.tables) raft_group_id) }
+        ensures ok { IfOk result (ReadsLast (shows (P.shown self.now.pipes) self.now.tables self.now.cache) raft_group_id) }
         ensures err { IfErr result (λ error. (error ≡ errors.Failed)
             × (is_failed (P.shown self.now.pipes) ≡ true)) }
     {
@@ -49,7 +49,7 @@ impl<P: PipeLog> Engine<P> {
 
     /// The value of a group's key, if it has one. `Failed` of an engine that has failed, or `Memory`.
     pub fn get(&self, raft_group_id: u64, key: &[u8]) -> Result<Option<Vec<u8>>>
-        ensures ok { IfOk result (λ value. ReadsValue (shows (P.shown self.now.pipes) self.now.tables)
+        ensures ok { IfOk result (λ value. ReadsValue (shows (P.shown self.now.pipes) self.now.tables self.now.cache)
             raft_group_id key.now (option_map (λ bytes. bytes.items) value)) }
         ensures err { IfErr result (λ error. (error ≡ errors.Memory) ⊎ ((error ≡ errors.Failed)
             × (is_failed (P.shown self.now.pipes) ≡ true))) }

@@ -3,8 +3,7 @@ use Rattle.std.specs.Prelude.{None}
 use Rattle.raft_log_records.specs.Batch.{Batch, signed_as}
 use Rattle.raft_log_signed_batch.specs.Signing.{SaysItself, signed_for}
 use Rattle.raft_log_base.specs.declared.pipe_log.FileBlockHandle.{FileBlockHandle}
-use Rattle.raft_log_directory.specs.Calls.Which.{InAppend}
-use Rattle.raft_log_dual_pipes.specs.Calls.{AppendsTo, FailsToAppendTo}
+use Rattle.raft_log_engine_state.specs.Trying.{RefusesAt, WritesAt}
 use Rattle.raft_log_engine.proofs.Put.{ready_of, refuses_with, writes_at}
 use Rattle.raft_log_engine.proofs.writing.append.Goals as goal
 
@@ -12,15 +11,15 @@ pub returns-in-Ok-clause-ok : goal.returns-in-Ok-clause-ok
 returns-in-Ok-clause-ok g c =
     let b = c.args.batch.now in
     let v = g.P.PipeLog.shown c.args.pipes.now in
-    let w = g.P.PipeLog.shown c.append-appended.new.self in
+    let w = g.P.PipeLog.shown c.append_or_again-appended.new.pipes in
     let len = c.encoded_len-len.ensures in
     let told = c.in-Ok.ensures in
     let was : c.new-signed.result.batch ≡ signed_as None b = c.new-signed.ensures ∙ ap (signed_as None) c.replace.ensures.value in
     let says = subst (λ (x : Batch). SaysItself (signed_for x) x) was c.encoded_len.ensures.says in
-    let ready = ready_of b v c.args.tables.now c.requires.some c.requires.marked c.requires.ready says (record { laid = len.laid; adds = len.adds }) in
-    let call = subst (λ (x : Batch). AppendsTo InAppend (signed_for x) c.in-Ok.block v w) was told.ok in (
+    let ready = ready_of b v c.args.tables.now c.args.cache.now c.requires.some c.requires.marked c.requires.ready says (record { laid = len.laid; adds = len.adds }) in
+    let call = subst (λ (x : Batch). WritesAt (signed_for x) c.in-Ok.block v w) was told.ok in (
       len.ready,
-      writes_at b v w c.args.tables.now c.commit.new.tables c.requires.lives told.later ready c.in-Ok.block c.into_batch.result
+      writes_at b v w c.args.tables.now c.commit.new.tables c.args.cache.now c.args.cache.now c.requires.lives told.later ready c.in-Ok.block c.into_batch.result
           (ap (λ (x : Batch). x.items) c.into_batch.ensures.batch ∙ ap (λ (x : Batch). x.items) told.said ∙ ap (λ (x : Batch). x.items) was)
           (ap (λ (x : Batch). x.entries) c.into_batch.ensures.batch ∙ ap (λ (x : Batch). x.entries) told.said ∙ ap (λ (x : Batch). x.entries) was)
           told.fails call c.commit.ensures.shows c.commit.ensures.counts,
@@ -30,11 +29,11 @@ pub returns-in-Err-clause-err : goal.returns-in-Err-clause-err
 returns-in-Err-clause-err g c =
     let b = c.args.batch.now in
     let v = g.P.PipeLog.shown c.args.pipes.now in
-    let w = g.P.PipeLog.shown c.append-appended.new.self in
+    let w = g.P.PipeLog.shown c.append_or_again-appended.new.pipes in
     let len = c.encoded_len-len.ensures in
     let told = c.in-Err.ensures in
     let was : c.new-signed.result.batch ≡ signed_as None b = c.new-signed.ensures ∙ ap (signed_as None) c.replace.ensures.value in
     let says = subst (λ (x : Batch). SaysItself (signed_for x) x) was c.encoded_len.ensures.says in
-    let ready = ready_of b v c.args.tables.now c.requires.some c.requires.marked c.requires.ready says (record { laid = len.laid; adds = len.adds }) in
-    let call = subst (λ (x : Batch). FailsToAppendTo InAppend (signed_for x) c.in-Err.error v w) was told.err in
-    refuses_with b v w c.args.tables.now c.take_back.new.self c.requires.lives told.later ready {A = FileBlockHandle} c.in-Err.error told.fails c.take_back.ensures.shows call
+    let ready = ready_of b v c.args.tables.now c.args.cache.now c.requires.some c.requires.marked c.requires.ready says (record { laid = len.laid; adds = len.adds }) in
+    let call = subst (λ (x : Batch). RefusesAt (signed_for x) c.in-Err.error v w) was told.err in
+    refuses_with b v w c.args.tables.now c.take_back.new.self c.args.cache.now c.clear.new.self c.requires.lives told.later ready {A = FileBlockHandle} c.in-Err.error told.fails c.take_back.ensures.shows c.clear.ensures call

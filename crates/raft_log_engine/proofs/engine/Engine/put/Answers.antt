@@ -3,8 +3,8 @@ use Rattle.raft_log_engine.proofs.engine.Engine.put.Goals as goal
 
 pub returns-in-Ok-clause-ok : goal.returns-in-Ok-clause-ok
 returns-in-Ok-clause-ok g c =
-    put_answers c.args.batch.now c.make_room.new.batch (g.P.PipeLog.shown c.args.self.now.pipes) (g.P.PipeLog.shown c.append.new.pipes) c.args.self.now.tables c.make_room.new.tables c.append.new.tables c.append.result c.make_room.ensures.kept c.make_room.ensures.shows c.append.ensures.ok
+    put_answers c.args.batch.now c.make_room.new.batch (g.P.PipeLog.shown c.args.self.now.pipes) (g.P.PipeLog.shown c.append.new.pipes) c.args.self.now.tables c.make_room.new.tables c.append.new.tables c.args.self.now.cache c.append.new.cache c.append.result c.make_room.ensures.kept c.make_room.ensures.shows c.append.ensures.ok
 
 pub returns-in-Ok-clause-err : goal.returns-in-Ok-clause-err
 returns-in-Ok-clause-err g c =
-    put_refuses c.args.batch.now c.make_room.new.batch (g.P.PipeLog.shown c.args.self.now.pipes) (g.P.PipeLog.shown c.append.new.pipes) c.args.self.now.tables c.make_room.new.tables c.append.new.tables c.append.result c.make_room.ensures.kept c.make_room.ensures.shows c.append.ensures.err
+    put_refuses c.args.batch.now c.make_room.new.batch (g.P.PipeLog.shown c.args.self.now.pipes) (g.P.PipeLog.shown c.append.new.pipes) c.args.self.now.tables c.make_room.new.tables c.append.new.tables c.args.self.now.cache c.append.new.cache c.append.result c.make_room.ensures.kept c.make_room.ensures.shows c.append.ensures.err

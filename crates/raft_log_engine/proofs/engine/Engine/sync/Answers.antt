@@ -4,9 +4,9 @@ use Rattle.raft_log_engine.proofs.engine.Engine.sync.Goals as goal
 pub returns-clause-ok : goal.returns-clause-ok
 returns-clause-ok g c =
     let e = c.sync.ensures in
-    sync_answers c.sync.result _ _ c.args.self.now.tables e.ok e.failed e.fails e.later
+    sync_answers c.sync.result _ _ c.args.self.now.tables c.args.self.now.cache e.ok e.failed e.fails e.later
 
 pub returns-clause-err : goal.returns-clause-err
 returns-clause-err g c =
     let e = c.sync.ensures in
-    sync_refuses c.sync.result _ _ c.args.self.now.tables e.err e.error e.failed e.fails e.later
+    sync_refuses c.sync.result _ _ c.args.self.now.tables c.args.self.now.cache e.err e.error e.failed e.fails e.later

@@ -1,0 +1,39 @@
+//! What is told of the log as a whole.
+
+ghost use Rattle.std.specs.Prelude.{◌≡◌, true, IfErr, IfOk};
+ghost use Rattle.raft_log_base.specs.declared.errors.Error.TheVariants as errors;
+ghost use Rattle.raft_log_dual_pipes.specs.Pipes.{is_failed};
+ghost use Rattle.raft_log_engine.specs.Whole.{used_size, TellsSpan};
+
+use super::Engine;
+use raft_log_base::{Error, FileSeq, LogQueue, Result};
+use raft_log_dual_pipes::PipeLog;
+
+impl<P: PipeLog> Engine<P> {
+    /// The numbers of the first and the last file of a queue. `Failed` of an engine that has failed.
+    pub fn file_span(&self, queue: LogQueue) -> Result<(FileSeq, FileSeq)>
+        ensures ok { IfOk result (λ span. TellsSpan queue (P.shown self.now.pipes) span.0 span.1) }
+        ensures err { IfErr result (λ error. (error ≡ errors.Failed)
+            × (is_failed (P.shown self.now.pipes) ≡ true)) }
+    {
+        if self.is_failed() {
+            return Err(Error::Failed);
+        }
+        Ok(self.pipes.file_span(queue))
+    }
+
+    /// The size of all files of both queues in bytes, where each counts as long as it is to be; at most the
+    /// greatest number that there is. `Failed` of an engine that has failed.
+    pub fn get_used_size(&self) -> Result<usize>
+        ensures ok { IfOk result (λ size. size ≡ used_size (P.shown self.now.pipes)) }
+        ensures err { IfErr result (λ error. (error ≡ errors.Failed)
+            × (is_failed (P.shown self.now.pipes) ≡ true)) }
+    {
+        if self.is_failed() {
+            return Err(Error::Failed);
+        }
+        let append = self.pipes.total_size(LogQueue::Append);
+        let rewrite = self.pipes.total_size(LogQueue::Rewrite);
+        Ok(append.saturating_add(rewrite))
+    }
+}

@@ -31,6 +31,12 @@ use Rattle.raft_log_engine_state.specs.Holding.{Holds}
 use Rattle.raft_log_engine_state.specs.Fetching.{AreEntriesOf, AreIn, AreToRead, FailsToFetch, FailsToTell, FetchesTo, IsEntryTold, IsOneUntold, StaysButBlock, TellsEntry}
 use Rattle.raft_log_engine_state.proofs.Fetching.{all_told, all_untold, fetched_from, told_of, untold_of}
 
+less_of : (a b : ℕ) → nat_lt a b ≡ true → a < b
+less_of a b is = grind (arith, is)
+
+most_of : (a b : ℕ) → nat_lt a b ≡ false → b ≤ a
+most_of a b is = grind (arith, is)
+
 -- the table of a group that counts shows what is shown of the group
 table_in : (o : Option GroupTable) (t : Raw) → Some t ≡ counting o → (shown_in o ≡ shown t) × (counts_in o ≡ true)
 table_in None t is = absurd (let never : ⊥ = cc in never)
@@ -87,12 +93,12 @@ module _ (s : Shows) (g i : ℕ) (none : entry_at (s.tables g) i ≡ None) where
     where
       by : (b : Bool) → (if b then option_map (entry_of (queue_of (nat_lt (i - (s.tables g).first) (s.tables g).rewritten)) i) (slice_get (s.tables g).places (i - (s.tables g).first)) else None) ≡ None
           → option_map (renamed_content {V = List ℕ} (entries_at h.state)) (if b then option_map Entry (slice_get (located (s.tables g).rewritten (s.tables g).places) (i - (s.tables g).first)) else None) ≡ None
-      by true no =
-          let past = short_of (s.tables g).places (i - (s.tables g).first) (unmapped (entry_of (queue_of (nat_lt (i - (s.tables g).first) (s.tables g).rewritten)) i) (slice_get (s.tables g).places (i - (s.tables g).first)) no) in
+      by true there =
+          let past = short_of (s.tables g).places (i - (s.tables g).first) (unmapped (entry_of (queue_of (nat_lt (i - (s.tables g).first) (s.tables g).rewritten)) i) (slice_get (s.tables g).places (i - (s.tables g).first)) there) in
           let long = located_length (s.tables g).rewritten (s.tables g).places in
           ap (λ (o : Option Located). option_map (renamed_content {V = List ℕ} (entries_at h.state)) (option_map Entry o))
           (slice_get_past (located (s.tables g).rewritten (s.tables g).places) (i - (s.tables g).first) (omega (arith, past, long)))
-      by false no = refl
+      by false there = refl
 
 pub tells_none : {M : Type 0} (reading : List ℕ → Option M) (s : Shows) (g i : ℕ) → has_failed s ≡ false → entry_at (s.tables g) i ≡ None → TellsEntry reading g i s s None
 tells_none reading s g i lived none = record { lived = lived; stays = stays_same s; exact = λ home m pending h. none_told s g i none home m pending h }
@@ -159,11 +165,11 @@ module _ {M : Type 0} (reading : List ℕ → Option M) (s t : Shows) (g : ℕ) 
       where
         by : (b : Bool) → nat_lt begin end ≡ b → IsOfLog h.state t.cache × AreEntriesOf reading (taken m pending) g begin messages
         by true less =
-            let inside = within (grind (arith, less)) in
+            let inside = within (less_of begin end less) in
             let (cached, told) = all_told s g home m pending h reading (begin - v.first) (places begin end max) s.cache t.cache messages (fetched_from s g home m pending h reading begin end max) h.cached
             (subst (λ (l : List EntryIndex). ReadsEntries reading s.pipes l s.cache t.cache messages) is read) in
             (cached, subst (λ (k : ℕ). AreEntriesOf reading (taken m pending) g k messages) (let low = inside.0 in let at : v.first + (begin - v.first) ≡ begin = omega (arith, low) in at) told)
-        by false less = nothing_told home m pending h es messages (is ∙ none_asked (grind (arith, less))) read
+        by false less = nothing_told home m pending h es messages (is ∙ none_asked (most_of begin end less)) read
 
     read_length : (es : List EntryIndex) (old new : BlockCache) (messages : List M) → ReadsEntries reading s.pipes es old new messages → length messages ≡ length es
     read_length [] old new messages (stays, empty) = ap length empty
@@ -207,14 +213,14 @@ module _ {M : Type 0} (reading : List ℕ → Option M) (s t : Shows) (g : ℕ) 
       where
         by : (b : Bool) → nat_lt begin end ≡ b → IsOfLog h.state t.cache × IsOneUntold reading g begin end s h.state (taken m pending) error
         by true less =
-            let ask : begin < end = grind (arith, less) in
+            let ask : begin < end = less_of begin end less in
             let inside = within ask in
             let low = inside.0 in
             let long = taken_shorter (sized max (places_between v begin end)) (places_between v begin end) in
             let most = taken_length (end - begin) (drop (begin - v.first) v.places) in
             all_untold s g home m pending h reading (begin - v.first) (places begin end max) begin end s.cache t.cache error (fetched_from s g home m pending h reading begin end max)
             (omega (arith, low)) (omega (arith, low, long, most, ask)) h.cached (subst (λ (l : List EntryIndex). AreUnread reading s.pipes l s.cache t.cache error) is unread)
-        by false less = nothing_untold home m pending h es error (is ∙ none_asked (grind (arith, less))) unread
+        by false less = nothing_untold home m pending h es error (is ∙ none_asked (most_of begin end less)) unread
 
     pub fails_to_fetch : (es : List EntryIndex) (error : Error) → AreToRead s g begin end max es → AreUnread reading s.pipes es s.cache t.cache error → FailsToFetch reading g begin end s t error
     fails_to_fetch es error asked unread = record {

@@ -36,4 +36,3 @@ TellsMessage reading s g key message =
 abbrev pub IsMessageUntold : {M : Type 0} → (List ℕ → Option M) → Shows → ℕ → List ℕ → Error → Type 0
 IsMessageUntold {M} reading s g key error = (error ≡ errors.Memory)
     ⊎ ((value : List ℕ) × ReadsValue s g key (Some value) × Parses {M = M} (Err error) (reading value))
-

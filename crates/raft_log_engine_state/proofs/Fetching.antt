@@ -202,7 +202,7 @@ module _ (s : Shows) (g : ℕ) (home : Home) (m : LogMap) (pending : List Said) 
     next_from : (n : ℕ) (p : Place) (ps : List Place) → StandFrom n (p ∷ ps) → StandFrom (n + 1) ps
     next_from n p ps from j q is = subst (λ (k : ℕ). slice_get (s.tables g).places k ≡ Some q) (let same : n + suc j ≡ (n + 1) + j = omega arith in same) (from (suc j) q is)
 
-    all_told : (n : ℕ) (ps : List Place) (old new : BlockCache) (messages : List M) → StandFrom n ps → IsOfLog h.state old
+    pub all_told : (n : ℕ) (ps : List Place) (old new : BlockCache) (messages : List M) → StandFrom n ps → IsOfLog h.state old
         → ReadsEntries reading s.pipes (entries_from (s.tables g) n ps) old new messages → IsOfLog h.state new × AreEntriesOf reading told g ((s.tables g).first + n) messages
     all_told n [] old new messages from cached (same, none) =
         (subst (IsOfLog h.state) (sym same) cached, subst (AreEntriesOf reading told g ((s.tables g).first + n)) (sym none) tt)
@@ -213,7 +213,7 @@ module _ (s : Shows) (g : ℕ) (home : Home) (m : LogMap) (pending : List Said) 
         let (end, others) = all_told (n + 1) ps next new xs (next_from n p ps from) now rest in
         (end, (first, subst (λ (k : ℕ). AreEntriesOf reading told g k xs) (let same : v.first + (n + 1) ≡ (v.first + n) + 1 = omega arith in same) others))
 
-    all_untold : (n : ℕ) (ps : List Place) (begin end : ℕ) (old new : BlockCache) (error : Error) → StandFrom n ps → begin ≤ (s.tables g).first + n → (s.tables g).first + n + length ps ≤ end
+    pub all_untold : (n : ℕ) (ps : List Place) (begin end : ℕ) (old new : BlockCache) (error : Error) → StandFrom n ps → begin ≤ (s.tables g).first + n → (s.tables g).first + n + length ps ≤ end
         → IsOfLog h.state old → AreUnread reading s.pipes (entries_from (s.tables g) n ps) old new error → IsOfLog h.state new × IsOneUntold reading g begin end s h.state told error
     all_untold n [] begin end old new error from low high cached (memory, same) = (subst (IsOfLog h.state) (sym same) cached, inl memory)
     all_untold n (p ∷ ps) begin end old new error from low high cached (inl (memory, same)) = (subst (IsOfLog h.state) (sym same) cached, inl memory)
@@ -227,7 +227,7 @@ module _ (s : Shows) (g : ℕ) (home : Home) (m : LogMap) (pending : List Said) 
         all_untold (n + 1) ps begin end next new error (next_from n p ps from) (omega (arith, low)) (omega (arith, high)) now rest
 
     -- the places that a fetch reads stand in the table
-    fetched_from : (begin end : ℕ) (max : Option ℕ) → StandFrom (begin - (s.tables g).first) (take (sized max (places_between (s.tables g) begin end)) (places_between (s.tables g) begin end))
+    pub fetched_from : (begin end : ℕ) (max : Option ℕ) → StandFrom (begin - (s.tables g).first) (take (sized max (places_between (s.tables g) begin end)) (places_between (s.tables g) begin end))
     fetched_from begin end max j p is =
         let v = s.tables g in
         dropped_at (begin - v.first) v.places j p

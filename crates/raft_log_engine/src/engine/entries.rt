@@ -36,12 +36,12 @@ impl<P: PipeLog> Engine<P> {
         if self.is_failed() {
             return Err(Error::Failed);
         }
-        let Some(entry) = self.entry_at(raft_group_id, log_idx) else {
-            return Ok(None);
-        };
-        match self.cache.read_entry(self.alloc, &self.pipes, &entry) {
-            Ok(message) => Ok(Some(message)),
-            Err(error) => Err(error),
+        match self.entry_at(raft_group_id, log_idx) {
+            Some(entry) => match self.cache.read_entry(self.alloc, &self.pipes, &entry) {
+                Ok(message) => Ok(Some(message)),
+                Err(error) => Err(error),
+            },
+            None => Ok(None),
         }
     }
 

@@ -2,10 +2,6 @@
 #![tactic(auto)]
 
 #[cfg(test)]
-mod count;
-#[cfg(test)]
-mod reads;
-#[cfg(test)]
 mod store;
 #[cfg(test)]
 mod writes;

@@ -1,5 +1,4 @@
 //! An engine over a fresh log in memory, behind calls without contracts.
-use super::count::{Count, Counts};
 use raft_log_base::{Error, LogQueue, Result, Version};
 use raft_log_disk::FileSystem;
 use raft_log_dual_pipes::DualPipes;
@@ -81,78 +80,6 @@ impl Store {
             BatchState::Filling => self.batch.put(rt.alloc(), 7, key, value),
             _ => Err(Error::Full),
         }
-    }
-
-    /// Adds an entry of group 7 for each of these counts, from an index on, unless the record of the batch is made.
-    pub fn add_counts(&mut self, rt: &HostRuntime, index: u64, counts: &[&[u8]]) -> Result<()> {
-        let mut indexes = Vec::with_capacity(rt.alloc(), counts.len())?;
-        for i in 0..counts.len() {
-            indexes.push(EntryIndex::unplaced(
-                index.saturating_add(i as u64),
-                counts[i].len() as u32,
-            ))?;
-        }
-        match self.batch.state() {
-            BatchState::Filling => {
-                self.batch
-                    .add_raw_entries(rt.alloc(), 7, indexes.as_slice(), counts)
-            }
-            _ => Err(Error::Full),
-        }
-    }
-
-    /// The entry of group 7 at an index.
-    pub fn entry(&mut self, index: u64) -> Result<Option<Count>> {
-        self.engine.get_entry::<Counts>(7, index)
-    }
-
-    /// How many entries of a group are fetched from `begin` on, below `end`, and their sum.
-    pub fn fetch(
-        &mut self,
-        rt: &HostRuntime,
-        group: u64,
-        begin: u64,
-        end: u64,
-        max: Option<usize>,
-    ) -> Result<(usize, u64)> {
-        let mut counts = Vec::new(rt.alloc());
-        let fetched = self
-            .engine
-            .fetch_entries_to::<Counts>(group, begin, end, max, &mut counts)?;
-        let mut sum = 0u64;
-        for count in &counts {
-            sum = sum.saturating_add(u64::from(count.count));
-        }
-        Ok((fetched, sum))
-    }
-
-    /// Deletes the entries of group 7 below an index, and answers how many.
-    pub fn compact(&mut self, rt: &HostRuntime, index: u64) -> Result<u64> {
-        self.engine.compact_to(rt, 7, index)
-    }
-
-    /// The value of a key of group 7 as a count.
-    pub fn count(&self, key: &[u8]) -> Result<Option<Count>> {
-        self.engine.get_message(7, key)
-    }
-
-    /// Whether there is no group, the span of Append, and the size of all files.
-    pub fn whole(&self) -> Result<(bool, (u64, u64), usize)> {
-        let empty = self.engine.is_empty()?;
-        let span = self.engine.file_span(LogQueue::Append)?;
-        Ok((empty, span, self.engine.get_used_size()?))
-    }
-
-    /// The last bytes of the keys of group 7 from `b` on, in their order or backwards, as one number.
-    pub fn scanned(&self, reverse: bool) -> Result<u64> {
-        let mut told = 0u64;
-        self.engine
-            .scan_raw_messages(7, Some(b"b"), None, reverse, |key, _| {
-                let last = key.last().map_or(0, |byte| *byte);
-                told = told.saturating_mul(256).saturating_add(u64::from(last));
-                true
-            })?;
-        Ok(told)
     }
 
     /// Writes what was added.

@@ -16,7 +16,7 @@ use Rattle.raft_log_items.specs.declared.entry.EntryIndex.{EntryIndex}
 use Rattle.raft_log_layout.specs.declared.record.LogRecord.{LogRecord}
 use Rattle.raft_log_machine.specs.Whereabouts.{top}
 use Rattle.raft_log_atomic_groups.specs.declared.marking.Marking.{Marking}
-use Rattle.raft_log_atomic_groups.specs.declared.marking.Marking.TheVariants.{Unmarked}
+use Rattle.raft_log_atomic_groups.specs.declared.marking.Marking.TheVariants.{Broken, Unmarked}
 use Rattle.raft_log_atomic_groups.specs.Meaning.{marked, tagged_items}
 use Rattle.raft_log_records.specs.Batch.{Batch}
 use Rattle.raft_log_records.specs.Places.{entry_bytes}
@@ -45,7 +45,7 @@ use Rattle.raft_log_views.specs.Views.{AreMeant, ViewCarries, view_of}
 use Rattle.raft_log_views.proofs.Carrying.{marks_on}
 use Rattle.raft_log_dual_pipes.specs.Pipes.{RunsOn, Said, State, files_of}
 use Rattle.raft_log_dual_pipes.specs.Calls.{AppendsTo, FailsToAppendTo, LeavesOutOn}
-use Rattle.raft_log_engine_state.specs.Shows.{Home, KeepsOrForgets, LogMap, Shows, log_in, said_by, said_of, sense}
+use Rattle.raft_log_engine_state.specs.Shows.{Home, IsWellMarked, KeepsOrForgets, LogMap, Shows, log_in, said_by, said_of, sense}
 use Rattle.raft_log_engine_state.specs.Holding.{Holds, IsLeftAt}
 use Rattle.raft_log_engine_state.proofs.Keeping.{stays_cached}
 use Rattle.raft_log_engine_state.proofs.Growing.{read_is_said}
@@ -62,10 +62,14 @@ bytes_of b = tagged_items (entry_bytes b.entries) b.items
 pub said_alone : (b : Batch) → CountsAlone b → said_of b ≡ Plain (bytes_of b)
 said_alone b alone = ap (λ (k : Marking). unwrap_or (marked k (bytes_of b)) (Plain [])) alone.plain
 
+-- it has no broken mark
+well_marked : (b : Batch) → CountsAlone b → IsWellMarked b
+well_marked b alone broken = (let never : ◌≡◌ {A = Marking} Unmarked Broken = sym alone.plain ∙ broken in let none : ⊥ = cc never in none)
+
 -- its record says it
 says_alone : (home : Home) (b : Batch) → CountsAlone b → SaysRecord said_by (log_layout Rewrite home.rewrite) Rewrite (signed_for b) (Plain (bytes_of b))
 says_alone home b alone =
-    subst (λ (y : Said). SaysRecord said_by (log_layout Rewrite home.rewrite) Rewrite (signed_for b) y) (read_is_said b alone.laid ∙ said_alone b alone)
+    subst (λ (y : Said). SaysRecord said_by (log_layout Rewrite home.rewrite) Rewrite (signed_for b) y) (read_is_said b (well_marked b alone) alone.laid ∙ said_alone b alone)
     (alone.says alone.some said_by Rewrite home.rewrite)
 
 -- Refused.

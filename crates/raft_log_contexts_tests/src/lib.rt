@@ -9,4 +9,10 @@ mod pieces;
 #[cfg(test)]
 mod play;
 #[cfg(test)]
+mod random;
+#[cfg(test)]
 mod refused;
+#[cfg(test)]
+mod slow;
+#[cfg(test)]
+mod workers;

@@ -1,16 +1,16 @@
 -- Calls that leave the files of a queue as they are.
-use Rattle.std.specs.Prelude.{Result, Ok, Err}
+use Rattle.std.specs.Prelude.{Result, Err}
 use Rattle.std.specs.declared.io.ErrorKind.{ErrorKind}
-use Rattle.std.proofs.Common.{◌≡◌, ◌⊎◌, ℕ, suc, ◌<◌, ◌≤◌, Option, Some, None, List, [], refl, sym, ap, subst, ◌∙◌, inl, inr, arith, nat_eq}
+use Rattle.std.proofs.Common.{◌≡◌, ℕ, suc, ◌<◌, Some, None, List, [], refl, sym, ap, subst, ◌∙◌, inl, inr, arith, nat_eq}
 use Rattle.std.proofs.lemmas.Bool.{cases_eq, cases_lt}
 use Rattle.std.specs.Map.{update}
 use Rattle.std.specs.Str.{bytes_eq}
-use Rattle.raft_log_disk.specs.Disk.{Change, File, Disk, at_rest, with_file}
+use Rattle.raft_log_disk.specs.Disk.{File, Disk, at_rest, with_file}
 use Rattle.raft_log_disk.specs.Image.{IsSound}
-use Rattle.raft_log_disk.specs.Calls.{after_change, counted, created, deleted, at_stop, flushed, with_change, Changes, Creates, Deletes, RefusedChange, RefusedWhole}
+use Rattle.raft_log_disk.specs.Calls.{counted, created, deleted, at_stop, flushed, Changes, Creates, Deletes, RefusedWhole}
 use Rattle.raft_log_disk.specs.LogFormat.{Format}
-use Rattle.raft_log_disk.specs.LogQueue.{LogFiles, IsLeftover, IsPast}
-use Rattle.raft_log_disk.specs.Touching.{HasFile, TouchesOnly}
+use Rattle.raft_log_disk.specs.LogQueue.{LogFiles}
+use Rattle.raft_log_disk.specs.Touching.{TouchesOnly}
 use Rattle.raft_log_disk.proofs.ImageLaws.{named_is_used}
 use Rattle.raft_log_disk.proofs.KeptLaws.{IsCalm, kept_create, kept_delete, kept_sync}
 use Rattle.raft_log_disk.proofs.TouchingLaws.{same_file}

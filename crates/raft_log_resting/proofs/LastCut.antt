@@ -1,25 +1,24 @@
 -- The last file of a queue at rest is cut behind its records.
 use Rattle.std.specs.Prelude.{Result, Ok, Err}
 use Rattle.std.specs.declared.io.ErrorKind.{ErrorKind}
-use Rattle.std.proofs.Common.{◌≡◌, ◌⊎◌, ℕ, ◌<◌, Option, Some, None, List, [], ◌∷◌, ◌++◌, length, refl, sym, ap, subst, ◌∙◌, inl, inr, append-nil, unwrap_or}
+use Rattle.std.proofs.Common.{◌≡◌, ℕ, Option, Some, None, List, [], ◌∷◌, ◌++◌, length, refl, sym, ap, subst, ◌∙◌, inl, inr, append-nil, unwrap_or}
 use Rattle.std.proofs.lemmas.List.{drop_at}
 use Rattle.raft_log_disk.specs.Disk.{ShortenedTo, File, Disk, at_rest}
 use Rattle.raft_log_disk.specs.Image.{IsSound}
-use Rattle.raft_log_disk.specs.Calls.{after_change, flushed, Changes}
 use Rattle.raft_log_disk.specs.Arguments.{WrongHandle, WrongWriter}
-use Rattle.raft_log_disk.specs.Chains.{AreFrames, IsSelfDelimiting, Reads, Refuses, Written, spelled}
-use Rattle.raft_log_disk.specs.LogFormat.{Format, HasHeader, IsFormat, ReadsFile}
+use Rattle.raft_log_disk.specs.Chains.{AreFrames, IsSelfDelimiting, Refuses, Written, spelled}
+use Rattle.raft_log_disk.specs.LogFormat.{Format, HasHeader, IsFormat}
 use Rattle.raft_log_disk.specs.LogQueue.{LogFiles, IsLeftover, IsPast, recent}
 use Rattle.raft_log_disk.specs.Touching.{HasFile, TouchesOnly}
 use Rattle.raft_log_disk.specs.declared.handle.Handle.{Handle}
 use Rattle.raft_log_disk.specs.declared.handle.Permission.TheVariants.{ReadWrite}
 use Rattle.raft_log_disk.proofs.TouchingLaws.{touches_change, touches_sync, touches_then}
 use Rattle.raft_log_file_queue.specs.Queue.{finished}
-use Rattle.raft_log_file_queue.specs.Standing.{Names, Stands}
+use Rattle.raft_log_file_queue.specs.Standing.{Stands}
 use Rattle.raft_log_file_queue.specs.Reopening.{IsReadTo, reread}
 use Rattle.raft_log_file_queue.proofs.Reopening.{stands_as}
 use Rattle.raft_log_file_queue.proofs.Standing.{stands_rebased, stands_weaker}
-use Rattle.raft_log_files.specs.Reopening.{BeginsWithHeader, IsHalfOpen, IsLeftBehind, IsTrimmed, TrimMakes, Trims, uncut, unsynced}
+use Rattle.raft_log_files.specs.Reopening.{IsHalfOpen, IsLeftBehind, IsTrimmed, TrimMakes, Trims, uncut, unsynced}
 use Rattle.raft_log_files.proofs.Reopening.{fails_to_trim, trims_leftover}
 use Rattle.raft_log_steps.specs.Queues.{IsQueueLayout, QueueLayout}
 use Rattle.raft_log_steps.specs.State.{IsStopped}

@@ -9,6 +9,7 @@ use crate::paths::paths;
 use crate::queue_files::QueueFiles;
 use crate::reading::recover_files;
 use crate::syncing::sync_files;
+use crate::unaligned::{aligned, are_unaligned};
 use log::Log;
 use raft_log_base::{Error, LogQueue, Result};
 use raft_log_disk::FileSystem;
@@ -94,9 +95,10 @@ impl DualPipesBuilder {
     /// Reads both queues by workers into machines, that of Append and that of Rewrite; then cuts the files
     /// that are damaged, Append's first, each behind its last good record, and syncs them.
     ///
-    /// Nothing is cut unless all files of both queues could be read. `Io` where a read is refused, which is
-    /// never taken for damage; `Corruption` or `Codec` for damage that isn't tolerated; why a machine declines
-    /// a record; `Memory`. `Io` where a file isn't cut or synced: those before it are.
+    /// Nothing is cut unless all files of both queues could be read and none has an alignment. `Io` where a
+    /// read is refused, which is never taken for damage; `Corruption` or `Codec` for damage that isn't
+    /// tolerated; why a machine declines a record; `InvalidArgument` for an alignment; `Memory`. `Io` where a
+    /// file isn't cut or synced: those before it are.
     pub fn recover<R: Threads + Log + Sync, F: FileSystem + Sync, M: ReplayMachine, FA: Factory<M>>(
         &mut self,
         rt: &R,
@@ -116,6 +118,9 @@ impl DualPipesBuilder {
         let append = recover_files(rt, alloc, file_system, config, &self.append.files, factory)?;
         let config = RecoveryConfig::new(&self.config, LogQueue::Rewrite, workers.rewrite);
         let rewrite = recover_files(rt, alloc, file_system, config, &self.rewrite.files, factory)?;
+        if !are_unaligned(&append.endings) || !are_unaligned(&rewrite.endings) {
+            return Err(aligned(alloc));
+        }
         cut_files(rt, file_system, &self.append.files, &append.endings)?;
         cut_files(rt, file_system, &self.rewrite.files, &rewrite.endings)?;
         self.append.endings = append.endings;

@@ -72,7 +72,7 @@ module _ {R : Type 0} (layout : QueueLayout R) (old new : Disk) (keeps : KeepsNu
       let less : m < layout.format.limit = omega (arith, below, bound) in
       record { path = is.path; at = is.at; id = is.id; named = keeps.names m is.path less is.at ∙ is.named }
 
-  unbegun_kept : (q : Spanned R) → IsUnbegun layout q old → IsUnbegun layout q new
+  pub unbegun_kept : (q : Spanned R) → IsUnbegun layout q old → IsUnbegun layout q new
   unbegun_kept q is = record {
     fresh = record {
       none = λ m less path at. keeps.names m path less at ∙ is.fresh.none m less path at;

@@ -1,0 +1,5 @@
+pub mod Reading
+pub mod Cutting
+pub mod Told
+pub mod Stays
+pub mod Reopened

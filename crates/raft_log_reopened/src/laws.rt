@@ -1,0 +1,15 @@
+//! The way from what an engine left to an engine that is opened.
+
+ghost use Rattle.raft_log_reopened.specs.Reopened.{CrashedLogsReopen, RestingLogsReopen};
+
+/// Where a log that rests on a disk is scanned, read by any number of workers, cut, synced and opened, an
+/// engine of what was read holds its map, and nothing is pending.
+pub fn resting_logs_reopen()
+    ensures { RestingLogsReopen }
+{}
+
+/// Whatever a crash leaves of what an engine left, an engine that is opened over it so holds the map after some
+/// first pending batches, the same for any two numbers of workers, and nothing is pending.
+pub fn crashed_logs_reopen()
+    ensures { CrashedLogsReopen }
+{}

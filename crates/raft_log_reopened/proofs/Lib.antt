@@ -3,3 +3,5 @@ pub mod Cutting
 pub mod Told
 pub mod Stays
 pub mod Reopened
+pub mod Readying
+pub mod Scanning

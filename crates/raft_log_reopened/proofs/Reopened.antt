@@ -43,6 +43,14 @@ use Rattle.raft_log_reopened.specs.Files.AreToldOf.{none_told, some_told}
 use Rattle.raft_log_reopened.specs.Reopened.{reads, CrashedLogsReopen, Reopens, RestingLogsReopen}
 use Rattle.raft_log_reopened.proofs.Reading.{files_are_told}
 use Rattle.raft_log_reopened.proofs.Cutting.{cut_queue, told_kept, IsCutTo}
+use Rattle.raft_log_reopened.proofs.Readying.{readies_leave, IsReserved}
+use Rattle.raft_log_reopened.proofs.Scanning.{open_reserved, scan_keeps, scan_sound}
+use Rattle.raft_log_resting.proofs.Calls.{sound_names}
+use Rattle.raft_log_disk.specs.Image.{IsSound}
+use Rattle.raft_log_prefill.specs.Readying.{Readies}
+use Rattle.raft_log_recovery.specs.Directories.{HasDirectories}
+use Rattle.raft_log_builder.specs.Reserving.{wanted_files}
+use Rattle.raft_log_builder.specs.Scanning.{ScansLog}
 use Rattle.raft_log_reopened.proofs.Told.{of_queue, told_found}
 use Rattle.raft_log_reopened.proofs.Stays.{stays_first, stays_kept, stays_named, stays_synced, told_rests, StaysAt}
 
@@ -88,7 +96,7 @@ module _ (queue : LogQueue) (directories : List (List ℕ)) (some : 0 < length d
       some_told earlier last t.front t.ending are t.ends t.long t.sound all t.told
   told_of (none_made are unbegun) = none_told are (no_length endings (long ∙ ap length are)) unbegun
 
-module _ (home : Home) (one : 0 < length home.append) (other : 0 < length home.rewrite) (d : Disk) (m : LogMap) (h : LogRestsOn (log_in home) d m) (v : LogPipes) (tables : MemTables) (r : Reopens home h.state d v tables) where
+module _ (home : Home) (one : 0 < length home.append) (other : 0 < length home.rewrite) (d : Disk) (m : LogMap) (sound : IsSound d) (h : LogRestsOn (log_in home) d m) (v : LogPipes) (tables : MemTables) (r : Reopens home h.state d v tables) where
   abbrev s : State
   s = h.state
 
@@ -112,10 +120,10 @@ module _ (home : Home) (one : 0 < length home.append) (other : 0 < length home.r
 
   -- what the builder that is opened has, is what was found and read
   a_is : r.ready.append ≡ r.read.append
-  a_is = r.readies.readies.same.1
+  a_is = r.readies.same.1
 
   r_is : r.ready.rewrite ≡ r.read.rewrite
-  r_is = r.readies.readies.same.2
+  r_is = r.readies.same.2
 
   a_long : length a_endings ≡ length a_files
   a_long =
@@ -126,8 +134,32 @@ module _ (home : Home) (one : 0 < length home.append) (other : 0 < length home.r
       ap (λ (x : QueueFiles). length x.endings.items) (sym r_is) ∙ r.opens.read.rewrite ∙ ap (λ (x : QueueFiles). length x.files.items) r_is ∙ ap (λ x. length x.items) r.recovers.same.2
 
   -- the scan, and what was read there
+  at_first : Stays d
+  at_first = stays_first (log_in home) two d m h
+
+  abbrev scans : ScansLog r.finds.before r.found d r.scanned
+  scans = r.finds.scans
+
+  set_before : directories_of r.finds.before.config ≡ directories_of r.found.config
+  set_before = ap directories_of (sym scans.same)
+
+  a_made : HasDirectories home.append d scans.scanned
+  a_made = subst (λ (l : List (List ℕ)). HasDirectories l d scans.scanned) (set_before ∙ r.set.append) scans.scans.made
+
+  r_made : HasDirectories home.rewrite d scans.scanned
+  r_made = subst (λ (l : List (List ℕ)). HasDirectories l d scans.scanned) (set_before ∙ r.set.rewrite) scans.scans.made
+
+  scan_keeps_all : KeepsLog (log_in home) d r.scanned
+  scan_keeps_all = record {
+    append = scan_keeps Append home.append one s.append d at_first.rests.append scans.scanned a_made r.scanned scans.cleared;
+    rewrite = scan_keeps Rewrite home.rewrite other s.rewrite d at_first.rests.rewrite scans.scanned r_made r.scanned scans.cleared;
+  }
+
+  scanned_sound : IsSound r.scanned
+  scanned_sound = scan_sound Append home.append one s.append d at_first.rests.append scans.scanned a_made r.scanned scans.cleared sound
+
   at_scan : Stays r.scanned
-  at_scan = stays_kept (log_in home) two s m d r.scanned r.finds.keeps (stays_first (log_in home) two d m h)
+  at_scan = stays_kept (log_in home) two s m d r.scanned scan_keeps_all at_first
 
   a_told : AreToldOf (log_in home).append s.append r.scanned a_files a_endings
   a_told = told_of Append home.append one (append_config r.found) refl r.scanned s.append a_files a_endings r.append r.recovers.read.append_read a_long r.recovers.read.append_unaligned r.finds.append
@@ -137,7 +169,7 @@ module _ (home : Home) (one : 0 < length home.append) (other : 0 < length home.r
 
   -- the cuts
   a_cut : IsCutTo (log_in home).append two.append (log_in home).rewrite s.append a_files a_endings r.scanned r.recovers.between
-  a_cut = cut_queue (log_in home).append two.append (log_in home).rewrite two.rewrite two.apart s.append a_files a_endings r.scanned r.recovers.between r.finds.sound a_told r.recovers.append_cut
+  a_cut = cut_queue (log_in home).append two.append (log_in home).rewrite two.rewrite two.apart s.append a_files a_endings r.scanned r.recovers.between scanned_sound a_told r.recovers.append_cut
 
   r_cut : IsCutTo (log_in home).rewrite two.rewrite (log_in home).append s.rewrite r_files r_endings r.recovers.between r.cut
   r_cut = cut_queue (log_in home).rewrite two.rewrite (log_in home).append two.append (λ path mine theirs. two.apart path theirs mine) s.rewrite r_files r_endings r.recovers.between r.cut a_cut.sound
@@ -154,8 +186,24 @@ module _ (home : Home) (one : 0 < length home.append) (other : 0 < length home.r
       (told_rests (log_in home).rewrite s.rewrite r_files r_endings r.scanned r.cut names_cut at_scan.rests.rewrite r_cut.told) at_scan
 
   -- the files that were readied, and the syncs
+  all_reserved : EachHas IsReserved r.read.reserved.items
+  all_reserved = subst (λ (l : List File). EachHas IsReserved l) (ap (λ x. x.items) (sym (r.recovers.same.3 ∙ scans.has.reserved)))
+      (open_reserved _ scans.scanned _ scans.scans.is.reserved.kept scans.found.reserved.items scans.scans.is.reserved.opened)
+
+  readies_here : Readies (log_paths Append home.append) r.read.config.target_file_size.0 (wanted_files r.read) r.read.reserved.items r.ready.reserved.items r.cut r.readied
+  readies_here = subst (λ (l : List (List ℕ)). Readies (log_paths Append l) r.read.config.target_file_size.0 (wanted_files r.read) r.read.reserved.items r.ready.reserved.items r.cut r.readied)
+      (ap directories_of r.recovers.same.0 ∙ r.set.append) r.readies.readies
+
+  ready_keeps : KeepsLog (log_in home) r.cut r.readied
+  ready_keeps = record {
+    append = (readies_leave (log_format Append home.append) (log_paths Append home.append) two.append.lawful.apart _ _ r.read.reserved.items r.ready.reserved.items r.cut r.readied all_reserved
+        (sound_names r.cut r_cut.sound) readies_here).keeps;
+    rewrite = (readies_leave (log_format Rewrite home.rewrite) (log_paths Append home.append) (λ directory n m less at. two.apart _ (two.append.lawful.kept directory n) (two.rewrite.lawful.owns m _ less at)) _ _
+        r.read.reserved.items r.ready.reserved.items r.cut r.readied all_reserved (sound_names r.cut r_cut.sound) readies_here).keeps;
+  }
+
   at_ready : Stays r.readied
-  at_ready = stays_kept (log_in home) two s m r.cut r.readied r.readies.keeps at_cut
+  at_ready = stays_kept (log_in home) two s m r.cut r.readied ready_keeps at_cut
 
   abbrev half : Disk
   half = r.opens.syncs.between
@@ -179,13 +227,13 @@ module _ (home : Home) (one : 0 < length home.append) (other : 0 < length home.r
   a_told_sync =
       told_kept (log_in home).append two.append s.append a_files a_endings half synced more_syncs.append
       (told_kept (log_in home).append two.append s.append a_files a_endings r.readied half first_syncs.append
-      (told_kept (log_in home).append two.append s.append a_files a_endings r.cut r.readied r.readies.keeps.append a_told_cut))
+      (told_kept (log_in home).append two.append s.append a_files a_endings r.cut r.readied ready_keeps.append a_told_cut))
 
   r_told_sync : AreToldOf (log_in home).rewrite s.rewrite synced r_files r_endings
   r_told_sync =
       told_kept (log_in home).rewrite two.rewrite s.rewrite r_files r_endings half synced more_syncs.rewrite
       (told_kept (log_in home).rewrite two.rewrite s.rewrite r_files r_endings r.readied half first_syncs.rewrite
-      (told_kept (log_in home).rewrite two.rewrite s.rewrite r_files r_endings r.cut r.readied r.readies.keeps.rewrite r_cut.told))
+      (told_kept (log_in home).rewrite two.rewrite s.rewrite r_files r_endings r.cut r.readied ready_keeps.rewrite r_cut.told))
 
   -- what the pipes are told
   a_items : r.opens.append.found.files.items ≡ as_read a_endings a_files
@@ -201,7 +249,7 @@ module _ (home : Home) (one : 0 < length home.append) (other : 0 < length home.r
   r_end = r.opens.rewrite_is.end ∙ ap (λ (x : QueueFiles). end_of_last x.endings.items) r_is
 
   config_is : r.ready.config ≡ r.found.config
-  config_is = r.readies.readies.same.0 ∙ r.recovers.same.0
+  config_is = r.readies.same.0 ∙ r.recovers.same.0
 
   found : RestsAsFound (sense home) m r.opens.append r.opens.rewrite synced
   found = record {
@@ -242,9 +290,9 @@ module _ (home : Home) (one : 0 < length home.append) (other : 0 < length home.r
       })
 
 pub resting_logs_reopen : RestingLogsReopen
-resting_logs_reopen home one other d m h v tables r = reopened home one other d m h v tables r
+resting_logs_reopen home one other d m sound h v tables r = reopened home one other d m sound h v tables r
 
 pub crashed_logs_reopen : CrashedLogsReopen
-crashed_logs_reopen home one other d image m pending left crash =
+crashed_logs_reopen home one other d image m pending sound left crash =
     let (k, within, rests) = crashed_logs_rest home one other d image m pending left crash in
-    (k, within, (rests, λ v tables r. reopened home one other image (taken m (take k pending)) rests v tables r))
+    (k, within, (rests, λ v tables r. reopened home one other image (taken m (take k pending)) sound rests v tables r))

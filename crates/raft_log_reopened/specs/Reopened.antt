@@ -21,10 +21,10 @@ use Rattle.raft_log_builder.specs.Directories.{directories_of}
 use Rattle.raft_log_builder.specs.Finishing.{OpensRecovered}
 use Rattle.raft_log_builder.specs.Recovering.{RecoversLog, append_files, rewrite_files}
 use Rattle.raft_log_builder.specs.Reserving.{ReadiesLog}
+use Rattle.raft_log_builder.specs.Scanning.{ScansLog}
 use Rattle.raft_log_builder.specs.declared.builder.DualPipesBuilder.{DualPipesBuilder}
 use Rattle.raft_log_opened.specs.Left.{IsCrashOf}
 use Rattle.raft_log_opened.specs.Opened.{HoldsFresh}
-use Rattle.raft_log_resting.specs.Keeping.{KeepsLog}
 use Rattle.raft_log_reopened.specs.Files.{AreFilesOf}
 
 -- the log lies in the directories that a builder's settings name
@@ -32,23 +32,17 @@ pub record LiesAsSet (home : Home) (b : DualPipesBuilder) : Type 0 where
   pub append : directories_of b.config ≡ home.append
   pub rewrite : directories_of b.config ≡ home.rewrite
 
--- A scan of the log's directories found the files of the log that rests there, and left all of them as they
--- were.
+-- A scan of the log's directories found the files of the log that rests there: all of either queue that no gap
+-- parts from its last one.
 pub record FindsLog (home : Home) (s : State) (old new : Disk) (b : DualPipesBuilder) : Type 0 where
-  pub keeps : KeepsLog (log_in home) old new
-  pub sound : IsSound new
+  pub before : DualPipesBuilder
+  pub scans : ScansLog before b old new
   pub append : AreFilesOf (log_in home).append s.append new (append_files b)
   pub rewrite : AreFilesOf (log_in home).rewrite s.rewrite new (rewrite_files b)
 
 -- what a context has read of a queue, in the words of a builder
 abbrev pub reads : LogQueue → List Batch → MemTableRecoverContext → Type 0
 reads queue batches context = HasReadBatches queue batches context
-
--- Files for later use were readied, and left all files of the log as they were; those that the pipe of Append
--- is told of are there still once all was synced, and can be used.
-pub record ReadiesBeside (home : Home) (b ready : DualPipesBuilder) (old new : Disk) : Type 0 where
-  pub readies : ReadiesLog b ready old new
-  pub keeps : KeepsLog (log_in home) old new
 
 -- the files that are kept for use can be used
 abbrev pub CanAllBeUsed : Home → DualPipesBuilder → Disk → Type 0
@@ -75,7 +69,7 @@ pub record Reopens (home : Home) (s : State) (d : Disk) (v : LogPipes) (tables :
   pub set : LiesAsSet home found
   pub finds : FindsLog home s d scanned found
   pub recovers : RecoversLog reads append rewrite found read scanned cut
-  pub readies : ReadiesBeside home read ready cut readied
+  pub readies : ReadiesLog read ready cut readied
   pub opens : OpensRecovered ready readied v
   pub spares : CanAllBeUsed home ready opens.synced
   pub comes : ComeOver append rewrite tables
@@ -84,14 +78,14 @@ pub record Reopens (home : Home) (s : State) (d : Disk) (v : LogPipes) (tables :
 -- of workers was.
 abbrev pub RestingLogsReopen : Type 0
 RestingLogsReopen = (home : Home) → 0 < length home.append → 0 < length home.rewrite → (d : Disk) (m : LogMap)
-    → (rests : LogRestsOn (log_in home) d m) → (v : LogPipes) (tables : MemTables)
+    → IsSound d → (rests : LogRestsOn (log_in home) d m) → (v : LogPipes) (tables : MemTables)
     → Reopens home rests.state d v tables → HoldsFresh home v tables m
 
 -- Whatever a crash leaves of what an engine left, an engine that is opened over it holds the map after some
 -- first pending batches, the same whatever the number of workers was, and nothing is pending.
 abbrev pub CrashedLogsReopen : Type 0
 CrashedLogsReopen = (home : Home) → 0 < length home.append → 0 < length home.rewrite → (d image : Disk)
-    (m : LogMap) (pending : List Said) → (left : IsLeftAt home d m pending)
+    (m : LogMap) (pending : List Said) → IsSound image → (left : IsLeftAt home d m pending)
     → IsCrashOf home left.1.lies.state d image
     → (k : ℕ) × (k ≤ length pending)
     × ((rests : LogRestsOn (log_in home) image (taken m (take k pending)))

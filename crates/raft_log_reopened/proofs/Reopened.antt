@@ -21,7 +21,10 @@ use Rattle.raft_log_steps.specs.Queues.{AreTwoQueues}
 use Rattle.raft_log_steps.specs.State.{Spanned}
 use Rattle.raft_log_steps.specs.Own.{log_layout}
 use Rattle.raft_log_steps.specs.OnDisk.{LogRestsOn}
-use Rattle.raft_log_dual_pipes.specs.Opening.{IsFoundAs, RestsAsFound}
+use Rattle.raft_log_dual_pipes.specs.Opening.{IsFoundAs, OpensLog, RestsAsFound}
+use Rattle.raft_log_dual_pipes.specs.declared.opening.FoundPipe.{FoundPipe}
+use Rattle.raft_log_builder.specs.declared.builder.DualPipesBuilder.{DualPipesBuilder}
+use Rattle.raft_log_builder.specs.Finishing.{IsPipeRecovered, IsRead, OpensRecovered, SyncsLog}
 use Rattle.raft_log_dual_pipes.specs.Pipes.{LogPipes, State}
 use Rattle.raft_log_engine_state.specs.Shows.{log_in, sense, Home, LogMap}
 use Rattle.raft_log_builder.specs.Directories.{directories_of}
@@ -40,7 +43,7 @@ use Rattle.raft_log_resting.proofs.Keeping.{moved}
 use Rattle.raft_log_reopened.specs.Files.{AreFilesOf, AreToldOf}
 use Rattle.raft_log_reopened.specs.Files.AreFilesOf.{none_made, some_made}
 use Rattle.raft_log_reopened.specs.Files.AreToldOf.{none_told, some_told}
-use Rattle.raft_log_reopened.specs.Reopened.{reads, CrashedLogsReopen, Reopens, RestingLogsReopen}
+use Rattle.raft_log_reopened.specs.Reopened.{reads, CanAllBeUsed, ComeOver, CrashedLogsReopen, IsRecoveredFrom, Reopens, RestingLogsReopen}
 use Rattle.raft_log_reopened.proofs.Reading.{files_are_told}
 use Rattle.raft_log_reopened.proofs.Cutting.{cut_queue, told_kept, IsCutTo}
 use Rattle.raft_log_reopened.proofs.Readying.{readies_leave, IsReserved}
@@ -75,6 +78,16 @@ each_unaligned : (es : List FileEnding) → AreUnaligned es → EachHas (λ (e :
 each_unaligned [] none = tt
 each_unaligned (e ∷ es) (here, more) = (here, each_unaligned es more)
 
+-- all files were synced, and this is what the pipes are told
+pub record CanOpen (b : DualPipesBuilder) (old : Disk) : Type 0 where
+  pub read : IsRead b
+  pub synced : Disk
+  pub syncs : SyncsLog b old synced
+  pub append : FoundPipe
+  pub rewrite : FoundPipe
+  pub append_is : IsPipeRecovered Append b.config b.append b.reserved.items append
+  pub rewrite_is : IsPipeRecovered Rewrite b.config b.rewrite [] rewrite
+
 -- One queue, as it was read.
 module _ (queue : LogQueue) (directories : List (List ℕ)) (some : 0 < length directories) (config : RecoveryConfig) (is : config.queue ≡ queue) (d : Disk) (q : Spanned LogRecord) (files : List File) (endings : List FileEnding) (context : MemTableRecoverContext)
     (read : HasReadFiles reads config files d context endings) (long : length endings ≡ length files) (unaligned : AreUnaligned endings) where
@@ -96,7 +109,8 @@ module _ (queue : LogQueue) (directories : List (List ℕ)) (some : 0 < length d
       some_told earlier last t.front t.ending are t.ends t.long t.sound all t.told
   told_of (none_made are unbegun) = none_told are (no_length endings (long ∙ ap length are)) unbegun
 
-module _ (home : Home) (one : 0 < length home.append) (other : 0 < length home.rewrite) (d : Disk) (m : LogMap) (sound : IsSound d) (h : LogRestsOn (log_in home) d m) (v : LogPipes) (tables : MemTables) (r : Reopens home h.state d v tables) where
+module _ (home : Home) (one : 0 < length home.append) (other : 0 < length home.rewrite) (d : Disk) (m : LogMap) (sound : IsSound d) (h : LogRestsOn (log_in home) d m) (a_context r_context : MemTableRecoverContext) (ready : DualPipesBuilder) (readied : Disk) (r : IsRecoveredFrom home h.state d a_context r_context ready readied)
+    (o : CanOpen ready readied) where
   abbrev s : State
   s = h.state
 
@@ -119,19 +133,19 @@ module _ (home : Home) (one : 0 < length home.append) (other : 0 < length home.r
   r_endings = r.read.rewrite.endings.items
 
   -- what the builder that is opened has, is what was found and read
-  a_is : r.ready.append ≡ r.read.append
+  a_is : ready.append ≡ r.read.append
   a_is = r.readies.same.1
 
-  r_is : r.ready.rewrite ≡ r.read.rewrite
+  r_is : ready.rewrite ≡ r.read.rewrite
   r_is = r.readies.same.2
 
   a_long : length a_endings ≡ length a_files
   a_long =
-      ap (λ (x : QueueFiles). length x.endings.items) (sym a_is) ∙ r.opens.read.append ∙ ap (λ (x : QueueFiles). length x.files.items) a_is ∙ ap (λ x. length x.items) r.recovers.same.1
+      ap (λ (x : QueueFiles). length x.endings.items) (sym a_is) ∙ o.read.append ∙ ap (λ (x : QueueFiles). length x.files.items) a_is ∙ ap (λ x. length x.items) r.recovers.same.1
 
   r_long : length r_endings ≡ length r_files
   r_long =
-      ap (λ (x : QueueFiles). length x.endings.items) (sym r_is) ∙ r.opens.read.rewrite ∙ ap (λ (x : QueueFiles). length x.files.items) r_is ∙ ap (λ x. length x.items) r.recovers.same.2
+      ap (λ (x : QueueFiles). length x.endings.items) (sym r_is) ∙ o.read.rewrite ∙ ap (λ (x : QueueFiles). length x.files.items) r_is ∙ ap (λ x. length x.items) r.recovers.same.2
 
   -- the scan, and what was read there
   at_first : Stays d
@@ -162,10 +176,10 @@ module _ (home : Home) (one : 0 < length home.append) (other : 0 < length home.r
   at_scan = stays_kept (log_in home) two s m d r.scanned scan_keeps_all at_first
 
   a_told : AreToldOf (log_in home).append s.append r.scanned a_files a_endings
-  a_told = told_of Append home.append one (append_config r.found) refl r.scanned s.append a_files a_endings r.append r.recovers.read.append_read a_long r.recovers.read.append_unaligned r.finds.append
+  a_told = told_of Append home.append one (append_config r.found) refl r.scanned s.append a_files a_endings a_context r.recovers.read.append_read a_long r.recovers.read.append_unaligned r.finds.append
 
   r_told : AreToldOf (log_in home).rewrite s.rewrite r.scanned r_files r_endings
-  r_told = told_of Rewrite home.rewrite other (rewrite_config r.found) refl r.scanned s.rewrite r_files r_endings r.rewrite r.recovers.read.rewrite_read r_long r.recovers.read.rewrite_unaligned r.finds.rewrite
+  r_told = told_of Rewrite home.rewrite other (rewrite_config r.found) refl r.scanned s.rewrite r_files r_endings r_context r.recovers.read.rewrite_read r_long r.recovers.read.rewrite_unaligned r.finds.rewrite
 
   -- the cuts
   a_cut : IsCutTo (log_in home).append two.append (log_in home).rewrite s.append a_files a_endings r.scanned r.recovers.between
@@ -190,35 +204,35 @@ module _ (home : Home) (one : 0 < length home.append) (other : 0 < length home.r
   all_reserved = subst (λ (l : List File). EachHas IsReserved l) (ap (λ x. x.items) (sym (r.recovers.same.3 ∙ scans.has.reserved)))
       (open_reserved _ scans.scanned _ scans.scans.is.reserved.kept scans.found.reserved.items scans.scans.is.reserved.opened)
 
-  readies_here : Readies (log_paths Append home.append) r.read.config.target_file_size.0 (wanted_files r.read) r.read.reserved.items r.ready.reserved.items r.cut r.readied
-  readies_here = subst (λ (l : List (List ℕ)). Readies (log_paths Append l) r.read.config.target_file_size.0 (wanted_files r.read) r.read.reserved.items r.ready.reserved.items r.cut r.readied)
+  readies_here : Readies (log_paths Append home.append) r.read.config.target_file_size.0 (wanted_files r.read) r.read.reserved.items ready.reserved.items r.cut readied
+  readies_here = subst (λ (l : List (List ℕ)). Readies (log_paths Append l) r.read.config.target_file_size.0 (wanted_files r.read) r.read.reserved.items ready.reserved.items r.cut readied)
       (ap directories_of r.recovers.same.0 ∙ r.set.append) r.readies.readies
 
-  ready_keeps : KeepsLog (log_in home) r.cut r.readied
+  ready_keeps : KeepsLog (log_in home) r.cut readied
   ready_keeps = record {
-    append = (readies_leave (log_format Append home.append) (log_paths Append home.append) two.append.lawful.apart _ _ r.read.reserved.items r.ready.reserved.items r.cut r.readied all_reserved
+    append = (readies_leave (log_format Append home.append) (log_paths Append home.append) two.append.lawful.apart _ _ r.read.reserved.items ready.reserved.items r.cut readied all_reserved
         (sound_names r.cut r_cut.sound) readies_here).keeps;
     rewrite = (readies_leave (log_format Rewrite home.rewrite) (log_paths Append home.append) (λ directory n m less at. two.apart _ (two.append.lawful.kept directory n) (two.rewrite.lawful.owns m _ less at)) _ _
-        r.read.reserved.items r.ready.reserved.items r.cut r.readied all_reserved (sound_names r.cut r_cut.sound) readies_here).keeps;
+        r.read.reserved.items ready.reserved.items r.cut readied all_reserved (sound_names r.cut r_cut.sound) readies_here).keeps;
   }
 
-  at_ready : Stays r.readied
-  at_ready = stays_kept (log_in home) two s m r.cut r.readied ready_keeps at_cut
+  at_ready : Stays readied
+  at_ready = stays_kept (log_in home) two s m r.cut readied ready_keeps at_cut
 
   abbrev half : Disk
-  half = r.opens.syncs.between
+  half = o.syncs.between
 
   abbrev synced : Disk
-  synced = r.opens.synced
+  synced = o.synced
 
-  first_syncs : KeepsLog (log_in home) r.readied half
-  first_syncs = stays_synced (log_in home) two s m (append_files r.ready) r.readied half at_ready r.opens.syncs.append
+  first_syncs : KeepsLog (log_in home) readied half
+  first_syncs = stays_synced (log_in home) two s m (append_files ready) readied half at_ready o.syncs.append
 
   at_half : Stays half
-  at_half = stays_kept (log_in home) two s m r.readied half first_syncs at_ready
+  at_half = stays_kept (log_in home) two s m readied half first_syncs at_ready
 
   more_syncs : KeepsLog (log_in home) half synced
-  more_syncs = stays_synced (log_in home) two s m (rewrite_files r.ready) half synced at_half r.opens.syncs.rewrite
+  more_syncs = stays_synced (log_in home) two s m (rewrite_files ready) half synced at_half o.syncs.rewrite
 
   at_sync : Stays synced
   at_sync = stays_kept (log_in home) two s m half synced more_syncs at_half
@@ -226,47 +240,46 @@ module _ (home : Home) (one : 0 < length home.append) (other : 0 < length home.r
   a_told_sync : AreToldOf (log_in home).append s.append synced a_files a_endings
   a_told_sync =
       told_kept (log_in home).append two.append s.append a_files a_endings half synced more_syncs.append
-      (told_kept (log_in home).append two.append s.append a_files a_endings r.readied half first_syncs.append
-      (told_kept (log_in home).append two.append s.append a_files a_endings r.cut r.readied ready_keeps.append a_told_cut))
+      (told_kept (log_in home).append two.append s.append a_files a_endings readied half first_syncs.append
+      (told_kept (log_in home).append two.append s.append a_files a_endings r.cut readied ready_keeps.append a_told_cut))
 
   r_told_sync : AreToldOf (log_in home).rewrite s.rewrite synced r_files r_endings
   r_told_sync =
       told_kept (log_in home).rewrite two.rewrite s.rewrite r_files r_endings half synced more_syncs.rewrite
-      (told_kept (log_in home).rewrite two.rewrite s.rewrite r_files r_endings r.readied half first_syncs.rewrite
-      (told_kept (log_in home).rewrite two.rewrite s.rewrite r_files r_endings r.cut r.readied ready_keeps.rewrite r_cut.told))
+      (told_kept (log_in home).rewrite two.rewrite s.rewrite r_files r_endings readied half first_syncs.rewrite
+      (told_kept (log_in home).rewrite two.rewrite s.rewrite r_files r_endings r.cut readied ready_keeps.rewrite r_cut.told))
 
   -- what the pipes are told
-  a_items : r.opens.append.found.files.items ≡ as_read a_endings a_files
-  a_items = r.opens.append_is.files ∙ ap (λ (x : QueueFiles). as_read x.endings.items x.files.items) a_is ∙ ap (λ x. as_read a_endings x.items) r.recovers.same.1
+  a_items : o.append.found.files.items ≡ as_read a_endings a_files
+  a_items = o.append_is.files ∙ ap (λ (x : QueueFiles). as_read x.endings.items x.files.items) a_is ∙ ap (λ x. as_read a_endings x.items) r.recovers.same.1
 
-  r_items : r.opens.rewrite.found.files.items ≡ as_read r_endings r_files
-  r_items = r.opens.rewrite_is.files ∙ ap (λ (x : QueueFiles). as_read x.endings.items x.files.items) r_is ∙ ap (λ x. as_read r_endings x.items) r.recovers.same.2
+  r_items : o.rewrite.found.files.items ≡ as_read r_endings r_files
+  r_items = o.rewrite_is.files ∙ ap (λ (x : QueueFiles). as_read x.endings.items x.files.items) r_is ∙ ap (λ x. as_read r_endings x.items) r.recovers.same.2
 
-  a_end : r.opens.append.found.end ≡ end_of_last a_endings
-  a_end = r.opens.append_is.end ∙ ap (λ (x : QueueFiles). end_of_last x.endings.items) a_is
+  a_end : o.append.found.end ≡ end_of_last a_endings
+  a_end = o.append_is.end ∙ ap (λ (x : QueueFiles). end_of_last x.endings.items) a_is
 
-  r_end : r.opens.rewrite.found.end ≡ end_of_last r_endings
-  r_end = r.opens.rewrite_is.end ∙ ap (λ (x : QueueFiles). end_of_last x.endings.items) r_is
+  r_end : o.rewrite.found.end ≡ end_of_last r_endings
+  r_end = o.rewrite_is.end ∙ ap (λ (x : QueueFiles). end_of_last x.endings.items) r_is
 
-  config_is : r.ready.config ≡ r.found.config
+  config_is : ready.config ≡ r.found.config
   config_is = r.readies.same.0 ∙ r.recovers.same.0
 
-  found : RestsAsFound (sense home) m r.opens.append r.opens.rewrite synced
-  found = record {
-    append_as = subst (λ (l : List (List ℕ)). IsFoundAs Append l r.opens.append) (ap directories_of config_is ∙ r.set.append) r.opens.append_is.wanted.lies;
-    rewrite_as = subst (λ (l : List (List ℕ)). IsFoundAs Rewrite l r.opens.rewrite) (ap directories_of config_is ∙ r.set.rewrite) r.opens.rewrite_is.wanted.lies;
+  found : CanAllBeUsed home ready synced → RestsAsFound (sense home) m o.append o.rewrite synced
+  found spares = record {
+    append_as = subst (λ (l : List (List ℕ)). IsFoundAs Append l o.append) (ap directories_of config_is ∙ r.set.append) o.append_is.wanted.lies;
+    rewrite_as = subst (λ (l : List (List ℕ)). IsFoundAs Rewrite l o.rewrite) (ap directories_of config_is ∙ r.set.rewrite) o.rewrite_is.wanted.lies;
     rests = record { state = moved (log_in home) two s synced; disk = refl; rests = at_sync.rests; append_synced = h.append_synced; rewrite_synced = h.rewrite_synced; holds = at_sync.holds };
-    append_found = told_found (log_in home).append s.append synced a_files a_endings r.opens.append.found a_items a_end
-        (λ first. subst (λ (l : List File). AreKept (log_format Append home.append) (log_paths Append home.append) first synced l) (sym r.opens.append_is.spares) (r.spares first)) a_told_sync;
-    rewrite_found = told_found (log_in home).rewrite s.rewrite synced r_files r_endings r.opens.rewrite.found r_items r_end
-        (λ first. subst (λ (l : List File). AreKept (log_format Rewrite home.rewrite) (log_paths Rewrite home.rewrite) first synced l) (sym r.opens.rewrite_is.spares) tt) r_told_sync;
+    append_found = told_found (log_in home).append s.append synced a_files a_endings o.append.found a_items a_end
+        (λ first. subst (λ (l : List File). AreKept (log_format Append home.append) (log_paths Append home.append) first synced l) (sym o.append_is.spares) (spares first)) a_told_sync;
+    rewrite_found = told_found (log_in home).rewrite s.rewrite synced r_files r_endings o.rewrite.found r_items r_end
+        (λ first. subst (λ (l : List File). AreKept (log_format Rewrite home.rewrite) (log_paths Rewrite home.rewrite) first synced l) (sym o.rewrite_is.spares) tt) r_told_sync;
   }
 
-  pub reopened : HoldsFresh home v tables m
+  pub reopened : (v : LogPipes) (tables : MemTables) → CanAllBeUsed home ready synced → OpensLog o.append o.rewrite synced v → ComeOver a_context r_context tables → HoldsFresh home v tables m
   unfolding found
-  reopened =
-      let opens = r.opens.opens in
-      let runs = opens.log (sense home) m found in
+  reopened v tables spares opens comes =
+      let runs = opens.log (sense home) m (found spares) in
       let state = runs.state in
       opened_engines_hold home (moved (log_in home) two s synced) m v tables at_sync.holds (record {
         state = state;
@@ -275,24 +288,39 @@ module _ (home : Home) (one : 0 < length home.append) (other : 0 < length home.r
         append_batches = all_batches r.recovers.read.append_read.batches;
         rewrite_batches = all_batches r.recovers.read.rewrite_read.batches;
         of_append = of_queue Append home.append one (append_config r.found).mode r.scanned synced opens.mid s.append state.append a_files a_endings (all_batches r.recovers.read.append_read.batches)
-            (files_read Append home.append one (append_config r.found) refl r.scanned s.append a_files a_endings r.append r.recovers.read.append_read a_long r.recovers.read.append_unaligned)
-            r.opens.append.found a_items a_end _ _ _ r.opens.append.settings.new_files v.append.files opens.append_opens (sym runs.runs.run.append.first) runs.append_goes_on a_told;
+            (files_read Append home.append one (append_config r.found) refl r.scanned s.append a_files a_endings a_context r.recovers.read.append_read a_long r.recovers.read.append_unaligned)
+            o.append.found a_items a_end _ _ _ o.append.settings.new_files v.append.files opens.append_opens (sym runs.runs.run.append.first) runs.append_goes_on a_told;
         of_rewrite = of_queue Rewrite home.rewrite other (rewrite_config r.found).mode r.scanned opens.mid v.disk s.rewrite state.rewrite r_files r_endings (all_batches r.recovers.read.rewrite_read.batches)
-            (files_read Rewrite home.rewrite other (rewrite_config r.found) refl r.scanned s.rewrite r_files r_endings r.rewrite r.recovers.read.rewrite_read r_long r.recovers.read.rewrite_unaligned)
-            r.opens.rewrite.found r_items r_end _ _ _ r.opens.rewrite.settings.new_files v.rewrite.files opens.rewrite_opens (sym runs.runs.run.rewrite.first) runs.rewrite_goes_on r_told;
+            (files_read Rewrite home.rewrite other (rewrite_config r.found) refl r.scanned s.rewrite r_files r_endings r_context r.recovers.read.rewrite_read r_long r.recovers.read.rewrite_unaligned)
+            o.rewrite.found r_items r_end _ _ _ o.rewrite.settings.new_files v.rewrite.files opens.rewrite_opens (sym runs.runs.run.rewrite.first) runs.rewrite_goes_on r_told;
         merged = record {
-          append = r.append;
-          rewrite = r.rewrite;
+          append = a_context;
+          rewrite = r_context;
           append_read = r.recovers.read.append_read.read;
           rewrite_read = r.recovers.read.rewrite_read.read;
-          over = r.comes.over;
+          over = comes.over;
         };
       })
 
+-- what is opened behind the syncs
+opened_so : (ready : DualPipesBuilder) (readied : Disk) (v : LogPipes) → OpensRecovered ready readied v → CanOpen ready readied
+opened_so ready readied v opens = record {
+  read = opens.read;
+  synced = opens.synced;
+  syncs = opens.syncs;
+  append = opens.append;
+  rewrite = opens.rewrite;
+  append_is = opens.append_is;
+  rewrite_is = opens.rewrite_is;
+}
+
 pub resting_logs_reopen : RestingLogsReopen
-resting_logs_reopen home one other d m sound h v tables r = reopened home one other d m sound h v tables r
+unfolding opened_so
+resting_logs_reopen home one other d m sound h v tables r =
+    let o = opened_so r.ready r.readied v r.opens in
+    reopened home one other d m sound h r.append r.rewrite r.ready r.readied r.recovered o v tables (r.spares r.opens.synced r.opens.syncs) r.opens.opens r.comes
 
 pub crashed_logs_reopen : CrashedLogsReopen
 crashed_logs_reopen home one other d image m pending sound left crash =
     let (k, within, rests) = crashed_logs_rest home one other d image m pending left crash in
-    (k, within, (rests, λ v tables r. reopened home one other image (taken m (take k pending)) sound rests v tables r))
+    (k, within, (rests, λ v tables r. resting_logs_reopen home one other image (taken m (take k pending)) sound rests v tables r))

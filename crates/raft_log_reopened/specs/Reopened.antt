@@ -18,7 +18,7 @@ use Rattle.raft_log_dual_pipes.specs.Pipes.{LogPipes, Said, State}
 use Rattle.raft_log_engine_state.specs.Shows.{log_in, Home, LogMap}
 use Rattle.raft_log_engine_state.specs.Holding.{IsLeftAt}
 use Rattle.raft_log_builder.specs.Directories.{directories_of}
-use Rattle.raft_log_builder.specs.Finishing.{OpensRecovered}
+use Rattle.raft_log_builder.specs.Finishing.{OpensRecovered, SyncsLog}
 use Rattle.raft_log_builder.specs.Recovering.{RecoversLog, append_files, rewrite_files}
 use Rattle.raft_log_builder.specs.Reserving.{ReadiesLog}
 use Rattle.raft_log_builder.specs.Scanning.{ScansLog}
@@ -54,24 +54,34 @@ pub record ComeOver (append rewrite : MemTableRecoverContext) (tables : MemTable
   pub over : (first behind : List ReadRecord) → HasRead Rewrite first rewrite → HasRead Append behind append
       → ComesOver first behind tables
 
--- An engine's pipes and tables were made of the log that rests on a disk: its files were found, read by any
--- number of workers and cut; files for later use were readied; all files were synced, and the pipes opened;
--- and what was read of Append came over what was read of Rewrite.
-pub record Reopens (home : Home) (s : State) (d : Disk) (v : LogPipes) (tables : MemTables) : Type 0 where
+-- The files of the log that rests on a disk were found, read by any number of workers into these contexts, and
+-- cut; and files for later use were readied.
+pub record IsRecoveredFrom (home : Home) (s : State) (d : Disk) (append rewrite : MemTableRecoverContext)
+    (ready : DualPipesBuilder) (readied : Disk) : Type 0 where
   pub found : DualPipesBuilder
   pub read : DualPipesBuilder
-  pub ready : DualPipesBuilder
   pub scanned : Disk
   pub cut : Disk
-  pub readied : Disk
-  pub append : MemTableRecoverContext
-  pub rewrite : MemTableRecoverContext
   pub set : LiesAsSet home found
   pub finds : FindsLog home s d scanned found
   pub recovers : RecoversLog reads append rewrite found read scanned cut
   pub readies : ReadiesLog read ready cut readied
+
+-- once all files were synced, those that are kept for use can be used
+abbrev pub SparesStay : Home → DualPipesBuilder → Disk → Type 0
+SparesStay home ready readied =
+    (synced : Disk) → SyncsLog ready readied synced → CanAllBeUsed home ready synced
+
+-- An engine's pipes and tables were made of the log that rests on a disk: it was recovered from there, all
+-- files were synced, and the pipes opened; and what was read of Append came over what was read of Rewrite.
+pub record Reopens (home : Home) (s : State) (d : Disk) (v : LogPipes) (tables : MemTables) : Type 0 where
+  pub ready : DualPipesBuilder
+  pub readied : Disk
+  pub append : MemTableRecoverContext
+  pub rewrite : MemTableRecoverContext
+  pub recovered : IsRecoveredFrom home s d append rewrite ready readied
   pub opens : OpensRecovered ready readied v
-  pub spares : CanAllBeUsed home ready opens.synced
+  pub spares : SparesStay home ready readied
   pub comes : ComeOver append rewrite tables
 
 -- So an engine of them holds the map of the log that rests there, and nothing is pending, whatever the number

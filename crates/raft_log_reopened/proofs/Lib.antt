@@ -5,3 +5,5 @@ pub mod Stays
 pub mod Reopened
 pub mod Readying
 pub mod Scanning
+pub mod Uncut
+pub mod Refused

@@ -57,20 +57,20 @@ use Rattle.raft_log_builder.specs.Scanning.{ScansLog}
 use Rattle.raft_log_reopened.proofs.Told.{of_queue, told_found}
 use Rattle.raft_log_reopened.proofs.Stays.{stays_first, stays_kept, stays_named, stays_synced, told_rests, StaysAt}
 
-two_queues : (home : Home) → 0 < length home.append → 0 < length home.rewrite → AreTwoQueues (log_in home)
+pub two_queues : (home : Home) → 0 < length home.append → 0 < length home.rewrite → AreTwoQueues (log_in home)
 two_queues home one other = record {
   append = record { lawful = is_layout Append home.append one; told = formats_are_told Append home.append };
   rewrite = record { lawful = is_layout Rewrite home.rewrite other; told = formats_are_told Rewrite home.rewrite };
   apart = queues_are_apart home.append home.rewrite;
 }
 
-one_each : {E : Type 0} (holds : ℕ → List Batch → E → Type 0) (k : ℕ) (bss : List (List Batch)) (es : List E) → HoldEach holds k bss es → length bss ≡ length es
+pub one_each : {E : Type 0} (holds : ℕ → List Batch → E → Type 0) (k : ℕ) (bss : List (List Batch)) (es : List E) → HoldEach holds k bss es → length bss ≡ length es
 one_each holds k [] [] held = refl
 one_each holds k [] (e ∷ es) held = absurd held
 one_each holds k (bs ∷ bss) [] held = absurd held
 one_each holds k (bs ∷ bss) (e ∷ es) held = ap suc (one_each holds (suc k) bss es held.1)
 
-no_length : {A : Type 0} (xs : List A) → length xs ≡ 0 → xs ≡ []
+pub no_length : {A : Type 0} (xs : List A) → length xs ≡ 0 → xs ≡ []
 no_length [] none = refl
 no_length (x ∷ xs) none = (let never : suc (length xs) ≡ 0 = none in absurd (omega (arith, never)))
 
@@ -265,7 +265,7 @@ module _ (home : Home) (one : 0 < length home.append) (other : 0 < length home.r
   config_is : ready.config ≡ r.found.config
   config_is = r.readies.same.0 ∙ r.recovers.same.0
 
-  found : CanAllBeUsed home ready synced → RestsAsFound (sense home) m o.append o.rewrite synced
+  pub found : CanAllBeUsed home ready synced → RestsAsFound (sense home) m o.append o.rewrite synced
   found spares = record {
     append_as = subst (λ (l : List (List ℕ)). IsFoundAs Append l o.append) (ap directories_of config_is ∙ r.set.append) o.append_is.wanted.lies;
     rewrite_as = subst (λ (l : List (List ℕ)). IsFoundAs Rewrite l o.rewrite) (ap directories_of config_is ∙ r.set.rewrite) o.rewrite_is.wanted.lies;

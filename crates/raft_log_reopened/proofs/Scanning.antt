@@ -69,7 +69,7 @@ module _ (queue : LogQueue) (directories : List (List ℕ)) (some : 0 < length d
         by_case true is = is
         by_case false is = absurd (true_is_not_false (new.directories path) (made.others path (λ listed. true_is_not_false (new.directories path) (made.there path listed) is) ∙ there) is)
 
-    directories_keep : KeepsNumbered (log_format queue directories) old new
+    pub directories_keep : KeepsNumbered (log_format queue directories) old new
     directories_keep = record {
       names = λ m path less at. ap (λ (d : Disk). d.names path) made.rest;
       files = λ m path id less at there. ap (λ (d : Disk). d.files id) made.rest;

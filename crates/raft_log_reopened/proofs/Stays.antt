@@ -25,7 +25,7 @@ use Rattle.raft_log_reopened.specs.Files.AreToldOf.{none_told, some_told}
 
 -- Where names are the same.
 
-span_of : (layout : QueueLayout LogRecord) (q : Spanned LogRecord) (old new : Disk) → new.names ≡ old.names → RestsQueue layout q old → HasSpan layout.format q new
+pub span_of : (layout : QueueLayout LogRecord) (q : Spanned LogRecord) (old new : Disk) → new.names ≡ old.names → RestsQueue layout q old → HasSpan layout.format q new
 span_of layout q old new names (inl (left, span)) m from below =
     let is = span m from below in
     record { path = is.path; at = is.at; id = is.id; named = ap (λ (f : Names). f is.path) names ∙ is.named }

@@ -1,5 +1,6 @@
 //! The way from what an engine left to an engine that is opened.
 
+ghost use Rattle.raft_log_reopened.specs.Refused.{RefusedReopensLeaveLogs};
 ghost use Rattle.raft_log_reopened.specs.Reopened.{CrashedLogsReopen, RestingLogsReopen};
 
 /// Where a log that rests on a disk is scanned, read by any number of workers, cut, synced and opened, an
@@ -12,4 +13,9 @@ pub fn resting_logs_reopen()
 /// first pending batches, the same for any two numbers of workers, and nothing is pending.
 pub fn crashed_logs_reopen()
     ensures { CrashedLogsReopen }
+{}
+
+/// Wherever an open is refused behind the scan, the log is left on the disk with its map, and nothing is pending.
+pub fn refused_reopens_leave_logs()
+    ensures { RefusedReopensLeaveLogs }
 {}

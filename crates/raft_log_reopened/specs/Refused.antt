@@ -1,0 +1,44 @@
+-- Why a log that rests on a disk wasn't opened, and how far that went.
+use Rattle.std.specs.Prelude.{◌≡◌, ℕ, ◌<◌, List, [], length}
+use Rattle.raft_log_base.specs.declared.errors.Error.{Error}
+use Rattle.raft_log_base.specs.declared.pipe_log.LogQueue.{LogQueue}
+use Rattle.raft_log_disk.specs.Disk.{Disk}
+use Rattle.raft_log_disk.specs.Image.{IsSound}
+use Rattle.raft_log_segments.specs.Machines.{Batch}
+use Rattle.raft_log_contexts.specs.Batches.{Declines}
+use Rattle.raft_log_contexts.specs.declared.context.MemTableRecoverContext.{MemTableRecoverContext}
+use Rattle.raft_log_steps.specs.OnDisk.{LogRestsOn}
+use Rattle.raft_log_dual_pipes.specs.Pipes.{State}
+use Rattle.raft_log_engine_state.specs.Shows.{log_in, Home, LogMap}
+use Rattle.raft_log_engine_state.specs.Holding.{IsLeftAt}
+use Rattle.raft_log_builder.specs.Finishing.{FailsToOpenRecovered}
+use Rattle.raft_log_builder.specs.Recovering.{FailsToRecoverLog, RecoversLog}
+use Rattle.raft_log_builder.specs.Reserving.{FailsToReadyLog}
+use Rattle.raft_log_builder.specs.declared.builder.DualPipesBuilder.{DualPipesBuilder}
+use Rattle.raft_log_reopened.specs.Reopened.{reads, FindsLog, IsRecoveredFrom, LiesAsSet, SparesStay}
+
+-- why a context doesn't read batches, in the words of a builder
+abbrev pub declines : LogQueue → List Batch → Error → Type 0
+declines queue batches error = Declines queue batches error
+
+-- Its files weren't recovered, or not cut; files for later use weren't readied; it was given up once they were,
+-- as where what was read isn't in order; or its files weren't synced, or its pipes not opened.
+pub data FailsToReopen (home : Home) (s : State) (d new : Disk) : Type 0 where
+  unrecovered : (found : DualPipesBuilder) (scanned : Disk) (error : Error) → LiesAsSet home found
+      → FindsLog home s d scanned found
+      → FailsToRecoverLog reads declines found error scanned new → FailsToReopen home s d new
+  unreadied : (found read : DualPipesBuilder) (scanned cut : Disk) (append rewrite : MemTableRecoverContext)
+      (error : Error) → LiesAsSet home found → FindsLog home s d scanned found
+      → RecoversLog reads append rewrite found read scanned cut → FailsToReadyLog read error cut new
+      → FailsToReopen home s d new
+  given_up : (append rewrite : MemTableRecoverContext) (ready : DualPipesBuilder)
+      → IsRecoveredFrom home s d append rewrite ready new → FailsToReopen home s d new
+  unopened : (append rewrite : MemTableRecoverContext) (ready : DualPipesBuilder) (readied : Disk)
+      (error : Error) → IsRecoveredFrom home s d append rewrite ready readied → SparesStay home ready readied
+      → FailsToOpenRecovered ready error readied new → FailsToReopen home s d new
+
+-- Wherever that is, the log is left there with its map, and nothing is pending.
+abbrev pub RefusedReopensLeaveLogs : Type 0
+RefusedReopensLeaveLogs = (home : Home) → 0 < length home.append → 0 < length home.rewrite → (d new : Disk)
+    (m : LogMap) → IsSound d → (rests : LogRestsOn (log_in home) d m)
+    → FailsToReopen home rests.state d new → IsLeftAt home new m []

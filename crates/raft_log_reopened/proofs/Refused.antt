@@ -34,7 +34,9 @@ use Rattle.raft_log_builder.specs.Reading.{HasReadFiles}
 use Rattle.raft_log_builder.specs.Recovering.{append_config, append_files, rewrite_config, rewrite_files, FailsToRecoverLog, HasReadBoth, RecoversLog}
 use Rattle.raft_log_builder.specs.Recovering.FailsToRecoverLog.{aligned, append_uncut, append_unread, rewrite_uncut, rewrite_unread}
 use Rattle.raft_log_builder.specs.Reserving.{wanted_files, FailsToReadyLog, ReadiesLog}
-use Rattle.raft_log_builder.specs.Scanning.{ScansLog}
+use Rattle.raft_log_builder.specs.Scanning.{FailsToScanLog, ScansLog}
+use Rattle.raft_log_builder.specs.Scanning.FailsToScanLog.{uncleared, unready as scan_unready, unscanned as scan_refused}
+use Rattle.raft_log_recovery.specs.Scanned.{FailsToScan}
 use Rattle.raft_log_builder.specs.Syncing.{FailsToSyncEach}
 use Rattle.raft_log_builder.specs.Unaligned.{AreUnaligned}
 use Rattle.raft_log_builder.specs.declared.builder.DualPipesBuilder.{DualPipesBuilder}
@@ -49,11 +51,11 @@ use Rattle.raft_log_resting.proofs.Calls.{keeps_all, no_sync_keeps, rest_then, r
 use Rattle.raft_log_reopened.specs.Files.{AreFilesOf, AreToldOf}
 use Rattle.raft_log_reopened.specs.Reopened.{reads, FindsLog, IsRecoveredFrom, LiesAsSet, SparesStay}
 use Rattle.raft_log_reopened.specs.Refused.{declines, FailsToReopen, RefusedReopensLeaveLogs}
-use Rattle.raft_log_reopened.specs.Refused.FailsToReopen.{given_up, unopened, unreadied, unrecovered}
+use Rattle.raft_log_reopened.specs.Refused.FailsToReopen.{given_up, unopened, unreadied, unrecovered, unscanned}
 use Rattle.raft_log_reopened.proofs.Cutting.{cut_queue, told_kept, IsCutTo}
 use Rattle.raft_log_reopened.proofs.Readying.{readies_leave, unreadied_leaves, IsReserved}
 use Rattle.raft_log_reopened.proofs.Reopened.{found, no_length, one_each, told_of, two_queues, CanOpen}
-use Rattle.raft_log_reopened.proofs.Scanning.{open_reserved, scan_keeps, scan_sound}
+use Rattle.raft_log_reopened.proofs.Scanning.{no_scan_keeps, open_reserved, scan_keeps, scan_sound}
 use Rattle.raft_log_reopened.proofs.Stays.{span_of, stays_first, stays_kept, stays_named, stays_synced, syncs_keep, told_rests, StaysAt}
 use Rattle.raft_log_reopened.proofs.Uncut.{uncut_held, IsHeld}
 
@@ -189,6 +191,22 @@ module _ (home : Home) (one : 0 < length home.append) (other : 0 < length home.r
           };
         };
       })
+
+  -- The directories weren't scanned.
+  not_scanned : (b : DualPipesBuilder) (error : Error) (new : Disk) → LiesAsSet home b → FailsToScanLog b error d new → IsLeftAt home new m []
+  not_scanned b error new set (scan_unready memory same) = stays_left new (stays_same d new same (stays_first (log_in home) two d m h))
+  not_scanned b error new set (scan_refused fails) =
+      let at = stays_first (log_in home) two d m h in
+      stays_left new (stays_kept (log_in home) two s m d new (record {
+        append = no_scan_keeps Append home.append one s.append d at.rests.append error new (subst (λ (l : List (List ℕ)). FailsToScan l error d new) set.append fails);
+        rewrite = no_scan_keeps Rewrite home.rewrite other s.rewrite d at.rests.rewrite error new (subst (λ (l : List (List ℕ)). FailsToScan l error d new) set.rewrite fails);
+      }) at)
+  not_scanned b error new set (uncleared found scanned scans memory leaves) =
+      let at = stays_first (log_in home) two d m h in
+      stays_left new (stays_kept (log_in home) two s m d new (record {
+        append = scan_keeps Append home.append one s.append d at.rests.append scanned (subst (λ (l : List (List ℕ)). HasDirectories l d scanned) set.append scans.made) new leaves;
+        rewrite = scan_keeps Rewrite home.rewrite other s.rewrite d at.rests.rewrite scanned (subst (λ (l : List (List ℕ)). HasDirectories l d scanned) set.rewrite scans.made) new leaves;
+      }) at)
 
   -- Behind the scan.
   module _ (b : DualPipesBuilder) (scanned : Disk) (set : LiesAsSet home b) (finds : FindsLog home s d scanned b) where
@@ -326,6 +344,7 @@ module _ (home : Home) (one : 0 < length home.append) (other : 0 < length home.r
       refused_opens_leave_logs home m a_pipe r_pipe error synced new fails (found home one other d m sound h append rewrite ready readied r o (spares synced syncs))
 
 pub refused_reopens_leave_logs : RefusedReopensLeaveLogs
+refused_reopens_leave_logs home one other d new m sound h (unscanned b error set fails) = not_scanned home one other d m sound h b error new set fails
 refused_reopens_leave_logs home one other d new m sound h (unrecovered b scanned error set finds fails) = not_recovered home one other d m sound h b scanned set finds error new fails
 refused_reopens_leave_logs home one other d new m sound h (unreadied b read scanned cut append rewrite error set finds recovers fails) = not_readied home one other d m sound h b scanned set finds append rewrite read cut recovers error new fails
 refused_reopens_leave_logs home one other d new m sound h (given_up append rewrite ready r) = stays_left home one other d m sound h new (recovered_stays home one other d m sound h append rewrite ready new r)

@@ -13,7 +13,16 @@ use Rattle.raft_log_layout.specs.LayoutLaws.{is_layout}
 use Rattle.raft_log_layout.specs.Paths.{IsPathWith}
 use Rattle.raft_log_layout.specs.PathLaws.{one_name}
 use Rattle.raft_log_layout.specs.declared.record.LogRecord.{LogRecord}
-use Rattle.raft_log_recovery.specs.Directories.{HasDirectories}
+use Rattle.raft_log_recovery.specs.Directories.{FailsToHave, HasDirectories}
+use Rattle.raft_log_recovery.specs.Scanned.{FailsToScan}
+use Rattle.raft_log_base.specs.declared.errors.Error.{Error}
+use Rattle.raft_log_base.specs.declared.errors.Error.TheVariants as errors
+use Rattle.std.specs.declared.io.ErrorKind.{ErrorKind}
+use Rattle.std.specs.Prelude.{Result, Ok, Err}
+use Rattle.std.proofs.lemmas.List.Elements.{Contains-append_left, Contains-append_right}
+use Rattle.raft_log_disk.specs.Arguments.{WrongDirectory}
+use Rattle.raft_log_disk.proofs.KeptLaws.{kept_directory}
+use Rattle.raft_log_resting.proofs.Calls.{keeps_all, keeps_calm}
 use Rattle.raft_log_recovery.specs.Metadata.{LeavesFiles}
 use Rattle.raft_log_recovery.specs.Opened.{AreOpen}
 use Rattle.raft_log_recovery.specs.declared.file_kind.FileKind.TheVariants.{Reserved}
@@ -56,10 +65,10 @@ module _ (queue : LogQueue) (directories : List (List ℕ)) (some : 0 < length d
       let joined : directory ++ 47 ∷ first.name ≡ place.home.directory ++ 47 ∷ first.name = inside.joined ∙ ap (λ (l : List ℕ). place.home.directory ++ 47 ∷ l) (sym same) in
       ap old.directories (append_cancel_right directory place.home.directory (47 ∷ first.name) joined) ∙ place.home.there
 
-  module _ (new : Disk) (made : HasDirectories directories old new) where
+  module _ (list : List (List ℕ)) (within : (path : List ℕ) → Contains list path → Contains directories path) (new : Disk) (made : HasDirectories list old new) where
     -- no path of a file has become a directory's
     pub stays_apart : (path : List ℕ) → old.directories path ≡ false → new.directories path ≡ false
-    stays_apart path apart = made.others path (λ listed. true_is_not_false (old.directories path) (directory_there path listed) apart) ∙ apart
+    stays_apart path apart = made.others path (λ listed. true_is_not_false (old.directories path) (directory_there path (within path listed)) apart) ∙ apart
 
     -- and those that were there are there
     stays_there : (path : List ℕ) → old.directories path ≡ true → new.directories path ≡ true
@@ -79,16 +88,37 @@ module _ (queue : LogQueue) (directories : List (List ℕ)) (some : 0 < length d
       };
     }
 
+  -- One of the directories wasn't made.
+  module _ (path : List ℕ) (listed : Contains directories path) (between : Disk) (there : between.directories path ≡ true) where
+    not_made : (error : Error) (new : Disk) → FailsToHave path error between new → KeepsNumbered (log_format queue directories) between new
+    not_made (errors.Other why) new (runs, named, told, same) = subst (KeepsNumbered (log_format queue directories) between) (sym same) (keeps_all (log_format queue directories) between)
+    not_made errors.Memory new (runs, same) = subst (KeepsNumbered (log_format queue directories) between) (sym same) (keeps_all (log_format queue directories) between)
+    not_made (errors.Io kind) new (why, fails) =
+        let result : Result (Unit {0}) ErrorKind = Err kind in
+        kept_directory (KeepsNumbered (log_format queue directories) between) (WrongDirectory path between) result path (keeps_calm (log_format queue directories) between) (keeps_all (log_format queue directories) between)
+        (λ free apart. absurd (true_is_not_false (between.directories path) there apart)) tt fails
+    not_made _ new fails = absurd fails
+
+  pub no_scan_keeps : (error : Error) (new : Disk) → FailsToScan directories error old new → KeepsNumbered (log_format queue directories) old new
+  no_scan_keeps error new (inr (made, why)) = directories_keep directories (λ path listed. listed) new made
+  no_scan_keeps error new (inl fails) =
+      let within : (path : List ℕ) → Contains fails.before path → Contains directories path = λ path listed. subst (λ (l : List (List ℕ)). Contains l path) (sym fails.split) (Contains-append_left fails.before (fails.path ∷ fails.behind) path listed) in
+      let here : Contains (fails.path ∷ fails.behind) fails.path = (0, omega arith, refl) in
+      let listed : Contains directories fails.path = subst (λ (l : List (List ℕ)). Contains l fails.path) (sym fails.split) (Contains-append_right fails.before (fails.path ∷ fails.behind) fails.path here) in
+      let there : fails.between.directories fails.path ≡ true = stays_there fails.before within fails.between fails.has fails.path (directory_there fails.path listed) in
+      keeps_then (log_format queue directories) old fails.between new (directories_keep fails.before within fails.between fails.has) (not_made fails.path listed fails.between there error new fails.fails)
+
+  module _ (new : Disk) (made : HasDirectories directories old new) where
     pub scan_keeps : (cleared : Disk) → LeavesFiles new cleared → KeepsNumbered (log_format queue directories) old cleared
     scan_keeps cleared leaves =
-        keeps_then (log_format queue directories) old new cleared directories_keep
+        keeps_then (log_format queue directories) old new cleared (directories_keep directories (λ path listed. listed) new made)
         (keeps_same (log_format queue directories) new cleared (ap (λ (d : Disk). d.names) leaves.rest) (ap (λ (d : Disk). d.directories) leaves.rest) (ap (λ (d : Disk). d.files) leaves.rest))
 
     made_sound : IsSound old → IsSound new
     made_sound sound = subst IsSound (sym made.rest) (record {
       named = sound.named;
       one_name = sound.one_name;
-      apart = λ path id at. stays_apart path (sound.apart path id at);
+      apart = λ path id at. stays_apart directories (λ p listed. listed) new made path (sound.apart path id at);
       fresh = sound.fresh;
       files = sound.files;
     })

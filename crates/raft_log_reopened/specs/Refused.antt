@@ -14,6 +14,7 @@ use Rattle.raft_log_engine_state.specs.Holding.{IsLeftAt}
 use Rattle.raft_log_builder.specs.Finishing.{FailsToOpenRecovered}
 use Rattle.raft_log_builder.specs.Recovering.{FailsToRecoverLog, RecoversLog}
 use Rattle.raft_log_builder.specs.Reserving.{FailsToReadyLog}
+use Rattle.raft_log_builder.specs.Scanning.{FailsToScanLog}
 use Rattle.raft_log_builder.specs.declared.builder.DualPipesBuilder.{DualPipesBuilder}
 use Rattle.raft_log_reopened.specs.Reopened.{reads, FindsLog, IsRecoveredFrom, LiesAsSet, SparesStay}
 
@@ -21,9 +22,11 @@ use Rattle.raft_log_reopened.specs.Reopened.{reads, FindsLog, IsRecoveredFrom, L
 abbrev pub declines : LogQueue → List Batch → Error → Type 0
 declines queue batches error = Declines queue batches error
 
--- Its files weren't recovered, or not cut; files for later use weren't readied; it was given up once they were,
+-- Its directories weren't scanned; its files weren't recovered, or not cut; files for later use weren't readied; it was given up once they were,
 -- as where what was read isn't in order; or its files weren't synced, or its pipes not opened.
 pub data FailsToReopen (home : Home) (s : State) (d new : Disk) : Type 0 where
+  unscanned : (b : DualPipesBuilder) (error : Error) → LiesAsSet home b → FailsToScanLog b error d new
+      → FailsToReopen home s d new
   unrecovered : (found : DualPipesBuilder) (scanned : Disk) (error : Error) → LiesAsSet home found
       → FindsLog home s d scanned found
       → FailsToRecoverLog reads declines found error scanned new → FailsToReopen home s d new

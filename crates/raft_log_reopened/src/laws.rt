@@ -15,7 +15,8 @@ pub fn crashed_logs_reopen()
     ensures { CrashedLogsReopen }
 {}
 
-/// Wherever an open is refused behind the scan, the log is left on the disk with its map, and nothing is pending.
+/// Wherever an open is refused, in the scan or behind it, the log is left on the disk with its map, and nothing
+/// is pending.
 pub fn refused_reopens_leave_logs()
     ensures { RefusedReopensLeaveLogs }
 {}

@@ -1,13 +1,13 @@
 -- Files that are made, filled and deleted under reserved names leave the files of a queue as they are.
 use Rattle.std.specs.Prelude.{Result, Ok, Err}
 use Rattle.std.specs.declared.io.ErrorKind.{ErrorKind}
-use Rattle.std.proofs.Common.{◌≡◌, ◌⊎◌, ℕ, zero, suc, ◌+◌, ◌*◌, ◌-◌, ◌<◌, Bool, true, false, Option, Some, None, List, [], ◌∷◌, ◌++◌, drop, length, reverse, refl, sym, ap, subst, ◌∙◌, inl, inr}
+use Rattle.std.proofs.Common.{◌≡◌, ℕ, zero, suc, ◌*◌, ◌<◌, Bool, true, Some, List, [], ◌∷◌, ◌++◌, drop, length, reverse, sym, ap, subst, ◌∙◌, inl, inr}
 use Rattle.std.proofs.lemmas.List.{reverse-append}
 use Rattle.raft_log_base.specs.declared.errors.Error.{Error}
 use Rattle.raft_log_base.specs.declared.errors.Error.TheVariants as errors
 use Rattle.raft_log_disk.specs.Disk.{Change, Wrote, Disk, with_file}
 use Rattle.raft_log_disk.specs.Disk.{File as DiskFile}
-use Rattle.raft_log_disk.specs.Calls.{after_change, counted, at_stop, with_change, Changes, RefusedChange}
+use Rattle.raft_log_disk.specs.Calls.{after_change, with_change, Changes, RefusedChange}
 use Rattle.raft_log_disk.specs.Arguments.{WrongCreate, WrongName, WrongWriter}
 use Rattle.raft_log_disk.specs.LogFormat.{Format}
 use Rattle.raft_log_disk.specs.Touching.{TouchesOnly}
@@ -20,8 +20,8 @@ use Rattle.raft_log_files.specs.declared.format.File.{File}
 use Rattle.raft_log_pipes.proofs.Lists.{path_reserved}
 use Rattle.raft_log_prefill.specs.Dropping.{DropsEach, DropsOrNot}
 use Rattle.raft_log_prefill.specs.Dropping.DropsOrNot.{dropped, refused, unnamed}
-use Rattle.raft_log_prefill.specs.Filling.{FailsToFill, FillsOrNot, WritesPieces}
-use Rattle.raft_log_prefill.specs.Making.{FailsToMake, FailsToMakeEach, Makes, MakesEach}
+use Rattle.raft_log_prefill.specs.Filling.{FillsOrNot, WritesPieces}
+use Rattle.raft_log_prefill.specs.Making.{FailsToMake, Makes, MakesEach}
 use Rattle.raft_log_prefill.specs.Readying.{kept_of, FailsToReady, Readies}
 use Rattle.raft_log_opened.specs.Entries.{EachHas}
 use Rattle.raft_log_resting.specs.Keeping.{KeepsNumbered}

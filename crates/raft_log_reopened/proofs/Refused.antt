@@ -1,6 +1,6 @@
 -- A log that rests, and isn't opened, is left there with its map.
 use Rattle.std.specs.declared.io.ErrorKind.{ErrorKind}
-use Rattle.std.proofs.Common.{◌≡◌, ◌⊎◌, ℕ, Bool, true, false, None, zero, suc, ◌+◌, ◌<◌, List, [], ◌∷◌, ◌++◌, length, take, refl, sym, ap, subst, ◌∙◌, inl, inr, arith}
+use Rattle.std.proofs.Common.{◌≡◌, ◌⊎◌, ℕ, Bool, true, false, None, zero, suc, ◌+◌, ◌<◌, List, [], ◌∷◌, length, refl, sym, ap, subst, ◌∙◌, inl, inr, arith}
 use Rattle.raft_log_base.specs.declared.errors.Error.{Error}
 use Rattle.raft_log_base.specs.declared.pipe_log.LogQueue.{LogQueue}
 use Rattle.raft_log_base.specs.declared.pipe_log.LogQueue.TheVariants.{Append, Rewrite}
@@ -42,7 +42,7 @@ use Rattle.raft_log_builder.specs.Unaligned.{AreUnaligned}
 use Rattle.raft_log_builder.specs.declared.builder.DualPipesBuilder.{DualPipesBuilder}
 use Rattle.raft_log_opened.specs.Entries.{EachHas}
 use Rattle.raft_log_opened.proofs.Left.{refused_opens_leave_logs}
-use Rattle.raft_log_resting.specs.Keeping.{KeepsLog, KeepsNumbered}
+use Rattle.raft_log_resting.specs.Keeping.{KeepsNumbered}
 use Rattle.raft_log_resting.proofs.Keeping.{both_lie, bounded, keeps_then, moved, numbered_kept, rests_kept}
 use Rattle.raft_log_steps.proofs.CrashSteps.{rests_lie}
 use Rattle.raft_log_segments.specs.Segments.{read_by}
@@ -50,9 +50,9 @@ use Rattle.raft_log_base.specs.declared.pipe_log.Version.TheVariants.{V1}
 use Rattle.raft_log_resting.proofs.Calls.{keeps_all, no_sync_keeps, rest_then, rests_at_rest, sound_names, AreAtRest}
 use Rattle.raft_log_reopened.specs.Files.{AreFilesOf, AreToldOf}
 use Rattle.raft_log_reopened.specs.Reopened.{reads, FindsLog, IsRecoveredFrom, LiesAsSet, SparesStay}
-use Rattle.raft_log_reopened.specs.Refused.{declines, FailsToReopen, RefusedReopensLeaveLogs}
+use Rattle.raft_log_reopened.specs.Refused.{declines, RefusedReopensLeaveLogs}
 use Rattle.raft_log_reopened.specs.Refused.FailsToReopen.{given_up, unopened, unreadied, unrecovered, unscanned}
-use Rattle.raft_log_reopened.proofs.Cutting.{cut_queue, told_kept, IsCutTo}
+use Rattle.raft_log_reopened.proofs.Cutting.{cut_queue, told_kept}
 use Rattle.raft_log_reopened.proofs.Readying.{readies_leave, unreadied_leaves, IsReserved}
 use Rattle.raft_log_reopened.proofs.Reopened.{found, no_length, one_each, told_of, two_queues, CanOpen}
 use Rattle.raft_log_reopened.proofs.Scanning.{no_scan_keeps, open_reserved, scan_keeps, scan_sound}

@@ -43,7 +43,7 @@ use Rattle.raft_log_resting.proofs.Keeping.{moved}
 use Rattle.raft_log_reopened.specs.Files.{AreFilesOf, AreToldOf}
 use Rattle.raft_log_reopened.specs.Files.AreFilesOf.{none_made, some_made}
 use Rattle.raft_log_reopened.specs.Files.AreToldOf.{none_told, some_told}
-use Rattle.raft_log_reopened.specs.Reopened.{reads, CanAllBeUsed, ComeOver, CrashedLogsReopen, IsRecoveredFrom, Reopens, RestingLogsReopen}
+use Rattle.raft_log_reopened.specs.Reopened.{reads, CanAllBeUsed, ComeOver, CrashedLogsReopen, IsRecoveredFrom, RestingLogsReopen}
 use Rattle.raft_log_reopened.proofs.Reading.{files_are_told}
 use Rattle.raft_log_reopened.proofs.Cutting.{cut_queue, told_kept, IsCutTo}
 use Rattle.raft_log_reopened.proofs.Readying.{readies_leave, IsReserved}

@@ -1,11 +1,10 @@
 -- A scan of a log's directories leaves its files as they are: where a log rests, its directories are there.
-use Rattle.std.proofs.Common.{◌≡◌, ℕ, ◌+◌, ◌<◌, Bool, true, false, Option, Some, None, List, [], ◌∷◌, ◌++◌, length, refl, sym, ap, subst, ◌∙◌, inl, inr, Contains, arith}
+use Rattle.std.proofs.Common.{◌≡◌, ℕ, ◌<◌, Bool, true, false, List, [], ◌∷◌, ◌++◌, length, refl, sym, ap, subst, ◌∙◌, inl, inr, Contains, arith}
 use Rattle.std.proofs.lemmas.List.{append_cancel_right}
 use Rattle.raft_log_base.specs.declared.pipe_log.LogQueue.{LogQueue}
-use Rattle.raft_log_disk.specs.Disk.{Disk, HasDirectory}
-use Rattle.raft_log_disk.specs.Disk.{File as DiskFile}
+use Rattle.raft_log_disk.specs.Disk.{Disk}
 use Rattle.raft_log_disk.specs.Image.{IsSound}
-use Rattle.raft_log_file_queue.specs.Standing.{IsPlace, Names}
+use Rattle.raft_log_file_queue.specs.Standing.{IsPlace}
 use Rattle.raft_log_files.specs.declared.format.File.{File}
 use Rattle.raft_log_format.specs.Name.{suffix_of}
 use Rattle.raft_log_layout.specs.Layout.{log_format}
@@ -18,7 +17,7 @@ use Rattle.raft_log_recovery.specs.Scanned.{FailsToScan}
 use Rattle.raft_log_base.specs.declared.errors.Error.{Error}
 use Rattle.raft_log_base.specs.declared.errors.Error.TheVariants as errors
 use Rattle.std.specs.declared.io.ErrorKind.{ErrorKind}
-use Rattle.std.specs.Prelude.{Result, Ok, Err}
+use Rattle.std.specs.Prelude.{Result, Err}
 use Rattle.std.proofs.lemmas.List.Elements.{Contains-append_left, Contains-append_right}
 use Rattle.raft_log_disk.specs.Arguments.{WrongDirectory}
 use Rattle.raft_log_disk.proofs.KeptLaws.{kept_directory}

@@ -1,7 +1,7 @@
 -- The files of a queue at rest weren't all cut: all that was read is held.
 use Rattle.std.specs.declared.io.ErrorKind.{ErrorKind}
 use Rattle.std.specs.Prelude.{slice_index_or}
-use Rattle.std.proofs.Common.{◌≡◌, ◌⊎◌, ℕ, zero, suc, ◌+◌, ◌<◌, Bool, true, false, Option, Some, None, List, [], ◌∷◌, ◌++◌, length, take, refl, sym, ap, ap₂, subst, ◌∙◌, inl, inr, append-nil, unwrap_or, arith}
+use Rattle.std.proofs.Common.{◌≡◌, ℕ, zero, suc, Bool, true, false, List, [], ◌∷◌, ◌++◌, length, take, sym, ap, subst, ◌∙◌, inl, append-nil, unwrap_or, arith}
 use Rattle.raft_log_base.specs.declared.pipe_log.Version.TheVariants.{V1}
 use Rattle.raft_log_machine.specs.Files.{FileQueue}
 use Rattle.raft_log_disk.specs.Disk.{Disk}
@@ -22,7 +22,7 @@ use Rattle.raft_log_model.specs.Item.{Record}
 use Rattle.raft_log_steps.specs.Queues.{IsQueueLayout, QueueLayout}
 use Rattle.raft_log_steps.specs.State.{HasSpan, Spanned}
 use Rattle.raft_log_steps.specs.Lying.{LiesQueue}
-use Rattle.raft_log_builder.specs.Cutting.{CutsEach, CutsIf, CutsOne, FailsToCutEach}
+use Rattle.raft_log_builder.specs.Cutting.{CutsEach, CutsIf, FailsToCutEach}
 use Rattle.raft_log_resting.specs.Keeping.{KeepsNumbered}
 use Rattle.raft_log_resting.proofs.Calls.{keeps_touched}
 use Rattle.raft_log_resting.proofs.LastCut.{no_trim_touches, untrimmed_lies}

@@ -1,5 +1,5 @@
 -- Why a log that rests on a disk wasn't opened, and how far that went.
-use Rattle.std.specs.Prelude.{◌≡◌, ℕ, ◌<◌, List, [], length}
+use Rattle.std.specs.Prelude.{◌<◌, List, [], length}
 use Rattle.raft_log_base.specs.declared.errors.Error.{Error}
 use Rattle.raft_log_base.specs.declared.pipe_log.LogQueue.{LogQueue}
 use Rattle.raft_log_disk.specs.Disk.{Disk}

@@ -22,9 +22,9 @@ use Rattle.raft_log_reopened.specs.Reopened.{reads, FindsLog, IsRecoveredFrom, L
 abbrev pub declines : LogQueue → List Batch → Error → Type 0
 declines queue batches error = Declines queue batches error
 
--- Its directories weren't scanned; its files weren't recovered, or not cut; files for later use weren't readied;
--- it was given up once they were, as where what was read isn't in order; or its files weren't synced, or its
--- pipes not opened.
+-- Its directories weren't scanned; its files weren't recovered, or not cut; files for later use weren't
+-- readied; it was given up once they were, as where what was read isn't in order; or its files weren't synced,
+-- or its pipes not opened.
 pub data FailsToReopen (home : Home) (s : State) (d new : Disk) : Type 0 where
   unscanned : (b : DualPipesBuilder) (error : Error) → LiesAsSet home b → FailsToScanLog b error d new
       → FailsToReopen home s d new

@@ -32,8 +32,8 @@ pub record LiesAsSet (home : Home) (b : DualPipesBuilder) : Type 0 where
   pub append : directories_of b.config ≡ home.append
   pub rewrite : directories_of b.config ≡ home.rewrite
 
--- A scan of the log's directories found the files of the log that rests there: all of either queue that no gap
--- parts from its last one.
+-- A scan of the log's directories found the files of the log that rests there: all of either queue that no
+-- gap parts from its last one.
 pub record FindsLog (home : Home) (s : State) (old new : Disk) (b : DualPipesBuilder) : Type 0 where
   pub before : DualPipesBuilder
   pub scans : ScansLog before b old new
@@ -54,8 +54,8 @@ pub record ComeOver (append rewrite : MemTableRecoverContext) (tables : MemTable
   pub over : (first behind : List ReadRecord) → HasRead Rewrite first rewrite → HasRead Append behind append
       → ComesOver first behind tables
 
--- The files of the log that rests on a disk were found, read by any number of workers into these contexts, and
--- cut; and files for later use were readied.
+-- The files of the log that rests on a disk were found, read by any number of workers into these contexts,
+-- and cut; and files for later use were readied.
 pub record IsRecoveredFrom (home : Home) (s : State) (d : Disk) (append rewrite : MemTableRecoverContext)
     (ready : DualPipesBuilder) (readied : Disk) : Type 0 where
   pub found : DualPipesBuilder

@@ -9,14 +9,14 @@ pub fn resting_logs_reopen()
     ensures { RestingLogsReopen }
 {}
 
-/// Whatever a crash leaves of what an engine left, an engine that is opened over it so holds the map after some
-/// first pending batches, the same for any two numbers of workers, and nothing is pending.
+/// Whatever a crash leaves of what an engine left, an engine that is opened over it so holds the map after
+/// some first pending batches, the same for any two numbers of workers, and nothing is pending.
 pub fn crashed_logs_reopen()
     ensures { CrashedLogsReopen }
 {}
 
-/// Wherever an open is refused, in the scan or behind it, the log is left on the disk with its map, and nothing
-/// is pending.
+/// Wherever an open is refused, in the scan or behind it, the log is left on the disk with its map, and
+/// nothing is pending.
 pub fn refused_reopens_leave_logs()
     ensures { RefusedReopensLeaveLogs }
 {}

@@ -5,6 +5,7 @@ ghost use Rattle.raft_log_replay.specs.Tables.{IsAtRest};
 
 mod entries;
 mod messages;
+mod opening;
 mod reads;
 mod whole;
 

@@ -39,4 +39,11 @@ impl<F: FileSystem + Sync> Engine<DualPipes<F>> {
             Err(refused) => Err(refused),
         }
     }
+
+    /// The file system.
+    pub fn file_system(&self) -> &F
+        ensures { F.disk result.now ≡ (⟦<DualPipes<F> as PipeLog>⟧.shown self.now.pipes).disk }
+    {
+        self.pipes.file_system()
+    }
 }

@@ -61,7 +61,7 @@ read_whole queue mode files d workers c endings whole read =
 some_threads : (config : Config) (found : DualPipesBuilder) (old scanned : Disk) → FindsLog config found old scanned → 1 ≤ (settings_of found.config).recovery_threads
 some_threads config found old scanned finds =
     let same : (settings_of found.config).recovery_threads ≡ max (settings_of config).recovery_threads 1 =
-        ap (λ (c : Config). (settings_of c).recovery_threads) finds.scans.same ∙ ap (λ s. s.recovery_threads) finds.begins.whole in
+    ap (λ (c : Config). (settings_of c).recovery_threads) finds.scans.same ∙ ap (λ s. s.recovery_threads) finds.begins.whole in
     omega (arith, same)
 
 -- both queues were read, and all files of each

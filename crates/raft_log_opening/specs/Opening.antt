@@ -18,8 +18,8 @@ use Rattle.raft_log_builder.specs.declared.builder.DualPipesBuilder.{DualPipesBu
 use Rattle.raft_log_opening.specs.Finding.{FindsLog, IsBegun}
 use Rattle.raft_log_opening.specs.Reading.{ReadsLog, ReadsQueues}
 
--- The log of these settings was opened: its queues were read into these tables, and then its pipes opened over
--- its files as they were recovered, all of them synced before.
+-- The log of these settings was opened: its queues were read into these tables, and then its pipes opened
+-- over its files as they were recovered, all of them synced before.
 pub record OpensDirectory (config : Config) (old : Disk) (v : LogPipes) (tables : MemTables) : Type 0 where
   pub builder : DualPipesBuilder
   pub ready : Disk

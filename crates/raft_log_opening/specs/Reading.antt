@@ -23,8 +23,8 @@ use Rattle.raft_log_builder.specs.Reserving.{ReadiesLog}
 use Rattle.raft_log_builder.specs.declared.builder.DualPipesBuilder.{DualPipesBuilder}
 use Rattle.raft_log_opening.specs.Finding.{FindsLog}
 
--- The context has read all files of a queue as they stood on the disk, in order: the batches of each, of which
--- this is told.
+-- The context has read all files of a queue as they stood on the disk, in order: the batches of each, of
+-- which this is told.
 pub record HasReadAll (queue : LogQueue) (mode : RecoveryMode) (files : List File) (d : Disk)
     (context : MemTableRecoverContext) (endings : List FileEnding) : Type 0 where
   pub segments : List (List Batch)

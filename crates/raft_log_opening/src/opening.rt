@@ -23,15 +23,15 @@ pub struct OpenedLog<F> {
     pub ghost rests: { IsAtRest tables },
 }
 
-/// Opens the log of these settings: they are checked and made whole, its directories scanned, both queues read
-/// by workers, damaged files cut, the files that are kept for use readied; all files are synced, and its pipes
-/// opened.
+/// Opens the log of these settings: they are checked and made whole, its directories scanned, both queues
+/// read by workers, damaged files cut, the files that are kept for use readied; all files are synced, and its
+/// pipes opened.
 ///
-/// Refused, the file system is handed back, and the log may be opened again. `Other` where the settings have a
-/// fault; then what `DualPipesBuilder` refuses: `Other`, `Corruption`, `Io` of the directories, and of the files
-/// `Io` where one can't be read, `Corruption` or `Codec` for damage that isn't tolerated, `Hole` or `Corruption`
-/// where records can't be. Nothing is cut unless all files of both queues could be read. `Io` where a file isn't
-/// cut, made or synced, `NumberRange` where there is no name for one, `Memory`.
+/// Refused, the file system is handed back, and the log may be opened again. `Other` where the settings have
+/// a fault; then what `DualPipesBuilder` refuses: `Other`, `Corruption`, `Io` of the directories, and of the
+/// files `Io` where one can't be read, `Corruption` or `Codec` for damage that isn't tolerated, `Hole` or
+/// `Corruption` where records can't be. Nothing is cut unless all files of both queues could be read. `Io`
+/// where a file isn't cut, made or synced, `NumberRange` where there is no name for one, `Memory`.
 pub fn open_directory<R: Threads + Log + Sync, F: FileSystem + Sync>(
     rt: &R,
     alloc: Global,

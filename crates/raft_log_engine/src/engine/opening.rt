@@ -20,8 +20,9 @@ impl<F: FileSystem + Sync> Engine<DualPipes<F>> {
     /// Refused, the file system is handed back, and the log may be opened again: `Other` where the settings
     /// have a fault, or a file has the path of a directory; `Io` where a file can't be read, which is never
     /// taken for damage, or isn't cut, made or synced; `Corruption` or `Codec` for damage that the mode of
-    /// recovery doesn't tolerate, or for a wrong name; `Hole` or `Corruption` where records can't be; `NumberRange`
-    /// where there is no name for a file; `Memory`. Nothing is cut unless all files could be read.
+    /// recovery doesn't tolerate, or for a wrong name; `Hole` or `Corruption` where records can't be;
+    /// `NumberRange` where there is no name for a file; `Memory`. Nothing is cut unless all files could be
+    /// read.
     pub fn open_with_file_system<R: Threads + Log + Sync>(
         rt: &R,
         alloc: Global,

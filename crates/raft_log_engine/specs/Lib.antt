@@ -1,2 +1,4 @@
+pub mod Compacting
+pub mod Reads
 pub mod Room
 pub mod Whole

@@ -1,14 +1,15 @@
 -- What is told of a group's keys, and of the groups.
-use Rattle.std.proofs.Common.{◌≡◌, ◌↔◌, ◌==◌, ◌||◌, ◌&&◌, ℕ, suc, Bool, true, false, List, [], ◌∷◌, length, Option, None, refl, sym, ap, subst, ◌∙◌, arith, if◌then◌else◌, bytes_eq, IsTrue}
+use Rattle.std.proofs.Common.{◌≡◌, ◌↔◌, ◌==◌, ◌||◌, ◌&&◌, ◌++◌, ℕ, suc, Bool, true, false, List, [], ◌∷◌, length, Option, None, refl, sym, ap, subst, ◌∙◌, arith, if◌then◌else◌, bytes_eq, IsTrue}
 use Rattle.std.specs.List.{list_any}
 use Rattle.std.specs.List.Sorted.{IsStrictlySortedBy}
 use Rattle.std.specs.Map.{lookup}
 use Rattle.std.proofs.lemmas.Bool.{false≢true}
-use Rattle.raft_log_held.specs.Listing.{ListsAll, Visits, in_direction, is_below, is_from, values_within}
+use Rattle.raft_log_held.specs.Listing.{AddsAll, ListsAll, Visits, in_direction, is_below, is_from, values_within}
 use Rattle.raft_log_places.specs.Bridge.{bytes_held}
 use Rattle.raft_log_places.specs.Shown.{KeyValue, Shown, nothing_shown}
 use Rattle.raft_log_replay.specs.Walking.{ListsGroups}
 use Rattle.raft_log_engine_state.specs.Shows.{Shows}
+use Rattle.raft_log_engine_state.specs.Reading.{ReadsKeys}
 use Rattle.raft_log_engine_state.proofs.Reading.{tables_tell}
 use Rattle.raft_log_engine.specs.Reads.{NoneCounts, Scans}
 
@@ -38,6 +39,16 @@ none_within start end k = by (is_from start k) (is_below end k)
 none_keys : (start end : Option (List ℕ)) → ListsAll (values_within start end nothing_shown) []
 unfolding IsStrictlySortedBy
 none_keys start end = record { rising = tt; exact = λ k. none_within start end k }
+
+-- keys that were added to none are the map's
+pub keys_added : (e : Shows) (g : ℕ) (start end : Option (List ℕ)) (v : Shown) (old new : List (List ℕ × List ℕ)) → e.tables g ≡ v → old ≡ [] → AddsAll (values_within start end v) old new
+    → ReadsKeys e g start end new
+keys_added e g start end v old new same none (es, listed, adds) =
+    let is : new ≡ es = adds ∙ ap (λ (l : List (List ℕ × List ℕ)). l ++ es) none in
+    subst (ReadsKeys e g start end) (sym is) (tables_tell.keys e g start end es (subst (λ (u : Shown). ListsAll (values_within start end u) es) (sym same) listed))
+
+pub none_added : (e : Shows) (g : ℕ) (start end : Option (List ℕ)) (new : List (List ℕ × List ℕ)) → e.tables g ≡ nothing_shown → new ≡ [] → ReadsKeys e g start end new
+none_added e g start end new same none = keys_added e g start end nothing_shown [] new same refl ([], none_keys start end, none)
 
 module _ {F : Type 0} (called : F → List ℕ → List ℕ → Bool → F → Type 0) (f : F) (e : Shows) (g : ℕ) (start end : Option (List ℕ)) (backwards : Bool) where
   -- what the group's table calls back with is the map's

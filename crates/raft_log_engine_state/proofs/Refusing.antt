@@ -82,12 +82,14 @@ refused_leaves home e t b m pending errors.Failed h ready same kept call =
     let s = h.state in
     let (cause, (files, goes, stands, may)) = call (sense home) s (said_of b) h.runs (says_batch home e b ready) in
     let next : State = next_log InAppend s files t.pipes.disk in
-    let u : ℕ → View (List ℕ) (List ℕ) = λ n. view_of (all_shown n e.tables (items_at (in_file n) b)) (taken h.map (said_of b ∷ [])) in
-    (cause, elim (append_may_be_there (Ties (log_in home)) (Ties (log_in home)) s next (view_of e.tables h.map) m pending h.at u (said_of b) may
-    (λ n. batch_grows b (in_file n) e.tables h.map h.meant.orderly ready.marked ready.follows)) [
-      | inl without ↦ inl (left_at home (with_open InAppend (both_open (files_of e.pipes)) None) next m pending stands without)
-      | inr with_it ↦ inr (left_at home (with_open InAppend (both_open (files_of e.pipes)) None) next m (pending ++ said_of b ∷ []) stands with_it)
-    ])
+    let u : ℕ → View (List ℕ) (List ℕ) = λ n. view_of (all_shown n e.tables (items_at (in_file n) b)) (taken h.map (said_of b ∷ [])) in (
+      cause,
+      elim (append_may_be_there (Ties (log_in home)) (Ties (log_in home)) s next (view_of e.tables h.map) m pending h.at u (said_of b) may
+          (λ n. batch_grows b (in_file n) e.tables h.map h.meant.orderly ready.marked ready.follows)) [
+            | inl without ↦ inl (left_at home (with_open InAppend (both_open (files_of e.pipes)) None) next m pending stands without)
+            | inr with_it ↦ inr (left_at home (with_open InAppend (both_open (files_of e.pipes)) None) next m (pending ++ said_of b ∷ []) stands with_it)
+          ],
+    )
 refused_leaves home e t b m pending _ h ready same kept call =
     call (sense home) h.state (said_of b) h.runs (says_batch home e b ready)
 

@@ -10,7 +10,7 @@ use Rattle.raft_log_items.specs.declared.entry.EntryIndex.{EntryIndex}
 use Rattle.raft_log_items.specs.Message.{Parses}
 use Rattle.raft_log_held.specs.Counts.{sized}
 use Rattle.raft_log_places.specs.Shown.{Shown}
-use Rattle.raft_log_tables.specs.Reads.{FetchRefused, entry_at, fetched, places_between}
+use Rattle.raft_log_tables.specs.Reads.{AreIn, FetchRefused, entry_at, fetched, places_between}
 use Rattle.raft_log_dual_pipes.specs.Pipes.{Said, State}
 use Rattle.raft_log_blocks.specs.Blocks.{IsBlockUnread, written_block}
 use Rattle.raft_log_engine_state.specs.Shows.{Home, LogMap, Shows, has_failed}
@@ -75,10 +75,6 @@ pub record FailsToTell {M : Type 0} (reading : List ℕ → Option M) (g i : ℕ
   pub stays : StaysButBlock s t
   pub why : (home : Home) (m : LogMap) (pending : List Said) → (h : Holds home s m pending)
       → IsUntold reading g i s h.state (taken m pending) error
-
--- the indexes from begin on, below end, are those of entries that the table has
-abbrev pub AreIn : Shown → ℕ → ℕ → Type 0
-AreIn v begin end = begin < end → (v.first ≤ begin) × (end ≤ v.first + length v.places)
 
 -- the entries that a fetch reads: none of a group that doesn't count
 abbrev pub AreToRead : Shows → ℕ → ℕ → ℕ → Option ℕ → List EntryIndex → Type 0

@@ -5,7 +5,6 @@ ghost use Rattle.raft_log_tables.specs.Reads.{entry_at, FetchRefused};
 ghost use Rattle.raft_log_tables.specs.Table.{shown};
 ghost use Rattle.raft_log_replay.specs.Tables.{counts, shown_of};
 ghost use Rattle.raft_log_engine_state.specs.Fetching.{
-  AreIn,
   AreToRead,
   FailsToFetch,
   FailsToTell,
@@ -19,7 +18,6 @@ use super::Engine;
 use raft_log_base::{Error, Result};
 use raft_log_dual_pipes::PipeLog;
 use raft_log_items::{EntryIndex, MessageExt};
-use raft_log_tables::MemTable;
 
 impl<P: PipeLog> Engine<P> {
     /// The entry of a group at an index, if there is one.
@@ -118,32 +116,10 @@ impl<P: PipeLog> Engine<P> {
         let Some(table) = self.tables.get(raft_group_id) else {
             return Ok(Vec::new(self.alloc));
         };
-        check_range(table, begin, end)?;
         let mut entries = Vec::new(self.alloc);
         table.fetch_entries_to(begin, end, in_bytes(max_size), &mut entries)?;
         Ok(entries)
     }
-}
-
-/// Refuses indexes that aren't all of entries of a table.
-fn check_range(table: &MemTable, begin: u64, end: u64) -> Result<()>
-    ensures ok { OnOk result (AreIn (shown table.now) begin end) }
-    ensures err { IfErr result (λ error. FetchRefused (shown table.now) begin end error) }
-{
-    let span = table.span();
-    if begin >= end {
-        return Ok(());
-    }
-    if span.first == span.end {
-        return Err(Error::EntryNotFound);
-    }
-    if begin < span.first {
-        return Err(Error::EntryCompacted);
-    }
-    if end > span.end {
-        return Err(Error::EntryNotFound);
-    }
-    Ok(())
 }
 
 /// A size as a number of bytes.

@@ -4,7 +4,7 @@ use super::store::{Store, fresh};
 use raft_log_base::{Error, Result};
 use std::test::Fail;
 
-/// An engine with the numbers 1, 2, 1, 2 as entries 1 to 4 of group 7, and three keys, of which the last has
+/// An engine with the numbers 1, 2, 1, 2 as entries 1 to 4 of group 7, and four keys, of which the last has
 /// no number.
 fn filled(rt: &HostRuntime) -> std::result::Result<Store, Fail> {
     let mut store = fresh(rt, 0)?;
@@ -13,7 +13,7 @@ fn filled(rt: &HostRuntime) -> std::result::Result<Store, Fail> {
     store.write(rt, false)?;
     store.add(rt, 3)?;
     store.put(rt, b"a", &[5, 0, 0, 0])?;
-    store.put(rt, b"c", b"none")?;
+    store.put(rt, b"c", &[7, 0, 0, 0])?;
     store.put(rt, b"d", b"no number")?;
     store.write(rt, true)?;
     Ok(store)
@@ -70,6 +70,14 @@ fn keys_are_scanned(store: &mut Store) -> Result<bool> {
     Ok(up & down & within & none)
 }
 
+/// Whether values are scanned as messages, where they are some.
+fn numbers_are_scanned(store: &mut Store) -> Result<bool> {
+    let up = store.scan_numbers(None, false, 0)? == 567;
+    let down = store.scan_numbers(None, true, 6)? == 76;
+    let within = store.scan_numbers(Some(b"b"), false, 0)? == 67;
+    Ok(up & down & within)
+}
+
 /// Whether the log's files and groups are told.
 fn the_whole_is_told(store: &mut Store) -> Result<bool> {
     let ((first, last), size) = store.size()?;
@@ -82,6 +90,7 @@ fn a_failed_engine_reads_nothing(rt: &HostRuntime, store: &mut Store) -> bool {
         & matches!(store.fetch(rt, 9, 9, None), Err(Error::Failed))
         & matches!(store.message(b"a"), Err(Error::Failed))
         & matches!(store.scan(None, None, false, 0), Err(Error::Failed))
+        & matches!(store.scan_numbers(None, false, 0), Err(Error::Failed))
         & matches!(store.compact(rt, 8, 1), Err(Error::Failed))
         & matches!(store.has_none(), Err(Error::Failed))
         & matches!(store.groups(), Err(Error::Failed))
@@ -89,13 +98,14 @@ fn a_failed_engine_reads_nothing(rt: &HostRuntime, store: &mut Store) -> bool {
 }
 
 /// What holds of an engine that was written, by its number.
-const HOLDS: [&str; 7] = [
+const HOLDS: [&str; 8] = [
     "entries are read",
     "entries are fetched",
     "fetches are refused",
     "as many go as there are",
     "messages are read",
     "keys are scanned",
+    "numbers are scanned",
     "the whole is told",
 ];
 
@@ -108,6 +118,7 @@ fn holds(rt: &HostRuntime, store: &mut Store, number: usize) -> Result<bool> {
         3 => as_many_go_as_there_are(rt, store),
         4 => messages_are_read(store),
         5 => keys_are_scanned(store),
+        6 => numbers_are_scanned(store),
         _ => the_whole_is_told(store),
     }
 }

@@ -167,6 +167,17 @@ impl Store {
         Ok(seen)
     }
 
+    /// The numbers under the keys of group 7, as digits, up to the first that is this one.
+    pub fn scan_numbers(&self, start: Option<&[u8]>, reverse: bool, last: u32) -> Result<u32> {
+        let mut seen: u32 = 0;
+        self.engine
+            .scan_messages(7, start, None, reverse, |_, found: Count| {
+                seen = seen.wrapping_mul(10).wrapping_add(found.count);
+                found.count != last
+            })?;
+        Ok(seen)
+    }
+
     /// Compacts a group up to an index.
     pub fn compact(&mut self, rt: &HostRuntime, group: u64, index: u64) -> Result<u64> {
         self.engine.compact_to(rt, group, index)

@@ -4,7 +4,9 @@
 //! log's (`Holds`), with nothing pending: it asks nothing of the caller.
 #![tactic(auto)]
 
+pub mod files;
 pub mod marks;
 mod record;
 
+pub use files::{least_file, purge_stale};
 pub use marks::rewrite_marks;

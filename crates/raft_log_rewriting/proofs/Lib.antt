@@ -1,3 +1,4 @@
 pub mod Carried
 pub mod Parts
 pub mod Leasts
+pub mod Turning

@@ -7,6 +7,8 @@
 pub mod files;
 pub mod marks;
 mod record;
+pub mod stale;
 
 pub use files::{least_file, purge_stale};
 pub use marks::rewrite_marks;
+pub use stale::purge_all_stale;

@@ -66,10 +66,10 @@ tells_err {A} error w tells = (λ hit. ap (λ (r : Result A Error). err_of r err
 -- Where nothing was done, what was is.
 
 -- what isn't made is no failure
-unmade_is_none : (error : Error) → IsUnmade error → error ≡ errors.Failed → ⊥
+pub unmade_is_none : (error : Error) → IsUnmade error → error ≡ errors.Failed → ⊥
 unmade_is_none error why is = subst IsUnmade is why
 
-remains_same : (home : Home) (m : LogMap) (e : Shows) (error : Error) → IsUnmade error → Holds home e m [] → Remains home m e error
+pub remains_same : (home : Home) (m : LogMap) (e : Shows) (error : Error) → IsUnmade error → Holds home e m [] → Remains home m e error
 remains_same home m e errors.Full why h = h
 remains_same home m e errors.Memory why h = h
 remains_same home m e (errors.InvalidArgument text) why h = h

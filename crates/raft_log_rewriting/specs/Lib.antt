@@ -2,3 +2,4 @@ pub mod Parts
 pub mod Marks
 pub mod Files
 pub mod Stale
+pub mod Copies

@@ -4,11 +4,13 @@
 //! log's (`Holds`), with nothing pending: it asks nothing of the caller.
 #![tactic(auto)]
 
+pub mod copies;
 pub mod files;
 pub mod marks;
 mod record;
 pub mod stale;
 
+pub use copies::write_copies;
 pub use files::{least_file, purge_stale};
 pub use marks::rewrite_marks;
 pub use stale::purge_all_stale;

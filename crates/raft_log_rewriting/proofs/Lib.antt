@@ -3,3 +3,6 @@ pub mod Parts
 pub mod Leasts
 pub mod Turning
 pub mod Copying
+pub mod OneRun
+pub mod Nexts
+pub mod Reading

@@ -3,3 +3,5 @@ pub mod Marks
 pub mod Files
 pub mod Stale
 pub mod Copies
+pub mod Entries
+pub mod Rewriting

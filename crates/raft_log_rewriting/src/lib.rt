@@ -5,12 +5,15 @@
 #![tactic(auto)]
 
 pub mod copies;
+pub mod entries;
 pub mod files;
 pub mod marks;
 mod record;
+pub mod rewriting;
 pub mod stale;
 
 pub use copies::write_copies;
 pub use files::{least_file, purge_stale};
 pub use marks::rewrite_marks;
+pub use rewriting::copy_entries;
 pub use stale::purge_all_stale;

@@ -1,5 +1,5 @@
 -- The batch of the marks that are owed, mark by mark.
-use Rattle.std.proofs.Common.{◌≡◌, ℕ, ◌+◌, ◌<◌, ◌==◌, ◌&&◌, Bool, true, false, if◌then◌else◌, length, take, get_or, List, [], ◌∷◌, ◌++◌, Result, Ok, Err, IfOk, OnOk, refl, sym, ap, ap₂, subst, ◌∙◌}
+use Rattle.std.proofs.Common.{◌≡◌, ℕ, ◌+◌, ◌<◌, ◌==◌, ◌&&◌, Bool, true, false, if◌then◌else◌, length, take, get_or, List, [], ◌∷◌, ◌++◌, Result, Ok, Err, OnOk, refl, sym, ap, ap₂, subst, ◌∙◌}
 use Rattle.std.proofs.lemmas.List.{take_more}
 use Rattle.raft_log_model.specs.Item.{Tagged}
 use Rattle.raft_log_model.specs.Groups.{of_group}
@@ -15,12 +15,10 @@ use Rattle.raft_log_items.specs.Items.{del_item}
 use Rattle.raft_log_atomic_groups.specs.declared.marking.Marking.{Marking}
 use Rattle.raft_log_atomic_groups.specs.declared.marking.Marking.TheVariants.{Unmarked}
 use Rattle.raft_log_atomic_groups.specs.Marking.{has_mark_key, joined_marking, mark_of, marking_of, marking_of_items, part_or_broken}
-use Rattle.raft_log_atomic_groups.specs.Meaning.{meaning, tagged, tagged_items, unless_mark}
-use Rattle.raft_log_records.specs.declared.log_batch.BatchState.{BatchState}
+use Rattle.raft_log_atomic_groups.specs.Meaning.{tagged, tagged_items, unless_mark}
 use Rattle.raft_log_records.specs.declared.log_batch.BatchState.TheVariants.{Filling}
 use Rattle.raft_log_records.specs.ItemBatch.{command_item}
 use Rattle.raft_log_records.specs.Batch.{AddsItem, Batch}
-use Rattle.raft_log_places.specs.Shown.{Shown}
 use Rattle.raft_log_replay.specs.declared.mem_tables.MemTables.{MemTables}
 use Rattle.raft_log_replay.specs.Tables.{shown_of}
 use Rattle.raft_log_replay.specs.Owing.{AreOwed, AreOwedAt}

@@ -1,12 +1,11 @@
 -- Copies that are written to Rewrite, or refused there.
-use Rattle.std.proofs.Common.{◌≡◌, ◌⊎◌, ℕ, Bool, true, false, Option, Some, List, [], inl, inr, refl, sym, ap, ap₂, subst, ◌∙◌}
-use Rattle.std.specs.Prelude.{IsTrue, ◌↔◌, Result, Ok, Err, IfErr, IfOk}
+use Rattle.std.proofs.Common.{◌≡◌, ℕ, Bool, Option, Some, List, [], inl, inr, refl, sym, ap, ap₂, subst, ◌∙◌}
+use Rattle.std.specs.Prelude.{Result, Ok, Err, IfErr, IfOk}
 use Rattle.std.proofs.lemmas.Bool.{false≢true}
 use std.Path.{fun_ext}
 use Rattle.raft_log_model.specs.Groups.{of_group}
 use Rattle.raft_log_disk.specs.Causes.{IsLater}
 use Rattle.raft_log_base.specs.declared.errors.Error.{Error}
-use Rattle.raft_log_base.specs.declared.errors.Error.TheVariants as errors
 use Rattle.raft_log_base.specs.declared.pipe_log.FileBlockHandle.{FileBlockHandle}
 use Rattle.raft_log_items.specs.declared.item.LogItem.{LogItem}
 use Rattle.raft_log_items.specs.Placed.{written}
@@ -23,13 +22,11 @@ use Rattle.raft_log_replay.specs.declared.mem_tables.MemTables.{MemTables}
 use Rattle.raft_log_replay.specs.Rewriting.{MayMove, RewritesAll, all_rewritten}
 use Rattle.raft_log_replay.specs.Tables.{ShowsSame, counts, shown_of}
 use Rattle.raft_log_replay.proofs.Moved.{written_may_move}
-use Rattle.raft_log_dual_pipes.specs.Pipes.{LogPipes, is_failed}
+use Rattle.raft_log_dual_pipes.specs.Pipes.{LogPipes}
 use Rattle.raft_log_dual_pipes.specs.Calls.{AppendsTo, FailsToAppendTo, TellsFailure}
 use Rattle.raft_log_blocks.specs.declared.block_cache.BlockCache.{BlockCache}
-use Rattle.raft_log_engine_state.specs.Shows.{Home, LogMap, Shows, has_failed, shows}
-use Rattle.raft_log_engine_state.specs.Holding.{Holds}
-use Rattle.raft_log_purge_state.specs.Settled.{SameTables}
-use Rattle.raft_log_purge_state.specs.Rewriting.{CountsAlone, HasCopies}
+use Rattle.raft_log_engine_state.specs.Shows.{Shows, shows}
+use Rattle.raft_log_purge_state.specs.Rewriting.{CountsAlone}
 use Rattle.raft_log_purge_state.proofs.Copying.{copies_refused, copies_written}
 use Rattle.raft_log_rewriting.specs.Parts.{IsRecordMade, IsUnmade, Remains}
 use Rattle.raft_log_rewriting.specs.Copies.{FailsToCopy, MovesCopies, WritesCopies}

@@ -1,6 +1,6 @@
 -- From the least file in use on a queue has all that stands in it.
-use Rattle.std.proofs.Common.{◌≡◌, ◌⊎◌, ◌+◌, ◌-◌, ◌<◌, ◌≤◌, ◌==◌, ◌||◌, ℕ, Bool, true, false, List, [], ◌∷◌, ◌++◌, length, map, take, get_or, Option, Some, None, option_map, is_some, slice_get, if◌then◌else◌, bytes_eq, inl, inr, refl, sym, ap, subst, min, nat_le, ◌∙◌, arith}
-use Rattle.std.specs.Prelude.{IsTrue, ◌↔◌, Result, Ok, Err, IfErr, IfOk, OnOk}
+use Rattle.std.proofs.Common.{◌≡◌, ◌⊎◌, ◌+◌, ◌-◌, ◌<◌, ◌≤◌, ◌==◌, ◌||◌, ℕ, Bool, true, false, List, [], ◌∷◌, ◌++◌, length, map, take, get_or, Option, Some, None, option_map, is_some, if◌then◌else◌, bytes_eq, inl, inr, refl, sym, ap, subst, min, nat_le, ◌∙◌, arith}
+use Rattle.std.specs.Prelude.{Result, Ok, Err, IfErr, IfOk, OnOk}
 use Rattle.std.specs.List.{list_any}
 use Rattle.std.specs.BTreeMap.{get}
 use Rattle.std.specs.Ordering.{nat_cmp}
@@ -12,8 +12,7 @@ use Rattle.raft_log_base.specs.declared.errors.Error.{Error}
 use Rattle.raft_log_base.specs.declared.errors.Error.TheVariants as errors
 use Rattle.raft_log_base.specs.declared.pipe_log.LogQueue.{LogQueue}
 use Rattle.raft_log_base.specs.declared.pipe_log.LogQueue.TheVariants.{Append, Rewrite}
-use Rattle.raft_log_directory.specs.Calls.Which.{InAppend, InRewrite}
-use Rattle.raft_log_places.specs.Shown.{IsOrderly, KeyValue, Shown, nothing_shown}
+use Rattle.raft_log_places.specs.Shown.{IsOrderly, KeyValue, Shown}
 use Rattle.raft_log_places.specs.Noted.{IsLeastInRewrite, start_of}
 use Rattle.raft_log_held.specs.declared.key_map.HeldValue.{HeldValue}
 use Rattle.raft_log_held.specs.declared.key_map.KeySlot.{KeySlot}

@@ -1,13 +1,13 @@
 -- The exits of a part of a purge, put together of what the pipes and the tables told.
-use Rattle.std.proofs.Common.{◌≡◌, ◌↔◌, ℕ, ◌+◌, ◌≤◌, Bool, true, false, if◌then◌else◌, nat_lt, List, [], ◌∷◌, ◌++◌, inl, inr, refl, sym, ap, ap₂, subst, ◌∙◌, arith, length}
+use Rattle.std.proofs.Common.{◌≡◌, ◌↔◌, ℕ, Bool, true, false, if◌then◌else◌, nat_lt, List, [], ◌∷◌, ◌++◌, inl, inr, refl, sym, ap, ap₂, subst, ◌∙◌, arith, length}
 use Rattle.raft_log_items.specs.Placed.{entries_len, laid_out}
-use Rattle.std.specs.Prelude.{IsTrue, Result, Ok, Err, IfErr, IfOk, OnErr, OnOk, is_err}
+use Rattle.std.specs.Prelude.{IsTrue, Result, Ok, Err, is_err}
 use Rattle.std.proofs.lemmas.Bool.{cases_Bool, false≢true}
 use std.Path.{fun_ext}
 use Rattle.raft_log_model.specs.Item.{Item}
-use Rattle.raft_log_model.specs.Item.Item.{Clean, Compact, Del}
+use Rattle.raft_log_model.specs.Item.Item.{Clean, Compact}
 use Rattle.raft_log_model.specs.Groups.{of_group}
-use Rattle.raft_log_disk.specs.Causes.{Fails, IsLater}
+use Rattle.raft_log_disk.specs.Causes.{IsLater}
 use Rattle.raft_log_disk.specs.Disk.{Disk}
 use Rattle.raft_log_base.specs.declared.errors.Error.{Error}
 use Rattle.raft_log_base.specs.declared.errors.Error.TheVariants as errors
@@ -20,10 +20,9 @@ use Rattle.raft_log_machine.specs.Whereabouts.{top}
 use Rattle.raft_log_atomic_groups.specs.Meaning.{tagged_items}
 use Rattle.raft_log_records.specs.Batch.{Batch, batch_bytes}
 use Rattle.raft_log_signed_batch.specs.Signing.{SaysItself, signed_for}
-use Rattle.raft_log_directory.specs.Calls.{Which}
 use Rattle.raft_log_directory.specs.Calls.Which.{InRewrite}
 use Rattle.raft_log_places.specs.Shown.{Shown}
-use Rattle.raft_log_places.specs.Bridge.{compact_owed, dels, marks, unmarked}
+use Rattle.raft_log_places.specs.Bridge.{dels, unmarked}
 use Rattle.raft_log_held.specs.Listing.{ListsMarked}
 use Rattle.raft_log_replay.specs.Owing.{AreOwedAt}
 use Rattle.raft_log_replay.specs.declared.mem_tables.MemTables.{MemTables}
@@ -31,11 +30,10 @@ use Rattle.raft_log_replay.specs.Tables.{counts, shown_of}
 use Rattle.raft_log_dual_pipes.specs.Pipes.{LogPipes, is_failed}
 use Rattle.raft_log_dual_pipes.specs.Calls.{AppendsTo, FailsToAppendTo, FailsToSyncQueue, SyncsQueue, TellsFailure}
 use Rattle.raft_log_blocks.specs.declared.block_cache.BlockCache.{BlockCache}
-use Rattle.raft_log_engine_state.specs.Shows.{Home, LogMap, Shows, has_failed, shows}
-use Rattle.raft_log_engine_state.specs.Holding.{Holds, IsLeftAt}
+use Rattle.raft_log_engine_state.specs.Shows.{Home, LogMap, Shows, shows}
+use Rattle.raft_log_engine_state.specs.Holding.{Holds}
 use Rattle.raft_log_engine_state.proofs.Keeping.{holds_runs}
-use Rattle.raft_log_purge_state.specs.Settled.{HoldsSettled, SameTables}
-use Rattle.raft_log_purge_state.specs.Rewriting.{CountsAlone, RewriteLeaves, SaysOwed}
+use Rattle.raft_log_purge_state.specs.Rewriting.{RewriteLeaves, SaysOwed}
 use Rattle.raft_log_purge_state.proofs.Settling.{failed_sync, settled_held, sync_settles_log}
 use Rattle.raft_log_purge_state.proofs.Rewriting.{marks_refused, marks_written}
 use Rattle.raft_log_rewriting.specs.Parts.{IsRecordMade, IsRefused, IsUnmade, Remains}

@@ -1,31 +1,28 @@
 -- Entries that are read to be copied are the map's, and a batch of them has copies of them.
-use Rattle.std.proofs.Common.{◌≡◌, ◌⊎◌, ℕ, zero, suc, ◌+◌, ◌≤◌, Bool, true, false, List, [], ◌∷◌, ◌++◌, length, map, take, drop, Option, Some, None, option_map, unwrap_or, slice_get, inl, inr, refl, sym, ap, subst, ◌∙◌, arith, append-nil}
+use Rattle.std.proofs.Common.{◌≡◌, ◌⊎◌, ℕ, ◌+◌, ◌≤◌, List, [], ◌∷◌, length, map, take, drop, Option, Some, option_map, unwrap_or, slice_get, inl, inr, refl, sym, ap, subst, ◌∙◌, arith, append-nil}
 use Rattle.std.proofs.lemmas.List.{length-map, length-take}
 use Rattle.std.proofs.lemmas.Bool.{false≢true}
-use Rattle.raft_log_disk.specs.Causes.{IsLater}
 use Rattle.raft_log_base.specs.declared.errors.Error.{Error}
 use Rattle.raft_log_base.specs.declared.errors.Error.TheVariants as errors
 use Rattle.raft_log_model.specs.Meaning.Slot.{Index}
 use Rattle.raft_log_model.specs.Meaning.Content.{Entry}
 use Rattle.raft_log_items.specs.declared.entry.EntryIndex.{EntryIndex}
 use Rattle.raft_log_items.specs.Run.{unplaced_entry}
-use Rattle.raft_log_items.specs.declared.item.LogItemContent.TheVariants as contents
 use Rattle.raft_log_items.specs.declared.item.LogItem.{LogItem}
-use Rattle.raft_log_items.specs.Items.{item_of}
 use Rattle.raft_log_items.specs.Placed.{laid_run}
 use Rattle.raft_log_atomic_groups.specs.declared.marking.Marking.TheVariants.{Unmarked}
-use Rattle.raft_log_atomic_groups.specs.Marking.{has_mark_key, marking_of_items}
+use Rattle.raft_log_atomic_groups.specs.Marking.{marking_of_items}
 use Rattle.raft_log_records.specs.Batch.{Batch}
 use Rattle.raft_log_records.specs.Entries.{entries_items, entries_of, indexes_of}
 use Rattle.raft_log_records.specs.ItemBatch.{all_entries}
-use Rattle.raft_log_records.specs.Places.{bytes_in, entry_bytes}
+use Rattle.raft_log_records.specs.Places.{entry_bytes}
 use Rattle.raft_log_places.specs.declared.place.Place.{Place}
 use Rattle.raft_log_places.specs.Shown.{Shown}
 use Rattle.raft_log_held.specs.Counts.{passing}
 use Rattle.raft_log_tables.specs.Reads.{entries_from}
 use Rattle.raft_log_blocks.specs.declared.block_cache.BlockCache.{BlockCache}
 use Rattle.raft_log_blocks.specs.Blocks.{AreUnread, IsOfLog, ReadsEntries}
-use Rattle.raft_log_engine_state.specs.Shows.{Home, LogMap, Shows, has_failed}
+use Rattle.raft_log_engine_state.specs.Shows.{Home, LogMap, Shows}
 use Rattle.raft_log_engine_state.specs.Holding.{Holds, IsLeftAt}
 use Rattle.raft_log_engine_state.specs.Fetching.{AreEntriesOf}
 use Rattle.raft_log_engine_state.proofs.Fetching.{all_told, all_untold}
@@ -34,7 +31,7 @@ use Rattle.raft_log_rewriting.specs.declared.entries.EntryBytes.{EntryBytes}
 use Rattle.raft_log_rewriting.specs.Parts.{Remains}
 use Rattle.raft_log_rewriting.specs.Copies.{FailsToCopy, MovesCopies, WritesCopies}
 use Rattle.raft_log_rewriting.specs.Entries.{AreBytesAt, AreNext, IsRunBatch}
-use Rattle.raft_log_rewriting.specs.Rewriting.{CopiesEntries, CopiesIfAny, FailsToCopyEntries, OweNothing}
+use Rattle.raft_log_rewriting.specs.Rewriting.{CopiesEntries, FailsToCopyEntries, OweNothing}
 use Rattle.raft_log_rewriting.proofs.Carried.{plain_items}
 use Rattle.raft_log_rewriting.proofs.OneRun.{dropped_at, entries_count, run_has_copies, taken_at}
 use Rattle.raft_log_rewriting.proofs.Parts.{same_later}

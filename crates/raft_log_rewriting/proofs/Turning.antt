@@ -1,6 +1,6 @@
 -- A queue goes on in its next file, and loses those before that aren't in use.
-use Rattle.std.proofs.Common.{◌≡◌, ◌⊎◌, ℕ, true, false, List, [], inl, inr, refl, sym, ap, subst, ◌∙◌}
-use Rattle.std.specs.Prelude.{IsTrue, ◌↔◌, Result, Ok, Err, IfErr, IfOk, OnErr, OnOk}
+use Rattle.std.proofs.Common.{◌≡◌, ℕ, false, List, [], inl, inr, refl, sym, subst}
+use Rattle.std.specs.Prelude.{Result, Ok, Err, IfErr, IfOk}
 use Rattle.raft_log_model.specs.Groups.{taken}
 use Rattle.raft_log_disk.specs.Causes.{IsLater}
 use Rattle.raft_log_base.specs.declared.errors.Error.{Error}
@@ -8,15 +8,13 @@ use Rattle.raft_log_base.specs.declared.errors.Error.TheVariants as errors
 use Rattle.raft_log_base.specs.declared.pipe_log.LogQueue.{LogQueue}
 use Rattle.raft_log_base.specs.declared.pipe_log.LogQueue.TheVariants.{Append, Rewrite}
 use Rattle.raft_log_machine.specs.Whereabouts.{OwesNothing}
-use Rattle.raft_log_directory.specs.Calls.Which.{InAppend, InRewrite}
+use Rattle.raft_log_directory.specs.Calls.Which.{InAppend}
 use Rattle.raft_log_places.specs.Shown.{Shown, whereabouts}
-use Rattle.raft_log_places.specs.Bridge.{unmarked}
 use Rattle.raft_log_replay.specs.declared.mem_tables.MemTables.{MemTables}
 use Rattle.raft_log_dual_pipes.specs.Pipes.{LogPipes, Said, is_failed, which_of}
 use Rattle.raft_log_dual_pipes.specs.Calls.{FailsToRotateQueue, FailsToSyncQueue, RotatesQueue, SyncsQueue, TellsFailure}
-use Rattle.raft_log_blocks.specs.declared.block_cache.BlockCache.{BlockCache}
-use Rattle.raft_log_engine_state.specs.Shows.{Home, LogMap, Shows, has_failed, shows}
-use Rattle.raft_log_engine_state.specs.Holding.{Holds, IsLeftAt}
+use Rattle.raft_log_engine_state.specs.Shows.{Home, LogMap, Shows}
+use Rattle.raft_log_engine_state.specs.Holding.{Holds}
 use Rattle.raft_log_engine_state.proofs.Keeping.{holds_runs}
 use Rattle.raft_log_engine_state.proofs.Calling.{synced_all}
 use Rattle.raft_log_engine_state.proofs.Refusing.{unsynced_left}
@@ -27,7 +25,7 @@ use Rattle.raft_log_rewriting.specs.Parts.{IsRefused, Remains}
 use Rattle.raft_log_rewriting.specs.Marks.{CarriesMarks}
 use Rattle.raft_log_rewriting.specs.Files.{FailsToLoseFiles, FrontsAreLeast, LosesFiles, MayLoseFiles, RemainsSettled}
 use Rattle.raft_log_rewriting.specs.Stale.{FailsToPurge, FailsToTurn, PurgesAllStale, TurnsAndLoses, written_file}
-use Rattle.raft_log_rewriting.proofs.Parts.{alive_ok, later_on, tells_err}
+use Rattle.raft_log_rewriting.proofs.Parts.{later_on, tells_err}
 
 -- One queue.
 

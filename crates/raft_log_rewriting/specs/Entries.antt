@@ -1,14 +1,11 @@
 -- Entries of Append are copied to Rewrite.
-use Rattle.std.specs.Prelude.{◌≡◌, ◌⊎◌, ◌↔◌, ◌+◌, ◌≤◌, IsTrue, ℕ, List, [], ◌∷◌, ◌++◌, Option, Some, map, length, take, drop, false}
-use Rattle.raft_log_disk.specs.Causes.{IsLater}
-use Rattle.raft_log_base.specs.declared.errors.Error.{Error}
-use Rattle.raft_log_base.specs.declared.errors.Error.TheVariants as errors
+use Rattle.std.specs.Prelude.{◌≡◌, ◌+◌, ◌≤◌, ℕ, List, [], ◌∷◌, Some, length, take, drop}
 use Rattle.raft_log_items.specs.declared.entry.EntryIndex.{EntryIndex}
 use Rattle.raft_log_model.specs.Meaning.Slot.{Index}
 use Rattle.raft_log_model.specs.Meaning.Content.{Entry}
 use Rattle.raft_log_records.specs.declared.log_batch.BatchState.TheVariants.{Filling}
 use Rattle.raft_log_records.specs.Batch.{Batch}
-use Rattle.raft_log_records.specs.Entries.{entries_items, indexes_of}
+use Rattle.raft_log_records.specs.Entries.{entries_items}
 use Rattle.raft_log_records.specs.Places.{bytes_in}
 use Rattle.raft_log_held.specs.Counts.{passing}
 use Rattle.raft_log_places.specs.Shown.{Shown}

@@ -1,5 +1,5 @@
 -- What a part of a purge leaves where it is refused, and what is known of a record that it writes.
-use Rattle.std.specs.Prelude.{◌≡◌, ◌↔◌, IsTrue, false, List, []}
+use Rattle.std.specs.Prelude.{◌≡◌, ◌↔◌, IsTrue, false, []}
 use Rattle.raft_log_disk.specs.Causes.{IsLater}
 use Rattle.raft_log_base.specs.declared.errors.Error.{Error}
 use Rattle.raft_log_base.specs.declared.errors.Error.TheVariants as errors

@@ -1,5 +1,5 @@
 -- All files of both queues go that nothing is in that is in use.
-use Rattle.std.specs.Prelude.{◌≡◌, ◌↔◌, ◌⊎◌, IsTrue, ℕ, None, List, [], false}
+use Rattle.std.specs.Prelude.{◌≡◌, ◌↔◌, ◌⊎◌, IsTrue, ℕ, List, false}
 use Rattle.raft_log_model.specs.Groups.{taken}
 use Rattle.raft_log_disk.specs.Causes.{IsLater}
 use Rattle.raft_log_base.specs.declared.errors.Error.{Error}

@@ -36,8 +36,8 @@ impl Message for EntryBytes {
     }
 }
 
-/// The entries of a group that are to be copied next: the first ones in Append, all in files up to the gate, as many
-/// as a batch may have.
+/// The entries of a group that are to be copied next: the first ones in Append, all in files up to the gate, as
+/// many as a batch may have.
 pub fn next_entries(
     alloc: Global,
     tables: &MemTables,

@@ -1,6 +1,5 @@
-use Rattle.std.proofs.Common.{◌≡◌, ap, ◌∙◌, List, ℕ, subst}
+use Rattle.std.proofs.Common.{◌≡◌, ap, ◌∙◌}
 use Rattle.raft_log_base.specs.declared.pipe_log.FileBlockHandle.{FileBlockHandle}
-use Rattle.raft_log_items.specs.declared.item.LogItem.{LogItem}
 use Rattle.raft_log_records.specs.Batch.{Batch}
 use Rattle.raft_log_rewriting.proofs.Parts.{record_is_made}
 use Rattle.raft_log_rewriting.proofs.Copying.{copies_moved, copies_not_moved, may_move_there, written_there}

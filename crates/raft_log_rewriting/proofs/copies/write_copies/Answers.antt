@@ -1,7 +1,6 @@
 use Rattle.std.proofs.Common.{Some, sym, subst, ◌∙◌}
 use Rattle.std.proofs.lemmas.Bool.{false≢true}
 use Rattle.std.proofs.lemmas.Result.{err_from_is_err_and}
-use Rattle.raft_log_base.specs.declared.errors.Error.TheVariants as errors
 use Rattle.raft_log_rewriting.specs.Parts.{IsUnmade}
 use Rattle.raft_log_rewriting.proofs.Copying.{copied_then, not_copied, refused_then}
 use Rattle.raft_log_rewriting.proofs.copies.write_copies.Goals as goal

@@ -1,4 +1,4 @@
-use Rattle.std.proofs.Common.{◌≡◌, ◌==◌, ℕ, List, true, sym, ap, ◌∙◌}
+use Rattle.std.proofs.Common.{◌==◌, ℕ, List, ap, ◌∙◌}
 use Rattle.std.specs.List.{list_any}
 use Rattle.raft_log_rewriting.proofs.Leasts.{listed_least}
 use Rattle.raft_log_rewriting.proofs.files.least_file.Goals as goal

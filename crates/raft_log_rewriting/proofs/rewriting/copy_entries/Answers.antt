@@ -1,7 +1,6 @@
-use Rattle.std.proofs.Common.{◌≡◌, ℕ, List, [], length, map, sym, ap, subst, ◌∙◌, refl, arith}
+use Rattle.std.proofs.Common.{◌≡◌, List, [], length, map, sym, ap, subst, ◌∙◌, refl, arith}
 use Rattle.std.proofs.lemmas.Bool.{eqb-false}
 use Rattle.std.proofs.lemmas.Result.{err_from_is_err_and}
-use Rattle.std.specs.Borrow.{Bor}
 use Rattle.raft_log_items.specs.declared.entry.EntryIndex.{EntryIndex}
 use Rattle.raft_log_records.specs.Entries.{indexes_of}
 use Rattle.raft_log_blocks.specs.Blocks.{AreUnread, ReadsEntries}

@@ -12,8 +12,9 @@ use Rattle.raft_log_engine_state.specs.Holding.{Holds}
 use Rattle.raft_log_purge_state.specs.Rewriting.{HasCopies, moved_to}
 use Rattle.raft_log_rewriting.specs.Parts.{Remains}
 
--- A batch that isn't empty was written to Rewrite, and the tables took it in the file of its place: whatever the
--- log was, with nothing pending, it is so, if the batch has copies of what it had, and is no part of an atomic group.
+-- A batch that isn't empty was written to Rewrite, and the tables took it in the file of its place: whatever
+-- the log was, with nothing pending, it is so, if the batch has copies of what it had, and is no part of an
+-- atomic group.
 pub record MovesCopies (gate : Option ℕ) (b : Batch) (s t : Shows) : Type 0 where
   pub block : FileBlockHandle
   pub alive : has_failed t ≡ false
@@ -28,8 +29,8 @@ pub record MovesCopies (gate : Option ℕ) (b : Batch) (s t : Shows) : Type 0 wh
 abbrev pub WritesCopies : Option ℕ → Batch → Shows → Shows → Type 0
 WritesCopies gate b s t = ((b.items ≡ []) × (t ≡ s)) ⊎ (((b.items ≡ []) → ⊥) × MovesCopies gate b s t)
 
--- It was refused: all that shows shows as it did; and whatever the log was, it is so, if the batch has copies; where
--- the engine has failed, its log is held.
+-- It was refused: all that shows shows as it did; and whatever the log was, it is so, if the batch has
+-- copies; where the engine has failed, its log is held.
 pub record FailsToCopy (gate : Option ℕ) (b : Batch) (error : Error) (s t : Shows) : Type 0 where
   pub same : t ≡ record s { pipes = t.pipes }
   pub tells : has_failed s ≡ false → IsTrue (has_failed t) ↔ (error ≡ errors.Failed)

@@ -38,8 +38,8 @@ abbrev pub MayLoseFiles : Which → (ℕ → Shown) → Type 0
 MayLoseFiles InAppend v = (g : ℕ) → OwesNothing (whereabouts (v g))
 MayLoseFiles InRewrite v = Unit {0}
 
--- The files of a queue below the least one that is in use, and below the limit, have left its span: whatever the
--- log was, with nothing pending, it is so. No block is kept.
+-- The files of a queue below the least one that is in use, and below the limit, have left its span: whatever
+-- the log was, with nothing pending, it is so. No block is kept.
 pub record LosesFiles (queue : LogQueue) (limit : ℕ) (m : MemTables) (count : ℕ) (s t : Shows) : Type 0 where
   pub least : ℕ
   pub is : IsLeastOf queue limit m least

@@ -8,8 +8,8 @@ use Rattle.raft_log_signed_batch.specs.Signing.{SaysItself, signed_for}
 use Rattle.raft_log_engine_state.specs.Shows.{Home, IsLaidOut, LogMap, Shows, has_failed}
 use Rattle.raft_log_engine_state.specs.Holding.{Holds, IsLeftAt}
 
--- What is true where a part was refused, by the error: the engine's log is what it was, and nothing is pending;
--- and where the engine has failed, its log is held.
+-- What is true where a part was refused, by the error: the engine's log is what it was, and nothing is
+-- pending; and where the engine has failed, its log is held.
 abbrev pub Remains : Home → LogMap → Shows → Error → Type 0
 Remains home m t errors.Failed = IsLeftAt home t.pipes.disk m []
 Remains home m t _ = Holds home t m []

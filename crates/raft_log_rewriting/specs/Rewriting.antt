@@ -17,8 +17,8 @@ use Rattle.raft_log_rewriting.specs.Entries.{AreNext, IsRunBatch}
 abbrev pub OweNothing : (ℕ → Shown) → Type 0
 OweNothing v = (g : ℕ) → OwesNothing (whereabouts (v g))
 
--- The group's first entries in Append, some and all in files up to the gate, were copied, and lie in Rewrite: whatever
--- the log was, with nothing pending, it is so, if no mark is owed.
+-- The group's first entries in Append, some and all in files up to the gate, were copied, and lie in Rewrite:
+-- whatever the log was, with nothing pending, it is so, if no mark is owed.
 pub record CopiesEntries (group gate : ℕ) (s t : Shows) : Type 0 where
   pub entries : List EntryIndex
   pub next : AreNext gate (s.tables group) entries
@@ -34,7 +34,8 @@ abbrev pub CopiesIfAny : ℕ → ℕ → Bool → Shows → Shows → Type 0
 CopiesIfAny group gate true s t = CopiesEntries group gate s t
 CopiesIfAny group gate false s t = (t ≡ s) × AreNext gate (s.tables group) []
 
--- It was refused: whatever the log was, it is so, if no mark is owed; or the engine has failed, and its log is held.
+-- It was refused: whatever the log was, it is so, if no mark is owed; or the engine has failed, and its log
+-- is held.
 pub record FailsToCopyEntries (error : Error) (s t : Shows) : Type 0 where
   pub failed : has_failed s ≡ false → has_failed t ≡ true → error ≡ errors.Failed
   pub later : IsLater s.pipes.disk t.pipes.disk

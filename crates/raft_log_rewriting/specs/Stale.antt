@@ -39,8 +39,8 @@ pub record FailsToTurn (queue : LogQueue) (error : Error) (s t : Shows) : Type 0
   pub remains : (home : Home) (log : LogMap) → HoldsSettled home s log → FrontsAreLeast s.tables
       → MayLoseFiles (which_of queue) s.tables → Remains home log t error
 
--- All stale files are purged: Append was synced, then marks were carried, then each queue went on in its next file
--- and lost those before that aren't in use, Rewrite first. The map stays, and nothing is pending.
+-- All stale files are purged: Append was synced, then marks were carried, then each queue went on in its next
+-- file and lost those before that aren't in use, Rewrite first. The map stays, and nothing is pending.
 pub record PurgesAllStale (m : MemTables) (s t : Shows) : Type 0 where
   pub synced : LogPipes
   pub syncs : SyncsQueue InAppend s.pipes synced
@@ -55,8 +55,8 @@ pub record PurgesAllStale (m : MemTables) (s t : Shows) : Type 0 where
   pub settles : (home : Home) (log : LogMap) (pending : List Said) → Holds home s log pending
       → FrontsAreLeast s.tables → HoldsSettled home t (taken log pending)
 
--- That was refused: the map stays, and where the engine has failed, its log is held, with the batches on the map,
--- or pending as they were.
+-- That was refused: the map stays, and where the engine has failed, its log is held, with the batches on the
+-- map, or pending as they were.
 pub record FailsToPurge (error : Error) (s t : Shows) : Type 0 where
   pub tells : has_failed s ≡ false → IsTrue (has_failed t) ↔ (error ≡ errors.Failed)
   pub later : IsLater s.pipes.disk t.pipes.disk

@@ -18,8 +18,8 @@ use raft_log_replay::MemTables;
 use raft_log_signed_batch::SignedBatch;
 use std::alloc::Global;
 
-/// Writes a batch of copies to Rewrite as one record, and moves what they are of there: of what stands in Append
-/// that in files up to the gate. The answer is the batch, emptied. An empty one isn't written.
+/// Writes a batch of copies to Rewrite as one record, and moves what they are of there: of what stands in
+/// Append that in files up to the gate. The answer is the batch, emptied. An empty one isn't written.
 ///
 /// `Full`, `Memory`: nothing is done. Then what Rewrite refuses. In each case nothing that shows is changed.
 pub fn write_copies<P: PipeLog, L: Log>(

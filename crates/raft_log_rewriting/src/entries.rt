@@ -1,6 +1,6 @@
 //! Entries of Append that are to be copied: which come next, their bytes, and a batch of them.
 
-ghost use Rattle.std.specs.Prelude.{◌≡◌, ◌≤◌, ◌++◌, List, ℕ, Option, Some, map, length, IfErr, IfOk, OnErr, OnOk};
+ghost use Rattle.std.specs.Prelude.{◌≡◌, Some, map, IfOk};
 ghost use Rattle.raft_log_records.specs.Entries.{indexes_of, slices_bytes};
 ghost use Rattle.raft_log_replay.specs.Tables.{shown_of};
 ghost use Rattle.raft_log_rewriting.specs.Entries.{AreNext, IsRunBatch};
@@ -36,8 +36,8 @@ impl Message for EntryBytes {
     }
 }
 
-/// The entries of a group that are to be copied next: the first ones in Append, all in files up to the gate, as
-/// many as a batch may have.
+/// The entries of a group that are to be copied next: the first ones in Append, all in files up to the gate,
+/// as many as a batch may have.
 pub fn next_entries(
     alloc: Global,
     tables: &MemTables,

@@ -16,8 +16,8 @@ use std::alloc::{AllocError, Global};
 /// Takes the files of a queue below the least one that is in use out of its span, none from the limit on, and
 /// answers how many. No block is kept.
 ///
-/// `Memory`, or `InvalidArgument` where that file is none of the span's: nothing is done. `Failed`: a file wasn't
-/// deleted.
+/// `Memory`, or `InvalidArgument` where that file is none of the span's: nothing is done. `Failed`: a file
+/// wasn't deleted.
 pub fn purge_stale<P: PipeLog, L: Log>(
     alloc: Global,
     rt: &L,

@@ -1,7 +1,7 @@
 //! The parts of a purge: what is written to Rewrite, and files that go. The map stays at every exit.
 //!
-//! Each part is over a log's pipes and the tables of its groups, and its contract speaks of whatever map was the
-//! log's (`Holds`), with nothing pending: it asks nothing of the caller.
+//! Each part is over a log's pipes and the tables of its groups, and its contract speaks of whatever map was
+//! the log's (`Holds`), with nothing pending: it asks nothing of the caller.
 #![tactic(auto)]
 
 pub mod copies;

@@ -1,5 +1,5 @@
-//! Marks that are owed to Rewrite are carried there: read from the tables, written, synced, and only then owed no
-//! more.
+//! Marks that are owed to Rewrite are carried there: read from the tables, written, synced, and only then
+//! owed no more.
 
 ghost use Rattle.std.specs.Prelude.{◌≡◌, [], IfErr, IfOk, OnErr, OnOk};
 ghost use Rattle.raft_log_atomic_groups.specs.Meaning.{tagged_items};
@@ -19,12 +19,12 @@ use raft_log_records::LogBatch;
 use raft_log_replay::MemTables;
 use std::alloc::Global;
 
-/// Carries the marks that are owed to Rewrite: they are written there as one record and synced, and then owed no
-/// more. Where none is owed, Rewrite is synced alone.
+/// Carries the marks that are owed to Rewrite: they are written there as one record and synced, and then owed
+/// no more. Where none is owed, Rewrite is synced alone.
 ///
 /// `Memory`, `Full`, or `InvalidArgument` for a deletion of one of the log's own keys: nothing is done. `Io`,
-/// `TryAgain`, `NumberRange`, `Memory`: the record was refused. In each of these cases the marks are owed still.
-/// `Failed`: nothing is taken any more.
+/// `TryAgain`, `NumberRange`, `Memory`: the record was refused. In each of these cases the marks are owed
+/// still. `Failed`: nothing is taken any more.
 pub fn rewrite_marks<P: PipeLog, L: Log>(
     alloc: Global,
     rt: &L,

@@ -14,8 +14,8 @@ use raft_log_replay::MemTables;
 use std::alloc::Global;
 
 /// Copies a group's first entries in Append, all in files up to the gate, as many as a batch may have, and
-/// answers whether there were any. They are read through their blocks, written to Rewrite as one record, and lie
-/// there then.
+/// answers whether there were any. They are read through their blocks, written to Rewrite as one record, and
+/// lie there then.
 ///
 /// Refused is what isn't read, `Full`, `Memory`, and what Rewrite refuses: nothing that shows is changed.
 pub fn copy_entries<P: PipeLog, L: Log>(

@@ -13,8 +13,8 @@ use raft_log_dual_pipes::PipeLog;
 use raft_log_replay::MemTables;
 use std::alloc::Global;
 
-/// Takes all files out of both queues that nothing is in that is in use: Append is synced, marks are carried, and
-/// then each queue goes on in its next file and loses those before, Rewrite first.
+/// Takes all files out of both queues that nothing is in that is in use: Append is synced, marks are carried,
+/// and then each queue goes on in its next file and loses those before, Rewrite first.
 ///
 /// Refused, the map stays: what a sync, `rewrite_marks`, a rotation and `purge_stale` refuse.
 pub fn purge_all_stale<P: PipeLog, L: Log>(
@@ -36,7 +36,8 @@ pub fn purge_all_stale<P: PipeLog, L: Log>(
     Ok(())
 }
 
-/// A queue goes on in its next file, and those before that aren't in use leave its span: the answer is how many.
+/// A queue goes on in its next file, and those before that aren't in use leave its span: the answer is how
+/// many.
 fn turn_and_purge<P: PipeLog, L: Log>(
     alloc: Global,
     rt: &L,

@@ -158,8 +158,8 @@ impl DualPipesBuilder {
     /// as many as the settings want beside the files of Append, filled with zeros; those past that are deleted,
     /// from the newest on. To be called before `finish`, behind `scan`.
     ///
-    /// `Io` where a file isn't made, `NumberRange` where there is no name for it, `Memory`: those that were made
-    /// are there, and the builder knows of none.
+    /// `Io` where a file isn't made, `NumberRange` where there is no name for one that is to be made or deleted,
+    /// `Memory`: those before it were made or deleted, and the builder knows of none.
     pub fn initialize_files<F: FileSystem, L: Log>(
         &mut self,
         alloc: Global,
@@ -167,9 +167,9 @@ impl DualPipesBuilder {
         file_system: &mut F,
     ) -> Result<()>
         ensures ok { OnOk result
-            (ReadiesLog self.old self.new (F.disk file_system.old) (F.disk file_system.new)) }
+            (ReadiesLog F.disk F.tells_space self.old self.new file_system.old file_system.new) }
         ensures err { IfErr result (λ error.
-            FailsToReadyLog self.old error (F.disk file_system.old) (F.disk file_system.new)) }
+            FailsToReadyLog F.disk F.tells_space self.old error file_system.old file_system.new) }
         ensures same { (self.new.config ≡ self.old.config) × (self.new.append ≡ self.old.append)
             × (self.new.rewrite ≡ self.old.rewrite) }
     {

@@ -1,5 +1,5 @@
--- Reserved files are made, and filled with zeros. What is said of a file system's states is told by what is on
--- its disk, and by what it may tell of a directory's space.
+-- Reserved files are made, and filled with zeros. What is said of a file system's states is told by what is
+-- on its disk, and by what it may tell of a directory's space.
 use Rattle.std.specs.Prelude.{◌≡◌, ◌+◌, ◌<◌, ◌≤◌, ◌^◌, ℕ, suc, Bool, true, false, ◌||◌, List, [], ◌∷◌, length}
 use Rattle.raft_log_base.specs.declared.errors.Error.{Error}
 use Rattle.raft_log_base.specs.declared.errors.Error.TheVariants as errors
@@ -42,8 +42,8 @@ module _ {F : Type 0} (disk : F → Disk) (tells : F → List ℕ → ℕ → Ty
   abbrev pub MakesEach : FilePaths → List ℕ → ℕ → ℕ → List File → Bool → F → F → Type 0
   MakesEach paths bytes size seq [] full old new = (full ≡ false) × (new ≡ old)
   MakesEach paths bytes size seq (file ∷ files) full old new = (one : Bool) × (others : Bool) × (mid : F)
-      × Makes paths bytes size seq file one old mid × MakesEach paths bytes size (suc seq) files others mid new
-      × (full ≡ one || others)
+      × Makes paths bytes size seq file one old mid
+      × MakesEach paths bytes size (suc seq) files others mid new × (full ≡ one || others)
 
   -- one of so many wasn't made; those before it were
   pub record FailsToMakeEach (paths : FilePaths) (bytes : List ℕ) (size seq count : ℕ) (error : Error)

@@ -47,8 +47,8 @@ module _ {F : Type 0} (disk : F → Disk) (tells : F → List ℕ → ℕ → Ty
 
   -- one wasn't made; those before it are there, under their names
   abbrev pub FailsToMakeMissing : FilePaths → ℕ → ℕ → List File → Error → F → F → Type 0
-  FailsToMakeMissing paths size wanted files error old new = FailsToMakeEach disk tells paths (piece size) size
-      (next_number files) (wanted - length files) error old new
+  FailsToMakeMissing paths size wanted files error old new = FailsToMakeEach disk tells paths (piece size)
+      size (next_number files) (wanted - length files) error old new
 
   -- all were made, and there was no name for one that was to be deleted
   pub record FailsToDropSurplus (paths : FilePaths) (size wanted : ℕ) (files : List File) (error : Error)
@@ -62,5 +62,6 @@ module _ {F : Type 0} (disk : F → Disk) (tells : F → List ℕ → ℕ → Ty
 
   -- why the files aren't ready
   abbrev pub FailsToReady : FilePaths → ℕ → ℕ → List File → Error → F → F → Type 0
-  FailsToReady paths size wanted files error old new = FailsToMakeMissing paths size wanted files error old new
+  FailsToReady paths size wanted files error old new =
+      FailsToMakeMissing paths size wanted files error old new
       ⊎ FailsToDropSurplus paths size wanted files error old new

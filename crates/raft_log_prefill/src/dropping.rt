@@ -10,8 +10,8 @@ use raft_log_disk::FileSystem;
 use raft_log_files::{File, PipeFormat};
 use std::alloc::Global;
 
-/// Deletes a file; where the file system refuses it, that is logged. Refused where the file has no name, or for
-/// want of memory: nothing is done.
+/// Deletes a file; where the file system refuses it, that is logged. Refused where the file has no name, or
+/// for want of memory: nothing is done.
 fn drop_or_not<G: PipeFormat, F: FileSystem, L: Log>(
     alloc: Global,
     layout: &G,

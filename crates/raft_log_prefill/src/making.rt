@@ -16,7 +16,8 @@ use std::alloc::Global;
 /// Makes a file under the reserved name of a number, in the first directory with room for it, and fills it
 /// with zeros, as far as that is let. Answers it, and whether there was no space.
 ///
-/// `Memory`, or `NumberRange` where there is no such name: nothing is done. `Io` where its creation is refused.
+/// `Memory`, or `NumberRange` where there is no such name: nothing is done. `Io` where its creation is
+/// refused.
 fn make_file<G: PipeFormat, F: FileSystem, L: Log>(
     alloc: Global,
     layout: &G,
@@ -29,8 +30,8 @@ fn make_file<G: PipeFormat, F: FileSystem, L: Log>(
     requires { 0 < length bytes.now }
     ensures ok { IfOk result (λ made. Makes F.disk F.tells_space (G.file_paths layout.now) bytes.now size seq
         made.0 made.1 file_system.old file_system.new) }
-    ensures err { IfErr result (λ error. FailsToMake F.disk F.tells_space (G.file_paths layout.now) size seq error
-        file_system.old file_system.new) }
+    ensures err { IfErr result (λ error. FailsToMake F.disk F.tells_space (G.file_paths layout.now) size seq
+        error file_system.old file_system.new) }
 {
     let mut file = File {
         seq,
@@ -63,8 +64,8 @@ pub(crate) fn make_files<G: PipeFormat, F: FileSystem, L: Log>(
 ) -> Result<bool>
     requires { 0 < length bytes.now }
     ensures ok { IfOk result (λ full. (made : List File) × (files.new.items ≡ files.old.items ++ made)
-        × (length made ≡ count) × MakesEach F.disk F.tells_space (G.file_paths layout.now) bytes.now size first
-        made full file_system.old file_system.new) }
+        × (length made ≡ count) × MakesEach F.disk F.tells_space (G.file_paths layout.now) bytes.now size
+        first made full file_system.old file_system.new) }
     ensures err { IfErr result (λ error. FailsToMakeEach F.disk F.tells_space (G.file_paths layout.now)
         bytes.now size first count error file_system.old file_system.new) }
 {

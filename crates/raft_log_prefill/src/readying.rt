@@ -32,8 +32,8 @@ pub fn ready_reserved<G: PipeFormat, F: FileSystem, L: Log>(
 ) -> Result<Vec<File>>
     ensures ok { IfOk result (λ kept. Readies F.disk F.tells_space (G.file_paths layout.now) size wanted
         files.items kept.items file_system.old file_system.new) }
-    ensures err { IfErr result (λ error. FailsToReady F.disk F.tells_space (G.file_paths layout.now) size wanted
-        files.items error file_system.old file_system.new) }
+    ensures err { IfErr result (λ error. FailsToReady F.disk F.tells_space (G.file_paths layout.now) size
+        wanted files.items error file_system.old file_system.new) }
 {
     let mut files = files;
     let full = make_missing(alloc, layout, rt, file_system, size, wanted, &mut files)?;
@@ -43,7 +43,8 @@ pub fn ready_reserved<G: PipeFormat, F: FileSystem, L: Log>(
     Ok(files)
 }
 
-/// Makes files behind these until there are as many as are wanted. Answers whether there was no space for one.
+/// Makes files behind these until there are as many as are wanted. Answers whether there was no space for
+/// one.
 fn make_missing<G: PipeFormat, F: FileSystem, L: Log>(
     alloc: Global,
     layout: &G,
@@ -55,8 +56,8 @@ fn make_missing<G: PipeFormat, F: FileSystem, L: Log>(
 ) -> Result<bool>
     ensures ok { IfOk result (λ full. MakesMissing F.disk F.tells_space (G.file_paths layout.now) size wanted
         files.old.items files.new.items full file_system.old file_system.new) }
-    ensures err { IfErr result (λ error. FailsToMakeMissing F.disk F.tells_space (G.file_paths layout.now) size
-        wanted files.old.items error file_system.old file_system.new) }
+    ensures err { IfErr result (λ error. FailsToMakeMissing F.disk F.tells_space (G.file_paths layout.now)
+        size wanted files.old.items error file_system.old file_system.new) }
 {
     let missing = wanted.saturating_sub(files.len());
     if missing == 0 {

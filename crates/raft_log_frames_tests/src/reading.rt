@@ -14,11 +14,6 @@ fn is_clean_read(alloc: Global) -> Result<bool> {
     Ok((offset, len) == (16, 24) && items.len() == 1 && items.first() == Some(&clean))
 }
 
-#[test]
-fn clean_of_group_one_is_read(rt: HostRuntime) {
-    assert!(rt; is_clean_read(rt.alloc()).ok() == Some(true));
-}
-
 /// Numbers of files, and whether a record that is signed for file 1 is read there.
 const FILES: [(u64, bool); 4] = [
     (1, true),
@@ -27,15 +22,16 @@ const FILES: [(u64, bool); 4] = [
     (4_294_967_298, false),
 ];
 
-#[test]
-fn signature_separates_files(rt: HostRuntime) {
-    let footer = &CLEAN_SIGNED[16..];
-    for (number, accepted) in FILES.iter() {
-        let signature = context(Version::V2, *number).get_signature();
-        let read = decode_footer(rt.alloc(), footer, 0, signature).is_ok();
-        assert!(rt; read == *accepted, "file {number}");
-    }
-    assert!(rt; decode_footer(rt.alloc(), footer, 0, None).is_err());
+/// Whether the record that is signed for file 1 is read there, or refused, as this says.
+fn is_read_in(alloc: Global, file: &(u64, bool)) -> bool {
+    let (number, accepted) = *file;
+    let signature = context(Version::V2, number).get_signature();
+    decode_footer(alloc, &CLEAN_SIGNED[16..], 0, signature).is_ok() == accepted
+}
+
+/// Whether it is refused in a file without signatures.
+fn is_refused_unsigned(alloc: Global) -> bool {
+    decode_footer(alloc, &CLEAN_SIGNED[16..], 0, None).is_err()
 }
 
 /// Headers whose footer begins at the end, and at the end of the longest record.
@@ -56,16 +52,6 @@ fn is_header_of(alloc: Global, bytes: &[u8], want: usize) -> Result<bool> {
     Ok((offset, len) == (want, want) && rest.is_empty())
 }
 
-#[test]
-fn headers_at_the_borders(rt: HostRuntime) {
-    for (bytes, len) in HEADERS.iter() {
-        assert!(rt;
-            is_header_of(rt.alloc(), bytes, *len).ok() == Some(true),
-            "{len}"
-        );
-    }
-}
-
 /// Blocks, and their entries: the checksum of `123456789` is CBF43926, and that of nothing is 0.
 const BLOCKS: [(&[u8], &[u8]); 3] = [
     (b"", b""),
@@ -73,11 +59,39 @@ const BLOCKS: [(&[u8], &[u8]); 3] = [
     (b"123456789\x26\x39\xf4\xcb", b"123456789"),
 ];
 
+/// Whether a block is read as its entries.
+fn is_block_of(alloc: Global, bytes: &[u8], want: &[u8]) -> bool {
+    decode_entries_block(alloc, bytes, CompressionType::None).ok() == Some(want)
+}
+
+/// Whether the header of this number is read as it says.
+fn is_header(alloc: Global, number: usize) -> Result<bool> {
+    let (bytes, len) = &HEADERS[number % 2];
+    is_header_of(alloc, bytes, *len)
+}
+
+/// Whether the block of this number is read as it says.
+fn is_block(alloc: Global, number: usize) -> bool {
+    let (bytes, want) = BLOCKS[number % 3];
+    is_block_of(alloc, bytes, want)
+}
+
+/// Whether it holds: 0, a record of one `Clean` is read; 1, one that is signed is refused where nothing is;
+/// from 2, 6 and 8 on the rows of files, headers and blocks.
+fn is_read(alloc: Global, number: usize) -> Result<bool> {
+    match number {
+        0 => is_clean_read(alloc),
+        1 => Ok(is_refused_unsigned(alloc)),
+        2..=5 => Ok(is_read_in(alloc, &FILES[number % 4])),
+        6 | 7 => is_header(alloc, number),
+        _ => Ok(is_block(alloc, number)),
+    }
+}
+
 #[test]
-fn good_blocks_are_read(rt: HostRuntime) {
-    for (bytes, want) in BLOCKS.iter() {
-        let entries = decode_entries_block(rt.alloc(), bytes, CompressionType::None);
-        assert!(rt; entries.ok() == Some(*want));
+fn parts_of_records_are_read(rt: HostRuntime) {
+    for number in 0..11 {
+        assert!(rt; is_read(rt.alloc(), number).ok() == Some(true), "{number}");
     }
 }
 

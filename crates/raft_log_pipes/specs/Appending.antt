@@ -60,8 +60,8 @@ pub data TurnsElsewhere {R : Type 0} (F : Format R) (own : List ℕ → Type 0) 
   nowhere : RotationLeaves F own paths (header_bytes begin.format) before after error old new
       → TurnsElsewhere F own paths begin before after error old new
 
--- The pipe went on in the next file, from this state of it and of its file system, which says the directory: an
--- own relation, as no disk says what may be told of a directory's space.
+-- The pipe went on in the next file, from this state of it and of its file system, which says the directory:
+-- an own relation, as no disk says what may be told of a directory's space.
 pub record GoesElsewhere {R F : Type 0} (disk : F → Disk) (tells : F → List ℕ → ℕ → Type 0)
     (format : Format R) (own : List ℕ → Type 0) (paths : FilePaths) (begin : NewFiles) (after : PipeFiles)
     (new : F) : Type 0 where

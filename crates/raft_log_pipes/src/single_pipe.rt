@@ -353,8 +353,8 @@ impl<G: PipeFormat + Drop> SinglePipe<G> {
         close(alloc, &layout, rt, file_system, files);
     }
 
-    /// The first half of a close: the last file is cut behind its records and synced. A refusal is logged. Of a
-    /// pipe that has failed nothing is touched.
+    /// The first half of a close: the last file is cut behind its records and synced. A refusal is logged. Of
+    /// a pipe that has failed nothing is touched.
     pub fn finish<F: FileSystem, L: Log>(&mut self, rt: &L, file_system: &mut F)
         ensures held { self.old.failed ≡ false → LeavesClosed (G.format self.old.layout)
             (G.own self.old.layout) (G.file_paths self.old.layout) self.old.files

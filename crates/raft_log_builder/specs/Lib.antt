@@ -8,3 +8,4 @@ pub mod Endings
 pub mod Finishing
 pub mod Reserving
 pub mod RecoveringQueue
+pub mod Unaligned

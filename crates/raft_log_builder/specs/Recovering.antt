@@ -15,6 +15,7 @@ use Rattle.raft_log_segments.specs.Machines.{Batch}
 use Rattle.raft_log_found_queue.specs.declared.file_ending.FileEnding.{FileEnding}
 use Rattle.raft_log_builder.specs.Reading.{HasReadFiles, IsUnread}
 use Rattle.raft_log_builder.specs.Cutting.{CutsEach, FailsToCutEach}
+use Rattle.raft_log_builder.specs.Unaligned.{AreUnaligned, TellsAligned}
 use Rattle.raft_log_builder.specs.declared.builder.DualPipesBuilder.{DualPipesBuilder}
 
 -- how the settings have a queue's files recovered, by so many workers
@@ -47,11 +48,14 @@ abbrev pub rewrite_config : DualPipesBuilder → RecoveryConfig
 rewrite_config b = recovery_of b.config Rewrite
     (rewrite_share (all_workers b) (length (append_files b)) (length (rewrite_files b)))
 
--- The machines have read both queues, as they stand on the disk, and this is told of their files.
+-- The machines have read both queues, as they stand on the disk, and this is told of their files, none of
+-- which has an alignment.
 pub record HasReadBoth {M : Type 0} (reads : LogQueue → List Batch → M → Type 0) (b : DualPipesBuilder)
     (d : Disk) (append rewrite : M) (append_endings rewrite_endings : List FileEnding) : Type 0 where
   pub append_read : HasReadFiles reads (append_config b) (append_files b) d append append_endings
   pub rewrite_read : HasReadFiles reads (rewrite_config b) (rewrite_files b) d rewrite rewrite_endings
+  pub append_unaligned : AreUnaligned append_endings
+  pub rewrite_unaligned : AreUnaligned rewrite_endings
 
 -- both were read, and then their damaged files were cut, Append's first
 pub record RecoversLog {M : Type 0} (reads : LogQueue → List Batch → M → Type 0) (append rewrite : M)
@@ -63,8 +67,8 @@ pub record RecoversLog {M : Type 0} (reads : LogQueue → List Batch → M → T
   pub same : (after.config ≡ b.config) × (after.append.files ≡ b.append.files)
       × (after.rewrite.files ≡ b.rewrite.files) × (after.reserved ≡ b.reserved)
 
--- Why they weren't recovered: a queue wasn't read, and nothing is cut then; or both were read, and a damaged
--- file wasn't cut.
+-- Why they weren't recovered: a queue wasn't read, or one of the files that were read has an alignment, and
+-- nothing is cut then; or a damaged file wasn't cut.
 pub data FailsToRecoverLog {M : Type 0} (reads : LogQueue → List Batch → M → Type 0)
     (declines : LogQueue → List Batch → Error → Type 0) (b : DualPipesBuilder) (error : Error)
     (old new : Disk) : Type 0 where
@@ -73,6 +77,11 @@ pub data FailsToRecoverLog {M : Type 0} (reads : LogQueue → List Batch → M �
   rewrite_unread : (append : M) (endings : List FileEnding)
       → HasReadFiles reads (append_config b) (append_files b) old append endings → new ≡ old
       → IsUnread declines (rewrite_config b) (rewrite_files b) old error
+      → FailsToRecoverLog reads declines b error old new
+  aligned : (append rewrite : M) (es fs : List FileEnding)
+      → HasReadFiles reads (append_config b) (append_files b) old append es
+      → HasReadFiles reads (rewrite_config b) (rewrite_files b) old rewrite fs → new ≡ old
+      → (AreUnaligned es × AreUnaligned fs → ⊥) → TellsAligned error
       → FailsToRecoverLog reads declines b error old new
   append_uncut : (append rewrite : M) (es fs : List FileEnding) (kind : ErrorKind)
       → HasReadBoth reads b old append rewrite es fs → error ≡ errors.Io kind

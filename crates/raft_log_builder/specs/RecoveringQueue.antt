@@ -11,24 +11,33 @@ use Rattle.raft_log_segments.specs.Machines.{Batch}
 use Rattle.raft_log_found_queue.specs.declared.file_ending.FileEnding.{FileEnding}
 use Rattle.raft_log_builder.specs.Reading.{HasReadFiles, IsUnread}
 use Rattle.raft_log_builder.specs.Cutting.{CutsEach, FailsToCutEach}
+use Rattle.raft_log_builder.specs.Unaligned.{AreUnaligned, TellsAligned}
 use Rattle.raft_log_builder.specs.declared.builder.DualPipesBuilder.{DualPipesBuilder}
 use Rattle.raft_log_builder.specs.declared.queue_files.QueueFiles.{QueueFiles}
 
--- the machine has read the queue, as it stood on the disk, and then its damaged files were cut
+-- The machine has read the queue, as it stood on the disk; none of its files has an alignment; and then those
+-- that are damaged were cut.
 pub record RecoversFiles {M : Type 0} (reads : LogQueue → List Batch → M → Type 0) (config : RecoveryConfig)
     (machine : M) (q after : QueueFiles) (old new : Disk) : Type 0 where
   pub read : HasReadFiles reads config q.files.items old machine after.endings.items
+  pub unaligned : AreUnaligned after.endings.items
   pub cut : CutsEach q.files.items after.endings.items old new
   pub same : after.files ≡ q.files
 
--- why it wasn't recovered: it wasn't read, and nothing is cut then; or it was, and a damaged file wasn't cut
+-- Why it wasn't recovered: it wasn't read, or one of the files has an alignment, and nothing is cut then; or
+-- a damaged file wasn't cut.
 pub data FailsToRecoverFiles {M : Type 0} (reads : LogQueue → List Batch → M → Type 0)
     (declines : LogQueue → List Batch → Error → Type 0) (config : RecoveryConfig) (q : QueueFiles)
     (error : Error) (old new : Disk) : Type 0 where
   unread : new ≡ old → IsUnread declines config q.files.items old error
       → FailsToRecoverFiles reads declines config q error old new
+  aligned : (machine : M) (endings : List FileEnding)
+      → HasReadFiles reads config q.files.items old machine endings → new ≡ old
+      → (AreUnaligned endings → ⊥) → TellsAligned error
+      → FailsToRecoverFiles reads declines config q error old new
   uncut : (machine : M) (endings : List FileEnding) (kind : ErrorKind)
-      → HasReadFiles reads config q.files.items old machine endings → error ≡ errors.Io kind
+      → HasReadFiles reads config q.files.items old machine endings → AreUnaligned endings
+      → error ≡ errors.Io kind
       → FailsToCutEach q.files.items endings kind old new
       → FailsToRecoverFiles reads declines config q error old new
 

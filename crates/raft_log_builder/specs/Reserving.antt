@@ -1,5 +1,5 @@
 -- The files that a log keeps for use under reserved names, as an open readies them.
-use Rattle.std.specs.Prelude.{◌≡◌, ◌-◌, ◌⊎◌, ℕ, min, length}
+use Rattle.std.specs.Prelude.{◌≡◌, ◌-◌, ◌⊎◌, ℕ, min, List, length}
 use Rattle.raft_log_base.specs.declared.errors.Error.{Error}
 use Rattle.raft_log_base.specs.declared.errors.Error.TheVariants as errors
 use Rattle.raft_log_base.specs.declared.pipe_log.LogQueue.TheVariants.{Append}
@@ -18,13 +18,15 @@ wanted_files b = min (prefill_capacity (settings_of b.config))
     (recycle_capacity (settings_of b.config) - length (append_files b))
 
 -- there are as many of them as are wanted, or none where there was no space; the others of the log are as found
-pub record ReadiesLog (b after : DualPipesBuilder) (old new : Disk) : Type 0 where
-  pub readies : Readies (log_paths Append (directories_of b.config)) b.config.target_file_size.0
+pub record ReadiesLog {F : Type 0} (disk : F → Disk) (tells : F → List ℕ → ℕ → Type 0)
+    (b after : DualPipesBuilder) (old new : F) : Type 0 where
+  pub readies : Readies disk tells (log_paths Append (directories_of b.config)) b.config.target_file_size.0
       (wanted_files b) b.reserved.items after.reserved.items old new
   pub same : (after.config ≡ b.config) × (after.append ≡ b.append) × (after.rewrite ≡ b.rewrite)
 
--- why there aren't: for want of memory nothing was done; or one wasn't made
-abbrev pub FailsToReadyLog : DualPipesBuilder → Error → Disk → Disk → Type 0
-FailsToReadyLog b error old new = ((error ≡ errors.Memory) × (new ≡ old))
-    ⊎ FailsToReady (log_paths Append (directories_of b.config)) b.config.target_file_size.0
+-- why there aren't: for want of memory nothing was done; or one wasn't made, or had no name to be deleted by
+abbrev pub FailsToReadyLog : {F : Type 0} → (F → Disk) → (F → List ℕ → ℕ → Type 0) → DualPipesBuilder → Error
+    → F → F → Type 0
+FailsToReadyLog disk tells b error old new = ((error ≡ errors.Memory) × (disk new ≡ disk old))
+    ⊎ FailsToReady disk tells (log_paths Append (directories_of b.config)) b.config.target_file_size.0
     (wanted_files b) b.reserved.items error old new

@@ -9,6 +9,7 @@ use crate::paths::paths;
 use crate::queue_files::QueueFiles;
 use crate::reading::recover_files;
 use crate::syncing::sync_files;
+use crate::unaligned::{aligned, are_unaligned};
 use log::Log;
 use raft_log_base::{Error, LogQueue, Result};
 use raft_log_disk::FileSystem;
@@ -94,9 +95,10 @@ impl DualPipesBuilder {
     /// Reads both queues by workers into machines, that of Append and that of Rewrite; then cuts the files
     /// that are damaged, Append's first, each behind its last good record, and syncs them.
     ///
-    /// Nothing is cut unless all files of both queues could be read. `Io` where a read is refused, which is
-    /// never taken for damage; `Corruption` or `Codec` for damage that isn't tolerated; why a machine declines
-    /// a record; `Memory`. `Io` where a file isn't cut or synced: those before it are.
+    /// Nothing is cut unless all files of both queues could be read and none has an alignment. `Io` where a
+    /// read is refused, which is never taken for damage; `Corruption` or `Codec` for damage that isn't
+    /// tolerated; why a machine declines a record; `InvalidArgument` for an alignment; `Memory`. `Io` where a
+    /// file isn't cut or synced: those before it are.
     pub fn recover<R: Threads + Log + Sync, F: FileSystem + Sync, M: ReplayMachine, FA: Factory<M>>(
         &mut self,
         rt: &R,
@@ -116,6 +118,9 @@ impl DualPipesBuilder {
         let append = recover_files(rt, alloc, file_system, config, &self.append.files, factory)?;
         let config = RecoveryConfig::new(&self.config, LogQueue::Rewrite, workers.rewrite);
         let rewrite = recover_files(rt, alloc, file_system, config, &self.rewrite.files, factory)?;
+        if !are_unaligned(&append.endings) || !are_unaligned(&rewrite.endings) {
+            return Err(aligned(alloc));
+        }
         cut_files(rt, file_system, &self.append.files, &append.endings)?;
         cut_files(rt, file_system, &self.rewrite.files, &rewrite.endings)?;
         self.append.endings = append.endings;
@@ -158,8 +163,8 @@ impl DualPipesBuilder {
     /// as many as the settings want beside the files of Append, filled with zeros; those past that are deleted,
     /// from the newest on. To be called before `finish`, behind `scan`.
     ///
-    /// `Io` where a file isn't made, `NumberRange` where there is no name for it, `Memory`: those that were made
-    /// are there, and the builder knows of none.
+    /// `Io` where a file isn't made, `NumberRange` where there is no name for one that is to be made or deleted,
+    /// `Memory`: those before it were made or deleted, and the builder knows of none.
     pub fn initialize_files<F: FileSystem, L: Log>(
         &mut self,
         alloc: Global,
@@ -167,9 +172,9 @@ impl DualPipesBuilder {
         file_system: &mut F,
     ) -> Result<()>
         ensures ok { OnOk result
-            (ReadiesLog self.old self.new (F.disk file_system.old) (F.disk file_system.new)) }
+            (ReadiesLog F.disk F.tells_space self.old self.new file_system.old file_system.new) }
         ensures err { IfErr result (λ error.
-            FailsToReadyLog self.old error (F.disk file_system.old) (F.disk file_system.new)) }
+            FailsToReadyLog F.disk F.tells_space self.old error file_system.old file_system.new) }
         ensures same { (self.new.config ≡ self.old.config) × (self.new.append ≡ self.old.append)
             × (self.new.rewrite ≡ self.old.rewrite) }
     {

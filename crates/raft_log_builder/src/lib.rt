@@ -10,6 +10,7 @@ pub mod paths;
 pub mod queue_files;
 pub mod reading;
 pub mod syncing;
+mod unaligned;
 
 pub use builder::DualPipesBuilder;
 pub use queue_files::QueueFiles;

@@ -5,6 +5,7 @@ ghost use Rattle.raft_log_builder.specs.RecoveringQueue.{FailsToRecoverFiles, Re
 
 use crate::cutting::cut_files;
 use crate::reading::recover_files;
+use crate::unaligned::{aligned, are_unaligned};
 use log::Log;
 use raft_log_base::Result;
 use raft_log_disk::FileSystem;
@@ -47,9 +48,10 @@ impl QueueFiles {
     /// Reads the files by workers into a machine; then cuts those that are damaged, each behind its last good
     /// record, and syncs them, in order.
     ///
-    /// Nothing is cut unless all could be read. `Io` where a read is refused, which is never taken for damage;
-    /// `Corruption` or `Codec` for damage that isn't tolerated; why the machine declines a record; `Memory`.
-    /// `Io` where a file isn't cut or synced: those before it are.
+    /// Nothing is cut unless all could be read and none has an alignment. `Io` where a read is refused, which
+    /// is never taken for damage; `Corruption` or `Codec` for damage that isn't tolerated; why the machine
+    /// declines a record; `InvalidArgument` for an alignment; `Memory`. `Io` where a file isn't cut or synced:
+    /// those before it are.
     pub fn recover<R: Threads + Log + Sync, F: FileSystem + Sync, M: ReplayMachine, FA: Factory<M>>(
         &mut self,
         rt: &R,
@@ -65,6 +67,9 @@ impl QueueFiles {
         ensures same { OnErr result (self.new ≡ self.old) }
     {
         let read = recover_files(rt, alloc, file_system, config, &self.files, factory)?;
+        if !are_unaligned(&read.endings) {
+            return Err(aligned(alloc));
+        }
         cut_files(rt, file_system, &self.files, &read.endings)?;
         self.endings = read.endings;
         Ok(read.machine)

@@ -5,6 +5,7 @@ ghost use Rattle.raft_log_base.specs.declared.pipe_log.LogQueue.{LogQueue};
 ghost use Rattle.raft_log_base.specs.declared.pipe_log.LogQueue.TheVariants.{Append, Rewrite};
 ghost use Rattle.raft_log_model.specs.Item.Mark.{End};
 ghost use Rattle.raft_log_atomic_groups.specs.Meaning.{part_of};
+ghost use Rattle.raft_log_replay.specs.Tables.{IsAtRest};
 ghost use Rattle.raft_log_contexts.specs.Records.{record_read, ReadRecord};
 ghost use Rattle.raft_log_contexts.specs.Pieces.{part_read, IsBroken};
 
@@ -25,6 +26,7 @@ pub struct MemTableRecoverContext {
     alloc: Global,
     tables: MemTables,
     pieces: GroupPieces,
+    ghost rests: { IsAtRest tables },
 }
 
 impl MemTableRecoverContext {
@@ -146,9 +148,10 @@ impl MemTableRecoverContext {
         self.tables.merge_append_table(append.tables)
     }
 
-    /// The tables of all groups. Atomic groups that never ended are dropped.
+    /// The tables of all groups; nothing is prepared in them. Atomic groups that never ended are dropped.
     pub fn finish(self) -> MemTables
-        ensures { result ≡ tables_of self }
+        ensures tables { result ≡ tables_of self }
+        ensures rest { IsAtRest result }
     {
         self.tables
     }

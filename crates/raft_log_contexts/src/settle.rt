@@ -2,7 +2,7 @@
 ghost use Rattle.std.specs.Prelude.{◌≡◌, ◌||◌, ℕ, Some, IfErr, OnOk};
 ghost use Rattle.raft_log_base.specs.declared.errors.Error.TheVariants.{Memory};
 ghost use Rattle.raft_log_replay.specs.Batch.{mentions};
-ghost use Rattle.raft_log_replay.specs.Tables.{replayed_of};
+ghost use Rattle.raft_log_replay.specs.Tables.{replayed_of, IsAtRest};
 ghost use Rattle.raft_log_contexts.specs.Pieces.{ends_with, with_file};
 ghost use Rattle.raft_log_contexts.specs.Noting.{is_listed, NotesAll, SettlesAll, SettlesGroup, SettlesWhole};
 
@@ -21,6 +21,7 @@ pub(crate) fn settle_all(
 ) -> Result<()>
     ensures ok { OnOk result (SettlesAll done.items tables.old tables.new) }
     ensures errors { IfErr result (λ e. e ≡ Memory) }
+    ensures rest { IsAtRest tables.old → IsAtRest tables.new }
 {
     for parts in done {
         settle(alloc, tables, parts)?;
@@ -36,6 +37,7 @@ pub(crate) fn settle_whole(
 ) -> Result<()>
     ensures ok { OnOk result (SettlesWhole whole tables.old tables.new) }
     ensures errors { IfErr result (λ e. e ≡ Memory) }
+    ensures rest { IsAtRest tables.old → IsAtRest tables.new }
 {
     match whole {
         Some(parts) => settle(alloc, tables, parts),
@@ -49,6 +51,7 @@ pub(crate) fn settle_whole(
 fn settle(alloc: Global, tables: &mut MemTables, parts: Vec<GroupPart>) -> Result<()>
     ensures ok { OnOk result (SettlesGroup parts.items tables.old tables.new) }
     ensures errors { IfErr result (λ e. e ≡ Memory) }
+    ensures rest { IsAtRest tables.old → IsAtRest tables.new }
 {
     let mut groups = Vec::new(alloc);
     let mut files = None;
@@ -102,7 +105,9 @@ fn ends_with(groups: &[u64], group: u64) -> bool
 
 /// The files of an atomic group, if it has some, are noted in the tables of these raft groups.
 fn note_groups(tables: &mut MemTables, groups: &[u64], files: Option<GroupFiles>)
-    ensures { NotesAll files (λ g. is_listed g groups.now) (replayed_of tables.old) (replayed_of tables.new) }
+    ensures notes { NotesAll files (λ g. is_listed g groups.now) (replayed_of tables.old)
+        (replayed_of tables.new) }
+    ensures rest { IsAtRest tables.old → IsAtRest tables.new }
 {
     match files {
         Some(files) => note_each(tables, groups, files),
@@ -112,8 +117,9 @@ fn note_groups(tables: &mut MemTables, groups: &[u64], files: Option<GroupFiles>
 
 /// The files are noted in the tables of these raft groups.
 fn note_each(tables: &mut MemTables, groups: &[u64], files: GroupFiles)
-    ensures { NotesAll (Some files) (λ g. is_listed g groups.now) (replayed_of tables.old)
+    ensures notes { NotesAll (Some files) (λ g. is_listed g groups.now) (replayed_of tables.old)
         (replayed_of tables.new) }
+    ensures rest { IsAtRest tables.old → IsAtRest tables.new }
 {
     for group in groups {
         tables.note_read_group(*group, files);

@@ -1,3 +1,4 @@
 mod Tables
 mod Put
 mod Entries
+mod Scans

@@ -140,12 +140,12 @@ pub put_synced : (b : Batch) (len : ℕ) (s mid t : Shows) → IsReadyForEach le
 put_synced b len s mid t (ready, wrote) synced = inr (ready, writes_synced b s mid t wrote synced)
 
 -- a record that is tried once more
-pub written_again : (signed other : LogFileContext → List ℕ) (error : Error) (v mid w : LogPipes) (r : Result FileBlockHandle Error) → other ≡ signed → IsNoSpace error
+pub written_again : (signed other : LogFileContext → List ℕ) (error : Error) (v mid w : LogPipes) (r : Result FileBlockHandle Error) → other ≡ signed → IsNoSpace error → IsLater v.disk mid.disk
     → FailsToAppendTo InAppend signed error v mid → IfOk r (λ block. AppendsTo InAppend other block mid w) → IfOk r (λ block. WritesAt signed block v w)
-written_again signed other error v mid w (Ok block) same none failed call = inr (mid, (error, none, failed), subst (λ s. AppendsTo InAppend s block mid w) same call)
-written_again signed other error v mid w (Err e) same none failed call = tt
+written_again signed other error v mid w (Ok block) same none later failed call = inr (mid, (error, none, later, failed), subst (λ s. AppendsTo InAppend s block mid w) same call)
+written_again signed other error v mid w (Err e) same none later failed call = tt
 
-pub refused_again : (signed other : LogFileContext → List ℕ) (error : Error) (v mid w : LogPipes) (r : Result FileBlockHandle Error) → other ≡ signed → IsNoSpace error
+pub refused_again : (signed other : LogFileContext → List ℕ) (error : Error) (v mid w : LogPipes) (r : Result FileBlockHandle Error) → other ≡ signed → IsNoSpace error → IsLater v.disk mid.disk → IsLater mid.disk w.disk
     → FailsToAppendTo InAppend signed error v mid → IfErr r (λ e. FailsToAppendTo InAppend other e mid w) → IfErr r (λ e. RefusesAt signed e v w)
-refused_again signed other error v mid w (Ok block) same none failed call = tt
-refused_again signed other error v mid w (Err e) same none failed call = inr (mid, (error, none, failed), subst (λ s. FailsToAppendTo InAppend s e mid w) same call)
+refused_again signed other error v mid w (Ok block) same none later next failed call = tt
+refused_again signed other error v mid w (Err e) same none later next failed call = inr (mid, (error, none, later, failed), next, subst (λ s. FailsToAppendTo InAppend s e mid w) same call)

@@ -1,2 +1,5 @@
+pub mod Compacting
+pub mod Messages
+pub mod Reads
 pub mod Room
 pub mod Whole

@@ -1,7 +1,6 @@
 -- What is told of an engine as a whole, and of a key as a message.
 use Rattle.std.specs.Prelude.{◌≡◌, ◌⊎◌, ◌+◌, ◌-◌, ◌^◌, min, ℕ, List, Option, Some, None, Err}
 use Rattle.raft_log_base.specs.declared.errors.Error.{Error}
-use Rattle.raft_log_base.specs.declared.errors.Error.TheVariants as errors
 use Rattle.raft_log_base.specs.declared.pipe_log.LogQueue.{LogQueue}
 use Rattle.raft_log_items.specs.Message.{Parses}
 use Rattle.raft_log_directory.specs.Calls.Which.{InAppend, InRewrite}
@@ -10,6 +9,7 @@ use Rattle.raft_log_dual_pipes.specs.Pipes.{LogPipes, files_of, which_of}
 use Rattle.raft_log_dual_pipes.specs.Calls.{IsSpanOf, size_at}
 use Rattle.raft_log_engine_state.specs.Shows.{Shows}
 use Rattle.raft_log_engine_state.specs.Reading.{ReadsValue}
+use Rattle.raft_log_engine.specs.Reads.{IsUncopied, Lives}
 
 -- the numbers of the first and the last file of a queue
 pub record TellsSpan (queue : LogQueue) (v : LogPipes) (first last : ℕ) : Type 0 where
@@ -32,7 +32,8 @@ abbrev pub TellsMessage : {M : Type 0} → (List ℕ → Option M) → Shows →
 TellsMessage reading s g key message =
     (value : Option (List ℕ)) × ReadsValue s g key value × IsMessageOf reading value message
 
--- why it isn't: memory ran out; or the value is no message, and only then as one
+-- why it isn't: the engine has failed; or it hasn't, and memory ran out, or the value is no message
 abbrev pub IsMessageUntold : {M : Type 0} → (List ℕ → Option M) → Shows → ℕ → List ℕ → Error → Type 0
-IsMessageUntold {M} reading s g key error = (error ≡ errors.Memory)
-    ⊎ ((value : List ℕ) × ReadsValue s g key (Some value) × Parses {M = M} (Err error) (reading value))
+IsMessageUntold {M} reading s g key error = IsUncopied s error
+    ⊎ (Lives s × ((value : List ℕ) × ReadsValue s g key (Some value)
+    × Parses {M = M} (Err error) (reading value)))

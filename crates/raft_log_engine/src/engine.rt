@@ -3,9 +3,12 @@
 ghost use Rattle.std.specs.Prelude.{◌≡◌, [], None, OnOk, OnErr, IfOk, IfErr};
 ghost use Rattle.raft_log_replay.specs.Tables.{IsAtRest};
 
+mod compacting;
 mod entries;
 mod messages;
+mod opening;
 mod reads;
+mod scans;
 mod whole;
 
 use crate::writing;
@@ -28,10 +31,17 @@ pub struct Engine<P> {
 }
 
 impl<P: PipeLog> Engine<P> {
-    ghost use Rattle.raft_log_engine_state.specs.Shows.{shows};
     ghost use Rattle.raft_log_engine_state.specs.Syncing.{NotSynced, Syncs};
-    ghost use Rattle.raft_log_engine_state.specs.Writing.{IsEmptied, IsKept, IsKeptUnlessFailed, NotWritten, Writes, WritesBytes};
+    ghost use Rattle.raft_log_engine_state.specs.Writing.{
+      IsEmptied,
+      IsKept,
+      IsKeptUnlessFailed,
+      NotWritten,
+      Writes,
+      WritesBytes,
+    };
     ghost use Rattle.raft_log_records.specs.Batch.{emptied, IsButBuffer, IsReadyForEach};
+    ghost use Rattle.raft_log_engine.specs.Reads.{shows_of};
     ghost use Rattle.raft_log_engine.specs.Room.{PutFails};
     ghost use Rattle.std.specs.Prelude.{false, true};
     ghost use Rattle.raft_log_disk.specs.Causes.{IsLater};
@@ -62,10 +72,9 @@ impl<P: PipeLog> Engine<P> {
 
     /// Makes all batches durable. Refused, it is `Failed`, and nothing is taken any more.
     pub fn sync<L: Log>(&mut self, rt: &L) -> Result<()>
-        ensures ok { OnOk result (Syncs (shows (P.shown self.old.pipes) self.old.tables self.old.cache)
-            (shows (P.shown self.new.pipes) self.new.tables self.new.cache)) }
-        ensures err { IfErr result (λ error. NotSynced error (shows (P.shown self.old.pipes) self.old.tables self.old.cache)
-            (shows (P.shown self.new.pipes) self.new.tables self.new.cache)) }
+        ensures ok { OnOk result (Syncs (shows_of P.shown self.old) (shows_of P.shown self.new)) }
+        ensures err { IfErr result (λ error.
+            NotSynced error (shows_of P.shown self.old) (shows_of P.shown self.new)) }
     {
         self.pipes.sync(rt, LogQueue::Append)
     }
@@ -74,18 +83,16 @@ impl<P: PipeLog> Engine<P> {
     /// The batch is emptied. An empty one isn't written.
     ///
     /// Before anything is done: `InvalidArgument` for a batch that was written already, or whose marks of
-    /// atomic groups are broken; `Full` for a record of 2^56 bytes or more; `Hole` where a group's entries would
-    /// start past the index after the last; `Memory`. Then `Io`: the write was refused and cut off, and all
-    /// batches before are durable; `TryAgain`: the same for want of space, in two files, one after the other.
-    /// `Memory`, `NumberRange`: there is no next file. In each of these cases the batch is kept, and its record made. `Failed`: nothing is taken
-    /// any more, and the batch may be in the log or not.
+    /// atomic groups are broken; `Full` for a record of 2^56 bytes or more; `Hole` where a group's entries
+    /// would start past the index after the last; `Memory`. Then `Io`: the write was refused and cut off, and
+    /// all batches before are durable; `TryAgain`: the same for want of space, in two files, one after the
+    /// other. `Memory`, `NumberRange`: there is no next file. In each of these cases the batch is kept, and
+    /// its record made. `Failed`: nothing is taken any more, and the batch may be in the log or not.
     pub fn write<L: Log>(&mut self, rt: &L, batch: &mut LogBatch, sync: bool) -> Result<usize>
         ensures ok { IfOk result (λ len. WritesBytes batch.old sync len
-            (shows (P.shown self.old.pipes) self.old.tables self.old.cache)
-            (shows (P.shown self.new.pipes) self.new.tables self.new.cache)) }
+            (shows_of P.shown self.old) (shows_of P.shown self.new)) }
         ensures err { IfErr result (λ error. NotWritten batch.old error
-            (shows (P.shown self.old.pipes) self.old.tables self.old.cache)
-            (shows (P.shown self.new.pipes) self.new.tables self.new.cache)) }
+            (shows_of P.shown self.old) (shows_of P.shown self.new)) }
         ensures emptied { OnOk result (IsEmptied batch.old batch.new) }
         ensures kept { IfErr result (λ error. IsKeptUnlessFailed error batch.old batch.new) }
     {
@@ -120,11 +127,9 @@ impl<P: PipeLog> Engine<P> {
         requires lives { is_failed (P.shown self.old.pipes) ≡ false }
         requires some { batch.old.items ≡ [] → ⊥ }
         ensures ok { IfOk result (λ len. IsReadyForEach len batch.old.items batch.old.entries
-            × Writes batch.old false (shows (P.shown self.old.pipes) self.old.tables self.old.cache)
-            (shows (P.shown self.new.pipes) self.new.tables self.new.cache)) }
+            × Writes batch.old false (shows_of P.shown self.old) (shows_of P.shown self.new)) }
         ensures err { IfErr result (λ error. PutFails batch.old error
-            (shows (P.shown self.old.pipes) self.old.tables self.old.cache)
-            (shows (P.shown self.new.pipes) self.new.tables self.new.cache)) }
+            (shows_of P.shown self.old) (shows_of P.shown self.new)) }
         ensures emptied { OnOk result (IsButBuffer (emptied batch.old) batch.new) }
         ensures kept { OnErr result (IsKept batch.old batch.new) }
     {

@@ -1,7 +1,8 @@
 //! How a batch is written: room for it is made before, in memory, so that what comes after the write can't be
 //! refused.
 
-ghost use Rattle.std.specs.Prelude.{◌≡◌, ◌+◌, ◌≤◌, ◌<◌, ◌^◌, ◌↔◌, ℕ, [], length, vec_capacity, vec_len, false, IfErr, IfOk, OnErr, OnOk, IsTrue};
+ghost use Rattle.std.specs.Prelude.{◌≡◌, ◌+◌, ◌≤◌, ◌<◌, ◌^◌, ◌↔◌, ℕ, [], length, vec_capacity, vec_len};
+ghost use Rattle.std.specs.Prelude.{false, IfErr, IfOk, OnErr, OnOk, IsTrue};
 ghost use Rattle.raft_log_atomic_groups.specs.declared.marking.Marking.TheVariants.{Broken};
 ghost use Rattle.raft_log_atomic_groups.specs.Marking.{marking_of_items};
 ghost use Rattle.raft_log_atomic_groups.specs.Meaning.{tagged_items};
@@ -76,8 +77,8 @@ fn populate(batch: &mut LogBatch) -> Result<()>
     Ok(())
 }
 
-/// Writes a batch that room was made for, and answers how many bytes its record has: what it says stands in the
-/// tables then, and it is emptied. Refused by the pipes, it is kept, and the room is taken back.
+/// Writes a batch that room was made for, and answers how many bytes its record has: what it says stands in
+/// the tables then, and it is emptied. Refused by the pipes, it is kept, and the room is taken back.
 pub fn append<P: PipeLog, L: Log>(
     alloc: Global,
     rt: &L,
@@ -94,7 +95,8 @@ pub fn append<P: PipeLog, L: Log>(
     requires ready { IsReadyFor tables.old (tagged_items (λ e. e) batch.old.items) }
     requires room { HasRoomFor batch.old room }
     ensures ok { IfOk result (λ len. IsReadyForEach len batch.old.items batch.old.entries
-        × Writes batch.old false (shows (P.shown pipes.old) tables.old cache.old) (shows (P.shown pipes.new) tables.new cache.new)) }
+        × Writes batch.old false (shows (P.shown pipes.old) tables.old cache.old)
+        (shows (P.shown pipes.new) tables.new cache.new)) }
     ensures err { IfErr result (λ error. Refuses batch.old error
         (shows (P.shown pipes.old) tables.old cache.old) (shows (P.shown pipes.new) tables.new cache.new)) }
     ensures rests { IsAtRest tables.new }
@@ -121,8 +123,8 @@ pub fn append<P: PipeLog, L: Log>(
     }
 }
 
-/// Writes the record of a batch to Append. Where there is no space for it, Append has gone on in its next file, and
-/// it is tried there once more.
+/// Writes the record of a batch to Append. Where there is no space for it, Append has gone on in its next
+/// file, and it is tried there once more.
 fn append_or_again<P: PipeLog, L: Log>(
     alloc: Global,
     rt: &L,

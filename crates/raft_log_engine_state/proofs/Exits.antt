@@ -6,6 +6,7 @@ use Rattle.std.proofs.lemmas.Bool.{cases_Bool, false≢true}
 use Rattle.raft_log_model.specs.Groups.{of_group, taken}
 use Rattle.raft_log_disk.specs.Causes.{IsLater}
 use Rattle.raft_log_disk.specs.Disk.{Disk}
+use Rattle.raft_log_disk.proofs.CauseLaws.{fails_after}
 use Rattle.raft_log_base.specs.declared.errors.Error.{Error}
 use Rattle.raft_log_base.specs.declared.errors.Error.TheVariants as errors
 use Rattle.raft_log_base.specs.declared.pipe_log.FileBlockHandle.{FileBlockHandle}
@@ -115,7 +116,8 @@ write_unsynced b s mid t w f = record {
   later = later_on s.pipes.disk mid.pipes.disk t.pipes.disk w.later f.later;
   leaves = λ home m pending h.
       (let e = w.log home m pending h in
-      inr (left_behind home t.pipes.disk m e.done e.rest (pending ++ said_of b ∷ []) e.splits (f.leaves home (taken m e.done) e.rest e.runs).1));
+      let (cause, left) = f.leaves home (taken m e.done) e.rest e.runs in
+      (fails_after s.pipes.disk mid.pipes.disk t.pipes.disk w.later cause, inr (left_behind home t.pipes.disk m e.done e.rest (pending ++ said_of b ∷ []) e.splits left)));
 }
 
 -- one that failed where nothing was to be written
@@ -127,13 +129,13 @@ empty_unsynced b s t f = record {
   forgets = λ alive. absurd (false≢true (sym alive ∙ f.failed));
   tries = λ none. absurd none;
   later = f.later;
-  leaves = λ home m pending h. inl (f.leaves home m pending (holds_runs home s m pending h)).1;
+  leaves = λ home m pending h. (let (cause, left) = f.leaves home m pending (holds_runs home s m pending h) in (cause, inl left));
 }
 
 -- that there is no space is told after two tries
 tried_twice : (signed : LogFileContext → List ℕ) (error : Error) (v w : LogPipes) → IsNoSpace error → RefusesAt signed error v w → TriesTwiceInVain signed v w
 tried_twice signed error v w full (inl (other, call)) = absurd (other full)
-tried_twice signed error v w full (inr (mid, vain, call)) = (mid, vain, (error, full, call))
+tried_twice signed error v w full (inr (mid, vain, later, call)) = (mid, vain, (error, full, later, call))
 
 -- a batch that the pipes refused
 pub refuses : (b : Batch) (error : Error) (s t : Shows) → has_failed s ≡ false → (IsTrue (has_failed t) ↔ (error ≡ errors.Failed)) → t.tables ≡ s.tables → t.counts ≡ s.counts

@@ -19,7 +19,7 @@ use Rattle.raft_log_places.specs.Shown.{Shown}
 use Rattle.raft_log_places.specs.Bridge.{Located, in_queue, located, table_of}
 use Rattle.raft_log_held.specs.Counts.{sized}
 use Rattle.raft_log_held.specs.Entries.{entry_of, queue_of}
-use Rattle.raft_log_tables.specs.Reads.{entries_from, entry_at, fetched, places_between}
+use Rattle.raft_log_tables.specs.Reads.{AreIn, entries_from, entry_at, fetched, places_between}
 use Rattle.raft_log_stored.specs.Stored.{Each, EntryLiesIn, IsStored, entries_at, part, queue_in}
 use Rattle.raft_log_dual_pipes.specs.Pipes.{Said, State}
 use Rattle.raft_log_blocks.specs.declared.block_cache.BlockCache.{BlockCache}
@@ -27,7 +27,7 @@ use Rattle.raft_log_blocks.specs.Blocks.{AreUnread, BlockIsStored, IsBlockUnread
 use Rattle.raft_log_blocks.proofs.Kept.{kept_is_written, none_kept}
 use Rattle.raft_log_engine_state.specs.Shows.{Home, LogMap, Shows, sense}
 use Rattle.raft_log_engine_state.specs.Holding.{Holds}
-use Rattle.raft_log_engine_state.specs.Fetching.{AreEntriesOf, AreIn, AreToRead, IsEntryOf, IsOneUntold, IsUntold, LiesOutside, StaysButBlock}
+use Rattle.raft_log_engine_state.specs.Fetching.{AreEntriesOf, AreToRead, IsEntryOf, IsOneUntold, IsUntold, LiesOutside, StaysButBlock}
 
 -- lists and their elements
 each_at : {A : Type 0} (P : A → Type 0) (xs : List A) (k : ℕ) (x : A) → Each P xs → slice_get xs k ≡ Some x → P x

@@ -1,5 +1,6 @@
 -- What an engine's tables show is what its map has.
-use Rattle.std.proofs.Common.{◌≡◌, ℕ, ◌+◌, ◌-◌, ◌<◌, ◌≤◌, zero, suc, Bool, true, false, List, [], ◌∷◌, length, Option, Some, None, refl, sym, ap, subst, ◌∙◌, arith, if◌then◌else◌, nat_le, nat_lt, option_map, slice_get}
+use Rattle.std.proofs.Common.{◌≡◌, ℕ, ◌+◌, ◌-◌, ◌<◌, ◌≤◌, zero, suc, Bool, true, false, List, [], ◌∷◌, length, Option, Some, None, refl, sym, ap, subst, ◌∙◌, arith, if◌then◌else◌, nat_le, nat_lt, option_map, slice_get, bytes_eq}
+use Rattle.std.specs.Map.{lookup}
 use Rattle.std.proofs.lemmas.Bool.{cases_Bool, false≢true}
 use Rattle.raft_log_model.specs.Groups.{taken}
 use Rattle.raft_log_model.specs.Meaning.{Content, Slot}
@@ -11,12 +12,13 @@ use Rattle.raft_log_places.specs.declared.place.Place.{Place}
 use Rattle.raft_log_places.specs.Shown.{KeyValue, Shown}
 use Rattle.raft_log_places.specs.Bridge.{IsMeant, Located, bytes_held, located, table_of}
 use Rattle.raft_log_places.proofs.Queues.{located_length}
+use Rattle.raft_log_held.specs.Listing.{ListsAll, values_within}
 use Rattle.raft_log_tables.specs.Reads.{first_of, last_of}
 use Rattle.raft_log_stored.specs.Stored.{entries_at}
 use Rattle.raft_log_dual_pipes.specs.Pipes.{Said}
 use Rattle.raft_log_engine_state.specs.Shows.{Home, LogMap, Shows}
 use Rattle.raft_log_engine_state.specs.Holding.{Holds}
-use Rattle.raft_log_engine_state.specs.Reading.{IsFirstIn, IsLastIn, StandsUnder, TablesTell}
+use Rattle.raft_log_engine_state.specs.Reading.{AreKeysOf, IsFirstIn, IsLastIn, StandsUnder, TablesTell, is_within}
 
 -- an element of a list, by its index
 got : {A : Type 0} (xs : List A) (i : ℕ) → i < length xs → (x : A) × (slice_get xs i ≡ Some x)
@@ -99,9 +101,21 @@ module _ (e : Shows) (g : ℕ) where
       subst (λ (n : LogMap). StandsUnder n g key (bytes_held ((e.tables g).held key))) h.at.stands.map
       (sym (h.meant.meant g (Key key)) ∙ held_value (entries_at h.state) (bytes_held ((e.tables g).held key)))
 
+  keys_told : (start end : Option (List ℕ)) (es : List (List ℕ × List ℕ)) → ListsAll (values_within start end (e.tables g)) es → (home : Home) (m : LogMap) (pending : List Said) → Holds home e m pending
+      → AreKeysOf (taken m pending) g start end es
+  keys_told start end es listed home m pending h = record {
+    rising = listed.rising;
+    inside = λ k yes. subst (StandsUnder (taken m pending) g k) (sym (at k true yes)) (value_told k home m pending h);
+    outside = λ k no. at k false no;
+  }
+    where
+      at : (k : List ℕ) (b : Bool) → is_within start end k ≡ b → lookup (bytes_eq k) es ≡ (if b then bytes_held ((e.tables g).held k) else None)
+      at k b is = listed.exact k ∙ ap (λ (c : Bool). if c then bytes_held ((e.tables g).held k) else None) is
+
 pub tables_tell : TablesTell
 tables_tell = record {
   first = λ e g. record { shown = refl; exact = first_told e g };
   last = λ e g. record { shown = refl; exact = last_told e g };
   value = λ e g key. record { shown = refl; exact = value_told e g key };
+  keys = λ e g start end es listed. record { shown = listed; exact = keys_told e g start end es listed };
 }

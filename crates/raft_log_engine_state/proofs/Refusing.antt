@@ -67,11 +67,13 @@ left_at home o t m pending stands ends = (
 
 -- what the pipes leave of a batch that they refused
 pub refused_leaves : (home : Home) (e t : Shows) (b : Batch) (m : LogMap) (pending : List Said) (error : Error) → Holds home e m pending → IsReady e b → t.tables ≡ e.tables → KeepsOrForgets e t
-    → FailsToAppendTo InAppend (signed_for b) error e.pipes t.pipes → Leaves home b m pending t error
+    → FailsToAppendTo InAppend (signed_for b) error e.pipes t.pipes → Leaves home b m pending e t error
 refused_leaves home e t b m pending (errors.Io kind) h ready same kept call =
-    cut_back home e t b m pending h same kept (call (sense home) h.state (said_of b) h.runs (says_batch home e b ready)).1
+    let (cause, cut) = call (sense home) h.state (said_of b) h.runs (says_batch home e b ready) in
+    (cause, cut_back home e t b m pending h same kept cut)
 refused_leaves home e t b m pending (errors.TryAgain text) h ready same kept call =
-    cut_back home e t b m pending h same kept (call (sense home) h.state (said_of b) h.runs (says_batch home e b ready)).1
+    let (cause, cut) = call (sense home) h.state (said_of b) h.runs (says_batch home e b ready) in
+    (cause, cut_back home e t b m pending h same kept cut)
 refused_leaves home e t b m pending errors.NumberRange h ready same kept call =
     left_out home e t b m pending h same kept (call (sense home) h.state (said_of b) h.runs (says_batch home e b ready))
 refused_leaves home e t b m pending errors.Memory h ready same kept call =
@@ -80,12 +82,14 @@ refused_leaves home e t b m pending errors.Failed h ready same kept call =
     let s = h.state in
     let (cause, (files, goes, stands, may)) = call (sense home) s (said_of b) h.runs (says_batch home e b ready) in
     let next : State = next_log InAppend s files t.pipes.disk in
-    let u : ℕ → View (List ℕ) (List ℕ) = λ n. view_of (all_shown n e.tables (items_at (in_file n) b)) (taken h.map (said_of b ∷ [])) in
-    elim (append_may_be_there (Ties (log_in home)) (Ties (log_in home)) s next (view_of e.tables h.map) m pending h.at u (said_of b) may
-    (λ n. batch_grows b (in_file n) e.tables h.map h.meant.orderly ready.marked ready.follows)) [
-      | inl without ↦ inl (left_at home (with_open InAppend (both_open (files_of e.pipes)) None) next m pending stands without)
-      | inr with_it ↦ inr (left_at home (with_open InAppend (both_open (files_of e.pipes)) None) next m (pending ++ said_of b ∷ []) stands with_it)
-    ]
+    let u : ℕ → View (List ℕ) (List ℕ) = λ n. view_of (all_shown n e.tables (items_at (in_file n) b)) (taken h.map (said_of b ∷ [])) in (
+      cause,
+      elim (append_may_be_there (Ties (log_in home)) (Ties (log_in home)) s next (view_of e.tables h.map) m pending h.at u (said_of b) may
+          (λ n. batch_grows b (in_file n) e.tables h.map h.meant.orderly ready.marked ready.follows)) [
+            | inl without ↦ inl (left_at home (with_open InAppend (both_open (files_of e.pipes)) None) next m pending stands without)
+            | inr with_it ↦ inr (left_at home (with_open InAppend (both_open (files_of e.pipes)) None) next m (pending ++ said_of b ∷ []) stands with_it)
+          ],
+    )
 refused_leaves home e t b m pending _ h ready same kept call =
     call (sense home) h.state (said_of b) h.runs (says_batch home e b ready)
 

@@ -2,6 +2,8 @@
 use Rattle.std.proofs.Common.{◌≡◌, ◌⊎◌, ℕ, false, List, [], ◌∷◌, ◌++◌, inl, inr, refl, sym, ap, subst, ◌∙◌, append_assoc}
 use Rattle.std.proofs.lemmas.List.{append-nil}
 use Rattle.raft_log_model.specs.Groups.{taken}
+use Rattle.raft_log_disk.specs.Causes.{IsLater}
+use Rattle.raft_log_disk.proofs.CauseLaws.{fails_after}
 use Rattle.raft_log_base.specs.declared.errors.Error.{Error}
 use Rattle.raft_log_base.specs.declared.errors.Error.TheVariants as errors
 use Rattle.raft_log_base.specs.declared.pipe_log.FileBlockHandle.{FileBlockHandle}
@@ -42,20 +44,21 @@ none_behind : (m : LogMap) (pending : List Said) → taken (taken m pending) [] 
 none_behind m pending = taken_twice m pending [] ∙ ap (taken m) (append-nil pending)
 
 -- what a second try leaves
-leaves_behind : (home : Home) (b : Batch) (m : LogMap) (pending : List Said) (t : Shows) (error : Error) → Leaves home b (taken m pending) [] t error → Leaves home b m pending t error
-leaves_behind home b m pending t (errors.Io kind) h = subst (λ k. Holds home t k []) (none_behind m pending) h
-leaves_behind home b m pending t (errors.TryAgain text) h = subst (λ k. Holds home t k []) (none_behind m pending) h
-leaves_behind home b m pending t errors.NumberRange h = subst (EndsAt home t m) (append-nil pending) (ends_behind home t m pending [] h)
-leaves_behind home b m pending t errors.Memory h = subst (EndsAt home t m) (append-nil pending) (ends_behind home t m pending [] h)
-leaves_behind home b m pending t errors.Failed (inl without) = inl (left_behind home t.pipes.disk m pending [] pending (append-nil pending) without)
-leaves_behind home b m pending t errors.Failed (inr with_it) =
-    inr (left_behind home t.pipes.disk m pending (said_of b ∷ []) (pending ++ said_of b ∷ []) refl with_it)
-leaves_behind home b m pending t _ h = h
+leaves_behind : (home : Home) (b : Batch) (m : LogMap) (pending : List Said) (s mid t : Shows) (error : Error) → IsLater s.pipes.disk mid.pipes.disk → Leaves home b (taken m pending) [] mid t error → Leaves home b m pending s t error
+leaves_behind home b m pending s mid t (errors.Io kind) later (cause, h) = (fails_after s.pipes.disk mid.pipes.disk t.pipes.disk later cause, subst (λ k. Holds home t k []) (none_behind m pending) h)
+leaves_behind home b m pending s mid t (errors.TryAgain text) later (cause, h) = (fails_after s.pipes.disk mid.pipes.disk t.pipes.disk later cause, subst (λ k. Holds home t k []) (none_behind m pending) h)
+leaves_behind home b m pending s mid t errors.NumberRange later h = subst (EndsAt home t m) (append-nil pending) (ends_behind home t m pending [] h)
+leaves_behind home b m pending s mid t errors.Memory later h = subst (EndsAt home t m) (append-nil pending) (ends_behind home t m pending [] h)
+leaves_behind home b m pending s mid t errors.Failed later (cause, inl without) =
+    (fails_after s.pipes.disk mid.pipes.disk t.pipes.disk later cause, inl (left_behind home t.pipes.disk m pending [] pending (append-nil pending) without))
+leaves_behind home b m pending s mid t errors.Failed later (cause, inr with_it) =
+    (fails_after s.pipes.disk mid.pipes.disk t.pipes.disk later cause, inr (left_behind home t.pipes.disk m pending (said_of b ∷ []) (pending ++ said_of b ∷ []) refl with_it))
+leaves_behind home b m pending s mid t _ later h = h
 
 -- where there was no space, all batches before are in the map
-vain_leaves : (home : Home) (b : Batch) (m : LogMap) (pending : List Said) (t : Shows) (error : Error) → IsNoSpace error → Leaves home b m pending t error → Holds home t (taken m pending) []
-vain_leaves home b m pending t (errors.TryAgain text) none h = h
-vain_leaves home b m pending t _ none h = absurd none
+vain_leaves : (home : Home) (b : Batch) (m : LogMap) (pending : List Said) (s t : Shows) (error : Error) → IsNoSpace error → Leaves home b m pending s t error → Holds home t (taken m pending) []
+vain_leaves home b m pending s t (errors.TryAgain text) none h = h.1
+vain_leaves home b m pending s t _ none h = absurd none
 
 -- the engine between the two tries
 abbrev between : Shows → LogPipes → BlockCache → Shows
@@ -66,8 +69,8 @@ module _ (home : Home) (s t : Shows) (b : Batch) (m : LogMap) (pending : List Sa
   ready_between mid = record { some = ready.some; marked = ready.marked; follows = ready.follows; says = ready.says; laid = ready.laid }
 
   held_between : (mid : LogPipes) → TriesInVain (signed_for b) s.pipes mid → Holds home (between s mid t.cache) (taken m pending) []
-  held_between mid (error, none, call) =
-      vain_leaves home b m pending (between s mid t.cache) error none
+  held_between mid (error, none, later, call) =
+      vain_leaves home b m pending s (between s mid t.cache) error none
       (refused_leaves home s (between s mid t.cache) b m pending error h ready refl kept call)
 
   pub tried_written : (block : FileBlockHandle) → t.tables ≡ all_shown block.id.seq s.tables (items_at block b) → WritesAt (signed_for b) block s.pipes t.pipes
@@ -83,8 +86,8 @@ module _ (home : Home) (s t : Shows) (b : Batch) (m : LogMap) (pending : List Sa
       runs_behind home t.pipes m pending (said_of b ∷ [])
       (log_written home (between s mid t.cache) t.pipes b block (taken m pending) [] (held_between mid vain) (ready_between mid) call)
 
-  pub tried_leaves : (error : Error) → t.tables ≡ s.tables → RefusesAt (signed_for b) error s.pipes t.pipes → Leaves home b m pending t error
+  pub tried_leaves : (error : Error) → t.tables ≡ s.tables → RefusesAt (signed_for b) error s.pipes t.pipes → Leaves home b m pending s t error
   tried_leaves error same (inl (other, call)) = refused_leaves home s t b m pending error h ready same kept call
-  tried_leaves error same (inr (mid, vain, call)) =
-      leaves_behind home b m pending t error
+  tried_leaves error same (inr (mid, vain, later, call)) =
+      leaves_behind home b m pending s (between s mid t.cache) t error vain.2
       (refused_leaves home (between s mid t.cache) t b (taken m pending) [] error (held_between mid vain) (ready_between mid) same (inl refl) call)

@@ -10,7 +10,7 @@ use Rattle.raft_log_items.specs.declared.entry.EntryIndex.{EntryIndex}
 use Rattle.raft_log_items.specs.Message.{Parses}
 use Rattle.raft_log_held.specs.Counts.{sized}
 use Rattle.raft_log_places.specs.Shown.{Shown}
-use Rattle.raft_log_tables.specs.Reads.{FetchRefused, entry_at, fetched, places_between}
+use Rattle.raft_log_tables.specs.Reads.{AreIn, FetchRefused, entry_at, fetched, places_between}
 use Rattle.raft_log_dual_pipes.specs.Pipes.{Said, State}
 use Rattle.raft_log_blocks.specs.Blocks.{IsBlockUnread, written_block}
 use Rattle.raft_log_engine_state.specs.Shows.{Home, LogMap, Shows, has_failed}
@@ -19,7 +19,8 @@ use Rattle.raft_log_engine_state.specs.Holding.{Holds}
 -- a read changes the kept block alone, and what was true of the engine stays true
 pub record StaysButBlock (s t : Shows) : Type 0 where
   pub same : t ≡ record s { cache = t.cache }
-  pub holds : (home : Home) (m : LogMap) (pending : List Said) → Holds home s m pending → Holds home t m pending
+  pub holds : (home : Home) (m : LogMap) (pending : List Said) → Holds home s m pending
+      → Holds home t m pending
 
 -- the message is read of the bytes of a group's entry at an index
 abbrev pub IsEntryOf : {M : Type 0} → (List ℕ → Option M) → LogMap → ℕ → ℕ → M → Type 0
@@ -50,8 +51,8 @@ LiesOutside e block errors.Memory = Unit {0}
 LiesOutside e block (errors.Corruption text) = e.entry_offset + e.entry_len ≤ length block - 4 → ⊥
 LiesOutside e block _ = ⊥
 
--- Why a group's entry isn't told, though it stands in the map: its block isn't read, or isn't whole; or it doesn't
--- lie in the block that was written there; or its bytes in the map are no message.
+-- Why a group's entry isn't told, though it stands in the map: its block isn't read, or isn't whole; or it
+-- doesn't lie in the block that was written there; or its bytes in the map are no message.
 pub record IsUntold {M : Type 0} (reading : List ℕ → Option M) (g i : ℕ) (s : Shows) (log : State) (m : LogMap)
     (error : Error) : Type 0 where
   pub entry : EntryIndex
@@ -75,17 +76,13 @@ pub record FailsToTell {M : Type 0} (reading : List ℕ → Option M) (g i : ℕ
   pub why : (home : Home) (m : LogMap) (pending : List Said) → (h : Holds home s m pending)
       → IsUntold reading g i s h.state (taken m pending) error
 
--- the indexes from begin on, below end, are those of entries that the table has
-abbrev pub AreIn : Shown → ℕ → ℕ → Type 0
-AreIn v begin end = begin < end → (v.first ≤ begin) × (end ≤ v.first + length v.places)
-
 -- the entries that a fetch reads: none of a group that doesn't count
 abbrev pub AreToRead : Shows → ℕ → ℕ → ℕ → Option ℕ → List EntryIndex → Type 0
 AreToRead s g begin end max es = ((s.counts g ≡ false) × (es ≡ []))
     ⊎ ((s.counts g ≡ true) × AreIn (s.tables g) begin end × (es ≡ fetched (s.tables g) begin end max))
 
--- Entries are fetched: they are the map's from begin on, once the pending batches are taken, as many as the greatest
--- size lets come, and stand behind the old ones.
+-- Entries are fetched: they are the map's from begin on, once the pending batches are taken, as many as the
+-- greatest size lets come, and stand behind the old ones.
 pub record FetchesTo {M : Type 0} (reading : List ℕ → Option M) (g begin end : ℕ) (max : Option ℕ) (s t : Shows)
     (old new : List M) (count : ℕ) : Type 0 where
   pub lived : has_failed s ≡ false
@@ -103,8 +100,8 @@ abbrev pub IsOneUntold : {M : Type 0} → (List ℕ → Option M) → ℕ → �
 IsOneUntold reading g begin end s log m error = (error ≡ errors.Memory)
     ⊎ ((i : ℕ) × (begin ≤ i) × (i < end) × IsUntold reading g i s log m error)
 
--- why no entries are fetched, and what is so then: the table of a group that counts hasn't got them all, or one
--- isn't told
+-- why no entries are fetched, and what is so then: the table of a group that counts hasn't got them all, or
+-- one isn't told
 pub record FailsToFetch {M : Type 0} (reading : List ℕ → Option M) (g begin end : ℕ) (s t : Shows) (error : Error)
     : Type 0 where
   pub lived : has_failed s ≡ false

@@ -25,8 +25,8 @@ pub record Holds (home : Home) (e : Shows) (m : LogMap) (pending : List Said) : 
   pub cached : IsOfLog state e.cache
   pub at : IsAt (Ties (log_in home) state) (view_of e.tables map) m pending
 
--- the pipes run over a log in these directories that is the map m with the batches pending behind it, whatever
--- an engine's tables show of it
+-- the pipes run over a log in these directories that is the map m with the batches pending behind it,
+-- whatever an engine's tables show of it
 pub record RunsAs (home : Home) (v : LogPipes) (m : LogMap) (pending : List Said) : Type 0 where
   pub state : State
   pub view : View (List ℕ) (List ℕ)
@@ -47,7 +47,7 @@ pub record EndsAt (home : Home) (e : Shows) (m : LogMap) (pending : List Said) :
   pub splits : done ++ rest ≡ pending
   pub holds : Holds home e (taken m done) rest
 
--- what a failed engine leaves on its disk: its log lies there, from which it may be opened, of the batches some
--- first ones are synced, the others pending
+-- what a failed engine leaves on its disk: its log lies there, from which it may be opened, of the batches
+-- some first ones are synced, the others pending
 abbrev pub IsLeftAt : Home → Disk → LogMap → List Said → Type 0
 IsLeftAt home d m pending = (open_ones : OpenPipes) × LogEndsLying (log_in home) open_ones d m pending

@@ -37,12 +37,13 @@ BatchesAreWritten = (home : Home) (e t : Shows) (b : Batch) (block : FileBlockHa
 abbrev pub RefusalsLeaveNoTrace : Type 0
 RefusalsLeaveNoTrace = (home : Home) (e t : Shows) (b : Batch) (m : LogMap) (pending : List Said)
     (error : Error) → Holds home e m pending → IsReady e b → t.tables ≡ e.tables → KeepsOrForgets e t
-    → FailsToAppendTo InAppend (signed_for b) error e.pipes t.pipes → Leaves home b m pending t error
+    → FailsToAppendTo InAppend (signed_for b) error e.pipes t.pipes → Leaves home b m pending e t error
 
 -- a sync
 abbrev pub SyncsAreHeld : Type 0
 SyncsAreHeld = (home : Home) (e t : Shows) (m : LogMap) (pending : List Said) → Holds home e m pending
-    → t.tables ≡ e.tables → KeepsOrForgets e t → SyncsQueue InAppend e.pipes t.pipes → Holds home t (taken m pending) []
+    → t.tables ≡ e.tables → KeepsOrForgets e t → SyncsQueue InAppend e.pipes t.pipes
+    → Holds home t (taken m pending) []
 
 -- one that failed
 abbrev pub FailuresLeaveLogs : Type 0

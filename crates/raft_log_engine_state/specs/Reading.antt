@@ -1,10 +1,15 @@
 -- What is read of an engine's tables alone is the map's.
-use Rattle.std.specs.Prelude.{◌≡◌, ◌<◌, ℕ, List, Option, None, Some, option_map}
+use Rattle.std.specs.Prelude.{◌≡◌, ◌<◌, ◌&&◌, ℕ, Bool, true, false, List, Option, None, Some, option_map, bytes_eq}
+use Rattle.std.specs.Cmp.Lexicographic.{slice_cmp}
+use Rattle.std.specs.List.Sorted.{IsStrictlySortedBy}
+use Rattle.std.specs.Map.{keys_of, lookup}
+use Rattle.std.specs.Ordering.{nat_cmp}
 use Rattle.raft_log_model.specs.Groups.{taken}
 use Rattle.raft_log_model.specs.Meaning.Slot.{Index, Key}
 use Rattle.raft_log_model.specs.Meaning.Content.{Value}
 use Rattle.raft_log_places.specs.Shown.{KeyValue, Shown}
 use Rattle.raft_log_places.specs.Bridge.{bytes_held}
+use Rattle.raft_log_held.specs.Listing.{ListsAll, is_below, is_from, values_within}
 use Rattle.raft_log_tables.specs.Reads.{first_of, last_of}
 use Rattle.raft_log_dual_pipes.specs.Pipes.{Said}
 use Rattle.raft_log_engine_state.specs.Shows.{Home, LogMap, Shows}
@@ -24,7 +29,8 @@ IsLastIn m g (Some i) = (m g (Index i) ≡ None → ⊥) × ((j : ℕ) → i < j
 abbrev pub StandsUnder : LogMap → ℕ → List ℕ → Option (List ℕ) → Type 0
 StandsUnder m g k value = m g (Key k) ≡ option_map Value value
 
--- A group's first index is told: what the tables show, which is the map's, once the pending batches are taken.
+-- A group's first index is told: what the tables show, which is the map's, once the pending batches are
+-- taken.
 pub record ReadsFirst (e : Shows) (g : ℕ) (index : Option ℕ) : Type 0 where
   pub shown : index ≡ first_of (e.tables g)
   pub exact : (home : Home) (m : LogMap) (pending : List Said) → Holds home e m pending
@@ -42,8 +48,29 @@ pub record ReadsValue (e : Shows) (g : ℕ) (key : List ℕ) (value : Option (Li
   pub exact : (home : Home) (m : LogMap) (pending : List Said) → Holds home e m pending
       → StandsUnder (taken m pending) g key value
 
+-- whether a key is asked for: it isn't below the start, and is below the end
+abbrev pub is_within : Option (List ℕ) → Option (List ℕ) → List ℕ → Bool
+is_within start end k = is_from start k && is_below end k
+
+-- the pairs are the keys of a group that are asked for, each once, in the order of their bytes, with their
+-- values
+pub record AreKeysOf (m : LogMap) (g : ℕ) (start end : Option (List ℕ)) (es : List (List ℕ × List ℕ))
+    : Type 0 where
+  pub rising : IsStrictlySortedBy (slice_cmp nat_cmp) (keys_of es)
+  pub inside : (k : List ℕ) → is_within start end k ≡ true → StandsUnder m g k (lookup (bytes_eq k) es)
+  pub outside : (k : List ℕ) → is_within start end k ≡ false → lookup (bytes_eq k) es ≡ None
+
+-- so are all that are told
+pub record ReadsKeys (e : Shows) (g : ℕ) (start end : Option (List ℕ)) (es : List (List ℕ × List ℕ))
+    : Type 0 where
+  pub shown : ListsAll (values_within start end (e.tables g)) es
+  pub exact : (home : Home) (m : LogMap) (pending : List Said) → Holds home e m pending
+      → AreKeysOf (taken m pending) g start end es
+
 -- what tables show may be told of an engine
 pub record TablesTell : Type 0 where
   pub first : (e : Shows) (g : ℕ) → ReadsFirst e g (first_of (e.tables g))
   pub last : (e : Shows) (g : ℕ) → ReadsLast e g (last_of (e.tables g))
   pub value : (e : Shows) (g : ℕ) (key : List ℕ) → ReadsValue e g key (bytes_held ((e.tables g).held key))
+  pub keys : (e : Shows) (g : ℕ) (start end : Option (List ℕ)) (es : List (List ℕ × List ℕ))
+      → ListsAll (values_within start end (e.tables g)) es → ReadsKeys e g start end es

@@ -26,8 +26,8 @@ use Rattle.raft_log_blocks.specs.declared.block_cache.BlockCache.{BlockCache}
 abbrev pub LogMap : Type 0
 LogMap = Map (List ℕ) (List ℕ)
 
--- what an engine shows: what its tables say of each group, which groups count, its pipes, and the block that it
--- read last
+-- what an engine shows: what its tables say of each group, which groups count, its pipes, and the block that
+-- it read last
 pub record Shows : Type 0 where
   pub tables : ℕ → Shown
   pub counts : ℕ → Bool

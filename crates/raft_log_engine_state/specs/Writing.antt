@@ -2,7 +2,7 @@
 use Rattle.std.specs.Prelude.{◌≡◌, ◌⊎◌, ◌^◌, ◌≤◌, ◌↔◌, IsTrue, ℕ, Bool, true, false, None, List, [], ◌∷◌, ◌++◌}
 use Rattle.raft_log_model.specs.Item.{Tagged}
 use Rattle.raft_log_model.specs.Groups.{of_group, taken}
-use Rattle.raft_log_disk.specs.Causes.{IsLater}
+use Rattle.raft_log_disk.specs.Causes.{Fails, IsLater}
 use Rattle.raft_log_base.specs.declared.errors.Error.{Error}
 use Rattle.raft_log_base.specs.declared.errors.Error.TheVariants as errors
 use Rattle.raft_log_base.specs.declared.pipe_log.FileBlockHandle.{FileBlockHandle}
@@ -25,7 +25,8 @@ abbrev pub items_at : FileBlockHandle → Batch → List (Tagged Place (List ℕ
 items_at block b = placed_items block b.items b.entries
 
 -- A batch that isn't empty was written at this place: the tables took it in the file of its place, and it is
--- pending behind the others, of which a rotation may have synced some first ones. With a sync none is pending.
+-- pending behind the others, of which a rotation may have synced some first ones. With a sync none is
+-- pending.
 pub record Writes (b : Batch) (sync : Bool) (s t : Shows) : Type 0 where
   pub block : FileBlockHandle
   pub some : b.items ≡ [] → ⊥
@@ -61,18 +62,21 @@ IsUnfit b v errors.Memory = Unit {0}
 IsUnfit b v _ = ⊥
 
 -- What is true where the pipes refused, by the error: cut back, all batches before are synced; left out, some
--- first ones may be; and where the engine has failed, its log is held, with the batch or without it.
-abbrev pub Leaves : Home → Batch → LogMap → List Said → Shows → Error → Type 0
-Leaves home b m pending t (errors.Io kind) = Holds home t (taken m pending) []
-Leaves home b m pending t (errors.TryAgain text) = Holds home t (taken m pending) []
-Leaves home b m pending t errors.NumberRange = EndsAt home t m pending
-Leaves home b m pending t errors.Memory = EndsAt home t m pending
-Leaves home b m pending t errors.Failed =
-    IsLeftAt home t.pipes.disk m pending ⊎ IsLeftAt home t.pipes.disk m (pending ++ said_of b ∷ [])
-Leaves home b m pending t _ = ⊥
+-- first ones may be; and where the engine has failed, its log is held, with the batch or without it. Behind
+-- `Io`, `TryAgain` and `Failed` a file call has failed.
+abbrev pub Leaves : Home → Batch → LogMap → List Said → Shows → Shows → Error → Type 0
+Leaves home b m pending s t (errors.Io kind) =
+    Fails s.pipes.disk t.pipes.disk × Holds home t (taken m pending) []
+Leaves home b m pending s t (errors.TryAgain text) =
+    Fails s.pipes.disk t.pipes.disk × Holds home t (taken m pending) []
+Leaves home b m pending s t errors.NumberRange = EndsAt home t m pending
+Leaves home b m pending s t errors.Memory = EndsAt home t m pending
+Leaves home b m pending s t errors.Failed = Fails s.pipes.disk t.pipes.disk
+    × (IsLeftAt home t.pipes.disk m pending ⊎ IsLeftAt home t.pipes.disk m (pending ++ said_of b ∷ []))
+Leaves home b m pending s t _ = ⊥
 
--- The pipes refused: an engine that hasn't failed shows what it showed, and keeps no block. That there is no space
--- is told after two tries.
+-- The pipes refused: an engine that hasn't failed shows what it showed, and keeps no block. That there is no
+-- space is told after two tries.
 pub record Refuses (b : Batch) (error : Error) (s t : Shows) : Type 0 where
   pub lived : has_failed s ≡ false
   pub tells : IsTrue (has_failed t) ↔ (error ≡ errors.Failed)
@@ -81,7 +85,7 @@ pub record Refuses (b : Batch) (error : Error) (s t : Shows) : Type 0 where
   pub tries : IsNoSpace error → TriesTwiceInVain (signed_for b) s.pipes t.pipes
   pub later : IsLater s.pipes.disk t.pipes.disk
   pub leaves : (home : Home) (m : LogMap) (pending : List Said) → Holds home s m pending
-      → Leaves home b m pending t error
+      → Leaves home b m pending s t error
 
 -- A batch wasn't written: it isn't taken, or the engine had failed before, and nothing was done; or the pipes
 -- refused.

@@ -2,6 +2,10 @@
 #![tactic(auto)]
 
 #[cfg(test)]
+mod counts;
+#[cfg(test)]
+mod reads;
+#[cfg(test)]
 mod store;
 #[cfg(test)]
 mod writes;

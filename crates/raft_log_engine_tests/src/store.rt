@@ -1,4 +1,5 @@
 //! An engine over a fresh log in memory, behind calls without contracts.
+use super::counts::{Count, Counts};
 use raft_log_base::{Error, LogQueue, Result, Version};
 use raft_log_disk::FileSystem;
 use raft_log_dual_pipes::DualPipes;
@@ -59,13 +60,13 @@ pub fn fresh(rt: &HostRuntime, refused: u64) -> std::result::Result<Store, Fail>
 }
 
 impl Store {
-    /// Adds two entries of three bytes to group 7, from an index on; nothing to a batch whose record is made.
+    /// Adds the numbers 1 and 2 as entries of group 7, from an index on; nothing to a batch whose record is made.
     pub fn add(&mut self, rt: &HostRuntime, index: u64) -> Result<()> {
         let indexes = [
-            EntryIndex::unplaced(index, 3),
-            EntryIndex::unplaced(index.saturating_add(1), 3),
+            EntryIndex::unplaced(index, 4),
+            EntryIndex::unplaced(index.saturating_add(1), 4),
         ];
-        let entries: [&[u8]; 2] = [b"abc", b"def"];
+        let entries: [&[u8]; 2] = [&[1, 0, 0, 0], &[2, 0, 0, 0]];
         match self.batch.state() {
             BatchState::Filling => self
                 .batch
@@ -113,5 +114,80 @@ impl Store {
     /// How many groups there are.
     pub fn groups(&self) -> Result<usize> {
         Ok(self.engine.raft_groups()?.len())
+    }
+
+    /// Whether there is no group.
+    pub fn has_none(&self) -> Result<bool> {
+        self.engine.is_empty()
+    }
+
+    /// The entry of group 7 at an index.
+    pub fn entry(&mut self, index: u64) -> Result<Option<Count>> {
+        self.engine.get_entry::<Counts>(7, index)
+    }
+
+    /// How many entries of group 7 come from an index on, below another one, and their sum.
+    pub fn fetch(
+        &mut self,
+        rt: &HostRuntime,
+        begin: u64,
+        end: u64,
+        max: Option<usize>,
+    ) -> Result<(usize, u32)> {
+        let mut counts = Vec::new(rt.alloc());
+        let count = self
+            .engine
+            .fetch_entries_to::<Counts>(7, begin, end, max, &mut counts)?;
+        let sum = counts
+            .iter()
+            .fold(0u32, |sum, found| sum.wrapping_add(found.count));
+        Ok((count, sum))
+    }
+
+    /// The number under a key of group 7.
+    pub fn message(&self, key: &[u8]) -> Result<Option<Count>> {
+        self.engine.get_message::<Count>(7, key)
+    }
+
+    /// The first bytes of the keys of group 7 that a scan calls back with, up to the first that is this one.
+    pub fn scan(
+        &self,
+        start: Option<&[u8]>,
+        end: Option<&[u8]>,
+        reverse: bool,
+        last: u8,
+    ) -> Result<u64> {
+        let mut seen: u64 = 0;
+        self.engine
+            .scan_raw_messages(7, start, end, reverse, |key, _| {
+                let byte = key.first().copied().unwrap_or(0);
+                seen = seen.wrapping_mul(256).wrapping_add(byte as u64);
+                byte != last
+            })?;
+        Ok(seen)
+    }
+
+    /// The numbers under the keys of group 7, as digits, up to the first that is this one.
+    pub fn scan_numbers(&self, start: Option<&[u8]>, reverse: bool, last: u32) -> Result<u32> {
+        let mut seen: u32 = 0;
+        self.engine
+            .scan_messages(7, start, None, reverse, |_, found: Count| {
+                seen = seen.wrapping_mul(10).wrapping_add(found.count);
+                found.count != last
+            })?;
+        Ok(seen)
+    }
+
+    /// Compacts a group up to an index.
+    pub fn compact(&mut self, rt: &HostRuntime, group: u64, index: u64) -> Result<u64> {
+        self.engine.compact_to(rt, group, index)
+    }
+
+    /// The numbers of the first and the last file of Append, and the size of all files.
+    pub fn size(&self) -> Result<((u64, u64), usize)> {
+        Ok((
+            self.engine.file_span(LogQueue::Append)?,
+            self.engine.get_used_size()?,
+        ))
     }
 }

@@ -319,3 +319,15 @@ module _ {F K : Type 0} (called : F → List ℕ → List ℕ → Bool → F →
       → Visits called f (reverse (listed w (by_bytes items rest))) → Visits called f (reverse (listed w (by_bytes items es)))
   down_none f k s es rest is found more =
       subst (Visits called f) (sym (turned k s es rest is)) (visit_none called f (items k) (w (items k) s) (reverse (listed w (by_bytes items rest))) found more)
+
+module _ {K : Type 0} (items : K → List ℕ) (es : List (K × KeySlot)) (now : List (List ℕ × KeySlot)) (is : by_bytes items es ≡ now) where
+  -- where nothing is left, all that lies within is found
+  pub all_within : (start end : Option (List ℕ)) (front old : List (List ℕ × List ℕ)) (rest : List (K × KeySlot)) → rest ≡ []
+      → front ++ listed (within_in start end) (by_bytes items rest) ≡ old ++ listed (within_in start end) now
+      → IsStrictlySortedBy (λ x y. slice_cmp nat_cmp (items x) (items y)) (keys_of es)
+      → AddsAll (λ k. bytes_within start end k (held_in (slot_at now k))) old front
+  all_within start end front old rest none h o = (
+    listed (within_in start end) now,
+    lists_within start end now (rises items es now is o),
+    sym (append-nil front) ∙ ap (λ l. front ++ listed (within_in start end) (by_bytes items l)) (sym none) ∙ h,
+  )

@@ -13,6 +13,7 @@ use Rattle.raft_log_format.specs.Header.{header_bytes}
 use Rattle.raft_log_files.specs.Layout.{FilePaths}
 use Rattle.raft_log_files.specs.declared.last_file.WriteFault.{WriteFault}
 use Rattle.raft_log_files.specs.declared.last_file.WriteFault.TheVariants.{CutBack, Failed}
+use Rattle.raft_log_pipes.specs.Placing.{IsPlaced}
 use Rattle.raft_log_pipes.specs.Exits.{IsTurned, Rotates, RotationLeaves, Adds, FailsToAdd, SameLists}
 use Rattle.raft_log_pipes.specs.declared.pipe_files.PipeFiles.{PipeFiles}
 use Rattle.raft_log_pipes.specs.declared.new_files.NewFiles.{NewFiles}
@@ -58,6 +59,18 @@ pub data TurnsElsewhere {R : Type 0} (F : Format R) (own : List ℕ → Type 0) 
       → TurnsElsewhere F own paths begin before after error old new
   nowhere : RotationLeaves F own paths (header_bytes begin.format) before after error old new
       → TurnsElsewhere F own paths begin before after error old new
+
+-- The pipe went on in the next file, from this state of it and of its file system, which says the directory:
+-- an own relation, as no disk says what may be told of a directory's space.
+pub record GoesElsewhere {R F : Type 0} (disk : F → Disk) (tells : F → List ℕ → ℕ → Type 0)
+    (format : Format R) (own : List ℕ → Type 0) (paths : FilePaths) (begin : NewFiles) (after : PipeFiles)
+    (new : F) : Type 0 where
+  pub before : PipeFiles
+  pub between : F
+  pub rotates : Rotates format own paths (header_bytes begin.format) before after (disk between) (disk new)
+  pub turned : IsTurned begin.format before after
+  pub placed : IsPlaced (tells between) (disk between) begin.target_size paths.directories
+      before.recycled.items after.active.path_id
 
 -- What is told of a refused write, and what was done then: where there was no space, the pipe went on in
 -- the next file, or that was refused too; what couldn't be cut off leaves the pipe not to be used any more.

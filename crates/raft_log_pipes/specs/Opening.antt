@@ -88,8 +88,8 @@ abbrev pub BeginsPipe : {R : Type 0} → Format R → (List ℕ → Type 0) → 
     → PipeFiles → Disk → Disk → Type 0
 BeginsPipe {R} F own paths format kept files old new = (base : Disk) (older : ℕ → Past R)
     → CanBeginWith F own paths base kept old
-    → (room : ℕ) × IsPipe F own paths base files (with_room room (fresh_queue older (header_bytes format))) new
-    × IsAbsent F 0 new
+    → (room : ℕ) × IsPipe F own paths base files
+    (with_room room (fresh_queue older (header_bytes format))) new × IsAbsent F 0 new
 
 -- it didn't: a file call failed, and there is a place for it still, or its file 1 is there, without a record
 abbrev pub FailsToBeginPipe : {R : Type 0} → Format R → (List ℕ → Type 0) → FilePaths → LogFileFormat

@@ -25,8 +25,8 @@ abbrev pub AllLackRoom : (List ℕ → ℕ → Type 0) → Disk → ℕ → List
 AllLackRoom tells d size [] = Unit {0}
 AllLackRoom tells d size (x ∷ xs) = LacksRoom tells d size x × AllLackRoom tells d size xs
 
--- The place of the directory for a new file of so many bytes: that of the first that has room for it; the main
--- one's where none has, and where there is no other, of which nothing is asked.
+-- The place of the directory for a new file of so many bytes: that of the first that has room for it; the
+-- main one's where none has, and where there is no other, of which nothing is asked.
 pub data IsChosen (tells : List ℕ → ℕ → Type 0) (d : Disk) (size : ℕ) (directories : List (List ℕ))
     (place : ℕ) : Type 0 where
   alone : length directories ≤ 1 → place ≡ 0 → IsChosen tells d size directories place

@@ -3,7 +3,7 @@
 ghost use Rattle.std.specs.Prelude.{◌≡◌, ◌<◌, ◌≤◌, ◌^◌, IfErr, IfOk, OnErr, OnOk};
 ghost use Rattle.raft_log_disk.specs.Causes.{IsLater};
 ghost use Rattle.raft_log_format.specs.Header.{header_bytes};
-ghost use Rattle.raft_log_pipes.specs.Appending.{AppendFails, AppendsAt, SaysTryAgain, Tells, TurnsElsewhere, TurnsFirst};
+ghost use Rattle.raft_log_pipes.specs.Appending.{AppendFails, AppendsAt, GoesElsewhere, SaysTryAgain, Tells, TurnsElsewhere, TurnsFirst};
 ghost use Rattle.raft_log_pipes.specs.Exits.{IsTurned, Rotates, RotationLeaves};
 ghost use Rattle.raft_log_pipes.specs.Placing.{IsPlaced};
 
@@ -58,13 +58,16 @@ fn turn_elsewhere<G: PipeFormat, F: FileSystem, L: Log>(
 ) -> Error
     ensures left { TurnsElsewhere (G.format layout.now) (G.own layout.now) (G.file_paths layout.now)
         new_files.now files.old files.new result (F.disk file_system.old) (F.disk file_system.new) }
+    ensures elsewhere { SaysTryAgain result → GoesElsewhere F.disk F.tells_space (G.format layout.now)
+        (G.own layout.now) (G.file_paths layout.now) new_files.now files.new file_system.new }
     ensures first { files.new.first_seq ≡ files.old.first_seq }
     ensures later { IsLater (F.disk file_system.old) (F.disk file_system.new) }
 {
     match rotate(alloc, layout, rt, file_system, files, new_files) {
-        Ok(()) => Error::TryAgain(format!(in alloc; "no space for a record").unwrap_or(String::new(
-            alloc,
-        ))),
+        Ok(()) => {
+            let text = format!(in alloc; "no space for a record");
+            Error::TryAgain(text.unwrap_or(String::new(alloc)))
+        }
         Err(error) => error,
     }
 }
@@ -81,8 +84,9 @@ fn tell_fault<G: PipeFormat, F: FileSystem, L: Log>(
     fault: WriteFault,
 ) -> Error
     ensures left { Tells (G.format layout.now) (G.own layout.now) (G.file_paths layout.now) new_files.now
-        fault
-        files.old files.new result (F.disk file_system.old) (F.disk file_system.new) }
+        fault files.old files.new result (F.disk file_system.old) (F.disk file_system.new) }
+    ensures elsewhere { SaysTryAgain result → GoesElsewhere F.disk F.tells_space (G.format layout.now)
+        (G.own layout.now) (G.file_paths layout.now) new_files.now files.new file_system.new }
     ensures first { files.new.first_seq ≡ files.old.first_seq }
     ensures later { IsLater (F.disk file_system.old) (F.disk file_system.new) }
 {
@@ -126,6 +130,9 @@ pub fn append<G: PipeFormat, F: FileSystem, L: Log, B: ReactiveBytes>(
     ensures err { IfErr result (λ error. AppendFails (G.format layout.now) (G.own layout.now)
         (G.file_paths layout.now) new_files.now queue (B.signed bytes.old) files.old files.new error
         (F.disk file_system.old) (F.disk file_system.new)) }
+    ensures elsewhere { IfErr result (λ error. SaysTryAgain error → GoesElsewhere F.disk F.tells_space
+        (G.format layout.now) (G.own layout.now) (G.file_paths layout.now) new_files.now files.new
+        file_system.new) }
     ensures signed { B.signed bytes.new ≡ B.signed bytes.old }
     ensures said { B.said bytes.new ≡ B.said bytes.old }
     ensures first { files.new.first_seq ≡ files.old.first_seq }
@@ -135,14 +142,8 @@ pub fn append<G: PipeFormat, F: FileSystem, L: Log, B: ReactiveBytes>(
     let id = FileId::new(queue, files.active.seq);
     bytes.sign(&LogFileContext::new(id, files.active.format.version));
     let record = bytes.as_bytes();
-    match add(
-        layout,
-        rt,
-        file_system,
-        files,
-        record,
-        new_files.target_size,
-    ) {
+    let size = new_files.target_size;
+    match add(layout, rt, file_system, files, record, size) {
         Ok(at) => Ok(FileBlockHandle {
             id,
             offset: at as u64,

@@ -14,8 +14,8 @@ use std::alloc::Global;
 use std::collections::VecDeque;
 use std::io::ErrorKind;
 
-/// Finishes the last file: cuts it behind its records, and makes these durable. Answers whether that was done;
-/// a refusal is logged.
+/// Finishes the last file: cuts it behind its records, and makes these durable. Answers whether that was
+/// done; a refusal is logged.
 pub fn finish<G: PipeFormat, F: FileSystem, L: Log>(
     layout: &G,
     rt: &L,
@@ -59,8 +59,8 @@ fn greatest_reserved(files: &VecDeque<File>) -> FileSeq
     greatest
 }
 
-/// Gives a file that is kept for use the reserved name behind the last one, in the main directory. Answers the
-/// number of the last one then; a refusal is logged.
+/// Gives a file that is kept for use the reserved name behind the last one, in the main directory. Answers
+/// the number of the last one then; a refusal is logged.
 fn reserve<G: PipeFormat, F: FileSystem, L: Log>(
     alloc: Global,
     layout: &G,
@@ -129,8 +129,8 @@ pub fn reserve_files<G: PipeFormat, F: FileSystem, L: Log>(
     }
 }
 
-/// Closes a pipe: finishes its last file, and gives the files that are kept for use reserved names. Refusals are
-/// logged, and nothing that was written is lost by them.
+/// Closes a pipe: finishes its last file, and gives the files that are kept for use reserved names. Refusals
+/// are logged, and nothing that was written is lost by them.
 pub fn close<G: PipeFormat, F: FileSystem, L: Log>(
     alloc: Global,
     layout: &G,

@@ -10,8 +10,9 @@ pub fn pipes_are_kept<G: PipeFormat>()
     ensures { (layout : G) → PipesAreKept (G.format layout) (G.own layout) (G.file_paths layout) }
 {}
 
-/// Whatever a stop leaves of a pipe's files, a pipe may be opened over it, once the files are found and the last
-/// one was read: its queue is the one that was stopped, with its synced records and the first of the others.
+/// Whatever a stop leaves of a pipe's files, a pipe may be opened over it, once the files are found and the
+/// last one was read: its queue is the one that was stopped, with its synced records and the first of the
+/// others.
 pub fn stopped_pipes_are_found<G: PipeFormat>()
     ensures { (layout : G) → PipesAreFound (G.format layout) (G.own layout) (G.file_paths layout) }
 {}

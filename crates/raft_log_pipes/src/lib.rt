@@ -1,6 +1,6 @@
 //! A queue of log files as an engine uses it: records go into its last file, which is rotated when it is
-//! long enough, over a file that was kept for use or into a new one; what isn't needed is purged. It is opened
-//! over the files that were found of it, and closed again.
+//! long enough, over a file that was kept for use or into a new one; what isn't needed is purged. It is
+//! opened over the files that were found of it, and closed again.
 //!
 //! Every call is lent the file system. What may want memory comes before the first file call that changes
 //! something, and what is refused for it leaves pipe and disk as they were.

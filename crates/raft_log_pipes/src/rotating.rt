@@ -59,10 +59,9 @@ fn go_over<G: PipeFormat, F: FileSystem, L: Log>(
     let header = new_files.header();
     let next = File {
         seq,
-        handle: kept.handle,
         format: new_files.format,
-        path_id: kept.path_id,
         reserved: false,
+        ..kept
     };
     let to = layout.file_path(alloc, &next)?;
     let from = layout.file_path(alloc, &kept)?;
@@ -81,13 +80,7 @@ fn go_over<G: PipeFormat, F: FileSystem, L: Log>(
         return Err(Error::Failed);
     }
     files.recycled.pop_front();
-    files.turn_to(File {
-        seq,
-        handle,
-        format: new_files.format,
-        path_id: kept.path_id,
-        reserved: false,
-    });
+    files.turn_to(File { handle, ..next });
     Ok(())
 }
 
@@ -128,13 +121,7 @@ fn go_into_new<G: PipeFormat, F: FileSystem, L: Log>(
     let path = layout.file_path(alloc, &place)?;
     match rotate_to_new(layout, rt, file_system, &mut files.writer, &path, header) {
         Ok(handle) => {
-            files.turn_to(File {
-                seq,
-                handle,
-                format: new_files.format,
-                path_id,
-                reserved: false,
-            });
+            files.turn_to(File { handle, ..place });
             Ok(())
         }
         Err(kind) => {

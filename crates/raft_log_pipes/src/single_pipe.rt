@@ -46,7 +46,7 @@ pub struct PipeSettings {
 
 impl<G: PipeFormat> SinglePipe<G> {
     ghost use Rattle.raft_log_format.specs.Header.{header_bytes};
-    ghost use Rattle.raft_log_pipes.specs.Appending.{AppendFails, AppendsAt};
+    ghost use Rattle.raft_log_pipes.specs.Appending.{AppendFails, AppendsAt, GoesElsewhere, SaysTryAgain};
     ghost use Rattle.raft_log_pipes.specs.Purging.{IsInSpan, IsRaised, PurgeLeaves, Purges};
     ghost use Rattle.raft_log_pipes.specs.Placing.{IsPlaced};
     ghost use Rattle.raft_log_pipes.specs.Reading.{IsReadAt, IsReadRefused};
@@ -128,8 +128,8 @@ impl<G: PipeFormat> SinglePipe<G> {
     ) -> Result<FileBlockHandle>
         ensures ok { IfOk result (λ block. AppendsAt (G.format self.old.layout) (G.own self.old.layout)
             (G.file_paths self.old.layout) self.old.settings.new_files self.old.settings.queue
-            (B.signed bytes.old)
-            self.old.files self.new.files block (F.disk file_system.old) (F.disk file_system.new)) }
+            (B.signed bytes.old) self.old.files self.new.files block
+            (F.disk file_system.old) (F.disk file_system.new)) }
         ensures place { IfOk result (λ block. block.offset < 2 ^ 63) }
         ensures placed { self.old.settings.new_files.target_size ≤ self.old.files.writer.written
             → OnOk result (IsPlaced (F.tells_space file_system.old) (F.disk file_system.old)
@@ -137,9 +137,11 @@ impl<G: PipeFormat> SinglePipe<G> {
             self.old.files.recycled.items self.new.files.active.path_id) }
         ensures err { self.old.failed ≡ false → IfErr result (λ error.
             AppendFails (G.format self.old.layout) (G.own self.old.layout) (G.file_paths self.old.layout)
-            self.old.settings.new_files self.old.settings.queue (B.signed bytes.old) self.old.files
-            self.new.files error
-            (F.disk file_system.old) (F.disk file_system.new)) }
+            self.old.settings.new_files self.old.settings.queue (B.signed bytes.old)
+            self.old.files self.new.files error (F.disk file_system.old) (F.disk file_system.new)) }
+        ensures elsewhere { IfErr result (λ error. SaysTryAgain error → GoesElsewhere F.disk F.tells_space
+            (G.format self.old.layout) (G.own self.old.layout) (G.file_paths self.old.layout)
+            self.old.settings.new_files self.new.files file_system.new) }
         ensures signed { B.signed bytes.new ≡ B.signed bytes.old }
         ensures said { B.said bytes.new ≡ B.said bytes.old }
         ensures failed { self.old.failed ≡ true → (result ≡ Err errors.Failed) × (self.new ≡ self.old)
@@ -169,8 +171,7 @@ impl<G: PipeFormat> SinglePipe<G> {
     /// Makes all records durable. Refused, it is `Failed`, and the pipe has failed.
     pub fn sync<F: FileSystem, L: Log>(&mut self, rt: &L, file_system: &mut F) -> Result<()>
         ensures ok { OnOk result (SyncsPipe (G.format self.old.layout) (G.own self.old.layout)
-            (G.file_paths self.old.layout) self.old.files
-            (F.disk file_system.old) (F.disk file_system.new)) }
+            (G.file_paths self.old.layout) self.old.files (F.disk file_system.old) (F.disk file_system.new)) }
         ensures err { self.old.failed ≡ false → OnErr result (FailsToSyncPipe (G.format self.old.layout)
             (G.own self.old.layout) (G.file_paths self.old.layout) self.old.files
             (F.disk file_system.old) (F.disk file_system.new)) }
@@ -252,8 +253,7 @@ impl<G: PipeFormat> SinglePipe<G> {
         ensures ok { OnOk result (Purges (G.format self.old.layout) (G.own self.old.layout)
             (G.file_paths self.old.layout) self.old.settings.capacity seq self.old.files self.new.files
             (F.disk file_system.old) (F.disk file_system.new)) }
-        ensures raised { OnOk result
-            (IsRaised self.old.settings.capacity seq self.old.files self.new.files) }
+        ensures raised { OnOk result (IsRaised self.old.settings.capacity seq self.old.files self.new.files) }
         ensures count { IfOk result (λ count.
             IsInSpan seq self.old.files × (count ≡ seq - self.old.files.first_seq)) }
         ensures err { self.old.failed ≡ false → IfErr result (λ error.
@@ -282,8 +282,7 @@ impl<G: PipeFormat> SinglePipe<G> {
         answer
     }
 
-    /// The bytes at a place, fewer where the file ends before. `Corruption` where its file isn't of the
-    /// span.
+    /// The bytes at a place, fewer where the file ends before. `Corruption` where its file isn't listed.
     pub fn read_bytes<F: FileSystem>(
         &self,
         alloc: Global,
@@ -354,8 +353,8 @@ impl<G: PipeFormat + Drop> SinglePipe<G> {
         close(alloc, &layout, rt, file_system, files);
     }
 
-    /// The first half of a close: the last file is cut behind its records and synced. A refusal is logged. Of a
-    /// pipe that has failed nothing is touched.
+    /// The first half of a close: the last file is cut behind its records and synced. A refusal is logged. Of
+    /// a pipe that has failed nothing is touched.
     pub fn finish<F: FileSystem, L: Log>(&mut self, rt: &L, file_system: &mut F)
         ensures held { self.old.failed ≡ false → LeavesClosed (G.format self.old.layout)
             (G.own self.old.layout) (G.file_paths self.old.layout) self.old.files

@@ -21,7 +21,7 @@ pub fn add<G: PipeFormat, F: FileSystem, L: Log>(
     file_system: &mut F,
     files: &mut PipeFiles,
     bytes: &[u8],
-    target_size: usize,
+    size: usize,
 ) -> Result<usize, WriteFault>
     ensures ok { IfOk result (λ at. Adds (G.format layout.now) (G.own layout.now) (G.file_paths layout.now)
         bytes.now at files.old files.new (F.disk file_system.old) (F.disk file_system.new)) }
@@ -33,21 +33,14 @@ pub fn add<G: PipeFormat, F: FileSystem, L: Log>(
     ensures lists { SameLists files.old files.new }
 
     // Which calls were made, and whose refusal is told.
-    ensures calls { OnOk result (WritesNext files.old.writer files.new.writer bytes.now target_size
+    ensures calls { OnOk result (WritesNext files.old.writer files.new.writer bytes.now size
         (F.disk file_system.old) (F.disk file_system.new)) }
     ensures refusal { IfErr result (λ fault. AppendMakes fault files.old.writer files.new.writer bytes.now
-        target_size (F.disk file_system.old) (F.disk file_system.new)) }
+        size (F.disk file_system.old) (F.disk file_system.new)) }
     ensures later { IsLater (F.disk file_system.old) (F.disk file_system.new) }
 {
     let at = files.writer.offset();
-    append_record(
-        layout,
-        rt,
-        file_system,
-        &mut files.writer,
-        bytes,
-        target_size,
-    )?;
+    append_record(layout, rt, file_system, &mut files.writer, bytes, size)?;
     Ok(at)
 }
 

@@ -16,7 +16,8 @@ use std::alloc::Global;
 /// Makes a file under the reserved name of a number, in the first directory with room for it, and fills it
 /// with zeros, as far as that is let. Answers it, and whether there was no space.
 ///
-/// `Memory`, or `NumberRange` where there is no such name: nothing is done. `Io` where its creation is refused.
+/// `Memory`, or `NumberRange` where there is no such name: nothing is done. `Io` where its creation is
+/// refused.
 fn make_file<G: PipeFormat, F: FileSystem, L: Log>(
     alloc: Global,
     layout: &G,
@@ -27,10 +28,10 @@ fn make_file<G: PipeFormat, F: FileSystem, L: Log>(
     size: usize,
 ) -> Result<(File, bool)>
     requires { 0 < length bytes.now }
-    ensures ok { IfOk result (λ made. Makes (G.file_paths layout.now) bytes.now size seq made.0 made.1
-        (F.disk file_system.old) (F.disk file_system.new)) }
-    ensures err { IfErr result (λ error. FailsToMake (G.file_paths layout.now) seq error
-        (F.disk file_system.old) (F.disk file_system.new)) }
+    ensures ok { IfOk result (λ made. Makes F.disk F.tells_space (G.file_paths layout.now) bytes.now size seq
+        made.0 made.1 file_system.old file_system.new) }
+    ensures err { IfErr result (λ error. FailsToMake F.disk F.tells_space (G.file_paths layout.now) size seq
+        error file_system.old file_system.new) }
 {
     let mut file = File {
         seq,
@@ -63,10 +64,10 @@ pub(crate) fn make_files<G: PipeFormat, F: FileSystem, L: Log>(
 ) -> Result<bool>
     requires { 0 < length bytes.now }
     ensures ok { IfOk result (λ full. (made : List File) × (files.new.items ≡ files.old.items ++ made)
-        × (length made ≡ count) × MakesEach (G.file_paths layout.now) bytes.now size first made full
-        (F.disk file_system.old) (F.disk file_system.new)) }
-    ensures err { IfErr result (λ error. FailsToMakeEach (G.file_paths layout.now) bytes.now size first
-        count error (F.disk file_system.old) (F.disk file_system.new)) }
+        × (length made ≡ count) × MakesEach F.disk F.tells_space (G.file_paths layout.now) bytes.now size
+        first made full file_system.old file_system.new) }
+    ensures err { IfErr result (λ error. FailsToMakeEach F.disk F.tells_space (G.file_paths layout.now)
+        bytes.now size first count error file_system.old file_system.new) }
 {
     let mut full = false;
     for at in 0..count {

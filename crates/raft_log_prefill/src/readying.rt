@@ -2,7 +2,7 @@
 
 ghost use Rattle.std.specs.Prelude.{◌≡◌, IfErr, IfOk};
 ghost use Rattle.raft_log_base.specs.declared.errors.Error.TheVariants.{Memory};
-ghost use Rattle.raft_log_prefill.specs.Readying.{FailsToReady, MakesMissing, Readies, kept_of, next_number, piece};
+ghost use Rattle.raft_log_prefill.specs.Readying.{FailsToMakeMissing, FailsToReady, MakesMissing, Readies, kept_of, next_number, piece};
 
 use crate::dropping::drop_newest;
 use crate::making::make_files;
@@ -17,10 +17,10 @@ const PREFILL_BUFFER_SIZE: usize = 16777216;
 
 /// Makes files under reserved names behind these, filled with zeros up to a size, until there are as many as
 /// are wanted; and deletes the newest of those past that. Where there is no space for filling one, all are
-/// deleted. A refused write or deletion is logged, and no more.
+/// deleted. What the file system refuses of a write or a deletion is logged, and no more.
 ///
-/// `Io` where a file isn't made, `Memory`, `NumberRange` where there is no name for one: those before it are
-/// there.
+/// `Io` where a file isn't made, `Memory`, `NumberRange` where there is no name for one that is to be made or
+/// deleted: those before it are made or deleted.
 pub fn ready_reserved<G: PipeFormat, F: FileSystem, L: Log>(
     alloc: Global,
     layout: &G,
@@ -30,20 +30,21 @@ pub fn ready_reserved<G: PipeFormat, F: FileSystem, L: Log>(
     wanted: usize,
     files: Vec<File>,
 ) -> Result<Vec<File>>
-    ensures ok { IfOk result (λ kept. Readies (G.file_paths layout.now) size wanted files.items kept.items
-        (F.disk file_system.old) (F.disk file_system.new)) }
-    ensures err { IfErr result (λ error. FailsToReady (G.file_paths layout.now) size wanted files.items error
-        (F.disk file_system.old) (F.disk file_system.new)) }
+    ensures ok { IfOk result (λ kept. Readies F.disk F.tells_space (G.file_paths layout.now) size wanted
+        files.items kept.items file_system.old file_system.new) }
+    ensures err { IfErr result (λ error. FailsToReady F.disk F.tells_space (G.file_paths layout.now) size
+        wanted files.items error file_system.old file_system.new) }
 {
     let mut files = files;
     let full = make_missing(alloc, layout, rt, file_system, size, wanted, &mut files)?;
     let left = kept_of(full, wanted);
-    drop_newest(alloc, layout, rt, file_system, &files, left);
+    drop_newest(alloc, layout, rt, file_system, &files, left)?;
     files.truncate(left);
     Ok(files)
 }
 
-/// Makes files behind these until there are as many as are wanted. Answers whether there was no space for one.
+/// Makes files behind these until there are as many as are wanted. Answers whether there was no space for
+/// one.
 fn make_missing<G: PipeFormat, F: FileSystem, L: Log>(
     alloc: Global,
     layout: &G,
@@ -53,10 +54,10 @@ fn make_missing<G: PipeFormat, F: FileSystem, L: Log>(
     wanted: usize,
     files: &mut Vec<File>,
 ) -> Result<bool>
-    ensures ok { IfOk result (λ full. MakesMissing (G.file_paths layout.now) size wanted files.old.items
-        files.new.items full (F.disk file_system.old) (F.disk file_system.new)) }
-    ensures err { IfErr result (λ error. FailsToReady (G.file_paths layout.now) size wanted files.old.items
-        error (F.disk file_system.old) (F.disk file_system.new)) }
+    ensures ok { IfOk result (λ full. MakesMissing F.disk F.tells_space (G.file_paths layout.now) size wanted
+        files.old.items files.new.items full file_system.old file_system.new) }
+    ensures err { IfErr result (λ error. FailsToMakeMissing F.disk F.tells_space (G.file_paths layout.now)
+        size wanted files.old.items error file_system.old file_system.new) }
 {
     let missing = wanted.saturating_sub(files.len());
     if missing == 0 {

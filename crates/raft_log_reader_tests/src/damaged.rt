@@ -6,7 +6,6 @@ use raft_log_disk::FileSystem;
 use raft_log_reader::LogItemBatchFileReader;
 use raft_log_records::LogItemBatch;
 use std::alloc::Global;
-use std::test::Fail;
 
 /// The header of a record that says a length of 2^56 - 1, with its footer there.
 const ENDLESS: [u8; 16] = [
@@ -59,25 +58,6 @@ const AGAIN: [Step; 6] = [
     (Said::Nothing, 0, 2, 69),
 ];
 
-#[test]
-fn a_record_past_the_end_of_the_file_is_refused_again_and_again(
-    rt: HostRuntime,
-) -> Result<(), Fail> {
-    let bytes = damaged(rt.alloc(), true, &ENDLESS)?;
-    assert!(rt; steps_of(rt.alloc(), bytes.as_slice(), NOWHERE, 512)? == AGAIN);
-    let (again, once_more) = refusals(rt.alloc(), bytes.as_slice())?;
-    assert!(rt; again.as_str() == PAST_THE_END && once_more.as_str() == PAST_THE_END);
-    Ok(())
-}
-
-#[test]
-fn a_tail_shorter_than_a_header_is_refused(rt: HostRuntime) -> Result<(), Fail> {
-    let bytes = damaged(rt.alloc(), false, b"abc")?;
-    let (text, again) = refusals(rt.alloc(), bytes.as_slice())?;
-    assert!(rt; text.as_str() == "Corruption: Log batch header too short: 3" && again == text);
-    Ok(())
-}
-
 /// A file that isn't opened, since the file system has stopped.
 const STOPPED: [Step; 6] = [
     (Said::Io, 0, 0, 0),
@@ -87,15 +67,6 @@ const STOPPED: [Step; 6] = [
     (Said::Nothing, 0, 0, 0),
     (Said::Nothing, 0, 0, 0),
 ];
-
-#[test]
-fn a_refused_read_is_no_damage(rt: HostRuntime) -> Result<(), Fail> {
-    let bytes = records(rt.alloc(), &[34])?;
-    let (mut system, handle) = saved(rt.alloc(), bytes.as_slice(), NOWHERE)?;
-    assert!(rt; system.sync(handle).is_err());
-    assert!(rt; steps(rt.alloc(), &system, handle, 512) == STOPPED);
-    Ok(())
-}
 
 /// A file of four bytes, which are no header.
 const NO_HEADER: [Step; 6] = [
@@ -107,10 +78,62 @@ const NO_HEADER: [Step; 6] = [
     (Said::Nothing, 0, 1, 0),
 ];
 
+/// Whether a file with these bytes has two refusals with this text.
+fn is_refused_twice(alloc: Global, bytes: &[u8], want: &str) -> Result<bool> {
+    let (text, again) = refusals(alloc, bytes)?;
+    Ok((text.as_str() == want) & (again.as_str() == want))
+}
+
+/// Whether a record past the end of the file is refused again and again.
+fn is_past_the_end(alloc: Global) -> Result<bool> {
+    let bytes = damaged(alloc, true, &ENDLESS)?;
+    let again = steps_of(alloc, bytes.as_slice(), NOWHERE, 512)? == AGAIN;
+    Ok(is_refused_twice(alloc, bytes.as_slice(), PAST_THE_END)? & again)
+}
+
+/// Whether a tail shorter than a header is refused.
+fn is_tail_refused(alloc: Global) -> Result<bool> {
+    let bytes = damaged(alloc, false, b"abc")?;
+    let want = "Corruption: Log batch header too short: 3";
+    is_refused_twice(alloc, bytes.as_slice(), want)
+}
+
+/// Whether a file system refuses a sync, and a file isn't opened then.
+fn is_stopped(alloc: Global) -> Result<bool> {
+    let bytes = records(alloc, &[34])?;
+    let (mut system, handle) = saved(alloc, bytes.as_slice(), NOWHERE)?;
+    let refused = system.sync(handle).is_err();
+    Ok((steps(alloc, &system, handle, 512) == STOPPED) & refused)
+}
+
+/// Whether a broken header is refused, and no file is open.
+fn is_header_refused(alloc: Global) -> Result<bool> {
+    let closed = steps_of(alloc, b"RAFT", NOWHERE, 512)? == NO_HEADER;
+    let (text, _) = refusals(alloc, b"RAFT")?;
+    Ok((text.as_str() == "Corruption: log file magic header mismatch") & closed)
+}
+
+/// What holds, by its number.
+const HOLDS: [&str; 4] = [
+    "a record past the end of the file is refused again and again",
+    "a tail shorter than a header is refused",
+    "a refused read is no damage",
+    "a broken header is refused, and no file is open",
+];
+
+/// Whether it holds.
+fn holds(alloc: Global, number: usize) -> Result<bool> {
+    match number {
+        0 => is_past_the_end(alloc),
+        1 => is_tail_refused(alloc),
+        2 => is_stopped(alloc),
+        _ => is_header_refused(alloc),
+    }
+}
+
 #[test]
-fn a_broken_header_is_refused_and_no_file_is_open(rt: HostRuntime) -> Result<(), Fail> {
-    assert!(rt; steps_of(rt.alloc(), b"RAFT", NOWHERE, 512)? == NO_HEADER);
-    let (text, _) = refusals(rt.alloc(), b"RAFT")?;
-    assert!(rt; text.as_str() == "Corruption: log file magic header mismatch");
-    Ok(())
+fn damaged_files_are_refused(rt: HostRuntime) {
+    for (number, what) in HOLDS.iter().enumerate() {
+        assert!(rt; holds(rt.alloc(), number).ok() == Some(true), "{what}");
+    }
 }

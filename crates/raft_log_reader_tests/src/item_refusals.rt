@@ -47,14 +47,6 @@ fn words<F: FileSystem>(alloc: Global, system: &F) -> Result<Vec<u64>> {
     Ok(answers.iter().map(word_of).collect(alloc)?)
 }
 
-#[test]
-fn a_file_of_one_block_is_read_twice(rt: HostRuntime) -> Result<(), Fail> {
-    let system = three_files(rt.alloc())?;
-    assert!(rt; words(rt.alloc(), &system)?.as_slice() == [1, 2, 3, 4, 5].as_slice());
-    assert!(rt; system.reads.get() == 6);
-    Ok(())
-}
-
 /// What comes of the directory where there is no memory for this call.
 fn short_at(alloc: Global, call: usize) -> Result<Vec<u64>> {
     let system = three_files(alloc)?;
@@ -69,18 +61,6 @@ const SHORT: [(usize, &[u64]); 4] = [
     (4, &[1, 2, 3, 0]),
     (5, &[1, 2, 3, 4, 5]),
 ];
-
-#[test]
-fn a_file_that_is_not_opened_is_passed_over(rt: HostRuntime) -> Result<(), Fail> {
-    assert!(rt; matches!(short_at(rt.alloc(), 1), Err(Error::Memory)));
-    for (call, found) in SHORT.iter() {
-        assert!(rt;
-            short_at(rt.alloc(), *call)?.as_slice() == *found,
-            "call {call}"
-        );
-    }
-    Ok(())
-}
 
 /// What comes of the directory where this place of the file with a path can't be read.
 fn unread_at(alloc: Global, path: &str, place: usize) -> Result<Vec<u64>> {
@@ -103,21 +83,54 @@ const UNREAD: [(&str, usize, &[u64]); 9] = [
     (THIRD, 1_000, &[1, 2, 3, 4, 5]),
 ];
 
-#[test]
-fn a_file_that_is_not_read_is_passed_over(rt: HostRuntime) -> Result<(), Fail> {
-    for (path, place, found) in UNREAD.iter() {
-        let words = unread_at(rt.alloc(), path, *place)?;
-        assert!(rt; words.as_slice() == *found, "place {place} of {path}");
+/// Whether a file of one block is read twice: six reads for three files.
+fn are_read_twice(alloc: Global) -> Result<bool> {
+    let system = three_files(alloc)?;
+    let found = words(alloc, &system)?;
+    Ok((found.as_slice() == [1, 2, 3, 4, 5].as_slice()) & (system.reads.get() == 6))
+}
+
+/// Whether a directory that isn't listed for want of memory is refused so.
+fn is_not_listed(alloc: Global) -> bool {
+    matches!(short_at(alloc, 1), Err(Error::Memory))
+}
+
+/// Whether a file that isn't opened is passed over, as this row says.
+fn is_passed_over(alloc: Global, row: usize) -> Result<bool> {
+    let (call, want) = SHORT[row % 4];
+    Ok(short_at(alloc, call)?.as_slice() == want)
+}
+
+/// Whether a file that isn't read is passed over, as this row says.
+fn is_unread(alloc: Global, row: usize) -> Result<bool> {
+    let (path, place, want) = UNREAD[row % 9];
+    Ok(unread_at(alloc, path, place)?.as_slice() == want)
+}
+
+/// Whether a file system that has stopped gives nothing.
+fn gives_nothing(alloc: Global) -> Result<bool> {
+    let mut system = three_files(alloc)?;
+    system.stopped = true;
+    Ok(matches!(words(alloc, &system), Err(Error::Io(_))))
+}
+
+/// Whether it holds: to 3, the rows of files that aren't opened; to 12, of those that aren't read; then a
+/// directory that isn't listed, a file system that has stopped, and how often files are read.
+fn holds(alloc: Global, number: usize) -> Result<bool> {
+    match number {
+        0..=3 => is_passed_over(alloc, number),
+        4..=12 => is_unread(alloc, number),
+        13 => Ok(is_not_listed(alloc)),
+        14 => gives_nothing(alloc),
+        _ => are_read_twice(alloc),
     }
-    Ok(())
 }
 
 #[test]
-fn a_file_system_that_has_stopped_gives_nothing(rt: HostRuntime) -> Result<(), Fail> {
-    let mut system = three_files(rt.alloc())?;
-    system.stopped = true;
-    assert!(rt; matches!(words(rt.alloc(), &system), Err(Error::Io(_))));
-    Ok(())
+fn refused_files_are_passed_over(rt: HostRuntime) {
+    for number in 0..16 {
+        assert!(rt; holds(rt.alloc(), number).ok() == Some(true), "{number}");
+    }
 }
 
 /// What comes where at most one allocation is refused while it is read.

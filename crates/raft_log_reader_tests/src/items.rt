@@ -8,7 +8,6 @@ use raft_log_items::LogItem;
 use raft_log_memory_files::MemoryFileSystem;
 use raft_log_records::LogBatch;
 use std::alloc::Global;
-use std::test::Fail;
 
 /// A file's path, the groups that put a key in it, and what stands behind their records.
 pub type Row = (&'static str, &'static [u64], &'static [u8]);
@@ -105,19 +104,6 @@ const FIRST: [(&str, u64, bool); 3] = [
     ("d/0000000000000009.rewrite", 2, true),
 ];
 
-#[test]
-fn test_debug_file_basic(rt: HostRuntime) -> Result<(), Fail> {
-    let system = directory_of(rt.alloc(), &REWRITE)?;
-    for (path, group, more) in FIRST.iter() {
-        assert!(rt;
-            first_at(rt.alloc(), &system, path)? == (*group, *more),
-            "{path}"
-        );
-    }
-    assert!(rt; groups_in(rt.alloc(), &system)?.as_slice() == [1, 2, 3].as_slice());
-    Ok(())
-}
-
 /// They, an Append file, and one that is kept.
 const MIXED: [Row; 5] = [
     ("d/0000000000000009.rewrite", &[2, 3], b""),
@@ -127,23 +113,11 @@ const MIXED: [Row; 5] = [
     ("d/0000000000000001.raftlog.reserved", &[6], b""),
 ];
 
-#[test]
-fn rewrite_files_come_first(rt: HostRuntime) -> Result<(), Fail> {
-    assert!(rt; groups_of(rt.alloc(), &MIXED)?.as_slice() == [1, 2, 3, 5].as_slice());
-    Ok(())
-}
-
 /// A file that is damaged behind its records, and one behind it.
 const DAMAGED: [Row; 2] = [
     ("d/0000000000000001.raftlog", &[1, 2], b"abc"),
     ("d/0000000000000002.raftlog", &[3], b""),
 ];
-
-#[test]
-fn after_a_refusal_the_next_file_follows(rt: HostRuntime) -> Result<(), Fail> {
-    assert!(rt; groups_of(rt.alloc(), &DAMAGED)?.as_slice() == [1, 2, 0, 3].as_slice());
-    Ok(())
-}
 
 /// Rewrite file 0 of a header.
 const EMPTY: [Row; 1] = [("d/0000000000000000.rewrite", &[], b"")];
@@ -162,25 +136,70 @@ const INVALID: [(&str, &str); 2] = [
     ("d/random_file", "Invalid log file name: d/random_file"),
 ];
 
-#[test]
-fn test_debug_file_error(rt: HostRuntime) -> Result<(), Fail> {
-    let system = odd_files(rt.alloc())?;
-    for (path, text) in INVALID.iter() {
-        let found = invalid_at(rt.alloc(), &system, path);
-        assert!(rt;
-            matches!(&found, Some(why) if why.as_str() == *text),
-            "{path}"
-        );
+/// Whether these groups come of a directory with these files.
+fn gives(alloc: Global, rows: &[Row], want: &[u64]) -> Result<bool> {
+    Ok(groups_of(alloc, rows)?.as_slice() == want)
+}
+
+/// Whether a Rewrite file has the first group of this row, and a second one or not.
+fn begins_so(alloc: Global, row: usize) -> Result<bool> {
+    let (path, group, more) = FIRST[row % 3];
+    let system = directory_of(alloc, &REWRITE)?;
+    Ok(first_at(alloc, &system, path)? == (group, more))
+}
+
+/// Whether what this row names isn't read, and why.
+fn is_invalid(alloc: Global, row: usize) -> Result<bool> {
+    let (path, text) = INVALID[row % 2];
+    let system = odd_files(alloc)?;
+    Ok(matches!(invalid_at(alloc, &system, path), Some(why) if why.as_str() == text))
+}
+
+/// Whether of the odd files one is refused, and the file of a header has nothing.
+fn are_odd(alloc: Global) -> Result<bool> {
+    let system = odd_files(alloc)?;
+    let first = first_at(alloc, &system, "d/0000000000000000.rewrite")?;
+    let groups = groups_in(alloc, &system)?;
+    Ok((first == (0, false)) & (groups.as_slice() == [0].as_slice()))
+}
+
+/// Whether a file is no directory to be read.
+fn is_no_directory(alloc: Global) -> Result<bool> {
+    let system = odd_files(alloc)?;
+    let refused = answers_of(alloc, &system, "d/random_file");
+    Ok(matches!(refused, Err(Error::InvalidArgument(_))))
+}
+
+/// What holds, by its number; 0 to 3 are `test_debug_file_basic`, 6 to 8 `test_debug_file_error`.
+const HOLDS: [&str; 10] = [
+    "file 7 has no group",
+    "file 8 has one group",
+    "file 9 has two groups",
+    "three files give three groups",
+    "files of Rewrite come first",
+    "after a refusal the next file follows",
+    "a directory is no file",
+    "a file of another name isn't read",
+    "an empty file is refused, and one of a header has nothing",
+    "a file is no directory",
+];
+
+/// Whether it holds.
+fn holds(alloc: Global, number: usize) -> Result<bool> {
+    match number {
+        0..=2 => begins_so(alloc, number),
+        3 => gives(alloc, &REWRITE, &[1, 2, 3]),
+        4 => gives(alloc, &MIXED, &[1, 2, 3, 5]),
+        5 => gives(alloc, &DAMAGED, &[1, 2, 0, 3]),
+        6 | 7 => is_invalid(alloc, number),
+        8 => are_odd(alloc),
+        _ => is_no_directory(alloc),
     }
-    assert!(rt; first_at(rt.alloc(), &system, "d/0000000000000000.rewrite")? == (0, false));
-    assert!(rt; groups_in(rt.alloc(), &system)?.as_slice() == [0].as_slice());
-    Ok(())
 }
 
 #[test]
-fn a_directory_reader_of_a_file_is_refused(rt: HostRuntime) -> Result<(), Fail> {
-    let system = odd_files(rt.alloc())?;
-    let refused = answers_of(rt.alloc(), &system, "d/random_file");
-    assert!(rt; matches!(refused, Err(Error::InvalidArgument(_))));
-    Ok(())
+fn items_are_told_by_file_and_directory(rt: HostRuntime) {
+    for (number, what) in HOLDS.iter().enumerate() {
+        assert!(rt; holds(rt.alloc(), number).ok() == Some(true), "{what}");
+    }
 }

@@ -3,7 +3,6 @@ use crate::files::{append_record, header};
 use crate::steps::{NOWHERE, Said, Step, steps_of};
 use raft_log_base::Result;
 use std::alloc::Global;
-use std::test::Fail;
 
 /// A header of alignment 128, padding that ends with this byte, a record of 65 bytes and zeros up to 256.
 fn padded(alloc: Global, last: u8) -> Result<Vec<u8>> {
@@ -25,13 +24,10 @@ const ZEROS: [Step; 6] = [
     (Said::Nothing, 0, 2, 69),
 ];
 
-#[test]
-fn a_record_behind_zeros_is_read_and_zeros_at_the_end_are_no_record(
-    rt: HostRuntime,
-) -> Result<(), Fail> {
-    let bytes = padded(rt.alloc(), 0)?;
-    assert!(rt; steps_of(rt.alloc(), bytes.as_slice(), NOWHERE, 512)? == ZEROS);
-    Ok(())
+/// Whether a record behind zeros is read, and zeros at the end are no record.
+pub fn is_read_behind_zeros(alloc: Global) -> Result<bool> {
+    let bytes = padded(alloc, 0)?;
+    Ok(steps_of(alloc, bytes.as_slice(), NOWHERE, 512)? == ZEROS)
 }
 
 /// A broken record at 69.
@@ -44,9 +40,8 @@ const BROKEN: [Step; 6] = [
     (Said::Nothing, 0, 2, 69),
 ];
 
-#[test]
-fn other_padding_is_a_broken_record(rt: HostRuntime) -> Result<(), Fail> {
-    let bytes = padded(rt.alloc(), 3)?;
-    assert!(rt; steps_of(rt.alloc(), bytes.as_slice(), NOWHERE, 512)? == BROKEN);
-    Ok(())
+/// Whether other padding is a broken record.
+pub fn is_broken_behind_padding(alloc: Global) -> Result<bool> {
+    let bytes = padded(alloc, 3)?;
+    Ok(steps_of(alloc, bytes.as_slice(), NOWHERE, 512)? == BROKEN)
 }

@@ -5,7 +5,6 @@ use crate::steps::{Said, ends_of};
 use crate::whole_end::whole_end;
 use raft_log_base::{Error, Result};
 use std::alloc::Global;
-use std::test::Fail;
 
 /// A file of a header and three records, the second one with an entry of so many bytes. With 600 bytes the
 /// records begin at 69, 134 and 765, the entry block lies from 150 to 754, and the file ends at 830.
@@ -37,17 +36,6 @@ const ROWS: [(usize, usize, usize, Said); 17] = [
     (65_536, 830, 830, Said::Nothing),
 ];
 
-#[test]
-fn a_place_is_told_where_a_read_meets_it(rt: HostRuntime) -> Result<(), Fail> {
-    let bytes = three_records(rt.alloc(), 600)?;
-    assert!(rt; bytes.len() == 830);
-    for (size, place, end, said) in ROWS.iter() {
-        let found = ends_of(rt.alloc(), bytes.as_slice(), *place, *size)?;
-        assert!(rt; found == (*end, *said), "blocks of {size}, place {place}");
-    }
-    Ok(())
-}
-
 /// A record from 69 to 134, and 700 bytes behind it that are none.
 fn damaged(alloc: Global) -> Result<Vec<u8>> {
     let mut bytes = records(alloc, &[34])?;
@@ -62,16 +50,6 @@ const DAMAGED: [(usize, usize, usize, Said); 3] = [
     (150, 512, 69, Said::Io),
 ];
 
-#[test]
-fn damage_in_front_of_a_place_is_told_first(rt: HostRuntime) -> Result<(), Fail> {
-    let bytes = damaged(rt.alloc())?;
-    for (place, size, end, said) in DAMAGED.iter() {
-        let found = ends_of(rt.alloc(), bytes.as_slice(), *place, *size)?;
-        assert!(rt; found == (*end, *said), "blocks of {size}, place {place}");
-    }
-    Ok(())
-}
-
 /// Where the good records of a file with these bytes end, of which a place can't be read; and whether the
 /// file system refuses where entry blocks are checked too.
 fn both_ends(alloc: Global, bytes: &[u8], place: usize) -> Result<(usize, bool)> {
@@ -83,12 +61,45 @@ fn both_ends(alloc: Global, bytes: &[u8], place: usize) -> Result<(usize, bool)>
     }
 }
 
+/// Whether the file of three records has 830 bytes.
+fn is_of_830_bytes(alloc: Global) -> Result<bool> {
+    Ok(three_records(alloc, 600)?.len() == 830)
+}
+
+/// Whether the file of three records ends as this row says.
+fn ends_as_told(alloc: Global, row: usize) -> Result<bool> {
+    let (size, place, end, said) = ROWS[row % 17];
+    let bytes = three_records(alloc, 600)?;
+    Ok(ends_of(alloc, bytes.as_slice(), place, size)? == (end, said))
+}
+
+/// Whether the damaged file ends as this row says.
+fn is_damaged_as_told(alloc: Global, row: usize) -> Result<bool> {
+    let (place, size, end, said) = DAMAGED[row % 3];
+    let bytes = damaged(alloc)?;
+    Ok(ends_of(alloc, bytes.as_slice(), place, size)? == (end, said))
+}
+
+/// Whether a place in an entry block is told where the block is checked, and only there.
+fn is_told_where_checked(alloc: Global) -> Result<bool> {
+    let bytes = three_records(alloc, 70_000)?;
+    Ok(both_ends(alloc, bytes.as_slice(), 66_000)? == (bytes.len(), true))
+}
+
+/// Whether it holds: to 16, the rows of places; to 19, those of a damaged file; the file's length; an entry
+/// block.
+fn holds(alloc: Global, number: usize) -> Result<bool> {
+    match number {
+        0..=16 => ends_as_told(alloc, number),
+        17..=19 => is_damaged_as_told(alloc, number),
+        20 => is_of_830_bytes(alloc),
+        _ => is_told_where_checked(alloc),
+    }
+}
+
 #[test]
-fn a_place_in_an_entry_block_is_told_where_the_block_is_checked(
-    rt: HostRuntime,
-) -> Result<(), Fail> {
-    let bytes = three_records(rt.alloc(), 70_000)?;
-    let found = both_ends(rt.alloc(), bytes.as_slice(), 66_000)?;
-    assert!(rt; found == (bytes.len(), true));
-    Ok(())
+fn places_are_told_where_a_read_meets_them(rt: HostRuntime) {
+    for number in 0..22 {
+        assert!(rt; holds(rt.alloc(), number).ok() == Some(true), "{number}");
+    }
 }

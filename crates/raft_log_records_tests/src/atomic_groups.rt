@@ -15,13 +15,6 @@ fn begun(alloc: Global) -> std::result::Result<(Marking, Marking), AllocError> {
     Ok((first, batch.marking()))
 }
 
-#[test]
-fn a_group_is_marked(rt: HostRuntime) {
-    let begin = Marking::Part(258, AtomicGroupStatus::Begin);
-    let middle = Marking::Part(258, AtomicGroupStatus::Middle);
-    assert!(rt; begun(rt.alloc()).ok() == Some((begin, middle)));
-}
-
 /// The last mark of a group that begins and ends, and what its builder says then.
 fn ended(alloc: Global) -> std::result::Result<(Marking, Option<AtomicGroupStatus>), AllocError> {
     let mut builder = AtomicGroupBuilder::with_id(258);
@@ -32,10 +25,17 @@ fn ended(alloc: Global) -> std::result::Result<(Marking, Option<AtomicGroupStatu
     Ok((batch.marking(), builder.status()))
 }
 
-#[test]
-fn a_group_is_ended(rt: HostRuntime) {
+/// Whether a group is marked so where it begins and goes on.
+fn is_marked(alloc: Global) -> Result<bool> {
+    let begin = Marking::Part(258, AtomicGroupStatus::Begin);
+    let middle = Marking::Part(258, AtomicGroupStatus::Middle);
+    Ok(begun(alloc)? == (begin, middle))
+}
+
+/// Whether a group is marked so where it ends, and its builder says so.
+fn is_ended(alloc: Global) -> Result<bool> {
     let end = Marking::Part(258, AtomicGroupStatus::End);
-    assert!(rt; ended(rt.alloc()).ok() == Some((end, Some(AtomicGroupStatus::End))));
+    Ok(ended(alloc)? == (end, Some(AtomicGroupStatus::End)))
 }
 
 /// The record of a batch with the first mark of a group.
@@ -51,11 +51,6 @@ const MARK: [u8; 18] = [1, 0, 3, 1, 3, 0x5f, 0x5f, 1, 9, 0, 0, 0, 0, 0, 0, 1, 2,
 /// Whether those bytes stand behind the header of the record.
 fn has_mark(alloc: Global) -> Result<bool> {
     Ok(marked_record(alloc)?.get(16..34) == Some(MARK.as_slice()))
-}
-
-#[test]
-fn a_mark_is_a_key_of_group_zero(rt: HostRuntime) {
-    assert!(rt; has_mark(rt.alloc()).ok() == Some(true));
 }
 
 /// The end of the group 5, the key of marks, and the value that says so.
@@ -94,12 +89,10 @@ fn told_item(
     Ok(Marking::parse(&LogItem::new_kv(group, op_type, key, Some(value))))
 }
 
-#[test]
-fn items_tell_their_mark(rt: HostRuntime) {
-    for (row, (want, group, op_type, key, value)) in ITEMS.iter().enumerate() {
-        let told = told_item(rt.alloc(), *group, *op_type, key, value);
-        assert!(rt; told.ok() == Some(*want), "row {row}");
-    }
+/// Whether the item of this row tells its mark.
+fn tells_its_mark(alloc: Global, row: usize) -> Result<bool> {
+    let (want, group, op_type, key, value) = ITEMS[row % 9];
+    Ok(told_item(alloc, group, op_type, key, value)? == want)
 }
 
 /// What is told of a put of a mark's key without a value, and of a command.
@@ -108,11 +101,6 @@ fn told_without_value(alloc: Global) -> std::result::Result<(Marking, Marking), 
     let valueless = LogItem::new_kv(0, OpType::Put, key, None);
     let clean = LogItem::new_command(0, Command::Clean);
     Ok((Marking::parse(&valueless), Marking::parse(&clean)))
-}
-
-#[test]
-fn items_without_a_value_are_no_marks(rt: HostRuntime) {
-    assert!(rt; told_without_value(rt.alloc()).ok() == Some((BROKEN, Marking::Unmarked)));
 }
 
 /// What is told of one mark, and of two.
@@ -124,7 +112,22 @@ fn told_twice(alloc: Global) -> std::result::Result<(Marking, Marking), AllocErr
     Ok((first, Marking::parse_all(batch.as_slice())))
 }
 
+/// Whether it holds: 0, a group is marked; 1, it is ended; 2, a mark is a key of group 0; 3, items without a
+/// value are no marks; 4, two marks are broken; from 5 on the rows of items, the fifth of them first.
+fn holds(alloc: Global, number: usize) -> Result<bool> {
+    match number {
+        0 => is_marked(alloc),
+        1 => is_ended(alloc),
+        2 => has_mark(alloc),
+        3 => Ok(told_without_value(alloc)? == (BROKEN, Marking::Unmarked)),
+        4 => Ok(told_twice(alloc)? == (END, BROKEN)),
+        _ => tells_its_mark(alloc, number),
+    }
+}
+
 #[test]
-fn two_marks_are_broken(rt: HostRuntime) {
-    assert!(rt; told_twice(rt.alloc()).ok() == Some((END, BROKEN)));
+fn groups_are_marked(rt: HostRuntime) {
+    for number in 0..14 {
+        assert!(rt; holds(rt.alloc(), number).ok() == Some(true), "{number}");
+    }
 }

@@ -21,25 +21,15 @@ fn gone_back(alloc: Global) -> raft_log_items::Result<LogBatch>
 }
 
 /// Whether it has its item, and its record is made anew, of the length that is told.
-fn is_made_anew(alloc: Global) -> raft_log_items::Result<bool> {
+pub(crate) fn is_made_anew(alloc: Global) -> raft_log_items::Result<bool> {
     let mut batch = gone_back(alloc)?;
     let len = batch.finish_populate()?;
     Ok(len == batch.encoded_len() && (batch.len(), batch.items().len()) == (1, 1))
 }
 
-#[test]
-fn a_batch_goes_back(rt: HostRuntime) {
-    assert!(rt; is_made_anew(rt.alloc()).ok() == Some(true));
-}
-
 /// Whether it has no item once it is emptied.
-fn is_emptied(alloc: Global) -> raft_log_items::Result<bool> {
+pub(crate) fn is_emptied(alloc: Global) -> raft_log_items::Result<bool> {
     let mut batch = gone_back(alloc)?;
     batch.clear();
     Ok(batch.is_empty())
-}
-
-#[test]
-fn a_batch_is_emptied(rt: HostRuntime) {
-    assert!(rt; is_emptied(rt.alloc()).ok() == Some(true));
 }

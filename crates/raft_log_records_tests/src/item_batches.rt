@@ -43,11 +43,6 @@ fn is_encoded(alloc: Global) -> Result<bool> {
     Ok(out.get(1..23) == Some(ITEMS.as_slice()) && batch.approximate_size() == SIZE)
 }
 
-#[test]
-fn a_list_is_encoded(rt: HostRuntime) {
-    assert!(rt; is_encoded(rt.alloc()).ok() == Some(true));
-}
-
 /// Whether the four items are read of what was encoded, and there is room for them.
 fn is_decoded(alloc: Global) -> Result<bool> {
     let mut out = Vec::new(alloc);
@@ -55,11 +50,6 @@ fn is_decoded(alloc: Global) -> Result<bool> {
     let file = context(Version::V1, 1);
     let read = LogItemBatch::decode(alloc, &out, block(11), CompressionType::None, &file)?;
     Ok(read.len() == 4 && read.capacity() >= 4)
-}
-
-#[test]
-fn what_is_encoded_is_decoded(rt: HostRuntime) {
-    assert!(rt; is_decoded(rt.alloc()).ok() == Some(true));
 }
 
 /// Whether a list that was cleared has no items, and room for nine.
@@ -70,21 +60,11 @@ fn is_cleared(alloc: Global) -> Result<bool> {
     Ok(batch.is_empty() && batch.capacity() >= 9)
 }
 
-#[test]
-fn lists_are_cleared(rt: HostRuntime) {
-    assert!(rt; is_cleared(rt.alloc()).ok() == Some(true));
-}
-
 /// Whether a copy is equal, and an empty list another one.
 fn is_compared(alloc: Global) -> Result<bool> {
     let batch = some_items(alloc)?;
     let copy = batch.clone(alloc)?;
     Ok(copy == batch && LogItemBatch::default(alloc) != batch)
-}
-
-#[test]
-fn lists_are_compared(rt: HostRuntime) {
-    assert!(rt; is_compared(rt.alloc()).ok() == Some(true));
 }
 
 /// Whether one list has the items of both once it took those of the other, two of them of group 2.
@@ -97,11 +77,6 @@ fn is_merged(alloc: Global) -> Result<bool> {
     Ok((batch.len(), other.len()) == (5, 0) && of_two == 2)
 }
 
-#[test]
-fn lists_are_merged(rt: HostRuntime) {
-    assert!(rt; is_merged(rt.alloc()).ok() == Some(true));
-}
-
 /// Whether a drained list is empty, and what came of it is what was in it.
 fn is_drained(alloc: Global) -> Result<bool> {
     let mut batch = some_items(alloc)?;
@@ -109,11 +84,6 @@ fn is_drained(alloc: Global) -> Result<bool> {
     let mut items: Vec<LogItem> = Vec::new(alloc);
     batch.drain(&mut items)?;
     Ok(batch.is_empty() && items.as_slice() == copy.as_slice())
-}
-
-#[test]
-fn lists_are_drained(rt: HostRuntime) {
-    assert!(rt; is_drained(rt.alloc()).ok() == Some(true));
 }
 
 /// The place of a block of so many bytes.
@@ -168,11 +138,6 @@ fn is_placed(alloc: Global) -> Result<bool> {
     Ok(first && are_placed(batch.as_slice()))
 }
 
-#[test]
-fn entries_of_a_footer_get_their_places(rt: HostRuntime) {
-    assert!(rt; is_placed(rt.alloc()).ok() == Some(true));
-}
-
 /// The file of the third item's key.
 fn file_of_key(alloc: Global) -> Result<Option<FileId>> {
     let batch = decoded(alloc, 1, 13)?;
@@ -183,11 +148,6 @@ fn file_of_key(alloc: Global) -> Result<Option<FileId>> {
         },
         _ => Ok(None),
     }
-}
-
-#[test]
-fn keys_of_a_footer_get_their_file(rt: HostRuntime) {
-    assert!(rt; file_of_key(rt.alloc()).ok() == Some(Some(block(13).id)));
 }
 
 /// Files and lengths of blocks for which the footer is none, and why.
@@ -211,12 +171,45 @@ fn is_refused(alloc: Global, number: u64, len: usize, want: &str) -> Result<bool
     Ok(told(alloc, batch)?.as_str() == want)
 }
 
+/// Whether the footer is refused in the file and with the block of this row.
+fn is_refused_as(alloc: Global, row: usize) -> Result<bool> {
+    let (number, len, want) = REFUSED[row % 3];
+    is_refused(alloc, number, len, want)
+}
+
+/// What holds, by its number; the last three are the rows above.
+const HOLDS: [&str; 11] = [
+    "a list is encoded",
+    "what is encoded is decoded",
+    "lists are cleared",
+    "lists are compared",
+    "lists are merged",
+    "lists are drained",
+    "entries of a footer get their places",
+    "keys of a footer get their file",
+    "a block that is too long is refused",
+    "a footer of another file is refused",
+    "a block that is too short is refused",
+];
+
+/// Whether it holds.
+fn holds(alloc: Global, number: usize) -> Result<bool> {
+    match number {
+        0 => is_encoded(alloc),
+        1 => is_decoded(alloc),
+        2 => is_cleared(alloc),
+        3 => is_compared(alloc),
+        4 => is_merged(alloc),
+        5 => is_drained(alloc),
+        6 => is_placed(alloc),
+        7 => Ok(file_of_key(alloc)? == Some(block(13).id)),
+        _ => is_refused_as(alloc, number),
+    }
+}
+
 #[test]
-fn a_footer_of_another_place_is_refused(rt: HostRuntime) {
-    for (number, len, want) in REFUSED.iter() {
-        assert!(rt;
-            is_refused(rt.alloc(), *number, *len, want).ok() == Some(true),
-            "{want}"
-        );
+fn lists_of_items_hold(rt: HostRuntime) {
+    for (number, what) in HOLDS.iter().enumerate() {
+        assert!(rt; holds(rt.alloc(), number).ok() == Some(true), "{what}");
     }
 }

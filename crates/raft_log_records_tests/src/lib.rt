@@ -1,17 +1,10 @@
-//! Tests of frames and of records: the worked bytes of the format, refusals with their texts, and each
-//! call once.
+//! Tests of records: the worked bytes of the format, refusals with their texts, and each call once.
 #![tactic(auto)]
 
 #[cfg(test)]
 mod atomic_groups;
 #[cfg(test)]
 mod batches;
-#[cfg(test)]
-mod damaged_blocks;
-#[cfg(test)]
-mod damaged_footers;
-#[cfg(test)]
-mod damaged_headers;
 #[cfg(test)]
 mod item_batches;
 #[cfg(test)]
@@ -20,14 +13,8 @@ mod messages;
 #[cfg(test)]
 mod messages_both_ways;
 #[cfg(test)]
-mod reading;
-#[cfg(test)]
 mod rows;
 #[cfg(test)]
 mod short_memory;
 #[cfg(test)]
 mod steps;
-#[cfg(test)]
-mod tables;
-#[cfg(test)]
-mod whole_records;

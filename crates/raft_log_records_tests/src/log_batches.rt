@@ -3,6 +3,7 @@ ghost use Rattle.std.specs.Prelude.{◌≡◌, IfOk, OnOk};
 ghost use Rattle.raft_log_records.specs.declared.log_batch.BatchState.TheVariants.{Filling};
 ghost use Rattle.raft_log_records.specs.Batch.{IsSigned};
 
+use crate::batches::{is_emptied, is_made_anew};
 use crate::messages::{TestEntries, TestEntry};
 use crate::rows::context;
 use crate::steps::{Step, filled, record};
@@ -103,20 +104,10 @@ fn tells_size(alloc: Global) -> Result<bool> {
 /// Header 16, block 9, footer 12, and of the item 8 for the group and 8 for each of four numbers.
 const SIZE: usize = 37 + 40;
 
-#[test]
-fn a_batch_tells_its_size(rt: HostRuntime) {
-    assert!(rt; tells_size(rt.alloc()).ok() == Some(true));
-}
-
 /// Whether the copy of a signed batch has its record.
 fn copy_has_record(alloc: Global) -> Result<bool> {
     let copy = signed(alloc)?.clone(alloc)?;
     Ok(copy.encoded_bytes() == TWO_ENTRIES.as_slice())
-}
-
-#[test]
-fn a_copy_has_the_same_record(rt: HostRuntime) {
-    assert!(rt; copy_has_record(rt.alloc()).ok() == Some(true));
 }
 
 /// The entries of a batch that was written, and whether its state said so, and then that it was emptied.
@@ -149,21 +140,11 @@ fn are_in_block(alloc: Global) -> Result<bool> {
     Ok(states && first == Some(block()) && block_of(entries.as_slice(), 1) == first)
 }
 
-#[test]
-fn written_entries_get_their_places(rt: HostRuntime) {
-    assert!(rt; are_in_block(rt.alloc()).ok() == Some(true));
-}
-
 /// Whether the two entries lie one behind the other.
 fn lie_in_a_row(alloc: Global) -> Result<bool> {
     let (entries, _) = written(alloc)?;
     let first = extent(entries.as_slice(), 0);
     Ok(first == Some((0, 2)) && extent(entries.as_slice(), 1) == Some((2, 3)))
-}
-
-#[test]
-fn written_entries_lie_in_their_block(rt: HostRuntime) {
-    assert!(rt; lie_in_a_row(rt.alloc()).ok() == Some(true));
 }
 
 /// An entry of a user's log.
@@ -211,23 +192,12 @@ fn are_entries(alloc: Global) -> Result<bool> {
     Ok(there && extent(entries.as_slice(), 1) == Some((10, 8)))
 }
 
-#[test]
-fn messages_are_entries(rt: HostRuntime) {
-    assert!(rt; are_entries(rt.alloc()).ok() == Some(true));
-}
-
 /// How many bytes the record of a message that is a value has.
 fn message_value(alloc: Global) -> Result<usize> {
     let message = entry(alloc, 8, b"")?;
     let mut batch = LogBatch::default(alloc)?;
     batch.put_message(alloc, 1, b"k", &message)?;
     batch.finish_populate()
-}
-
-#[test]
-fn messages_are_values(rt: HostRuntime) {
-    // Header, one item of 14 bytes, and the footer's count and checksum.
-    assert!(rt; message_value(rt.alloc()).ok() == Some(16 + 1 + 14 + 4));
 }
 
 /// Entry 7 of group 1, `ab`.
@@ -258,21 +228,11 @@ fn has_both(alloc: Global) -> Result<bool> {
     Ok(bytes.get(16..22) == Some(b"abxcde".as_slice()))
 }
 
-#[test]
-fn merged_batches_are_one(rt: HostRuntime) {
-    assert!(rt; has_both(rt.alloc()).ok() == Some(true));
-}
-
 /// Whether the other batch's entries lie behind the own ones.
 fn lie_behind(alloc: Global) -> Result<bool> {
     let entries = drained(alloc, &mut merged(alloc)?)?;
     let second = extent(entries.as_slice(), 1);
     Ok(second == Some((2, 1)) && extent(entries.as_slice(), 2) == Some((3, 3)))
-}
-
-#[test]
-fn merged_entries_lie_behind(rt: HostRuntime) {
-    assert!(rt; lie_behind(rt.alloc()).ok() == Some(true));
 }
 
 /// Whether the step was done, or refused for want of memory with the batch as it was.
@@ -285,7 +245,7 @@ fn is_done_or_unchanged(batch: &LogBatch, before: usize, step: &Result<()>) -> b
 }
 
 /// Whether entries are added or the batch is as it was, and whether its record is made or it is as it was.
-fn adds_all_or_nothing(alloc: Global) -> Result<bool> {
+pub(crate) fn adds_all_or_nothing(alloc: Global) -> Result<bool> {
     let mut batch = LogBatch::default(alloc)?;
     let step = add(alloc, &mut batch, 1, &[7, 8], &[b"ab", b"cde"]);
     let added = is_done_or_unchanged(&batch, 0, &step);
@@ -294,13 +254,8 @@ fn adds_all_or_nothing(alloc: Global) -> Result<bool> {
     Ok(added && (made || batch.approximate_size() == whole))
 }
 
-#[test]
-fn want_of_memory_adds_nothing(rt: HostRuntime) {
-    assert!(rt; adds_all_or_nothing(rt.alloc()).ok() != Some(false));
-}
-
 /// Whether a batch is merged or both are as they were.
-fn merges_all_or_nothing(alloc: Global) -> Result<bool> {
+pub(crate) fn merges_all_or_nothing(alloc: Global) -> Result<bool> {
     let mut batch = filled(alloc, FIRST)?;
     let mut other = filled(alloc, SECOND)?;
     let (own, others) = (batch.approximate_size(), other.approximate_size());
@@ -309,21 +264,11 @@ fn merges_all_or_nothing(alloc: Global) -> Result<bool> {
     Ok(done && (step.is_ok() || other.approximate_size() == others))
 }
 
-#[test]
-fn want_of_memory_merges_nothing(rt: HostRuntime) {
-    assert!(rt; merges_all_or_nothing(rt.alloc()).ok() != Some(false));
-}
-
 /// Whether a batch is given room, and too much of it is refused.
 fn has_room(alloc: Global) -> Result<bool> {
     let mut batch = filled(alloc, FIRST)?;
     batch.reserve(2, 4)?;
     Ok(batch.entries_len() == 2 && batch.reserve(0, 2_147_483_646).is_err())
-}
-
-#[test]
-fn a_batch_with_room_takes_another(rt: HostRuntime) {
-    assert!(rt; has_room(rt.alloc()).ok() == Some(true));
 }
 
 /// How many bytes the record of an entry of 2 MiB has.
@@ -334,8 +279,45 @@ fn large_record(alloc: Global) -> Result<usize> {
     batch.finish_populate()
 }
 
+/// What holds, by its number.
+const HOLDS: [&str; 12] = [
+    "a batch tells its size",
+    "a copy has the same record",
+    "written entries get their places",
+    "written entries lie in their block",
+    "messages are entries",
+    "messages are values",
+    "merged batches are one",
+    "merged entries lie behind",
+    "a batch with room takes another",
+    "a batch of two mebibytes is made",
+    "a batch goes back",
+    "a batch is emptied",
+];
+
+/// Whether it holds. A message that is a value needs a header, one item of 14 bytes, and the footer's count
+/// and checksum; an entry of 2 MiB a header, the block, and a footer of a count, an item of eight bytes and
+/// a checksum.
+fn holds(alloc: Global, number: usize) -> Result<bool> {
+    match number {
+        0 => tells_size(alloc),
+        1 => copy_has_record(alloc),
+        2 => are_in_block(alloc),
+        3 => lie_in_a_row(alloc),
+        4 => are_entries(alloc),
+        5 => Ok(message_value(alloc)? == 16 + 1 + 14 + 4),
+        6 => has_both(alloc),
+        7 => lie_behind(alloc),
+        8 => has_room(alloc),
+        9 => Ok(large_record(alloc)? == 16 + (2 << 20) + 4 + 1 + 8 + 4),
+        10 => is_made_anew(alloc),
+        _ => is_emptied(alloc),
+    }
+}
+
 #[test]
-fn a_batch_of_two_mebibytes_is_made(rt: HostRuntime) {
-    // Header, block, and a footer of a count, an item of eight bytes, and a checksum.
-    assert!(rt; large_record(rt.alloc()).ok() == Some(16 + (2 << 20) + 4 + 1 + 8 + 4));
+fn batches_hold(rt: HostRuntime) {
+    for (number, what) in HOLDS.iter().enumerate() {
+        assert!(rt; holds(rt.alloc(), number).ok() == Some(true), "{what}");
+    }
 }

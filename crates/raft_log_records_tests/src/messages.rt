@@ -17,7 +17,8 @@ impl Message for TestEntry {
 
     ghost spelling = { λ m. u64_bytes m.index ++ m.bytes };
 
-    ghost reading = { λ source. if nat_lt (length source) 8 then None else Some (record { index = from_be_bytes w64 (take 8 source); bytes = drop 8 source }) };
+    ghost reading = { λ source. if nat_lt (length source) 8 then None
+        else Some (record { index = from_be_bytes w64 (take 8 source); bytes = drop 8 source }) };
 
     fn write(&self, out: &mut Vec<u8>) -> std::result::Result<(), AllocError> {
         codec::append_u64(out, self.index)?;

@@ -4,7 +4,6 @@ use crate::rows::told;
 use raft_log_items::{Bytes, Message, MessageExt, Result};
 use raft_log_records::LogItemBatch;
 use std::alloc::Global;
-use std::test::Fail;
 
 /// Writes a message and parses the bytes.
 fn written_and_parsed<M: Message>(alloc: Global, message: &M) -> Result<M> {
@@ -36,26 +35,15 @@ fn is_written(alloc: Global) -> Result<bool> {
     Ok(parsed && out.as_slice() == bytes.as_slice() && index_of::<TestEntries>(&entry) == 258)
 }
 
-#[test]
-fn a_message_is_written_and_parsed(rt: HostRuntime) {
-    assert!(rt; is_written(rt.alloc()).ok() == Some(true));
-}
-
-#[test]
-fn bytes_of_no_message_are_refused(rt: HostRuntime) -> std::result::Result<(), Fail> {
-    let text = told(rt.alloc(), TestEntry::parse(rt.alloc(), b"1234567"))?;
-    assert!(rt; text.as_str() == "Message Error: entry too short: 7");
-    Ok(())
+/// Whether bytes of no message are refused with their length.
+fn is_too_short(alloc: Global) -> Result<bool> {
+    let text = told(alloc, TestEntry::parse(alloc, b"1234567"))?;
+    Ok(text.as_str() == "Message Error: entry too short: 7")
 }
 
 /// The index of bytes that are just one.
 fn bare_index(alloc: Global) -> Result<u64> {
     Ok(TestEntry::parse(alloc, b"\0\0\0\0\0\0\0\x05")?.index)
-}
-
-#[test]
-fn a_message_may_be_an_index_alone(rt: HostRuntime) {
-    assert!(rt; bare_index(rt.alloc()).ok() == Some(5));
 }
 
 /// The footer's bytes of a key of group 2 that gets the entry 258.
@@ -71,7 +59,27 @@ fn put_is_encoded(alloc: Global) -> Result<bool> {
     Ok(out.get(..17) == Some(PUT.as_slice()))
 }
 
+/// What holds, by its number.
+const HOLDS: [&str; 4] = [
+    "a message is written and parsed",
+    "bytes of no message are refused",
+    "a message may be an index alone",
+    "a message is put",
+];
+
+/// Whether it holds.
+fn holds(alloc: Global, number: usize) -> Result<bool> {
+    match number {
+        0 => is_written(alloc),
+        1 => is_too_short(alloc),
+        2 => Ok(bare_index(alloc)? == 5),
+        _ => put_is_encoded(alloc),
+    }
+}
+
 #[test]
-fn a_message_is_put(rt: HostRuntime) {
-    assert!(rt; put_is_encoded(rt.alloc()).ok() == Some(true));
+fn messages_hold(rt: HostRuntime) {
+    for (number, what) in HOLDS.iter().enumerate() {
+        assert!(rt; holds(rt.alloc(), number).ok() == Some(true), "{what}");
+    }
 }

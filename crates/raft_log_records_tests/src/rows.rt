@@ -1,4 +1,4 @@
-//! What the rows of the tables are made of, and what is told of them.
+//! Records of one item, the file that they are for, and what is told of a refusal.
 use raft_log_items::{Error, FileId, LogFileContext, LogQueue, Version};
 use std::alloc::{AllocError, Global};
 
@@ -15,25 +15,6 @@ pub(crate) const CLEAN_SIGNED: [u8; 24] = [
 /// A file of the append queue.
 pub(crate) fn context(version: Version, number: u64) -> LogFileContext {
     LogFileContext::new(FileId::new(LogQueue::Append, number), version)
-}
-
-/// The text before the first bar of a line, and the text behind it.
-pub(crate) fn cell(line: &str) -> (&str, &str) {
-    match line.split_once('|') {
-        Some((front, behind)) => (front.trim(), behind.trim()),
-        None => (line.trim(), ""),
-    }
-}
-
-/// The bytes that are written as numbers of two hexadecimal digits; other words are left out.
-pub(crate) fn bytes_of(alloc: Global, text: &str) -> Result<Vec<u8>, AllocError> {
-    let mut bytes = Vec::new(alloc);
-    for digits in text.split_whitespace() {
-        if let Ok(byte) = u8::from_str_radix(digits, 16) {
-            bytes.push(byte)?;
-        }
-    }
-    Ok(bytes)
 }
 
 /// The text of a refusal, and `read` where there is none.

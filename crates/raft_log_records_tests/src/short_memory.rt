@@ -2,12 +2,14 @@
 //! allocation failing in turn.
 use crate::atomic_groups::marked_record;
 use crate::item_batches::{decoded, some_items};
-use crate::log_batches::{TWO_ENTRIES, entry, merged_record, message_record, signed};
+use crate::log_batches::{
+    TWO_ENTRIES, adds_all_or_nothing, entry, merged_record, merges_all_or_nothing, message_record,
+    signed,
+};
 use raft_log_frames::decode_record;
 use raft_log_items::{Error, Result};
 use raft_log_records::LogBatch;
 use std::alloc::Global;
-use std::test::Fail;
 
 /// How many bytes the footer of some items has.
 fn encoded(alloc: Global) -> Result<usize> {
@@ -55,14 +57,27 @@ fn call(alloc: Global, number: usize) -> Result<usize> {
 /// and three that are read, a footer of 22 + 4 bytes, a record of 16 + 18 + 4, eight items, and two.
 const ANSWERS: [usize; 9] = [46, 49, 36, 1, 3, 26, 38, 8, 2];
 
-#[test]
-fn a_call_without_memory_is_answered_later(rt: HostRuntime) -> std::result::Result<(), Fail> {
-    for (number, want) in ANSWERS.iter().enumerate() {
-        let answer = match call(rt.alloc(), number) {
-            Err(Error::Memory) => call(rt.alloc(), number),
-            answer => answer,
-        };
-        assert!(rt; answer.ok() == Some(*want), "call {number}");
+/// What a call answers; where it found no memory, when it is asked again.
+fn answered(alloc: Global, number: usize) -> Result<usize> {
+    match call(alloc, number) {
+        Err(Error::Memory) => call(alloc, number),
+        answer => answer,
     }
-    Ok(())
+}
+
+/// Whether the call of this number is answered so; behind these, whether additions and merges leave what they
+/// found where they are refused.
+fn stands(alloc: Global, number: usize) -> bool {
+    match number {
+        0..=8 => answered(alloc, number).ok() == Some(ANSWERS[number]),
+        9 => adds_all_or_nothing(alloc).ok() != Some(false),
+        _ => merges_all_or_nothing(alloc).ok() != Some(false),
+    }
+}
+
+#[test]
+fn a_call_without_memory_is_answered_later(rt: HostRuntime) {
+    for number in 0..11 {
+        assert!(rt; stands(rt.alloc(), number), "call {number}");
+    }
 }

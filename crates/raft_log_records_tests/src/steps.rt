@@ -72,14 +72,6 @@ fn has_record(alloc: Global, steps: &[Step], version: Version, want: &[u8]) -> R
     Ok(bytes.as_slice() == want)
 }
 
-#[test]
-fn records_are_written(rt: HostRuntime) {
-    for (row, (steps, version, want)) in RECORDS.iter().enumerate() {
-        let hit = has_record(rt.alloc(), steps, *version, want);
-        assert!(rt; hit.ok() == Some(true), "row {row}");
-    }
-}
-
 /// Batches, and how many bytes their records have: one underscore begins no key of the log; no entries add
 /// nothing; an entry without bytes is an entry, and needs no block.
 const LENGTHS: [(&[Step], usize); 5] = [
@@ -99,13 +91,6 @@ const LENGTHS: [(&[Step], usize); 5] = [
 /// How many bytes the record of these steps has.
 fn length(alloc: Global, steps: &[Step]) -> Result<usize> {
     filled(alloc, steps)?.finish_populate()
-}
-
-#[test]
-fn lengths_are_told(rt: HostRuntime) {
-    for (steps, want) in LENGTHS.iter() {
-        assert!(rt; length(rt.alloc(), steps).ok() == Some(*want), "{want}");
-    }
 }
 
 /// The text of a refusal of indexes that are no run.
@@ -139,12 +124,36 @@ fn is_told(alloc: Global, step: &Step, want: &str) -> Result<bool> {
     Ok(told(alloc, step)?.as_str() == want)
 }
 
+/// Whether the batch of this row has its record.
+fn is_recorded(alloc: Global, row: usize) -> Result<bool> {
+    let (steps, version, want) = RECORDS[row % 4];
+    has_record(alloc, steps, version, want)
+}
+
+/// Whether the record of this row's batch has its length.
+fn is_as_long(alloc: Global, row: usize) -> Result<bool> {
+    let (steps, want) = LENGTHS[row % 5];
+    Ok(length(alloc, steps)? == want)
+}
+
+/// Whether the step of this row is refused as it says.
+fn is_refused(alloc: Global, row: usize) -> Result<bool> {
+    let (step, want) = &REFUSED[row % 7];
+    is_told(alloc, step, want)
+}
+
+/// Whether it holds: to 3, rows of records; to 8, of lengths; behind that, of refusals.
+fn holds(alloc: Global, number: usize) -> Result<bool> {
+    match number {
+        0..=3 => is_recorded(alloc, number),
+        4..=8 => is_as_long(alloc, number),
+        _ => is_refused(alloc, number),
+    }
+}
+
 #[test]
-fn wrong_steps_are_refused(rt: HostRuntime) {
-    for (step, want) in REFUSED.iter() {
-        assert!(rt;
-            is_told(rt.alloc(), step, want).ok() == Some(true),
-            "{want}"
-        );
+fn steps_are_taken_or_refused(rt: HostRuntime) {
+    for number in 0..16 {
+        assert!(rt; holds(rt.alloc(), number).ok() == Some(true), "{number}");
     }
 }

@@ -68,6 +68,10 @@ abbrev pub Fetches : Shown → ℕ → ℕ → Option ℕ → List EntryIndex �
 Fetches v begin end max old new count =
     (new ≡ old ++ fetched v begin end max) × (count ≡ sized max (places_between v begin end))
 
+-- the indexes from begin on, below end, are those of entries that the table has
+abbrev pub AreIn : Shown → ℕ → ℕ → Type 0
+AreIn v begin end = begin < end → (v.first ≤ begin) × (end ≤ v.first + length v.places)
+
 -- why entries aren't fetched: none are there, the first is compacted away, the last isn't there, or memory
 -- ran out; never where none are asked for
 abbrev pub FetchRefused : Shown → ℕ → ℕ → Error → Type 0

@@ -21,7 +21,7 @@ ghost use Rattle.raft_log_held.specs.Entries.{entry_of, queue_of, run_of};
 ghost use Rattle.raft_log_tables.specs.Files.{least_rewritten, min_file, noted_after, with_group};
 ghost use Rattle.raft_log_tables.specs.Moves.{key_rewritten, may_move, moved_by, owed_compact, rewritten_by, StandsIn};
 ghost use Rattle.raft_log_held.specs.Keys.{shown_value, value_of};
-ghost use Rattle.raft_log_tables.specs.Reads.{entries_from, entry_at, first_of, last_of, Fetches, FetchRefused};
+ghost use Rattle.raft_log_tables.specs.Reads.{entries_from, entry_at, first_of, last_of, AreIn, Fetches, FetchRefused};
 ghost use Rattle.raft_log_tables.specs.Room.{
   kept,
   no_promise,
@@ -195,6 +195,7 @@ impl MemTable {
     ) -> Result<usize>
         ensures ok { IfOk result
             (Fetches (shown self.now) begin end max_size entries.old.items entries.new.items) }
+        ensures within { OnOk result (AreIn (shown self.now) begin end) }
         ensures err { OnErr result (entries.new.items ≡ entries.old.items) }
         ensures errors { IfErr result (λ e. FetchRefused (shown self.now) begin end e) }
     {

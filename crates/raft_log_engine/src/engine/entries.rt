@@ -4,14 +4,20 @@ ghost use Rattle.std.specs.Prelude.{◌≡◌, ◌⊎◌, true, IfErr, IfOk, OnE
 ghost use Rattle.raft_log_tables.specs.Reads.{entry_at, FetchRefused};
 ghost use Rattle.raft_log_tables.specs.Table.{shown};
 ghost use Rattle.raft_log_replay.specs.Tables.{counts, shown_of};
-ghost use Rattle.raft_log_engine_state.specs.Fetching.{AreIn, AreToRead, FailsToFetch, FailsToTell, FetchesTo, HadFailed, TellsEntry};
-ghost use Rattle.raft_log_engine_state.specs.Shows.{shows};
+ghost use Rattle.raft_log_engine_state.specs.Fetching.{
+  AreToRead,
+  FailsToFetch,
+  FailsToTell,
+  FetchesTo,
+  HadFailed,
+  TellsEntry,
+};
+ghost use Rattle.raft_log_engine.specs.Reads.{shows_of};
 
 use super::Engine;
 use raft_log_base::{Error, Result};
 use raft_log_dual_pipes::PipeLog;
 use raft_log_items::{EntryIndex, MessageExt};
-use raft_log_tables::MemTable;
 
 impl<P: PipeLog> Engine<P> {
     /// The entry of a group at an index, if there is one.
@@ -24,14 +30,14 @@ impl<P: PipeLog> Engine<P> {
         log_idx: u64,
     ) -> Result<Option<M::Entry>>
         ensures ok { IfOk result (TellsEntry M.Entry.reading raft_group_id log_idx
-            (shows (P.shown self.old.pipes) self.old.tables self.old.cache)
-            (shows (P.shown self.new.pipes) self.new.tables self.new.cache)) }
+            (shows_of P.shown self.old)
+            (shows_of P.shown self.new)) }
         ensures err { IfErr result (λ error.
-            HadFailed (shows (P.shown self.old.pipes) self.old.tables self.old.cache)
-            (shows (P.shown self.new.pipes) self.new.tables self.new.cache) error
+            HadFailed (shows_of P.shown self.old)
+            (shows_of P.shown self.new) error
             ⊎ FailsToTell M.Entry.reading raft_group_id log_idx
-            (shows (P.shown self.old.pipes) self.old.tables self.old.cache)
-            (shows (P.shown self.new.pipes) self.new.tables self.new.cache) error) }
+            (shows_of P.shown self.old)
+            (shows_of P.shown self.new) error) }
     {
         if self.is_failed() {
             return Err(Error::Failed);
@@ -45,13 +51,14 @@ impl<P: PipeLog> Engine<P> {
         }
     }
 
-    /// Adds the entries of a group from `begin` on, below `end`, and answers how many: the first always comes,
-    /// and the list ends before the sum of lengths passes `max_size`. None come where none are asked for, or of
-    /// a group that took nothing since it was cleaned. Entries of one block are read by one read. A refusal adds
-    /// nothing.
+    /// Adds the entries of a group from `begin` on, below `end`, and answers how many: the first always
+    /// comes, and the list ends before the sum of lengths passes `max_size`. None come where none are asked
+    /// for, or of a group that took nothing since it was cleaned. Entries of one block are read by one read.
+    /// A refusal adds nothing.
     ///
-    /// `Failed` of an engine that has failed. `EntryNotFound` where the group has no entries or the last isn't
-    /// there, `EntryCompacted` where `begin` is below the first. Then what `get_entry` refuses of one of them.
+    /// `Failed` of an engine that has failed. `EntryNotFound` where the group has no entries or the last
+    /// isn't there, `EntryCompacted` where `begin` is below the first. Then what `get_entry` refuses of one
+    /// of them.
     pub fn fetch_entries_to<M: MessageExt>(
         &mut self,
         raft_group_id: u64,
@@ -61,15 +68,15 @@ impl<P: PipeLog> Engine<P> {
         vec: &mut Vec<M::Entry>,
     ) -> Result<usize>
         ensures ok { IfOk result (FetchesTo M.Entry.reading raft_group_id begin end max_size
-            (shows (P.shown self.old.pipes) self.old.tables self.old.cache)
-            (shows (P.shown self.new.pipes) self.new.tables self.new.cache) vec.old.items vec.new.items) }
+            (shows_of P.shown self.old)
+            (shows_of P.shown self.new) vec.old.items vec.new.items) }
         ensures none { OnErr result (vec.new.items ≡ vec.old.items) }
         ensures err { IfErr result (λ error.
-            HadFailed (shows (P.shown self.old.pipes) self.old.tables self.old.cache)
-            (shows (P.shown self.new.pipes) self.new.tables self.new.cache) error
+            HadFailed (shows_of P.shown self.old)
+            (shows_of P.shown self.new) error
             ⊎ FailsToFetch M.Entry.reading raft_group_id begin end
-            (shows (P.shown self.old.pipes) self.old.tables self.old.cache)
-            (shows (P.shown self.new.pipes) self.new.tables self.new.cache) error) }
+            (shows_of P.shown self.old)
+            (shows_of P.shown self.new) error) }
     {
         if self.is_failed() {
             return Err(Error::Failed);
@@ -101,7 +108,7 @@ impl<P: PipeLog> Engine<P> {
         max_size: Option<usize>,
     ) -> Result<Vec<EntryIndex>>
         ensures ok { IfOk result (λ entries.
-            AreToRead (shows (P.shown self.now.pipes) self.now.tables self.now.cache)
+            AreToRead (shows_of P.shown self.now)
             raft_group_id begin end max_size entries.items) }
         ensures err { IfErr result (λ error. (counts self.now.tables raft_group_id ≡ true)
             × FetchRefused (shown_of self.now.tables raft_group_id) begin end error) }
@@ -109,32 +116,10 @@ impl<P: PipeLog> Engine<P> {
         let Some(table) = self.tables.get(raft_group_id) else {
             return Ok(Vec::new(self.alloc));
         };
-        check_range(table, begin, end)?;
         let mut entries = Vec::new(self.alloc);
         table.fetch_entries_to(begin, end, in_bytes(max_size), &mut entries)?;
         Ok(entries)
     }
-}
-
-/// Refuses indexes that aren't all of entries of a table.
-fn check_range(table: &MemTable, begin: u64, end: u64) -> Result<()>
-    ensures ok { OnOk result (AreIn (shown table.now) begin end) }
-    ensures err { IfErr result (λ error. FetchRefused (shown table.now) begin end error) }
-{
-    let span = table.span();
-    if begin >= end {
-        return Ok(());
-    }
-    if span.first == span.end {
-        return Err(Error::EntryNotFound);
-    }
-    if begin < span.first {
-        return Err(Error::EntryCompacted);
-    }
-    if end > span.end {
-        return Err(Error::EntryNotFound);
-    }
-    Ok(())
 }
 
 /// A size as a number of bytes.

@@ -1,14 +1,13 @@
 //! What is read of an engine's tables alone.
 
-ghost use Rattle.std.specs.Prelude.{◌≡◌, ◌⊎◌, true, option_map, IfErr, IfOk};
+ghost use Rattle.std.specs.Prelude.{◌≡◌, ◌↔◌, IsTrue, option_map, IfErr, IfOk, OnOk};
 ghost use Rattle.raft_log_base.specs.declared.errors.Error.TheVariants as errors;
 ghost use Rattle.raft_log_places.specs.Bridge.{bytes_held};
 ghost use Rattle.raft_log_tables.specs.Table.{shown};
 ghost use Rattle.raft_log_replay.specs.Tables.{counts};
 ghost use Rattle.raft_log_replay.specs.Walking.{ListsGroups};
-ghost use Rattle.raft_log_dual_pipes.specs.Pipes.{is_failed};
 ghost use Rattle.raft_log_engine_state.specs.Reading.{ReadsFirst, ReadsLast, ReadsValue};
-ghost use Rattle.raft_log_engine_state.specs.Shows.{shows};
+ghost use Rattle.raft_log_engine.specs.Reads.{shows_of, IsFailed, IsUncopied, Lives, NoneCounts};
 
 use super::Engine;
 use raft_log_base::{Error, Result};
@@ -19,9 +18,9 @@ use raft_log_tables::MemTable;
 impl<P: PipeLog> Engine<P> {
     /// The index of a group's first entry, if it has one. `Failed` of an engine that has failed.
     pub fn first_index(&self, raft_group_id: u64) -> Result<Option<u64>>
-        ensures ok { IfOk result (ReadsFirst (shows (P.shown self.now.pipes) self.now.tables self.now.cache) raft_group_id) }
-        ensures err { IfErr result (λ error. (error ≡ errors.Failed)
-            × (is_failed (P.shown self.now.pipes) ≡ true)) }
+        ensures ok { IfOk result (ReadsFirst (shows_of P.shown self.now) raft_group_id) }
+        ensures lived { OnOk result (Lives (shows_of P.shown self.now)) }
+        ensures err { IfErr result (IsFailed (shows_of P.shown self.now)) }
     {
         if self.is_failed() {
             return Err(Error::Failed);
@@ -34,9 +33,9 @@ impl<P: PipeLog> Engine<P> {
 
     /// The index of a group's last entry, if it has one. `Failed` of an engine that has failed.
     pub fn last_index(&self, raft_group_id: u64) -> Result<Option<u64>>
-        ensures ok { IfOk result (ReadsLast (shows (P.shown self.now.pipes) self.now.tables self.now.cache) raft_group_id) }
-        ensures err { IfErr result (λ error. (error ≡ errors.Failed)
-            × (is_failed (P.shown self.now.pipes) ≡ true)) }
+        ensures ok { IfOk result (ReadsLast (shows_of P.shown self.now) raft_group_id) }
+        ensures lived { OnOk result (Lives (shows_of P.shown self.now)) }
+        ensures err { IfErr result (IsFailed (shows_of P.shown self.now)) }
     {
         if self.is_failed() {
             return Err(Error::Failed);
@@ -47,12 +46,13 @@ impl<P: PipeLog> Engine<P> {
         }
     }
 
-    /// The value of a group's key, if it has one. `Failed` of an engine that has failed, or `Memory`.
+    /// A copy of the value of a group's key, if it has one. `Failed` of an engine that has failed, or
+    /// `Memory`.
     pub fn get(&self, raft_group_id: u64, key: &[u8]) -> Result<Option<Vec<u8>>>
-        ensures ok { IfOk result (λ value. ReadsValue (shows (P.shown self.now.pipes) self.now.tables self.now.cache)
-            raft_group_id key.now (option_map (λ bytes. bytes.items) value)) }
-        ensures err { IfErr result (λ error. (error ≡ errors.Memory) ⊎ ((error ≡ errors.Failed)
-            × (is_failed (P.shown self.now.pipes) ≡ true))) }
+        ensures ok { IfOk result (λ value. ReadsValue (shows_of P.shown self.now) raft_group_id key.now
+            (option_map (λ bytes. bytes.items) value)) }
+        ensures lived { OnOk result (Lives (shows_of P.shown self.now)) }
+        ensures err { IfErr result (IsUncopied (shows_of P.shown self.now)) }
     {
         if self.is_failed() {
             return Err(Error::Failed);
@@ -78,16 +78,32 @@ impl<P: PipeLog> Engine<P> {
         }
     }
 
-    /// The numbers of the groups that took something since they were cleaned last, from the least up. `Failed`
-    /// of an engine that has failed, or `Memory`.
+    /// The numbers of the groups that took something since they were cleaned last, from the least up.
+    /// `Failed` of an engine that has failed, or `Memory`.
     pub fn raft_groups(&self) -> Result<Vec<u64>>
         ensures ok { IfOk result (λ groups. ListsGroups (counts self.now.tables) groups.items) }
-        ensures err { IfErr result (λ error. (error ≡ errors.Memory) ⊎ ((error ≡ errors.Failed)
-            × (is_failed (P.shown self.now.pipes) ≡ true))) }
+        ensures lived { OnOk result (Lives (shows_of P.shown self.now)) }
+        ensures err { IfErr result (IsUncopied (shows_of P.shown self.now)) }
     {
         if self.is_failed() {
             return Err(Error::Failed);
         }
-        Ok(self.tables.raft_groups()?)
+        match self.tables.raft_groups() {
+            Ok(groups) => Ok(groups),
+            Err(_) => Err(Error::Memory),
+        }
+    }
+
+    /// Whether there is no group that took something since it was cleaned last. `Failed` of an engine that
+    /// has failed, or `Memory`, as the groups are listed.
+    pub fn is_empty(&self) -> Result<bool>
+        ensures ok { IfOk result (λ empty. IsTrue empty ↔ NoneCounts (counts self.now.tables)) }
+        ensures lived { OnOk result (Lives (shows_of P.shown self.now)) }
+        ensures err { IfErr result (IsUncopied (shows_of P.shown self.now)) }
+    {
+        match self.raft_groups() {
+            Ok(groups) => Ok(groups.is_empty()),
+            Err(error) => Err(error),
+        }
     }
 }

@@ -1,8 +1,7 @@
 //! What is told of the log as a whole.
 
-ghost use Rattle.std.specs.Prelude.{◌≡◌, true, IfErr, IfOk};
-ghost use Rattle.raft_log_base.specs.declared.errors.Error.TheVariants as errors;
-ghost use Rattle.raft_log_dual_pipes.specs.Pipes.{is_failed};
+ghost use Rattle.std.specs.Prelude.{◌≡◌, IfErr, IfOk, OnOk};
+ghost use Rattle.raft_log_engine.specs.Reads.{shows_of, IsFailed, Lives};
 ghost use Rattle.raft_log_engine.specs.Whole.{used_size, TellsSpan};
 
 use super::Engine;
@@ -13,8 +12,8 @@ impl<P: PipeLog> Engine<P> {
     /// The numbers of the first and the last file of a queue. `Failed` of an engine that has failed.
     pub fn file_span(&self, queue: LogQueue) -> Result<(FileSeq, FileSeq)>
         ensures ok { IfOk result (λ span. TellsSpan queue (P.shown self.now.pipes) span.0 span.1) }
-        ensures err { IfErr result (λ error. (error ≡ errors.Failed)
-            × (is_failed (P.shown self.now.pipes) ≡ true)) }
+        ensures lived { OnOk result (Lives (shows_of P.shown self.now)) }
+        ensures err { IfErr result (IsFailed (shows_of P.shown self.now)) }
     {
         if self.is_failed() {
             return Err(Error::Failed);
@@ -26,8 +25,8 @@ impl<P: PipeLog> Engine<P> {
     /// greatest number that there is. `Failed` of an engine that has failed.
     pub fn get_used_size(&self) -> Result<usize>
         ensures ok { IfOk result (λ size. size ≡ used_size (P.shown self.now.pipes)) }
-        ensures err { IfErr result (λ error. (error ≡ errors.Failed)
-            × (is_failed (P.shown self.now.pipes) ≡ true)) }
+        ensures lived { OnOk result (Lives (shows_of P.shown self.now)) }
+        ensures err { IfErr result (IsFailed (shows_of P.shown self.now)) }
     {
         if self.is_failed() {
             return Err(Error::Failed);

@@ -47,7 +47,55 @@ impl KeyMap {
         Ok(())
     }
 
+    /// Adds the keys that aren't below the start and are below the end, where they are given, and their
+    /// values. A refusal adds nothing.
+    pub fn fetch_within(
+        &self,
+        start: Option<&[u8]>,
+        end: Option<&[u8]>,
+        pairs: &mut Vec<(Bytes, Bytes)>,
+    ) -> Result<(), AllocError>
+        ensures ok { OnOk result (AddsAll (λ k. bytes_within (option_copied start.entry)
+            (option_copied end.entry) k ((keys_of self.now).values k)) pairs.old.items pairs.new.items) }
+        ensures err { OnErr result (pairs.new.items ≡ pairs.old.items) }
+    {
+        let len = pairs.len();
+        let copied = self.copy_within(start, end, pairs);
+        if copied.is_err() {
+            pairs.truncate(len);
+        }
+        copied
+    }
+
+    /// Adds those keys and values. A refusal leaves some of them behind what was there.
+    fn copy_within(
+        &self,
+        start: Option<&[u8]>,
+        end: Option<&[u8]>,
+        pairs: &mut Vec<(Bytes, Bytes)>,
+    ) -> Result<(), AllocError>
+        ensures ok { OnOk result (AddsAll (λ k. bytes_within (option_copied start.entry)
+            (option_copied end.entry) k ((keys_of self.now).values k)) pairs.old.items pairs.new.items) }
+        ensures err { OnErr result (take (length pairs.old.items) pairs.new.items ≡ pairs.old.items) }
+    {
+        for (key, slot) in self.slots.iter() {
+            if let Some(value) = slot.within(key.as_slice(), start, end) {
+                pairs.push(self.copied_bytes(key.as_slice(), value)?)?;
+            }
+        }
+        Ok(())
+    }
+
     /// Copies of a key and of a value's bytes.
+    fn copied_bytes(&self, key: &[u8], value: &[u8]) -> Result<(Bytes, Bytes), AllocError>
+        ensures { IfOk result (λ pair. pair ≡ (key.now, value.now)) }
+    {
+        let key = Bytes::from_slice(self.alloc, key)?;
+        let value = Bytes::from_slice(self.alloc, value)?;
+        Ok((key, value))
+    }
+
+    /// Copies of a key and of a held value's bytes.
     fn copied(&self, key: &[u8], value: &HeldValue) -> Result<(Bytes, Bytes), AllocError>
         ensures { IfOk result (λ pair. pair ≡ (key.now, value.now.bytes)) }
     {

@@ -104,6 +104,22 @@ impl MemTable {
         self.keys.scan(start, end, reverse, callback);
     }
 
+    /// Adds the keys that aren't below the start and are below the end, where they are given, and their
+    /// values, in the order of the keys. A refusal adds nothing. It takes time in all keys of the table.
+    pub fn fetch_kvs_within(
+        &self,
+        start: Option<&[u8]>,
+        end: Option<&[u8]>,
+        pairs: &mut Vec<(Bytes, Bytes)>,
+    ) -> Result<(), AllocError>
+        ensures ok { OnOk result
+            (AddsAll (values_within (option_copied start.entry) (option_copied end.entry) (shown self.now))
+            pairs.old.items pairs.new.items) }
+        ensures err { OnErr result (pairs.new.items ≡ pairs.old.items) }
+    {
+        self.keys.fetch_within(start, end, pairs)
+    }
+
     /// The keys whose deletion is owed to Rewrite, in the order of their bytes.
     pub fn owed_deletes(&self) -> Result<Vec<Bytes>, AllocError>
         ensures { IfOk result (λ keys. ListsMarked (shown self.now).deleted keys.items) }

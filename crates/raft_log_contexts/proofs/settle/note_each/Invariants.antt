@@ -1,9 +1,11 @@
 use Rattle.std.proofs.Common.{take, Some}
-use Rattle.raft_log_replay.specs.Tables.{replayed_of}
+use Rattle.raft_log_replay.specs.Tables.{replayed_of, IsAtRest}
 use Rattle.raft_log_contexts.specs.Noting.{is_listed, NotesAll}
 use Rattle.raft_log_contexts.proofs.settle.note_each.Given as goal
 
 -- the files are noted of the groups so far
 abbrev pub invariant-loop-group : goal.invariant-loop-group
-invariant-loop-group l =
-    NotesAll (Some l.files) (λ g. is_listed g (take l.group-index l.groups)) (replayed_of l.fn.tables) (replayed_of l.tables)
+invariant-loop-group l = record {
+  notes : NotesAll (Some l.files) (λ g. is_listed g (take l.group-index l.groups)) (replayed_of l.fn.tables) (replayed_of l.tables);
+  rest : IsAtRest l.fn.tables → IsAtRest l.tables;
+}

@@ -1,8 +1,8 @@
 use Rattle.std.proofs.Common.{refl}
 use Rattle.raft_log_contexts.proofs.settle.note_groups.Goals as goal
 
-pub returns-in-None : goal.returns-in-None
-returns-in-None c = rw c.in-None.is (λ g. refl)
+pub returns-in-None-clause-notes : goal.returns-in-None-clause-notes
+returns-in-None-clause-notes c = rw c.in-None.is (λ g. refl)
 
-pub returns-in-Some : goal.returns-in-Some
-returns-in-Some c = rw c.in-Some.is c.note_each.ensures
+pub returns-in-Some-clause-notes : goal.returns-in-Some-clause-notes
+returns-in-Some-clause-notes c = rw c.in-Some.is c.note_each.ensures.notes

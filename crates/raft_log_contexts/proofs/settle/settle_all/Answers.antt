@@ -9,6 +9,7 @@ pub loop-parts-init : goal.loop-parts-init
 loop-parts-init c = record {
   all = c.into_iter-parts-iterator.ensures.into_iter_gives.0;
   taken = refl;
+  rest = λ h. h;
 }
 
 pub loop-parts-preserved : goal.loop-parts-preserved
@@ -19,6 +20,7 @@ loop-parts-preserved c =
     record {
       all = append_assoc done (ps ∷ []) (into_iter_items c.next.new.self) ∙ ap (λ l. done ++ l) (sym c.in-Some.ensures.steps.0) ∙ so_far.all;
       taken = settles_push done ps c.args.tables.now c.loop-parts.tables c.settle.new.tables so_far.taken c.in_ok-settle.ensures.ok;
+      rest = λ h. c.settle.ensures.rest (so_far.rest h);
     }
 
 pub returns-clause-ok : goal.returns-clause-ok

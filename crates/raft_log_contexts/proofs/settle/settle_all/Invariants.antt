@@ -1,5 +1,6 @@
 use Rattle.std.proofs.Common.{◌≡◌, ◌++◌}
 use Rattle.std.specs.Vec.Iter.{into_iter_items}
+use Rattle.raft_log_replay.specs.Tables.{IsAtRest}
 use Rattle.raft_log_contexts.specs.Noting.{SettlesAll}
 use Rattle.raft_log_contexts.proofs.settle.settle_all.Given as goal
 
@@ -8,4 +9,5 @@ abbrev pub invariant-loop-parts : goal.invariant-loop-parts
 invariant-loop-parts l = record {
   all : l.yielded ++ into_iter_items l.parts-iterator ≡ l.fn.done.items;
   taken : SettlesAll l.yielded l.fn.tables l.tables;
+  rest : IsAtRest l.fn.tables → IsAtRest l.tables;
 }

@@ -1,12 +1,14 @@
-use Rattle.std.proofs.Common.{rules, ◌≡◌, ◌≤◌, List, length, refl, ap, subst, arith}
+use Rattle.std.proofs.Common.{rules, ◌≡◌, ◌≤◌, List, length, refl, sym, ap, subst, arith}
 use Rattle.std.proofs.lemmas.Result.{err_from_is_err_and}
 use Rattle.raft_log_files.specs.declared.format.File.{File}
 use Rattle.raft_log_recovery.specs.declared.recovery_config.RecoveryConfig.{RecoveryConfig}
 use Rattle.raft_log_builder.specs.Cutting.{CutsEach, FailsToCutEach}
 use Rattle.raft_log_builder.specs.Reading.{HasReadFiles, IsUnread}
 use Rattle.raft_log_builder.specs.Recovering.{append_config, append_files, rewrite_config, rewrite_files, HasReadBoth}
-use Rattle.raft_log_builder.specs.Recovering.FailsToRecoverLog.{append_unread, rewrite_unread, append_uncut, rewrite_uncut}
+use Rattle.raft_log_builder.specs.Unaligned.{AreUnaligned}
+use Rattle.raft_log_builder.specs.Recovering.FailsToRecoverLog.{aligned, append_unread, rewrite_unread, append_uncut, rewrite_uncut}
 use Rattle.raft_log_builder.proofs.Endings.{endings_fit}
+use Rattle.raft_log_builder.proofs.builder.DualPipesBuilder.recover.Goals.{then-not-are_unaligned-via-then-not-are_unaligned, then-not-are_unaligned-via-else-not-are_unaligned+then-not-are_unaligned-2}
 use Rattle.raft_log_builder.proofs.builder.DualPipesBuilder.recover.Goals as goal
 
 pub returns-in_err-append-clause-err : goal.returns-in_err-append-clause-err
@@ -56,7 +58,7 @@ returns-in_err-cut_files-clause-err g c =
     let n = c.in_ok-rewrite.rewrite.machine in
     let kind = c.in_err-cut_files.field-0.0 in
     let gave = err_from_is_err_and c.from_residual-in_err-cut_files.result c.from_residual-in_err-cut_files.ensures.1 in
-    let both : HasReadBoth g.M.ReplayMachine.reads b (D c.args.file_system.now) m n es fs = record { append_read = search rules; rewrite_read = search rules } in
+    let both : HasReadBoth g.M.ReplayMachine.reads b (D c.args.file_system.now) m n es fs = record { append_read = search rules; rewrite_read = search rules; append_unaligned = search rules; rewrite_unaligned = search rules } in
     let fails : FailsToCutEach (append_files b) es kind (D c.args.file_system.now) (D c.cut_files.new.file_system) = search rules in
     rw gave.1 (append_uncut m n es fs kind both gave.2 fails)
 
@@ -70,7 +72,25 @@ returns-in_err-cut_files-2-clause-err g c =
     let n = c.in_ok-rewrite.rewrite.machine in
     let kind = c.in_err-cut_files-2.field-0.0 in
     let gave = err_from_is_err_and c.from_residual-in_err-cut_files-2.result c.from_residual-in_err-cut_files-2.ensures.1 in
-    let both : HasReadBoth g.M.ReplayMachine.reads b (D c.args.file_system.now) m n es fs = record { append_read = search rules; rewrite_read = search rules } in
+    let both : HasReadBoth g.M.ReplayMachine.reads b (D c.args.file_system.now) m n es fs = record { append_read = search rules; rewrite_read = search rules; append_unaligned = search rules; rewrite_unaligned = search rules } in
     let cuts : CutsEach (append_files b) es (D c.args.file_system.now) (D c.cut_files.new.file_system) = search rules in
     let fails : FailsToCutEach (rewrite_files b) fs kind (D c.cut_files.new.file_system) (D c.cut_files-2.new.file_system) = search rules in
     rw gave.1 (rewrite_uncut m n es fs kind (D c.cut_files.new.file_system) both gave.2 cuts fails)
+
+pub returns-then-not-are_unaligned-clause-err : goal.returns-then-not-are_unaligned-clause-err
+returns-then-not-are_unaligned-clause-err g c =
+    let D = g.F.FileSystem.disk in
+    let b = c.args.self.now in
+    let es = c.in_ok-append.append.endings.items in
+    let fs = c.in_ok-rewrite.rewrite.endings.items in
+    let m = c.in_ok-append.append.machine in
+    let n = c.in_ok-rewrite.rewrite.machine in
+    let one : HasReadFiles g.M.ReplayMachine.reads (append_config b) (append_files b) (D c.args.file_system.now) m es = search rules in
+    let other : HasReadFiles g.M.ReplayMachine.reads (rewrite_config b) (rewrite_files b) (D c.args.file_system.now) n fs = search rules in
+    let some : AreUnaligned es × AreUnaligned fs → ⊥ = λ all. elim c.then-not-are_unaligned.branch [
+      | then-not-are_unaligned-via-then-not-are_unaligned w ↦
+          (let yes = c.are_unaligned.ensures.1 (subst AreUnaligned (sym c.deref-3.ensures.value) all.0) in let no = w.if-not-are_unaligned.true in cc)
+      | then-not-are_unaligned-via-else-not-are_unaligned+then-not-are_unaligned-2 w ↦
+          (let yes = w.are_unaligned-else-not-are_unaligned.ensures.1 (subst AreUnaligned (sym w.deref-else-not-are_unaligned.ensures.value) all.1) in let no = w.if-not-are_unaligned-2.true in cc)
+    ] in
+    aligned m n es fs one other refl some c.aligned.ensures

@@ -1,9 +1,10 @@
-use Rattle.std.proofs.Common.{rules, ◌≤◌, List, length, refl, ap, subst, arith}
+use Rattle.std.proofs.Common.{rules, ◌≤◌, List, length, refl, sym, ap, subst, arith}
 use Rattle.std.proofs.lemmas.Result.{err_from_is_err_and}
 use Rattle.raft_log_files.specs.declared.format.File.{File}
 use Rattle.raft_log_builder.specs.Cutting.{FailsToCutEach}
 use Rattle.raft_log_builder.specs.Reading.{HasReadFiles, IsUnread}
-use Rattle.raft_log_builder.specs.RecoveringQueue.FailsToRecoverFiles.{unread, uncut}
+use Rattle.raft_log_builder.specs.RecoveringQueue.FailsToRecoverFiles.{aligned, unread, uncut}
+use Rattle.raft_log_builder.specs.Unaligned.{AreUnaligned}
 use Rattle.raft_log_builder.proofs.Endings.{endings_fit}
 use Rattle.raft_log_builder.proofs.queue_files.QueueFiles.recover.Goals as goal
 
@@ -31,4 +32,15 @@ returns-in_err-cut_files-clause-err g c =
     let gave = err_from_is_err_and c.from_residual-in_err-cut_files.result c.from_residual-in_err-cut_files.ensures.1 in
     let read : HasReadFiles g.M.ReplayMachine.reads c.args.config files (D c.args.file_system.now) m es = search rules in
     let fails : FailsToCutEach files es kind (D c.args.file_system.now) (D c.cut_files.new.file_system) = search rules in
-    rw gave.1 (uncut m es kind read gave.2 fails)
+    let none : AreUnaligned es = search rules in
+    rw gave.1 (uncut m es kind read none gave.2 fails)
+
+pub returns-then-not-are_unaligned-clause-err : goal.returns-then-not-are_unaligned-clause-err
+returns-then-not-are_unaligned-clause-err g c =
+    let files = c.args.self.now.files.items in
+    let es = c.in_ok-read.read.endings.items in
+    let m = c.in_ok-read.read.machine in
+    let read : HasReadFiles g.M.ReplayMachine.reads c.args.config files (g.F.FileSystem.disk c.args.file_system.now) m es = search rules in
+    let some : AreUnaligned es → ⊥ = λ all.
+    (let yes = c.are_unaligned.ensures.1 (subst AreUnaligned (sym c.deref-2.ensures.value) all) in let no = c.if-not-are_unaligned.true in cc) in
+    aligned m es read refl some c.aligned.ensures

@@ -1,4 +1,4 @@
-use Rattle.std.proofs.Common.{ap, sym, subst, refl, ◌∙◌, false, option_map}
+use Rattle.std.proofs.Common.{◌≡◌, Option, ap, sym, subst, refl, ◌∙◌, false, option_map}
 use Rattle.raft_log_base.specs.declared.pipe_log.LogQueue.TheVariants.{Rewrite}
 use Rattle.raft_log_atomic_groups.specs.Marking.{marking_of_items}
 use Rattle.raft_log_contexts.specs.Records.{in_file, said_in, taken_as}
@@ -6,18 +6,20 @@ use Rattle.raft_log_contexts.specs.declared.context.MemTableRecoverContext.{MemT
 use Rattle.raft_log_contexts.specs.Context.{ReadsOne}
 use Rattle.raft_log_contexts.proofs.Contexts.{reads_plain}
 use Rattle.raft_log_contexts.proofs.Outcomes.{if_err_from, on_ok_from}
-use Rattle.raft_log_contexts.specs.Records.{record_read}
+use Rattle.raft_log_contexts.specs.Records.{record_read, ReadRecord}
 use Rattle.raft_log_contexts.proofs.Refusals.{broken_unread, memory_unread, stops_unread}
 use Rattle.raft_log_contexts.proofs.context.MemTableRecoverContext.replay_rewrite.Goals as goal
+
+told_reads : (o p : Option ReadRecord) (old new : MemTableRecoverContext) → o ≡ p → ReadsOne Rewrite o old new → ReadsOne Rewrite p old new
+told_reads o p old new same reads = subst (λ q. ReadsOne Rewrite q old new) same reads
 
 pub returns-in-Unmarked-clause-ok : goal.returns-in-Unmarked-clause-ok
 returns-in-Unmarked-clause-ok c =
     let items = c.args.items.items in
     let marking = ap marking_of_items (sym c.as_slice.ensures.value) ∙ sym c.parse_all.ensures ∙ c.in-Unmarked.is in
     let told = ap (λ m. option_map (in_file c.args.file) (taken_as m (said_in false c.args.file items))) marking in
-    let new : MemTableRecoverContext = record { alloc = c.args.self.now.alloc; tables = c.replay_rewrite_writes.new.self; pieces = c.args.self.now.pieces } in
     on_ok_from c.replay_rewrite_writes.result c.replay_rewrite_writes.ensures.ok (λ reads.
-    subst (λ o. ReadsOne Rewrite o c.args.self.now new) (sym told) (reads_plain Rewrite c.args.file c.args.self.now new items reads refl))
+    told_reads _ _ c.args.self.now _ (sym told) (reads_plain Rewrite c.args.file c.args.self.now _ items reads refl))
 
 pub returns-in-Part-clause-ok : goal.returns-in-Part-clause-ok
 returns-in-Part-clause-ok c =

@@ -1,0 +1,50 @@
+//! An engine is opened.
+
+ghost use Rattle.std.specs.Prelude.{◌≡◌, None, IfErr, IfOk};
+ghost use Rattle.raft_log_opening.specs.Opening.{FailsToOpenDirectory, OpensDirectory};
+
+use super::Engine;
+use log::Log;
+use raft_log_disk::FileSystem;
+use raft_log_dual_pipes::{DualPipes, OpenRefused, PipeLog};
+use raft_log_opening::{OpenedLog, open_directory};
+use raft_log_settings::Config;
+use std::alloc::Global;
+use std::thread::Threads;
+
+impl<F: FileSystem + Sync> Engine<DualPipes<F>> {
+    /// Opens the log of these settings over a file system, which is the engine's from then on: what was
+    /// written and synced, or stood when the log was closed, is there again. A directory that isn't there is
+    /// made, and a log without files begins.
+    ///
+    /// Refused, the file system is handed back, and the log may be opened again: `Other` where the settings
+    /// have a fault, or a file has the path of a directory; `Io` where a file can't be read, which is never
+    /// taken for damage, or isn't cut, made or synced; `Corruption` or `Codec` for damage that the mode of
+    /// recovery doesn't tolerate, or for a wrong name; `Hole` or `Corruption` where records can't be;
+    /// `NumberRange` where there is no name for a file; `Memory`. Nothing is cut unless all files could be
+    /// read.
+    pub fn open_with_file_system<R: Threads + Log + Sync>(
+        rt: &R,
+        alloc: Global,
+        config: Config,
+        file_system: F,
+    ) -> Result<Engine<DualPipes<F>>, OpenRefused<F>>
+        ensures ok { IfOk result (λ engine. OpensDirectory F.disk F.tells_space config file_system
+            (⟦<DualPipes<F> as PipeLog>⟧.shown engine.pipes) engine.tables) }
+        ensures none { IfOk result (λ engine. engine.cache.place ≡ None) }
+        ensures err { IfErr result (λ refused. FailsToOpenDirectory F.disk F.tells_space config refused.error
+            file_system refused.file_system) }
+    {
+        match open_directory(rt, alloc, config, file_system) {
+            Ok(OpenedLog { pipes, tables }) => Ok(Engine::new(alloc, pipes, tables)),
+            Err(refused) => Err(refused),
+        }
+    }
+
+    /// The file system.
+    pub fn file_system(&self) -> &F
+        ensures { F.disk result.now ≡ (⟦<DualPipes<F> as PipeLog>⟧.shown self.now.pipes).disk }
+    {
+        self.pipes.file_system()
+    }
+}

@@ -1,0 +1,190 @@
+//! Logs that are opened, left, and opened again.
+use super::entries::TestEntries;
+use log::Log;
+use raft_log_base::{Error, Result};
+use raft_log_disk::FileSystem;
+use raft_log_dual_pipes::{DualPipes, OpenRefused, PipeLog};
+use raft_log_engine::Engine;
+use raft_log_items::EntryIndex;
+use raft_log_memory_files::{MemoryFileSystem, Remainder};
+use raft_log_records::LogBatch;
+use raft_log_settings::{Config, RecoveryMode};
+use std::alloc::Global;
+use std::test::Fail;
+use std::thread::Threads;
+
+// The usual settings of a log in the directory `d`, with so many workers and this mode of recovery.
+fn settings(alloc: Global, workers: usize, mode: RecoveryMode) -> Result<Config> {
+    let mut config = Config::default(alloc);
+    config.dir = String::from_str(alloc, "d")?;
+    config.recovery_threads = workers;
+    config.recovery_mode = mode;
+    Ok(config)
+}
+
+// Opens the log in these files by so many workers.
+fn open<R: Threads + Log + Sync, F: FileSystem + Sync + Drop>(
+    rt: &R,
+    alloc: Global,
+    files: F,
+    workers: usize,
+) -> Result<Engine<DualPipes<F>>> {
+    let config = settings(alloc, workers, RecoveryMode::TolerateTailCorruption)?;
+    match Engine::open_with_file_system(rt, alloc, config, files) {
+        Ok(engine) => Ok(engine),
+        Err(OpenRefused { error, .. }) => Err(error),
+    }
+}
+
+// How an open is refused in a mode of recovery, if it is.
+fn refused<R: Threads + Log + Sync, F: FileSystem + Sync + Drop>(
+    rt: &R,
+    alloc: Global,
+    files: F,
+    mode: RecoveryMode,
+) -> Result<Option<OpenRefused<F>>> {
+    let config = settings(alloc, 2, mode)?;
+    match Engine::open_with_file_system(rt, alloc, config, files) {
+        Ok(_) => Ok(None),
+        Err(refused) => Ok(Some(refused)),
+    }
+}
+
+// Writes two entries of three bytes to a group, from an index on, and its key.
+fn write<R: Log, P: PipeLog>(
+    rt: &R,
+    alloc: Global,
+    engine: &mut Engine<P>,
+    group: u64,
+    index: u64,
+    sync: bool,
+) -> Result<()> {
+    let indexes = [
+        EntryIndex::unplaced(index, 3),
+        EntryIndex::unplaced(index.saturating_add(1), 3),
+    ];
+    let entries: [&[u8]; 2] = [b"abc", b"def"];
+    let mut batch = LogBatch::default(alloc)?;
+    batch.add_raw_entries(alloc, group, &indexes, &entries)?;
+    batch.put(alloc, group, b"key", b"value")?;
+    engine.write(rt, &mut batch, sync)?;
+    Ok(())
+}
+
+// Whether a group has entries up to this index (none for 0), from 1 on, each with its bytes, and its key.
+fn has<P: PipeLog>(engine: &mut Engine<P>, group: u64, last: u64) -> Result<bool> {
+    if last == 0 {
+        return Ok(engine.first_index(group)?.is_none() && engine.get(group, b"key")?.is_none());
+    }
+    let first = engine.first_index(group)? == Some(1);
+    let ends = engine.last_index(group)? == Some(last);
+    let Some(entry) = engine.get_entry::<TestEntries>(group, last)? else {
+        return Ok(false);
+    };
+    let Some(value) = engine.get(group, b"key")? else {
+        return Ok(false);
+    };
+    Ok(first && ends && entry.is(b"def") && value.as_slice() == b"value".as_slice())
+}
+
+// A log of which the batch of group 1 is synced, and that of group 2 isn't: what a crash leaves of it.
+fn crashed<R: Threads + Log + Sync>(
+    rt: &R,
+    alloc: Global,
+    what: &Remainder,
+) -> Result<MemoryFileSystem> {
+    let mut engine = open(rt, alloc, MemoryFileSystem::new(alloc), 4)?;
+    write(rt, alloc, &mut engine, 1, 1, true)?;
+    write(rt, alloc, &mut engine, 2, 1, false)?;
+    Ok(engine.file_system().remainder(what)?)
+}
+
+// Whether a log of which a crash left this opens, with the batch of group 1, and that of group 2 up to there.
+fn opens_with<R: Threads + Log + Sync>(
+    rt: &R,
+    alloc: Global,
+    what: &Remainder,
+    last: u64,
+) -> Result<bool> {
+    let mut engine = open(rt, alloc, crashed(rt, alloc, what)?, 4)?;
+    Ok(has(&mut engine, 1, 2)? && has(&mut engine, 2, last)?)
+}
+
+#[test]
+fn a_closed_log_is_opened(rt: HostRuntime) -> std::result::Result<(), Fail> {
+    let mut engine = open(&rt, rt.alloc(), MemoryFileSystem::new(rt.alloc()), 1)?;
+    write(&rt, rt.alloc(), &mut engine, 1, 1, true)?;
+    write(&rt, rt.alloc(), &mut engine, 2, 1, false)?;
+    let mut engine = open(&rt, rt.alloc(), engine.close(&rt), 1)?;
+    assert!(rt; has(&mut engine, 1, 2)? & has(&mut engine, 2, 2)?);
+    write(&rt, rt.alloc(), &mut engine, 1, 3, false)?;
+    let mut engine = open(&rt, rt.alloc(), engine.close(&rt), 4)?;
+    assert!(rt; has(&mut engine, 1, 4)? & has(&mut engine, 2, 2)? & has(&mut engine, 3, 0)?);
+    Ok(())
+}
+
+#[test]
+fn crashed_logs_are_opened(rt: HostRuntime) -> std::result::Result<(), Fail> {
+    assert!(rt; opens_with(&rt, rt.alloc(), &Remainder::LastSync, 0)?);
+    assert!(rt; opens_with(&rt, rt.alloc(), &Remainder::AllWritten, 2)?);
+    let torn = Remainder::First {
+        pieces: 0,
+        bytes: 20,
+    };
+    assert!(rt; opens_with(&rt, rt.alloc(), &torn, 0)?);
+    let nothing = Remainder::Pieces(Vec::new(rt.alloc()));
+    assert!(rt; opens_with(&rt, rt.alloc(), &nothing, 0)?);
+    Ok(())
+}
+
+#[test]
+fn damage_is_refused_and_the_files_are_handed_back(
+    rt: HostRuntime,
+) -> std::result::Result<(), Fail> {
+    let torn = Remainder::First {
+        pieces: 0,
+        bytes: 20,
+    };
+    let files = crashed(&rt, rt.alloc(), &torn)?;
+    let Some(refused) = refused(&rt, rt.alloc(), files, RecoveryMode::AbsoluteConsistency)? else {
+        return Ok(assert!(rt; false));
+    };
+    assert!(rt; matches!(refused.error, Error::Corruption(_)));
+    let mut engine = open(&rt, rt.alloc(), refused.file_system, 2)?;
+    assert!(rt; has(&mut engine, 1, 2)? & has(&mut engine, 2, 0)?);
+    Ok(())
+}
+
+// Whether an open at which the changing call of this number is refused hands the files back, and they open.
+fn opens_behind<R: Threads + Log + Sync>(rt: &R, alloc: Global, call: u64) -> Result<bool> {
+    let mut files = crashed(rt, alloc, &Remainder::AllWritten)?;
+    files.refuse_call(call)?;
+    match refused(rt, alloc, files, RecoveryMode::TolerateTailCorruption)? {
+        Some(OpenRefused { error, file_system }) => {
+            let mut engine = open(rt, alloc, file_system, 1)?;
+            Ok(matches!(error, Error::Io(_)) && has(&mut engine, 1, 2)? && has(&mut engine, 2, 2)?)
+        }
+        None => Ok(false),
+    }
+}
+
+#[test]
+fn a_refused_open_may_be_tried_again(rt: HostRuntime) -> std::result::Result<(), Fail> {
+    assert!(rt; opens_behind(&rt, rt.alloc(), 1)? & opens_behind(&rt, rt.alloc(), 2)?);
+    Ok(())
+}
+
+#[test]
+fn settings_are_checked_first(rt: HostRuntime) -> std::result::Result<(), Fail> {
+    let mut config = settings(rt.alloc(), 1, RecoveryMode::TolerateTailCorruption)?;
+    config.spill_dir = Some(String::from_str(rt.alloc(), "d")?);
+    let files = MemoryFileSystem::new(rt.alloc());
+    match Engine::open_with_file_system(&rt, rt.alloc(), config, files) {
+        Ok(_) => assert!(rt; false),
+        Err(refused) => {
+            assert!(rt; matches!(refused.error, Error::Other(_)));
+            assert!(rt; refused.file_system.list("d").is_err());
+        }
+    }
+    Ok(())
+}

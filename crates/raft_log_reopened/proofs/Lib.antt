@@ -1,0 +1,10 @@
+pub mod Reading
+pub mod Cutting
+pub mod Told
+pub mod Stays
+pub mod Reopened
+pub mod Readying
+pub mod Scanning
+pub mod Uncut
+pub mod Refused
+pub mod Directory

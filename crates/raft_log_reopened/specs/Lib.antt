@@ -1,0 +1,4 @@
+pub mod Files
+pub mod Reopened
+pub mod Refused
+pub mod Directory

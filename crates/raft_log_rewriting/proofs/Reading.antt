@@ -1,0 +1,164 @@
+-- Entries that are read to be copied are the map's, and a batch of them has copies of them.
+use Rattle.std.proofs.Common.{◌≡◌, ◌⊎◌, ℕ, ◌+◌, ◌≤◌, List, [], ◌∷◌, length, map, take, drop, Option, Some, option_map, unwrap_or, slice_get, inl, inr, refl, sym, ap, subst, ◌∙◌, arith, append-nil}
+use Rattle.std.proofs.lemmas.List.{length-map, length-take}
+use Rattle.std.proofs.lemmas.Bool.{false≢true}
+use Rattle.raft_log_base.specs.declared.errors.Error.{Error}
+use Rattle.raft_log_base.specs.declared.errors.Error.TheVariants as errors
+use Rattle.raft_log_model.specs.Meaning.Slot.{Index}
+use Rattle.raft_log_model.specs.Meaning.Content.{Entry}
+use Rattle.raft_log_items.specs.declared.entry.EntryIndex.{EntryIndex}
+use Rattle.raft_log_items.specs.Run.{unplaced_entry}
+use Rattle.raft_log_items.specs.declared.item.LogItem.{LogItem}
+use Rattle.raft_log_items.specs.Placed.{laid_run}
+use Rattle.raft_log_atomic_groups.specs.declared.marking.Marking.TheVariants.{Unmarked}
+use Rattle.raft_log_atomic_groups.specs.Marking.{marking_of_items}
+use Rattle.raft_log_records.specs.Batch.{Batch}
+use Rattle.raft_log_records.specs.Entries.{entries_items, entries_of, indexes_of}
+use Rattle.raft_log_records.specs.ItemBatch.{all_entries}
+use Rattle.raft_log_records.specs.Places.{entry_bytes}
+use Rattle.raft_log_places.specs.declared.place.Place.{Place}
+use Rattle.raft_log_places.specs.Shown.{Shown}
+use Rattle.raft_log_held.specs.Counts.{passing}
+use Rattle.raft_log_tables.specs.Reads.{entries_from}
+use Rattle.raft_log_blocks.specs.declared.block_cache.BlockCache.{BlockCache}
+use Rattle.raft_log_blocks.specs.Blocks.{AreUnread, IsOfLog, ReadsEntries}
+use Rattle.raft_log_engine_state.specs.Shows.{Home, LogMap, Shows}
+use Rattle.raft_log_engine_state.specs.Holding.{Holds, IsLeftAt}
+use Rattle.raft_log_engine_state.specs.Fetching.{AreEntriesOf}
+use Rattle.raft_log_engine_state.proofs.Fetching.{all_told, all_untold}
+use Rattle.raft_log_purge_state.specs.Rewriting.{HasCopies}
+use Rattle.raft_log_rewriting.specs.declared.entries.EntryBytes.{EntryBytes}
+use Rattle.raft_log_rewriting.specs.Parts.{Remains}
+use Rattle.raft_log_rewriting.specs.Copies.{FailsToCopy, MovesCopies, WritesCopies}
+use Rattle.raft_log_rewriting.specs.Entries.{AreBytesAt, AreNext, IsRunBatch}
+use Rattle.raft_log_rewriting.specs.Rewriting.{CopiesEntries, FailsToCopyEntries, OweNothing}
+use Rattle.raft_log_rewriting.proofs.Carried.{plain_items}
+use Rattle.raft_log_rewriting.proofs.OneRun.{dropped_at, entries_count, run_has_copies, taken_at}
+use Rattle.raft_log_rewriting.proofs.Parts.{same_later}
+
+-- what is read of an entry's bytes
+abbrev pub as_bytes : List ℕ → Option EntryBytes
+as_bytes bytes = Some (record { bytes = bytes })
+
+bytes_of_read : (m : LogMap) (g i : ℕ) (xs : List EntryBytes) → AreEntriesOf as_bytes m g i xs → AreBytesAt m g i (map (λ e. e.bytes) xs)
+bytes_of_read m g i [] all = tt
+bytes_of_read m g i (x ∷ xs) ((bytes, maps, is), rest) =
+    let same : bytes ≡ x.bytes = ap (λ (o : Option EntryBytes). unwrap_or (option_map (λ e. e.bytes) o) bytes) is in
+    (subst (λ (l : List ℕ). m g (Index i) ≡ Some (Entry l)) same maps, bytes_of_read m g (i + 1) xs rest)
+
+-- the engine is what it was, with another block
+with_block : (home : Home) (s : Shows) (m : LogMap) (new : BlockCache) (h : Holds home s m []) → IsOfLog h.state new → Holds home (record s { cache = new }) m []
+with_block home s m new h cached = record { state = h.state; map = h.map; runs = h.runs; stored = h.stored; meant = h.meant; cached = cached; at = h.at }
+
+module _ (s : Shows) (g gate : ℕ) (es : List EntryIndex) (next : AreNext gate (s.tables g) es) (new : BlockCache) where
+  abbrev v : Shown
+  v = s.tables g
+
+  abbrev ps : List Place
+  ps = take next.0 (drop v.rewritten v.places)
+
+  stands_from : (j : ℕ) (p : Place) → slice_get ps j ≡ Some p → slice_get v.places (v.rewritten + j) ≡ Some p
+  stands_from j p is = dropped_at v.rewritten v.places j p (taken_at next.0 (drop v.rewritten v.places) j p is)
+
+  -- what was read is the map's
+  pub read_is_held : (home : Home) (m : LogMap) → Holds home s m [] → (xs : List EntryBytes) → ReadsEntries as_bytes s.pipes es s.cache new xs
+      → Holds home (record s { cache = new }) m [] × AreBytesAt m g (v.first + v.rewritten) (map (λ e. e.bytes) xs)
+  read_is_held home m h xs reads =
+      let (cached, told) = all_told s g home m [] h as_bytes v.rewritten ps s.cache new xs stands_from h.cached (subst (λ l. ReadsEntries as_bytes s.pipes l s.cache new xs) next.2 reads) in
+      (with_block home s m new h cached, bytes_of_read m g (v.first + v.rewritten) xs told)
+
+  -- what wasn't read changed nothing
+  pub unread_is_held : (home : Home) (m : LogMap) → Holds home s m [] → (error : Error) → AreUnread as_bytes s.pipes es s.cache new error → Holds home (record s { cache = new }) m []
+  unread_is_held home m h error unread =
+      with_block home s m new h
+      (all_untold s g home m [] h as_bytes v.rewritten ps (v.first + v.rewritten) (v.first + v.rewritten + length ps) s.cache new error stands_from (omega arith) (omega arith) h.cached
+      (subst (λ l. AreUnread as_bytes s.pipes l s.cache new error) next.2 unread)).0
+
+-- The batch.
+
+from_len : (v : Shown) (k : ℕ) (ps : List Place) → length (entries_from v k ps) ≡ length ps
+from_len v k [] = refl
+from_len v k (p ∷ ps) = let rest = from_len v (k + 1) ps in omega (arith, rest)
+
+-- entries that come next begin at the first one in Append
+first_is : (v : Shown) (ps : List Place) (i : ℕ) (is : List ℕ) → indexes_of (entries_from v v.rewritten ps) ≡ i ∷ is → i ≡ v.first + v.rewritten
+first_is v [] i is h = absurd (let never : ⊥ = cc h in never)
+first_is v (p ∷ ps) i is h = ap (λ (l : List ℕ). unwrap_or (slice_get l 0) 0) (sym h)
+
+run_copies : (g gate : ℕ) (tables : ℕ → Shown) (m : LogMap) (b : Batch) (indexes : List ℕ) (bytes : List (List ℕ)) → (indexes ≡ [] → ⊥) → ((i : ℕ) (is : List ℕ) → indexes ≡ i ∷ is → i ≡ (tables g).first + (tables g).rewritten)
+    → length indexes ≤ passing gate (drop (tables g).rewritten (tables g).places) → OweNothing tables → AreBytesAt m g ((tables g).first + (tables g).rewritten) bytes → IsRunBatch g indexes bytes b → HasCopies (Some gate) b tables m
+run_copies g gate tables m b [] bytes some first fits owes maps is = absurd (some refl)
+run_copies g gate tables m b (i ∷ indexes) [] some first fits owes maps is = absurd (let same = is.same in omega (arith, same))
+run_copies g gate tables m b (i ∷ indexes) (x ∷ bytes) some first fits owes maps is =
+    let rest : List EntryIndex = laid_run (0 + length x) (entries_of indexes bytes) in
+    let e : EntryIndex = record (unplaced_entry i (length x)) { entry_offset = 0 } in
+    let has : map (entry_bytes b.entries) (e ∷ rest) ≡ x ∷ bytes =
+    ap (map (entry_bytes b.entries)) (sym (append-nil (e ∷ rest))) ∙ ap (λ (l : List LogItem). map (entry_bytes b.entries) (all_entries l)) (sym is.items) ∙ is.says in
+    let long = sym (length-map (e ∷ rest) (entry_bytes b.entries)) ∙ ap length has in
+    let same = is.same in
+    run_has_copies g gate b tables m e rest is.items (first i indexes refl) (omega (arith, long, same, fits)) (owes g).0 (owes g).1
+    (subst (AreBytesAt m g ((tables g).first + (tables g).rewritten)) (sym has) maps)
+
+run_plain : (g : ℕ) (b : Batch) (indexes : List ℕ) (bytes : List (List ℕ)) → IsRunBatch g indexes bytes b → marking_of_items b.items ≡ Unmarked
+run_plain g b indexes [] is = ap marking_of_items is.items
+run_plain g b indexes (x ∷ bytes) is = ap marking_of_items is.items ∙ plain_items (entries_items g 0 indexes (x ∷ bytes)) (entries_count g (laid_run 0 (entries_of indexes (x ∷ bytes))), tt)
+
+module _ (s : Shows) (g gate : ℕ) (es : List EntryIndex) (next : AreNext gate (s.tables g) es) (some : es ≡ [] → ⊥) (new : BlockCache) (xs : List EntryBytes) (reads : ReadsEntries as_bytes s.pipes es s.cache new xs)
+    (b : Batch) (is : IsRunBatch g (indexes_of es) (map (λ e. e.bytes) xs) b) where
+  none_indexes : (l : List EntryIndex) → indexes_of l ≡ [] → l ≡ []
+  none_indexes [] h = refl
+  none_indexes (e ∷ l) h = absurd (let never : ⊥ = cc h in never)
+
+  copies : (home : Home) (m : LogMap) → Holds home s m [] → OweNothing s.tables → HasCopies (Some gate) b s.tables m
+  copies home m h owes =
+      let v = s.tables g in
+      let ps = take next.0 (drop v.rewritten v.places) in
+      let count = length-map es (λ e. e.index) ∙ ap length next.2 ∙ from_len v v.rewritten ps ∙ length-take next.0 (drop v.rewritten v.places) in
+      let low = next.1 in
+      run_copies g gate s.tables m b (indexes_of es) (map (λ e. e.bytes) xs) (λ none. some (none_indexes es none)) (λ i rest h. first_is v ps i rest (ap indexes_of (sym next.2) ∙ h)) (omega (arith, count, low)) owes
+      (read_is_held s g gate es next new home m h xs reads).1 is
+
+  some_items : b.items ≡ [] → ⊥
+  some_items none = lacking (map (λ e. e.bytes) xs) (length-map es (λ e. e.index)) is.same is.items
+    where
+      lacking : (bytes : List (List ℕ)) → length (indexes_of es) ≡ length es → length (indexes_of es) ≡ length bytes → b.items ≡ entries_items g 0 (indexes_of es) bytes → ⊥
+      lacking [] long same items = some (none_long es (let zero_long : length es ≡ 0 = omega (arith, long, same) in zero_long))
+        where
+          none_long : (l : List EntryIndex) → length l ≡ 0 → l ≡ []
+          none_long [] h = refl
+          none_long (e ∷ l) h = absurd (omega (arith, h))
+      lacking (x ∷ bytes) long same items = (let never : ⊥ = cc (sym none ∙ items) in never)
+
+  pub entries_copied : (t : Shows) → WritesCopies (Some gate) b (record s { cache = new }) t → t.cache ≡ new → CopiesEntries g gate s t
+  entries_copied t (inl (none, same)) cache = absurd (some_items none)
+  entries_copied t (inr (there, moved)) cache = record {
+    entries = es;
+    next = next;
+    some = some;
+    bytes = map (λ e. e.bytes) xs;
+    run = b;
+    is = is;
+    moved = subst (λ (c : BlockCache). MovesCopies (Some gate) b (record s { cache = c }) t) (sym cache) moved;
+    holds = λ owes home m h. moved.holds (run_plain g b (indexes_of es) (map (λ e. e.bytes) xs) is) home m (read_is_held s g gate es next new home m h xs reads).0 (copies home m h owes);
+  }
+
+  remains_or : (home : Home) (m : LogMap) (t : Shows) (error : Error) → Remains home m t error → Holds home t m [] ⊎ ((error ≡ errors.Failed) × IsLeftAt home t.pipes.disk m [])
+  remains_or home m t errors.Failed h = inr (refl, h)
+  remains_or home m t _ h = inl h
+
+  pub entries_not_copied : (error : Error) (t : Shows) → FailsToCopy (Some gate) b error (record s { cache = new }) t → FailsToCopyEntries error s t
+  entries_not_copied error t fails = record {
+    failed = λ lived hit. (fails.tells lived).0 hit;
+    later = fails.later;
+    remains = λ owes home m h.
+        remains_or home m t error
+        (fails.remains (run_plain g b (indexes_of es) (map (λ e. e.bytes) xs) is) home m (read_is_held s g gate es next new home m h xs reads).0 (copies home m h owes));
+  }
+
+-- nothing was written
+pub none_written : (error : Error) (s : Shows) (new : BlockCache) → ((home : Home) (m : LogMap) → Holds home s m [] → Holds home (record s { cache = new }) m []) → FailsToCopyEntries error s (record s { cache = new })
+none_written error s new stays = record {
+  failed = λ lived hit. absurd (false≢true (sym lived ∙ hit));
+  later = same_later s.pipes.disk;
+  remains = λ owes home m h. inl (stays home m h);
+}

@@ -1,0 +1,63 @@
+-- Files that are no longer needed go.
+use Rattle.std.specs.Prelude.{◌≡◌, ◌↔◌, ◌⊎◌, ◌≤◌, ◌-◌, IsTrue, ℕ, None, Option, Some, false, []}
+use Rattle.raft_log_disk.specs.Causes.{IsLater}
+use Rattle.raft_log_base.specs.declared.errors.Error.{Error}
+use Rattle.raft_log_base.specs.declared.errors.Error.TheVariants as errors
+use Rattle.raft_log_base.specs.declared.pipe_log.LogQueue.{LogQueue}
+use Rattle.raft_log_machine.specs.Whereabouts.{OwesNothing}
+use Rattle.raft_log_directory.specs.Calls.{Which}
+use Rattle.raft_log_directory.specs.Calls.Which.{InAppend, InRewrite}
+use Rattle.raft_log_places.specs.Shown.{Shown, whereabouts}
+use Rattle.raft_log_tables.specs.Files.{FrontIsLeast, min_file}
+use Rattle.raft_log_tables.specs.Table.{Raw}
+use Rattle.raft_log_replay.specs.declared.mem_tables.MemTables.{MemTables}
+use Rattle.raft_log_replay.specs.Tables.{raw_of}
+use Rattle.raft_log_steps.specs.State.{pipe_at}
+use Rattle.raft_log_dual_pipes.specs.Pipes.{files_of, which_of}
+use Rattle.raft_log_engine_state.specs.Shows.{Home, LogMap, Shows, has_failed}
+use Rattle.raft_log_engine_state.specs.Holding.{IsLeftAt}
+use Rattle.raft_log_purge_state.specs.Settled.{HoldsSettled}
+
+-- the least file of a queue in which a group has something, if it has a table, and there is one
+abbrev pub least_in : LogQueue → Option Raw → Option ℕ
+least_in queue None = None
+least_in queue (Some t) = min_file queue t
+
+-- the least file of a queue in which any group has something, where that is below the limit, else the limit
+pub record IsLeastOf (queue : LogQueue) (limit : ℕ) (m : MemTables) (least : ℕ) : Type 0 where
+  pub limited : least ≤ limit
+  pub below : (g n : ℕ) → least_in queue (raw_of m g) ≡ Some n → least ≤ n
+  pub exact : (least ≡ limit) ⊎ ((g : ℕ) × (least_in queue (raw_of m g) ≡ Some least))
+
+-- of no group does an entry lie in an earlier file than the first one of its queue
+abbrev pub FrontsAreLeast : (ℕ → Shown) → Type 0
+FrontsAreLeast v = (g : ℕ) → FrontIsLeast (v g)
+
+-- what is asked of the tables before files of a queue go: of Append, that no mark is owed
+abbrev pub MayLoseFiles : Which → (ℕ → Shown) → Type 0
+MayLoseFiles InAppend v = (g : ℕ) → OwesNothing (whereabouts (v g))
+MayLoseFiles InRewrite v = Unit {0}
+
+-- The files of a queue below the least one that is in use, and below the limit, have left its span: whatever
+-- the log was, with nothing pending, it is so. No block is kept.
+pub record LosesFiles (queue : LogQueue) (limit : ℕ) (m : MemTables) (count : ℕ) (s t : Shows) : Type 0 where
+  pub least : ℕ
+  pub is : IsLeastOf queue limit m least
+  pub counted : count ≡ least - (pipe_at (which_of queue) (files_of s.pipes)).first_seq
+  pub alive : has_failed t ≡ false
+  pub none : t.cache.place ≡ None
+  pub later : IsLater s.pipes.disk t.pipes.disk
+  pub keeps : (home : Home) (log : LogMap) → HoldsSettled home s log → FrontsAreLeast s.tables
+      → MayLoseFiles (which_of queue) s.tables → HoldsSettled home t log
+
+-- what is true where that was refused: nothing was done; or the engine has failed, and its log is held
+abbrev pub RemainsSettled : Home → LogMap → Shows → Error → Type 0
+RemainsSettled home m t errors.Failed = IsLeftAt home t.pipes.disk m []
+RemainsSettled home m t _ = HoldsSettled home t m
+
+-- So it is of whatever log it was.
+pub record FailsToLoseFiles (queue : LogQueue) (error : Error) (s t : Shows) : Type 0 where
+  pub tells : has_failed s ≡ false → IsTrue (has_failed t) ↔ (error ≡ errors.Failed)
+  pub later : IsLater s.pipes.disk t.pipes.disk
+  pub remains : (home : Home) (log : LogMap) → HoldsSettled home s log → FrontsAreLeast s.tables
+      → MayLoseFiles (which_of queue) s.tables → RemainsSettled home log t error

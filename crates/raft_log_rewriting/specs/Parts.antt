@@ -1,0 +1,35 @@
+-- What a part of a purge leaves where it is refused, and what is known of a record that it writes.
+use Rattle.std.specs.Prelude.{◌≡◌, ◌↔◌, IsTrue, false, []}
+use Rattle.raft_log_disk.specs.Causes.{IsLater}
+use Rattle.raft_log_base.specs.declared.errors.Error.{Error}
+use Rattle.raft_log_base.specs.declared.errors.Error.TheVariants as errors
+use Rattle.raft_log_records.specs.Batch.{Batch}
+use Rattle.raft_log_signed_batch.specs.Signing.{SaysItself, signed_for}
+use Rattle.raft_log_engine_state.specs.Shows.{Home, IsLaidOut, LogMap, Shows, has_failed}
+use Rattle.raft_log_engine_state.specs.Holding.{Holds, IsLeftAt}
+
+-- What is true where a part was refused, by the error: the engine's log is what it was, and nothing is
+-- pending; and where the engine has failed, its log is held.
+abbrev pub Remains : Home → LogMap → Shows → Error → Type 0
+Remains home m t errors.Failed = IsLeftAt home t.pipes.disk m []
+Remains home m t _ = Holds home t m []
+
+-- A part was refused: the engine has failed now exactly where that is told, and whatever its log was, it is.
+pub record IsRefused (error : Error) (s t : Shows) : Type 0 where
+  pub tells : has_failed s ≡ false → IsTrue (has_failed t) ↔ (error ≡ errors.Failed)
+  pub later : IsLater s.pipes.disk t.pipes.disk
+  pub remains : (home : Home) (m : LogMap) → Holds home s m [] → Remains home m t error
+
+-- why a record isn't made: it would be too long, a key is one of the log's own, or memory is short
+abbrev pub IsUnmade : Error → Type 0
+IsUnmade errors.Full = Unit {0}
+IsUnmade errors.Memory = Unit {0}
+IsUnmade (errors.InvalidArgument text) = Unit {0}
+IsUnmade _ = ⊥
+
+-- the record of this batch was made: whichever file it is signed for, it says the batch
+pub record IsRecordMade (b made : Batch) : Type 0 where
+  pub items : made.items ≡ b.items
+  pub entries : made.entries ≡ b.entries
+  pub says : SaysItself (signed_for b) b
+  pub laid : IsLaidOut b

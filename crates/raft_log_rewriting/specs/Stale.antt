@@ -1,0 +1,66 @@
+-- All files of both queues go that nothing is in that is in use.
+use Rattle.std.specs.Prelude.{◌≡◌, ◌↔◌, ◌⊎◌, IsTrue, ℕ, List, false}
+use Rattle.raft_log_model.specs.Groups.{taken}
+use Rattle.raft_log_disk.specs.Causes.{IsLater}
+use Rattle.raft_log_base.specs.declared.errors.Error.{Error}
+use Rattle.raft_log_base.specs.declared.errors.Error.TheVariants as errors
+use Rattle.raft_log_base.specs.declared.pipe_log.LogQueue.{LogQueue}
+use Rattle.raft_log_base.specs.declared.pipe_log.LogQueue.TheVariants.{Append, Rewrite}
+use Rattle.raft_log_directory.specs.Calls.Which.{InAppend}
+use Rattle.raft_log_replay.specs.declared.mem_tables.MemTables.{MemTables}
+use Rattle.raft_log_steps.specs.State.{pipe_at}
+use Rattle.raft_log_dual_pipes.specs.Pipes.{LogPipes, Said, files_of, which_of}
+use Rattle.raft_log_dual_pipes.specs.Calls.{RotatesQueue, SyncsQueue}
+use Rattle.raft_log_engine_state.specs.Shows.{Home, LogMap, Shows, has_failed}
+use Rattle.raft_log_engine_state.specs.Holding.{Holds, IsLeftAt}
+use Rattle.raft_log_purge_state.specs.Settled.{HoldsSettled}
+use Rattle.raft_log_rewriting.specs.Parts.{Remains}
+use Rattle.raft_log_rewriting.specs.Marks.{CarriesMarks}
+use Rattle.raft_log_rewriting.specs.Files.{FrontsAreLeast, LosesFiles, MayLoseFiles}
+
+-- the number of the file that a queue is being written in
+abbrev pub written_file : LogQueue → LogPipes → ℕ
+written_file queue v = (pipe_at (which_of queue) (files_of v)).active.seq
+
+-- A queue went on in its next file, and then lost those before that aren't in use: whatever the log was, with
+-- nothing pending, it is so.
+pub record TurnsAndLoses (queue : LogQueue) (m : MemTables) (count : ℕ) (s t : Shows) : Type 0 where
+  pub turned : LogPipes
+  pub turns : RotatesQueue (which_of queue) s.pipes turned
+  pub loses : LosesFiles queue (written_file queue turned) m count (record s { pipes = turned }) t
+  pub later : IsLater s.pipes.disk t.pipes.disk
+  pub keeps : (home : Home) (log : LogMap) → HoldsSettled home s log → FrontsAreLeast s.tables
+      → MayLoseFiles (which_of queue) s.tables → HoldsSettled home t log
+
+-- it was refused: whatever the log was, it is so; and where the engine has failed, its log is held
+pub record FailsToTurn (queue : LogQueue) (error : Error) (s t : Shows) : Type 0 where
+  pub tells : has_failed s ≡ false → IsTrue (has_failed t) ↔ (error ≡ errors.Failed)
+  pub later : IsLater s.pipes.disk t.pipes.disk
+  pub remains : (home : Home) (log : LogMap) → HoldsSettled home s log → FrontsAreLeast s.tables
+      → MayLoseFiles (which_of queue) s.tables → Remains home log t error
+
+-- All stale files are purged: Append was synced, then marks were carried, then each queue went on in its next
+-- file and lost those before that aren't in use, Rewrite first. The map stays, and nothing is pending.
+pub record PurgesAllStale (m : MemTables) (s t : Shows) : Type 0 where
+  pub synced : LogPipes
+  pub syncs : SyncsQueue InAppend s.pipes synced
+  pub carried : Shows
+  pub carries : CarriesMarks (record s { pipes = synced }) carried
+  pub rewritten : Shows
+  pub from_rewrite : ℕ
+  pub rewrite : TurnsAndLoses Rewrite m from_rewrite carried rewritten
+  pub from_append : ℕ
+  pub append : TurnsAndLoses Append m from_append rewritten t
+  pub later : IsLater s.pipes.disk t.pipes.disk
+  pub settles : (home : Home) (log : LogMap) (pending : List Said) → Holds home s log pending
+      → FrontsAreLeast s.tables → HoldsSettled home t (taken log pending)
+
+-- That was refused: the map stays, and where the engine has failed, its log is held, with the batches on the
+-- map, or pending as they were.
+pub record FailsToPurge (error : Error) (s t : Shows) : Type 0 where
+  pub tells : has_failed s ≡ false → IsTrue (has_failed t) ↔ (error ≡ errors.Failed)
+  pub later : IsLater s.pipes.disk t.pipes.disk
+  pub remains : (home : Home) (log : LogMap) (pending : List Said) → Holds home s log pending
+      → FrontsAreLeast s.tables
+      → Remains home (taken log pending) t error
+      ⊎ ((error ≡ errors.Failed) × IsLeftAt home t.pipes.disk log pending)

@@ -1,0 +1,85 @@
+//! Copies are written to Rewrite, and what they are of lies there from then on.
+
+ghost use Rattle.std.specs.Prelude.{◌≡◌, [], Some, IfErr, IfOk};
+ghost use Rattle.raft_log_atomic_groups.specs.Meaning.{tagged_items};
+ghost use Rattle.raft_log_blocks.specs.declared.block_cache.BlockCache.{BlockCache};
+ghost use Rattle.raft_log_engine_state.specs.Shows.{shows};
+ghost use Rattle.raft_log_records.specs.declared.log_batch.BatchState.TheVariants.{Filling, Populated};
+ghost use Rattle.raft_log_records.specs.Batch.{emptied, IsButBuffer};
+ghost use Rattle.raft_log_replay.specs.Rewriting.{MayMove};
+ghost use Rattle.raft_log_replay.specs.Tables.{IsAtRest};
+ghost use Rattle.raft_log_rewriting.specs.Copies.{FailsToCopy, MovesCopies, WritesCopies};
+
+use log::Log;
+use raft_log_base::{FileSeq, LogQueue, Result};
+use raft_log_dual_pipes::PipeLog;
+use raft_log_records::LogBatch;
+use raft_log_replay::MemTables;
+use raft_log_signed_batch::SignedBatch;
+use std::alloc::Global;
+
+/// Writes a batch of copies to Rewrite as one record, and moves what they are of there: of what stands in
+/// Append that in files up to the gate. The answer is the batch, emptied. An empty one isn't written.
+///
+/// `Full`, `Memory`: nothing is done. Then what Rewrite refuses. In each case nothing that shows is changed.
+pub fn write_copies<P: PipeLog, L: Log>(
+    alloc: Global,
+    rt: &L,
+    pipes: &mut P,
+    tables: &mut MemTables,
+    batch: LogBatch,
+    gate: FileSeq,
+) -> Result<LogBatch>
+    requires { batch.state ≡ Filling }
+    ensures ok { IfOk result (λ after. (cache : BlockCache) → WritesCopies (Some gate) batch
+        (shows (P.shown pipes.old) tables.old cache) (shows (P.shown pipes.new) tables.new cache)) }
+    ensures err { IfErr result (λ error. (cache : BlockCache) → FailsToCopy (Some gate) batch error
+        (shows (P.shown pipes.old) tables.old cache) (shows (P.shown pipes.new) tables.new cache)) }
+    ensures emptied { IfOk result (IsButBuffer (emptied batch)) }
+    ensures rests { IsAtRest tables.old → IsAtRest tables.new }
+{
+    if batch.is_empty() {
+        return Ok(batch);
+    }
+    let mut batch = batch;
+    batch.finish_populate()?;
+    tables.prepare_rewrite(batch.items())?;
+    append_copies(alloc, rt, pipes, tables, batch, gate)
+}
+
+/// Writes a batch that room was made for, and moves what it has copies of.
+fn append_copies<P: PipeLog, L: Log>(
+    alloc: Global,
+    rt: &L,
+    pipes: &mut P,
+    tables: &mut MemTables,
+    batch: LogBatch,
+    gate: FileSeq,
+) -> Result<LogBatch>
+    requires made { batch.state ≡ Populated }
+    requires some { batch.items ≡ [] → ⊥ }
+    requires room { MayMove tables.old (tagged_items (λ e. e) batch.items) }
+    ensures ok { IfOk result (λ after. (cache : BlockCache) → MovesCopies (Some gate) batch
+        (shows (P.shown pipes.old) tables.old cache) (shows (P.shown pipes.new) tables.new cache)) }
+    ensures err { IfErr result (λ error. (cache : BlockCache) → FailsToCopy (Some gate) batch error
+        (shows (P.shown pipes.old) tables.old cache) (shows (P.shown pipes.new) tables.new cache)) }
+    ensures emptied { IfOk result (λ after. after ≡ emptied batch) }
+    ensures rests { IsAtRest tables.old → IsAtRest tables.new }
+{
+    let mut signed = SignedBatch::new(batch);
+    signed.encoded_len();
+    let appended = pipes.append(alloc, rt, LogQueue::Rewrite, &mut signed);
+    let mut batch = signed.into_batch();
+    match appended {
+        Ok(block) => {
+            batch.finish_write(block);
+            tables.apply_rewrite_writes(batch.items(), Some(gate), block.id.seq);
+            batch.clear();
+            Ok(batch)
+        }
+        Err(error) => {
+            tables.take_back(batch.items());
+            Err(error)
+        }
+    }
+}

@@ -1,0 +1,96 @@
+//! Entries of Append that are to be copied: which come next, their bytes, and a batch of them.
+
+ghost use Rattle.std.specs.Prelude.{◌≡◌, Some, map, IfOk};
+ghost use Rattle.raft_log_records.specs.Entries.{indexes_of, slices_bytes};
+ghost use Rattle.raft_log_replay.specs.Tables.{shown_of};
+ghost use Rattle.raft_log_rewriting.specs.Entries.{AreNext, IsRunBatch};
+
+use raft_log_base::{FileSeq, Result};
+use raft_log_items::{Bytes, EntryIndex, Message};
+use raft_log_records::LogBatch;
+use raft_log_replay::MemTables;
+use std::alloc::{AllocError, Global};
+
+/// How many bytes of entries are copied at once, but for an entry that has more.
+const MAX_COPIED_LEN: u64 = 131_072;
+
+/// The bytes of an entry, as they are.
+#[derive(Drop)]
+pub struct EntryBytes {
+    bytes: Bytes,
+}
+
+impl Message for EntryBytes {
+    ghost spelling = { λ e. e.bytes };
+
+    ghost reading = { λ bytes. Some (record { bytes = bytes }) };
+
+    fn write(&self, out: &mut Vec<u8>) -> Result<(), AllocError> {
+        out.extend_from_slice(self.bytes.as_slice())
+    }
+
+    fn parse(alloc: Global, bytes: &[u8]) -> Result<EntryBytes> {
+        Ok(EntryBytes {
+            bytes: Bytes::from_slice(alloc, bytes)?,
+        })
+    }
+}
+
+/// The entries of a group that are to be copied next: the first ones in Append, all in files up to the gate,
+/// as many as a batch may have.
+pub fn next_entries(
+    alloc: Global,
+    tables: &MemTables,
+    group: u64,
+    gate: FileSeq,
+) -> Result<Vec<EntryIndex>, AllocError>
+    ensures { IfOk result (λ entries. AreNext gate (shown_of tables.now group) entries.items) }
+{
+    let mut entries = Vec::new(alloc);
+    if let Some(table) = tables.known_table(group) {
+        table.fetch_entry_indexes_before(gate, &mut entries)?;
+        let count = fitting(entries.as_slice());
+        entries.truncate(count);
+    }
+    Ok(entries)
+}
+
+/// How many first entries have so many bytes as are copied at once; at least one.
+fn fitting(entries: &[EntryIndex]) -> usize {
+    let mut len: u64 = 0;
+    let mut count: usize = 0;
+    for entry in entries {
+        len = len.saturating_add(entry.entry_len as u64);
+        if len > MAX_COPIED_LEN && count > 0 {
+            return count;
+        }
+        count = count.saturating_add(1);
+    }
+    count
+}
+
+/// A batch of one run: a group's entries with these indexes and bytes.
+pub fn run_batch(
+    alloc: Global,
+    group: u64,
+    entries: &[EntryIndex],
+    read: &[EntryBytes],
+) -> Result<LogBatch>
+    ensures ok { IfOk result (IsRunBatch group (indexes_of entries.now) (map (λ e. e.bytes) read.now)) }
+{
+    let mut batch = LogBatch::default(alloc)?;
+    let slices = slices_of(alloc, read)?;
+    batch.add_raw_entries(alloc, group, entries, slices.as_slice())?;
+    Ok(batch)
+}
+
+/// The bytes of each entry.
+fn slices_of<'a>(alloc: Global, read: &'a [EntryBytes]) -> Result<Vec<&'a [u8]>, AllocError>
+    ensures { IfOk result (λ slices. slices_bytes slices.items ≡ map (λ e. e.bytes) read.now) }
+{
+    let mut slices = Vec::with_capacity(alloc, read.len())?;
+    for entry in read {
+        slices.push(entry.bytes.as_slice())?;
+    }
+    Ok(slices)
+}

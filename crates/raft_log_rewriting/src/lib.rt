@@ -1,0 +1,19 @@
+//! The parts of a purge: what is written to Rewrite, and files that go. The map stays at every exit.
+//!
+//! Each part is over a log's pipes and the tables of its groups, and its contract speaks of whatever map was
+//! the log's (`Holds`), with nothing pending: it asks nothing of the caller.
+#![tactic(auto)]
+
+pub mod copies;
+pub mod entries;
+pub mod files;
+pub mod marks;
+mod record;
+pub mod rewriting;
+pub mod stale;
+
+pub use copies::write_copies;
+pub use files::{least_file, purge_stale};
+pub use marks::rewrite_marks;
+pub use rewriting::copy_entries;
+pub use stale::purge_all_stale;

@@ -1,0 +1,57 @@
+//! All files of both queues go that nothing is in that is in use.
+
+ghost use Rattle.std.specs.Prelude.{◌≡◌, IfErr, IfOk, OnOk};
+ghost use Rattle.raft_log_engine_state.specs.Shows.{shows};
+ghost use Rattle.raft_log_rewriting.specs.Stale.{FailsToPurge, FailsToTurn, PurgesAllStale, TurnsAndLoses};
+
+use crate::files::purge_stale;
+use crate::marks::rewrite_marks;
+use log::Log;
+use raft_log_base::{LogQueue, Result};
+use raft_log_blocks::BlockCache;
+use raft_log_dual_pipes::PipeLog;
+use raft_log_replay::MemTables;
+use std::alloc::Global;
+
+/// Takes all files out of both queues that nothing is in that is in use: Append is synced, marks are carried,
+/// and then each queue goes on in its next file and loses those before, Rewrite first.
+///
+/// Refused, the map stays: what a sync, `rewrite_marks`, a rotation and `purge_stale` refuse.
+pub fn purge_all_stale<P: PipeLog, L: Log>(
+    alloc: Global,
+    rt: &L,
+    pipes: &mut P,
+    tables: &mut MemTables,
+    cache: &mut BlockCache,
+) -> Result<()>
+    ensures ok { OnOk result (PurgesAllStale tables.new
+        (shows (P.shown pipes.old) tables.old cache.old) (shows (P.shown pipes.new) tables.new cache.new)) }
+    ensures err { IfErr result (λ error. FailsToPurge error
+        (shows (P.shown pipes.old) tables.old cache.old) (shows (P.shown pipes.new) tables.new cache.new)) }
+{
+    pipes.sync(rt, LogQueue::Append)?;
+    rewrite_marks(alloc, rt, pipes, tables)?;
+    turn_and_purge(alloc, rt, pipes, tables, cache, LogQueue::Rewrite)?;
+    turn_and_purge(alloc, rt, pipes, tables, cache, LogQueue::Append)?;
+    Ok(())
+}
+
+/// A queue goes on in its next file, and those before that aren't in use leave its span: the answer is how
+/// many.
+fn turn_and_purge<P: PipeLog, L: Log>(
+    alloc: Global,
+    rt: &L,
+    pipes: &mut P,
+    tables: &MemTables,
+    cache: &mut BlockCache,
+    queue: LogQueue,
+) -> Result<usize>
+    ensures ok { IfOk result (λ count. TurnsAndLoses queue tables.now count
+        (shows (P.shown pipes.old) tables.now cache.old) (shows (P.shown pipes.new) tables.now cache.new)) }
+    ensures err { IfErr result (λ error. FailsToTurn queue error
+        (shows (P.shown pipes.old) tables.now cache.old) (shows (P.shown pipes.new) tables.now cache.new)) }
+{
+    pipes.rotate(alloc, rt, queue)?;
+    let (_first, last) = pipes.file_span(queue);
+    purge_stale(alloc, rt, pipes, tables, cache, queue, last)
+}

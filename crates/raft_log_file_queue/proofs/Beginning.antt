@@ -65,6 +65,12 @@ module _ {R : Type 0} (F : Format R) (own : List ℕ → Type 0) (base : Disk) w
               let gone = fresh.none m less other there in
               let was : old.names other ≡ Some j = sym (name_apart old.names to (Some old.unused) other apart) ∙ here in
               cc (gone, was));
+          single = λ m i j a b below at_a at_b is_a is_b.
+              (let less : m < F.limit = omega (arith, below, bound) in
+              let apart = other_number m a less (λ e. omega (arith, below, e)) at_a in
+              let gone = fresh.none m less a at_a in
+              let was : old.names a ≡ Some i = sym (name_apart old.names to (Some old.unused) a apart) ∙ is_a in
+              cc (gone, was));
           others = names_then own base old (created to old) fresh.others (record {
             directories = refl;
             names = λ p theirs. leaves.names p (λ same. theirs (subst own (sym same) (owns 1 to bound at)));

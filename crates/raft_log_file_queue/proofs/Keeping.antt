@@ -53,6 +53,7 @@ module _ {R : Type 0} (F : Format R) (own : List ℕ → Type 0) where
             places = λ m p less at. place_moved p d image is.directories (s.places m p less at);
             file = subst (λ (j : ℕ). HasFile j (IsLeftover F (kept_to count q)) image) (sym mine) files.last.file.file;
             older = λ m j p below at there. files.older m j p below at (named p (Some j) there);
+            single = s.single;
             others = names_same own image;
           },
         )

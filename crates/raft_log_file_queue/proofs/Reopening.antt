@@ -33,6 +33,7 @@ module _ {R : Type 0} (F : Format R) where
     places = s.places;
     file = s.file;
     older = λ m j other below at is. subst (λ (h : ℕ → Past R). HasFile j (IsPast F m (h m)) d) (sym older) (s.older m j other (omega (arith, below, last)) at is);
+    single = λ m i j a b below. s.single m i j a b (omega (arith, below, last));
     others = s.others;
   }
 

@@ -47,6 +47,9 @@ module _ {R : Type 0} (F : Format R) (own : List ℕ → Type 0) (base : Disk) w
             let was_named = before m other j less is now in
             let was = s.older m j other below is was_named in
             record { file = was.file; is = leaves.files j (unlost other j (other_than_to m other less is) (ap (λ (f : Names). f other) s.names ∙ was_named)) ∙ was.is; has = was.has });
+        single = λ m i j a b below at_a at_b is_a is_b.
+            (let less : m < F.limit = omega (arith, below, bound) in
+            s.single m i j a b below at_a at_b (before m a i less at_a is_a) (before m b j less at_b is_b));
         others = names_then own base old (renamed from to moved old) s.others (record {
           directories = refl;
           names = λ p theirs. leaves.names p (λ same. theirs (subst own (sym same) mine)) (λ same. theirs (subst own (sym same) mine_too));

@@ -20,7 +20,7 @@ use Rattle.raft_log_disk.proofs.KeptLaws.{IsCalm}
 use Rattle.raft_log_disk.proofs.TouchingLaws.{same_file, has_calm, has_weaker, has_done, has_changed, has_synced, touches_change, touches_sync, names_same, names_then}
 use Rattle.raft_log_file_queue.specs.Queue.{finished}
 use Rattle.raft_log_file_queue.specs.States.{IsNew}
-use Rattle.raft_log_file_queue.specs.Standing.{Names, HaveOneName, IsPlace, OwnsPaths, Stands}
+use Rattle.raft_log_file_queue.specs.Standing.{Names, HaveOneFile, HaveOneName, IsPlace, OwnsPaths, Stands}
 use Rattle.raft_log_file_queue.proofs.FileSteps.{new_over}
 
 pub place_moved : (path : List ℕ) (a b : Disk) → b.directories ≡ a.directories → IsPlace path a → IsPlace path b
@@ -55,6 +55,7 @@ module _ {R : Type 0} (F : Format R) (own : List ℕ → Type 0) (base : Disk) w
     places = s.places;
     file = has_weaker id P Q d weaker s.file;
     older = s.older;
+    single = s.single;
     others = s.others;
   }
 
@@ -72,6 +73,7 @@ module _ {R : Type 0} (F : Format R) (own : List ℕ → Type 0) (base : Disk) w
     places = s.places;
     file = s.file;
     older = λ m j other below at is. subst (λ (h : ℕ → Past R). HasFile j (IsPast F m (h m)) d) (sym older) (s.older m j other (omega (arith, below, last)) at is);
+    single = λ m i j a b below. s.single m i j a b (omega (arith, below, last));
     others = s.others;
   }
 
@@ -89,6 +91,7 @@ module _ {R : Type 0} (F : Format R) (own : List ℕ → Type 0) (base : Disk) w
     places = λ m other less at. place_moved other d e directories (s.places m other less at);
     file = moved id P s.file;
     older = λ m j other below at named. moved j (IsPast F m (q.older m)) (s.older m j other below at named);
+    single = s.single;
     others = record {
       directories = directories ∙ s.others.directories;
       names = λ p apart. ap (λ (f : Names). f p) names ∙ s.others.names p apart;
@@ -118,6 +121,7 @@ module _ {R : Type 0} (F : Format R) (own : List ℕ → Type 0) (base : Disk) w
     places = s.places;
     file = s.file;
     older = s.older;
+    single = s.single;
     others = names_same own d;
   }
 
@@ -147,6 +151,7 @@ module _ {R : Type 0} (F : Format R) (own : List ℕ → Type 0) (base : Disk) w
               let bound = s.bound in
               let apart : j ≡ id → ⊥ = λ same. other_path q path m other bound (omega (arith, below, bound)) (λ e. omega (arith, below, e)) s.at at (one other path id (named ∙ ap Some same) s.named) in
               record { file = was.file; is = only.others j apart ∙ was.is; has = was.has });
+          single = s.single;
           others = names_then own base old new s.others (touches_own own old new path id (subst HaveOneName (sym s.names) one) (owns q.last path s.bound s.at) here only);
         }
 
@@ -199,6 +204,13 @@ module _ {R : Type 0} (F : Format R) (own : List ℕ → Type 0) (base : Disk) w
           | inr miss ↦ ap (λ b. cond b (finished q) (q.older m)) miss
         ]
 
+    -- no number up to the last one is that of two files
+    one_file : (q : LogFiles R) (path : List ℕ) (id : ℕ) (P : File → Type 0) (N : Names) (old : Disk) → Stands F own base q path id P N old → HaveOneFile F (suc q.last) N
+    one_file q path id P N old s m i j a b below at_a at_b is_a is_b = elim (cases_eq m q.last) [
+      | inl same ↦ s.alone a i (subst (λ (n : ℕ). F.IsPath n a) same at_a) is_a ∙ sym (s.alone b j (subst (λ (n : ℕ). F.IsPath n b) same at_b) is_b)
+      | inr apart ↦ s.single m i j a b (omega (arith, below, apart)) at_a at_b is_a is_b
+    ]
+
     -- a new file is made for the next number
     pub stands_created : (q : LogFiles R) (header path to : List ℕ) (id : ℕ) (N : Names) (old : Disk) → IsSound old → suc q.last < F.limit → F.IsHeader header → F.IsPath (suc q.last) to
         → Stands F own base q path id (IsPast F q.last (finished q)) N old
@@ -226,6 +238,10 @@ module _ {R : Type 0} (F : Format R) (own : List ℕ → Type 0) (base : Disk) w
               (let apart = other_number m other (omega (arith, below, bound)) (λ e. omega (arith, below, e)) there in
               let was = older_rotated q header [] path id N old s m j other below there (before other (Some j) apart here) in
               record { file = was.file; is = leaves.files j was.file was.is; has = was.has });
+          single = λ m i j a b below at_a at_b is_a is_b.
+              (let was : (other : List ℕ) (k : ℕ) → F.IsPath m other → update bytes_eq N to (Some old.unused) other ≡ Some k → N other ≡ Some k = λ other k there.
+              before other (Some k) (other_number m other (omega (arith, below, bound)) (λ e. omega (arith, below, e)) there) in
+              one_file q path id (IsPast F q.last (finished q)) N old s m i j a b below at_a at_b (was a i at_a is_a) (was b j at_b is_b));
           others = names_then own base old (created to old) s.others (record {
             directories = refl;
             names = λ p theirs. leaves.names p (λ same. theirs (subst own (sym same) (owns (suc q.last) to bound at)));
@@ -249,6 +265,10 @@ module _ {R : Type 0} (F : Format R) (own : List ℕ → Type 0) (base : Disk) w
         let other_number : (m : ℕ) (other : List ℕ) → m < F.limit → (m ≡ suc q.last → ⊥) → F.IsPath m other → other ≡ to → ⊥ = λ m other less apart is same.
         other_path after to m other bound less apart at is same in
         let above : (m : ℕ) (other : List ℕ) → q.last ≤ m → m < F.limit → F.IsPath m other → other ≡ from → ⊥ = λ m other over less is same. kept m over less (subst (F.IsPath m) same is) in
+        let before : (m : ℕ) (other : List ℕ) (j : ℕ) → m < suc q.last → F.IsPath m other → update bytes_eq left to (Some next) other ≡ Some j → N other ≡ Some j = λ m other j below is now.
+        (let apart = other_number m other (omega (arith, below, bound)) (λ e. omega (arith, below, e)) is in
+        let then_left : left other ≡ Some j = sym (name_apart left to (Some next) other apart) ∙ now in
+        elim (name_case N from None other (Some j) then_left) [ inl (same, gone) ↦ cc gone | inr (also, was) ↦ was ]) in
         record {
           names = ap (λ (f : Names). update bytes_eq (update bytes_eq f from None) to (Some next)) s.names;
           bound = bound;
@@ -268,11 +288,10 @@ module _ {R : Type 0} (F : Format R) (own : List ℕ → Type 0) (base : Disk) w
           places = λ m other less is. place_moved other old (renamed from to next old) refl (s.places m other less is);
           file = record { file = taken.file; is = leaves.itself ∙ taken.is; has = taken.has };
           older = λ m j other below is here.
-              (let apart = other_number m other (omega (arith, below, bound)) (λ e. omega (arith, below, e)) is in
-              let then_left : left other ≡ Some j = sym (name_apart left to (Some next) other apart) ∙ here in
-              let before : N other ≡ Some j = elim (name_case N from None other (Some j) then_left) [ inl (same, gone) ↦ cc gone | inr (also, was) ↦ was ] in
-              let was = older_rotated q header stale path id N old s m j other below is before in
+              (let was = older_rotated q header stale path id N old s m j other below is (before m other j below is here) in
               record { file = was.file; is = leaves.files j (unlost j) ∙ was.is; has = was.has });
+          single = λ m i j a b below at_a at_b is_a is_b.
+              one_file q path id (IsPast F q.last (finished q)) N old s m i j a b below at_a at_b (before m a i below at_a is_a) (before m b j below at_b is_b);
           others = names_then own base old (renamed from to next old) s.others (record {
             directories = refl;
             names = λ p theirs. leaves.names p (λ same. theirs (subst own (sym same) mine)) (λ same. theirs (subst own (sym same) (owns (suc q.last) to bound at)));
@@ -308,6 +327,7 @@ module _ {R : Type 0} (F : Format R) (own : List ℕ → Type 0) (base : Disk) w
               (let (apart, was_named) = before other j now in
               let was = s.older m j other below is was_named in
               record { file = was.file; is = leaves.files j (other_file other j apart (ap (λ (f : Names). f other) s.names ∙ was_named)) ∙ was.is; has = was.has });
+          single = λ m i j a b below at_a at_b is_a is_b. s.single m i j a b below at_a at_b (before a i is_a).1 (before b j is_b).1;
           others = names_then own base old (deleted gone lost old) s.others (record {
             directories = refl;
             names = λ p theirs. leaves.names p (λ same. theirs (subst own (sym same) mine));
@@ -337,5 +357,8 @@ module _ {R : Type 0} (F : Format R) (own : List ℕ → Type 0) (base : Disk) w
         older = λ m j other below at now.
             (let named : N other ≡ Some j = sym (stays m other (omega (arith, below, bound)) at) ∙ now in
             kept m j other (IsPast F m (q.older m)) (omega (arith, below, bound)) at named (s.older m j other below at named));
+        single = λ m i j a b below at_a at_b is_a is_b.
+            (let less : m < F.limit = omega (arith, below, bound) in
+            s.single m i j a b below at_a at_b (sym (stays m a less at_a) ∙ is_a) (sym (stays m b less at_b) ∙ is_b));
         others = names_same own new;
       }

@@ -14,6 +14,11 @@ Names = List ℕ → Option ℕ
 abbrev pub HaveOneName : Names → Type 0
 HaveOneName N = (a b : List ℕ) (id : ℕ) → N a ≡ Some id → N b ≡ Some id → a ≡ b
 
+-- no number below this one is that of two files
+abbrev pub HaveOneFile : {R : Type 0} → Format R → ℕ → Names → Type 0
+HaveOneFile F end N = (m i j : ℕ) (a b : List ℕ) → m < end → F.IsPath m a → F.IsPath m b
+    → N a ≡ Some i → N b ≡ Some j → i ≡ j
+
 -- a file may be made here, or get this path: no directory has it, and its own directory is there
 pub record IsPlace (path : List ℕ) (d : Disk) : Type 0 where
   pub apart : d.directories path ≡ false
@@ -25,7 +30,7 @@ OwnsPaths F own = (m : ℕ) (path : List ℕ) → m < F.limit → F.IsPath m pat
 
 -- The files of a queue, on a disk with these names: the last one has this path and this number in the file
 -- system, and `P` holds of it; no other file has its number, none a higher one; whoever has a lower one is
--- that file as it was finished; and since `base` nothing has changed but the queue's own paths and files.
+-- that file as it was finished, and no other file has that number; and since `base` nothing has changed but the queue's own paths and files.
 pub record Stands {R : Type 0} (F : Format R) (own : List ℕ → Type 0) (base : Disk) (q : LogFiles R)
     (path : List ℕ) (id : ℕ) (P : File → Type 0) (N : Names) (d : Disk) : Type 0 where
   pub names : d.names ≡ N
@@ -39,4 +44,5 @@ pub record Stands {R : Type 0} (F : Format R) (own : List ℕ → Type 0) (base 
   pub file : HasFile id P d
   pub older : (m j : ℕ) (other : List ℕ) → m < q.last → F.IsPath m other → N other ≡ Some j
       → HasFile j (IsPast F m (q.older m)) d
+  pub single : HaveOneFile F q.last N
   pub others : TouchesOnlyNames own base d

@@ -202,6 +202,7 @@ module _ {R : Type 0} (F : Format R) (own : List ℕ → Type 0) (lawful : IsFor
         places = s.places;
         file = record { file = s.file.file; is = s.file.is; has = record { new = s.file.has; ends = omega (arith, ap (λ (f : File). length f.content) same) } };
         older = s.older;
+        single = s.single;
         others = s.others;
       })
 

@@ -236,6 +236,7 @@ module _ {R : Type 0} (F : Format R) where
         places = s.places;
         file = record { file = s.file.file; is = s.file.is; has = s.file.has.1 };
         older = s.older;
+        single = s.single;
         others = s.others;
       }),
     )

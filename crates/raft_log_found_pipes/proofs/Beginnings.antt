@@ -56,7 +56,7 @@ rise_by files f i (suc n) sorted within =
     let one = numbers_rise (get_or files (i + n) f) (get_or files (i + n + 1) f) (sorted (i + n) f low below) in
     subst (λ (k : ℕ). (get_or files i f).seq ≤ (get_or files k f).seq) next (omega (arith, before, one))
 
-rise : (files : List FoundFile) (f : FoundFile) (i j : ℕ) → IsSorted found_cmp files → i ≤ j → j < length files → (get_or files i f).seq ≤ (get_or files j f).seq
+pub rise : (files : List FoundFile) (f : FoundFile) (i j : ℕ) → IsSorted found_cmp files → i ≤ j → j < length files → (get_or files i f).seq ≤ (get_or files j f).seq
 rise files f i j sorted up within =
     let apart : i + (j - i) ≡ j = omega (arith, up) in
     subst (λ (k : ℕ). (get_or files i f).seq ≤ (get_or files k f).seq) apart (rise_by files f i (j - i) sorted (omega (arith, within, up)))
@@ -119,7 +119,7 @@ apart found before behind f g distinct same one =
 
 -- Where they begin.
 
-at_end : (before behind : List FoundFile) (f d : FoundFile) → get_or (before ++ f ∷ behind) (length before) d ≡ f
+pub at_end : (before behind : List FoundFile) (f d : FoundFile) → get_or (before ++ f ∷ behind) (length before) d ≡ f
 at_end [] behind f d = refl
 at_end (b ∷ before) behind f d = at_end before behind f d
 
@@ -128,10 +128,10 @@ abbrev pub NoneBelow : FileKind → List (List ℕ) → Disk → ℕ → Type 0
 NoneBelow kind directories d first = (m : ℕ) → suc m ≡ first → (f : FoundFile) → LiesIn kind directories d f → f.seq ≡ m → ⊥
 
 -- all files that lie there are among those that are in order
-listed : (kind : FileKind) (directories : List (List ℕ)) (d : Disk) (found all : List FoundFile) (f : FoundFile) → AreFilesIn kind directories d found → IsPermutation found all → LiesIn kind directories d f → Contains all f
+pub listed : (kind : FileKind) (directories : List (List ℕ)) (d : Disk) (found all : List FoundFile) (f : FoundFile) → AreFilesIn kind directories d found → IsPermutation found all → LiesIn kind directories d f → Contains all f
 listed kind directories d found all f are same lies = Contains-permutation found all f same (are.all f lies)
 
-lies_there : (kind : FileKind) (directories : List (List ℕ)) (d : Disk) (found all : List FoundFile) (f : FoundFile) → AreFilesIn kind directories d found → IsPermutation all found → Contains all f → LiesIn kind directories d f
+pub lies_there : (kind : FileKind) (directories : List (List ℕ)) (d : Disk) (found all : List FoundFile) (f : FoundFile) → AreFilesIn kind directories d found → IsPermutation all found → Contains all f → LiesIn kind directories d f
 lies_there kind directories d found all f are same there = are.found f (Contains-permutation all found f same there)
 
 behind_it : (before behind : List FoundFile) (f g d : FoundFile) → get_or (before ++ f ∷ g ∷ behind) (suc (length before)) d ≡ g

@@ -29,7 +29,7 @@ same_end queues.Rewrite = refl
 
 module _ (queue : LogQueue) (directories : List (List ℕ)) (d : Disk) (found : List FoundFile) (are : AreFilesIn (kind_of queue) directories d found) where
   -- a file under a path of a number has the name that is built for it
-  named_file : (m : ℕ) (path : List ℕ) → IsPathWith (suffix_of queue) directories m path → (d.names path ≡ None → ⊥) → ((f : FoundFile) → LiesIn (kind_of queue) directories d f → f.seq ≡ m → ⊥) → ⊥
+  pub named_file : (m : ℕ) (path : List ℕ) → IsPathWith (suffix_of queue) directories m path → (d.names path ≡ None → ⊥) → ((f : FoundFile) → LiesIn (kind_of queue) directories d f → f.seq ≡ m → ⊥) → ⊥
   named_file m path is there none =
       let kind = kind_of queue in
       let named : IsNamed (end_of kind) is.name m = subst (λ (suffix : List ℕ). IsNamed suffix is.name m) (same_end queue) is.named in

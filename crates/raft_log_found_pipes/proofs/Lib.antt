@@ -6,3 +6,4 @@ pub mod Headers
 pub mod Scans
 mod Beginnings
 mod Begun
+pub mod AllFiles

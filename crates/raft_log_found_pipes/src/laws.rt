@@ -1,5 +1,6 @@
 //! What holds of files that were found and read.
 
+ghost use Rattle.raft_log_found_pipes.specs.AllFiles.{NoFilesAreScanned, ScannedFilesAreAll};
 ghost use Rattle.raft_log_found_pipes.specs.Beginning.{ScannedFilesBegin};
 ghost use Rattle.raft_log_found_pipes.specs.Reading.{FinishedFileIsRead, HeaderIsWritten, LastFileIsRead};
 ghost use Rattle.raft_log_found_pipes.specs.Scanned.{ReadFilesAreScanned, ScannedFilesAreSpanned};
@@ -27,6 +28,17 @@ pub fn scanned_files_are_spanned()
 /// The files that are kept of a queue begin behind a gap, or with a number that two directories have.
 pub fn scanned_files_begin()
     ensures { ScannedFilesBegin }
+{}
+
+/// A scan of the directories in which a queue lies, as a stop left it, answers all of its files that no gap
+/// parts from the last one.
+pub fn scanned_files_are_all()
+    ensures { ScannedFilesAreAll }
+{}
+
+/// Where a queue has no file yet, a scan answers none.
+pub fn no_files_are_scanned()
+    ensures { NoFilesAreScanned }
 {}
 
 /// Files that were scanned, the last of which was read, are files over which a pipe may be opened.

@@ -56,6 +56,11 @@ module _ {R : Type 0} (layout : QueueLayout R) (old new : Disk) (keeps : KeepsNu
             let there : old.names other ≡ Some j = sym (keeps.names m other less at) ∙ is in
             let was = s.older m j other below at (ap (λ (f : Names). f other) (sym s.names) ∙ there) in
             record { file = was.file; is = keeps.files m other j less at there ∙ was.is; has = was.has });
+        single = λ m i j a b below at_a at_b is_a is_b.
+            (let less : m < layout.format.limit = omega (arith, below, bound) in
+            let was : (other : List ℕ) (k : ℕ) → layout.format.IsPath m other → new.names other ≡ Some k → N other ≡ Some k = λ other k at is.
+            ap (λ (f : Names). f other) (sym s.names) ∙ sym (keeps.names m other less at) ∙ is in
+            s.single m i j a b below at_a at_b (was a i at_a is_a) (was b j at_b is_b));
         others = record { directories = refl; names = λ p apart. refl; files = λ p j apart is. refl };
       }
 

@@ -57,6 +57,7 @@ module _ {R : Type 0} (layout : QueueLayout R) (told : IsQueueLayout layout) whe
       | inr miss ↦
           subst (λ b. HasFile j (IsPast layout.format k (cond b (record { header = bytes; records = [] }) (q.older k))) d) (sym miss) (s.older k j other below at named)
     ];
+    single = s.single;
     others = s.others;
   }
 

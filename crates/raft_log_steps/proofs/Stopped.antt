@@ -51,6 +51,7 @@ module _ {R : Type 0} (layout : QueueLayout R) (told : IsQueueLayout layout) (q 
             places = λ m p less at. place_moved p d image is.directories (s.places m p less at);
             file = subst (λ (j : ℕ). HasFile j (IsLeftover F (kept_to count q)) image) (sym mine) files.last.file.file;
             older = λ m j p below at there. files.older m j p below at (named p (Some j) there);
+            single = s.single;
             others = names_same layout.own image;
           };
         },
@@ -100,6 +101,7 @@ module _ {R : Type 0} (layout : QueueLayout R) (told : IsQueueLayout layout) (q 
                   is = rest_stays d image j ((q.older m).header ++ spelled (q.older m).records) is (past.is ∙ ap Some rest);
                   has = record { is = refl; header = past.has.header; frames = past.has.frames };
                 });
+            single = s.single;
             others = names_same layout.own image;
           };
         },

@@ -1,47 +1,69 @@
 -- An open of a log's directories is an open of it call by call.
-use Rattle.std.proofs.Common.{ℕ, List, take, refl}
+use Rattle.std.proofs.Common.{◌≡◌, ℕ, List, [], take, refl, inl, inr}
 use Rattle.raft_log_model.specs.Groups.{taken}
+use Rattle.raft_log_base.specs.declared.errors.Error.{Error}
 use Rattle.raft_log_disk.specs.Disk.{Disk}
+use Rattle.raft_log_disk.specs.Image.{IsSound}
 use Rattle.raft_log_settings.specs.declared.config.Config.{Config}
+use Rattle.raft_log_contexts.specs.declared.context.MemTableRecoverContext.{MemTableRecoverContext}
 use Rattle.raft_log_replay.specs.declared.mem_tables.MemTables.{MemTables}
-use Rattle.raft_log_dual_pipes.specs.Pipes.{LogPipes, State}
-use Rattle.raft_log_engine_state.specs.Shows.{Home}
-use Rattle.raft_log_opening.specs.Opening.{OpensDirectory}
-use Rattle.raft_log_opened.proofs.Left.{crashed_logs_rest}
-use Rattle.raft_log_reopened.specs.Directory.{CrashedDirectoriesOpen, FindsItAll, RestingDirectoriesOpen}
-use Rattle.raft_log_reopened.specs.Reopened.{Reopens}
-use Rattle.raft_log_reopened.proofs.Reopened.{resting_logs_reopen}
+use Rattle.raft_log_dual_pipes.specs.Pipes.{LogPipes}
+use Rattle.raft_log_engine_state.specs.Shows.{LogMap}
+use Rattle.raft_log_builder.specs.declared.builder.DualPipesBuilder.{DualPipesBuilder}
+use Rattle.raft_log_opening.specs.Opening.{FailsToOpenDirectory, OpensDirectory}
+use Rattle.raft_log_opening.specs.Opening.FailsToOpenDirectory.{unfinished, unfound, unsound, unmerged as tables_unmerged, unread as files_unread, unreadied as spares_unreadied}
+use Rattle.raft_log_opening.specs.Reading.{ReadsLog}
+use Rattle.raft_log_reopened.specs.Directory.{CrashedDirectoriesOpen, OpensAs, RestingDirectoriesOpen}
+use Rattle.raft_log_reopened.specs.Outcomes.{ReopensAs}
+use Rattle.raft_log_reopened.specs.Refused.{FailsToReopen}
+use Rattle.raft_log_reopened.specs.Refused.FailsToReopen.{undone, unmerged, unopened, unreadied, unrecovered, unscanned}
+use Rattle.raft_log_reopened.specs.Reopened.{IsRecovered, Reopens}
+use Rattle.raft_log_reopened.proofs.Outcomes.{crashed_logs_reopen, resting_logs_reopen}
 
-call_by_call : {S : Type 0} (disk : S → Disk) (tells : S → List ℕ → ℕ → Type 0) (home : Home) (s : State) (config : Config) (old : S) (v : LogPipes) (tables : MemTables) (o : OpensDirectory disk tells config old v tables)
-    → FindsItAll disk tells home s config old v tables o → Reopens disk tells home s (disk old) v tables
-call_by_call disk tells home s config old v tables o all =
-    let r = o.reads in
-    let q = r.reads in
-    record {
-      ready = o.builder;
-      readied = disk o.ready;
-      append = r.append;
-      rewrite = r.rewrite;
-      recovered = record {
+module _ {S : Type 0} (disk : S → Disk) (tells : S → List ℕ → ℕ → Type 0) (config : Config) (old : S) where
+  recovered : (tables : MemTables) (b : DualPipesBuilder) (ready : S) (r : ReadsLog disk tells config tables b old ready) → IsRecovered disk tells config (disk old) r.append r.rewrite b (disk ready)
+  recovered tables b ready r =
+      let q = r.reads in
+      record {
         found = q.found;
         read = r.recovered;
         scanned = q.scanned;
         cut = disk r.between;
-        set = all.set;
-        finds = record { before = q.finds.begun; scans = q.finds.scans; append = all.append; rewrite = all.rewrite };
+        finds = q.finds;
         recovers = q.recovers;
-        readies = record { from = r.between; to = o.ready; from_is = refl; to_is = refl; readies = r.readies };
-      };
-      opens = o.opens;
-      spares = all.spares;
-      comes = record { over = r.merged.over };
-    }
+        readies = record { from = r.between; to = ready; from_is = refl; to_is = refl; readies = r.readies };
+      }
+
+  call_by_call : (v : LogPipes) (tables : MemTables) → OpensDirectory disk tells config old v tables → Reopens disk tells config (disk old) v tables
+  call_by_call v tables o = record {
+    ready = o.builder;
+    readied = disk o.ready;
+    append = o.reads.append;
+    rewrite = o.reads.rewrite;
+    recovered = recovered tables o.builder o.ready o.reads;
+    opens = o.opens;
+    comes = record { over = o.reads.merged.over };
+  }
+
+  not_opened : (error : Error) (new : S) → FailsToOpenDirectory disk tells config error old new → FailsToReopen disk tells config (disk old) (disk new)
+  not_opened error new (unsound why same) = undone same
+  not_opened error new (unfound begun begins why) = unscanned begun error begins why
+  not_opened error new (files_unread found scanned finds why) = unrecovered found scanned error finds why
+  not_opened error new (tables_unmerged append rewrite b reads memory) = unmerged reads.found b reads.scanned append rewrite reads.finds reads.recovers
+  not_opened error new (spares_unreadied append rewrite b between reads why) =
+      unreadied reads.found b reads.scanned (disk between) append rewrite error reads.finds reads.recovers (record { from = between; to = new; from_is = refl; to_is = refl; fails = why })
+  not_opened error new (unfinished tables b ready reads why) = unopened reads.append reads.rewrite b (disk ready) error (recovered tables b ready reads) why
+
+  opens_as : (m : LogMap) → ReopensAs disk tells config (disk old) m → OpensAs disk tells config old m
+  opens_as m outcome = record {
+    answered = λ v tables o. outcome.answered v tables (call_by_call v tables o);
+    refused = λ error new why. outcome.refused (disk new) (not_opened error new why);
+  }
 
 pub resting_directories_open : {S : Type 0} (disk : S → Disk) (tells : S → List ℕ → ℕ → Type 0) → RestingDirectoriesOpen disk tells
-resting_directories_open disk tells home one other old m sound rests config v tables o all =
-    resting_logs_reopen disk tells home one other (disk old) m sound rests v tables (call_by_call disk tells home rests.state config old v tables o all)
+resting_directories_open disk tells config old m sound rests usable = opens_as disk tells config old m (resting_logs_reopen disk tells config (disk old) m sound rests usable)
 
 pub crashed_directories_open : {S : Type 0} (disk : S → Disk) (tells : S → List ℕ → ℕ → Type 0) → CrashedDirectoriesOpen disk tells
-crashed_directories_open disk tells home one other d old m pending sound left crash =
-    let (k, within, rests) = crashed_logs_rest home one other d (disk old) m pending left crash in
-    (k, within, (rests, λ config v tables o all. resting_directories_open disk tells home one other old (taken m (take k pending)) sound rests config v tables o all))
+crashed_directories_open disk tells config d old m pending sound left crash =
+    let (k, within, outcome) = crashed_logs_reopen disk tells config d (disk old) m pending sound left crash in
+    (k, within, opens_as disk tells config old (taken m (take k pending)) outcome)

@@ -1,3 +1,4 @@
+pub mod Parts
 pub mod Reading
 pub mod Cutting
 pub mod Told
@@ -7,4 +8,10 @@ pub mod Readying
 pub mod Scanning
 pub mod Uncut
 pub mod Refused
+pub mod Finding
+pub mod Usable
+pub mod SpareLists
+pub mod SpareCalls
+pub mod Spares
+pub mod Outcomes
 pub mod Directory

@@ -41,9 +41,9 @@ written_names : (d : Disk) (id : ℕ) (file : DiskFile) → AreSoundNames d → 
 written_names d id file is = record { one = is.one; used = is.used }
 
 -- what writes to a file leave
-record Writes (id : ℕ) (old new : Disk) : Type 0 where
-  touches : TouchesOnly id old new
-  names : AreSoundNames old → AreSoundNames new
+pub record Writes (id : ℕ) (old new : Disk) : Type 0 where
+  pub touches : TouchesOnly id old new
+  pub names : AreSoundNames old → AreSoundNames new
 
 write_leaves : (handle : Handle) (change : Change) (old new : Disk) → Changes handle.file (after_change change) old new → Writes handle.file old new
 write_leaves handle change old new done =
@@ -71,14 +71,14 @@ pieces_leave : (handle : Handle) (bytes : List ℕ) (count : ℕ) (old new : Dis
 pieces_leave handle bytes zero old new same = subst (Writes handle.file old) (sym same) (no_writes handle.file old)
 pieces_leave handle bytes (suc count) old new (mid, before, one) = writes_then handle.file old mid new (pieces_leave handle bytes count old mid before) (write_leaves handle (Wrote (count * length bytes) bytes) mid new one)
 
-fill_leaves : (handle : Handle) (bytes : List ℕ) (size : ℕ) (full : Bool) (old new : Disk) → FillsOrNot handle bytes size full old new → Writes handle.file old new
+pub fill_leaves : (handle : Handle) (bytes : List ℕ) (size : ℕ) (full : Bool) (old new : Disk) → FillsOrNot handle bytes size full old new → Writes handle.file old new
 fill_leaves handle bytes size full old new (inl (fills, is)) = pieces_leave handle bytes _ old new fills
 fill_leaves handle bytes size full old new (inr (kind, fails, is)) =
     writes_then handle.file old fails.between new (pieces_leave handle bytes fails.count old fails.between fails.written) (no_write_leaves handle (Wrote (fails.count * length bytes) bytes) kind fails.between new fails.fails)
 
 -- Lists.
 
-each_append : {A : Type 0} (P : A → Type 0) (xs ys : List A) → EachHas P xs → EachHas P ys → EachHas P (xs ++ ys)
+pub each_append : {A : Type 0} (P : A → Type 0) (xs ys : List A) → EachHas P xs → EachHas P ys → EachHas P (xs ++ ys)
 each_append P [] ys first rest = rest
 each_append P (x ∷ xs) ys (one, first) rest = (one, each_append P xs ys first rest)
 
@@ -91,7 +91,7 @@ each_drop P zero xs each = each
 each_drop P (suc k) [] each = tt
 each_drop P (suc k) (x ∷ xs) (one, each) = each_drop P k xs each
 
-each_reverse : {A : Type 0} (P : A → Type 0) (xs : List A) → EachHas P xs → EachHas P (reverse xs)
+pub each_reverse : {A : Type 0} (P : A → Type 0) (xs : List A) → EachHas P xs → EachHas P (reverse xs)
 each_reverse P [] each = tt
 each_reverse P (x ∷ xs) (one, each) = subst (EachHas P) (sym (reverse-append (x ∷ []) xs)) (each_append P (reverse xs) (x ∷ []) (each_reverse P xs each) (one, tt))
 

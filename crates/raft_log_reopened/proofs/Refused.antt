@@ -49,9 +49,9 @@ use Rattle.raft_log_segments.specs.Segments.{read_by}
 use Rattle.raft_log_base.specs.declared.pipe_log.Version.TheVariants.{V1}
 use Rattle.raft_log_resting.proofs.Calls.{keeps_all, no_sync_keeps, rest_then, rests_at_rest, sound_names, AreAtRest, AreSoundNames}
 use Rattle.raft_log_reopened.specs.Files.{AreFilesOf, AreToldOf}
-use Rattle.raft_log_reopened.specs.Reopened.{reads, FindsAllFiles, IsRecoveredFrom, LiesAsSet, ReadiesOn, SparesStay}
-use Rattle.raft_log_reopened.specs.Refused.{declines, RefusedReopensLeaveLogs, FailsToReadyOn}
-use Rattle.raft_log_reopened.specs.Refused.FailsToReopen.{given_up, unopened, unreadied, unrecovered, unscanned}
+use Rattle.raft_log_reopened.specs.Reopened.{reads, ReadiesOn}
+use Rattle.raft_log_reopened.specs.Refused.{declines, FailsToReadyOn}
+use Rattle.raft_log_reopened.proofs.Parts.{FindsAllFiles, IsRecoveredFrom, LiesAsSet, SparesStay}
 use Rattle.raft_log_reopened.proofs.Cutting.{cut_queue, told_kept}
 use Rattle.raft_log_reopened.proofs.Readying.{readies_leave, unreadied_leaves, IsReserved}
 use Rattle.raft_log_reopened.proofs.Reopened.{found, no_length, one_each, told_of, two_queues, CanOpen}
@@ -130,7 +130,7 @@ module _ (home : Home) (one : 0 < length home.append) (other : 0 < length home.r
   left_at : (e : Disk) → LogLiesOn (log_in home) none_open e m [] → IsLeftAt home e m []
   left_at e lies = (none_open, record { done = []; rest = []; splits = refl; lies = lies })
 
-  stays_left : (e : Disk) → Stays e → IsLeftAt home e m []
+  pub stays_left : (e : Disk) → Stays e → IsLeftAt home e m []
   stays_left e at = left_at e (record {
     state = moved (log_in home) two s e;
     disk = refl;
@@ -138,7 +138,7 @@ module _ (home : Home) (one : 0 < length home.append) (other : 0 < length home.r
     holds = at.holds;
   })
 
-  stays_same : (old new : Disk) → new ≡ old → Stays old → Stays new
+  pub stays_same : (old new : Disk) → new ≡ old → Stays old → Stays new
   stays_same old new same at = subst Stays (sym same) at
 
   -- a queue whose cut was refused is held, and the other one rests
@@ -193,7 +193,7 @@ module _ (home : Home) (one : 0 < length home.append) (other : 0 < length home.r
       })
 
   -- The directories weren't scanned.
-  not_scanned : (b : DualPipesBuilder) (error : Error) (new : Disk) → LiesAsSet home b → FailsToScanLog b error d new → IsLeftAt home new m []
+  pub not_scanned : (b : DualPipesBuilder) (error : Error) (new : Disk) → LiesAsSet home b → FailsToScanLog b error d new → IsLeftAt home new m []
   not_scanned b error new set (scan_unready memory same) = stays_left new (stays_same d new same (stays_first (log_in home) two d m h))
   not_scanned b error new set (scan_refused fails) =
       let at = stays_first (log_in home) two d m h in
@@ -228,7 +228,7 @@ module _ (home : Home) (one : 0 < length home.append) (other : 0 < length home.r
       rewrite = scan_keeps Rewrite home.rewrite other s.rewrite d at_first.rests.rewrite scans.scanned r_made scanned scans.cleared;
     }) at_first
 
-    sound_scan : IsSound scanned
+    pub sound_scan : IsSound scanned
     sound_scan = scan_sound Append home.append one s.append d at_first.rests.append scans.scanned a_made scanned scans.cleared sound
 
     reserved_scan : EachHas IsReserved b.reserved.items
@@ -283,7 +283,7 @@ module _ (home : Home) (one : 0 < length home.append) (other : 0 < length home.r
             let c = r_cut cut more in
             (stays_named (log_in home) two s m between cut c.names (rests_kept (log_in home).append between cut c.others s.append a_cut.rests) c.rests at_between, c.sound)
 
-    not_recovered : (error : Error) (new : Disk) → FailsToRecoverLog reads declines b error scanned new → IsLeftAt home new m []
+    pub not_recovered : (error : Error) (new : Disk) → FailsToRecoverLog reads declines b error scanned new → IsLeftAt home new m []
     not_recovered error new (append_unread same why) = stays_left new (stays_same scanned new same at_scan)
     not_recovered error new (rewrite_unread append es read same why) = stays_left new (stays_same scanned new same at_scan)
     not_recovered error new (aligned append rewrite es fs read more same some tells) = stays_left new (stays_same scanned new same at_scan)
@@ -292,7 +292,7 @@ module _ (home : Home) (one : 0 < length home.append) (other : 0 < length home.r
 
     -- Behind the cuts.
     module _ (append rewrite : MemTableRecoverContext) (read : DualPipesBuilder) (cut : Disk) (recovers : RecoversLog reads append rewrite b read scanned cut) where
-      cut_stays : Stays cut × IsSound cut
+      pub cut_stays : Stays cut × IsSound cut
       cut_stays = at_cut append rewrite read.append.endings.items read.rewrite.endings.items recovers.read recovers.between recovers.append_cut cut recovers.rewrite_cut
 
       all_reserved : EachHas IsReserved read.reserved.items
@@ -314,7 +314,7 @@ module _ (home : Home) (one : 0 < length home.append) (other : 0 < length home.r
               rewrite = (unreadied_leaves (log_format Rewrite home.rewrite) (log_paths Append home.append) never_rewrite disk tells _ _ read.reserved.items error from to all_reserved names here).keeps;
             }) at)
 
-        not_readied : (error : Error) (new : Disk) → FailsToReadyOn disk tells read error cut new → IsLeftAt home new m []
+        pub not_readied : (error : Error) (new : Disk) → FailsToReadyOn disk tells read error cut new → IsLeftAt home new m []
         not_readied error new f = subst (λ e. IsLeftAt home e m []) f.to_is
             (unready_left error f.from f.to (subst Stays (sym f.from_is) cut_stays.0) (subst AreSoundNames (sym f.from_is) (sound_names cut cut_stays.1)) f.fails)
 
@@ -331,7 +331,7 @@ module _ (home : Home) (one : 0 < length home.append) (other : 0 < length home.r
             (ready_stays ready r.from r.to (subst Stays (sym r.from_is) cut_stays.0) (subst AreSoundNames (sym r.from_is) (sound_names cut cut_stays.1)) r.readies)
 
   module _ {S : Type 0} (disk : S → Disk) (tells : S → List ℕ → ℕ → Type 0) where
-    recovered_stays : (append rewrite : MemTableRecoverContext) (ready : DualPipesBuilder) (readied : Disk) → IsRecoveredFrom disk tells home s d append rewrite ready readied → Stays readied
+    pub recovered_stays : (append rewrite : MemTableRecoverContext) (ready : DualPipesBuilder) (readied : Disk) → IsRecoveredFrom disk tells home s d append rewrite ready readied → Stays readied
     recovered_stays append rewrite ready readied r = readied_stays r.found r.scanned r.set r.finds append rewrite r.read r.cut r.recovers disk tells ready readied r.readies
 
   not_synced : (files : List File) (kind : ErrorKind) (old new : Disk) → Stays old → FailsToSyncEach files kind old new → Stays new
@@ -345,17 +345,10 @@ module _ (home : Home) (one : 0 < length home.append) (other : 0 < length home.r
   log_unsynced b kind old new at (rewrite_unsynced between syncs fails) =
       not_synced (rewrite_files b) kind between new (stays_kept (log_in home) two s m old between (stays_synced (log_in home) two s m (append_files b) old between at syncs) at) fails
 
-  not_opened : {S : Type 0} (disk : S → Disk) (tells : S → List ℕ → ℕ → Type 0) (append rewrite : MemTableRecoverContext) (ready : DualPipesBuilder) (readied : Disk) (error : Error) (new : Disk) → IsRecoveredFrom disk tells home s d append rewrite ready readied → SparesStay home ready readied
+  pub not_opened : {S : Type 0} (disk : S → Disk) (tells : S → List ℕ → ℕ → Type 0) (append rewrite : MemTableRecoverContext) (ready : DualPipesBuilder) (readied : Disk) (error : Error) (new : Disk) → IsRecoveredFrom disk tells home s d append rewrite ready readied → SparesStay home ready readied
       → FailsToOpenRecovered ready error readied new → IsLeftAt home new m []
   not_opened disk tells append rewrite ready readied error new r spares (unready why same) = stays_left new (stays_same readied new same (recovered_stays disk tells append rewrite ready readied r))
   not_opened disk tells append rewrite ready readied error new r spares (unsynced kind is read fails) = stays_left new (log_unsynced ready kind readied new (recovered_stays disk tells append rewrite ready readied r) fails)
   not_opened disk tells append rewrite ready readied error new r spares (pipes_unopened synced a_pipe r_pipe read syncs a_is r_is fails) =
       let o : CanOpen ready readied = record { read = read; synced = synced; syncs = syncs; append = a_pipe; rewrite = r_pipe; append_is = a_is; rewrite_is = r_is } in
       refused_opens_leave_logs home m a_pipe r_pipe error synced new fails (found disk tells home one other d m sound h append rewrite ready readied r o (spares synced syncs))
-
-pub refused_reopens_leave_logs : {S : Type 0} (disk : S → Disk) (tells : S → List ℕ → ℕ → Type 0) → RefusedReopensLeaveLogs disk tells
-refused_reopens_leave_logs disk tells home one other d new m sound h (unscanned b error set fails) = not_scanned home one other d m sound h b error new set fails
-refused_reopens_leave_logs disk tells home one other d new m sound h (unrecovered b scanned error set finds fails) = not_recovered home one other d m sound h b scanned set finds error new fails
-refused_reopens_leave_logs disk tells home one other d new m sound h (unreadied b read scanned cut append rewrite error set finds recovers fails) = not_readied home one other d m sound h b scanned set finds append rewrite read cut recovers disk tells error new fails
-refused_reopens_leave_logs disk tells home one other d new m sound h (given_up append rewrite ready r) = stays_left home one other d m sound h new (recovered_stays home one other d m sound h disk tells append rewrite ready new r)
-refused_reopens_leave_logs disk tells home one other d new m sound h (unopened append rewrite ready readied error r spares fails) = not_opened home one other d m sound h disk tells append rewrite ready readied error new r spares fails

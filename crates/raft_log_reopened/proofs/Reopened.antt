@@ -1,6 +1,5 @@
 -- A log that rests is scanned, recovered and opened: the engine of what was read holds its map.
 use Rattle.std.proofs.Common.{◌≡◌, ℕ, suc, ◌<◌, List, [], ◌∷◌, length, take, refl, sym, ap, subst, ◌∙◌, arith}
-use Rattle.raft_log_model.specs.Groups.{taken}
 use Rattle.raft_log_base.specs.declared.pipe_log.LogQueue.{LogQueue}
 use Rattle.raft_log_base.specs.declared.pipe_log.LogQueue.TheVariants.{Append, Rewrite}
 use Rattle.raft_log_disk.specs.Disk.{Disk}
@@ -36,14 +35,14 @@ use Rattle.raft_log_builder.specs.declared.queue_files.QueueFiles.{QueueFiles}
 use Rattle.raft_log_opened.specs.Entries.{EachHas}
 use Rattle.raft_log_opened.specs.Found.{ReadsFiles}
 use Rattle.raft_log_opened.specs.Opened.{HoldsFresh}
-use Rattle.raft_log_opened.proofs.Left.{crashed_logs_rest}
 use Rattle.raft_log_opened.proofs.Opened.{opened_engines_hold}
 use Rattle.raft_log_resting.specs.Keeping.{KeepsLog}
 use Rattle.raft_log_resting.proofs.Keeping.{moved}
 use Rattle.raft_log_reopened.specs.Files.{AreFilesOf, AreToldOf}
 use Rattle.raft_log_reopened.specs.Files.AreFilesOf.{none_made, some_made}
 use Rattle.raft_log_reopened.specs.Files.AreToldOf.{none_told, some_told}
-use Rattle.raft_log_reopened.specs.Reopened.{reads, CanAllBeUsed, ComeOver, CrashedLogsReopen, IsRecoveredFrom, RestingLogsReopen}
+use Rattle.raft_log_reopened.specs.Reopened.{reads, ComeOver}
+use Rattle.raft_log_reopened.proofs.Parts.{CanAllBeUsed, IsRecoveredFrom, SparesStay}
 use Rattle.raft_log_reopened.proofs.Reading.{files_are_told}
 use Rattle.raft_log_reopened.proofs.Cutting.{cut_queue, told_kept, IsCutTo}
 use Rattle.raft_log_reopened.proofs.Readying.{readies_leave, IsReserved}
@@ -318,13 +317,9 @@ opened_so ready readied v opens = record {
   rewrite_is = opens.rewrite_is;
 }
 
-pub resting_logs_reopen : {S : Type 0} (disk : S → Disk) (tells : S → List ℕ → ℕ → Type 0) → RestingLogsReopen disk tells
+pub recovered_reopens : {S : Type 0} (disk : S → Disk) (tells : S → List ℕ → ℕ → Type 0) (home : Home) (one : 0 < length home.append) (other : 0 < length home.rewrite) (d : Disk) (m : LogMap) (sound : IsSound d) (h : LogRestsOn (log_in home) d m)
+    (append rewrite : MemTableRecoverContext) (ready : DualPipesBuilder) (readied : Disk) → IsRecoveredFrom disk tells home h.state d append rewrite ready readied → (v : LogPipes) (tables : MemTables) (opens : OpensRecovered ready readied v)
+    → SparesStay home ready readied → ComeOver append rewrite tables → HoldsFresh home v tables m
 unfolding opened_so
-resting_logs_reopen disk tells home one other d m sound h v tables r =
-    let o = opened_so r.ready r.readied v r.opens in
-    reopened disk tells home one other d m sound h r.append r.rewrite r.ready r.readied r.recovered o v tables (r.spares r.opens.synced r.opens.syncs) r.opens.opens r.comes
-
-pub crashed_logs_reopen : {S : Type 0} (disk : S → Disk) (tells : S → List ℕ → ℕ → Type 0) → CrashedLogsReopen disk tells
-crashed_logs_reopen disk tells home one other d image m pending sound left crash =
-    let (k, within, rests) = crashed_logs_rest home one other d image m pending left crash in
-    (k, within, (rests, λ v tables r. resting_logs_reopen disk tells home one other image (taken m (take k pending)) sound rests v tables r))
+recovered_reopens disk tells home one other d m sound h append rewrite ready readied r v tables opens spares comes =
+    reopened disk tells home one other d m sound h append rewrite ready readied r (opened_so ready readied v opens) v tables (spares opens.synced opens.syncs) opens.opens comes

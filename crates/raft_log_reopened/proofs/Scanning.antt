@@ -113,7 +113,7 @@ module _ (queue : LogQueue) (directories : List (List ℕ)) (some : 0 < length d
         keeps_then (log_format queue directories) old new cleared (directories_keep directories (λ path listed. listed) new made)
         (keeps_same (log_format queue directories) new cleared (ap (λ (d : Disk). d.names) leaves.rest) (ap (λ (d : Disk). d.directories) leaves.rest) (ap (λ (d : Disk). d.files) leaves.rest))
 
-    made_sound : IsSound old → IsSound new
+    pub made_sound : IsSound old → IsSound new
     made_sound sound = subst IsSound (sym made.rest) (record {
       named = sound.named;
       one_name = sound.one_name;

@@ -1,4 +1,5 @@
 pub mod Files
 pub mod Reopened
 pub mod Refused
+pub mod Outcomes
 pub mod Directory

@@ -1,4 +1,4 @@
-use Rattle.raft_log_reopened.proofs.Reopened.{crashed_logs_reopen}
+use Rattle.raft_log_reopened.proofs.Outcomes.{crashed_logs_reopen}
 use Rattle.raft_log_reopened.proofs.laws.crashed_logs_reopen.Goals as goal
 
 pub returns : goal.returns

@@ -1,4 +1,4 @@
-use Rattle.raft_log_reopened.proofs.Reopened.{resting_logs_reopen}
+use Rattle.raft_log_reopened.proofs.Outcomes.{resting_logs_reopen}
 use Rattle.raft_log_reopened.proofs.laws.resting_logs_reopen.Goals as goal
 
 pub returns : goal.returns

@@ -1,5 +1,5 @@
 -- What an engine has that is opened over a log at rest, and what is left where it isn't.
-use Rattle.std.proofs.Common.{◌≡◌, ℕ, ◌<◌, List, [], length, take, sym, subst}
+use Rattle.std.proofs.Common.{ℕ, ◌<◌, List, [], length, take}
 use Rattle.raft_log_model.specs.Groups.{taken}
 use Rattle.raft_log_disk.specs.Disk.{Disk}
 use Rattle.raft_log_disk.specs.Image.{IsSound}

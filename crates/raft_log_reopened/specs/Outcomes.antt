@@ -14,9 +14,9 @@ use Rattle.raft_log_opened.specs.Opened.{HoldsFresh}
 use Rattle.raft_log_reopened.specs.Reopened.{home_of, Reopens, SparesCanBeUsed}
 use Rattle.raft_log_reopened.specs.Refused.{FailsToReopen}
 
--- An engine that is opened over what is on the disk holds this map, and nothing is pending, whatever the number
--- of workers was; and wherever an open is refused, or given up, the log is left there with the map, and nothing
--- is pending.
+-- An engine that is opened over what is on the disk holds this map, and nothing is pending, whatever the
+-- number of workers was; and wherever an open is refused, or given up, the log is left there with the map,
+-- and nothing is pending.
 pub record ReopensAs {F : Type 0} (disk : F → Disk) (tells : F → List ℕ → ℕ → Type 0) (config : Config)
     (d : Disk) (m : LogMap) : Type 0 where
   pub answered : (v : LogPipes) (tables : MemTables) → Reopens disk tells config d v tables

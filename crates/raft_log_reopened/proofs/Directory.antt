@@ -63,5 +63,5 @@ resting_directories_open disk tells config old m sound rests usable = opens_as d
 
 pub crashed_directories_open : {S : Type 0} (disk : S → Disk) (tells : S → List ℕ → ℕ → Type 0) → CrashedDirectoriesOpen disk tells
 crashed_directories_open disk tells config d old m pending sound left crash =
-    let (k, within, outcome) = crashed_logs_reopen disk tells config d (disk old) m pending sound left crash in
-    (k, within, opens_as disk tells config old (taken m (take k pending)) outcome)
+    let (k, within, rests, outcome) = crashed_logs_reopen disk tells config d (disk old) m pending sound left crash in
+    (k, within, rests, opens_as disk tells config old (taken m (take k pending)) outcome)

@@ -31,10 +31,12 @@ RestingDirectoriesOpen {F} disk tells = (config : Config) (old : F) (m : LogMap)
     → LogRestsOn (log_in (home_of config)) (disk old) m → SparesCanBeUsed config (disk old)
     → OpensAs disk tells config old m
 
--- And so are those of whatever a crash leaves of what an engine left: as the map after some first pending
--- batches.
+-- And so are those of whatever a crash leaves of what an engine left, which rests there: as the map after
+-- some first pending batches.
 abbrev pub CrashedDirectoriesOpen : {F : Type 0} → (F → Disk) → (F → List ℕ → ℕ → Type 0) → Type 0
 CrashedDirectoriesOpen {F} disk tells = (config : Config) (d : Disk) (old : F) (m : LogMap)
     (pending : List Said) → IsSound (disk old) → (left : IsLeftAt (home_of config) d m pending)
     → IsCrashOf (home_of config) left.1.lies.state d (disk old)
-    → (k : ℕ) × (k ≤ length pending) × OpensAs disk tells config old (taken m (take k pending))
+    → (k : ℕ) × (k ≤ length pending)
+    × LogRestsOn (log_in (home_of config)) (disk old) (taken m (take k pending))
+    × OpensAs disk tells config old (taken m (take k pending))

@@ -22,7 +22,7 @@ use Rattle.raft_log_recovery.specs.Names.{built_name}
 use Rattle.raft_log_recovery.specs.Runs.{IsRunOf, found_cmp}
 use Rattle.raft_log_recovery.specs.Scanned.{IsQueueIn}
 use Rattle.raft_log_recovery.specs.declared.scanning.found.FoundFile.{FoundFile}
-use Rattle.raft_log_found_pipes.specs.AllFiles.{AreAllFound, NoFilesAreScanned, ScannedFilesAreAll}
+use Rattle.raft_log_found_pipes.specs.AllFiles.{NoFilesAreScanned, ScannedFilesAreAll}
 use Rattle.raft_log_found_pipes.specs.Beginning.{IsTwice}
 use Rattle.raft_log_found_pipes.specs.Scanned.{kind_of}
 use Rattle.raft_log_found_pipes.proofs.Beginnings.{at_end, lies_there, listed, rise}

@@ -29,7 +29,8 @@ pub record AreAllFound (queue : LogQueue) (directories : List (List ℕ)) (numbe
 -- of its files.
 abbrev pub ScannedFilesAreAll : Type 0
 ScannedFilesAreAll = (queue : LogQueue) (directories : List (List ℕ)) → AreDistinct directories
-    → (mode : RecoveryMode) (d : Disk) → IsSound d → (q : LogFiles LogRecord) (path : List ℕ) (id : ℕ) (N : Names)
+    → (mode : RecoveryMode) (d : Disk) → IsSound d
+    → (q : LogFiles LogRecord) (path : List ℕ) (id : ℕ) (N : Names)
     → Stands (log_format queue directories) (IsOwnPath queue directories) d q path id
     (IsLeftover (log_format queue directories) q) N d
     → (files : List Listed) → IsQueueIn (kind_of queue) directories d mode files

@@ -1,11 +1,9 @@
 -- An open of a log's directories is an open of it call by call.
-use Rattle.std.proofs.Common.{◌≡◌, ℕ, List, [], take, refl, inl, inr}
+use Rattle.std.proofs.Common.{ℕ, List, take, refl}
 use Rattle.raft_log_model.specs.Groups.{taken}
 use Rattle.raft_log_base.specs.declared.errors.Error.{Error}
 use Rattle.raft_log_disk.specs.Disk.{Disk}
-use Rattle.raft_log_disk.specs.Image.{IsSound}
 use Rattle.raft_log_settings.specs.declared.config.Config.{Config}
-use Rattle.raft_log_contexts.specs.declared.context.MemTableRecoverContext.{MemTableRecoverContext}
 use Rattle.raft_log_replay.specs.declared.mem_tables.MemTables.{MemTables}
 use Rattle.raft_log_dual_pipes.specs.Pipes.{LogPipes}
 use Rattle.raft_log_engine_state.specs.Shows.{LogMap}
@@ -65,5 +63,5 @@ resting_directories_open disk tells config old m sound rests usable = opens_as d
 
 pub crashed_directories_open : {S : Type 0} (disk : S → Disk) (tells : S → List ℕ → ℕ → Type 0) → CrashedDirectoriesOpen disk tells
 crashed_directories_open disk tells config d old m pending sound left crash =
-    let (k, within, outcome) = crashed_logs_reopen disk tells config d (disk old) m pending sound left crash in
-    (k, within, opens_as disk tells config old (taken m (take k pending)) outcome)
+    let (k, within, rests, outcome) = crashed_logs_reopen disk tells config d (disk old) m pending sound left crash in
+    (k, within, rests, opens_as disk tells config old (taken m (take k pending)) outcome)

@@ -2,7 +2,7 @@
 use Rattle.std.specs.Option.{option_map}
 use Rattle.std.specs.Prelude.{IsSomeAnd}
 use Rattle.std.specs.String.{string_bytes}
-use Rattle.std.proofs.Common.{◌≡◌, ℕ, ◌<◌, zero, suc, Option, Some, None, List, [], ◌∷◌, length, refl, sym, ap, subst, ◌∙◌, inl, inr, Contains, arith}
+use Rattle.std.proofs.Common.{◌≡◌, ℕ, ◌<◌, zero, suc, Option, Some, None, List, [], ◌∷◌, length, sym, ap, subst, ◌∙◌, inl, inr, Contains, arith}
 use Rattle.raft_log_base.specs.declared.pipe_log.LogQueue.{LogQueue}
 use Rattle.raft_log_base.specs.declared.pipe_log.LogQueue.TheVariants.{Append, Rewrite}
 use Rattle.raft_log_disk.specs.Disk.{Disk}
@@ -39,8 +39,8 @@ use Rattle.raft_log_resting.specs.Keeping.{KeepsNumbered}
 use Rattle.raft_log_resting.proofs.Keeping.{keeps_same, rests_kept, stopped_kept, unbegun_kept}
 use Rattle.raft_log_reopened.specs.Files.{AreFilesOf}
 use Rattle.raft_log_reopened.specs.Files.AreFilesOf.{none_made, some_made}
-use Rattle.raft_log_reopened.specs.Reopened.{home_of, IsRecovered, ScansFindAllFiles}
-use Rattle.raft_log_reopened.proofs.Parts.{FindsAllFiles, IsRecoveredFrom, LiesAsSet}
+use Rattle.raft_log_reopened.specs.Reopened.{home_of, ScansFindAllFiles}
+use Rattle.raft_log_reopened.proofs.Parts.{FindsAllFiles, LiesAsSet}
 use Rattle.raft_log_reopened.proofs.Scanning.{directories_keep, made_sound}
 use Rattle.raft_log_reopened.proofs.Stays.{stays_first, StaysAt}
 use Rattle.raft_log_reopened.proofs.Reopened.{two_queues}

@@ -1,5 +1,5 @@
 -- What an engine has that is opened over a log at rest, and what is left where it isn't.
-use Rattle.std.proofs.Common.{◌≡◌, ℕ, ◌<◌, List, [], length, take, sym, subst}
+use Rattle.std.proofs.Common.{ℕ, ◌<◌, List, [], length, take}
 use Rattle.raft_log_model.specs.Groups.{taken}
 use Rattle.raft_log_disk.specs.Disk.{Disk}
 use Rattle.raft_log_disk.specs.Image.{IsSound}
@@ -80,4 +80,4 @@ resting_logs_reopen disk tells config d m sound h usable = reopens_as disk tells
 pub crashed_logs_reopen : {S : Type 0} (disk : S → Disk) (tells : S → List ℕ → ℕ → Type 0) → CrashedLogsReopen disk tells
 crashed_logs_reopen disk tells config d image m pending sound left crash =
     let (k, within, rests) = crashed_logs_rest (home_of config) (some_directory config) (some_directory config) d image m pending left crash in
-    (k, within, reopens_as disk tells config image (taken m (take k pending)) sound rests (spares_at_crash config d image sound crash.is))
+    (k, within, rests, reopens_as disk tells config image (taken m (take k pending)) sound rests (spares_at_crash config d image sound crash.is))

@@ -1,7 +1,7 @@
 -- Files that are kept for use, through the calls of an open.
-use Rattle.std.specs.Prelude.{Result, Ok, reverse}
+use Rattle.std.specs.Prelude.{Result, Ok}
 use Rattle.std.specs.declared.io.ErrorKind.{ErrorKind}
-use Rattle.std.proofs.Common.{◌≡◌, ℕ, suc, ◌<◌, Bool, true, false, Some, None, List, [], ◌∷◌, ◌++◌, length, drop, take, refl, sym, ap, subst, ◌∙◌, inl, inr, nat_eq, arith}
+use Rattle.std.proofs.Common.{◌≡◌, ℕ, suc, ◌<◌, Bool, true, false, Some, None, List, [], ◌∷◌, length, refl, sym, ap, subst, ◌∙◌, nat_eq, arith}
 use Rattle.std.specs.Map.{update}
 use Rattle.raft_log_base.specs.declared.pipe_log.LogQueue.TheVariants.{Append}
 use Rattle.raft_log_disk.specs.Arguments.{WrongHandle, WrongName}

@@ -1,14 +1,14 @@
 -- Lists of files that are kept for use: their numbers rise, so no two have one path.
 use Rattle.std.specs.List.{last_or}
-use Rattle.std.specs.Prelude.{Option, min}
-use Rattle.std.proofs.Common.{◌≡◌, ℕ, ◌-◌, ◌^◌, ◌<◌, ◌≤◌, zero, suc, true, false, Some, None, List, [], ◌∷◌, ◌++◌, length, drop, take, refl, sym, ap, subst, ◌∙◌, inl, inr, arith}
+use Rattle.std.specs.Prelude.{min}
+use Rattle.std.proofs.Common.{◌≡◌, ℕ, ◌-◌, ◌^◌, ◌<◌, ◌≤◌, zero, suc, true, false, Some, List, [], ◌∷◌, ◌++◌, length, drop, take, sym, subst, ◌∙◌, arith}
 use Rattle.raft_log_base.specs.declared.pipe_log.LogQueue.TheVariants.{Append}
 use Rattle.raft_log_disk.specs.Disk.{Disk}
 use Rattle.raft_log_disk.specs.Touching.{HasFile}
 use Rattle.raft_log_files.specs.Layout.{path_of}
 use Rattle.raft_log_files.specs.declared.format.File.{File}
 use Rattle.raft_log_layout.specs.Layout.{log_format, log_paths}
-use Rattle.raft_log_layout.specs.Paths.{IsPathWith, reserved_path, reserved_suffix_of}
+use Rattle.raft_log_layout.specs.Paths.{IsPathWith, reserved_suffix_of}
 use Rattle.raft_log_layout.specs.PathLaws.{one_number, reserved_is}
 use Rattle.raft_log_pipes.specs.Files.{AreKept, CanBeUsed, NoneHas}
 use Rattle.raft_log_pipes.proofs.Lists.{path_reserved}

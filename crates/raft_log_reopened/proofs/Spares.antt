@@ -1,12 +1,11 @@
 -- The files that are kept for use by an engine that is opened over a log at rest.
 use Rattle.std.specs.Prelude.{codes, max, min, reverse}
-use Rattle.std.specs.List.Sorted.{IsPermutation}
-use Rattle.std.proofs.Common.{◌≡◌, ℕ, ◌+◌, ◌-◌, ◌^◌, ◌<◌, ◌≤◌, zero, suc, Bool, true, false, Some, None, List, [], ◌∷◌, ◌++◌, length, get_or, drop, take, refl, sym, ap, subst, ◌∙◌, inl, inr, Contains, append_assoc, arith}
+use Rattle.std.proofs.Common.{◌≡◌, ℕ, ◌+◌, ◌-◌, ◌^◌, ◌<◌, ◌≤◌, suc, Some, List, [], ◌∷◌, ◌++◌, length, get_or, drop, take, refl, sym, ap, subst, ◌∙◌, Contains, append_assoc, arith}
 use Rattle.std.proofs.lemmas.List.Elements.{Contains-append_right}
 use Rattle.std.proofs.lemmas.List.Sorted.{Contains-permutation, IsPermutation-sym}
 use Rattle.raft_log_base.specs.declared.pipe_log.LogQueue.{LogQueue}
 use Rattle.raft_log_base.specs.declared.pipe_log.LogQueue.TheVariants.{Append, Rewrite}
-use Rattle.raft_log_disk.specs.Disk.{Disk, zeros}
+use Rattle.raft_log_disk.specs.Disk.{Disk}
 use Rattle.raft_log_disk.specs.Image.{IsSound}
 use Rattle.raft_log_disk.specs.Touching.{HasFile}
 use Rattle.raft_log_disk.specs.declared.handle.Permission.TheVariants.{ReadOnly}
@@ -22,15 +21,14 @@ use Rattle.raft_log_layout.specs.declared.record.LogRecord.{LogRecord}
 use Rattle.raft_log_pipes.specs.Files.{AreKept, CanBeUsed, IsSpan}
 use Rattle.raft_log_pipes.proofs.Lists.{path_numbered, path_reserved, span_end}
 use Rattle.raft_log_pipes.specs.Opening.{first_number}
-use Rattle.raft_log_recovery.specs.Found.{AreFilesIn, LiesIn, found_path}
-use Rattle.raft_log_recovery.specs.Names.{built_name}
+use Rattle.raft_log_recovery.specs.Found.{found_path}
 use Rattle.raft_log_recovery.specs.Opened.{AreOpen, IsOpenFile}
-use Rattle.raft_log_recovery.specs.Runs.{Follows, IsConsecutive, IsRunOf}
+use Rattle.raft_log_recovery.specs.Runs.{Follows, IsConsecutive}
 use Rattle.raft_log_recovery.specs.Scanned.{IsReserveIn}
 use Rattle.raft_log_recovery.specs.declared.file_kind.FileKind.TheVariants.{Reserved}
 use Rattle.raft_log_recovery.specs.declared.scanning.found.FoundFile.{FoundFile}
 use Rattle.raft_log_contexts.specs.declared.context.MemTableRecoverContext.{MemTableRecoverContext}
-use Rattle.raft_log_prefill.specs.Readying.{kept_of, next_number, piece, Readies}
+use Rattle.raft_log_prefill.specs.Readying.{kept_of, next_number, Readies}
 use Rattle.raft_log_steps.specs.Own.{log_layout}
 use Rattle.raft_log_steps.specs.OnDisk.{LogRestsOn}
 use Rattle.raft_log_steps.specs.Queues.{AreTwoQueues, IsQueueLayout}
@@ -47,7 +45,7 @@ use Rattle.raft_log_opened.specs.Entries.{EachHas}
 use Rattle.raft_log_resting.specs.Keeping.{KeepsNumbered}
 use Rattle.raft_log_resting.proofs.Calls.{sound_names, AreSoundNames}
 use Rattle.raft_log_resting.proofs.Keeping.{keeps_same, keeps_then}
-use Rattle.raft_log_reopened.specs.Files.{AreAll, AreFilesOf}
+use Rattle.raft_log_reopened.specs.Files.{AreFilesOf}
 use Rattle.raft_log_reopened.specs.Files.AreFilesOf.{none_made, some_made}
 use Rattle.raft_log_reopened.specs.Reopened.{home_of, IsRecovered, SparesCanBeUsed, SyncedSparesCanBeUsed}
 use Rattle.raft_log_reopened.proofs.Cutting.{last_path}
@@ -56,9 +54,8 @@ use Rattle.raft_log_reopened.proofs.Parts.{FindsAllFiles, LiesAsSet}
 use Rattle.raft_log_reopened.proofs.Readying.{each_append, each_reverse, readies_leave, IsReserved}
 use Rattle.raft_log_reopened.proofs.Refused.{cut_stays, sound_scan}
 use Rattle.raft_log_reopened.proofs.Reopened.{two_queues}
-use Rattle.raft_log_reopened.proofs.Scanning.{open_reserved}
 use Rattle.raft_log_reopened.proofs.SpareCalls.{cuts_keep, cuts_names, drops_keep, made_rise, makes_spares, one_path, spare_kept, syncs_keep, KeepsPath, NoneIs, MakesSpares}
-use Rattle.raft_log_reopened.proofs.SpareLists.{above, are_kept, are_small, dropped_above, each_dropped, each_take, each_weaker, names_of, paths_apart, rising_made, rising_take, AreRising, IsSpareOn}
+use Rattle.raft_log_reopened.proofs.SpareLists.{are_kept, are_small, dropped_above, each_dropped, each_take, each_weaker, paths_apart, rising_made, rising_take, AreRising, IsSpareOn}
 
 -- The files that a scan found under reserved names.
 
@@ -117,9 +114,11 @@ module _ (directories : List (List ℕ)) (d : Disk) where
     pub found_spares : (files : List File) → IsReserveIn directories d files → EachHas (IsSpareOn directories some d) files × AreRising 0 files
     found_spares files are =
         let run = are.run.run in
-        let all = are.run.all in
-        (each_spare are.kept files (λ g there. (all.found g (Contains-permutation (run.dropped ++ are.kept) are.run.found g (IsPermutation-sym are.run.found (run.dropped ++ are.kept) run.same)
-        (Contains-append_right run.dropped are.kept g there))).small) are.opened, all_rise are.kept files are.opened run.consecutive)
+        let all = are.run.all in (
+          each_spare are.kept files (λ g there. (all.found g (Contains-permutation (run.dropped ++ are.kept) are.run.found g (IsPermutation-sym are.run.found (run.dropped ++ are.kept) run.same)
+              (Contains-append_right run.dropped are.kept g there))).small) are.opened,
+          all_rise are.kept files are.opened run.consecutive,
+        )
 
 -- The files of a queue have other names.
 

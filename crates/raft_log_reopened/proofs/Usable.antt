@@ -1,25 +1,23 @@
 -- Files that hold no record can be used by a queue: those at rest, and those that were filled with zeros.
 use Rattle.std.specs.Prelude.{Result, Ok, Err, Contains}
 use Rattle.std.specs.declared.io.ErrorKind.{ErrorKind}
-use Rattle.std.proofs.Common.{◌≡◌, ℕ, zero, suc, ◌*◌, ◌<◌, Bool, Option, Some, None, List, [], ◌∷◌, ◌++◌, length, drop, take, refl, sym, ap, subst, ◌∙◌, inl, inr, arith}
+use Rattle.std.proofs.Common.{◌≡◌, ℕ, zero, suc, ◌*◌, Bool, Option, Some, None, List, [], length, refl, sym, ap, subst, inl, inr, arith}
 use Rattle.std.proofs.lemmas.List.Elements.{Contains-push_cases}
 use Rattle.raft_log_disk.specs.Disk.{Change, Wrote, Disk, File, at_rest, zeros}
 use Rattle.raft_log_disk.specs.Image.{IsImage, IsFileImage, IsSound}
 use Rattle.raft_log_disk.specs.Calls.{after_change, with_change, Changes, RefusedChange}
 use Rattle.raft_log_disk.specs.Arguments.{WrongWriter}
 use Rattle.raft_log_disk.specs.Chains.{HoldsNoFrame}
-use Rattle.raft_log_disk.specs.LogQueue.{LogFiles}
 use Rattle.raft_log_disk.specs.Touching.{HasFile}
 use Rattle.raft_log_disk.specs.declared.handle.Handle.{Handle}
-use Rattle.raft_log_disk.proofs.TouchingLaws.{has_changed, has_weaker}
+use Rattle.raft_log_disk.proofs.TouchingLaws.{has_changed}
 use Rattle.raft_log_base.specs.declared.pipe_log.LogQueue.TheVariants.{Append}
 use Rattle.raft_log_settings.specs.declared.config.Config.{Config}
 use Rattle.raft_log_file_queue.specs.Queue.{begun}
 use Rattle.raft_log_file_queue.specs.States.{IsNew}
 use Rattle.raft_log_file_queue.proofs.FileSteps.{new_blank, new_over}
-use Rattle.raft_log_layout.specs.Layout.{log_format, log_paths, IsRecordIn}
+use Rattle.raft_log_layout.specs.Layout.{log_format, IsRecordIn}
 use Rattle.raft_log_layout.specs.LayoutLaws.{zeros_hold_none}
-use Rattle.raft_log_layout.specs.declared.record.LogRecord.{LogRecord}
 use Rattle.raft_log_pipes.specs.Files.{CanBeUsed}
 use Rattle.raft_log_prefill.specs.Filling.{FillsOrNot, WritesPieces}
 use Rattle.raft_log_builder.specs.Directories.{directories_of}

@@ -18,8 +18,8 @@ use Rattle.raft_log_reopened.specs.Reopened.{home_of, SparesCanBeUsed}
 -- Where the directories are opened that these settings name, an engine of them holds this map, and nothing is
 -- pending, whatever the number of workers was; and where they aren't, whyever, the log is left there with the
 -- map, and nothing is pending.
-pub record OpensAs {F : Type 0} (disk : F → Disk) (tells : F → List ℕ → ℕ → Type 0) (config : Config) (old : F)
-    (m : LogMap) : Type 0 where
+pub record OpensAs {F : Type 0} (disk : F → Disk) (tells : F → List ℕ → ℕ → Type 0) (config : Config)
+    (old : F) (m : LogMap) : Type 0 where
   pub answered : (v : LogPipes) (tables : MemTables) → OpensDirectory disk tells config old v tables
       → HoldsFresh (home_of config) v tables m
   pub refused : (error : Error) (new : F) → FailsToOpenDirectory disk tells config error old new
@@ -31,10 +31,12 @@ RestingDirectoriesOpen {F} disk tells = (config : Config) (old : F) (m : LogMap)
     → LogRestsOn (log_in (home_of config)) (disk old) m → SparesCanBeUsed config (disk old)
     → OpensAs disk tells config old m
 
--- And so are those of whatever a crash leaves of what an engine left: as the map after some first pending
--- batches.
+-- And so are those of whatever a crash leaves of what an engine left, which rests there: as the map after
+-- some first pending batches.
 abbrev pub CrashedDirectoriesOpen : {F : Type 0} → (F → Disk) → (F → List ℕ → ℕ → Type 0) → Type 0
-CrashedDirectoriesOpen {F} disk tells = (config : Config) (d : Disk) (old : F) (m : LogMap) (pending : List Said)
-    → IsSound (disk old) → (left : IsLeftAt (home_of config) d m pending)
+CrashedDirectoriesOpen {F} disk tells = (config : Config) (d : Disk) (old : F) (m : LogMap)
+    (pending : List Said) → IsSound (disk old) → (left : IsLeftAt (home_of config) d m pending)
     → IsCrashOf (home_of config) left.1.lies.state d (disk old)
-    → (k : ℕ) × (k ≤ length pending) × OpensAs disk tells config old (taken m (take k pending))
+    → (k : ℕ) × (k ≤ length pending)
+    × LogRestsOn (log_in (home_of config)) (disk old) (taken m (take k pending))
+    × OpensAs disk tells config old (taken m (take k pending))

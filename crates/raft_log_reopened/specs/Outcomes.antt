@@ -14,9 +14,9 @@ use Rattle.raft_log_opened.specs.Opened.{HoldsFresh}
 use Rattle.raft_log_reopened.specs.Reopened.{home_of, Reopens, SparesCanBeUsed}
 use Rattle.raft_log_reopened.specs.Refused.{FailsToReopen}
 
--- An engine that is opened over what is on the disk holds this map, and nothing is pending, whatever the number
--- of workers was; and wherever an open is refused, or given up, the log is left there with the map, and nothing
--- is pending.
+-- An engine that is opened over what is on the disk holds this map, and nothing is pending, whatever the
+-- number of workers was; and wherever an open is refused, or given up, the log is left there with the map,
+-- and nothing is pending.
 pub record ReopensAs {F : Type 0} (disk : F → Disk) (tells : F → List ℕ → ℕ → Type 0) (config : Config)
     (d : Disk) (m : LogMap) : Type 0 where
   pub answered : (v : LogPipes) (tables : MemTables) → Reopens disk tells config d v tables
@@ -28,9 +28,11 @@ abbrev pub RestingLogsReopen : {F : Type 0} → (F → Disk) → (F → List ℕ
 RestingLogsReopen disk tells = (config : Config) (d : Disk) (m : LogMap) → IsSound d
     → LogRestsOn (log_in (home_of config)) d m → SparesCanBeUsed config d → ReopensAs disk tells config d m
 
--- And so does whatever a crash leaves of what an engine left: as the map after some first pending batches.
+-- And so does whatever a crash leaves of what an engine left, which rests there: as the map after some first
+-- pending batches.
 abbrev pub CrashedLogsReopen : {F : Type 0} → (F → Disk) → (F → List ℕ → ℕ → Type 0) → Type 0
 CrashedLogsReopen disk tells = (config : Config) (d image : Disk) (m : LogMap) (pending : List Said)
     → IsSound image → (left : IsLeftAt (home_of config) d m pending)
     → IsCrashOf (home_of config) left.1.lies.state d image
-    → (k : ℕ) × (k ≤ length pending) × ReopensAs disk tells config image (taken m (take k pending))
+    → (k : ℕ) × (k ≤ length pending) × LogRestsOn (log_in (home_of config)) image (taken m (take k pending))
+    × ReopensAs disk tells config image (taken m (take k pending))

@@ -29,9 +29,9 @@ pub record FailsToReadyOn {F : Type 0} (disk : F → Disk) (tells : F → List �
   pub to_is : disk to ≡ new
   pub fails : FailsToReadyLog disk tells b error from to
 
--- Nothing was done; its directories weren't scanned; its files weren't recovered, or not cut; it was given up
--- once they were, as where memory ran out for the tables; files for later use weren't readied; it was given up
--- once they were; or its files weren't synced, or its pipes not opened.
+-- Nothing was done; its directories weren't scanned; its files weren't recovered, or not cut; it was given
+-- up once they were, as where memory ran out for the tables; files for later use weren't readied; it was
+-- given up once they were; or its files weren't synced, or its pipes not opened.
 pub data FailsToReopen {F : Type 0} (disk : F → Disk) (tells : F → List ℕ → ℕ → Type 0) (config : Config)
     (d new : Disk) : Type 0 where
   undone : new ≡ d → FailsToReopen disk tells config d new

@@ -51,7 +51,8 @@ pub record ReadiesOn {F : Type 0} (disk : F → Disk) (tells : F → List ℕ �
 -- The log of these settings was found on a disk, read by any number of workers into these contexts, and cut;
 -- and files for later use were readied.
 pub record IsRecovered {F : Type 0} (disk : F → Disk) (tells : F → List ℕ → ℕ → Type 0) (config : Config)
-    (d : Disk) (append rewrite : MemTableRecoverContext) (ready : DualPipesBuilder) (readied : Disk) : Type 0 where
+    (d : Disk) (append rewrite : MemTableRecoverContext) (ready : DualPipesBuilder) (readied : Disk)
+    : Type 0 where
   pub found : DualPipesBuilder
   pub read : DualPipesBuilder
   pub scanned : Disk
@@ -62,8 +63,8 @@ pub record IsRecovered {F : Type 0} (disk : F → Disk) (tells : F → List ℕ 
 
 -- An engine's pipes and tables were made of the log of these settings: it was recovered from the disk, all
 -- files were synced, and the pipes opened; and what was read of Append came over what was read of Rewrite.
-pub record Reopens {F : Type 0} (disk : F → Disk) (tells : F → List ℕ → ℕ → Type 0) (config : Config) (d : Disk)
-    (v : LogPipes) (tables : MemTables) : Type 0 where
+pub record Reopens {F : Type 0} (disk : F → Disk) (tells : F → List ℕ → ℕ → Type 0) (config : Config)
+    (d : Disk) (v : LogPipes) (tables : MemTables) : Type 0 where
   pub ready : DualPipesBuilder
   pub readied : Disk
   pub append : MemTableRecoverContext

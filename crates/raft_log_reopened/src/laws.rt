@@ -12,8 +12,8 @@ pub fn scans_find_all_files()
     ensures { ScansFindAllFiles }
 {}
 
-/// Where no file under a reserved name holds a record, all files can be used that are kept for it by an engine
-/// that is opened there.
+/// Where no file under a reserved name holds a record, all files can be used that are kept for use by an
+/// engine that is opened there.
 pub fn synced_spares_can_be_used<F: FileSystem>()
     ensures { SyncedSparesCanBeUsed F.disk F.tells_space }
 {}
@@ -25,8 +25,8 @@ pub fn resting_logs_reopen<F: FileSystem>()
     ensures { RestingLogsReopen F.disk F.tells_space }
 {}
 
-/// Whatever a crash leaves of what an engine left is opened so, or refused, as the map after some first pending
-/// batches, the same for any two numbers of workers.
+/// Whatever a crash leaves of what an engine left is opened so, or refused, as the map after some first
+/// pending batches, the same for any two numbers of workers.
 pub fn crashed_logs_reopen<F: FileSystem>()
     ensures { CrashedLogsReopen F.disk F.tells_space }
 {}
@@ -37,8 +37,8 @@ pub fn resting_directories_open<F: FileSystem>()
     ensures { RestingDirectoriesOpen F.disk F.tells_space }
 {}
 
-/// Whatever a crash leaves of what an engine left, its directories are opened so, or refused, as the map after
-/// some first pending batches, the same for any two numbers of workers.
+/// Whatever a crash leaves of what an engine left, its directories are opened so, or refused, as the map
+/// after some first pending batches, the same for any two numbers of workers.
 pub fn crashed_directories_open<F: FileSystem>()
     ensures { CrashedDirectoriesOpen F.disk F.tells_space }
 {}

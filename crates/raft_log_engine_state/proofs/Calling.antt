@@ -2,7 +2,8 @@
 use Rattle.std.proofs.Common.{◌≡◌, ℕ, ◌≤◌, Bool, true, false, List, [], ◌∷◌, ◌++◌, refl, sym, ap, subst, ◌∙◌, arith}
 use Rattle.std.specs.Prelude.{◌^◌, ◌+◌, ◌<◌}
 use Rattle.raft_log_model.specs.Item.{Tagged, items_of}
-use Rattle.raft_log_model.specs.Groups.{taken}
+use Rattle.raft_log_model.specs.Groups.{of_group, taken}
+use Rattle.raft_log_disk.specs.Disk.{Disk}
 use Rattle.raft_log_disk.specs.LogQueue.{LogFiles}
 use Rattle.raft_log_base.specs.declared.pipe_log.LogQueue.TheVariants.{Append}
 use Rattle.raft_log_base.specs.declared.pipe_log.FileBlockHandle.{FileBlockHandle}
@@ -14,7 +15,10 @@ use Rattle.raft_log_directory.specs.Calls.Which.{InAppend}
 use Rattle.raft_log_directory.specs.Log.{IsAt, View}
 use Rattle.raft_log_directory.specs.Log.{EndsAt as ViewEnds}
 use Rattle.raft_log_directory.proofs.CallLaws.{append_answered, append_synced}
-use Rattle.raft_log_places.specs.Shown.{Shown}
+use Rattle.raft_log_places.specs.Shown.{IsOrderly, Shown}
+use Rattle.raft_log_places.specs.Noted.{FilesRise}
+use Rattle.raft_log_places.specs.declared.place.Place.{Place}
+use Rattle.raft_log_places.proofs.Rising.{rises_on}
 use Rattle.raft_log_replay.specs.Batch.{MayFollowAll, all_shown}
 use Rattle.raft_log_steps.specs.Crash.{AllowsIn}
 use Rattle.raft_log_steps.specs.Queues.{SaysRecord}
@@ -26,14 +30,14 @@ use Rattle.raft_log_stored.proofs.Keeping.{calls_keep_bytes}
 use Rattle.raft_log_stored.proofs.Staying.{stored_entries_stay}
 use Rattle.raft_log_stored.proofs.Taking.{taken_entries_are_stored}
 use Rattle.raft_log_stored.proofs.Lasting.{written_entries_are_stored}
-use Rattle.raft_log_views.specs.Views.{AreMeant, view_of}
+use Rattle.raft_log_views.specs.Views.{AreMeant, LieIn, view_of}
 use Rattle.raft_log_views.proofs.Growing.{view_grows}
 use Rattle.raft_log_views.proofs.Lying.{written_in}
 use Rattle.raft_log_file_queue.specs.Queue.{synced}
 use Rattle.raft_log_dual_pipes.specs.Pipes.{LogPipes, RunsOn, Said, State, queue_of}
 use Rattle.raft_log_dual_pipes.specs.Calls.{AppendsTo, SyncsQueue}
 use Rattle.raft_log_engine_state.specs.Shows.{Home, KeepsOrForgets, LogMap, Shows, log_in, said_by, said_of, sense}
-use Rattle.raft_log_engine_state.specs.Holding.{EndsAt, Holds, RunsAs, RunsEnding}
+use Rattle.raft_log_engine_state.specs.Holding.{EndsAt, FilesRiseIn, Holds, RunsAs, RunsEnding}
 use Rattle.raft_log_engine_state.specs.Writing.{items_at}
 use Rattle.raft_log_engine_state.specs.Laws.{IsReady}
 use Rattle.raft_log_engine_state.proofs.Renaming.{places_follow}
@@ -45,12 +49,20 @@ pub says_batch : (home : Home) (e : Shows) (b : Batch) → IsReady e b → SaysR
 says_batch home e b ready =
     subst (λ (y : Said). SaysRecord said_by (log_layout Append home.append) Append (signed_for b) y) (read_is_said b ready.marked ready.laid) (ready.says ready.some said_by Append home.append)
 
+-- what goes into the last file of Append lies in no earlier one than all that stands there
+taken_rises : (s : State) (files : LogFiles LogRecord) (d : Disk) (n : ℕ) (v : ℕ → Shown) (xs : List (Tagged Place (List ℕ))) → s.append.files.last ≤ files.last → n ≡ files.last
+    → ((g : ℕ) → IsOrderly (v g)) → MayFollowAll v xs → LieIn n xs → FilesRiseIn s v → FilesRiseIn (next_log InAppend s files d) (all_shown n v xs)
+taken_rises s files d n v xs later number orderly follows lie rises g =
+    subst (λ (k : ℕ). FilesRise k s.rewrite.files.last (all_shown n v xs g)) number
+    (rises_on s.append.files.last s.rewrite.files.last n (v g) (of_group g xs) (orderly g) (rises g) (omega (arith, later, number)) (follows g) (lie g))
+
 module _ (home : Home) (e : Shows) (w : LogPipes) (b : Batch) (block : FileBlockHandle) (m : LogMap) (pending : List Said) (h : Holds home e m pending) (ready : IsReady e b) (call : AppendsTo InAppend (signed_for b) block e.pipes w) where
   abbrev after : ℕ → Shown
   after = all_shown block.id.seq e.tables (items_at block b)
 
   answer : (files : LogFiles LogRecord) × KeepsBytes h.state.append.files files × RunsOn (sense home) w (next_log InAppend h.state files w.disk)
       × AreStored (next_log InAppend h.state files w.disk) after
+      × FilesRiseIn (next_log InAppend h.state files w.disk) after
       × AreMeant (entries_at (next_log InAppend h.state files w.disk)) after (taken h.map (said_of b ∷ []))
       × ViewEnds (Ties (log_in home) (next_log InAppend h.state files w.disk)) (view_of after (taken h.map (said_of b ∷ []))) m (pending ++ said_of b ∷ [])
   answer =
@@ -70,6 +82,7 @@ module _ (home : Home) (e : Shows) (w : LogPipes) (b : Batch) (block : FileBlock
         keeps,
         runs,
         taken_entries_are_stored t block.id.seq e.tables (items_at block b) h.meant.orderly follows stays.0 stand.0,
+        taken_rises s files w.disk block.id.seq e.tables (items_at block b) keeps.last last.number h.meant.orderly follows (written_in _ b.items) h.rises,
         (view_grows (entries_at t) block.id.seq e.tables h.map (items_at block b) (said_of b) meant follows (written_in _ b.items) (items_said b ready.marked ∙ sym stand.1)).meant,
         ends,
       )
@@ -77,7 +90,7 @@ module _ (home : Home) (e : Shows) (w : LogPipes) (b : Batch) (block : FileBlock
   -- the batch is pending behind the others
   pub written : (t : Shows) → t.pipes ≡ w → t.tables ≡ after → KeepsOrForgets e t → EndsAt home t m (pending ++ said_of b ∷ [])
   written t pipes tables kept =
-      let (files, keeps, runs, stored, meant, ends) = answer in
+      let (files, keeps, runs, stored, rises, meant, ends) = answer in
       let next : State = next_log InAppend h.state files w.disk in record {
         done = ends.done;
         rest = ends.rest;
@@ -87,6 +100,7 @@ module _ (home : Home) (e : Shows) (w : LogPipes) (b : Batch) (block : FileBlock
           map = taken h.map (said_of b ∷ []);
           runs = subst (λ v. RunsOn (sense home) v next) (sym pipes) runs;
           stored = subst (λ v. AreStored next v) (sym tables) stored;
+          rises = subst (λ v. FilesRiseIn next v) (sym tables) rises;
           meant = subst (λ v. AreMeant (entries_at next) v (taken h.map (said_of b ∷ []))) (sym tables) meant;
           cached = stays_cached h.state next (keeps_log h.state files w.disk keeps) e.cache t.cache kept h.cached;
           at = subst (λ v. IsAt (Ties (log_in home) next) (view_of v (taken h.map (said_of b ∷ []))) (taken m ends.done) ends.rest) (sym tables) ends.at;

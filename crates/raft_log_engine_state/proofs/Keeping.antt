@@ -11,13 +11,15 @@ use Rattle.raft_log_steps.specs.Steps.{next_log}
 use Rattle.raft_log_stored.specs.Stored.{AreStored, KeepsBytes, KeepsLog, entries_at}
 use Rattle.raft_log_stored.proofs.Keeping.{calls_keep_bytes}
 use Rattle.raft_log_stored.proofs.Staying.{stored_entries_stay}
+use Rattle.raft_log_places.specs.Shown.{Shown}
+use Rattle.raft_log_places.specs.Noted.{FilesRise}
 use Rattle.raft_log_views.specs.Views.{AreMeant, view_of}
 use Rattle.raft_log_dual_pipes.specs.Pipes.{LogPipes, RunsOn, Said, State}
 use Rattle.raft_log_blocks.specs.declared.block_cache.BlockCache.{BlockCache}
 use Rattle.raft_log_blocks.specs.Blocks.{IsOfLog}
 use Rattle.raft_log_blocks.proofs.Kept.{kept_blocks_stay, none_kept}
 use Rattle.raft_log_engine_state.specs.Shows.{Home, KeepsOrForgets, LogMap, Shows, log_in, sense}
-use Rattle.raft_log_engine_state.specs.Holding.{EndsAt, Holds, RunsAs}
+use Rattle.raft_log_engine_state.specs.Holding.{EndsAt, FilesRiseIn, Holds, RunsAs}
 
 -- what Append's files keep the log keeps
 pub keeps_log : (s : State) (files : LogFiles LogRecord) (d : Disk) → KeepsBytes s.append.files files → KeepsLog s (next_log InAppend s files d)
@@ -27,6 +29,19 @@ keeps_log s files d keeps = record {
   append_first = omega arith;
   rewrite_first = omega arith;
 }
+
+-- files that don't fall still don't where the queues have gone on
+rise_later : (a b r q : ℕ) (v : Shown) → a ≤ b → r ≤ q → FilesRise a r v → FilesRise b q v
+rise_later a b r q v append rewrite rise = record {
+  appended = rise.appended;
+  rewritten = rise.rewritten;
+  in_append = λ i low high. (let up = rise.in_append i low high in omega (arith, up, append));
+  in_rewrite = λ i low high. (let up = rise.in_rewrite i low high in omega (arith, up, rewrite));
+}
+
+pub rise_on : (s t : State) → KeepsLog s t → (v : ℕ → Shown) → FilesRiseIn s v → FilesRiseIn t v
+rise_on s t keeps v rises g =
+    rise_later s.append.files.last t.append.files.last s.rewrite.files.last t.rewrite.files.last (v g) keeps.append.last keeps.rewrite.last (rises g)
 
 -- an engine whose pipes run is one whose log runs
 pub holds_runs : (home : Home) (e : Shows) (m : LogMap) (pending : List Said) → Holds home e m pending → RunsAs home e.pipes m pending
@@ -49,6 +64,7 @@ module _ (home : Home) (e t : Shows) (m : LogMap) (pending : List Said) (h : Hol
         map = h.map;
         runs = runs;
         stored = subst (λ v. AreStored next v) (sym same) stays.0;
+        rises = subst (λ v. FilesRiseIn next v) (sym same) (rise_on h.state next log e.tables h.rises);
         meant = subst (λ v. AreMeant (entries_at next) v h.map) (sym same) (stays.1 h.map h.meant);
         cached = stays_cached h.state next log e.cache t.cache kept h.cached;
         at = subst (λ v. IsAt (Ties (log_in home) next) (view_of v h.map) k rest) (sym same) at;

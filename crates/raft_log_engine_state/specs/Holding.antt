@@ -7,20 +7,28 @@ use Rattle.raft_log_directory.specs.Log.{IsAt, View}
 use Rattle.raft_log_steps.specs.State.{Ties}
 use Rattle.raft_log_steps.specs.Lying.{OpenPipes}
 use Rattle.raft_log_steps.specs.Failing.{LogEndsLying}
+use Rattle.raft_log_places.specs.Shown.{Shown}
+use Rattle.raft_log_places.specs.Noted.{FilesRise}
 use Rattle.raft_log_views.specs.Views.{AreMeant, view_of}
 use Rattle.raft_log_stored.specs.Stored.{AreStored, entries_at}
 use Rattle.raft_log_dual_pipes.specs.Pipes.{LogPipes, RunsOn, Said, State}
 use Rattle.raft_log_blocks.specs.Blocks.{IsOfLog}
 use Rattle.raft_log_engine_state.specs.Shows.{Home, LogMap, Shows, log_in, sense}
 
+-- along each group's entries in either queue the files don't fall, up to the last file of the queue
+abbrev pub FilesRiseIn : State → (ℕ → Shown) → Type 0
+FilesRiseIn s v = (g : ℕ) → FilesRise s.append.files.last s.rewrite.files.last (v g)
+
 -- The engine's log, in these directories, is the map m with the batches pending behind it: its pipes run over
--- a log that is so, each place that its tables show lies there, what is read at these places is the map after
--- the batches, and the block that is kept is what was written at its place.
+-- a log that is so, each place that its tables show lies there, along a group's entries in files that don't
+-- fall, what is read at these places is the map after the batches, and the block that is kept is what was
+-- written at its place.
 pub record Holds (home : Home) (e : Shows) (m : LogMap) (pending : List Said) : Type 0 where
   pub state : State
   pub map : LogMap
   pub runs : RunsOn (sense home) e.pipes state
   pub stored : AreStored state e.tables
+  pub rises : FilesRiseIn state e.tables
   pub meant : AreMeant (entries_at state) e.tables map
   pub cached : IsOfLog state e.cache
   pub at : IsAt (Ties (log_in home) state) (view_of e.tables map) m pending

@@ -3,6 +3,7 @@ pub mod Counting
 pub mod Files
 pub mod Queues
 pub mod Sound
+pub mod Rising
 pub mod Opened
 pub mod QueueReading
 pub mod Left

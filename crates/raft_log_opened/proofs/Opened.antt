@@ -1,10 +1,9 @@
 -- An engine that is made of what was read of a log's files holds the log's map.
-use Rattle.std.proofs.Common.{◌≡◌, ◌⊎◌, ℕ, zero, suc, ◌+◌, ◌-◌, ◌<◌, ◌≤◌, Bool, true, false, List, [], ◌∷◌, ◌++◌, length, map, Option, Some, None, option_map, slice_get, nat_le, inl, inr, refl, sym, ap, ap₂, subst, ◌∙◌, append-nil, append_assoc, arith}
+use Rattle.std.proofs.Common.{◌≡◌, ◌⊎◌, ℕ, suc, ◌+◌, ◌-◌, Bool, true, false, List, [], ◌∷◌, ◌++◌, map, Some, None, option_map, slice_get, nat_le, inl, inr, refl, sym, ap, ap₂, subst, ◌∙◌, append-nil, append_assoc, arith}
 use Rattle.std.proofs.lemmas.List.{map-append}
 use Rattle.std.proofs.Math.Path.{fun_ext}
-use Rattle.raft_log_model.specs.Item.{Item, Record, Tagged, items_of}
-use Rattle.raft_log_model.specs.Item.Record.{Plain, Part}
-use Rattle.raft_log_model.specs.Meaning.{directory, says, Content, Slot}
+use Rattle.raft_log_model.specs.Item.{Item, Tagged, items_of}
+use Rattle.raft_log_model.specs.Meaning.{directory, says, Slot}
 use Rattle.raft_log_model.specs.Meaning.Slot.{Index}
 use Rattle.raft_log_model.specs.Meaning.Content.{Entry}
 use Rattle.raft_log_model.specs.Groups.{appended, contents, directory_meaning, of_group, rewritten, taken}
@@ -12,49 +11,48 @@ use Rattle.raft_log_model.specs.Table.{content}
 use Rattle.raft_log_model.specs.Tidy.{Tidy}
 use Rattle.raft_log_model.specs.Holes.{nothing, NoHole}
 use Rattle.raft_log_model.proofs.Cases.{if_true, le_true}
-use Rattle.raft_log_machine.specs.Whereabouts.{Whereabouts, top}
 use Rattle.raft_log_machine.specs.Survival.{IsSpoken}
 use Rattle.raft_log_machine.specs.Machine.{RecordsFit}
-use Rattle.raft_log_machine.specs.Unbroken.{IsUnbroken, UnbrokenFrom}
+use Rattle.raft_log_machine.specs.Unbroken.{IsUnbroken}
 use Rattle.raft_log_machine.proofs.TidyLaws.{unbroken_tidy}
 use Rattle.raft_log_machine.specs.Files.{queue_of, records_of as file_records, span, FileQueue, LogFile}
 use Rattle.raft_log_machine.specs.Images.{IsOneRun}
 use Rattle.raft_log_machine.specs.Directory.{IsRising}
 use Rattle.raft_log_machine.specs.Recovery.{IsRecovered}
-use Rattle.raft_log_base.specs.declared.pipe_log.LogQueue.{LogQueue}
 use Rattle.raft_log_base.specs.declared.pipe_log.LogQueue.TheVariants.{Append, Rewrite}
 use Rattle.raft_log_directory.specs.Calls.{records_read, read_files, IsMadeOf, ReadAgain}
 use Rattle.raft_log_directory.specs.Model.{running, Files, IsSound, Model}
 use Rattle.raft_log_directory.specs.Notes.{IsAmong, LiesIn, SpeaksFrom, SpeaksIn}
-use Rattle.raft_log_directory.specs.Log.{IsAt, IsLog, Stands}
+use Rattle.raft_log_directory.specs.Log.{IsLog, Stands}
 use Rattle.raft_log_directory.proofs.OpenLaws.{one_run, read_stands}
-use Rattle.raft_log_places.specs.Shown.{whereabouts, IsOrderly, KeyValue, Shown}
-use Rattle.raft_log_places.specs.Bridge.{located, IsMeant, Located}
+use Rattle.raft_log_places.specs.Shown.{whereabouts, Shown}
+use Rattle.raft_log_places.specs.Bridge.{located, Located}
 use Rattle.raft_log_places.specs.Noted.{file_at, noted_at}
 use Rattle.raft_log_places.specs.Replayed.{standing, told}
 use Rattle.raft_log_replay.specs.declared.mem_tables.MemTables.{MemTables}
 use Rattle.raft_log_replay.specs.Tables.{shown_of}
-use Rattle.raft_log_segments.specs.Machines.{Batch}
 use Rattle.raft_log_steps.specs.State.{Ties}
 use Rattle.raft_log_views.specs.Views.{view_of, AreMeant}
 use Rattle.raft_log_contexts.specs.Records.{counted, records_of, AreHealthy, ReadRecord}
-use Rattle.raft_log_contexts.specs.Context.{is_plain, meant_by, ArePlain, ComesOver, HasRead}
+use Rattle.raft_log_contexts.specs.Context.{ArePlain, ComesOver}
 use Rattle.raft_log_contexts.specs.Noting.{AreWhereRead}
-use Rattle.raft_log_contexts.specs.Opened.{map_read, told_record, told_records, FilesHold, IsOpened, IsWhatWasRead}
+use Rattle.raft_log_contexts.specs.Opened.{map_read, told_record, told_records, FilesHold, IsOpened}
 use Rattle.raft_log_contexts.proofs.Contexts.{over_means, plain_counted}
 use Rattle.raft_log_contexts.proofs.Opening.{made_of, map_is, recovered, sound, stands_as}
 use Rattle.raft_log_contexts.proofs.OpenGroups.{records_append}
 use Rattle.raft_log_contexts.proofs.Told.{appended_told, rewritten_told}
 use Rattle.raft_log_stored.specs.Stored.{entries_at, AreStored, Each, IsStored}
-use Rattle.raft_log_dual_pipes.specs.Pipes.{LogPipes, RunsOn, Said, State}
+use Rattle.raft_log_dual_pipes.specs.Pipes.{LogPipes, Said, State}
 use Rattle.raft_log_blocks.proofs.Kept.{none_kept}
-use Rattle.raft_log_engine_state.specs.Shows.{log_in, no_place, said_by, sense, Home, LogMap}
-use Rattle.raft_log_opened.specs.Entries.{EachHas, EntriesHave, RecordsHave}
+use Rattle.raft_log_engine_state.specs.Shows.{log_in, no_place, said_by, Home, LogMap}
+use Rattle.raft_log_engine_state.specs.Holding.{FilesRiseIn}
+use Rattle.raft_log_opened.specs.Entries.{EntriesHave, RecordsHave}
 use Rattle.raft_log_opened.specs.Reading.{as_counted, counted_file, counted_queue}
 use Rattle.raft_log_opened.specs.Opened.{AreMerged, HoldsFresh, IsOpenedOver, OpenedEnginesHold}
 use Rattle.raft_log_opened.proofs.Counting.{counted_fit, meant_has, rewritten_has}
 use Rattle.raft_log_opened.proofs.Queues.{queue_held, queue_rises}
-use Rattle.raft_log_opened.proofs.Sound.{again_sound, append_whole, fit_untold, hole_untold, rewrite_fits, rewrite_unbroken, records_of_both, rewrite_whole, span_records, tidy_untold}
+use Rattle.raft_log_opened.proofs.Rising.{appended_rise, appended_within, plain_unbroken, rewritten_rise, rewritten_within}
+use Rattle.raft_log_opened.proofs.Sound.{again_sound, append_whole, fit_untold, hole_untold, rewrite_fits, rewrite_unbroken, records_of_both, rewrite_whole, span_records, unbroken_untold}
 
 -- Records in their files.
 told_append : (at : Located → List ℕ) (xs ys : List ReadRecord) → told_records at (xs ++ ys) ≡ told_records at xs ++ told_records at ys
@@ -159,8 +157,11 @@ module _ (at : Located → List ℕ) (P : Located → Type 0) (first behind : Li
   map_same : map_read at first behind ≡ directory_meaning R A
   map_same = fun_ext (λ g. fun_ext (λ s. ap₂ (λ (x y : List (Item (List ℕ) (List ℕ))). directory s x y) (ap (rewritten g) rewrite_told) (append_says g)))
 
+  first_unbroken : IsUnbroken (records_of first)
+  first_unbroken = unbroken_untold at (records_of first) (subst IsUnbroken (sym rewrite_told) (rewrite_unbroken d k))
+
   first_tidy : Tidy (records_of first)
-  first_tidy = tidy_untold at (records_of first) (subst IsUnbroken (sym rewrite_told) (rewrite_unbroken d k))
+  first_tidy = unbroken_tidy (records_of first) first_unbroken
 
   first_healthy : (g : ℕ) → AreHealthy (counted g first)
   first_healthy g = (
@@ -170,14 +171,6 @@ module _ (at : Located → List ℕ) (P : Located → Type 0) (first behind : Li
 
   behind_tidy : Tidy (records_of behind)
   behind_tidy = unbroken_tidy (records_of behind) (None, plain_unbroken behind plain)
-    where
-      one_plain : (going : Option ℕ) (r : Record Located KeyValue) (rs : List (Record Located KeyValue)) → is_plain r ≡ true → UnbrokenFrom None rs → UnbrokenFrom going (r ∷ rs)
-      one_plain going (Plain xs) rs is h = h
-      one_plain going (Part m xs) rs is h = (let clash : false ≡ true = is in let never : ⊥ = cc in absurd never)
-
-      plain_unbroken : (rs : List ReadRecord) → ArePlain rs → UnbrokenFrom None (records_of rs)
-      plain_unbroken [] h = tt
-      plain_unbroken (r ∷ rs) h = one_plain None r.taken (records_of rs) h.0 (plain_unbroken rs h.1)
 
   behind_healthy : RecordsFit (records_of behind) → (g : ℕ) → AreHealthy (counted g behind)
   behind_healthy fit g = (
@@ -236,6 +229,17 @@ module _ (at : Located → List ℕ) (P : Located → Type 0) (first behind : Li
         meant_has P (v.first + j) (counted g first) (counted g behind) l (rewritten_has (EntriesHave P) g (records_of first) first_has)
         (rewritten_has (EntriesHave P) g (records_of behind) behind_has)
         (sym (stands_as at first behind tables counted_files opened g (Index (v.first + j))) ∙ slot_of v j l is))
+
+    -- along the entries in either queue the files don't fall, up to the last one of the log in which these lie
+    pub rises : (s : State) → ((g : ℕ) → Each (IsStored s) (located (shown_of tables g).rewritten (shown_of tables g).places)) → FilesRiseIn s (shown_of tables)
+    rises s lie g =
+        let v = shown_of tables g in
+        let parts = (meant.orderly g).parts in record {
+          appended = appended_rise at first behind tables counted_files opened first_unbroken g;
+          rewritten = rewritten_rise at first behind tables counted_files opened first_unbroken g;
+          in_append = λ i low high. appended_within s v.rewritten v.places (i - v.first) (omega (arith, low)) (omega (arith, low, high)) (lie g);
+          in_rewrite = λ i low high. rewritten_within s v.rewritten v.places (i - v.first) (omega (arith, low, high)) (omega (arith, low, high, parts)) (lie g);
+        }
 
 -- The engine.
 module _ (home : Home) (was : State) (m : LogMap) (v : LogPipes) (tables : MemTables) (log : IsLog (Ties (log_in home) was) m []) (over : IsOpenedOver home was v tables) where
@@ -330,13 +334,19 @@ module _ (home : Home) (was : State) (m : LogMap) (v : LogPipes) (tables : MemTa
   stands : Stands (view_of (shown_of tables) map_here) files m []
   stands = subst (λ (l : List Said). Stands (view_of (shown_of tables) map_here) files (taken m l) []) none_waits (read_stands was_model log.sound r a (view_of (shown_of tables) map_here) is_made)
 
+  all_stored : AreStored state (shown_of tables)
+  all_stored =
+      stored at (IsStored state) first behind tables over_read model is_sound rewrite_held.0 append_held.0 (merged.append_read.read.plain refl)
+      (merged.append_read.read.fit refl) rewrite_held.1 append_held.1 rewrite_rises append_rises runs rewrite_held.2 append_held.2
+
   pub engine_holds : HoldsFresh home v tables m
   engine_holds cache none = record {
     state = state;
     map = map_here;
     runs = over.runs;
-    stored = stored at (IsStored state) first behind tables over_read model is_sound rewrite_held.0 append_held.0 (merged.append_read.read.plain refl)
-        (merged.append_read.read.fit refl) rewrite_held.1 append_held.1 rewrite_rises append_rises runs rewrite_held.2 append_held.2;
+    stored = all_stored;
+    rises = rises at (IsStored state) first behind tables over_read model is_sound rewrite_held.0 append_held.0 (merged.append_read.read.plain refl)
+        (merged.append_read.read.fit refl) rewrite_held.1 append_held.1 rewrite_rises append_rises runs state all_stored;
     meant = meant at (IsStored state) first behind tables over_read model is_sound rewrite_held.0 append_held.0 (merged.append_read.read.plain refl)
         (merged.append_read.read.fit refl) rewrite_held.1 append_held.1 rewrite_rises append_rises runs;
     cached = none_kept state cache none;

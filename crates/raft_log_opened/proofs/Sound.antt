@@ -2,14 +2,13 @@
 -- group.
 use Rattle.std.proofs.Common.{◌≡◌, ℕ, ◌+◌, ◌≤◌, false, List, [], ◌∷◌, ◌++◌, map, Option, Some, None, refl, sym, ap, ap₂, subst, ◌∙◌, append_assoc, append-nil}
 use Rattle.std.proofs.lemmas.List.{length-map}
-use Rattle.std.specs.Prelude.{length, nat_lt, nat_le, ◌&&◌, if◌then◌else◌, IsFalse}
-use Rattle.raft_log_model.specs.Item.{Item, Record, Tagged, items_of}
+use Rattle.std.specs.Prelude.{nat_lt, nat_le, ◌&&◌, if◌then◌else◌}
+use Rattle.raft_log_model.specs.Item.{Item, Record, Tagged}
 use Rattle.raft_log_model.specs.Item.Item.{Run, Clean, Compact, Put, Del}
 use Rattle.raft_log_model.specs.Item.Record.{Plain, Part}
 use Rattle.raft_log_model.specs.Item.Mark.{Begin, Middle, End}
 use Rattle.raft_log_model.specs.Groups.{appended, rewritten, taken}
 use Rattle.raft_log_model.specs.Holes.{next_window, nothing, FitsOn, NoHole, Window}
-use Rattle.raft_log_model.specs.Tidy.{Tidy}
 use Rattle.raft_log_machine.specs.Files.{queue_of, records_of, span, FileQueue, LogFile}
 use Rattle.raft_log_machine.specs.Machine.{AllFit, Fits, RecordsFit}
 use Rattle.raft_log_machine.specs.Whereabouts.{top, Whereabouts}
@@ -21,7 +20,6 @@ use Rattle.raft_log_machine.proofs.ImageLaws.{opens}
 use Rattle.raft_log_machine.specs.Unbroken.{IsUnbroken, UnbrokenFrom}
 use Rattle.raft_log_machine.proofs.FitLaws.{RecordsFit-back}
 use Rattle.raft_log_machine.proofs.ReplayLaws.{replays}
-use Rattle.raft_log_machine.proofs.TidyLaws.{unbroken_tidy}
 use Rattle.raft_log_directory.specs.Model.{machine_of, running, Files, IsSound, Model}
 use Rattle.raft_log_directory.specs.Calls.{read_files, ReadAgain}
 use Rattle.raft_log_directory.proofs.Sound.{sound_step}
@@ -79,8 +77,8 @@ module _ {E : Type 0} (at : Located → E) where
   unbroken_from going (Part (Middle n) xs ∷ rs) h = (h.0, unbroken_from going rs h.1)
   unbroken_from going (Part (End n) xs ∷ rs) h = (h.0, unbroken_from None rs h.1)
 
-  pub tidy_untold : (rs : List (Record Located KeyValue)) → IsUnbroken (map (told_record at) rs) → Tidy rs
-  tidy_untold rs (going, h) = unbroken_tidy rs (going, unbroken_from going rs h)
+  pub unbroken_untold : (rs : List (Record Located KeyValue)) → IsUnbroken (map (told_record at) rs) → IsUnbroken rs
+  unbroken_untold rs (going, h) = (going, unbroken_from going rs h)
 
   window_told : (w : Window) (x : Item Located KeyValue) → next_window w (told at x) ≡ next_window w x
   window_told w (Run f []) = refl

@@ -31,7 +31,8 @@ use Rattle.raft_log_places.specs.Shown.{Shown, IsOrderly}
 use Rattle.raft_log_places.specs.Bridge.{CanAllMove, CanMove, Located, Move, all_moved, in_queue, items_of as copies_of, located, moved}
 use Rattle.raft_log_places.specs.Bridge.Move.{MoveKey, MoveRun}
 use Rattle.raft_log_places.proofs.Moving.{move_orderly}
-use Rattle.raft_log_places.specs.Noted.{AllIn, AllUpTo, AreIn, AreUpTo}
+use Rattle.raft_log_places.specs.Noted.{AllIn, AllUpTo, AreIn, AreUpTo, FilesRise, MovesIn}
+use Rattle.raft_log_places.proofs.Rising.{copies_rise}
 use Rattle.raft_log_replay.specs.Rewriting.{AreCopies, all_rewritten, copied_items, moves_of}
 use Rattle.raft_log_replay.proofs.Copies.{copies_move}
 use Rattle.raft_log_steps.specs.State.{LogOnDisk}
@@ -47,7 +48,7 @@ use Rattle.raft_log_dual_pipes.specs.Pipes.{Said, State}
 use Rattle.raft_log_dual_pipes.specs.Calls.{AppendsTo, FailsToAppendTo}
 use Rattle.raft_log_engine_state.specs.Shows.{Home, KeepsOrForgets, LogMap, Shows}
 use Rattle.raft_log_purge_state.specs.Settled.{SameTables}
-use Rattle.raft_log_engine_state.specs.Holding.{Holds}
+use Rattle.raft_log_engine_state.specs.Holding.{FilesRiseIn, Holds}
 use Rattle.raft_log_engine_state.specs.Writing.{items_at}
 use Rattle.raft_log_engine_state.proofs.Renaming.{places_say}
 use Rattle.raft_log_purge_state.specs.Rewriting.{CountsAlone, HasCopies, RewriteLeaves, SaysAt, moved_to}
@@ -66,6 +67,14 @@ moves_up_to n (Put k w ∷ xs) lie = (omega arith, moves_up_to n xs lie)
 moves_up_to n (Clean ∷ xs) lie = moves_up_to n xs lie
 moves_up_to n (Compact c ∷ xs) lie = moves_up_to n xs lie
 moves_up_to n (Del k ∷ xs) lie = moves_up_to n xs lie
+
+moves_in : (n : ℕ) (xs : List (Item Place (List ℕ))) → AreIn n xs → MovesIn n (moves_of n xs)
+moves_in n [] lie = tt
+moves_in n (Run f ps ∷ xs) (first, rest) = (first, moves_in n xs rest)
+moves_in n (Put k w ∷ xs) lie = moves_in n xs lie
+moves_in n (Clean ∷ xs) lie = moves_in n xs lie
+moves_in n (Compact c ∷ xs) lie = moves_in n xs lie
+moves_in n (Del k ∷ xs) lie = moves_in n xs lie
 
 -- of each group the batch says its copies
 copies_said : (at : Located → List ℕ) (block : FileBlockHandle) (b : Batch) → SaysAt at block b → (g : ℕ) → of_group g (bytes_of b) ≡ copied_items at (of_group g (items_at block b))
@@ -180,6 +189,21 @@ copies_stored s gate block b v m meant says copies lie stored =
     subst (λ u. AreStored s u) (sym (all_are_moved (entries_at s) gate block b v m meant says copies))
     (λ g. all_lie s (entries_at s) block.id.seq (v g) (of_group g (items_at block b)) (meant.orderly g) (each_moved (entries_at s) gate block b v m meant says copies g).1 (lie g) (stored g))
 
+-- They lie in the last file of Rewrite, and so in no earlier one than all that stands there.
+moved_rises : (s : State) (gate : Option ℕ) (block : FileBlockHandle) (b : Batch) (v : ℕ → Shown) (m : LogMap) → block.id.seq ≡ s.rewrite.files.last → AreMeant (entries_at s) v m → SaysAt (entries_at s) block b
+    → HasCopies gate b v m → FilesRiseIn s v → FilesRiseIn s (moved_to gate block b v)
+moved_rises s gate block b v m number meant says copies rises =
+    subst (λ u. FilesRiseIn s u) (sym (all_are_moved (entries_at s) gate block b v m meant says copies)) each
+  where
+    lie : (g : ℕ) → AreIn block.id.seq (of_group g (items_at block b))
+    lie g = written_in (block_place block b.entries) b.items g
+
+    each : FilesRiseIn s (λ g. all_moved (v g) (moves_at block b g))
+    each g =
+        subst (λ (n : ℕ). FilesRise s.append.files.last n (all_moved (v g) (moves_at block b g))) number
+        (copies_rise (entries_at s) s.append.files.last s.rewrite.files.last block.id.seq (v g) (moves_at block b g) (meant.orderly g) (rises g) (omega (arith, number))
+        (each_moved (entries_at s) gate block b v m meant says copies g).1 (moves_in block.id.seq (of_group g (items_at block b)) (lie g)))
+
 -- A batch that may be there or not: told as if it were written behind all that stands.
 
 -- behind all that stands in that file of Rewrite
@@ -250,9 +274,10 @@ pub copies_written : (home : Home) (e t : Shows) (gate : Option ℕ) (b : Batch)
 copies_written home e t gate b block m h alone copies call same kept =
     let these : HasCopies gate b e.tables h.map = subst (λ k. HasCopies gate b e.tables k) (held_map home e m h) copies in
     record_written home e t b block m h alone call (moved_to gate block b e.tables) same kept
-    (λ s r last spans stored meant.
+    (λ s r last spans stored rises meant.
     let says = says_there s r block b spans alone last in (
       copies_stored s gate block b e.tables h.map meant says these (runs_there s r block b spans alone last) stored,
+      moved_rises s gate block b e.tables h.map last.number meant says these rises,
       copies_carry (entries_at s) gate block b e.tables h.map meant says these,
     ))
 

@@ -46,8 +46,8 @@ use Rattle.raft_log_views.proofs.Carrying.{marks_on}
 use Rattle.raft_log_dual_pipes.specs.Pipes.{RunsOn, Said, State, files_of}
 use Rattle.raft_log_dual_pipes.specs.Calls.{AppendsTo, FailsToAppendTo, LeavesOutOn}
 use Rattle.raft_log_engine_state.specs.Shows.{Home, IsWellMarked, KeepsOrForgets, LogMap, Shows, log_in, said_by, said_of, sense}
-use Rattle.raft_log_engine_state.specs.Holding.{Holds, IsLeftAt}
-use Rattle.raft_log_engine_state.proofs.Keeping.{stays_cached}
+use Rattle.raft_log_engine_state.specs.Holding.{FilesRiseIn, Holds, IsLeftAt}
+use Rattle.raft_log_engine_state.proofs.Keeping.{rise_on, stays_cached}
 use Rattle.raft_log_engine_state.proofs.Growing.{read_is_said}
 use Rattle.raft_log_purge_state.specs.Rewriting.{CountsAlone, RewriteLeaves, SaysOwed}
 use Rattle.raft_log_purge_state.specs.Settled.{HoldsSettled, SameTables}
@@ -82,7 +82,7 @@ left_out home e t m h same call =
       | inl is ↦ subst (λ (q : LogFiles LogRecord). KeepsBytes s.rewrite.files q) (sym is) ((calls_keep_bytes {R = LogRecord}).same s.rewrite.files)
       | inr cut ↦ (calls_keep_bytes {R = LogRecord}).cut_back _ _ _ s.rewrite.files files cut
     ] in
-    held_on home e t InRewrite s h.map h.stored h.meant h.cached same files keeps runs m []
+    held_on home e t InRewrite s h.map h.stored h.rises h.meant h.cached same files keeps runs m []
     (rewrite_left_out (Ties (log_in home)) (AllowsIn (log_in home)) s (next_log InRewrite s files t.pipes.disk) (view_of e.tables h.map) m [] h.at step)
 
 pub record_refused : (home : Home) (e t : Shows) (b : Batch) (m : LogMap) (error : Error) (h : Holds home e m []) → CountsAlone b → SameTables e t → (u : ℕ → View (List ℕ) (List ℕ))
@@ -90,13 +90,13 @@ pub record_refused : (home : Home) (e t : Shows) (b : Batch) (m : LogMap) (error
 record_refused home e t b m (errors.Io kind) h alone same u carry call =
     let s = h.state in
     let (cause, (files, cut, runs, step)) = call (sense home) s (Plain (bytes_of b)) h.runs (says_alone home b alone) in
-    settled_on home e t InRewrite s h.map h.stored h.meant h.cached same files ((calls_keep_bytes {R = LogRecord}).cut_back _ _ _ s.rewrite.files files cut) runs m
+    settled_on home e t InRewrite s h.map h.stored h.rises h.meant h.cached same files ((calls_keep_bytes {R = LogRecord}).cut_back _ _ _ s.rewrite.files files cut) runs m
     (rewrite_settles (Ties (log_in home)) s (next_log InRewrite s files t.pipes.disk) (view_of e.tables h.map) m
     (cut_back_settles (Ties (log_in home)) s (next_log InRewrite s files t.pipes.disk) InRewrite step) h.at)
 record_refused home e t b m (errors.TryAgain text) h alone same u carry call =
     let s = h.state in
     let (cause, (files, cut, runs, step)) = call (sense home) s (Plain (bytes_of b)) h.runs (says_alone home b alone) in
-    settled_on home e t InRewrite s h.map h.stored h.meant h.cached same files ((calls_keep_bytes {R = LogRecord}).cut_back _ _ _ s.rewrite.files files cut) runs m
+    settled_on home e t InRewrite s h.map h.stored h.rises h.meant h.cached same files ((calls_keep_bytes {R = LogRecord}).cut_back _ _ _ s.rewrite.files files cut) runs m
     (rewrite_settles (Ties (log_in home)) s (next_log InRewrite s files t.pipes.disk) (view_of e.tables h.map) m
     (cut_back_settles (Ties (log_in home)) s (next_log InRewrite s files t.pipes.disk) InRewrite step) h.at)
 record_refused home e t b m errors.NumberRange h alone same u carry call = left_out home e t m h same (call (sense home) h.state (Plain (bytes_of b)) h.runs (says_alone home b alone))
@@ -114,8 +114,8 @@ record_refused home e t b m _ h alone same u carry call = call (sense home) h.st
 -- the tables show what the record makes of them
 pub record_written : (home : Home) (e t : Shows) (b : Batch) (block : FileBlockHandle) (m : LogMap) (h : Holds home e m []) → CountsAlone b → (call : AppendsTo InRewrite (signed_for b) block e.pipes t.pipes)
     → (u : ℕ → Shown) → t.tables ≡ u → KeepsOrForgets e t
-    → ((s : State) (r : LogRecord) → HasLast (signed_for b) r block s.rewrite.files → s.rewrite.first ≤ s.rewrite.files.last → AreStored s e.tables → AreMeant (entries_at s) e.tables h.map
-    → AreStored s u × ViewCarries (entries_at s) block.id.seq e.tables u h.map (bytes_of b)) → Holds home t m []
+    → ((s : State) (r : LogRecord) → HasLast (signed_for b) r block s.rewrite.files → s.rewrite.first ≤ s.rewrite.files.last → AreStored s e.tables → FilesRiseIn s e.tables → AreMeant (entries_at s) e.tables h.map
+    → AreStored s u × FilesRiseIn s u × ViewCarries (entries_at s) block.id.seq e.tables u h.map (bytes_of b)) → Holds home t m []
 record_written home e t b block m h alone call u same kept carry =
     let s = h.state in
     let (files, has, last, runs, step) = (call (sense home) s (Plain (bytes_of b)) h.runs (says_alone home b alone)).1 in
@@ -123,11 +123,13 @@ record_written home e t b block m h alone call u same kept carry =
     let keeps = (calls_keep_bytes {R = LogRecord}).taken _ _ _ s.rewrite.files files has in
     let stays = stored_entries_stay s next (calls_keep_log InRewrite s files t.pipes.disk keeps) e.tables h.stored in
     let above = h.at.there.rewrite.above in
-    let (stored, view) = carry next (says_alone home b alone).value last (omega (arith, above, keeps.last)) stays.0 (stays.1 h.map h.meant) in record {
+    let rise = rise_on s next (calls_keep_log InRewrite s files t.pipes.disk keeps) e.tables h.rises in
+    let (stored, rises, view) = carry next (says_alone home b alone).value last (omega (arith, above, keeps.last)) stays.0 rise (stays.1 h.map h.meant) in record {
       state = next;
       map = h.map;
       runs = runs;
       stored = subst (λ v. AreStored next v) (sym same) stored;
+      rises = subst (λ v. FilesRiseIn next v) (sym same) rises;
       meant = subst (λ v. AreMeant (entries_at next) v h.map) (sym same) view.meant;
       cached = stays_cached s next (calls_keep_log InRewrite s files t.pipes.disk keeps) e.cache t.cache kept h.cached;
       at = subst (λ v. IsAt (Ties (log_in home) next) (view_of v h.map) m []) (sym same)
@@ -166,10 +168,14 @@ marks_carried : (home : Home) (e : Shows) (b : Batch) (s : State) (n : ℕ) (map
 marks_carried home e b s n map says meant =
     marks_on (entries_at s) n e.tables map (λ g. (says.owed g).0) (bytes_of b) meant (λ g. (says.owed g).1.owed) (λ g. (says.owed g).1.all) (marks_said b e.tables says.owed)
 
+-- marks that are carried change no place
+marks_rise : (s : State) (v : ℕ → Shown) → FilesRiseIn s v → FilesRiseIn s (λ g. unmarked (v g))
+marks_rise s v rises g = record { appended = (rises g).appended; rewritten = (rises g).rewritten; in_append = (rises g).in_append; in_rewrite = (rises g).in_rewrite }
+
 pub marks_written : (home : Home) (e t : Shows) (b : Batch) (block : FileBlockHandle) (m : LogMap) → Holds home e m [] → SaysOwed b e.tables → AppendsTo InRewrite (signed_for b) block e.pipes t.pipes
     → t.tables ≡ (λ g. unmarked (e.tables g)) → KeepsOrForgets e t → Holds home t m []
 marks_written home e t b block m h says call same kept =
-    record_written home e t b block m h says.alone call (λ g. unmarked (e.tables g)) same kept (λ s r last spans stored meant. (λ g. stored g, marks_carried home e b s block.id.seq h.map says meant))
+    record_written home e t b block m h says.alone call (λ g. unmarked (e.tables g)) same kept (λ s r last spans stored rises meant. (λ g. stored g, marks_rise s e.tables rises, marks_carried home e b s block.id.seq h.map says meant))
 
 pub marks_refused : (home : Home) (e t : Shows) (b : Batch) (m : LogMap) (error : Error) → Holds home e m [] → SaysOwed b e.tables → SameTables e t
     → FailsToAppendTo InRewrite (signed_for b) error e.pipes t.pipes → RewriteLeaves home m t error

@@ -20,7 +20,7 @@ use Rattle.raft_log_held.specs.Counts.{file_of_value, least_over, least_value, l
 use Rattle.raft_log_held.specs.Keys.{held_in, slot_at, value_of}
 use Rattle.raft_log_tables.specs.Files.{FrontIsLeast, IsLeastInAppend, first_place, min_file}
 use Rattle.raft_log_tables.specs.Table.{Raw, shown}
-use Rattle.raft_log_tables.proofs.Leasts.{least_in_append, least_in_rewrite, nothing_in_rewrite, place_there}
+use Rattle.raft_log_tables.proofs.Leasts.{front_is_least, least_in_append, least_in_rewrite, nothing_in_rewrite, place_there}
 use Rattle.raft_log_replay.specs.declared.group_table.GroupTable.{GroupTable}
 use Rattle.raft_log_replay.specs.declared.mem_tables.MemTables.{MemTables}
 use Rattle.raft_log_replay.specs.Tables.{has_table, raw_of, shown_in, shown_of}
@@ -36,7 +36,7 @@ use Rattle.raft_log_engine_state.specs.Shows.{Home, LogMap, Shows, shows}
 use Rattle.raft_log_purge_state.specs.Settled.{HoldsSettled}
 use Rattle.raft_log_purge_state.specs.Raising.{MayBegin, PurgeLeavesHeld}
 use Rattle.raft_log_purge_state.proofs.Raising.{raise_refused, raised}
-use Rattle.raft_log_rewriting.specs.Files.{FailsToLoseFiles, FrontsAreLeast, IsLeastOf, LosesFiles, MayLoseFiles, RemainsSettled, least_in}
+use Rattle.raft_log_rewriting.specs.Files.{FailsToLoseFiles, IsLeastOf, LosesFiles, MayLoseFiles, RemainsSettled, least_in}
 use Rattle.raft_log_rewriting.proofs.Parts.{alive_ok, same_later, tells_err}
 
 -- Group by group.
@@ -155,7 +155,7 @@ rewrite_group : (o : Option GroupTable) (least : ℕ) → IsOrderly (shown_in o)
 rewrite_group None least orderly front below = (least, ((λ i from to. absurd (omega (arith, from, to))), (λ k h held appended. no_word h held)), omega arith)
 rewrite_group (Some t) least orderly front below = rewrite_table t.table least orderly front (min_file Rewrite t.table) refl below
 
-pub queue_may_begin : (queue : LogQueue) (limit least : ℕ) (m : MemTables) → IsLeastOf queue limit m least → ((g : ℕ) → IsOrderly (shown_of m g)) → FrontsAreLeast (shown_of m) → MayLoseFiles (which_of queue) (shown_of m)
+pub queue_may_begin : (queue : LogQueue) (limit least : ℕ) (m : MemTables) → IsLeastOf queue limit m least → ((g : ℕ) → IsOrderly (shown_of m g)) → ((g : ℕ) → FrontIsLeast (shown_of m g)) → MayLoseFiles (which_of queue) (shown_of m)
     → MayBegin (which_of queue) least (shown_of m)
 queue_may_begin Append limit least m is orderly fronts owes = λ g. (owes g, append_group (get nat_cmp m.groups g) least (fronts g) (is.below g))
 queue_may_begin Rewrite limit least m is orderly fronts owes = λ g. rewrite_group (get nat_cmp m.groups g) least (orderly g) (fronts g) (is.below g)
@@ -170,8 +170,8 @@ remains_settled home m t errors.Failed h = h
 remains_settled home m t _ h = absurd h
 
 module _ (queue : LogQueue) (limit : ℕ) (m : MemTables) (v w : LogPipes) (old new : BlockCache) (none : new.place ≡ None) (least : ℕ) (is : IsLeastOf queue limit m least) (later : IsLater v.disk w.disk) where
-  begins : (home : Home) (log : LogMap) → HoldsSettled home (shows v m old) log → FrontsAreLeast (shown_of m) → MayLoseFiles (which_of queue) (shown_of m) → MayBegin (which_of queue) least (shown_of m)
-  begins home log h fronts owes = queue_may_begin queue limit least m is (λ g. h.meant.orderly g) fronts owes
+  begins : (home : Home) (log : LogMap) → HoldsSettled home (shows v m old) log → MayLoseFiles (which_of queue) (shown_of m) → MayBegin (which_of queue) least (shown_of m)
+  begins home log h owes = queue_may_begin queue limit least m is h.meant.orderly (λ g. front_is_least h.state.append.files.last h.state.rewrite.files.last (shown_of m g) (h.rises g)) owes
 
   pub loses_files : (count : ℕ) → TellsFailure (Ok count) w → PurgesQueue (which_of queue) least v w
       → count ≡ least - (pipe_at (which_of queue) (files_of v)).first_seq → LosesFiles queue limit m count (shows v m old) (shows w m new)
@@ -182,16 +182,16 @@ module _ (queue : LogQueue) (limit : ℕ) (m : MemTables) (v w : LogPipes) (old 
     alive = alive_ok count w tells;
     none = none;
     later = later;
-    keeps = λ home log h fronts owes. raised (which_of queue) home (shows v m old) (shows w m new) log least h (begins home log h fronts owes) refl none call;
+    keeps = λ home log h owes. raised (which_of queue) home (shows v m old) (shows w m new) log least h (begins home log h owes) refl none call;
   }
 
   pub fails_to_lose : {A : Type 0} (error : Error) → TellsFailure {A = A} (Err error) w → FailsToPurgeQueue (which_of queue) least error v w → FailsToLoseFiles queue error (shows v m old) (shows w m new)
   fails_to_lose {A} error tells call = record {
     tells = λ lived. tells_err {A = A} error w tells;
     later = later;
-    remains = λ home log h fronts owes.
+    remains = λ home log h owes.
         remains_settled home log (shows w m new) error
-        (raise_refused (which_of queue) home (shows v m old) (shows w m new) log least error h (begins home log h fronts owes) refl none call);
+        (raise_refused (which_of queue) home (shows v m old) (shows w m new) log least error h (begins home log h owes) refl none call);
   }
 
 -- the least file wasn't told: memory ran out
@@ -199,7 +199,7 @@ pub none_told : (queue : LogQueue) (e : Shows) → FailsToLoseFiles queue errors
 none_told queue e = record {
   tells = λ lived. (λ hit. absurd (false≢true (sym lived ∙ hit)), λ is. absurd (let never : ⊥ = cc is in never));
   later = same_later e.pipes.disk;
-  remains = λ home log h fronts owes. h;
+  remains = λ home log h owes. h;
 }
 
 -- What a purge tells, whichever way it went.

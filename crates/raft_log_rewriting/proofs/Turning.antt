@@ -23,7 +23,7 @@ use Rattle.raft_log_purge_state.specs.Quiet.{TurnLeavesHeld}
 use Rattle.raft_log_purge_state.proofs.Settling.{rewrite_rotates, settled_held, settled_rotates, turn_refused}
 use Rattle.raft_log_rewriting.specs.Parts.{IsRefused, Remains}
 use Rattle.raft_log_rewriting.specs.Marks.{CarriesMarks}
-use Rattle.raft_log_rewriting.specs.Files.{FailsToLoseFiles, FrontsAreLeast, LosesFiles, MayLoseFiles, RemainsSettled}
+use Rattle.raft_log_rewriting.specs.Files.{FailsToLoseFiles, LosesFiles, MayLoseFiles, RemainsSettled}
 use Rattle.raft_log_rewriting.specs.Stale.{FailsToPurge, FailsToTurn, PurgesAllStale, TurnsAndLoses, written_file}
 use Rattle.raft_log_rewriting.proofs.Parts.{later_on, tells_err}
 
@@ -40,7 +40,7 @@ turns_and_loses queue m count last s t mid is turns later loses = record {
   turns = turns;
   loses = subst (λ (n : ℕ). LosesFiles queue n m count (record s { pipes = mid }) t) is loses;
   later = later_on s.pipes.disk mid.disk t.pipes.disk later loses.later;
-  keeps = λ home log h fronts owes. loses.keeps home log (settled_turns queue home s (record s { pipes = mid }) log h refl refl turns) fronts owes;
+  keeps = λ home log h owes. loses.keeps home log (settled_turns queue home s (record s { pipes = mid }) log h refl refl turns) owes;
 }
 
 turn_remains : (home : Home) (m : LogMap) (t : Shows) (error : Error) → TurnLeavesHeld home m [] t error → Remains home m t error
@@ -54,7 +54,7 @@ pub not_turned : {A : Type 0} (queue : LogQueue) (error : Error) (s : Shows) (mi
 not_turned {A} queue error s mid tells later call = record {
   tells = λ lived. tells_err {A = A} error mid tells;
   later = later;
-  remains = λ home log h fronts owes.
+  remains = λ home log h owes.
       turn_remains home log (record s { pipes = mid }) error
       (turn_refused (which_of queue) home s (record s { pipes = mid }) log [] error (settled_held home s log h) (record { tables = refl; cache = inl refl }) call);
 }
@@ -68,8 +68,8 @@ pub turned_not_lost : (queue : LogQueue) (error : Error) (s t : Shows) (mid : Lo
 turned_not_lost queue error s t mid alive turns later fails = record {
   tells = λ lived. fails.tells alive;
   later = later_on s.pipes.disk mid.disk t.pipes.disk later fails.later;
-  remains = λ home log h fronts owes.
-      lost_remains home log t error (fails.remains home log (settled_turns queue home s (record s { pipes = mid }) log h refl refl turns) fronts owes);
+  remains = λ home log h owes.
+      lost_remains home log t error (fails.remains home log (settled_turns queue home s (record s { pipes = mid }) log h refl refl turns) owes);
 }
 
 pub turned : (queue : LogQueue) (m : MemTables) (last : ℕ) (s t : Shows) (mid : LogPipes) → last ≡ written_file queue mid → RotatesQueue (which_of queue) s.pipes mid → IsLater s.pipes.disk mid.disk → (r : Result ℕ Error)
@@ -88,10 +88,6 @@ unturned queue s t mid alive turns later (Err e) fails = turned_not_lost queue e
 none_owed : (s t : Shows) → CarriesMarks s t → MayLoseFiles InAppend t.tables
 none_owed s t carries = subst (λ (v : ℕ → Shown). (g : ℕ) → OwesNothing (whereabouts (v g))) (sym carries.tables) (λ g. (refl, refl, λ k. refl))
 
--- and the files stay where they lay
-fronts_stay : (s t : Shows) → CarriesMarks s t → FrontsAreLeast s.tables → FrontsAreLeast t.tables
-fronts_stay s t carries fronts = subst FrontsAreLeast (sym carries.tables) fronts
-
 module _ (s : Shows) (synced : LogPipes) (syncs : SyncsQueue InAppend s.pipes synced) (later : IsLater s.pipes.disk synced.disk) where
   abbrev behind : Shows
   behind = record s { pipes = synced }
@@ -104,7 +100,7 @@ module _ (s : Shows) (synced : LogPipes) (syncs : SyncsQueue InAppend s.pipes sy
   marks_refused_then error t alive refused = record {
     tells = λ lived. refused.tells alive;
     later = later_on s.pipes.disk synced.disk t.pipes.disk later refused.later;
-    remains = λ home log pending h fronts. inl (refused.remains home (taken log pending) (held_behind home log pending h));
+    remains = λ home log pending h. inl (refused.remains home (taken log pending) (held_behind home log pending h));
   }
 
   module _ (carried : Shows) (carries : CarriesMarks behind carried) where
@@ -118,15 +114,12 @@ module _ (s : Shows) (synced : LogPipes) (syncs : SyncsQueue InAppend s.pipes sy
     rewrite_refused_then error t fails = record {
       tells = λ lived. fails.tells carries.alive;
       later = later_on s.pipes.disk carried.pipes.disk t.pipes.disk to_carried fails.later;
-      remains = λ home log pending h fronts. inl (fails.remains home (taken log pending) (settled_there home log pending h) (fronts_stay behind carried carries fronts) tt);
+      remains = λ home log pending h. inl (fails.remains home (taken log pending) (settled_there home log pending h) tt);
     }
 
     module _ (m : MemTables) (lost : ℕ) (mid : Shows) (rewrite : TurnsAndLoses Rewrite m lost carried mid) (tables : mid.tables ≡ carried.tables) where
-      settled_mid : (home : Home) (log : LogMap) (pending : List Said) → Holds home s log pending → FrontsAreLeast s.tables → HoldsSettled home mid (taken log pending)
-      settled_mid home log pending h fronts = rewrite.keeps home (taken log pending) (settled_there home log pending h) (fronts_stay behind carried carries fronts) tt
-
-      fronts_mid : FrontsAreLeast s.tables → FrontsAreLeast mid.tables
-      fronts_mid fronts = subst FrontsAreLeast (sym tables) (fronts_stay behind carried carries fronts)
+      settled_mid : (home : Home) (log : LogMap) (pending : List Said) → Holds home s log pending → HoldsSettled home mid (taken log pending)
+      settled_mid home log pending h = rewrite.keeps home (taken log pending) (settled_there home log pending h) tt
 
       none_mid : MayLoseFiles InAppend mid.tables
       none_mid = subst (λ (v : ℕ → Shown). (g : ℕ) → OwesNothing (whereabouts (v g))) (sym tables) (none_owed behind carried carries)
@@ -138,7 +131,7 @@ module _ (s : Shows) (synced : LogPipes) (syncs : SyncsQueue InAppend s.pipes sy
       append_refused_then error t fails = record {
         tells = λ lived. fails.tells rewrite.loses.alive;
         later = later_on s.pipes.disk mid.pipes.disk t.pipes.disk to_mid fails.later;
-        remains = λ home log pending h fronts. inl (fails.remains home (taken log pending) (settled_mid home log pending h fronts) (fronts_mid fronts) none_mid);
+        remains = λ home log pending h. inl (fails.remains home (taken log pending) (settled_mid home log pending h) none_mid);
       }
 
       pub all_purged : (gone : ℕ) (t : Shows) → TurnsAndLoses Append m gone mid t → PurgesAllStale m s t
@@ -153,7 +146,7 @@ module _ (s : Shows) (synced : LogPipes) (syncs : SyncsQueue InAppend s.pipes sy
         from_append = gone;
         append = append;
         later = later_on s.pipes.disk mid.pipes.disk t.pipes.disk to_mid append.later;
-        settles = λ home log pending h fronts. append.keeps home (taken log pending) (settled_mid home log pending h fronts) (fronts_mid fronts) none_mid;
+        settles = λ home log pending h. append.keeps home (taken log pending) (settled_mid home log pending h) none_mid;
       }
 
 -- Append's sync failed
@@ -162,5 +155,5 @@ pub unsynced : {A : Type 0} (error : Error) (s : Shows) (w : LogPipes) → error
 unsynced {A} error s w is tells later call = record {
   tells = λ lived. tells_err {A = A} error w tells;
   later = later;
-  remains = λ home log pending h fronts. inr (is, (unsynced_left home s.pipes w log pending (holds_runs home s log pending h) call).1);
+  remains = λ home log pending h. inr (is, (unsynced_left home s.pipes w log pending (holds_runs home s log pending h) call).1);
 }

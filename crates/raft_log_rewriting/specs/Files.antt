@@ -8,7 +8,7 @@ use Rattle.raft_log_machine.specs.Whereabouts.{OwesNothing}
 use Rattle.raft_log_directory.specs.Calls.{Which}
 use Rattle.raft_log_directory.specs.Calls.Which.{InAppend, InRewrite}
 use Rattle.raft_log_places.specs.Shown.{Shown, whereabouts}
-use Rattle.raft_log_tables.specs.Files.{FrontIsLeast, min_file}
+use Rattle.raft_log_tables.specs.Files.{min_file}
 use Rattle.raft_log_tables.specs.Table.{Raw}
 use Rattle.raft_log_replay.specs.declared.mem_tables.MemTables.{MemTables}
 use Rattle.raft_log_replay.specs.Tables.{raw_of}
@@ -29,10 +29,6 @@ pub record IsLeastOf (queue : LogQueue) (limit : ℕ) (m : MemTables) (least : �
   pub below : (g n : ℕ) → least_in queue (raw_of m g) ≡ Some n → least ≤ n
   pub exact : (least ≡ limit) ⊎ ((g : ℕ) × (least_in queue (raw_of m g) ≡ Some least))
 
--- of no group does an entry lie in an earlier file than the first one of its queue
-abbrev pub FrontsAreLeast : (ℕ → Shown) → Type 0
-FrontsAreLeast v = (g : ℕ) → FrontIsLeast (v g)
-
 -- what is asked of the tables before files of a queue go: of Append, that no mark is owed
 abbrev pub MayLoseFiles : Which → (ℕ → Shown) → Type 0
 MayLoseFiles InAppend v = (g : ℕ) → OwesNothing (whereabouts (v g))
@@ -47,7 +43,7 @@ pub record LosesFiles (queue : LogQueue) (limit : ℕ) (m : MemTables) (count : 
   pub alive : has_failed t ≡ false
   pub none : t.cache.place ≡ None
   pub later : IsLater s.pipes.disk t.pipes.disk
-  pub keeps : (home : Home) (log : LogMap) → HoldsSettled home s log → FrontsAreLeast s.tables
+  pub keeps : (home : Home) (log : LogMap) → HoldsSettled home s log
       → MayLoseFiles (which_of queue) s.tables → HoldsSettled home t log
 
 -- what is true where that was refused: nothing was done; or the engine has failed, and its log is held
@@ -59,5 +55,5 @@ RemainsSettled home m t _ = HoldsSettled home t m
 pub record FailsToLoseFiles (queue : LogQueue) (error : Error) (s t : Shows) : Type 0 where
   pub tells : has_failed s ≡ false → IsTrue (has_failed t) ↔ (error ≡ errors.Failed)
   pub later : IsLater s.pipes.disk t.pipes.disk
-  pub remains : (home : Home) (log : LogMap) → HoldsSettled home s log → FrontsAreLeast s.tables
+  pub remains : (home : Home) (log : LogMap) → HoldsSettled home s log
       → MayLoseFiles (which_of queue) s.tables → RemainsSettled home log t error

@@ -16,7 +16,7 @@ use Rattle.raft_log_engine_state.specs.Holding.{Holds, IsLeftAt}
 use Rattle.raft_log_purge_state.specs.Settled.{HoldsSettled}
 use Rattle.raft_log_rewriting.specs.Parts.{Remains}
 use Rattle.raft_log_rewriting.specs.Marks.{CarriesMarks}
-use Rattle.raft_log_rewriting.specs.Files.{FrontsAreLeast, LosesFiles, MayLoseFiles}
+use Rattle.raft_log_rewriting.specs.Files.{LosesFiles, MayLoseFiles}
 
 -- the number of the file that a queue is being written in
 abbrev pub written_file : LogQueue → LogPipes → ℕ
@@ -29,14 +29,14 @@ pub record TurnsAndLoses (queue : LogQueue) (m : MemTables) (count : ℕ) (s t :
   pub turns : RotatesQueue (which_of queue) s.pipes turned
   pub loses : LosesFiles queue (written_file queue turned) m count (record s { pipes = turned }) t
   pub later : IsLater s.pipes.disk t.pipes.disk
-  pub keeps : (home : Home) (log : LogMap) → HoldsSettled home s log → FrontsAreLeast s.tables
+  pub keeps : (home : Home) (log : LogMap) → HoldsSettled home s log
       → MayLoseFiles (which_of queue) s.tables → HoldsSettled home t log
 
 -- it was refused: whatever the log was, it is so; and where the engine has failed, its log is held
 pub record FailsToTurn (queue : LogQueue) (error : Error) (s t : Shows) : Type 0 where
   pub tells : has_failed s ≡ false → IsTrue (has_failed t) ↔ (error ≡ errors.Failed)
   pub later : IsLater s.pipes.disk t.pipes.disk
-  pub remains : (home : Home) (log : LogMap) → HoldsSettled home s log → FrontsAreLeast s.tables
+  pub remains : (home : Home) (log : LogMap) → HoldsSettled home s log
       → MayLoseFiles (which_of queue) s.tables → Remains home log t error
 
 -- All stale files are purged: Append was synced, then marks were carried, then each queue went on in its next
@@ -53,7 +53,7 @@ pub record PurgesAllStale (m : MemTables) (s t : Shows) : Type 0 where
   pub append : TurnsAndLoses Append m from_append rewritten t
   pub later : IsLater s.pipes.disk t.pipes.disk
   pub settles : (home : Home) (log : LogMap) (pending : List Said) → Holds home s log pending
-      → FrontsAreLeast s.tables → HoldsSettled home t (taken log pending)
+      → HoldsSettled home t (taken log pending)
 
 -- That was refused: the map stays, and where the engine has failed, its log is held, with the batches on the
 -- map, or pending as they were.
@@ -61,6 +61,5 @@ pub record FailsToPurge (error : Error) (s t : Shows) : Type 0 where
   pub tells : has_failed s ≡ false → IsTrue (has_failed t) ↔ (error ≡ errors.Failed)
   pub later : IsLater s.pipes.disk t.pipes.disk
   pub remains : (home : Home) (log : LogMap) (pending : List Said) → Holds home s log pending
-      → FrontsAreLeast s.tables
       → Remains home (taken log pending) t error
       ⊎ ((error ≡ errors.Failed) × IsLeftAt home t.pipes.disk log pending)

@@ -30,7 +30,8 @@ OwnsPaths F own = (m : ℕ) (path : List ℕ) → m < F.limit → F.IsPath m pat
 
 -- The files of a queue, on a disk with these names: the last one has this path and this number in the file
 -- system, and `P` holds of it; no other file has its number, none a higher one; whoever has a lower one is
--- that file as it was finished, and no other file has that number; and since `base` nothing has changed but the queue's own paths and files.
+-- that file as it was finished, and no other file has that number; and since `base` nothing has changed but
+-- the queue's own paths and files.
 pub record Stands {R : Type 0} (F : Format R) (own : List ℕ → Type 0) (base : Disk) (q : LogFiles R)
     (path : List ℕ) (id : ℕ) (P : File → Type 0) (N : Names) (d : Disk) : Type 0 where
   pub names : d.names ≡ N

@@ -24,7 +24,7 @@ pub enum Error {
     EntryCompacted,
     EntryNotFound,
     Full,
-    Other(Box<dyn std::error::Error>),
+    Other(Box<dyn std::error::Error + Send + Sync>),
 }
 
 pub type Result<T> = std::result::Result<T, Error>;

@@ -1,0 +1,7 @@
+#!/usr/bin/env bash
+# An engine over the file system in memory: batches written and synced each, the log opened by one worker and by two, and
+# entries of a group fetched, in bytes per second, beside a plain Rust twin (rustc -O), in one run.
+# Usage: bench/engine/run.sh [ROUNDS]; RT names the toolchain's command. Takes some 8 GB of memory.
+set -euo pipefail
+here="$(dirname "$0")"
+exec "$here/../common/run.sh" "$here" "${1:-1}" raft_log_base raft_log_disk raft_log_dual_pipes raft_log_engine raft_log_item_reader raft_log_items raft_log_memory_files raft_log_records raft_log_settings anyhow log

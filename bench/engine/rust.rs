@@ -1,0 +1,319 @@
+//! The plain Rust twin of the benchmark of an engine: the same records, pipe, file system in memory and tables, of vectors.
+#[path = "../common/batch.rs"]
+mod batch;
+#[path = "../common/frame.rs"]
+mod frame;
+#[path = "../common/pipe.rs"]
+mod pipe;
+#[path = "../common/record.rs"]
+mod record;
+#[path = "../common/window.rs"]
+mod window;
+
+use batch::Batch;
+use frame::{next, report};
+use pipe::{Files, Pipe};
+use record::{read_block, CompressionType, Content, EntryIndex, Error, FileBlockHandle, FileId, Item, LogQueue, Result, HEADER};
+use std::collections::{HashMap, VecDeque};
+use std::time::Instant;
+use window::{check_block, next_batch, open, Window, MAGIC};
+
+const BATCHES: u64 = 60_000;
+const GROUPS: u64 = 100;
+const SIZE: usize = 2_118;
+const FETCHED: u64 = 1_000;
+const READ_BLOCK: usize = 16 << 10;
+
+#[derive(Clone, Copy)]
+struct Place {
+    file: u64,
+    offset: u64,
+    len: usize,
+    entry_offset: u32,
+    entry_len: u32,
+}
+
+/// Where a group's entries lie.
+#[derive(Default)]
+struct Table {
+    first: u64,
+    places: VecDeque<Place>,
+}
+
+fn place_of(entry: &EntryIndex, block: FileBlockHandle) -> Place {
+    Place { file: block.id.seq, offset: block.offset, len: block.len, entry_offset: entry.entry_offset, entry_len: entry.entry_len }
+}
+
+impl Table {
+    fn end(&self) -> u64 {
+        self.first + self.places.len() as u64
+    }
+
+    /// Makes room for a run that starts no later than the index after the last.
+    fn prepare(&mut self, entries: &[EntryIndex]) -> Result<()> {
+        let Some(front) = entries.first() else { return Ok(()) };
+        if !self.places.is_empty() && self.end() < front.index {
+            return Err(Error::Corruption("a hole".to_string()));
+        }
+        self.places.try_reserve(entries.len()).map_err(|_| Error::Full)
+    }
+
+    fn append(&mut self, entries: &[EntryIndex], block: FileBlockHandle) {
+        let Some(front) = entries.first() else { return };
+        if self.first >= front.index || self.places.is_empty() {
+            self.first = front.index;
+        }
+        self.places.truncate((front.index - self.first) as usize);
+        self.places.extend(entries.iter().map(|entry| place_of(entry, block)));
+    }
+
+    /// Takes the entries of a newer part of the log.
+    fn take_newer(&mut self, mut newer: Table) -> Result<()> {
+        if newer.places.is_empty() {
+            return Ok(());
+        }
+        if self.places.is_empty() || newer.first <= self.first {
+            *self = newer;
+            return Ok(());
+        }
+        if self.end() < newer.first {
+            return Err(Error::Corruption("a hole".to_string()));
+        }
+        self.places.truncate((newer.first - self.first) as usize);
+        self.places.append(&mut newer.places);
+        Ok(())
+    }
+}
+
+type Tables = HashMap<u64, Table>;
+
+/// The entry block that was read last.
+#[derive(Default)]
+struct Kept {
+    place: Option<(u64, u64)>,
+    bytes: Vec<u8>,
+}
+
+struct Engine {
+    files: Files,
+    pipe: Pipe,
+    tables: Tables,
+    kept: Kept,
+}
+
+fn refused<E: std::fmt::Debug>(error: E) -> Error {
+    Error::Corruption(format!("{error:?}"))
+}
+
+fn header_of() -> Vec<u8> {
+    let mut bytes = MAGIC.to_vec();
+    bytes.extend_from_slice(&2u64.to_be_bytes());
+    bytes.extend_from_slice(&0u64.to_be_bytes());
+    bytes
+}
+
+impl Engine {
+    fn new() -> Result<Engine> {
+        let mut files = Files::default();
+        let pipe = Pipe::begin(&mut files, 0, header_of()).map_err(refused)?;
+        Ok(Engine { files, pipe, tables: Tables::new(), kept: Kept::default() })
+    }
+
+    fn prepare(&mut self, items: &[Item]) -> Result<()> {
+        for item in items {
+            if let Content::Entries(entries) = &item.content {
+                self.tables.entry(item.group).or_default().prepare(entries)?;
+            }
+        }
+        Ok(())
+    }
+
+    fn commit(&mut self, items: &[Item], block: FileBlockHandle) {
+        for item in items {
+            if let Content::Entries(entries) = &item.content {
+                if let Some(table) = self.tables.get_mut(&item.group) {
+                    table.append(entries, block);
+                }
+            }
+        }
+    }
+
+    /// Writes a batch and syncs it; answers how many bytes its record has.
+    fn write(&mut self, batch: &mut Batch) -> Result<u64> {
+        let len = batch.populate()?;
+        self.prepare(&batch.items)?;
+        let seq = self.pipe.next_file(&mut self.files).map_err(refused)?;
+        batch.sign(Some(seq as u32));
+        let (seq, at, _) = self.pipe.append(&mut self.files, &batch.buf).map_err(refused)?;
+        self.pipe.sync(&mut self.files).map_err(refused)?;
+        let block = batch.buf.len().min(HEADER + batch.entries_len + 4) - HEADER;
+        let id = FileId { queue: LogQueue::Append, seq };
+        let items = std::mem::take(&mut batch.items);
+        self.commit(&items, FileBlockHandle { id, offset: at + HEADER as u64, len: block });
+        batch.drain(&mut Vec::new());
+        Ok(len as u64)
+    }
+
+    /// The bytes of a file of the log.
+    fn file(&self, seq: u64) -> &[u8] {
+        let position = (seq - self.pipe.first) as usize;
+        let file = self.pipe.earlier.get(position).unwrap_or(&self.pipe.active);
+        self.files.files[file.file].as_ref().map_or(&[], |stored| &stored.content)
+    }
+
+    fn read_entry(&mut self, place: Place) -> Result<Vec<u8>> {
+        if self.kept.place != Some((place.file, place.offset)) {
+            let at = place.offset as usize;
+            let bytes = self.file(place.file)[at..at + place.len].to_vec();
+            read_block(&bytes, CompressionType::None)?;
+            self.kept = Kept { place: Some((place.file, place.offset)), bytes };
+        }
+        let at = place.entry_offset as usize;
+        Ok(self.kept.bytes[at..at + place.entry_len as usize].to_vec())
+    }
+
+    fn fetch(&mut self, group: u64, begin: u64, end: u64) -> Result<Vec<Vec<u8>>> {
+        let table = self.tables.get(&group).ok_or(Error::EntryNotFound)?;
+        if begin < table.first {
+            return Err(Error::EntryCompacted);
+        }
+        if end > table.end() {
+            return Err(Error::EntryNotFound);
+        }
+        let from = (begin - table.first) as usize;
+        let places: Vec<Place> = table.places.range(from..from + (end - begin) as usize).copied().collect();
+        places.into_iter().map(|place| self.read_entry(place)).collect()
+    }
+
+    fn close(mut self) -> Result<Files> {
+        self.pipe.writer.close(&mut self.files).map_err(refused)?;
+        Ok(self.files)
+    }
+}
+
+/// The files of a log by number, oldest first: the number, and the bytes.
+fn found(files: &Files) -> Vec<(u64, &[u8])> {
+    let mut found: Vec<(u64, &[u8])> = Vec::new();
+    for (path, file) in &files.paths {
+        let name = &path[path.rfind('/').map_or(0, |at| at + 1)..];
+        if let (true, Some(stored)) = (name.ends_with(".raftlog"), &files.files[*file]) {
+            if let Ok(seq) = name[..16].parse() {
+                found.push((seq, &stored.content));
+            }
+        }
+    }
+    found.sort_by_key(|(seq, _)| *seq);
+    found
+}
+
+/// The tables of a part of the log, of which the last file is checked whole if it is the log's last one.
+fn read_files(part: &[(u64, &[u8])], last: u64) -> Result<Tables> {
+    let mut tables = Tables::new();
+    let mut window = Window { bytes: Vec::new(), start: 0, block: READ_BLOCK };
+    for (seq, file) in part {
+        let (opened, mut at) = open(&mut window, file, *seq)?;
+        while let Some((items, block, end)) = next_batch(&mut window, file, &opened, at)? {
+            at = end;
+            if *seq == last {
+                check_block(&mut window, file, block)?;
+            }
+            for item in items {
+                if let Content::Entries(entries) = item.content {
+                    let table = tables.entry(item.group).or_default();
+                    table.prepare(&entries)?;
+                    table.append(&entries, block);
+                }
+            }
+        }
+    }
+    Ok(tables)
+}
+
+fn recover(files: &mut Files, workers: usize) -> Result<Tables> {
+    let found = found(files);
+    let last = found.last().map_or(0, |(seq, _)| *seq);
+    let size = found.len().div_ceil(workers);
+    let parts: Vec<Result<Tables>> = std::thread::scope(|scope| {
+        let running: Vec<_> = found.chunks(size.max(1)).map(|part| scope.spawn(move || read_files(part, last))).collect();
+        running.into_iter().map(|worker| worker.join().unwrap()).collect()
+    });
+    let mut tables = Tables::new();
+    for part in parts {
+        for (group, newer) in part? {
+            tables.entry(group).or_default().take_newer(newer)?;
+        }
+    }
+    let ids: Vec<usize> = files.paths.values().copied().collect();
+    for id in ids {
+        files.sync(id).map_err(refused)?;
+    }
+    Ok(tables)
+}
+
+/// The sum of the groups of all items of all files, their footers checked.
+fn scanned(files: &Files) -> Result<u64> {
+    let mut window = Window { bytes: Vec::new(), start: 0, block: READ_BLOCK };
+    let mut sum = 0;
+    for (seq, file) in found(files) {
+        let (opened, mut at) = open(&mut window, file, seq)?;
+        while let Some((items, _block, end)) = next_batch(&mut window, file, &opened, at)? {
+            at = end;
+            sum += items.iter().map(|item| item.group).sum::<u64>();
+        }
+    }
+    Ok(sum)
+}
+
+fn entries_of() -> Vec<Vec<u8>> {
+    let mut state = 88172645463325252u64;
+    let mut byte = || {
+        state = next(state);
+        state as u8
+    };
+    (0..16).map(|_| (0..SIZE).map(|_| byte()).collect()).collect()
+}
+
+fn write_all(engine: &mut Engine, entries: &[Vec<u8>]) -> Result<u64> {
+    let mut ends = vec![1u64; GROUPS as usize];
+    let mut batch = Batch::new();
+    let mut written = 0;
+    for number in 0..BATCHES {
+        let count = (number % 16) as usize + 1;
+        let end = &mut ends[(number % GROUPS) as usize];
+        let indexes = (*end..*end + count as u64).map(|index| EntryIndex::new(index, SIZE as u32)).collect();
+        *end += count as u64;
+        batch.add(number % GROUPS + 1, indexes, &entries[..count])?;
+        written += engine.write(&mut batch)?;
+    }
+    Ok(written)
+}
+
+fn fetch_all(engine: &mut Engine) -> Result<u64> {
+    let mut len = 0;
+    for group in 1..=GROUPS {
+        len += engine.fetch(group, 1, FETCHED + 1)?.iter().map(|entry| entry.len() as u64).sum::<u64>();
+    }
+    Ok(len)
+}
+
+fn main() -> Result<()> {
+    let entries = entries_of();
+    let mut engine = Engine::new()?;
+    let start = Instant::now();
+    let written = write_all(&mut engine, &entries)?;
+    report("write", written, start, written);
+    let start = Instant::now();
+    let fetched = fetch_all(&mut engine)?;
+    report("fetch", fetched, start, fetched);
+    let mut files = engine.close()?;
+    let start = Instant::now();
+    let sum = scanned(&files)?;
+    report("footers", written, start, sum);
+    for workers in [1, 2] {
+        let start = Instant::now();
+        let tables = recover(&mut files, workers)?;
+        let sum = tables.values().map(|table| table.end() - 1).sum();
+        report(&format!("open-{workers}"), written, start, sum);
+    }
+    Ok(())
+}

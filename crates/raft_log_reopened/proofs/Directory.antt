@@ -32,7 +32,7 @@ module _ {S : Type 0} (disk : S → Disk) (tells : S → List ℕ → ℕ → Ty
         readies = record { from = r.between; to = ready; from_is = refl; to_is = refl; readies = r.readies };
       }
 
-  call_by_call : (v : LogPipes) (tables : MemTables) → OpensDirectory disk tells config old v tables → Reopens disk tells config (disk old) v tables
+  pub call_by_call : (v : LogPipes) (tables : MemTables) → OpensDirectory disk tells config old v tables → Reopens disk tells config (disk old) v tables
   call_by_call v tables o = record {
     ready = o.builder;
     readied = disk o.ready;
@@ -43,7 +43,7 @@ module _ {S : Type 0} (disk : S → Disk) (tells : S → List ℕ → ℕ → Ty
     comes = record { over = o.reads.merged.over };
   }
 
-  not_opened : (error : Error) (new : S) → FailsToOpenDirectory disk tells config error old new → FailsToReopen disk tells config (disk old) (disk new)
+  pub not_opened : (error : Error) (new : S) → FailsToOpenDirectory disk tells config error old new → FailsToReopen disk tells config (disk old) (disk new)
   not_opened error new (unsound why same) = undone same
   not_opened error new (unfound begun begins why) = unscanned begun error begins why
   not_opened error new (files_unread found scanned finds why) = unrecovered found scanned error finds why

@@ -15,3 +15,4 @@ pub mod SpareCalls
 pub mod Spares
 pub mod Outcomes
 pub mod Directory
+pub mod Bare

@@ -3,3 +3,4 @@ pub mod Reopened
 pub mod Refused
 pub mod Outcomes
 pub mod Directory
+pub mod Bare

@@ -1,5 +1,6 @@
 //! The way from what an engine left to an engine that is opened.
 
+ghost use Rattle.raft_log_reopened.specs.Bare.{BareDirectoriesOpen};
 ghost use Rattle.raft_log_reopened.specs.Directory.{CrashedDirectoriesOpen, RestingDirectoriesOpen};
 ghost use Rattle.raft_log_reopened.specs.Outcomes.{CrashedLogsReopen, RestingLogsReopen};
 ghost use Rattle.raft_log_reopened.specs.Reopened.{ScansFindAllFiles, SyncedSparesCanBeUsed};
@@ -41,4 +42,10 @@ pub fn resting_directories_open<F: FileSystem>()
 /// after some first pending batches, the same for any two numbers of workers.
 pub fn crashed_directories_open<F: FileSystem>()
     ensures { CrashedDirectoriesOpen F.disk F.tells_space }
+{}
+
+/// Where nothing of a log is there, and maybe none of its directories, these are opened with nothing in them;
+/// where they aren't opened, nothing is there still, or a log is left in which nothing stands.
+pub fn bare_directories_open<F: FileSystem>()
+    ensures { BareDirectoriesOpen F.disk F.tells_space }
 {}

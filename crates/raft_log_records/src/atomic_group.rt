@@ -62,6 +62,7 @@ impl AtomicGroupBuilder {
         ensures ok { OnOk result (Marks self.old self.new batch.old batch.new status) }
         ensures part { OnOk result (BecomesPart batch.old.items batch.new.items self.old.id status) }
         ensures err { OnErr result ((self.new ≡ self.old) × Becomes batch.old batch.new) }
+        ensures buffer { batch.new.buffer ≡ batch.old.buffer }
     {
         let value = mark_value(alloc, self.id, status)?;
         batch.put_mark(alloc, value.as_slice())?;
@@ -77,6 +78,7 @@ impl AtomicGroupBuilder {
         ensures ok { OnOk result (Marks self.old self.new batch.old batch.new Begin) }
         ensures part { OnOk result (BecomesPart batch.old.items batch.new.items self.old.id Begin) }
         ensures err { OnErr result ((self.new ≡ self.old) × Becomes batch.old batch.new) }
+        ensures buffer { batch.new.buffer ≡ batch.old.buffer }
     {
         self.mark(alloc, batch, AtomicGroupStatus::Begin)
     }
@@ -90,6 +92,7 @@ impl AtomicGroupBuilder {
         ensures ok { OnOk result (Marks self.old self.new batch.old batch.new Middle) }
         ensures part { OnOk result (BecomesPart batch.old.items batch.new.items self.old.id Middle) }
         ensures err { OnErr result ((self.new ≡ self.old) × Becomes batch.old batch.new) }
+        ensures buffer { batch.new.buffer ≡ batch.old.buffer }
     {
         self.mark(alloc, batch, AtomicGroupStatus::Middle)
     }
@@ -102,6 +105,7 @@ impl AtomicGroupBuilder {
         ensures ok { OnOk result (Marks self.old self.new batch.old batch.new End) }
         ensures part { OnOk result (BecomesPart batch.old.items batch.new.items self.old.id End) }
         ensures err { OnErr result ((self.new ≡ self.old) × Becomes batch.old batch.new) }
+        ensures buffer { batch.new.buffer ≡ batch.old.buffer }
     {
         self.mark(alloc, batch, AtomicGroupStatus::End)
     }

@@ -163,6 +163,7 @@ impl LogBatch {
         requires { self.old.state ≡ Filling }
         ensures ok { OnOk result (Puts self.old self.new 0 mark_key value.now) }
         ensures err { OnErr result (Becomes self.old self.new) }
+        ensures buffer { self.new.buffer ≡ self.old.buffer }
     {
         self.items.put(alloc, MARK_GROUP, &MARK_KEY, value)
     }
@@ -173,6 +174,7 @@ impl LogBatch {
         ensures ok { OnOk result (AddsItem self.old self.new (command_item raft_group_id command)) }
         ensures err { OnErr result (self.new ≡ self.old) }
         ensures succeeds { length self.old.items < self.old.capacity → IsOk result }
+        ensures buffer { self.new.buffer ≡ self.old.buffer }
     {
         self.items.add_command(raft_group_id, command)
     }
@@ -185,6 +187,7 @@ impl LogBatch {
         ensures internal { IsTrue (is_internal key.now) → IsErr result }
         ensures err { OnErr result (Becomes self.old self.new) }
         ensures errors { IfErr result (λ e. IsKeyRefusal e key.now) }
+        ensures buffer { self.new.buffer ≡ self.old.buffer }
     {
         check_key(alloc, key)?;
         self.items.put(alloc, raft_group_id, key, value)?;
@@ -199,6 +202,7 @@ impl LogBatch {
         ensures internal { IsTrue (is_internal key.now) → IsErr result }
         ensures err { OnErr result (Becomes self.old self.new) }
         ensures errors { IfErr result (λ e. IsKeyRefusal e key.now) }
+        ensures buffer { self.new.buffer ≡ self.old.buffer }
     {
         check_key(alloc, key)?;
         self.items.delete(alloc, raft_group_id, key)?;
@@ -220,6 +224,7 @@ impl LogBatch {
         ensures internal { IsTrue (is_internal key.now) → IsErr result }
         ensures err { OnErr result (Becomes self.old self.new) }
         ensures errors { IfErr result (λ e. IsKeyRefusal e key.now) }
+        ensures buffer { self.new.buffer ≡ self.old.buffer }
     {
         check_key(alloc, key)?;
         self.items.put_message(alloc, raft_group_id, key, message)?;

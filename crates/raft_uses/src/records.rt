@@ -8,7 +8,7 @@ ghost use Rattle.raft_log_records.specs.Batch.{
   IsButBuffer,
   IsReadyForEach,
   IsRoomier,
-  empty_batch,
+  emptied,
   signed_as,
   with_batch,
   written_at,
@@ -62,7 +62,7 @@ pub fn take_over(batch: &mut LogBatch, other: &mut LogBatch)
     requires other { other.old.state ≡ Filling }
     requires room { HasRoomFor batch.old other.old }
     ensures taken { IsRoomier (with_batch batch.old other.old) batch.new }
-    ensures emptied { other.new ≡ empty_batch other.old.capacity other.old.buffer }
+    ensures emptied { other.new ≡ emptied other.old }
 {
     let _merged = batch.merge(other);
 }

@@ -1,6 +1,6 @@
 //! Entries that are added to a batch: their bytes stand one after another behind those that it has.
-ghost use Rattle.std.specs.Prelude.{◌≡◌, ◌+◌, ◌-◌, ◌<◌, ◌^◌, ◌++◌, ◌↔◌};
-ghost use Rattle.std.specs.Prelude.{length, min, IsTrue, IfOk, OnOk, OnErr, IfErr};
+ghost use Rattle.std.specs.Prelude.{◌≡◌, ◌+◌, ◌-◌, ◌≤◌, ◌<◌, ◌^◌, ◌++◌, ◌↔◌};
+ghost use Rattle.std.specs.Prelude.{length, min, vec_capacity, IsTrue, IfOk, OnOk, OnErr, IfErr};
 ghost use Rattle.raft_log_items.specs.Writing.{KeepsFront};
 ghost use Rattle.raft_log_records.specs.Entries.{RisesFrom, IsIndexRun, indexes_of, slices_bytes};
 ghost use Rattle.raft_log_records.specs.Entries.{laid_slices, joined, bytes_len, IsRunRefusal};
@@ -11,7 +11,7 @@ use raft_log_items::{EntryIndex, EntryIndexes, Error, LogItem, Result};
 use std::alloc::{AllocError, Global};
 
 impl LogBatch {
-    ghost use Rattle.std.specs.Prelude.{◌≡◌, OnOk, OnErr, IfErr};
+    ghost use Rattle.std.specs.Prelude.{◌≡◌, ◌≤◌, OnOk, OnErr, IfErr};
     ghost use Rattle.raft_log_records.specs.declared.log_batch.BatchState.TheVariants.{Filling};
     ghost use Rattle.raft_log_records.specs.Batch.{Becomes};
     ghost use Rattle.raft_log_records.specs.Places.{AddsBytes};
@@ -38,6 +38,7 @@ impl LogBatch {
         ensures run { OnOk result (IsRunOf (indexes_of entry_indexes.now) (slices_bytes entries.now)) }
         ensures room { OnOk result (MayHold self.old (slices_bytes entries.now)) }
         ensures err { OnErr result (Becomes self.old self.new) }
+        ensures buffer { OnOk result (self.old.buffer ≤ self.new.buffer) }
         ensures errors { IfErr result (λ e. IsSlicesRefusal e self.old entry_indexes.now entries.now) }
     {
         check_run(alloc, entry_indexes, entries.len())?;
@@ -120,6 +121,7 @@ fn bytes_len(entries: &[&[u8]]) -> u64
 /// Appends each entry's bytes. A refusal may leave a part behind what was there.
 fn append_each(out: &mut Vec<u8>, entries: &[&[u8]]) -> Result<(), AllocError>
     ensures ok { OnOk result (out.new.items ≡ out.old.items ++ joined (slices_bytes entries.now)) }
+    ensures grows { OnOk result (vec_capacity out.old ≤ vec_capacity out.new) }
     ensures err { OnErr result (KeepsFront out.old.items out.new.items) }
 {
     for entry in entries {
@@ -131,6 +133,7 @@ fn append_each(out: &mut Vec<u8>, entries: &[&[u8]]) -> Result<(), AllocError>
 /// The same, and a refusal changes nothing.
 fn append_entries(out: &mut Vec<u8>, entries: &[&[u8]]) -> Result<(), AllocError>
     ensures ok { OnOk result (out.new.items ≡ out.old.items ++ joined (slices_bytes entries.now)) }
+    ensures grows { OnOk result (vec_capacity out.old ≤ vec_capacity out.new) }
     ensures err { OnErr result (out.new.items ≡ out.old.items) }
 {
     let start = out.len();

@@ -3,7 +3,7 @@ ghost use Rattle.std.specs.Prelude.{◌≡◌, ◌≤◌, ◌++◌, vec_capacity
 ghost use Rattle.raft_log_records.specs.Batch.{Fits};
 ghost use Rattle.raft_log_records.specs.ItemBatch.{TakesItems};
 
-use super::{LogBatch, MAX_ENTRIES_LEN, make_room};
+use super::{LogBatch, MAX_ENTRIES_LEN, empty, make_room};
 use crate::log_item_batch::LogItemBatch;
 use raft_log_base::codec::or_cut_back;
 use raft_log_frames::LOG_BATCH_HEADER_LEN;
@@ -13,13 +13,14 @@ use std::alloc::AllocError;
 impl LogBatch {
     ghost use Rattle.std.specs.Prelude.{◌≡◌, ◌+◌, ◌≤◌, length, IsOk, OnOk, OnErr, IfErr};
     ghost use Rattle.raft_log_records.specs.declared.log_batch.BatchState.TheVariants.{Filling};
-    ghost use Rattle.raft_log_records.specs.Batch.{max_entries_len, empty_batch, with_batch, HasRoomFor};
+    ghost use Rattle.raft_log_records.specs.Batch.{max_entries_len, max_kept_len, emptied, with_batch};
+    ghost use Rattle.raft_log_records.specs.Batch.{HasRoomFor};
     ghost use Rattle.raft_log_records.specs.Batch.{IsButBuffer, IsRoomier};
     ghost use Rattle.raft_log_records.specs.Places.{AddsBytes, bytes_in};
     ghost use Rattle.raft_log_records.specs.Entries.{IsMergeRefusal};
 
     /// Takes the items and the entries' bytes of the other batch behind its own, and leaves the other one
-    /// empty.
+    /// empty, as `clear` does.
     ///
     /// Refused as full are more than 2,147,483,647 bytes of entries in all. A refusal changes neither but the
     /// memory of the own buffer, and where there is room for the other's items and bytes there is none.
@@ -28,7 +29,8 @@ impl LogBatch {
         requires other { rhs.old.state ≡ Filling }
         ensures ok { OnOk result (IsRoomier (with_batch self.old rhs.old) self.new) }
         ensures bytes { OnOk result (AddsBytes self.old self.new (bytes_in rhs.old)) }
-        ensures emptied { OnOk result (rhs.new ≡ empty_batch rhs.old.capacity rhs.old.buffer) }
+        ensures emptied { OnOk result (rhs.new ≡ emptied rhs.old) }
+        ensures bounded { OnOk result (rhs.new.buffer ≤ max_kept_len) }
         ensures room { OnOk result (length self.old.entries + length rhs.old.entries ≤ max_entries_len) }
         ensures succeeds { HasRoomFor self.old rhs.old → IsOk result }
         ensures err { OnErr result (IsButBuffer self.old self.new × (rhs.new ≡ rhs.old)) }
@@ -44,7 +46,7 @@ impl LogBatch {
         move_parts(&mut self.items, &mut self.buf, &mut rhs.items, bytes)?;
         self.items.lay_out_rest(first, self.entries_len as u32);
         self.entries_len += rhs.entries_len;
-        rhs.buf.truncate(LOG_BATCH_HEADER_LEN);
+        empty(&mut rhs.buf);
         rhs.entries_len = 0;
         Ok(())
     }

@@ -1,30 +1,24 @@
 -- Copies that are written to Rewrite, or refused there.
-use Rattle.std.proofs.Common.{◌≡◌, ℕ, zero, suc, ◌+◌, ◌-◌, ◌<◌, ◌≤◌, ◌&&◌, Bool, true, false, not, if◌then◌else◌, Option, List, [], ◌∷◌, ◌++◌, length, map, take, drop, nat_eq, inl, inr, refl, sym, ap, subst, ◌∙◌, arith}
+use Rattle.std.proofs.Common.{◌≡◌, ℕ, zero, suc, ◌+◌, ◌-◌, ◌≤◌, ◌&&◌, Bool, true, false, not, if◌then◌else◌, Option, List, [], ◌∷◌, ◌++◌, length, map, take, drop, nat_eq, inl, inr, refl, sym, ap, subst, ◌∙◌, arith}
 use Rattle.std.specs.Prelude.{nat_le}
 use Rattle.std.proofs.lemmas.Bool.Decides.{Decides-eqb, leb_tells}
 use Rattle.std.proofs.lemmas.List.{length-take}
 use std.Path.{fun_ext}
-use Rattle.raft_log_model.specs.Item.{Item, Tagged}
+use Rattle.raft_log_model.specs.Item.{Item}
 use Rattle.raft_log_model.specs.Item.Item.{Run, Clean, Compact, Put, Del}
-use Rattle.raft_log_model.specs.Groups.{of_group, taken}
-use Rattle.raft_log_model.specs.Renamed.{renamed, renamed_tagged}
+use Rattle.raft_log_model.specs.Groups.{of_group}
 use Rattle.raft_log_model.proofs.RenamedLaws.{of_group_renamed}
-use Rattle.raft_log_disk.specs.Disk.{Disk}
-use Rattle.raft_log_disk.specs.LogQueue.{LogFiles}
-use Rattle.raft_log_base.specs.Files.{signature_of}
 use Rattle.raft_log_base.specs.declared.errors.Error.{Error}
 use Rattle.raft_log_base.specs.declared.pipe_log.LogQueue.TheVariants.{Rewrite}
 use Rattle.raft_log_base.specs.declared.pipe_log.FileBlockHandle.{FileBlockHandle}
 use Rattle.raft_log_items.specs.declared.entry.EntryIndex.{EntryIndex}
 use Rattle.raft_log_items.specs.Placed.{written_entry}
 use Rattle.raft_log_layout.specs.declared.record.LogRecord.{LogRecord}
-use Rattle.raft_log_atomic_groups.specs.Meaning.{tagged_items}
 use Rattle.raft_log_records.specs.Batch.{Batch, block_place}
 use Rattle.raft_log_records.specs.Places.{entry_bytes}
 use Rattle.raft_log_held.specs.Entries.{place_of}
 use Rattle.raft_log_signed_batch.specs.Signing.{signed_for}
 use Rattle.raft_log_directory.specs.Calls.Which.{InRewrite}
-use Rattle.raft_log_directory.specs.Log.{View}
 use Rattle.raft_log_directory.specs.Tables.{CarriesTo}
 use Rattle.raft_log_places.specs.declared.place.Place.{Place}
 use Rattle.raft_log_places.specs.Shown.{Shown, IsOrderly}
@@ -33,9 +27,8 @@ use Rattle.raft_log_places.specs.Bridge.Move.{MoveKey, MoveRun}
 use Rattle.raft_log_places.proofs.Moving.{move_orderly}
 use Rattle.raft_log_places.specs.Noted.{AllIn, AllUpTo, AreIn, AreUpTo, FilesRise, MovesIn}
 use Rattle.raft_log_places.proofs.Rising.{copies_rise}
-use Rattle.raft_log_replay.specs.Rewriting.{AreCopies, all_rewritten, copied_items, moves_of}
+use Rattle.raft_log_replay.specs.Rewriting.{AreCopies, copied_items, moves_of}
 use Rattle.raft_log_replay.proofs.Copies.{copies_move}
-use Rattle.raft_log_steps.specs.State.{LogOnDisk}
 use Rattle.raft_log_steps.specs.Turning.{HasLast}
 use Rattle.raft_log_stored.specs.Stored.{AreStored, Each, IsStored, entries_at, file_bytes}
 use Rattle.raft_log_stored.specs.Written.{IsLaidOver, RunIsStored}
@@ -44,9 +37,9 @@ use Rattle.raft_log_stored.proofs.Lasting.{written_entries_are_stored}
 use Rattle.raft_log_views.specs.Views.{AreMeant, ViewCarries, view_of}
 use Rattle.raft_log_views.proofs.Carrying.{copies_on}
 use Rattle.raft_log_views.proofs.Lying.{written_in}
-use Rattle.raft_log_dual_pipes.specs.Pipes.{Said, State}
+use Rattle.raft_log_dual_pipes.specs.Pipes.{State}
 use Rattle.raft_log_dual_pipes.specs.Calls.{AppendsTo, FailsToAppendTo}
-use Rattle.raft_log_engine_state.specs.Shows.{Home, KeepsOrForgets, LogMap, Shows}
+use Rattle.raft_log_engine_state.specs.Shows.{Home, IsLaidOut, KeepsOrForgets, LogMap, Shows}
 use Rattle.raft_log_purge_state.specs.Settled.{SameTables}
 use Rattle.raft_log_engine_state.specs.Holding.{FilesRiseIn, Holds}
 use Rattle.raft_log_engine_state.specs.Writing.{items_at}
@@ -77,7 +70,7 @@ moves_in n (Compact c ∷ xs) lie = moves_in n xs lie
 moves_in n (Del k ∷ xs) lie = moves_in n xs lie
 
 -- of each group the batch says its copies
-copies_said : (at : Located → List ℕ) (block : FileBlockHandle) (b : Batch) → SaysAt at block b → (g : ℕ) → of_group g (bytes_of b) ≡ copied_items at (of_group g (items_at block b))
+pub copies_said : (at : Located → List ℕ) (block : FileBlockHandle) (b : Batch) → SaysAt at block b → (g : ℕ) → of_group g (bytes_of b) ≡ copied_items at (of_group g (items_at block b))
 copies_said at block b says g = ap (of_group g) (sym says) ∙ of_group_renamed (λ p. at (in_queue false p)) g (items_at block b)
 
 -- so many moves of each group
@@ -142,11 +135,11 @@ module _ (P : Located → Type 0) where
       subst (λ (n : ℕ). Each P (located n (q ∷ (front ++ (ps ++ rest))))) same (first, put_behind k front ps rest (omega (arith, long)) before all others)
 
   -- the places of a move
-  abbrev OfMove : Move → Type 0
+  abbrev pub OfMove : Move → Type 0
   OfMove (MoveRun f ps) = Each (λ p. P (in_queue false p)) ps
   OfMove (MoveKey k n) = Unit {0}
 
-  moved_lies : (at : Located → List ℕ) (v : Shown) (x : Move) → IsOrderly v → CanMove at v x → OfMove x → Each P (located v.rewritten v.places)
+  pub moved_lies : (at : Located → List ℕ) (v : Shown) (x : Move) → IsOrderly v → CanMove at v x → OfMove x → Each P (located v.rewritten v.places)
       → Each P (located (moved v x).rewritten (moved v x).places)
   moved_lies at v (MoveRun f ps) orderly can lie all =
       let k = f - v.first in
@@ -159,12 +152,12 @@ module _ (P : Located → Type 0) where
 -- The batch's entries lie where they were written.
 
 -- the log with its queues told the other way round
-abbrev turned_round : State → State
+abbrev pub turned_round : State → State
 turned_round s = record { append = s.rewrite; rewrite = s.append; disk = s.disk }
 
-module _ (s : State) (r : LogRecord) (block : FileBlockHandle) (b : Batch) (spans : s.rewrite.first ≤ s.rewrite.files.last) (alone : CountsAlone b) (last : HasLast (signed_for b) r block s.rewrite.files) where
+module _ (s : State) (r : LogRecord) (block : FileBlockHandle) (b : Batch) (spans : s.rewrite.first ≤ s.rewrite.files.last) (some : b.items ≡ [] → ⊥) (laid : IsLaidOut b) (last : HasLast (signed_for b) r block s.rewrite.files) where
   over : IsLaidOver b.items b.entries
-  over = record { some = alone.some; laid = alone.laid.laid; adds = alone.laid.adds }
+  over = record { some = some; laid = laid.laid; adds = laid.adds }
 
   pub says_there : SaysAt (entries_at s) block b
   says_there = (written_entries_are_stored (turned_round s) r block b.items b.entries spans over last).1
@@ -207,18 +200,18 @@ moved_rises s gate block b v m number meant says copies rises =
 -- A batch that may be there or not: told as if it were written behind all that stands.
 
 -- behind all that stands in that file of Rewrite
-abbrev behind_all : State → ℕ → ℕ
+abbrev pub behind_all : State → ℕ → ℕ
 behind_all s n = suc (length (file_bytes s.rewrite.files n))
 
-abbrev block_behind : State → ℕ → FileBlockHandle
+abbrev pub block_behind : State → ℕ → FileBlockHandle
 block_behind s n = record { id = record { queue = Rewrite; seq = n }; offset = behind_all s n; len = 0 }
 
 -- the place is there
-abbrev is_behind : State → ℕ → Located → Bool
+abbrev pub is_behind : State → ℕ → Located → Bool
 is_behind s n l = not l.appended && (nat_eq l.place.file n && nat_le (behind_all s n) l.place.offset)
 
 -- there are the batch's bytes, elsewhere what stood there
-abbrev bytes_behind : State → ℕ → Batch → Located → List ℕ
+abbrev pub bytes_behind : State → ℕ → Batch → Located → List ℕ
 bytes_behind s n b l = if is_behind s n l then take l.place.entry_len (drop l.place.entry_offset b.entries) else entries_at s l
 
 here : (s : State) (n : ℕ) (b : Batch) (e : EntryIndex) → bytes_behind s n b (in_queue false (place_of (written_entry (block_place (block_behind s n) b.entries) e))) ≡ entry_bytes b.entries e
@@ -228,11 +221,11 @@ here s n b e =
     ap (λ (t : Bool). if (t && nat_le (behind_all s n) (behind_all s n + 16)) then entry_bytes b.entries e else entries_at s (in_queue false (place_of (written_entry (block_place (block_behind s n) b.entries) e)))) same
     ∙ ap (λ (t : Bool). if t then entry_bytes b.entries e else entries_at s (in_queue false (place_of (written_entry (block_place (block_behind s n) b.entries) e)))) high
 
-says_behind : (s : State) (n : ℕ) (b : Batch) → SaysAt (bytes_behind s n b) (block_behind s n) b
+pub says_behind : (s : State) (n : ℕ) (b : Batch) → SaysAt (bytes_behind s n b) (block_behind s n) b
 says_behind s n b = places_say (λ l. bytes_behind s n b (in_queue false l.place)) (entry_bytes b.entries) (block_place (block_behind s n) b.entries) b.items (here s n b)
 
 -- what stood there isn't behind it
-not_behind : (s : State) (n : ℕ) (l : Located) → IsStored s l → is_behind s n l ≡ false
+pub not_behind : (s : State) (n : ℕ) (l : Located) → IsStored s l → is_behind s n l ≡ false
 not_behind s n l lies = in_queue_of l.appended refl
   where
     high : nat_eq l.place.file n ≡ true → IsStored s (in_queue false l.place) → nat_le (behind_all s n) l.place.offset ≡ false
@@ -255,7 +248,7 @@ elsewhere s n b [] all = tt
 elsewhere s n b (l ∷ ls) (first, rest) =
     (ap (λ (t : Bool). if t then take l.place.entry_len (drop l.place.entry_offset b.entries) else entries_at s l) (not_behind s n l first), elsewhere s n b ls rest)
 
-meant_behind : (s : State) (n : ℕ) (b : Batch) (v : ℕ → Shown) (m : LogMap) → AreStored s v → AreMeant (entries_at s) v m → AreMeant (bytes_behind s n b) v m
+pub meant_behind : (s : State) (n : ℕ) (b : Batch) (v : ℕ → Shown) (m : LogMap) → AreStored s v → AreMeant (entries_at s) v m → AreMeant (bytes_behind s n b) v m
 meant_behind s n b v m stored meant = means_alike (entries_at s) (bytes_behind s n b) v m (λ g. elsewhere s n b (located (v g).rewritten (v g).places) (stored g)) meant
 
 may_carry : (s : State) (n : ℕ) (gate : Option ℕ) (b : Batch) (v : ℕ → Shown) (m : LogMap) → AreStored s v → AreMeant (entries_at s) v m → HasCopies gate b v m
@@ -266,7 +259,7 @@ may_carry s n gate b v m stored meant copies =
 -- The laws.
 
 -- the map that is held is the one that was told
-held_map : (home : Home) (e : Shows) (m : LogMap) (h : Holds home e m []) → m ≡ h.map
+pub held_map : (home : Home) (e : Shows) (m : LogMap) (h : Holds home e m []) → m ≡ h.map
 held_map home e m h = sym h.at.stands.map
 
 pub copies_written : (home : Home) (e t : Shows) (gate : Option ℕ) (b : Batch) (block : FileBlockHandle) (m : LogMap) → Holds home e m [] → CountsAlone b → HasCopies gate b e.tables m
@@ -275,8 +268,8 @@ copies_written home e t gate b block m h alone copies call same kept =
     let these : HasCopies gate b e.tables h.map = subst (λ k. HasCopies gate b e.tables k) (held_map home e m h) copies in
     record_written home e t b block m h alone call (moved_to gate block b e.tables) same kept
     (λ s r last spans stored rises meant.
-    let says = says_there s r block b spans alone last in (
-      copies_stored s gate block b e.tables h.map meant says these (runs_there s r block b spans alone last) stored,
+    let says = says_there s r block b spans alone.some alone.laid last in (
+      copies_stored s gate block b e.tables h.map meant says these (runs_there s r block b spans alone.some alone.laid last) stored,
       moved_rises s gate block b e.tables h.map last.number meant says these rises,
       copies_carry (entries_at s) gate block b e.tables h.map meant says these,
     ))

@@ -1,34 +1,36 @@
 -- A record that is written to Rewrite, or refused there, goes on with an engine's log.
 use Rattle.std.proofs.Common.{◌≡◌, ℕ, ◌≤◌, Bool, true, false, if◌then◌else◌, nat_lt, None, List, [], ◌∷◌, ◌++◌, map, inl, inr, refl, sym, ap, subst, ◌∙◌, arith}
-use Rattle.std.specs.Prelude.{unwrap_or}
-use Rattle.raft_log_model.specs.Item.{Item, Record, Tagged}
+use Rattle.std.specs.Prelude.{◌⊎◌, Option, Some, unwrap_or}
+use Rattle.raft_log_model.specs.Item.{Item, Tagged}
 use Rattle.raft_log_model.specs.Item.Item.{Clean, Compact, Del}
 use Rattle.raft_log_model.specs.Item.Record.{Plain}
 use Rattle.raft_log_model.specs.Groups.{of_group, taken}
-use Rattle.raft_log_model.specs.Renamed.{renamed, renamed_tagged}
+use Rattle.raft_log_model.specs.Renamed.{renamed}
 use Rattle.raft_log_model.proofs.RenamedLaws.{of_group_renamed}
 use Rattle.raft_log_disk.specs.LogQueue.{LogFiles}
 use Rattle.raft_log_base.specs.declared.errors.Error.{Error}
 use Rattle.raft_log_base.specs.declared.errors.Error.TheVariants as errors
 use Rattle.raft_log_base.specs.declared.pipe_log.LogQueue.TheVariants.{Rewrite}
 use Rattle.raft_log_base.specs.declared.pipe_log.FileBlockHandle.{FileBlockHandle}
+use Rattle.raft_log_base.specs.declared.pipe_log.LogFileContext.{LogFileContext}
 use Rattle.raft_log_items.specs.declared.entry.EntryIndex.{EntryIndex}
 use Rattle.raft_log_layout.specs.declared.record.LogRecord.{LogRecord}
 use Rattle.raft_log_machine.specs.Whereabouts.{top}
 use Rattle.raft_log_atomic_groups.specs.declared.marking.Marking.{Marking}
-use Rattle.raft_log_atomic_groups.specs.declared.marking.Marking.TheVariants.{Broken, Unmarked}
+use Rattle.raft_log_atomic_groups.specs.declared.marking.Marking.TheVariants.{Unmarked}
+use Rattle.raft_log_atomic_groups.specs.Marking.{marking_of_items}
 use Rattle.raft_log_atomic_groups.specs.Meaning.{marked, tagged_items}
 use Rattle.raft_log_records.specs.Batch.{Batch}
 use Rattle.raft_log_records.specs.Places.{entry_bytes}
-use Rattle.raft_log_signed_batch.specs.Signing.{signed_for}
+use Rattle.raft_log_signed_batch.specs.Signing.{SaysItself, signed_for}
 use Rattle.raft_log_directory.specs.Calls.{Appends, MayAppend}
 use Rattle.raft_log_directory.specs.Calls.Which.{InRewrite}
-use Rattle.raft_log_directory.specs.Log.{IsAt, IsSettled, View}
+use Rattle.raft_log_directory.specs.Log.{IsAt, IsLog, View}
 use Rattle.raft_log_directory.specs.Tables.{CarriesTo}
 use Rattle.raft_log_directory.proofs.CallLaws.{copies_answered, copies_may_be_there, rewrite_left_out}
 use Rattle.raft_log_directory.proofs.SettledLaws.{cut_back_settles, rewrite_settles}
 use Rattle.raft_log_places.specs.Shown.{Shown}
-use Rattle.raft_log_places.specs.Bridge.{AllOwed, dels, marks, unmarked, without}
+use Rattle.raft_log_places.specs.Bridge.{dels, marks, unmarked, without}
 use Rattle.raft_log_replay.specs.Owing.{AreOwedAt}
 use Rattle.raft_log_replay.proofs.Applied.{items_renamed}
 use Rattle.raft_log_steps.specs.Crash.{AllowsIn}
@@ -37,16 +39,16 @@ use Rattle.raft_log_steps.specs.Own.{log_layout}
 use Rattle.raft_log_steps.specs.Lying.{both_open, with_open}
 use Rattle.raft_log_steps.specs.State.{Ties}
 use Rattle.raft_log_steps.specs.Steps.{next_log}
-use Rattle.raft_log_steps.specs.Turning.{HasLast}
-use Rattle.raft_log_stored.specs.Stored.{AreStored, KeepsBytes, entries_at}
+use Rattle.raft_log_steps.specs.Turning.{HasLast, IsCutBack}
+use Rattle.raft_log_stored.specs.Stored.{AreStored, KeepsBytes, KeepsLog, entries_at}
 use Rattle.raft_log_stored.proofs.Keeping.{calls_keep_bytes, calls_keep_log}
 use Rattle.raft_log_stored.proofs.Staying.{stored_entries_stay}
 use Rattle.raft_log_views.specs.Views.{AreMeant, ViewCarries, view_of}
 use Rattle.raft_log_views.proofs.Carrying.{marks_on}
-use Rattle.raft_log_dual_pipes.specs.Pipes.{RunsOn, Said, State, files_of}
-use Rattle.raft_log_dual_pipes.specs.Calls.{AppendsTo, FailsToAppendTo, LeavesOutOn}
-use Rattle.raft_log_engine_state.specs.Shows.{Home, IsWellMarked, KeepsOrForgets, LogMap, Shows, log_in, said_by, said_of, sense}
-use Rattle.raft_log_engine_state.specs.Holding.{FilesRiseIn, Holds, IsLeftAt}
+use Rattle.raft_log_dual_pipes.specs.Pipes.{LogPipes, RunsOn, Said, State, files_of, header_at, spares_at}
+use Rattle.raft_log_dual_pipes.specs.Calls.{AppendsTo, CutsBackOn, FailsToAppendTo, LeavesOutOn}
+use Rattle.raft_log_engine_state.specs.Shows.{Home, IsLaidOut, IsWellMarked, KeepsOrForgets, LogMap, Shows, log_in, said_by, said_of, sense}
+use Rattle.raft_log_engine_state.specs.Holding.{FilesRiseIn, Holds}
 use Rattle.raft_log_engine_state.proofs.Keeping.{rise_on, stays_cached}
 use Rattle.raft_log_engine_state.proofs.Growing.{read_is_said}
 use Rattle.raft_log_purge_state.specs.Rewriting.{CountsAlone, RewriteLeaves, SaysOwed}
@@ -59,82 +61,122 @@ use Rattle.raft_log_purge_state.proofs.Settling.{held_on, left_whole, settled_on
 abbrev pub bytes_of : Batch → List (Tagged (List ℕ) (List ℕ))
 bytes_of b = tagged_items (entry_bytes b.entries) b.items
 
-pub said_alone : (b : Batch) → CountsAlone b → said_of b ≡ Plain (bytes_of b)
-said_alone b alone = ap (λ (k : Marking). unwrap_or (marked k (bytes_of b)) (Plain [])) alone.plain
+-- the record of a batch says what the batch does with its mark, if that isn't broken
+pub says_marked : (home : Home) (b : Batch) (k : Marking) (y : Said) → (b.items ≡ [] → ⊥) → marking_of_items b.items ≡ k → marked k (bytes_of b) ≡ Some y → SaysItself (signed_for b) b → IsLaidOut b
+    → SaysRecord said_by (log_layout Rewrite home.rewrite) Rewrite (signed_for b) y
+says_marked home b k y some mark is says laid =
+    subst (λ (x : Said). SaysRecord said_by (log_layout Rewrite home.rewrite) Rewrite (signed_for b) x) (read_is_said b whole laid ∙ said) (says some said_by Rewrite home.rewrite)
+  where
+    whole : IsWellMarked b
+    whole broken = (let clash : ◌≡◌ {A = Option Said} None (Some y) = ap (λ (j : Marking). marked j (bytes_of b)) (sym broken ∙ mark) ∙ is in let never : ⊥ = cc in never)
 
--- it has no broken mark
-well_marked : (b : Batch) → CountsAlone b → IsWellMarked b
-well_marked b alone broken = (let never : ◌≡◌ {A = Marking} Unmarked Broken = sym alone.plain ∙ broken in let none : ⊥ = cc never in none)
+    said : said_of b ≡ y
+    said = ap (λ (j : Marking). unwrap_or (marked j (bytes_of b)) (Plain [])) mark ∙ ap (λ (o : Option Said). unwrap_or o (Plain [])) is
 
--- its record says it
 says_alone : (home : Home) (b : Batch) → CountsAlone b → SaysRecord said_by (log_layout Rewrite home.rewrite) Rewrite (signed_for b) (Plain (bytes_of b))
-says_alone home b alone =
-    subst (λ (y : Said). SaysRecord said_by (log_layout Rewrite home.rewrite) Rewrite (signed_for b) y) (read_is_said b (well_marked b alone) alone.laid ∙ said_alone b alone)
-    (alone.says alone.some said_by Rewrite home.rewrite)
+says_alone home b alone = says_marked home b Unmarked (Plain (bytes_of b)) alone.some alone.plain refl alone.says alone.laid
 
 -- Refused.
+
+-- a record that was left out took nothing away
+pub left_out_keeps : (s : State) (v : LogPipes) (files : LogFiles LogRecord)
+    → (files ≡ s.rewrite.files) ⊎ IsCutBack (header_at InRewrite v) (spares_at InRewrite v) s.disk s.rewrite.files files → KeepsBytes s.rewrite.files files
+left_out_keeps s v files (inl is) = subst (λ (q : LogFiles LogRecord). KeepsBytes s.rewrite.files q) (sym is) ((calls_keep_bytes {R = LogRecord}).same s.rewrite.files)
+left_out_keeps s v files (inr cut) = (calls_keep_bytes {R = LogRecord}).cut_back (header_at InRewrite v) (spares_at InRewrite v) s.disk s.rewrite.files files cut
 
 left_out : (home : Home) (e t : Shows) (m : LogMap) (h : Holds home e m []) → SameTables e t → LeavesOutOn (sense home) InRewrite h.state e.pipes t.pipes → Holds home t m []
 left_out home e t m h same call =
     let s = h.state in
     let (files, left, runs, step) = call in
-    let keeps : KeepsBytes s.rewrite.files files = elim left [
-      | inl is ↦ subst (λ (q : LogFiles LogRecord). KeepsBytes s.rewrite.files q) (sym is) ((calls_keep_bytes {R = LogRecord}).same s.rewrite.files)
-      | inr cut ↦ (calls_keep_bytes {R = LogRecord}).cut_back _ _ _ s.rewrite.files files cut
-    ] in
-    held_on home e t InRewrite s h.map h.stored h.rises h.meant h.cached same files keeps runs m []
+    held_on home e t InRewrite s h.map h.stored h.rises h.meant h.cached same files (left_out_keeps s e.pipes files left) runs m []
     (rewrite_left_out (Ties (log_in home)) (AllowsIn (log_in home)) s (next_log InRewrite s files t.pipes.disk) (view_of e.tables h.map) m [] h.at step)
+
+cut_back : (home : Home) (e t : Shows) (m : LogMap) (h : Holds home e m []) → SameTables e t → CutsBackOn (sense home) InRewrite h.state e.pipes t.pipes → HoldsSettled home t m
+cut_back home e t m h same call =
+    let s = h.state in
+    let (files, cut, runs, step) = call in
+    settled_on home e t InRewrite s h.map h.stored h.rises h.meant h.cached same files ((calls_keep_bytes {R = LogRecord}).cut_back _ _ _ s.rewrite.files files cut) runs m
+    (rewrite_settles (Ties (log_in home)) s (next_log InRewrite s files t.pipes.disk) (view_of e.tables h.map) m
+    (cut_back_settles (Ties (log_in home)) s (next_log InRewrite s files t.pipes.disk) InRewrite step) h.at)
+
+-- whatever the record says, if the log is so with it and without it
+pub refusal_leaves : (home : Home) (e t : Shows) (m : LogMap) (error : Error) (h : Holds home e m []) → SameTables e t → (signed : LogFileContext → List ℕ) (y : Said)
+    → SaysRecord said_by (log_layout Rewrite home.rewrite) Rewrite signed y
+    → ((next : State) → MayAppend (Ties (log_in home)) (Ties (log_in home)) InRewrite y h.state next → IsLog (Ties (log_in home) next) m [])
+    → FailsToAppendTo InRewrite signed error e.pipes t.pipes → RewriteLeaves home m t error
+refusal_leaves home e t m (errors.Io kind) h same signed y says there call = cut_back home e t m h same (call (sense home) h.state y h.runs says).1
+refusal_leaves home e t m (errors.TryAgain text) h same signed y says there call = cut_back home e t m h same (call (sense home) h.state y h.runs says).1
+refusal_leaves home e t m errors.NumberRange h same signed y says there call = left_out home e t m h same (call (sense home) h.state y h.runs says)
+refusal_leaves home e t m errors.Memory h same signed y says there call = left_out home e t m h same (call (sense home) h.state y h.runs says)
+refusal_leaves home e t m errors.Failed h same signed y says there call =
+    let (cause, (files, goes, stands, may)) = call (sense home) h.state y h.runs says in
+    let next : State = next_log InRewrite h.state files t.pipes.disk in
+    left_whole home (with_open InRewrite (both_open (files_of e.pipes)) None) next m [] stands (there next may)
+refusal_leaves home e t m _ h same signed y says there call = call (sense home) h.state y h.runs says
 
 pub record_refused : (home : Home) (e t : Shows) (b : Batch) (m : LogMap) (error : Error) (h : Holds home e m []) → CountsAlone b → SameTables e t → (u : ℕ → View (List ℕ) (List ℕ))
     → ((n : ℕ) → CarriesTo (bytes_of b) n (view_of e.tables h.map) (u n)) → FailsToAppendTo InRewrite (signed_for b) error e.pipes t.pipes → RewriteLeaves home m t error
-record_refused home e t b m (errors.Io kind) h alone same u carry call =
-    let s = h.state in
-    let (cause, (files, cut, runs, step)) = call (sense home) s (Plain (bytes_of b)) h.runs (says_alone home b alone) in
-    settled_on home e t InRewrite s h.map h.stored h.rises h.meant h.cached same files ((calls_keep_bytes {R = LogRecord}).cut_back _ _ _ s.rewrite.files files cut) runs m
-    (rewrite_settles (Ties (log_in home)) s (next_log InRewrite s files t.pipes.disk) (view_of e.tables h.map) m
-    (cut_back_settles (Ties (log_in home)) s (next_log InRewrite s files t.pipes.disk) InRewrite step) h.at)
-record_refused home e t b m (errors.TryAgain text) h alone same u carry call =
-    let s = h.state in
-    let (cause, (files, cut, runs, step)) = call (sense home) s (Plain (bytes_of b)) h.runs (says_alone home b alone) in
-    settled_on home e t InRewrite s h.map h.stored h.rises h.meant h.cached same files ((calls_keep_bytes {R = LogRecord}).cut_back _ _ _ s.rewrite.files files cut) runs m
-    (rewrite_settles (Ties (log_in home)) s (next_log InRewrite s files t.pipes.disk) (view_of e.tables h.map) m
-    (cut_back_settles (Ties (log_in home)) s (next_log InRewrite s files t.pipes.disk) InRewrite step) h.at)
-record_refused home e t b m errors.NumberRange h alone same u carry call = left_out home e t m h same (call (sense home) h.state (Plain (bytes_of b)) h.runs (says_alone home b alone))
-record_refused home e t b m errors.Memory h alone same u carry call = left_out home e t m h same (call (sense home) h.state (Plain (bytes_of b)) h.runs (says_alone home b alone))
-record_refused home e t b m errors.Failed h alone same u carry call =
-    let s = h.state in
-    let (cause, (files, goes, stands, may)) = call (sense home) s (Plain (bytes_of b)) h.runs (says_alone home b alone) in
-    let next : State = next_log InRewrite s files t.pipes.disk in
-    left_whole home (with_open InRewrite (both_open (files_of e.pipes)) None) next m [] stands
-    (copies_may_be_there (Ties (log_in home)) (Ties (log_in home)) s next (view_of e.tables h.map) m u (bytes_of b) may carry h.at)
-record_refused home e t b m _ h alone same u carry call = call (sense home) h.state (Plain (bytes_of b)) h.runs (says_alone home b alone)
+record_refused home e t b m error h alone same u carry call =
+    refusal_leaves home e t m error h same (signed_for b) (Plain (bytes_of b)) (says_alone home b alone)
+    (λ next may. copies_may_be_there (Ties (log_in home)) (Ties (log_in home)) h.state next (view_of e.tables h.map) m u (bytes_of b) may carry h.at) call
 
 -- Written.
 
+-- what is known once Rewrite has taken a record: it is the last one there, and what lay in the log lies there
+-- still
+pub record IsTaken (home : Home) (e t : Shows) (m : LogMap) (h : Holds home e m []) (signed : LogFileContext → List ℕ) (y : Said) (block : FileBlockHandle) : Type 0 where
+  pub files : LogFiles LogRecord
+  pub value : LogRecord
+  pub last : HasLast signed value block files
+  pub spans : h.state.rewrite.first ≤ files.last
+  pub keeps : KeepsLog h.state (next_log InRewrite h.state files t.pipes.disk)
+  pub runs : RunsOn (sense home) t.pipes (next_log InRewrite h.state files t.pipes.disk)
+  pub step : Appends (Ties (log_in home)) InRewrite y block.id.seq h.state (next_log InRewrite h.state files t.pipes.disk)
+
+pub record_taken : (home : Home) (e t : Shows) (m : LogMap) (h : Holds home e m []) (signed : LogFileContext → List ℕ) (y : Said) (block : FileBlockHandle)
+    → SaysRecord said_by (log_layout Rewrite home.rewrite) Rewrite signed y → AppendsTo InRewrite signed block e.pipes t.pipes → IsTaken home e t m h signed y block
+record_taken home e t m h signed y block says call =
+    let s = h.state in
+    let (files, has, last, runs, step) = (call (sense home) s y h.runs says).1 in
+    let keeps = (calls_keep_bytes {R = LogRecord}).taken _ _ _ s.rewrite.files files has in
+    let above = h.at.there.rewrite.above in record {
+      files = files;
+      value = says.value;
+      last = last;
+      spans = omega (arith, above, keeps.last);
+      keeps = calls_keep_log InRewrite s files t.pipes.disk keeps;
+      runs = runs;
+      step = step;
+    }
+
 -- the tables show what the record makes of them
+pub held_taken : (home : Home) (e t : Shows) (m : LogMap) (h : Holds home e m []) (signed : LogFileContext → List ℕ) (y : Said) (block : FileBlockHandle) (k : IsTaken home e t m h signed y block)
+    → (u : ℕ → Shown) → t.tables ≡ u → KeepsOrForgets e t → AreStored (next_log InRewrite h.state k.files t.pipes.disk) u → FilesRiseIn (next_log InRewrite h.state k.files t.pipes.disk) u
+    → AreMeant (entries_at (next_log InRewrite h.state k.files t.pipes.disk)) u h.map → IsAt (Ties (log_in home) (next_log InRewrite h.state k.files t.pipes.disk)) (view_of u h.map) m []
+    → Holds home t m []
+held_taken home e t m h signed y block k u same kept stored rises meant at =
+    let next : State = next_log InRewrite h.state k.files t.pipes.disk in record {
+      state = next;
+      map = h.map;
+      runs = k.runs;
+      stored = subst (λ v. AreStored next v) (sym same) stored;
+      rises = subst (λ v. FilesRiseIn next v) (sym same) rises;
+      meant = subst (λ v. AreMeant (entries_at next) v h.map) (sym same) meant;
+      cached = stays_cached h.state next k.keeps e.cache t.cache kept h.cached;
+      at = subst (λ v. IsAt (Ties (log_in home) next) (view_of v h.map) m []) (sym same) at;
+    }
+
 pub record_written : (home : Home) (e t : Shows) (b : Batch) (block : FileBlockHandle) (m : LogMap) (h : Holds home e m []) → CountsAlone b → (call : AppendsTo InRewrite (signed_for b) block e.pipes t.pipes)
     → (u : ℕ → Shown) → t.tables ≡ u → KeepsOrForgets e t
     → ((s : State) (r : LogRecord) → HasLast (signed_for b) r block s.rewrite.files → s.rewrite.first ≤ s.rewrite.files.last → AreStored s e.tables → FilesRiseIn s e.tables → AreMeant (entries_at s) e.tables h.map
     → AreStored s u × FilesRiseIn s u × ViewCarries (entries_at s) block.id.seq e.tables u h.map (bytes_of b)) → Holds home t m []
 record_written home e t b block m h alone call u same kept carry =
-    let s = h.state in
-    let (files, has, last, runs, step) = (call (sense home) s (Plain (bytes_of b)) h.runs (says_alone home b alone)).1 in
-    let next : State = next_log InRewrite s files t.pipes.disk in
-    let keeps = (calls_keep_bytes {R = LogRecord}).taken _ _ _ s.rewrite.files files has in
-    let stays = stored_entries_stay s next (calls_keep_log InRewrite s files t.pipes.disk keeps) e.tables h.stored in
-    let above = h.at.there.rewrite.above in
-    let rise = rise_on s next (calls_keep_log InRewrite s files t.pipes.disk keeps) e.tables h.rises in
-    let (stored, rises, view) = carry next (says_alone home b alone).value last (omega (arith, above, keeps.last)) stays.0 rise (stays.1 h.map h.meant) in record {
-      state = next;
-      map = h.map;
-      runs = runs;
-      stored = subst (λ v. AreStored next v) (sym same) stored;
-      rises = subst (λ v. FilesRiseIn next v) (sym same) rises;
-      meant = subst (λ v. AreMeant (entries_at next) v h.map) (sym same) view.meant;
-      cached = stays_cached s next (calls_keep_log InRewrite s files t.pipes.disk keeps) e.cache t.cache kept h.cached;
-      at = subst (λ v. IsAt (Ties (log_in home) next) (view_of v h.map) m []) (sym same)
-          (copies_answered (Ties (log_in home)) (AllowsIn (log_in home)) s next (view_of e.tables h.map) m (view_of u h.map) (bytes_of b) block.id.seq step view.carries h.at);
-    }
+    let k = record_taken home e t m h (signed_for b) (Plain (bytes_of b)) block (says_alone home b alone) call in
+    let next : State = next_log InRewrite h.state k.files t.pipes.disk in
+    let stays = stored_entries_stay h.state next k.keeps e.tables h.stored in
+    let (stored, rises, view) = carry next k.value k.last k.spans stays.0 (rise_on h.state next k.keeps e.tables h.rises) (stays.1 h.map h.meant) in
+    held_taken home e t m h (signed_for b) (Plain (bytes_of b)) block k u same kept stored rises view.meant
+    (copies_answered (Ties (log_in home)) (AllowsIn (log_in home)) h.state next (view_of e.tables h.map) m (view_of u h.map) (bytes_of b) block.id.seq k.step view.carries h.at)
 
 -- Marks.
 

@@ -6,7 +6,7 @@ ghost use Rattle.raft_log_atomic_groups.specs.Meaning.{tagged_items};
 ghost use Rattle.raft_log_engine_state.specs.Shows.{shows};
 ghost use Rattle.raft_log_blocks.specs.declared.block_cache.BlockCache.{BlockCache};
 ghost use Rattle.raft_log_records.specs.declared.log_batch.BatchState.TheVariants.{Filling};
-ghost use Rattle.raft_log_replay.specs.Tables.{shown_of};
+ghost use Rattle.raft_log_replay.specs.Tables.{shown_of, IsAtRest};
 ghost use Rattle.raft_log_rewriting.specs.Marks.{AddsSame, CarriesMarks, SaysMarks, SaysSame, WritesMarks};
 ghost use Rattle.raft_log_rewriting.specs.Parts.{IsRefused, IsUnmade};
 
@@ -36,6 +36,7 @@ pub fn rewrite_marks<P: PipeLog, L: Log>(
     ensures err { IfErr result (λ error. (cache : BlockCache) → IsRefused error
         (shows (P.shown pipes.old) tables.old cache) (shows (P.shown pipes.new) tables.new cache)) }
     ensures owed { OnErr result (tables.new ≡ tables.old) }
+    ensures rests { IsAtRest tables.old → IsAtRest tables.new }
 {
     write_marks(alloc, rt, pipes, tables)?;
     pipes.sync(rt, LogQueue::Rewrite)?;

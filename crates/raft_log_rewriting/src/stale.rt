@@ -2,6 +2,7 @@
 
 ghost use Rattle.std.specs.Prelude.{◌≡◌, IfErr, IfOk, OnOk};
 ghost use Rattle.raft_log_engine_state.specs.Shows.{shows};
+ghost use Rattle.raft_log_replay.specs.Tables.{IsAtRest};
 ghost use Rattle.raft_log_rewriting.specs.Stale.{FailsToPurge, FailsToTurn, PurgesAllStale, TurnsAndLoses};
 
 use crate::files::purge_stale;
@@ -28,6 +29,7 @@ pub fn purge_all_stale<P: PipeLog, L: Log>(
         (shows (P.shown pipes.old) tables.old cache.old) (shows (P.shown pipes.new) tables.new cache.new)) }
     ensures err { IfErr result (λ error. FailsToPurge error
         (shows (P.shown pipes.old) tables.old cache.old) (shows (P.shown pipes.new) tables.new cache.new)) }
+    ensures rests { IsAtRest tables.old → IsAtRest tables.new }
 {
     pipes.sync(rt, LogQueue::Append)?;
     rewrite_marks(alloc, rt, pipes, tables)?;

@@ -1,4 +1,5 @@
 use Rattle.std.proofs.lemmas.Result.{err_from_is_err_and}
+use Rattle.raft_log_replay.proofs.Segments.{unmarked_rests}
 use Rattle.raft_log_rewriting.proofs.Parts.{marks_are_carried, marks_are_unsynced}
 use Rattle.raft_log_rewriting.proofs.marks.rewrite_marks.Goals as goal
 
@@ -16,3 +17,6 @@ returns-clause-ok g c =
     λ cache.
     marks_are_carried c.args.tables.now c.clear_marks.new.self (g.P.PipeLog.shown c.args.pipes.now) (g.P.PipeLog.shown c.write_marks.new.pipes) (g.P.PipeLog.shown c.sync.new.self) c.in_ok-write_marks.ensures.ok e.later
     c.in_ok-sync.field-0 cache e.fails e.ok c.clear_marks.ensures.shows c.clear_marks.ensures.counts
+
+pub returns-clause-rests : goal.returns-clause-rests
+returns-clause-rests g c = unmarked_rests c.args.tables.now c.clear_marks.new.self c.clear_marks.ensures.shows c.clear_marks.ensures.promises

@@ -6,3 +6,5 @@ pub mod Copying
 pub mod OneRun
 pub mod Nexts
 pub mod Reading
+pub mod Moving
+pub mod KeyCopies

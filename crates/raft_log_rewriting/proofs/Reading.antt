@@ -30,9 +30,10 @@ use Rattle.raft_log_purge_state.specs.Rewriting.{HasCopies}
 use Rattle.raft_log_rewriting.specs.declared.entries.EntryBytes.{EntryBytes}
 use Rattle.raft_log_rewriting.specs.Parts.{Remains}
 use Rattle.raft_log_rewriting.specs.Copies.{FailsToCopy, MovesCopies, WritesCopies}
-use Rattle.raft_log_rewriting.specs.Entries.{AreBytesAt, AreNext, IsRunBatch}
+use Rattle.raft_log_rewriting.specs.Entries.{AreBytesAt, AreNext, IsRunBatch, copied_count, next_places}
 use Rattle.raft_log_rewriting.specs.Rewriting.{CopiesEntries, FailsToCopyEntries, OweNothing}
 use Rattle.raft_log_rewriting.proofs.Carried.{plain_items}
+use Rattle.raft_log_rewriting.proofs.Nexts.{copied_few}
 use Rattle.raft_log_rewriting.proofs.OneRun.{dropped_at, entries_count, run_has_copies, taken_at}
 use Rattle.raft_log_rewriting.proofs.Parts.{same_later}
 
@@ -55,16 +56,16 @@ module _ (s : Shows) (g gate : ℕ) (es : List EntryIndex) (next : AreNext gate 
   v = s.tables g
 
   abbrev ps : List Place
-  ps = take next.0 (drop v.rewritten v.places)
+  ps = next_places gate v
 
   stands_from : (j : ℕ) (p : Place) → slice_get ps j ≡ Some p → slice_get v.places (v.rewritten + j) ≡ Some p
-  stands_from j p is = dropped_at v.rewritten v.places j p (taken_at next.0 (drop v.rewritten v.places) j p is)
+  stands_from j p is = dropped_at v.rewritten v.places j p (taken_at (copied_count gate (drop v.rewritten v.places)) (drop v.rewritten v.places) j p is)
 
   -- what was read is the map's
   pub read_is_held : (home : Home) (m : LogMap) → Holds home s m [] → (xs : List EntryBytes) → ReadsEntries as_bytes s.pipes es s.cache new xs
       → Holds home (record s { cache = new }) m [] × AreBytesAt m g (v.first + v.rewritten) (map (λ e. e.bytes) xs)
   read_is_held home m h xs reads =
-      let (cached, told) = all_told s g home m [] h as_bytes v.rewritten ps s.cache new xs stands_from h.cached (subst (λ l. ReadsEntries as_bytes s.pipes l s.cache new xs) next.2 reads) in
+      let (cached, told) = all_told s g home m [] h as_bytes v.rewritten ps s.cache new xs stands_from h.cached (subst (λ l. ReadsEntries as_bytes s.pipes l s.cache new xs) next reads) in
       (with_block home s m new h cached, bytes_of_read m g (v.first + v.rewritten) xs told)
 
   -- what wasn't read changed nothing
@@ -72,7 +73,7 @@ module _ (s : Shows) (g gate : ℕ) (es : List EntryIndex) (next : AreNext gate 
   unread_is_held home m h error unread =
       with_block home s m new h
       (all_untold s g home m [] h as_bytes v.rewritten ps (v.first + v.rewritten) (v.first + v.rewritten + length ps) s.cache new error stands_from (omega arith) (omega arith) h.cached
-      (subst (λ l. AreUnread as_bytes s.pipes l s.cache new error) next.2 unread)).0
+      (subst (λ l. AreUnread as_bytes s.pipes l s.cache new error) next unread)).0
 
 -- The batch.
 
@@ -112,10 +113,10 @@ module _ (s : Shows) (g gate : ℕ) (es : List EntryIndex) (next : AreNext gate 
   copies : (home : Home) (m : LogMap) → Holds home s m [] → OweNothing s.tables → HasCopies (Some gate) b s.tables m
   copies home m h owes =
       let v = s.tables g in
-      let ps = take next.0 (drop v.rewritten v.places) in
-      let count = length-map es (λ e. e.index) ∙ ap length next.2 ∙ from_len v v.rewritten ps ∙ length-take next.0 (drop v.rewritten v.places) in
-      let low = next.1 in
-      run_copies g gate s.tables m b (indexes_of es) (map (λ e. e.bytes) xs) (λ none. some (none_indexes es none)) (λ i rest h. first_is v ps i rest (ap indexes_of (sym next.2) ∙ h)) (omega (arith, count, low)) owes
+      let ps = next_places gate v in
+      let count = length-map es (λ e. e.index) ∙ ap length next ∙ from_len v v.rewritten ps ∙ length-take (copied_count gate (drop v.rewritten v.places)) (drop v.rewritten v.places) in
+      let low = copied_few gate (drop v.rewritten v.places) in
+      run_copies g gate s.tables m b (indexes_of es) (map (λ e. e.bytes) xs) (λ none. some (none_indexes es none)) (λ i rest h. first_is v ps i rest (ap indexes_of (sym next) ∙ h)) (omega (arith, count, low)) owes
       (read_is_held s g gate es next new home m h xs reads).1 is
 
   some_items : b.items ≡ [] → ⊥

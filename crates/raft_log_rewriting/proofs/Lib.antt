@@ -8,3 +8,4 @@ pub mod Nexts
 pub mod Reading
 pub mod Moving
 pub mod KeyCopies
+pub mod Advancing

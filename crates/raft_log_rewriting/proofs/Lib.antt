@@ -6,3 +6,6 @@ pub mod Copying
 pub mod OneRun
 pub mod Nexts
 pub mod Reading
+pub mod Moving
+pub mod KeyCopies
+pub mod Advancing

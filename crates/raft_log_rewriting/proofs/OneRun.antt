@@ -126,22 +126,27 @@ module _ (at : Located → List ℕ) (m : LogMap) (g : ℕ) where
 
 -- The copies.
 
+-- where the batch's entries lie once it is written at this place
+abbrev pub run_places : Batch → EntryIndex → List EntryIndex → FileBlockHandle → List Place
+run_places b e es block = map place_of (map (written_entry (block_place block b.entries)) (e ∷ es))
+
+pub items_there : (g : ℕ) (b : Batch) (e : EntryIndex) (es : List EntryIndex) → b.items ≡ item_of g (contents.EntryIndexes (e ∷ es)) ∷ [] → (block : FileBlockHandle)
+    → ◌≡◌ {A = List (Tagged Place (List ℕ))} (items_at block b) (record { group = g; item = Run e.index (run_places b e es block) } ∷ [])
+items_there g b e es is block =
+    ap (λ (l : List LogItem). tagged_items place_of (written (block_place block b.entries) l)) is
+    ∙ run_said place_of g (written_entry (block_place block b.entries) e) (map (written_entry (block_place block b.entries)) es)
+
 module _ (g gate : ℕ) (b : Batch) (v : ℕ → Shown) (m : LogMap) (e : EntryIndex) (es : List EntryIndex) (is : b.items ≡ item_of g (contents.EntryIndexes (e ∷ es)) ∷ []) (first : e.index ≡ (v g).first + (v g).rewritten)
     (fits : length (e ∷ es) ≤ passing gate (drop (v g).rewritten (v g).places)) (clean : (v g).cleaned ≡ false) (whole : (v g).compacted ≡ false)
     (bytes : AreBytesAt m g ((v g).first + (v g).rewritten) (map (entry_bytes b.entries) (e ∷ es))) where
   abbrev placed_run : FileBlockHandle → List Place
-  placed_run block = map place_of (map (written_entry (block_place block b.entries)) (e ∷ es))
-
-  items_there : (block : FileBlockHandle) → ◌≡◌ {A = List (Tagged Place (List ℕ))} (items_at block b) (record { group = g; item = Run e.index (placed_run block) } ∷ [])
-  items_there block =
-      ap (λ (l : List LogItem). tagged_items place_of (written (block_place block b.entries) l)) is
-      ∙ run_said place_of g (written_entry (block_place block b.entries) e) (map (written_entry (block_place block b.entries)) es)
+  placed_run block = run_places b e es block
 
   module _ (block : FileBlockHandle) (at : Located → List ℕ) (meant : AreMeant at v m) (says : SaysAt at block b) where
     run_bytes : map (λ p. at (in_queue false p)) (placed_run block) ≡ map (entry_bytes b.entries) (e ∷ es)
     run_bytes =
         ap (first_run {E = List ℕ})
-        (sym (ap (map (renamed_tagged (λ p. at (in_queue false p)))) (items_there block)) ∙ says ∙ ap (λ (l : List LogItem). tagged_items (entry_bytes b.entries) l) is ∙ run_said (entry_bytes b.entries) g e es)
+        (sym (ap (map (renamed_tagged (λ p. at (in_queue false p)))) (items_there g b e es is block)) ∙ says ∙ ap (λ (l : List LogItem). tagged_items (entry_bytes b.entries) l) is ∙ run_said (entry_bytes b.entries) g e es)
 
     run_len : length (placed_run block) ≡ length (e ∷ es)
     run_len = length-map (map (written_entry (block_place block b.entries)) (e ∷ es)) place_of ∙ length-map (e ∷ es) (written_entry (block_place block b.entries))
@@ -162,7 +167,7 @@ module _ (g gate : ℕ) (b : Batch) (v : ℕ → Shown) (m : LogMap) (e : EntryI
 
     copies_at : (h : ℕ) → AreCopies at (Some gate) block.id.seq (v h) (of_group h (items_at block b))
     copies_at h =
-        subst (λ (l : List (Tagged Place (List ℕ))). AreCopies at (Some gate) block.id.seq (v h) (of_group h l)) (sym (items_there block))
+        subst (λ (l : List (Tagged Place (List ℕ))). AreCopies at (Some gate) block.id.seq (v h) (of_group h l)) (sym (items_there g b e es is block))
         (by_group g h (same_or_apart g h)
         (λ t here. subst (λ (b : Bool). AreCopies at (Some gate) block.id.seq (v h) (if b then Run e.index (placed_run block) ∷ [] else [])) (sym t)
         (subst (λ (k : ℕ). AreCopies at (Some gate) block.id.seq (v k) (Run e.index (placed_run block) ∷ [])) here (is_copy, tt)))

@@ -30,9 +30,12 @@ use Rattle.raft_log_purge_state.specs.Rewriting.{HasCopies}
 use Rattle.raft_log_rewriting.specs.declared.entries.EntryBytes.{EntryBytes}
 use Rattle.raft_log_rewriting.specs.Parts.{Remains}
 use Rattle.raft_log_rewriting.specs.Copies.{FailsToCopy, MovesCopies, WritesCopies}
-use Rattle.raft_log_rewriting.specs.Entries.{AreBytesAt, AreNext, IsRunBatch}
+use Rattle.raft_log_rewriting.specs.Entries.{AreBytesAt, AreNext, IsRunBatch, copied_count, next_places}
+use Rattle.raft_log_rewriting.specs.Moving.{Advances}
 use Rattle.raft_log_rewriting.specs.Rewriting.{CopiesEntries, FailsToCopyEntries, OweNothing}
+use Rattle.raft_log_rewriting.proofs.Advancing.{moved_on}
 use Rattle.raft_log_rewriting.proofs.Carried.{plain_items}
+use Rattle.raft_log_rewriting.proofs.Nexts.{copied_few}
 use Rattle.raft_log_rewriting.proofs.OneRun.{dropped_at, entries_count, run_has_copies, taken_at}
 use Rattle.raft_log_rewriting.proofs.Parts.{same_later}
 
@@ -55,16 +58,16 @@ module _ (s : Shows) (g gate : ℕ) (es : List EntryIndex) (next : AreNext gate 
   v = s.tables g
 
   abbrev ps : List Place
-  ps = take next.0 (drop v.rewritten v.places)
+  ps = next_places gate v
 
   stands_from : (j : ℕ) (p : Place) → slice_get ps j ≡ Some p → slice_get v.places (v.rewritten + j) ≡ Some p
-  stands_from j p is = dropped_at v.rewritten v.places j p (taken_at next.0 (drop v.rewritten v.places) j p is)
+  stands_from j p is = dropped_at v.rewritten v.places j p (taken_at (copied_count gate (drop v.rewritten v.places)) (drop v.rewritten v.places) j p is)
 
   -- what was read is the map's
   pub read_is_held : (home : Home) (m : LogMap) → Holds home s m [] → (xs : List EntryBytes) → ReadsEntries as_bytes s.pipes es s.cache new xs
       → Holds home (record s { cache = new }) m [] × AreBytesAt m g (v.first + v.rewritten) (map (λ e. e.bytes) xs)
   read_is_held home m h xs reads =
-      let (cached, told) = all_told s g home m [] h as_bytes v.rewritten ps s.cache new xs stands_from h.cached (subst (λ l. ReadsEntries as_bytes s.pipes l s.cache new xs) next.2 reads) in
+      let (cached, told) = all_told s g home m [] h as_bytes v.rewritten ps s.cache new xs stands_from h.cached (subst (λ l. ReadsEntries as_bytes s.pipes l s.cache new xs) next reads) in
       (with_block home s m new h cached, bytes_of_read m g (v.first + v.rewritten) xs told)
 
   -- what wasn't read changed nothing
@@ -72,7 +75,7 @@ module _ (s : Shows) (g gate : ℕ) (es : List EntryIndex) (next : AreNext gate 
   unread_is_held home m h error unread =
       with_block home s m new h
       (all_untold s g home m [] h as_bytes v.rewritten ps (v.first + v.rewritten) (v.first + v.rewritten + length ps) s.cache new error stands_from (omega arith) (omega arith) h.cached
-      (subst (λ l. AreUnread as_bytes s.pipes l s.cache new error) next.2 unread)).0
+      (subst (λ l. AreUnread as_bytes s.pipes l s.cache new error) next unread)).0
 
 -- The batch.
 
@@ -99,6 +102,20 @@ run_copies g gate tables m b (i ∷ indexes) (x ∷ bytes) some first fits owes 
     run_has_copies g gate b tables m e rest is.items (first i indexes refl) (omega (arith, long, same, fits)) (owes g).0 (owes g).1
     (subst (AreBytesAt m g ((tables g).first + (tables g).rewritten)) (sym has) maps)
 
+-- the entries of a run that was copied lie in Rewrite, behind those that lay there
+run_advances : (g gate : ℕ) (s t : Shows) (b : Batch) (indexes : List ℕ) (bytes : List (List ℕ)) → (indexes ≡ [] → ⊥) → ((i : ℕ) (is : List ℕ) → indexes ≡ i ∷ is → i ≡ (s.tables g).first + (s.tables g).rewritten)
+    → length indexes ≤ passing gate (drop (s.tables g).rewritten (s.tables g).places) → IsRunBatch g indexes bytes b → MovesCopies (Some gate) b s t → Advances g (length indexes) s.tables t.tables
+run_advances g gate s t b [] bytes some first fits is moved = absurd (some refl)
+run_advances g gate s t b (i ∷ indexes) [] some first fits is moved = absurd (let same = is.same in omega (arith, same))
+run_advances g gate s t b (i ∷ indexes) (x ∷ bytes) some first fits is moved =
+    let rest : List EntryIndex = laid_run (0 + length x) (entries_of indexes bytes) in
+    let e : EntryIndex = record (unplaced_entry i (length x)) { entry_offset = 0 } in
+    let has : map (entry_bytes b.entries) (e ∷ rest) ≡ x ∷ bytes =
+    ap (map (entry_bytes b.entries)) (sym (append-nil (e ∷ rest))) ∙ ap (λ (l : List LogItem). map (entry_bytes b.entries) (all_entries l)) (sym is.items) ∙ is.says in
+    let long = sym (length-map (e ∷ rest) (entry_bytes b.entries)) ∙ ap length has in
+    let same = is.same in
+    subst (λ (n : ℕ). Advances g n s.tables t.tables) (omega (arith, long, same)) (moved_on g gate s t b e rest is.items (first i indexes refl) (omega (arith, long, same, fits)) moved)
+
 run_plain : (g : ℕ) (b : Batch) (indexes : List ℕ) (bytes : List (List ℕ)) → IsRunBatch g indexes bytes b → marking_of_items b.items ≡ Unmarked
 run_plain g b indexes [] is = ap marking_of_items is.items
 run_plain g b indexes (x ∷ bytes) is = ap marking_of_items is.items ∙ plain_items (entries_items g 0 indexes (x ∷ bytes)) (entries_count g (laid_run 0 (entries_of indexes (x ∷ bytes))), tt)
@@ -112,10 +129,10 @@ module _ (s : Shows) (g gate : ℕ) (es : List EntryIndex) (next : AreNext gate 
   copies : (home : Home) (m : LogMap) → Holds home s m [] → OweNothing s.tables → HasCopies (Some gate) b s.tables m
   copies home m h owes =
       let v = s.tables g in
-      let ps = take next.0 (drop v.rewritten v.places) in
-      let count = length-map es (λ e. e.index) ∙ ap length next.2 ∙ from_len v v.rewritten ps ∙ length-take next.0 (drop v.rewritten v.places) in
-      let low = next.1 in
-      run_copies g gate s.tables m b (indexes_of es) (map (λ e. e.bytes) xs) (λ none. some (none_indexes es none)) (λ i rest h. first_is v ps i rest (ap indexes_of (sym next.2) ∙ h)) (omega (arith, count, low)) owes
+      let ps = next_places gate v in
+      let count = length-map es (λ e. e.index) ∙ ap length next ∙ from_len v v.rewritten ps ∙ length-take (copied_count gate (drop v.rewritten v.places)) (drop v.rewritten v.places) in
+      let low = copied_few gate (drop v.rewritten v.places) in
+      run_copies g gate s.tables m b (indexes_of es) (map (λ e. e.bytes) xs) (λ none. some (none_indexes es none)) (λ i rest h. first_is v ps i rest (ap indexes_of (sym next) ∙ h)) (omega (arith, count, low)) owes
       (read_is_held s g gate es next new home m h xs reads).1 is
 
   some_items : b.items ≡ [] → ⊥
@@ -129,6 +146,16 @@ module _ (s : Shows) (g gate : ℕ) (es : List EntryIndex) (next : AreNext gate 
           none_long (e ∷ l) h = absurd (omega (arith, h))
       lacking (x ∷ bytes) long same items = (let never : ⊥ = cc (sym none ∙ items) in never)
 
+  advances : (t : Shows) → MovesCopies (Some gate) b (record s { cache = new }) t → Advances g (length es) s.tables t.tables
+  advances t moved =
+      let v = s.tables g in
+      let ps = next_places gate v in
+      let count = length-map es (λ e. e.index) ∙ ap length next ∙ from_len v v.rewritten ps ∙ length-take (copied_count gate (drop v.rewritten v.places)) (drop v.rewritten v.places) in
+      let low = copied_few gate (drop v.rewritten v.places) in
+      subst (λ (n : ℕ). Advances g n s.tables t.tables) (length-map es (λ e. e.index))
+      (run_advances g gate (record s { cache = new }) t b (indexes_of es) (map (λ e. e.bytes) xs) (λ none. some (none_indexes es none)) (λ i rest h. first_is v ps i rest (ap indexes_of (sym next) ∙ h))
+      (omega (arith, count, low)) is moved)
+
   pub entries_copied : (t : Shows) → WritesCopies (Some gate) b (record s { cache = new }) t → t.cache ≡ new → CopiesEntries g gate s t
   entries_copied t (inl (none, same)) cache = absurd (some_items none)
   entries_copied t (inr (there, moved)) cache = record {
@@ -139,6 +166,7 @@ module _ (s : Shows) (g gate : ℕ) (es : List EntryIndex) (next : AreNext gate 
     run = b;
     is = is;
     moved = subst (λ (c : BlockCache). MovesCopies (Some gate) b (record s { cache = c }) t) (sym cache) moved;
+    advances = advances t moved;
     holds = λ owes home m h. moved.holds (run_plain g b (indexes_of es) (map (λ e. e.bytes) xs) is) home m (read_is_held s g gate es next new home m h xs reads).0 (copies home m h owes);
   }
 
@@ -148,6 +176,7 @@ module _ (s : Shows) (g gate : ℕ) (es : List EntryIndex) (next : AreNext gate 
 
   pub entries_not_copied : (error : Error) (t : Shows) → FailsToCopy (Some gate) b error (record s { cache = new }) t → FailsToCopyEntries error s t
   entries_not_copied error t fails = record {
+    same = fails.same ∙ ap (λ (c : BlockCache). record s { cache = c; pipes = t.pipes }) (sym (ap (λ (e : Shows). e.cache) fails.same));
     failed = λ lived hit. (fails.tells lived).0 hit;
     later = fails.later;
     remains = λ owes home m h.
@@ -158,6 +187,7 @@ module _ (s : Shows) (g gate : ℕ) (es : List EntryIndex) (next : AreNext gate 
 -- nothing was written
 pub none_written : (error : Error) (s : Shows) (new : BlockCache) → ((home : Home) (m : LogMap) → Holds home s m [] → Holds home (record s { cache = new }) m []) → FailsToCopyEntries error s (record s { cache = new })
 none_written error s new stays = record {
+  same = refl;
   failed = λ lived hit. absurd (false≢true (sym lived ∙ hit));
   later = same_later s.pipes.disk;
   remains = λ owes home m h. inl (stays home m h);

@@ -1,5 +1,5 @@
 -- Entries of Append are copied to Rewrite.
-use Rattle.std.specs.Prelude.{◌≡◌, ◌+◌, ◌≤◌, ℕ, List, [], ◌∷◌, Some, length, take, drop}
+use Rattle.std.specs.Prelude.{◌≡◌, ◌+◌, ℕ, min, List, [], ◌∷◌, Some, length, take, drop}
 use Rattle.raft_log_items.specs.declared.entry.EntryIndex.{EntryIndex}
 use Rattle.raft_log_model.specs.Meaning.Slot.{Index}
 use Rattle.raft_log_model.specs.Meaning.Content.{Entry}
@@ -7,15 +7,28 @@ use Rattle.raft_log_records.specs.declared.log_batch.BatchState.TheVariants.{Fil
 use Rattle.raft_log_records.specs.Batch.{Batch}
 use Rattle.raft_log_records.specs.Entries.{entries_items}
 use Rattle.raft_log_records.specs.Places.{bytes_in}
-use Rattle.raft_log_held.specs.Counts.{passing}
+use Rattle.raft_log_held.specs.Counts.{passing, sized}
+use Rattle.raft_log_places.specs.declared.place.Place.{Place}
 use Rattle.raft_log_places.specs.Shown.{Shown}
 use Rattle.raft_log_tables.specs.Reads.{entries_from}
 use Rattle.raft_log_engine_state.specs.Shows.{LogMap}
 
--- the entries are the first ones in Append, all of them in files up to the gate
+-- how many bytes of entries are copied at once, but for an entry that has more
+abbrev pub copied_at_once : ℕ
+copied_at_once = 131072
+
+-- how many of these places are copied at once: up to the first in a file past the gate, and as many as a
+-- batch may have, which is one at least
+abbrev pub copied_count : ℕ → List Place → ℕ
+copied_count gate ps = min (sized (Some copied_at_once) ps) (passing gate ps)
+
+-- the places of the group's first entries in Append that are copied at once
+abbrev pub next_places : ℕ → Shown → List Place
+next_places gate v = take (copied_count gate (drop v.rewritten v.places)) (drop v.rewritten v.places)
+
+-- the entries are these
 abbrev pub AreNext : ℕ → Shown → List EntryIndex → Type 0
-AreNext gate v es = (count : ℕ) × (count ≤ passing gate (drop v.rewritten v.places))
-    × (es ≡ entries_from v v.rewritten (take count (drop v.rewritten v.places)))
+AreNext gate v es = es ≡ entries_from v v.rewritten (next_places gate v)
 
 -- these are the bytes of a group's entries in the map, from an index on
 abbrev pub AreBytesAt : LogMap → ℕ → ℕ → List (List ℕ) → Type 0

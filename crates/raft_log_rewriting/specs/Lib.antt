@@ -4,4 +4,5 @@ pub mod Files
 pub mod Stale
 pub mod Copies
 pub mod Entries
+pub mod Moving
 pub mod Rewriting

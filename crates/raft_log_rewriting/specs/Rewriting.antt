@@ -1,5 +1,5 @@
 -- A group's entries in Append are copied, as many at once as a batch may have.
-use Rattle.std.specs.Prelude.{◌≡◌, ◌⊎◌, ℕ, Bool, true, false, List, [], Some}
+use Rattle.std.specs.Prelude.{◌≡◌, ◌⊎◌, ℕ, Bool, true, false, List, [], Some, length}
 use Rattle.raft_log_disk.specs.Causes.{IsLater}
 use Rattle.raft_log_base.specs.declared.errors.Error.{Error}
 use Rattle.raft_log_base.specs.declared.errors.Error.TheVariants as errors
@@ -12,13 +12,23 @@ use Rattle.raft_log_engine_state.specs.Shows.{Home, LogMap, Shows, has_failed}
 use Rattle.raft_log_engine_state.specs.Holding.{Holds, IsLeftAt}
 use Rattle.raft_log_rewriting.specs.Copies.{MovesCopies}
 use Rattle.raft_log_rewriting.specs.Entries.{AreNext, IsRunBatch}
+use Rattle.raft_log_rewriting.specs.Moving.{Advances}
 
 -- no group owes a mark
 abbrev pub OweNothing : (ℕ → Shown) → Type 0
 OweNothing v = (g : ℕ) → OwesNothing (whereabouts (v g))
 
--- The group's first entries in Append, some and all in files up to the gate, were copied, and lie in Rewrite:
--- whatever the log was, with nothing pending, it is so, if no mark is owed.
+-- whatever the log was, with nothing pending, it is so, if no mark is owed
+abbrev pub StaysHeld : Shows → Shows → Type 0
+StaysHeld s t = OweNothing s.tables → (home : Home) (m : LogMap) → Holds home s m [] → Holds home t m []
+
+-- so it is; or the engine has failed, and its log is held
+abbrev pub StaysOrIsLeft : Error → Shows → Shows → Type 0
+StaysOrIsLeft error s t = OweNothing s.tables → (home : Home) (m : LogMap) → Holds home s m []
+    → Holds home t m [] ⊎ ((error ≡ errors.Failed) × IsLeftAt home t.pipes.disk m [])
+
+-- The group's first entries in Append, some and all in files up to the gate, were copied, and lie in Rewrite;
+-- all else shows as it did.
 pub record CopiesEntries (group gate : ℕ) (s t : Shows) : Type 0 where
   pub entries : List EntryIndex
   pub next : AreNext gate (s.tables group) entries
@@ -27,17 +37,17 @@ pub record CopiesEntries (group gate : ℕ) (s t : Shows) : Type 0 where
   pub run : Batch
   pub is : IsRunBatch group (indexes_of entries) bytes run
   pub moved : MovesCopies (Some gate) run (record s { cache = t.cache }) t
-  pub holds : OweNothing s.tables → (home : Home) (m : LogMap) → Holds home s m [] → Holds home t m []
+  pub advances : Advances group (length entries) s.tables t.tables
+  pub holds : StaysHeld s t
 
 -- so it was, or there was nothing to be copied, and nothing was done
 abbrev pub CopiesIfAny : ℕ → ℕ → Bool → Shows → Shows → Type 0
 CopiesIfAny group gate true s t = CopiesEntries group gate s t
 CopiesIfAny group gate false s t = (t ≡ s) × AreNext gate (s.tables group) []
 
--- It was refused: whatever the log was, it is so, if no mark is owed; or the engine has failed, and its log
--- is held.
+-- It was refused: all that shows of the tables shows as it did.
 pub record FailsToCopyEntries (error : Error) (s t : Shows) : Type 0 where
+  pub same : t ≡ record s { pipes = t.pipes; cache = t.cache }
   pub failed : has_failed s ≡ false → has_failed t ≡ true → error ≡ errors.Failed
   pub later : IsLater s.pipes.disk t.pipes.disk
-  pub remains : OweNothing s.tables → (home : Home) (m : LogMap) → Holds home s m []
-      → Holds home t m [] ⊎ ((error ≡ errors.Failed) × IsLeftAt home t.pipes.disk m [])
+  pub remains : StaysOrIsLeft error s t

@@ -1,6 +1,8 @@
 //! Entries of Append that are to be copied: which come next, their bytes, and a batch of them.
 
-ghost use Rattle.std.specs.Prelude.{◌≡◌, Some, map, IfOk};
+ghost use Rattle.std.specs.Prelude.{◌≡◌, Some, map, nat_le, IfOk};
+ghost use Rattle.raft_log_held.specs.Counts.{passing};
+ghost use Rattle.raft_log_held.specs.Entries.{place_of};
 ghost use Rattle.raft_log_records.specs.Entries.{indexes_of, slices_bytes};
 ghost use Rattle.raft_log_replay.specs.Tables.{shown_of};
 ghost use Rattle.raft_log_rewriting.specs.Entries.{AreNext, IsRunBatch};
@@ -37,36 +39,46 @@ impl Message for EntryBytes {
 }
 
 /// The entries of a group that are to be copied next: the first ones in Append, all in files up to the gate,
-/// as many as a batch may have.
+/// as many as a batch may have, and one at least where there is one.
 pub fn next_entries(
     alloc: Global,
     tables: &MemTables,
     group: u64,
     gate: FileSeq,
-) -> Result<Vec<EntryIndex>, AllocError>
+) -> Result<Vec<EntryIndex>>
     ensures { IfOk result (λ entries. AreNext gate (shown_of tables.now group) entries.items) }
 {
     let mut entries = Vec::new(alloc);
     if let Some(table) = tables.known_table(group) {
-        table.fetch_entry_indexes_before(gate, &mut entries)?;
-        let count = fitting(entries.as_slice());
+        let ends = table.span();
+        let begin = ends.first + table.rewritten_count() as u64;
+        table.fetch_entries_to(begin, ends.end, Some(MAX_COPIED_LEN), &mut entries)?;
+        let count = count_up_to(entries.as_slice(), gate);
         entries.truncate(count);
     }
     Ok(entries)
 }
 
-/// How many first entries have so many bytes as are copied at once; at least one.
-fn fitting(entries: &[EntryIndex]) -> usize {
-    let mut len: u64 = 0;
-    let mut count: usize = 0;
-    for entry in entries {
-        len = len.saturating_add(entry.entry_len as u64);
-        if len > MAX_COPIED_LEN && count > 0 {
-            return count;
+/// How many of the entries, from the first on, lie in files up to the gate.
+fn count_up_to(entries: &[EntryIndex], gate: FileSeq) -> usize
+    ensures { result ≡ passing gate (map place_of entries.now) }
+{
+    for i in 0..entries.len() {
+        if !is_up_to(&entries[i], gate) {
+            return i;
         }
-        count = count.saturating_add(1);
     }
-    count
+    entries.len()
+}
+
+/// Whether an entry lies in a file up to the gate.
+fn is_up_to(entry: &EntryIndex, gate: FileSeq) -> bool
+    ensures { result ≡ nat_le (place_of entry.now).file gate }
+{
+    match entry.entries {
+        Some(block) => block.id.seq <= gate,
+        None => true,
+    }
 }
 
 /// A batch of one run: a group's entries with these indexes and bytes.

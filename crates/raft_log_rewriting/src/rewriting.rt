@@ -2,6 +2,7 @@
 
 ghost use Rattle.std.specs.Prelude.{◌≡◌, IfErr, IfOk};
 ghost use Rattle.raft_log_engine_state.specs.Shows.{shows};
+ghost use Rattle.raft_log_replay.specs.Tables.{IsAtRest};
 ghost use Rattle.raft_log_rewriting.specs.Rewriting.{CopiesIfAny, FailsToCopyEntries};
 
 use crate::copies::write_copies;
@@ -31,6 +32,7 @@ pub fn copy_entries<P: PipeLog, L: Log>(
         (shows (P.shown pipes.old) tables.old cache.old) (shows (P.shown pipes.new) tables.new cache.new)) }
     ensures err { IfErr result (λ error. FailsToCopyEntries error
         (shows (P.shown pipes.old) tables.old cache.old) (shows (P.shown pipes.new) tables.new cache.new)) }
+    ensures rests { IsAtRest tables.old → IsAtRest tables.new }
 {
     let entries = next_entries(alloc, tables, group, gate)?;
     if entries.is_empty() {

@@ -42,6 +42,7 @@ pub record AppendsAt {R : Type 0} (F : Format R) (own : List ℕ → Type 0) (pa
   pub between : Disk
   pub first : TurnsFirst F own paths begin before middle old between
   pub adds : Adds F own paths (signed (context_of queue middle)) block.offset middle after between new
+  pub lists : SameLists middle after
   pub id : block.id ≡ record { queue = queue; seq = middle.active.seq }
   pub len : block.len ≡ length (signed (context_of queue middle))
 

@@ -17,6 +17,7 @@ returns-in-Ok-clause-ok g c =
       between = D c.turn_first.new.file_system;
       first = c.in_ok-turn_first.ensures.ok;
       adds = subst (λ (bytes : List ℕ). Adds (g.G.PipeFormat.format c.args.layout.now) (g.G.PipeFormat.own c.args.layout.now) (g.G.PipeFormat.file_paths c.args.layout.now) bytes c.in-Ok.at c.turn_first.new.files c.add.new.files (D c.turn_first.new.file_system) (D c.add.new.file_system)) is c.in-Ok.ensures.ok;
+      lists = c.add.ensures.lists;
       id = id_is c.args.queue c.turn_first.new.files c.new-id.result c.new-id.ensures.queue c.new-id.ensures.seq;
       len = ap length is;
     } in

@@ -1,0 +1,6 @@
+pub mod LeftOpen
+pub mod Lying
+pub mod Writing
+pub mod Whole
+pub mod Rising
+pub mod Ending

@@ -1,0 +1,5 @@
+pub mod Parts
+pub mod Writing
+pub mod Whole
+pub mod Ending
+pub mod LeftOpen

@@ -80,7 +80,7 @@ whole_noted t files a r orderly rise =
 -- The parts say the items of the group.
 
 -- what lists of items have of a group
-abbrev each_of_group : {E : Type 0} → ℕ → List (List (Tagged E (List ℕ))) → List (Item E (List ℕ))
+abbrev pub each_of_group : {E : Type 0} → ℕ → List (List (Tagged E (List ℕ))) → List (Item E (List ℕ))
 each_of_group g [] = []
 each_of_group g (xs ∷ more) = of_group g xs ++ each_of_group g more
 
@@ -93,7 +93,7 @@ filed_said : {E : Type 0} (at : Located → E) (n : ℕ) (xs : List (Item Place 
 filed_said at n [] ys = refl
 filed_said at n (x ∷ xs) ys = ap (λ l. renamed (λ p. at (in_queue false p)) x ∷ l) (filed_said at n xs ys)
 
-parts_said : (at : Located → List ℕ) (g : ℕ) (ps : List WrittenPart) → Each (SaysPart at) ps → each_of_group g (map (λ p. said_items p.batch) ps) ≡ filed_copies at (filed_items g ps)
+pub parts_said : (at : Located → List ℕ) (g : ℕ) (ps : List WrittenPart) → Each (SaysPart at) ps → each_of_group g (map (λ p. said_items p.batch) ps) ≡ filed_copies at (filed_items g ps)
 parts_said at g [] says = refl
 parts_said at g (p ∷ ps) (first, rest) =
     ap₂ (λ a b. a ++ b) (sym (first g)) (parts_said at g ps rest) ∙ sym (filed_said at p.block.id.seq (of_group g (items_at p.block p.batch)) (filed_items g ps))

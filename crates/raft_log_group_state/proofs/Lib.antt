@@ -3,4 +3,5 @@ pub mod Lying
 pub mod Writing
 pub mod Whole
 pub mod Rising
+pub mod Restating
 pub mod Ending

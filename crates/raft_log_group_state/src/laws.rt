@@ -11,6 +11,7 @@ ghost use Rattle.raft_log_group_state.specs.LeftOpen.{
   GroupsMayBeGivenUp,
   NewGroupsEndNoOldOnes,
 };
+ghost use Rattle.raft_log_group_state.specs.Restating.{RestatedGroupsAreWhole};
 ghost use Rattle.raft_log_group_state.specs.Whole.{MovedFilesRise, WholeGroupsAreMoved};
 ghost use Rattle.raft_log_group_state.specs.Writing.{
   RefusedPartsKeepTheMap,
@@ -71,4 +72,10 @@ pub fn whole_groups_are_moved<E>()
 pub fn whole_groups_may_end<E>()
     ensures ends { WholeGroupsMayEnd E }
     ensures noted { WholeGroupsAreNoted }
+{}
+
+/// Batches that say of each group what stands of it in Rewrite, its rewritten entries in pieces and rewritten
+/// keys with their values, are such a whole group, wherever they are written.
+pub fn restated_groups_are_whole()
+    ensures { RestatedGroupsAreWhole }
 {}

@@ -1,0 +1,6 @@
+pub mod Parts
+pub mod Writing
+pub mod Whole
+pub mod Restating
+pub mod Ending
+pub mod LeftOpen

@@ -63,4 +63,5 @@ read_alike queue bs m n h k =
           ∙ same_content (in_append queue) (counted g h.records) (replayed_of m.tables g) (replayed_of n.tables g)
           (h.read.tables o.tidy g (o.healthy g)) (second.tables o.tidy g (o.healthy g)) s
           ∙ ap (λ v. content (standing v) s) (table_is n.tables g);
+      counting = λ o g. h.read.counting o.tidy g (o.healthy g) ∙ sym (second.counting o.tidy g (o.healthy g));
     }

@@ -27,7 +27,7 @@ use Rattle.raft_log_places.specs.Bridge.{Located}
 use Rattle.raft_log_held.specs.Entries.{place_of}
 use Rattle.raft_log_tables.specs.Replays.{in_append}
 use Rattle.raft_log_replay.specs.declared.mem_tables.MemTables.{MemTables}
-use Rattle.raft_log_replay.specs.Tables.{replayed_of, shown_of}
+use Rattle.raft_log_replay.specs.Tables.{counts as counting_of, replayed_of, shown_of}
 use Rattle.raft_log_replay.specs.Replaying.{ReadsAll}
 use Rattle.raft_log_replay.specs.Joining.{JoinsAll, MergesAll}
 use Rattle.raft_log_replay.proofs.Rereading.{table_is}
@@ -47,6 +47,7 @@ use Rattle.raft_log_contexts.proofs.Counting.{counts_left, counts_right}
 use Rattle.raft_log_contexts.proofs.Notes.{all_cover, all_take, completed_group, group_covers, group_takes, join_covers, plain_covers, Cover, CountsWhole}
 use Rattle.raft_log_contexts.specs.Context.{is_plain, tables_of, ArePlain, ComesOver, HasRead, IsSound, MergesInto, ReadsOne, meant_by}
 use Rattle.raft_log_contexts.proofs.Fragments.{then_nothing}
+use Rattle.raft_log_contexts.proofs.GroupsCount.{all_count, counting_joined, counting_more, counting_over, counts_none, counts_read, whole_count, CountsItems}
 use Rattle.raft_log_contexts.proofs.OpenGroups.{pieces_more, records_append, seen_said}
 use Rattle.raft_log_contexts.proofs.Taking.{counted_more, healthy_back, healthy_front, tables_joined, tables_more, read_fit, takes_none, takes_read}
 
@@ -166,6 +167,7 @@ reads_plain queue n old new items reads same = λ rs h.
       plain = λ q. plain_append rs (r ∷ []) (h.plain q) (refl, tt);
       fit = λ q. fit_append rs (r ∷ []) (h.fit q) (fit_plain (in_append queue) q n old.tables new.tables items reads, tt);
       tables = tables_more (in_append queue) rs r (replayed_of old.tables) (replayed_of new.tables) h.tables (takes_read (in_append queue) n old.tables new.tables items reads);
+      counting = counting_more rs r (counting_of old.tables) (counting_of new.tables) h.counting (counts_read (in_append queue) n old.tables new.tables items reads);
       notes = λ q. notes_plain (in_append queue) q rs n old.tables new.tables items reads (h.notes q);
       pieces = subst (ArePieces (rs ++ r ∷ [])) (sym same) (pieces_plain rs n (said_in (in_append queue) n items) old.pieces h.pieces);
     }
@@ -188,6 +190,8 @@ reads_quiet m part old new quiet takes same = λ rs h. record {
   tables = tables_more false rs (part_read m part) (replayed_of old.tables) (replayed_of new.tables) h.tables
       (subst (λ l. TakesItems false l (replayed_of old.tables) (replayed_of new.tables)) (sym (quiet (opened none_open (records_of rs))))
       (subst (λ t. TakesItems false [] (replayed_of old.tables) (replayed_of t)) (sym same) (takes_none false (replayed_of old.tables))));
+  counting = counting_more rs (part_read m part) (counting_of old.tables) (counting_of new.tables) h.counting
+      (subst (λ l. CountsItems l (counting_of old.tables) (counting_of new.tables)) (sym (quiet (opened none_open (records_of rs)))) (counts_none old.tables new.tables same));
   notes = λ q. notes_quiet rs (part_read m part) old.tables new.tables (quiet (opened none_open (records_of rs))) same (h.notes q);
   pieces = takes rs h.pieces;
 }
@@ -252,6 +256,8 @@ reads_end n part whole old new ends settles = λ rs h.
       plain = λ q. never_append q;
       fit = λ q. never_append q;
       tables = tables;
+      counting = counting_more rs (part_read (End n) part) (counting_of old.tables) (counting_of new.tables) h.counting
+          (subst (λ l. CountsItems l (counting_of old.tables) (counting_of new.tables)) (sym (ended_items rs n part whole told.1)) (whole_count whole old.tables new.tables settles));
       notes = λ q. notes_end rs n part whole old.tables new.tables told.1 settles tables (h.notes q);
       pieces = told.0;
     }
@@ -295,6 +301,8 @@ merges_rewrite done between old later new joins settles merges = λ xs ys h k.
       fit = λ q. never_append q;
       tables = tables_joined false xs ys (replayed_of old.tables) between later.tables new.tables h.tables k.tables
           (subst (λ l. TakesItems false l (replayed_of old.tables) (replayed_of between)) (border_items xs ys done told.1) (all_take done old.tables between settles)) merges;
+      counting = counting_joined false xs ys (counting_of old.tables) between later.tables new.tables h.counting k.counting k.tables
+          (subst (λ l. CountsItems l (counting_of old.tables) (counting_of between)) (border_items xs ys done told.1) (all_count done old.tables between settles)) merges;
       notes = λ q. notes_joined xs ys done old.tables between later.tables new.tables told.1 settles merges h.tables k.tables (h.notes q) (k.notes q);
       pieces = told.0;
     }
@@ -315,6 +323,9 @@ merges_append old later new same merges = λ xs ys h k.
       tables = tables_joined true xs ys (replayed_of old.tables) old.tables later.tables new.tables h.tables k.tables
           (subst (λ us. TakesItems true (completed us (λ n. head n [] (records_of ys))) (replayed_of old.tables) (replayed_of old.tables)) (sym (plain_unfinished xs (h.plain refl)))
           (takes_none true (replayed_of old.tables))) merges;
+      counting = counting_joined true xs ys (counting_of old.tables) old.tables later.tables new.tables h.counting k.counting k.tables
+          (subst (λ us. CountsItems (completed us (λ n. head n [] (records_of ys))) (counting_of old.tables) (counting_of old.tables)) (sym (plain_unfinished xs (h.plain refl)))
+          (counts_none old.tables old.tables refl)) merges;
       notes = λ q. never_rewrite q;
       pieces = subst (ArePieces (xs ++ ys)) (sym same) (plain_pieces xs ys old.pieces (h.plain refl) (k.plain refl) h.pieces);
     }
@@ -329,6 +340,7 @@ comes_over old append new merges rewrite behind h k = λ tidy neat g whole sound
   of_append = k.tables neat g sound;
   noted = λ lie. h.notes refl lie tidy g whole;
   shows = (merges g).shows ∙ ap (λ v. merged v (replayed_of append.tables g)) (sym (table_is old.tables g));
+  counting = counting_over rewrite behind old.tables append.tables new merges h.counting k.counting k.tables tidy neat g whole sound;
 }
 
 -- the directory's tables

@@ -4,6 +4,7 @@ pub mod OpenGroups
 pub mod Outcomes
 pub mod CarryOn
 pub mod Taking
+mod GroupsCount
 pub mod Contexts
 mod Refusals
 mod Batches

@@ -16,7 +16,7 @@ use Rattle.raft_log_replay.specs.declared.group_table.GroupTable.{GroupTable}
 use Rattle.raft_log_replay.specs.Batch.{mentions}
 use Rattle.raft_log_replay.specs.Joining.{read_noted_in}
 use Rattle.raft_log_replay.specs.Replaying.{ReadsAll}
-use Rattle.raft_log_replay.specs.Tables.{raw_of, replayed_in, replayed_of}
+use Rattle.raft_log_replay.specs.Tables.{counts, raw_of, replayed_in, replayed_of}
 use Rattle.raft_log_replay.proofs.Ready.{by_group, same_or_apart}
 use Rattle.raft_log_contexts.specs.declared.part.GroupPart.{GroupPart}
 use Rattle.raft_log_contexts.specs.Pieces.{ends_with, is_number, with_file}
@@ -140,13 +140,15 @@ noted_alike None p q a b same h = h
 noted_alike (Some files) p q a b same h = λ g. (λ t. (h g).0 (same g ∙ t), λ t. (h g).1 (same g ∙ t))
 
 pub settles : (done ps : List GroupPart) (a b c : MemTables) (files : Option GroupFiles) (hs ks : List ℕ) → done ≡ ps → ReadsParts done a b → files ≡ files_after None done
-    → ((g : ℕ) → is_listed g hs ≡ parts_mention g done) → ks ≡ hs → NotesAll files (λ g. is_listed g ks) (replayed_of b) (replayed_of c) → SettlesGroup ps a c
-settles done ps a b c files hs ks came reads are listed same notes = record {
+    → ((g : ℕ) → is_listed g hs ≡ parts_mention g done) → ks ≡ hs → NotesAll files (λ g. is_listed g ks) (replayed_of b) (replayed_of c)
+    → ((g : ℕ) → counts c g ≡ counts b g) → SettlesGroup ps a c
+settles done ps a b c files hs ks came reads are listed same notes stay = record {
   between = b;
   reads = subst (λ l. ReadsParts l a b) came reads;
   notes = subst (λ o. NotesAll o (λ g. parts_mention g ps) (replayed_of b) (replayed_of c)) (are ∙ ap (files_after None) came)
       (noted_alike files (λ g. is_listed g ks) (λ g. parts_mention g ps) (replayed_of b) (replayed_of c)
       (λ g. ap (is_listed g) same ∙ listed g ∙ ap (parts_mention g) came) notes);
+  counting = stay;
 }
 
 -- A group that comes once more in a row is listed already.

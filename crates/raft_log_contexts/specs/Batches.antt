@@ -11,7 +11,7 @@ use Rattle.raft_log_model.specs.Meaning.{Slot}
 use Rattle.raft_log_model.specs.Table.{content}
 use Rattle.raft_log_model.specs.Tidy.{Tidy}
 use Rattle.raft_log_places.specs.Replayed.{standing}
-use Rattle.raft_log_replay.specs.Tables.{shown_of}
+use Rattle.raft_log_replay.specs.Tables.{counts, shown_of}
 use Rattle.raft_log_segments.specs.Machines.{Batch}
 use Rattle.raft_log_contexts.specs.declared.context.MemTableRecoverContext.{MemTableRecoverContext}
 use Rattle.raft_log_contexts.specs.Records.{counted, record_read, records_of, AreHealthy, ReadRecord}
@@ -85,10 +85,11 @@ Declines queue bs errors.Memory = Unit {0}
 Declines queue bs _ = ⊥
 
 -- Two contexts have read the same records of a queue; and where these are in order, their tables hold the
--- same entries and values of each group, in the same places and files
+-- same entries and values of each group, in the same places and files, and the same groups count
 pub record HaveReadAlike (queue : LogQueue) (m n : MemTableRecoverContext) : Type 0 where
   pub records : List ReadRecord
   pub first : HasRead queue records m
   pub second : HasRead queue records n
   pub shows : AreOrderly records → (g : ℕ) (s : Slot)
       → content (standing (shown_of (tables_of m) g)) s ≡ content (standing (shown_of (tables_of n) g)) s
+  pub counting : AreOrderly records → (g : ℕ) → counts (tables_of m) g ≡ counts (tables_of n) g

@@ -18,8 +18,8 @@ use Rattle.raft_log_places.specs.Replayed.{merged, told, IsReplayed, Replayed}
 use Rattle.raft_log_held.specs.Entries.{place_of}
 use Rattle.raft_log_tables.specs.Replays.{in_append}
 use Rattle.raft_log_replay.specs.declared.mem_tables.MemTables.{MemTables}
-use Rattle.raft_log_replay.specs.Tables.{replayed_of, shown_of}
-use Rattle.raft_log_replay.specs.Batch.{MayFollowAll}
+use Rattle.raft_log_replay.specs.Tables.{counts, replayed_of, shown_of}
+use Rattle.raft_log_replay.specs.Batch.{MayFollowAll, counts_at_end}
 use Rattle.raft_log_replay.specs.Joining.{JoinsAll}
 use Rattle.raft_log_replay.specs.Replaying.{ReadsUpTo}
 use Rattle.raft_log_contexts.specs.declared.context.MemTableRecoverContext.{MemTableRecoverContext}
@@ -37,14 +37,21 @@ abbrev pub ArePlain : List ReadRecord → Type 0
 ArePlain [] = Unit {0}
 ArePlain (r ∷ rs) = (is_plain r.taken ≡ true) × ArePlain rs
 
--- The context has read these records of a queue: its tables are those of what counts in them, and its pieces
--- those of the atomic groups that they leave open or that began before them. In Append all records count at
--- once, and each run of theirs ends at or below 2^64 - 1; of Rewrite the tables note the files of the atomic
--- groups
+-- The groups that count are those of which something counts behind the last Clean, where no other record
+-- touches the raft group of an open atomic group, and what counts is healthy
+abbrev pub AreCounting : List ReadRecord → (ℕ → Bool) → Type 0
+AreCounting rs counting =
+    Tidy (records_of rs) → (g : ℕ) → AreHealthy (counted g rs) → counting g ≡ counts_at_end false (counted g rs)
+
+-- The context has read these records of a queue: its tables are those of what counts in them, and so are the
+-- groups that count, and its pieces those of the atomic groups that they leave open or that began before them.
+-- In Append all records count at once, and each run of theirs ends at or below 2^64 - 1; of Rewrite the tables
+-- note the files of the atomic groups
 pub record HasRead (queue : LogQueue) (rs : List ReadRecord) (c : MemTableRecoverContext) : Type 0 where
   pub plain : in_append queue ≡ true → ArePlain rs
   pub fit : in_append queue ≡ true → RecordsFit (records_of rs)
   pub tables : AreReplayed (in_append queue) rs (replayed_of c.tables)
+  pub counting : AreCounting rs (counts c.tables)
   pub notes : in_append queue ≡ false → AreNotedRead rs (replayed_of c.tables)
   pub pieces : ArePieces rs c.pieces
 
@@ -86,8 +93,9 @@ abbrev pub MergesInto : LogQueue → MemTableRecoverContext → MemTableRecoverC
 MergesInto queue old later new =
     (xs ys : List ReadRecord) → HasRead queue xs old → HasRead queue ys later → HasRead queue (xs ++ ys) new
 
--- what shows of a group is what was read of these records of Append over what was read of those of Rewrite,
--- of which the files of the atomic groups are noted
+-- What shows of a group is what was read of these records of Append over what was read of those of Rewrite,
+-- of which the files of the atomic groups are noted; and the group counts where something of it does behind
+-- the last Clean of both
 pub record IsOverAt (rewrite append : List ReadRecord) (m : MemTables) (g : ℕ) : Type 0 where
   pub rewritten : Replayed
   pub appended : Replayed
@@ -95,6 +103,7 @@ pub record IsOverAt (rewrite append : List ReadRecord) (m : MemTables) (g : ℕ)
   pub of_append : IsReplayed true (counted g append) appended
   pub noted : AreWhereRead rewrite → NotesCover rewrite g rewritten.table.noted
   pub shows : shown_of m g ≡ merged rewritten.table appended
+  pub counting : counts m g ≡ counts_at_end (counts_at_end false (counted g rewrite)) (counted g append)
 
 -- What shows of each group is what was read of Append over what was read of Rewrite, where in Rewrite no
 -- record touches the raft group of an open atomic group, and what counts in the queues is healthy

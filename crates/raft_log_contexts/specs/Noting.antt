@@ -18,7 +18,7 @@ use Rattle.raft_log_tables.specs.Files.{with_read_group}
 use Rattle.raft_log_replay.specs.declared.mem_tables.MemTables.{MemTables}
 use Rattle.raft_log_replay.specs.Batch.{mentions}
 use Rattle.raft_log_replay.specs.Replaying.{ReadsAll}
-use Rattle.raft_log_replay.specs.Tables.{replayed_of}
+use Rattle.raft_log_replay.specs.Tables.{counts, replayed_of}
 use Rattle.raft_log_contexts.specs.declared.part.GroupPart.{GroupPart}
 use Rattle.raft_log_contexts.specs.Records.{counted, records_of, AreHealthy, ReadItem, ReadRecord}
 use Rattle.raft_log_contexts.specs.Pieces.{with_file}
@@ -62,11 +62,12 @@ NotesAll (Some files) test old new =
     (g : ℕ) → (test g ≡ true → NotesAt files (old g) (new g)) × (test g ≡ false → new g ≡ old g)
 
 -- The atomic group of these records counts: the tables take the records, and note its files of each raft
--- group that they are of
+-- group that they are of; noting changes nothing of which groups count
 pub record SettlesGroup (ps : List GroupPart) (old new : MemTables) : Type 0 where
   pub between : MemTables
   pub reads : ReadsParts ps old between
   pub notes : NotesAll (files_of ps) (λ g. parts_mention g ps) (replayed_of between) (replayed_of new)
+  pub counting : (g : ℕ) → counts new g ≡ counts between g
 
 -- atomic groups count, one after another
 abbrev pub SettlesAll : List (Vec GroupPart) → MemTables → MemTables → Type 0

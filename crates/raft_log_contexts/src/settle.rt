@@ -2,7 +2,7 @@
 ghost use Rattle.std.specs.Prelude.{◌≡◌, ◌||◌, ℕ, Some, IfErr, OnOk};
 ghost use Rattle.raft_log_base.specs.declared.errors.Error.TheVariants.{Memory};
 ghost use Rattle.raft_log_replay.specs.Batch.{mentions};
-ghost use Rattle.raft_log_replay.specs.Tables.{replayed_of, IsAtRest};
+ghost use Rattle.raft_log_replay.specs.Tables.{counts, replayed_of, IsAtRest};
 ghost use Rattle.raft_log_contexts.specs.Pieces.{ends_with, with_file};
 ghost use Rattle.raft_log_contexts.specs.Noting.{is_listed, NotesAll, SettlesAll, SettlesGroup, SettlesWhole};
 
@@ -107,6 +107,7 @@ fn ends_with(groups: &[u64], group: u64) -> bool
 fn note_groups(tables: &mut MemTables, groups: &[u64], files: Option<GroupFiles>)
     ensures notes { NotesAll files (λ g. is_listed g groups.now) (replayed_of tables.old)
         (replayed_of tables.new) }
+    ensures counts { (g : ℕ) → counts tables.new g ≡ counts tables.old g }
     ensures rest { IsAtRest tables.old → IsAtRest tables.new }
 {
     match files {
@@ -119,6 +120,7 @@ fn note_groups(tables: &mut MemTables, groups: &[u64], files: Option<GroupFiles>
 fn note_each(tables: &mut MemTables, groups: &[u64], files: GroupFiles)
     ensures notes { NotesAll (Some files) (λ g. is_listed g groups.now) (replayed_of tables.old)
         (replayed_of tables.new) }
+    ensures counts { (g : ℕ) → counts tables.new g ≡ counts tables.old g }
     ensures rest { IsAtRest tables.old → IsAtRest tables.new }
 {
     for group in groups {

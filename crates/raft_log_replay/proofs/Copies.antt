@@ -1,19 +1,19 @@
 -- Copies that the gate lets move are the machine's moves.
-use Rattle.std.proofs.Common.{◌≡◌, ℕ, zero, suc, ◌+◌, ◌-◌, ◌<◌, ◌≤◌, min, max, Bool, true, false, if◌then◌else◌, nat_le, nat_lt, List, [], ◌∷◌, ◌++◌, length, map, take, drop, Option, Some, None, bytes_eq, refl, sym, ap, ap₂, subst, ◌∙◌, inl, inr, arith, length-drop}
+use Rattle.std.proofs.Common.{◌≡◌, ℕ, zero, suc, ◌+◌, ◌-◌, ◌≤◌, max, true, false, if◌then◌else◌, nat_le, nat_lt, List, [], ◌∷◌, ◌++◌, length, take, drop, Option, Some, None, refl, sym, ap, ap₂, subst, ◌∙◌, arith, length-drop}
 use Rattle.std.proofs.lemmas.List.{take_all}
 use Rattle.raft_log_model.specs.Item.{Item}
 use Rattle.raft_log_model.specs.Item.Item.{Run, Clean, Compact, Put, Del}
 use Rattle.raft_log_model.specs.Meaning.{Slot, Content}
-use Rattle.raft_log_model.proofs.Cases.{at_bool, if_false, if_true, le_false, le_true, lt_false}
+use Rattle.raft_log_model.proofs.Cases.{at_bool, if_false, if_true, lt_false}
 use Rattle.raft_log_machine.specs.Whereabouts.{CarriesAll}
 use Rattle.raft_log_places.specs.declared.place.Place.{Place}
 use Rattle.raft_log_places.specs.Shown.{KeyValue, Shown, whereabouts, with_held, IsOrderly}
-use Rattle.raft_log_places.specs.Bridge.{Located, Move, moved_run, moved_key, moved, all_moved, rewritten_value, item_of, item_of_key, items_of, CanMove, CanAllMove, IsMeant}
+use Rattle.raft_log_places.specs.Bridge.{Located, moved_run, moved_key, all_moved, rewritten_value, item_of, item_of_key, items_of, CanMove, CanAllMove, IsMeant}
 use Rattle.raft_log_places.specs.Bridge.Move.{MoveRun, MoveKey}
 use Rattle.raft_log_places.proofs.Moving.{moves_carry, moves_meant, moves_orderly, move_orderly}
 use Rattle.raft_log_held.specs.Counts.{passing}
 use Rattle.raft_log_tables.specs.Moves.{gated, movable, rewritten_at, rewritten_by, may_move, rewritten_to, key_rewritten}
-use Rattle.raft_log_replay.specs.Rewriting.{all_rewritten, rewritten_item, copied_items, moves_of, IsCopy, AreCopies}
+use Rattle.raft_log_replay.specs.Rewriting.{all_rewritten, copied_items, moves_of, IsCopy, AreCopies}
 
 -- of places that pass the gate, so many first ones do
 passing_first : (gate n : ℕ) (ps : List Place) → n ≤ passing gate ps → passing gate (take n ps) ≡ n

@@ -13,11 +13,11 @@ use Rattle.raft_log_model.proofs.Records.{of_group_append}
 use Rattle.raft_log_model.proofs.RenamedLaws.{of_group_renamed}
 use Rattle.raft_log_atomic_groups.specs.Meaning.{meaning, tagged_items}
 use Rattle.raft_log_places.specs.declared.place.Place.{Place}
-use Rattle.raft_log_places.specs.Shown.{Shown, span}
+use Rattle.raft_log_places.specs.Shown.{span}
 use Rattle.raft_log_tables.specs.Room.{Promise, count_of, needs, no_promise, with_moves, without_moves}
 use Rattle.raft_log_tables.proofs.Ready.{needs-append, needs_renamed}
 use Rattle.raft_log_replay.specs.declared.mem_tables.MemTables.{MemTables}
-use Rattle.raft_log_replay.specs.Tables.{has_table, promise_of, shown_of, IsAtRest, PromisesSame, ShowsSame}
+use Rattle.raft_log_replay.specs.Tables.{has_table, promise_of, IsAtRest, PromisesSame, ShowsSame}
 use Rattle.raft_log_replay.specs.Rewriting.{entries_of, moving, GroupsStay, MayMove, PromisesMove, PromisesMoves, RewritesAll, RewritesOne}
 use Rattle.raft_log_replay.proofs.Applied.{items_renamed, written_items}
 use Rattle.raft_log_replay.proofs.Ready.{by_group, same_or_apart}

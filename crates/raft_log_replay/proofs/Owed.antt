@@ -1,5 +1,5 @@
 -- The marks that are owed, table by table.
-use Rattle.std.proofs.Common.{◌≡◌, ℕ, ◌==◌, ◌&&◌, Bool, true, false, if◌then◌else◌, nat_lt, List, [], ◌∷◌, ◌++◌, map, Option, Some, None, Result, Ok, Err, IfOk, refl, sym, ap, ap₂, subst, ◌∙◌, arith, append_assoc, append-nil}
+use Rattle.std.proofs.Common.{◌≡◌, ℕ, ◌==◌, ◌&&◌, Bool, true, false, if◌then◌else◌, nat_lt, List, [], ◌∷◌, ◌++◌, map, Option, Some, None, refl, sym, ap, subst, ◌∙◌, arith, append_assoc, append-nil}
 use Rattle.std.specs.List.Sorted.{IsStrictlySortedBy}
 use Rattle.raft_log_items.specs.declared.entry.EntryIndex.{EntryIndex}
 use Rattle.raft_log_items.specs.declared.command.Command.{Command}
@@ -18,7 +18,7 @@ use Rattle.raft_log_atomic_groups.specs.declared.marking.Marking.TheVariants.{Un
 use Rattle.raft_log_atomic_groups.specs.Marking.{has_mark_key, mark_of, marking_of, marking_of_items, part_or_broken, joined_marking}
 use Rattle.raft_log_atomic_groups.specs.Meaning.{tagged, tagged_items, unless_mark}
 use Rattle.raft_log_places.specs.Shown.{Shown, nothing_shown, whereabouts}
-use Rattle.raft_log_places.specs.Bridge.{compact_owed, dels, marks, unmarked}
+use Rattle.raft_log_places.specs.Bridge.{dels, marks, unmarked}
 use Rattle.raft_log_places.proofs.Marking.{marks_carry}
 use Rattle.raft_log_held.specs.Listing.{ListsMarked}
 use Rattle.raft_log_tables.specs.Moves.{owed_compact}
@@ -26,7 +26,7 @@ use Rattle.raft_log_tables.specs.Table.{shown}
 use Rattle.raft_log_replay.specs.declared.group_table.GroupTable.{GroupTable}
 use Rattle.raft_log_replay.specs.declared.mem_tables.MemTables.{MemTables}
 use Rattle.raft_log_replay.specs.Tables.{shown_in}
-use Rattle.raft_log_replay.specs.Owing.{compact_items, delete_item, owed_commands, owed_items, AddsOwed, AreOwed, AreOwedAt}
+use Rattle.raft_log_replay.specs.Owing.{compact_items, delete_item, owed_items, AddsOwed, AreOwed, AreOwedAt}
 use Rattle.raft_log_replay.proofs.Ready.{by_group, same_or_apart}
 use Rattle.raft_log_replay.proofs.Segments.{AllOnce, found, found_first, found_later}
 

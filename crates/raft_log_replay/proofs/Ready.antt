@@ -106,12 +106,12 @@ rest_more m n k g b same rest others so_far h =
     first true c h t = refl
     first false c h t = absurd (let clash : true ≡ false = sym h ∙ t in let never : ⊥ = cc in never)
 
--- of one more group no entries may move any more
-pub moves_more : (m n : MemTables) (k g : ℕ) (b : Bool) → (promise_of n k).moves ≡ 0 → ((j : ℕ) → (k == j) ≡ false → promise_of n j ≡ promise_of m j)
-    → (b ≡ true → (promise_of m g).moves ≡ 0) → (b || (k == g)) ≡ true → (promise_of n g).moves ≡ 0
-moves_more m n k g b none others so_far h =
-    by_group k g (same_or_apart k g) (λ t is. subst (λ (j : ℕ). (promise_of n j).moves ≡ 0) is none)
-    (λ t. ap (λ (q : Promise). q.moves) (others g t) ∙ so_far (first b (k == g) h t))
+-- of one more group what was promised of a kind is forgotten
+pub none_more : (part : Promise → ℕ) (m n : MemTables) (k g : ℕ) (b : Bool) → part (promise_of n k) ≡ 0 → ((j : ℕ) → (k == j) ≡ false → promise_of n j ≡ promise_of m j)
+    → (b ≡ true → part (promise_of m g) ≡ 0) → (b || (k == g)) ≡ true → part (promise_of n g) ≡ 0
+none_more part m n k g b none others so_far h =
+    by_group k g (same_or_apart k g) (λ t is. subst (λ (j : ℕ). part (promise_of n j) ≡ 0) is none)
+    (λ t. ap part (others g t) ∙ so_far (first b (k == g) h t))
   where
     first : (a c : Bool) → (a || c) ≡ true → c ≡ false → a ≡ true
     first true c h t = refl

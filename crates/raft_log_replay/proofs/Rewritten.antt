@@ -1,5 +1,5 @@
 -- Items that were written to Rewrite, one after another.
-use Rattle.std.proofs.Common.{◌≡◌, ℕ, zero, suc, ◌+◌, ◌-◌, ◌≤◌, ◌==◌, max, min, Bool, true, false, if◌then◌else◌, nat_lt, List, [], ◌∷◌, ◌++◌, length, take, drop, Option, Some, None, bytes_eq, refl, sym, ap, ap₂, subst, ◌∙◌, arith}
+use Rattle.std.proofs.Common.{◌≡◌, ℕ, zero, suc, ◌+◌, ◌-◌, ◌≤◌, Bool, true, false, if◌then◌else◌, nat_lt, List, [], ◌∷◌, ◌++◌, length, take, drop, Option, Some, None, bytes_eq, refl, sym, ap, ap₂, subst, ◌∙◌, arith}
 use Rattle.std.proofs.Math.Path.{fun_ext}
 use Rattle.raft_log_model.specs.Item.{Item, Tagged}
 use Rattle.raft_log_model.specs.Item.Item.{Run, Clean, Compact, Put, Del}
@@ -8,7 +8,7 @@ use Rattle.raft_log_model.proofs.Cases.{at_bool, from_lt_false}
 use Rattle.raft_log_places.specs.declared.place.Place.{Place}
 use Rattle.raft_log_places.specs.Shown.{KeyValue, Shown, nothing_shown}
 use Rattle.raft_log_places.proofs.Alone.{shows}
-use Rattle.raft_log_tables.specs.Moves.{gated, movable, rewritten_at, rewritten_by}
+use Rattle.raft_log_tables.specs.Moves.{gated, movable, rewritten_at}
 use Rattle.raft_log_replay.specs.declared.mem_tables.MemTables.{MemTables}
 use Rattle.raft_log_replay.specs.Tables.{shown_of}
 use Rattle.raft_log_replay.specs.Rewriting.{all_rewritten, rewritten_item, RewritesOne}

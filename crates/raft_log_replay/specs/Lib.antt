@@ -1,3 +1,4 @@
+pub mod Bare
 pub mod Tables
 pub mod Batch
 pub mod Replaying

@@ -20,10 +20,7 @@ ghost use Rattle.raft_log_tables.specs.Room.{
   CanTake,
 };
 ghost use Rattle.raft_log_tables.specs.Table.{promise, replay_of, shown, RunRefused};
-ghost use Rattle.raft_log_replay.specs.Batch.{counts_after};
-ghost use Rattle.raft_log_replay.specs.Owing.{delete_item, owed_commands, AddsOwed};
-ghost use Rattle.raft_log_replay.specs.Replaying.{MayBeRead, ReadRefused};
-ghost use Rattle.raft_log_replay.specs.Rewriting.{rewritten_item};
+ghost use Rattle.raft_log_replay.specs.Bare.{IsBare};
 
 use raft_log_base::{FileSeq, LogQueue, Result};
 use raft_log_items::{Bytes, Command, EntryIndex, KeyValue, LogItem, LogItemContent, OpType};
@@ -39,9 +36,15 @@ pub struct GroupTable {
     pub(crate) table: MemTable,
     /// Whether the group took something since it was cleaned last.
     pub(crate) counts: bool,
+    ghost bare: { counts ≡ false → IsBare (shown table) },
 }
 
 impl GroupTable {
+    ghost use Rattle.raft_log_replay.specs.Batch.{counts_after};
+    ghost use Rattle.raft_log_replay.specs.Owing.{delete_item, owed_commands, AddsOwed};
+    ghost use Rattle.raft_log_replay.specs.Replaying.{MayBeRead, ReadRefused};
+    ghost use Rattle.raft_log_replay.specs.Rewriting.{rewritten_item};
+
     /// The table of a group of which nothing is known.
     pub(crate) fn new(alloc: Global) -> GroupTable
         ensures shows { shown result.table ≡ nothing_shown }
@@ -158,7 +161,7 @@ impl GroupTable {
     {
         match content {
             LogItemContent::EntryIndexes(entries) => {
-                self.replay_run(queue, entries.as_slice())?;
+                Self::replay_run(&mut self.table, queue, entries.as_slice())?;
             }
             LogItemContent::Command(Command::Clean) => {
                 self.table.replay_clean();
@@ -169,57 +172,11 @@ impl GroupTable {
                 self.table.replay_compact(index);
             }
             LogItemContent::Kv(key_value) => {
-                self.replay_key(alloc, queue, key_value, file)?;
+                Self::replay_key(&mut self.table, alloc, queue, key_value, file)?;
             }
         }
         self.counts = true;
         Ok(())
-    }
-
-    /// Entries that were read in a queue stand there.
-    fn replay_run(&mut self, queue: LogQueue, entries: &[EntryIndex]) -> Result<()>
-        requires { IsRun entries.now }
-        ensures ok { (n : ℕ) → OnOk result (replay_of self.new.table
-            ≡ replayed (in_append queue) n (replay_of self.old.table) (run_of entries.now)) }
-        ensures fits { OnOk result
-            (MayBeRead (in_append queue) (span (shown self.old.table)) (run_of entries.now)) }
-        ensures err { OnErr result (replay_of self.new.table ≡ replay_of self.old.table) }
-        ensures errors { IfErr result
-            (λ e. ReadRefused (in_append queue) (span (shown self.old.table)) (run_of entries.now) e) }
-        ensures counts { self.new.counts ≡ self.old.counts }
-        ensures ends { (promise self.new.table).ends ≡ span (shown self.new.table) }
-    {
-        match queue {
-            LogQueue::Append => self.table.replay_append(entries),
-            LogQueue::Rewrite => {
-                self.table.replay_rewrite(entries)?;
-                Ok(())
-            }
-        }
-    }
-
-    /// A value or a Del that was read in a file of a queue.
-    fn replay_key(
-        &mut self,
-        alloc: Global,
-        queue: LogQueue,
-        key_value: KeyValue,
-        file: FileSeq,
-    ) -> Result<(), AllocError>
-        ensures ok { OnOk result (replay_of self.new.table
-            ≡ replayed (in_append queue) file (replay_of self.old.table) (key_meaning key_value.op_type key_value.key (value_of key_value))) }
-        ensures err { OnErr result (replay_of self.new.table ≡ replay_of self.old.table) }
-        ensures counts { self.new.counts ≡ self.old.counts }
-        ensures ends { (promise self.new.table).ends ≡ span (shown self.new.table) }
-    {
-        match key_value.op_type {
-            OpType::Put => {
-                let bytes = key_value.value.unwrap_or(Bytes::new(alloc));
-                self.table
-                    .replay_put(queue, key_value.key.as_slice(), bytes, file)
-            }
-            OpType::Del => self.table.replay_delete(key_value.key.as_slice()),
-        }
     }
 
     /// A table that was read of the next segment comes behind this one. Refused, nothing changes but that
@@ -284,7 +241,7 @@ impl GroupTable {
         ensures { OnOk result (AddsOwed group (shown self.now.table) items.old.items items.new.items) }
     {
         self.add_commands(group, items)?;
-        add_deletes(group, self.table.owed_deletes()?, items)
+        Self::add_deletes(group, self.table.owed_deletes()?, items)
     }
 
     /// Adds the Clean and the Compact, where they are owed.
@@ -341,14 +298,57 @@ impl GroupTable {
             },
         }
     }
-}
 
-/// Adds the deletions of a group's keys. Refused, some are added.
-fn add_deletes(group: u64, keys: Vec<Bytes>, items: &mut Vec<LogItem>) -> Result<(), AllocError>
-    ensures { OnOk result (items.new.items ≡ items.old.items ++ map (delete_item group) keys.items) }
-{
-    for key in keys {
-        items.push(LogItem::new_kv(group, OpType::Del, key, None))?;
+    /// Entries that were read in a queue stand there in a table.
+    fn replay_run(table: &mut MemTable, queue: LogQueue, entries: &[EntryIndex]) -> Result<()>
+        requires { IsRun entries.now }
+        ensures ok { (n : ℕ) → OnOk result (replay_of table.new
+            ≡ replayed (in_append queue) n (replay_of table.old) (run_of entries.now)) }
+        ensures fits { OnOk result
+            (MayBeRead (in_append queue) (span (shown table.old)) (run_of entries.now)) }
+        ensures err { OnErr result (replay_of table.new ≡ replay_of table.old) }
+        ensures errors { IfErr result
+            (λ e. ReadRefused (in_append queue) (span (shown table.old)) (run_of entries.now) e) }
+        ensures ends { (promise table.new).ends ≡ span (shown table.new) }
+    {
+        match queue {
+            LogQueue::Append => table.replay_append(entries),
+            LogQueue::Rewrite => {
+                table.replay_rewrite(entries)?;
+                Ok(())
+            }
+        }
     }
-    Ok(())
+
+    /// A value or a Del that was read in a file of a queue stands there in a table.
+    fn replay_key(
+        table: &mut MemTable,
+        alloc: Global,
+        queue: LogQueue,
+        key_value: KeyValue,
+        file: FileSeq,
+    ) -> Result<(), AllocError>
+        ensures ok { OnOk result (replay_of table.new
+            ≡ replayed (in_append queue) file (replay_of table.old) (key_meaning key_value.op_type key_value.key (value_of key_value))) }
+        ensures err { OnErr result (replay_of table.new ≡ replay_of table.old) }
+        ensures ends { (promise table.new).ends ≡ span (shown table.new) }
+    {
+        match key_value.op_type {
+            OpType::Put => {
+                let bytes = key_value.value.unwrap_or(Bytes::new(alloc));
+                table.replay_put(queue, key_value.key.as_slice(), bytes, file)
+            }
+            OpType::Del => table.replay_delete(key_value.key.as_slice()),
+        }
+    }
+
+    /// Adds the deletions of a group's keys. Refused, some are added.
+    fn add_deletes(group: u64, keys: Vec<Bytes>, items: &mut Vec<LogItem>) -> Result<(), AllocError>
+        ensures { OnOk result (items.new.items ≡ items.old.items ++ map (delete_item group) keys.items) }
+    {
+        for key in keys {
+            items.push(LogItem::new_kv(group, OpType::Del, key, None))?;
+        }
+        Ok(())
+    }
 }

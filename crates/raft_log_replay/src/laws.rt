@@ -1,7 +1,7 @@
 //! What a batch does to the tables of all groups is what the machine may do: each law is a function without
 //! a body.
 
-ghost use Rattle.std.specs.Prelude.{◌≡◌, ℕ, ◌++◌, [], map, List, Option};
+ghost use Rattle.std.specs.Prelude.{◌≡◌, ℕ, ◌++◌, [], false, map, List, Option};
 ghost use Rattle.raft_log_model.specs.Item.{Item, Tagged};
 ghost use Rattle.raft_log_model.specs.Groups.{of_group, Map};
 ghost use Rattle.raft_log_model.specs.Meaning.{after, Content, Slot};
@@ -23,6 +23,7 @@ ghost use Rattle.raft_log_places.specs.Bridge.{
   Located,
 };
 ghost use Rattle.raft_log_replay.specs.declared.mem_tables.MemTables.{MemTables};
+ghost use Rattle.raft_log_replay.specs.Bare.{IsBare};
 ghost use Rattle.raft_log_replay.specs.Batch.{all_shown, all_written, IsReadyFor, MayFollowAll};
 ghost use Rattle.raft_log_replay.specs.Owing.{AreOwedAt};
 ghost use Rattle.raft_log_replay.specs.Rewriting.{
@@ -34,7 +35,7 @@ ghost use Rattle.raft_log_replay.specs.Rewriting.{
   PromisesMoves,
   RewritesAll,
 };
-ghost use Rattle.raft_log_replay.specs.Tables.{shown_of};
+ghost use Rattle.raft_log_replay.specs.Tables.{counts, shown_of};
 
 /// A batch in a file of Append, none of whose runs leaves a hole or ends past 2^64 - 1, is taken in each
 /// group: where things stand follows its items, and what the places mean is the map with the batch on it.
@@ -98,4 +99,9 @@ pub fn owed_marks_carry<E>()
     ensures { (f : EntryIndex → E) (m : Slot → Option (Content E (List ℕ))) (v : Shown)
         (xs : List (Item EntryIndex (List ℕ))) → AreOwedAt v xs
         → CarriesAll m (whereabouts v) (map (renamed f) xs) (whereabouts (unmarked v)) }
+{}
+
+/// Of a group that doesn't count no entry stands, and no value: it took nothing since it was cleaned last.
+pub fn nothing_stands_uncounted()
+    ensures { (m : MemTables) (g : ℕ) → counts m g ≡ false → IsBare (shown_of m g) }
 {}

@@ -6,7 +6,7 @@ ghost use Rattle.raft_log_places.specs.Shown.{nothing_shown, span};
 ghost use Rattle.raft_log_atomic_groups.specs.Marking.{has_mark_key};
 ghost use Rattle.raft_log_atomic_groups.specs.Meaning.{meaning, tagged, tagged_items};
 ghost use Rattle.raft_log_held.specs.Entries.{place_of};
-ghost use Rattle.raft_log_tables.specs.Room.{CanTake};
+ghost use Rattle.raft_log_tables.specs.Room.{CanTake, IsForgotten};
 ghost use Rattle.raft_log_replay.specs.Batch.{
   all_shown,
   counts_at_end,
@@ -88,6 +88,10 @@ impl MemTables {
         ensures shows { ShowsSame self.old self.new }
         ensures ok { OnOk result (IsReadyFor self.new (tagged_items (λ e. e) items.now)) }
         ensures err { OnErr result (IsAtRest self.new) }
+        ensures forgotten { OnErr result ((g : ℕ) → mentions g items.now ≡ true
+            → IsForgotten (promise_of self.new g)) }
+        ensures others { OnErr result ((g : ℕ) → mentions g items.now ≡ false
+            → promise_of self.new g ≡ promise_of self.old g) }
         ensures errors { IfErr result
             (BatchRefused (shown_of self.old) (tagged_items (λ e. e) items.now)) }
     {
@@ -104,6 +108,7 @@ impl MemTables {
         ensures rest { (g : ℕ) → mentions g items.now ≡ true
             → (promise_of self.new g).ends ≡ span (shown_of self.new g) }
         ensures moves { (g : ℕ) → mentions g items.now ≡ true → (promise_of self.new g).moves ≡ 0 }
+        ensures room { (g : ℕ) → mentions g items.now ≡ true → (promise_of self.new g).wanted ≡ 0 }
         ensures others { (g : ℕ) → mentions g items.now ≡ false
             → promise_of self.new g ≡ promise_of self.old g }
         ensures unwritten { IsReadyFor self.old (tagged_items (λ e. e) items.now) → IsAtRest self.new }
@@ -158,6 +163,7 @@ impl MemTables {
         ensures shows { ShowsSame self.old self.new }
         ensures rest { (promise_of self.new group).ends ≡ span (shown_of self.new group) }
         ensures moves { (promise_of self.new group).moves ≡ 0 }
+        ensures room { (promise_of self.new group).wanted ≡ 0 }
         ensures others { (g : ℕ) → (group == g) ≡ false → promise_of self.new g ≡ promise_of self.old g }
     {
         if let Some(found) = self.groups.get_mut(&group) {

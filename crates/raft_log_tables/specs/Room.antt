@@ -30,6 +30,10 @@ without_moves q n = record q { moves = q.moves - n }
 abbrev pub taken_back : Promise → Window → Promise
 taken_back q w = record q { wanted = 0; moves = 0; ends = w }
 
+-- no places are promised and no moves
+abbrev pub IsForgotten : Promise → Type 0
+IsForgotten q = (q.wanted ≡ 0) × (q.moves ≡ 0)
+
 -- nothing is promised
 abbrev pub no_promise : Promise
 no_promise = record { wanted = 0; moves = 0; ends = record { first = 0; end = 0 }; has = λ k. false }

@@ -298,6 +298,7 @@ impl MemTable {
     pub fn prepare_compact(&mut self, index: u64)
         ensures shows { shown self.new ≡ shown self.old }
         ensures ok { promise self.new ≡ promised {E = Place} {V = List ℕ} (promise self.old) (Compact index) }
+        ensures bounds { IsBoundAs self.old self.new }
     {
         self.ahead = self.ahead.after_compact(index);
     }
@@ -307,6 +308,7 @@ impl MemTable {
     pub fn prepare_clean(&mut self)
         ensures shows { shown self.new ≡ shown self.old }
         ensures ok { promise self.new ≡ promised {E = Place} {V = List ℕ} (promise self.old) Clean }
+        ensures bounds { IsBoundAs self.old self.new }
     {
         self.ahead = Ends { first: 0, end: 0 };
     }
@@ -442,6 +444,7 @@ impl MemTable {
     pub fn move_key(&mut self, key: &[u8], file: FileSeq)
         ensures shows { shown self.new ≡ moved_key (shown self.old) key.now file }
         ensures room { promise self.new ≡ promise self.old }
+        ensures bounds { IsBoundAs self.old self.new }
     {
         self.keys.rewrite(key, file);
     }
@@ -452,6 +455,7 @@ impl MemTable {
         ensures shows { shown self.new ≡ key_rewritten gate (shown self.old) key.now file }
         ensures ends { span (shown self.new) ≡ span (shown self.old) }
         ensures room { promise self.new ≡ promise self.old }
+        ensures bounds { IsBoundAs self.old self.new }
     {
         let Some(held) = self.keys.get(key) else {
             return;
@@ -469,6 +473,7 @@ impl MemTable {
         requires room { length entries.now ≤ (promise self.old).moves }
         ensures shows { shown self.new ≡ moved_by (shown self.old) (run_of entries.now) }
         ensures room { promise self.new ≡ without_moves (promise self.old) (length entries.now) }
+        ensures bounds { IsBoundAs self.old self.new }
     {
         let Some(front) = entries.first() else {
             return;
@@ -486,6 +491,7 @@ impl MemTable {
         ensures shows { shown self.new ≡ rewritten_by gate (shown self.old) (run_of entries.now) }
         ensures ends { span (shown self.new) ≡ span (shown self.old) }
         ensures room { promise self.new ≡ without_moves (promise self.old) (length entries.now) }
+        ensures bounds { IsBoundAs self.old self.new }
     {
         let Some(front) = entries.first() else {
             return;

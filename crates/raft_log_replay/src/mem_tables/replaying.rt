@@ -14,7 +14,7 @@ ghost use Rattle.raft_log_replay.specs.Replaying.{
   RestsAt,
   StaysAt,
 };
-ghost use Rattle.raft_log_replay.specs.Tables.{counts, promise_of, raw_of, replayed_of, shown_of, IsAtRest};
+ghost use Rattle.raft_log_replay.specs.Tables.{counts, promise_of, raw_of, replayed_of, shown_of, IsAtRest, PromisesSame};
 
 use super::{MemTables, is_mark};
 use crate::group_table::GroupTable;
@@ -90,6 +90,7 @@ impl MemTables {
         ensures noted { replayed_of self.new group ≡ noted_in files (raw_of self.old group) }
         ensures others { (g : ℕ) → (group == g) ≡ false → replayed_of self.new g ≡ replayed_of self.old g }
         ensures counts { (g : ℕ) → counts self.new g ≡ counts self.old g }
+        ensures promises { PromisesSame self.old self.new }
         ensures rest { IsAtRest self.old → IsAtRest self.new }
     {
         if let Some(found) = self.groups.get_mut(&group) {
@@ -103,6 +104,7 @@ impl MemTables {
         ensures noted { replayed_of self.new group ≡ read_noted_in files (raw_of self.old group) }
         ensures others { (g : ℕ) → (group == g) ≡ false → replayed_of self.new g ≡ replayed_of self.old g }
         ensures counts { (g : ℕ) → counts self.new g ≡ counts self.old g }
+        ensures promises { PromisesSame self.old self.new }
         ensures rest { IsAtRest self.old → IsAtRest self.new }
     {
         if let Some(found) = self.groups.get_mut(&group) {

@@ -37,6 +37,8 @@ impl MemTables {
             → promise_of self.new g ≡ promise_of self.old g) }
         ensures forgotten { OnErr result ((g : ℕ) → mentions g items.now ≡ true
             → (promise_of self.new g).moves ≡ 0) }
+        ensures room { OnErr result ((g : ℕ) → mentions g items.now ≡ true
+            → (promise_of self.new g).wanted ≡ 0) }
         ensures rest { IsAtRest self.old → IsAtRest self.new }
     {
         let prepared = self.prepare_copies(items);

@@ -13,6 +13,7 @@ ghost use Rattle.raft_log_places.specs.Replayed.{
 ghost use Rattle.raft_log_model.specs.Summary.{lesser};
 ghost use Rattle.raft_log_tables.specs.Files.{with_read_group};
 ghost use Rattle.raft_log_tables.specs.Replays.{begin_alone, leaves_hole, HasRoomOf, MergeRefused};
+ghost use Rattle.raft_log_tables.specs.Room.{IsForgotten};
 ghost use Rattle.raft_log_tables.specs.Table.{promise, replay_of, shown, window_of, IsBoundAs};
 
 use super::MemTable;
@@ -34,6 +35,7 @@ impl MemTable {
         ensures err { OnErr result (replay_of self.new ≡ replay_of self.old) }
         ensures errors { IfErr result (λ e. MergeRefused (shown self.old) (replay_of newer) e) }
         ensures ends { (promise self.new).ends ≡ span (shown self.new) }
+        ensures forgotten { IsForgotten (promise self.new) }
     {
         self.take_back();
         if newer.cleaned {
@@ -54,6 +56,7 @@ impl MemTable {
     pub fn follow_nothing(&mut self)
         ensures read { replay_of self.new ≡ joined nothing_replayed (replay_of self.old) }
         ensures ends { (promise self.new).ends ≡ span (shown self.new) }
+        ensures forgotten { IsForgotten (promise self.new) }
     {
         self.first = self.begin_alone();
         self.take_back();
@@ -75,8 +78,9 @@ impl MemTable {
     /// stays. Refused or not, nothing is promised any more.
     pub fn merge_append_table(&mut self, append: MemTable) -> Result<(), AllocError>
         ensures ok { OnOk result (shown self.new ≡ merged (shown self.old) (replay_of append)) }
-        ensures err { OnErr result (shown self.new ≡ shown self.old) }
+        ensures err { OnErr result (replay_of self.new ≡ replay_of self.old) }
         ensures ends { (promise self.new).ends ≡ span (shown self.new) }
+        ensures forgotten { IsForgotten (promise self.new) }
     {
         self.take_back();
         if append.cleaned {
@@ -90,15 +94,21 @@ impl MemTable {
         Ok(())
     }
 
-    /// Makes room for what another table has. Refused or not, nothing shows.
+    /// Makes room for what another table has. Refused or not, nothing shows; refused, nothing is promised.
     fn make_room_for(&mut self, newer: &MemTable) -> Result<(), AllocError>
+        requires { IsForgotten (promise self.old) }
         ensures shows { shown self.new ≡ shown self.old }
         ensures bounds { IsBoundAs self.old self.new }
         ensures ends { (promise self.new).ends ≡ (promise self.old).ends }
         ensures room { OnOk result (HasRoomOf self.new newer.now) }
+        ensures forgotten { OnErr result (IsForgotten (promise self.new)) }
     {
         self.places.make_room(newer.places.len())?;
-        self.keys.make_room_for(&newer.keys)
+        let made = self.keys.make_room_for(&newer.keys);
+        if made.is_err() {
+            self.places.forget_room();
+        }
+        made
     }
 
     /// A later table without a Clean, for which there is room, comes over this one.
@@ -108,6 +118,7 @@ impl MemTable {
         ensures low { self.new.low ≡ max newer.low self.old.low }
         ensures high { self.new.high ≡ lesser newer.high self.old.high }
         ensures ends { (promise self.new).ends ≡ span (shown self.new) }
+        ensures forgotten { IsForgotten (promise self.new) }
     {
         self.join_bounds(&newer);
         let rewritten = newer.rewritten;

@@ -6,6 +6,7 @@ ghost use Rattle.raft_log_places.specs.Shown.{span, MayFollow};
 ghost use Rattle.raft_log_places.specs.Replayed.{high_with, replay_step, replayed};
 ghost use Rattle.raft_log_held.specs.Entries.{run_of};
 ghost use Rattle.raft_log_tables.specs.Replays.{in_append, under};
+ghost use Rattle.raft_log_tables.specs.Room.{IsForgotten};
 ghost use Rattle.raft_log_tables.specs.Table.{promise, replay_of, shown, IsBoundAs, RunRefused};
 
 use super::MemTable;
@@ -25,6 +26,7 @@ impl MemTable {
         ensures err { OnErr result (replay_of self.new ≡ replay_of self.old) }
         ensures errors { IfErr result (λ e. RunRefused (span (shown self.old)) (run_of entries.now) e) }
         ensures ends { (promise self.new).ends ≡ span (shown self.new) }
+        ensures forgotten { IsForgotten (promise self.new) }
     {
         self.take_back();
         self.prepare_append(entries)?;
@@ -42,6 +44,7 @@ impl MemTable {
             → OnOk result (replay_of self.new ≡ replayed false n (replay_of self.old) (run_of entries.now)) }
         ensures err { OnErr result (replay_of self.new ≡ replay_of self.old) }
         ensures ends { (promise self.new).ends ≡ span (shown self.new) }
+        ensures forgotten { IsForgotten (promise self.new) }
     {
         self.take_back();
         self.places.make_room(entries.len())?;
@@ -78,6 +81,7 @@ impl MemTable {
             ≡ replayed (in_append queue) file (replay_of self.old) (Put key.now bytes)) }
         ensures err { OnErr result (replay_of self.new ≡ replay_of self.old) }
         ensures ends { (promise self.new).ends ≡ span (shown self.new) }
+        ensures forgotten { IsForgotten (promise self.new) }
     {
         self.take_back();
         self.prepare_key(key)?;
@@ -96,6 +100,7 @@ impl MemTable {
             → OnOk result (replay_of self.new ≡ replayed q n (replay_of self.old) (Del key.now)) }
         ensures err { OnErr result (replay_of self.new ≡ replay_of self.old) }
         ensures ends { (promise self.new).ends ≡ span (shown self.new) }
+        ensures forgotten { IsForgotten (promise self.new) }
     {
         self.take_back();
         self.prepare_key(key)?;
@@ -108,6 +113,7 @@ impl MemTable {
         ensures read { (q : Bool) (n : ℕ)
             → replay_of self.new ≡ replayed q n (replay_of self.old) (Compact index) }
         ensures ends { (promise self.new).ends ≡ span (shown self.new) }
+        ensures forgotten { IsForgotten (promise self.new) }
     {
         self.compact_to(index);
         self.low = self.low.max(index);
@@ -118,6 +124,7 @@ impl MemTable {
     pub fn replay_clean(&mut self)
         ensures read { (q : Bool) (n : ℕ) → replay_of self.new ≡ replayed q n (replay_of self.old) Clean }
         ensures ends { (promise self.new).ends ≡ span (shown self.new) }
+        ensures forgotten { IsForgotten (promise self.new) }
     {
         self.clean();
         self.take_back();

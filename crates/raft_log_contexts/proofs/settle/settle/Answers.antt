@@ -35,4 +35,4 @@ returns-clause-ok c =
     let none = none_left (into_iter_items c.loop-part.part-iterator) (sym c.loop-part.part-iterator.rest.ok.0 ∙ c.in-None.ensures.steps.0) in
     let came = all_came_of c.loop-part.yielded _ c.args.parts.items done.all none in
     settles c.loop-part.yielded c.args.parts.items c.args.tables.now c.loop-part.tables c.note_groups.new.tables c.loop-part.files _ _
-    came done.taken done.files done.groups c.as_slice-2.ensures.value c.note_groups.ensures.notes
+    came done.taken done.files done.groups c.as_slice-2.ensures.value c.note_groups.ensures.notes c.note_groups.ensures.counts

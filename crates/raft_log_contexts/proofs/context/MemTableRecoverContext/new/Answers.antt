@@ -10,6 +10,7 @@ returns c = λ queue. record {
   plain = λ q. tt;
   fit = λ q. tt;
   tables = λ tidy g healthy. subst (λ z. IsReplayed (in_append queue) [] z) (sym (c.new.ensures.replay g)) (read_nothing (in_append queue));
+  counting = λ tidy g healthy. c.new.ensures.counts g;
   notes = λ q lie tidy g healthy s d stands. no_word (Some d) stands;
   pieces = c.new-2.ensures;
 }

@@ -1,9 +1,10 @@
-use Rattle.std.proofs.Common.{◌≡◌, ap, rules, ◌∙◌}
+use Rattle.std.proofs.Common.{◌≡◌, ap, refl, rules, subst, sym, ◌∙◌}
 use Rattle.raft_log_items.specs.declared.command.Command.TheVariants as commands
 use Rattle.raft_log_held.specs.Entries.{run_of}
 use Rattle.raft_log_places.specs.Replayed.{replayed}
 use Rattle.raft_log_tables.specs.Table.{replay_of}
 use Rattle.raft_log_tables.specs.Replays.{in_append}
+use Rattle.raft_log_replay.specs.Bare.{IsBare}
 use Rattle.raft_log_replay.proofs.Rereading.{run_is}
 use Rattle.raft_log_replay.proofs.group_table.GroupTable.replay.Goals as goal
 use Rattle.raft_log_replay.proofs.group_table.GroupTable.replay.Goals.{in-EntryIndexes+in_ok-replay_run-in-EntryIndexes, in-Command-Compact, in-Kv+in_ok-replay_key-in-Kv}
@@ -24,3 +25,9 @@ returns-clause-ok c = elim c.match-content.branch [
       rw (w.self-is, w.in-Command-Compact.is, compact) (w.replay_compact.ensures.read (in_append c.args.queue) c.args.file)
   | in-Kv+in_ok-replay_key-in-Kv w ↦ rw (w.self-is, w.in-Kv.is) w.in_ok-replay_key-in-Kv.ensures.ok
 ]
+
+pub invariant_of-self-in-Command-Clean : goal.invariant_of-self-in-Command-Clean
+invariant_of-self-in-Command-Clean c = record {
+  bare = λ h.
+      subst IsBare (sym (ap (λ z. z.table) (c.replay_clean.ensures.read (in_append c.args.queue) c.args.file))) (record { entries = refl; values = λ k. refl });
+}

@@ -2,7 +2,7 @@ use Rattle.std.proofs.Common.{◌≡◌, true, Option, Some, None, refl, is_some
 use Rattle.std.specs.BTreeMap.{get}
 use Rattle.std.specs.Ordering.{nat_cmp}
 use Rattle.raft_log_replay.specs.declared.group_table.GroupTable.{GroupTable}
-use Rattle.raft_log_replay.specs.Tables.{counts, counts_in, has_table}
+use Rattle.raft_log_replay.specs.Tables.{has_table}
 use Rattle.raft_log_replay.specs.Walking.{is_listed, listed_in}
 use Rattle.raft_log_replay.proofs.Groups.{listed_as}
 use Rattle.raft_log_replay.proofs.mem_tables.MemTables.known_groups.Goals as goal

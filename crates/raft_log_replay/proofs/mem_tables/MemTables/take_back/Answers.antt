@@ -1,7 +1,7 @@
 use Rattle.std.proofs.Common.{◌≡◌, ◌∙◌, ap, arith, sym, take, ℕ}
 use Rattle.std.proofs.lemmas.List.{take_all}
 use Rattle.raft_log_replay.proofs.Items.{mentions_more}
-use Rattle.raft_log_replay.proofs.Ready.{moves_more, others_more, rest_more, unwritten_rests}
+use Rattle.raft_log_replay.proofs.Ready.{none_more, others_more, rest_more, unwritten_rests}
 use Rattle.raft_log_replay.specs.Batch.{mentions}
 use Rattle.raft_log_replay.proofs.mem_tables.MemTables.take_back.Goals as goal
 
@@ -15,7 +15,8 @@ loop-item-preserved c =
     record {
       shows = record { shown = λ g. e.shows.shown g ∙ so_far.shows.shown g; counts = λ g. e.shows.counts g ∙ so_far.shows.counts g };
       rest = λ g h. rest_more c.loop-item.self c.take_back_of.new.self c.item-item.result.raft_group_id g _ e.shows e.rest e.others (so_far.rest g) (sym (more g) ∙ h);
-      moves = λ g h. moves_more c.loop-item.self c.take_back_of.new.self c.item-item.result.raft_group_id g _ e.moves e.others (so_far.moves g) (sym (more g) ∙ h);
+      moves = λ g h. none_more (λ q. q.moves) c.loop-item.self c.take_back_of.new.self c.item-item.result.raft_group_id g _ e.moves e.others (so_far.moves g) (sym (more g) ∙ h);
+      room = λ g h. none_more (λ q. q.wanted) c.loop-item.self c.take_back_of.new.self c.item-item.result.raft_group_id g _ e.room e.others (so_far.room g) (sym (more g) ∙ h);
       others = λ g h. others_more c.args.self.now c.loop-item.self c.take_back_of.new.self c.item-item.result.raft_group_id g _ e.others (so_far.others g) (sym (more g) ∙ h);
     }
 

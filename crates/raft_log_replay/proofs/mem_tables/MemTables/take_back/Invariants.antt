@@ -10,5 +10,6 @@ invariant-loop-item l = record {
   shows : ShowsSame l.fn.self l.self;
   rest : (g : ℕ) → mentions g (take l.item-index l.items) ≡ true → (promise_of l.self g).ends ≡ span (shown_of l.self g);
   moves : (g : ℕ) → mentions g (take l.item-index l.items) ≡ true → (promise_of l.self g).moves ≡ 0;
+  room : (g : ℕ) → mentions g (take l.item-index l.items) ≡ true → (promise_of l.self g).wanted ≡ 0;
   others : (g : ℕ) → mentions g (take l.item-index l.items) ≡ false → promise_of l.self g ≡ promise_of l.fn.self g;
 }

@@ -1,7 +1,7 @@
 use Rattle.std.proofs.Common.{◌≡◌, ◌++◌, map}
 use Rattle.std.specs.Vec.Iter.{into_iter_items}
 use Rattle.raft_log_replay.specs.Owing.{delete_item}
-use Rattle.raft_log_replay.proofs.group_table.add_deletes.Given as goal
+use Rattle.raft_log_replay.proofs.group_table.GroupTable.add_deletes.Given as goal
 
 -- with those that are left, the items are all that are to come
 abbrev pub invariant-loop-key : goal.invariant-loop-key

@@ -11,3 +11,5 @@ mod headers;
 mod memory;
 #[cfg(test)]
 mod refusals;
+#[cfg(test)]
+mod whole;

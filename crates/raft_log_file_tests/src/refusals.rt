@@ -1,5 +1,6 @@
 //! Each file call refused in turn.
 use super::files::{PATH, RECORD, prepared, second};
+use super::whole::{OFFSETS, is_whole, live};
 use raft_log_disk::{FileSystem, Permission};
 use raft_log_file::build_file_writer;
 use raft_log_memory_files::MemoryFileSystem;
@@ -63,5 +64,28 @@ fn a_refused_record_is_cut_back_and_written_again(rt: HostRuntime) -> Result<(),
     assert!(rt; (writer.offset(), size(&system)?) == (69, 69));
     writer.write(&rt, &mut system, &RECORD, 1024)?;
     assert!(rt; (writer.offset(), size(&system)?) == (134, 1024));
+    Ok(())
+}
+
+/// How many calls change something while a file lives: its creation, an allocation and a write for the header
+/// and for each of two records, of which the second one has room already; a cut and a sync; and for the third
+/// record an allocation, a write, a cut and a sync.
+const CALLS: u64 = 12;
+
+// Whether the file that lives while this call is refused is as it would be, and how many calls failed.
+fn lives_through(rt: &HostRuntime, n: u64) -> Result<(bool, u64), Fail> {
+    let mut system = prepared(rt.alloc())?;
+    system.refuse_call(n)?;
+    let offsets = live(rt, &mut system)?;
+    let whole = is_whole(rt, &system, 512)?;
+    Ok((whole & (offsets == OFFSETS), system.failures()))
+}
+
+#[test]
+fn a_file_lives_through_each_refusal(rt: HostRuntime) -> Result<(), Fail> {
+    for n in 1..=CALLS {
+        assert!(rt; lives_through(&rt, n)? == (true, 1), "call {n}");
+    }
+    assert!(rt; lives_through(&rt, 13)? == (true, 0));
     Ok(())
 }

@@ -1,9 +1,8 @@
-//! The items of log files, by file and by directory.
+//! The items of directories of log files.
 use crate::answers::answers_of;
-use raft_log_base::{Error, FileId, LogFileContext, LogQueue, Result, Version};
+use raft_log_base::{FileId, LogFileContext, LogQueue, Result, Version};
 use raft_log_disk::FileSystem;
 use raft_log_format::LogFileFormat;
-use raft_log_item_reader::LogItemReader;
 use raft_log_items::LogItem;
 use raft_log_memory_files::MemoryFileSystem;
 use raft_log_records::LogBatch;
@@ -36,7 +35,7 @@ fn file_of(alloc: Global, groups: &[u64], behind: &[u8]) -> Result<Vec<u8>> {
 }
 
 /// Makes a file with these bytes.
-fn save(system: &mut MemoryFileSystem, path: &str, bytes: &[u8]) -> Result<()> {
+pub fn save(system: &mut MemoryFileSystem, path: &str, bytes: &[u8]) -> Result<()> {
     let handle = system.create(path)?;
     system.write_at(handle, 0, bytes)?;
     Ok(())
@@ -73,38 +72,7 @@ fn groups_of(alloc: Global, rows: &[Row]) -> Result<Vec<u64>> {
     groups_in(alloc, &system)
 }
 
-/// The group of the first answer of the file with this path, and whether a second one comes.
-fn first_at(alloc: Global, system: &MemoryFileSystem, path: &str) -> Result<(u64, bool)> {
-    let mut reader = LogItemReader::new_file_reader(alloc, system, path)?;
-    match reader.next() {
-        Some(answer) => Ok((group_of(&answer), reader.next().is_some())),
-        None => Ok((0, false)),
-    }
-}
-
-/// Why a file with this path isn't read, where that is an invalid argument.
-fn invalid_at(alloc: Global, system: &MemoryFileSystem, path: &str) -> Option<String> {
-    match first_at(alloc, system, path) {
-        Err(Error::InvalidArgument(text)) => Some(text),
-        _ => None,
-    }
-}
-
-/// Rewrite files 7 to 9 with no, one and two records.
-const REWRITE: [Row; 3] = [
-    ("d/0000000000000009.rewrite", &[2, 3], b""),
-    ("d/0000000000000007.rewrite", &[], b""),
-    ("d/0000000000000008.rewrite", &[1], b""),
-];
-
-/// Of each of them the first group, and whether there is a second one.
-const FIRST: [(&str, u64, bool); 3] = [
-    ("d/0000000000000007.rewrite", 0, false),
-    ("d/0000000000000008.rewrite", 1, false),
-    ("d/0000000000000009.rewrite", 2, true),
-];
-
-/// They, an Append file, and one that is kept.
+/// Rewrite files 7 to 9 with no, one and two records, an Append file, and one that is kept.
 const MIXED: [Row; 5] = [
     ("d/0000000000000009.rewrite", &[2, 3], b""),
     ("d/0000000000000007.rewrite", &[], b""),
@@ -119,86 +87,27 @@ const DAMAGED: [Row; 2] = [
     ("d/0000000000000002.raftlog", &[3], b""),
 ];
 
-/// Rewrite file 0 of a header.
-const EMPTY: [Row; 1] = [("d/0000000000000000.rewrite", &[], b"")];
-
-/// An unrelated file, Append file 0 of no bytes and Rewrite file 0 of a header.
-fn odd_files(alloc: Global) -> Result<MemoryFileSystem> {
-    let mut system = directory_of(alloc, &EMPTY)?;
-    save(&mut system, "d/random_file", b"")?;
-    save(&mut system, "d/0000000000000000.raftlog", b"")?;
-    Ok(system)
-}
-
-/// What isn't read, and why.
-const INVALID: [(&str, &str); 2] = [
-    ("d", "Not a file: d"),
-    ("d/random_file", "Invalid log file name: d/random_file"),
-];
-
 /// Whether these groups come of a directory with these files.
 fn gives(alloc: Global, rows: &[Row], want: &[u64]) -> Result<bool> {
     Ok(groups_of(alloc, rows)?.as_slice() == want)
 }
 
-/// Whether a Rewrite file has the first group of this row, and a second one or not.
-fn begins_so(alloc: Global, row: usize) -> Result<bool> {
-    let (path, group, more) = FIRST[row % 3];
-    let system = directory_of(alloc, &REWRITE)?;
-    Ok(first_at(alloc, &system, path)? == (group, more))
-}
-
-/// Whether what this row names isn't read, and why.
-fn is_invalid(alloc: Global, row: usize) -> Result<bool> {
-    let (path, text) = INVALID[row % 2];
-    let system = odd_files(alloc)?;
-    Ok(matches!(invalid_at(alloc, &system, path), Some(why) if why.as_str() == text))
-}
-
-/// Whether of the odd files one is refused, and the file of a header has nothing.
-fn are_odd(alloc: Global) -> Result<bool> {
-    let system = odd_files(alloc)?;
-    let first = first_at(alloc, &system, "d/0000000000000000.rewrite")?;
-    let groups = groups_in(alloc, &system)?;
-    Ok((first == (0, false)) & (groups.as_slice() == [0].as_slice()))
-}
-
-/// Whether a file is no directory to be read.
-fn is_no_directory(alloc: Global) -> Result<bool> {
-    let system = odd_files(alloc)?;
-    let refused = answers_of(alloc, &system, "d/random_file");
-    Ok(matches!(refused, Err(Error::InvalidArgument(_))))
-}
-
-/// What holds, by its number; 0 to 3 are `test_debug_file_basic`, 6 to 8 `test_debug_file_error`.
-const HOLDS: [&str; 10] = [
-    "file 7 has no group",
-    "file 8 has one group",
-    "file 9 has two groups",
-    "three files give three groups",
-    "files of Rewrite come first",
+/// What holds, by its number.
+const HOLDS: [&str; 2] = [
+    "files of Rewrite come first, by their numbers, and no file that is kept",
     "after a refusal the next file follows",
-    "a directory is no file",
-    "a file of another name isn't read",
-    "an empty file is refused, and one of a header has nothing",
-    "a file is no directory",
 ];
 
 /// Whether it holds.
 fn holds(alloc: Global, number: usize) -> Result<bool> {
     match number {
-        0..=2 => begins_so(alloc, number),
-        3 => gives(alloc, &REWRITE, &[1, 2, 3]),
-        4 => gives(alloc, &MIXED, &[1, 2, 3, 5]),
-        5 => gives(alloc, &DAMAGED, &[1, 2, 0, 3]),
-        6 | 7 => is_invalid(alloc, number),
-        8 => are_odd(alloc),
-        _ => is_no_directory(alloc),
+        0 => gives(alloc, &MIXED, &[1, 2, 3, 5]),
+        _ => gives(alloc, &DAMAGED, &[1, 2, 0, 3]),
     }
 }
 
 #[test]
-fn items_are_told_by_file_and_directory(rt: HostRuntime) {
+fn items_of_directories_come_in_order(rt: HostRuntime) {
     for (number, what) in HOLDS.iter().enumerate() {
         assert!(rt; holds(rt.alloc(), number).ok() == Some(true), "{what}");
     }

@@ -15,6 +15,8 @@ mod item_refusals;
 #[cfg(test)]
 mod items;
 #[cfg(test)]
+mod log_file;
+#[cfg(test)]
 mod padding;
 #[cfg(test)]
 mod steps;

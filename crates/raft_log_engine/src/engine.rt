@@ -7,6 +7,7 @@ mod compacting;
 mod entries;
 mod messages;
 mod opening;
+mod purging;
 mod reads;
 mod scans;
 mod whole;

@@ -1,0 +1,6 @@
+mod Holes
+mod Ends
+mod Keeping
+mod Groups
+mod Telling
+mod Whole

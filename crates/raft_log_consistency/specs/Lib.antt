@@ -1,0 +1,5 @@
+pub mod Runs
+pub mod Kept
+pub mod Findings
+pub mod Checking
+pub mod Directory

@@ -5,3 +5,4 @@ pub mod Whole
 pub mod Rising
 pub mod Restating
 pub mod Ending
+pub mod Taking

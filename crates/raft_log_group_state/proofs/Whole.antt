@@ -36,7 +36,7 @@ one_part : (gate : Option ℕ) (n : ℕ) (v : Shown) (xs : List (Item Place (Lis
 one_part gate n v [] ys = refl
 one_part gate n v (x ∷ xs) ys = one_part gate n (rewritten_item gate n v x) xs ys
 
-all_parts : (gate : Option ℕ) (g : ℕ) (ps : List WrittenPart) (v : Shown) → parts_moved gate g ps v ≡ all_filed gate v (filed_items g ps)
+pub all_parts : (gate : Option ℕ) (g : ℕ) (ps : List WrittenPart) (v : Shown) → parts_moved gate g ps v ≡ all_filed gate v (filed_items g ps)
 all_parts gate g [] v = refl
 all_parts gate g (p ∷ ps) v =
     all_parts gate g ps (all_rewritten gate p.block.id.seq v (of_group g (items_at p.block p.batch)))

@@ -3,4 +3,5 @@ pub mod Writing
 pub mod Whole
 pub mod Restating
 pub mod Ending
+pub mod Taking
 pub mod LeftOpen

@@ -12,6 +12,7 @@ ghost use Rattle.raft_log_group_state.specs.LeftOpen.{
   NewGroupsEndNoOldOnes,
 };
 ghost use Rattle.raft_log_group_state.specs.Restating.{RestatedGroupsAreWhole};
+ghost use Rattle.raft_log_group_state.specs.Taking.{MovesOnePart, TablesTakeWholeGroups};
 ghost use Rattle.raft_log_group_state.specs.Whole.{MovedFilesRise, WholeGroupsAreMoved};
 ghost use Rattle.raft_log_group_state.specs.Writing.{
   RefusedPartsKeepTheMap,
@@ -78,4 +79,11 @@ pub fn whole_groups_may_end<E>()
 /// keys with their values, are such a whole group, wherever they are written.
 pub fn restated_groups_are_whole()
     ensures { RestatedGroupsAreWhole }
+{}
+
+/// Tables that take the parts of a whole group, one after another, and then note its files, show the whole
+/// group.
+pub fn tables_take_whole_groups<E>()
+    ensures part { MovesOnePart }
+    ensures whole { TablesTakeWholeGroups E }
 {}

@@ -1,0 +1,42 @@
+-- The tables of all groups take a whole atomic group of copies of one of them.
+use Rattle.std.specs.Prelude.{◌≡◌, ◌==◌, ℕ, true, false, List, [], ◌∷◌, ◌++◌, Option}
+use Rattle.raft_log_base.specs.declared.pipe_log.FileBlockHandle.{FileBlockHandle}
+use Rattle.raft_log_records.specs.Batch.{Batch}
+use Rattle.raft_log_places.specs.declared.group_files.GroupFiles.{GroupFiles}
+use Rattle.raft_log_places.specs.Shown.{IsOrderly}
+use Rattle.raft_log_places.specs.Bridge.{Located}
+use Rattle.raft_log_places.specs.Noted.{FilesRise}
+use Rattle.raft_log_replay.specs.declared.mem_tables.MemTables.{MemTables}
+use Rattle.raft_log_replay.specs.Joining.{noted_in}
+use Rattle.raft_log_replay.specs.Rewriting.{RewritesAll}
+use Rattle.raft_log_replay.specs.Tables.{has_table, raw_of, replayed_of, shown_of}
+use Rattle.raft_log_engine_state.specs.Writing.{items_at}
+use Rattle.raft_log_group_state.specs.Parts.{FilesGoUp, WrittenPart}
+use Rattle.raft_log_group_state.specs.Whole.{IsWholeCopy, filed_items, parts_moved}
+use Rattle.raft_log_group_state.specs.Ending.{ShowsWhole}
+
+-- the tables show what they showed before these parts, but that the parts moved
+abbrev pub MovedParts : Option ℕ → List WrittenPart → MemTables → MemTables → Type 0
+MovedParts gate ps old new = (g : ℕ) → shown_of new g ≡ parts_moved gate g ps (shown_of old g)
+
+-- one more part moved
+abbrev pub MovesOnePart : Type 0
+MovesOnePart = (gate : Option ℕ) (ps : List WrittenPart) (block : FileBlockHandle) (b : Batch)
+    (old m new : MemTables) → MovedParts gate ps old m → RewritesAll gate block.id.seq m new (items_at block b)
+    → MovedParts gate (ps ++ record { block = block; batch = b } ∷ []) old new
+
+-- the files of the atomic group are noted in the table of one group
+pub record NotesFiles (group : ℕ) (files : GroupFiles) (old new : MemTables) : Type 0 where
+  pub noted : replayed_of new group ≡ noted_in files (raw_of old group)
+  pub others : (g : ℕ) → (group == g) ≡ false → replayed_of new g ≡ replayed_of old g
+
+-- All parts moved, which have items of one group alone, and that has a table; and then the group's files were
+-- noted there: the tables show the whole group.
+abbrev pub TablesTakeWholeGroups : Type 0 → Type 0
+TablesTakeWholeGroups E = (at : Located → E) (gate : Option ℕ) (a : ℕ) (ps : List WrittenPart)
+    (files : GroupFiles) (group : ℕ) (old m new : MemTables) → ((g : ℕ) → IsOrderly (shown_of old g))
+    → ((g : ℕ) → FilesRise a files.from (shown_of old g)) → FilesGoUp files.from files.to ps
+    → ((g : ℕ) → IsWholeCopy at gate (shown_of old g) (filed_items g ps))
+    → ((g : ℕ) → (group == g) ≡ false → filed_items g ps ≡ []) → has_table m group ≡ true
+    → MovedParts gate ps old m → NotesFiles group files m new
+    → ShowsWhole gate ps files (shown_of old) (shown_of new)

@@ -9,3 +9,5 @@ pub mod Reading
 pub mod Moving
 pub mod KeyCopies
 pub mod Advancing
+pub mod KeysCopied
+pub mod Grouping

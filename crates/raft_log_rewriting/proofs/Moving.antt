@@ -43,7 +43,7 @@ before_cut (suc n) (x ∷ xs) ys long = ap (λ l. x ∷ l) (before_cut n xs ys (
 
 -- Places that pass the gate.
 
-passing_all : (gate : ℕ) (ps : List Place) → passing gate ps ≤ length ps
+pub passing_all : (gate : ℕ) (ps : List Place) → passing gate ps ≤ length ps
 passing_all gate [] = omega arith
 passing_all gate (p ∷ ps) =
     at_bool (nat_le p.file gate) (λ b. (if b then suc (passing gate ps) else 0) ≤ suc (length ps))

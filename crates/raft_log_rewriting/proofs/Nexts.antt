@@ -108,3 +108,10 @@ none_passes gate v next =
     let none : 0 ≡ length (next_places gate v) = ap length next ∙ entries_len v v.rewritten (next_places gate v) in
     let zero_taken = taken_none (copied_count gate ps) ps (sym none) (omega (arith, most)) in
     elim (first_comes copied_at_once ps) [ inl empty ↦ omega (arith, most, empty) | inr one ↦ omega (arith, zero_taken, one) ]
+
+-- no more come next than pass the gate
+pub next_few : (gate : ℕ) (v : Shown) (es : List EntryIndex) → AreNext gate v es → length es ≤ passing gate (drop v.rewritten v.places)
+next_few gate v es next =
+    let ps : List Place = drop v.rewritten v.places in
+    let count = ap length next ∙ entries_len v v.rewritten (next_places gate v) ∙ length-take (copied_count gate ps) ps in
+    let low = copied_few gate ps in omega (arith, count, low)

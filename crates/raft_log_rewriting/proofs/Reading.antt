@@ -120,6 +120,11 @@ run_plain : (g : ℕ) (b : Batch) (indexes : List ℕ) (bytes : List (List ℕ))
 run_plain g b indexes [] is = ap marking_of_items is.items
 run_plain g b indexes (x ∷ bytes) is = ap marking_of_items is.items ∙ plain_items (entries_items g 0 indexes (x ∷ bytes)) (entries_count g (laid_run 0 (entries_of indexes (x ∷ bytes))), tt)
 
+-- what remains, in two cases
+pub remains_or : (home : Home) (m : LogMap) (t : Shows) (error : Error) → Remains home m t error → Holds home t m [] ⊎ ((error ≡ errors.Failed) × IsLeftAt home t.pipes.disk m [])
+remains_or home m t errors.Failed h = inr (refl, h)
+remains_or home m t _ h = inl h
+
 module _ (s : Shows) (g gate : ℕ) (es : List EntryIndex) (next : AreNext gate (s.tables g) es) (some : es ≡ [] → ⊥) (new : BlockCache) (xs : List EntryBytes) (reads : ReadsEntries as_bytes s.pipes es s.cache new xs)
     (b : Batch) (is : IsRunBatch g (indexes_of es) (map (λ e. e.bytes) xs) b) where
   none_indexes : (l : List EntryIndex) → indexes_of l ≡ [] → l ≡ []
@@ -169,10 +174,6 @@ module _ (s : Shows) (g gate : ℕ) (es : List EntryIndex) (next : AreNext gate 
     advances = advances t moved;
     holds = λ owes home m h. moved.holds (run_plain g b (indexes_of es) (map (λ e. e.bytes) xs) is) home m (read_is_held s g gate es next new home m h xs reads).0 (copies home m h owes);
   }
-
-  remains_or : (home : Home) (m : LogMap) (t : Shows) (error : Error) → Remains home m t error → Holds home t m [] ⊎ ((error ≡ errors.Failed) × IsLeftAt home t.pipes.disk m [])
-  remains_or home m t errors.Failed h = inr (refl, h)
-  remains_or home m t _ h = inl h
 
   pub entries_not_copied : (error : Error) (t : Shows) → FailsToCopy (Some gate) b error (record s { cache = new }) t → FailsToCopyEntries error s t
   entries_not_copied error t fails = record {

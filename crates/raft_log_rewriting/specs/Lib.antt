@@ -6,3 +6,5 @@ pub mod Copies
 pub mod Entries
 pub mod Moving
 pub mod Rewriting
+pub mod Keys
+pub mod Groups

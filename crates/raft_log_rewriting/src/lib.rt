@@ -7,6 +7,9 @@
 pub mod copies;
 pub mod entries;
 pub mod files;
+pub mod groups;
+pub mod keys;
+pub mod laws;
 pub mod marks;
 mod record;
 pub mod rewriting;
@@ -14,6 +17,8 @@ pub mod stale;
 
 pub use copies::write_copies;
 pub use files::{least_file, purge_stale};
+pub use groups::{rewrite_group, rewrite_groups};
+pub use keys::copy_keys;
 pub use marks::rewrite_marks;
 pub use rewriting::copy_entries;
 pub use stale::purge_all_stale;

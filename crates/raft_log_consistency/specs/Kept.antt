@@ -60,7 +60,8 @@ pub record FollowsIn (old new : ConsistencyChecker) (group : ℕ) (later : Group
 
 -- what one checker keeps of each group came behind what the other did
 abbrev pub FollowsAll : ConsistencyChecker → ConsistencyChecker → ConsistencyChecker → Type 0
-FollowsAll old later new = (group : ℕ) → kept_of new group ≡ both_kept (kept_of old group) (kept_of later group)
+FollowsAll old later new =
+    (group : ℕ) → kept_of new group ≡ both_kept (kept_of old group) (kept_of later group)
 
 -- batches are declined for want of memory alone
 abbrev pub IsOutOfMemory : LogQueue → List Batch → Error → Type 0
@@ -68,7 +69,8 @@ IsOutOfMemory queue batches error = error ≡ errors.Memory
 
 -- the run of an item, if it has any, came behind what was kept of its group
 abbrev pub TakesItem : LogItem → ConsistencyChecker → ConsistencyChecker → Type 0
-TakesItem item old new = (group : ℕ) → kept_of new group ≡ both_kept (kept_of old group) (kept (run_of_item group item))
+TakesItem item old new =
+    (group : ℕ) → kept_of new group ≡ both_kept (kept_of old group) (kept (run_of_item group item))
 
 -- the runs of a batch came behind those that were kept of each group
 abbrev pub TakesRuns : List LogItem → ConsistencyChecker → ConsistencyChecker → Type 0

@@ -23,13 +23,13 @@ struct CheckedQueues {
     rewrite: ConsistencyChecker,
 }
 
-/// Checks the log of these settings for holes: of each group that has one, the end of the first run of entries
-/// after which the next one starts past the end + 1, in Rewrite or else in Append, sorted by group. The records
-/// are those that an open would read. What is missing before the first run or behind the last isn't seen.
+/// Checks the log of these settings for holes: of each group that has one, the end of the first run of
+/// entries after which the next one starts past the end + 1, in Rewrite or else in Append, sorted by group.
+/// The records are those that an open would read. What is missing before the first run or behind the last
+/// one isn't seen.
 ///
-/// No engine is opened. As by an open, directories that aren't there are made, and where the settings tolerate
-/// damage, damaged files are cut behind their last good record and synced; under `AbsoluteConsistency` no file
-/// is changed.
+/// No engine is opened. As by an open, directories that aren't there are made, and where the settings
+/// tolerate damage, damaged files are cut behind their last good record and synced.
 ///
 /// `Other` where the settings have a fault; then as a scan and a recovery are refused: `Other`, `Corruption`,
 /// `Io` of the directories, `Io` where a file can't be read, `Corruption` or `Codec` for damage that isn't

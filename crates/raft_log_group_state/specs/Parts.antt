@@ -52,7 +52,7 @@ said_items b = tagged_items (entry_bytes b.entries) b.items
 
 -- the batch is this part of the atomic group of that number, its record says it, and no run of it ends at an
 -- index that is too great
-pub record IsPart (number : ℕ) (status : AtomicGroupStatus) (b : Batch) : Type 0 where
+pub record IsGroupPart (number : ℕ) (status : AtomicGroupStatus) (b : Batch) : Type 0 where
   pub some : b.items ≡ [] → ⊥
   pub part : marking_of_items b.items ≡ Part number status
   pub says : SaysItself (signed_for b) b

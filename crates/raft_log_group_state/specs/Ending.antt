@@ -34,7 +34,8 @@ pub record TakesWhole (gate : Option ℕ) (ps : List WrittenPart) (v : ℕ → S
 
 -- what they take is an end of a group of copies, in these files
 abbrev pub whole_end : {E : Type 0} {at : Located → E} {gate : Option ℕ} {ps : List WrittenPart}
-    {v : ℕ → Shown} → GroupFiles → TakesWhole gate ps v → ((g : ℕ) → IsWholeCopy at gate (v g) (filed_items g ps))
+    {v : ℕ → Shown} → GroupFiles → TakesWhole gate ps v
+    → ((g : ℕ) → IsWholeCopy at gate (v g) (filed_items g ps))
     → GroupEnd
 whole_end files k w =
     record { files = files; about = k.about; moves = λ g. whole_moves (w g); least = k.least }

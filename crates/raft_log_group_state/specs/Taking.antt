@@ -31,7 +31,8 @@ MovedParts gate ps old new = (g : ℕ) → shown_of new g ≡ parts_moved gate g
 -- one more part moved
 abbrev pub MovesOnePart : Type 0
 MovesOnePart = (gate : Option ℕ) (ps : List WrittenPart) (block : FileBlockHandle) (b : Batch)
-    (old m new : MemTables) → MovedParts gate ps old m → RewritesAll gate block.id.seq m new (items_at block b)
+    (old m new : MemTables) → MovedParts gate ps old m
+    → RewritesAll gate block.id.seq m new (items_at block b)
     → MovedParts gate (ps ++ record { block = block; batch = b } ∷ []) old new
 
 -- the files of the atomic group are noted in the table of one group
@@ -51,8 +52,8 @@ TablesTakeWholeGroups E = (at : Located → E) (gate : Option ℕ) (a : ℕ) (ps
     → ShowsWhole gate ps files (shown_of old) (shown_of new)
 
 -- A purge ends the group in which it rewrites one raft group: the record with the end was written, the tables
--- took all parts, and noted the files there; and the batches say what stands of it in Rewrite, and of no other.
--- So the engine's log is what it was.
+-- took all parts, and noted the files there; and the batches say what stands of it in Rewrite, and of no
+-- other. So the engine's log is what it was.
 abbrev pub EndsOverTables : Type 0
 EndsOverTables = (home : Home) (v w : LogPipes) (old m new : MemTables) (cache after : BlockCache)
     (gate : Option ℕ) (o : UnendedGroup) (b : Batch) (block : FileBlockHandle) (map : LogMap) (group : ℕ)

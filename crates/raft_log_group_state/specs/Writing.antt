@@ -19,7 +19,8 @@ use Rattle.raft_log_group_state.specs.Parts.{HoldsInGroup, IsGroupPart, UnendedG
 -- part. What the tables show stays.
 pub record WrittenPartsKeepTheMap : Type 0 where
   pub begins : (home : Home) (e t : Shows) (number : ℕ) (b : Batch) (block : FileBlockHandle) (m : LogMap)
-      → Holds home e m [] → IsGroupPart number Begin b → AppendsTo InRewrite (signed_for b) block e.pipes t.pipes
+      → Holds home e m [] → IsGroupPart number Begin b
+      → AppendsTo InRewrite (signed_for b) block e.pipes t.pipes
       → SameTables e t → HoldsInGroup home t m (begun_by number (record { block = block; batch = b }))
   pub goes_on : (home : Home) (e t : Shows) (o : UnendedGroup) (b : Batch) (block : FileBlockHandle)
       (m : LogMap) → HoldsInGroup home e m o → IsGroupPart o.number Middle b

@@ -88,8 +88,8 @@ pub fn tables_take_whole_groups<E>()
     ensures whole { TablesTakeWholeGroups E }
 {}
 
-/// The end of a group in which a purge rewrites one raft group keeps the map, once the tables took it: nothing
-/// is asked but what was written and what the tables did.
+/// The end of a group in which a purge rewrites one raft group keeps the map, once the tables took it:
+/// nothing is asked but what was written and what the tables did.
 pub fn rewritten_groups_keep_the_map()
     ensures { EndsOverTables }
 {}

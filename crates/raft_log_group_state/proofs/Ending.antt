@@ -45,9 +45,9 @@ use Rattle.raft_log_engine_state.proofs.Keeping.{rise_on}
 use Rattle.raft_log_purge_state.specs.Rewriting.{RewriteLeaves}
 use Rattle.raft_log_purge_state.specs.Settled.{SameTables}
 use Rattle.raft_log_purge_state.proofs.Copying.{block_behind, bytes_behind, held_map, meant_behind, moved_lies}
-use Rattle.raft_log_purge_state.proofs.Rewriting.{held_taken, record_taken, refusal_leaves}
-use Rattle.raft_log_group_state.specs.Parts.{FilesGoUp, HoldsInGroup, IsPart, LiesInRewrite, OfEntries, SaysPart, UnendedGroup, WrittenPart, parts_of, said_items}
-use Rattle.raft_log_group_state.specs.Whole.{Filed, HasWhole, IsWholeCopy, RunPiece, all_places, batches_of, filed, filed_copies, filed_items, filed_moves, in_one, in_pieces, parts_moved, whole_moves}
+use Rattle.raft_log_purge_state.proofs.Rewriting.{IsTaken, held_taken, record_taken, refusal_leaves}
+use Rattle.raft_log_group_state.specs.Parts.{FilesGoUp, HoldsInGroup, IsGroupPart, LiesInRewrite, OfEntries, SaysPart, UnendedGroup, WrittenPart, parts_of, said_items}
+use Rattle.raft_log_group_state.specs.Whole.{Filed, HasWhole, IsWholeCopy, RunPiece, all_places, batches_of, filed_in, filed_copies, filed_items, filed_moves, in_one, in_pieces, parts_moved, whole_moves}
 use Rattle.raft_log_group_state.specs.Ending.{ShowsWhole, TakesWhole, WholeGroupsAreNoted, WholeGroupsMayEnd, files_of_group, whole_end}
 use Rattle.raft_log_group_state.proofs.Lying.{each_more, each_on, new_part_behind, one_more_file, part_lies, parts_behind, parts_stay}
 use Rattle.raft_log_group_state.proofs.Whole.{whole_moved}
@@ -89,7 +89,7 @@ joined_items g first [] = sym (append-nil (of_group g first))
 joined_items g first (xs ∷ more) =
     joined_items g (first ++ xs) more ∙ ap (λ l. l ++ each_of_group g more) (of_group_append g first xs) ∙ append_assoc (of_group g first) (of_group g xs) (each_of_group g more)
 
-filed_said : {E : Type 0} (at : Located → E) (n : ℕ) (xs : List (Item Place (List ℕ))) (ys : List Filed) → filed_copies at (filed n xs ++ ys) ≡ copied_items at xs ++ filed_copies at ys
+filed_said : {E : Type 0} (at : Located → E) (n : ℕ) (xs : List (Item Place (List ℕ))) (ys : List Filed) → filed_copies at (filed_in n xs ++ ys) ≡ copied_items at xs ++ filed_copies at ys
 filed_said at n [] ys = refl
 filed_said at n (x ∷ xs) ys = ap (λ l. renamed (λ p. at (in_queue false p)) x ∷ l) (filed_said at n xs ys)
 
@@ -119,7 +119,7 @@ module _ (s : State) (at : Located → List ℕ) where
   abbrev Lies : Filed → Type 0
   Lies x = OfEntries (EntryLiesIn s.rewrite) x.item
 
-  one_lies : (n : ℕ) (xs : List (Item Place (List ℕ))) (ys : List Filed) → Each (OfEntries (EntryLiesIn s.rewrite)) xs → Each Lies ys → Each Lies (filed n xs ++ ys)
+  one_lies : (n : ℕ) (xs : List (Item Place (List ℕ))) (ys : List Filed) → Each (OfEntries (EntryLiesIn s.rewrite)) xs → Each Lies ys → Each Lies (filed_in n xs ++ ys)
   one_lies n [] ys here rest = rest
   one_lies n (x ∷ xs) ys (first, here) rest = (first, one_lies n xs ys here rest)
 
@@ -167,10 +167,10 @@ module _ (s : State) (at : Located → List ℕ) where
 
 -- Refused: told as if it were behind all that stands.
 
-batches_more : (ps : List WrittenPart) (p : WrittenPart) → batches_of (ps ++ p ∷ []) ≡ batches_of ps ++ p.batch ∷ []
+pub batches_more : (ps : List WrittenPart) (p : WrittenPart) → batches_of (ps ++ p ∷ []) ≡ batches_of ps ++ p.batch ∷ []
 batches_more ps p = map-append (λ q. q.batch) ps (p ∷ [])
 
-pub end_refused : (home : Home) (e t : Shows) (gate : Option ℕ) (o : UnendedGroup) (b : Batch) (m : LogMap) (error : Error) → HoldsInGroup home e m o → IsPart o.number statuses.End b
+pub end_refused : (home : Home) (e t : Shows) (gate : Option ℕ) (o : UnendedGroup) (b : Batch) (m : LogMap) (error : Error) → HoldsInGroup home e m o → IsGroupPart o.number statuses.End b
     → HasWhole gate (batches_of (parts_of o) ++ b ∷ []) e.tables m → SameTables e t → FailsToAppendTo InRewrite (signed_for b) error e.pipes t.pipes → RewriteLeaves home m t error
 end_refused home e t gate o b m error h is has same call =
     let s = h.holds.state in
@@ -213,37 +213,74 @@ shows_end at gate ps files v u k orderly w = fun_ext (λ g. by_about g (k.took.a
     by_about g true is = k.about g is ∙ ap (λ x. with_note x (k.took.least g) files) (whole_moved at gate (v g) g ps (orderly g) (w g)).0
     by_about g false is = k.others g is
 
-pub end_written : (home : Home) (e t : Shows) (gate : Option ℕ) (o : UnendedGroup) (b : Batch) (block : FileBlockHandle) (m : LogMap) → HoldsInGroup home e m o → IsPart o.number statuses.End b
-    → HasWhole gate (batches_of (parts_of o) ++ b ∷ []) e.tables m → AppendsTo InRewrite (signed_for b) block e.pipes t.pipes
-    → ShowsWhole gate (parts_of o ++ record { block = block; batch = b } ∷ []) (files_of_group o block) e.tables t.tables → KeepsOrForgets e t → Holds home t m []
-end_written home e t gate o b block m h is has call took kept =
+-- what is known once Rewrite has taken the end
+pub record EndIsTaken (home : Home) (e t : Shows) (gate : Option ℕ) (o : UnendedGroup) (b : Batch) (block : FileBlockHandle) (m : LogMap) (h : HoldsInGroup home e m o) (k : IsTaken home e t m h.holds (signed_for b) (Part (End o.number) (said_items b)) block)
+    (ps : List WrittenPart) : Type 0 where
+  pub lie : Each (LiesInRewrite (next_log InRewrite h.holds.state k.files t.pipes.disk)) ps
+  pub says : Each (SaysPart (entries_at (next_log InRewrite h.holds.state k.files t.pipes.disk))) ps
+  pub meant : AreMeant (entries_at (next_log InRewrite h.holds.state k.files t.pipes.disk)) e.tables h.holds.map
+  pub whole : (g : ℕ) → IsWholeCopy (entries_at (next_log InRewrite h.holds.state k.files t.pipes.disk)) gate (e.tables g) (filed_items g ps)
+  pub up : FilesGoUp o.first.block.id.seq block.id.seq ps
+
+abbrev pub with_end : UnendedGroup → FileBlockHandle → Batch → List WrittenPart
+with_end o block b = parts_of o ++ record { block = block; batch = b } ∷ []
+
+pub end_taken : (home : Home) (e t : Shows) (o : UnendedGroup) (b : Batch) (block : FileBlockHandle) (m : LogMap) (h : HoldsInGroup home e m o) → IsGroupPart o.number statuses.End b
+    → AppendsTo InRewrite (signed_for b) block e.pipes t.pipes → IsTaken home e t m h.holds (signed_for b) (Part (End o.number) (said_items b)) block
+end_taken home e t o b block m h is call = record_taken home e t m h.holds (signed_for b) (Part (End o.number) (said_items b)) block (says_part home o.number statuses.End b is) call
+
+pub end_is_taken : (home : Home) (e t : Shows) (gate : Option ℕ) (o : UnendedGroup) (b : Batch) (block : FileBlockHandle) (m : LogMap) (h : HoldsInGroup home e m o) (k : IsTaken home e t m h.holds (signed_for b) (Part (End o.number) (said_items b)) block)
+    → IsGroupPart o.number statuses.End b → HasWhole gate (batches_of (parts_of o) ++ b ∷ []) e.tables m → EndIsTaken home e t gate o b block m h k (with_end o block b)
+end_is_taken home e t gate o b block m h k is has =
     let s = h.holds.state in
-    let k = record_taken home e t m h.holds (signed_for b) (Part (End o.number) (said_items b)) block (says_part home o.number statuses.End b is) call in
     let next : State = next_log InRewrite s k.files t.pipes.disk in
     let p : WrittenPart = record { block = block; batch = b } in
-    let ps : List WrittenPart = parts_of o ++ p ∷ [] in
+    let ps : List WrittenPart = with_end o block b in
     let at : Located → List ℕ = entries_at next in
-    let files : GroupFiles = files_of_group o block in
-    let stays = stored_entries_stay s next k.keeps e.tables h.holds.stored in
-    let meant : AreMeant at e.tables h.holds.map = stays.1 h.holds.map h.holds.meant in
+    let meant : AreMeant at e.tables h.holds.map = (stored_entries_stay s next k.keeps e.tables h.holds.stored).1 h.holds.map h.holds.meant in
     let lie : Each (LiesInRewrite next) ps = each_more (LiesInRewrite next) (parts_of o) p (parts_stay s next k.keeps (parts_of o) h.parts) (part_lies next k.value block b k.spans is.some is.laid k.last) in
     let says : Each (SaysPart at) ps = each_on (LiesInRewrite next) (SaysPart at) ps (λ q there. there.says) lie in
-    let w = has ps at (batches_more (parts_of o) p) (subst (λ x. AreMeant at e.tables x) (sym (held_map home e m h.holds)) meant) says in
     let last = k.last.number in let later = k.keeps.rewrite.last in
-    let up : FilesGoUp files.from files.to ps = one_more_file o.first.block.id.seq s.rewrite.files.last block.id.seq (parts_of o) p (omega (arith, last, later)) refl h.files in
-    let may = whole_may_end at gate ps e.tables files (joined (said_items o.first.batch) (said_more o) ++ said_items b) took.took w meant.orderly up (λ g. group_said at g o p says) in
-    let ends = group_ends at (whole_end files took.took w) e.tables h.holds.map (said_items o.first.batch) (said_more o) (said_items b) meant may is.fits in
-    let u : ℕ → Shown = ended (whole_end files took.took w) e.tables in
-    let shows : t.tables ≡ u = shows_end at gate ps files e.tables t.tables took meant.orderly w in
+    record {
+      lie = lie;
+      says = says;
+      meant = meant;
+      whole = has ps at (batches_more (parts_of o) p) (subst (λ x. AreMeant at e.tables x) (sym (held_map home e m h.holds)) meant) says;
+      up = one_more_file o.first.block.id.seq s.rewrite.files.last block.id.seq (parts_of o) p (omega (arith, last, later)) refl h.files;
+    }
+
+-- and the tables show the whole group
+pub end_shown : (home : Home) (e t : Shows) (gate : Option ℕ) (o : UnendedGroup) (b : Batch) (block : FileBlockHandle) (m : LogMap) (h : HoldsInGroup home e m o) (k : IsTaken home e t m h.holds (signed_for b) (Part (End o.number) (said_items b)) block)
+    → IsGroupPart o.number statuses.End b → EndIsTaken home e t gate o b block m h k (with_end o block b)
+    → ShowsWhole gate (with_end o block b) (files_of_group o block) e.tables t.tables → KeepsOrForgets e t → Holds home t m []
+end_shown home e t gate o b block m h k is f took kept =
+    let s = h.holds.state in
+    let next : State = next_log InRewrite s k.files t.pipes.disk in
+    let ps : List WrittenPart = with_end o block b in
+    let at : Located → List ℕ = entries_at next in
+    let files : GroupFiles = files_of_group o block in
+    let stored = (stored_entries_stay s next k.keeps e.tables h.holds.stored).0 in
+    let last = k.last.number in
+    let may = whole_may_end at gate ps e.tables files (joined (said_items o.first.batch) (said_more o) ++ said_items b) took.took f.whole f.meant.orderly f.up (λ g. group_said at g o (record { block = block; batch = b }) f.says) in
+    let ends = group_ends at (whole_end files took.took f.whole) e.tables h.holds.map (said_items o.first.batch) (said_more o) (said_items b) f.meant may is.fits in
+    let u : ℕ → Shown = ended (whole_end files took.took f.whole) e.tables in
+    let shows : t.tables ≡ u = shows_end at gate ps files e.tables t.tables took f.meant.orderly f.whole in
     held_taken home e t m h.holds (signed_for b) (Part (End o.number) (said_items b)) block k u shows kept
     (subst (λ v. AreStored next v) shows
-    (took_each (λ g v. Each (IsStored next) (located v.rewritten v.places)) gate ps files e.tables t.tables took (λ g. whole_stored next at gate (e.tables g) g ps (w g) (meant.orderly g) lie (stays.0 g)) stays.0))
+    (took_each (λ g v. Each (IsStored next) (located v.rewritten v.places)) gate ps files e.tables t.tables took (λ g. whole_stored next at gate (e.tables g) g ps (f.whole g) (f.meant.orderly g) f.lie (stored g)) stored))
     (subst (λ v. FilesRiseIn next v) shows
     (took_each (λ g v. FilesRise next.append.files.last next.rewrite.files.last v) gate ps files e.tables t.tables took
     (λ g. subst (λ n. FilesRise next.append.files.last n (with_note (parts_moved gate g ps (e.tables g)) (took.took.least g) files)) last
     (noted_rises next.append.files.last block.id.seq (parts_moved gate g ps (e.tables g)) (took.took.least g) files
-    (moved_rise at gate s.append.files.last o.first.block.id.seq block.id.seq (e.tables g) g ps (meant.orderly g) (h.rises g) up (w g))))
+    (moved_rise at gate s.append.files.last o.first.block.id.seq block.id.seq (e.tables g) g ps (f.meant.orderly g) (h.rises g) f.up (f.whole g))))
     (rise_on s next k.keeps e.tables h.holds.rises)))
     ends.meant
     (end_answered (Ties (log_in home)) (AllowsIn (log_in home)) s next (view_of e.tables h.holds.map) m files.from o.number (said_items o.first.batch) (said_more o)
     (view_of u h.holds.map) block.id.seq (said_items b) k.step ends.ends (in_group home e m o h))
+
+pub end_written : (home : Home) (e t : Shows) (gate : Option ℕ) (o : UnendedGroup) (b : Batch) (block : FileBlockHandle) (m : LogMap) → HoldsInGroup home e m o → IsGroupPart o.number statuses.End b
+    → HasWhole gate (batches_of (parts_of o) ++ b ∷ []) e.tables m → AppendsTo InRewrite (signed_for b) block e.pipes t.pipes
+    → ShowsWhole gate (parts_of o ++ record { block = block; batch = b } ∷ []) (files_of_group o block) e.tables t.tables → KeepsOrForgets e t → Holds home t m []
+end_written home e t gate o b block m h is has call took kept =
+    let k = end_taken home e t o b block m h is call in
+    end_shown home e t gate o b block m h k is (end_is_taken home e t gate o b block m h k is has) took kept

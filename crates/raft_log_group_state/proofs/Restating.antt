@@ -23,7 +23,7 @@ use Rattle.raft_log_replay.proofs.Copies.{run_moves}
 use Rattle.raft_log_stored.specs.Stored.{Each}
 use Rattle.raft_log_group_state.specs.Parts.{WrittenPart, said_items}
 use Rattle.raft_log_group_state.specs.Whole.{AreFiledCopies, Filed, RunPiece, all_places, batches_of, filed_copies, filed_items, in_one, in_pieces}
-use Rattle.raft_log_group_state.specs.Restating.{HoldsRewritten, KeyBytes, RestatedGroupsAreWhole, all_entries, puts, runs_in, said_of_group}
+use Rattle.raft_log_group_state.specs.Restating.{HoldsRewritten, KeyBytes, RestatedGroupsAreWhole, entries_of_pieces, puts, runs_in, said_of_group}
 use Rattle.raft_log_group_state.proofs.Lying.{each_on}
 use Rattle.raft_log_group_state.proofs.Ending.{each_of_group, parts_said}
 
@@ -71,7 +71,7 @@ module _ (at : Located → List ℕ) where
     runs : List RunPiece
     rest : List Filed
     items : xs ≡ in_pieces f runs ++ rest
-    entries : map bytes (all_places runs) ≡ all_entries pieces
+    entries : map bytes (all_places runs) ≡ entries_of_pieces pieces
     said : filed_copies at rest ≡ puts keys
 
   one_parted : (n : ℕ) (x : Item Place (List ℕ)) (xs : List Filed) (f : ℕ) (es : List (List ℕ)) (more : List (List (List ℕ))) (keys : List KeyBytes)
@@ -165,7 +165,7 @@ module _ (at : Located → List ℕ) where
 
 -- The law.
 
-batches_say : (g : ℕ) (ps : List WrittenPart) → each_of_group g (map (λ p. said_items p.batch) ps) ≡ said_of_group g (batches_of ps)
+pub batches_say : (g : ℕ) (ps : List WrittenPart) → each_of_group g (map (λ p. said_items p.batch) ps) ≡ said_of_group g (batches_of ps)
 batches_say g [] = refl
 batches_say g (p ∷ ps) = ap (λ l. of_group g (said_items p.batch) ++ l) (batches_say g ps)
 
@@ -178,5 +178,5 @@ restated_whole gate bs v m all ps at is meant says g =
       pieces = w.runs;
       rest = w.rest;
       items = w.items;
-      copies = in_one_copies at gate (v g) (m g) r.first w.runs w.rest (all_entries r.pieces) r.keys (meant.orderly g) (meant.meant g) w.entries r.from r.to r.entries w.said r.held;
+      copies = in_one_copies at gate (v g) (m g) r.first w.runs w.rest (entries_of_pieces r.pieces) r.keys (meant.orderly g) (meant.meant g) w.entries r.from r.to r.entries w.said r.held;
     }

@@ -18,7 +18,7 @@ use Rattle.raft_log_records.specs.Batch.{block_place}
 use Rattle.raft_log_views.proofs.Lying.{written_in}
 use Rattle.raft_log_engine_state.specs.Writing.{items_at}
 use Rattle.raft_log_group_state.specs.Parts.{FilesGoUp, WrittenPart}
-use Rattle.raft_log_group_state.specs.Whole.{Filed, IsWholeCopy, MovedFilesRise, RunPiece, all_places, filed, filed_items, filed_moves, in_one, in_pieces, whole_moves}
+use Rattle.raft_log_group_state.specs.Whole.{Filed, IsWholeCopy, MovedFilesRise, RunPiece, all_places, filed_in, filed_items, filed_moves, in_one, in_pieces, whole_moves}
 use Rattle.raft_log_group_state.proofs.Whole.{whole_moved}
 
 -- Files of places, one after another.
@@ -114,7 +114,7 @@ filed_lower : (low less high : ℕ) (xs : List Filed) → less ≤ low → Filed
 filed_lower low less high [] below h = omega (arith, below, h)
 filed_lower low less high (x ∷ xs) below (first, lie, rest) = (omega (arith, below, first), lie, rest)
 
-one_record : (low n high : ℕ) (xs : List (Item Place (List ℕ))) (ys : List Filed) → low ≤ n → AreIn n xs → FiledGoUp n high ys → FiledGoUp low high (filed n xs ++ ys)
+one_record : (low n high : ℕ) (xs : List (Item Place (List ℕ))) (ys : List Filed) → low ≤ n → AreIn n xs → FiledGoUp n high ys → FiledGoUp low high (filed_in n xs ++ ys)
 one_record low n high [] ys below lie rest = filed_lower n low high ys below rest
 one_record low n high (x ∷ xs) ys below lie rest =
     let each = are_in n x xs lie in (below, each.0, one_record n n high xs ys (le_refl n) each.1 rest)

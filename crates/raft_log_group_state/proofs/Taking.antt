@@ -16,13 +16,21 @@ use Rattle.raft_log_replay.specs.declared.group_table.GroupTable.{GroupTable}
 use Rattle.raft_log_replay.specs.Joining.{noted_in}
 use Rattle.raft_log_replay.specs.Rewriting.{all_rewritten}
 use Rattle.raft_log_replay.specs.Tables.{replayed_in, replayed_of, shown_in, shown_of}
+use Rattle.raft_log_directory.specs.Calls.Which.{InRewrite}
+use Rattle.raft_log_steps.specs.Steps.{next_log}
+use Rattle.raft_log_places.specs.Bridge.{Located}
+use Rattle.raft_log_stored.specs.Stored.{entries_at}
+use Rattle.raft_log_engine_state.specs.Shows.{Shows, shows}
 use Rattle.raft_log_engine_state.specs.Writing.{items_at}
-use Rattle.raft_log_group_state.specs.Parts.{WrittenPart}
-use Rattle.raft_log_group_state.specs.Whole.{filed_items, parts_moved, whole_moves}
-use Rattle.raft_log_group_state.specs.Taking.{MovesOnePart, TablesTakeWholeGroups}
+use Rattle.raft_log_group_state.specs.Parts.{WrittenPart, parts_of}
+use Rattle.raft_log_group_state.specs.Ending.{files_of_group}
+use Rattle.raft_log_group_state.specs.Whole.{Filed, batches_of, filed_copies, filed_items, parts_moved, whole_moves}
+use Rattle.raft_log_group_state.specs.Restating.{said_of_group}
+use Rattle.raft_log_group_state.specs.Taking.{EndsOverTables, MovesOnePart, TablesTakeWholeGroups}
+use Rattle.raft_log_group_state.proofs.Restating.{batches_say, restated_whole}
 use Rattle.raft_log_group_state.proofs.Whole.{all_filed, all_parts, whole_moved}
 use Rattle.raft_log_group_state.proofs.Rising.{moved_rise}
-use Rattle.raft_log_group_state.proofs.Ending.{whole_noted}
+use Rattle.raft_log_group_state.proofs.Ending.{batches_more, end_is_taken, end_shown, end_taken, parts_said, whole_noted, with_end}
 
 parts_more : (gate : Option ℕ) (g : ℕ) (ps : List WrittenPart) (block : FileBlockHandle) (b : Batch) (v : Shown)
     → parts_moved gate g (ps ++ record { block = block; batch = b } ∷ []) v ≡ all_rewritten gate block.id.seq (parts_moved gate g ps v) (of_group g (items_at block b))
@@ -68,3 +76,22 @@ tables_take at gate a ps files group old m new orderly rise up w alone there mov
           sym (shows_read (get nat_cmp new.groups g)) ∙ ap (λ (z : Replayed). z.table) (notes.others g other) ∙ shows_read (get nat_cmp m.groups g)
           ∙ moved g ∙ nothing_moved gate g ps (shown_of old g) (alone g other);
     }
+
+-- parts that say nothing of a group have no items of it
+none_filed : (at : Located → List ℕ) (xs : List Filed) → filed_copies at xs ≡ [] → xs ≡ []
+none_filed at [] none = refl
+none_filed at (x ∷ xs) none = absurd (let never : ⊥ = cc in never)
+
+pub end_over_tables : EndsOverTables
+end_over_tables home v w old m new cache after gate o b block map group h is all alone call there moved notes kept =
+    let e : Shows = shows v old cache in
+    let t : Shows = shows w new after in
+    let bs : List Batch = batches_of (parts_of o) ++ b ∷ [] in
+    let ps : List WrittenPart = with_end o block b in
+    let k = end_taken home e t o b block map h is call in
+    let at : Located → List ℕ = entries_at (next_log InRewrite h.holds.state k.files t.pipes.disk) in
+    let f = end_is_taken home e t gate o b block map h k is (restated_whole gate bs (shown_of old) map all) in
+    let are : batches_of ps ≡ bs = batches_more (parts_of o) (record { block = block; batch = b }) in
+    let took = tables_take at gate h.holds.state.append.files.last ps (files_of_group o block) group old m new f.meant.orderly h.rises f.up f.whole
+    (λ g other. none_filed at (filed_items g ps) (sym (parts_said at g ps f.says) ∙ batches_say g ps ∙ ap (said_of_group g) are ∙ alone g other)) there moved notes in
+    end_shown home e t gate o b block map h k is f took kept

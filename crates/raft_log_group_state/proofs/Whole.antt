@@ -23,7 +23,7 @@ use Rattle.raft_log_replay.specs.Rewriting.{IsCopy, all_rewritten, rewritten_ite
 use Rattle.raft_log_replay.proofs.Copies.{copies_move, gated_first, run_moves}
 use Rattle.raft_log_engine_state.specs.Writing.{items_at}
 use Rattle.raft_log_group_state.specs.Parts.{WrittenPart}
-use Rattle.raft_log_group_state.specs.Whole.{AreFiledCopies, Filed, RunPiece, WholeGroupsAreMoved, all_places, filed, filed_copies, filed_items, filed_moves, in_one, in_pieces, parts_moved}
+use Rattle.raft_log_group_state.specs.Whole.{AreFiledCopies, Filed, RunPiece, WholeGroupsAreMoved, all_places, filed_in, filed_copies, filed_items, filed_moves, in_one, in_pieces, parts_moved}
 
 -- Item after item.
 
@@ -32,7 +32,7 @@ abbrev pub all_filed : Option ℕ → Shown → List Filed → Shown
 all_filed gate v [] = v
 all_filed gate v (x ∷ xs) = all_filed gate (rewritten_item gate x.file v x.item) xs
 
-one_part : (gate : Option ℕ) (n : ℕ) (v : Shown) (xs : List (Item Place (List ℕ))) (ys : List Filed) → all_filed gate v (filed n xs ++ ys) ≡ all_filed gate (all_rewritten gate n v xs) ys
+one_part : (gate : Option ℕ) (n : ℕ) (v : Shown) (xs : List (Item Place (List ℕ))) (ys : List Filed) → all_filed gate v (filed_in n xs ++ ys) ≡ all_filed gate (all_rewritten gate n v xs) ys
 one_part gate n v [] ys = refl
 one_part gate n v (x ∷ xs) ys = one_part gate n (rewritten_item gate n v x) xs ys
 

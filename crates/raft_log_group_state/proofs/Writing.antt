@@ -40,12 +40,12 @@ use Rattle.raft_log_engine_state.proofs.Keeping.{rise_on, stays_cached}
 use Rattle.raft_log_purge_state.specs.Rewriting.{RewriteLeaves}
 use Rattle.raft_log_purge_state.specs.Settled.{SameTables}
 use Rattle.raft_log_purge_state.proofs.Rewriting.{left_out_keeps, record_taken, refusal_leaves, says_marked}
-use Rattle.raft_log_group_state.specs.Parts.{FilesGoUp, HoldsInGroup, IsPart, LiesInRewrite, UnendedGroup, WrittenPart, begun_by, gone_on_by, parts_of, said_items}
+use Rattle.raft_log_group_state.specs.Parts.{FilesGoUp, HoldsInGroup, IsGroupPart, LiesInRewrite, UnendedGroup, WrittenPart, begun_by, gone_on_by, parts_of, said_items}
 use Rattle.raft_log_group_state.specs.Writing.{LeavesRecords}
 use Rattle.raft_log_group_state.proofs.Lying.{each_more, later_file, one_more_file, part_lies, parts_stay}
 
 -- its record says the part
-pub says_part : (home : Home) (number : ℕ) (status : AtomicGroupStatus) (b : Batch) → IsPart number status b
+pub says_part : (home : Home) (number : ℕ) (status : AtomicGroupStatus) (b : Batch) → IsGroupPart number status b
     → SaysRecord said_by (log_layout Rewrite home.rewrite) Rewrite (signed_for b) (Part (part_of number status) (said_items b))
 says_part home number status b is = says_marked home b (markings.Part number status) (Part (part_of number status) (said_items b)) is.some is.part refl is.says is.laid
 
@@ -88,7 +88,7 @@ module _ (home : Home) (e t : Shows) (m : LogMap) (h : Holds home e m []) (same 
 
 -- Written.
 
-pub part_begins : (home : Home) (e t : Shows) (number : ℕ) (b : Batch) (block : FileBlockHandle) (m : LogMap) → Holds home e m [] → IsPart number statuses.Begin b
+pub part_begins : (home : Home) (e t : Shows) (number : ℕ) (b : Batch) (block : FileBlockHandle) (m : LogMap) → Holds home e m [] → IsGroupPart number statuses.Begin b
     → AppendsTo InRewrite (signed_for b) block e.pipes t.pipes → SameTables e t → HoldsInGroup home t m (begun_by number (record { block = block; batch = b }))
 part_begins home e t number b block m h is call same =
     let k = record_taken home e t m h (signed_for b) (Part (Begin number) (said_items b)) block (says_part home number statuses.Begin b is) call in
@@ -99,7 +99,7 @@ part_begins home e t number b block m h is call same =
     (part_lies next k.value block b k.spans is.some is.laid k.last, tt) (le_refl block.id.seq, omega (arith, last))
     (λ g. subst (λ n. FilesRise h.state.append.files.last n (e.tables g)) (sym last) (rise_on h.state next k.keeps e.tables h.rises g))
 
-pub part_goes_on : (home : Home) (e t : Shows) (o : UnendedGroup) (b : Batch) (block : FileBlockHandle) (m : LogMap) → HoldsInGroup home e m o → IsPart o.number statuses.Middle b
+pub part_goes_on : (home : Home) (e t : Shows) (o : UnendedGroup) (b : Batch) (block : FileBlockHandle) (m : LogMap) → HoldsInGroup home e m o → IsGroupPart o.number statuses.Middle b
     → AppendsTo InRewrite (signed_for b) block e.pipes t.pipes → SameTables e t → HoldsInGroup home t m (gone_on_by o (record { block = block; batch = b }))
 part_goes_on home e t o b block m h is call same =
     let k = record_taken home e t m h.holds (signed_for b) (Part (Middle o.number) (said_items b)) block (says_part home o.number statuses.Middle b is) call in
@@ -128,7 +128,7 @@ left_open home e t o m h same call =
     (group_left_out (Ties (log_in home)) (AllowsIn (log_in home)) s next (view_of e.tables h.holds.map) m o.first.block.id.seq o.number (said_items o.first.batch) (said_more o) [] step (in_group home e m o h))
     (parts_stay s next keeps (parts_of o) h.parts) (later_file o.first.block.id.seq s.rewrite.files.last files.last (parts_of o) later h.files) h.rises
 
-pub part_left_out : (home : Home) (e t : Shows) (o : UnendedGroup) (status : AtomicGroupStatus) (b : Batch) (m : LogMap) (error : Error) → HoldsInGroup home e m o → IsPart o.number status b → SameTables e t
+pub part_left_out : (home : Home) (e t : Shows) (o : UnendedGroup) (status : AtomicGroupStatus) (b : Batch) (m : LogMap) (error : Error) → HoldsInGroup home e m o → IsGroupPart o.number status b → SameTables e t
     → LeavesRecords error → FailsToAppendTo InRewrite (signed_for b) error e.pipes t.pipes → HoldsInGroup home t m o
 part_left_out home e t o status b m errors.NumberRange h is same left call =
     left_open home e t o m h same (call (sense home) h.holds.state (Part (part_of o.number status) (said_items b)) h.holds.runs (says_part home o.number status b is))
@@ -136,13 +136,13 @@ part_left_out home e t o status b m errors.Memory h is same left call =
     left_open home e t o m h same (call (sense home) h.holds.state (Part (part_of o.number status) (said_items b)) h.holds.runs (says_part home o.number status b is))
 part_left_out home e t o status b m _ h is same left call = absurd left
 
-pub begin_refused : (home : Home) (e t : Shows) (number : ℕ) (b : Batch) (m : LogMap) (error : Error) → Holds home e m [] → IsPart number statuses.Begin b → SameTables e t
+pub begin_refused : (home : Home) (e t : Shows) (number : ℕ) (b : Batch) (m : LogMap) (error : Error) → Holds home e m [] → IsGroupPart number statuses.Begin b → SameTables e t
     → FailsToAppendTo InRewrite (signed_for b) error e.pipes t.pipes → RewriteLeaves home m t error
 begin_refused home e t number b m error h is same call =
     refusal_leaves home e t m error h same (signed_for b) (Part (Begin number) (said_items b)) (says_part home number statuses.Begin b is)
     (λ next may. begin_may_be_there (Ties (log_in home)) (Ties (log_in home)) h.state next (view_of e.tables h.map) m [] h.at number (said_items b) is.fits may) call
 
-pub middle_refused : (home : Home) (e t : Shows) (o : UnendedGroup) (b : Batch) (m : LogMap) (error : Error) → HoldsInGroup home e m o → IsPart o.number statuses.Middle b → SameTables e t
+pub middle_refused : (home : Home) (e t : Shows) (o : UnendedGroup) (b : Batch) (m : LogMap) (error : Error) → HoldsInGroup home e m o → IsGroupPart o.number statuses.Middle b → SameTables e t
     → FailsToAppendTo InRewrite (signed_for b) error e.pipes t.pipes → RewriteLeaves home m t error
 middle_refused home e t o b m error h is same call =
     refusal_leaves home e t m error h.holds same (signed_for b) (Part (Middle o.number) (said_items b)) (says_part home o.number statuses.Middle b is)

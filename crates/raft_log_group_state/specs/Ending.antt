@@ -20,7 +20,7 @@ use Rattle.raft_log_engine_state.specs.Shows.{Home, KeepsOrForgets, LogMap, Show
 use Rattle.raft_log_engine_state.specs.Holding.{Holds}
 use Rattle.raft_log_purge_state.specs.Rewriting.{RewriteLeaves}
 use Rattle.raft_log_purge_state.specs.Settled.{SameTables}
-use Rattle.raft_log_group_state.specs.Parts.{FilesGoUp, HoldsInGroup, IsPart, UnendedGroup, WrittenPart, parts_of}
+use Rattle.raft_log_group_state.specs.Parts.{FilesGoUp, HoldsInGroup, IsGroupPart, UnendedGroup, WrittenPart, parts_of}
 use Rattle.raft_log_group_state.specs.Writing.{LeavesRecords}
 use Rattle.raft_log_group_state.specs.Whole.{HasWhole, IsWholeCopy, batches_of, filed_copies, filed_items, parts_moved, whole_moves}
 
@@ -34,7 +34,8 @@ pub record TakesWhole (gate : Option ℕ) (ps : List WrittenPart) (v : ℕ → S
 
 -- what they take is an end of a group of copies, in these files
 abbrev pub whole_end : {E : Type 0} {at : Located → E} {gate : Option ℕ} {ps : List WrittenPart}
-    {v : ℕ → Shown} → GroupFiles → TakesWhole gate ps v → ((g : ℕ) → IsWholeCopy at gate (v g) (filed_items g ps))
+    {v : ℕ → Shown} → GroupFiles → TakesWhole gate ps v
+    → ((g : ℕ) → IsWholeCopy at gate (v g) (filed_items g ps))
     → GroupEnd
 whole_end files k w =
     record { files = files; about = k.about; moves = λ g. whole_moves (w g); least = k.least }
@@ -70,7 +71,7 @@ files_of_group o block = record { from = o.first.block.id.seq; to = block.id.seq
 -- The record with the end was written, and the tables took the whole group.
 abbrev pub WrittenEndsKeepTheMap : Type 0
 WrittenEndsKeepTheMap = (home : Home) (e t : Shows) (gate : Option ℕ) (o : UnendedGroup) (b : Batch)
-    (block : FileBlockHandle) (m : LogMap) → HoldsInGroup home e m o → IsPart o.number End b
+    (block : FileBlockHandle) (m : LogMap) → HoldsInGroup home e m o → IsGroupPart o.number End b
     → HasWhole gate (batches_of (parts_of o) ++ b ∷ []) e.tables m
     → AppendsTo InRewrite (signed_for b) block e.pipes t.pipes
     → ShowsWhole gate (parts_of o ++ record { block = block; batch = b } ∷ []) (files_of_group o block)
@@ -80,9 +81,9 @@ WrittenEndsKeepTheMap = (home : Home) (e t : Shows) (gate : Option ℕ) (o : Une
 -- to its records.
 pub record RefusedEndsKeepTheMap : Type 0 where
   pub given_up : (home : Home) (e t : Shows) (gate : Option ℕ) (o : UnendedGroup) (b : Batch) (m : LogMap)
-      (error : Error) → HoldsInGroup home e m o → IsPart o.number End b
+      (error : Error) → HoldsInGroup home e m o → IsGroupPart o.number End b
       → HasWhole gate (batches_of (parts_of o) ++ b ∷ []) e.tables m → SameTables e t
       → FailsToAppendTo InRewrite (signed_for b) error e.pipes t.pipes → RewriteLeaves home m t error
   pub goes_on : (home : Home) (e t : Shows) (o : UnendedGroup) (b : Batch) (m : LogMap) (error : Error)
-      → HoldsInGroup home e m o → IsPart o.number End b → SameTables e t → LeavesRecords error
+      → HoldsInGroup home e m o → IsGroupPart o.number End b → SameTables e t → LeavesRecords error
       → FailsToAppendTo InRewrite (signed_for b) error e.pipes t.pipes → HoldsInGroup home t m o

@@ -52,7 +52,7 @@ said_items b = tagged_items (entry_bytes b.entries) b.items
 
 -- the batch is this part of the atomic group of that number, its record says it, and no run of it ends at an
 -- index that is too great
-pub record IsPart (number : ℕ) (status : AtomicGroupStatus) (b : Batch) : Type 0 where
+pub record IsGroupPart (number : ℕ) (status : AtomicGroupStatus) (b : Batch) : Type 0 where
   pub some : b.items ≡ [] → ⊥
   pub part : marking_of_items b.items ≡ Part number status
   pub says : SaysItself (signed_for b) b
@@ -81,8 +81,8 @@ FilesGoUp low high (p ∷ ps) = (low ≤ p.block.id.seq) × FilesGoUp p.block.id
 
 -- An engine's log while an atomic group of copies stands open in Rewrite: it is the map, and the tables show
 -- it, as if nothing of the group were there. The records of the group are the last ones of Rewrite, from the
--- file of its begin on, and its parts lie in these files, in which none of what the tables show lies but in
--- the first of them.
+-- file of its begin on, and its parts lie in these files; no entry that the tables show in Rewrite lies in a
+-- later file than the one with the begin.
 pub record HoldsInGroup (home : Home) (e : Shows) (m : LogMap) (o : UnendedGroup) : Type 0 where
   pub holds : Holds home e m []
   pub unended : GoesOnFrom holds.at.files.rewrite o.first.block.id.seq o.number (said_items o.first.batch)

@@ -24,9 +24,9 @@ runs_in f [] = []
 runs_in f (es ∷ more) = Run f es ∷ runs_in (f + length es) more
 
 -- the entries of all pieces
-abbrev pub all_entries : List (List (List ℕ)) → List (List ℕ)
-all_entries [] = []
-all_entries (es ∷ more) = es ++ all_entries more
+abbrev pub entries_of_pieces : List (List (List ℕ)) → List (List ℕ)
+entries_of_pieces [] = []
+entries_of_pieces (es ∷ more) = es ++ entries_of_pieces more
 
 -- a key and its value
 pub record KeyBytes : Type 0 where
@@ -54,8 +54,8 @@ pub record RestatesGroup (g : ℕ) (bs : List Batch) (v : Shown) (m : Slot → O
   pub keys : List KeyBytes
   pub said : said_of_group g bs ≡ runs_in first pieces ++ puts keys
   pub from : v.first ≤ first
-  pub to : first + length (all_entries pieces) ≡ v.first + v.rewritten
-  pub entries : Restates m first (all_entries pieces)
+  pub to : first + length (entries_of_pieces pieces) ≡ v.first + v.rewritten
+  pub entries : Restates m first (entries_of_pieces pieces)
   pub held : Each (HoldsRewritten v) keys
 
 -- Batches that say so of each group have a whole group of copies, whatever the gate.

@@ -24,14 +24,14 @@ pub record Filed : Type 0 where
   pub item : Item Place (List ℕ)
 
 -- the items of a record in this file
-abbrev pub filed : ℕ → List (Item Place (List ℕ)) → List Filed
-filed n [] = []
-filed n (x ∷ xs) = record { file = n; item = x } ∷ filed n xs
+abbrev pub filed_in : ℕ → List (Item Place (List ℕ)) → List Filed
+filed_in n [] = []
+filed_in n (x ∷ xs) = record { file = n; item = x } ∷ filed_in n xs
 
 -- the items that the parts have of a group
 abbrev pub filed_items : ℕ → List WrittenPart → List Filed
 filed_items g [] = []
-filed_items g (p ∷ ps) = filed p.block.id.seq (of_group g (items_at p.block p.batch)) ++ filed_items g ps
+filed_items g (p ∷ ps) = filed_in p.block.id.seq (of_group g (items_at p.block p.batch)) ++ filed_items g ps
 
 -- what shows of a group once its items moved, part after part
 abbrev pub parts_moved : Option ℕ → ℕ → List WrittenPart → Shown → Shown

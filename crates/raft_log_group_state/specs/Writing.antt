@@ -13,16 +13,17 @@ use Rattle.raft_log_engine_state.specs.Shows.{Home, LogMap, Shows}
 use Rattle.raft_log_engine_state.specs.Holding.{Holds}
 use Rattle.raft_log_purge_state.specs.Rewriting.{RewriteLeaves}
 use Rattle.raft_log_purge_state.specs.Settled.{SameTables}
-use Rattle.raft_log_group_state.specs.Parts.{HoldsInGroup, IsPart, UnendedGroup, begun_by, gone_on_by}
+use Rattle.raft_log_group_state.specs.Parts.{HoldsInGroup, IsGroupPart, UnendedGroup, begun_by, gone_on_by}
 
 -- The record that begins a group was written, or one that goes on with it: the group stands open with that
 -- part. What the tables show stays.
 pub record WrittenPartsKeepTheMap : Type 0 where
   pub begins : (home : Home) (e t : Shows) (number : ℕ) (b : Batch) (block : FileBlockHandle) (m : LogMap)
-      → Holds home e m [] → IsPart number Begin b → AppendsTo InRewrite (signed_for b) block e.pipes t.pipes
+      → Holds home e m [] → IsGroupPart number Begin b
+      → AppendsTo InRewrite (signed_for b) block e.pipes t.pipes
       → SameTables e t → HoldsInGroup home t m (begun_by number (record { block = block; batch = b }))
   pub goes_on : (home : Home) (e t : Shows) (o : UnendedGroup) (b : Batch) (block : FileBlockHandle)
-      (m : LogMap) → HoldsInGroup home e m o → IsPart o.number Middle b
+      (m : LogMap) → HoldsInGroup home e m o → IsGroupPart o.number Middle b
       → AppendsTo InRewrite (signed_for b) block e.pipes t.pipes → SameTables e t
       → HoldsInGroup home t m (gone_on_by o (record { block = block; batch = b }))
 
@@ -36,13 +37,13 @@ LeavesRecords _ = ⊥
 -- it. Where nothing was done to its records it may go on as well.
 pub record RefusedPartsKeepTheMap : Type 0 where
   pub begins : (home : Home) (e t : Shows) (number : ℕ) (b : Batch) (m : LogMap) (error : Error)
-      → Holds home e m [] → IsPart number Begin b → SameTables e t
+      → Holds home e m [] → IsGroupPart number Begin b → SameTables e t
       → FailsToAppendTo InRewrite (signed_for b) error e.pipes t.pipes → RewriteLeaves home m t error
   pub given_up : (home : Home) (e t : Shows) (o : UnendedGroup) (b : Batch) (m : LogMap) (error : Error)
-      → HoldsInGroup home e m o → IsPart o.number Middle b → SameTables e t
+      → HoldsInGroup home e m o → IsGroupPart o.number Middle b → SameTables e t
       → FailsToAppendTo InRewrite (signed_for b) error e.pipes t.pipes → RewriteLeaves home m t error
   pub goes_on : (home : Home) (e t : Shows) (o : UnendedGroup) (b : Batch) (m : LogMap) (error : Error)
-      → HoldsInGroup home e m o → IsPart o.number Middle b → SameTables e t → LeavesRecords error
+      → HoldsInGroup home e m o → IsGroupPart o.number Middle b → SameTables e t → LeavesRecords error
       → FailsToAppendTo InRewrite (signed_for b) error e.pipes t.pipes → HoldsInGroup home t m o
 
 -- a sync of Rewrite leaves a group open

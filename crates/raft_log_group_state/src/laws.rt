@@ -12,7 +12,7 @@ ghost use Rattle.raft_log_group_state.specs.LeftOpen.{
   NewGroupsEndNoOldOnes,
 };
 ghost use Rattle.raft_log_group_state.specs.Restating.{RestatedGroupsAreWhole};
-ghost use Rattle.raft_log_group_state.specs.Taking.{MovesOnePart, TablesTakeWholeGroups};
+ghost use Rattle.raft_log_group_state.specs.Taking.{EndsOverTables, MovesOnePart, TablesTakeWholeGroups};
 ghost use Rattle.raft_log_group_state.specs.Whole.{MovedFilesRise, WholeGroupsAreMoved};
 ghost use Rattle.raft_log_group_state.specs.Writing.{
   RefusedPartsKeepTheMap,
@@ -86,4 +86,10 @@ pub fn restated_groups_are_whole()
 pub fn tables_take_whole_groups<E>()
     ensures part { MovesOnePart }
     ensures whole { TablesTakeWholeGroups E }
+{}
+
+/// The end of a group in which a purge rewrites one raft group keeps the map, once the tables took it:
+/// nothing is asked but what was written and what the tables did.
+pub fn rewritten_groups_keep_the_map()
+    ensures { EndsOverTables }
 {}

@@ -4,3 +4,4 @@ mod Keeping
 mod Groups
 mod Telling
 mod Whole
+mod Strict

@@ -1,3 +1,4 @@
 pub mod Kept
 mod Saving
 mod Written
+mod Saved

@@ -5,3 +5,4 @@ pub mod Chain
 pub mod Sessions
 pub mod Pipes
 pub mod DualPipes
+pub mod Engine

@@ -4,6 +4,7 @@
 pub mod atomic_groups;
 pub mod base;
 pub mod dual_pipes;
+pub mod engine;
 pub mod format;
 pub mod frames;
 pub mod items;

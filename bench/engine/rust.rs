@@ -5,6 +5,8 @@ mod batch;
 mod frame;
 #[path = "../common/pipe.rs"]
 mod pipe;
+#[path = "../common/place.rs"]
+mod place;
 #[path = "../common/record.rs"]
 mod record;
 #[path = "../common/window.rs"]
@@ -13,6 +15,7 @@ mod window;
 use batch::Batch;
 use frame::{next, report};
 use pipe::{Files, Pipe};
+use place::Place;
 use record::{read_block, CompressionType, Content, EntryIndex, Error, FileBlockHandle, FileId, Item, LogQueue, Result, HEADER};
 use std::collections::{HashMap, VecDeque};
 use std::time::Instant;
@@ -23,15 +26,6 @@ const GROUPS: u64 = 100;
 const SIZE: usize = 2_118;
 const FETCHED: u64 = 1_000;
 const READ_BLOCK: usize = 16 << 10;
-
-#[derive(Clone, Copy)]
-struct Place {
-    file: u64,
-    offset: u64,
-    len: usize,
-    entry_offset: u32,
-    entry_len: u32,
-}
 
 /// Where a group's entries lie.
 #[derive(Default)]

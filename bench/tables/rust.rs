@@ -1,5 +1,9 @@
 //! The plain Rust twin of the benchmark of tables: the same types, and room made before anything shows.
 #![allow(dead_code)]
+#[path = "../common/place.rs"]
+mod place;
+
+use place::Place;
 use std::collections::{BTreeMap, TryReserveError, VecDeque};
 use std::time::Instant;
 
@@ -36,15 +40,6 @@ struct EntryIndex {
     index: u64,
     entries: Option<FileBlockHandle>,
     compression_type: CompressionType,
-    entry_offset: u32,
-    entry_len: u32,
-}
-
-#[derive(Clone, Copy)]
-struct Place {
-    file: u64,
-    offset: u64,
-    len: usize,
     entry_offset: u32,
     entry_len: u32,
 }

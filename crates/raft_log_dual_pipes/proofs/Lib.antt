@@ -2,4 +2,5 @@ mod Pairing
 mod Exits
 mod Spans
 mod Ends
+mod Numbers
 mod Opened

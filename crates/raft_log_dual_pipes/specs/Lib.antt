@@ -1,4 +1,5 @@
 pub mod Pipes
 pub mod Calls
+pub mod Numbers
 pub mod Closing
 pub mod Opening

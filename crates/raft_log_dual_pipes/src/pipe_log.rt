@@ -20,6 +20,7 @@ pub trait PipeLog {
     ghost use Rattle.raft_log_dual_pipes.specs.Pipes.{LogPipes, files_of, is_failed, which_of};
     ghost use Rattle.raft_log_disk.specs.Disk.{Disk};
     ghost use Rattle.raft_log_dual_pipes.specs.Closing.{ClosesInOrder, ClosesLog};
+    ghost use Rattle.raft_log_dual_pipes.specs.Numbers.{EndsNumbers, EndsNumbersAt, EndsNumbersBelow};
     ghost use Rattle.raft_log_dual_pipes.specs.Calls.{AppendsTo, FailsToAppendTo, FailsToPurgeQueue, FailsToRotateQueue, FailsToSyncQueue, IsSpanOf, PurgesQueue, RotatesQueue, StaysFailed, SyncsQueue, TellsFailure, seq_at, size_at};
 
     /// The file system that the files are in, which a close gives back.
@@ -69,7 +70,7 @@ pub trait PipeLog {
     ///
     /// `Io`: the write was refused and cut off, and all before it is durable. `TryAgain`: the same for want
     /// of space, and the queue went on in its next file. `Memory`, `NumberRange`: there is no next file, and
-    /// nothing is lost. `Failed`: the pipes have failed.
+    /// nothing is lost; the numbers that a file's name can have have run out. `Failed`: the pipes have failed.
     fn append<L: Log, B: ReactiveBytes>(
         &mut self,
         alloc: Global,
@@ -81,6 +82,8 @@ pub trait PipeLog {
             (shown self.old) (shown self.new)) }
         ensures place { IfOk result (λ block. block.offset < 2 ^ 63) }
         ensures err { IfErr result (λ error. FailsToAppendTo (which_of queue) (B.signed bytes.old) error
+            (shown self.old) (shown self.new)) }
+        ensures range { IfErr result (λ error. EndsNumbersAt (which_of queue) (B.signed bytes.old) error
             (shown self.old) (shown self.new)) }
         ensures signed { B.signed bytes.new ≡ B.signed bytes.old }
         ensures said { B.said bytes.new ≡ B.said bytes.old }
@@ -100,19 +103,22 @@ pub trait PipeLog {
     /// A queue goes on in its next file: the oldest of those that are kept for use, or a new one where there
     /// is none.
     ///
-    /// Refused for want of memory or of a number, nothing is done. `Failed` where a file call was refused.
+    /// Refused for want of memory, or of a number (`NumberRange`: the last file has the last one), nothing is
+    /// done. `Failed` where a file call was refused.
     fn rotate<L: Log>(&mut self, alloc: Global, rt: &L, queue: LogQueue) -> Result<()>
         ensures ok { OnOk result (RotatesQueue (which_of queue) (shown self.old) (shown self.new)) }
         ensures err { IfErr result (λ error. FailsToRotateQueue (which_of queue) error
             (shown self.old) (shown self.new)) }
+        ensures range { IfErr result (λ error. EndsNumbers (which_of queue) error (shown self.old)) }
         ensures failed { StaysFailed result (shown self.old) (shown self.new) }
         ensures fails { TellsFailure result (shown self.new) }
         ensures later { IsLater (shown self.old).disk (shown self.new).disk };
 
     /// The files of a queue below this one leave its span; the answer is how many.
     ///
-    /// `InvalidArgument` where the number is none of the span's, `Memory`: nothing is done. `Failed`: a
-    /// file wasn't deleted.
+    /// `InvalidArgument` where the number is none of the span's, `Memory`: nothing is done. `NumberRange`: the
+    /// same, where a file has a number that no name has, which none of a log's has. `Failed`: a file wasn't
+    /// deleted.
     fn purge_to<L: Log>(&mut self, alloc: Global, rt: &L, file_id: FileId) -> Result<usize>
         ensures ok { OnOk result (PurgesQueue (which_of file_id.queue) file_id.seq
             (shown self.old) (shown self.new)) }
@@ -122,9 +128,23 @@ pub trait PipeLog {
             - (pipe_at (which_of file_id.queue) (files_of (shown self.old))).first_seq)) }
         ensures err { IfErr result (λ error. FailsToPurgeQueue (which_of file_id.queue) file_id.seq error
             (shown self.old) (shown self.new)) }
+        ensures range { IfErr result (λ error. EndsNumbersBelow (which_of file_id.queue) error
+            (shown self.old)) }
         ensures failed { StaysFailed result (shown self.old) (shown self.new) }
         ensures fails { TellsFailure result (shown self.new) }
         ensures later { IsLater (shown self.old).disk (shown self.new).disk };
+
+    /// What the last record of this file says is in the tables: whoever listens is told, and nothing changes.
+    fn post_apply_memtables(&mut self, _file_id: FileId)
+        ensures shown { shown self.new ≡ shown self.old }
+        ensures files { files self.new ≡ files self.old }
+    {}
+
+    /// The number of the first file of a queue that must not be purged yet, if there is one, as whoever listens
+    /// has it.
+    fn first_file_not_ready_for_purge(&self, _queue: LogQueue) -> Option<FileSeq> {
+        None
+    }
 
     /// Closes both pipes, and gives the file system back: both last files are cut behind their records and
     /// synced, Append's first, and then the files that are kept for use get reserved names. Refusals are

@@ -2,7 +2,10 @@
 #![tactic(auto)]
 
 pub mod event_listener;
+pub mod laws;
 pub mod listeners;
+pub mod purge_hook;
 
 pub use event_listener::EventListener;
-pub use listeners::Listeners;
+pub use listeners::{Listeners, lesser};
+pub use purge_hook::PurgeHook;

@@ -70,7 +70,7 @@ impl<H: EventListener> EventListener for Listeners<H> {
 }
 
 /// The lesser one of two numbers, where both are there; else the one that is.
-fn lesser(one: Option<FileSeq>, other: Option<FileSeq>) -> Option<FileSeq>
+pub fn lesser(one: Option<FileSeq>, other: Option<FileSeq>) -> Option<FileSeq>
     ensures { result ≡ lesser one other }
 {
     match (one, other) {

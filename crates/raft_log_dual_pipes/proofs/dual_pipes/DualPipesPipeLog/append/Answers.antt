@@ -2,6 +2,8 @@ use Rattle.std.proofs.Common.{map, sym, ◌∙◌, ap}
 use Rattle.std.specs.String.{string_bytes}
 use Rattle.raft_log_directory.specs.Calls.Which.{InAppend, InRewrite}
 use Rattle.raft_log_dual_pipes.proofs.Exits.{appends_not_when, appends_when}
+use Rattle.raft_log_dual_pipes.specs.Pipes.{OnePipe}
+use Rattle.raft_log_dual_pipes.proofs.Numbers.{append_ends_when}
 use Rattle.raft_log_dual_pipes.proofs.Pairing.{either_false}
 use Rattle.raft_log_dual_pipes.proofs.dual_pipes.DualPipesPipeLog.append.Goals as goal
 
@@ -32,3 +34,19 @@ returns-in-Rewrite-clause-err g c =
     rw c.in-Rewrite.is (appends_not_when InRewrite _ _ _ (g.B.ReactiveBytes.signed c.args.bytes.now) c.append-in-Rewrite.result (e.err alive) e.fails
     (record { queue = ap (λ l. l.queue) e.same.0; directories = ap (λ l. map string_bytes l.paths.items) e.same.0; settings = e.same.1 }) e.first
     (g.met.F.FileSystem.sound c.append-in-Rewrite.new.file_system))
+
+pub returns-in-Append-clause-range : goal.returns-in-Append-clause-range
+returns-in-Append-clause-range g c =
+    let e = c.append.ensures in
+    let alive = (either_false _ _ (sym c.is_failed.ensures ∙ c.if-is_failed.false)).0 in
+    let p = c.append.new.self in
+    let o : OnePipe = record { queue = p.layout.queue; directories = map string_bytes p.layout.paths.items; settings = p.settings; files = p.files; failed = p.failed } in
+    rw c.in-Append.is (append_ends_when InAppend _ o _ (g.B.ReactiveBytes.signed c.args.bytes.now) c.append.result (e.err alive))
+
+pub returns-in-Rewrite-clause-range : goal.returns-in-Rewrite-clause-range
+returns-in-Rewrite-clause-range g c =
+    let e = c.append-in-Rewrite.ensures in
+    let alive = (either_false _ _ (sym c.is_failed.ensures ∙ c.if-is_failed.false)).1 in
+    let p = c.append-in-Rewrite.new.self in
+    let o : OnePipe = record { queue = p.layout.queue; directories = map string_bytes p.layout.paths.items; settings = p.settings; files = p.files; failed = p.failed } in
+    rw c.in-Rewrite.is (append_ends_when InRewrite _ o _ (g.B.ReactiveBytes.signed c.args.bytes.now) c.append-in-Rewrite.result (e.err alive))

@@ -1,0 +1,7 @@
+use Rattle.raft_log_told_pipes.proofs.told_pipes.ToldPipesPipeLog.append.Goals as goal
+
+pub returns-in_default-clause-err : goal.returns-in_default-clause-err
+returns-in_default-clause-err g c = rw c.loop-seq.invariant c.append-answer.ensures.err
+
+pub returns-in_default-clause-range : goal.returns-in_default-clause-range
+returns-in_default-clause-range g c = rw c.loop-seq.invariant c.append-answer.ensures.range

@@ -158,3 +158,8 @@ StaysFailed result v w = is_failed v ≡ true → (result ≡ Err errors.Failed)
 -- the pipes have failed where, and only where, the call says so
 abbrev pub TellsFailure : {A : Type 0} → Result A Error → LogPipes → Type 0
 TellsFailure result w = IsTrue (is_failed w) ↔ (result ≡ Err errors.Failed)
+
+-- a call was refused by the file system
+abbrev pub IsIo : Error → Type 0
+IsIo (errors.Io kind) = Unit {0}
+IsIo _ = ⊥

@@ -5,7 +5,7 @@ ghost use Rattle.std.specs.Prelude.{◌≡◌};
 use crate::pipe_log::PipeLog;
 use log::Log;
 use raft_log_base::{Error, FileBlockHandle, FileId, FileSeq, LogQueue, Result};
-use raft_log_disk::FileSystem;
+use raft_log_disk::{Fault, FileSystem};
 use raft_log_layout::LogLayout;
 use raft_log_pipes::{ReactiveBytes, SinglePipe};
 use std::alloc::Global;
@@ -34,13 +34,6 @@ impl<F: FileSystem> DualPipes<F> {
             append,
             rewrite,
         }
-    }
-
-    /// The file system.
-    pub fn file_system(&self) -> &F
-        ensures { result.now ≡ self.now.file_system }
-    {
-        &self.file_system
     }
 }
 
@@ -74,6 +67,15 @@ impl<F: FileSystem> PipeLog for DualPipes<F> {
 
     fn is_failed(&self) -> bool {
         self.append.is_failed() || self.rewrite.is_failed()
+    }
+
+    fn file_system(&self) -> &F {
+        &self.file_system
+    }
+
+    fn arm(&mut self, fault: &Fault) -> Result<()> {
+        self.file_system.arm(fault)?;
+        Ok(())
     }
 
     fn file_span(&self, queue: LogQueue) -> (FileSeq, FileSeq) {

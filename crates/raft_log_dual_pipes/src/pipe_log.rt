@@ -6,6 +6,7 @@ ghost use Rattle.raft_log_disk.specs.Causes.{IsLater};
 
 use log::Log;
 use raft_log_base::{FileBlockHandle, FileId, FileSeq, LogQueue, Result};
+use raft_log_disk::Fault;
 use raft_log_pipes::ReactiveBytes;
 use std::alloc::Global;
 
@@ -21,7 +22,7 @@ pub trait PipeLog {
     ghost use Rattle.raft_log_disk.specs.Disk.{Disk};
     ghost use Rattle.raft_log_dual_pipes.specs.Closing.{ClosesInOrder, ClosesLog};
     ghost use Rattle.raft_log_dual_pipes.specs.Numbers.{EndsNumbers, EndsNumbersAt, EndsNumbersBelow};
-    ghost use Rattle.raft_log_dual_pipes.specs.Calls.{AppendsTo, FailsToAppendTo, FailsToPurgeQueue, FailsToRotateQueue, FailsToSyncQueue, IsSpanOf, PurgesQueue, RotatesQueue, StaysFailed, SyncsQueue, TellsFailure, seq_at, size_at};
+    ghost use Rattle.raft_log_dual_pipes.specs.Calls.{AppendsTo, FailsToAppendTo, FailsToPurgeQueue, FailsToRotateQueue, FailsToSyncQueue, IsIo, IsSpanOf, PurgesQueue, RotatesQueue, StaysFailed, SyncsQueue, TellsFailure, seq_at, size_at};
 
     /// The file system that the files are in, which a close gives back.
     type Files;
@@ -38,6 +39,17 @@ pub trait PipeLog {
     /// Whether a call was refused that couldn't be mended.
     fn is_failed(&self) -> bool
         ensures { result ≡ is_failed (shown self.now) };
+
+    /// The file system.
+    fn file_system(&self) -> &Self::Files
+        ensures { result.now ≡ files self.now };
+
+    /// Arms a fault of the file system: it alters which later calls are refused, and nothing else.
+    ///
+    /// `Io` where it isn't armed.
+    fn arm(&mut self, fault: &Fault) -> Result<()>
+        ensures shown { shown self.new ≡ shown self.old }
+        ensures errors { IfErr result IsIo };
 
     /// The numbers of the first and the last file of a queue.
     fn file_span(&self, queue: LogQueue) -> (FileSeq, FileSeq)

@@ -4,6 +4,7 @@ ghost use Rattle.std.specs.Prelude.{◌≡◌};
 
 use log::Log;
 use raft_log_base::{FileBlockHandle, FileId, FileSeq, LogQueue, Result};
+use raft_log_disk::Fault;
 use raft_log_dual_pipes::PipeLog;
 use raft_log_listeners::{EventListener, lesser};
 use raft_log_pipes::ReactiveBytes;
@@ -71,6 +72,14 @@ impl<P: PipeLog, E: EventListener> PipeLog for ToldPipes<P, E> {
 
     fn is_failed(&self) -> bool {
         self.pipes.is_failed()
+    }
+
+    fn file_system(&self) -> &P::Files {
+        self.pipes.file_system()
+    }
+
+    fn arm(&mut self, fault: &Fault) -> Result<()> {
+        self.pipes.arm(fault)
     }
 
     fn file_span(&self, queue: LogQueue) -> (FileSeq, FileSeq) {

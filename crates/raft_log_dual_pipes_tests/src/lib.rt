@@ -1,5 +1,5 @@
 //! Tests of a log's two pipes over a file system in memory, of batches that are signed for the files that they
-//! go into, of the order in which listeners are told, and of entries that are read through the kept block.
+//! go into, of what listeners are told and in which order, and of entries that are read through the kept block.
 #![tactic(auto)]
 
 #[cfg(test)]
@@ -12,3 +12,5 @@ mod listeners;
 mod opening;
 #[cfg(test)]
 mod pair;
+#[cfg(test)]
+mod told;

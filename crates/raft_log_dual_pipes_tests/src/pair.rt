@@ -11,8 +11,9 @@ use std::test::Fail;
 
 /// Bytes that aren't signed.
 #[derive(Drop)]
-struct Plain {
-    bytes: Vec<u8>,
+pub struct Plain {
+    /// The bytes.
+    pub bytes: Vec<u8>,
 }
 
 impl ReactiveBytes for Plain {

@@ -6,7 +6,15 @@ use Rattle.raft_log_base.specs.declared.errors.Error.TheVariants as errors
 use Rattle.raft_log_disk.specs.Disk.{Disk}
 use Rattle.raft_log_files.specs.Layout.{FilePaths}
 use Rattle.raft_log_files.specs.declared.format.File.{File}
-use Rattle.raft_log_prefill.specs.Making.{FailsToMake, FailsToMakeEach, Makes, MakesEach}
+use Rattle.raft_log_prefill.specs.Making.{AreFewer, FailsToMake, FailsToMakeEach, Makes, MakesEach}
+
+-- where one of so many is still to be made, fewer are made
+pub fewer_made : (error : Error) (made count : ℕ) → made < count → AreFewer error made count
+fewer_made errors.Memory made count less = omega (arith, less)
+fewer_made _ made count less = less
+
+pub made_without_memory : (error : Error) (made count : ℕ) → error ≡ errors.Memory → made ≤ count → AreFewer error made count
+made_without_memory error made count is most = subst (λ (e : Error). AreFewer e made count) (sym is) most
 
 module _ {F : Type 0} (disk : F → Disk) (tells : F → List ℕ → ℕ → Type 0) where
   or_none : (one : Bool) → (one || false) ≡ one
@@ -64,14 +72,14 @@ module _ {F : Type 0} (disk : F → Disk) (tells : F → List ℕ → ℕ → Ty
       }
 
   -- one isn't
-  pub made_short : (paths : FilePaths) (bytes : List ℕ) (size first at count : ℕ) (before files : List File) (full : Bool) (a b : F) (error : Error) (c : F) → at ≤ count → HasMade paths bytes size first at before files full a b
+  pub made_short : (paths : FilePaths) (bytes : List ℕ) (size first at count : ℕ) (before files : List File) (full : Bool) (a b : F) (error : Error) (c : F) → AreFewer error at count → HasMade paths bytes size first at before files full a b
       → FailsToMake disk tells paths size (min (first + at) (2 ^ 64 - 1)) error b c → FailsToMakeEach disk tells paths bytes size first count error a c
   made_short paths bytes size first at count before files full a b error c less has fails =
       let place : first + at ≡ first + length has.made = omega (arith, has.long) in
       record {
         made = has.made;
         full = full;
-        fewer = omega (arith, less, has.long);
+        fewer = subst (λ (n : ℕ). AreFewer error n count) (sym has.long) less;
         between = b;
         makes = has.makes;
         fails = subst (λ (n : ℕ). FailsToMake disk tells paths size n error b c) place (fails_exact paths size first at error b c fails);

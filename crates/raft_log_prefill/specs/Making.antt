@@ -13,6 +13,11 @@ use Rattle.raft_log_files.specs.declared.format.File.{File}
 use Rattle.raft_log_pipes.specs.Placing.{IsChosen}
 use Rattle.raft_log_prefill.specs.Filling.{FillsOrNot}
 
+-- As one wasn't made, fewer were than were asked for; but for want of memory for the list, all may have been.
+abbrev pub AreFewer : Error → ℕ → ℕ → Type 0
+AreFewer errors.Memory made count = made ≤ count
+AreFewer _ made count = made < count
+
 module _ {F : Type 0} (disk : F → Disk) (tells : F → List ℕ → ℕ → Type 0) where
   -- A file was made under the reserved name of a number, in the first directory with room for it as the file
   -- system stood before, and filled with zeros up to a size, as far as that was let; and whether there was no
@@ -50,7 +55,7 @@ module _ {F : Type 0} (disk : F → Disk) (tells : F → List ℕ → ℕ → Ty
       (old new : F) : Type 0 where
     pub made : List File
     pub full : Bool
-    pub fewer : length made ≤ count
+    pub fewer : AreFewer error (length made) count
     pub between : F
     pub makes : MakesEach paths bytes size seq made full old between
     pub fails : FailsToMake paths size (seq + length made) error between new

@@ -1,4 +1,4 @@
-use Rattle.std.proofs.Common.{◌≡◌, ◌≤◌, arith, drop, reverse, subst, sym}
+use Rattle.std.proofs.Common.{◌≤◌, arith, drop, reverse, subst, sym}
 use Rattle.std.proofs.lemmas.Result.{err_from_is_err_and}
 use Rattle.raft_log_disk.specs.Disk.{Disk}
 use Rattle.raft_log_prefill.specs.Dropping.{FailsToDropEach}

@@ -1,0 +1,5 @@
+pub mod Sources
+pub mod Leaving
+pub mod Copies
+pub mod Queues
+pub mod Resting

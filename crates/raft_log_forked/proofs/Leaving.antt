@@ -48,7 +48,7 @@ use Rattle.raft_log_forked.proofs.Sources.{copied_at, in_one, same_directories, 
 -- Paths.
 
 -- the path is that of a numbered file in the target
-abbrev IsNumbered : List ℕ → List ℕ → Type 0
+abbrev pub IsNumbered : List ℕ → List ℕ → Type 0
 IsNumbered target path = (queue : LogQueue) × (n : ℕ) × IsPathWith (suffix_of queue) (target ∷ []) n path
 
 -- two paths of files are in one directory where they are one
@@ -57,7 +57,7 @@ one_directory d e x y name same = append_cancel_right d e (47 ∷ x) (same ∙ a
 
 module _ (directories : List (List ℕ)) (target : List ℕ) (outside : LiesInOne directories target → ⊥) (suffix : List ℕ) (m : ℕ) (path : List ℕ) (at : IsPathWith suffix directories m path) where
   -- a file of the log doesn't lie in the target
-  not_in_target : IsNumbered target path → ⊥
+  pub not_in_target : IsNumbered target path → ⊥
   not_in_target (queue, n, other) =
       let joined : at.directory ++ 47 ∷ at.name ≡ other.directory ++ 47 ∷ other.name = sym at.joined ∙ other.joined in
       let name = one_name at.directory other.directory at.name other.name at.plain other.plain joined in
@@ -104,10 +104,21 @@ module _ (queue : LogQueue) (directories : List (List ℕ)) (target : List ℕ) 
       other {path = path} true hit apart = absurd (apart ((bytes_eq-Decides target path).0 hit))
       other false miss apart = refl
 
+-- each path of a copy is one
+pub copies_numbered : (directories : List (List ℕ)) (target : List ℕ) (old : Disk) (files some : List SourceFile) → AreSources directories old files → ((file : SourceFile) → Contains some file → Contains files file)
+    → (path : List ℕ) → IsCopyPath target some path → IsNumbered target path
+copies_numbered directories target old files some are within path (file, there, is) =
+    let of = source_is directories old files file are (within file there) in
+    (of.queue, of.found.seq, subst (IsPathWith (suffix_of of.queue) (target ∷ []) of.found.seq) (sym is) (copied_at directories old target file of))
+
+-- the target isn't in a directory that an open lists
+pub outside_all : (config : Config) (target : List ℕ) → (LiesInOne (directories_of (settings_of config)) target → ⊥) → LiesInOne (builder.directories_of config) target → ⊥
+outside_all config target outside inside = outside (subst (λ (l : List (List ℕ)). LiesInOne l target) (sym (same_directories config)) inside)
+
 -- Both.
 module _ (config : Config) (target : List ℕ) (outside : LiesInOne (directories_of (settings_of config)) target → ⊥) (old : Disk) where
   apart : LiesInOne (builder.directories_of config) target → ⊥
-  apart inside = outside (subst (λ (l : List (List ℕ)). LiesInOne l target) (sym (same_directories config)) inside)
+  apart = outside_all config target outside
 
   abbrev Keeps : Disk → Type 0
   Keeps new = KeepsLog (log_in (home_of config)) old new
@@ -129,9 +140,7 @@ module _ (config : Config) (target : List ℕ) (outside : LiesInOne (directories
   }
     where
       numbered : (path : List ℕ) → IsCopyPath target some path → IsNumbered target path
-      numbered path (file, there, is) =
-          let of = source_is (directories_of (settings_of config)) old files file are (within file there) in
-          (of.queue, of.found.seq, subst (IsPathWith (suffix_of of.queue) (target ∷ []) of.found.seq) (sym is) (copied_at (directories_of (settings_of config)) old target file of))
+      numbered = copies_numbered (directories_of (settings_of config)) target old files some are within
 
   unmade_keeps : (error : Error) (new : Disk) → FailsToMakeTarget target error old new → Keeps new
   unmade_keeps (errors.Io kind) new fails =

@@ -3,3 +3,4 @@ pub mod Leaving
 pub mod Copies
 pub mod Queues
 pub mod Resting
+pub mod Opening

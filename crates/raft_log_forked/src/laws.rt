@@ -1,7 +1,10 @@
 //! The way from a log at rest to an engine that is opened over its fork.
 
 ghost use Rattle.raft_log_forked.specs.Leaving.{ForksLeaveTheSource};
+ghost use Rattle.raft_log_forked.specs.Opening.{ForksOpenAsTheirSource};
 ghost use Rattle.raft_log_forked.specs.Resting.{ForkedLogsRest};
+
+use raft_log_disk::FileSystem;
 
 /// Wherever a fork ends, answered or refused, the log that was to be copied rests, or is left, where it did.
 pub fn forks_leave_the_source()
@@ -12,4 +15,10 @@ pub fn forks_leave_the_source()
 /// the same map, for settings that name the target alone.
 pub fn forked_logs_rest()
     ensures { ForkedLogsRest }
+{}
+
+/// So an engine that is opened over the fork holds the map that one holds that is opened over its source,
+/// whether before the fork or after it; and where either isn't opened, the log is left with its map.
+pub fn forks_open_as_their_source<F: FileSystem>()
+    ensures { ForksOpenAsTheirSource F.disk F.tells_space }
 {}

@@ -1,0 +1,6 @@
+pub mod Settling
+pub mod Scans
+pub mod Standing
+pub mod Readies
+pub mod Opens
+pub mod InPlace

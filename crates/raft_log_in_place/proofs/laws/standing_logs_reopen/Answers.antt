@@ -1,0 +1,5 @@
+use Rattle.raft_log_in_place.proofs.InPlace.{standing_logs_reopen}
+use Rattle.raft_log_in_place.proofs.laws.standing_logs_reopen.Goals as goal
+
+pub returns : goal.returns
+returns g c = standing_logs_reopen _ _

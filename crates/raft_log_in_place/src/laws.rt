@@ -1,0 +1,16 @@
+//! A log is opened in place.
+
+ghost use Rattle.raft_log_in_place.specs.InPlace.{StandingDirectoriesOpen, StandingLogsReopen};
+
+use raft_log_disk::FileSystem;
+
+/// What an engine left, failed or closed, is opened without a crash as the map after some first pending
+/// batches, and nothing is pending: the bytes that weren't synced are read as they stand, and synced.
+pub fn standing_logs_reopen<F: FileSystem>()
+    ensures { StandingLogsReopen F.disk F.tells_space }
+{}
+
+/// So it is where its directories are opened by `open_directory` of `raft_log_opening`.
+pub fn standing_directories_open<F: FileSystem>()
+    ensures { StandingDirectoriesOpen F.disk F.tells_space }
+{}

@@ -1,7 +1,7 @@
 -- Directories are asked one after the other.
 use Rattle.std.specs.String.{string_bytes}
 use Rattle.std.specs.Global.{Global}
-use Rattle.std.proofs.Common.{◌≡◌, ℕ, ◌+◌, ◌<◌, ◌≤◌, List, [], ◌∷◌, ◌++◌, length, map, take, drop, get_or, String, sym, ◌∙◌, ap, subst, arith}
+use Rattle.std.proofs.Common.{◌≡◌, ℕ, ◌+◌, ◌<◌, List, [], ◌∷◌, ◌++◌, length, map, take, drop, get_or, String, sym, ◌∙◌, ap, subst, arith}
 use Rattle.std.proofs.lemmas.List.{take_more, map-append, drop_more, take-append-drop, length-map, length-take-le}
 use Rattle.raft_log_disk.specs.Disk.{Disk}
 use Rattle.raft_log_pipes.specs.Placing.{HasRoom, LacksRoom, AllLackRoom, IsChosen}

@@ -1,5 +1,5 @@
 -- A record is written to a pipe: what was done, and what stands.
-use Rattle.std.specs.Prelude.{◌≡◌, ◌≢◌, ◌⊎◌, ℕ, ◌<◌, ◌≤◌, List, length}
+use Rattle.std.specs.Prelude.{◌≡◌, ◌≢◌, ◌⊎◌, ℕ, ◌+◌, ◌<◌, ◌≤◌, List, length}
 use Rattle.std.specs.declared.io.ErrorKind.TheVariants.{StorageFull}
 use Rattle.raft_log_disk.specs.Disk.{Disk}
 use Rattle.raft_log_disk.specs.Causes.{IsLater}
@@ -61,17 +61,35 @@ pub data TurnsElsewhere {R : Type 0} (F : Format R) (own : List ℕ → Type 0) 
   nowhere : RotationLeaves F own paths (header_bytes begin.format) before after error old new
       → TurnsElsewhere F own paths begin before after error old new
 
--- The pipe went on in the next file, from this state of it and of its file system, which says the directory:
--- an own relation, as no disk says what may be told of a directory's space.
-pub record GoesElsewhere {R F : Type 0} (disk : F → Disk) (tells : F → List ℕ → ℕ → Type 0)
-    (format : Format R) (own : List ℕ → Type 0) (paths : FilePaths) (begin : NewFiles) (after : PipeFiles)
-    (new : F) : Type 0 where
-  pub before : PipeFiles
-  pub between : F
-  pub rotates : Rotates format own paths (header_bytes begin.format) before after (disk between) (disk new)
+-- The pipe went on in the next file, in the directory that this state of the file system says. It is an own
+-- relation, as no disk says what may be told of a directory's space.
+pub record GoesInto {R F : Type 0} (disk : F → Disk) (tells : F → List ℕ → ℕ → Type 0)
+    (format : Format R) (own : List ℕ → Type 0) (paths : FilePaths) (begin : NewFiles)
+    (before after : PipeFiles) (old new : F) : Type 0 where
+  pub rotates : Rotates format own paths (header_bytes begin.format) before after (disk old) (disk new)
   pub turned : IsTurned begin.format before after
-  pub placed : IsPlaced (tells between) (disk between) begin.target_size paths.directories
+  pub placed : IsPlaced (tells old) (disk old) begin.target_size paths.directories
       before.recycled.items after.active.path_id
+
+-- The record was cut off again for want of space in the last file, which may be the next one already; from
+-- that state of the file system, with the files that were kept for use, the pipe went on in the next one.
+pub record GoesElsewhere {R F : Type 0} (disk : F → Disk) (tells : F → List ℕ → ℕ → Type 0)
+    (format : Format R) (own : List ℕ → Type 0) (paths : FilePaths) (begin : NewFiles) (queue : LogQueue)
+    (signed : LogFileContext → List ℕ) (before after : PipeFiles) (old new : F) : Type 0 where
+  pub middle : PipeFiles
+  pub cut : PipeFiles
+  pub between : Disk
+  pub short : F
+  pub first : TurnsFirst format own paths begin before middle (disk old) between
+  pub fails : FailsToAdd format own paths (signed (context_of queue middle)) (CutBack StorageFull)
+      middle cut between (disk short)
+  pub lists : SameLists middle cut
+  pub goes : GoesInto disk tells format own paths begin cut after short new
+
+-- the pipe's last file is the one that it was, or one of so many behind it
+abbrev pub GoesOnBy : ℕ → PipeFiles → PipeFiles → Type 0
+GoesOnBy count before after =
+    (before.active.seq ≤ after.active.seq) × (after.active.seq ≤ before.active.seq + count)
 
 -- What is told of a refused write, and what was done then: where there was no space, the pipe went on in
 -- the next file, or that was refused too; what couldn't be cut off leaves the pipe not to be used any more.

@@ -2,8 +2,10 @@
 
 ghost use Rattle.std.specs.Prelude.{◌≡◌, ◌<◌, ◌≤◌, ◌^◌, IfErr, IfOk, OnErr, OnOk};
 ghost use Rattle.raft_log_disk.specs.Causes.{IsLater};
+ghost use Rattle.raft_log_files.specs.declared.last_file.WriteFault.TheVariants.{CutBack};
+ghost use Rattle.std.specs.declared.io.ErrorKind.TheVariants.{StorageFull};
 ghost use Rattle.raft_log_format.specs.Header.{header_bytes};
-ghost use Rattle.raft_log_pipes.specs.Appending.{AppendFails, AppendsAt, GoesElsewhere, SaysTryAgain, Tells, TurnsElsewhere, TurnsFirst};
+ghost use Rattle.raft_log_pipes.specs.Appending.{AppendFails, AppendsAt, GoesElsewhere, GoesInto, GoesOnBy, SaysTryAgain, Tells, TurnsElsewhere, TurnsFirst};
 ghost use Rattle.raft_log_pipes.specs.Exits.{IsTurned, Rotates, RotationLeaves};
 ghost use Rattle.raft_log_pipes.specs.Placing.{IsPlaced};
 
@@ -37,6 +39,7 @@ fn turn_first<G: PipeFormat, F: FileSystem, L: Log>(
     ensures err { IfErr result (λ error. RotationLeaves (G.format layout.now) (G.own layout.now)
         (G.file_paths layout.now) (header_bytes new_files.now.format) files.old files.new error
         (F.disk file_system.old) (F.disk file_system.new)) }
+    ensures near { GoesOnBy 1 files.old files.new }
     ensures first { files.new.first_seq ≡ files.old.first_seq }
     ensures later { IsLater (F.disk file_system.old) (F.disk file_system.new) }
 {
@@ -58,8 +61,10 @@ fn turn_elsewhere<G: PipeFormat, F: FileSystem, L: Log>(
 ) -> Error
     ensures left { TurnsElsewhere (G.format layout.now) (G.own layout.now) (G.file_paths layout.now)
         new_files.now files.old files.new result (F.disk file_system.old) (F.disk file_system.new) }
-    ensures elsewhere { SaysTryAgain result → GoesElsewhere F.disk F.tells_space (G.format layout.now)
-        (G.own layout.now) (G.file_paths layout.now) new_files.now files.new file_system.new }
+    ensures elsewhere { SaysTryAgain result → GoesInto F.disk F.tells_space (G.format layout.now)
+        (G.own layout.now) (G.file_paths layout.now) new_files.now files.old files.new
+        file_system.old file_system.new }
+    ensures near { GoesOnBy 1 files.old files.new }
     ensures first { files.new.first_seq ≡ files.old.first_seq }
     ensures later { IsLater (F.disk file_system.old) (F.disk file_system.new) }
 {
@@ -85,8 +90,10 @@ fn tell_fault<G: PipeFormat, F: FileSystem, L: Log>(
 ) -> Error
     ensures left { Tells (G.format layout.now) (G.own layout.now) (G.file_paths layout.now) new_files.now
         fault files.old files.new result (F.disk file_system.old) (F.disk file_system.new) }
-    ensures elsewhere { SaysTryAgain result → GoesElsewhere F.disk F.tells_space (G.format layout.now)
-        (G.own layout.now) (G.file_paths layout.now) new_files.now files.new file_system.new }
+    ensures elsewhere { SaysTryAgain result → (fault ≡ CutBack StorageFull)
+        × GoesInto F.disk F.tells_space (G.format layout.now) (G.own layout.now) (G.file_paths layout.now)
+        new_files.now files.old files.new file_system.old file_system.new }
+    ensures near { GoesOnBy 1 files.old files.new }
     ensures first { files.new.first_seq ≡ files.old.first_seq }
     ensures later { IsLater (F.disk file_system.old) (F.disk file_system.new) }
 {
@@ -131,8 +138,9 @@ pub fn append<G: PipeFormat, F: FileSystem, L: Log, B: ReactiveBytes>(
         (G.file_paths layout.now) new_files.now queue (B.signed bytes.old) files.old files.new error
         (F.disk file_system.old) (F.disk file_system.new)) }
     ensures elsewhere { IfErr result (λ error. SaysTryAgain error → GoesElsewhere F.disk F.tells_space
-        (G.format layout.now) (G.own layout.now) (G.file_paths layout.now) new_files.now files.new
-        file_system.new) }
+        (G.format layout.now) (G.own layout.now) (G.file_paths layout.now) new_files.now queue
+        (B.signed bytes.old) files.old files.new file_system.old file_system.new) }
+    ensures near { OnErr result (GoesOnBy 2 files.old files.new) }
     ensures signed { B.signed bytes.new ≡ B.signed bytes.old }
     ensures said { B.said bytes.new ≡ B.said bytes.old }
     ensures first { files.new.first_seq ≡ files.old.first_seq }

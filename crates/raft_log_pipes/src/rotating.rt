@@ -1,13 +1,13 @@
 //! Rotations of a pipe: over the oldest of the files that are kept for use, or into a new one.
 
-ghost use Rattle.std.specs.Prelude.{◌≡◌, ◌<◌, ◌∷◌, [], drop, suc, IfOk, IfErr, OnOk};
+ghost use Rattle.std.specs.Prelude.{◌≡◌, ◌<◌, ◌∷◌, [], drop, suc, IfOk, IfErr, OnErr, OnOk};
 ghost use Rattle.std.specs.VecDeque.{deque_len, deque_capacity};
 ghost use Rattle.raft_log_disk.specs.Causes.{IsLater};
 ghost use Rattle.raft_log_disk.specs.Reading.{IsOpened};
 ghost use Rattle.raft_log_disk.specs.declared.handle.Permission.TheVariants as permissions;
 ghost use Rattle.raft_log_format.specs.Header.{header_bytes};
 ghost use Rattle.raft_log_pipes.specs.Placing.{IsChosen, IsPlaced};
-ghost use Rattle.raft_log_pipes.specs.Exits.{IsTurned, Rotates, RotationLeaves, StaysClosed};
+ghost use Rattle.raft_log_pipes.specs.Exits.{IsTurned, Rotates, RotationLeaves, SameLists, StaysClosed};
 
 use crate::new_files::{NewFiles, choose_directory};
 use crate::pipe_files::PipeFiles;
@@ -53,6 +53,7 @@ fn go_over<G: PipeFormat, F: FileSystem, L: Log>(
     ensures err { IfErr result (λ error. RotationLeaves (G.format layout.now) (G.own layout.now)
         (G.file_paths layout.now) (header_bytes new_files.now.format) files.old files.new error
         (F.disk file_system.old) (F.disk file_system.new)) }
+    ensures stays { OnErr result (SameLists files.old files.new) }
     ensures first { files.new.first_seq ≡ files.old.first_seq }
     ensures later { IsLater (F.disk file_system.old) (F.disk file_system.new) }
 {
@@ -106,6 +107,7 @@ fn go_into_new<G: PipeFormat, F: FileSystem, L: Log>(
     ensures err { IfErr result (λ error. RotationLeaves (G.format layout.now) (G.own layout.now)
         (G.file_paths layout.now) (header_bytes new_files.now.format) files.old files.new error
         (F.disk file_system.old) (F.disk file_system.new)) }
+    ensures stays { OnErr result (SameLists files.old files.new) }
     ensures first { files.new.first_seq ≡ files.old.first_seq }
     ensures later { IsLater (F.disk file_system.old) (F.disk file_system.new) }
 {
@@ -154,6 +156,7 @@ pub fn rotate<G: PipeFormat, F: FileSystem, L: Log>(
     ensures err { IfErr result (λ error. RotationLeaves (G.format layout.now) (G.own layout.now)
         (G.file_paths layout.now) (header_bytes new_files.now.format) files.old files.new error
         (F.disk file_system.old) (F.disk file_system.new)) }
+    ensures stays { OnErr result (SameLists files.old files.new) }
     ensures first { files.new.first_seq ≡ files.old.first_seq }
     ensures later { IsLater (F.disk file_system.old) (F.disk file_system.new) }
 {

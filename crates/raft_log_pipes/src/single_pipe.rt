@@ -46,11 +46,11 @@ pub struct PipeSettings {
 
 impl<G: PipeFormat> SinglePipe<G> {
     ghost use Rattle.raft_log_format.specs.Header.{header_bytes};
-    ghost use Rattle.raft_log_pipes.specs.Appending.{AppendFails, AppendsAt, GoesElsewhere, SaysTryAgain};
+    ghost use Rattle.raft_log_pipes.specs.Appending.{AppendFails, AppendsAt, GoesElsewhere, GoesOnBy, SaysTryAgain};
     ghost use Rattle.raft_log_pipes.specs.Purging.{IsInSpan, IsRaised, PurgeLeaves, Purges};
     ghost use Rattle.raft_log_pipes.specs.Placing.{IsPlaced};
     ghost use Rattle.raft_log_pipes.specs.Reading.{IsReadAt, IsReadRefused};
-    ghost use Rattle.raft_log_pipes.specs.Exits.{FailsToSyncPipe, IsTurned, Rotates, RotationLeaves, SyncsPipe};
+    ghost use Rattle.raft_log_pipes.specs.Exits.{FailsToSyncPipe, IsTurned, Rotates, RotationLeaves, SameLists, SyncsPipe};
 
     /// A pipe over these files, which writes them so.
     pub fn new(layout: G, settings: PipeSettings, files: PipeFiles) -> SinglePipe<G>
@@ -141,7 +141,9 @@ impl<G: PipeFormat> SinglePipe<G> {
             self.old.files self.new.files error (F.disk file_system.old) (F.disk file_system.new)) }
         ensures elsewhere { IfErr result (λ error. SaysTryAgain error → GoesElsewhere F.disk F.tells_space
             (G.format self.old.layout) (G.own self.old.layout) (G.file_paths self.old.layout)
-            self.old.settings.new_files self.new.files file_system.new) }
+            self.old.settings.new_files self.old.settings.queue (B.signed bytes.old)
+            self.old.files self.new.files file_system.old file_system.new) }
+        ensures near { OnErr result (GoesOnBy 2 self.old.files self.new.files) }
         ensures signed { B.signed bytes.new ≡ B.signed bytes.old }
         ensures said { B.said bytes.new ≡ B.said bytes.old }
         ensures failed { self.old.failed ≡ true → (result ≡ Err errors.Failed) × (self.new ≡ self.old)
@@ -217,6 +219,7 @@ impl<G: PipeFormat> SinglePipe<G> {
             (F.disk file_system.old) (F.disk file_system.new)) }
         ensures failed { self.old.failed ≡ true → (result ≡ Err errors.Failed) × (self.new ≡ self.old)
             × (F.disk file_system.new ≡ F.disk file_system.old) }
+        ensures stays { OnErr result (SameLists self.old.files self.new.files) }
         ensures fails { IsTrue self.new.failed ↔ (result ≡ Err errors.Failed) }
         ensures first { self.new.files.first_seq ≡ self.old.files.first_seq }
         ensures same { (self.new.layout ≡ self.old.layout) × (self.new.settings ≡ self.old.settings) }

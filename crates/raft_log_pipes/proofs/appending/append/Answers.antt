@@ -1,4 +1,5 @@
 use Rattle.std.proofs.Common.{◌≡◌, ℕ, List, length, ◌∙◌, ap, subst}
+use Rattle.raft_log_files.specs.declared.last_file.WriteFault.{WriteFault}
 use Rattle.raft_log_pipes.specs.Appending.{AppendsAt, context_of}
 use Rattle.raft_log_pipes.specs.Appending.AppendFails.{not_written}
 use Rattle.raft_log_pipes.specs.Exits.{Adds, FailsToAdd}
@@ -32,3 +33,22 @@ returns-in-Err-clause-err g c =
     not_written c.turn_first.new.files c.add.new.files (D c.turn_first.new.file_system) (D c.add.new.file_system) c.in-Err.fault c.in_ok-turn_first.ensures.ok c.turn_first.ensures.later
     (subst (λ (bytes : List ℕ). FailsToAdd (g.G.PipeFormat.format c.args.layout.now) (g.G.PipeFormat.own c.args.layout.now) (g.G.PipeFormat.file_paths c.args.layout.now) bytes c.in-Err.fault c.turn_first.new.files c.add.new.files (D c.turn_first.new.file_system) (D c.add.new.file_system)) is c.in-Err.ensures.err)
     c.add.ensures.lists c.tell_fault.ensures.left c.tell_fault.ensures.later
+
+pub returns-in-Err-clause-elsewhere : goal.returns-in-Err-clause-elsewhere
+returns-in-Err-clause-elsewhere g c again =
+    let D = g.F.FileSystem.disk in
+    let signed = g.B.ReactiveBytes.signed c.args.bytes.now in
+    let context : c.new.result ≡ context_of c.args.queue c.turn_first.new.files = context_is c.args.queue c.turn_first.new.files c.new-id.result c.new.result c.new-id.ensures.queue c.new-id.ensures.seq c.new.ensures.id c.new.ensures.version in
+    let is : c.as_bytes-record.result.now ≡ signed (context_of c.args.queue c.turn_first.new.files) = c.as_bytes-record.ensures ∙ c.sign.ensures.bytes ∙ ap signed context in
+    let (full, goes) = c.tell_fault.ensures.elsewhere again in
+    record {
+      middle = c.turn_first.new.files;
+      cut = c.add.new.files;
+      between = D c.turn_first.new.file_system;
+      short = c.add.new.file_system;
+      first = c.in_ok-turn_first.ensures.ok;
+      fails = subst (λ (fault : WriteFault). FailsToAdd (g.G.PipeFormat.format c.args.layout.now) (g.G.PipeFormat.own c.args.layout.now) (g.G.PipeFormat.file_paths c.args.layout.now) (signed (context_of c.args.queue c.turn_first.new.files)) fault c.turn_first.new.files c.add.new.files (D c.turn_first.new.file_system) (D c.add.new.file_system)) full
+          (subst (λ (bytes : List ℕ). FailsToAdd (g.G.PipeFormat.format c.args.layout.now) (g.G.PipeFormat.own c.args.layout.now) (g.G.PipeFormat.file_paths c.args.layout.now) bytes c.in-Err.fault c.turn_first.new.files c.add.new.files (D c.turn_first.new.file_system) (D c.add.new.file_system)) is c.in-Err.ensures.err);
+      lists = c.add.ensures.lists;
+      goes = goes;
+    }

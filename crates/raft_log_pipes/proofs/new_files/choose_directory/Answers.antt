@@ -1,5 +1,4 @@
-use Rattle.std.proofs.Common.{◌≡◌, ◌∙◌, ℕ, List, Bool, ◌<◌, length, true, false, sym, subst, arith}
-use Rattle.std.specs.String.{string_bytes}
+use Rattle.std.proofs.Common.{◌<◌, length, subst, arith}
 use Rattle.raft_log_pipes.specs.Placing.{HasRoom, LacksRoom, TellsRoom}
 use Rattle.raft_log_pipes.proofs.Placing.{has_first, lacks_more}
 use Rattle.raft_log_pipes.proofs.new_files.choose_directory.Goals as goal

@@ -23,22 +23,24 @@ use Rattle.raft_log_engine_state.specs.Holding.{IsLeftAt}
 use Rattle.raft_log_builder.specs.Cutting.{CutsEach, CutsIf}
 use Rattle.raft_log_builder.specs.Directories.{directories_of}
 use Rattle.raft_log_builder.specs.Finishing.{OpensRecovered, SyncsLog}
+use Rattle.raft_log_builder.specs.Finishing.FailsToOpenRecovered.{unopened as pipes_unopened}
 use Rattle.raft_log_builder.specs.Recovering.{append_files, rewrite_files}
 use Rattle.raft_log_builder.specs.Syncing.{SyncsEach}
 use Rattle.raft_log_builder.specs.declared.builder.DualPipesBuilder.{DualPipesBuilder}
 use Rattle.raft_log_builder.specs.declared.queue_files.QueueFiles.{QueueFiles}
 use Rattle.raft_log_opening.specs.Finding.{FindsLog}
 use Rattle.raft_log_opened.proofs.Left.{crashed_logs_rest}
-use Rattle.raft_log_opened.specs.Opened.{HoldsFresh}
 use Rattle.raft_log_resting.specs.Keeping.{RestsStill}
 use Rattle.raft_log_resting.proofs.Keeping.{kept_logs_stay}
 use Rattle.raft_log_reopened.specs.Files.{AreFilesOf}
+use Rattle.raft_log_reopened.specs.Refused.{FailsToReopen}
+use Rattle.raft_log_reopened.specs.Refused.FailsToReopen.{unopened}
 use Rattle.raft_log_reopened.specs.Reopened.{home_of, reads, IsRecovered, Reopens, SparesCanBeUsed}
 use Rattle.raft_log_reopened.proofs.Directory.{call_by_call}
 use Rattle.raft_log_reopened.proofs.Finding.{scans_find_all_files, some_directory}
 use Rattle.raft_log_reopened.proofs.Outcomes.{resting_logs_reopen}
 use Rattle.raft_log_reopened.proofs.Reopened.{two_queues}
-use Rattle.raft_log_in_place.specs.InPlace.{StandingDirectoriesOpen, StandingLogsReopen, StandsWithoutChance}
+use Rattle.raft_log_in_place.specs.InPlace.{ReopensStanding, StandingDirectoriesOpen, StandingLogsReopen, StandsWithoutChance, StopsSynced}
 use Rattle.raft_log_in_place.proofs.Settling.{settled_if, settled_in}
 use Rattle.raft_log_in_place.proofs.Scans.{settled_finds, settled_recovers, settled_syncs}
 use Rattle.raft_log_in_place.proofs.Readies.{settled_readies, AreOld}
@@ -224,15 +226,18 @@ module _ (config : Config) (d : Disk) (m : LogMap) (pending : List Said) (sound 
             (subst (λ (l : List File). SyncsEach l y.between synced) (sym rewrite_same) y.rewrite)
       ]
 
+      syncs_same : (synced : Disk) → SyncsLog ready readied synced → SyncsLog ready (settled_in lasts readied) synced
+      syncs_same synced y = subst (SyncsLog ready (settled_in lasts readied)) (all_rested lasts synced (rested synced y)) (record {
+        between = settled_in lasts y.between;
+        append = settled_syncs lasts (append_files ready) readied y.between y.append;
+        rewrite = settled_syncs lasts (rewrite_files ready) y.between synced y.rewrite;
+      })
+
       opens : (v : LogPipes) → OpensRecovered ready readied v → OpensRecovered ready (settled_in lasts readied) v
       opens v o = record {
         read = o.read;
         synced = o.synced;
-        syncs = subst (SyncsLog ready (settled_in lasts readied)) (all_rested lasts o.synced (rested o.synced o.syncs)) (record {
-          between = settled_in lasts o.syncs.between;
-          append = settled_syncs lasts (append_files ready) readied o.syncs.between o.syncs.append;
-          rewrite = settled_syncs lasts (rewrite_files ready) o.syncs.between o.synced o.syncs.rewrite;
-        });
+        syncs = syncs_same o.synced o.syncs;
         append = o.append;
         rewrite = o.rewrite;
         append_is = o.append_is;
@@ -251,8 +256,15 @@ module _ (config : Config) (d : Disk) (m : LogMap) (pending : List Said) (sound 
       comes = r.comes;
     }
 
-    pub opened_in_place : SparesCanBeUsed config d → (v : LogPipes) (tables : MemTables) → Reopens disk tells config d v tables → HoldsFresh home v tables map
-    opened_in_place usable v tables r = (resting_logs_reopen settled_disk tells config standing map standing_sound there (usable_still usable)).answered v tables (reopens v tables r)
+    not_opened : (new : Disk) → StopsSynced disk tells config d new → FailsToReopen settled_disk tells config standing new
+    not_opened new s =
+        unopened s.append s.rewrite s.ready (settled_in lasts s.readied) s.error (recovered s.append s.rewrite s.ready s.readied s.recovered)
+        (pipes_unopened s.synced s.append_pipe s.rewrite_pipe s.read (syncs_same s.append s.rewrite s.ready s.readied s.recovered s.synced s.syncs) s.append_is s.rewrite_is s.fails)
+
+    pub opened_in_place : SparesCanBeUsed config d → ReopensStanding disk tells config d map
+    opened_in_place usable =
+        let outcome = resting_logs_reopen settled_disk tells config standing map standing_sound there (usable_still usable) in
+        record { answered = λ v tables r. outcome.answered v tables (reopens v tables r); synced = λ new s. outcome.refused new (not_opened new s) }
 
 pub standing_logs_reopen : {S : Type 0} (disk : S → Disk) (tells : S → List ℕ → ℕ → Type 0) → StandingLogsReopen disk tells
 standing_logs_reopen disk tells config d m pending sound left chance usable =
@@ -262,4 +274,4 @@ standing_logs_reopen disk tells config d m pending sound left chance usable =
 pub standing_directories_open : {S : Type 0} (disk : S → Disk) (tells : S → List ℕ → ℕ → Type 0) → StandingDirectoriesOpen disk tells
 standing_directories_open disk tells config old m pending sound left chance usable =
     let (k, within, outcome) = standing_logs_reopen disk tells config (disk old) m pending sound left chance usable in
-    (k, within, λ v tables o. outcome v tables (call_by_call disk tells config old v tables o))
+    (k, within, λ v tables o. outcome.answered v tables (call_by_call disk tells config old v tables o))

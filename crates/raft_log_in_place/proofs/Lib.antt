@@ -4,3 +4,4 @@ pub mod Standing
 pub mod Readies
 pub mod Opens
 pub mod InPlace
+pub mod Uncut

@@ -1,35 +1,67 @@
 -- A log whose engine failed is opened in place: no crash came between, so its last files may have bytes that
 -- aren't synced, which the open reads as they stand.
-use Rattle.std.specs.Prelude.{ℕ, ◌≤◌, List, length, take}
+use Rattle.std.specs.Prelude.{◌≡◌, ℕ, ◌≤◌, List, [], length, take}
 use Rattle.raft_log_model.specs.Groups.{taken}
+use Rattle.raft_log_base.specs.declared.errors.Error.{Error}
+use Rattle.raft_log_base.specs.declared.pipe_log.LogQueue.TheVariants.{Append, Rewrite}
 use Rattle.raft_log_disk.specs.Disk.{Disk}
 use Rattle.raft_log_disk.specs.Image.{as_it_stands, IsSound}
 use Rattle.raft_log_settings.specs.declared.config.Config.{Config}
 use Rattle.raft_log_replay.specs.declared.mem_tables.MemTables.{MemTables}
+use Rattle.raft_log_contexts.specs.declared.context.MemTableRecoverContext.{MemTableRecoverContext}
+use Rattle.raft_log_dual_pipes.specs.Opening.{FailsToOpenLog}
+use Rattle.raft_log_dual_pipes.specs.declared.opening.FoundPipe.{FoundPipe}
 use Rattle.raft_log_dual_pipes.specs.Pipes.{LogPipes, Said, State}
 use Rattle.raft_log_engine_state.specs.Shows.{Home, LogMap}
 use Rattle.raft_log_engine_state.specs.Holding.{IsLeftAt}
+use Rattle.raft_log_builder.specs.Finishing.{IsPipeRecovered, IsRead, SyncsLog}
+use Rattle.raft_log_builder.specs.Scanning.{FailsToScanLog}
+use Rattle.raft_log_builder.specs.declared.builder.DualPipesBuilder.{DualPipesBuilder}
+use Rattle.raft_log_opening.specs.Finding.{FindsLog, IsBegun}
 use Rattle.raft_log_opening.specs.Opening.{OpensDirectory}
 use Rattle.raft_log_opened.specs.Left.{IsCrashOf}
 use Rattle.raft_log_opened.specs.Opened.{HoldsFresh}
-use Rattle.raft_log_reopened.specs.Reopened.{home_of, Reopens, SparesCanBeUsed}
+use Rattle.raft_log_reopened.specs.Reopened.{home_of, IsRecovered, Reopens, SparesCanBeUsed}
 
 -- No checksum is met by chance in the last file of either queue, as its bytes stand: what is read there now is
 -- what a crash may leave that keeps all of them.
 abbrev pub StandsWithoutChance : Home → State → Disk → Type 0
 StandsWithoutChance home s d = IsCrashOf home s d (as_it_stands d)
 
--- Where a log that an engine left is scanned, read, cut, synced and opened call by call, without a crash, an
--- engine of what was read holds its map after some first pending batches, and nothing is pending.
+-- An open was refused behind the syncs: the log was recovered, all files were synced, and a pipe wasn't opened.
+pub record StopsSynced {F : Type 0} (disk : F → Disk) (tells : F → List ℕ → ℕ → Type 0) (config : Config)
+    (d new : Disk) : Type 0 where
+  pub append : MemTableRecoverContext
+  pub rewrite : MemTableRecoverContext
+  pub ready : DualPipesBuilder
+  pub readied : Disk
+  pub recovered : IsRecovered disk tells config d append rewrite ready readied
+  pub read : IsRead ready
+  pub synced : Disk
+  pub syncs : SyncsLog ready readied synced
+  pub append_pipe : FoundPipe
+  pub rewrite_pipe : FoundPipe
+  pub append_is : IsPipeRecovered Append ready.config ready.append ready.reserved.items append_pipe
+  pub rewrite_is : IsPipeRecovered Rewrite ready.config ready.rewrite [] rewrite_pipe
+  pub error : Error
+  pub fails : FailsToOpenLog append_pipe rewrite_pipe error synced new
+
+-- Where the log is scanned, read, cut, synced and opened call by call, without a crash, an engine of what was
+-- read holds this map, and nothing is pending. Where that is refused behind the syncs, the log is left with it.
+pub record ReopensStanding {F : Type 0} (disk : F → Disk) (tells : F → List ℕ → ℕ → Type 0) (config : Config)
+    (d : Disk) (m : LogMap) : Type 0 where
+  pub answered : (v : LogPipes) (tables : MemTables) → Reopens disk tells config d v tables
+      → HoldsFresh (home_of config) v tables m
+  pub synced : (new : Disk) → StopsSynced disk tells config d new → IsLeftAt (home_of config) new m []
+
+-- So it is with a log that an engine left, and its map after some first pending batches.
 abbrev pub StandingLogsReopen : {F : Type 0} → (F → Disk) → (F → List ℕ → ℕ → Type 0) → Type 0
 StandingLogsReopen {F} disk tells = (config : Config) (d : Disk) (m : LogMap) (pending : List Said) → IsSound d
     → (left : IsLeftAt (home_of config) d m pending)
     → StandsWithoutChance (home_of config) left.1.lies.state d → SparesCanBeUsed config d
-    → (k : ℕ) × (k ≤ length pending)
-    × ((v : LogPipes) (tables : MemTables) → Reopens disk tells config d v tables
-    → HoldsFresh (home_of config) v tables (taken m (take k pending)))
+    → (k : ℕ) × (k ≤ length pending) × ReopensStanding disk tells config d (taken m (take k pending))
 
--- So it is where its directories are opened by the call that does all of it.
+-- So an engine of it holds that map where its directories are opened by the call that does all of it.
 abbrev pub StandingDirectoriesOpen : {F : Type 0} → (F → Disk) → (F → List ℕ → ℕ → Type 0) → Type 0
 StandingDirectoriesOpen {F} disk tells = (config : Config) (old : F) (m : LogMap) (pending : List Said)
     → IsSound (disk old) → (left : IsLeftAt (home_of config) (disk old) m pending)
@@ -37,3 +69,17 @@ StandingDirectoriesOpen {F} disk tells = (config : Config) (old : F) (m : LogMap
     → (k : ℕ) × (k ≤ length pending)
     × ((v : LogPipes) (tables : MemTables) → OpensDirectory disk tells config old v tables
     → HoldsFresh (home_of config) v tables (taken m (take k pending)))
+
+-- An open went no further than this, so that nothing of the log was cut: nothing was done; its directories
+-- weren't scanned; or they were, and no more.
+pub data StopsUncut (config : Config) (d new : Disk) : Type 0 where
+  undone : new ≡ d → StopsUncut config d new
+  unscanned : (b : DualPipesBuilder) (error : Error) → IsBegun config b → FailsToScanLog b error d new
+      → StopsUncut config d new
+  unread : (found : DualPipesBuilder) → FindsLog config found d new → StopsUncut config d new
+
+-- Then the log is left as it was, whatever its bytes are, with the batches that were pending.
+abbrev pub UncutLogsStay : Type 0
+UncutLogsStay = (config : Config) (d : Disk) (m : LogMap) (pending : List Said)
+    → IsLeftAt (home_of config) d m pending → (new : Disk) → StopsUncut config d new
+    → IsLeftAt (home_of config) new m pending

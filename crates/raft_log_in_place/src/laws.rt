@@ -1,11 +1,12 @@
 //! A log is opened in place.
 
-ghost use Rattle.raft_log_in_place.specs.InPlace.{StandingDirectoriesOpen, StandingLogsReopen};
+ghost use Rattle.raft_log_in_place.specs.InPlace.{StandingDirectoriesOpen, StandingLogsReopen, UncutLogsStay};
 
 use raft_log_disk::FileSystem;
 
 /// What an engine left, failed or closed, is opened without a crash as the map after some first pending
-/// batches, and nothing is pending: the bytes that weren't synced are read as they stand, and synced.
+/// batches, and nothing is pending: the bytes that weren't synced are read as they stand, and synced. Where a
+/// pipe isn't opened behind the syncs, the log is left with that map.
 pub fn standing_logs_reopen<F: FileSystem>()
     ensures { StandingLogsReopen F.disk F.tells_space }
 {}
@@ -13,4 +14,10 @@ pub fn standing_logs_reopen<F: FileSystem>()
 /// So it is where its directories are opened by `open_directory` of `raft_log_opening`.
 pub fn standing_directories_open<F: FileSystem>()
     ensures { StandingDirectoriesOpen F.disk F.tells_space }
+{}
+
+/// Where an open is refused before anything was cut, in the scan or in the reading of its files, the log is
+/// left as it was, with the batches that were pending.
+pub fn uncut_logs_stay()
+    ensures { UncutLogsStay }
 {}

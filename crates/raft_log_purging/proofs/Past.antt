@@ -1,0 +1,191 @@
+-- All groups are rewritten, and the files behind which nothing lies go.
+use Rattle.std.proofs.Common.{◌≡◌, ◌⊎◌, ◌+◌, ◌<◌, ◌≤◌, ℕ, max, Bool, true, false, List, [], Option, Some, None, is_some, inl, inr, refl, sym, subst, ◌∙◌, arith}
+use Rattle.std.specs.Prelude.{Result, Ok, Err, IfErr, OnErr, OnOk}
+use Rattle.std.specs.BTreeMap.{get}
+use Rattle.std.specs.Ordering.{nat_cmp}
+use Rattle.std.proofs.lemmas.Bool.{false≢true}
+use Rattle.raft_log_model.proofs.Cases.{at_bool}
+use Rattle.raft_log_machine.proofs.TruthRaises.{no_word}
+use Rattle.raft_log_disk.specs.Causes.{IsLater}
+use Rattle.raft_log_base.specs.declared.errors.Error.{Error}
+use Rattle.raft_log_base.specs.declared.errors.Error.TheVariants as errors
+use Rattle.raft_log_base.specs.declared.pipe_log.LogQueue.TheVariants.{Append}
+use Rattle.raft_log_directory.specs.Calls.Which.{InAppend, InRewrite}
+use Rattle.raft_log_places.specs.Shown.{Shown}
+use Rattle.raft_log_tables.specs.Files.{IsLeastInAppend}
+use Rattle.raft_log_tables.proofs.Leasts.{front_is_least}
+use Rattle.raft_log_replay.specs.declared.group_table.GroupTable.{GroupTable}
+use Rattle.raft_log_replay.specs.declared.mem_tables.MemTables.{MemTables}
+use Rattle.raft_log_replay.specs.Tables.{has_table, shown_in, shown_of}
+use Rattle.raft_log_replay.specs.Walking.{ListsGroups}
+use Rattle.raft_log_dual_pipes.specs.Pipes.{LogPipes}
+use Rattle.raft_log_dual_pipes.specs.Calls.{FailsToPurgeQueue, FailsToSyncQueue, PurgesQueue, SyncsQueue, TellsFailure}
+use Rattle.raft_log_blocks.specs.declared.block_cache.BlockCache.{BlockCache}
+use Rattle.raft_log_engine_state.specs.Shows.{Home, LogMap, Shows, sense, shows}
+use Rattle.raft_log_engine_state.specs.Holding.{Holds, IsLeftAt}
+use Rattle.raft_log_engine_state.proofs.Keeping.{holds_runs}
+use Rattle.raft_log_purge_state.specs.Settled.{HoldsSettled}
+use Rattle.raft_log_purge_state.specs.Raising.{AppendMayBegin, PurgeLeavesHeld}
+use Rattle.raft_log_purge_state.proofs.Settling.{failed_sync, settled_held, sync_settles_log}
+use Rattle.raft_log_purge_state.proofs.Raising.{raise_refused, raised}
+use Rattle.raft_log_purge.specs.Watermarks.{first_at, last_at}
+use Rattle.raft_log_rewriting.specs.Files.{IsLeastOf}
+use Rattle.raft_log_rewriting.specs.Groups.{Rewrites, RewritesGroups, StopsAtGroups, StopsRewriting}
+use Rattle.raft_log_rewriting.specs.Moving.{IsRewrittenTo}
+use Rattle.raft_log_rewriting.specs.Rewriting.{OweNothing}
+use Rattle.raft_log_rewriting.proofs.Grouping.{among, part_same, part_wider, rewritten_is_past}
+use Rattle.raft_log_rewriting.proofs.Leasts.{queue_may_begin}
+use Rattle.raft_log_rewriting.proofs.Parts.{alive_ok, later_on, same_later, tells_err}
+use Rattle.raft_log_purging.specs.Append.{AreRewrittenTo, FailsToLoseTo, LosesTo, RewritesAll, beginning}
+
+-- All groups.
+
+abbrev pub every : ℕ → Bool
+every g = true
+
+pub none_rewritten_yet : (gate : ℕ) (error : Error) (s : Shows) → StopsRewriting every gate error s s
+none_rewritten_yet gate error s = record {
+  part = part_same every gate s;
+  failed = λ lived hit. absurd (false≢true (sym lived ∙ hit));
+  remains = λ owes home m h. inl h;
+}
+
+pub some_rewritten : (groups : List ℕ) (gate : ℕ) (error : Error) (s t : Shows) → StopsAtGroups groups gate error s t → StopsRewriting every gate error s t
+some_rewritten groups gate error s t stops = record {
+  part = part_wider (among groups) every gate s t (λ g h. refl) stops.part;
+  failed = stops.failed;
+  remains = stops.remains;
+}
+
+-- nothing is in Append of a group that has no table
+unknown_rewritten : (gate : ℕ) (o : Option GroupTable) → is_some o ≡ false → IsRewrittenTo gate (shown_in o)
+unknown_rewritten gate None none = record { entries = refl; values = λ k h held appended. no_word h held }
+unknown_rewritten gate (Some t) none = absurd (false≢true (sym none))
+
+pub every_rewritten : (groups : List ℕ) (gate : ℕ) (m : MemTables) (v : LogPipes) (cache : BlockCache) (t : Shows) → ListsGroups (has_table m) groups → RewritesGroups groups gate (shows v m cache) t → Rewrites every gate (shows v m cache) t
+every_rewritten groups gate m v cache t lists r = record {
+  part = part_wider (among groups) every gate (shows v m cache) t (λ g h. refl) r.part;
+  whole = λ g h.
+      at_bool (among groups g) (λ b. among groups g ≡ b → IsRewrittenTo gate (t.tables g)) (λ _ known. r.whole g known)
+      (λ _ unknown.
+      subst (IsRewrittenTo gate) (sym (r.part.others g unknown)) (unknown_rewritten gate (get nat_cmp m.groups g) (sym (lists.exact g) ∙ unknown))) refl;
+  alive = r.alive;
+  holds = r.holds;
+}
+
+module _ (gate : ℕ) (s copied : Shows) (r : Rewrites every gate s copied) (w : LogPipes) (later : IsLater copied.pipes.disk w.disk) where
+  all_synced : {A : Type 0} (x : A) → TellsFailure (Ok x) w → SyncsQueue InRewrite copied.pipes w → RewritesAll gate s (record copied { pipes = w })
+  all_synced {A} x tells call = record {
+    copied = copied;
+    copies = r;
+    syncs = call;
+    same = refl;
+    alive = alive_ok x w tells;
+    later = later_on s.pipes.disk copied.pipes.disk w.disk r.part.later later;
+    settles = λ owes home m h. sync_settles_log home copied (record copied { pipes = w }) m (r.holds owes home m h) (record { tables = refl; cache = inl refl }) call;
+  }
+
+  not_synced : (error : Error) → error ≡ errors.Failed → FailsToSyncQueue InRewrite copied.pipes w → StopsRewriting every gate error s (record copied { pipes = w })
+  not_synced error is call = record {
+    part = record {
+      parts = r.part.parts;
+      others = r.part.others;
+      counts = r.part.counts;
+      later = later_on s.pipes.disk copied.pipes.disk w.disk r.part.later later;
+    };
+    failed = λ lived hit. is;
+    remains = λ owes home m h. inr (is, (failed_sync InRewrite home copied.pipes w m [] (holds_runs home copied m [] (r.holds owes home m h)) call).1);
+  }
+
+  pub whole_synced : (q : Result (Unit {0}) Error) → TellsFailure q w → OnOk q (SyncsQueue InRewrite copied.pipes w) → OnOk q (RewritesAll gate s (record copied { pipes = w }))
+  whole_synced (Ok x) tells call = all_synced x tells call
+  whole_synced (Err e) tells call = tt
+
+  pub whole_unsynced : (q : Result (Unit {0}) Error) → IfErr q (λ error. error ≡ errors.Failed) → OnErr q (FailsToSyncQueue InRewrite copied.pipes w)
+      → IfErr q (λ error. StopsRewriting every gate error s (record copied { pipes = w }))
+  whole_unsynced (Ok x) is call = tt
+  whole_unsynced (Err e) is call = not_synced e is call
+
+-- Files go.
+
+pub nothing_lost : (gate : ℕ) (error : Error) (s : Shows) → FailsToLoseTo gate error s s
+nothing_lost gate error s = record {
+  failed = λ lived hit. absurd (false≢true (sym lived ∙ hit));
+  later = same_later s.pipes.disk;
+  remains = λ past owes home m h. inl (settled_held home s m h);
+}
+
+-- what lies behind both lies behind the greater
+behind_both : (v : Shown) (a b n : ℕ) → n ≡ max a b → IsLeastInAppend v a → IsLeastInAppend v b → IsLeastInAppend v n
+behind_both v a b n is low high = (
+  λ i from to. (let one = low.0 i from to in let two = high.0 i from to in omega (arith, is, one, two)),
+  λ k h held appended. (let one = low.1 k h held appended in let two = high.1 k h held appended in omega (arith, is, one, two)),
+)
+
+left_or_held : (home : Home) (m : LogMap) (t : Shows) (error : Error) → PurgeLeavesHeld home m t error → Holds home t m [] ⊎ ((error ≡ errors.Failed) × IsLeftAt home t.pipes.disk m [])
+left_or_held home m t errors.Memory h = inl (settled_held home t m h)
+left_or_held home m t (errors.InvalidArgument text) h = inl (settled_held home t m h)
+left_or_held home m t errors.NumberRange h = inl (settled_held home t m h)
+left_or_held home m t errors.Failed h = inr (refl, h)
+left_or_held home m t _ h = absurd h
+
+module _ (gate least seq : ℕ) (m : MemTables) (v : LogPipes) (old : BlockCache) (is_least : IsLeastOf Append (last_at InAppend v) m least) (is : seq ≡ max (gate + 1) least) where
+  abbrev before : Shows
+  before = shows v m old
+
+  -- Append may begin there
+  may_begin : AreRewrittenTo gate before → OweNothing before.tables → (home : Home) (log : LogMap) → HoldsSettled home before log → AppendMayBegin seq (shown_of m)
+  may_begin past owes home log h g =
+      let front = λ (k : ℕ). front_is_least h.state.append.files.last h.state.rewrite.files.last (shown_of m k) (h.rises k) in
+      let low = queue_may_begin Append (last_at InAppend v) least m is_least h.meant.orderly front owes g in
+      (owes g, behind_both (shown_of m g) (gate + 1) least seq is (rewritten_is_past gate (shown_of m g) (past g) (front g)) low.1)
+
+  -- nothing is to go
+  pub none_to_lose : seq ≤ first_at InAppend v → LosesTo gate m before before
+  none_to_lose low = record {
+    least = least;
+    is = is_least;
+    same = refl;
+    counts = refl;
+    alive = λ lived. lived;
+    later = same_later v.disk;
+    begins = λ home log h. omega (arith, is, low);
+    keeps = λ past owes home log h. h;
+  }
+
+  module _ (w : LogPipes) (new : BlockCache) (none : new.place ≡ None) (later : IsLater v.disk w.disk) where
+    begins_there : first_at InAppend v < seq → PurgesQueue InAppend seq v w → (home : Home) (log : LogMap) → HoldsSettled home before log → first_at InAppend w ≡ beginning gate least v
+    begins_there low call home log h =
+        let (runs, step) = call (sense home) h.state h.runs in
+        let first : first_at InAppend w ≡ seq = runs.run.append.first in
+        omega (arith, first, is, low)
+
+    pub lost_to : {A : Type 0} (x : A) → TellsFailure (Ok x) w → first_at InAppend v < seq → PurgesQueue InAppend seq v w → LosesTo gate m before (shows w m new)
+    lost_to {A} x tells low call = record {
+      least = least;
+      is = is_least;
+      same = refl;
+      counts = refl;
+      alive = λ lived. alive_ok x w tells;
+      later = later;
+      begins = begins_there low call;
+      keeps = λ past owes home log h. raised InAppend home before (shows w m new) log seq h (may_begin past owes home log h) refl none call;
+    }
+
+    pub not_lost_to : {A : Type 0} (error : Error) → TellsFailure {A = A} (Err error) w → FailsToPurgeQueue InAppend seq error v w → FailsToLoseTo gate error before (shows w m new)
+    not_lost_to {A} error tells call = record {
+      failed = λ lived hit. (tells_err {A = A} error w tells).0 hit;
+      later = later;
+      remains = λ past owes home log h.
+          left_or_held home log (shows w m new) error (raise_refused InAppend home before (shows w m new) log seq error h (may_begin past owes home log h) refl none call);
+    }
+
+-- whatever was refused before anything was done
+
+pub none_yet : (gate : ℕ) (s : Shows) (q : Result (Unit {0}) Error) → IfErr q (λ error. StopsRewriting every gate error s s)
+none_yet gate s (Ok x) = tt
+none_yet gate s (Err e) = none_rewritten_yet gate e s
+
+pub none_lost_yet : (gate : ℕ) (s : Shows) (q : Result (Unit {0}) Error) → IfErr q (λ error. FailsToLoseTo gate error s s)
+none_lost_yet gate s (Ok x) = tt
+none_lost_yet gate s (Err e) = nothing_lost gate e s

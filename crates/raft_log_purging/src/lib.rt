@@ -1,0 +1,9 @@
+//! Whole purges, put together of their parts. The map stays at every exit.
+//!
+//! Each is over a log's pipes and the tables of its groups, and its contract speaks of whatever map was the
+//! log's, with whatever batches were pending (`Holds`): it asks nothing of the caller.
+#![tactic(auto)]
+
+pub mod append;
+
+pub use append::rewrite_append_queue;

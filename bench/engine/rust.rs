@@ -16,7 +16,7 @@ use batch::Batch;
 use frame::{next, report};
 use pipe::{Files, Pipe};
 use place::Place;
-use record::{read_block, CompressionType, Content, EntryIndex, Error, FileBlockHandle, FileId, Item, LogQueue, Result, HEADER};
+use record::{read_block, Command, CompressionType, Content, EntryIndex, Error, FileBlockHandle, FileId, Item, LogQueue, Result, HEADER};
 use std::collections::{HashMap, VecDeque};
 use std::time::Instant;
 use window::{check_block, next_batch, open, Window, MAGIC};
@@ -26,6 +26,7 @@ const GROUPS: u64 = 100;
 const SIZE: usize = 2_118;
 const FETCHED: u64 = 1_000;
 const READ_BLOCK: usize = 16 << 10;
+const MAX_COPIED_LEN: u64 = 128 << 10;
 
 /// Where a group's entries lie.
 #[derive(Default)]
@@ -61,6 +62,12 @@ impl Table {
         self.places.extend(entries.iter().map(|entry| place_of(entry, block)));
     }
 
+    fn compact_to(&mut self, index: u64) {
+        let gone = index.saturating_sub(self.first).min(self.places.len() as u64);
+        self.places.drain(..gone as usize);
+        self.first += gone;
+    }
+
     /// Takes the entries of a newer part of the log.
     fn take_newer(&mut self, mut newer: Table) -> Result<()> {
         if newer.places.is_empty() {
@@ -91,6 +98,8 @@ struct Kept {
 struct Engine {
     files: Files,
     pipe: Pipe,
+    rewrite_files: Files,
+    rewrite: Pipe,
     tables: Tables,
     kept: Kept,
 }
@@ -110,7 +119,9 @@ impl Engine {
     fn new() -> Result<Engine> {
         let mut files = Files::default();
         let pipe = Pipe::begin(&mut files, 0, header_of()).map_err(refused)?;
-        Ok(Engine { files, pipe, tables: Tables::new(), kept: Kept::default() })
+        let mut rewrite_files = Files::default();
+        let rewrite = Pipe::begin(&mut rewrite_files, 0, header_of()).map_err(refused)?;
+        Ok(Engine { files, pipe, rewrite_files, rewrite, tables: Tables::new(), kept: Kept::default() })
     }
 
     fn prepare(&mut self, items: &[Item]) -> Result<()> {
@@ -124,9 +135,11 @@ impl Engine {
 
     fn commit(&mut self, items: &[Item], block: FileBlockHandle) {
         for item in items {
-            if let Content::Entries(entries) = &item.content {
-                if let Some(table) = self.tables.get_mut(&item.group) {
-                    table.append(entries, block);
+            if let Some(table) = self.tables.get_mut(&item.group) {
+                match &item.content {
+                    Content::Entries(entries) => table.append(entries, block),
+                    Content::Command(Command::Compact { index }) => table.compact_to(*index),
+                    _ => {}
                 }
             }
         }
@@ -134,12 +147,18 @@ impl Engine {
 
     /// Writes a batch and syncs it; answers how many bytes its record has.
     fn write(&mut self, batch: &mut Batch) -> Result<u64> {
+        let len = self.append(batch)?;
+        self.pipe.sync(&mut self.files).map_err(refused)?;
+        Ok(len)
+    }
+
+    /// Writes a batch; answers how many bytes its record has.
+    fn append(&mut self, batch: &mut Batch) -> Result<u64> {
         let len = batch.populate()?;
         self.prepare(&batch.items)?;
         let seq = self.pipe.next_file(&mut self.files).map_err(refused)?;
         batch.sign(Some(seq as u32));
         let (seq, at, _) = self.pipe.append(&mut self.files, &batch.buf).map_err(refused)?;
-        self.pipe.sync(&mut self.files).map_err(refused)?;
         let block = batch.buf.len().min(HEADER + batch.entries_len + 4) - HEADER;
         let id = FileId { queue: LogQueue::Append, seq };
         let items = std::mem::take(&mut batch.items);
@@ -177,6 +196,85 @@ impl Engine {
         let from = (begin - table.first) as usize;
         let places: Vec<Place> = table.places.range(from..from + (end - begin) as usize).copied().collect();
         places.into_iter().map(|place| self.read_entry(place)).collect()
+    }
+
+    /// Writes what a batch has to Rewrite; answers where its entry block lies there.
+    fn append_to_rewrite(&mut self, batch: &mut Batch) -> Result<FileBlockHandle> {
+        batch.populate()?;
+        let seq = self.rewrite.next_file(&mut self.rewrite_files).map_err(refused)?;
+        batch.sign(Some(seq as u32));
+        let (seq, at, _) = self.rewrite.append(&mut self.rewrite_files, &batch.buf).map_err(refused)?;
+        let block = batch.buf.len().min(HEADER + batch.entries_len + 4) - HEADER;
+        let id = FileId { queue: LogQueue::Rewrite, seq };
+        Ok(FileBlockHandle { id, offset: at + HEADER as u64, len: block })
+    }
+
+    /// Writes the marks of all groups to Rewrite, synced.
+    fn carry_marks(&mut self) -> Result<()> {
+        self.pipe.sync(&mut self.files).map_err(refused)?;
+        let mut batch = Batch::new();
+        for group in 1..=GROUPS {
+            batch.items.push(Item { group, content: Content::Command(Command::Compact { index: u64::MAX }) });
+        }
+        self.append_to_rewrite(&mut batch)?;
+        self.rewrite.sync(&mut self.rewrite_files).map_err(refused)
+    }
+
+    /// Carries the marks, goes on in the next files, and deletes those in which nothing lives.
+    fn purge(&mut self) -> Result<()> {
+        self.carry_marks()?;
+        self.rewrite.rotate(&mut self.rewrite_files).map_err(refused)?;
+        let last = self.rewrite.active.seq;
+        self.rewrite.purge_to(&mut self.rewrite_files, last).map_err(refused)?;
+        self.pipe.rotate(&mut self.files).map_err(refused)?;
+        let least = self.tables.values().filter_map(|table| table.places.front()).map(|place| place.file).min();
+        let seq = least.unwrap_or(self.pipe.active.seq);
+        self.pipe.purge_to(&mut self.files, seq).map_err(refused)
+    }
+
+    /// Copies all entries of all groups to Rewrite, and deletes all files of Append but the last.
+    fn rewrite(&mut self) -> Result<u64> {
+        self.pipe.rotate(&mut self.files).map_err(refused)?;
+        let (mut copied, mut unsynced) = (0, 0);
+        let mut batch = Batch::new();
+        for group in 1..=GROUPS {
+            let (first, end) = self.tables.get(&group).map_or((0, 0), |table| (table.first, table.end()));
+            let mut next = first;
+            while next < end {
+                let count = (end - next).min(MAX_COPIED_LEN / SIZE as u64);
+                let entries = self.fetch(group, next, next + count)?;
+                let indexes = (next..next + count).map(|index| EntryIndex::new(index, SIZE as u32)).collect();
+                batch.add(group, indexes, &entries)?;
+                let block = self.append_to_rewrite(&mut batch)?;
+                let items = std::mem::take(&mut batch.items);
+                self.move_copies(&items, block);
+                batch.drain(&mut Vec::new());
+                copied += count * SIZE as u64;
+                unsynced += count * SIZE as u64;
+                if unsynced >= 4 * MAX_COPIED_LEN {
+                    self.rewrite.sync(&mut self.rewrite_files).map_err(refused)?;
+                    unsynced = 0;
+                }
+                next += count;
+            }
+        }
+        self.rewrite.sync(&mut self.rewrite_files).map_err(refused)?;
+        let last = self.pipe.active.seq;
+        self.pipe.purge_to(&mut self.files, last).map_err(refused)?;
+        Ok(copied)
+    }
+
+    /// The tables say that entries lie where their copies are.
+    fn move_copies(&mut self, items: &[Item], block: FileBlockHandle) {
+        for item in items {
+            if let (Content::Entries(entries), Some(table)) = (&item.content, self.tables.get_mut(&item.group)) {
+                for entry in entries {
+                    if let Some(place) = table.places.get_mut((entry.index - table.first) as usize) {
+                        *place = place_of(entry, block);
+                    }
+                }
+            }
+        }
     }
 
     fn close(mut self) -> Result<Files> {
@@ -290,8 +388,34 @@ fn fetch_all(engine: &mut Engine) -> Result<u64> {
     Ok(len)
 }
 
+/// Compacts each group to half of its entries.
+fn compact_all(engine: &mut Engine) -> Result<()> {
+    let mut batch = Batch::new();
+    for group in 1..=GROUPS {
+        let index = engine.tables.get(&group).map_or(0, |table| (table.first + table.end()) / 2);
+        batch.items.push(Item { group, content: Content::Command(Command::Compact { index }) });
+        engine.append(&mut batch)?;
+    }
+    Ok(())
+}
+
+/// Half of all that a log has is compacted, and its files are deleted; then all that is left is rewritten.
+fn collect(entries: &[Vec<u8>]) -> Result<()> {
+    let mut engine = Engine::new()?;
+    let written = write_all(&mut engine, entries)?;
+    compact_all(&mut engine)?;
+    let start = Instant::now();
+    engine.purge()?;
+    report("purge", written / 2, start, engine.pipe.first);
+    let start = Instant::now();
+    let copied = engine.rewrite()?;
+    report("rewrite", copied, start, engine.pipe.first);
+    Ok(())
+}
+
 fn main() -> Result<()> {
     let entries = entries_of();
+    collect(&entries)?;
     let mut engine = Engine::new()?;
     let start = Instant::now();
     let written = write_all(&mut engine, &entries)?;

@@ -6,9 +6,10 @@ use Rattle.raft_log_disk.specs.Image.{as_it_stands, IsSound}
 use Rattle.raft_log_settings.specs.Settings.{settings_of}
 use Rattle.raft_log_settings.specs.declared.config.Config.{Config}
 use Rattle.raft_log_steps.specs.OnDisk.{LogRestsOn}
+use Rattle.raft_log_dual_pipes.specs.Closing.{ClosesLog}
 use Rattle.raft_log_dual_pipes.specs.Pipes.{Said}
-use Rattle.raft_log_engine_state.specs.Shows.{log_in, LogMap}
-use Rattle.raft_log_engine_state.specs.Holding.{IsLeftAt}
+use Rattle.raft_log_engine_state.specs.Shows.{log_in, Home, LogMap, Shows}
+use Rattle.raft_log_engine_state.specs.Holding.{Holds, IsLeftAt}
 use Rattle.raft_log_opened.specs.Left.{IsCrashOf}
 use Rattle.raft_log_reopened.specs.Reopened.{home_of}
 use Rattle.raft_log_reopened.specs.Directory.{OpensAs}
@@ -24,12 +25,18 @@ pub record ForkedAs {F : Type 0} (disk : F → Disk) (tells : F → List ℕ →
   pub opens : OpensAs disk tells to now m
 
 -- What an engine left, closed or failed, is forked as its files stand, synced or not: as the map after some
--- first pending batches, and after a close that left nothing pending as its map. As at a crash, no checksum is
--- met by chance in the last file of either queue.
+-- first pending batches, where nothing was pending as its map. As at a crash, no checksum is met by chance in
+-- the last file of either queue.
 abbrev pub LeftLogsAreForked : {F : Type 0} → (F → Disk) → (F → List ℕ → ℕ → Type 0) → Type 0
 LeftLogsAreForked {F} disk tells = (config to : Config) (target : List ℕ) (copied : List (List ℕ))
     (old now : F) (m : LogMap) (pending : List Said) → IsSound (disk old) → IsSound (disk now)
-    → NamesOnly to target → IsClear target (disk old) → (left : IsLeftAt (home_of config) (disk old) m pending)
+    → NamesOnly to target → IsClear target (disk old)
+    → (left : IsLeftAt (home_of config) (disk old) m pending)
     → IsCrashOf (home_of config) left.1.lies.state (disk old) (as_it_stands (disk old))
     → Forks (settings_of config) target copied (disk old) (disk now)
     → (k : ℕ) × (k ≤ length pending) × ForkedAs disk tells config to old now (taken m (take k pending))
+
+-- A close of an engine, whatever is refused meanwhile, leaves a log so: with its map, and its batches pending.
+abbrev pub ClosedEnginesAreLeft : Type 0
+ClosedEnginesAreLeft = (home : Home) (e : Shows) (m : LogMap) (pending : List Said) (d : Disk)
+    → Holds home e m pending → ClosesLog e.pipes d → IsLeftAt home d m pending

@@ -1,5 +1,6 @@
 -- Which number a copy has, and what it is a copy of.
 use Rattle.std.specs.Prelude.{Contains, ◌⊎◌}
+use Rattle.std.specs.Option.{option_map}
 use Rattle.std.specs.Str.{bytes_eq}
 use Rattle.std.proofs.Common.{◌≡◌, ℕ, ◌<◌, ◌≤◌, ◌^◌, true, false, Option, Some, None, List, [], ◌∷◌, ◌++◌, length, length-append, refl, sym, ◌∙◌, ap, subst, inl, inr, arith}
 use Rattle.std.proofs.lemmas.Bool.{cases_Bool, cases_eq, cases_lt, false≢true}
@@ -8,6 +9,7 @@ use Rattle.std.proofs.lemmas.Slice.Eq.{bytes_eq-Decides}
 use Rattle.raft_log_base.specs.declared.pipe_log.LogQueue.{LogQueue}
 use Rattle.raft_log_base.specs.declared.pipe_log.LogQueue.TheVariants as queues
 use Rattle.raft_log_disk.specs.Disk.{Disk, File, IsPlain, at_rest}
+use Rattle.raft_log_disk.specs.Image.{as_it_stands, settled}
 use Rattle.raft_log_disk.specs.LogQueue.{IsAbsent, IsThere}
 use Rattle.raft_log_file_queue.specs.Standing.{IsPlace}
 use Rattle.raft_log_format.specs.Name.{IsNamed, suffix_of}
@@ -175,6 +177,13 @@ pub record IsFreeOf (target : List ℕ) (d : Disk) : Type 0 where
   pub bare : (name : List ℕ) → IsPlain name → IsFileName name → d.names (target ++ 47 ∷ name) ≡ None
   pub apart : (name : List ℕ) → IsPlain name → IsFileName name → d.directories (target ++ 47 ∷ name) ≡ false
 
+-- The files of a queue were forked: whoever has a number in the target is a copy, each number that has a file
+-- has a copy, and any may be made there.
+pub record ForksQueue (queue : LogQueue) (directories : List (List ℕ)) (target : List ℕ) (old new : Disk) : Type 0 where
+  pub copied : (m : ℕ) (path : List ℕ) (id : ℕ) → IsPathWith (suffix_of queue) (target ∷ []) m path → new.names path ≡ Some id → IsCopy queue directories target old new m path id
+  pub has : (m : ℕ) → IsThere (log_format queue directories) m old → HasCopied queue target new m
+  pub places : (m : ℕ) (path : List ℕ) → IsPathWith (suffix_of queue) (target ∷ []) m path → IsPlace path new
+
 module _ (queue : LogQueue) (directories : List (List ℕ)) (target : List ℕ) (old new : Disk) (files : List SourceFile) (are : AreSources directories old files) (copies : CopiesAll target files old new) (free : IsFreeOf target old) (home : new.directories target ≡ true) where
   is_copy : (m : ℕ) (path : List ℕ) (id : ℕ) (file : SourceFile) → IsPathWith (suffix_of queue) (target ∷ []) m path → new.names path ≡ Some id → Contains files file → path ≡ copy_path target file
       → IsCopy queue directories target old new m path id
@@ -201,7 +210,7 @@ module _ (queue : LogQueue) (directories : List (List ℕ)) (target : List ℕ) 
       }
 
   -- whoever has a number in the target is a copy
-  pub copied : (m : ℕ) (path : List ℕ) (id : ℕ) → IsPathWith (suffix_of queue) (target ∷ []) m path → new.names path ≡ Some id → IsCopy queue directories target old new m path id
+  copied : (m : ℕ) (path : List ℕ) (id : ℕ) → IsPathWith (suffix_of queue) (target ∷ []) m path → new.names path ≡ Some id → IsCopy queue directories target old new m path id
   copied m path id at named = elim (own_or_not target files path) [
     | inl (file, there, is) ↦ is_copy m path id file at named there is
     | inr none ↦
@@ -210,7 +219,7 @@ module _ (queue : LogQueue) (directories : List (List ℕ)) (target : List ℕ) 
   ]
 
   -- each number that has a file has a copy
-  pub has_copied : (m : ℕ) → IsThere (log_format queue directories) m old → HasCopied queue target new m
+  has_copied : (m : ℕ) → IsThere (log_format queue directories) m old → HasCopied queue target new m
   has_copied m there =
       let has = has_sources queue directories old files are in
       elim (last_of has.are.found m) [
@@ -222,16 +231,8 @@ module _ (queue : LogQueue) (directories : List (List ℕ)) (target : List ℕ) 
             record { small = subst (λ (n : ℕ). n < 10 ^ 16) is source.small; id = copy.copy; named = ap (λ (p : List ℕ). new.names p) (sym to) ∙ copy.named }
       ]
 
-  -- a number that has no file has no copy
-  pub absent_copied : (m : ℕ) → IsAbsent (log_format queue directories) m old → IsAbsent (log_format queue (target ∷ [])) m new
-  absent_copied m none path at = by_name (new.names path) refl
-    where
-      by_name : (o : Option ℕ) → new.names path ≡ o → new.names path ≡ None
-      by_name None e = e
-      by_name (Some id) e = (let c = copied m path id at e in absurd (none_is_some c.from (sym (none c.source c.at) ∙ c.named)))
-
   -- and it may be made there
-  pub place_copied : (m : ℕ) (path : List ℕ) → IsPathWith (suffix_of queue) (target ∷ []) m path → IsPlace path new
+  place_copied : (m : ℕ) (path : List ℕ) → IsPathWith (suffix_of queue) (target ∷ []) m path → IsPlace path new
   place_copied m path at =
       let here = in_target target (suffix_of queue) m path at in
       record {
@@ -244,3 +245,25 @@ module _ (queue : LogQueue) (directories : List (List ℕ)) (target : List ℕ) 
         where
           too_long : (t name : List ℕ) → t ≡ t ++ 47 ∷ name → ⊥
           too_long t name same = omega (arith, ap length same, length-append t (47 ∷ name))
+
+  pub forks_queue : ForksQueue queue directories target old new
+  forks_queue = record { copied = copied; has = has_copied; places = place_copied }
+
+-- a number that has no file has no copy
+pub absent_copied : (queue : LogQueue) (directories : List (List ℕ)) (target : List ℕ) (old new : Disk) → ForksQueue queue directories target old new → (m : ℕ) → IsAbsent (log_format queue directories) m old
+    → IsAbsent (log_format queue (target ∷ [])) m new
+absent_copied queue directories target old new forks m none path at = by_name (new.names path) refl
+  where
+    by_name : (o : Option ℕ) → new.names path ≡ o → new.names path ≡ None
+    by_name None e = e
+    by_name (Some id) e = (let c = forks.copied m path id at e in absurd (none_is_some c.from (sym (none c.source c.at) ∙ c.named)))
+
+-- and they were forked of the disk on which everything was kept
+pub forks_standing : (queue : LogQueue) (directories : List (List ℕ)) (target : List ℕ) (old new : Disk) → ForksQueue queue directories target old new → ForksQueue queue directories target (as_it_stands old) new
+forks_standing queue directories target old new forks = record {
+  copied = λ m path id at named.
+      let c = forks.copied m path id at named in
+      record { here = c.here; source = c.source; at = c.at; from = c.from; named = c.named; file = settled c.file; is = ap (λ (o : Option File). option_map settled o) c.is; stands = c.stands };
+  has = λ m there. forks.has m (record { path = there.path; at = there.at; id = there.id; named = there.named });
+  places = forks.places;
+}

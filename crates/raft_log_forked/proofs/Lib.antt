@@ -4,3 +4,4 @@ pub mod Copies
 pub mod Queues
 pub mod Resting
 pub mod Opening
+pub mod Left

@@ -38,7 +38,7 @@ module _ (config : Config) (target : List ℕ) (copied : List (List ℕ)) (old n
   numbered = copies_numbered (directories_of (settings_of config)) target old forks.files forks.files forks.sources (λ file there. there)
 
   -- no file is kept for use in the target
-  no_spares : (to : Config) → NamesOnly to target → IsClear target old → SparesCanBeUsed to new
+  pub no_spares : (to : Config) → NamesOnly to target → IsClear target old → SparesCanBeUsed to new
   no_spares to only clear place n id named =
       let suffix = reserved_suffix_of Append in
       let number = min n (10 ^ 16 - 1) in

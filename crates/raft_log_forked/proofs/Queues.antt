@@ -1,5 +1,5 @@
 -- A queue at rest whose files were copied rests where the copies are.
-use Rattle.std.proofs.Common.{◌≡◌, ℕ, true, Some, List, [], ◌∷◌, refl, sym, ◌∙◌, ap, subst, inl, inr}
+use Rattle.std.proofs.Common.{◌≡◌, ℕ, Some, List, [], ◌∷◌, refl, sym, ◌∙◌, ap, subst, inl, inr}
 use Rattle.raft_log_model.specs.Item.{Record}
 use Rattle.raft_log_machine.specs.Files.{FileQueue}
 use Rattle.raft_log_base.specs.declared.pipe_log.LogQueue.{LogQueue}
@@ -10,19 +10,14 @@ use Rattle.raft_log_disk.specs.Chains.{Written}
 use Rattle.raft_log_disk.proofs.TouchingLaws.{same_file}
 use Rattle.raft_log_file_queue.specs.Bridge.{IsFileQueue}
 use Rattle.raft_log_file_queue.specs.Standing.{Names}
-use Rattle.raft_log_format.specs.Name.{suffix_of}
 use Rattle.raft_log_layout.specs.Layout.{log_format}
-use Rattle.raft_log_layout.specs.Paths.{IsPathWith}
 use Rattle.raft_log_layout.specs.declared.record.LogRecord.{LogRecord}
 use Rattle.raft_log_steps.specs.Own.{log_layout}
 use Rattle.raft_log_steps.specs.State.{AreThere, IsStopped, Spanned}
 use Rattle.raft_log_steps.specs.Lying.{IsUnbegun}
 use Rattle.raft_log_steps.specs.Reopening.{RestsQueue}
-use Rattle.raft_log_fork.specs.Forks.{CopiesAll}
-use Rattle.raft_log_fork.specs.Sources.{AreSources}
-use Rattle.raft_log_fork.specs.declared.source_file.SourceFile.{SourceFile}
 use Rattle.raft_log_forked.proofs.Sources.{path_in, path_is}
-use Rattle.raft_log_forked.proofs.Copies.{IsCopy, IsFreeOf, absent_copied, copied, has_copied, place_copied}
+use Rattle.raft_log_forked.proofs.Copies.{ForksQueue, absent_copied}
 
 -- What is read of a file is so in whatever directories it lies.
 module _ (queue : LogQueue) (from to : List (List ℕ)) where
@@ -45,18 +40,15 @@ module _ (queue : LogQueue) (from to : List (List ℕ)) where
 same_some : (i j : ℕ) → Some i ≡ Some j → i ≡ j
 same_some i j e = cc
 
-module _ (queue : LogQueue) (directories : List (List ℕ)) (target : List ℕ) (old new : Disk) (files : List SourceFile) (are : AreSources directories old files) (copies : CopiesAll target files old new) (free : IsFreeOf target old) (home : new.directories target ≡ true) where
-  copy_at : (m : ℕ) (path : List ℕ) (id : ℕ) → IsPathWith (suffix_of queue) (target ∷ []) m path → new.names path ≡ Some id → IsCopy queue directories target old new m path id
-  copy_at m path id at named = copied queue directories target old new files are copies free home m path id at named
-
+module _ (queue : LogQueue) (directories : List (List ℕ)) (target : List ℕ) (old new : Disk) (forks : ForksQueue queue directories target old new) where
   stopped_copied : (q : LogFiles LogRecord) → IsStopped (log_layout queue directories) q old → IsStopped (log_layout queue (target ∷ [])) q new
   stopped_copied q left =
       let s = left.stands in
       let was : (path : List ℕ) (id : ℕ) → old.names path ≡ Some id → left.N path ≡ Some id = λ path id is. ap (λ (f : Names). f path) (sym s.names) ∙ is in
       let here = path_in target queue q.last in
       let at = path_is target queue q.last s.bound in
-      let has = has_copied queue directories target old new files are copies free home q.last (record { path = left.path; at = s.at; id = left.id; named = ap (λ (f : Names). f left.path) s.names ∙ s.named }) in
-      let last = copy_at q.last here has.id at has.named in
+      let has = forks.has q.last (record { path = left.path; at = s.at; id = left.id; named = ap (λ (f : Names). f left.path) s.names ∙ s.named }) in
+      let last = forks.copied q.last here has.id at has.named in
       let one : last.from ≡ left.id = s.alone last.source last.from last.at (was last.source last.from last.named) in
       let file : s.file.file ≡ last.file = same_file old left.id s.file.file last.file s.file.is (ap (λ (n : ℕ). old.files n) (sym one) ∙ last.is) in
       record {
@@ -68,19 +60,19 @@ module _ (queue : LogQueue) (directories : List (List ℕ)) (target : List ℕ) 
           bound = s.bound;
           at = at;
           named = has.named;
-          alone = λ other j there is. (let c = copy_at q.last other j there is in same_some j has.id (sym is ∙ ap (λ (p : List ℕ). new.names p) c.here ∙ has.named));
-          none = λ m other above less there. absent_copied queue directories target old new files are copies free home m (λ path at_path. ap (λ (f : Names). f path) s.names ∙ s.none m path above less at_path) other there;
+          alone = λ other j there is. (let c = forks.copied q.last other j there is in same_some j has.id (sym is ∙ ap (λ (p : List ℕ). new.names p) c.here ∙ has.named));
+          none = λ m other above less there. absent_copied queue directories target old new forks m (λ path at_path. ap (λ (f : Names). f path) s.names ∙ s.none m path above less at_path) other there;
           headed = s.headed;
-          places = λ m other less there. place_copied queue directories target old new files are copies free home m other there;
+          places = λ m other less there. forks.places m other there;
           file = record { file = at_rest last.file.content; is = last.stands; has = leftover queue directories (target ∷ []) q last.file (subst (IsLeftover (log_format queue directories) q) file s.file.has) };
           older = λ m j other below there is.
-              (let c = copy_at m other j there is in
+              (let c = forks.copied m other j there is in
               let before = s.older m c.from c.source below c.at (was c.source c.from c.named) in
               let same : before.file ≡ c.file = same_file old c.from before.file c.file before.is c.is in
               record { file = at_rest c.file.content; is = c.stands; has = past queue directories (target ∷ []) m (q.older m) c.file (subst (IsPast (log_format queue directories) m (q.older m)) same before.has) });
           single = λ m i j a b below at_a at_b is_a is_b.
-              (let x = copy_at m a i at_a is_a in
-              let y = copy_at m b j at_b is_b in
+              (let x = forks.copied m a i at_a is_a in
+              let y = forks.copied m b j at_b is_b in
               same_some i j (sym is_a ∙ ap (λ (p : List ℕ). new.names p) (x.here ∙ sym y.here) ∙ is_b));
           others = record { directories = refl; names = λ p other. refl; files = λ p j other is. refl };
         };
@@ -88,14 +80,14 @@ module _ (queue : LogQueue) (directories : List (List ℕ)) (target : List ℕ) 
 
   span_copied : (begin end : ℕ) → AreThere (log_format queue directories) begin end old → AreThere (log_format queue (target ∷ [])) begin end new
   span_copied begin end there m from below =
-      let has = has_copied queue directories target old new files are copies free home m (there m from below) in
+      let has = forks.has m (there m from below) in
       record { path = path_in target queue m; at = path_is target queue m has.small; id = has.id; named = has.named }
 
   unbegun_copied : (q : Spanned LogRecord) → IsUnbegun (log_layout queue directories) q old → IsUnbegun (log_layout queue (target ∷ [])) q new
   unbegun_copied q is = record {
     fresh = record {
-      none = λ m less. absent_copied queue directories target old new files are copies free home m (is.fresh.none m less);
-      places = λ m path less at. place_copied queue directories target old new files are copies free home m path at;
+      none = λ m less. absent_copied queue directories target old new forks m (is.fresh.none m less);
+      places = λ m path less at. forks.places m path at;
       others = record { directories = refl; names = λ p other. refl; files = λ p j other named. refl };
     };
     is = is.is;
@@ -118,5 +110,5 @@ module _ (queue : LogQueue) (directories : List (List ℕ)) (target : List ℕ) 
     synced = is.synced;
     pending = is.pending;
     behind = is.behind;
-    gap = λ m next. absent_copied queue directories target old new files are copies free home m (is.gap m next);
+    gap = λ m next. absent_copied queue directories target old new forks m (is.gap m next);
   }

@@ -1,3 +1,4 @@
 pub mod Leaving
 pub mod Resting
 pub mod Opening
+pub mod Left

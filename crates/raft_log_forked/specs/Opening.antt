@@ -25,4 +25,5 @@ abbrev pub ForksOpenAsTheirSource : {F : Type 0} → (F → Disk) → (F → Lis
 ForksOpenAsTheirSource {F} disk tells = (config to : Config) (target : List ℕ) (copied : List (List ℕ))
     (old now : F) (m : LogMap) → IsSound (disk old) → IsSound (disk now) → NamesOnly to target
     → IsClear target (disk old) → LogRestsOn (log_in (home_of config)) (disk old) m
-    → Forks (settings_of config) target copied (disk old) (disk now) → OpenAlike disk tells config to old now m
+    → Forks (settings_of config) target copied (disk old) (disk now)
+    → OpenAlike disk tells config to old now m

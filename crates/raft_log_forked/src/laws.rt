@@ -1,6 +1,7 @@
 //! The way from a log at rest to an engine that is opened over its fork.
 
 ghost use Rattle.raft_log_forked.specs.Leaving.{ForksLeaveTheSource};
+ghost use Rattle.raft_log_forked.specs.Left.{ClosedEnginesAreLeft, LeftLogsAreForked};
 ghost use Rattle.raft_log_forked.specs.Opening.{ForksOpenAsTheirSource};
 ghost use Rattle.raft_log_forked.specs.Resting.{ForkedLogsRest};
 
@@ -21,4 +22,15 @@ pub fn forked_logs_rest()
 /// whether before the fork or after it; and where either isn't opened, the log is left with its map.
 pub fn forks_open_as_their_source<F: FileSystem>()
     ensures { ForksOpenAsTheirSource F.disk F.tells_space }
+{}
+
+/// A fork of what an engine left, with no crash and no open between, is the map after some first pending
+/// batches, as the source is at a restart that loses nothing; and so it is opened.
+pub fn left_logs_are_forked<F: FileSystem>()
+    ensures { LeftLogsAreForked F.disk F.tells_space }
+{}
+
+/// A close of an engine leaves its log so, whatever was refused meanwhile.
+pub fn closed_engines_are_left()
+    ensures { ClosedEnginesAreLeft }
 {}

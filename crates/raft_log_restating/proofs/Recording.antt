@@ -1,0 +1,42 @@
+-- Records that are written to Rewrite, or refused there.
+use Rattle.std.proofs.Common.{◌≡◌, ℕ, List, false, inl, inr, refl, sym, ap, subst, ◌∙◌}
+use Rattle.std.specs.Prelude.{Err, Ok}
+use Rattle.raft_log_disk.specs.Causes.{IsLater}
+use Rattle.raft_log_base.specs.declared.errors.Error.{Error}
+use Rattle.raft_log_base.specs.declared.pipe_log.FileBlockHandle.{FileBlockHandle}
+use Rattle.raft_log_items.specs.declared.item.LogItem.{LogItem}
+use Rattle.raft_log_items.specs.Placed.{written}
+use Rattle.raft_log_records.specs.Batch.{Batch, block_place}
+use Rattle.raft_log_signed_batch.specs.Signing.{signed_for}
+use Rattle.raft_log_directory.specs.Calls.Which.{InRewrite}
+use Rattle.raft_log_dual_pipes.specs.Pipes.{LogPipes}
+use Rattle.raft_log_dual_pipes.specs.Calls.{AppendsTo, FailsToAppendTo, TellsFailure}
+use Rattle.raft_log_rewriting.specs.Parts.{IsRecordMade}
+use Rattle.raft_log_rewriting.proofs.Parts.{alive_ok, later_on, same_record, tells_err}
+use Rattle.raft_log_restating.specs.Records.{FailsToWrite, MaySync, StaysAlive, WritesRecord}
+
+module _ (b made : Batch) (v mid w : LogPipes) (syncs : MaySync v mid) (is : IsRecordMade b made) (before : IsLater v.disk mid.disk) (later : IsLater mid.disk w.disk) where
+  pub record_written : (block : FileBlockHandle) (items : List LogItem) → TellsFailure (Ok block) w → AppendsTo InRewrite (signed_for made) block mid w → items ≡ written (block_place block b.entries) b.items → WritesRecord b block items v w
+  record_written block items tells call there = record {
+    synced = mid;
+    syncs = syncs;
+    says = is.says;
+    laid = is.laid;
+    call = subst (λ s. AppendsTo InRewrite s block mid w) (same_record b made is) call;
+    there = there;
+    alive = alive_ok block w tells;
+    later = later_on v.disk mid.disk w.disk before later;
+  }
+
+  pub record_refused : {A : Type 0} (error : Error) → TellsFailure {A = A} (Err error) w → FailsToAppendTo InRewrite (signed_for made) error mid w → FailsToWrite b error v w
+  record_refused {A} error tells call = record {
+    why = inr (inr (record {
+      synced = mid;
+      syncs = syncs;
+      says = is.says;
+      laid = is.laid;
+      call = subst (λ s. FailsToAppendTo InRewrite s error mid w) (same_record b made is) call;
+    }));
+    tells = λ lived. tells_err {A = A} error w tells;
+    later = later_on v.disk mid.disk w.disk before later;
+  }

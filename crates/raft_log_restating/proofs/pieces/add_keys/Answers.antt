@@ -1,0 +1,21 @@
+use Rattle.std.proofs.Common.{◌≡◌, ℕ, false, List, subst, arith}
+use Rattle.raft_log_atomic_groups.specs.Key.{is_internal}
+use Rattle.raft_log_records.specs.Batch.{Puts}
+use Rattle.raft_log_rewriting.proofs.KeysCopied.{is_users}
+use Rattle.raft_log_restating.proofs.Building.{all_keys, key_more, no_keys}
+use Rattle.raft_log_restating.proofs.pieces.add_keys.Goals as goal
+
+pub loop-pair-init : goal.loop-pair-init
+loop-pair-init c = no_keys c.args.group c.args.batch.now c.requires
+
+pub loop-pair-preserved : goal.loop-pair-preserved
+loop-pair-preserved c =
+    let key : c.as_slice.result.now ≡ c.pair-item.result.0 = c.as_slice.ensures in
+    let value : c.as_slice-in-loop-pair.result.now ≡ c.pair-item.result.1 = c.as_slice-in-loop-pair.ensures in
+    let users = subst (λ (k : List ℕ). is_internal k ≡ false) key (is_users c.put.result c.in_ok-put.field-0 c.as_slice.result.now c.in_ok-put.was c.put.ensures.internal) in
+    key_more c.args.group c.args.pairs.now c.loop-pair.pair-index c.pair-item.result c.pair-item.result c.args.batch.now c.loop-pair.batch c.put.new.self c.loop-pair-test.true c.pair-item.is c.loop-pair.invariant users
+    (subst (λ (w : List ℕ). Puts c.loop-pair.batch c.put.new.self c.args.group c.pair-item.result.0 w) value
+    (subst (λ (k : List ℕ). Puts c.loop-pair.batch c.put.new.self c.args.group k c.as_slice-in-loop-pair.result.now) key c.in_ok-put.ensures.ok))
+
+pub returns : goal.returns
+returns c = all_keys c.args.group c.args.pairs.now c.loop-pair.pair-index c.args.batch.now c.loop-pair.batch (omega (arith, c.loop-pair-test.false)) c.loop-pair.invariant

@@ -1,0 +1,5 @@
+pub mod Pieces
+pub mod Records
+pub mod Restated
+pub mod Parts
+pub mod Steps

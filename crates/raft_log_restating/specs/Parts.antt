@@ -1,0 +1,72 @@
+-- The parts of an atomic group in which a group is restated.
+use Rattle.std.specs.Prelude.{◌≡◌, ◌+◌, ◌<◌, ◌≤◌, ℕ, false, List, [], ◌∷◌, ◌++◌, length}
+use Rattle.raft_log_disk.specs.Causes.{IsLater}
+use Rattle.raft_log_base.specs.declared.errors.Error.{Error}
+use Rattle.raft_log_base.specs.declared.errors.Error.TheVariants as errors
+use Rattle.raft_log_items.specs.declared.item.LogItem.{LogItem}
+use Rattle.raft_log_items.specs.Placed.{written}
+use Rattle.raft_log_atomic_groups.specs.declared.status.AtomicGroupStatus.{AtomicGroupStatus}
+use Rattle.raft_log_atomic_groups.specs.declared.marking.Marking.TheVariants.{Part}
+use Rattle.raft_log_atomic_groups.specs.Marking.{marking_of_items}
+use Rattle.raft_log_atomic_groups.specs.Meaning.{tagged_items}
+use Rattle.raft_log_records.specs.declared.log_batch.BatchState.TheVariants.{Filling}
+use Rattle.raft_log_records.specs.Batch.{Batch, block_place}
+use Rattle.raft_log_replay.specs.declared.mem_tables.MemTables.{MemTables}
+use Rattle.raft_log_replay.specs.Rewriting.{MayMove}
+use Rattle.raft_log_engine_state.specs.Shows.{Home, LogMap, Shows, has_failed}
+use Rattle.raft_log_engine_state.specs.Holding.{Holds}
+use Rattle.raft_log_group_state.specs.Parts.{HoldsInGroup, UnendedGroup, WrittenPart, parts_of}
+use Rattle.raft_log_group_state.specs.Restating.{entries_of_pieces}
+use Rattle.raft_log_rewriting.specs.Entries.{AreBytesAt}
+use Rattle.raft_log_restating.specs.declared.parts.RestatedPart.{RestatedPart}
+use Rattle.raft_log_restating.specs.Pieces.{IsPiece}
+use Rattle.raft_log_restating.specs.Restated.{last_file}
+
+-- the parts say these entries of a group, piece by piece, from an index on; none is empty
+abbrev pub ArePieces : ℕ → ℕ → List (List (List ℕ)) → List WrittenPart → Type 0
+ArePieces g f [] [] = Unit {0}
+ArePieces g f (es ∷ more) (p ∷ ps) =
+    (0 < length es) × IsPiece g f es [] p.batch × ArePieces g (f + length es) more ps
+ArePieces g f pieces ps = ⊥
+
+-- what is kept of the parts: the place of each, and its items there
+abbrev pub AreKept : List RestatedPart → List WrittenPart → Type 0
+AreKept [] [] = Unit {0}
+AreKept (x ∷ xs) (p ∷ ps) =
+    (x.block ≡ p.block) × (x.items.items ≡ written (block_place p.block p.batch.entries) p.batch.items)
+    × AreKept xs ps
+AreKept xs ps = ⊥
+
+-- the items of all of them
+abbrev pub items_of_all : List RestatedPart → List LogItem
+items_of_all [] = []
+items_of_all (x ∷ xs) = x.items.items ++ items_of_all xs
+
+-- there is room in the tables for what the parts have to move
+abbrev pub HaveRoom : MemTables → List RestatedPart → Type 0
+HaveRoom m parts = MayMove m (tagged_items (λ e. e) (items_of_all parts))
+
+-- the batch is this part of the atomic group, is being filled, and says entries of a group and its keys
+pub record IsMarkedPiece (g f number : ℕ) (status : AtomicGroupStatus) (bytes : List (List ℕ))
+    (pairs : List (List ℕ × List ℕ)) (b : Batch) : Type 0 where
+  pub state : b.state ≡ Filling
+  pub piece : IsPiece g f bytes pairs b
+  pub part : marking_of_items b.items ≡ Part number status
+  pub some : b.items ≡ [] → ⊥
+
+-- An atomic group stands open whose parts say a group's first rewritten entries, so many; nothing of it
+-- counts yet, and the tables show what they showed.
+pub record HasParts (g number done : ℕ) (parts : List RestatedPart) (s t : Shows) : Type 0 where
+  pub group : UnendedGroup
+  pub numbered : group.number ≡ number
+  pub pieces : List (List (List ℕ))
+  pub are : ArePieces g (s.tables g).first pieces (parts_of group)
+  pub kept : AreKept parts (parts_of group)
+  pub many : length (entries_of_pieces pieces) ≡ done
+  pub same : t ≡ record s { pipes = t.pipes; cache = t.cache }
+  pub alive : has_failed t ≡ false
+  pub later : IsLater s.pipes.disk t.pipes.disk
+  pub stands : (home : Home) (m : LogMap) → Holds home s m [] → HoldsInGroup home t m group
+  pub bytes : (home : Home) (m : LogMap) → Holds home s m []
+      → AreBytesAt m g (s.tables g).first (entries_of_pieces pieces)
+  pub low : (home : Home) (m : LogMap) → Holds home s m [] → last_file s ≤ group.first.block.id.seq

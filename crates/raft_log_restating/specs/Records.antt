@@ -1,0 +1,55 @@
+-- A record is written to Rewrite, where that is due behind a sync.
+use Rattle.std.specs.Prelude.{◌≡◌, ◌⊎◌, ◌↔◌, IsTrue, ℕ, false, List}
+use Rattle.raft_log_disk.specs.Causes.{IsLater}
+use Rattle.raft_log_base.specs.declared.errors.Error.{Error}
+use Rattle.raft_log_base.specs.declared.errors.Error.TheVariants as errors
+use Rattle.raft_log_base.specs.declared.pipe_log.FileBlockHandle.{FileBlockHandle}
+use Rattle.raft_log_items.specs.declared.item.LogItem.{LogItem}
+use Rattle.raft_log_items.specs.Placed.{written}
+use Rattle.raft_log_records.specs.Batch.{Batch, block_place}
+use Rattle.raft_log_signed_batch.specs.Signing.{SaysItself, signed_for}
+use Rattle.raft_log_directory.specs.Calls.Which.{InRewrite}
+use Rattle.raft_log_dual_pipes.specs.Pipes.{LogPipes, is_failed}
+use Rattle.raft_log_dual_pipes.specs.Calls.{AppendsTo, FailsToAppendTo, FailsToSyncQueue, SyncsQueue}
+use Rattle.raft_log_engine_state.specs.Shows.{IsLaidOut}
+use Rattle.raft_log_rewriting.specs.Parts.{IsUnmade}
+
+-- Rewrite was synced, or nothing was done
+abbrev pub MaySync : LogPipes → LogPipes → Type 0
+MaySync v w = (w ≡ v) ⊎ SyncsQueue InRewrite v w
+
+-- pipes that hadn't failed haven't
+abbrev pub StaysAlive : LogPipes → LogPipes → Type 0
+StaysAlive v w = is_failed v ≡ false → is_failed w ≡ false
+
+-- The batch's record was written to Rewrite, maybe behind a sync: these are its items there.
+pub record WritesRecord (b : Batch) (block : FileBlockHandle) (items : List LogItem) (v w : LogPipes)
+    : Type 0 where
+  pub synced : LogPipes
+  pub syncs : MaySync v synced
+  pub says : SaysItself (signed_for b) b
+  pub laid : IsLaidOut b
+  pub call : AppendsTo InRewrite (signed_for b) block synced w
+  pub there : items ≡ written (block_place block b.entries) b.items
+  pub alive : is_failed w ≡ false
+  pub later : IsLater v.disk w.disk
+
+-- Rewrite refused it, behind what may have been a sync
+pub record RefusesRecord (b : Batch) (error : Error) (v w : LogPipes) : Type 0 where
+  pub synced : LogPipes
+  pub syncs : MaySync v synced
+  pub says : SaysItself (signed_for b) b
+  pub laid : IsLaidOut b
+  pub call : FailsToAppendTo InRewrite (signed_for b) error synced w
+
+-- why it wasn't written: it isn't made; or the sync failed; or Rewrite refused it
+abbrev pub IsUnwritten : Batch → Error → LogPipes → LogPipes → Type 0
+IsUnwritten b error v w = (IsUnmade error × (w ≡ v))
+    ⊎ (((error ≡ errors.Failed) × FailsToSyncQueue InRewrite v w)
+    ⊎ RefusesRecord b error v w)
+
+-- it wasn't written: the pipes have failed now exactly where that is told
+pub record FailsToWrite (b : Batch) (error : Error) (v w : LogPipes) : Type 0 where
+  pub why : IsUnwritten b error v w
+  pub tells : is_failed v ≡ false → IsTrue (is_failed w) ↔ (error ≡ errors.Failed)
+  pub later : IsLater v.disk w.disk

@@ -1,0 +1,78 @@
+-- Groups are restated: all that they have in Rewrite is written there again.
+use Rattle.std.specs.Prelude.{◌≡◌, ◌⊎◌, ◌<◌, ◌≤◌, ◌==◌, ℕ, Bool, true, false, List, [], ◌∷◌, Option, Some, None, take}
+use Rattle.std.specs.List.{list_any}
+use Rattle.raft_log_disk.specs.Causes.{IsLater}
+use Rattle.raft_log_base.specs.declared.errors.Error.{Error}
+use Rattle.raft_log_base.specs.declared.errors.Error.TheVariants as errors
+use Rattle.raft_log_base.specs.declared.pipe_log.LogQueue.TheVariants.{Rewrite}
+use Rattle.raft_log_places.specs.declared.place.Place.{Place}
+use Rattle.raft_log_places.specs.declared.group_files.GroupFiles.{GroupFiles}
+use Rattle.raft_log_places.specs.Shown.{KeyValue, Shown}
+use Rattle.raft_log_engine_state.specs.Shows.{Home, LogMap, Shows, has_failed}
+use Rattle.raft_log_engine_state.specs.Holding.{Holds, IsLeftAt}
+use Rattle.raft_log_rewriting.specs.Stale.{written_file}
+
+-- the places lie in files from that one on
+abbrev pub AllFrom : ℕ → List Place → Type 0
+AllFrom n [] = Unit {0}
+AllFrom n (p ∷ ps) = (n ≤ p.file) × AllFrom n ps
+
+-- no noted group reaches to that file, unless it lies from there on
+abbrev pub IsNotedFrom : ℕ → Option GroupFiles → Type 0
+IsNotedFrom n None = Unit {0}
+IsNotedFrom n (Some files) = (files.to < n) ⊎ (n ≤ files.from)
+
+-- All that the group has in Rewrite lies in files from that one on: its entries and its values there; and so
+-- does what is noted, if it didn't reach there before.
+pub record IsRestatedFrom (n : ℕ) (v w : Shown) : Type 0 where
+  pub entries : AllFrom n (take w.rewritten w.places)
+  pub values : (k : List ℕ) (h : KeyValue) → w.held k ≡ Some h → h.appended ≡ false → n ≤ h.file
+  pub noted : IsNotedFrom n v.noted → IsNotedFrom n w.noted
+
+-- the file of Rewrite that is written
+abbrev pub last_file : Shows → ℕ
+last_file s = written_file Rewrite s.pipes
+
+-- whatever the log was, with nothing pending, it is so
+abbrev pub StaysHeld : Shows → Shows → Type 0
+StaysHeld s t = (home : Home) (m : LogMap) → Holds home s m [] → Holds home t m []
+
+-- so it is; or the engine has failed, and its log is held
+abbrev pub StaysOrIsLeft : Error → Shows → Shows → Type 0
+StaysOrIsLeft error s t = (home : Home) (m : LogMap) → Holds home s m []
+    → Holds home t m [] ⊎ ((error ≡ errors.Failed) × IsLeftAt home t.pipes.disk m [])
+
+-- Each group that passes the test was restated: all that it has in Rewrite lies from the file on that was
+-- written when that began. Other groups show as they did.
+pub record Restates (test : ℕ → Bool) (s t : Shows) : Type 0 where
+  pub others : (g : ℕ) → test g ≡ false → t.tables g ≡ s.tables g
+  pub counts : t.counts ≡ s.counts
+  pub alive : has_failed s ≡ false → has_failed t ≡ false
+  pub later : IsLater s.pipes.disk t.pipes.disk
+  pub holds : StaysHeld s t
+  pub rises : (home : Home) (m : LogMap) → Holds home s m [] → last_file s ≤ last_file t
+  pub from : (home : Home) (m : LogMap) → Holds home s m [] → (g : ℕ) → test g ≡ true
+      → IsRestatedFrom (last_file s) (s.tables g) (t.tables g)
+
+-- one group was restated
+abbrev pub RestatesOne : ℕ → Shows → Shows → Type 0
+RestatesOne group s t = Restates (λ g. group == g) s t
+
+-- It wasn't: all that shows of the tables shows as it did.
+pub record FailsToRestate (error : Error) (s t : Shows) : Type 0 where
+  pub same : t ≡ record s { pipes = t.pipes; cache = t.cache }
+  pub failed : has_failed s ≡ false → has_failed t ≡ true → error ≡ errors.Failed
+  pub later : IsLater s.pipes.disk t.pipes.disk
+  pub remains : StaysOrIsLeft error s t
+
+-- each of these groups was restated
+abbrev pub RestatesEach : List ℕ → Shows → Shows → Type 0
+RestatesEach groups s t = Restates (λ g. list_any (λ k. k == g) groups) s t
+
+-- or not all of them
+pub record StopsRestating (groups : List ℕ) (error : Error) (s t : Shows) : Type 0 where
+  pub others : (g : ℕ) → list_any (λ k. k == g) groups ≡ false → t.tables g ≡ s.tables g
+  pub counts : t.counts ≡ s.counts
+  pub failed : has_failed s ≡ false → has_failed t ≡ true → error ≡ errors.Failed
+  pub later : IsLater s.pipes.disk t.pipes.disk
+  pub remains : StaysOrIsLeft error s t

@@ -5,3 +5,4 @@ pub mod Readies
 pub mod Opens
 pub mod InPlace
 pub mod Uncut
+pub mod Flushed

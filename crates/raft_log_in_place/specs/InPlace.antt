@@ -1,11 +1,17 @@
 -- A log whose engine failed is opened in place: no crash came between, so its last files may have bytes that
 -- aren't synced, which the open reads as they stand.
-use Rattle.std.specs.Prelude.{◌≡◌, ℕ, ◌≤◌, List, [], length, take}
+use Rattle.std.specs.Prelude.{◌≡◌, ℕ, ◌<◌, ◌≤◌, List, [], length, take}
 use Rattle.raft_log_model.specs.Groups.{taken}
 use Rattle.raft_log_base.specs.declared.errors.Error.{Error}
 use Rattle.raft_log_base.specs.declared.pipe_log.LogQueue.TheVariants.{Append, Rewrite}
-use Rattle.raft_log_disk.specs.Disk.{Disk}
-use Rattle.raft_log_disk.specs.Image.{as_it_stands, IsSound}
+use Rattle.raft_log_base.specs.declared.pipe_log.LogQueue.{LogQueue}
+use Rattle.raft_log_disk.specs.Calls.{flushed}
+use Rattle.raft_log_disk.specs.Disk.{File, Disk}
+use Rattle.raft_log_disk.specs.LogFormat.{NoChanceInFile}
+use Rattle.raft_log_disk.specs.LogQueue.{HoldsLast, LogFiles}
+use Rattle.raft_log_layout.specs.Layout.{log_format}
+use Rattle.raft_log_layout.specs.declared.record.LogRecord.{LogRecord}
+use Rattle.raft_log_disk.specs.Image.{as_it_stands, IsSound, IsSoundFile}
 use Rattle.raft_log_settings.specs.declared.config.Config.{Config}
 use Rattle.raft_log_replay.specs.declared.mem_tables.MemTables.{MemTables}
 use Rattle.raft_log_contexts.specs.declared.context.MemTableRecoverContext.{MemTableRecoverContext}
@@ -83,3 +89,12 @@ abbrev pub UncutLogsStay : Type 0
 UncutLogsStay = (config : Config) (d : Disk) (m : LogMap) (pending : List Said)
     → IsLeftAt (home_of config) d m pending → (new : Disk) → StopsUncut config d new
     → IsLeftAt (home_of config) new m pending
+
+-- A sync of the last file of a queue, as it stands without a checksum met by chance, takes no record back: the
+-- file holds what was durable and what was pending still, however much of that was read.
+abbrev pub SyncedFilesHoldStill : Type 0
+SyncedFilesHoldStill = (queue : LogQueue) (directories : List (List ℕ)) → 0 < length directories
+    → (q : LogFiles LogRecord) (file : File) → IsSoundFile file
+    → NoChanceInFile (log_format queue directories) q.last q.header q.stale file file.content
+    → HoldsLast (log_format queue directories) q file
+    → HoldsLast (log_format queue directories) q (flushed file)

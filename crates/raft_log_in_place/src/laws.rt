@@ -1,6 +1,7 @@
 //! A log is opened in place.
 
-ghost use Rattle.raft_log_in_place.specs.InPlace.{StandingDirectoriesOpen, StandingLogsReopen, UncutLogsStay};
+ghost use Rattle.raft_log_in_place.specs.InPlace.{StandingDirectoriesOpen, StandingLogsReopen};
+ghost use Rattle.raft_log_in_place.specs.InPlace.{SyncedFilesHoldStill, UncutLogsStay};
 
 use raft_log_disk::FileSystem;
 
@@ -20,4 +21,9 @@ pub fn standing_directories_open<F: FileSystem>()
 /// left as it was, with the batches that were pending.
 pub fn uncut_logs_stay()
     ensures { UncutLogsStay }
+{}
+
+/// A sync of a queue's last file, as it stands, takes none of its records back, those that were pending neither.
+pub fn synced_files_hold_still()
+    ensures { SyncedFilesHoldStill }
 {}

@@ -13,7 +13,7 @@ use window::{check_block, next_batch, open, Window, MAGIC};
 use std::collections::BTreeMap;
 use std::time::Instant;
 
-const TOTAL: usize = 64 << 20;
+const TOTAL: usize = 4 << 20;
 
 fn header_of() -> Vec<u8> {
     let mut bytes = MAGIC.to_vec();

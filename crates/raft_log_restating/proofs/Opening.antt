@@ -349,3 +349,12 @@ module _ (g number done : ℕ) (parts : List RestatedPart) (s : Shows) (v w : Lo
 
   pub fails_shown : (error : Error) → FailsToRestate error s (at_pipes s w new) → FailsToRestate error s (shows w m new)
   fails_shown error h = subst (FailsToRestate error s) shown_same h
+
+-- a group that stands open may be given up at any time
+pub given_up : (g number done : ℕ) (parts : List RestatedPart) (s t : Shows) → HasParts g number done parts s t → (error : Error) → FailsToRestate error s t
+given_up g number done parts s t has error = record {
+  same = has.same;
+  failed = λ lived hit. absurd (false≢true (sym has.alive ∙ hit));
+  later = has.later;
+  remains = λ home m h. inl (has.stands home m h).holds;
+}

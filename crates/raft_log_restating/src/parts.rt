@@ -7,7 +7,7 @@ ghost use Rattle.raft_log_restating.specs.Records.{FailsToWrite, WritesRecord};
 ghost use Rattle.raft_log_restating.specs.declared.parts.RestatedPart.{RestatedPart};
 ghost use Rattle.raft_log_restating.specs.Steps.{BeginsParts, FailsToBegin, GivesUp, GoesOn, MakesLast};
 
-use crate::pieces::piece_of;
+use crate::pieces::{piece_len, piece_of};
 use crate::records::{WrittenRecord, write_record};
 use log::Log;
 use raft_log_base::{FileBlockHandle, Result};
@@ -61,6 +61,45 @@ pub fn begin_parts<P: PipeLog, L: Log>(
     )?;
     builder.begin(alloc, &mut batch)?;
     write_part(alloc, rt, pipes, batch, unsynced)
+}
+
+/// Goes on with an atomic group by parts that have the entries from there on, but for those that the last part
+/// is to have: the answer is where these begin.
+///
+/// Refused as `write_middle`: the group is given up.
+pub fn write_middles<P: PipeLog, L: Log>(
+    alloc: Global,
+    rt: &L,
+    pipes: &mut P,
+    cache: &mut BlockCache,
+    builder: &mut AtomicGroupBuilder,
+    group: u64,
+    entries: &[EntryIndex],
+    begin: usize,
+    parts: &mut Vec<RestatedPart>,
+    unsynced: &mut u64,
+) -> Result<usize>
+    requires within { begin < length entries.now }
+    requires open { IsOpen builder.old.status }
+    ensures ok { IfOk result (λ done. GoesOn group builder.old.id entries.now begin done parts.old.items
+        parts.new.items (P.shown pipes.old) cache.old (P.shown pipes.new) cache.new) }
+    ensures err { IfErr result (λ error. GivesUp group builder.old.id entries.now begin parts.old.items error
+        (P.shown pipes.old) cache.old (P.shown pipes.new) cache.new) }
+    ensures left { IfOk result (λ done. done < length entries.now) }
+    ensures open { OnOk result (IsOpen builder.new.status) }
+    ensures same { OnOk result (builder.new.id ≡ builder.old.id) }
+{
+    let mut done = begin;
+    let mut count = piece_len(&entries[done..]);
+    while count < entries.len() - done {
+        let part = write_middle(
+            alloc, rt, pipes, cache, builder, group, entries, done, count, unsynced,
+        )?;
+        parts.push(part)?;
+        done += count;
+        count = piece_len(&entries[done..]);
+    }
+    Ok(done)
 }
 
 /// Goes on with an atomic group by a part that has so many entries from there on.

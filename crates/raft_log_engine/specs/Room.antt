@@ -22,3 +22,7 @@ IsUnfitItself b _ = ⊥
 -- why a batch wasn't put, and what is so then: it isn't taken, and nothing was done; or the pipes refused
 abbrev pub PutFails : Batch → Error → Shows → Shows → Type 0
 PutFails b error s t = (IsUnfit b s.tables error × (t ≡ s)) ⊎ Refuses b error s t
+
+-- a batch that may be written may be so afterwards: its record isn't signed for a file
+abbrev pub StaysWritable : Batch → Batch → Type 0
+StaysWritable old new = IsWritable old.state → IsWritable new.state

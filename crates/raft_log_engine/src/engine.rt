@@ -43,7 +43,7 @@ impl<P: PipeLog> Engine<P> {
     };
     ghost use Rattle.raft_log_records.specs.Batch.{emptied, IsButBuffer, IsReadyForEach};
     ghost use Rattle.raft_log_engine.specs.Reads.{shows_of};
-    ghost use Rattle.raft_log_engine.specs.Room.{PutFails};
+    ghost use Rattle.raft_log_engine.specs.Room.{PutFails, StaysWritable};
     ghost use Rattle.std.specs.Prelude.{false, true};
     ghost use Rattle.raft_log_disk.specs.Causes.{IsLater};
     ghost use Rattle.raft_log_dual_pipes.specs.Closing.{ClosesLog};
@@ -96,6 +96,7 @@ impl<P: PipeLog> Engine<P> {
             (shows_of P.shown self.old) (shows_of P.shown self.new)) }
         ensures emptied { OnOk result (IsEmptied batch.old batch.new) }
         ensures kept { IfErr result (λ error. IsKeptUnlessFailed error batch.old batch.new) }
+        ensures again { StaysWritable batch.old batch.new }
     {
         if self.is_failed() {
             return Err(Error::Failed);
@@ -133,6 +134,7 @@ impl<P: PipeLog> Engine<P> {
             (shows_of P.shown self.old) (shows_of P.shown self.new)) }
         ensures emptied { OnOk result (IsButBuffer (emptied batch.old) batch.new) }
         ensures kept { OnErr result (IsKept batch.old batch.new) }
+        ensures again { StaysWritable batch.old batch.new }
     {
         let alloc = self.alloc;
         match writing::make_room(alloc, &mut self.tables, batch) {

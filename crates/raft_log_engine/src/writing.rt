@@ -20,7 +20,7 @@ ghost use Rattle.raft_log_signed_batch.specs.Signing.{signed_for};
 ghost use Rattle.raft_log_engine_state.specs.Trying.{IsNoSpace, RefusesAt, WritesAt};
 ghost use Rattle.raft_log_engine_state.specs.Shows.{shows, IsWellMarked, IsWritable};
 ghost use Rattle.raft_log_engine_state.specs.Writing.{items_at, IsKept, IsUnfit, Refuses, Writes};
-ghost use Rattle.raft_log_engine.specs.Room.{HasRoomFor, IsUnfitItself};
+ghost use Rattle.raft_log_engine.specs.Room.{HasRoomFor, IsUnfitItself, StaysWritable};
 
 use log::Log;
 use raft_log_atomic_groups::Marking;
@@ -48,6 +48,7 @@ pub fn make_room(alloc: Global, tables: &mut MemTables, batch: &mut LogBatch) ->
     ensures shows { ShowsSame tables.old tables.new }
     ensures ok { OnOk result (IsReadyFor tables.new (tagged_items (λ e. e) batch.old.items)) }
     ensures kept { IsKept batch.old batch.new }
+    ensures again { StaysWritable batch.old batch.new }
     ensures made { OnOk result (batch.new.state ≡ Populated) }
     ensures marked { OnOk result (IsWellMarked batch.old) }
     ensures room { IfOk result (HasRoomFor batch.old) }
@@ -68,6 +69,7 @@ pub fn make_room(alloc: Global, tables: &mut MemTables, batch: &mut LogBatch) ->
 fn populate(batch: &mut LogBatch) -> Result<()>
     requires { IsWritable batch.old.state }
     ensures kept { IsKept batch.old batch.new }
+    ensures again { IsWritable batch.new.state }
     ensures made { OnOk result (batch.new.state ≡ Populated) }
     ensures errors { IfErr result (λ e. IsMemoryOrFull e (record_len batch.old.items batch.old.entries)) }
 {

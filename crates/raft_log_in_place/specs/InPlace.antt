@@ -1,6 +1,7 @@
 -- A log whose engine failed is opened in place: no crash came between, so its last files may have bytes that
 -- aren't synced, which the open reads as they stand.
 use Rattle.std.specs.Prelude.{◌≡◌, ℕ, ◌<◌, ◌≤◌, List, [], length, take}
+use Rattle.std.specs.declared.io.ErrorKind.{ErrorKind}
 use Rattle.raft_log_model.specs.Groups.{taken}
 use Rattle.raft_log_base.specs.declared.errors.Error.{Error}
 use Rattle.raft_log_base.specs.declared.pipe_log.LogQueue.TheVariants.{Append, Rewrite}
@@ -20,7 +21,7 @@ use Rattle.raft_log_dual_pipes.specs.declared.opening.FoundPipe.{FoundPipe}
 use Rattle.raft_log_dual_pipes.specs.Pipes.{LogPipes, Said, State}
 use Rattle.raft_log_engine_state.specs.Shows.{Home, LogMap}
 use Rattle.raft_log_engine_state.specs.Holding.{IsLeftAt}
-use Rattle.raft_log_builder.specs.Finishing.{IsPipeRecovered, IsRead, SyncsLog}
+use Rattle.raft_log_builder.specs.Finishing.{FailsToSyncLog, IsPipeRecovered, IsRead, SyncsLog}
 use Rattle.raft_log_builder.specs.Scanning.{FailsToScanLog}
 use Rattle.raft_log_builder.specs.declared.builder.DualPipesBuilder.{DualPipesBuilder}
 use Rattle.raft_log_opening.specs.Finding.{FindsLog, IsBegun}
@@ -98,3 +99,11 @@ SyncedFilesHoldStill = (queue : LogQueue) (directories : List (List ℕ)) → 0 
     → NoChanceInFile (log_format queue directories) q.last q.header q.stale file file.content
     → HoldsLast (log_format queue directories) q file
     → HoldsLast (log_format queue directories) q (flushed file)
+
+-- Where such files are synced, without a cut before it, and one of the syncs is refused, the log is left with
+-- the batches that were pending.
+abbrev pub UnsyncedLogsStay : Type 0
+UnsyncedLogsStay = (home : Home) → 0 < length home.append → 0 < length home.rewrite → (d : Disk) (m : LogMap)
+    (pending : List Said) → IsSound d → (left : IsLeftAt home d m pending)
+    → StandsWithoutChance home left.1.lies.state d → (b : DualPipesBuilder) (kind : ErrorKind) (new : Disk)
+    → FailsToSyncLog b kind d new → IsLeftAt home new m pending

@@ -30,12 +30,13 @@ use Rattle.raft_log_opened.specs.Left.{IsCrashOf}
 use Rattle.raft_log_opened.specs.Opened.{HoldsFresh}
 use Rattle.raft_log_reopened.specs.Reopened.{home_of, IsRecovered, Reopens, SparesCanBeUsed}
 
--- No checksum is met by chance in the last file of either queue, as its bytes stand: what is read there now is
--- what a crash may leave that keeps all of them.
+-- No checksum is met by chance in the last file of either queue, as its bytes stand: what is read there now
+-- is what a crash may leave that keeps all of them.
 abbrev pub StandsWithoutChance : Home → State → Disk → Type 0
 StandsWithoutChance home s d = IsCrashOf home s d (as_it_stands d)
 
--- An open was refused behind the syncs: the log was recovered, all files were synced, and a pipe wasn't opened.
+-- An open was refused behind the syncs: the log was recovered, all files were synced, and a pipe wasn't
+-- opened.
 pub record StopsSynced {F : Type 0} (disk : F → Disk) (tells : F → List ℕ → ℕ → Type 0) (config : Config)
     (d new : Disk) : Type 0 where
   pub append : MemTableRecoverContext
@@ -54,7 +55,8 @@ pub record StopsSynced {F : Type 0} (disk : F → Disk) (tells : F → List ℕ 
   pub fails : FailsToOpenLog append_pipe rewrite_pipe error synced new
 
 -- Where the log is scanned, read, cut, synced and opened call by call, without a crash, an engine of what was
--- read holds this map, and nothing is pending. Where that is refused behind the syncs, the log is left with it.
+-- read holds this map, and nothing is pending. Where that is refused behind the syncs, the log is left with
+-- it.
 pub record ReopensStanding {F : Type 0} (disk : F → Disk) (tells : F → List ℕ → ℕ → Type 0) (config : Config)
     (d : Disk) (m : LogMap) : Type 0 where
   pub answered : (v : LogPipes) (tables : MemTables) → Reopens disk tells config d v tables
@@ -63,8 +65,8 @@ pub record ReopensStanding {F : Type 0} (disk : F → Disk) (tells : F → List 
 
 -- So it is with a log that an engine left, and its map after some first pending batches.
 abbrev pub StandingLogsReopen : {F : Type 0} → (F → Disk) → (F → List ℕ → ℕ → Type 0) → Type 0
-StandingLogsReopen {F} disk tells = (config : Config) (d : Disk) (m : LogMap) (pending : List Said) → IsSound d
-    → (left : IsLeftAt (home_of config) d m pending)
+StandingLogsReopen {F} disk tells = (config : Config) (d : Disk) (m : LogMap) (pending : List Said)
+    → IsSound d → (left : IsLeftAt (home_of config) d m pending)
     → StandsWithoutChance (home_of config) left.1.lies.state d → SparesCanBeUsed config d
     → (k : ℕ) × (k ≤ length pending) × ReopensStanding disk tells config d (taken m (take k pending))
 
@@ -91,8 +93,8 @@ UncutLogsStay = (config : Config) (d : Disk) (m : LogMap) (pending : List Said)
     → IsLeftAt (home_of config) d m pending → (new : Disk) → StopsUncut config d new
     → IsLeftAt (home_of config) new m pending
 
--- A sync of the last file of a queue, as it stands without a checksum met by chance, takes no record back: the
--- file holds what was durable and what was pending still, however much of that was read.
+-- A sync of the last file of a queue, as it stands without a checksum met by chance, takes no record back:
+-- the file holds what was durable and what was pending still, however much of that was read.
 abbrev pub SyncedFilesHoldStill : Type 0
 SyncedFilesHoldStill = (queue : LogQueue) (directories : List (List ℕ)) → 0 < length directories
     → (q : LogFiles LogRecord) (file : File) → IsSoundFile file

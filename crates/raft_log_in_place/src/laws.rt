@@ -23,7 +23,8 @@ pub fn uncut_logs_stay()
     ensures { UncutLogsStay }
 {}
 
-/// A sync of a queue's last file, as it stands, takes none of its records back, those that were pending neither.
+/// A sync of a queue's last file, as it stands, takes none of its records back, those that were pending
+/// neither.
 pub fn synced_files_hold_still()
     ensures { SyncedFilesHoldStill }
 {}

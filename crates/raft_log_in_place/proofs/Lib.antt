@@ -6,3 +6,4 @@ pub mod Opens
 pub mod InPlace
 pub mod Uncut
 pub mod Flushed
+pub mod Unsynced

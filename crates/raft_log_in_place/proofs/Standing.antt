@@ -76,7 +76,7 @@ module _ {R : Type 0} (layout : QueueLayout R) (d : Disk) where
   rest_is : (file : File) (bytes : List ℕ) → file ≡ at_rest bytes → file ≡ at_rest file.content
   rest_is file bytes is = is ∙ ap at_rest (sym (ap (λ (x : File). x.content) is))
 
-  stands_but : (base : Disk) (q : LogFiles R) (path : List ℕ) (id : ℕ) (P : File → Type 0) (N : Names) → Stands layout.format layout.own base q path id P N d → RestsBut id
+  pub stands_but : (base : Disk) (q : LogFiles R) (path : List ℕ) (id : ℕ) (P : File → Type 0) (N : Names) → Stands layout.format layout.own base q path id P N d → RestsBut id
   stands_but base q path id P N s = record { rest = rest; last = (q.last, last_of layout.format layout.own base q path id P N d s) }
     where
       rest : (m : ℕ) (other : List ℕ) (j : ℕ) (file : File) → m < layout.format.limit → layout.format.IsPath m other → d.names other ≡ Some j → d.files j ≡ Some file → (j ≡ id) ⊎ (file ≡ at_rest file.content)

@@ -1,6 +1,7 @@
 -- A log whose engine failed is opened in place: no crash came between, so its last files may have bytes that
 -- aren't synced, which the open reads as they stand.
 use Rattle.std.specs.Prelude.{◌≡◌, ℕ, ◌<◌, ◌≤◌, List, [], length, take}
+use Rattle.std.specs.declared.io.ErrorKind.{ErrorKind}
 use Rattle.raft_log_model.specs.Groups.{taken}
 use Rattle.raft_log_base.specs.declared.errors.Error.{Error}
 use Rattle.raft_log_base.specs.declared.pipe_log.LogQueue.TheVariants.{Append, Rewrite}
@@ -20,7 +21,7 @@ use Rattle.raft_log_dual_pipes.specs.declared.opening.FoundPipe.{FoundPipe}
 use Rattle.raft_log_dual_pipes.specs.Pipes.{LogPipes, Said, State}
 use Rattle.raft_log_engine_state.specs.Shows.{Home, LogMap}
 use Rattle.raft_log_engine_state.specs.Holding.{IsLeftAt}
-use Rattle.raft_log_builder.specs.Finishing.{IsPipeRecovered, IsRead, SyncsLog}
+use Rattle.raft_log_builder.specs.Finishing.{FailsToSyncLog, IsPipeRecovered, IsRead, SyncsLog}
 use Rattle.raft_log_builder.specs.Scanning.{FailsToScanLog}
 use Rattle.raft_log_builder.specs.declared.builder.DualPipesBuilder.{DualPipesBuilder}
 use Rattle.raft_log_opening.specs.Finding.{FindsLog, IsBegun}
@@ -29,12 +30,13 @@ use Rattle.raft_log_opened.specs.Left.{IsCrashOf}
 use Rattle.raft_log_opened.specs.Opened.{HoldsFresh}
 use Rattle.raft_log_reopened.specs.Reopened.{home_of, IsRecovered, Reopens, SparesCanBeUsed}
 
--- No checksum is met by chance in the last file of either queue, as its bytes stand: what is read there now is
--- what a crash may leave that keeps all of them.
+-- No checksum is met by chance in the last file of either queue, as its bytes stand: what is read there now
+-- is what a crash may leave that keeps all of them.
 abbrev pub StandsWithoutChance : Home → State → Disk → Type 0
 StandsWithoutChance home s d = IsCrashOf home s d (as_it_stands d)
 
--- An open was refused behind the syncs: the log was recovered, all files were synced, and a pipe wasn't opened.
+-- An open was refused behind the syncs: the log was recovered, all files were synced, and a pipe wasn't
+-- opened.
 pub record StopsSynced {F : Type 0} (disk : F → Disk) (tells : F → List ℕ → ℕ → Type 0) (config : Config)
     (d new : Disk) : Type 0 where
   pub append : MemTableRecoverContext
@@ -53,7 +55,8 @@ pub record StopsSynced {F : Type 0} (disk : F → Disk) (tells : F → List ℕ 
   pub fails : FailsToOpenLog append_pipe rewrite_pipe error synced new
 
 -- Where the log is scanned, read, cut, synced and opened call by call, without a crash, an engine of what was
--- read holds this map, and nothing is pending. Where that is refused behind the syncs, the log is left with it.
+-- read holds this map, and nothing is pending. Where that is refused behind the syncs, the log is left with
+-- it.
 pub record ReopensStanding {F : Type 0} (disk : F → Disk) (tells : F → List ℕ → ℕ → Type 0) (config : Config)
     (d : Disk) (m : LogMap) : Type 0 where
   pub answered : (v : LogPipes) (tables : MemTables) → Reopens disk tells config d v tables
@@ -62,8 +65,8 @@ pub record ReopensStanding {F : Type 0} (disk : F → Disk) (tells : F → List 
 
 -- So it is with a log that an engine left, and its map after some first pending batches.
 abbrev pub StandingLogsReopen : {F : Type 0} → (F → Disk) → (F → List ℕ → ℕ → Type 0) → Type 0
-StandingLogsReopen {F} disk tells = (config : Config) (d : Disk) (m : LogMap) (pending : List Said) → IsSound d
-    → (left : IsLeftAt (home_of config) d m pending)
+StandingLogsReopen {F} disk tells = (config : Config) (d : Disk) (m : LogMap) (pending : List Said)
+    → IsSound d → (left : IsLeftAt (home_of config) d m pending)
     → StandsWithoutChance (home_of config) left.1.lies.state d → SparesCanBeUsed config d
     → (k : ℕ) × (k ≤ length pending) × ReopensStanding disk tells config d (taken m (take k pending))
 
@@ -90,11 +93,19 @@ UncutLogsStay = (config : Config) (d : Disk) (m : LogMap) (pending : List Said)
     → IsLeftAt (home_of config) d m pending → (new : Disk) → StopsUncut config d new
     → IsLeftAt (home_of config) new m pending
 
--- A sync of the last file of a queue, as it stands without a checksum met by chance, takes no record back: the
--- file holds what was durable and what was pending still, however much of that was read.
+-- A sync of the last file of a queue, as it stands without a checksum met by chance, takes no record back:
+-- the file holds what was durable and what was pending still, however much of that was read.
 abbrev pub SyncedFilesHoldStill : Type 0
 SyncedFilesHoldStill = (queue : LogQueue) (directories : List (List ℕ)) → 0 < length directories
     → (q : LogFiles LogRecord) (file : File) → IsSoundFile file
     → NoChanceInFile (log_format queue directories) q.last q.header q.stale file file.content
     → HoldsLast (log_format queue directories) q file
     → HoldsLast (log_format queue directories) q (flushed file)
+
+-- Where such files are synced, without a cut before it, and one of the syncs is refused, the log is left with
+-- the batches that were pending.
+abbrev pub UnsyncedLogsStay : Type 0
+UnsyncedLogsStay = (home : Home) → 0 < length home.append → 0 < length home.rewrite → (d : Disk) (m : LogMap)
+    (pending : List Said) → IsSound d → (left : IsLeftAt home d m pending)
+    → StandsWithoutChance home left.1.lies.state d → (b : DualPipesBuilder) (kind : ErrorKind) (new : Disk)
+    → FailsToSyncLog b kind d new → IsLeftAt home new m pending

@@ -1,7 +1,7 @@
 //! A log is opened in place.
 
 ghost use Rattle.raft_log_in_place.specs.InPlace.{StandingDirectoriesOpen, StandingLogsReopen};
-ghost use Rattle.raft_log_in_place.specs.InPlace.{SyncedFilesHoldStill, UncutLogsStay};
+ghost use Rattle.raft_log_in_place.specs.InPlace.{SyncedFilesHoldStill, UncutLogsStay, UnsyncedLogsStay};
 
 use raft_log_disk::FileSystem;
 
@@ -23,7 +23,14 @@ pub fn uncut_logs_stay()
     ensures { UncutLogsStay }
 {}
 
-/// A sync of a queue's last file, as it stands, takes none of its records back, those that were pending neither.
+/// A sync of a queue's last file, as it stands, takes none of its records back, those that were pending
+/// neither.
 pub fn synced_files_hold_still()
     ensures { SyncedFilesHoldStill }
+{}
+
+/// Where the files of a log that an engine left are synced as they stand, and one sync is refused, the log is
+/// left with the batches that were pending.
+pub fn unsynced_logs_stay()
+    ensures { UnsyncedLogsStay }
 {}

@@ -1,0 +1,3 @@
+pub mod Behind
+pub mod Rules
+pub mod Picking

@@ -1,0 +1,39 @@
+-- Which groups a purge of Append asks to be compacted, and which it rewrites itself.
+use Rattle.std.specs.Prelude.{ℕ, ◌+◌, ◌-◌, ◌^◌, min, Bool, false, not, ◌&&◌, ◌||◌, nat_lt, nat_le, Option, None, Some, if◌then◌else◌}
+use Rattle.raft_log_base.specs.declared.pipe_log.LogQueue.TheVariants.{Append}
+use Rattle.raft_log_tables.specs.Files.{min_file}
+use Rattle.raft_log_tables.specs.Reads.{has_before}
+use Rattle.raft_log_tables.specs.Table.{Raw, shown}
+use Rattle.raft_log_purge.specs.declared.watermarks.Watermarks.{Watermarks}
+
+-- the least file of Append in which a group has something is below this one
+abbrev pub is_below : ℕ → Option ℕ → Bool
+is_below file None = false
+is_below file (Some least) = nat_lt least file
+
+-- the group is old: something of it lies in Append below the watermark of old files, or it has entries in
+-- Rewrite
+abbrev pub is_old : Watermarks → Raw → Bool
+is_old marks t = is_below marks.compact (min_file Append t) || nat_lt 0 (shown t).rewritten
+
+-- it has 32 entries or more up to the watermark of rewriting, those in Rewrite among them
+abbrev pub is_heavy : Watermarks → Raw → Bool
+is_heavy marks t = has_before (shown t) (record { queue = Append; seq = marks.rewrite }) 32
+
+-- it has fewer than 32 entries in Append up to there
+abbrev pub is_light : Watermarks → Raw → Bool
+is_light marks t = not (has_before (shown t) (record { queue = Append; seq = marks.rewrite })
+    (min ((shown t).rewritten + 32) (2 ^ 64 - 1)))
+
+-- something of it lies in Append up to there
+abbrev pub has_to_rewrite : Watermarks → Raw → Bool
+has_to_rewrite marks t = is_below (marks.rewrite + 1) (min_file Append t)
+
+-- the group is asked to be compacted: it is old and heavy
+abbrev pub asks : Watermarks → Raw → Bool
+asks marks t = is_old marks t && is_heavy marks t
+
+-- The group is rewritten: something of it is to be, and if it is asked to be compacted, it was in nine purges
+-- in a row before; else it has few entries.
+abbrev pub rewrites : Watermarks → ℕ → Raw → Bool
+rewrites marks rounds t = (if asks marks t then nat_le 9 rounds else is_light marks t) && has_to_rewrite marks t

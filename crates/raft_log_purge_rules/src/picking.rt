@@ -1,0 +1,106 @@
+//! The groups that a purge of Append picks.
+
+ghost use Rattle.std.specs.Prelude.{◌≡◌, [], ◌∷◌, ◌++◌, IfOk, OnOk, if◌then◌else◌};
+ghost use Rattle.std.specs.List.{filter};
+ghost use Rattle.raft_log_replay.specs.Tables.{raw_of};
+ghost use Rattle.raft_log_replay.specs.Walking.{ListsGroups};
+ghost use Rattle.raft_log_purge_rules.specs.Picking.{asks_at, asks_in, count_of, rewrites_at, rewrites_in};
+
+use crate::rounds::Rounds;
+use crate::rules::{asks, rewrites};
+use raft_log_purge::Watermarks;
+use raft_log_replay::MemTables;
+use std::alloc::{AllocError, Global};
+
+/// The groups that a purge asks to be compacted, from the least up.
+pub fn asked_groups(
+    alloc: Global,
+    tables: &MemTables,
+    watermarks: &Watermarks,
+) -> Result<Vec<u64>, AllocError>
+    ensures { IfOk result (λ groups. ListsGroups (asks_at watermarks.now tables.now) groups.items) }
+{
+    let groups = tables.known_groups()?;
+    asked_of(alloc, tables, watermarks, groups.as_slice())
+}
+
+/// The groups that a purge rewrites itself, from the least up.
+pub fn rewritten_groups(
+    alloc: Global,
+    tables: &MemTables,
+    watermarks: &Watermarks,
+    rounds: &Rounds,
+) -> Result<Vec<u64>, AllocError>
+    ensures { IfOk result (λ groups.
+        ListsGroups (rewrites_at watermarks.now (count_of rounds.now) tables.now) groups.items) }
+{
+    let groups = tables.known_groups()?;
+    rewritten_of(alloc, tables, watermarks, rounds, groups.as_slice())
+}
+
+/// Of these groups those that are asked to be compacted.
+fn asked_of(
+    alloc: Global,
+    tables: &MemTables,
+    watermarks: &Watermarks,
+    groups: &[u64],
+) -> Result<Vec<u64>, AllocError>
+    ensures { IfOk result (λ picked. picked.items ≡ filter (asks_at watermarks.now tables.now) groups.now) }
+{
+    let mut picked = Vec::new(alloc);
+    for group in groups {
+        let wanted = is_asked(tables, watermarks, *group);
+        push_if(&mut picked, *group, wanted)?;
+    }
+    Ok(picked)
+}
+
+/// Of these groups those that are rewritten.
+fn rewritten_of(
+    alloc: Global,
+    tables: &MemTables,
+    watermarks: &Watermarks,
+    rounds: &Rounds,
+    groups: &[u64],
+) -> Result<Vec<u64>, AllocError>
+    ensures { IfOk result (λ picked.
+        picked.items ≡ filter (rewrites_at watermarks.now (count_of rounds.now) tables.now) groups.now) }
+{
+    let mut picked = Vec::new(alloc);
+    for group in groups {
+        let wanted = is_rewritten(tables, watermarks, rounds.count_of(*group), *group);
+        push_if(&mut picked, *group, wanted)?;
+    }
+    Ok(picked)
+}
+
+/// Adds a group to those that are picked, if it is wanted.
+fn push_if(picked: &mut Vec<u64>, group: u64, wanted: bool) -> Result<(), AllocError>
+    ensures { OnOk result (picked.new.items
+        ≡ picked.old.items ++ (if wanted then group ∷ [] else [])) }
+{
+    if wanted {
+        picked.push(group)?;
+    }
+    Ok(())
+}
+
+/// Whether a group is asked to be compacted.
+fn is_asked(tables: &MemTables, watermarks: &Watermarks, group: u64) -> bool
+    ensures { result ≡ asks_in watermarks.now (raw_of tables.now group) }
+{
+    match tables.known_table(group) {
+        Some(table) => asks(watermarks, table),
+        None => false,
+    }
+}
+
+/// Whether a group is rewritten.
+fn is_rewritten(tables: &MemTables, watermarks: &Watermarks, rounds: u32, group: u64) -> bool
+    ensures { result ≡ rewrites_in watermarks.now rounds (raw_of tables.now group) }
+{
+    match tables.known_table(group) {
+        Some(table) => rewrites(watermarks, rounds, table),
+        None => false,
+    }
+}

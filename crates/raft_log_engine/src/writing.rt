@@ -114,6 +114,7 @@ pub fn append<P: PipeLog, L: Log>(
     match appended {
         Ok(block) => {
             commit(tables, batch, block, items);
+            pipes.post_apply_memtables(block.id);
             Ok(len)
         }
         Err(error) => {

@@ -7,8 +7,10 @@ use super::Engine;
 use log::Log;
 use raft_log_disk::FileSystem;
 use raft_log_dual_pipes::{DualPipes, OpenRefused, PipeLog};
+use raft_log_listeners::{EventListener, PurgeHook};
 use raft_log_opening::{OpenedLog, open_directory};
 use raft_log_settings::Config;
+use raft_log_told_pipes::ToldPipes;
 use std::alloc::Global;
 use std::thread::Threads;
 
@@ -40,11 +42,37 @@ impl<F: FileSystem + Sync> Engine<DualPipes<F>> {
             Err(refused) => Err(refused),
         }
     }
+}
 
-    /// The file system.
-    pub fn file_system(&self) -> &F
-        ensures { F.disk result.now ≡ (⟦<DualPipes<F> as PipeLog>⟧.shown self.now.pipes).disk }
+impl<F: FileSystem + Sync, E: EventListener> Engine<
+    ToldPipes<ToldPipes<DualPipes<F>, E>, PurgeHook>,
+> {
+    /// Opens the log as `open_with_file_system` does, and tells a listener, and behind it the engine's own
+    /// hook, what happens to its files: first of all of the files of both queues. Several listen as one by
+    /// `Listeners`. A listener may hold back a purge, and changes nothing else.
+    ///
+    /// Refused as `open_with_file_system` is; the listener is let go.
+    pub fn open_with<R: Threads + Log + Sync>(
+        rt: &R,
+        alloc: Global,
+        config: Config,
+        file_system: F,
+        listener: E,
+    ) -> Result<Self, OpenRefused<F>>
+        ensures ok { IfOk result (λ engine. OpensDirectory F.disk F.tells_space config file_system
+            (⟦<ToldPipes<ToldPipes<DualPipes<F>, E>, PurgeHook> as PipeLog>⟧.shown engine.pipes)
+            engine.tables) }
+        ensures none { IfOk result (λ engine. engine.cache.place ≡ None) }
+        ensures err { IfErr result (λ refused. FailsToOpenDirectory F.disk F.tells_space config refused.error
+            file_system refused.file_system) }
     {
-        self.pipes.file_system()
+        match open_directory(rt, alloc, config, file_system) {
+            Ok(OpenedLog { pipes, tables }) => {
+                let told = ToldPipes::new(pipes, listener);
+                let hooked = ToldPipes::new(told, PurgeHook::new(alloc));
+                Ok(Engine::new(alloc, hooked, tables))
+            }
+            Err(refused) => Err(refused),
+        }
     }
 }

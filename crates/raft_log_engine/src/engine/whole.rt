@@ -1,14 +1,33 @@
 //! What is told of the log as a whole.
 
 ghost use Rattle.std.specs.Prelude.{◌≡◌, IfErr, IfOk, OnOk};
+ghost use Rattle.raft_log_dual_pipes.specs.Calls.{IsIo};
 ghost use Rattle.raft_log_engine.specs.Reads.{shows_of, IsFailed, Lives};
 ghost use Rattle.raft_log_engine.specs.Whole.{used_size, TellsSpan};
 
 use super::Engine;
 use raft_log_base::{Error, FileSeq, LogQueue, Result};
+use raft_log_disk::Fault;
 use raft_log_dual_pipes::PipeLog;
 
 impl<P: PipeLog> Engine<P> {
+    /// The file system.
+    pub fn file_system(&self) -> &P::Files
+        ensures { result.now ≡ P.files self.now.pipes }
+    {
+        self.pipes.file_system()
+    }
+
+    /// Arms a fault of the file system: it alters which later calls are refused, and nothing else.
+    ///
+    /// `Io` where it isn't armed.
+    pub fn arm(&mut self, fault: &Fault) -> Result<()>
+        ensures shown { shows_of P.shown self.new ≡ shows_of P.shown self.old }
+        ensures errors { IfErr result IsIo }
+    {
+        self.pipes.arm(fault)
+    }
+
     /// The numbers of the first and the last file of a queue. `Failed` of an engine that has failed.
     pub fn file_span(&self, queue: LogQueue) -> Result<(FileSeq, FileSeq)>
         ensures ok { IfOk result (λ span. TellsSpan queue (P.shown self.now.pipes) span.0 span.1) }

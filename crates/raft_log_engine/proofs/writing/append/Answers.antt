@@ -1,9 +1,12 @@
-use Rattle.std.proofs.Common.{◌≡◌, ap, subst, ◌∙◌}
-use Rattle.std.specs.Prelude.{None}
+use Rattle.std.proofs.Common.{◌≡◌, ap, subst, sym, ◌∙◌}
+use Rattle.std.specs.Prelude.{None, false}
 use Rattle.raft_log_records.specs.Batch.{Batch, signed_as}
 use Rattle.raft_log_signed_batch.specs.Signing.{SaysItself, signed_for}
 use Rattle.raft_log_base.specs.declared.pipe_log.FileBlockHandle.{FileBlockHandle}
+use Rattle.raft_log_dual_pipes.specs.Pipes.{LogPipes}
+use Rattle.raft_log_engine_state.specs.Shows.{shows}
 use Rattle.raft_log_engine_state.specs.Trying.{RefusesAt, WritesAt}
+use Rattle.raft_log_engine_state.specs.Writing.{Writes}
 use Rattle.raft_log_engine.proofs.Put.{ready_of, refuses_with, writes_at}
 use Rattle.raft_log_engine.proofs.writing.append.Goals as goal
 
@@ -19,10 +22,12 @@ returns-in-Ok-clause-ok g c =
     let ready = ready_of b v c.args.tables.now c.args.cache.now c.requires.some c.requires.marked c.requires.ready says (record { laid = len.laid; adds = len.adds }) in
     let call = subst (λ (x : Batch). WritesAt (signed_for x) c.in-Ok.block v w) was told.ok in (
       len.ready,
-      writes_at b v w c.args.tables.now c.commit.new.tables c.args.cache.now c.args.cache.now c.requires.lives told.later ready c.in-Ok.block c.into_batch.result
+      subst (λ (x : LogPipes). Writes b false (shows v c.args.tables.now c.args.cache.now)
+          (shows x c.commit.new.tables c.args.cache.now)) (sym c.post_apply_memtables.ensures.shown)
+          (writes_at b v w c.args.tables.now c.commit.new.tables c.args.cache.now c.args.cache.now c.requires.lives told.later ready c.in-Ok.block c.into_batch.result
           (ap (λ (x : Batch). x.items) c.into_batch.ensures.batch ∙ ap (λ (x : Batch). x.items) told.said ∙ ap (λ (x : Batch). x.items) was)
           (ap (λ (x : Batch). x.entries) c.into_batch.ensures.batch ∙ ap (λ (x : Batch). x.entries) told.said ∙ ap (λ (x : Batch). x.entries) was)
-          told.fails call c.commit.ensures.shows c.commit.ensures.counts,
+          told.fails call c.commit.ensures.shows c.commit.ensures.counts),
     )
 
 pub returns-in-Err-clause-err : goal.returns-in-Err-clause-err

@@ -1,14 +1,12 @@
 -- What a part that was written, or wasn't, leaves of an engine's log, and in which file it lies.
-use Rattle.std.proofs.Common.{◌≡◌, ◌⊎◌, ℕ, ◌≤◌, ◌+◌, false, List, [], ◌∷◌, ◌++◌, Option, None, inl, inr, refl, sym, ap, subst, ◌∙◌, arith}
-use Rattle.raft_log_model.specs.Item.Record.{Part, Plain}
+use Rattle.std.proofs.Common.{◌≡◌, ◌⊎◌, ℕ, ◌≤◌, List, [], inl, inr, refl, sym, subst, arith}
+use Rattle.raft_log_model.specs.Item.Record.{Part}
 use Rattle.raft_log_base.specs.declared.errors.Error.{Error}
 use Rattle.raft_log_base.specs.declared.errors.Error.TheVariants as errors
 use Rattle.raft_log_base.specs.declared.pipe_log.FileBlockHandle.{FileBlockHandle}
 use Rattle.raft_log_base.specs.declared.pipe_log.LogFileContext.{LogFileContext}
 use Rattle.raft_log_base.specs.declared.pipe_log.LogQueue.TheVariants.{Rewrite}
 use Rattle.raft_log_layout.specs.declared.record.LogRecord.{LogRecord}
-use Rattle.raft_log_atomic_groups.specs.declared.marking.Marking.TheVariants.{Unmarked}
-use Rattle.raft_log_atomic_groups.specs.Marking.{marking_of_items}
 use Rattle.raft_log_atomic_groups.specs.Meaning.{part_of}
 use Rattle.raft_log_atomic_groups.specs.declared.status.AtomicGroupStatus.{AtomicGroupStatus}
 use Rattle.raft_log_atomic_groups.specs.declared.status.AtomicGroupStatus.TheVariants as statuses
@@ -16,25 +14,20 @@ use Rattle.raft_log_file_queue.specs.Queue.{synced}
 use Rattle.raft_log_records.specs.Batch.{Batch}
 use Rattle.raft_log_signed_batch.specs.Signing.{signed_for}
 use Rattle.raft_log_directory.specs.Calls.Which.{InRewrite}
-use Rattle.raft_log_steps.specs.Queues.{SaysRecord}
-use Rattle.raft_log_steps.specs.Own.{log_layout}
 use Rattle.raft_log_steps.specs.Steps.{next_log}
 use Rattle.raft_log_stored.proofs.Keeping.{calls_keep_bytes}
 use Rattle.raft_log_dual_pipes.specs.Pipes.{LogPipes, RunsOn, Said, State}
-use Rattle.raft_log_dual_pipes.specs.Calls.{AppendsTo, FailsToAppendTo, FailsToSyncQueue, SyncsQueue}
-use Rattle.raft_log_engine_state.specs.Shows.{Home, LogMap, Shows, said_by, sense}
+use Rattle.raft_log_dual_pipes.specs.Calls.{AppendsTo, FailsToSyncQueue, SyncsQueue}
+use Rattle.raft_log_engine_state.specs.Shows.{Home, LogMap, Shows, sense}
 use Rattle.raft_log_engine_state.specs.Holding.{Holds, IsLeftAt}
 use Rattle.raft_log_engine_state.proofs.Keeping.{holds_runs}
-use Rattle.raft_log_purge_state.specs.Rewriting.{CountsAlone, HasCopies, RewriteLeaves}
-use Rattle.raft_log_purge_state.proofs.Copying.{copies_refused, copies_written}
-use Rattle.raft_log_purge_state.proofs.Rewriting.{IsTaken, bytes_of, record_taken, says_marked}
+use Rattle.raft_log_purge_state.specs.Rewriting.{RewriteLeaves}
+use Rattle.raft_log_purge_state.proofs.Rewriting.{IsTaken, record_taken}
 use Rattle.raft_log_purge_state.proofs.Settling.{failed_sync, settled_held, sync_keeps}
 use Rattle.raft_log_group_state.specs.Parts.{HoldsInGroup, IsGroupPart, UnendedGroup, begun_by, gone_on_by, said_items}
 use Rattle.raft_log_group_state.proofs.Writing.{begin_refused, middle_refused, part_begins, part_goes_on, says_part, sync_leaves_open}
-use Rattle.raft_log_rewriting.specs.Parts.{IsUnmade}
 use Rattle.raft_log_rewriting.specs.Stale.{written_file}
-use Rattle.raft_log_rewriting.proofs.Parts.{unmade_is_none}
-use Rattle.raft_log_restating.specs.Records.{FailsToWrite, IsUnwritten, MaySync, RefusesRecord, WritesRecord}
+use Rattle.raft_log_restating.specs.Records.{FailsToWrite, IsUnwritten, MaySync, RefusesRecord}
 use Rattle.raft_log_restating.specs.Restated.{last_file}
 
 -- The last file.

@@ -1,15 +1,12 @@
 -- Atomic groups that are begun, that go on, and that are given up.
-use Rattle.std.proofs.Common.{◌≡◌, ◌⊎◌, ℕ, ◌+◌, ◌≤◌, ◌<◌, false, true, List, [], ◌∷◌, ◌++◌, length, map, take, drop, inl, inr, refl, sym, ap, ap₂, subst, ◌∙◌, arith, append-nil, append_assoc, length-append, length-drop}
+use Rattle.std.proofs.Common.{◌≡◌, ℕ, ◌+◌, ◌≤◌, ◌<◌, false, List, [], ◌∷◌, ◌++◌, length, map, take, drop, inl, refl, sym, ap, ap₂, subst, ◌∙◌, arith, append-nil, append_assoc, length-append, length-drop}
 use Rattle.std.specs.Prelude.{Result, Ok, Err, IfErr, IfOk}
 use Rattle.std.proofs.lemmas.Bool.{false≢true}
 use Rattle.std.proofs.lemmas.List.{length-map, length-take}
-use Rattle.raft_log_model.specs.Item.{Item, Tagged}
 use Rattle.raft_log_machine.specs.Machine.{AllFit}
 use Rattle.raft_log_machine.specs.Whereabouts.{top}
 use Rattle.raft_log_disk.specs.Causes.{IsLater}
 use Rattle.raft_log_base.specs.declared.errors.Error.{Error}
-use Rattle.raft_log_base.specs.declared.errors.Error.TheVariants as errors
-use Rattle.raft_log_base.specs.declared.pipe_log.FileBlockHandle.{FileBlockHandle}
 use Rattle.raft_log_items.specs.declared.entry.EntryIndex.{EntryIndex}
 use Rattle.raft_log_items.specs.declared.item.LogItem.{LogItem}
 use Rattle.raft_log_items.specs.Placed.{written}
@@ -31,22 +28,21 @@ use Rattle.raft_log_blocks.specs.declared.block_cache.BlockCache.{BlockCache}
 use Rattle.raft_log_blocks.specs.Blocks.{IsOfLog}
 use Rattle.raft_log_engine_state.specs.Shows.{Home, IsLaidOut, LogMap, Shows, has_failed, shows}
 use Rattle.raft_log_engine_state.specs.Holding.{Holds}
-use Rattle.raft_log_group_state.specs.Parts.{HoldsInGroup, IsGroupPart, UnendedGroup, WrittenPart, begun_by, gone_on_by, parts_of, said_items}
+use Rattle.raft_log_group_state.specs.Parts.{HoldsInGroup, IsGroupPart, WrittenPart, begun_by, gone_on_by, parts_of}
 use Rattle.raft_log_group_state.specs.Restating.{entries_of_pieces}
-use Rattle.raft_log_rewriting.specs.Entries.{AreBytesAt, IsRunBatch}
+use Rattle.raft_log_rewriting.specs.Entries.{AreBytesAt}
 use Rattle.raft_log_rewriting.specs.Marks.{AreNoMarks}
-use Rattle.raft_log_rewriting.specs.Parts.{IsUnmade}
 use Rattle.raft_log_rewriting.proofs.Carried.{plain_items}
 use Rattle.raft_log_rewriting.proofs.OneRun.{entries_count}
-use Rattle.raft_log_rewriting.proofs.Parts.{later_on, same_later, unmade_is_none}
+use Rattle.raft_log_rewriting.proofs.Parts.{later_on, same_later}
 use Rattle.raft_log_restating.specs.declared.parts.RestatedPart.{RestatedPart}
-use Rattle.raft_log_restating.specs.Pieces.{AddsKeys, BuildsPiece, FailsToBuild, IsPiece, run_items, tagged_all, put_items}
-use Rattle.raft_log_restating.specs.Records.{FailsToWrite, RefusesRecord, WritesRecord}
-use Rattle.raft_log_restating.specs.Restated.{FailsToRestate, last_file}
+use Rattle.raft_log_restating.specs.Pieces.{BuildsPiece, FailsToBuild, IsPiece, run_items, tagged_all, put_items}
+use Rattle.raft_log_restating.specs.Records.{FailsToWrite, WritesRecord}
+use Rattle.raft_log_restating.specs.Restated.{FailsToRestate}
 use Rattle.raft_log_restating.specs.Parts.{AreKept, ArePieces, HasParts, IsMarkedPiece}
 use Rattle.raft_log_restating.specs.Steps.{IsLastPart}
 use Rattle.raft_log_restating.proofs.Holding.{IsLeft, begin_left, begun, gone_on, middle_left}
-use Rattle.raft_log_restating.proofs.Reading.{begins_there, bytes_join, caching, held_caching, open_caching, piece_read, piece_unbuilt, read_len, rewritten_len}
+use Rattle.raft_log_restating.proofs.Reading.{begins_there, bytes_join, caching, held_caching, open_caching, piece_read, piece_unbuilt, rewritten_len}
 use Rattle.raft_log_restating.proofs.Saying.{becomes_part, run_is_piece, with_keys, with_mark}
 
 -- The batch of a piece.

@@ -1,5 +1,5 @@
 -- Records that are written to Rewrite, or refused there.
-use Rattle.std.proofs.Common.{◌≡◌, ℕ, List, false, inl, inr, refl, sym, ap, subst, ◌∙◌}
+use Rattle.std.proofs.Common.{◌≡◌, List, inr, subst}
 use Rattle.std.specs.Prelude.{Err, Ok}
 use Rattle.raft_log_disk.specs.Causes.{IsLater}
 use Rattle.raft_log_base.specs.declared.errors.Error.{Error}
@@ -13,7 +13,7 @@ use Rattle.raft_log_dual_pipes.specs.Pipes.{LogPipes}
 use Rattle.raft_log_dual_pipes.specs.Calls.{AppendsTo, FailsToAppendTo, TellsFailure}
 use Rattle.raft_log_rewriting.specs.Parts.{IsRecordMade}
 use Rattle.raft_log_rewriting.proofs.Parts.{alive_ok, later_on, same_record, tells_err}
-use Rattle.raft_log_restating.specs.Records.{FailsToWrite, MaySync, StaysAlive, WritesRecord}
+use Rattle.raft_log_restating.specs.Records.{FailsToWrite, MaySync, WritesRecord}
 
 module _ (b made : Batch) (v mid w : LogPipes) (syncs : MaySync v mid) (is : IsRecordMade b made) (before : IsLater v.disk mid.disk) (later : IsLater mid.disk w.disk) where
   pub record_written : (block : FileBlockHandle) (items : List LogItem) → TellsFailure (Ok block) w → AppendsTo InRewrite (signed_for made) block mid w → items ≡ written (block_place block b.entries) b.items → WritesRecord b block items v w

@@ -1,9 +1,9 @@
 -- What a batch says that has entries of a group, keys, and maybe a mark.
-use Rattle.std.proofs.Common.{◌≡◌, ℕ, ◌+◌, ◌==◌, Bool, true, false, if◌then◌else◌, List, [], ◌∷◌, ◌++◌, length, map, Option, Some, None, refl, sym, ap, ap₂, subst, ◌∙◌, arith, append-nil}
+use Rattle.std.proofs.Common.{◌≡◌, ℕ, ◌+◌, ◌==◌, Bool, true, false, List, [], ◌∷◌, ◌++◌, length, map, Some, refl, sym, ap, ap₂, ◌∙◌, arith, append-nil}
 use Rattle.std.proofs.lemmas.List.{length-map, map-append}
-use Rattle.raft_log_model.specs.Item.{Item, Mark, Record, Tagged}
+use Rattle.raft_log_model.specs.Item.{Item, Tagged}
 use Rattle.raft_log_model.specs.Item.Item.{Put, Run}
-use Rattle.raft_log_model.specs.Item.Record.{Part, Plain}
+use Rattle.raft_log_model.specs.Item.Record.{Part}
 use Rattle.raft_log_model.specs.Groups.{of_group}
 use Rattle.raft_log_model.proofs.Cases.{eq_true, if_false, if_true}
 use Rattle.raft_log_base.specs.declared.pipe_log.FileBlockHandle.{FileBlockHandle}
@@ -20,10 +20,9 @@ use Rattle.raft_log_atomic_groups.specs.declared.status.AtomicGroupStatus.TheVar
 use Rattle.raft_log_atomic_groups.specs.Marking.{has_mark_key, mark_item, marking_of_items}
 use Rattle.raft_log_atomic_groups.specs.Meaning.{BecomesPart, marked, part_of, tagged, tagged_items, unless_mark}
 use Rattle.raft_log_records.specs.Batch.{Batch, block_place}
-use Rattle.raft_log_records.specs.Entries.{entries_items, entries_of, indexes_of}
+use Rattle.raft_log_records.specs.Entries.{entries_of}
 use Rattle.raft_log_records.specs.ItemBatch.{all_entries}
 use Rattle.raft_log_records.specs.Places.{entry_bytes}
-use Rattle.raft_log_places.specs.declared.place.Place.{Place}
 use Rattle.raft_log_places.specs.Noted.{AllIn}
 use Rattle.raft_log_held.specs.Entries.{place_of}
 use Rattle.raft_log_engine_state.specs.Writing.{items_at}

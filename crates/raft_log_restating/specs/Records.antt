@@ -1,5 +1,5 @@
 -- A record is written to Rewrite, where that is due behind a sync.
-use Rattle.std.specs.Prelude.{◌≡◌, ◌⊎◌, ◌↔◌, IsTrue, ℕ, false, List}
+use Rattle.std.specs.Prelude.{◌≡◌, ◌⊎◌, ◌↔◌, IsTrue, false, List}
 use Rattle.raft_log_disk.specs.Causes.{IsLater}
 use Rattle.raft_log_base.specs.declared.errors.Error.{Error}
 use Rattle.raft_log_base.specs.declared.errors.Error.TheVariants as errors

@@ -1,4 +1,4 @@
-use Rattle.std.proofs.Common.{◌≡◌, ◌+◌, ◌-◌, ◌∙◌, ℕ, List, length, take, drop, refl, ap, arith}
+use Rattle.std.proofs.Common.{◌+◌, ◌-◌, length, take, drop, refl, ap, arith}
 use Rattle.std.proofs.lemmas.Result.{err_from_is_err_and}
 use Rattle.raft_log_atomic_groups.specs.declared.status.AtomicGroupStatus.TheVariants.{End}
 use Rattle.raft_log_restating.proofs.Opening.{at_shown, built_piece, built_plain, bytes, fails_shown, has_shown, last_made, marked_piece, more_unmarked, more_unread}

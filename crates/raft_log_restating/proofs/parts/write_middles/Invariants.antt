@@ -1,4 +1,4 @@
-use Rattle.std.proofs.Common.{◌≡◌, ◌≤◌, ◌<◌, ◌+◌, ◌-◌, length}
+use Rattle.std.proofs.Common.{◌≡◌, ◌<◌, ◌-◌, length}
 use Rattle.raft_log_records.specs.AtomicGroup.{IsOpen}
 use Rattle.raft_log_restating.specs.Steps.{GoesOn}
 use Rattle.raft_log_restating.proofs.parts.write_middles.Given as goal

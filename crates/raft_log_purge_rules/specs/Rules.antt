@@ -36,4 +36,5 @@ asks marks t = is_old marks t && is_heavy marks t
 -- The group is rewritten: something of it is to be, and if it is asked to be compacted, it was in nine purges
 -- in a row before; else it has few entries.
 abbrev pub rewrites : Watermarks → ℕ → Raw → Bool
-rewrites marks rounds t = (if asks marks t then nat_le 9 rounds else is_light marks t) && has_to_rewrite marks t
+rewrites marks rounds t =
+    (if asks marks t then nat_le 9 rounds else is_light marks t) && has_to_rewrite marks t

@@ -39,7 +39,8 @@ pub fn rewrites(watermarks: &Watermarks, rounds: u32, table: &MemTable) -> bool
     }
 }
 
-/// Whether something of a group lies in Append below the watermark of old files, or it has entries in Rewrite.
+/// Whether something of a group lies in Append below the watermark of old files, or it has entries in
+/// Rewrite.
 fn is_old(watermarks: &Watermarks, table: &MemTable) -> bool
     ensures { result ≡ is_old watermarks.now table.now }
 {

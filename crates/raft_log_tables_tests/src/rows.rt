@@ -3,6 +3,8 @@ use super::play::Step::{
     Append, Clean, Clear, Compact, Delete, Group, Move, Put, Rewrite, RewriteKey,
 };
 use super::play::{Step, entries_told, keys_told, played};
+use raft_log_items::EntryIndex;
+use std::alloc::{AllocError, Global};
 use std::test::Fail;
 
 /// Entries 10 to 19 in file 1.
@@ -184,4 +186,38 @@ fn holes_are_refused(rt: HostRuntime) {
     assert!(rt; refused);
     let (_, refused) = played(rt.alloc(), &[A, Append(2, 20, 1)]);
     assert!(rt; !refused);
+}
+
+#[test]
+fn compactions_answer_how_many_entries_went(rt: HostRuntime) {
+    let (mut table, _) = played(rt.alloc(), &[Append(1, 1, 10)]);
+    assert!(rt; table.compact_to(100) == 10);
+    let (mut table, _) = played(rt.alloc(), &[Append(1, 0, 25)]);
+    let answers = (table.compact_to(5), table.compact_to(20));
+    assert!(rt; answers == (5, 15));
+    let ends = (table.first_index(), table.last_index());
+    assert!(rt; ends == (Some(20), Some(24)));
+}
+
+/// The sum of the entries' lengths, and the least and the greatest file that one of them lies in.
+fn lengths_told(alloc: Global, entries: &[EntryIndex]) -> Result<String, AllocError> {
+    let (mut sum, mut least, mut greatest) = (0u64, u64::MAX, 0u64);
+    for entry in entries {
+        let file = entry.entries.map_or(0, |block| block.id.seq);
+        sum = sum.saturating_add(entry.entry_len as u64);
+        least = least.min(file);
+        greatest = greatest.max(file);
+    }
+    format!(in alloc; "{sum} {least} {greatest}")
+}
+
+#[test]
+fn lengths_and_files_are_those_of_the_entries_that_are_left(rt: HostRuntime) -> Result<(), Fail> {
+    let (table, _) = played(rt.alloc(), &[A, B, C]);
+    let mut entries = Vec::new(rt.alloc());
+    let count = table.fetch_entries_to(10, 35, None, &mut entries);
+    assert!(rt; count.is_ok());
+    let told = lengths_told(rt.alloc(), entries.as_slice())?;
+    assert!(rt; told.as_str() == "25 1 3");
+    Ok(())
 }

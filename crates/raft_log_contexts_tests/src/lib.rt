@@ -13,6 +13,10 @@ mod random;
 #[cfg(test)]
 mod refused;
 #[cfg(test)]
+mod rewrites;
+#[cfg(test)]
 mod slow;
+#[cfg(test)]
+mod slow_rewrites;
 #[cfg(test)]
 mod workers;

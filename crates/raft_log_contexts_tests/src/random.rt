@@ -29,15 +29,24 @@ impl Dice {
 /// What the groups 1 to 3 hold while records are made: the index after the last entry of each, 0 where there
 /// is none.
 #[derive(Clone, Copy)]
-struct Ends {
+pub struct Ends {
     one: u64,
     two: u64,
     three: u64,
 }
 
 impl Ends {
+    /// No group holds anything.
+    pub fn none() -> Ends {
+        Ends {
+            one: 0,
+            two: 0,
+            three: 0,
+        }
+    }
+
     /// The end of a group.
-    fn of(&self, group: u64) -> u64 {
+    pub fn of(&self, group: u64) -> u64 {
         match group {
             1 => self.one,
             2 => self.two,
@@ -46,7 +55,7 @@ impl Ends {
     }
 
     /// A group ends here from now on.
-    fn set(&mut self, group: u64, end: u64) {
+    pub fn set(&mut self, group: u64, end: u64) {
         match group {
             1 => self.one = end,
             2 => self.two = end,
@@ -68,9 +77,8 @@ fn next_run(dice: &mut Dice, ends: &mut Ends, group: u64) -> Said {
     Run(group, first.min(200) as u8, count.min(200) as u8)
 }
 
-/// The next record: mostly a run, else a value, a compaction below the end, or a group that goes.
-fn next_record(dice: &mut Dice, ends: &mut Ends) -> Said {
-    let group = dice.below(3).saturating_add(1);
+/// What the next record says of a group: mostly a run, else a value, a compaction below the end, or that it goes.
+pub fn next_of(dice: &mut Dice, ends: &mut Ends, group: u64) -> Said {
     match dice.below(10) {
         0 => {
             ends.set(group, 0);
@@ -85,14 +93,11 @@ fn next_record(dice: &mut Dice, ends: &mut Ends) -> Said {
 
 /// So many records.
 pub fn records(alloc: Global, dice: &mut Dice, count: usize) -> Result<Vec<Said>> {
-    let mut ends = Ends {
-        one: 0,
-        two: 0,
-        three: 0,
-    };
+    let mut ends = Ends::none();
     let mut records = Vec::new(alloc);
     for _ in 0..count {
-        records.push(next_record(dice, &mut ends))?;
+        let group = dice.below(3).saturating_add(1);
+        records.push(next_of(dice, &mut ends, group))?;
     }
     Ok(records)
 }

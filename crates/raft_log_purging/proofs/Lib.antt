@@ -1,2 +1,3 @@
+pub mod OneFile
 pub mod Past
 pub mod Whole

@@ -36,6 +36,8 @@ use Rattle.raft_log_rewriting.specs.Rewriting.{OweNothing}
 use Rattle.raft_log_rewriting.proofs.Grouping.{among, part_same, part_wider, rewritten_is_past}
 use Rattle.raft_log_rewriting.proofs.Leasts.{queue_may_begin}
 use Rattle.raft_log_rewriting.proofs.Parts.{alive_ok, later_on, same_later, tells_err}
+use Rattle.raft_log_rewriting.proofs.Staying.{stays_on, stays_same, sync_stays}
+use Rattle.raft_log_purging.proofs.OneFile.{purge_stays}
 use Rattle.raft_log_purging.specs.Append.{AreRewrittenTo, FailsToLoseTo, LosesTo, RewritesAll, beginning}
 
 -- All groups.
@@ -70,6 +72,7 @@ every_rewritten groups gate m v cache t lists r = record {
       (λ _ unknown.
       subst (IsRewrittenTo gate) (sym (r.part.others g unknown)) (unknown_rewritten gate (get nat_cmp m.groups g) (sym (lists.exact g) ∙ unknown))) refl;
   alive = r.alive;
+  stays = r.stays;
   holds = r.holds;
 }
 
@@ -82,6 +85,7 @@ module _ (gate : ℕ) (s copied : Shows) (r : Rewrites every gate s copied) (w :
     same = refl;
     alive = alive_ok x w tells;
     later = later_on s.pipes.disk copied.pipes.disk w.disk r.part.later later;
+    stays = stays_on s.pipes copied.pipes w r.stays (sync_stays copied.pipes w call);
     settles = λ owes home m h. sync_settles_log home copied (record copied { pipes = w }) m (r.holds owes home m h) (record { tables = refl; cache = inl refl }) call;
   }
 
@@ -149,6 +153,7 @@ module _ (gate least seq : ℕ) (m : MemTables) (v : LogPipes) (old : BlockCache
     counts = refl;
     alive = λ lived. lived;
     later = same_later v.disk;
+    stays = stays_same v;
     begins = λ home log h. omega (arith, is, low);
     keeps = λ past owes home log h. h;
   }
@@ -168,6 +173,7 @@ module _ (gate least seq : ℕ) (m : MemTables) (v : LogPipes) (old : BlockCache
       counts = refl;
       alive = λ lived. alive_ok x w tells;
       later = later;
+      stays = purge_stays seq v w call;
       begins = begins_there low call;
       keeps = λ past owes home log h. raised InAppend home before (shows w m new) log seq h (may_begin past owes home log h) refl none call;
     }

@@ -26,8 +26,10 @@ use Rattle.raft_log_rewriting.specs.Parts.{IsRefused, Remains}
 use Rattle.raft_log_rewriting.specs.Rewriting.{OweNothing}
 use Rattle.raft_log_rewriting.proofs.Grouping.{owe_then}
 use Rattle.raft_log_rewriting.proofs.Parts.{alive_ok, later_on, same_later, tells_err}
-use Rattle.raft_log_purging.specs.Append.{AreRewrittenTo, FailsToLoseTo, FailsToRewriteAppend, GoesOn, LosesTo, PassesGate, RewritesAll, RewritesAndLoses, RewritesAppend, StopsGoingOn, ends_after, gate_of, up_to}
+use Rattle.raft_log_purging.specs.Append.{AreRewrittenTo, FailsToLoseTo, FailsToRewriteAppend, GoesOn, HasOneFile, LosesTo, PassesGate, RewritesAll, RewritesAndLoses, RewritesAppend, StopsGoingOn, ends_after, gate_of, up_to}
+use Rattle.raft_log_rewriting.proofs.Staying.{stays_on}
 use Rattle.raft_log_purging.proofs.Past.{every}
+use Rattle.raft_log_purging.proofs.OneFile.{begins_low, one_is_left}
 
 -- The gate.
 
@@ -212,6 +214,13 @@ module _ (s : Shows) (synced : LogPipes) (syncs : SyncsQueue InAppend s.pipes sy
         remains = λ home log pending h. on_the_map home log pending t error (stops.remains none_owed home (taken log pending) (settled_there home log pending h));
       }
 
+      -- one file is left in Append's span
+      one_left : gate ≡ last_at InAppend synced → (m : MemTables) (t : Shows) → RewritesAndLoses gate m carried t → (home : Home) (log : LogMap) (pending : List Said) → Holds home s log pending → HasOneFile t.pipes
+      one_left is m t (mid, all, loses) home log pending h =
+          let settled = all_settled gate carried mid all none_owed home (taken log pending) (settled_there home log pending h) in
+          one_is_left gate loses.least home s log pending synced past mid.pipes t.pipes h syncs is passes.goes (stays_on past carried.pipes mid.pipes carries.stays all.stays) loses.stays
+          (begins_low home mid (taken log pending) [] (settled_held home mid (taken log pending) settled)) loses.is.limited (loses.begins home (taken log pending) settled)
+
       done : (exit : Option ℕ) (m : MemTables) (t : Shows) → GoesOn exit gate m carried t → RewritesAppend watermark exit m s t
       done exit m t goes =
           let went = went_on exit gate m carried t goes in record {
@@ -227,6 +236,7 @@ module _ (s : Shows) (synced : LogPipes) (syncs : SyncsQueue InAppend s.pipes sy
             later = later_on s.pipes.disk carried.pipes.disk t.pipes.disk to_carried went.later;
             unowed = went.owes none_owed;
             settles = λ home log pending h. went.keeps none_owed home (taken log pending) (settled_there home log pending h);
+            one = λ all_of_it to_the_end home log pending h. one_left (subst (λ w. gate ≡ gate_of w synced) all_of_it passes.is) m t (subst (λ x. GoesOn x gate m carried t) to_the_end goes) home log pending h;
           }
 
       pub whole_stopped : (t : Shows) (q : Result (Unit {0}) Error) → IfErr q (λ error. StopsGoingOn error carried t) → IfErr q (λ error. FailsToRewriteAppend error s t)

@@ -13,6 +13,7 @@ use Rattle.raft_log_engine_state.specs.Shows.{Home, LogMap, Shows, has_failed}
 use Rattle.raft_log_engine_state.specs.Holding.{Holds, IsLeftAt}
 use Rattle.raft_log_purge_state.specs.Settled.{HoldsSettled}
 use Rattle.raft_log_purge.specs.Watermarks.{first_at, last_at}
+use Rattle.raft_log_rewriting.specs.Parts.{StaysInFile}
 use Rattle.raft_log_rewriting.specs.Marks.{CarriesMarks}
 use Rattle.raft_log_rewriting.specs.Files.{IsLeastOf}
 use Rattle.raft_log_rewriting.specs.Groups.{Rewrites}
@@ -58,6 +59,7 @@ pub record RewritesAll (gate : ℕ) (s t : Shows) : Type 0 where
   pub same : t ≡ record copied { pipes = t.pipes }
   pub alive : has_failed t ≡ false
   pub later : IsLater s.pipes.disk t.pipes.disk
+  pub stays : StaysInFile s.pipes t.pipes
   pub settles : OweNothing s.tables → (home : Home) (m : LogMap) → Holds home s m [] → HoldsSettled home t m
 
 -- Append's files.
@@ -76,12 +78,17 @@ pub record LosesTo (gate : ℕ) (m : MemTables) (s t : Shows) : Type 0 where
   pub counts : t.counts ≡ s.counts
   pub alive : has_failed s ≡ false → has_failed t ≡ false
   pub later : IsLater s.pipes.disk t.pipes.disk
+  pub stays : StaysInFile s.pipes t.pipes
   pub begins : (home : Home) (log : LogMap) → HoldsSettled home s log
       → first_at InAppend t.pipes ≡ beginning gate least s.pipes
   pub keeps : AreRewrittenTo gate s → OweNothing s.tables → (home : Home) (log : LogMap)
       → HoldsSettled home s log → HoldsSettled home t log
 
 -- The whole.
+
+-- Append's span has one file
+abbrev pub HasOneFile : LogPipes → Type 0
+HasOneFile v = first_at InAppend v ≡ last_at InAppend v
 
 -- a call is to end behind this step
 abbrev pub ends_after : ℕ → Option ℕ → Bool
@@ -100,7 +107,7 @@ GoesOn exit gate m s t = MatchBool (ends_after 1 exit) (t ≡ s)
 
 -- Append was rewritten: it was synced, went on past the gate, and the marks were carried; then all groups were
 -- rewritten and files went, as far as the call was to go. The map stays, nothing is pending, and no mark is
--- owed.
+-- owed. Without a watermark and a step to end with, one file is left in Append's span.
 pub record RewritesAppend (watermark exit : Option ℕ) (m : MemTables) (s t : Shows) : Type 0 where
   pub synced : LogPipes
   pub syncs : SyncsQueue InAppend s.pipes synced
@@ -115,6 +122,8 @@ pub record RewritesAppend (watermark exit : Option ℕ) (m : MemTables) (s t : S
   pub unowed : OweNothing t.tables
   pub settles : (home : Home) (log : LogMap) (pending : List Said) → Holds home s log pending
       → HoldsSettled home t (taken log pending)
+  pub one : watermark ≡ None → exit ≡ None → (home : Home) (log : LogMap) (pending : List Said)
+      → Holds home s log pending → HasOneFile t.pipes
 
 -- Refusals.
 

@@ -31,6 +31,7 @@ use Rattle.raft_log_purge_state.proofs.Copying.{copies_refused, copies_written}
 use Rattle.raft_log_rewriting.specs.Parts.{IsRecordMade, IsUnmade, Remains}
 use Rattle.raft_log_rewriting.specs.Copies.{FailsToCopy, MovesCopies, WritesCopies}
 use Rattle.raft_log_rewriting.proofs.Parts.{alive_ok, remains_same, rewrite_remains, same_later, same_record, tells_err, unmade_is_none}
+use Rattle.raft_log_rewriting.proofs.Staying.{record_stays}
 
 -- the items of a batch that was written
 pub written_there : (b back after : Batch) (block : FileBlockHandle) (items : List LogItem) → back.items ≡ b.items → back.entries ≡ b.entries → after ≡ written_at block back → items ≡ after.items
@@ -64,6 +65,7 @@ module _ (gate : ℕ) (b made : Batch) (v w : LogPipes) (old new : MemTables) (s
         counts = fun_ext moved.stay.counts;
         cache = refl;
         later = later;
+        stays = λ plain. record_stays b block v w (counts_alone plain) (subst (λ s. AppendsTo InRewrite s block v w) (same_record b made is) call);
         holds = λ plain home m h copies.
             copies_written home (shows v old cache) (shows w new cache) (Some gate) b block m h (counts_alone plain) copies
             (subst (λ s. AppendsTo InRewrite s block v w) (same_record b made is) call) tables (inl refl);
@@ -96,7 +98,7 @@ not_copied gate b error v old new cache why same =
 -- what is said of a batch whose record was made is said of the batch
 moves_kept : (gate : Option ℕ) (b kept : Batch) (s t : Shows) → kept ≡ record b { state = kept.state; buffer = kept.buffer } → MovesCopies gate kept s t → MovesCopies gate b s t
 moves_kept gate b kept s t is w =
-    let k = subst (λ (x : Batch). MovesCopies gate x s t) is w in record { block = k.block; alive = k.alive; tables = k.tables; counts = k.counts; cache = k.cache; later = k.later; holds = k.holds }
+    let k = subst (λ (x : Batch). MovesCopies gate x s t) is w in record { block = k.block; alive = k.alive; tables = k.tables; counts = k.counts; cache = k.cache; later = k.later; stays = k.stays; holds = k.holds }
 
 fails_kept : (gate : Option ℕ) (b kept : Batch) (error : Error) (s t : Shows) → kept ≡ record b { state = kept.state; buffer = kept.buffer } → FailsToCopy gate kept error s t → FailsToCopy gate b error s t
 fails_kept gate b kept error s t is f =

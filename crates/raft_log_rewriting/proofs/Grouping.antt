@@ -17,10 +17,15 @@ use Rattle.raft_log_tables.proofs.Leasts.{place_there}
 use Rattle.raft_log_engine_state.specs.Shows.{Home, LogMap, Shows, has_failed}
 use Rattle.raft_log_engine_state.specs.Holding.{Holds, IsLeftAt}
 use Rattle.raft_log_purge_state.specs.Raising.{AppendMayBegin}
+use Rattle.raft_log_records.specs.Entries.{indexes_of}
+use Rattle.raft_log_rewriting.specs.Parts.{StaysInFile}
 use Rattle.raft_log_rewriting.specs.Moving.{Advances, IsPartlyRewritten, IsRewrittenTo, MovesKeys}
 use Rattle.raft_log_rewriting.specs.Rewriting.{CopiesEntries, CopiesIfAny, FailsToCopyEntries, OweNothing, StaysHeld, StaysOrIsLeft}
 use Rattle.raft_log_rewriting.specs.Keys.{CopiesKeys, FailsToCopyKeys}
 use Rattle.raft_log_rewriting.specs.Groups.{Rewrites, RewritesEntries, RewritesPart, StopsRewriting}
+use Rattle.raft_log_rewriting.proofs.Carried.{plain_items}
+use Rattle.raft_log_rewriting.proofs.Reading.{run_plain}
+use Rattle.raft_log_rewriting.proofs.Staying.{stays_on, stays_same}
 use Rattle.raft_log_rewriting.proofs.Moving.{partly_same, partly_then, passing_all, run_is_part, then_rewritten, values_are_part}
 use Rattle.raft_log_rewriting.proofs.Nexts.{next_few, none_passes}
 use Rattle.raft_log_rewriting.proofs.Leasts.{among_more}
@@ -85,6 +90,10 @@ entries_part group gate s t copied =
       later = copied.moved.later;
     }
 
+-- Append goes on in its file
+entries_stay : (group gate : ℕ) (s t : Shows) → CopiesEntries group gate s t → StaysInFile s.pipes t.pipes
+entries_stay group gate s t copied = copied.moved.stays (run_plain group copied.run (indexes_of copied.entries) copied.bytes copied.is)
+
 -- how many entries are left in Append, and whether there may be more to be copied
 abbrev pub left_in : Shown → Bool → ℕ
 left_in v more = (length v.places - v.rewritten) + (if more then 1 else 0)
@@ -109,10 +118,11 @@ pub record EntriesSoFar (group gate : ℕ) (more : Bool) (s t : Shows) : Type 0 
   pub part : RewritesPart (λ g. group == g) gate s t
   pub none : more ≡ false → passing gate (drop (t.tables group).rewritten (t.tables group).places) ≡ 0
   pub alive : has_failed s ≡ false → has_failed t ≡ false
+  pub stays : StaysInFile s.pipes t.pipes
   pub holds : StaysHeld s t
 
 pub none_so_far : (group gate : ℕ) (s : Shows) → EntriesSoFar group gate true s s
-none_so_far group gate s = record { part = part_same (λ g. group == g) gate s; none = λ is. absurd (false≢true (sym is)); alive = λ lived. lived; holds = λ owes home m h. h }
+none_so_far group gate s = record { part = part_same (λ g. group == g) gate s; none = λ is. absurd (false≢true (sym is)); alive = λ lived. lived; stays = stays_same s.pipes; holds = λ owes home m h. h }
 
 pub one_more : (group gate : ℕ) (some : Bool) (s t u : Shows) → EntriesSoFar group gate true s t → CopiesIfAny group gate some t u → EntriesSoFar group gate some s u
 one_more group gate true s t u so_far copied =
@@ -120,13 +130,14 @@ one_more group gate true s t u so_far copied =
       part = part_then (λ g. group == g) gate s t u so_far.part part;
       none = λ is. absurd (false≢true (sym is));
       alive = λ lived. copied.moved.alive;
+      stays = stays_on s.pipes t.pipes u.pipes so_far.stays (entries_stay group gate t u copied);
       holds = held_then (λ g. group == g) gate s t u so_far.part so_far.holds copied.holds;
     }
 one_more group gate false s t u so_far (same, next) =
-    subst (EntriesSoFar group gate false s) (sym same) (record { part = so_far.part; none = λ is. none_passes gate (t.tables group) next; alive = so_far.alive; holds = so_far.holds })
+    subst (EntriesSoFar group gate false s) (sym same) (record { part = so_far.part; none = λ is. none_passes gate (t.tables group) next; alive = so_far.alive; stays = so_far.stays; holds = so_far.holds })
 
 pub all_entries_copied : (group gate : ℕ) (more : Bool) (s t : Shows) → more ≡ false → EntriesSoFar group gate more s t → RewritesEntries group gate s t
-all_entries_copied group gate more s t ended so_far = record { part = so_far.part; none = so_far.none ended; alive = so_far.alive; holds = so_far.holds }
+all_entries_copied group gate more s t ended so_far = record { part = so_far.part; none = so_far.none ended; alive = so_far.alive; stays = so_far.stays; holds = so_far.holds }
 
 pub entries_stopped : (group gate : ℕ) (more : Bool) (error : Error) (s t u : Shows) → EntriesSoFar group gate more s t → FailsToCopyEntries error t u → StopsRewriting (λ g. group == g) gate error s u
 entries_stopped group gate more error s t u so_far fails = record {
@@ -151,6 +162,13 @@ keys_part group gate s t copied =
       later = copied.later;
     }
 
+-- Append goes on in its file
+keys_stay : (group gate : ℕ) (s t : Shows) → CopiesKeys group gate s t → StaysInFile s.pipes t.pipes
+keys_stay group gate s t copied = elim copied.wrote as (λ _. StaysInFile s.pipes t.pipes) [
+  | inl none ↦ subst (λ (e : Shows). StaysInFile s.pipes e.pipes) (sym none.1) (stays_same s.pipes)
+  | inr some ↦ some.1.stays (plain_items copied.batch.items copied.is.plain)
+]
+
 pub group_rewritten : (group gate : ℕ) (s t u : Shows) → RewritesEntries group gate s t → CopiesKeys group gate t u → Rewrites (λ g. group == g) gate s u
 group_rewritten group gate s t u entries copied =
     let m = copied.moves in record {
@@ -159,6 +177,7 @@ group_rewritten group gate s t u entries copied =
           (let here : group ≡ g = grind (arith, is) in
           subst (λ (k : ℕ). IsRewrittenTo gate (u.tables k)) here (subst (IsRewrittenTo gate) (sym m.moved) (then_rewritten gate m.file (t.tables group) entries.none)));
       alive = λ lived. copied.alive (entries.alive lived);
+      stays = stays_on s.pipes t.pipes u.pipes entries.stays (keys_stay group gate t u copied);
       holds = held_then (λ g. group == g) gate s t u entries.part entries.holds copied.holds;
     }
 
@@ -198,7 +217,7 @@ among_all : (g : ℕ) (groups : List ℕ) (i d x : ℕ) → i < length groups �
 among_all g groups i d x lt is h = any_front (λ k. k == g) (i + 1) groups (among_next g groups i d x lt is (inr h))
 
 pub none_rewritten : (gate : ℕ) (s : Shows) → Rewrites (among []) gate s s
-none_rewritten gate s = record { part = part_same (among []) gate s; whole = λ g is. absurd (false≢true is); alive = λ lived. lived; holds = λ owes home m h. h }
+none_rewritten gate s = record { part = part_same (among []) gate s; whole = λ g is. absurd (false≢true is); alive = λ lived. lived; stays = stays_same s.pipes; holds = λ owes home m h. h }
 
 pub group_more : (groups : List ℕ) (i d x gate : ℕ) (s t u : Shows) → i < length groups → x ≡ get_or groups i d → Rewrites (among (take i groups)) gate s t → Rewrites (λ g. x == g) gate t u → Rewrites (among (take (i + 1) groups)) gate s u
 group_more groups i d x gate s t u lt is so_far one =
@@ -213,6 +232,7 @@ group_more groups i d x gate s t u lt is so_far one =
             | inr same ↦ absurd (false≢true (sym apart ∙ eq_true x g same))
           ])) refl;
       alive = λ lived. one.alive (so_far.alive lived);
+      stays = stays_on s.pipes t.pipes u.pipes so_far.stays one.stays;
       holds = held_then (among (take i groups)) gate s t u so_far.part so_far.holds one.holds;
     }
 

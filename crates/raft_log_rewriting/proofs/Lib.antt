@@ -1,4 +1,5 @@
 pub mod Carried
+pub mod Staying
 pub mod Parts
 pub mod Leasts
 pub mod Turning

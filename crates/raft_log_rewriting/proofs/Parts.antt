@@ -39,6 +39,7 @@ use Rattle.raft_log_purge_state.proofs.Rewriting.{marks_refused, marks_written}
 use Rattle.raft_log_rewriting.specs.Parts.{IsRecordMade, IsRefused, IsUnmade, Remains}
 use Rattle.raft_log_rewriting.specs.Marks.{CarriesMarks, SaysMarks, WritesMarks, showing}
 use Rattle.raft_log_rewriting.proofs.Carried.{plain_items}
+use Rattle.raft_log_rewriting.proofs.Staying.{record_stays, stays_on, stays_same, sync_stays}
 
 pub later_on : (a b c : Disk) → IsLater a b → IsLater b c → IsLater a c
 later_on a b c h k = record { failures = omega (arith, h.failures, k.failures); stopped = λ s. k.stopped (h.stopped s) }
@@ -132,6 +133,7 @@ no_marks tables b v says none =
     fun_ext (λ g. none_owed (tables g) (subst (λ (l : List LogItem). AreOwedAt (tables g) (of_group g (tagged_items (λ e. e) l))) none (says.owed g))) in record {
       alive = λ lived. lived;
       later = same_later v.disk;
+      stays = stays_same v;
       holds = λ counts cache home m h. subst (λ (f : ℕ → Shown). Holds home (showing v f counts cache) m []) (sym same) h;
     }
 
@@ -146,6 +148,7 @@ module _ (tables : ℕ → Shown) (b made : Batch) (v w : LogPipes) (says : Says
   marks_are_written block tells call = record {
     alive = λ lived. alive_ok block w tells;
     later = later;
+    stays = record_stays b block v w (says_owed tables b made says some is).alone (subst (λ s. AppendsTo InRewrite s block v w) (same_record b made is) call);
     holds = λ counts cache home m h.
         marks_written home (showing v tables counts cache) (showing w (λ g. unmarked (tables g)) counts cache) b block m h (says_owed tables b made says some is)
         (subst (λ s. AppendsTo InRewrite s block v w) (same_record b made is) call) refl (inl refl);
@@ -172,6 +175,7 @@ module _ (old new : MemTables) (v mid w : LogPipes) (wrote : WritesMarks (shown_
     counts = fun_ext counted;
     cache = refl;
     later = later_on v.disk mid.disk w.disk wrote.later later;
+    stays = stays_on v mid w wrote.stays (sync_stays mid w call);
     settles = λ home m h.
         sync_settles_log home (showing mid (λ g. unmarked (shown_of old g)) (counts old) cache) (shows w new cache) m (wrote.holds (counts old) cache home m h)
         (record { tables = fun_ext cleared; cache = inl refl }) call;

@@ -116,7 +116,8 @@ run_advances g gate s t b (i ∷ indexes) (x ∷ bytes) some first fits is moved
     let same = is.same in
     subst (λ (n : ℕ). Advances g n s.tables t.tables) (omega (arith, long, same)) (moved_on g gate s t b e rest is.items (first i indexes refl) (omega (arith, long, same, fits)) moved)
 
-run_plain : (g : ℕ) (b : Batch) (indexes : List ℕ) (bytes : List (List ℕ)) → IsRunBatch g indexes bytes b → marking_of_items b.items ≡ Unmarked
+-- a run is no part of an atomic group
+pub run_plain : (g : ℕ) (b : Batch) (indexes : List ℕ) (bytes : List (List ℕ)) → IsRunBatch g indexes bytes b → marking_of_items b.items ≡ Unmarked
 run_plain g b indexes [] is = ap marking_of_items is.items
 run_plain g b indexes (x ∷ bytes) is = ap marking_of_items is.items ∙ plain_items (entries_items g 0 indexes (x ∷ bytes)) (entries_count g (laid_run 0 (entries_of indexes (x ∷ bytes))), tt)
 

@@ -10,7 +10,7 @@ use Rattle.raft_log_records.specs.Batch.{Batch}
 use Rattle.raft_log_engine_state.specs.Shows.{Home, LogMap, Shows, has_failed}
 use Rattle.raft_log_engine_state.specs.Holding.{Holds}
 use Rattle.raft_log_purge_state.specs.Rewriting.{HasCopies, moved_to}
-use Rattle.raft_log_rewriting.specs.Parts.{Remains}
+use Rattle.raft_log_rewriting.specs.Parts.{Remains, StaysInFile}
 
 -- A batch that isn't empty was written to Rewrite, and the tables took it in the file of its place: whatever
 -- the log was, with nothing pending, it is so, if the batch has copies of what it had, and is no part of an
@@ -22,6 +22,7 @@ pub record MovesCopies (gate : Option ℕ) (b : Batch) (s t : Shows) : Type 0 wh
   pub counts : t.counts ≡ s.counts
   pub cache : t.cache ≡ s.cache
   pub later : IsLater s.pipes.disk t.pipes.disk
+  pub stays : marking_of_items b.items ≡ Unmarked → StaysInFile s.pipes t.pipes
   pub holds : marking_of_items b.items ≡ Unmarked → (home : Home) (m : LogMap) → Holds home s m []
       → HasCopies gate b s.tables m → Holds home t m []
 

@@ -9,6 +9,7 @@ use Rattle.raft_log_held.specs.Counts.{passing}
 use Rattle.raft_log_tables.specs.Files.{FrontIsLeast, IsLeastInAppend}
 use Rattle.raft_log_engine_state.specs.Shows.{Shows, has_failed}
 use Rattle.raft_log_purge_state.specs.Raising.{AppendMayBegin}
+use Rattle.raft_log_rewriting.specs.Parts.{StaysInFile}
 use Rattle.raft_log_rewriting.specs.Moving.{IsPartlyRewritten, IsRewrittenTo}
 use Rattle.raft_log_rewriting.specs.Rewriting.{OweNothing, StaysHeld, StaysOrIsLeft}
 
@@ -25,6 +26,7 @@ pub record Rewrites (test : ℕ → Bool) (gate : ℕ) (s t : Shows) : Type 0 wh
   pub part : RewritesPart test gate s t
   pub whole : (g : ℕ) → test g ≡ true → IsRewrittenTo gate (t.tables g)
   pub alive : has_failed s ≡ false → has_failed t ≡ false
+  pub stays : StaysInFile s.pipes t.pipes
   pub holds : StaysHeld s t
 
 -- rewriting was refused, with a part done
@@ -38,6 +40,7 @@ pub record RewritesEntries (group gate : ℕ) (s t : Shows) : Type 0 where
   pub part : RewritesPart (λ g. group == g) gate s t
   pub none : passing gate (drop (t.tables group).rewritten (t.tables group).places) ≡ 0
   pub alive : has_failed s ≡ false → has_failed t ≡ false
+  pub stays : StaysInFile s.pipes t.pipes
   pub holds : StaysHeld s t
 
 -- one group was rewritten

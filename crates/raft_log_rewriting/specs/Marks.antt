@@ -16,6 +16,7 @@ use Rattle.raft_log_blocks.specs.declared.block_cache.BlockCache.{BlockCache}
 use Rattle.raft_log_engine_state.specs.Shows.{Home, LogMap, Shows, has_failed}
 use Rattle.raft_log_engine_state.specs.Holding.{Holds}
 use Rattle.raft_log_purge_state.specs.Settled.{HoldsSettled}
+use Rattle.raft_log_rewriting.specs.Parts.{StaysInFile}
 
 -- none of the items is a mark of an atomic group
 abbrev pub AreNoMarks : List LogItem → Type 0
@@ -51,6 +52,7 @@ showing v tables counts cache = record { tables = tables; counts = counts; pipes
 pub record WritesMarks (tables : ℕ → Shown) (v w : LogPipes) : Type 0 where
   pub alive : is_failed v ≡ false → is_failed w ≡ false
   pub later : IsLater v.disk w.disk
+  pub stays : StaysInFile v w
   pub holds : (counts : ℕ → Bool) (cache : BlockCache) (home : Home) (m : LogMap)
       → Holds home (showing v tables counts cache) m []
       → Holds home (showing w (λ g. unmarked (tables g)) counts cache) m []
@@ -63,4 +65,5 @@ pub record CarriesMarks (s t : Shows) : Type 0 where
   pub counts : t.counts ≡ s.counts
   pub cache : t.cache ≡ s.cache
   pub later : IsLater s.pipes.disk t.pipes.disk
+  pub stays : StaysInFile s.pipes t.pipes
   pub settles : (home : Home) (m : LogMap) → Holds home s m [] → HoldsSettled home t m

@@ -1,11 +1,14 @@
 -- What a part of a purge leaves where it is refused, and what is known of a record that it writes.
-use Rattle.std.specs.Prelude.{◌≡◌, ◌↔◌, IsTrue, false, []}
+use Rattle.std.specs.Prelude.{◌≡◌, ◌↔◌, IsTrue, ℕ, false, []}
 use Rattle.raft_log_disk.specs.Causes.{IsLater}
 use Rattle.raft_log_base.specs.declared.errors.Error.{Error}
 use Rattle.raft_log_base.specs.declared.errors.Error.TheVariants as errors
 use Rattle.raft_log_records.specs.Batch.{Batch}
 use Rattle.raft_log_signed_batch.specs.Signing.{SaysItself, signed_for}
-use Rattle.raft_log_engine_state.specs.Shows.{Home, IsLaidOut, LogMap, Shows, has_failed}
+use Rattle.raft_log_directory.specs.Calls.Which.{InAppend}
+use Rattle.raft_log_steps.specs.State.{pipe_at}
+use Rattle.raft_log_dual_pipes.specs.Pipes.{LogPipes, RunsOn, State, files_of}
+use Rattle.raft_log_engine_state.specs.Shows.{Home, IsLaidOut, LogMap, Shows, has_failed, sense}
 use Rattle.raft_log_engine_state.specs.Holding.{Holds, IsLeftAt}
 
 -- What is true where a part was refused, by the error: the engine's log is what it was, and nothing is
@@ -33,3 +36,13 @@ pub record IsRecordMade (b made : Batch) : Type 0 where
   pub entries : made.entries ≡ b.entries
   pub says : SaysItself (signed_for b) b
   pub laid : IsLaidOut b
+
+-- the number of the file that Append is written in
+abbrev pub append_file : LogPipes → ℕ
+append_file v = (pipe_at InAppend (files_of v)).active.seq
+
+-- Append is written in the file that it was written in: whatever log the pipes ran over, they run over one
+-- still.
+abbrev pub StaysInFile : LogPipes → LogPipes → Type 0
+StaysInFile v w = (home : Home) (s : State) → RunsOn (sense home) v s
+    → ((next : State) × RunsOn (sense home) w next) × (append_file w ≡ append_file v)

@@ -29,7 +29,7 @@ use Rattle.raft_log_engine_state.specs.Shows.{Shows, shows}
 use Rattle.raft_log_purge_state.specs.Rewriting.{CountsAlone}
 use Rattle.raft_log_purge_state.proofs.Copying.{copies_refused, copies_written}
 use Rattle.raft_log_rewriting.specs.Parts.{IsRecordMade, IsUnmade, Remains}
-use Rattle.raft_log_rewriting.specs.Copies.{FailsToCopy, MovesCopies, WritesCopies}
+use Rattle.raft_log_rewriting.specs.Copies.{FailsToCopy, MovesCopies}
 use Rattle.raft_log_rewriting.proofs.Parts.{alive_ok, remains_same, rewrite_remains, same_later, same_record, tells_err, unmade_is_none}
 use Rattle.raft_log_rewriting.proofs.Staying.{record_stays}
 
@@ -107,12 +107,12 @@ fails_kept gate b kept error s t is f =
 populated : (b kept : Batch) → IsButBuffer (record b { state = Populated }) kept → kept ≡ record b { state = kept.state; buffer = kept.buffer }
 populated b kept is = is ∙ ap (λ s. record b { state = s; buffer = kept.buffer }) (sym (ap (λ (x : Batch). x.state) is))
 
-pub copied_then : {A : Type 0} (gate : Option ℕ) (b kept : Batch) (v w : LogPipes) (old mid new : MemTables) (r : Result A Error) → IsButBuffer (record b { state = Populated }) kept → ShowsSame old mid → (b.items ≡ [] → ⊥)
+pub copied_then : {A : Type 0} (gate : Option ℕ) (b kept : Batch) (v w : LogPipes) (old mid new : MemTables) (r : Result A Error) → IsButBuffer (record b { state = Populated }) kept → ShowsSame old mid
     → IfOk r (λ after. (cache : BlockCache) → MovesCopies gate kept (shows v mid cache) (shows w new cache))
-    → IfOk r (λ after. (cache : BlockCache) → WritesCopies gate b (shows v old cache) (shows w new cache))
-copied_then gate b kept v w old mid new (Ok x) is same some wrote =
-    λ cache. inr (some, subst (λ s. MovesCopies gate b s (shows w new cache)) (same_but_pipes v v old mid cache same) (moves_kept gate b kept (shows v mid cache) (shows w new cache) (populated b kept is) (wrote cache)))
-copied_then gate b kept v w old mid new (Err e) is same some wrote = tt
+    → IfOk r (λ after. (cache : BlockCache) → MovesCopies gate b (shows v old cache) (shows w new cache))
+copied_then gate b kept v w old mid new (Ok x) is same wrote =
+    λ cache. subst (λ s. MovesCopies gate b s (shows w new cache)) (same_but_pipes v v old mid cache same) (moves_kept gate b kept (shows v mid cache) (shows w new cache) (populated b kept is) (wrote cache))
+copied_then gate b kept v w old mid new (Err e) is same wrote = tt
 
 pub refused_then : {A : Type 0} (gate : Option ℕ) (b kept : Batch) (v w : LogPipes) (old mid new : MemTables) (r : Result A Error) → IsButBuffer (record b { state = Populated }) kept → ShowsSame old mid
     → IfErr r (λ error. (cache : BlockCache) → FailsToCopy gate kept error (shows v mid cache) (shows w new cache))

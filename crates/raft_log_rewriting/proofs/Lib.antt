@@ -1,5 +1,6 @@
 pub mod Carried
 pub mod Staying
+pub mod BehindSync
 pub mod Parts
 pub mod Leasts
 pub mod Turning

@@ -1,4 +1,5 @@
 pub mod Parts
+pub mod Syncing
 pub mod Marks
 pub mod Files
 pub mod Stale

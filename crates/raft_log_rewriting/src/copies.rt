@@ -10,6 +10,7 @@ ghost use Rattle.raft_log_replay.specs.Rewriting.{MayMove};
 ghost use Rattle.raft_log_replay.specs.Tables.{IsAtRest};
 ghost use Rattle.raft_log_rewriting.specs.Copies.{FailsToCopy, MovesCopies, WritesCopies};
 
+use crate::syncing::sync_if_due;
 use log::Log;
 use raft_log_base::{FileSeq, LogQueue, Result};
 use raft_log_dual_pipes::PipeLog;
@@ -19,9 +20,11 @@ use raft_log_signed_batch::SignedBatch;
 use std::alloc::Global;
 
 /// Writes a batch of copies to Rewrite as one record, and moves what they are of there: of what stands in
-/// Append that in files up to the gate. The answer is the batch, emptied. An empty one isn't written.
+/// Append that in files up to the gate. The answer is the batch, emptied. An empty one isn't written. Where
+/// many bytes were written since Rewrite was synced last, it is synced before.
 ///
-/// `Full`, `Memory`: nothing is done. Then what Rewrite refuses. In each case nothing that shows is changed.
+/// `Full`, `Memory`: nothing is done but that sync. Then what Rewrite refuses. In each case nothing that shows
+/// is changed.
 pub fn write_copies<P: PipeLog, L: Log>(
     alloc: Global,
     rt: &L,
@@ -29,6 +32,7 @@ pub fn write_copies<P: PipeLog, L: Log>(
     tables: &mut MemTables,
     batch: LogBatch,
     gate: FileSeq,
+    unsynced: &mut u64,
 ) -> Result<LogBatch>
     requires { batch.state ≡ Filling }
     ensures ok { IfOk result (λ after. (cache : BlockCache) → WritesCopies (Some gate) batch
@@ -41,9 +45,33 @@ pub fn write_copies<P: PipeLog, L: Log>(
     if batch.is_empty() {
         return Ok(batch);
     }
+    sync_if_due(rt, pipes, unsynced)?;
+    write_batch(alloc, rt, pipes, tables, batch, gate, unsynced)
+}
+
+/// Makes the record of a batch that isn't empty, and room for what it has copies of; then writes it.
+fn write_batch<P: PipeLog, L: Log>(
+    alloc: Global,
+    rt: &L,
+    pipes: &mut P,
+    tables: &mut MemTables,
+    batch: LogBatch,
+    gate: FileSeq,
+    unsynced: &mut u64,
+) -> Result<LogBatch>
+    requires filling { batch.state ≡ Filling }
+    requires some { batch.items ≡ [] → ⊥ }
+    ensures ok { IfOk result (λ after. (cache : BlockCache) → MovesCopies (Some gate) batch
+        (shows (P.shown pipes.old) tables.old cache) (shows (P.shown pipes.new) tables.new cache)) }
+    ensures err { IfErr result (λ error. (cache : BlockCache) → FailsToCopy (Some gate) batch error
+        (shows (P.shown pipes.old) tables.old cache) (shows (P.shown pipes.new) tables.new cache)) }
+    ensures emptied { IfOk result (IsButBuffer (emptied batch)) }
+    ensures rests { IsAtRest tables.old → IsAtRest tables.new }
+{
     let mut batch = batch;
-    batch.finish_populate()?;
+    let len = batch.finish_populate()?;
     tables.prepare_rewrite(batch.items())?;
+    *unsynced = unsynced.saturating_add(len as u64);
     append_copies(alloc, rt, pipes, tables, batch, gate)
 }
 

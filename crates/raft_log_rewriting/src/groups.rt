@@ -20,7 +20,8 @@ use raft_log_dual_pipes::PipeLog;
 use raft_log_replay::MemTables;
 use std::alloc::Global;
 
-/// Rewrites groups, one after another: nothing of them is left in Append in files up to the gate.
+/// Rewrites groups, one after another: nothing of them is left in Append in files up to the gate. Rewrite is
+/// synced each 512 KiB or so that are written there, and not at the end.
 ///
 /// Refused is what `rewrite_group` refuses: the groups before are rewritten, and a part of that one may be.
 pub fn rewrite_groups<P: PipeLog, L: Log>(
@@ -38,8 +39,9 @@ pub fn rewrite_groups<P: PipeLog, L: Log>(
         (shows (P.shown pipes.old) tables.old cache.old) (shows (P.shown pipes.new) tables.new cache.new)) }
     ensures rests { IsAtRest tables.old → IsAtRest tables.new }
 {
+    let mut unsynced = 0;
     for group in groups {
-        rewrite_group(alloc, rt, pipes, tables, cache, *group, gate)?;
+        rewrite_group(alloc, rt, pipes, tables, cache, *group, gate, &mut unsynced)?;
     }
     Ok(())
 }
@@ -56,6 +58,7 @@ pub fn rewrite_group<P: PipeLog, L: Log>(
     cache: &mut BlockCache,
     group: u64,
     gate: FileSeq,
+    unsynced: &mut u64,
 ) -> Result<()>
     ensures ok { OnOk result (RewritesGroup group gate
         (shows (P.shown pipes.old) tables.old cache.old) (shows (P.shown pipes.new) tables.new cache.new)) }
@@ -63,8 +66,8 @@ pub fn rewrite_group<P: PipeLog, L: Log>(
         (shows (P.shown pipes.old) tables.old cache.old) (shows (P.shown pipes.new) tables.new cache.new)) }
     ensures rests { IsAtRest tables.old → IsAtRest tables.new }
 {
-    rewrite_entries(alloc, rt, pipes, tables, cache, group, gate)?;
-    copy_keys(alloc, rt, pipes, tables, group, gate)?;
+    rewrite_entries(alloc, rt, pipes, tables, cache, group, gate, unsynced)?;
+    copy_keys(alloc, rt, pipes, tables, group, gate, unsynced)?;
     Ok(())
 }
 
@@ -77,6 +80,7 @@ fn rewrite_entries<P: PipeLog, L: Log>(
     cache: &mut BlockCache,
     group: u64,
     gate: FileSeq,
+    unsynced: &mut u64,
 ) -> Result<()>
     ensures ok { OnOk result (RewritesEntries group gate
         (shows (P.shown pipes.old) tables.old cache.old) (shows (P.shown pipes.new) tables.new cache.new)) }
@@ -86,7 +90,7 @@ fn rewrite_entries<P: PipeLog, L: Log>(
 {
     let mut more = true;
     while more {
-        more = copy_entries(alloc, rt, pipes, tables, cache, group, gate)?;
+        more = copy_entries(alloc, rt, pipes, tables, cache, group, gate, unsynced)?;
     }
     Ok(())
 }

@@ -29,6 +29,7 @@ pub fn copy_keys<P: PipeLog, L: Log>(
     tables: &mut MemTables,
     group: u64,
     gate: FileSeq,
+    unsynced: &mut u64,
 ) -> Result<()>
     ensures ok { OnOk result ((cache : BlockCache) → CopiesKeys group gate
         (shows (P.shown pipes.old) tables.old cache) (shows (P.shown pipes.new) tables.new cache)) }
@@ -38,7 +39,7 @@ pub fn copy_keys<P: PipeLog, L: Log>(
 {
     let pairs = next_keys(alloc, tables, group, gate)?;
     let batch = keys_batch(alloc, group, pairs.as_slice())?;
-    write_copies(alloc, rt, pipes, tables, batch, gate)?;
+    write_copies(alloc, rt, pipes, tables, batch, gate, unsynced)?;
     Ok(())
 }
 

@@ -14,6 +14,7 @@ pub mod marks;
 mod record;
 pub mod rewriting;
 pub mod stale;
+pub mod syncing;
 
 pub use copies::write_copies;
 pub use files::{least_file, purge_stale};
@@ -22,3 +23,4 @@ pub use keys::copy_keys;
 pub use marks::rewrite_marks;
 pub use rewriting::copy_entries;
 pub use stale::purge_all_stale;
+pub use syncing::sync_if_due;

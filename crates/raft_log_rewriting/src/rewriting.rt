@@ -27,6 +27,7 @@ pub fn copy_entries<P: PipeLog, L: Log>(
     cache: &mut BlockCache,
     group: u64,
     gate: FileSeq,
+    unsynced: &mut u64,
 ) -> Result<bool>
     ensures ok { IfOk result (λ some. CopiesIfAny group gate some
         (shows (P.shown pipes.old) tables.old cache.old) (shows (P.shown pipes.new) tables.new cache.new)) }
@@ -40,6 +41,6 @@ pub fn copy_entries<P: PipeLog, L: Log>(
     }
     let read: Vec<EntryBytes> = cache.read_entries(alloc, pipes, entries.as_slice())?;
     let batch = run_batch(alloc, group, entries.as_slice(), read.as_slice())?;
-    write_copies(alloc, rt, pipes, tables, batch, gate)?;
+    write_copies(alloc, rt, pipes, tables, batch, gate, unsynced)?;
     Ok(true)
 }

@@ -1,0 +1,33 @@
+//! Rewrite is synced each so many bytes that a purge writes there.
+
+ghost use Rattle.std.specs.Prelude.{◌≡◌, true, IfErr, OnErr, OnOk};
+ghost use Rattle.raft_log_base.specs.declared.errors.Error.TheVariants as errors;
+ghost use Rattle.raft_log_directory.specs.Calls.Which.{InRewrite};
+ghost use Rattle.raft_log_disk.specs.Causes.{IsLater};
+ghost use Rattle.raft_log_dual_pipes.specs.Calls.{FailsToSyncQueue};
+ghost use Rattle.raft_log_dual_pipes.specs.Pipes.{is_failed};
+ghost use Rattle.raft_log_rewriting.specs.Syncing.{MaySync, StaysAlive};
+
+use log::Log;
+use raft_log_base::{LogQueue, Result};
+use raft_log_dual_pipes::PipeLog;
+
+/// Behind how many bytes of records Rewrite is synced.
+const MAX_UNSYNCED_LEN: u64 = 524_288;
+
+/// Syncs Rewrite, where many bytes were written since it was synced last. Refused, it is `Failed`.
+pub fn sync_if_due<P: PipeLog, L: Log>(rt: &L, pipes: &mut P, unsynced: &mut u64) -> Result<()>
+    ensures ok { OnOk result (MaySync (P.shown pipes.old) (P.shown pipes.new)) }
+    ensures stays { OnOk result (StaysAlive (P.shown pipes.old) (P.shown pipes.new)) }
+    ensures err { OnErr result (FailsToSyncQueue InRewrite (P.shown pipes.old) (P.shown pipes.new)) }
+    ensures error { IfErr result (λ error. error ≡ errors.Failed) }
+    ensures failed { OnErr result (is_failed (P.shown pipes.new) ≡ true) }
+    ensures later { IsLater (P.shown pipes.old).disk (P.shown pipes.new).disk }
+{
+    if *unsynced < MAX_UNSYNCED_LEN {
+        return Ok(());
+    }
+    pipes.sync(rt, LogQueue::Rewrite)?;
+    *unsynced = 0;
+    Ok(())
+}

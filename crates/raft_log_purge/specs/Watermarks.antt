@@ -1,12 +1,13 @@
 -- Which queues a purge takes up, and how far.
-use Rattle.std.specs.Prelude.{◌≡◌, ℕ, ◌*◌, ◌-◌, ◌<◌, min, Option, Some, unwrap_or}
+use Rattle.std.specs.Prelude.{◌≡◌, ℕ, ◌*◌, ◌-◌, ◌<◌, min, Some}
 use Rattle.raft_log_directory.specs.Calls.{Which}
 use Rattle.raft_log_directory.specs.Calls.Which.{InAppend, InRewrite}
 use Rattle.raft_log_tables.specs.declared.global_stats.GlobalStats.{GlobalStats}
-use Rattle.raft_log_settings.specs.Settings.{Settings}
 use Rattle.raft_log_steps.specs.State.{pipe_at}
 use Rattle.raft_log_dual_pipes.specs.Pipes.{LogPipes, files_of}
 use Rattle.raft_log_dual_pipes.specs.Calls.{seq_at, size_at}
+use Rattle.raft_log_purge.specs.declared.thresholds.Thresholds.{Thresholds}
+use Rattle.raft_log_purge.specs.declared.watermarks.Watermarks.{Watermarks}
 
 -- the numbers of the first and the last file of a queue's span
 abbrev pub first_at : Which → LogPipes → ℕ
@@ -19,6 +20,10 @@ last_at which v = (pipe_at which (files_of v)).active.seq
 abbrev pub watermark : ℕ → LogPipes → ℕ
 watermark thousandths v = min (seq_at InAppend v thousandths 1000) (last_at InAppend v - 1)
 
+-- up to which files of Append a purge goes
+abbrev pub watermarks_of : LogPipes → Watermarks
+watermarks_of v = record { rewrite = watermark 700 v; compact = watermark 200 v }
+
 -- a queue has more than one file, and all of them are larger together than this
 abbrev pub IsPast : Which → ℕ → LogPipes → Type 0
 IsPast which threshold v = (first_at which v < last_at which v) × (threshold < size_at which v)
@@ -28,10 +33,10 @@ abbrev pub IsGarbage : ℕ → GlobalStats → Type 0
 IsGarbage ratio stats = stats.rewrite_entries * ratio < stats.deleted_rewrite_entries * 1000
 
 -- a purge takes up Append
-abbrev pub TakesAppend : Settings → LogPipes → Type 0
-TakesAppend s v = IsPast InAppend s.purge_threshold v
+abbrev pub TakesAppend : Thresholds → LogPipes → Type 0
+TakesAppend t v = IsPast InAppend t.append v
 
 -- a purge rewrites Rewrite
-abbrev pub TakesRewrite : Settings → GlobalStats → LogPipes → Type 0
-TakesRewrite s stats v = (threshold : ℕ) × (s.purge_rewrite_threshold ≡ Some threshold)
-    × IsPast InRewrite threshold v × IsGarbage s.purge_rewrite_garbage_ratio stats
+abbrev pub TakesRewrite : Thresholds → GlobalStats → LogPipes → Type 0
+TakesRewrite t stats v = (threshold : ℕ) × (t.rewrite ≡ Some threshold)
+    × IsPast InRewrite threshold v × IsGarbage t.garbage_ratio stats

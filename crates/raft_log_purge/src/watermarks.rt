@@ -3,12 +3,11 @@
 ghost use Rattle.std.specs.Prelude.{◌≡◌, ◌↔◌, ◌<◌, IsTrue};
 ghost use Rattle.raft_log_directory.specs.Calls.Which.{InAppend};
 ghost use Rattle.raft_log_dual_pipes.specs.Pipes.{which_of};
-ghost use Rattle.raft_log_settings.specs.Settings.{settings_of};
-ghost use Rattle.raft_log_purge.specs.Watermarks.{IsGarbage, IsPast, TakesAppend, TakesRewrite, watermark};
+ghost use Rattle.raft_log_purge.specs.Watermarks.{IsGarbage, IsPast, TakesAppend, TakesRewrite, watermarks_of};
 
+use crate::thresholds::Thresholds;
 use raft_log_base::{FileSeq, LogQueue};
 use raft_log_dual_pipes::PipeLog;
-use raft_log_settings::Config;
 use raft_log_tables::GlobalStats;
 
 /// A group is old where something of it lies in an Append file below this share of the span.
@@ -28,8 +27,7 @@ pub struct Watermarks {
 
 /// Up to which files of Append a purge goes; never up to the last one, which is being written.
 pub fn append_watermarks<P: PipeLog>(pipes: &P) -> Watermarks
-    ensures rewrite { result.rewrite ≡ watermark 700 (P.shown pipes.now) }
-    ensures compact { result.compact ≡ watermark 200 (P.shown pipes.now) }
+    ensures { result ≡ watermarks_of (P.shown pipes.now) }
 {
     let (_first, last) = pipes.file_span(LogQueue::Append);
     let before_last = last.saturating_sub(1);
@@ -41,23 +39,22 @@ pub fn append_watermarks<P: PipeLog>(pipes: &P) -> Watermarks
     }
 }
 
-/// Whether a purge takes files from Append: it has more than one, and is larger than the settings have it.
-pub fn takes_append<P: PipeLog>(config: &Config, pipes: &P) -> bool
-    ensures { IsTrue result ↔ TakesAppend (settings_of config.now) (P.shown pipes.now) }
+/// Whether a purge takes files from Append: it has more than one, and is larger than its threshold.
+pub fn takes_append<P: PipeLog>(thresholds: &Thresholds, pipes: &P) -> bool
+    ensures { IsTrue result ↔ TakesAppend thresholds.now (P.shown pipes.now) }
 {
-    is_past(pipes, LogQueue::Append, config.purge_threshold.0)
+    is_past(pipes, LogQueue::Append, thresholds.append)
 }
 
-/// Whether a purge rewrites Rewrite: it has more than one file, is larger than the settings have it, and more
-/// of what was written there than they allow stands no more. Settings without a threshold let it be.
-pub fn takes_rewrite<P: PipeLog>(config: &Config, stats: &GlobalStats, pipes: &P) -> bool
-    ensures { IsTrue result ↔ TakesRewrite (settings_of config.now) stats.now (P.shown pipes.now) }
+/// Whether a purge rewrites Rewrite: it has more than one file, is larger than its threshold, and more of
+/// what was written there than is allowed stands no more. Without a threshold it never is.
+pub fn takes_rewrite<P: PipeLog>(thresholds: &Thresholds, stats: &GlobalStats, pipes: &P) -> bool
+    ensures { IsTrue result ↔ TakesRewrite thresholds.now stats.now (P.shown pipes.now) }
 {
-    let Some(threshold) = config.purge_rewrite_threshold else {
+    let Some(threshold) = thresholds.rewrite else {
         return false;
     };
-    is_past(pipes, LogQueue::Rewrite, threshold.0)
-        && is_garbage(config.purge_rewrite_garbage_ratio, stats)
+    is_past(pipes, LogQueue::Rewrite, threshold) && is_garbage(thresholds.garbage_ratio, stats)
 }
 
 /// Whether a queue has more than one file, and is larger than this.

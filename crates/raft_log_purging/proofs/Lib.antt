@@ -1,3 +1,4 @@
 pub mod OneFile
 pub mod Past
+pub mod Picked
 pub mod Whole

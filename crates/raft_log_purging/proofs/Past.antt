@@ -38,7 +38,7 @@ use Rattle.raft_log_rewriting.proofs.Leasts.{queue_may_begin}
 use Rattle.raft_log_rewriting.proofs.Parts.{alive_ok, later_on, same_later, tells_err}
 use Rattle.raft_log_rewriting.proofs.Staying.{stays_on, stays_same, sync_stays}
 use Rattle.raft_log_purging.proofs.OneFile.{purge_stays}
-use Rattle.raft_log_purging.specs.Append.{AreRewrittenTo, FailsToLoseTo, LosesTo, RewritesAll, beginning}
+use Rattle.raft_log_purging.specs.Append.{AreRewrittenTo, FailsToLoseTo, LosesTo, RewritesAll, RewritesSynced, RewritesThese, beginning}
 
 -- All groups.
 
@@ -76,8 +76,32 @@ every_rewritten groups gate m v cache t lists r = record {
   holds = r.holds;
 }
 
-module _ (gate : ℕ) (s copied : Shows) (r : Rewrites every gate s copied) (w : LogPipes) (later : IsLater copied.pipes.disk w.disk) where
-  all_synced : {A : Type 0} (x : A) → TellsFailure (Ok x) w → SyncsQueue InRewrite copied.pipes w → RewritesAll gate s (record copied { pipes = w })
+-- all groups are those that are listed
+pub all_listed : (groups : List ℕ) (gate : ℕ) (m : MemTables) (v : LogPipes) (cache : BlockCache) (t : Shows) → ListsGroups (has_table m) groups → RewritesThese groups gate (shows v m cache) t → RewritesAll gate (shows v m cache) t
+all_listed groups gate m v cache t lists r = record {
+  copied = r.copied;
+  copies = every_rewritten groups gate m v cache r.copied lists r.copies;
+  syncs = r.syncs;
+  same = r.same;
+  alive = r.alive;
+  later = r.later;
+  stays = r.stays;
+  settles = r.settles;
+}
+
+-- so it is whichever way it went
+
+pub whole_listed : (groups : List ℕ) (gate : ℕ) (m : MemTables) (v : LogPipes) (cache : BlockCache) (t : Shows) → ListsGroups (has_table m) groups → (q : Result (Unit {0}) Error)
+    → OnOk q (RewritesThese groups gate (shows v m cache) t) → OnOk q (RewritesAll gate (shows v m cache) t)
+whole_listed groups gate m v cache t lists (Ok x) r = all_listed groups gate m v cache t lists r
+whole_listed groups gate m v cache t lists (Err e) r = tt
+
+pub whole_unlisted : (groups : List ℕ) (gate : ℕ) (s t : Shows) → (q : Result (Unit {0}) Error) → IfErr q (λ error. StopsAtGroups groups gate error s t) → IfErr q (λ error. StopsRewriting every gate error s t)
+whole_unlisted groups gate s t (Ok x) stops = tt
+whole_unlisted groups gate s t (Err e) stops = some_rewritten groups gate e s t stops
+
+module _ (test : ℕ → Bool) (gate : ℕ) (s copied : Shows) (r : Rewrites test gate s copied) (w : LogPipes) (later : IsLater copied.pipes.disk w.disk) where
+  all_synced : {A : Type 0} (x : A) → TellsFailure (Ok x) w → SyncsQueue InRewrite copied.pipes w → RewritesSynced test gate s (record copied { pipes = w })
   all_synced {A} x tells call = record {
     copied = copied;
     copies = r;
@@ -89,7 +113,7 @@ module _ (gate : ℕ) (s copied : Shows) (r : Rewrites every gate s copied) (w :
     settles = λ owes home m h. sync_settles_log home copied (record copied { pipes = w }) m (r.holds owes home m h) (record { tables = refl; cache = inl refl }) call;
   }
 
-  not_synced : (error : Error) → error ≡ errors.Failed → FailsToSyncQueue InRewrite copied.pipes w → StopsRewriting every gate error s (record copied { pipes = w })
+  not_synced : (error : Error) → error ≡ errors.Failed → FailsToSyncQueue InRewrite copied.pipes w → StopsRewriting test gate error s (record copied { pipes = w })
   not_synced error is call = record {
     part = record {
       parts = r.part.parts;
@@ -101,12 +125,12 @@ module _ (gate : ℕ) (s copied : Shows) (r : Rewrites every gate s copied) (w :
     remains = λ owes home m h. inr (is, (failed_sync InRewrite home copied.pipes w m [] (holds_runs home copied m [] (r.holds owes home m h)) call).1);
   }
 
-  pub whole_synced : (q : Result (Unit {0}) Error) → TellsFailure q w → OnOk q (SyncsQueue InRewrite copied.pipes w) → OnOk q (RewritesAll gate s (record copied { pipes = w }))
+  pub whole_synced : (q : Result (Unit {0}) Error) → TellsFailure q w → OnOk q (SyncsQueue InRewrite copied.pipes w) → OnOk q (RewritesSynced test gate s (record copied { pipes = w }))
   whole_synced (Ok x) tells call = all_synced x tells call
   whole_synced (Err e) tells call = tt
 
   pub whole_unsynced : (q : Result (Unit {0}) Error) → IfErr q (λ error. error ≡ errors.Failed) → OnErr q (FailsToSyncQueue InRewrite copied.pipes w)
-      → IfErr q (λ error. StopsRewriting every gate error s (record copied { pipes = w }))
+      → IfErr q (λ error. StopsRewriting test gate error s (record copied { pipes = w }))
   whole_unsynced (Ok x) is call = tt
   whole_unsynced (Err e) is call = not_synced e is call
 
@@ -126,7 +150,7 @@ behind_both v a b n is low high = (
   λ k h held appended. (let one = low.1 k h held appended in let two = high.1 k h held appended in omega (arith, is, one, two)),
 )
 
-left_or_held : (home : Home) (m : LogMap) (t : Shows) (error : Error) → PurgeLeavesHeld home m t error → Holds home t m [] ⊎ ((error ≡ errors.Failed) × IsLeftAt home t.pipes.disk m [])
+pub left_or_held : (home : Home) (m : LogMap) (t : Shows) (error : Error) → PurgeLeavesHeld home m t error → Holds home t m [] ⊎ ((error ≡ errors.Failed) × IsLeftAt home t.pipes.disk m [])
 left_or_held home m t errors.Memory h = inl (settled_held home t m h)
 left_or_held home m t (errors.InvalidArgument text) h = inl (settled_held home t m h)
 left_or_held home m t errors.NumberRange h = inl (settled_held home t m h)

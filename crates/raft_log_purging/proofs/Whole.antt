@@ -26,7 +26,7 @@ use Rattle.raft_log_rewriting.specs.Parts.{IsRefused, Remains}
 use Rattle.raft_log_rewriting.specs.Rewriting.{OweNothing}
 use Rattle.raft_log_rewriting.proofs.Grouping.{owe_then}
 use Rattle.raft_log_rewriting.proofs.Parts.{alive_ok, later_on, same_later, tells_err}
-use Rattle.raft_log_purging.specs.Append.{AreRewrittenTo, FailsToLoseTo, FailsToRewriteAppend, GoesOn, HasOneFile, LosesTo, PassesGate, RewritesAll, RewritesAndLoses, RewritesAppend, StopsGoingOn, ends_after, gate_of, up_to}
+use Rattle.raft_log_purging.specs.Append.{AreRewrittenTo, FailsToLoseTo, FailsToRewriteAppend, GoesOn, HasOneFile, LosesTo, PassesGate, RewritesAll, RewritesAndLoses, RewritesAppend, RewritesSynced, StopsGoingOn, ends_after, gate_of, up_to}
 use Rattle.raft_log_rewriting.proofs.Staying.{stays_on}
 use Rattle.raft_log_purging.proofs.Past.{every}
 use Rattle.raft_log_purging.proofs.OneFile.{begins_low, one_is_left}
@@ -49,17 +49,20 @@ gate_is_last {A} x watermark gate v w is high tells rotates later =
 -- What is done behind the marks.
 
 -- the tables stay through the sync
-after_sync : (gate : ℕ) (s t : Shows) (all : RewritesAll gate s t) → t.tables ≡ all.copied.tables
-after_sync gate s t all = ap (λ (e : Shows). e.tables) all.same
+pub after_sync : (test : ℕ → Bool) (gate : ℕ) (s t : Shows) (all : RewritesSynced test gate s t) → t.tables ≡ all.copied.tables
+after_sync test gate s t all = ap (λ (e : Shows). e.tables) all.same
 
 all_past : (gate : ℕ) (s t : Shows) → RewritesAll gate s t → AreRewrittenTo gate t
-all_past gate s t all = subst (λ (v : ℕ → Shown). (g : ℕ) → IsRewrittenTo gate (v g)) (sym (after_sync gate s t all)) (λ g. all.copies.whole g refl)
+all_past gate s t all = subst (λ (v : ℕ → Shown). (g : ℕ) → IsRewrittenTo gate (v g)) (sym (after_sync every gate s t all)) (λ g. all.copies.whole g refl)
+
+pub synced_owe_nothing : (test : ℕ → Bool) (gate : ℕ) (s t : Shows) → RewritesSynced test gate s t → OweNothing s.tables → OweNothing t.tables
+synced_owe_nothing test gate s t all owes = subst OweNothing (sym (after_sync test gate s t all)) (owe_then test gate s all.copied all.copies.part owes)
 
 all_owe_nothing : (gate : ℕ) (s t : Shows) → RewritesAll gate s t → OweNothing s.tables → OweNothing t.tables
-all_owe_nothing gate s t all owes = subst OweNothing (sym (after_sync gate s t all)) (owe_then every gate s all.copied all.copies.part owes)
+all_owe_nothing gate s t all owes = synced_owe_nothing every gate s t all owes
 
-pub stops_rewriting : (gate : ℕ) (error : Error) (s t : Shows) → StopsRewriting every gate error s t → StopsGoingOn error s t
-stops_rewriting gate error s t stops = record {
+pub stops_rewriting : (test : ℕ → Bool) (gate : ℕ) (error : Error) (s t : Shows) → StopsRewriting test gate error s t → StopsGoingOn error s t
+stops_rewriting test gate error s t stops = record {
   failed = stops.failed;
   later = stops.part.later;
   remains = λ owes home m h. stops.remains owes home m (settled_held home s m h);
@@ -142,7 +145,7 @@ append_unsynced error s w is later call = record {
   remains = λ home log pending h. inr (is, inr (unsynced_left home s.pipes w log pending (holds_runs home s log pending h) call).1);
 }
 
-held_or_left : (home : Home) (m : LogMap) (t : Shows) (error : Error) → Remains home m t error → Holds home t m [] ⊎ ((error ≡ errors.Failed) × IsLeftAt home t.pipes.disk m [])
+pub held_or_left : (home : Home) (m : LogMap) (t : Shows) (error : Error) → Remains home m t error → Holds home t m [] ⊎ ((error ≡ errors.Failed) × IsLeftAt home t.pipes.disk m [])
 held_or_left home m t errors.Failed h = inr (refl, h)
 held_or_left home m t _ h = inl h
 

@@ -1,5 +1,6 @@
 -- Append is rewritten up to a file, and the files up to it go.
 use Rattle.std.specs.Prelude.{◌≡◌, ◌⊎◌, ◌<◌, ◌==◌, ℕ, suc, min, max, Bool, true, false, List, [], Option, Some, None, MatchBool}
+use Rattle.std.specs.List.{list_any}
 use Rattle.raft_log_model.specs.Groups.{taken}
 use Rattle.raft_log_disk.specs.Causes.{IsLater}
 use Rattle.raft_log_base.specs.declared.errors.Error.{Error}
@@ -50,17 +51,25 @@ pub record PassesGate (watermark : Option ℕ) (gate : ℕ) (v w : LogPipes) : T
 abbrev pub AreRewrittenTo : ℕ → Shows → Type 0
 AreRewrittenTo gate s = (g : ℕ) → IsRewrittenTo gate (s.tables g)
 
--- All groups were rewritten up to the gate, and Rewrite was synced: whatever the log was, with nothing
--- pending, it is so, if no mark is owed.
-pub record RewritesAll (gate : ℕ) (s t : Shows) : Type 0 where
+-- Each group that passes the test was rewritten up to the gate, and Rewrite was synced: whatever the log was,
+-- with nothing pending, it is so, if no mark is owed.
+pub record RewritesSynced (test : ℕ → Bool) (gate : ℕ) (s t : Shows) : Type 0 where
   pub copied : Shows
-  pub copies : Rewrites (λ g. true) gate s copied
+  pub copies : Rewrites test gate s copied
   pub syncs : SyncsQueue InRewrite copied.pipes t.pipes
   pub same : t ≡ record copied { pipes = t.pipes }
   pub alive : has_failed t ≡ false
   pub later : IsLater s.pipes.disk t.pipes.disk
   pub stays : StaysInFile s.pipes t.pipes
   pub settles : OweNothing s.tables → (home : Home) (m : LogMap) → Holds home s m [] → HoldsSettled home t m
+
+-- so it is of each of these groups
+abbrev pub RewritesThese : List ℕ → ℕ → Shows → Shows → Type 0
+RewritesThese groups gate s t = RewritesSynced (λ g. list_any (λ k. k == g) groups) gate s t
+
+-- and of all groups
+abbrev pub RewritesAll : ℕ → Shows → Shows → Type 0
+RewritesAll gate s t = RewritesSynced (λ g. true) gate s t
 
 -- Append's files.
 

@@ -6,7 +6,7 @@ ghost use Rattle.raft_log_disk.specs.Causes.{IsLater};
 ghost use Rattle.raft_log_dual_pipes.specs.Calls.{FailsToRotateQueue, TellsFailure};
 ghost use Rattle.raft_log_engine_state.specs.Shows.{shows};
 ghost use Rattle.raft_log_replay.specs.Tables.{IsAtRest};
-ghost use Rattle.raft_log_rewriting.specs.Groups.{StopsRewriting};
+ghost use Rattle.raft_log_rewriting.specs.Groups.{StopsAtGroups, StopsRewriting};
 ghost use Rattle.raft_log_purging.specs.Append.{
   FailsToLoseTo,
   FailsToRewriteAppend,
@@ -15,6 +15,7 @@ ghost use Rattle.raft_log_purging.specs.Append.{
   PassesGate,
   RewritesAll,
   RewritesAppend,
+  RewritesThese,
   StopsGoingOn,
   ends_after,
   up_to,
@@ -80,7 +81,7 @@ fn pass_gate<P: PipeLog, L: Log>(
 }
 
 /// The file that was asked for, but none after the last; the last one where none was.
-fn up_to(watermark: Option<FileSeq>, last: FileSeq) -> FileSeq
+pub(crate) fn up_to(watermark: Option<FileSeq>, last: FileSeq) -> FileSeq
     ensures { result ≡ up_to watermark last }
 {
     match watermark {
@@ -141,7 +142,26 @@ fn rewrite_all<P: PipeLog, L: Log>(
     ensures rests { IsAtRest tables.old → IsAtRest tables.new }
 {
     let groups = tables.known_groups()?;
-    rewrite_groups(alloc, rt, pipes, tables, cache, groups.as_slice(), gate)?;
+    rewrite_synced(alloc, rt, pipes, tables, cache, groups.as_slice(), gate)
+}
+
+/// Rewrites these groups up to a file, and syncs Rewrite.
+pub(crate) fn rewrite_synced<P: PipeLog, L: Log>(
+    alloc: Global,
+    rt: &L,
+    pipes: &mut P,
+    tables: &mut MemTables,
+    cache: &mut BlockCache,
+    groups: &[u64],
+    gate: FileSeq,
+) -> Result<()>
+    ensures ok { OnOk result (RewritesThese groups.now gate
+        (shows (P.shown pipes.old) tables.old cache.old) (shows (P.shown pipes.new) tables.new cache.new)) }
+    ensures err { IfErr result (λ error. StopsAtGroups groups.now gate error
+        (shows (P.shown pipes.old) tables.old cache.old) (shows (P.shown pipes.new) tables.new cache.new)) }
+    ensures rests { IsAtRest tables.old → IsAtRest tables.new }
+{
+    rewrite_groups(alloc, rt, pipes, tables, cache, groups, gate)?;
     pipes.sync(rt, LogQueue::Rewrite)
 }
 

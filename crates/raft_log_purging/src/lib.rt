@@ -5,5 +5,7 @@
 #![tactic(auto)]
 
 pub mod append;
+pub mod expired;
 
 pub use append::rewrite_append_queue;
+pub use expired::purge_append;

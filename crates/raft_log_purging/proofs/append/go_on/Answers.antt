@@ -1,6 +1,7 @@
 use Rattle.std.proofs.Common.{sym, ◌∙◌}
 use Rattle.std.proofs.lemmas.Result.{err_from_is_err_and}
 use Rattle.raft_log_engine_state.specs.Shows.{shows}
+use Rattle.raft_log_purging.proofs.Past.{every}
 use Rattle.raft_log_purging.proofs.Whole.{ends_with_groups, ends_with_marks, stops_rewriting, whole_lost, whole_not_lost}
 use Rattle.raft_log_purging.proofs.append.go_on.Goals as goal
 
@@ -13,7 +14,7 @@ returns-in_err-rewrite_all-clause-err g c =
     let s = shows (g.P.PipeLog.shown c.args.pipes.now) c.args.tables.now c.args.cache.now in
     let t = shows (g.P.PipeLog.shown c.rewrite_all.new.pipes) c.rewrite_all.new.tables c.rewrite_all.new.cache in
     let p = err_from_is_err_and c.from_residual.result c.from_residual.ensures.1 in
-    rw (p.1, p.2) (stops_rewriting c.args.gate c.in_err-rewrite_all.field-0.0 s t c.in_err-rewrite_all.ensures.err)
+    rw (p.1, p.2) (stops_rewriting every c.args.gate c.in_err-rewrite_all.field-0.0 s t c.in_err-rewrite_all.ensures.err)
 
 pub returns-then-ends_after-2-clause-ok : goal.returns-then-ends_after-2-clause-ok
 returns-then-ends_after-2-clause-ok g c =

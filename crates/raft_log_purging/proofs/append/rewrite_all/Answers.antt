@@ -1,34 +1,26 @@
 use Rattle.std.proofs.Common.{List, ℕ, subst}
-use Rattle.std.proofs.lemmas.Result.{err_from_is_err_and}
+use Rattle.std.specs.Prelude.{IfErr, OnOk}
 use Rattle.raft_log_engine_state.specs.Shows.{shows}
-use Rattle.raft_log_rewriting.specs.Groups.{RewritesGroups}
-use Rattle.raft_log_purging.proofs.Past.{every_rewritten, none_yet, some_rewritten, whole_synced, whole_unsynced}
+use Rattle.raft_log_rewriting.specs.Groups.{StopsAtGroups}
+use Rattle.raft_log_purging.specs.Append.{RewritesThese}
+use Rattle.raft_log_purging.proofs.Past.{none_yet, whole_listed, whole_unlisted}
 use Rattle.raft_log_purging.proofs.append.rewrite_all.Goals as goal
 
 pub returns-in_err-groups-clause-err : goal.returns-in_err-groups-clause-err
 returns-in_err-groups-clause-err g c = none_yet c.args.gate (shows (g.P.PipeLog.shown c.args.pipes.now) c.args.tables.now c.args.cache.now) c.from_residual.result
 
-pub returns-in_err-rewrite_groups-clause-err : goal.returns-in_err-rewrite_groups-clause-err
-returns-in_err-rewrite_groups-clause-err g c =
-    let s = shows (g.P.PipeLog.shown c.args.pipes.now) c.args.tables.now c.args.cache.now in
-    let t = shows (g.P.PipeLog.shown c.rewrite_groups.new.pipes) c.rewrite_groups.new.tables c.rewrite_groups.new.cache in
-    let p = err_from_is_err_and c.from_residual-in_err-rewrite_groups.result c.from_residual-in_err-rewrite_groups.ensures.1 in
-    rw (p.1, p.2) (some_rewritten _ c.args.gate c.in_err-rewrite_groups.field-0.0 s t c.in_err-rewrite_groups.ensures.err)
-
 pub returns-clause-ok : goal.returns-clause-ok
 returns-clause-ok g c =
     let v = g.P.PipeLog.shown c.args.pipes.now in
     let s = shows v c.args.tables.now c.args.cache.now in
-    let t = shows (g.P.PipeLog.shown c.rewrite_groups.new.pipes) c.rewrite_groups.new.tables c.rewrite_groups.new.cache in
-    let done = subst (λ (l : List ℕ). RewritesGroups l c.args.gate s t) c.as_slice.ensures.value c.in_ok-rewrite_groups.ensures.ok in
-    let e = c.sync.ensures in
-    whole_synced c.args.gate s t (every_rewritten c.in_ok-groups.groups.items c.args.gate c.args.tables.now v c.args.cache.now t c.in_ok-groups.ensures done) (g.P.PipeLog.shown c.sync.new.self) e.later c.sync.result e.fails e.ok
+    let t = shows (g.P.PipeLog.shown c.rewrite_synced.new.pipes) c.rewrite_synced.new.tables c.rewrite_synced.new.cache in
+    let done = subst (λ (l : List ℕ). OnOk c.rewrite_synced.result (RewritesThese l c.args.gate s t)) c.as_slice.ensures.value c.rewrite_synced.ensures.ok in
+    whole_listed c.in_ok-groups.groups.items c.args.gate c.args.tables.now v c.args.cache.now t c.in_ok-groups.ensures c.rewrite_synced.result done
 
 pub returns-clause-err : goal.returns-clause-err
 returns-clause-err g c =
     let v = g.P.PipeLog.shown c.args.pipes.now in
     let s = shows v c.args.tables.now c.args.cache.now in
-    let t = shows (g.P.PipeLog.shown c.rewrite_groups.new.pipes) c.rewrite_groups.new.tables c.rewrite_groups.new.cache in
-    let done = subst (λ (l : List ℕ). RewritesGroups l c.args.gate s t) c.as_slice.ensures.value c.in_ok-rewrite_groups.ensures.ok in
-    let e = c.sync.ensures in
-    whole_unsynced c.args.gate s t (every_rewritten c.in_ok-groups.groups.items c.args.gate c.args.tables.now v c.args.cache.now t c.in_ok-groups.ensures done) (g.P.PipeLog.shown c.sync.new.self) e.later c.sync.result e.error e.err
+    let t = shows (g.P.PipeLog.shown c.rewrite_synced.new.pipes) c.rewrite_synced.new.tables c.rewrite_synced.new.cache in
+    let stopped = subst (λ (l : List ℕ). IfErr c.rewrite_synced.result (λ error. StopsAtGroups l c.args.gate error s t)) c.as_slice.ensures.value c.rewrite_synced.ensures.err in
+    whole_unlisted c.in_ok-groups.groups.items c.args.gate s t c.rewrite_synced.result stopped

@@ -1,0 +1,199 @@
+-- Append is purged by the rules: its exits, put together of what each part told.
+use Rattle.std.proofs.Common.{◌≡◌, ◌<◌, ◌≤◌, ℕ, max, Bool, List, [], Option, None, inl, refl, sym, subst, ◌∙◌, arith}
+use Rattle.std.specs.Prelude.{Result, Ok, Err, IfErr, OnOk}
+use Rattle.std.proofs.lemmas.Bool.{false≢true}
+use Rattle.raft_log_disk.specs.Causes.{IsLater}
+use Rattle.raft_log_base.specs.declared.errors.Error.{Error}
+use Rattle.raft_log_base.specs.declared.pipe_log.LogQueue.TheVariants.{Append}
+use Rattle.raft_log_directory.specs.Calls.Which.{InAppend}
+use Rattle.raft_log_places.specs.Shown.{Shown}
+use Rattle.raft_log_tables.proofs.Leasts.{front_is_least}
+use Rattle.raft_log_replay.specs.declared.mem_tables.MemTables.{MemTables}
+use Rattle.raft_log_replay.specs.Tables.{shown_of}
+use Rattle.raft_log_replay.specs.Walking.{ListsGroups}
+use Rattle.raft_log_dual_pipes.specs.Pipes.{LogPipes}
+use Rattle.raft_log_dual_pipes.specs.Calls.{FailsToPurgeQueue, PurgesQueue, TellsFailure}
+use Rattle.raft_log_blocks.specs.declared.block_cache.BlockCache.{BlockCache}
+use Rattle.raft_log_engine_state.specs.Shows.{Home, LogMap, Shows, sense, shows}
+use Rattle.raft_log_engine_state.specs.Holding.{Holds}
+use Rattle.raft_log_purge_state.specs.Settled.{HoldsSettled}
+use Rattle.raft_log_purge_state.specs.Raising.{AppendMayBegin}
+use Rattle.raft_log_purge_state.proofs.Settling.{settled_held}
+use Rattle.raft_log_purge_state.proofs.Raising.{raise_refused, raised}
+use Rattle.raft_log_purge.specs.Watermarks.{first_at, last_at}
+use Rattle.raft_log_rewriting.specs.Files.{IsLeastOf}
+use Rattle.raft_log_rewriting.specs.Groups.{StopsRewriting}
+use Rattle.raft_log_rewriting.specs.Marks.{CarriesMarks}
+use Rattle.raft_log_rewriting.specs.Moving.{IsRewrittenTo}
+use Rattle.raft_log_rewriting.specs.Parts.{IsRefused}
+use Rattle.raft_log_rewriting.specs.Rewriting.{OweNothing}
+use Rattle.raft_log_rewriting.proofs.Grouping.{among, part_wider}
+use Rattle.raft_log_rewriting.proofs.Leasts.{queue_may_begin}
+use Rattle.raft_log_rewriting.proofs.Parts.{alive_ok, later_on, same_later, tells_err}
+use Rattle.raft_log_purging.specs.Append.{RewritesSynced, StopsGoingOn, up_to}
+use Rattle.raft_log_purging.specs.Expired.{FailsToPurgeAppend, LosesBelow, RewritesPicked}
+use Rattle.raft_log_purging.proofs.Past.{left_or_held}
+use Rattle.raft_log_purging.proofs.Whole.{after_sync, held_or_left, stops_rewriting, synced_owe_nothing}
+
+-- Files go.
+
+none_gone : (error : Error) (s : Shows) → StopsGoingOn error s s
+none_gone error s = record {
+  failed = λ lived hit. absurd (false≢true (sym lived ∙ hit));
+  later = same_later s.pipes.disk;
+  remains = λ owes home m h. inl (settled_held home s m h);
+}
+
+pub none_gone_yet : (s : Shows) (q : Result (Unit {0}) Error) → IfErr q (λ error. StopsGoingOn error s s)
+none_gone_yet s (Ok x) = tt
+none_gone_yet s (Err e) = none_gone e s
+
+module _ (held : Option ℕ) (least : ℕ) (m : MemTables) (v : LogPipes) (old : BlockCache) (is : IsLeastOf Append (up_to held (last_at InAppend v)) m least) where
+  abbrev before : Shows
+  before = shows v m old
+
+  -- Append may begin there
+  may_begin : OweNothing before.tables → (home : Home) (log : LogMap) → HoldsSettled home before log → AppendMayBegin least (shown_of m)
+  may_begin owes home log h =
+      let front = λ (k : ℕ). front_is_least h.state.append.files.last h.state.rewrite.files.last (shown_of m k) (h.rises k) in
+      queue_may_begin Append (up_to held (last_at InAppend v)) least m is h.meant.orderly front owes
+
+  -- nothing is to go
+  pub none_below : least ≤ first_at InAppend v → LosesBelow held m before before
+  none_below low = record {
+    least = least;
+    is = is;
+    same = refl;
+    counts = refl;
+    alive = λ lived. lived;
+    later = same_later v.disk;
+    begins = λ home log h. omega (arith, low);
+    keeps = λ owes home log h. h;
+  }
+
+  module _ (w : LogPipes) (new : BlockCache) (none : new.place ≡ None) (later : IsLater v.disk w.disk) where
+    begins_there : first_at InAppend v < least → PurgesQueue InAppend least v w → (home : Home) (log : LogMap) → HoldsSettled home before log → first_at InAppend w ≡ max (first_at InAppend v) least
+    begins_there low call home log h =
+        let (runs, step) = call (sense home) h.state h.runs in
+        let first : first_at InAppend w ≡ least = runs.run.append.first in
+        omega (arith, first, low)
+
+    pub lost_below : {A : Type 0} (x : A) → TellsFailure (Ok x) w → first_at InAppend v < least → PurgesQueue InAppend least v w → LosesBelow held m before (shows w m new)
+    lost_below {A} x tells low call = record {
+      least = least;
+      is = is;
+      same = refl;
+      counts = refl;
+      alive = λ lived. alive_ok x w tells;
+      later = later;
+      begins = begins_there low call;
+      keeps = λ owes home log h. raised InAppend home before (shows w m new) log least h (may_begin owes home log h) refl none call;
+    }
+
+    pub not_lost_below : {A : Type 0} (error : Error) → TellsFailure {A = A} (Err error) w → FailsToPurgeQueue InAppend least error v w → StopsGoingOn error before (shows w m new)
+    not_lost_below {A} error tells call = record {
+      failed = λ lived hit. (tells_err {A = A} error w tells).0 hit;
+      later = later;
+      remains = λ owes home log h.
+          left_or_held home log (shows w m new) error (raise_refused InAppend home before (shows w m new) log least error h (may_begin owes home log h) refl none call);
+    }
+
+-- Groups are rewritten, and then files go.
+
+nothing_purged : (error : Error) (s : Shows) → FailsToPurgeAppend error s s
+nothing_purged error s = record {
+  failed = λ lived hit. absurd (false≢true (sym lived ∙ hit));
+  later = same_later s.pipes.disk;
+  remains = λ home m h. inl h;
+}
+
+pub nothing_purged_yet : {A : Type 0} (s : Shows) (q : Result A Error) → IfErr q (λ error. FailsToPurgeAppend error s s)
+nothing_purged_yet s (Ok x) = tt
+nothing_purged_yet s (Err e) = nothing_purged e s
+
+pub marks_refused : (error : Error) (s t : Shows) → IsRefused error s t → FailsToPurgeAppend error s t
+marks_refused error s t refused = record {
+  failed = λ lived hit. (refused.tells lived).0 hit;
+  later = refused.later;
+  remains = λ home m h. held_or_left home m t error (refused.remains home m h);
+}
+
+-- so it is of the groups that pass another test, which is the same of each
+pub synced_alike : (few many : ℕ → Bool) (gate : ℕ) (s t : Shows) → ((g : ℕ) → few g ≡ many g) → RewritesSynced few gate s t → RewritesSynced many gate s t
+synced_alike few many gate s t same r = record {
+  copied = r.copied;
+  copies = record {
+    part = part_wider few many gate s r.copied (λ g here. sym (same g) ∙ here) r.copies.part;
+    whole = λ g here. r.copies.whole g (same g ∙ here);
+    alive = r.copies.alive;
+    stays = r.copies.stays;
+    holds = r.copies.holds;
+  };
+  syncs = r.syncs;
+  same = r.same;
+  alive = r.alive;
+  later = r.later;
+  stays = r.stays;
+  settles = r.settles;
+}
+
+module _ (s carried : Shows) (carries : CarriesMarks s carried) where
+  -- marks that are carried are owed no more
+  none_owed : OweNothing carried.tables
+  none_owed = subst OweNothing (sym carries.tables) (λ g. (refl, refl, λ k. refl))
+
+  stopped_behind : (error : Error) (t : Shows) → StopsGoingOn error carried t → FailsToPurgeAppend error s t
+  stopped_behind error t stops = record {
+    failed = λ lived hit. stops.failed carries.alive hit;
+    later = later_on s.pipes.disk carried.pipes.disk t.pipes.disk carries.later stops.later;
+    remains = λ home log h. stops.remains none_owed home log (carries.settles home log h);
+  }
+
+  -- the groups weren't rewritten, not all of them
+  pub not_rewritten : (test : ℕ → Bool) (gate : ℕ) (error : Error) (t : Shows) → StopsRewriting test gate error carried t → FailsToPurgeAppend error s t
+  not_rewritten test gate error t stops = stopped_behind error t (stops_rewriting test gate error carried t stops)
+
+  module _ (test : ℕ → Bool) (gate : ℕ) (copied : Shows) (copies : RewritesSynced test gate carried copied) where
+    owe_none : OweNothing copied.tables
+    owe_none = synced_owe_nothing test gate carried copied copies none_owed
+
+    settled_there : (home : Home) (log : LogMap) → Holds home s log [] → HoldsSettled home copied log
+    settled_there home log h = copies.settles none_owed home log (settled_held home carried log (carries.settles home log h))
+
+    to_copied : IsLater s.pipes.disk copied.pipes.disk
+    to_copied = later_on s.pipes.disk carried.pipes.disk copied.pipes.disk carries.later copies.later
+
+    -- files didn't go
+    stopped_there : (error : Error) (t : Shows) → StopsGoingOn error copied t → FailsToPurgeAppend error s t
+    stopped_there error t stops = record {
+      failed = λ lived hit. stops.failed copies.alive hit;
+      later = later_on s.pipes.disk copied.pipes.disk t.pipes.disk to_copied stops.later;
+      remains = λ home log h. stops.remains owe_none home log (settled_there home log h);
+    }
+
+    picked_rewritten : (held : Option ℕ) (m : MemTables) (t : Shows) → LosesBelow held m copied t → RewritesPicked test gate held m s t
+    picked_rewritten held m t loses = record {
+      carried = carried;
+      carries = carries;
+      copied = copied;
+      copies = copies;
+      loses = loses;
+      alive = loses.alive copies.alive;
+      later = later_on s.pipes.disk copied.pipes.disk t.pipes.disk to_copied loses.later;
+      past = λ g here. subst (λ (v : ℕ → Shown). IsRewrittenTo gate (v g)) (sym (loses.same ∙ after_sync test gate carried copied copies)) (copies.copies.whole g here);
+      unowed = subst OweNothing (sym loses.same) owe_none;
+      settles = λ home log h. loses.keeps owe_none home log (settled_there home log h);
+    }
+
+    pub whole_picked : (held : Option ℕ) (m : MemTables) (t : Shows) (q : Result (Unit {0}) Error) → OnOk q (LosesBelow held m copied t) → OnOk q (RewritesPicked test gate held m s t)
+    whole_picked held m t (Ok x) loses = picked_rewritten held m t loses
+    whole_picked held m t (Err e) loses = tt
+
+    pub whole_unpicked : (t : Shows) (q : Result (Unit {0}) Error) → IfErr q (λ error. StopsGoingOn error copied t) → IfErr q (λ error. FailsToPurgeAppend error s t)
+    whole_unpicked t (Ok x) stops = tt
+    whole_unpicked t (Err e) stops = stopped_there e t stops
+
+-- so it is of the groups that are listed
+pub listed_picked : (groups : List ℕ) (test : ℕ → Bool) (gate : ℕ) (held : Option ℕ) (m : MemTables) (s t : Shows) → ListsGroups test groups → RewritesPicked (among groups) gate held m s t → RewritesPicked test gate held m s t
+listed_picked groups test gate held m s t lists r =
+    picked_rewritten s r.carried r.carries test gate r.copied (synced_alike (among groups) test gate r.carried r.copied lists.exact r.copies) held m t r.loses

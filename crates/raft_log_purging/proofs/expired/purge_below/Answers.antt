@@ -1,0 +1,52 @@
+use Rattle.std.proofs.Common.{◌≡◌, ◌<◌, ◌∙◌, ℕ, ap, ap₂, subst, arith}
+use Rattle.raft_log_base.specs.declared.pipe_log.FileId.{FileId}
+use Rattle.raft_log_base.specs.declared.pipe_log.LogQueue.{LogQueue}
+use Rattle.raft_log_base.specs.declared.pipe_log.LogQueue.TheVariants.{Append}
+use Rattle.raft_log_directory.specs.Calls.Which.{InAppend}
+use Rattle.raft_log_dual_pipes.specs.Pipes.{which_of}
+use Rattle.raft_log_dual_pipes.specs.Calls.{FailsToPurgeQueue, PurgesQueue}
+use Rattle.raft_log_engine_state.specs.Shows.{shows}
+use Rattle.raft_log_purge.specs.Watermarks.{first_at, last_at}
+use Rattle.raft_log_rewriting.specs.Files.{IsLeastOf}
+use Rattle.raft_log_purging.specs.Append.{up_to}
+use Rattle.raft_log_purging.proofs.Picked.{lost_below, none_below, none_gone_yet, not_lost_below}
+use Rattle.raft_log_purging.proofs.expired.purge_below.Goals as goal
+
+abbrev file_of : LogQueue → ℕ → FileId
+file_of q n = record { queue = q; seq = n }
+
+pub returns-in_err-least-clause-err : goal.returns-in_err-least-clause-err
+returns-in_err-least-clause-err g c = none_gone_yet (shows (g.P.PipeLog.shown c.args.pipes.now) c.args.tables.now c.args.cache.now) c.from_residual.result
+
+pub returns-then-least-first-clause-ok : goal.returns-then-least-first-clause-ok
+returns-then-least-first-clause-ok g c =
+    let v = g.P.PipeLog.shown c.args.pipes.now in
+    let ends = c.file_span-first.ensures in
+    let limit : c.up_to.result ≡ up_to c.args.held (last_at InAppend v) = c.up_to.ensures ∙ ap (up_to c.args.held) ends.last in
+    let least = subst (λ (n : ℕ). IsLeastOf Append n c.args.tables.now c.in_ok-least.least) limit c.in_ok-least.ensures in
+    none_below c.args.held c.in_ok-least.least c.args.tables.now v c.args.cache.now least (omega (arith, ends.first, c.if-least-first.true))
+
+pub returns-in-Ok-clause-ok : goal.returns-in-Ok-clause-ok
+returns-in-Ok-clause-ok g c =
+    let v = g.P.PipeLog.shown c.args.pipes.now in
+    let w = g.P.PipeLog.shown c.purge_to.new.self in
+    let e = c.in-Ok.ensures in
+    let ends = c.file_span-first.ensures in
+    let limit : c.up_to.result ≡ up_to c.args.held (last_at InAppend v) = c.up_to.ensures ∙ ap (up_to c.args.held) ends.last in
+    let least = subst (λ (n : ℕ). IsLeastOf Append n c.args.tables.now c.in_ok-least.least) limit c.in_ok-least.ensures in
+    let named : ◌≡◌ {A = FileId} c.new.result (record { queue = Append; seq = c.in_ok-least.least }) = ap₂ file_of c.new.ensures.queue c.new.ensures.seq in
+    let call = subst (λ (f : FileId). PurgesQueue (which_of f.queue) f.seq v w) named e.ok in
+    let low : first_at InAppend v < c.in_ok-least.least = omega (arith, ends.first, c.if-least-first.false) in
+    lost_below c.args.held c.in_ok-least.least c.args.tables.now v c.args.cache.now least w c.clear.new.self c.clear.ensures e.later c.in-Ok.field-0 e.fails low call
+
+pub returns-in-Err-clause-err : goal.returns-in-Err-clause-err
+returns-in-Err-clause-err g c =
+    let v = g.P.PipeLog.shown c.args.pipes.now in
+    let w = g.P.PipeLog.shown c.purge_to.new.self in
+    let e = c.in-Err.ensures in
+    let ends = c.file_span-first.ensures in
+    let limit : c.up_to.result ≡ up_to c.args.held (last_at InAppend v) = c.up_to.ensures ∙ ap (up_to c.args.held) ends.last in
+    let least = subst (λ (n : ℕ). IsLeastOf Append n c.args.tables.now c.in_ok-least.least) limit c.in_ok-least.ensures in
+    let named : ◌≡◌ {A = FileId} c.new.result (record { queue = Append; seq = c.in_ok-least.least }) = ap₂ file_of c.new.ensures.queue c.new.ensures.seq in
+    let call = subst (λ (f : FileId). FailsToPurgeQueue (which_of f.queue) f.seq c.in-Err.error v w) named e.err in
+    not_lost_below c.args.held c.in_ok-least.least c.args.tables.now v c.args.cache.now least w c.clear.new.self c.clear.ensures e.later {A = ℕ} c.in-Err.error e.fails call

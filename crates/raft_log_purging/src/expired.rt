@@ -1,0 +1,174 @@
+//! Append is purged once its files are past their threshold: some groups are asked to be compacted, others are
+//! rewritten, and then files go.
+
+ghost use Rattle.std.specs.Prelude.{◌≡◌, ◌==◌, IfErr, IfOk, OnErr, OnOk};
+ghost use Rattle.std.specs.List.{list_any};
+ghost use Rattle.raft_log_engine_state.specs.Shows.{shows};
+ghost use Rattle.raft_log_replay.specs.Tables.{IsAtRest};
+ghost use Rattle.raft_log_purging.specs.Append.{StopsGoingOn};
+ghost use Rattle.raft_log_purging.specs.Expired.{
+  FailsToPurgeAppend,
+  LosesBelow,
+  PicksGroups,
+  PurgesAppend,
+  PurgesIfPast,
+  RewritesPicked,
+};
+
+use crate::append::{rewrite_synced, up_to};
+use log::Log;
+use raft_log_base::{FileId, FileSeq, LogQueue, Result};
+use raft_log_blocks::BlockCache;
+use raft_log_dual_pipes::PipeLog;
+use raft_log_purge::{Thresholds, Watermarks, append_watermarks, takes_append};
+use raft_log_purge_rules::{Rounds, asked_groups, rewritten_groups};
+use raft_log_replay::MemTables;
+use raft_log_rewriting::{least_file, rewrite_marks};
+use std::alloc::{AllocError, Global};
+
+/// The groups that a purge of Append picks, from the least up.
+#[derive(Drop)]
+pub struct PickedGroups {
+    /// Those that it asks to be compacted.
+    pub asked: Vec<u64>,
+    /// Those that it rewrites itself.
+    pub rewritten: Vec<u64>,
+    /// In how many purges in a row each group was asked, this one among them.
+    pub rounds: Rounds,
+}
+
+/// Purges Append where it is past its threshold, else nothing is done: the marks are carried; the groups that
+/// the rules have are rewritten up to the watermark, and Rewrite is synced; then the files below the least in
+/// use leave Append's span, none from the last one on, nor from the one that is held back. The answer is the
+/// groups that are asked to be compacted, from the least up, and the round is counted.
+///
+/// Refused is `Memory` before anything is done, then what `rewrite_marks`, `rewrite_groups`, a sync and files
+/// that go refuse: the map stays, and no round is counted.
+pub fn purge_append<P: PipeLog, L: Log>(
+    alloc: Global,
+    rt: &L,
+    thresholds: &Thresholds,
+    pipes: &mut P,
+    tables: &mut MemTables,
+    cache: &mut BlockCache,
+    rounds: &mut Rounds,
+    held: Option<FileSeq>,
+) -> Result<Vec<u64>>
+    ensures ok { IfOk result (λ groups. PurgesIfPast thresholds.now held tables.old tables.new
+        rounds.old rounds.new groups.items
+        (shows (P.shown pipes.old) tables.old cache.old) (shows (P.shown pipes.new) tables.new cache.new)) }
+    ensures err { IfErr result (λ error. FailsToPurgeAppend error
+        (shows (P.shown pipes.old) tables.old cache.old) (shows (P.shown pipes.new) tables.new cache.new)) }
+    ensures uncounted { OnErr result (rounds.new ≡ rounds.old) }
+    ensures rests { IsAtRest tables.old → IsAtRest tables.new }
+{
+    if !takes_append(thresholds, pipes) {
+        return Ok(Vec::new(alloc));
+    }
+    purge_by_rules(alloc, rt, pipes, tables, cache, rounds, held)
+}
+
+/// Purges Append, whatever its size is.
+fn purge_by_rules<P: PipeLog, L: Log>(
+    alloc: Global,
+    rt: &L,
+    pipes: &mut P,
+    tables: &mut MemTables,
+    cache: &mut BlockCache,
+    rounds: &mut Rounds,
+    held: Option<FileSeq>,
+) -> Result<Vec<u64>>
+    ensures ok { IfOk result (λ groups. PurgesAppend held tables.old tables.new
+        rounds.old rounds.new groups.items
+        (shows (P.shown pipes.old) tables.old cache.old) (shows (P.shown pipes.new) tables.new cache.new)) }
+    ensures err { IfErr result (λ error. FailsToPurgeAppend error
+        (shows (P.shown pipes.old) tables.old cache.old) (shows (P.shown pipes.new) tables.new cache.new)) }
+    ensures uncounted { OnErr result (rounds.new ≡ rounds.old) }
+    ensures rests { IsAtRest tables.old → IsAtRest tables.new }
+{
+    let watermarks = append_watermarks(pipes);
+    let picked = pick_groups(alloc, tables, &watermarks, rounds)?;
+    let gate = watermarks.rewrite;
+    rewrite_picked(
+        alloc,
+        rt,
+        pipes,
+        tables,
+        cache,
+        picked.rewritten.as_slice(),
+        gate,
+        held,
+    )?;
+    *rounds = picked.rounds;
+    Ok(picked.asked)
+}
+
+/// Picks groups by the rules.
+fn pick_groups(
+    alloc: Global,
+    tables: &MemTables,
+    watermarks: &Watermarks,
+    rounds: &Rounds,
+) -> Result<PickedGroups, AllocError>
+    ensures { IfOk result (PicksGroups watermarks.now tables.now rounds.now) }
+{
+    let asked = asked_groups(alloc, tables, watermarks)?;
+    let rewritten = rewritten_groups(alloc, tables, watermarks, rounds)?;
+    let next = rounds.behind(alloc, asked.as_slice())?;
+    Ok(PickedGroups {
+        asked,
+        rewritten,
+        rounds: next,
+    })
+}
+
+/// Carries the marks, rewrites these groups up to a file, syncs Rewrite, and takes files out of Append's span.
+fn rewrite_picked<P: PipeLog, L: Log>(
+    alloc: Global,
+    rt: &L,
+    pipes: &mut P,
+    tables: &mut MemTables,
+    cache: &mut BlockCache,
+    groups: &[u64],
+    gate: FileSeq,
+    held: Option<FileSeq>,
+) -> Result<()>
+    ensures ok { OnOk result (RewritesPicked (λ g. list_any (λ k. k == g) groups.now) gate held tables.new
+        (shows (P.shown pipes.old) tables.old cache.old) (shows (P.shown pipes.new) tables.new cache.new)) }
+    ensures err { IfErr result (λ error. FailsToPurgeAppend error
+        (shows (P.shown pipes.old) tables.old cache.old) (shows (P.shown pipes.new) tables.new cache.new)) }
+    ensures rests { IsAtRest tables.old → IsAtRest tables.new }
+{
+    rewrite_marks(alloc, rt, pipes, tables)?;
+    rewrite_synced(alloc, rt, pipes, tables, cache, groups, gate)?;
+    purge_below(alloc, rt, pipes, tables, cache, held)
+}
+
+/// Takes Append's files below the least that is in use out of its span, none from the last one on, nor from the
+/// one that is held back.
+///
+/// `Memory`: nothing is done. `Failed`: a file wasn't deleted.
+fn purge_below<P: PipeLog, L: Log>(
+    alloc: Global,
+    rt: &L,
+    pipes: &mut P,
+    tables: &MemTables,
+    cache: &mut BlockCache,
+    held: Option<FileSeq>,
+) -> Result<()>
+    ensures ok { OnOk result (LosesBelow held tables.now
+        (shows (P.shown pipes.old) tables.now cache.old) (shows (P.shown pipes.new) tables.now cache.new)) }
+    ensures err { IfErr result (λ error. StopsGoingOn error
+        (shows (P.shown pipes.old) tables.now cache.old) (shows (P.shown pipes.new) tables.now cache.new)) }
+{
+    let (first, last) = pipes.file_span(LogQueue::Append);
+    let least = least_file(tables, LogQueue::Append, up_to(held, last))?;
+    if least <= first {
+        return Ok(());
+    }
+    cache.clear();
+    match pipes.purge_to(alloc, rt, FileId::new(LogQueue::Append, least)) {
+        Ok(_) => Ok(()),
+        Err(error) => Err(error),
+    }
+}

@@ -16,7 +16,7 @@ use Rattle.raft_log_stored.specs.Stored.{BlockLiesIn, KeepsLog, block_at}
 use Rattle.raft_log_stored.proofs.Reading.{stored_block_is_read}
 use Rattle.raft_log_stored.proofs.Staying.{block_stays}
 use Rattle.raft_log_blocks.specs.declared.block_cache.BlockCache.{BlockCache}
-use Rattle.raft_log_blocks.specs.Blocks.{BlockIsStored, IsOfLog, KeepsBlock, KeptBlocksAreWritten, KeptBlocksStay, StandsAt, written_block}
+use Rattle.raft_log_blocks.specs.Blocks.{BlockIsStored, IsNotKept, IsOfLog, KeepsBlock, KeptBlocksAreWritten, KeptBlocksStay, StandsAt, written_block}
 
 runs_at : (log : LogSense) (v : LogPipes) (s : State) (which : Which) → RunsOn log v s → RunsQueue (layout_at which (queues log)) (pipe_at which (files_of v)) (spanned_at which s) s.disk
 runs_at log v s InAppend run = run.run.append
@@ -38,9 +38,9 @@ module _ (log : LogSense) (v : LogPipes) (s : State) (run : RunsOn log v s) wher
   one_place a b cache one other = cc
 
   now_written : (old new : BlockCache) (block : FileBlockHandle) → IsOfLog s old → BlockIsStored s block
-      → ((old.place ≡ Some block) × (new ≡ old)) ⊎ (StandsAt v block new.bytes.items × IsOk (block_of new.bytes.items)) → new.bytes.items ≡ written_block s block
+      → ((old.place ≡ Some block) × (new ≡ old)) ⊎ (IsNotKept block old × StandsAt v block new.bytes.items × IsOk (block_of new.bytes.items)) → new.bytes.items ≡ written_block s block
   now_written old new block is lies (inl (had, same)) = subst (λ (c : BlockCache). c.bytes.items ≡ written_block s block) (sym same) (is block had).1
-  now_written old new block is lies (inr (stands, good)) = read_is_written block new.bytes.items lies stands
+  now_written old new block is lies (inr (apart, stands, good)) = read_is_written block new.bytes.items lies stands
 
   pub kept_is_written : (old new : BlockCache) → IsOfLog s old → (block : FileBlockHandle) → BlockIsStored s block → KeepsBlock v block old new
       → IsOfLog s new × (new.bytes.items ≡ written_block s block)

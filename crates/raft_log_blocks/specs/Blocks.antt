@@ -18,11 +18,15 @@ use Rattle.raft_log_blocks.specs.declared.block_cache.BlockCache.{BlockCache}
 abbrev pub StandsAt : LogPipes → FileBlockHandle → List ℕ → Type 0
 StandsAt v block bytes = IsReadAt (pipe_at (which_of block.id.queue) (files_of v)) block bytes v.disk
 
--- the block is kept: it was, and stays; or it was read, and its checksum is right
+-- another block than this one was kept, or none
+abbrev pub IsNotKept : FileBlockHandle → BlockCache → Type 0
+IsNotKept block cache = cache.place ≡ Some block → ⊥
+
+-- the block is kept: it was, and all stays; or it wasn't, was read, and its checksum is right
 abbrev pub KeepsBlock : LogPipes → FileBlockHandle → BlockCache → BlockCache → Type 0
 KeepsBlock v block old new = (new.place ≡ Some block)
     × (((old.place ≡ Some block) × (new ≡ old))
-    ⊎ (StandsAt v block new.bytes.items × IsOk (block_of new.bytes.items)))
+    ⊎ (IsNotKept block old × StandsAt v block new.bytes.items × IsOk (block_of new.bytes.items)))
 
 -- why it isn't: the pipes don't read it, or these are the bytes there, and their first fault
 abbrev pub IsBlockUnread : LogPipes → FileBlockHandle → Error → Type 0
@@ -36,6 +40,11 @@ IsUnplaced entry errors.Memory = entry.entries ≡ None
 IsUnplaced entry (errors.InvalidArgument text) = entry.entries ≡ None
 IsUnplaced entry _ = ⊥
 
+-- it isn't, and wasn't before: no block is kept any longer
+abbrev pub LosesBlock : LogPipes → FileBlockHandle → BlockCache → BlockCache → Error → Type 0
+LosesBlock v block old new error =
+    IsBlockUnread v block error × (new.place ≡ None) × IsNotKept block old
+
 -- how many bytes of entries the kept block has
 abbrev pub entries_in : BlockCache → ℕ
 entries_in cache = length cache.bytes.items - 4
@@ -46,13 +55,13 @@ IsNoEntry offset len cache errors.Memory = Unit {0}
 IsNoEntry offset len cache (errors.Corruption text) = offset + len ≤ entries_in cache → ⊥
 IsNoEntry offset len cache _ = ⊥
 
--- why an entry isn't read: it is in no file; or its block isn't read, and none is kept; or it doesn't lie in that;
--- or its bytes are no message
+-- why an entry isn't read: it is in no file; or its block isn't read, which wasn't kept, and none is now; or it
+-- doesn't lie in that; or its bytes are no message
 abbrev pub IsEntryUnread : {M : Type 0} → (List ℕ → Option M) → LogPipes → EntryIndex → BlockCache → BlockCache
     → Error → Type 0
 IsEntryUnread {M} reading v entry old new error = (IsUnplaced entry error × (new ≡ old))
     ⊎ ((block : FileBlockHandle) × (entry.entries ≡ Some block)
-    × ((IsBlockUnread v block error × (new.place ≡ None))
+    × (LosesBlock v block old new error
     ⊎ (KeepsBlock v block old new × (IsNoEntry entry.entry_offset entry.entry_len new error
     ⊎ Parses {M = M} (Err error) (reading (part entry.entry_offset entry.entry_len new.bytes.items))))))
 

@@ -20,7 +20,7 @@ pub struct BlockCache {
 
 impl BlockCache {
     ghost use Rattle.raft_log_stored.specs.Stored.{part};
-    ghost use Rattle.raft_log_blocks.specs.Blocks.{AreUnread, IsBlockUnread, IsEntryUnread, IsNoEntry, KeepsBlock, ReadsEntries, ReadsEntry, entries_in};
+    ghost use Rattle.raft_log_blocks.specs.Blocks.{AreUnread, IsEntryUnread, IsNoEntry, KeepsBlock, LosesBlock, ReadsEntries, ReadsEntry, entries_in};
 
     /// A cache without a block. It takes no memory.
     pub fn new(alloc: Global) -> BlockCache
@@ -39,7 +39,7 @@ impl BlockCache {
         self.place = None;
     }
 
-    /// Keeps the block at a place: nothing is read where it is the one that is kept.
+    /// Keeps the block at a place: where it is the one that is kept, nothing is read, and nothing refused.
     ///
     /// Refuses what the pipes refuse to read, and as a corruption a block whose checksum is wrong; no block is
     /// kept then.
@@ -50,8 +50,7 @@ impl BlockCache {
         block: FileBlockHandle,
     ) -> Result<()>
         ensures ok { OnOk result (KeepsBlock (P.shown pipes.now) block self.old self.new) }
-        ensures err { IfErr result (IsBlockUnread (P.shown pipes.now) block) }
-        ensures none { IfErr result (λ error. self.new.place ≡ None) }
+        ensures err { IfErr result (LosesBlock (P.shown pipes.now) block self.old self.new) }
     {
         if self.place == Some(block) {
             return Ok(());

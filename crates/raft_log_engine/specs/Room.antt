@@ -2,7 +2,7 @@
 use Rattle.std.specs.Prelude.{◌≡◌, ◌⊎◌, ◌≤◌, ◌+◌, [], length, vec_capacity, vec_len}
 use Rattle.raft_log_base.specs.declared.errors.Error.{Error}
 use Rattle.raft_log_base.specs.declared.errors.Error.TheVariants as errors
-use Rattle.raft_log_records.specs.Batch.{Batch}
+use Rattle.raft_log_records.specs.Batch.{Batch, max_kept_len}
 use Rattle.raft_log_engine_state.specs.Shows.{IsWellMarked, IsWritable, Shows}
 use Rattle.raft_log_engine_state.specs.Writing.{IsUnfit, Refuses}
 use Rattle.raft_log_engine.specs.declared.writing.Room.{Room}
@@ -22,6 +22,10 @@ IsUnfitItself b _ = ⊥
 -- why a batch wasn't put, and what is so then: it isn't taken, and nothing was done; or the pipes refused
 abbrev pub PutFails : Batch → Error → Shows → Shows → Type 0
 PutFails b error s t = (IsUnfit b s.tables error × (t ≡ s)) ⊎ Refuses b error s t
+
+-- a batch that was written keeps at most so much of its buffer; an empty one stays
+abbrev pub KeepsLittle : Batch → Batch → Type 0
+KeepsLittle old new = (old.items ≡ []) ⊎ (new.buffer ≤ max_kept_len)
 
 -- a batch that may be written may be so afterwards: its record isn't signed for a file
 abbrev pub StaysWritable : Batch → Batch → Type 0

@@ -1,6 +1,6 @@
 //! The engine of a log.
 
-ghost use Rattle.std.specs.Prelude.{◌≡◌, [], None, OnOk, OnErr, IfOk, IfErr};
+ghost use Rattle.std.specs.Prelude.{◌≡◌, ◌≤◌, [], None, OnOk, OnErr, IfOk, IfErr};
 ghost use Rattle.raft_log_replay.specs.Tables.{IsAtRest};
 
 mod compacting;
@@ -41,9 +41,9 @@ impl<P: PipeLog> Engine<P> {
       Writes,
       WritesBytes,
     };
-    ghost use Rattle.raft_log_records.specs.Batch.{emptied, IsButBuffer, IsReadyForEach};
+    ghost use Rattle.raft_log_records.specs.Batch.{emptied, max_kept_len, IsButBuffer, IsReadyForEach};
     ghost use Rattle.raft_log_engine.specs.Reads.{shows_of};
-    ghost use Rattle.raft_log_engine.specs.Room.{PutFails, StaysWritable};
+    ghost use Rattle.raft_log_engine.specs.Room.{KeepsLittle, PutFails, StaysWritable};
     ghost use Rattle.std.specs.Prelude.{false, true};
     ghost use Rattle.raft_log_disk.specs.Causes.{IsLater};
     ghost use Rattle.raft_log_dual_pipes.specs.Closing.{ClosesLog};
@@ -81,7 +81,7 @@ impl<P: PipeLog> Engine<P> {
     }
 
     /// Writes a batch, and answers how many bytes its record has; then, if asked, makes all batches durable.
-    /// The batch is emptied. An empty one isn't written.
+    /// The batch is emptied, and keeps at most 8 MiB of its buffer. An empty one isn't written, and stays.
     ///
     /// Before anything is done: `InvalidArgument` for a batch that was written already, or whose marks of
     /// atomic groups are broken; `Full` for a record of 2^56 bytes or more; `Hole` where a group's entries
@@ -95,6 +95,7 @@ impl<P: PipeLog> Engine<P> {
         ensures err { IfErr result (λ error. NotWritten batch.old error
             (shows_of P.shown self.old) (shows_of P.shown self.new)) }
         ensures emptied { OnOk result (IsEmptied batch.old batch.new) }
+        ensures bounded { OnOk result (KeepsLittle batch.old batch.new) }
         ensures kept { IfErr result (λ error. IsKeptUnlessFailed error batch.old batch.new) }
         ensures again { StaysWritable batch.old batch.new }
     {
@@ -133,6 +134,7 @@ impl<P: PipeLog> Engine<P> {
         ensures err { IfErr result (λ error. PutFails batch.old error
             (shows_of P.shown self.old) (shows_of P.shown self.new)) }
         ensures emptied { OnOk result (IsButBuffer (emptied batch.old) batch.new) }
+        ensures bounded { OnOk result (batch.new.buffer ≤ max_kept_len) }
         ensures kept { OnErr result (IsKept batch.old batch.new) }
         ensures again { StaysWritable batch.old batch.new }
     {

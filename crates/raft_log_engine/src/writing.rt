@@ -10,7 +10,7 @@ ghost use Rattle.raft_log_frames.specs.Made.{IsMemoryOrFull};
 ghost use Rattle.raft_log_frames.specs.Record.{record_len};
 ghost use Rattle.raft_log_model.specs.Groups.{of_group};
 ghost use Rattle.raft_log_records.specs.declared.log_batch.BatchState.TheVariants.{Filling, Populated};
-ghost use Rattle.raft_log_records.specs.Batch.{emptied, IsReadyForEach, IsSigned};
+ghost use Rattle.raft_log_records.specs.Batch.{emptied, max_kept_len, IsReadyForEach, IsSigned};
 ghost use Rattle.raft_log_replay.specs.Batch.{all_shown, counts_at_end, IsReadyFor};
 ghost use Rattle.raft_log_replay.specs.Tables.{counts, shown_of, IsAtRest, ShowsSame};
 ghost use Rattle.raft_log_dual_pipes.specs.Calls.{TellsFailure};
@@ -103,6 +103,7 @@ pub fn append<P: PipeLog, L: Log>(
         (shows (P.shown pipes.old) tables.old cache.old) (shows (P.shown pipes.new) tables.new cache.new)) }
     ensures rests { IsAtRest tables.new }
     ensures emptied { OnOk result (batch.new ≡ emptied batch.old) }
+    ensures bounded { OnOk result (batch.new.buffer ≤ max_kept_len) }
     ensures kept { OnErr result (batch.new ≡ batch.old) }
 {
     let len = batch.encoded_len();
@@ -177,6 +178,7 @@ fn commit(tables: &mut MemTables, batch: &mut LogBatch, block: FileBlockHandle, 
         ≡ counts_at_end (counts tables.old g) (of_group g (items_at block batch.old)) }
     ensures rests { IsAtRest tables.new }
     ensures emptied { batch.new ≡ emptied batch.old }
+    ensures bounded { batch.new.buffer ≤ max_kept_len }
 {
     let mut items = items;
     batch.finish_write(block);

@@ -156,7 +156,7 @@ module _ (s : Shows) (g : ℕ) (home : Home) (m : LogMap) (pending : List Said) 
         let gone = unplaced e error none in
         let placed = there.placed in
         absurd (let never : ⊥ = cc in never)
-    untold_of i e old new error is cached (inr (block, placed, inl (unread, none))) =
+    untold_of i e old new error is cached (inr (block, placed, inl (unread, none, apart))) =
         let there = stands i e is in (
           none_kept h.state new none,
           record { entry = e; block = block; bytes = _; stands = is; placed = placed; maps = there.maps; why = inl unread },

@@ -29,6 +29,7 @@ use Rattle.raft_log_builder.specs.Syncing.{SyncsEach}
 use Rattle.raft_log_builder.specs.declared.builder.DualPipesBuilder.{DualPipesBuilder}
 use Rattle.raft_log_builder.specs.declared.queue_files.QueueFiles.{QueueFiles}
 use Rattle.raft_log_opening.specs.Finding.{FindsLog}
+use Rattle.raft_log_opened.specs.Opened.{HoldsFresh}
 use Rattle.raft_log_opened.proofs.Left.{crashed_logs_rest}
 use Rattle.raft_log_resting.specs.Keeping.{RestsStill}
 use Rattle.raft_log_resting.proofs.Keeping.{kept_logs_stay}
@@ -36,11 +37,10 @@ use Rattle.raft_log_reopened.specs.Files.{AreFilesOf}
 use Rattle.raft_log_reopened.specs.Refused.{FailsToReopen}
 use Rattle.raft_log_reopened.specs.Refused.FailsToReopen.{unopened}
 use Rattle.raft_log_reopened.specs.Reopened.{home_of, reads, IsRecovered, Reopens, SparesCanBeUsed}
-use Rattle.raft_log_reopened.proofs.Directory.{call_by_call}
 use Rattle.raft_log_reopened.proofs.Finding.{scans_find_all_files, some_directory}
 use Rattle.raft_log_reopened.proofs.Outcomes.{resting_logs_reopen}
 use Rattle.raft_log_reopened.proofs.Reopened.{two_queues}
-use Rattle.raft_log_in_place.specs.InPlace.{ReopensStanding, StandingDirectoriesOpen, StandingLogsReopen, StandsWithoutChance, StopsSynced}
+use Rattle.raft_log_in_place.specs.InPlace.{StandsWithoutChance, StopsSynced}
 use Rattle.raft_log_in_place.proofs.Settling.{settled_if, settled_in}
 use Rattle.raft_log_in_place.proofs.Scans.{settled_finds, settled_recovers, settled_syncs}
 use Rattle.raft_log_in_place.proofs.Readies.{settled_readies, AreOld}
@@ -80,10 +80,10 @@ module _ (config : Config) (d : Disk) (m : LogMap) (pending : List Said) (sound 
   abbrev home : Home
   home = home_of config
 
-  one : 0 < length (directories_of config)
+  pub one : 0 < length (directories_of config)
   one = some_directory config
 
-  two : AreTwoQueues (log_in home)
+  pub two : AreTwoQueues (log_in home)
   two = two_queues home one one
 
   abbrev image : Disk
@@ -95,7 +95,7 @@ module _ (config : Config) (d : Disk) (m : LogMap) (pending : List Said) (sound 
   pub crashed : (k : ℕ) × (k ≤ length pending) × LogRestsOn (log_in home) image (taken m (take k pending))
   crashed = crashed_logs_rest home one one d image m pending left chance
 
-  abbrev map : LogMap
+  abbrev pub map : LogMap
   map = taken m (take crashed.0 pending)
 
   abbrev rests : LogRestsOn (log_in home) image map
@@ -261,17 +261,8 @@ module _ (config : Config) (d : Disk) (m : LogMap) (pending : List Said) (sound 
         unopened s.append s.rewrite s.ready (settled_in lasts s.readied) s.error (recovered s.append s.rewrite s.ready s.readied s.recovered)
         (pipes_unopened s.synced s.append_pipe s.rewrite_pipe s.read (syncs_same s.append s.rewrite s.ready s.readied s.recovered s.synced s.syncs) s.append_is s.rewrite_is s.fails)
 
-    pub opened_in_place : SparesCanBeUsed config d → ReopensStanding disk tells config d map
-    opened_in_place usable =
-        let outcome = resting_logs_reopen settled_disk tells config standing map standing_sound there (usable_still usable) in
-        record { answered = λ v tables r. outcome.answered v tables (reopens v tables r); synced = λ new s. outcome.refused new (not_opened new s) }
+    pub answered_in_place : SparesCanBeUsed config d → (v : LogPipes) (tables : MemTables) → Reopens disk tells config d v tables → HoldsFresh home v tables map
+    answered_in_place usable v tables it = (resting_logs_reopen settled_disk tells config standing map standing_sound there (usable_still usable)).answered v tables (reopens v tables it)
 
-pub standing_logs_reopen : {S : Type 0} (disk : S → Disk) (tells : S → List ℕ → ℕ → Type 0) → StandingLogsReopen disk tells
-standing_logs_reopen disk tells config d m pending sound left chance usable =
-    let c = crashed config d m pending sound left chance in
-    (c.0, c.1, opened_in_place config d m pending sound left chance disk tells usable)
-
-pub standing_directories_open : {S : Type 0} (disk : S → Disk) (tells : S → List ℕ → ℕ → Type 0) → StandingDirectoriesOpen disk tells
-standing_directories_open disk tells config old m pending sound left chance usable =
-    let (k, within, outcome) = standing_logs_reopen disk tells config (disk old) m pending sound left chance usable in
-    (k, within, λ v tables o. outcome.answered v tables (call_by_call disk tells config old v tables o))
+    pub synced_in_place : SparesCanBeUsed config d → (new : Disk) → StopsSynced disk tells config d new → IsLeftAt home new map []
+    synced_in_place usable new stops = (resting_logs_reopen settled_disk tells config standing map standing_sound there (usable_still usable)).refused new (not_opened new stops)

@@ -7,3 +7,8 @@ pub mod InPlace
 pub mod Uncut
 pub mod Flushed
 pub mod Unsynced
+pub mod FileCuts
+pub mod QueueCuts
+pub mod LogCuts
+pub mod Refusing
+pub mod Outcomes

@@ -158,7 +158,7 @@ module _ (E : ℕ → Bool) where
   hold_each mode queue files d k (bs ∷ bss) [] held = absurd held
   hold_each mode queue files d k (bs ∷ bss) (e ∷ es) (one, rest) = (holds_file mode queue files d k bs e one, hold_each mode queue files d (suc k) bss es rest)
 
-  has_read : {M : Type 0} (reads : LogQueue → List Batch → M → Type 0) (config : RecoveryConfig) (files : List listed.File) (d : Disk) (machine : M) (endings : List FileEnding) → HasReadFiles reads config files d machine endings
+  pub has_read : {M : Type 0} (reads : LogQueue → List Batch → M → Type 0) (config : RecoveryConfig) (files : List listed.File) (d : Disk) (machine : M) (endings : List FileEnding) → HasReadFiles reads config files d machine endings
       → HasReadFiles reads config files (settled_in E d) machine endings
   has_read reads config files d machine endings r = record {
     batches = r.batches;

@@ -12,6 +12,7 @@ use Rattle.raft_log_base.specs.declared.pipe_log.LogQueue.{LogQueue}
 use Rattle.raft_log_base.specs.declared.pipe_log.LogQueue.TheVariants.{Append}
 use Rattle.raft_log_disk.specs.Arguments.{WrongDirectory}
 use Rattle.raft_log_disk.specs.Disk.{Disk}
+use Rattle.raft_log_disk.specs.Image.{IsSound}
 use Rattle.raft_log_disk.specs.LogFormat.{Format}
 use Rattle.raft_log_disk.proofs.KeptLaws.{kept_directory}
 use Rattle.raft_log_file_queue.specs.Standing.{IsPlace}
@@ -37,6 +38,7 @@ use Rattle.raft_log_builder.specs.Directories.{directories_of}
 use Rattle.raft_log_builder.specs.Scanning.{FailsToScanLog}
 use Rattle.raft_log_builder.specs.Scanning.FailsToScanLog.{uncleared, unready, unscanned as scan_refused}
 use Rattle.raft_log_builder.specs.declared.builder.DualPipesBuilder.{DualPipesBuilder}
+use Rattle.raft_log_opening.specs.Finding.{FindsLog}
 use Rattle.raft_log_resting.specs.Keeping.{KeepsNumbered}
 use Rattle.raft_log_resting.proofs.Calls.{keeps_all, keeps_calm}
 use Rattle.raft_log_resting.proofs.Keeping.{keeps_same, keeps_then, kept_logs_stay}
@@ -139,12 +141,23 @@ module _ (config : Config) (d : Disk) (m : LogMap) (pending : List Said) (left :
     },
   )
 
+  -- a scan leaves all files as they are
+  pub finds_keep : (found : DualPipesBuilder) (new : Disk) → FindsLog config found d new → (F : Format LogRecord) → KeepsNumbered F d new
+  finds_keep found new finds F =
+      let s = finds.scans in
+      scan (directories_of config) d dirs_there F s.scanned new (subst (λ (l : List (List ℕ)). HasDirectories l d s.scanned) (begun_directories config finds.begun finds.begins) s.scans.made) s.cleared
+
+  pub finds_sound : (found : DualPipesBuilder) (new : Disk) → FindsLog config found d new → IsSound d → IsSound new
+  finds_sound found new finds sound =
+      let s = finds.scans in
+      let made = subst (λ (l : List (List ℕ)). HasDirectories l d s.scanned) (begun_directories config finds.begun finds.begins) s.scans.made in
+      let was : IsSound s.scanned = subst IsSound (sym (same_made (directories_of config) d dirs_there (directories_of config) (λ path listed. listed) s.scanned made)) sound in
+      subst IsSound (sym s.cleared.rest) (record { named = was.named; one_name = was.one_name; apart = was.apart; fresh = was.fresh; files = was.files })
+
   pub stops_uncut : (new : Disk) → StopsUncut config d new → IsLeftAt home new m pending
   stops_uncut new (undone same) = stays new (λ F. keeps_equal (directories_of config) d dirs_there F new same)
   stops_uncut new (unscanned b error begun fails) = stays new (λ F. no_log_scan (directories_of config) d dirs_there F b (begun_directories config b begun) error new fails)
-  stops_uncut new (unread found finds) =
-      let s = finds.scans in
-      stays new (λ F. scan (directories_of config) d dirs_there F s.scanned new (subst (λ (l : List (List ℕ)). HasDirectories l d s.scanned) (begun_directories config finds.begun finds.begins) s.scans.made) s.cleared)
+  stops_uncut new (unread found finds) = stays new (finds_keep found new finds)
 
 pub uncut_logs_stay : UncutLogsStay
 uncut_logs_stay config d m pending left new stops = stops_uncut config d m pending left new stops

@@ -70,7 +70,7 @@ module _ (layout : QueueLayout LogRecord) (told : IsQueueLayout layout) where
   abbrev pub LiesSteady : Spanned LogRecord → Disk → Type 0
   LiesSteady q d = StandsSteady q d ⊎ RestsQueue layout q d
 
-  steady_lies : (q : Spanned LogRecord) (d : Disk) → LiesSteady q d → LiesQueue layout q d
+  pub steady_lies : (q : Spanned LogRecord) (d : Disk) → LiesSteady q d → LiesQueue layout q d
   steady_lies q d (inr rests) = rests_lie layout q d rests
   steady_lies q d (inl st) =
       let s = st.stands in
@@ -215,13 +215,13 @@ module _ (layout : QueueLayout LogRecord) (told : IsQueueLayout layout) (q : Spa
       let names = syncs_names fails.before old fails.between fails.synced in
       no_sync_then layout told q fails.file kind fails.between new (subst HaveOneName (sym names) one) fails.fails (syncs_then layout told q fails.before old fails.between one fails.synced steady)
 
-  log_then : (b : DualPipesBuilder) (kind : ErrorKind) (old new : Disk) → HaveOneName old.names → FailsToSyncLog b kind old new → LiesSteady layout told q old → LiesSteady layout told q new
+  pub log_then : (b : DualPipesBuilder) (kind : ErrorKind) (old new : Disk) → HaveOneName old.names → FailsToSyncLog b kind old new → LiesSteady layout told q old → LiesSteady layout told q new
   log_then b kind old new one (append_unsynced fails) steady = no_syncs_then (append_files b) kind old new one fails steady
   log_then b kind old new one (rewrite_unsynced between syncs fails) steady =
       let names = syncs_names (append_files b) old between syncs in
       no_syncs_then (rewrite_files b) kind between new (subst HaveOneName (sym names) one) fails (syncs_then layout told q (append_files b) old between one syncs steady)
 
-log_names : (b : DualPipesBuilder) (kind : ErrorKind) (old new : Disk) → FailsToSyncLog b kind old new → new.names ≡ old.names
+pub log_names : (b : DualPipesBuilder) (kind : ErrorKind) (old new : Disk) → FailsToSyncLog b kind old new → new.names ≡ old.names
 log_names b kind old new (append_unsynced fails) = no_syncs_names (append_files b) kind old new fails
 log_names b kind old new (rewrite_unsynced between syncs fails) = no_syncs_names (rewrite_files b) kind between new fails ∙ syncs_names (append_files b) old between syncs
 

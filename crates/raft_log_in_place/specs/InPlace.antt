@@ -1,6 +1,6 @@
 -- A log whose engine failed is opened in place: no crash came between, so its last files may have bytes that
 -- aren't synced, which the open reads as they stand.
-use Rattle.std.specs.Prelude.{◌≡◌, ℕ, ◌<◌, ◌≤◌, List, [], length, take}
+use Rattle.std.specs.Prelude.{◌≡◌, ℕ, ◌<◌, ◌≤◌, ◌⊎◌, List, [], length, take}
 use Rattle.std.specs.declared.io.ErrorKind.{ErrorKind}
 use Rattle.raft_log_model.specs.Groups.{taken}
 use Rattle.raft_log_base.specs.declared.errors.Error.{Error}
@@ -25,9 +25,10 @@ use Rattle.raft_log_builder.specs.Finishing.{FailsToSyncLog, IsPipeRecovered, Is
 use Rattle.raft_log_builder.specs.Scanning.{FailsToScanLog}
 use Rattle.raft_log_builder.specs.declared.builder.DualPipesBuilder.{DualPipesBuilder}
 use Rattle.raft_log_opening.specs.Finding.{FindsLog, IsBegun}
-use Rattle.raft_log_opening.specs.Opening.{OpensDirectory}
+use Rattle.raft_log_opening.specs.Opening.{FailsToOpenDirectory, OpensDirectory}
 use Rattle.raft_log_opened.specs.Left.{IsCrashOf}
 use Rattle.raft_log_opened.specs.Opened.{HoldsFresh}
+use Rattle.raft_log_reopened.specs.Refused.{FailsToReopen}
 use Rattle.raft_log_reopened.specs.Reopened.{home_of, IsRecovered, Reopens, SparesCanBeUsed}
 
 -- No checksum is met by chance in the last file of either queue, as its bytes stand: what is read there now
@@ -54,30 +55,45 @@ pub record StopsSynced {F : Type 0} (disk : F → Disk) (tells : F → List ℕ 
   pub error : Error
   pub fails : FailsToOpenLog append_pipe rewrite_pipe error synced new
 
+-- The log is left as it was, with the batches that were pending, or some first ones of them synced; or with
+-- the map that an open that is answered gives, and nothing pending.
+abbrev pub IsLeftEither : Home → Disk → LogMap → List Said → LogMap → Type 0
+IsLeftEither home d m pending now = IsLeftAt home d m pending ⊎ IsLeftAt home d now []
+
 -- Where the log is scanned, read, cut, synced and opened call by call, without a crash, an engine of what was
 -- read holds this map, and nothing is pending. Where that is refused behind the syncs, the log is left with
--- it.
+-- it; and wherever it is refused or given up, before a file is cut, at a cut or behind it, the log is left
+-- with it or as it was.
 pub record ReopensStanding {F : Type 0} (disk : F → Disk) (tells : F → List ℕ → ℕ → Type 0) (config : Config)
-    (d : Disk) (m : LogMap) : Type 0 where
+    (d : Disk) (m : LogMap) (pending : List Said) (now : LogMap) : Type 0 where
   pub answered : (v : LogPipes) (tables : MemTables) → Reopens disk tells config d v tables
-      → HoldsFresh (home_of config) v tables m
-  pub synced : (new : Disk) → StopsSynced disk tells config d new → IsLeftAt (home_of config) new m []
+      → HoldsFresh (home_of config) v tables now
+  pub synced : (new : Disk) → StopsSynced disk tells config d new → IsLeftAt (home_of config) new now []
+  pub refused : (new : Disk) → FailsToReopen disk tells config d new
+      → IsLeftEither (home_of config) new m pending now
 
 -- So it is with a log that an engine left, and its map after some first pending batches.
 abbrev pub StandingLogsReopen : {F : Type 0} → (F → Disk) → (F → List ℕ → ℕ → Type 0) → Type 0
 StandingLogsReopen {F} disk tells = (config : Config) (d : Disk) (m : LogMap) (pending : List Said)
     → IsSound d → (left : IsLeftAt (home_of config) d m pending)
     → StandsWithoutChance (home_of config) left.1.lies.state d → SparesCanBeUsed config d
-    → (k : ℕ) × (k ≤ length pending) × ReopensStanding disk tells config d (taken m (take k pending))
+    → (k : ℕ) × (k ≤ length pending) × ReopensStanding disk tells config d m pending (taken m (take k pending))
 
--- So an engine of it holds that map where its directories are opened by the call that does all of it.
+-- So it is where its directories are opened by the call that does all of it, answered and refused.
+pub record OpensStanding {F : Type 0} (disk : F → Disk) (tells : F → List ℕ → ℕ → Type 0) (config : Config)
+    (old : F) (m : LogMap) (pending : List Said) (now : LogMap) : Type 0 where
+  pub answered : (v : LogPipes) (tables : MemTables) → OpensDirectory disk tells config old v tables
+      → HoldsFresh (home_of config) v tables now
+  pub refused : (error : Error) (new : F) → FailsToOpenDirectory disk tells config error old new
+      → IsLeftEither (home_of config) (disk new) m pending now
+
+-- and so it is of a log that an engine left, and its map after some first pending batches
 abbrev pub StandingDirectoriesOpen : {F : Type 0} → (F → Disk) → (F → List ℕ → ℕ → Type 0) → Type 0
 StandingDirectoriesOpen {F} disk tells = (config : Config) (old : F) (m : LogMap) (pending : List Said)
     → IsSound (disk old) → (left : IsLeftAt (home_of config) (disk old) m pending)
     → StandsWithoutChance (home_of config) left.1.lies.state (disk old) → SparesCanBeUsed config (disk old)
     → (k : ℕ) × (k ≤ length pending)
-    × ((v : LogPipes) (tables : MemTables) → OpensDirectory disk tells config old v tables
-    → HoldsFresh (home_of config) v tables (taken m (take k pending)))
+    × OpensStanding disk tells config old m pending (taken m (take k pending))
 
 -- An open went no further than this, so that nothing of the log was cut: nothing was done; its directories
 -- weren't scanned; or they were, and no more.

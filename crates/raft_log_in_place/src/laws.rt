@@ -7,12 +7,13 @@ use raft_log_disk::FileSystem;
 
 /// What an engine left, failed or closed, is opened without a crash as the map after some first pending
 /// batches, and nothing is pending: the bytes that weren't synced are read as they stand, and synced. Where a
-/// pipe isn't opened behind the syncs, the log is left with that map.
+/// pipe isn't opened behind the syncs, the log is left with that map; wherever it is refused before, at a cut
+/// or behind one too, it is left as it was, with the batches that were pending.
 pub fn standing_logs_reopen<F: FileSystem>()
     ensures { StandingLogsReopen F.disk F.tells_space }
 {}
 
-/// So it is where its directories are opened by `open_directory` of `raft_log_opening`.
+/// So it is where its directories are opened by `open_directory` of `raft_log_opening`, or aren't.
 pub fn standing_directories_open<F: FileSystem>()
     ensures { StandingDirectoriesOpen F.disk F.tells_space }
 {}

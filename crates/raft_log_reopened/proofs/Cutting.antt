@@ -27,10 +27,10 @@ use Rattle.raft_log_reopened.specs.Files.AreToldOf.{none_told, some_told}
 
 -- Only the last file is cut.
 
-abbrev AreSound : List FileEnding → Type 0
+abbrev pub AreSound : List FileEnding → Type 0
 AreSound front = EachHas (λ (e : FileEnding). e.is_damaged ≡ false) front
 
-cut_last : (earlier : List File) (last : File) (front : List FileEnding) (ending : FileEnding) (old new : Disk) → length front ≡ length earlier → AreSound front → CutsEach (earlier ++ last ∷ []) (front ++ ending ∷ []) old new → CutsOne last ending old new
+pub cut_last : (earlier : List File) (last : File) (front : List FileEnding) (ending : FileEnding) (old new : Disk) → length front ≡ length earlier → AreSound front → CutsEach (earlier ++ last ∷ []) (front ++ ending ∷ []) old new → CutsOne last ending old new
 cut_last [] last [] ending old new long sound (mid, one, rest) = subst (λ (d : Disk). CutsOne last ending old d) (sym rest) one
 cut_last [] last (g ∷ front) ending old new long sound cuts = (let none : suc (length front) ≡ 0 = long in absurd (omega (arith, none)))
 cut_last (f ∷ earlier) last [] ending old new long sound cuts = (let none : 0 ≡ suc (length earlier) = long in absurd (omega (arith, none)))
@@ -41,7 +41,7 @@ cut_last (f ∷ earlier) last (g ∷ front) ending old new long (fine, more) (mi
 
 -- A cut leaves a sound disk.
 
-shortened_sound : (id size : ℕ) (old new : Disk) → IsSound old → Changes id (after_change (ShortenedTo size)) old new → IsSound new
+pub shortened_sound : (id size : ℕ) (old new : Disk) → IsSound old → Changes id (after_change (ShortenedTo size)) old new → IsSound new
 shortened_sound id size old new sound changes =
     subst IsSound (sym changes.done) (sound_with_file old id changes.file (after_change (ShortenedTo size) changes.file) sound changes.is (sound_after_change changes.file (ShortenedTo size) (sound.files id changes.file changes.is) (omega arith)))
 

@@ -70,24 +70,24 @@ endings_by config files d context endings read = by_workers config.concurrency r
     by_workers zero all = (let is : 0 + length read.batches ≡ 0 = all in inr (no_length endings (omega (arith, long, is))))
     by_workers (suc workers) all = (let is : 0 + length read.batches ≡ length files = all in inl (omega (arith, long, is)))
 
-no_endings : (files : List File) (old new : Disk) → CutsEach files [] old new → new ≡ old
+pub no_endings : (files : List File) (old new : Disk) → CutsEach files [] old new → new ≡ old
 no_endings [] old new same = same
 no_endings (f ∷ files) old new same = same
 
 ending_damaged : Bool → FileEnding
 ending_damaged b = record { format = record { version = V1; alignment = 0 }; end = None; is_damaged = b }
 
-no_ending_uncut : (files : List File) (kind : ErrorKind) (old new : Disk) → FailsToCutEach files [] kind old new → ⊥
+pub no_ending_uncut : (files : List File) (kind : ErrorKind) (old new : Disk) → FailsToCutEach files [] kind old new → ⊥
 unfolding ending_damaged
 no_ending_uncut files kind old new fails =
     let clash : true ≡ false = ap (λ (e : FileEnding). e.is_damaged) (fails.ending_is (ending_damaged true) ∙ sym (fails.ending_is (ending_damaged false))) in
     (let never : ⊥ = cc in absurd never)
 
 -- nothing is told of the files of a queue, or of all
-abbrev IsToldOrNot : (queue : LogQueue) → List (List ℕ) → Spanned LogRecord → Disk → List File → List FileEnding → Type 0
+abbrev pub IsToldOrNot : (queue : LogQueue) → List (List ℕ) → Spanned LogRecord → Disk → List File → List FileEnding → Type 0
 IsToldOrNot queue directories q d files endings = (endings ≡ []) ⊎ AreToldOf (log_layout queue directories) q d files endings
 
-told_or : (queue : LogQueue) (directories : List (List ℕ)) → 0 < length directories → (config : RecoveryConfig) → config.queue ≡ queue → (d : Disk) (q : Spanned LogRecord) (files : List File) (endings : List FileEnding) (context : MemTableRecoverContext)
+pub told_or : (queue : LogQueue) (directories : List (List ℕ)) → 0 < length directories → (config : RecoveryConfig) → config.queue ≡ queue → (d : Disk) (q : Spanned LogRecord) (files : List File) (endings : List FileEnding) (context : MemTableRecoverContext)
     → HasReadFiles reads config files d context endings → AreUnaligned endings → AreFilesOf (log_layout queue directories) q d files → IsToldOrNot queue directories q d files endings
 told_or queue directories some config is d q files endings context read unaligned all = elim (endings_by config files d context endings read) [
   | inl long ↦ inr (told_of queue directories some config is d q files endings context read long unaligned all)

@@ -26,13 +26,9 @@ use Rattle.raft_log_builder.specs.Cutting.{CutsEach, CutsIf, FailsToCutEach}
 use Rattle.raft_log_resting.specs.Keeping.{KeepsNumbered}
 use Rattle.raft_log_resting.proofs.Calls.{keeps_touched}
 use Rattle.raft_log_resting.proofs.LastCut.{no_trim_touches, untrimmed_lies}
-use Rattle.raft_log_opened.specs.Entries.{EachHas}
 use Rattle.raft_log_reopened.specs.Files.{AreAll, AreToldOf, ReadsAsTold}
 use Rattle.raft_log_reopened.specs.Files.AreToldOf.{none_told, some_told}
-use Rattle.raft_log_reopened.proofs.Cutting.{last_is, last_path}
-
-abbrev AreSound : List FileEnding → Type 0
-AreSound front = EachHas (λ (e : FileEnding). e.is_damaged ≡ false) front
+use Rattle.raft_log_reopened.proofs.Cutting.{last_is, last_path, AreSound}
 
 -- No file is behind the last one.
 
@@ -43,12 +39,12 @@ pub not_all : (file : File) → ((other : File) → other ≡ file) → ⊥
 not_all file all = (let same : 0 ≡ 1 = ap (λ (f : File). f.seq) (all (file_numbered 0) ∙ sym (all (file_numbered 1))) in omega (arith, same))
 
 -- what wasn't cut is the last file, and nothing was done before
-record IsAtLast (last : File) (ending : FileEnding) (file : File) (its : FileEnding) (old between : Disk) : Type 0 where
-  file_is : file ≡ last
-  ending_is : its ≡ ending
-  same : between ≡ old
+pub record IsAtLast (last : File) (ending : FileEnding) (file : File) (its : FileEnding) (old between : Disk) : Type 0 where
+  pub file_is : file ≡ last
+  pub ending_is : its ≡ ending
+  pub same : between ≡ old
 
-at_last : (earlier : List File) (last : File) (front : List FileEnding) (ending : FileEnding) (at : ℕ) (file : File) (its : FileEnding) (old between : Disk) → length front ≡ length earlier → AreSound front
+pub at_last : (earlier : List File) (last : File) (front : List FileEnding) (ending : FileEnding) (at : ℕ) (file : File) (its : FileEnding) (old between : Disk) → length front ≡ length earlier → AreSound front
     → ((other : File) → slice_index_or (earlier ++ last ∷ []) at other ≡ file) → ((other : FileEnding) → slice_index_or (front ++ ending ∷ []) at other ≡ its) → its.is_damaged ≡ true
     → CutsEach (take at (earlier ++ last ∷ [])) (take at (front ++ ending ∷ [])) old between → IsAtLast last ending file its old between
 at_last [] last [] ending zero file its old between long sound is ends damaged cuts = record { file_is = sym (is last); ending_is = sym (ends ending); same = cuts }

@@ -27,3 +27,11 @@ returns-clause-emptied c =
     let place = block_place c.args.block b.entries in
     let size = subst (λ (n : ℕ). vec_len c.args.items + n ≤ vec_capacity c.args.items) (sym (ap (λ (x : Batch). length x.items) w ∙ length-map b.items (written_item place))) c.requires.room in
     on_ok c.drain.result (c.drain.ensures.succeeds size) c.drain.ensures.emptied ∙ ap emptied w
+
+pub returns-clause-bounded : goal.returns-clause-bounded
+returns-clause-bounded c =
+    let b = c.args.batch.now in
+    let w = c.finish_write.ensures.written in
+    let place = block_place c.args.block b.entries in
+    let size = subst (λ (n : ℕ). vec_len c.args.items + n ≤ vec_capacity c.args.items) (sym (ap (λ (x : Batch). length x.items) w ∙ length-map b.items (written_item place))) c.requires.room in
+    on_ok c.drain.result (c.drain.ensures.succeeds size) c.drain.ensures.bounded

@@ -1,4 +1,4 @@
-use Rattle.raft_log_in_place.proofs.InPlace.{standing_logs_reopen}
+use Rattle.raft_log_in_place.proofs.Outcomes.{standing_logs_reopen}
 use Rattle.raft_log_in_place.proofs.laws.standing_logs_reopen.Goals as goal
 
 pub returns : goal.returns

@@ -5,6 +5,11 @@ use Rattle.raft_log_blocks.specs.Blocks.{IsEntryUnread}
 use Rattle.raft_log_blocks.proofs.Entries.{parse_err}
 use Rattle.raft_log_blocks.proofs.block_cache.BlockCache.read_entry.Goals as goal
 
+pub returns-in_err-read-clause-err : goal.returns-in_err-read-clause-err
+returns-in_err-read-clause-err g c =
+    let p = err_from_is_err_and c.from_residual-in_err-read.result c.from_residual-in_err-read.ensures.1 in
+    rw (p.1, p.2) (inr (c.in-Some.block, c.in-Some.is, inl c.in_err-read.ensures.err))
+
 pub returns-in_err-bytes-clause-err : goal.returns-in_err-bytes-clause-err
 returns-in_err-bytes-clause-err g c =
     let p = err_from_is_err_and c.from_residual-in_err-bytes.result c.from_residual-in_err-bytes.ensures.1 in

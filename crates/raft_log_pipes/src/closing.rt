@@ -3,7 +3,7 @@
 
 ghost use Rattle.std.specs.Prelude.{◌≡◌, [], ◌∷◌, if◌then◌else◌, max, reverse, false, true};
 ghost use Rattle.raft_log_disk.specs.Causes.{IsLater};
-ghost use Rattle.raft_log_pipes.specs.Closing.{ClosesFiles, FinishesOrNot, IsSettledBy, LeavesClosed, Reserves, ReservesAll, StaysLeft, greatest_reserved};
+ghost use Rattle.raft_log_pipes.specs.Closing.{FinishesOrNot, IsSettledBy, LeavesClosed, Reserves, ReservesAll, StaysLeft, greatest_reserved};
 
 use crate::pipe_files::PipeFiles;
 use log::{Log, error};
@@ -127,24 +127,4 @@ pub fn reserve_files<G: PipeFormat, F: FileSystem, L: Log>(
         }
         last = reserve(alloc, layout, rt, file_system, &file, last);
     }
-}
-
-/// Closes a pipe: finishes its last file, and gives the files that are kept for use reserved names. Refusals
-/// are logged, and nothing that was written is lost by them.
-pub fn close<G: PipeFormat, F: FileSystem, L: Log>(
-    alloc: Global,
-    layout: &G,
-    rt: &L,
-    file_system: &mut F,
-    files: PipeFiles,
-)
-    ensures calls { ClosesFiles (G.file_paths layout.now) files
-        (F.disk file_system.old) (F.disk file_system.new) }
-    ensures held { LeavesClosed (G.format layout.now) (G.own layout.now) (G.file_paths layout.now) files
-        (F.disk file_system.old) (F.disk file_system.new) }
-    ensures later { IsLater (F.disk file_system.old) (F.disk file_system.new) }
-{
-    let mut files = files;
-    finish(layout, rt, file_system, &mut files);
-    reserve_files(alloc, layout, rt, file_system, files.recycled);
 }

@@ -5,7 +5,7 @@ ghost use Rattle.raft_log_base.specs.declared.errors.Error.TheVariants as errors
 ghost use Rattle.raft_log_disk.specs.Causes.{IsLater};
 
 use crate::appending::append;
-use crate::closing::{close, finish, reserve_files};
+use crate::closing::{finish, reserve_files};
 use crate::found_files::FoundFiles;
 use crate::new_files::NewFiles;
 use crate::opening::open;
@@ -352,8 +352,13 @@ impl<G: PipeFormat + Drop> SinglePipe<G> {
         if self.failed {
             return;
         }
-        let SinglePipe { layout, files, .. } = self;
-        close(alloc, &layout, rt, file_system, files);
+        let SinglePipe {
+            layout,
+            mut files,
+            ..
+        } = self;
+        finish(&layout, rt, file_system, &mut files);
+        reserve_files(alloc, &layout, rt, file_system, files.recycled);
     }
 
     /// The first half of a close: the last file is cut behind its records and synced. A refusal is logged. Of

@@ -4,6 +4,7 @@
 ghost use Rattle.std.specs.Prelude.{◌≡◌, [], ◌∷◌, if◌then◌else◌, max, reverse, false, true};
 ghost use Rattle.raft_log_disk.specs.Causes.{IsLater};
 ghost use Rattle.raft_log_pipes.specs.Closing.{FinishesOrNot, IsSettledBy, LeavesClosed, Reserves, ReservesAll, StaysLeft, greatest_reserved};
+ghost use Rattle.raft_log_pipes.specs.Exits.{SameLists};
 
 use crate::pipe_files::PipeFiles;
 use log::{Log, error};
@@ -28,6 +29,7 @@ pub fn finish<G: PipeFormat, F: FileSystem, L: Log>(
     ensures settled { result ≡ true → IsSettledBy (G.format layout.now) (G.own layout.now)
         (G.file_paths layout.now) files.old (F.disk file_system.old) (F.disk file_system.new) }
     ensures recycled { files.new.recycled ≡ files.old.recycled }
+    ensures lists { SameLists files.old files.new }
     ensures later { IsLater (F.disk file_system.old) (F.disk file_system.new) }
 {
     let finished = finish_file(layout, file_system, &mut files.writer);

@@ -305,6 +305,7 @@ impl<G: PipeFormat + Drop> SinglePipe<G> {
     ghost use Rattle.std.specs.Prelude.{[], reverse};
     ghost use Rattle.raft_log_pipes.specs.Placing.{IsChosen};
     ghost use Rattle.raft_log_pipes.specs.Closing.{ClosesFiles, FinishesOrNot, LeavesClosed, ReservesAll, StaysLeft, greatest_reserved};
+    ghost use Rattle.raft_log_pipes.specs.Exits.{SameLists};
     ghost use Rattle.raft_log_pipes.specs.Opening.{OpenLeaves, Opens};
 
     /// Opens a pipe over what was found of its queue: where there is no file, the queue begins in a file 1;
@@ -352,11 +353,8 @@ impl<G: PipeFormat + Drop> SinglePipe<G> {
         if self.failed {
             return;
         }
-        let SinglePipe {
-            layout,
-            mut files,
-            ..
-        } = self;
+        let SinglePipe { layout, files, .. } = self;
+        let mut files = files;
         finish(&layout, rt, file_system, &mut files);
         reserve_files(alloc, &layout, rt, file_system, files.recycled);
     }
@@ -372,6 +370,7 @@ impl<G: PipeFormat + Drop> SinglePipe<G> {
         ensures failed { self.old.failed ≡ true → F.disk file_system.new ≡ F.disk file_system.old }
         ensures same { (self.new.layout ≡ self.old.layout) × (self.new.settings ≡ self.old.settings)
             × (self.new.failed ≡ self.old.failed) × (self.new.files.recycled ≡ self.old.files.recycled) }
+        ensures lists { SameLists self.old.files self.new.files }
         ensures later { IsLater (F.disk file_system.old) (F.disk file_system.new) }
     {
         if self.failed {

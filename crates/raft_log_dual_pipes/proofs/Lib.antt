@@ -3,4 +3,5 @@ mod Exits
 mod Spans
 mod Ends
 mod Numbers
+mod LastFile
 mod Opened

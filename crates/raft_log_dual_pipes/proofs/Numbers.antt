@@ -61,7 +61,7 @@ module _ {R E V : Type 0} (says : R → Record E V) (layout : QueueLayout R) (to
   record_ends : (first : ℕ) (begin : NewFiles) (queue : LogQueue) (signed : LogFileContext → List ℕ) (y : Record E V) (before after : PipeFiles) (q : LogFiles R) (old new : Disk) → SaysRecord says layout queue signed y
       → AppendFails layout.format layout.own layout.paths begin queue signed before after errors.NumberRange old new → On layout base before q old → (10 ^ 16 ≤ suc after.active.seq) × (begin.target_size ≤ before.writer.written ⊎ Fails old new)
   record_ends first begin queue signed y before after q old new record_is (not_turned long leaves) on = (turn_ends (header_bytes begin.format) before after q old new leaves on, inl long)
-  record_ends first begin queue signed y before after q old new record_is (not_written middle cut between short fault turning earlier fails lists tells later) on =
+  record_ends first begin queue signed y before after q old new record_is (not_written middle cut between short fault turning earlier fails lists makes tells later) on =
       let (p, turned, mid, quiet) = turn_one says layout told first base begin before middle q old between turning on in
       let w : Written R = record { bytes = signed (context_of queue middle); value = record_is.value } in
       let (cause, left) = fails base p w (framed_one says layout told first base queue signed y middle p between record_is mid) refl mid in

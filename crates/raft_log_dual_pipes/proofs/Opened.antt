@@ -1,6 +1,6 @@
 -- Both pipes of a log are opened, one after the other.
 use Rattle.std.specs.String.{string_bytes}
-use Rattle.std.proofs.Common.{◌≡◌, ℕ, ◌<◌, Some, None, List, [], length, map, false, inl, inr, sym, ◌∙◌, ap, subst}
+use Rattle.std.proofs.Common.{ℕ, ◌<◌, Some, None, List, [], length, map, inl, inr, sym, ◌∙◌, ap, subst}
 use Rattle.std.proofs.lemmas.List.{length-map}
 use Rattle.raft_log_disk.specs.Disk.{Disk}
 use Rattle.raft_log_disk.specs.Image.{IsSound}
@@ -19,15 +19,8 @@ use Rattle.raft_log_steps.specs.OnDisk.{LogLiesOn, OpensBoth}
 use Rattle.raft_log_steps.proofs.LyingQueues.{lying_logs_are_logs}
 use Rattle.raft_log_steps.proofs.OnDiskLaws.{resting_logs_open}
 use Rattle.raft_log_dual_pipes.specs.Pipes.{OnePipe, LogPipes, LogSense, IsPipeOf, queues}
-use Rattle.raft_log_dual_pipes.specs.Opening.{layout_found, OpensFound, FailsToOpenFound, IsFoundAs, RestsAsFound, RunsAsFound, OpensLog, FailsToOpenLog}
+use Rattle.raft_log_dual_pipes.specs.Opening.{layout_found, OpensFound, FailsToOpenFound, IsFoundAs, RestsAsFound, RunsAsFound, IsOpenedOf, OpensLog, FailsToOpenLog}
 use Rattle.raft_log_dual_pipes.specs.declared.opening.FoundPipe.{FoundPipe}
-
--- the pipe that was opened over what was found
-pub record IsOpenedOf (p : FoundPipe) (o : OnePipe) : Type 0 where
-  pub queue : o.queue ≡ p.layout.queue
-  pub directories : o.directories ≡ map string_bytes p.layout.paths.items
-  pub settings : o.settings ≡ p.settings
-  pub alive : o.failed ≡ false
 
 some_directory : (queue : LogQueue) (directories : List (List ℕ)) (p : FoundPipe) → IsFoundAs queue directories p → 0 < length directories
 some_directory queue directories p like = subst (λ (ds : List (List ℕ)). 0 < length ds) like.lies (subst (λ (n : ℕ). 0 < n) (sym (length-map p.layout.paths.items string_bytes)) p.layout.some)
@@ -94,6 +87,8 @@ pub opens_log : (append rewrite : FoundPipe) (old mid : Disk) (v : LogPipes) →
     → OpensLog append rewrite old v
 opens_log append rewrite old mid v sound mid_sound one other first second = record {
   mid = mid;
+  append_is = one;
+  rewrite_is = other;
   append_opens = first;
   rewrite_opens = second;
   log = λ log m h. opened log m append rewrite old sound h v mid mid_sound one other first second;

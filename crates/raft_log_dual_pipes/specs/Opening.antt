@@ -1,5 +1,5 @@
 -- Both pipes of a log are opened, over what was found of its queues.
-use Rattle.std.specs.Prelude.{◌≡◌, ◌⊎◌, List, [], ℕ, map}
+use Rattle.std.specs.Prelude.{◌≡◌, ◌⊎◌, List, [], ℕ, map, false}
 use Rattle.std.specs.String.{string_bytes}
 use Rattle.raft_log_disk.specs.Disk.{Disk}
 use Rattle.raft_log_model.specs.Groups.{Map}
@@ -16,7 +16,7 @@ use Rattle.raft_log_steps.specs.State.{Ties}
 use Rattle.raft_log_steps.specs.Lying.{none_open}
 use Rattle.raft_log_steps.specs.Reopening.{GoesOnFound, IsFoundOf, ReadsBothAgain}
 use Rattle.raft_log_steps.specs.OnDisk.{LogLiesOn, LogRestsOn}
-use Rattle.raft_log_dual_pipes.specs.Pipes.{LogPipes, LogSense, RunsOn, State, queues}
+use Rattle.raft_log_dual_pipes.specs.Pipes.{LogPipes, LogSense, OnePipe, RunsOn, State, queues}
 use Rattle.raft_log_dual_pipes.specs.declared.opening.FoundPipe.{FoundPipe}
 
 -- how the files of a queue that was found are written, and where they lie
@@ -59,9 +59,18 @@ pub record RunsAsFound (log : LogSense) (m : Map (List ℕ) (List ℕ)) (was : S
   pub reads : ReadsBothAgain (Ties (queues log)) was state
   pub holds : IsLog (Ties (queues log) state) m []
 
+-- the pipe is of the queue that was found, in its directories, goes on by its rules, and hasn't failed
+pub record IsOpenedOf (p : FoundPipe) (o : OnePipe) : Type 0 where
+  pub queue : o.queue ≡ p.layout.queue
+  pub directories : o.directories ≡ map string_bytes p.layout.paths.items
+  pub settings : o.settings ≡ p.settings
+  pub alive : o.failed ≡ false
+
 -- They were opened, that of Append first; and so of a log that was found at rest.
 pub record OpensLog (append rewrite : FoundPipe) (old : Disk) (v : LogPipes) : Type 0 where
   pub mid : Disk
+  pub append_is : IsOpenedOf append v.append
+  pub rewrite_is : IsOpenedOf rewrite v.rewrite
   pub append_opens : OpensFound append v.append.files old mid
   pub rewrite_opens : OpensFound rewrite v.rewrite.files mid v.disk
   pub log : (log : LogSense) (m : Map (List ℕ) (List ℕ)) → (h : RestsAsFound log m append rewrite old)

@@ -22,6 +22,7 @@ pub trait PipeLog {
     ghost use Rattle.raft_log_disk.specs.Disk.{Disk};
     ghost use Rattle.raft_log_dual_pipes.specs.Closing.{ClosesInOrder, ClosesLog};
     ghost use Rattle.raft_log_dual_pipes.specs.Numbers.{EndsNumbers, EndsNumbersAt, EndsNumbersBelow};
+    ghost use Rattle.raft_log_dual_pipes.specs.LastFile.{IsNextIfFull, RaisesPipe, TurnsBehind, last_of};
     ghost use Rattle.raft_log_dual_pipes.specs.Calls.{AppendsTo, FailsToAppendTo, FailsToPurgeQueue, FailsToRotateQueue, FailsToSyncQueue, IsIo, IsSpanOf, PurgesQueue, RotatesQueue, StaysFailed, SyncsQueue, TellsFailure, seq_at, size_at};
 
     /// The file system that the files are in, which a close gives back.
@@ -97,6 +98,10 @@ pub trait PipeLog {
             (shown self.old) (shown self.new)) }
         ensures range { IfErr result (λ error. EndsNumbersAt (which_of queue) (B.signed bytes.old) error
             (shown self.old) (shown self.new)) }
+        ensures goes_into { OnOk result (IsNextIfFull (which_of queue) (shown self.old)
+            (last_of (which_of queue) (shown self.new))) }
+        ensures behind { IfErr result (λ error. TurnsBehind (which_of queue) error
+            (shown self.old) (shown self.new)) }
         ensures signed { B.signed bytes.new ≡ B.signed bytes.old }
         ensures said { B.said bytes.new ≡ B.said bytes.old }
         ensures failed { StaysFailed result (shown self.old) (shown self.new) }
@@ -133,6 +138,8 @@ pub trait PipeLog {
     /// deleted.
     fn purge_to<L: Log>(&mut self, alloc: Global, rt: &L, file_id: FileId) -> Result<usize>
         ensures ok { OnOk result (PurgesQueue (which_of file_id.queue) file_id.seq
+            (shown self.old) (shown self.new)) }
+        ensures raised { OnOk result (RaisesPipe (which_of file_id.queue) file_id.seq
             (shown self.old) (shown self.new)) }
         ensures count { IfOk result (λ count.
             IsInSpan file_id.seq (pipe_at (which_of file_id.queue) (files_of (shown self.old)))

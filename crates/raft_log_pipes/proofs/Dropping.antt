@@ -28,7 +28,7 @@ use Rattle.raft_log_files.specs.Exits.{IsOpen}
 use Rattle.raft_log_files.specs.Rotation.{CanDrop, Drops, FailsToDrop, FilesStay}
 use Rattle.raft_log_pipes.specs.declared.pipe_files.PipeFiles.{PipeFiles}
 use Rattle.raft_log_pipes.specs.Files.{Listed, IsSpan, CanBeUsed, NoneHas, IsPipe}
-use Rattle.raft_log_pipes.specs.Purging.{without, AreGone, DropsTo, FailsToDropAll}
+use Rattle.raft_log_pipes.specs.Purging.{without, AreGone, DropsTo, LosesFirst, FailsToDropAll}
 use Rattle.raft_log_pipes.proofs.Lists.{path_numbered, span_end, span_moved, kept_moved, numbers_apart}
 
 module _ {R : Type 0} (F : Format R) (own : List ℕ → Type 0) (paths : FilePaths) (lawful : IsLayout F own paths) where
@@ -152,11 +152,17 @@ module _ {R : Type 0} (F : Format R) (own : List ℕ → Type 0) (paths : FilePa
       let Q : Disk → Type 0 = λ d. IsSpan paths d.names files.first_seq files.earlier.items q.last in
       let calm : IsCalm Q = record { at_count = λ d span. span; at_end = λ d span. span } in
       let refusal : Result ℕ ErrorKind = Err error in
-      let span = kept_delete Q (WrongName (path_of paths f) mid) refusal (path_of paths f) calm pipe.span (λ k at. span_dropped base mid files q f k pipe below listed) tt (subst (λ (p : List ℕ). FailsToDelete p error mid new) path_is refused) in (
+      let span = kept_delete Q (WrongName (path_of paths f) mid) refusal (path_of paths f) calm pipe.span (λ k at. span_dropped base mid files q f k pipe below listed) tt (subst (λ (p : List ℕ). FailsToDelete p error mid new) path_is refused) in
+      let loses : Disk → Type 0 = λ d. LosesFirst gone old d in
+      let still : IsCalm loses = record { at_count = λ d less. less; at_end = λ d less. less } in
+      let one_less : update bytes_eq mid.names (path_of paths f) None ≡ without (take (suc i) gone) old.names =
+      ap (λ (N : Names). update bytes_eq N (path_of paths f) None) names ∙ sym (without_more (take i gone) (path_of paths f) old.names) ∙ ap (λ (ps : List (List ℕ)). without ps old.names) (ap (λ (p : List ℕ). take i gone ++ p ∷ []) (sym path_is) ∙ sym front) in
+      let first = kept_delete loses (WrongName (path_of paths f) mid) refusal (path_of paths f) still (i, names) (λ k at. (suc i, one_less)) tt (subst (λ (p : List ℕ). FailsToDelete p error mid new) path_is refused) in (
         fails_after old mid new later cause,
         left,
         λ m under none. more_gaps m under (gaps m under none),
         span,
+        first,
       )
 
 -- the front of a list of texts, with the one at a place

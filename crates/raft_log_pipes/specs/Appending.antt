@@ -10,7 +10,9 @@ use Rattle.raft_log_base.specs.declared.pipe_log.LogQueue.{LogQueue}
 use Rattle.raft_log_base.specs.declared.pipe_log.FileBlockHandle.{FileBlockHandle}
 use Rattle.raft_log_base.specs.declared.pipe_log.LogFileContext.{LogFileContext}
 use Rattle.raft_log_format.specs.Header.{header_bytes}
+use Rattle.raft_log_file.specs.Writer.{WritesNext}
 use Rattle.raft_log_files.specs.Layout.{FilePaths}
+use Rattle.raft_log_files.specs.Exits.{AppendMakes}
 use Rattle.raft_log_files.specs.declared.last_file.WriteFault.{WriteFault}
 use Rattle.raft_log_files.specs.declared.last_file.WriteFault.TheVariants.{CutBack, Failed}
 use Rattle.raft_log_pipes.specs.Placing.{IsPlaced}
@@ -34,7 +36,7 @@ pub data TurnsFirst {R : Type 0} (F : Format R) (own : List ℕ → Type 0) (pat
       → IsTurned begin.format before after → TurnsFirst F own paths begin before after old new
 
 -- The record was written behind the others of the last file, which may be the next one, signed for that
--- file; this is its place.
+-- file, and by one write, for which room was made up to the target size; this is its place.
 pub record AppendsAt {R : Type 0} (F : Format R) (own : List ℕ → Type 0) (paths : FilePaths)
     (begin : NewFiles) (queue : LogQueue) (signed : LogFileContext → List ℕ)
     (before after : PipeFiles) (block : FileBlockHandle) (old new : Disk) : Type 0 where
@@ -43,6 +45,8 @@ pub record AppendsAt {R : Type 0} (F : Format R) (own : List ℕ → Type 0) (pa
   pub first : TurnsFirst F own paths begin before middle old between
   pub adds : Adds F own paths (signed (context_of queue middle)) block.offset middle after between new
   pub lists : SameLists middle after
+  pub calls : WritesNext middle.writer after.writer (signed (context_of queue middle)) begin.target_size
+      between new
   pub id : block.id ≡ record { queue = queue; seq = middle.active.seq }
   pub len : block.len ≡ length (signed (context_of queue middle))
 
@@ -102,7 +106,7 @@ Tells F own paths begin (Failed kind) before after error old new =
     (error ≡ errors.Failed) × (after ≡ before) × (new ≡ old)
 
 -- Why a record wasn't written, and what stands then: the pipe was to go on in the next file, and that was
--- refused; or the write was.
+-- refused; or the write was, and its refusal is told, or that of the call that was to cut it off.
 pub data AppendFails {R : Type 0} (F : Format R) (own : List ℕ → Type 0) (paths : FilePaths)
     (begin : NewFiles) (queue : LogQueue) (signed : LogFileContext → List ℕ)
     (before after : PipeFiles) (error : Error) (old new : Disk) : Type 0 where
@@ -113,5 +117,7 @@ pub data AppendFails {R : Type 0} (F : Format R) (own : List ℕ → Type 0) (pa
       → TurnsFirst F own paths begin before middle old between → IsLater old between
       → FailsToAdd F own paths (signed (context_of queue middle)) fault middle cut between short
       → SameLists middle cut
+      → AppendMakes fault middle.writer cut.writer (signed (context_of queue middle)) begin.target_size
+      between short
       → Tells F own paths begin fault cut after error short new → IsLater short new
       → AppendFails F own paths begin queue signed before after error old new

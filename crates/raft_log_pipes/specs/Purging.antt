@@ -67,14 +67,18 @@ DropsTo {R} F own paths gone count old new = (base : Disk) (files : PipeFiles) (
     × AreGone paths new.names files.first_seq files.recycled.items (drop count gs) × (new.names ≡ without
     (take count gone) old.names)
 
--- one of them wasn't: a file call failed, the records are held, and the span is there
+-- some first ones of these paths lost their names, and no other name changed
+abbrev pub LosesFirst : List (List ℕ) → Disk → Disk → Type 0
+LosesFirst gone old new = (count : ℕ) × (new.names ≡ without (take count gone) old.names)
+
+-- one of them wasn't: a file call failed, the records are held, and the span is there, as are those behind it
 abbrev pub FailsToDropAll : {R : Type 0} → Format R → (List ℕ → Type 0) → FilePaths → List (List ℕ) → Disk
     → Disk → Type 0
 FailsToDropAll {R} F own paths gone old new = (base : Disk) (files : PipeFiles) (q : LogFiles R)
     (gs : List Listed) → gone ≡ map (path_of paths) gs → IsPipe F own paths base files q old
     → AreGone paths old.names files.first_seq files.recycled.items gs → Fails old new × IsLeft F own base q
     new × GapsStay F q old new
-    × IsSpan paths new.names files.first_seq files.earlier.items q.last
+    × IsSpan paths new.names files.first_seq files.earlier.items q.last × LosesFirst gone old new
 
 -- the files that are listed once those below a number have left the span
 pub record IsRaised (capacity seq : ℕ) (before after : PipeFiles) : Type 0 where
@@ -97,12 +101,14 @@ Purges {R} F own paths capacity seq before after old new = (base : Disk) (q : Lo
     → IsPipe F own paths base before q old → IsPipe F own paths base after q new × GapsStay F q old new
     × (new.names ≡ without (paths_going paths capacity seq before) old.names)
 
--- one of them didn't: a file call failed, the records are held, and the span is there
-abbrev pub FailsToPurge : {R : Type 0} → Format R → (List ℕ → Type 0) → FilePaths → PipeFiles → PipeFiles
-    → Disk → Disk → Type 0
-FailsToPurge {R} F own paths before after old new = (base : Disk) (q : LogFiles R)
+-- one of them didn't: a file call failed, the records are held, the span is there, and of the files that were
+-- to go only some first ones went
+abbrev pub FailsToPurge : {R : Type 0} → Format R → (List ℕ → Type 0) → FilePaths → ℕ → ℕ → PipeFiles
+    → PipeFiles → Disk → Disk → Type 0
+FailsToPurge {R} F own paths capacity seq before after old new = (base : Disk) (q : LogFiles R)
     → IsPipe F own paths base before q old → Fails old new × IsLeft F own base q new × GapsStay F q old new
     × IsSpan paths new.names after.first_seq after.earlier.items q.last
+    × LosesFirst (paths_going paths capacity seq before) old new
 
 -- an invalid argument, or want of memory for its text
 abbrev pub IsArgumentOrMemory : Error → Type 0
@@ -136,5 +142,5 @@ PurgeLeaves F own paths capacity seq before after (errors.InvalidArgument text) 
 PurgeLeaves F own paths capacity seq before after errors.NumberRange old new =
     HasFarFile before.earlier.items × SameFiles before after × (new ≡ old)
 PurgeLeaves F own paths capacity seq before after errors.Failed old new =
-    IsRaised capacity seq before after × FailsToPurge F own paths before after old new
+    IsRaised capacity seq before after × FailsToPurge F own paths capacity seq before after old new
 PurgeLeaves F own paths capacity seq before after _ old new = ⊥

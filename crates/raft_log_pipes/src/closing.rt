@@ -3,7 +3,8 @@
 
 ghost use Rattle.std.specs.Prelude.{◌≡◌, [], ◌∷◌, if◌then◌else◌, max, reverse, false, true};
 ghost use Rattle.raft_log_disk.specs.Causes.{IsLater};
-ghost use Rattle.raft_log_pipes.specs.Closing.{ClosesFiles, FinishesOrNot, IsSettledBy, LeavesClosed, Reserves, ReservesAll, StaysLeft, greatest_reserved};
+ghost use Rattle.raft_log_pipes.specs.Closing.{FinishesOrNot, IsSettledBy, LeavesClosed, Reserves, ReservesAll, StaysLeft, greatest_reserved};
+ghost use Rattle.raft_log_pipes.specs.Exits.{SameLists};
 
 use crate::pipe_files::PipeFiles;
 use log::{Log, error};
@@ -28,6 +29,7 @@ pub fn finish<G: PipeFormat, F: FileSystem, L: Log>(
     ensures settled { result ≡ true → IsSettledBy (G.format layout.now) (G.own layout.now)
         (G.file_paths layout.now) files.old (F.disk file_system.old) (F.disk file_system.new) }
     ensures recycled { files.new.recycled ≡ files.old.recycled }
+    ensures lists { SameLists files.old files.new }
     ensures later { IsLater (F.disk file_system.old) (F.disk file_system.new) }
 {
     let finished = finish_file(layout, file_system, &mut files.writer);
@@ -127,24 +129,4 @@ pub fn reserve_files<G: PipeFormat, F: FileSystem, L: Log>(
         }
         last = reserve(alloc, layout, rt, file_system, &file, last);
     }
-}
-
-/// Closes a pipe: finishes its last file, and gives the files that are kept for use reserved names. Refusals
-/// are logged, and nothing that was written is lost by them.
-pub fn close<G: PipeFormat, F: FileSystem, L: Log>(
-    alloc: Global,
-    layout: &G,
-    rt: &L,
-    file_system: &mut F,
-    files: PipeFiles,
-)
-    ensures calls { ClosesFiles (G.file_paths layout.now) files
-        (F.disk file_system.old) (F.disk file_system.new) }
-    ensures held { LeavesClosed (G.format layout.now) (G.own layout.now) (G.file_paths layout.now) files
-        (F.disk file_system.old) (F.disk file_system.new) }
-    ensures later { IsLater (F.disk file_system.old) (F.disk file_system.new) }
-{
-    let mut files = files;
-    finish(layout, rt, file_system, &mut files);
-    reserve_files(alloc, layout, rt, file_system, files.recycled);
 }

@@ -5,7 +5,7 @@ ghost use Rattle.raft_log_base.specs.declared.errors.Error.TheVariants as errors
 ghost use Rattle.raft_log_disk.specs.Causes.{IsLater};
 
 use crate::appending::append;
-use crate::closing::{close, finish, reserve_files};
+use crate::closing::{finish, reserve_files};
 use crate::found_files::FoundFiles;
 use crate::new_files::NewFiles;
 use crate::opening::open;
@@ -305,6 +305,7 @@ impl<G: PipeFormat + Drop> SinglePipe<G> {
     ghost use Rattle.std.specs.Prelude.{[], reverse};
     ghost use Rattle.raft_log_pipes.specs.Placing.{IsChosen};
     ghost use Rattle.raft_log_pipes.specs.Closing.{ClosesFiles, FinishesOrNot, LeavesClosed, ReservesAll, StaysLeft, greatest_reserved};
+    ghost use Rattle.raft_log_pipes.specs.Exits.{SameLists};
     ghost use Rattle.raft_log_pipes.specs.Opening.{OpenLeaves, Opens};
 
     /// Opens a pipe over what was found of its queue: where there is no file, the queue begins in a file 1;
@@ -353,7 +354,9 @@ impl<G: PipeFormat + Drop> SinglePipe<G> {
             return;
         }
         let SinglePipe { layout, files, .. } = self;
-        close(alloc, &layout, rt, file_system, files);
+        let mut files = files;
+        finish(&layout, rt, file_system, &mut files);
+        reserve_files(alloc, &layout, rt, file_system, files.recycled);
     }
 
     /// The first half of a close: the last file is cut behind its records and synced. A refusal is logged. Of
@@ -367,6 +370,7 @@ impl<G: PipeFormat + Drop> SinglePipe<G> {
         ensures failed { self.old.failed ≡ true → F.disk file_system.new ≡ F.disk file_system.old }
         ensures same { (self.new.layout ≡ self.old.layout) × (self.new.settings ≡ self.old.settings)
             × (self.new.failed ≡ self.old.failed) × (self.new.files.recycled ≡ self.old.files.recycled) }
+        ensures lists { SameLists self.old.files self.new.files }
         ensures later { IsLater (F.disk file_system.old) (F.disk file_system.new) }
     {
         if self.failed {

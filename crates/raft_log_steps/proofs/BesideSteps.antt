@@ -224,7 +224,7 @@ module _ {R E V : Type 0} (log : TwoQueues R E V) (two : AreTwoQueues log) (whic
   not_purged capacity seq after (errors.InvalidArgument text) new (out, same, disk) = nothing_done after new same disk
   not_purged capacity seq after errors.NumberRange new (far, same, disk) = nothing_done after new same disk
   not_purged capacity seq after errors.Failed new (raised, fails) =
-      let (cause, left, gaps, span) = fails s.disk q.files runs.pipe in
+      let (cause, left, gaps, span, first) = fails s.disk q.files runs.pipe in
       let (above, under) = raised_in_span log.says layout told q.first s.disk capacity seq before after q.files s.disk.names new.names raised runs.first runs.pipe.span span in
       (left_there (record { first = seq; files = q.files }) new left (listed_there after seq q.files new raised.first left span), raises seq new left.stands.others gaps above under)
   not_purged capacity seq after _ new fails = absurd fails

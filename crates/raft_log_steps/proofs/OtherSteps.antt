@@ -165,7 +165,7 @@ module _ {R E V : Type 0} (log : TwoQueues R E V) (two : AreTwoQueues log) (whic
       let told = told_at log two which in
       let q = spanned_at which s in
       let runs = run_at log two which p s run in
-      let (cause, left, gaps, span) = fails s.disk q.files runs.pipe in
+      let (cause, left, gaps, span, first) = fails s.disk q.files runs.pipe in
       let (above, under) = raised_in_span log.says layout told q.first s.disk capacity seq (pipe_at which p) after q.files s.disk.names new.names raised runs.first runs.pipe.span span in
       let next : Spanned R = record { first = seq; files = q.files } in (
         left_on log two which p s run next new left,

@@ -196,7 +196,7 @@ module _ {R E V : Type 0} (says : R → Record E V) (layout : QueueLayout R) (to
       → AppendFails layout.format layout.own layout.paths begin queue signed before after error old new → On layout base before q old → RefusedOne says layout first base (header_bytes begin.format) y before after q error old new
   refused_one begin queue signed y before after q error old new record_is (not_turned long leaves) is =
       turning_left (header_bytes begin.format) y before after q error old new (rotation_left (header_bytes begin.format) before after q error old new leaves is)
-  refused_one begin queue signed y before after q error old new record_is (not_written middle cut between short fault turning earlier fails lists tells later) is =
+  refused_one begin queue signed y before after q error old new record_is (not_written middle cut between short fault turning earlier fails lists makes tells later) is =
       let (p, turned, mid, quiet) = turn_one says layout told first base begin before middle q old between turning is in
       let w : Written R = record { bytes = signed (context_of queue middle); value = record_is.value } in
       write_refused begin y (signed (context_of queue middle)) fault before middle cut after q p w error old between short new (lists.first ∙ turned_first begin before middle old between turning) record_is.said (framed_one says layout told first base queue signed y middle p between record_is mid) refl turned mid quiet fails tells
@@ -211,7 +211,7 @@ module _ {R E V : Type 0} (says : R → Record E V) (layout : QueueLayout R) (to
   pub append_failed : (begin : NewFiles) (queue : LogQueue) (signed : LogFileContext → List ℕ) (y : Record E V) (before after : PipeFiles) (q : LogFiles R) (error : Error) (old new : Disk) → SaysRecord says layout queue signed y
       → AppendFails layout.format layout.own layout.paths begin queue signed before after error old new → On layout base before q old → TellsOfCall error → Fails old new
   append_failed begin queue signed y before after q error old new record_is (not_turned long leaves) is of_call = rotation_failed (header_bytes begin.format) before after q error old new leaves is of_call
-  append_failed begin queue signed y before after q error old new record_is (not_written middle cut between short fault turning earlier fails lists tells later) is of_call =
+  append_failed begin queue signed y before after q error old new record_is (not_written middle cut between short fault turning earlier fails lists makes tells later) is of_call =
       let (p, turned, mid, quiet) = turn_one says layout told first base begin before middle q old between turning is in
       let w : Written R = record { bytes = signed (context_of queue middle); value = record_is.value } in
       let (cause, left) = fails base p w (framed_one says layout told first base queue signed y middle p between record_is mid) refl mid in

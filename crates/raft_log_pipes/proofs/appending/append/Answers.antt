@@ -1,4 +1,6 @@
 use Rattle.std.proofs.Common.{◌≡◌, ℕ, List, length, ◌∙◌, ap, subst}
+use Rattle.raft_log_file.specs.Writer.{WritesNext}
+use Rattle.raft_log_files.specs.Exits.{AppendMakes}
 use Rattle.raft_log_files.specs.declared.last_file.WriteFault.{WriteFault}
 use Rattle.raft_log_pipes.specs.Appending.{AppendsAt, context_of}
 use Rattle.raft_log_pipes.specs.Appending.AppendFails.{not_written}
@@ -19,6 +21,7 @@ returns-in-Ok-clause-ok g c =
       first = c.in_ok-turn_first.ensures.ok;
       adds = subst (λ (bytes : List ℕ). Adds (g.G.PipeFormat.format c.args.layout.now) (g.G.PipeFormat.own c.args.layout.now) (g.G.PipeFormat.file_paths c.args.layout.now) bytes c.in-Ok.at c.turn_first.new.files c.add.new.files (D c.turn_first.new.file_system) (D c.add.new.file_system)) is c.in-Ok.ensures.ok;
       lists = c.add.ensures.lists;
+      calls = subst (λ (bytes : List ℕ). WritesNext c.turn_first.new.files.writer c.add.new.files.writer bytes c.args.new_files.now.target_size (D c.turn_first.new.file_system) (D c.add.new.file_system)) is c.in-Ok.ensures.calls;
       id = id_is c.args.queue c.turn_first.new.files c.new-id.result c.new-id.ensures.queue c.new-id.ensures.seq;
       len = ap length is;
     } in
@@ -32,7 +35,9 @@ returns-in-Err-clause-err g c =
     let is : c.as_bytes-record.result.now ≡ signed (context_of c.args.queue c.turn_first.new.files) = c.as_bytes-record.ensures ∙ c.sign.ensures.bytes ∙ ap signed context in
     not_written c.turn_first.new.files c.add.new.files (D c.turn_first.new.file_system) (D c.add.new.file_system) c.in-Err.fault c.in_ok-turn_first.ensures.ok c.turn_first.ensures.later
     (subst (λ (bytes : List ℕ). FailsToAdd (g.G.PipeFormat.format c.args.layout.now) (g.G.PipeFormat.own c.args.layout.now) (g.G.PipeFormat.file_paths c.args.layout.now) bytes c.in-Err.fault c.turn_first.new.files c.add.new.files (D c.turn_first.new.file_system) (D c.add.new.file_system)) is c.in-Err.ensures.err)
-    c.add.ensures.lists c.tell_fault.ensures.left c.tell_fault.ensures.later
+    c.add.ensures.lists
+    (subst (λ (bytes : List ℕ). AppendMakes c.in-Err.fault c.turn_first.new.files.writer c.add.new.files.writer bytes c.args.new_files.now.target_size (D c.turn_first.new.file_system) (D c.add.new.file_system)) is c.in-Err.ensures.refusal)
+    c.tell_fault.ensures.left c.tell_fault.ensures.later
 
 pub returns-in-Err-clause-elsewhere : goal.returns-in-Err-clause-elsewhere
 returns-in-Err-clause-elsewhere g c again =

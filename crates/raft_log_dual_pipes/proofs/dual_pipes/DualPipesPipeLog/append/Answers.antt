@@ -2,8 +2,9 @@ use Rattle.std.proofs.Common.{map, sym, ◌∙◌, ap}
 use Rattle.std.specs.String.{string_bytes}
 use Rattle.raft_log_directory.specs.Calls.Which.{InAppend, InRewrite}
 use Rattle.raft_log_dual_pipes.proofs.Exits.{appends_not_when, appends_when}
-use Rattle.raft_log_dual_pipes.specs.Pipes.{OnePipe}
+use Rattle.raft_log_dual_pipes.specs.Pipes.{LogPipes, OnePipe}
 use Rattle.raft_log_dual_pipes.proofs.Numbers.{append_ends_when}
+use Rattle.raft_log_dual_pipes.proofs.LastFile.{lasts_when, turns_when}
 use Rattle.raft_log_dual_pipes.proofs.Pairing.{either_false}
 use Rattle.raft_log_dual_pipes.proofs.dual_pipes.DualPipesPipeLog.append.Goals as goal
 
@@ -50,3 +51,53 @@ returns-in-Rewrite-clause-range g c =
     let p = c.append-in-Rewrite.new.self in
     let o : OnePipe = record { queue = p.layout.queue; directories = map string_bytes p.layout.paths.items; settings = p.settings; files = p.files; failed = p.failed } in
     rw c.in-Rewrite.is (append_ends_when InRewrite _ o _ (g.B.ReactiveBytes.signed c.args.bytes.now) c.append-in-Rewrite.result (e.err alive))
+
+pub returns-in-Append-clause-goes_into : goal.returns-in-Append-clause-goes_into
+returns-in-Append-clause-goes_into g c =
+    let was = c.args.self.now in
+    let v : LogPipes = record {
+      append = record { queue = was.append.layout.queue; directories = map string_bytes was.append.layout.paths.items; settings = was.append.settings; files = was.append.files; failed = was.append.failed };
+      rewrite = record { queue = was.rewrite.layout.queue; directories = map string_bytes was.rewrite.layout.paths.items; settings = was.rewrite.settings; files = was.rewrite.files; failed = was.rewrite.failed };
+      disk = g.F.FileSystem.disk was.file_system;
+    } in
+    let p = c.append.new.self in
+    let o : OnePipe = record { queue = p.layout.queue; directories = map string_bytes p.layout.paths.items; settings = p.settings; files = p.files; failed = p.failed } in
+    rw c.in-Append.is (lasts_when InAppend v o (g.F.FileSystem.disk c.append.new.file_system) (g.B.ReactiveBytes.signed c.args.bytes.now) c.append.result c.append.ensures.ok)
+
+pub returns-in-Append-clause-behind : goal.returns-in-Append-clause-behind
+returns-in-Append-clause-behind g c =
+    let alive = (either_false _ _ (sym c.is_failed.ensures ∙ c.if-is_failed.false)).0 in
+    let was = c.args.self.now in
+    let v : LogPipes = record {
+      append = record { queue = was.append.layout.queue; directories = map string_bytes was.append.layout.paths.items; settings = was.append.settings; files = was.append.files; failed = was.append.failed };
+      rewrite = record { queue = was.rewrite.layout.queue; directories = map string_bytes was.rewrite.layout.paths.items; settings = was.rewrite.settings; files = was.rewrite.files; failed = was.rewrite.failed };
+      disk = g.F.FileSystem.disk was.file_system;
+    } in
+    let p = c.append.new.self in
+    let o : OnePipe = record { queue = p.layout.queue; directories = map string_bytes p.layout.paths.items; settings = p.settings; files = p.files; failed = p.failed } in
+    rw c.in-Append.is (turns_when InAppend v o (g.F.FileSystem.disk c.append.new.file_system) (g.B.ReactiveBytes.signed c.args.bytes.now) c.append.result (c.append.ensures.err alive))
+
+pub returns-in-Rewrite-clause-goes_into : goal.returns-in-Rewrite-clause-goes_into
+returns-in-Rewrite-clause-goes_into g c =
+    let was = c.args.self.now in
+    let v : LogPipes = record {
+      append = record { queue = was.append.layout.queue; directories = map string_bytes was.append.layout.paths.items; settings = was.append.settings; files = was.append.files; failed = was.append.failed };
+      rewrite = record { queue = was.rewrite.layout.queue; directories = map string_bytes was.rewrite.layout.paths.items; settings = was.rewrite.settings; files = was.rewrite.files; failed = was.rewrite.failed };
+      disk = g.F.FileSystem.disk was.file_system;
+    } in
+    let p = c.append-in-Rewrite.new.self in
+    let o : OnePipe = record { queue = p.layout.queue; directories = map string_bytes p.layout.paths.items; settings = p.settings; files = p.files; failed = p.failed } in
+    rw c.in-Rewrite.is (lasts_when InRewrite v o (g.F.FileSystem.disk c.append-in-Rewrite.new.file_system) (g.B.ReactiveBytes.signed c.args.bytes.now) c.append-in-Rewrite.result c.append-in-Rewrite.ensures.ok)
+
+pub returns-in-Rewrite-clause-behind : goal.returns-in-Rewrite-clause-behind
+returns-in-Rewrite-clause-behind g c =
+    let alive = (either_false _ _ (sym c.is_failed.ensures ∙ c.if-is_failed.false)).1 in
+    let was = c.args.self.now in
+    let v : LogPipes = record {
+      append = record { queue = was.append.layout.queue; directories = map string_bytes was.append.layout.paths.items; settings = was.append.settings; files = was.append.files; failed = was.append.failed };
+      rewrite = record { queue = was.rewrite.layout.queue; directories = map string_bytes was.rewrite.layout.paths.items; settings = was.rewrite.settings; files = was.rewrite.files; failed = was.rewrite.failed };
+      disk = g.F.FileSystem.disk was.file_system;
+    } in
+    let p = c.append-in-Rewrite.new.self in
+    let o : OnePipe = record { queue = p.layout.queue; directories = map string_bytes p.layout.paths.items; settings = p.settings; files = p.files; failed = p.failed } in
+    rw c.in-Rewrite.is (turns_when InRewrite v o (g.F.FileSystem.disk c.append-in-Rewrite.new.file_system) (g.B.ReactiveBytes.signed c.args.bytes.now) c.append-in-Rewrite.result (c.append-in-Rewrite.ensures.err alive))

@@ -1,8 +1,9 @@
 use Rattle.std.proofs.Common.{map, sym, ◌∙◌, ap}
 use Rattle.std.specs.String.{string_bytes}
 use Rattle.raft_log_directory.specs.Calls.Which.{InAppend, InRewrite}
-use Rattle.raft_log_dual_pipes.specs.Pipes.{OnePipe}
+use Rattle.raft_log_dual_pipes.specs.Pipes.{LogPipes, OnePipe}
 use Rattle.raft_log_dual_pipes.proofs.Numbers.{purge_ends_when}
+use Rattle.raft_log_dual_pipes.proofs.LastFile.{raises_when}
 use Rattle.raft_log_dual_pipes.proofs.Spans.{purges_not_when, purges_when}
 use Rattle.raft_log_dual_pipes.proofs.Pairing.{either_false}
 use Rattle.raft_log_dual_pipes.proofs.dual_pipes.DualPipesPipeLog.purge_to.Goals as goal
@@ -42,3 +43,27 @@ returns-in-Rewrite-clause-range g c =
     let p = c.purge_to-in-Rewrite.new.self in
     let o : OnePipe = record { queue = p.layout.queue; directories = map string_bytes p.layout.paths.items; settings = p.settings; files = p.files; failed = p.failed } in
     rw c.in-Rewrite.is (purge_ends_when InRewrite _ o _ c.args.file_id.seq c.purge_to-in-Rewrite.result (c.purge_to-in-Rewrite.ensures.err alive))
+
+pub returns-in-Append-clause-raised : goal.returns-in-Append-clause-raised
+returns-in-Append-clause-raised g c =
+    let was = c.args.self.now in
+    let v : LogPipes = record {
+      append = record { queue = was.append.layout.queue; directories = map string_bytes was.append.layout.paths.items; settings = was.append.settings; files = was.append.files; failed = was.append.failed };
+      rewrite = record { queue = was.rewrite.layout.queue; directories = map string_bytes was.rewrite.layout.paths.items; settings = was.rewrite.settings; files = was.rewrite.files; failed = was.rewrite.failed };
+      disk = g.F.FileSystem.disk was.file_system;
+    } in
+    let p = c.purge_to.new.self in
+    let o : OnePipe = record { queue = p.layout.queue; directories = map string_bytes p.layout.paths.items; settings = p.settings; files = p.files; failed = p.failed } in
+    rw c.in-Append.is (raises_when InAppend v o (g.F.FileSystem.disk c.purge_to.new.file_system) c.args.file_id.seq c.purge_to.result c.purge_to.ensures.raised)
+
+pub returns-in-Rewrite-clause-raised : goal.returns-in-Rewrite-clause-raised
+returns-in-Rewrite-clause-raised g c =
+    let was = c.args.self.now in
+    let v : LogPipes = record {
+      append = record { queue = was.append.layout.queue; directories = map string_bytes was.append.layout.paths.items; settings = was.append.settings; files = was.append.files; failed = was.append.failed };
+      rewrite = record { queue = was.rewrite.layout.queue; directories = map string_bytes was.rewrite.layout.paths.items; settings = was.rewrite.settings; files = was.rewrite.files; failed = was.rewrite.failed };
+      disk = g.F.FileSystem.disk was.file_system;
+    } in
+    let p = c.purge_to-in-Rewrite.new.self in
+    let o : OnePipe = record { queue = p.layout.queue; directories = map string_bytes p.layout.paths.items; settings = p.settings; files = p.files; failed = p.failed } in
+    rw c.in-Rewrite.is (raises_when InRewrite v o (g.F.FileSystem.disk c.purge_to-in-Rewrite.new.file_system) c.args.file_id.seq c.purge_to-in-Rewrite.result c.purge_to-in-Rewrite.ensures.raised)

@@ -135,6 +135,18 @@ impl Run {
         true
     }
 
+    /// The pipe is closed: what is known of its records then.
+    pub fn close(self, rt: &HostRuntime, system: &mut MemoryFileSystem) -> Closed {
+        let Run {
+            queue,
+            pipe,
+            known,
+            ..
+        } = self;
+        pipe.close(rt.alloc(), rt, system);
+        Closed { queue, known }
+    }
+
     /// Whether the pipe has failed.
     pub fn has_failed(&self) -> bool {
         self.pipe.is_failed()
@@ -142,8 +154,7 @@ impl Run {
 
     /// Whether what a stop leaves in each of these ways may be read.
     pub fn keeps(&self, alloc: Global, system: &MemoryFileSystem, ways: &[Remainder]) -> bool {
-        ways.iter()
-            .all(|what| self.read(alloc, system, what).is_some())
+        ways.iter().all(|what| read_left(alloc, system, self.queue, &self.known, what).is_some())
     }
 
     /// Whether it may be read, and goes on where it is opened again.
@@ -153,24 +164,55 @@ impl Run {
         system: &MemoryFileSystem,
         ways: &[Remainder],
     ) -> bool {
-        ways.iter().all(|what| match self.read(rt.alloc(), system, what) {
-            Some((mut after, read)) => goes_on(rt, &mut after, self.queue, read),
-            None => false,
-        })
+        all_restart(rt, system, self.queue, &self.known, ways)
     }
+}
 
-    // What a stop leaves in this way, and what is read of it; nothing where that may not be.
-    fn read(
+/// What is known of the records of a pipe that was closed.
+#[derive(Drop)]
+pub struct Closed {
+    queue: LogQueue,
+    known: Known,
+}
+
+impl Closed {
+    /// Whether what a stop leaves in each of these ways may be read, and goes on where it is opened again.
+    pub fn restarts(
         &self,
-        alloc: Global,
+        rt: &HostRuntime,
         system: &MemoryFileSystem,
-        what: &Remainder,
-    ) -> Option<(MemoryFileSystem, Read)> {
-        let after = system.remainder(what).ok()?;
-        let read = read_queue(alloc, &after, self.queue)?;
-        if self.known.allows(&read) {
-            return Some((after, read));
-        }
-        None
+        ways: &[Remainder],
+    ) -> bool {
+        all_restart(rt, system, self.queue, &self.known, ways)
     }
+}
+
+// Whether what a stop leaves of a queue in each of these ways may be read, and goes on where it is opened again.
+fn all_restart(
+    rt: &HostRuntime,
+    system: &MemoryFileSystem,
+    queue: LogQueue,
+    known: &Known,
+    ways: &[Remainder],
+) -> bool {
+    ways.iter().all(|what| match read_left(rt.alloc(), system, queue, known, what) {
+        Some((mut after, read)) => goes_on(rt, &mut after, queue, read),
+        None => false,
+    })
+}
+
+// What a stop leaves in this way, and what is read of it; nothing where that may not be.
+fn read_left(
+    alloc: Global,
+    system: &MemoryFileSystem,
+    queue: LogQueue,
+    known: &Known,
+    what: &Remainder,
+) -> Option<(MemoryFileSystem, Read)> {
+    let after = system.remainder(what).ok()?;
+    let read = read_queue(alloc, &after, queue)?;
+    if known.allows(&read) {
+        return Some((after, read));
+    }
+    None
 }

@@ -78,9 +78,10 @@ fn has_met(system: &MemoryFileSystem) -> bool {
     system.failures() > 0 || system.has_stopped()
 }
 
-// A run that meets its n-th changing call in this way: whether it is there; and whether from that step on,
-// while the pipe goes on, what a stop leaves in each way holds what was synced and a beginning of what was
-// written, and at the end goes on where it is opened again.
+// A run that meets its n-th changing call in this way, a close at its end among them: whether it is there; and
+// whether from that step on, while the pipe goes on, what a stop leaves in each way holds what was synced and a
+// beginning of what was written, and at the end, before the close and behind it, goes on where it is opened
+// again.
 fn met(
     rt: &HostRuntime,
     capacity: usize,
@@ -98,7 +99,9 @@ fn met(
             kept = kept && run.keeps(rt.alloc(), &system, left);
         }
     }
-    Ok((has_met(&system), kept && run.restarts(rt, &system, left)))
+    kept = kept && run.restarts(rt, &system, left);
+    let closed = run.close(rt, &mut system);
+    Ok((has_met(&system), kept && closed.restarts(rt, &system, left)))
 }
 
 // How many changing calls of a run can be met in this way, each one up to the first that isn't there; nothing
@@ -117,10 +120,11 @@ fn calls_met(rt: &HostRuntime, capacity: usize, way: Way) -> Result<Option<u64>,
     Ok(None)
 }
 
-// How many changing calls a run has where four files may be kept, and where none may.
-const KEEPING: (usize, u64) = (4, 81);
+// How many changing calls a run has where four files may be kept, and where none may: those of its steps, and of
+// the close a cut, a sync, and a name for each of the files that are kept, 7, 8 and 9.
+const KEEPING: (usize, u64) = (4, 81 + 5);
 
-const DELETING: (usize, u64) = (0, 97);
+const DELETING: (usize, u64) = (0, 97 + 2);
 
 #[test]
 fn nothing_refused(rt: HostRuntime) -> Result<(), Fail> {

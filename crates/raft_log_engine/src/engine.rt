@@ -1,6 +1,7 @@
 //! The engine of a log.
 
-ghost use Rattle.std.specs.Prelude.{◌≡◌, ◌≤◌, [], None, OnOk, OnErr, IfOk, IfErr};
+ghost use Rattle.std.specs.Prelude.{◌≡◌, ◌≤◌, ℕ, [], None, OnOk, OnErr, IfOk, IfErr};
+ghost use Rattle.raft_log_purge_rules.specs.Picking.{count_of};
 ghost use Rattle.raft_log_replay.specs.Tables.{IsAtRest};
 
 mod compacting;
@@ -17,17 +18,22 @@ use log::Log;
 use raft_log_base::{Error, LogQueue, Result};
 use raft_log_blocks::BlockCache;
 use raft_log_dual_pipes::PipeLog;
+use raft_log_purge::Thresholds;
+use raft_log_purge_rules::Rounds;
 use raft_log_records::LogBatch;
 use raft_log_replay::MemTables;
 use std::alloc::Global;
 
-/// The engine of a log: its pipes, the tables of all groups, and the entry block that was read last.
+/// The engine of a log: its pipes, the tables of all groups, and the entry block that was read last; from which
+/// sizes on it is purged, and in how many purges in a row each group was asked to be compacted.
 #[derive(Drop)]
 pub struct Engine<P> {
     alloc: Global,
     pipes: P,
     tables: MemTables,
     cache: BlockCache,
+    thresholds: Thresholds,
+    rounds: Rounds,
     ghost rests: { IsAtRest tables },
 }
 
@@ -49,18 +55,23 @@ impl<P: PipeLog> Engine<P> {
     ghost use Rattle.raft_log_dual_pipes.specs.Closing.{ClosesLog};
     ghost use Rattle.raft_log_dual_pipes.specs.Pipes.{is_failed};
 
-    /// An engine over these pipes, whose tables these are. No block is kept.
-    pub fn new(alloc: Global, pipes: P, tables: MemTables) -> Engine<P>
+    /// An engine over these pipes, whose tables these are, with these thresholds. No block is kept, and no
+    /// group was asked to be compacted yet.
+    pub fn new(alloc: Global, thresholds: Thresholds, pipes: P, tables: MemTables) -> Engine<P>
         requires { IsAtRest tables }
         ensures pipes { result.pipes ≡ pipes }
         ensures tables { result.tables ≡ tables }
         ensures none { result.cache.place ≡ None }
+        ensures thresholds { result.thresholds ≡ thresholds }
+        ensures unasked { (g : ℕ) → count_of result.rounds g ≡ 0 }
     {
         Engine {
             alloc,
             pipes,
             tables,
             cache: BlockCache::new(alloc),
+            thresholds,
+            rounds: Rounds::new(alloc),
         }
     }
 

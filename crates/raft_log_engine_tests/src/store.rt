@@ -9,10 +9,18 @@ use raft_log_items::EntryIndex;
 use raft_log_layout::LogLayout;
 use raft_log_memory_files::MemoryFileSystem;
 use raft_log_pipes::{FoundFiles, NewFiles, PipeSettings, SinglePipe};
+use raft_log_purge::Thresholds;
 use raft_log_records::{BatchState, LogBatch};
 use raft_log_replay::MemTables;
 use std::collections::VecDeque;
 use std::test::Fail;
+
+/// From which sizes on the log is purged.
+const THRESHOLDS: Thresholds = Thresholds {
+    append: 10_240,
+    rewrite: None,
+    garbage_ratio: 600,
+};
 
 /// An engine, and a batch that is written through it.
 #[derive(Drop)]
@@ -54,7 +62,7 @@ pub fn fresh(rt: &HostRuntime, refused: u64) -> std::result::Result<Store, Fail>
     }
     let pipes = DualPipes::new(system, append, rewrite);
     Ok(Store {
-        engine: Engine::new(rt.alloc(), pipes, MemTables::new(rt.alloc())),
+        engine: Engine::new(rt.alloc(), THRESHOLDS, pipes, MemTables::new(rt.alloc())),
         batch: LogBatch::default(rt.alloc())?,
     })
 }

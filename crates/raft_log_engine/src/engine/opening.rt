@@ -2,6 +2,7 @@
 
 ghost use Rattle.std.specs.Prelude.{◌≡◌, None, IfErr, IfOk};
 ghost use Rattle.raft_log_opening.specs.Opening.{FailsToOpenDirectory, OpensDirectory};
+ghost use Rattle.raft_log_engine.specs.Purging.{IsPurgedBy};
 
 use super::Engine;
 use log::Log;
@@ -9,6 +10,7 @@ use raft_log_disk::FileSystem;
 use raft_log_dual_pipes::{DualPipes, OpenRefused, PipeLog};
 use raft_log_listeners::{EventListener, PurgeHook};
 use raft_log_opening::{OpenedLog, open_directory};
+use raft_log_purge::Thresholds;
 use raft_log_settings::Config;
 use raft_log_told_pipes::ToldPipes;
 use std::alloc::Global;
@@ -34,11 +36,13 @@ impl<F: FileSystem + Sync> Engine<DualPipes<F>> {
         ensures ok { IfOk result (λ engine. OpensDirectory F.disk F.tells_space config file_system
             (⟦<DualPipes<F> as PipeLog>⟧.shown engine.pipes) engine.tables) }
         ensures none { IfOk result (λ engine. engine.cache.place ≡ None) }
+        ensures purges { IfOk result (λ engine. IsPurgedBy config engine.thresholds engine.rounds) }
         ensures err { IfErr result (λ refused. FailsToOpenDirectory F.disk F.tells_space config refused.error
             file_system refused.file_system) }
     {
+        let thresholds = Thresholds::of(&config);
         match open_directory(rt, alloc, config, file_system) {
-            Ok(OpenedLog { pipes, tables }) => Ok(Engine::new(alloc, pipes, tables)),
+            Ok(OpenedLog { pipes, tables }) => Ok(Engine::new(alloc, thresholds, pipes, tables)),
             Err(refused) => Err(refused),
         }
     }
@@ -63,14 +67,16 @@ impl<F: FileSystem + Sync, E: EventListener> Engine<
             (⟦<ToldPipes<ToldPipes<DualPipes<F>, E>, PurgeHook> as PipeLog>⟧.shown engine.pipes)
             engine.tables) }
         ensures none { IfOk result (λ engine. engine.cache.place ≡ None) }
+        ensures purges { IfOk result (λ engine. IsPurgedBy config engine.thresholds engine.rounds) }
         ensures err { IfErr result (λ refused. FailsToOpenDirectory F.disk F.tells_space config refused.error
             file_system refused.file_system) }
     {
+        let thresholds = Thresholds::of(&config);
         match open_directory(rt, alloc, config, file_system) {
             Ok(OpenedLog { pipes, tables }) => {
                 let told = ToldPipes::new(pipes, listener);
                 let hooked = ToldPipes::new(told, PurgeHook::new(alloc));
-                Ok(Engine::new(alloc, hooked, tables))
+                Ok(Engine::new(alloc, thresholds, hooked, tables))
             }
             Err(refused) => Err(refused),
         }

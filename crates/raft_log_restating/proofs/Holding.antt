@@ -27,7 +27,8 @@ use Rattle.raft_log_purge_state.proofs.Settling.{failed_sync, settled_held, sync
 use Rattle.raft_log_group_state.specs.Parts.{HoldsInGroup, IsGroupPart, UnendedGroup, begun_by, gone_on_by, said_items}
 use Rattle.raft_log_group_state.proofs.Writing.{begin_refused, middle_refused, part_begins, part_goes_on, says_part, sync_leaves_open}
 use Rattle.raft_log_rewriting.specs.Stale.{written_file}
-use Rattle.raft_log_restating.specs.Records.{FailsToWrite, IsUnwritten, MaySync, RefusesRecord}
+use Rattle.raft_log_rewriting.specs.Syncing.{MaySync}
+use Rattle.raft_log_restating.specs.Records.{FailsToWrite, IsUnwritten, RefusesRecord}
 use Rattle.raft_log_restating.specs.Restated.{last_file}
 
 -- The last file.

@@ -13,7 +13,8 @@ use Rattle.raft_log_dual_pipes.specs.Pipes.{LogPipes}
 use Rattle.raft_log_dual_pipes.specs.Calls.{AppendsTo, FailsToAppendTo, TellsFailure}
 use Rattle.raft_log_rewriting.specs.Parts.{IsRecordMade}
 use Rattle.raft_log_rewriting.proofs.Parts.{alive_ok, later_on, same_record, tells_err}
-use Rattle.raft_log_restating.specs.Records.{FailsToWrite, MaySync, WritesRecord}
+use Rattle.raft_log_rewriting.specs.Syncing.{MaySync}
+use Rattle.raft_log_restating.specs.Records.{FailsToWrite, WritesRecord}
 
 module _ (b made : Batch) (v mid w : LogPipes) (syncs : MaySync v mid) (is : IsRecordMade b made) (before : IsLater v.disk mid.disk) (later : IsLater mid.disk w.disk) where
   pub record_written : (block : FileBlockHandle) (items : List LogItem) → TellsFailure (Ok block) w → AppendsTo InRewrite (signed_for made) block mid w → items ≡ written (block_place block b.entries) b.items → WritesRecord b block items v w

@@ -10,17 +10,10 @@ use Rattle.raft_log_records.specs.Batch.{Batch, block_place}
 use Rattle.raft_log_signed_batch.specs.Signing.{SaysItself, signed_for}
 use Rattle.raft_log_directory.specs.Calls.Which.{InRewrite}
 use Rattle.raft_log_dual_pipes.specs.Pipes.{LogPipes, is_failed}
-use Rattle.raft_log_dual_pipes.specs.Calls.{AppendsTo, FailsToAppendTo, FailsToSyncQueue, SyncsQueue}
+use Rattle.raft_log_dual_pipes.specs.Calls.{AppendsTo, FailsToAppendTo, FailsToSyncQueue}
 use Rattle.raft_log_engine_state.specs.Shows.{IsLaidOut}
 use Rattle.raft_log_rewriting.specs.Parts.{IsUnmade}
-
--- Rewrite was synced, or nothing was done
-abbrev pub MaySync : LogPipes → LogPipes → Type 0
-MaySync v w = (w ≡ v) ⊎ SyncsQueue InRewrite v w
-
--- pipes that hadn't failed haven't
-abbrev pub StaysAlive : LogPipes → LogPipes → Type 0
-StaysAlive v w = is_failed v ≡ false → is_failed w ≡ false
+use Rattle.raft_log_rewriting.specs.Syncing.{MaySync}
 
 -- The batch's record was written to Rewrite, maybe behind a sync: these are its items there.
 pub record WritesRecord (b : Batch) (block : FileBlockHandle) (items : List LogItem) (v w : LogPipes)

@@ -1,23 +1,16 @@
 //! A record is written to Rewrite.
 
-ghost use Rattle.std.specs.Prelude.{◌≡◌, true, IfErr, IfOk, OnErr, OnOk};
-ghost use Rattle.raft_log_disk.specs.Causes.{IsLater};
-ghost use Rattle.raft_log_base.specs.declared.errors.Error.TheVariants as errors;
-ghost use Rattle.raft_log_directory.specs.Calls.Which.{InRewrite};
-ghost use Rattle.raft_log_dual_pipes.specs.Calls.{FailsToSyncQueue};
-ghost use Rattle.raft_log_dual_pipes.specs.Pipes.{is_failed};
+ghost use Rattle.std.specs.Prelude.{◌≡◌, IfErr, IfOk};
 ghost use Rattle.raft_log_records.specs.declared.log_batch.BatchState.TheVariants.{Filling};
-ghost use Rattle.raft_log_restating.specs.Records.{FailsToWrite, MaySync, StaysAlive, WritesRecord};
+ghost use Rattle.raft_log_restating.specs.Records.{FailsToWrite, WritesRecord};
 
 use log::Log;
 use raft_log_base::{FileBlockHandle, LogQueue, Result};
 use raft_log_dual_pipes::PipeLog;
 use raft_log_records::LogBatch;
+use raft_log_rewriting::sync_if_due;
 use raft_log_signed_batch::SignedBatch;
 use std::alloc::Global;
-
-/// Behind how many bytes of records Rewrite is synced.
-const MAX_UNSYNCED_LEN: u64 = 524_288;
 
 /// A record that was written: the place of it, and its batch, whose items have their places.
 #[derive(Drop)]
@@ -54,21 +47,4 @@ pub fn write_record<P: PipeLog, L: Log>(
     batch.finish_write(block);
     *unsynced = unsynced.saturating_add(len as u64);
     Ok(WrittenRecord { block, batch })
-}
-
-/// Syncs Rewrite, where many bytes were written since it was synced last. Refused, it is `Failed`.
-pub fn sync_if_due<P: PipeLog, L: Log>(rt: &L, pipes: &mut P, unsynced: &mut u64) -> Result<()>
-    ensures ok { OnOk result (MaySync (P.shown pipes.old) (P.shown pipes.new)) }
-    ensures stays { OnOk result (StaysAlive (P.shown pipes.old) (P.shown pipes.new)) }
-    ensures err { OnErr result (FailsToSyncQueue InRewrite (P.shown pipes.old) (P.shown pipes.new)) }
-    ensures error { IfErr result (λ error. error ≡ errors.Failed) }
-    ensures failed { OnErr result (is_failed (P.shown pipes.new) ≡ true) }
-    ensures later { IsLater (P.shown pipes.old).disk (P.shown pipes.new).disk }
-{
-    if *unsynced < MAX_UNSYNCED_LEN {
-        return Ok(());
-    }
-    pipes.sync(rt, LogQueue::Rewrite)?;
-    *unsynced = 0;
-    Ok(())
 }

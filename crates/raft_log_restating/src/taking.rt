@@ -14,13 +14,13 @@ ghost use Rattle.raft_log_restating.specs.Taking.{
 };
 
 use crate::parts::RestatedPart;
-use crate::records::sync_if_due;
 use log::Log;
 use raft_log_base::{FileBlockHandle, FileSeq, LogQueue, Result};
 use raft_log_dual_pipes::PipeLog;
 use raft_log_items::LogItem;
 use raft_log_records::LogBatch;
 use raft_log_replay::MemTables;
+use raft_log_rewriting::sync_if_due;
 use raft_log_signed_batch::SignedBatch;
 use std::alloc::{AllocError, Global};
 

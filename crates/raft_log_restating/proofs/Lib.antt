@@ -1,3 +1,4 @@
+pub mod Counting
 pub mod Building
 pub mod Recording
 pub mod Saying

@@ -5,3 +5,4 @@ pub mod Parts
 pub mod Steps
 pub mod Taking
 pub mod Queue
+pub mod Standing

@@ -9,4 +9,5 @@ pub mod parts;
 pub mod pieces;
 pub mod queue;
 pub mod records;
+pub mod standing;
 pub mod taking;

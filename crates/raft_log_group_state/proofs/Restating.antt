@@ -152,7 +152,7 @@ module _ (at : Located → List ℕ) where
         same ∙ sym (is_read at v m f es meant says from (omega (arith, to, parts))) ∙ ap (read at v f) (sym long),
       )
 
-  in_one_copies : (gate : Option ℕ) (v : Shown) (m : Slot → Option (Content (List ℕ) (List ℕ))) (f : ℕ) (ps : List RunPiece) (rest : List Filed) (es : List (List ℕ)) (ks : List KeyBytes) → IsOrderly v → IsMeant at v m
+  pub in_one_copies : (gate : Option ℕ) (v : Shown) (m : Slot → Option (Content (List ℕ) (List ℕ))) (f : ℕ) (ps : List RunPiece) (rest : List Filed) (es : List (List ℕ)) (ks : List KeyBytes) → IsOrderly v → IsMeant at v m
       → map bytes (all_places ps) ≡ es → v.first ≤ f → f + length es ≡ v.first + v.rewritten → Restates m f es → filed_copies at rest ≡ puts ks → Each (HoldsRewritten v) ks → AreFiledCopies at gate v (in_one f ps ++ rest)
   in_one_copies gate v m f [] rest es ks o meant same from to says said holds = keys_are_copies gate v rest ks said holds
   in_one_copies gate v m f (p ∷ ps) rest es ks o meant same from to says said holds =

@@ -42,7 +42,7 @@ one_part_moves gate ps block b old m new moved one g =
     one.shows g ∙ ap (λ v. all_rewritten gate block.id.seq v (of_group g (items_at block b))) (moved g) ∙ sym (parts_more gate g ps block b (shown_of old g))
 
 -- the table of a group, as it was read
-shows_read : (o : Option GroupTable) → (replayed_in o).table ≡ shown_in o
+pub shows_read : (o : Option GroupTable) → (replayed_in o).table ≡ shown_in o
 shows_read None = refl
 shows_read (Some t) = refl
 
@@ -52,7 +52,7 @@ note_in_table files a r None z there orderly rise is = absurd (false≢true ther
 note_in_table files a r (Some t) z there orderly rise is = (let (least, low, same) = whole_noted t.table files a r orderly rise in (least, low, ap (λ x. x.table) is ∙ same))
 
 -- of a group of which they say nothing the parts move nothing
-nothing_moved : (gate : Option ℕ) (g : ℕ) (ps : List WrittenPart) (v : Shown) → filed_items g ps ≡ [] → parts_moved gate g ps v ≡ v
+pub nothing_moved : (gate : Option ℕ) (g : ℕ) (ps : List WrittenPart) (v : Shown) → filed_items g ps ≡ [] → parts_moved gate g ps v ≡ v
 nothing_moved gate g ps v none = all_parts gate g ps v ∙ ap (all_filed gate v) none
 
 pub tables_take : {E : Type 0} → TablesTakeWholeGroups E

@@ -32,7 +32,7 @@ abbrev pub all_filed : Option ℕ → Shown → List Filed → Shown
 all_filed gate v [] = v
 all_filed gate v (x ∷ xs) = all_filed gate (rewritten_item gate x.file v x.item) xs
 
-one_part : (gate : Option ℕ) (n : ℕ) (v : Shown) (xs : List (Item Place (List ℕ))) (ys : List Filed) → all_filed gate v (filed_in n xs ++ ys) ≡ all_filed gate (all_rewritten gate n v xs) ys
+pub one_part : (gate : Option ℕ) (n : ℕ) (v : Shown) (xs : List (Item Place (List ℕ))) (ys : List Filed) → all_filed gate v (filed_in n xs ++ ys) ≡ all_filed gate (all_rewritten gate n v xs) ys
 one_part gate n v [] ys = refl
 one_part gate n v (x ∷ xs) ys = one_part gate n (rewritten_item gate n v x) xs ys
 
@@ -187,6 +187,17 @@ module _ (gate : Option ℕ) (v : Shown) (d : ℕ) (low : d ≤ v.rewritten) (pa
       let same : v.rewritten ≡ max v.rewritten (d + 0) = omega (arith, low) in
       ap (λ l. record v { places = l; rewritten = v.rewritten }) (sym (ap (λ n. take d v.places ++ drop n v.places) zero_more ∙ take-append-drop d v.places))
       ∙ ap (λ n. record v { places = take d v.places ++ drop (d + 0) v.places; rewritten = n }) same
+
+-- pieces from the first entry on, none past what stands in Rewrite
+pub first_pieces_move : (gate : Option ℕ) (v : Shown) (ps : List RunPiece) (rest : List Filed) → IsOrderly v → length (all_places ps) ≤ v.rewritten
+    → all_filed gate v (in_pieces v.first ps ++ rest) ≡ all_filed gate (rewritten_at v 0 (all_places ps)) rest
+first_pieces_move gate v ps rest o few =
+    let parts = o.parts in
+    let low : 0 ≤ v.rewritten = omega arith in
+    let begin : v.first ≡ v.first + (0 + 0) = omega arith in
+    ap (λ u. all_filed gate u (in_pieces v.first ps ++ rest)) (none_yet gate v 0 low parts)
+    ∙ ap (λ n. all_filed gate (rewritten_at v 0 []) (in_pieces n ps ++ rest)) begin
+    ∙ pieces_move gate v 0 low parts [] ps rest (omega (arith, few))
 
 module _ {E : Type 0} (at : Located → E) (gate : Option ℕ) (v : Shown) (o : IsOrderly v) where
   whole_run : (f : ℕ) (ps : List RunPiece) (rest : List Filed) → IsCopy at gate v (Run f (all_places ps)) → all_filed gate v (in_pieces f ps ++ rest) ≡ all_filed gate (rewritten_by gate v (Run f (all_places ps))) rest

@@ -32,14 +32,14 @@ use Rattle.raft_log_restating.specs.Restated.{last_file}
 
 -- The last file.
 
-last_told : (home : Home) (v : LogPipes) (s : State) → RunsOn (sense home) v s → written_file Rewrite v ≡ s.rewrite.files.last
+pub last_told : (home : Home) (v : LogPipes) (s : State) → RunsOn (sense home) v s → written_file Rewrite v ≡ s.rewrite.files.last
 last_told home v s runs = runs.run.rewrite.pipe.number
 
 pub last_is : (home : Home) (e : Shows) (m : LogMap) (h : Holds home e m []) → last_file e ≡ h.state.rewrite.files.last
 last_is home e m h = last_told home e.pipes h.state h.runs
 
 -- with the same tables and block
-abbrev over : Shows → LogPipes → Shows
+abbrev pub over : Shows → LogPipes → Shows
 over e w = record e { pipes = w }
 
 -- a sync leaves it
@@ -92,7 +92,7 @@ unsynced_left : (home : Home) (e : Shows) (m : LogMap) (error : Error) (w : LogP
 unsynced_left home e m error w h is call = inr (is, (failed_sync InRewrite home e.pipes w m [] (holds_runs home e m [] h) call).1)
 
 -- whatever is refused of a record, where a refusal by Rewrite leaves the log so
-unwritten_left : (home : Home) (e : Shows) (m : LogMap) (b : Batch) (error : Error) (w : LogPipes) → Holds home e m []
+pub unwritten_left : (home : Home) (e : Shows) (m : LogMap) (b : Batch) (error : Error) (w : LogPipes) → Holds home e m []
     → ((r : RefusesRecord b error e.pipes w) → RewriteLeaves home m (over e w) error) → IsUnwritten b error e.pipes w → IsLeft home m error (over e w)
 unwritten_left home e m b error w h leaves (inl (why, same)) = inl (subst (λ x. Holds home (over e x) m []) (sym same) h)
 unwritten_left home e m b error w h leaves (inr (inl (is, call))) = unsynced_left home e m error w h is call

@@ -4,3 +4,10 @@ pub mod Saying
 pub mod Holding
 pub mod Reading
 pub mod Opening
+pub mod Room
+pub mod Parting
+pub mod Moving
+pub mod Closing
+pub mod Once
+pub mod Each
+pub mod Turning

@@ -38,15 +38,15 @@ unless_append : {X : Type 0} (b : Bool) (t : X) (xs ys : List X) → unless_mark
 unless_append true t xs ys = refl
 unless_append false t xs ys = refl
 
-tagged_append : {E : Type 0} (f : EntryIndex → E) (xs ys : List LogItem) → tagged_items f (xs ++ ys) ≡ tagged_items f xs ++ tagged_items f ys
+pub tagged_append : {E : Type 0} (f : EntryIndex → E) (xs ys : List LogItem) → tagged_items f (xs ++ ys) ≡ tagged_items f xs ++ tagged_items f ys
 tagged_append f [] ys = refl
 tagged_append f (x ∷ xs) ys =
     ap (unless_mark (has_mark_key x) (tagged f x)) (tagged_append f xs ys) ∙ unless_append (has_mark_key x) (tagged f x) (tagged_items f xs) (tagged_items f ys)
 
-written_append : (block : FileBlockHandle) (xs ys : List LogItem) → written block (xs ++ ys) ≡ written block xs ++ written block ys
+pub written_append : (block : FileBlockHandle) (xs ys : List LogItem) → written block (xs ++ ys) ≡ written block xs ++ written block ys
 written_append block xs ys = map-append (written_item block) xs ys
 
-tagged_map : {E : Type 0} (g : ℕ) (xs ys : List (Item E (List ℕ))) → tagged_all g (xs ++ ys) ≡ tagged_all g xs ++ tagged_all g ys
+pub tagged_map : {E : Type 0} (g : ℕ) (xs ys : List (Item E (List ℕ))) → tagged_all g (xs ++ ys) ≡ tagged_all g xs ++ tagged_all g ys
 tagged_map g xs ys = map-append (λ x. record { group = g; item = x }) xs ys
 
 -- Keys.

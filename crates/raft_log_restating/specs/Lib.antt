@@ -3,3 +3,5 @@ pub mod Records
 pub mod Restated
 pub mod Parts
 pub mod Steps
+pub mod Taking
+pub mod Queue

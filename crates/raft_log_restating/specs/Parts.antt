@@ -6,11 +6,8 @@ use Rattle.raft_log_items.specs.Placed.{written}
 use Rattle.raft_log_atomic_groups.specs.declared.status.AtomicGroupStatus.{AtomicGroupStatus}
 use Rattle.raft_log_atomic_groups.specs.declared.marking.Marking.TheVariants.{Part}
 use Rattle.raft_log_atomic_groups.specs.Marking.{marking_of_items}
-use Rattle.raft_log_atomic_groups.specs.Meaning.{tagged_items}
 use Rattle.raft_log_records.specs.declared.log_batch.BatchState.TheVariants.{Filling}
 use Rattle.raft_log_records.specs.Batch.{Batch, block_place}
-use Rattle.raft_log_replay.specs.declared.mem_tables.MemTables.{MemTables}
-use Rattle.raft_log_replay.specs.Rewriting.{MayMove}
 use Rattle.raft_log_engine_state.specs.Shows.{Home, LogMap, Shows, has_failed}
 use Rattle.raft_log_engine_state.specs.Holding.{Holds}
 use Rattle.raft_log_group_state.specs.Parts.{HoldsInGroup, UnendedGroup, WrittenPart, parts_of}
@@ -39,10 +36,6 @@ AreKept xs ps = ⊥
 abbrev pub items_of_all : List RestatedPart → List LogItem
 items_of_all [] = []
 items_of_all (x ∷ xs) = x.items.items ++ items_of_all xs
-
--- there is room in the tables for what the parts have to move
-abbrev pub HaveRoom : MemTables → List RestatedPart → Type 0
-HaveRoom m parts = MayMove m (tagged_items (λ e. e) (items_of_all parts))
 
 -- the batch is this part of the atomic group, is being filled, and says entries of a group and its keys
 pub record IsMarkedPiece (g f number : ℕ) (status : AtomicGroupStatus) (bytes : List (List ℕ))

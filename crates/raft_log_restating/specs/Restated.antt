@@ -1,5 +1,5 @@
 -- Groups are restated: all that they have in Rewrite is written there again.
-use Rattle.std.specs.Prelude.{◌≡◌, ◌⊎◌, ◌<◌, ◌≤◌, ◌==◌, ℕ, Bool, true, false, List, [], ◌∷◌, Option, Some, None, take}
+use Rattle.std.specs.Prelude.{◌≡◌, ◌⊎◌, ◌≤◌, ◌==◌, ℕ, Bool, true, false, List, [], ◌∷◌, Option, Some, None, take}
 use Rattle.std.specs.List.{list_any}
 use Rattle.raft_log_disk.specs.Causes.{IsLater}
 use Rattle.raft_log_base.specs.declared.errors.Error.{Error}
@@ -17,17 +17,17 @@ abbrev pub AllFrom : ℕ → List Place → Type 0
 AllFrom n [] = Unit {0}
 AllFrom n (p ∷ ps) = (n ≤ p.file) × AllFrom n ps
 
--- no noted group reaches to that file, unless it lies from there on
+-- what is noted of atomic groups begins no earlier than in that file
 abbrev pub IsNotedFrom : ℕ → Option GroupFiles → Type 0
 IsNotedFrom n None = Unit {0}
-IsNotedFrom n (Some files) = (files.to < n) ⊎ (n ≤ files.from)
+IsNotedFrom n (Some files) = n ≤ files.from
 
--- All that the group has in Rewrite lies in files from that one on: its entries and its values there; and so
--- does what is noted, if it didn't reach there before.
+-- All that the group has in Rewrite lies in files from that one on: its entries and its values there; and what
+-- is noted begins no earlier than it began before, or there.
 pub record IsRestatedFrom (n : ℕ) (v w : Shown) : Type 0 where
   pub entries : AllFrom n (take w.rewritten w.places)
   pub values : (k : List ℕ) (h : KeyValue) → w.held k ≡ Some h → h.appended ≡ false → n ≤ h.file
-  pub noted : IsNotedFrom n v.noted → IsNotedFrom n w.noted
+  pub noted : (k : ℕ) → k ≤ n → IsNotedFrom k v.noted → IsNotedFrom k w.noted
 
 -- the file of Rewrite that is written
 abbrev pub last_file : Shows → ℕ

@@ -1,5 +1,5 @@
 -- What each call makes of the parts of an atomic group.
-use Rattle.std.specs.Prelude.{◌≡◌, ◌+◌, ℕ, List, [], ◌∷◌, length, None}
+use Rattle.std.specs.Prelude.{◌≡◌, ◌+◌, ℕ, List, [], ◌∷◌, length}
 use Rattle.raft_log_base.specs.declared.errors.Error.{Error}
 use Rattle.raft_log_items.specs.declared.entry.EntryIndex.{EntryIndex}
 use Rattle.raft_log_atomic_groups.specs.declared.status.AtomicGroupStatus.TheVariants.{End}
@@ -10,11 +10,9 @@ use Rattle.raft_log_replay.specs.declared.mem_tables.MemTables.{MemTables}
 use Rattle.raft_log_dual_pipes.specs.Pipes.{LogPipes}
 use Rattle.raft_log_engine_state.specs.Shows.{Home, LogMap, Shows, shows}
 use Rattle.raft_log_engine_state.specs.Holding.{Holds}
-use Rattle.raft_log_group_state.specs.Parts.{WrittenPart}
-use Rattle.raft_log_group_state.specs.Taking.{MovedParts}
 use Rattle.raft_log_rewriting.specs.Entries.{AreBytesAt}
 use Rattle.raft_log_restating.specs.declared.parts.RestatedPart.{RestatedPart}
-use Rattle.raft_log_restating.specs.Parts.{AreKept, HasParts, IsMarkedPiece}
+use Rattle.raft_log_restating.specs.Parts.{HasParts, IsMarkedPiece}
 use Rattle.raft_log_restating.specs.Restated.{FailsToRestate}
 
 -- An atomic group was begun by a part that says a group's first rewritten entries, so many, whatever the
@@ -59,12 +57,3 @@ abbrev pub MakesLast : ℕ → ℕ → List EntryIndex → ℕ → List Restated
 MakesLast g number es done parts pairs b v old new = (m : MemTables) (s : Shows)
     → es ≡ rewritten_entries (s.tables g) → HasParts g number done parts s (shows v m old)
     → HasParts g number done parts s (shows v m new) × IsLastPart g number done pairs b s
-
--- the file of the first of these parts, and that one without any
-abbrev pub first_file_of : List RestatedPart → ℕ → ℕ
-first_file_of [] last = last
-first_file_of (x ∷ xs) last = x.block.id.seq
-
--- the tables took the parts
-abbrev pub TakesParts : List RestatedPart → MemTables → MemTables → Type 0
-TakesParts parts old new = (ps : List WrittenPart) → AreKept parts ps → MovedParts None ps old new

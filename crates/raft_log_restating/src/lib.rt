@@ -4,6 +4,9 @@
 //! the log's (`Holds`), with nothing pending: it asks nothing of the caller.
 #![tactic(auto)]
 
+pub mod groups;
 pub mod parts;
 pub mod pieces;
+pub mod queue;
 pub mod records;
+pub mod taking;

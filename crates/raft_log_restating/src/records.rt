@@ -57,7 +57,7 @@ pub fn write_record<P: PipeLog, L: Log>(
 }
 
 /// Syncs Rewrite, where many bytes were written since it was synced last. Refused, it is `Failed`.
-fn sync_if_due<P: PipeLog, L: Log>(rt: &L, pipes: &mut P, unsynced: &mut u64) -> Result<()>
+pub fn sync_if_due<P: PipeLog, L: Log>(rt: &L, pipes: &mut P, unsynced: &mut u64) -> Result<()>
     ensures ok { OnOk result (MaySync (P.shown pipes.old) (P.shown pipes.new)) }
     ensures stays { OnOk result (StaysAlive (P.shown pipes.old) (P.shown pipes.new)) }
     ensures err { OnErr result (FailsToSyncQueue InRewrite (P.shown pipes.old) (P.shown pipes.new)) }

@@ -90,15 +90,15 @@ moved_twice gate n (Some h) =
     rewritten_moves (Some g) bytes = refl
 
 -- the values after the keys were written
-abbrev after : Option ℕ → ℕ → (List ℕ → Option KeyValue) → List (List ℕ × List ℕ) → List ℕ → Option KeyValue
+abbrev pub after : Option ℕ → ℕ → (List ℕ → Option KeyValue) → List (List ℕ × List ℕ) → List ℕ → Option KeyValue
 after gate n held [] = held
 after gate n held (e ∷ es) = after gate n (with_held held e.0 (rewritten_to gate n (held e.0))) es
 
-shown_after : (gate : Option ℕ) (n : ℕ) (v : Shown) (es : List (List ℕ × List ℕ)) → all_rewritten gate n v (map put_of_pair es) ≡ record v { held = after gate n v.held es }
+pub shown_after : (gate : Option ℕ) (n : ℕ) (v : Shown) (es : List (List ℕ × List ℕ)) → all_rewritten gate n v (map put_of_pair es) ≡ record v { held = after gate n v.held es }
 shown_after gate n v [] = refl
 shown_after gate n v (e ∷ es) = shown_after gate n (key_rewritten gate v e.0 n) es
 
-each_after : (gate : Option ℕ) (n : ℕ) (held : List ℕ → Option KeyValue) (es : List (List ℕ × List ℕ)) (k : List ℕ)
+pub each_after : (gate : Option ℕ) (n : ℕ) (held : List ℕ → Option KeyValue) (es : List (List ℕ × List ℕ)) (k : List ℕ)
     → after gate n held es k ≡ (if is_some (lookup (bytes_eq k) es) then rewritten_to gate n (held k) else held k)
 each_after gate n held [] k = refl
 each_after gate n held (e ∷ es) k =
@@ -162,7 +162,7 @@ with_that j f [] all = tt
 with_that j f (e ∷ es) all =
     (at_bool (bytes_eq e.0 j) (λ b. (if b then None else f e.0) ≡ Some e.1 → f e.0 ≡ Some e.1) (λ _ h. no_word e.1 h) (λ _ h. h) all.0, with_that j f es all.1)
 
-each_listed : (f : List ℕ → Option (List ℕ)) (es : List (List ℕ × List ℕ)) → IsStrictlySortedBy (slice_cmp nat_cmp) (keys_of es) → ((k : List ℕ) → lookup (bytes_eq k) es ≡ f k) → EachOf f es
+pub each_listed : (f : List ℕ → Option (List ℕ)) (es : List (List ℕ × List ℕ)) → IsStrictlySortedBy (slice_cmp nat_cmp) (keys_of es) → ((k : List ℕ) → lookup (bytes_eq k) es ≡ f k) → EachOf f es
 each_listed f [] rising exact = tt
 each_listed f (e ∷ es) rising exact = (
   sym (exact e.0) ∙ if_true (bytes_eq e.0 e.0) (Some e.1) (lookup (bytes_eq e.0) es) (to_itself e.0),

@@ -29,10 +29,10 @@ use Rattle.raft_log_disk.specs.Causes.{IsLater}
 use Rattle.raft_log_places.specs.declared.group_files.GroupFiles.{GroupFiles}
 use Rattle.raft_log_pipes.specs.Purging.{IsInSpan}
 use Rattle.raft_log_steps.specs.State.{pipe_at}
-use Rattle.raft_log_dual_pipes.specs.Pipes.{LogPipes, files_of, which_of}
+use Rattle.raft_log_dual_pipes.specs.Pipes.{LogPipes, RunsOn, State, files_of, which_of}
 use Rattle.raft_log_dual_pipes.specs.Calls.{FailsToPurgeQueue, PurgesQueue, TellsFailure}
 use Rattle.raft_log_blocks.specs.declared.block_cache.BlockCache.{BlockCache}
-use Rattle.raft_log_engine_state.specs.Shows.{Home, LogMap, Shows, shows}
+use Rattle.raft_log_engine_state.specs.Shows.{Home, LogMap, Shows, sense, shows}
 use Rattle.raft_log_purge_state.specs.Settled.{HoldsSettled}
 use Rattle.raft_log_purge_state.specs.Raising.{MayBegin, PurgeLeavesHeld}
 use Rattle.raft_log_purge_state.proofs.Raising.{raise_refused, raised}
@@ -169,9 +169,17 @@ remains_settled home m t errors.NumberRange h = h
 remains_settled home m t errors.Failed h = h
 remains_settled home m t _ h = absurd h
 
+-- where a span begins whose first files went
+span_begins : (queue : LogQueue) (home : Home) (v w : LogPipes) (n : ℕ) (s : State) → RunsOn (sense home) v s → PurgesQueue (which_of queue) n v w → (pipe_at (which_of queue) (files_of w)).first_seq ≡ n
+span_begins Append home v w n s runs call = (let (on, step) = call (sense home) s runs in on.run.append.first)
+span_begins Rewrite home v w n s runs call = (let (on, step) = call (sense home) s runs in on.run.rewrite.first)
+
 module _ (queue : LogQueue) (limit : ℕ) (m : MemTables) (v w : LogPipes) (old new : BlockCache) (none : new.place ≡ None) (least : ℕ) (is : IsLeastOf queue limit m least) (later : IsLater v.disk w.disk) where
   begins : (home : Home) (log : LogMap) → HoldsSettled home (shows v m old) log → MayLoseFiles (which_of queue) (shown_of m) → MayBegin (which_of queue) least (shown_of m)
   begins home log h owes = queue_may_begin queue limit least m is h.meant.orderly (λ g. front_is_least h.state.append.files.last h.state.rewrite.files.last (shown_of m g) (h.rises g)) owes
+
+  begins_there : PurgesQueue (which_of queue) least v w → (home : Home) (log : LogMap) → HoldsSettled home (shows v m old) log → (pipe_at (which_of queue) (files_of w)).first_seq ≡ least
+  begins_there call home log h = span_begins queue home v w least h.state h.runs call
 
   pub loses_files : (count : ℕ) → TellsFailure (Ok count) w → PurgesQueue (which_of queue) least v w
       → count ≡ least - (pipe_at (which_of queue) (files_of v)).first_seq → LosesFiles queue limit m count (shows v m old) (shows w m new)
@@ -182,6 +190,7 @@ module _ (queue : LogQueue) (limit : ℕ) (m : MemTables) (v w : LogPipes) (old 
     alive = alive_ok count w tells;
     none = none;
     later = later;
+    begins = begins_there call;
     keeps = λ home log h owes. raised (which_of queue) home (shows v m old) (shows w m new) log least h (begins home log h owes) refl none call;
   }
 

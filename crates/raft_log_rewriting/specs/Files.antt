@@ -34,8 +34,8 @@ abbrev pub MayLoseFiles : Which → (ℕ → Shown) → Type 0
 MayLoseFiles InAppend v = (g : ℕ) → OwesNothing (whereabouts (v g))
 MayLoseFiles InRewrite v = Unit {0}
 
--- The files of a queue below the least one that is in use, and below the limit, have left its span: whatever
--- the log was, with nothing pending, it is so. No block is kept.
+-- The files of a queue below the least one that is in use, and below the limit, have left its span, which
+-- begins at that one: whatever the log was, with nothing pending, it is so. No block is kept.
 pub record LosesFiles (queue : LogQueue) (limit : ℕ) (m : MemTables) (count : ℕ) (s t : Shows) : Type 0 where
   pub least : ℕ
   pub is : IsLeastOf queue limit m least
@@ -43,6 +43,8 @@ pub record LosesFiles (queue : LogQueue) (limit : ℕ) (m : MemTables) (count : 
   pub alive : has_failed t ≡ false
   pub none : t.cache.place ≡ None
   pub later : IsLater s.pipes.disk t.pipes.disk
+  pub begins : (home : Home) (log : LogMap) → HoldsSettled home s log
+      → (pipe_at (which_of queue) (files_of t.pipes)).first_seq ≡ least
   pub keeps : (home : Home) (log : LogMap) → HoldsSettled home s log
       → MayLoseFiles (which_of queue) s.tables → HoldsSettled home t log
 

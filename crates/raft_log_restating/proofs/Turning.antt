@@ -1,0 +1,186 @@
+-- Rewrite is rewritten: its exits, put together of what each part told.
+use Rattle.std.proofs.Common.{◌≡◌, ℕ, suc, ◌+◌, ◌≤◌, false, List, [], Option, Some, None, is_some, inl, inr, refl, sym, ap, subst, ◌∙◌, arith}
+use Rattle.std.specs.Prelude.{Result, Ok, Err, IfErr, OnErr, OnOk}
+use Rattle.std.specs.BTreeMap.{get}
+use Rattle.std.specs.Ordering.{nat_cmp}
+use Rattle.std.proofs.lemmas.Bool.{false≢true}
+use Rattle.raft_log_model.proofs.Cases.{at_bool}
+use Rattle.raft_log_machine.proofs.TruthRaises.{no_word}
+use Rattle.raft_log_disk.specs.Causes.{IsLater}
+use Rattle.raft_log_disk.specs.LogQueue.{LogFiles}
+use Rattle.raft_log_base.specs.declared.errors.Error.{Error}
+use Rattle.raft_log_base.specs.declared.errors.Error.TheVariants as errors
+use Rattle.raft_log_base.specs.declared.pipe_log.LogQueue.TheVariants.{Rewrite}
+use Rattle.raft_log_directory.specs.Calls.Which.{InRewrite}
+use Rattle.raft_log_layout.specs.declared.record.LogRecord.{LogRecord}
+use Rattle.raft_log_places.specs.Shown.{Shown}
+use Rattle.raft_log_replay.specs.declared.group_table.GroupTable.{GroupTable}
+use Rattle.raft_log_replay.specs.declared.mem_tables.MemTables.{MemTables}
+use Rattle.raft_log_replay.specs.Tables.{has_table, shown_in, shown_of}
+use Rattle.raft_log_replay.specs.Walking.{ListsGroups}
+use Rattle.raft_log_steps.specs.Steps.{next_log}
+use Rattle.raft_log_dual_pipes.specs.Pipes.{LogPipes, is_failed}
+use Rattle.raft_log_dual_pipes.specs.Calls.{FailsToRotateQueue, FailsToSyncQueue, RotatesQueue, SyncsQueue, TellsFailure}
+use Rattle.raft_log_blocks.specs.declared.block_cache.BlockCache.{BlockCache}
+use Rattle.raft_log_engine_state.specs.Shows.{Home, LogMap, Shows, sense, shows}
+use Rattle.raft_log_engine_state.specs.Holding.{Holds}
+use Rattle.raft_log_engine_state.proofs.Keeping.{holds_runs}
+use Rattle.raft_log_purge_state.specs.Settled.{HoldsSettled}
+use Rattle.raft_log_purge_state.specs.Quiet.{TurnLeavesHeld}
+use Rattle.raft_log_purge_state.proofs.Settling.{failed_sync, rewrite_rotates, settled_held, sync_settles_log, turn_refused}
+use Rattle.raft_log_rewriting.specs.Files.{FailsToLoseFiles, LosesFiles, RemainsSettled}
+use Rattle.raft_log_rewriting.specs.Stale.{written_file}
+use Rattle.raft_log_rewriting.proofs.Grouping.{among}
+use Rattle.raft_log_rewriting.proofs.Parts.{alive_ok, later_on, same_later, tells_err}
+use Rattle.raft_log_restating.specs.Restated.{IsRestatedFrom, Restates, RestatesEach, StopsRestating, last_file}
+use Rattle.raft_log_restating.specs.Queue.{FailsToRewriteRewrite, RestatesAll, RewritesRewrite, StopsRestatingAll, every}
+use Rattle.raft_log_restating.proofs.Each.{from_lower}
+use Rattle.raft_log_restating.proofs.Holding.{IsLeft, last_told}
+
+-- All groups.
+
+-- nothing is in Rewrite of a group that has no table
+unknown_restated : (n : ℕ) (o : Option GroupTable) → is_some o ≡ false → IsRestatedFrom n (shown_in o) (shown_in o)
+unknown_restated n None none = record { entries = tt; values = λ k h held rewritten. no_word h held; noted = λ k low from. from }
+unknown_restated n (Some t) none = absurd (false≢true (sym none))
+
+pub every_restated : (groups : List ℕ) (m : MemTables) (v : LogPipes) (cache : BlockCache) (t : Shows) → ListsGroups (has_table m) groups → RestatesEach groups (shows v m cache) t → Restates every (shows v m cache) t
+every_restated groups m v cache t lists r = record {
+  others = λ g none. absurd (false≢true (sym none));
+  counts = r.counts;
+  alive = r.alive;
+  later = r.later;
+  holds = r.holds;
+  rises = r.rises;
+  from = λ home log h g any.
+      at_bool (among groups g) (λ b. among groups g ≡ b → IsRestatedFrom (last_file (shows v m cache)) (shown_of m g) (t.tables g)) (λ _ known. r.from home log h g known)
+      (λ _ unknown.
+      subst (IsRestatedFrom (last_file (shows v m cache)) (shown_of m g)) (sym (r.others g unknown))
+      (unknown_restated (last_file (shows v m cache)) (get nat_cmp m.groups g) (sym (lists.exact g) ∙ unknown))) refl;
+}
+
+-- nothing was done
+none_restated_yet : (error : Error) (s : Shows) → StopsRestatingAll error s s
+none_restated_yet error s = record { counts = refl; failed = λ lived hit. absurd (false≢true (sym lived ∙ hit)); later = same_later s.pipes.disk; remains = λ home m h. inl h }
+
+pub none_yet : (s : Shows) (q : Result (Unit {0}) Error) → IfErr q (λ error. StopsRestatingAll error s s)
+none_yet s (Ok x) = tt
+none_yet s (Err e) = none_restated_yet e s
+
+pub some_restated : (groups : List ℕ) (error : Error) (s t : Shows) → StopsRestating groups error s t → StopsRestatingAll error s t
+some_restated groups error s t stops = record { counts = stops.counts; failed = stops.failed; later = stops.later; remains = stops.remains }
+
+module _ (s restated : Shows) (r : Restates every s restated) (w : LogPipes) (later : IsLater restated.pipes.disk w.disk) where
+  all_synced : {A : Type 0} (x : A) → TellsFailure (Ok x) w → SyncsQueue InRewrite restated.pipes w → RestatesAll s (record restated { pipes = w })
+  all_synced {A} x tells call = record {
+    restated = restated;
+    restates = r;
+    syncs = call;
+    same = refl;
+    alive = alive_ok x w tells;
+    later = later_on s.pipes.disk restated.pipes.disk w.disk r.later later;
+    settles = λ home m h. sync_settles_log home restated (record restated { pipes = w }) m (r.holds home m h) (record { tables = refl; cache = inl refl }) call;
+  }
+
+  not_synced : (error : Error) → error ≡ errors.Failed → FailsToSyncQueue InRewrite restated.pipes w → StopsRestatingAll error s (record restated { pipes = w })
+  not_synced error is call = record {
+    counts = r.counts;
+    failed = λ lived hit. is;
+    later = later_on s.pipes.disk restated.pipes.disk w.disk r.later later;
+    remains = λ home m h. inr (is, (failed_sync InRewrite home restated.pipes w m [] (holds_runs home restated m [] (r.holds home m h)) call).1);
+  }
+
+  pub whole_synced : (q : Result (Unit {0}) Error) → TellsFailure q w → OnOk q (SyncsQueue InRewrite restated.pipes w) → OnOk q (RestatesAll s (record restated { pipes = w }))
+  whole_synced (Ok x) tells call = all_synced x tells call
+  whole_synced (Err e) tells call = tt
+
+  pub whole_unsynced : (q : Result (Unit {0}) Error) → IfErr q (λ error. error ≡ errors.Failed) → OnErr q (FailsToSyncQueue InRewrite restated.pipes w) → IfErr q (λ error. StopsRestatingAll error s (record restated { pipes = w }))
+  whole_unsynced (Ok x) is call = tt
+  whole_unsynced (Err e) is call = not_synced e is call
+
+-- The whole.
+
+turned_or_left : (home : Home) (m : LogMap) (t : Shows) (error : Error) → TurnLeavesHeld home m [] t error → IsLeft home m error t
+turned_or_left home m t errors.Memory h = inl h
+turned_or_left home m t errors.NumberRange h = inl h
+turned_or_left home m t errors.Failed h = inr (refl, h)
+turned_or_left home m t _ h = absurd h
+
+lost_or_left : (home : Home) (m : LogMap) (t : Shows) (error : Error) → RemainsSettled home m t error → IsLeft home m error t
+lost_or_left home m t errors.Failed h = inr (refl, h)
+lost_or_left home m t _ h = inl (settled_held home t m h)
+
+-- Rewrite didn't go on
+pub not_turned : (error : Error) (s : Shows) (w : LogPipes) → TellsFailure {A = Unit {0}} (Err error) w → IsLater s.pipes.disk w.disk → FailsToRotateQueue InRewrite error s.pipes w → FailsToRewriteRewrite error s (record s { pipes = w })
+not_turned error s w tells later call = record {
+  counts = refl;
+  failed = λ lived hit. (tells_err {A = Unit {0}} error w tells).0 hit;
+  later = later;
+  remains = λ home m h. turned_or_left home m (record s { pipes = w }) error (turn_refused InRewrite home s (record s { pipes = w }) m [] error h (record { tables = refl; cache = inl refl }) call);
+}
+
+module _ (s : Shows) (turned : LogPipes) (turns : RotatesQueue InRewrite s.pipes turned) (later : IsLater s.pipes.disk turned.disk) (lives : is_failed turned ≡ false) where
+  abbrev behind : Shows
+  behind = record s { pipes = turned }
+
+  held_behind : (home : Home) (m : LogMap) → Holds home s m [] → Holds home behind m []
+  held_behind home m h = settled_held home behind m (rewrite_rotates home s behind m h (record { tables = refl; cache = inl refl }) turns)
+
+  -- the next file is behind the former last one
+  next_file : (home : Home) (m : LogMap) → Holds home s m [] → last_file s + 1 ≤ last_file behind
+  next_file home m h =
+      let q = h.state in
+      let (files, goes, runs, step) = turns (sense home) q h.runs in
+      let before = last_told home s.pipes q h.runs in
+      let after = last_told home turned (next_log InRewrite q files turned.disk) runs in
+      let next : files.last ≡ suc q.rewrite.files.last = ap (λ (l : LogFiles LogRecord). l.last) goes.3 in
+      omega (arith, before, after, next)
+
+  pub not_restated : (error : Error) (t : Shows) → StopsRestatingAll error behind t → FailsToRewriteRewrite error s t
+  not_restated error t stops = record {
+    counts = stops.counts;
+    failed = λ lived hit. stops.failed lives hit;
+    later = later_on s.pipes.disk turned.disk t.pipes.disk later stops.later;
+    remains = λ home m h. stops.remains home m (held_behind home m h);
+  }
+
+  module _ (restated : Shows) (all : RestatesAll behind restated) where
+    to_restated : IsLater s.pipes.disk restated.pipes.disk
+    to_restated = later_on s.pipes.disk turned.disk restated.pipes.disk later all.later
+
+    settled_there : (home : Home) (m : LogMap) → Holds home s m [] → HoldsSettled home restated m
+    settled_there home m h = all.settles home m (held_behind home m h)
+
+    same_counts : restated.counts ≡ s.counts
+    same_counts = ap (λ (e : Shows). e.counts) all.same ∙ all.restates.counts
+
+    pub not_lost : (error : Error) (t : Shows) → t.counts ≡ restated.counts → FailsToLoseFiles Rewrite error restated t → FailsToRewriteRewrite error s t
+    not_lost error t counts fails = record {
+      counts = counts ∙ same_counts;
+      failed = λ lived hit. (fails.tells all.alive).0 hit;
+      later = later_on s.pipes.disk restated.pipes.disk t.pipes.disk to_restated fails.later;
+      remains = λ home m h. lost_or_left home m t error (fails.remains home m (settled_there home m h) tt);
+    }
+
+    lies_behind : (home : Home) (m : LogMap) → Holds home s m [] → (g : ℕ) → IsRestatedFrom (last_file s + 1) (s.tables g) (restated.tables g)
+    lies_behind home m h g =
+        subst (λ (e : Shows). IsRestatedFrom (last_file s + 1) (s.tables g) (e.tables g)) (sym all.same)
+        (from_lower (last_file s + 1) (last_file behind) (s.tables g) (all.restated.tables g) (next_file home m h) (all.restates.from home m (held_behind home m h) g refl))
+
+    pub rewritten : (m : MemTables) (count last : ℕ) (t : Shows) → last ≡ written_file Rewrite restated.pipes → t.tables ≡ restated.tables → t.counts ≡ restated.counts → LosesFiles Rewrite last m count restated t → RewritesRewrite m s t
+    rewritten m count last t is tables counts loses =
+        let gone = subst (λ (n : ℕ). LosesFiles Rewrite n m count restated t) is loses in record {
+          turned = turned;
+          turns = turns;
+          restated = restated;
+          restates = all;
+          count = count;
+          loses = gone;
+          tables = tables;
+          counts = counts ∙ same_counts;
+          alive = gone.alive;
+          later = later_on s.pipes.disk restated.pipes.disk t.pipes.disk to_restated gone.later;
+          begins = λ home log h. gone.begins home log (settled_there home log h);
+          from = λ home log h g. subst (λ (u : ℕ → Shown). IsRestatedFrom (last_file s + 1) (s.tables g) (u g)) (sym tables) (lies_behind home log h g);
+          settles = λ home log h. gone.keeps home log (settled_there home log h) tt;
+        }

@@ -1,0 +1,77 @@
+-- Rewrite is rewritten: what stands there is written again, and its old files go.
+use Rattle.std.specs.Prelude.{◌≡◌, ◌+◌, ◌-◌, ℕ, Bool, true, false, []}
+use Rattle.raft_log_disk.specs.Causes.{IsLater}
+use Rattle.raft_log_base.specs.declared.errors.Error.{Error}
+use Rattle.raft_log_base.specs.declared.errors.Error.TheVariants as errors
+use Rattle.raft_log_base.specs.declared.pipe_log.LogQueue.TheVariants.{Rewrite}
+use Rattle.raft_log_directory.specs.Calls.Which.{InRewrite}
+use Rattle.raft_log_tables.specs.declared.global_stats.GlobalStats.{GlobalStats}
+use Rattle.raft_log_replay.specs.declared.mem_tables.MemTables.{MemTables}
+use Rattle.raft_log_steps.specs.State.{pipe_at}
+use Rattle.raft_log_dual_pipes.specs.Pipes.{LogPipes, files_of}
+use Rattle.raft_log_dual_pipes.specs.Calls.{RotatesQueue, SyncsQueue}
+use Rattle.raft_log_engine_state.specs.Shows.{Home, LogMap, Shows, has_failed}
+use Rattle.raft_log_engine_state.specs.Holding.{Holds}
+use Rattle.raft_log_purge_state.specs.Settled.{HoldsSettled}
+use Rattle.raft_log_rewriting.specs.Files.{LosesFiles}
+use Rattle.raft_log_rewriting.specs.Stale.{written_file}
+use Rattle.raft_log_restating.specs.Restated.{IsRestatedFrom, Restates, StaysOrIsLeft, last_file}
+
+-- every group
+abbrev pub every : ℕ → Bool
+every g = true
+
+-- All groups were restated, and Rewrite was synced: whatever the log was, with nothing pending, it is so, and
+-- nothing of Rewrite is pending either.
+pub record RestatesAll (s t : Shows) : Type 0 where
+  pub restated : Shows
+  pub restates : Restates every s restated
+  pub syncs : SyncsQueue InRewrite restated.pipes t.pipes
+  pub same : t ≡ record restated { pipes = t.pipes }
+  pub alive : has_failed t ≡ false
+  pub later : IsLater s.pipes.disk t.pipes.disk
+  pub settles : (home : Home) (m : LogMap) → Holds home s m [] → HoldsSettled home t m
+
+-- or not all of them, or it wasn't synced
+pub record StopsRestatingAll (error : Error) (s t : Shows) : Type 0 where
+  pub counts : t.counts ≡ s.counts
+  pub failed : has_failed s ≡ false → has_failed t ≡ true → error ≡ errors.Failed
+  pub later : IsLater s.pipes.disk t.pipes.disk
+  pub remains : StaysOrIsLeft error s t
+
+-- the file with which Rewrite's span begins
+abbrev pub first_file : Shows → ℕ
+first_file s = (pipe_at InRewrite (files_of s.pipes)).first_seq
+
+-- Rewrite was rewritten: it went on in its next file; all groups were restated, and it was synced; then the
+-- files below the least that is in use left its span, which begins there. All that each group has in Rewrite
+-- lies behind the former last file. The map stays, and nothing is pending in either queue.
+pub record RewritesRewrite (m : MemTables) (s t : Shows) : Type 0 where
+  pub turned : LogPipes
+  pub turns : RotatesQueue InRewrite s.pipes turned
+  pub restated : Shows
+  pub restates : RestatesAll (record s { pipes = turned }) restated
+  pub count : ℕ
+  pub loses : LosesFiles Rewrite (written_file Rewrite restated.pipes) m count restated t
+  pub tables : t.tables ≡ restated.tables
+  pub counts : t.counts ≡ s.counts
+  pub alive : has_failed t ≡ false
+  pub later : IsLater s.pipes.disk t.pipes.disk
+  pub begins : (home : Home) (log : LogMap) → Holds home s log [] → first_file t ≡ loses.least
+  pub from : (home : Home) (log : LogMap) → Holds home s log [] → (g : ℕ)
+      → IsRestatedFrom (last_file s + 1) (s.tables g) (t.tables g)
+  pub settles : (home : Home) (log : LogMap) → Holds home s log [] → HoldsSettled home t log
+
+-- That was refused: the map stays, with nothing pending; or the engine has failed, and its log is held.
+pub record FailsToRewriteRewrite (error : Error) (s t : Shows) : Type 0 where
+  pub counts : t.counts ≡ s.counts
+  pub failed : has_failed s ≡ false → has_failed t ≡ true → error ≡ errors.Failed
+  pub later : IsLater s.pipes.disk t.pipes.disk
+  pub remains : StaysOrIsLeft error s t
+
+-- what stands no more in Rewrite is counted no more
+abbrev pub reset_counts : GlobalStats → GlobalStats
+reset_counts s = record s {
+  rewrite_entries = s.rewrite_entries - s.deleted_rewrite_entries;
+  deleted_rewrite_entries = 0;
+}

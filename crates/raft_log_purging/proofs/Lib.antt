@@ -1,3 +1,4 @@
+pub mod Expiring
 pub mod Past
 pub mod Picked
 pub mod Whole

@@ -16,7 +16,7 @@ use Rattle.raft_log_replay.specs.Tables.{has_table}
 use Rattle.raft_log_replay.specs.Walking.{ListsGroups}
 use Rattle.raft_log_purge.specs.declared.watermarks.Watermarks.{Watermarks}
 use Rattle.raft_log_purge_rules.specs.Behind.{round_behind}
-use Rattle.raft_log_purge_rules.specs.Picking.{asks_at, asks_in, rewrites_at, rewrites_in}
+use Rattle.raft_log_purge_rules.specs.Picking.{answers_at, answers_in, asks_at, asks_in, rewrites_at, rewrites_in}
 
 both_pass : (a b : Bool) → (a ≡ true → b ≡ true) → (a && b) ≡ a
 both_pass true b h = h refl
@@ -37,6 +37,10 @@ asked_has_table marks (Some t) h = refl
 rewritten_has_table : (marks : Watermarks) (n : ℕ) (o : Option GroupTable) → rewrites_in marks n (option_map (λ t. t.table) o) ≡ true → is_some o ≡ true
 rewritten_has_table marks n None h = absurd (false≢true h)
 rewritten_has_table marks n (Some t) h = refl
+
+answered_has_table : (marks : Option Watermarks) (restated : Bool) (o : Option GroupTable) → answers_in marks restated (option_map (λ t. t.table) o) ≡ true → is_some o ≡ true
+answered_has_table marks restated None h = absurd (false≢true h)
+answered_has_table marks restated (Some t) h = refl
 
 -- One group more is asked.
 
@@ -70,6 +74,9 @@ all_picked (Err e) items p has gs now same known lists is = tt
 
 pub asked_known : (marks : Watermarks) (m : MemTables) (g : ℕ) → asks_at marks m g ≡ true → has_table m g ≡ true
 asked_known marks m g = asked_has_table marks (get nat_cmp m.groups g)
+
+pub answered_known : (marks : Option Watermarks) (restated : Bool) (m : MemTables) (g : ℕ) → answers_at marks restated m g ≡ true → has_table m g ≡ true
+answered_known marks restated m g = answered_has_table marks restated (get nat_cmp m.groups g)
 
 pub rewritten_known : (marks : Watermarks) (counts : ℕ → ℕ) (m : MemTables) (g : ℕ) → rewrites_at marks counts m g ≡ true → has_table m g ≡ true
 rewritten_known marks counts m g = rewritten_has_table marks (counts g) (get nat_cmp m.groups g)

@@ -1,10 +1,10 @@
 -- The groups that a purge of Append picks, and in how many purges in a row each was asked to be compacted.
-use Rattle.std.specs.Prelude.{ℕ, Bool, false, Option, Some, None, unwrap_or}
+use Rattle.std.specs.Prelude.{ℕ, Bool, false, ◌&&◌, ◌||◌, nat_lt, Option, Some, None, unwrap_or}
 use Rattle.std.specs.BTreeMap.{get}
 use Rattle.std.specs.Ordering.{nat_cmp}
 use Rattle.raft_log_replay.specs.declared.mem_tables.MemTables.{MemTables}
 use Rattle.raft_log_replay.specs.Tables.{raw_of}
-use Rattle.raft_log_tables.specs.Table.{Raw}
+use Rattle.raft_log_tables.specs.Table.{Raw, shown}
 use Rattle.raft_log_purge.specs.declared.watermarks.Watermarks.{Watermarks}
 use Rattle.raft_log_purge_rules.specs.declared.rounds.Rounds.{Rounds}
 use Rattle.raft_log_purge_rules.specs.Rules.{asks, rewrites}
@@ -29,3 +29,17 @@ asks_at marks m g = asks_in marks (raw_of m g)
 
 abbrev pub rewrites_at : Watermarks → (ℕ → ℕ) → MemTables → ℕ → Bool
 rewrites_at marks counts m g = rewrites_in marks (counts g) (raw_of m g)
+
+-- so it is where Append is purged up to watermarks
+abbrev pub asks_by : Option Watermarks → Raw → Bool
+asks_by None t = false
+asks_by (Some marks) t = asks marks t
+
+-- a group with this table, if it has one, is answered: it is asked to be compacted; or Rewrite was rewritten, and
+-- it has more than 32 entries there
+abbrev pub answers_in : Option Watermarks → Bool → Option Raw → Bool
+answers_in marks restated None = false
+answers_in marks restated (Some t) = asks_by marks t || (restated && nat_lt 32 (shown t).rewritten)
+
+abbrev pub answers_at : Option Watermarks → Bool → MemTables → ℕ → Bool
+answers_at marks restated m g = answers_in marks restated (raw_of m g)

@@ -6,5 +6,5 @@ pub mod picking;
 pub mod rounds;
 pub mod rules;
 
-pub use picking::{asked_groups, rewritten_groups};
+pub use picking::{answered_groups, asked_groups, rewritten_groups};
 pub use rounds::Rounds;

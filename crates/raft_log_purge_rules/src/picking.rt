@@ -4,13 +4,39 @@ ghost use Rattle.std.specs.Prelude.{◌≡◌, [], ◌∷◌, ◌++◌, IfOk, On
 ghost use Rattle.std.specs.List.{filter};
 ghost use Rattle.raft_log_replay.specs.Tables.{raw_of};
 ghost use Rattle.raft_log_replay.specs.Walking.{ListsGroups};
-ghost use Rattle.raft_log_purge_rules.specs.Picking.{asks_at, asks_in, count_of, rewrites_at, rewrites_in};
+ghost use Rattle.raft_log_purge_rules.specs.Picking.{
+  answers_at,
+  asks_at,
+  asks_by,
+  asks_in,
+  count_of,
+  rewrites_at,
+  rewrites_in,
+};
 
 use crate::rounds::Rounds;
 use crate::rules::{asks, rewrites};
 use raft_log_purge::Watermarks;
 use raft_log_replay::MemTables;
+use raft_log_tables::MemTable;
 use std::alloc::{AllocError, Global};
+
+/// Of so many entries in Rewrite, or fewer, a group isn't answered for those.
+const MOST_REWRITTEN: usize = 32;
+
+/// The groups that a purge answers, from the least up: those that are asked to be compacted, where Append is
+/// purged up to watermarks; and where Rewrite was rewritten, those that have many entries there.
+pub fn answered_groups(
+    alloc: Global,
+    tables: &MemTables,
+    watermarks: Option<Watermarks>,
+    restated: bool,
+) -> Result<Vec<u64>, AllocError>
+    ensures { IfOk result (λ groups. ListsGroups (answers_at watermarks restated tables.now) groups.items) }
+{
+    let groups = tables.known_groups()?;
+    answered_of(alloc, tables, watermarks, restated, groups.as_slice())
+}
 
 /// The groups that a purge asks to be compacted, from the least up.
 pub fn asked_groups(
@@ -36,6 +62,25 @@ pub fn rewritten_groups(
 {
     let groups = tables.known_groups()?;
     rewritten_of(alloc, tables, watermarks, rounds, groups.as_slice())
+}
+
+/// Of these groups those that are answered.
+fn answered_of(
+    alloc: Global,
+    tables: &MemTables,
+    watermarks: Option<Watermarks>,
+    restated: bool,
+    groups: &[u64],
+) -> Result<Vec<u64>, AllocError>
+    ensures { IfOk result (λ picked.
+        picked.items ≡ filter (answers_at watermarks restated tables.now) groups.now) }
+{
+    let mut picked = Vec::new(alloc);
+    for group in groups {
+        let wanted = is_answered(tables, watermarks, restated, *group);
+        push_if(&mut picked, *group, wanted)?;
+    }
+    Ok(picked)
 }
 
 /// Of these groups those that are asked to be compacted.
@@ -101,6 +146,33 @@ fn is_rewritten(tables: &MemTables, watermarks: &Watermarks, rounds: u32, group:
 {
     match tables.known_table(group) {
         Some(table) => rewrites(watermarks, rounds, table),
+        None => false,
+    }
+}
+
+/// Whether a group is answered.
+fn is_answered(
+    tables: &MemTables,
+    watermarks: Option<Watermarks>,
+    restated: bool,
+    group: u64,
+) -> bool
+    ensures { result ≡ answers_at watermarks restated tables.now group }
+{
+    match tables.known_table(group) {
+        Some(table) => {
+            asks_by(watermarks, table) || (restated && MOST_REWRITTEN < table.rewritten_count())
+        }
+        None => false,
+    }
+}
+
+/// Whether a group is asked to be compacted, where Append is purged up to watermarks.
+fn asks_by(watermarks: Option<Watermarks>, table: &MemTable) -> bool
+    ensures { result ≡ asks_by watermarks table.now }
+{
+    match watermarks {
+        Some(watermarks) => asks(&watermarks, table),
         None => false,
     }
 }

@@ -156,7 +156,7 @@ turned_or_left home m t errors.Failed h = inr (refl, h)
 turned_or_left home m t _ h = absurd h
 
 -- with the batches on the map
-on_the_map : (home : Home) (log : LogMap) (pending : List Said) (t : Shows) (error : Error) → Holds home t (taken log pending) [] ⊎ ((error ≡ errors.Failed) × IsLeftAt home t.pipes.disk (taken log pending) [])
+pub on_the_map : (home : Home) (log : LogMap) (pending : List Said) (t : Shows) (error : Error) → Holds home t (taken log pending) [] ⊎ ((error ≡ errors.Failed) × IsLeftAt home t.pipes.disk (taken log pending) [])
     → Holds home t (taken log pending) [] ⊎ ((error ≡ errors.Failed) × (IsLeftAt home t.pipes.disk (taken log pending) [] ⊎ IsLeftAt home t.pipes.disk log pending))
 on_the_map home log pending t error (inl held) = inl held
 on_the_map home log pending t error (inr (is, left)) = inr (is, inl left)
@@ -165,7 +165,7 @@ module _ (s : Shows) (synced : LogPipes) (syncs : SyncsQueue InAppend s.pipes sy
   abbrev behind : Shows
   behind = record s { pipes = synced }
 
-  held_behind : (home : Home) (log : LogMap) (pending : List Said) → Holds home s log pending → Holds home behind (taken log pending) []
+  pub held_behind : (home : Home) (log : LogMap) (pending : List Said) → Holds home s log pending → Holds home behind (taken log pending) []
   held_behind home log pending h = synced_all home s behind log pending h refl (inl refl) syncs
 
   -- Append didn't go on

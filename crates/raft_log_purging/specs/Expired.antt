@@ -1,5 +1,5 @@
 -- What a purge does of Append once its files are past their threshold.
-use Rattle.std.specs.Prelude.{◌≡◌, ◌⊎◌, ℕ, max, Bool, true, false, List, [], Option}
+use Rattle.std.specs.Prelude.{◌≡◌, ◌⊎◌, ℕ, max, Bool, true, false, List, [], Option, Some, None}
 use Rattle.raft_log_disk.specs.Causes.{IsLater}
 use Rattle.raft_log_base.specs.declared.errors.Error.{Error}
 use Rattle.raft_log_base.specs.declared.errors.Error.TheVariants as errors
@@ -15,7 +15,7 @@ use Rattle.raft_log_purge.specs.declared.watermarks.Watermarks.{Watermarks}
 use Rattle.raft_log_purge.specs.Watermarks.{TakesAppend, first_at, last_at, watermarks_of}
 use Rattle.raft_log_purge_rules.specs.declared.rounds.Rounds.{Rounds}
 use Rattle.raft_log_purge_rules.specs.Behind.{round_behind}
-use Rattle.raft_log_purge_rules.specs.Picking.{asks_at, count_of, rewrites_at}
+use Rattle.raft_log_purge_rules.specs.Picking.{answers_at, asks_at, count_of, rewrites_at}
 use Rattle.raft_log_rewriting.specs.Files.{IsLeastOf}
 use Rattle.raft_log_rewriting.specs.Marks.{CarriesMarks}
 use Rattle.raft_log_rewriting.specs.Moving.{IsRewrittenTo}
@@ -31,9 +31,9 @@ CountsRound marks m old new =
     (g : ℕ) → count_of new g ≡ round_behind (asks_at marks m g) (count_of old g)
 
 -- the groups were picked by the rules, of what the tables had, with so many rounds before
-pub record PicksGroups (marks : Watermarks) (m : MemTables) (old : Rounds) (picked : PickedGroups)
-    : Type 0 where
-  pub asked : ListsGroups (asks_at marks m) picked.asked.items
+pub record PicksGroups (marks : Watermarks) (restated : Bool) (m : MemTables) (old : Rounds)
+    (picked : PickedGroups) : Type 0 where
+  pub answered : ListsGroups (answers_at (Some marks) restated m) picked.answered.items
   pub rewritten : ListsGroups (rewrites_at marks (count_of old) m) picked.rewritten.items
   pub rounds : CountsRound marks m old picked.rounds
 
@@ -72,27 +72,29 @@ pub record RewritesPicked (test : ℕ → Bool) (gate : ℕ) (held : Option ℕ)
 
 -- The whole.
 
--- Append was purged: just these groups are asked to be compacted, one round more was counted, and the groups
--- that the rules have were rewritten before files went. The rules speak of the tables as they were.
-pub record PurgesAppend (held : Option ℕ) (before after : MemTables) (old new : Rounds) (groups : List ℕ)
-    (s t : Shows) : Type 0 where
-  pub asked : ListsGroups (asks_at (watermarks_of s.pipes) before) groups
+-- Append was purged: just these groups are answered, one round more was counted of those that are asked to be
+-- compacted, and the groups that the rules have were rewritten before files went. The rules speak of the
+-- tables as they were.
+pub record PurgesAppend (held : Option ℕ) (restated : Bool) (before after : MemTables) (old new : Rounds)
+    (groups : List ℕ) (s t : Shows) : Type 0 where
+  pub answered : ListsGroups (answers_at (Some (watermarks_of s.pipes)) restated before) groups
   pub rounds : CountsRound (watermarks_of s.pipes) before old new
   pub rewrites : RewritesPicked (rewrites_at (watermarks_of s.pipes) (count_of old) before)
       (watermarks_of s.pipes).rewrite held after s t
 
--- Append was let be: no group is asked, and no round counted
-pub record LeavesAppend (old new : Rounds) (groups : List ℕ) (s t : Shows) : Type 0 where
-  pub none : groups ≡ []
+-- Append was let be: no group is asked to be compacted, and no round counted
+pub record LeavesAppend (restated : Bool) (before : MemTables) (old new : Rounds) (groups : List ℕ)
+    (s t : Shows) : Type 0 where
+  pub answered : ListsGroups (answers_at None restated before) groups
   pub rounds : new ≡ old
   pub same : t ≡ s
 
 -- Append was purged exactly where it is past its threshold
-abbrev pub PurgesIfPast : Thresholds → Option ℕ → MemTables → MemTables → Rounds → Rounds → List ℕ → Shows
-    → Shows → Type 0
-PurgesIfPast thresholds held before after old new groups s t =
-    (TakesAppend thresholds s.pipes × PurgesAppend held before after old new groups s t)
-    ⊎ ((TakesAppend thresholds s.pipes → ⊥) × LeavesAppend old new groups s t)
+abbrev pub PurgesIfPast : Thresholds → Option ℕ → Bool → MemTables → MemTables → Rounds → Rounds → List ℕ
+    → Shows → Shows → Type 0
+PurgesIfPast thresholds held restated before after old new groups s t =
+    (TakesAppend thresholds s.pipes × PurgesAppend held restated before after old new groups s t)
+    ⊎ ((TakesAppend thresholds s.pipes → ⊥) × LeavesAppend restated before old new groups s t)
 
 -- Append's purge was refused: whatever the log was, with nothing pending, it is so; or the engine has failed,
 -- and its log is held

@@ -21,7 +21,7 @@ use raft_log_base::{FileId, FileSeq, LogQueue, Result};
 use raft_log_blocks::BlockCache;
 use raft_log_dual_pipes::PipeLog;
 use raft_log_purge::{Thresholds, Watermarks, append_watermarks, takes_append};
-use raft_log_purge_rules::{Rounds, asked_groups, rewritten_groups};
+use raft_log_purge_rules::{Rounds, answered_groups, asked_groups, rewritten_groups};
 use raft_log_replay::MemTables;
 use raft_log_rewriting::{least_file, rewrite_marks};
 use std::alloc::{AllocError, Global};
@@ -29,8 +29,8 @@ use std::alloc::{AllocError, Global};
 /// The groups that a purge of Append picks, from the least up.
 #[derive(Drop)]
 pub struct PickedGroups {
-    /// Those that it asks to be compacted.
-    pub asked: Vec<u64>,
+    /// Those that it answers: it asks them to be compacted, or they have many entries in Rewrite.
+    pub answered: Vec<u64>,
     /// Those that it rewrites itself.
     pub rewritten: Vec<u64>,
     /// In how many purges in a row each group was asked, this one among them.
@@ -40,7 +40,8 @@ pub struct PickedGroups {
 /// Purges Append where it is past its threshold, else nothing is done: the marks are carried; the groups that
 /// the rules have are rewritten up to the watermark, and Rewrite is synced; then the files below the least in
 /// use leave Append's span, none from the last one on, nor from the one that is held back. The answer is the
-/// groups that are asked to be compacted, from the least up, and the round is counted.
+/// groups that are asked to be compacted, from the least up, and the round is counted; and where Rewrite was
+/// rewritten before, the groups that have many entries there too.
 ///
 /// Refused is `Memory` before anything is done, then what `rewrite_marks`, `rewrite_groups`, a sync and files
 /// that go refuse: the map stays, and no round is counted.
@@ -53,8 +54,9 @@ pub fn purge_append<P: PipeLog, L: Log>(
     cache: &mut BlockCache,
     rounds: &mut Rounds,
     held: Option<FileSeq>,
+    restated: bool,
 ) -> Result<Vec<u64>>
-    ensures ok { IfOk result (λ groups. PurgesIfPast thresholds.now held tables.old tables.new
+    ensures ok { IfOk result (λ groups. PurgesIfPast thresholds.now held restated tables.old tables.new
         rounds.old rounds.new groups.items
         (shows (P.shown pipes.old) tables.old cache.old) (shows (P.shown pipes.new) tables.new cache.new)) }
     ensures err { IfErr result (λ error. FailsToPurgeAppend error
@@ -63,9 +65,10 @@ pub fn purge_append<P: PipeLog, L: Log>(
     ensures rests { IsAtRest tables.old → IsAtRest tables.new }
 {
     if !takes_append(thresholds, pipes) {
-        return Ok(Vec::new(alloc));
+        let answered = answered_groups(alloc, tables, None, restated)?;
+        return Ok(answered);
     }
-    purge_by_rules(alloc, rt, pipes, tables, cache, rounds, held)
+    purge_by_rules(alloc, rt, pipes, tables, cache, rounds, held, restated)
 }
 
 /// Purges Append, whatever its size is.
@@ -77,8 +80,9 @@ fn purge_by_rules<P: PipeLog, L: Log>(
     cache: &mut BlockCache,
     rounds: &mut Rounds,
     held: Option<FileSeq>,
+    restated: bool,
 ) -> Result<Vec<u64>>
-    ensures ok { IfOk result (λ groups. PurgesAppend held tables.old tables.new
+    ensures ok { IfOk result (λ groups. PurgesAppend held restated tables.old tables.new
         rounds.old rounds.new groups.items
         (shows (P.shown pipes.old) tables.old cache.old) (shows (P.shown pipes.new) tables.new cache.new)) }
     ensures err { IfErr result (λ error. FailsToPurgeAppend error
@@ -87,7 +91,7 @@ fn purge_by_rules<P: PipeLog, L: Log>(
     ensures rests { IsAtRest tables.old → IsAtRest tables.new }
 {
     let watermarks = append_watermarks(pipes);
-    let picked = pick_groups(alloc, tables, &watermarks, rounds)?;
+    let picked = pick_groups(alloc, tables, &watermarks, rounds, restated)?;
     let gate = watermarks.rewrite;
     rewrite_picked(
         alloc,
@@ -100,7 +104,7 @@ fn purge_by_rules<P: PipeLog, L: Log>(
         held,
     )?;
     *rounds = picked.rounds;
-    Ok(picked.asked)
+    Ok(picked.answered)
 }
 
 /// Picks groups by the rules.
@@ -109,14 +113,16 @@ fn pick_groups(
     tables: &MemTables,
     watermarks: &Watermarks,
     rounds: &Rounds,
+    restated: bool,
 ) -> Result<PickedGroups, AllocError>
-    ensures { IfOk result (PicksGroups watermarks.now tables.now rounds.now) }
+    ensures { IfOk result (PicksGroups watermarks.now restated tables.now rounds.now) }
 {
     let asked = asked_groups(alloc, tables, watermarks)?;
-    let rewritten = rewritten_groups(alloc, tables, watermarks, rounds)?;
     let next = rounds.behind(alloc, asked.as_slice())?;
+    let rewritten = rewritten_groups(alloc, tables, watermarks, rounds)?;
+    let answered = answered_groups(alloc, tables, Some(*watermarks), restated)?;
     Ok(PickedGroups {
-        asked,
+        answered,
         rewritten,
         rounds: next,
     })

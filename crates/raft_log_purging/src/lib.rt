@@ -6,6 +6,8 @@
 
 pub mod append;
 pub mod expired;
+pub mod expired_files;
 
 pub use append::rewrite_append_queue;
 pub use expired::purge_append;
+pub use expired_files::{PurgeCounts, purge_expired_files, sync_and_rewrite};

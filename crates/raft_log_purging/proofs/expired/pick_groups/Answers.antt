@@ -6,7 +6,7 @@ use Rattle.raft_log_purging.proofs.expired.pick_groups.Goals as goal
 
 pub returns : goal.returns
 returns c = record {
-  asked = c.in_ok-asked.ensures;
+  answered = c.in_ok-answered.ensures;
   rewritten = c.in_ok-rewritten.ensures;
   rounds = λ g.
       c.in_ok-next.ensures g

@@ -26,11 +26,11 @@ returns-clause-ok g c =
     let t = shows (g.P.PipeLog.shown c.rewrite_picked.new.pipes) after c.rewrite_picked.new.cache in
     let picked = c.in_ok-picked.picked in
     let is : c.append_watermarks-watermarks.result ≡ watermarks_of v = c.append_watermarks-watermarks.ensures in
-    let picks = subst (λ (w : Watermarks). PicksGroups w m c.args.rounds.now picked) is c.in_ok-picked.ensures in
+    let picks = subst (λ (w : Watermarks). PicksGroups w c.args.restated m c.args.rounds.now picked) is c.in_ok-picked.ensures in
     let listed = subst (λ (l : List ℕ). RewritesPicked (among l) c.append_watermarks-watermarks.result.rewrite c.args.held after s t) c.as_slice.ensures.value c.in_ok-rewrite_picked.ensures.ok in
     let done = subst (λ (w : Watermarks). RewritesPicked (among picked.rewritten.items) w.rewrite c.args.held after s t) is listed in
     record {
-      asked = picks.asked;
+      answered = picks.answered;
       rounds = picks.rounds;
       rewrites = listed_picked picked.rewritten.items (rewrites_at (watermarks_of v) (count_of c.args.rounds.now) m) (watermarks_of v).rewrite c.args.held after s t picks.rewritten done;
     }

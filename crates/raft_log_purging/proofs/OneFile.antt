@@ -50,10 +50,10 @@ one_is_left gate least home s log pending synced past mid last h syncs is goes o
     let one = synced_stays s.pipes synced syncs home h.state h.runs in
     elim goes as (λ _. HasOneFile last) [
       | inl rotates ↦ (let two = turned synced past home one.0.0 one.0.1 rotates.1 in
-        let three = on home two.0.0 two.0.1 in
-        let four = then home three.0.0 three.0.1 in
-        let behind = two.1 in
-        let stayed = three.1 in
-        let ends = four.1 in omega (arith, is, behind, stayed, ends, low, limited, begins))
+          let three = on home two.0.0 two.0.1 in
+          let four = then home three.0.0 three.0.1 in
+          let behind = two.1 in
+          let stayed = three.1 in
+          let ends = four.1 in omega (arith, is, behind, stayed, ends, low, limited, begins))
       | inr still ↦ (let below = still.0 in absurd (omega (arith, is, below)))
     ]

@@ -1,3 +1,4 @@
 pub mod Append
 pub mod Expired
 pub mod ExpiredFiles
+pub mod Counting

@@ -22,8 +22,9 @@ use raft_log_purge::{Thresholds, takes_rewrite};
 use raft_log_purge_rules::Rounds;
 use raft_log_replay::MemTables;
 use raft_log_restating::queue::rewrite_rewrite_queue;
+use raft_log_restating::standing::standing_count;
 use raft_log_tables::GlobalStats;
-use std::alloc::Global;
+use std::alloc::{AllocError, Global};
 
 /// What is counted from one purge of a log to the next.
 #[derive(Drop)]
@@ -39,6 +40,7 @@ pub struct PurgeCounts {
 impl PurgeCounts {
     ghost use Rattle.raft_log_purge_rules.specs.Picking.{count_of};
     ghost use Rattle.raft_log_tables.specs.Stats.{no_entries};
+    ghost use Rattle.raft_log_purging.specs.Counting.{CountsStanding};
 
     /// Nothing was counted yet.
     pub fn new(alloc: Global) -> PurgeCounts
@@ -51,6 +53,21 @@ impl PurgeCounts {
             stats: GlobalStats::new(),
             number: 1,
         }
+    }
+
+    /// Brings the counts to what stands in Rewrite: what stands there and wasn't counted was written, and what
+    /// was counted and doesn't stand is garbage. Refused, nothing changes.
+    pub fn count_standing(&mut self, alloc: Global, tables: &MemTables) -> Result<(), AllocError>
+        ensures ok { OnOk result (CountsStanding tables.now self.old self.new) }
+        ensures err { OnErr result (self.new ≡ self.old) }
+    {
+        let standing = standing_count(alloc, tables)?;
+        let live = self.stats.live_entries(LogQueue::Rewrite);
+        self.stats
+            .add(LogQueue::Rewrite, standing.saturating_sub(live));
+        self.stats
+            .delete(LogQueue::Rewrite, live.saturating_sub(standing));
+        Ok(())
     }
 }
 

@@ -6,3 +6,7 @@ pub mod Sessions
 pub mod Pipes
 pub mod DualPipes
 pub mod Engine
+pub mod Blocks
+pub mod Dump
+pub mod Fork
+pub mod Consistency

@@ -3,8 +3,12 @@
 
 pub mod atomic_groups;
 pub mod base;
+pub mod blocks;
+pub mod consistency;
 pub mod dual_pipes;
+pub mod dump;
 pub mod engine;
+pub mod fork;
 pub mod format;
 pub mod frames;
 pub mod items;

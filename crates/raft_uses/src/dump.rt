@@ -1,0 +1,25 @@
+//! A caller of `raft_log_dump`: where a log's files begin.
+
+ghost use Rattle.std.specs.Prelude.{IfErr, IfOk};
+ghost use Rattle.raft_log_dump.specs.Dump.{IsNoDump};
+ghost use Rattle.raft_uses.specs.Dump.{BeginsDump};
+
+use raft_log_base::Result;
+use raft_log_disk::FileSystem;
+use raft_log_dump::dump_with_file_system;
+use raft_log_items::LogItem;
+use std::alloc::Global;
+
+/// What comes first of the log files of a directory, or of the log file with this path: an item, or why the
+/// first file gave none; or nothing.
+pub fn first_dumped<F: FileSystem>(
+    alloc: Global,
+    path: &str,
+    file_system: &F,
+) -> Result<Option<Result<LogItem>>>
+    ensures ok { IfOk result (BeginsDump F.disk file_system.now path.now) }
+    ensures err { IfErr result (IsNoDump path.now (F.disk file_system.now)) }
+{
+    let mut items = dump_with_file_system(alloc, path, file_system)?;
+    Ok(items.next())
+}

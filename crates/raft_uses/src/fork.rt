@@ -1,0 +1,30 @@
+//! A caller of `raft_log_fork`: a log is backed up.
+
+ghost use Rattle.std.specs.Prelude.{IfErr, IfOk};
+ghost use Rattle.raft_log_settings.specs.Settings.{settings_of};
+ghost use Rattle.raft_log_fork.specs.Forks.{FailsToFork};
+ghost use Rattle.raft_uses.specs.Fork.{BacksUp};
+
+use log::Log;
+use raft_log_base::Result;
+use raft_log_disk::FileSystem;
+use raft_log_fork::fork;
+use raft_log_settings::Config;
+use std::alloc::Global;
+
+/// Copies the log of these settings, which nobody has open, into a directory; answers how many files it has.
+pub fn back_up<F: FileSystem, L: Log>(
+    rt: &L,
+    alloc: Global,
+    config: &Config,
+    file_system: &mut F,
+    target: &str,
+) -> Result<usize>
+    ensures ok { IfOk result (λ count. BacksUp (settings_of config.now) target.now count
+        (F.disk file_system.old) (F.disk file_system.new)) }
+    ensures err { IfErr result (λ error. FailsToFork (settings_of config.now) target.now error
+        (F.disk file_system.old) (F.disk file_system.new)) }
+{
+    let details = fork(rt, alloc, config, file_system, target)?;
+    Ok(details.copied.len())
+}

@@ -1,8 +1,7 @@
 -- What is read of entries, as an engine answers it.
-use Rattle.std.proofs.Common.{◌≡◌, ◌⊎◌, ℕ, zero, suc, ◌+◌, ◌-◌, ◌<◌, ◌≤◌, Bool, true, false, List, [], ◌∷◌, ◌++◌, length, take, drop, Option, Some, None, inl, inr, refl, sym, ap, subst, ◌∙◌, arith, if◌then◌else◌, nat_le, nat_lt, option_map, slice_get}
+use Rattle.std.proofs.Common.{◌≡◌, ℕ, zero, suc, ◌+◌, ◌-◌, ◌<◌, ◌≤◌, Bool, true, false, List, [], ◌∷◌, ◌++◌, length, take, drop, Option, Some, None, inl, inr, refl, sym, ap, subst, ◌∙◌, arith, if◌then◌else◌, nat_le, nat_lt, option_map, slice_get}
 use Rattle.std.specs.BTreeMap.{get}
 use Rattle.std.specs.Ordering.{nat_cmp}
-use Rattle.std.proofs.lemmas.Bool.{false≢true}
 use Rattle.std.proofs.lemmas.Option.{slice_get_past}
 use Rattle.raft_log_model.specs.Groups.{taken}
 use Rattle.raft_log_model.specs.Meaning.Slot.{Index}
@@ -18,7 +17,7 @@ use Rattle.raft_log_places.proofs.Queues.{located_length}
 use Rattle.raft_log_held.specs.Counts.{sized}
 use Rattle.raft_log_held.specs.Entries.{entry_of, queue_of}
 use Rattle.raft_log_tables.specs.Table.{Raw, shown}
-use Rattle.raft_log_tables.specs.Reads.{AreIn, FetchRefused, entries_from, entry_at, fetched, places_between}
+use Rattle.raft_log_tables.specs.Reads.{FetchRefused, entries_from, entry_at, fetched, places_between}
 use Rattle.raft_log_replay.specs.declared.group_table.GroupTable.{GroupTable}
 use Rattle.raft_log_replay.specs.declared.mem_tables.MemTables.{MemTables}
 use Rattle.raft_log_replay.specs.Tables.{counting, counts, counts_in, shown_in, shown_of, table_of}
@@ -28,7 +27,7 @@ use Rattle.raft_log_blocks.specs.declared.block_cache.BlockCache.{BlockCache}
 use Rattle.raft_log_blocks.specs.Blocks.{AreUnread, IsEntryUnread, IsOfLog, ReadsEntries, ReadsEntry}
 use Rattle.raft_log_engine_state.specs.Shows.{Home, LogMap, Shows, has_failed}
 use Rattle.raft_log_engine_state.specs.Holding.{Holds}
-use Rattle.raft_log_engine_state.specs.Fetching.{AreEntriesOf, AreToRead, FailsToFetch, FailsToTell, FetchesTo, IsEntryTold, IsOneUntold, StaysButBlock, TellsEntry}
+use Rattle.raft_log_engine_state.specs.Fetching.{AreEntriesOf, AreToRead, FailsToFetch, FailsToTell, FetchesTo, IsOneUntold, StaysButBlock, TellsEntry}
 use Rattle.raft_log_engine_state.proofs.Fetching.{all_told, all_untold, fetched_from, told_of, untold_of}
 
 less_of : (a b : ℕ) → nat_lt a b ≡ true → a < b

@@ -1,5 +1,5 @@
 -- What a write was told by its pipes and its tables, put together.
-use Rattle.std.proofs.Common.{◌≡◌, ◌⊎◌, ◌↔◌, ℕ, Bool, true, false, None, List, [], inl, inr, refl, sym, ap, ap₂, subst, ◌∙◌}
+use Rattle.std.proofs.Common.{◌≡◌, ◌↔◌, ℕ, true, false, None, List, [], inl, inr, refl, sym, ap, ap₂, subst, ◌∙◌}
 use Rattle.std.specs.Prelude.{IsTrue, IsOk, IfErr, IfOk, OnOk, Result, Ok, Err, is_err}
 use Rattle.std.proofs.lemmas.Bool.{cases_Bool, false≢true}
 use std.Path.{fun_ext}
@@ -10,7 +10,6 @@ use Rattle.raft_log_base.specs.declared.errors.Error.TheVariants as errors
 use Rattle.raft_log_base.specs.declared.pipe_log.FileBlockHandle.{FileBlockHandle}
 use Rattle.raft_log_items.specs.declared.item.LogItem.{LogItem}
 use Rattle.raft_log_atomic_groups.specs.Meaning.{tagged_items}
-use Rattle.raft_log_records.specs.declared.log_batch.BatchState.TheVariants.{Populated}
 use Rattle.raft_log_records.specs.Batch.{Batch, IsButBuffer, IsReadyForEach, emptied}
 use Rattle.raft_log_signed_batch.specs.Signing.{SaysItself, signed_for}
 use Rattle.raft_log_directory.specs.Calls.Which.{InAppend}

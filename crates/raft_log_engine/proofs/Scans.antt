@@ -1,12 +1,11 @@
 -- What is told of a group's keys, and of the groups.
-use Rattle.std.proofs.Common.{◌≡◌, ◌↔◌, ◌==◌, ◌||◌, ◌&&◌, ◌++◌, ℕ, suc, Bool, true, false, List, [], ◌∷◌, length, Option, None, refl, sym, ap, subst, ◌∙◌, arith, if◌then◌else◌, bytes_eq, IsTrue}
+use Rattle.std.proofs.Common.{◌≡◌, ◌↔◌, ◌==◌, ◌||◌, ◌&&◌, ◌++◌, ℕ, suc, Bool, true, false, List, [], ◌∷◌, length, Option, None, refl, sym, ap, subst, ◌∙◌, arith, if◌then◌else◌}
 use Rattle.std.specs.List.{list_any}
 use Rattle.std.specs.List.Sorted.{IsStrictlySortedBy}
-use Rattle.std.specs.Map.{lookup}
 use Rattle.std.proofs.lemmas.Bool.{false≢true}
 use Rattle.raft_log_held.specs.Listing.{AddsAll, ListsAll, Visits, in_direction, is_below, is_from, values_within}
 use Rattle.raft_log_places.specs.Bridge.{bytes_held}
-use Rattle.raft_log_places.specs.Shown.{KeyValue, Shown, nothing_shown}
+use Rattle.raft_log_places.specs.Shown.{Shown, nothing_shown}
 use Rattle.raft_log_replay.specs.Walking.{ListsGroups}
 use Rattle.raft_log_engine_state.specs.Shows.{Shows}
 use Rattle.raft_log_engine_state.specs.Reading.{ReadsKeys}

@@ -5,8 +5,6 @@ use Rattle.std.specs.BTreeMap.{get}
 use Rattle.std.specs.Ordering.{nat_cmp}
 use Rattle.raft_log_places.specs.Shown.{Shown, nothing_shown}
 use Rattle.raft_log_places.specs.Bridge.{bytes_held}
-use Rattle.raft_log_held.specs.declared.key_map.HeldValue.{HeldValue}
-use Rattle.raft_log_held.specs.Keys.{shown_value}
 use Rattle.raft_log_tables.specs.Table.{Raw, shown}
 use Rattle.raft_log_tables.specs.Reads.{first_of, last_of}
 use Rattle.raft_log_replay.specs.declared.group_table.GroupTable.{GroupTable}

@@ -1,4 +1,3 @@
-use Rattle.std.proofs.Common.{◌≡◌, true}
 use Rattle.raft_log_signed_batch.specs.Signing.{signed_for}
 use Rattle.raft_log_engine.proofs.Put.{refused_again, written_again}
 use Rattle.raft_log_engine.proofs.writing.append_or_again.Goals as goal

@@ -1,4 +1,4 @@
-use Rattle.std.proofs.Common.{◌≡◌, sym, ap, ◌∙◌}
+use Rattle.std.proofs.Common.{sym, ap, ◌∙◌}
 use Rattle.raft_log_places.specs.Shown.{Shown}
 use Rattle.raft_log_tables.specs.Reads.{entry_at}
 use Rattle.raft_log_engine.proofs.Entries.{none_at}

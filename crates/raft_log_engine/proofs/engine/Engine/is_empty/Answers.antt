@@ -1,4 +1,4 @@
-use Rattle.std.proofs.Common.{◌≡◌, ◌==◌, Bool, length, sym, ap, subst, ◌∙◌, IsTrue, ◌↔◌, true, ℕ}
+use Rattle.std.proofs.Common.{◌==◌, Bool, sym, ap, subst, ◌∙◌, IsTrue, ◌↔◌, ℕ}
 use Rattle.raft_log_replay.specs.Tables.{counts}
 use Rattle.raft_log_engine.specs.Reads.{NoneCounts}
 use Rattle.raft_log_engine.proofs.Scans.{none_listed}

@@ -1,4 +1,4 @@
-use Rattle.raft_log_engine.proofs.Put.{put_answers, put_refuses, put_unfit}
+use Rattle.raft_log_engine.proofs.Put.{put_answers, put_refuses}
 use Rattle.raft_log_engine.proofs.engine.Engine.put.Goals as goal
 
 pub returns-in-Ok-clause-ok : goal.returns-in-Ok-clause-ok

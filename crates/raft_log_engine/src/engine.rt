@@ -52,7 +52,7 @@ impl<P: PipeLog> Engine<P> {
     ghost use Rattle.raft_log_engine.specs.Room.{KeepsLittle, PutFails, StaysWritable};
     ghost use Rattle.std.specs.Prelude.{false, true};
     ghost use Rattle.raft_log_disk.specs.Causes.{IsLater};
-    ghost use Rattle.raft_log_dual_pipes.specs.Closing.{ClosesLog};
+    ghost use Rattle.raft_log_dual_pipes.specs.Closing.{ClosesInOrder, ClosesLog};
     ghost use Rattle.raft_log_dual_pipes.specs.Pipes.{is_failed};
 
     /// An engine over these pipes, whose tables these are, with these thresholds. No block is kept, and no
@@ -164,10 +164,14 @@ impl<P: PipeLog> Engine<P> {
         }
     }
 
-    /// Closes the pipes, and gives the file system back; of an engine that has failed nothing is touched.
+    /// Closes the pipes, and gives the file system back: both last files are finished, and what is kept for
+    /// later use gets its name, each as far as the file system lets it be. Of an engine that has failed nothing
+    /// is touched.
     pub fn close<L: Log>(self, rt: &L) -> P::Files
         ensures held { is_failed (P.shown self.pipes) ≡ false
             → ClosesLog (P.shown self.pipes) (P.disk_of result) }
+        ensures calls { is_failed (P.shown self.pipes) ≡ false
+            → ClosesInOrder (P.shown self.pipes) (P.disk_of result) }
         ensures failed { is_failed (P.shown self.pipes) ≡ true → result ≡ P.files self.pipes }
         ensures later { IsLater (P.shown self.pipes).disk (P.disk_of result) }
     {

@@ -22,8 +22,8 @@ abbrev pub IsNotedFrom : ℕ → Option GroupFiles → Type 0
 IsNotedFrom n None = Unit {0}
 IsNotedFrom n (Some files) = n ≤ files.from
 
--- All that the group has in Rewrite lies in files from that one on: its entries and its values there; and what
--- is noted begins no earlier than it began before, or there.
+-- All that the group has in Rewrite lies in files from that one on: its entries and its values there; and
+-- what is noted begins no earlier than it began before, or there.
 pub record IsRestatedFrom (n : ℕ) (v w : Shown) : Type 0 where
   pub entries : AllFrom n (take w.rewritten w.places)
   pub values : (k : List ℕ) (h : KeyValue) → w.held k ≡ Some h → h.appended ≡ false → n ≤ h.file

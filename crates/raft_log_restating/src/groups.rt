@@ -31,8 +31,8 @@ use raft_log_records::{AtomicGroupBuilder, LogBatch};
 use raft_log_replay::MemTables;
 use std::alloc::Global;
 
-/// Restates groups, one after another: all that each has in Rewrite lies from the file on that was written when
-/// that began. The number is the one that the next atomic group gets, and is counted on.
+/// Restates groups, one after another: all that each has in Rewrite lies from the file on that was written
+/// when that began. The number is the one that the next atomic group gets, and is counted on.
 ///
 /// Refused is what `restate_group` refuses: the groups before are restated, and of that one nothing changed.
 pub fn restate_groups<P: PipeLog, L: Log>(
@@ -67,12 +67,12 @@ pub fn restate_groups<P: PipeLog, L: Log>(
     Ok(())
 }
 
-/// Restates a group: all that it has in Rewrite is written there again, as one record or as an atomic group of
-/// this number, and lies there then. The number is counted on where it was used. A group that has nothing there
-/// writes nothing.
+/// Restates a group: all that it has in Rewrite is written there again, as one record or as an atomic group
+/// of this number, and lies there then. The number is counted on where it was used. A group that has nothing
+/// there writes nothing.
 ///
-/// Refused is what isn't read, `Full`, `Memory`, and what Rewrite refuses: nothing that shows of the tables is
-/// changed.
+/// Refused is what isn't read, `Full`, `Memory`, and what Rewrite refuses: nothing that shows of the tables
+/// is changed.
 pub fn restate_group<P: PipeLog, L: Log>(
     alloc: Global,
     rt: &L,
@@ -142,8 +142,8 @@ fn restate_at_once<P: PipeLog, L: Log>(
     Ok(())
 }
 
-/// Restates a group that has these entries and keys in Rewrite by an atomic group, whose first part has so many
-/// of the entries.
+/// Restates a group that has these entries and keys in Rewrite by an atomic group, whose first part has so
+/// many of the entries.
 fn restate_in_parts<P: PipeLog, L: Log>(
     alloc: Global,
     rt: &L,

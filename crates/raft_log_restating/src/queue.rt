@@ -21,12 +21,13 @@ use raft_log_rewriting::purge_stale;
 use raft_log_tables::GlobalStats;
 use std::alloc::Global;
 
-/// Rewrites Rewrite: it goes on in its next file; all groups are restated, and it is synced; the counts of what
-/// was written there and stands no more are reset; then its files below the least that is in use go. The number
-/// is the one that the next atomic group gets, and is counted on.
+/// Rewrites Rewrite: it goes on in its next file; all groups are restated, and it is synced; the counts of
+/// what was written there and stands no more are reset; then its files below the least that is in use go. The
+/// number is the one that the next atomic group gets, and is counted on.
 ///
-/// Nothing of Append may be pending, for the map to stay: its caller has synced it. Refused, the map stays too:
-/// what a rotation, `restate_groups`, a sync and `purge_stale` refuse. The counts are reset once all is synced.
+/// Nothing of Append may be pending, for the map to stay: its caller has synced it. Refused, the map stays
+/// too: what a rotation, `restate_groups`, a sync and `purge_stale` refuse. The counts are reset once all is
+/// synced.
 pub fn rewrite_rewrite_queue<P: PipeLog, L: Log>(
     alloc: Global,
     rt: &L,

@@ -95,8 +95,8 @@ fn make_room(
     tables.prepare_rewrite(items)
 }
 
-/// Moves what the parts have to where they were written, part after part, and then the items of the batch that
-/// stands at this place.
+/// Moves what the parts have to where they were written, part after part, and then the items of the batch
+/// that stands at this place.
 fn take_items(
     tables: &mut MemTables,
     parts: &[RestatedPart],

@@ -111,9 +111,12 @@ struct Play {
     closed: &'static [(&'static str, usize)],
 }
 
-/// As the Rust crate's test of this name has it.
-const PIPE_LOG: [(Step, Told); 10] = [
-    (Rotate, Done),
+/// As the Rust crate's test of this name has it: a file that a record filled gets no more.
+const PIPE_LOG: [(Step, Told); 13] = [
+    (Append(0, 1024), At(1, 69, 1024)),
+    (Append(0, 1024), At(2, 69, 1024)),
+    (Span, Told::Files(1, 2)),
+    (Purge(3), Refused(Why::InvalidArgument)),
     (Rotate, Done),
     (Span, Told::Files(1, 3)),
     (Purge(2), Number(1)),

@@ -10,6 +10,7 @@ use Rattle.raft_log_purge_rules.specs.Picking.{count_of}
 use Rattle.raft_log_purge_rules.specs.declared.rounds.Rounds.{Rounds}
 use Rattle.raft_log_rewriting.specs.Stale.{FailsToPurge}
 use Rattle.raft_log_purging.specs.Append.{FailsToRewriteAppend}
+use Rattle.raft_log_purging.specs.ExpiredFiles.{FailsToPurgeExpired}
 use Rattle.raft_log_engine_state.specs.Fetching.{HadFailed}
 use Rattle.raft_log_engine_state.specs.Shows.{Shows}
 use Rattle.raft_log_engine.specs.Reads.{Lives}
@@ -26,3 +27,7 @@ StopsPurging s t error = HadFailed s t error ⊎ (Lives s × FailsToPurge error 
 -- why Append isn't rewritten: the engine had failed; or it hadn't, and a part of that was refused
 abbrev pub StopsRewritingAppend : Shows → Shows → Error → Type 0
 StopsRewritingAppend s t error = HadFailed s t error ⊎ (Lives s × FailsToRewriteAppend error s t)
+
+-- why expired files don't go, or Rewrite isn't rewritten: so it is of these
+abbrev pub StopsPurgingExpired : Shows → Shows → Error → Type 0
+StopsPurgingExpired s t error = HadFailed s t error ⊎ (Lives s × FailsToPurgeExpired error s t)

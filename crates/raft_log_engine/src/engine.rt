@@ -19,13 +19,13 @@ use raft_log_base::{Error, LogQueue, Result};
 use raft_log_blocks::BlockCache;
 use raft_log_dual_pipes::PipeLog;
 use raft_log_purge::Thresholds;
-use raft_log_purge_rules::Rounds;
+use raft_log_purging::PurgeCounts;
 use raft_log_records::LogBatch;
 use raft_log_replay::MemTables;
 use std::alloc::Global;
 
 /// The engine of a log: its pipes, the tables of all groups, and the entry block that was read last; from which
-/// sizes on it is purged, and in how many purges in a row each group was asked to be compacted.
+/// sizes on it is purged, and what is counted from one purge to the next.
 #[derive(Drop)]
 pub struct Engine<P> {
     alloc: Global,
@@ -33,7 +33,7 @@ pub struct Engine<P> {
     tables: MemTables,
     cache: BlockCache,
     thresholds: Thresholds,
-    rounds: Rounds,
+    counts: PurgeCounts,
     ghost rests: { IsAtRest tables },
 }
 
@@ -63,7 +63,7 @@ impl<P: PipeLog> Engine<P> {
         ensures tables { result.tables ≡ tables }
         ensures none { result.cache.place ≡ None }
         ensures thresholds { result.thresholds ≡ thresholds }
-        ensures unasked { (g : ℕ) → count_of result.rounds g ≡ 0 }
+        ensures unasked { (g : ℕ) → count_of result.counts.rounds g ≡ 0 }
     {
         Engine {
             alloc,
@@ -71,7 +71,7 @@ impl<P: PipeLog> Engine<P> {
             tables,
             cache: BlockCache::new(alloc),
             thresholds,
-            rounds: Rounds::new(alloc),
+            counts: PurgeCounts::new(alloc),
         }
     }
 

@@ -36,7 +36,7 @@ impl<F: FileSystem + Sync> Engine<DualPipes<F>> {
         ensures ok { IfOk result (λ engine. OpensDirectory F.disk F.tells_space config file_system
             (⟦<DualPipes<F> as PipeLog>⟧.shown engine.pipes) engine.tables) }
         ensures none { IfOk result (λ engine. engine.cache.place ≡ None) }
-        ensures purges { IfOk result (λ engine. IsPurgedBy config engine.thresholds engine.rounds) }
+        ensures purges { IfOk result (λ engine. IsPurgedBy config engine.thresholds engine.counts.rounds) }
         ensures err { IfErr result (λ refused. FailsToOpenDirectory F.disk F.tells_space config refused.error
             file_system refused.file_system) }
     {
@@ -67,7 +67,7 @@ impl<F: FileSystem + Sync, E: EventListener> Engine<
             (⟦<ToldPipes<ToldPipes<DualPipes<F>, E>, PurgeHook> as PipeLog>⟧.shown engine.pipes)
             engine.tables) }
         ensures none { IfOk result (λ engine. engine.cache.place ≡ None) }
-        ensures purges { IfOk result (λ engine. IsPurgedBy config engine.thresholds engine.rounds) }
+        ensures purges { IfOk result (λ engine. IsPurgedBy config engine.thresholds engine.counts.rounds) }
         ensures err { IfErr result (λ refused. FailsToOpenDirectory F.disk F.tells_space config refused.error
             file_system refused.file_system) }
     {

@@ -1,19 +1,80 @@
 //! Files go that are no longer needed.
 
-ghost use Rattle.std.specs.Prelude.{◌≡◌, IfErr, OnOk};
+ghost use Rattle.std.specs.Prelude.{◌≡◌, IfErr, IfOk, OnErr, OnOk};
 ghost use Rattle.raft_log_rewriting.specs.Stale.{PurgesAllStale};
 ghost use Rattle.raft_log_purging.specs.Append.{RewritesAppend};
-ghost use Rattle.raft_log_engine.specs.Purging.{StopsPurging, StopsRewritingAppend};
+ghost use Rattle.raft_log_purging.specs.ExpiredFiles.{KeepsCounts, PurgesExpired, SyncsAndRewrites};
+ghost use Rattle.raft_log_engine.specs.Purging.{StopsPurging, StopsPurgingExpired, StopsRewritingAppend};
 ghost use Rattle.raft_log_engine.specs.Reads.{shows_of, Lives};
 
 use super::Engine;
 use log::Log;
 use raft_log_base::{Error, FileSeq, Result};
 use raft_log_dual_pipes::PipeLog;
-use raft_log_purging::rewrite_append_queue;
+use raft_log_purging::{purge_expired_files, rewrite_append_queue, sync_and_rewrite};
 use raft_log_rewriting::purge_all_stale;
 
 impl<P: PipeLog> Engine<P> {
+    /// Purges both queues where they are past the thresholds of the settings: Append is synced; Rewrite is
+    /// rewritten where enough of it is garbage; then Append's marks are carried, the groups that the rules
+    /// have are rewritten, and files go, none that whoever listens holds back. The answer is the groups that
+    /// are asked to be compacted, from the least up; a group that was asked in nine purges in a row is
+    /// rewritten. The map stays, and nothing is pending.
+    ///
+    /// What is written to Rewrite isn't counted yet, so that Rewrite counts as without garbage, and is let be.
+    ///
+    /// `Failed` of an engine that has failed. Then what a sync, a rotation, the marks, what is copied, and
+    /// files that go refuse: the map stays, and no round is counted.
+    pub fn purge_expired_files<L: Log>(&mut self, rt: &L) -> Result<Vec<u64>>
+        ensures ok { IfOk result (λ groups. PurgesExpired self.old.thresholds self.old.tables self.new.tables
+            self.old.counts self.new.counts groups.items
+            (shows_of P.shown self.old) (shows_of P.shown self.new)) }
+        ensures lived { OnOk result (Lives (shows_of P.shown self.old)) }
+        ensures err { IfErr result (StopsPurgingExpired
+            (shows_of P.shown self.old) (shows_of P.shown self.new)) }
+        ensures kept { OnErr result (KeepsCounts self.old.counts self.new.counts) }
+    {
+        if self.is_failed() {
+            return Err(Error::Failed);
+        }
+        purge_expired_files(
+            self.alloc,
+            rt,
+            &self.thresholds,
+            &mut self.pipes,
+            &mut self.tables,
+            &mut self.cache,
+            &mut self.counts,
+        )
+    }
+
+    /// Rewrites Rewrite, whatever its size is: Append is synced; what stands in Rewrite is written there again,
+    /// and its old files go. The map stays, and nothing is pending.
+    ///
+    /// `Failed` of an engine that has failed. Then what a sync, a rotation, what is written, and files that go
+    /// refuse: the map stays.
+    pub fn must_rewrite_rewrite_queue<L: Log>(&mut self, rt: &L) -> Result<()>
+        ensures ok { OnOk result (SyncsAndRewrites self.new.tables
+            (shows_of P.shown self.old) (shows_of P.shown self.new)) }
+        ensures lived { OnOk result (Lives (shows_of P.shown self.old)) }
+        ensures err { IfErr result (StopsPurgingExpired
+            (shows_of P.shown self.old) (shows_of P.shown self.new)) }
+    {
+        if self.is_failed() {
+            return Err(Error::Failed);
+        }
+        let counts = &mut self.counts;
+        sync_and_rewrite(
+            self.alloc,
+            rt,
+            &mut self.pipes,
+            &mut self.tables,
+            &mut self.cache,
+            &mut counts.stats,
+            &mut counts.number,
+        )
+    }
+
     /// Rewrites Append up to a file, the watermark: none after the last, and the last where there is none.
     /// Append is synced, goes on in its next file where the last one is to be rewritten, and marks are
     /// carried; then all groups are rewritten, and Rewrite is synced; then the files up to the watermark leave

@@ -4,13 +4,13 @@ use Rattle.std.specs.Prelude.{IsOk}
 use Rattle.raft_log_disk.specs.Disk.{Disk}
 use Rattle.raft_log_base.specs.declared.pipe_log.FileBlockHandle.{FileBlockHandle}
 use Rattle.raft_log_frames.specs.Record.{block_of}
-use Rattle.raft_log_pipes.specs.Reading.{IsReadAt}
+use Rattle.raft_log_stored.specs.raft_log_pipes.specs.Reading.{IsReadAt}
 use Rattle.raft_log_directory.specs.Calls.{Which}
 use Rattle.raft_log_directory.specs.Calls.Which.{InAppend, InRewrite}
 use Rattle.raft_log_layout.specs.LayoutLaws.{files_are_told, is_layout}
 use Rattle.raft_log_base.specs.declared.pipe_log.LogQueue.TheVariants.{Append, Rewrite}
-use Rattle.raft_log_steps.specs.Queues.{IsQueueLayout, layout_at}
-use Rattle.raft_log_steps.specs.State.{RunsQueue, pipe_at, spanned_at}
+use Rattle.raft_log_stored.specs.raft_log_steps.specs.Queues.{IsQueueLayout, layout_at}
+use Rattle.raft_log_stored.specs.raft_log_steps.specs.State.{RunsQueue, pipe_at, spanned_at}
 use Rattle.raft_log_dual_pipes.specs.Pipes.{LogPipes, LogSense, RunsOn, State, files_of, queues, which_of}
 use Rattle.raft_log_stored.specs.Stored.{BlockLiesIn, KeepsLog, block_at}
 use Rattle.raft_log_stored.proofs.Reading.{stored_block_is_read}

@@ -7,9 +7,9 @@ use Rattle.raft_log_base.specs.Fault.{Fails}
 use Rattle.raft_log_items.specs.declared.entry.EntryIndex.{EntryIndex}
 use Rattle.raft_log_items.specs.Message.{Parses}
 use Rattle.raft_log_frames.specs.Record.{block_of}
-use Rattle.raft_log_pipes.specs.Reading.{IsReadAt, IsReadRefused}
+use Rattle.raft_log_stored.specs.raft_log_pipes.specs.Reading.{IsReadAt, IsReadRefused}
 use Rattle.raft_log_layout.specs.declared.record.LogRecord.{LogRecord}
-use Rattle.raft_log_steps.specs.State.{Spanned, pipe_at, spanned_at}
+use Rattle.raft_log_stored.specs.raft_log_steps.specs.State.{Spanned, pipe_at, spanned_at}
 use Rattle.raft_log_dual_pipes.specs.Pipes.{LogPipes, LogSense, RunsOn, State, files_of, which_of}
 use Rattle.raft_log_stored.specs.Stored.{BlockLiesIn, KeepsLog, block_at, part}
 use Rattle.raft_log_blocks.specs.declared.block_cache.BlockCache.{BlockCache}

@@ -21,14 +21,14 @@ use Rattle.raft_log_tables.specs.Reads.{FetchRefused, entries_from, entry_at, fe
 use Rattle.raft_log_replay.specs.declared.group_table.GroupTable.{GroupTable}
 use Rattle.raft_log_replay.specs.declared.mem_tables.MemTables.{MemTables}
 use Rattle.raft_log_replay.specs.Tables.{counting, counts, counts_in, shown_in, shown_of, table_of}
-use Rattle.raft_log_stored.specs.Stored.{entries_at}
+use Rattle.raft_log_purging.specs.raft_log_stored.specs.Stored.{entries_at}
 use Rattle.raft_log_dual_pipes.specs.Pipes.{Said}
-use Rattle.raft_log_blocks.specs.declared.block_cache.BlockCache.{BlockCache}
-use Rattle.raft_log_blocks.specs.Blocks.{AreUnread, IsEntryUnread, IsOfLog, ReadsEntries, ReadsEntry}
-use Rattle.raft_log_engine_state.specs.Shows.{Home, LogMap, Shows, has_failed}
-use Rattle.raft_log_engine_state.specs.Holding.{Holds}
-use Rattle.raft_log_engine_state.specs.Fetching.{AreEntriesOf, AreToRead, FailsToFetch, FailsToTell, FetchesTo, IsOneUntold, StaysButBlock, TellsEntry}
-use Rattle.raft_log_engine_state.proofs.Fetching.{all_told, all_untold, fetched_from, told_of, untold_of}
+use Rattle.raft_log_purging.specs.raft_log_blocks.specs.declared.block_cache.BlockCache.{BlockCache}
+use Rattle.raft_log_purging.specs.raft_log_blocks.specs.Blocks.{AreUnread, IsEntryUnread, IsOfLog, ReadsEntries, ReadsEntry}
+use Rattle.raft_log_purging.specs.raft_log_engine_state.specs.Shows.{Home, LogMap, Shows, has_failed}
+use Rattle.raft_log_purging.specs.raft_log_engine_state.specs.Holding.{Holds}
+use Rattle.raft_log_purging.specs.raft_log_engine_state.specs.Fetching.{AreEntriesOf, AreToRead, FailsToFetch, FailsToTell, FetchesTo, IsOneUntold, StaysButBlock, TellsEntry}
+use Rattle.raft_log_purging.specs.raft_log_engine_state.proofs.Fetching.{all_told, all_untold, fetched_from, told_of, untold_of}
 
 less_of : (a b : ℕ) → nat_lt a b ≡ true → a < b
 less_of a b is = grind (arith, is)

@@ -17,17 +17,17 @@ use Rattle.raft_log_places.specs.Shown.{Shown}
 use Rattle.raft_log_replay.specs.declared.mem_tables.MemTables.{MemTables}
 use Rattle.raft_log_replay.specs.Batch.{BatchRefused, IsReadyFor, all_shown, counts_at_end}
 use Rattle.raft_log_replay.specs.Tables.{ShowsSame, counts, shown_of}
-use Rattle.raft_log_stored.specs.Written.{placed_items}
+use Rattle.raft_log_purging.specs.raft_log_stored.specs.Written.{placed_items}
 use Rattle.raft_log_dual_pipes.specs.Pipes.{LogPipes, is_failed}
 use Rattle.raft_log_dual_pipes.specs.Calls.{AppendsTo, FailsToAppendTo, TellsFailure}
 use Rattle.raft_log_base.specs.declared.pipe_log.LogFileContext.{LogFileContext}
-use Rattle.raft_log_blocks.specs.declared.block_cache.BlockCache.{BlockCache}
-use Rattle.raft_log_engine_state.specs.Shows.{IsLaidOut, IsWellMarked, Shows, shows}
-use Rattle.raft_log_engine_state.specs.Trying.{IsNoSpace, RefusesAt, WritesAt}
-use Rattle.raft_log_engine_state.specs.Writing.{IsKept, IsUnfit, NotWritten, Refuses, Writes, WritesBytes, items_at}
-use Rattle.raft_log_engine_state.specs.Syncing.{NotSynced, Syncs}
-use Rattle.raft_log_engine_state.specs.Laws.{IsReady}
-use Rattle.raft_log_engine_state.proofs.Exits.{empty_unsynced, refuses, write_unsynced, writes, writes_synced}
+use Rattle.raft_log_purging.specs.raft_log_blocks.specs.declared.block_cache.BlockCache.{BlockCache}
+use Rattle.raft_log_purging.specs.raft_log_engine_state.specs.Shows.{IsLaidOut, IsWellMarked, Shows, shows}
+use Rattle.raft_log_purging.specs.raft_log_engine_state.specs.Trying.{IsNoSpace, RefusesAt, WritesAt}
+use Rattle.raft_log_purging.specs.raft_log_engine_state.specs.Writing.{IsKept, IsUnfit, NotWritten, Refuses, Writes, WritesBytes, items_at}
+use Rattle.raft_log_purging.specs.raft_log_engine_state.specs.Syncing.{NotSynced, Syncs}
+use Rattle.raft_log_purging.specs.raft_log_engine_state.specs.Laws.{IsReady}
+use Rattle.raft_log_purging.specs.raft_log_engine_state.proofs.Exits.{empty_unsynced, refuses, write_unsynced, writes, writes_synced}
 use Rattle.raft_log_engine.specs.Room.{PutFails}
 
 pub on_ok : {A E : Type 0} {P : Type 0} (r : Result A E) → IsOk r → OnOk r P → P

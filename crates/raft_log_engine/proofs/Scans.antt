@@ -7,9 +7,9 @@ use Rattle.raft_log_held.specs.Listing.{AddsAll, ListsAll, Visits, in_direction,
 use Rattle.raft_log_places.specs.Bridge.{bytes_held}
 use Rattle.raft_log_places.specs.Shown.{Shown, nothing_shown}
 use Rattle.raft_log_replay.specs.Walking.{ListsGroups}
-use Rattle.raft_log_engine_state.specs.Shows.{Shows}
-use Rattle.raft_log_engine_state.specs.Reading.{ReadsKeys}
-use Rattle.raft_log_engine_state.proofs.Reading.{tables_tell}
+use Rattle.raft_log_purging.specs.raft_log_engine_state.specs.Shows.{Shows}
+use Rattle.raft_log_purging.specs.raft_log_engine_state.specs.Reading.{ReadsKeys}
+use Rattle.raft_log_purging.specs.raft_log_engine_state.proofs.Reading.{tables_tell}
 use Rattle.raft_log_engine.specs.Reads.{NoneCounts, Scans}
 
 itself : (n : ℕ) → (n == n) ≡ true

@@ -10,9 +10,9 @@ use Rattle.raft_log_tables.specs.Reads.{first_of, last_of}
 use Rattle.raft_log_replay.specs.declared.group_table.GroupTable.{GroupTable}
 use Rattle.raft_log_replay.specs.declared.mem_tables.MemTables.{MemTables}
 use Rattle.raft_log_replay.specs.Tables.{raw_of, shown_in, shown_of}
-use Rattle.raft_log_engine_state.specs.Shows.{Shows}
-use Rattle.raft_log_engine_state.specs.Reading.{ReadsFirst, ReadsLast, ReadsValue}
-use Rattle.raft_log_engine_state.proofs.Reading.{tables_tell}
+use Rattle.raft_log_purging.specs.raft_log_engine_state.specs.Shows.{Shows}
+use Rattle.raft_log_purging.specs.raft_log_engine_state.specs.Reading.{ReadsFirst, ReadsLast, ReadsValue}
+use Rattle.raft_log_purging.specs.raft_log_engine_state.proofs.Reading.{tables_tell}
 
 raw_in : (o : Option GroupTable) (t : Raw) → Some t ≡ option_map (λ x. x.table) o → shown_in o ≡ shown t
 raw_in None t is = absurd (let never : ⊥ = cc in never)

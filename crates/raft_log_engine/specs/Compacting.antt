@@ -7,9 +7,9 @@ use Rattle.raft_log_places.specs.Shown.{Shown}
 use Rattle.raft_log_records.specs.Batch.{Batch}
 use Rattle.raft_log_records.specs.declared.log_batch.BatchState.TheVariants.{Filling}
 use Rattle.raft_log_records.specs.ItemBatch.{command_item}
-use Rattle.raft_log_engine_state.specs.Fetching.{HadFailed}
-use Rattle.raft_log_engine_state.specs.Shows.{Shows, has_failed}
-use Rattle.raft_log_engine_state.specs.Writing.{NotWritten, Writes}
+use Rattle.raft_log_purging.specs.raft_log_engine_state.specs.Fetching.{HadFailed}
+use Rattle.raft_log_purging.specs.raft_log_engine_state.specs.Shows.{Shows, has_failed}
+use Rattle.raft_log_purging.specs.raft_log_engine_state.specs.Writing.{NotWritten, Writes}
 
 -- how many of a group's entries stand below an index, if it has entries
 abbrev pub entries_below : Shown → ℕ → Option ℕ

@@ -4,3 +4,6 @@ pub mod Purging
 pub mod Reads
 pub mod Room
 pub mod Whole
+-- libraries below, passed on to who stands on this one
+pub use Rattle.raft_log_purging.specs.raft_log_engine_state
+pub use Rattle.raft_log_opening

@@ -5,8 +5,8 @@ use Rattle.std.specs.Fn.{Called, Mut}
 use Rattle.raft_log_base.specs.declared.errors.Error.{Error}
 use Rattle.raft_log_base.specs.declared.errors.Error.TheVariants as errors
 use Rattle.raft_log_held.specs.Listing.{in_direction}
-use Rattle.raft_log_engine_state.specs.Reading.{ReadsKeys}
-use Rattle.raft_log_engine_state.specs.Shows.{Shows}
+use Rattle.raft_log_purging.specs.raft_log_engine_state.specs.Reading.{ReadsKeys}
+use Rattle.raft_log_purging.specs.raft_log_engine_state.specs.Shows.{Shows}
 
 -- bytes were refused as no message
 abbrev pub IsNoMessage : Error → Type 0

@@ -8,11 +8,11 @@ use Rattle.raft_log_purge.specs.Thresholds.{thresholds_of}
 use Rattle.raft_log_purge.specs.declared.thresholds.Thresholds.{Thresholds}
 use Rattle.raft_log_purge_rules.specs.Picking.{count_of}
 use Rattle.raft_log_purge_rules.specs.declared.rounds.Rounds.{Rounds}
-use Rattle.raft_log_rewriting.specs.Stale.{FailsToPurge}
+use Rattle.raft_log_purging.specs.raft_log_rewriting.specs.Stale.{FailsToPurge}
 use Rattle.raft_log_purging.specs.Append.{FailsToRewriteAppend}
 use Rattle.raft_log_purging.specs.ExpiredFiles.{FailsToPurgeExpired}
-use Rattle.raft_log_engine_state.specs.Fetching.{HadFailed}
-use Rattle.raft_log_engine_state.specs.Shows.{Shows}
+use Rattle.raft_log_purging.specs.raft_log_engine_state.specs.Fetching.{HadFailed}
+use Rattle.raft_log_purging.specs.raft_log_engine_state.specs.Shows.{Shows}
 use Rattle.raft_log_engine.specs.Reads.{Lives}
 
 -- an engine that was opened is purged as its settings have it, once they are whole, and no group was asked yet

@@ -4,8 +4,8 @@ use Rattle.raft_log_base.specs.declared.errors.Error.{Error}
 use Rattle.raft_log_base.specs.declared.errors.Error.TheVariants as errors
 use Rattle.raft_log_held.specs.Listing.{Visits, in_direction}
 use Rattle.raft_log_dual_pipes.specs.Pipes.{LogPipes}
-use Rattle.raft_log_engine_state.specs.Reading.{ReadsKeys}
-use Rattle.raft_log_engine_state.specs.Shows.{Shows, has_failed, shows}
+use Rattle.raft_log_purging.specs.raft_log_engine_state.specs.Reading.{ReadsKeys}
+use Rattle.raft_log_purging.specs.raft_log_engine_state.specs.Shows.{Shows, has_failed, shows}
 use Rattle.raft_log_engine.specs.declared.engine.Engine.{Engine}
 
 -- what an engine shows, of which its pipes show this

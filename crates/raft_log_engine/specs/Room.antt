@@ -3,8 +3,8 @@ use Rattle.std.specs.Prelude.{◌≡◌, ◌⊎◌, ◌≤◌, ◌+◌, [], leng
 use Rattle.raft_log_base.specs.declared.errors.Error.{Error}
 use Rattle.raft_log_base.specs.declared.errors.Error.TheVariants as errors
 use Rattle.raft_log_records.specs.Batch.{Batch, max_kept_len}
-use Rattle.raft_log_engine_state.specs.Shows.{IsWellMarked, IsWritable, Shows}
-use Rattle.raft_log_engine_state.specs.Writing.{IsUnfit, Refuses}
+use Rattle.raft_log_purging.specs.raft_log_engine_state.specs.Shows.{IsWellMarked, IsWritable, Shows}
+use Rattle.raft_log_purging.specs.raft_log_engine_state.specs.Writing.{IsUnfit, Refuses}
 use Rattle.raft_log_engine.specs.declared.writing.Room.{Room}
 
 -- there is a list for the batch's items, which has none yet

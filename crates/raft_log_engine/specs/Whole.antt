@@ -4,11 +4,11 @@ use Rattle.raft_log_base.specs.declared.errors.Error.{Error}
 use Rattle.raft_log_base.specs.declared.pipe_log.LogQueue.{LogQueue}
 use Rattle.raft_log_items.specs.Message.{Parses}
 use Rattle.raft_log_directory.specs.Calls.Which.{InAppend, InRewrite}
-use Rattle.raft_log_steps.specs.State.{pipe_at}
+use Rattle.raft_log_purging.specs.raft_log_steps.specs.State.{pipe_at}
 use Rattle.raft_log_dual_pipes.specs.Pipes.{LogPipes, files_of, which_of}
 use Rattle.raft_log_dual_pipes.specs.Calls.{IsSpanOf, size_at}
-use Rattle.raft_log_engine_state.specs.Shows.{Shows}
-use Rattle.raft_log_engine_state.specs.Reading.{ReadsValue}
+use Rattle.raft_log_purging.specs.raft_log_engine_state.specs.Shows.{Shows}
+use Rattle.raft_log_purging.specs.raft_log_engine_state.specs.Reading.{ReadsValue}
 use Rattle.raft_log_engine.specs.Reads.{IsUncopied, Lives}
 
 -- the numbers of the first and the last file of a queue

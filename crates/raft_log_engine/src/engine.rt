@@ -16,10 +16,10 @@ mod whole;
 use crate::writing;
 use log::Log;
 use raft_log_base::{Error, LogQueue, Result};
-use raft_log_blocks::BlockCache;
 use raft_log_dual_pipes::PipeLog;
 use raft_log_purge::Thresholds;
 use raft_log_purging::PurgeCounts;
+use raft_log_purging::raft_log_blocks::BlockCache;
 use raft_log_records::LogBatch;
 use raft_log_replay::MemTables;
 use std::alloc::Global;
@@ -38,8 +38,8 @@ pub struct Engine<P> {
 }
 
 impl<P: PipeLog> Engine<P> {
-    ghost use Rattle.raft_log_engine_state.specs.Syncing.{NotSynced, Syncs};
-    ghost use Rattle.raft_log_engine_state.specs.Writing.{
+    ghost use Rattle.raft_log_purging.specs.raft_log_engine_state.specs.Syncing.{NotSynced, Syncs};
+    ghost use Rattle.raft_log_purging.specs.raft_log_engine_state.specs.Writing.{
       IsEmptied,
       IsKept,
       IsKeptUnlessFailed,

@@ -19,23 +19,23 @@ use Rattle.raft_log_places.specs.Shown.{IsOrderly, Shown}
 use Rattle.raft_log_places.specs.Noted.{FilesRise}
 use Rattle.raft_log_places.specs.declared.place.Place.{Place}
 use Rattle.raft_log_places.proofs.Rising.{rises_on}
-use Rattle.raft_log_replay.specs.Batch.{MayFollowAll, all_shown}
-use Rattle.raft_log_steps.specs.Crash.{AllowsIn}
-use Rattle.raft_log_steps.specs.Queues.{SaysRecord}
-use Rattle.raft_log_steps.specs.Own.{log_layout}
-use Rattle.raft_log_steps.specs.State.{Ties}
-use Rattle.raft_log_steps.specs.Steps.{next_log}
-use Rattle.raft_log_stored.specs.Stored.{AreStored, KeepsBytes, entries_at}
-use Rattle.raft_log_stored.proofs.Keeping.{calls_keep_bytes}
-use Rattle.raft_log_stored.proofs.Staying.{stored_entries_stay}
-use Rattle.raft_log_stored.proofs.Taking.{taken_entries_are_stored}
-use Rattle.raft_log_stored.proofs.Lasting.{written_entries_are_stored}
-use Rattle.raft_log_views.specs.Views.{AreMeant, LieIn, view_of}
-use Rattle.raft_log_views.proofs.Growing.{view_grows}
-use Rattle.raft_log_views.proofs.Lying.{written_in}
+use Rattle.raft_log_blocks.specs.raft_log_replay.specs.Batch.{MayFollowAll, all_shown}
+use Rattle.raft_log_blocks.specs.raft_log_steps.specs.Crash.{AllowsIn}
+use Rattle.raft_log_blocks.specs.raft_log_steps.specs.Queues.{SaysRecord}
+use Rattle.raft_log_blocks.specs.raft_log_steps.specs.Own.{log_layout}
+use Rattle.raft_log_blocks.specs.raft_log_steps.specs.State.{Ties}
+use Rattle.raft_log_blocks.specs.raft_log_steps.specs.Steps.{next_log}
+use Rattle.raft_log_blocks.specs.raft_log_stored.specs.Stored.{AreStored, KeepsBytes, entries_at}
+use Rattle.raft_log_blocks.specs.raft_log_stored.proofs.Keeping.{calls_keep_bytes}
+use Rattle.raft_log_blocks.specs.raft_log_stored.proofs.Staying.{stored_entries_stay}
+use Rattle.raft_log_blocks.specs.raft_log_stored.proofs.Taking.{taken_entries_are_stored}
+use Rattle.raft_log_blocks.specs.raft_log_stored.proofs.Lasting.{written_entries_are_stored}
+use Rattle.raft_log_blocks.specs.raft_log_views.specs.Views.{AreMeant, LieIn, view_of}
+use Rattle.raft_log_blocks.specs.raft_log_views.proofs.Growing.{view_grows}
+use Rattle.raft_log_blocks.specs.raft_log_views.proofs.Lying.{written_in}
 use Rattle.raft_log_file_queue.specs.Queue.{synced}
-use Rattle.raft_log_dual_pipes.specs.Pipes.{LogPipes, RunsOn, Said, State, queue_of}
-use Rattle.raft_log_dual_pipes.specs.Calls.{AppendsTo, SyncsQueue}
+use Rattle.raft_log_blocks.specs.raft_log_dual_pipes.specs.Pipes.{LogPipes, RunsOn, Said, State, queue_of}
+use Rattle.raft_log_blocks.specs.raft_log_dual_pipes.specs.Calls.{AppendsTo, SyncsQueue}
 use Rattle.raft_log_engine_state.specs.Shows.{Home, KeepsOrForgets, LogMap, Shows, log_in, said_by, said_of, sense}
 use Rattle.raft_log_engine_state.specs.Holding.{EndsAt, FilesRiseIn, Holds, RunsAs, RunsEnding}
 use Rattle.raft_log_engine_state.specs.Writing.{items_at}

@@ -14,10 +14,10 @@ use Rattle.raft_log_records.specs.Batch.{Batch}
 use Rattle.raft_log_signed_batch.specs.Signing.{signed_for}
 use Rattle.raft_log_directory.specs.Calls.Which.{InAppend}
 use Rattle.raft_log_directory.proofs.Follows.{taken_twice}
-use Rattle.raft_log_replay.specs.declared.mem_tables.MemTables.{MemTables}
-use Rattle.raft_log_replay.specs.Batch.{all_shown, counts_at_end}
-use Rattle.raft_log_dual_pipes.specs.Pipes.{LogPipes, Said, is_failed}
-use Rattle.raft_log_dual_pipes.specs.Calls.{FailsToSyncQueue, StaysFailed, SyncsQueue, TellsFailure}
+use Rattle.raft_log_blocks.specs.raft_log_replay.specs.declared.mem_tables.MemTables.{MemTables}
+use Rattle.raft_log_blocks.specs.raft_log_replay.specs.Batch.{all_shown, counts_at_end}
+use Rattle.raft_log_blocks.specs.raft_log_dual_pipes.specs.Pipes.{LogPipes, Said, is_failed}
+use Rattle.raft_log_blocks.specs.raft_log_dual_pipes.specs.Calls.{FailsToSyncQueue, StaysFailed, SyncsQueue, TellsFailure}
 use Rattle.raft_log_base.specs.declared.pipe_log.LogFileContext.{LogFileContext}
 use Rattle.raft_log_blocks.specs.declared.block_cache.BlockCache.{BlockCache}
 use Rattle.raft_log_engine_state.specs.Shows.{Home, KeepsOrForgets, LogMap, Shows, has_failed, said_of, shows}

@@ -20,8 +20,8 @@ use Rattle.raft_log_places.specs.Bridge.{Located, in_queue, located, table_of}
 use Rattle.raft_log_held.specs.Counts.{sized}
 use Rattle.raft_log_held.specs.Entries.{entry_of, queue_of}
 use Rattle.raft_log_tables.specs.Reads.{AreIn, entries_from, entry_at, fetched, places_between}
-use Rattle.raft_log_stored.specs.Stored.{Each, EntryLiesIn, IsStored, entries_at, part, queue_in}
-use Rattle.raft_log_dual_pipes.specs.Pipes.{Said, State}
+use Rattle.raft_log_blocks.specs.raft_log_stored.specs.Stored.{Each, EntryLiesIn, IsStored, entries_at, part, queue_in}
+use Rattle.raft_log_blocks.specs.raft_log_dual_pipes.specs.Pipes.{Said, State}
 use Rattle.raft_log_blocks.specs.declared.block_cache.BlockCache.{BlockCache}
 use Rattle.raft_log_blocks.specs.Blocks.{AreUnread, BlockIsStored, IsBlockUnread, IsEntryUnread, IsNoEntry, IsOfLog, IsUnplaced, KeepsBlock, ReadsEntries, ReadsEntry, written_block}
 use Rattle.raft_log_blocks.proofs.Kept.{kept_is_written, none_kept}

@@ -25,14 +25,14 @@ use Rattle.raft_log_directory.specs.Tables.{GrowsTo}
 use Rattle.raft_log_places.specs.declared.place.Place.{Place}
 use Rattle.raft_log_places.specs.Shown.{Shown, IsOrderly}
 use Rattle.raft_log_places.specs.Bridge.{Located, table_of}
-use Rattle.raft_log_replay.specs.Batch.{MayFollowAll, all_shown, all_written}
-use Rattle.raft_log_views.specs.Views.{LieIn, view_of}
-use Rattle.raft_log_views.proofs.Growing.{view_grows}
-use Rattle.raft_log_views.proofs.Lying.{written_in}
+use Rattle.raft_log_blocks.specs.raft_log_replay.specs.Batch.{MayFollowAll, all_shown, all_written}
+use Rattle.raft_log_blocks.specs.raft_log_views.specs.Views.{LieIn, view_of}
+use Rattle.raft_log_blocks.specs.raft_log_views.proofs.Growing.{view_grows}
+use Rattle.raft_log_blocks.specs.raft_log_views.proofs.Lying.{written_in}
 use Rattle.raft_log_engine_state.specs.Shows.{IsLaidOut, IsWellMarked, LogMap, no_place, said_by, said_of}
 use Rattle.raft_log_engine_state.specs.Writing.{items_at}
 use Rattle.raft_log_engine_state.proofs.Renaming.{places_follow, places_say}
-use Rattle.raft_log_dual_pipes.specs.Pipes.{Said}
+use Rattle.raft_log_blocks.specs.raft_log_dual_pipes.specs.Pipes.{Said}
 
 -- what the tables show goes on with the view's map, whatever that is: only where things stand matters
 pub grows_by : {E : Type 0} (at : Located → E) (n : ℕ) (v : ℕ → Shown) (m : Map E (List ℕ)) (xs : List (Tagged Place (List ℕ))) (y : Record E (List ℕ)) → ((g : ℕ) → IsOrderly (v g))

@@ -6,15 +6,15 @@ use Rattle.raft_log_layout.specs.declared.record.LogRecord.{LogRecord}
 use Rattle.raft_log_directory.specs.Calls.Which.{InAppend}
 use Rattle.raft_log_directory.specs.Log.{IsAt, EndsAt as ViewEndsAt}
 use Rattle.raft_log_model.specs.Groups.{taken}
-use Rattle.raft_log_steps.specs.State.{Ties}
-use Rattle.raft_log_steps.specs.Steps.{next_log}
-use Rattle.raft_log_stored.specs.Stored.{AreStored, KeepsBytes, KeepsLog, entries_at}
-use Rattle.raft_log_stored.proofs.Keeping.{calls_keep_bytes}
-use Rattle.raft_log_stored.proofs.Staying.{stored_entries_stay}
+use Rattle.raft_log_blocks.specs.raft_log_steps.specs.State.{Ties}
+use Rattle.raft_log_blocks.specs.raft_log_steps.specs.Steps.{next_log}
+use Rattle.raft_log_blocks.specs.raft_log_stored.specs.Stored.{AreStored, KeepsBytes, KeepsLog, entries_at}
+use Rattle.raft_log_blocks.specs.raft_log_stored.proofs.Keeping.{calls_keep_bytes}
+use Rattle.raft_log_blocks.specs.raft_log_stored.proofs.Staying.{stored_entries_stay}
 use Rattle.raft_log_places.specs.Shown.{Shown}
 use Rattle.raft_log_places.specs.Noted.{FilesRise}
-use Rattle.raft_log_views.specs.Views.{AreMeant, view_of}
-use Rattle.raft_log_dual_pipes.specs.Pipes.{LogPipes, RunsOn, Said, State}
+use Rattle.raft_log_blocks.specs.raft_log_views.specs.Views.{AreMeant, view_of}
+use Rattle.raft_log_blocks.specs.raft_log_dual_pipes.specs.Pipes.{LogPipes, RunsOn, Said, State}
 use Rattle.raft_log_blocks.specs.declared.block_cache.BlockCache.{BlockCache}
 use Rattle.raft_log_blocks.specs.Blocks.{IsOfLog}
 use Rattle.raft_log_blocks.proofs.Kept.{kept_blocks_stay, none_kept}

@@ -1,10 +1,10 @@
 -- The log of an engine lies on its disk.
 use Rattle.raft_log_base.specs.declared.pipe_log.LogQueue.TheVariants.{Append, Rewrite}
 use Rattle.raft_log_layout.specs.LayoutLaws.{files_are_told, is_layout, queues_are_apart}
-use Rattle.raft_log_steps.specs.Queues.{AreTwoQueues}
-use Rattle.raft_log_steps.proofs.OnDiskLaws.{logs_go_on_disks}
-use Rattle.raft_log_dual_pipes.specs.Pipes.{LogPipes, RunsOn, State, files_of}
-use Rattle.raft_log_views.specs.Views.{view_of}
+use Rattle.raft_log_blocks.specs.raft_log_steps.specs.Queues.{AreTwoQueues}
+use Rattle.raft_log_blocks.specs.raft_log_steps.proofs.OnDiskLaws.{logs_go_on_disks}
+use Rattle.raft_log_blocks.specs.raft_log_dual_pipes.specs.Pipes.{LogPipes, RunsOn, State, files_of}
+use Rattle.raft_log_blocks.specs.raft_log_views.specs.Views.{view_of}
 use Rattle.raft_log_engine_state.specs.Shows.{Home, log_in, sense}
 use Rattle.raft_log_engine_state.specs.Laws.{EnginesLieOnDisks}
 

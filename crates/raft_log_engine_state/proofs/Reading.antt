@@ -14,8 +14,8 @@ use Rattle.raft_log_places.specs.Bridge.{IsMeant, Located, bytes_held, located, 
 use Rattle.raft_log_places.proofs.Queues.{located_length}
 use Rattle.raft_log_held.specs.Listing.{ListsAll, values_within}
 use Rattle.raft_log_tables.specs.Reads.{first_of, last_of}
-use Rattle.raft_log_stored.specs.Stored.{entries_at}
-use Rattle.raft_log_dual_pipes.specs.Pipes.{Said}
+use Rattle.raft_log_blocks.specs.raft_log_stored.specs.Stored.{entries_at}
+use Rattle.raft_log_blocks.specs.raft_log_dual_pipes.specs.Pipes.{Said}
 use Rattle.raft_log_engine_state.specs.Shows.{Home, LogMap, Shows}
 use Rattle.raft_log_engine_state.specs.Holding.{Holds}
 use Rattle.raft_log_engine_state.specs.Reading.{AreKeysOf, IsFirstIn, IsLastIn, StandsUnder, TablesTell, is_within}

@@ -13,18 +13,18 @@ use Rattle.raft_log_directory.specs.Calls.Which.{InAppend}
 use Rattle.raft_log_directory.specs.Log.{View, LogEnds}
 use Rattle.raft_log_directory.proofs.CallLaws.{append_cut_back, append_left_out, append_may_be_there, failed_whole}
 use Rattle.raft_log_directory.proofs.Follows.{taken_twice}
-use Rattle.raft_log_replay.specs.Batch.{all_shown}
-use Rattle.raft_log_steps.specs.Crash.{AllowsIn}
-use Rattle.raft_log_steps.specs.Failing.{failed_pipe}
-use Rattle.raft_log_steps.specs.Lying.{OpenPipes, RunOrLie, both_open, with_open}
-use Rattle.raft_log_steps.specs.OnDisk.{LogLiesOn}
-use Rattle.raft_log_steps.specs.State.{Ties}
-use Rattle.raft_log_steps.specs.Steps.{next_log}
-use Rattle.raft_log_stored.specs.Stored.{KeepsBytes}
-use Rattle.raft_log_stored.proofs.Keeping.{calls_keep_bytes}
-use Rattle.raft_log_views.specs.Views.{view_of}
-use Rattle.raft_log_dual_pipes.specs.Pipes.{LogPipes, RunsOn, Said, State, files_of}
-use Rattle.raft_log_dual_pipes.specs.Calls.{CutsBackOn, FailsToAppendTo, FailsToSyncQueue, LeavesOutOn}
+use Rattle.raft_log_blocks.specs.raft_log_replay.specs.Batch.{all_shown}
+use Rattle.raft_log_blocks.specs.raft_log_steps.specs.Crash.{AllowsIn}
+use Rattle.raft_log_blocks.specs.raft_log_steps.specs.Failing.{failed_pipe}
+use Rattle.raft_log_blocks.specs.raft_log_steps.specs.Lying.{OpenPipes, RunOrLie, both_open, with_open}
+use Rattle.raft_log_blocks.specs.raft_log_steps.specs.OnDisk.{LogLiesOn}
+use Rattle.raft_log_blocks.specs.raft_log_steps.specs.State.{Ties}
+use Rattle.raft_log_blocks.specs.raft_log_steps.specs.Steps.{next_log}
+use Rattle.raft_log_blocks.specs.raft_log_stored.specs.Stored.{KeepsBytes}
+use Rattle.raft_log_blocks.specs.raft_log_stored.proofs.Keeping.{calls_keep_bytes}
+use Rattle.raft_log_blocks.specs.raft_log_views.specs.Views.{view_of}
+use Rattle.raft_log_blocks.specs.raft_log_dual_pipes.specs.Pipes.{LogPipes, RunsOn, Said, State, files_of}
+use Rattle.raft_log_blocks.specs.raft_log_dual_pipes.specs.Calls.{CutsBackOn, FailsToAppendTo, FailsToSyncQueue, LeavesOutOn}
 use Rattle.raft_log_engine_state.specs.Shows.{Home, KeepsOrForgets, LogMap, Shows, log_in, said_of, sense}
 use Rattle.raft_log_engine_state.specs.Holding.{EndsAt, Holds, IsLeftAt, RunsAs, RunsEnding}
 use Rattle.raft_log_engine_state.specs.Writing.{Leaves, items_at}

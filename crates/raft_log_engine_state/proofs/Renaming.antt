@@ -19,8 +19,8 @@ use Rattle.raft_log_held.specs.Entries.{place_of}
 use Rattle.raft_log_places.specs.declared.place.Place.{Place}
 use Rattle.raft_log_places.specs.Shown.{Shown, next_span, span, MayAllFollow, MayFollow}
 use Rattle.raft_log_places.specs.Bridge.{Located, in_queue}
-use Rattle.raft_log_replay.specs.Batch.{MayFollowAll, all_written}
-use Rattle.raft_log_replay.proofs.Applied.{items_renamed, written_items}
+use Rattle.raft_log_blocks.specs.raft_log_replay.specs.Batch.{MayFollowAll, all_written}
+use Rattle.raft_log_blocks.specs.raft_log_replay.proofs.Applied.{items_renamed, written_items}
 
 module _ {E F V : Type 0} (f : E → F) where
   span_renamed : (w : Window) (x : Item E V) → next_span w (renamed f x) ≡ next_span w x

@@ -11,9 +11,9 @@ use Rattle.raft_log_records.specs.Batch.{Batch}
 use Rattle.raft_log_signed_batch.specs.Signing.{signed_for}
 use Rattle.raft_log_directory.specs.Calls.Which.{InAppend}
 use Rattle.raft_log_directory.proofs.Follows.{taken_twice}
-use Rattle.raft_log_replay.specs.Batch.{all_shown}
-use Rattle.raft_log_dual_pipes.specs.Pipes.{LogPipes, Said}
-use Rattle.raft_log_dual_pipes.specs.Calls.{FailsToAppendTo}
+use Rattle.raft_log_blocks.specs.raft_log_replay.specs.Batch.{all_shown}
+use Rattle.raft_log_blocks.specs.raft_log_dual_pipes.specs.Pipes.{LogPipes, Said}
+use Rattle.raft_log_blocks.specs.raft_log_dual_pipes.specs.Calls.{FailsToAppendTo}
 use Rattle.raft_log_blocks.specs.declared.block_cache.BlockCache.{BlockCache}
 use Rattle.raft_log_engine_state.specs.Shows.{Home, KeepsOrForgets, LogMap, Shows, said_of}
 use Rattle.raft_log_engine_state.specs.Holding.{EndsAt, Holds, RunsAs, RunsEnding}

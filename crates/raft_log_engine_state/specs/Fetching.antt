@@ -11,7 +11,7 @@ use Rattle.raft_log_items.specs.Message.{Parses}
 use Rattle.raft_log_held.specs.Counts.{sized}
 use Rattle.raft_log_places.specs.Shown.{Shown}
 use Rattle.raft_log_tables.specs.Reads.{AreIn, FetchRefused, entry_at, fetched, places_between}
-use Rattle.raft_log_dual_pipes.specs.Pipes.{Said, State}
+use Rattle.raft_log_blocks.specs.raft_log_dual_pipes.specs.Pipes.{Said, State}
 use Rattle.raft_log_blocks.specs.Blocks.{IsBlockUnread, written_block}
 use Rattle.raft_log_engine_state.specs.Shows.{Home, LogMap, Shows, has_failed}
 use Rattle.raft_log_engine_state.specs.Holding.{Holds}

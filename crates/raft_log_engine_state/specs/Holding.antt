@@ -4,14 +4,14 @@ use Rattle.std.specs.Prelude.{◌≡◌, ℕ, List, ◌++◌}
 use Rattle.raft_log_model.specs.Groups.{taken}
 use Rattle.raft_log_disk.specs.Disk.{Disk}
 use Rattle.raft_log_directory.specs.Log.{IsAt, View}
-use Rattle.raft_log_steps.specs.State.{Ties}
-use Rattle.raft_log_steps.specs.Lying.{OpenPipes}
-use Rattle.raft_log_steps.specs.Failing.{LogEndsLying}
+use Rattle.raft_log_blocks.specs.raft_log_steps.specs.State.{Ties}
+use Rattle.raft_log_blocks.specs.raft_log_steps.specs.Lying.{OpenPipes}
+use Rattle.raft_log_blocks.specs.raft_log_steps.specs.Failing.{LogEndsLying}
 use Rattle.raft_log_places.specs.Shown.{Shown}
 use Rattle.raft_log_places.specs.Noted.{FilesRise}
-use Rattle.raft_log_views.specs.Views.{AreMeant, view_of}
-use Rattle.raft_log_stored.specs.Stored.{AreStored, entries_at}
-use Rattle.raft_log_dual_pipes.specs.Pipes.{LogPipes, RunsOn, Said, State}
+use Rattle.raft_log_blocks.specs.raft_log_views.specs.Views.{AreMeant, view_of}
+use Rattle.raft_log_blocks.specs.raft_log_stored.specs.Stored.{AreStored, entries_at}
+use Rattle.raft_log_blocks.specs.raft_log_dual_pipes.specs.Pipes.{LogPipes, RunsOn, Said, State}
 use Rattle.raft_log_blocks.specs.Blocks.{IsOfLog}
 use Rattle.raft_log_engine_state.specs.Shows.{Home, LogMap, Shows, log_in, sense}
 

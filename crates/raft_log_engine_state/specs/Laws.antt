@@ -8,11 +8,11 @@ use Rattle.raft_log_atomic_groups.specs.Meaning.{tagged_items}
 use Rattle.raft_log_records.specs.Batch.{Batch}
 use Rattle.raft_log_signed_batch.specs.Signing.{SaysItself, signed_for}
 use Rattle.raft_log_directory.specs.Calls.Which.{InAppend}
-use Rattle.raft_log_replay.specs.Batch.{MayFollowAll, all_shown}
-use Rattle.raft_log_steps.specs.Lying.{both_open}
-use Rattle.raft_log_steps.specs.OnDisk.{LogLiesOn}
-use Rattle.raft_log_dual_pipes.specs.Pipes.{LogPipes, Said, files_of}
-use Rattle.raft_log_dual_pipes.specs.Calls.{AppendsTo, FailsToAppendTo, FailsToSyncQueue, SyncsQueue}
+use Rattle.raft_log_blocks.specs.raft_log_replay.specs.Batch.{MayFollowAll, all_shown}
+use Rattle.raft_log_blocks.specs.raft_log_steps.specs.Lying.{both_open}
+use Rattle.raft_log_blocks.specs.raft_log_steps.specs.OnDisk.{LogLiesOn}
+use Rattle.raft_log_blocks.specs.raft_log_dual_pipes.specs.Pipes.{LogPipes, Said, files_of}
+use Rattle.raft_log_blocks.specs.raft_log_dual_pipes.specs.Calls.{AppendsTo, FailsToAppendTo, FailsToSyncQueue, SyncsQueue}
 use Rattle.raft_log_engine_state.specs.Shows.{Home, IsLaidOut, IsWellMarked, KeepsOrForgets, LogMap, Shows, log_in, said_of}
 use Rattle.raft_log_engine_state.specs.Holding.{EndsAt, Holds, IsLeftAt, RunsAs}
 use Rattle.raft_log_engine_state.specs.Writing.{Leaves, items_at}

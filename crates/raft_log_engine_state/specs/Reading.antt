@@ -11,7 +11,7 @@ use Rattle.raft_log_places.specs.Shown.{KeyValue, Shown}
 use Rattle.raft_log_places.specs.Bridge.{bytes_held}
 use Rattle.raft_log_held.specs.Listing.{ListsAll, is_below, is_from, values_within}
 use Rattle.raft_log_tables.specs.Reads.{first_of, last_of}
-use Rattle.raft_log_dual_pipes.specs.Pipes.{Said}
+use Rattle.raft_log_blocks.specs.raft_log_dual_pipes.specs.Pipes.{Said}
 use Rattle.raft_log_engine_state.specs.Shows.{Home, LogMap, Shows}
 use Rattle.raft_log_engine_state.specs.Holding.{Holds}
 

@@ -16,10 +16,10 @@ use Rattle.raft_log_records.specs.Batch.{Batch}
 use Rattle.raft_log_records.specs.Places.{entry_bytes}
 use Rattle.raft_log_layout.specs.declared.record.LogRecord.{LogRecord}
 use Rattle.raft_log_places.specs.Shown.{Shown}
-use Rattle.raft_log_replay.specs.declared.mem_tables.MemTables.{MemTables}
-use Rattle.raft_log_replay.specs.Tables.{counts, shown_of}
-use Rattle.raft_log_steps.specs.Queues.{TwoQueues}
-use Rattle.raft_log_dual_pipes.specs.Pipes.{LogPipes, LogSense, Said, is_failed, queues}
+use Rattle.raft_log_blocks.specs.raft_log_replay.specs.declared.mem_tables.MemTables.{MemTables}
+use Rattle.raft_log_blocks.specs.raft_log_replay.specs.Tables.{counts, shown_of}
+use Rattle.raft_log_blocks.specs.raft_log_steps.specs.Queues.{TwoQueues}
+use Rattle.raft_log_blocks.specs.raft_log_dual_pipes.specs.Pipes.{LogPipes, LogSense, Said, is_failed, queues}
 use Rattle.raft_log_blocks.specs.declared.block_cache.BlockCache.{BlockCache}
 
 -- what is read through an engine: for each group and slot an entry's bytes, or a key's value

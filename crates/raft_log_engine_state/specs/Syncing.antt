@@ -4,7 +4,7 @@ use Rattle.raft_log_model.specs.Groups.{taken}
 use Rattle.raft_log_disk.specs.Causes.{Fails, IsLater}
 use Rattle.raft_log_base.specs.declared.errors.Error.{Error}
 use Rattle.raft_log_base.specs.declared.errors.Error.TheVariants as errors
-use Rattle.raft_log_dual_pipes.specs.Pipes.{Said}
+use Rattle.raft_log_blocks.specs.raft_log_dual_pipes.specs.Pipes.{Said}
 use Rattle.raft_log_engine_state.specs.Shows.{Home, LogMap, Shows, has_failed}
 use Rattle.raft_log_engine_state.specs.Holding.{Holds, IsLeftAt, RunsAs}
 

@@ -7,8 +7,8 @@ use Rattle.raft_log_base.specs.declared.pipe_log.FileBlockHandle.{FileBlockHandl
 use Rattle.raft_log_base.specs.declared.pipe_log.LogFileContext.{LogFileContext}
 use Rattle.raft_log_disk.specs.Causes.{IsLater}
 use Rattle.raft_log_directory.specs.Calls.Which.{InAppend}
-use Rattle.raft_log_dual_pipes.specs.Pipes.{LogPipes}
-use Rattle.raft_log_dual_pipes.specs.Calls.{AppendsTo, FailsToAppendTo}
+use Rattle.raft_log_blocks.specs.raft_log_dual_pipes.specs.Pipes.{LogPipes}
+use Rattle.raft_log_blocks.specs.raft_log_dual_pipes.specs.Calls.{AppendsTo, FailsToAppendTo}
 
 -- there was no space for a record
 abbrev pub IsNoSpace : Error → Type 0

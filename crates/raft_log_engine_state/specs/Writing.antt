@@ -12,9 +12,9 @@ use Rattle.raft_log_records.specs.Batch.{Batch, IsButBuffer, IsReadyForEach, emp
 use Rattle.raft_log_signed_batch.specs.Signing.{signed_for}
 use Rattle.raft_log_places.specs.declared.place.Place.{Place}
 use Rattle.raft_log_places.specs.Shown.{Shown}
-use Rattle.raft_log_replay.specs.Batch.{MayFollowAll, all_shown, counts_at_end}
-use Rattle.raft_log_stored.specs.Written.{placed_items}
-use Rattle.raft_log_dual_pipes.specs.Pipes.{Said}
+use Rattle.raft_log_blocks.specs.raft_log_replay.specs.Batch.{MayFollowAll, all_shown, counts_at_end}
+use Rattle.raft_log_blocks.specs.raft_log_stored.specs.Written.{placed_items}
+use Rattle.raft_log_blocks.specs.raft_log_dual_pipes.specs.Pipes.{Said}
 use Rattle.raft_log_engine_state.specs.Shows.{IsWellMarked, IsWritable, KeepsOrForgets, Home, LogMap, Shows, has_failed, said_of}
 use Rattle.raft_log_engine_state.specs.Syncing.{RunsOnSame, Syncs}
 use Rattle.raft_log_engine_state.specs.Trying.{IsNoSpace, TriesTwiceInVain}

@@ -22,7 +22,7 @@ use Rattle.raft_log_recovery.specs.Found.{AreFilesIn, LiesIn, found_path}
 use Rattle.raft_log_recovery.specs.Names.{built_name, end_of}
 use Rattle.raft_log_recovery.specs.declared.file_kind.FileKind.{FileKind}
 use Rattle.raft_log_recovery.specs.declared.scanning.found.FoundFile.{FoundFile}
-use Rattle.raft_log_found_pipes.specs.Scanned.{kind_of}
+use Rattle.raft_log_reopened.specs.raft_log_found_pipes.specs.Scanned.{kind_of}
 use Rattle.raft_log_fork.specs.Copies.{copy_path}
 use Rattle.raft_log_fork.specs.Forks.{CopiesAll, IsCopyPath}
 use Rattle.raft_log_fork.specs.Sources.{AreSources, IsLastOf, IsSource}

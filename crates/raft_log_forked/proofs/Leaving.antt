@@ -25,9 +25,9 @@ use Rattle.raft_log_steps.specs.Lying.{none_open, OpenPipes}
 use Rattle.raft_log_steps.specs.OnDisk.{LogLiesOn}
 use Rattle.raft_log_steps.specs.Queues.{AreTwoQueues}
 use Rattle.raft_log_steps.proofs.LyingQueues.{lying_logs_are_logs}
-use Rattle.raft_log_dual_pipes.specs.Pipes.{Said}
-use Rattle.raft_log_engine_state.specs.Shows.{log_in, LogMap}
-use Rattle.raft_log_builder.specs.Directories as builder
+use Rattle.raft_log_reopened.specs.raft_log_dual_pipes.specs.Pipes.{Said}
+use Rattle.raft_log_reopened.specs.raft_log_engine_state.specs.Shows.{log_in, LogMap}
+use Rattle.raft_log_reopened.specs.raft_log_builder.specs.Directories as builder
 use Rattle.raft_log_resting.specs.Keeping.{KeepsLog, KeepsNumbered, KeptLogStays}
 use Rattle.raft_log_resting.proofs.Calls.{keeps_all, keeps_calm}
 use Rattle.raft_log_resting.proofs.Keeping.{kept_logs_stay}

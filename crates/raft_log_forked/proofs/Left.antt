@@ -8,9 +8,9 @@ use Rattle.raft_log_disk.specs.Image.{as_it_stands}
 use Rattle.raft_log_steps.specs.Closing.{closed_log}
 use Rattle.raft_log_steps.specs.Lying.{none_open}
 use Rattle.raft_log_views.specs.Views.{view_of}
-use Rattle.raft_log_engine_state.specs.Shows.{sense}
-use Rattle.raft_log_builder.specs.Directories as builder
-use Rattle.raft_log_opened.proofs.Left.{crashed_logs_rest}
+use Rattle.raft_log_reopened.specs.raft_log_engine_state.specs.Shows.{sense}
+use Rattle.raft_log_reopened.specs.raft_log_builder.specs.Directories as builder
+use Rattle.raft_log_reopened.specs.raft_log_opened.proofs.Left.{crashed_logs_rest}
 use Rattle.raft_log_reopened.specs.Reopened.{home_of}
 use Rattle.raft_log_reopened.proofs.Directory.{resting_directories_open}
 use Rattle.raft_log_reopened.proofs.Finding.{some_directory}

@@ -10,7 +10,7 @@ use Rattle.raft_log_layout.specs.PathLaws.{one_name, other_end, reserved_is}
 use Rattle.raft_log_layout.specs.Paths.{IsPathWith, reserved_suffix_of}
 use Rattle.raft_log_settings.specs.Settings.{settings_of}
 use Rattle.raft_log_settings.specs.declared.config.Config.{Config}
-use Rattle.raft_log_builder.specs.Directories as builder
+use Rattle.raft_log_reopened.specs.raft_log_builder.specs.Directories as builder
 use Rattle.raft_log_reopened.specs.Reopened.{SparesCanBeUsed}
 use Rattle.raft_log_reopened.proofs.Directory.{resting_directories_open}
 use Rattle.raft_log_reopened.proofs.Finding.{some_directory}

@@ -11,8 +11,8 @@ use Rattle.raft_log_steps.specs.Own.{log_layout}
 use Rattle.raft_log_steps.specs.State.{LogOnDisk, Ties}
 use Rattle.raft_log_steps.specs.Reopening.{RestsQueue}
 use Rattle.raft_log_steps.specs.OnDisk.{LogRestsOn}
-use Rattle.raft_log_engine_state.specs.Shows.{log_in, Home, LogMap}
-use Rattle.raft_log_builder.specs.Directories as builder
+use Rattle.raft_log_reopened.specs.raft_log_engine_state.specs.Shows.{log_in, Home, LogMap}
+use Rattle.raft_log_reopened.specs.raft_log_builder.specs.Directories as builder
 use Rattle.raft_log_fork.specs.Forks.{Forks, HoldsLogFile}
 use Rattle.raft_log_fork.specs.Sources.{AreSources}
 use Rattle.raft_log_forked.specs.Resting.{ForkedLogsRest, IsClear}

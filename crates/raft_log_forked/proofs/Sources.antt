@@ -15,8 +15,8 @@ use Rattle.raft_log_recovery.specs.Found.{LiesIn}
 use Rattle.raft_log_recovery.specs.Names.{built_name}
 use Rattle.raft_log_recovery.specs.declared.file_kind.FileKind.{FileKind}
 use Rattle.raft_log_recovery.specs.declared.scanning.found.FoundFile.{FoundFile}
-use Rattle.raft_log_found_pipes.specs.Scanned.{kind_of}
-use Rattle.raft_log_builder.specs.Directories as builder
+use Rattle.raft_log_reopened.specs.raft_log_found_pipes.specs.Scanned.{kind_of}
+use Rattle.raft_log_reopened.specs.raft_log_builder.specs.Directories as builder
 use Rattle.raft_log_fork.specs.Copies.{copy_path}
 use Rattle.raft_log_fork.specs.Directories.{directories_of, spill_directory}
 use Rattle.raft_log_fork.specs.Sources.{AreSources, AreSourcesOf, IsSource}

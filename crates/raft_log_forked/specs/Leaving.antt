@@ -6,9 +6,9 @@ use Rattle.raft_log_disk.specs.Image.{IsSound}
 use Rattle.raft_log_settings.specs.Settings.{settings_of}
 use Rattle.raft_log_settings.specs.declared.config.Config.{Config}
 use Rattle.raft_log_steps.specs.OnDisk.{LogRestsOn}
-use Rattle.raft_log_dual_pipes.specs.Pipes.{Said}
-use Rattle.raft_log_engine_state.specs.Shows.{log_in, LogMap}
-use Rattle.raft_log_engine_state.specs.Holding.{IsLeftAt}
+use Rattle.raft_log_reopened.specs.raft_log_dual_pipes.specs.Pipes.{Said}
+use Rattle.raft_log_reopened.specs.raft_log_engine_state.specs.Shows.{log_in, LogMap}
+use Rattle.raft_log_reopened.specs.raft_log_engine_state.specs.Holding.{IsLeftAt}
 use Rattle.raft_log_resting.specs.Keeping.{RestsStill}
 use Rattle.raft_log_reopened.specs.Reopened.{home_of}
 use Rattle.raft_log_fork.specs.Forks.{FailsToFork, Forks}

@@ -6,11 +6,11 @@ use Rattle.raft_log_disk.specs.Image.{as_it_stands, IsSound}
 use Rattle.raft_log_settings.specs.Settings.{settings_of}
 use Rattle.raft_log_settings.specs.declared.config.Config.{Config}
 use Rattle.raft_log_steps.specs.OnDisk.{LogRestsOn}
-use Rattle.raft_log_dual_pipes.specs.Closing.{ClosesLog}
-use Rattle.raft_log_dual_pipes.specs.Pipes.{Said}
-use Rattle.raft_log_engine_state.specs.Shows.{log_in, Home, LogMap, Shows}
-use Rattle.raft_log_engine_state.specs.Holding.{Holds, IsLeftAt}
-use Rattle.raft_log_opened.specs.Left.{IsCrashOf}
+use Rattle.raft_log_reopened.specs.raft_log_dual_pipes.specs.Closing.{ClosesLog}
+use Rattle.raft_log_reopened.specs.raft_log_dual_pipes.specs.Pipes.{Said}
+use Rattle.raft_log_reopened.specs.raft_log_engine_state.specs.Shows.{log_in, Home, LogMap, Shows}
+use Rattle.raft_log_reopened.specs.raft_log_engine_state.specs.Holding.{Holds, IsLeftAt}
+use Rattle.raft_log_reopened.specs.raft_log_opened.specs.Left.{IsCrashOf}
 use Rattle.raft_log_reopened.specs.Reopened.{home_of}
 use Rattle.raft_log_reopened.specs.Directory.{OpensAs}
 use Rattle.raft_log_fork.specs.Forks.{Forks}

@@ -5,8 +5,8 @@ use Rattle.raft_log_settings.specs.Sanitized.{IsFileName}
 use Rattle.raft_log_settings.specs.Settings.{settings_of}
 use Rattle.raft_log_settings.specs.declared.config.Config.{Config}
 use Rattle.raft_log_steps.specs.OnDisk.{LogRestsOn}
-use Rattle.raft_log_engine_state.specs.Shows.{log_in, LogMap}
-use Rattle.raft_log_builder.specs.Directories.{directories_of}
+use Rattle.raft_log_reopened.specs.raft_log_engine_state.specs.Shows.{log_in, LogMap}
+use Rattle.raft_log_reopened.specs.raft_log_builder.specs.Directories.{directories_of}
 use Rattle.raft_log_reopened.specs.Reopened.{home_of}
 use Rattle.raft_log_fork.specs.Forks.{Forks}
 

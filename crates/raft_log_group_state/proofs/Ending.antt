@@ -16,12 +16,12 @@ use Rattle.raft_log_base.specs.declared.errors.Error.{Error}
 use Rattle.raft_log_base.specs.declared.pipe_log.FileBlockHandle.{FileBlockHandle}
 use Rattle.raft_log_atomic_groups.specs.declared.status.AtomicGroupStatus.TheVariants as statuses
 use Rattle.raft_log_records.specs.Batch.{Batch}
-use Rattle.raft_log_signed_batch.specs.Signing.{signed_for}
+use Rattle.raft_log_purge_state.specs.raft_log_signed_batch.specs.Signing.{signed_for}
 use Rattle.raft_log_directory.specs.Calls.Which.{InRewrite}
 use Rattle.raft_log_directory.proofs.GroupCalls.{end_answered, end_may_be_there}
-use Rattle.raft_log_steps.specs.Crash.{AllowsIn}
-use Rattle.raft_log_steps.specs.State.{Ties}
-use Rattle.raft_log_steps.specs.Steps.{next_log}
+use Rattle.raft_log_purge_state.specs.raft_log_steps.specs.Crash.{AllowsIn}
+use Rattle.raft_log_purge_state.specs.raft_log_steps.specs.State.{Ties}
+use Rattle.raft_log_purge_state.specs.raft_log_steps.specs.Steps.{next_log}
 use Rattle.raft_log_places.specs.declared.group_files.GroupFiles.{GroupFiles}
 use Rattle.raft_log_places.specs.declared.place.Place.{Place}
 use Rattle.raft_log_places.specs.Shown.{IsOrderly, Shown}
@@ -29,19 +29,19 @@ use Rattle.raft_log_places.specs.Bridge.{CanAllMove, Located, all_moved, in_queu
 use Rattle.raft_log_places.specs.Bridge.Move.{MoveKey, MoveRun}
 use Rattle.raft_log_places.specs.Noted.{FilesRise, IsLeastInRewrite, with_note}
 use Rattle.raft_log_places.proofs.Moving.{move_orderly}
-use Rattle.raft_log_tables.proofs.Leasts.{front_is_least, noted_by_least}
-use Rattle.raft_log_tables.specs.Table.{shown}
-use Rattle.raft_log_replay.specs.Rewriting.{copied_items}
-use Rattle.raft_log_stored.specs.Stored.{AreStored, Each, EntryLiesIn, IsStored, entries_at}
-use Rattle.raft_log_stored.proofs.Staying.{stored_entries_stay}
-use Rattle.raft_log_views.specs.Views.{AreMeant, ended, view_of}
-use Rattle.raft_log_views.proofs.Ending.{group_ends}
-use Rattle.raft_log_dual_pipes.specs.Calls.{AppendsTo, FailsToAppendTo}
-use Rattle.raft_log_dual_pipes.specs.Pipes.{State}
-use Rattle.raft_log_engine_state.specs.Shows.{Home, KeepsOrForgets, LogMap, Shows, log_in}
-use Rattle.raft_log_engine_state.specs.Holding.{FilesRiseIn, Holds}
-use Rattle.raft_log_engine_state.specs.Writing.{items_at}
-use Rattle.raft_log_engine_state.proofs.Keeping.{rise_on}
+use Rattle.raft_log_purge_state.specs.raft_log_tables.proofs.Leasts.{front_is_least, noted_by_least}
+use Rattle.raft_log_purge_state.specs.raft_log_tables.specs.Table.{shown}
+use Rattle.raft_log_purge_state.specs.raft_log_replay.specs.Rewriting.{copied_items}
+use Rattle.raft_log_purge_state.specs.raft_log_stored.specs.Stored.{AreStored, Each, EntryLiesIn, IsStored, entries_at}
+use Rattle.raft_log_purge_state.specs.raft_log_stored.proofs.Staying.{stored_entries_stay}
+use Rattle.raft_log_purge_state.specs.raft_log_views.specs.Views.{AreMeant, ended, view_of}
+use Rattle.raft_log_purge_state.specs.raft_log_views.proofs.Ending.{group_ends}
+use Rattle.raft_log_purge_state.specs.raft_log_dual_pipes.specs.Calls.{AppendsTo, FailsToAppendTo}
+use Rattle.raft_log_purge_state.specs.raft_log_dual_pipes.specs.Pipes.{State}
+use Rattle.raft_log_purge_state.specs.raft_log_engine_state.specs.Shows.{Home, KeepsOrForgets, LogMap, Shows, log_in}
+use Rattle.raft_log_purge_state.specs.raft_log_engine_state.specs.Holding.{FilesRiseIn, Holds}
+use Rattle.raft_log_purge_state.specs.raft_log_engine_state.specs.Writing.{items_at}
+use Rattle.raft_log_purge_state.specs.raft_log_engine_state.proofs.Keeping.{rise_on}
 use Rattle.raft_log_purge_state.specs.Rewriting.{RewriteLeaves}
 use Rattle.raft_log_purge_state.specs.Settled.{SameTables}
 use Rattle.raft_log_purge_state.proofs.Copying.{block_behind, bytes_behind, held_map, meant_behind, moved_lies}

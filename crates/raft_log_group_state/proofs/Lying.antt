@@ -5,19 +5,19 @@ use Rattle.raft_log_model.specs.Item.Item.{Clean, Compact, Del, Put, Run}
 use Rattle.raft_log_model.specs.Groups.{of_group}
 use Rattle.raft_log_model.specs.Renamed.{renamed}
 use Rattle.raft_log_base.specs.declared.pipe_log.FileBlockHandle.{FileBlockHandle}
-use Rattle.raft_log_layout.specs.declared.record.LogRecord.{LogRecord}
+use Rattle.raft_log_purge_state.specs.raft_log_layout.specs.declared.record.LogRecord.{LogRecord}
 use Rattle.raft_log_records.specs.Batch.{Batch}
-use Rattle.raft_log_signed_batch.specs.Signing.{signed_for}
-use Rattle.raft_log_steps.specs.Turning.{HasLast}
+use Rattle.raft_log_purge_state.specs.raft_log_signed_batch.specs.Signing.{signed_for}
+use Rattle.raft_log_purge_state.specs.raft_log_steps.specs.Turning.{HasLast}
 use Rattle.raft_log_places.specs.declared.place.Place.{Place}
 use Rattle.raft_log_places.specs.Bridge.{Located, in_queue}
-use Rattle.raft_log_replay.specs.Rewriting.{copied_items}
-use Rattle.raft_log_stored.specs.Stored.{Each, EntryLiesIn, KeepsLog, entries_at, part}
-use Rattle.raft_log_stored.specs.Written.{RunIsStored}
-use Rattle.raft_log_stored.proofs.Staying.{block_stays}
-use Rattle.raft_log_dual_pipes.specs.Pipes.{State}
-use Rattle.raft_log_engine_state.specs.Shows.{IsLaidOut}
-use Rattle.raft_log_engine_state.specs.Writing.{items_at}
+use Rattle.raft_log_purge_state.specs.raft_log_replay.specs.Rewriting.{copied_items}
+use Rattle.raft_log_purge_state.specs.raft_log_stored.specs.Stored.{Each, EntryLiesIn, KeepsLog, entries_at, part}
+use Rattle.raft_log_purge_state.specs.raft_log_stored.specs.Written.{RunIsStored}
+use Rattle.raft_log_purge_state.specs.raft_log_stored.proofs.Staying.{block_stays}
+use Rattle.raft_log_purge_state.specs.raft_log_dual_pipes.specs.Pipes.{State}
+use Rattle.raft_log_purge_state.specs.raft_log_engine_state.specs.Shows.{IsLaidOut}
+use Rattle.raft_log_purge_state.specs.raft_log_engine_state.specs.Writing.{items_at}
 use Rattle.raft_log_purge_state.proofs.Copying.{block_behind, bytes_behind, copies_said, not_behind, runs_there, says_behind, says_there, turned_round}
 use Rattle.raft_log_group_state.specs.Parts.{FilesGoUp, LiesInRewrite, OfEntries, SaysPart, WrittenPart}
 

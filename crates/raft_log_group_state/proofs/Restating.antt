@@ -17,10 +17,10 @@ use Rattle.raft_log_places.specs.declared.place.Place.{Place}
 use Rattle.raft_log_places.specs.Shown.{IsOrderly, KeyValue, Shown}
 use Rattle.raft_log_places.specs.Bridge.{IsMeant, Located, in_queue, located, moved_run, read, table_of}
 use Rattle.raft_log_places.proofs.Queues.{located_length}
-use Rattle.raft_log_tables.specs.Moves.{key_rewritten, may_move, rewritten_to}
-use Rattle.raft_log_replay.specs.Rewriting.{IsCopy}
-use Rattle.raft_log_replay.proofs.Copies.{run_moves}
-use Rattle.raft_log_stored.specs.Stored.{Each}
+use Rattle.raft_log_purge_state.specs.raft_log_tables.specs.Moves.{key_rewritten, may_move, rewritten_to}
+use Rattle.raft_log_purge_state.specs.raft_log_replay.specs.Rewriting.{IsCopy}
+use Rattle.raft_log_purge_state.specs.raft_log_replay.proofs.Copies.{run_moves}
+use Rattle.raft_log_purge_state.specs.raft_log_stored.specs.Stored.{Each}
 use Rattle.raft_log_group_state.specs.Parts.{WrittenPart, said_items}
 use Rattle.raft_log_group_state.specs.Whole.{AreFiledCopies, Filed, RunPiece, all_places, batches_of, filed_copies, filed_items, in_one, in_pieces}
 use Rattle.raft_log_group_state.specs.Restating.{HoldsRewritten, KeyBytes, RestatedGroupsAreWhole, entries_of_pieces, puts, runs_in, said_of_group}

@@ -15,8 +15,8 @@ use Rattle.raft_log_places.proofs.Moving.{move_orderly}
 use Rattle.raft_log_places.proofs.Noting.{are_in, move_shrinks}
 use Rattle.raft_log_places.proofs.Rising.{copies_rise}
 use Rattle.raft_log_records.specs.Batch.{block_place}
-use Rattle.raft_log_views.proofs.Lying.{written_in}
-use Rattle.raft_log_engine_state.specs.Writing.{items_at}
+use Rattle.raft_log_purge_state.specs.raft_log_views.proofs.Lying.{written_in}
+use Rattle.raft_log_purge_state.specs.raft_log_engine_state.specs.Writing.{items_at}
 use Rattle.raft_log_group_state.specs.Parts.{FilesGoUp, WrittenPart}
 use Rattle.raft_log_group_state.specs.Whole.{Filed, IsWholeCopy, MovedFilesRise, RunPiece, all_places, filed_in, filed_items, filed_moves, in_one, in_pieces, whole_moves}
 use Rattle.raft_log_group_state.proofs.Whole.{whole_moved}

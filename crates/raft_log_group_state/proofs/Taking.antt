@@ -12,16 +12,16 @@ use Rattle.raft_log_places.specs.Shown.{IsOrderly, Shown}
 use Rattle.raft_log_places.specs.Noted.{FilesRise, IsLeastInRewrite, with_note}
 use Rattle.raft_log_places.specs.Replayed.{Replayed}
 use Rattle.raft_log_places.proofs.Moving.{moves_orderly}
-use Rattle.raft_log_replay.specs.declared.group_table.GroupTable.{GroupTable}
-use Rattle.raft_log_replay.specs.Joining.{noted_in}
-use Rattle.raft_log_replay.specs.Rewriting.{all_rewritten}
-use Rattle.raft_log_replay.specs.Tables.{replayed_in, replayed_of, shown_in, shown_of}
+use Rattle.raft_log_purge_state.specs.raft_log_replay.specs.declared.group_table.GroupTable.{GroupTable}
+use Rattle.raft_log_purge_state.specs.raft_log_replay.specs.Joining.{noted_in}
+use Rattle.raft_log_purge_state.specs.raft_log_replay.specs.Rewriting.{all_rewritten}
+use Rattle.raft_log_purge_state.specs.raft_log_replay.specs.Tables.{replayed_in, replayed_of, shown_in, shown_of}
 use Rattle.raft_log_directory.specs.Calls.Which.{InRewrite}
-use Rattle.raft_log_steps.specs.Steps.{next_log}
+use Rattle.raft_log_purge_state.specs.raft_log_steps.specs.Steps.{next_log}
 use Rattle.raft_log_places.specs.Bridge.{Located}
-use Rattle.raft_log_stored.specs.Stored.{entries_at}
-use Rattle.raft_log_engine_state.specs.Shows.{Shows, shows}
-use Rattle.raft_log_engine_state.specs.Writing.{items_at}
+use Rattle.raft_log_purge_state.specs.raft_log_stored.specs.Stored.{entries_at}
+use Rattle.raft_log_purge_state.specs.raft_log_engine_state.specs.Shows.{Shows, shows}
+use Rattle.raft_log_purge_state.specs.raft_log_engine_state.specs.Writing.{items_at}
 use Rattle.raft_log_group_state.specs.Parts.{WrittenPart, parts_of}
 use Rattle.raft_log_group_state.specs.Ending.{files_of_group}
 use Rattle.raft_log_group_state.specs.Whole.{Filed, batches_of, filed_copies, filed_items, parts_moved, whole_moves}

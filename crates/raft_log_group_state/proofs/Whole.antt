@@ -18,10 +18,10 @@ use Rattle.raft_log_places.specs.Bridge.{CanAllMove, Located, all_moved, in_queu
 use Rattle.raft_log_places.specs.Bridge.Move.{MoveKey, MoveRun}
 use Rattle.raft_log_places.proofs.Moving.{move_orderly}
 use Rattle.raft_log_held.specs.Counts.{passing}
-use Rattle.raft_log_tables.specs.Moves.{gated, movable, rewritten_at, rewritten_by}
-use Rattle.raft_log_replay.specs.Rewriting.{IsCopy, all_rewritten, rewritten_item}
-use Rattle.raft_log_replay.proofs.Copies.{copies_move, gated_first, run_moves}
-use Rattle.raft_log_engine_state.specs.Writing.{items_at}
+use Rattle.raft_log_purge_state.specs.raft_log_tables.specs.Moves.{gated, movable, rewritten_at, rewritten_by}
+use Rattle.raft_log_purge_state.specs.raft_log_replay.specs.Rewriting.{IsCopy, all_rewritten, rewritten_item}
+use Rattle.raft_log_purge_state.specs.raft_log_replay.proofs.Copies.{copies_move, gated_first, run_moves}
+use Rattle.raft_log_purge_state.specs.raft_log_engine_state.specs.Writing.{items_at}
 use Rattle.raft_log_group_state.specs.Parts.{WrittenPart}
 use Rattle.raft_log_group_state.specs.Whole.{AreFiledCopies, Filed, RunPiece, WholeGroupsAreMoved, all_places, filed_in, filed_copies, filed_items, filed_moves, in_one, in_pieces, parts_moved}
 

@@ -9,34 +9,34 @@ use Rattle.raft_log_base.specs.declared.errors.Error.{Error}
 use Rattle.raft_log_base.specs.declared.errors.Error.TheVariants as errors
 use Rattle.raft_log_base.specs.declared.pipe_log.FileBlockHandle.{FileBlockHandle}
 use Rattle.raft_log_base.specs.declared.pipe_log.LogQueue.TheVariants.{Rewrite}
-use Rattle.raft_log_layout.specs.declared.record.LogRecord.{LogRecord}
+use Rattle.raft_log_purge_state.specs.raft_log_layout.specs.declared.record.LogRecord.{LogRecord}
 use Rattle.raft_log_file_queue.specs.Queue.{synced}
 use Rattle.raft_log_atomic_groups.specs.declared.marking.Marking.TheVariants as markings
 use Rattle.raft_log_atomic_groups.specs.declared.status.AtomicGroupStatus.{AtomicGroupStatus}
 use Rattle.raft_log_atomic_groups.specs.declared.status.AtomicGroupStatus.TheVariants as statuses
 use Rattle.raft_log_atomic_groups.specs.Meaning.{part_of}
 use Rattle.raft_log_records.specs.Batch.{Batch}
-use Rattle.raft_log_signed_batch.specs.Signing.{signed_for}
+use Rattle.raft_log_purge_state.specs.raft_log_signed_batch.specs.Signing.{signed_for}
 use Rattle.raft_log_directory.specs.Calls.{IsInGroup, LeavesOut, Syncs}
 use Rattle.raft_log_directory.specs.Calls.Which.{InRewrite}
 use Rattle.raft_log_directory.proofs.CallLaws.{begin_may_be_there, group_begun}
 use Rattle.raft_log_directory.proofs.GroupCalls.{group_left_out, middle_answered, middle_may_be_there}
 use Rattle.raft_log_directory.proofs.SettledLaws.{sync_settles}
-use Rattle.raft_log_steps.specs.Crash.{AllowsIn}
-use Rattle.raft_log_steps.specs.Own.{log_layout}
-use Rattle.raft_log_steps.specs.Queues.{SaysRecord}
-use Rattle.raft_log_steps.specs.State.{Ties}
-use Rattle.raft_log_steps.specs.Steps.{next_log}
+use Rattle.raft_log_purge_state.specs.raft_log_steps.specs.Crash.{AllowsIn}
+use Rattle.raft_log_purge_state.specs.raft_log_steps.specs.Own.{log_layout}
+use Rattle.raft_log_purge_state.specs.raft_log_steps.specs.Queues.{SaysRecord}
+use Rattle.raft_log_purge_state.specs.raft_log_steps.specs.State.{Ties}
+use Rattle.raft_log_purge_state.specs.raft_log_steps.specs.Steps.{next_log}
 use Rattle.raft_log_places.specs.Noted.{FilesRise}
-use Rattle.raft_log_stored.specs.Stored.{Each, KeepsLog}
-use Rattle.raft_log_stored.proofs.Keeping.{calls_keep_bytes, calls_keep_log}
-use Rattle.raft_log_stored.proofs.Staying.{stored_entries_stay}
-use Rattle.raft_log_views.specs.Views.{view_of}
-use Rattle.raft_log_dual_pipes.specs.Calls.{AppendsTo, FailsToAppendTo, LeavesOutOn, SyncsQueue}
-use Rattle.raft_log_dual_pipes.specs.Pipes.{RunsOn, State}
-use Rattle.raft_log_engine_state.specs.Shows.{Home, LogMap, Shows, log_in, said_by, sense}
-use Rattle.raft_log_engine_state.specs.Holding.{Holds}
-use Rattle.raft_log_engine_state.proofs.Keeping.{rise_on, stays_cached}
+use Rattle.raft_log_purge_state.specs.raft_log_stored.specs.Stored.{Each, KeepsLog}
+use Rattle.raft_log_purge_state.specs.raft_log_stored.proofs.Keeping.{calls_keep_bytes, calls_keep_log}
+use Rattle.raft_log_purge_state.specs.raft_log_stored.proofs.Staying.{stored_entries_stay}
+use Rattle.raft_log_purge_state.specs.raft_log_views.specs.Views.{view_of}
+use Rattle.raft_log_purge_state.specs.raft_log_dual_pipes.specs.Calls.{AppendsTo, FailsToAppendTo, LeavesOutOn, SyncsQueue}
+use Rattle.raft_log_purge_state.specs.raft_log_dual_pipes.specs.Pipes.{RunsOn, State}
+use Rattle.raft_log_purge_state.specs.raft_log_engine_state.specs.Shows.{Home, LogMap, Shows, log_in, said_by, sense}
+use Rattle.raft_log_purge_state.specs.raft_log_engine_state.specs.Holding.{Holds}
+use Rattle.raft_log_purge_state.specs.raft_log_engine_state.proofs.Keeping.{rise_on, stays_cached}
 use Rattle.raft_log_purge_state.specs.Rewriting.{RewriteLeaves}
 use Rattle.raft_log_purge_state.specs.Settled.{SameTables}
 use Rattle.raft_log_purge_state.proofs.Rewriting.{left_out_keeps, record_taken, refusal_leaves, says_marked}

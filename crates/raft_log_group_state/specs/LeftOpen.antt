@@ -5,8 +5,8 @@ use Rattle.raft_log_model.specs.Item.Mark.{Begin, End, Middle}
 use Rattle.raft_log_model.specs.Item.Record.{Part, Plain}
 use Rattle.raft_log_model.specs.Groups.{Open, none_open, opened, settled}
 use Rattle.raft_log_machine.specs.Unbroken.{UnbrokenFrom, begun}
-use Rattle.raft_log_engine_state.specs.Shows.{Home, LogMap, Shows}
-use Rattle.raft_log_engine_state.specs.Holding.{Holds}
+use Rattle.raft_log_purge_state.specs.raft_log_engine_state.specs.Shows.{Home, LogMap, Shows}
+use Rattle.raft_log_purge_state.specs.raft_log_engine_state.specs.Holding.{Holds}
 use Rattle.raft_log_group_state.specs.Parts.{HoldsInGroup, UnendedGroup}
 
 -- a group may be given up at any time: the log is what it was

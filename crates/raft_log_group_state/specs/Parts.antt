@@ -11,17 +11,17 @@ use Rattle.raft_log_atomic_groups.specs.Marking.{marking_of_items}
 use Rattle.raft_log_atomic_groups.specs.Meaning.{tagged_items}
 use Rattle.raft_log_records.specs.Batch.{Batch}
 use Rattle.raft_log_records.specs.Places.{entry_bytes}
-use Rattle.raft_log_signed_batch.specs.Signing.{SaysItself, signed_for}
+use Rattle.raft_log_purge_state.specs.raft_log_signed_batch.specs.Signing.{SaysItself, signed_for}
 use Rattle.raft_log_directory.specs.Notes.{GoesOnFrom}
 use Rattle.raft_log_places.specs.declared.place.Place.{Place}
 use Rattle.raft_log_places.specs.Bridge.{Located}
 use Rattle.raft_log_places.specs.Noted.{FilesRise}
-use Rattle.raft_log_replay.specs.Rewriting.{copied_items}
-use Rattle.raft_log_stored.specs.Stored.{Each, EntryLiesIn, entries_at}
-use Rattle.raft_log_dual_pipes.specs.Pipes.{State}
-use Rattle.raft_log_engine_state.specs.Shows.{Home, IsLaidOut, LogMap, Shows}
-use Rattle.raft_log_engine_state.specs.Holding.{Holds}
-use Rattle.raft_log_engine_state.specs.Writing.{items_at}
+use Rattle.raft_log_purge_state.specs.raft_log_replay.specs.Rewriting.{copied_items}
+use Rattle.raft_log_purge_state.specs.raft_log_stored.specs.Stored.{Each, EntryLiesIn, entries_at}
+use Rattle.raft_log_purge_state.specs.raft_log_dual_pipes.specs.Pipes.{State}
+use Rattle.raft_log_purge_state.specs.raft_log_engine_state.specs.Shows.{Home, IsLaidOut, LogMap, Shows}
+use Rattle.raft_log_purge_state.specs.raft_log_engine_state.specs.Holding.{Holds}
+use Rattle.raft_log_purge_state.specs.raft_log_engine_state.specs.Writing.{items_at}
 
 -- a part of an atomic group that was written: the place of its record, and its batch
 pub record WrittenPart : Type 0 where

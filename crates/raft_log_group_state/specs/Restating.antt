@@ -8,8 +8,8 @@ use Rattle.raft_log_model.specs.Groups.{of_group}
 use Rattle.raft_log_machine.specs.Whereabouts.{Restates}
 use Rattle.raft_log_records.specs.Batch.{Batch}
 use Rattle.raft_log_places.specs.Shown.{KeyValue, Shown}
-use Rattle.raft_log_stored.specs.Stored.{Each}
-use Rattle.raft_log_engine_state.specs.Shows.{LogMap}
+use Rattle.raft_log_purge_state.specs.raft_log_stored.specs.Stored.{Each}
+use Rattle.raft_log_purge_state.specs.raft_log_engine_state.specs.Shows.{LogMap}
 use Rattle.raft_log_group_state.specs.Parts.{said_items}
 use Rattle.raft_log_group_state.specs.Whole.{HasWhole}
 

@@ -3,22 +3,22 @@ use Rattle.std.specs.Prelude.{◌≡◌, ◌==◌, ℕ, true, false, List, [], �
 use Rattle.raft_log_base.specs.declared.pipe_log.FileBlockHandle.{FileBlockHandle}
 use Rattle.raft_log_atomic_groups.specs.declared.status.AtomicGroupStatus.TheVariants.{End}
 use Rattle.raft_log_records.specs.Batch.{Batch}
-use Rattle.raft_log_signed_batch.specs.Signing.{signed_for}
+use Rattle.raft_log_purge_state.specs.raft_log_signed_batch.specs.Signing.{signed_for}
 use Rattle.raft_log_directory.specs.Calls.Which.{InRewrite}
 use Rattle.raft_log_places.specs.declared.group_files.GroupFiles.{GroupFiles}
 use Rattle.raft_log_places.specs.Shown.{IsOrderly}
 use Rattle.raft_log_places.specs.Bridge.{Located}
 use Rattle.raft_log_places.specs.Noted.{FilesRise}
-use Rattle.raft_log_replay.specs.declared.mem_tables.MemTables.{MemTables}
-use Rattle.raft_log_replay.specs.Joining.{noted_in}
-use Rattle.raft_log_replay.specs.Rewriting.{RewritesAll}
-use Rattle.raft_log_replay.specs.Tables.{has_table, raw_of, replayed_of, shown_of}
-use Rattle.raft_log_dual_pipes.specs.Calls.{AppendsTo}
-use Rattle.raft_log_dual_pipes.specs.Pipes.{LogPipes}
-use Rattle.raft_log_blocks.specs.declared.block_cache.BlockCache.{BlockCache}
-use Rattle.raft_log_engine_state.specs.Shows.{Home, KeepsOrForgets, LogMap, shows}
-use Rattle.raft_log_engine_state.specs.Holding.{Holds}
-use Rattle.raft_log_engine_state.specs.Writing.{items_at}
+use Rattle.raft_log_purge_state.specs.raft_log_replay.specs.declared.mem_tables.MemTables.{MemTables}
+use Rattle.raft_log_purge_state.specs.raft_log_replay.specs.Joining.{noted_in}
+use Rattle.raft_log_purge_state.specs.raft_log_replay.specs.Rewriting.{RewritesAll}
+use Rattle.raft_log_purge_state.specs.raft_log_replay.specs.Tables.{has_table, raw_of, replayed_of, shown_of}
+use Rattle.raft_log_purge_state.specs.raft_log_dual_pipes.specs.Calls.{AppendsTo}
+use Rattle.raft_log_purge_state.specs.raft_log_dual_pipes.specs.Pipes.{LogPipes}
+use Rattle.raft_log_purge_state.specs.raft_log_blocks.specs.declared.block_cache.BlockCache.{BlockCache}
+use Rattle.raft_log_purge_state.specs.raft_log_engine_state.specs.Shows.{Home, KeepsOrForgets, LogMap, shows}
+use Rattle.raft_log_purge_state.specs.raft_log_engine_state.specs.Holding.{Holds}
+use Rattle.raft_log_purge_state.specs.raft_log_engine_state.specs.Writing.{items_at}
 use Rattle.raft_log_group_state.specs.Parts.{FilesGoUp, HoldsInGroup, IsGroupPart, UnendedGroup, WrittenPart, parts_of}
 use Rattle.raft_log_group_state.specs.Whole.{IsWholeCopy, batches_of, filed_items, parts_moved}
 use Rattle.raft_log_group_state.specs.Restating.{RestatesGroup, said_of_group}

@@ -11,11 +11,11 @@ use Rattle.raft_log_places.specs.declared.place.Place.{Place}
 use Rattle.raft_log_places.specs.Shown.{IsOrderly, Shown}
 use Rattle.raft_log_places.specs.Bridge.{CanAllMove, Located, Move, all_moved, in_queue, items_of as copies_of}
 use Rattle.raft_log_places.specs.Noted.{FilesRise}
-use Rattle.raft_log_replay.specs.Rewriting.{IsCopy, all_rewritten, moves_of, rewritten_item}
-use Rattle.raft_log_stored.specs.Stored.{Each}
-use Rattle.raft_log_views.specs.Views.{AreMeant}
-use Rattle.raft_log_engine_state.specs.Shows.{LogMap}
-use Rattle.raft_log_engine_state.specs.Writing.{items_at}
+use Rattle.raft_log_purge_state.specs.raft_log_replay.specs.Rewriting.{IsCopy, all_rewritten, moves_of, rewritten_item}
+use Rattle.raft_log_purge_state.specs.raft_log_stored.specs.Stored.{Each}
+use Rattle.raft_log_purge_state.specs.raft_log_views.specs.Views.{AreMeant}
+use Rattle.raft_log_purge_state.specs.raft_log_engine_state.specs.Shows.{LogMap}
+use Rattle.raft_log_purge_state.specs.raft_log_engine_state.specs.Writing.{items_at}
 use Rattle.raft_log_group_state.specs.Parts.{FilesGoUp, SaysPart, WrittenPart}
 
 -- an item of a record in this file of Rewrite

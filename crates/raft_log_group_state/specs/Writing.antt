@@ -6,11 +6,11 @@ use Rattle.raft_log_base.specs.declared.errors.Error.TheVariants as errors
 use Rattle.raft_log_base.specs.declared.pipe_log.FileBlockHandle.{FileBlockHandle}
 use Rattle.raft_log_atomic_groups.specs.declared.status.AtomicGroupStatus.TheVariants.{Begin, Middle}
 use Rattle.raft_log_records.specs.Batch.{Batch}
-use Rattle.raft_log_signed_batch.specs.Signing.{signed_for}
+use Rattle.raft_log_purge_state.specs.raft_log_signed_batch.specs.Signing.{signed_for}
 use Rattle.raft_log_directory.specs.Calls.Which.{InRewrite}
-use Rattle.raft_log_dual_pipes.specs.Calls.{AppendsTo, FailsToAppendTo, SyncsQueue}
-use Rattle.raft_log_engine_state.specs.Shows.{Home, LogMap, Shows}
-use Rattle.raft_log_engine_state.specs.Holding.{Holds}
+use Rattle.raft_log_purge_state.specs.raft_log_dual_pipes.specs.Calls.{AppendsTo, FailsToAppendTo, SyncsQueue}
+use Rattle.raft_log_purge_state.specs.raft_log_engine_state.specs.Shows.{Home, LogMap, Shows}
+use Rattle.raft_log_purge_state.specs.raft_log_engine_state.specs.Holding.{Holds}
 use Rattle.raft_log_purge_state.specs.Rewriting.{RewriteLeaves}
 use Rattle.raft_log_purge_state.specs.Settled.{SameTables}
 use Rattle.raft_log_group_state.specs.Parts.{HoldsInGroup, IsGroupPart, UnendedGroup, begun_by, gone_on_by}

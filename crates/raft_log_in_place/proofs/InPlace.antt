@@ -10,27 +10,27 @@ use Rattle.raft_log_disk.proofs.ImageLaws.{named_is_used}
 use Rattle.raft_log_settings.specs.declared.config.Config.{Config}
 use Rattle.raft_log_files.specs.declared.format.File.{File}
 use Rattle.raft_log_layout.specs.Layout.{log_paths}
-use Rattle.raft_log_replay.specs.declared.mem_tables.MemTables.{MemTables}
+use Rattle.raft_log_reopened.specs.raft_log_replay.specs.declared.mem_tables.MemTables.{MemTables}
 use Rattle.raft_log_found_queue.specs.declared.file_ending.FileEnding.{FileEnding}
-use Rattle.raft_log_contexts.specs.declared.context.MemTableRecoverContext.{MemTableRecoverContext}
+use Rattle.raft_log_reopened.specs.raft_log_contexts.specs.declared.context.MemTableRecoverContext.{MemTableRecoverContext}
 use Rattle.raft_log_steps.specs.Queues.{AreTwoQueues}
 use Rattle.raft_log_steps.specs.Lying.{LiesQueue}
 use Rattle.raft_log_steps.specs.OnDisk.{LogRestsOn}
 use Rattle.raft_log_steps.proofs.LyingQueues.{lies}
-use Rattle.raft_log_dual_pipes.specs.Pipes.{LogPipes, Said, State}
-use Rattle.raft_log_engine_state.specs.Shows.{log_in, Home, LogMap}
-use Rattle.raft_log_engine_state.specs.Holding.{IsLeftAt}
-use Rattle.raft_log_builder.specs.Cutting.{CutsEach, CutsIf}
-use Rattle.raft_log_builder.specs.Directories.{directories_of}
-use Rattle.raft_log_builder.specs.Finishing.{OpensRecovered, SyncsLog}
-use Rattle.raft_log_builder.specs.Finishing.FailsToOpenRecovered.{unopened as pipes_unopened}
-use Rattle.raft_log_builder.specs.Recovering.{append_files, rewrite_files}
-use Rattle.raft_log_builder.specs.Syncing.{SyncsEach}
-use Rattle.raft_log_builder.specs.declared.builder.DualPipesBuilder.{DualPipesBuilder}
-use Rattle.raft_log_builder.specs.declared.queue_files.QueueFiles.{QueueFiles}
-use Rattle.raft_log_opening.specs.Finding.{FindsLog}
-use Rattle.raft_log_opened.specs.Opened.{HoldsFresh}
-use Rattle.raft_log_opened.proofs.Left.{crashed_logs_rest}
+use Rattle.raft_log_reopened.specs.raft_log_dual_pipes.specs.Pipes.{LogPipes, Said, State}
+use Rattle.raft_log_reopened.specs.raft_log_engine_state.specs.Shows.{log_in, Home, LogMap}
+use Rattle.raft_log_reopened.specs.raft_log_engine_state.specs.Holding.{IsLeftAt}
+use Rattle.raft_log_reopened.specs.raft_log_builder.specs.Cutting.{CutsEach, CutsIf}
+use Rattle.raft_log_reopened.specs.raft_log_builder.specs.Directories.{directories_of}
+use Rattle.raft_log_reopened.specs.raft_log_builder.specs.Finishing.{OpensRecovered, SyncsLog}
+use Rattle.raft_log_reopened.specs.raft_log_builder.specs.Finishing.FailsToOpenRecovered.{unopened as pipes_unopened}
+use Rattle.raft_log_reopened.specs.raft_log_builder.specs.Recovering.{append_files, rewrite_files}
+use Rattle.raft_log_reopened.specs.raft_log_builder.specs.Syncing.{SyncsEach}
+use Rattle.raft_log_reopened.specs.raft_log_builder.specs.declared.builder.DualPipesBuilder.{DualPipesBuilder}
+use Rattle.raft_log_reopened.specs.raft_log_builder.specs.declared.queue_files.QueueFiles.{QueueFiles}
+use Rattle.raft_log_reopened.specs.raft_log_opening.specs.Finding.{FindsLog}
+use Rattle.raft_log_reopened.specs.raft_log_opened.specs.Opened.{HoldsFresh}
+use Rattle.raft_log_reopened.specs.raft_log_opened.proofs.Left.{crashed_logs_rest}
 use Rattle.raft_log_resting.specs.Keeping.{RestsStill}
 use Rattle.raft_log_resting.proofs.Keeping.{kept_logs_stay}
 use Rattle.raft_log_reopened.specs.Files.{AreFilesOf}

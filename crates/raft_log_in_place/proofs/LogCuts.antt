@@ -19,7 +19,7 @@ use Rattle.raft_log_layout.specs.declared.record.LogRecord.{LogRecord}
 use Rattle.raft_log_found_queue.specs.declared.file_ending.FileEnding.{FileEnding}
 use Rattle.raft_log_steps.specs.Queues.{IsQueueLayout, QueueLayout}
 use Rattle.raft_log_steps.specs.State.{Spanned}
-use Rattle.raft_log_builder.specs.Cutting.{CutsEach, CutsIf, FailsToCutEach}
+use Rattle.raft_log_reopened.specs.raft_log_builder.specs.Cutting.{CutsEach, CutsIf, FailsToCutEach}
 use Rattle.raft_log_resting.specs.Keeping.{KeepsNumbered}
 use Rattle.raft_log_resting.proofs.Calls.{keeps_all, keeps_touched}
 use Rattle.raft_log_resting.proofs.LastCut.{no_trim_touches, trims_touch}

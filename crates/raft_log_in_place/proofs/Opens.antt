@@ -12,7 +12,7 @@ use Rattle.raft_log_files.specs.Layout.{path_of}
 use Rattle.raft_log_files.specs.declared.format.File.{File}
 use Rattle.raft_log_layout.specs.declared.record.LogRecord.{LogRecord}
 use Rattle.raft_log_pipes.proofs.Lists.{path_numbered}
-use Rattle.raft_log_builder.specs.Syncing.{SyncsEach}
+use Rattle.raft_log_reopened.specs.raft_log_builder.specs.Syncing.{SyncsEach}
 use Rattle.raft_log_steps.specs.Queues.{IsQueueLayout, QueueLayout}
 use Rattle.raft_log_steps.specs.State.{Spanned}
 use Rattle.raft_log_reopened.specs.Files.{AreFilesOf}

@@ -13,23 +13,23 @@ use Rattle.raft_log_layout.specs.Layout.{log_format, log_paths}
 use Rattle.raft_log_layout.specs.declared.record.LogRecord.{LogRecord}
 use Rattle.raft_log_prefill.specs.Readying.{FailsToReady, Readies}
 use Rattle.raft_log_found_queue.specs.declared.file_ending.FileEnding.{FileEnding}
-use Rattle.raft_log_contexts.specs.declared.context.MemTableRecoverContext.{MemTableRecoverContext}
+use Rattle.raft_log_reopened.specs.raft_log_contexts.specs.declared.context.MemTableRecoverContext.{MemTableRecoverContext}
 use Rattle.raft_log_steps.specs.Lying.{none_open, LiesQueue}
 use Rattle.raft_log_steps.specs.Queues.{AreTwoQueues, IsQueueLayout, QueueLayout}
 use Rattle.raft_log_steps.proofs.LyingQueues.{lies}
-use Rattle.raft_log_dual_pipes.specs.Pipes.{Said, State}
-use Rattle.raft_log_engine_state.specs.Shows.{log_in, Home, LogMap}
-use Rattle.raft_log_engine_state.specs.Holding.{IsLeftAt}
-use Rattle.raft_log_builder.specs.Cutting.{CutsEach, FailsToCutEach}
-use Rattle.raft_log_builder.specs.Directories.{directories_of}
-use Rattle.raft_log_builder.specs.Finishing.{FailsToSyncLog}
-use Rattle.raft_log_builder.specs.Finishing.FailsToOpenRecovered.{unready, unsynced, unopened as pipes_unopened}
-use Rattle.raft_log_builder.specs.Recovering.{append_config, append_files, rewrite_config, rewrite_files, FailsToRecoverLog, HasReadBoth, RecoversLog}
-use Rattle.raft_log_builder.specs.Recovering.FailsToRecoverLog.{aligned, append_uncut, append_unread, rewrite_uncut, rewrite_unread}
-use Rattle.raft_log_builder.specs.Reserving.{wanted_files, FailsToReadyLog, ReadiesLog}
-use Rattle.raft_log_builder.specs.declared.builder.DualPipesBuilder.{DualPipesBuilder}
-use Rattle.raft_log_opening.specs.Finding.{FindsLog}
-use Rattle.raft_log_opened.specs.Entries.{EachHas}
+use Rattle.raft_log_reopened.specs.raft_log_dual_pipes.specs.Pipes.{Said, State}
+use Rattle.raft_log_reopened.specs.raft_log_engine_state.specs.Shows.{log_in, Home, LogMap}
+use Rattle.raft_log_reopened.specs.raft_log_engine_state.specs.Holding.{IsLeftAt}
+use Rattle.raft_log_reopened.specs.raft_log_builder.specs.Cutting.{CutsEach, FailsToCutEach}
+use Rattle.raft_log_reopened.specs.raft_log_builder.specs.Directories.{directories_of}
+use Rattle.raft_log_reopened.specs.raft_log_builder.specs.Finishing.{FailsToSyncLog}
+use Rattle.raft_log_reopened.specs.raft_log_builder.specs.Finishing.FailsToOpenRecovered.{unready, unsynced, unopened as pipes_unopened}
+use Rattle.raft_log_reopened.specs.raft_log_builder.specs.Recovering.{append_config, append_files, rewrite_config, rewrite_files, FailsToRecoverLog, HasReadBoth, RecoversLog}
+use Rattle.raft_log_reopened.specs.raft_log_builder.specs.Recovering.FailsToRecoverLog.{aligned, append_uncut, append_unread, rewrite_uncut, rewrite_unread}
+use Rattle.raft_log_reopened.specs.raft_log_builder.specs.Reserving.{wanted_files, FailsToReadyLog, ReadiesLog}
+use Rattle.raft_log_reopened.specs.raft_log_builder.specs.declared.builder.DualPipesBuilder.{DualPipesBuilder}
+use Rattle.raft_log_reopened.specs.raft_log_opening.specs.Finding.{FindsLog}
+use Rattle.raft_log_reopened.specs.raft_log_opened.specs.Entries.{EachHas}
 use Rattle.raft_log_resting.specs.Keeping.{KeepsNumbered}
 use Rattle.raft_log_resting.proofs.Calls.{keeps_all, sound_names, AreSoundNames}
 use Rattle.raft_log_resting.proofs.Keeping.{bounded}

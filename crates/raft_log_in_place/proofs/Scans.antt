@@ -22,12 +22,12 @@ use Rattle.raft_log_recovery.specs.Scanned.{IsQueueIn, IsRunIn, IsScanned}
 use Rattle.raft_log_recovery.specs.declared.file_kind.FileKind.{FileKind}
 use Rattle.raft_log_recovery.specs.declared.scanning.ScannedFiles.{ScannedFiles}
 use Rattle.raft_log_recovery.specs.declared.scanning.found.FoundFile.{FoundFile}
-use Rattle.raft_log_builder.specs.Cutting.{CutsEach, CutsIf}
-use Rattle.raft_log_builder.specs.Reading.{HasReadFiles}
-use Rattle.raft_log_builder.specs.Recovering.{append_config, append_files, rewrite_config, rewrite_files, RecoversLog}
-use Rattle.raft_log_builder.specs.Syncing.{SyncsEach}
-use Rattle.raft_log_builder.specs.declared.builder.DualPipesBuilder.{DualPipesBuilder}
-use Rattle.raft_log_opening.specs.Finding.{FindsLog}
+use Rattle.raft_log_reopened.specs.raft_log_builder.specs.Cutting.{CutsEach, CutsIf}
+use Rattle.raft_log_reopened.specs.raft_log_builder.specs.Reading.{HasReadFiles}
+use Rattle.raft_log_reopened.specs.raft_log_builder.specs.Recovering.{append_config, append_files, rewrite_config, rewrite_files, RecoversLog}
+use Rattle.raft_log_reopened.specs.raft_log_builder.specs.Syncing.{SyncsEach}
+use Rattle.raft_log_reopened.specs.raft_log_builder.specs.declared.builder.DualPipesBuilder.{DualPipesBuilder}
+use Rattle.raft_log_reopened.specs.raft_log_opening.specs.Finding.{FindsLog}
 use Rattle.raft_log_recovery.specs.declared.recovery_config.RecoveryConfig.{RecoveryConfig}
 use Rattle.raft_log_in_place.proofs.Settling.{settled_if, settled_in, settled_sync, settled_trim}
 

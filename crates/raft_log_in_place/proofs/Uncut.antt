@@ -31,14 +31,14 @@ use Rattle.raft_log_steps.specs.Own.{log_layout}
 use Rattle.raft_log_steps.specs.Queues.{AreTwoQueues}
 use Rattle.raft_log_steps.specs.State.{Spanned}
 use Rattle.raft_log_steps.proofs.LyingQueues.{lies, lying_logs_are_logs}
-use Rattle.raft_log_dual_pipes.specs.Pipes.{Said}
-use Rattle.raft_log_engine_state.specs.Shows.{log_in, Home, LogMap}
-use Rattle.raft_log_engine_state.specs.Holding.{IsLeftAt}
-use Rattle.raft_log_builder.specs.Directories.{directories_of}
-use Rattle.raft_log_builder.specs.Scanning.{FailsToScanLog}
-use Rattle.raft_log_builder.specs.Scanning.FailsToScanLog.{uncleared, unready, unscanned as scan_refused}
-use Rattle.raft_log_builder.specs.declared.builder.DualPipesBuilder.{DualPipesBuilder}
-use Rattle.raft_log_opening.specs.Finding.{FindsLog}
+use Rattle.raft_log_reopened.specs.raft_log_dual_pipes.specs.Pipes.{Said}
+use Rattle.raft_log_reopened.specs.raft_log_engine_state.specs.Shows.{log_in, Home, LogMap}
+use Rattle.raft_log_reopened.specs.raft_log_engine_state.specs.Holding.{IsLeftAt}
+use Rattle.raft_log_reopened.specs.raft_log_builder.specs.Directories.{directories_of}
+use Rattle.raft_log_reopened.specs.raft_log_builder.specs.Scanning.{FailsToScanLog}
+use Rattle.raft_log_reopened.specs.raft_log_builder.specs.Scanning.FailsToScanLog.{uncleared, unready, unscanned as scan_refused}
+use Rattle.raft_log_reopened.specs.raft_log_builder.specs.declared.builder.DualPipesBuilder.{DualPipesBuilder}
+use Rattle.raft_log_reopened.specs.raft_log_opening.specs.Finding.{FindsLog}
 use Rattle.raft_log_resting.specs.Keeping.{KeepsNumbered}
 use Rattle.raft_log_resting.proofs.Calls.{keeps_all, keeps_calm}
 use Rattle.raft_log_resting.proofs.Keeping.{keeps_same, keeps_then, kept_logs_stay}

@@ -29,13 +29,13 @@ use Rattle.raft_log_steps.specs.State.{HasSpan, Spanned}
 use Rattle.raft_log_steps.specs.Reopening.{RestsQueue}
 use Rattle.raft_log_steps.proofs.CrashSteps.{rests_lie}
 use Rattle.raft_log_steps.proofs.LyingQueues.{lies}
-use Rattle.raft_log_dual_pipes.specs.Pipes.{State}
-use Rattle.raft_log_engine_state.specs.Shows.{log_in}
-use Rattle.raft_log_builder.specs.Finishing.{FailsToSyncLog}
-use Rattle.raft_log_builder.specs.Finishing.FailsToSyncLog.{append_unsynced, rewrite_unsynced}
-use Rattle.raft_log_builder.specs.Recovering.{append_files, rewrite_files}
-use Rattle.raft_log_builder.specs.Syncing.{FailsToSyncEach, SyncsEach}
-use Rattle.raft_log_builder.specs.declared.builder.DualPipesBuilder.{DualPipesBuilder}
+use Rattle.raft_log_reopened.specs.raft_log_dual_pipes.specs.Pipes.{State}
+use Rattle.raft_log_reopened.specs.raft_log_engine_state.specs.Shows.{log_in}
+use Rattle.raft_log_reopened.specs.raft_log_builder.specs.Finishing.{FailsToSyncLog}
+use Rattle.raft_log_reopened.specs.raft_log_builder.specs.Finishing.FailsToSyncLog.{append_unsynced, rewrite_unsynced}
+use Rattle.raft_log_reopened.specs.raft_log_builder.specs.Recovering.{append_files, rewrite_files}
+use Rattle.raft_log_reopened.specs.raft_log_builder.specs.Syncing.{FailsToSyncEach, SyncsEach}
+use Rattle.raft_log_reopened.specs.raft_log_builder.specs.declared.builder.DualPipesBuilder.{DualPipesBuilder}
 use Rattle.raft_log_resting.specs.Keeping.{KeepsNumbered}
 use Rattle.raft_log_resting.proofs.Calls.{no_sync_keeps, rests_at_rest, sync_keeps}
 use Rattle.raft_log_resting.proofs.Keeping.{rests_kept, stands_kept}

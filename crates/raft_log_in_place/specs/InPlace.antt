@@ -14,20 +14,20 @@ use Rattle.raft_log_layout.specs.Layout.{log_format}
 use Rattle.raft_log_layout.specs.declared.record.LogRecord.{LogRecord}
 use Rattle.raft_log_disk.specs.Image.{as_it_stands, IsSound, IsSoundFile}
 use Rattle.raft_log_settings.specs.declared.config.Config.{Config}
-use Rattle.raft_log_replay.specs.declared.mem_tables.MemTables.{MemTables}
-use Rattle.raft_log_contexts.specs.declared.context.MemTableRecoverContext.{MemTableRecoverContext}
-use Rattle.raft_log_dual_pipes.specs.Opening.{FailsToOpenLog}
-use Rattle.raft_log_dual_pipes.specs.declared.opening.FoundPipe.{FoundPipe}
-use Rattle.raft_log_dual_pipes.specs.Pipes.{LogPipes, Said, State}
-use Rattle.raft_log_engine_state.specs.Shows.{Home, LogMap}
-use Rattle.raft_log_engine_state.specs.Holding.{IsLeftAt}
-use Rattle.raft_log_builder.specs.Finishing.{FailsToSyncLog, IsPipeRecovered, IsRead, SyncsLog}
-use Rattle.raft_log_builder.specs.Scanning.{FailsToScanLog}
-use Rattle.raft_log_builder.specs.declared.builder.DualPipesBuilder.{DualPipesBuilder}
-use Rattle.raft_log_opening.specs.Finding.{FindsLog, IsBegun}
-use Rattle.raft_log_opening.specs.Opening.{FailsToOpenDirectory, OpensDirectory}
-use Rattle.raft_log_opened.specs.Left.{IsCrashOf}
-use Rattle.raft_log_opened.specs.Opened.{HoldsFresh}
+use Rattle.raft_log_reopened.specs.raft_log_replay.specs.declared.mem_tables.MemTables.{MemTables}
+use Rattle.raft_log_reopened.specs.raft_log_contexts.specs.declared.context.MemTableRecoverContext.{MemTableRecoverContext}
+use Rattle.raft_log_reopened.specs.raft_log_dual_pipes.specs.Opening.{FailsToOpenLog}
+use Rattle.raft_log_reopened.specs.raft_log_dual_pipes.specs.declared.opening.FoundPipe.{FoundPipe}
+use Rattle.raft_log_reopened.specs.raft_log_dual_pipes.specs.Pipes.{LogPipes, Said, State}
+use Rattle.raft_log_reopened.specs.raft_log_engine_state.specs.Shows.{Home, LogMap}
+use Rattle.raft_log_reopened.specs.raft_log_engine_state.specs.Holding.{IsLeftAt}
+use Rattle.raft_log_reopened.specs.raft_log_builder.specs.Finishing.{FailsToSyncLog, IsPipeRecovered, IsRead, SyncsLog}
+use Rattle.raft_log_reopened.specs.raft_log_builder.specs.Scanning.{FailsToScanLog}
+use Rattle.raft_log_reopened.specs.raft_log_builder.specs.declared.builder.DualPipesBuilder.{DualPipesBuilder}
+use Rattle.raft_log_reopened.specs.raft_log_opening.specs.Finding.{FindsLog, IsBegun}
+use Rattle.raft_log_reopened.specs.raft_log_opening.specs.Opening.{FailsToOpenDirectory, OpensDirectory}
+use Rattle.raft_log_reopened.specs.raft_log_opened.specs.Left.{IsCrashOf}
+use Rattle.raft_log_reopened.specs.raft_log_opened.specs.Opened.{HoldsFresh}
 use Rattle.raft_log_reopened.specs.Refused.{FailsToReopen}
 use Rattle.raft_log_reopened.specs.Reopened.{home_of, IsRecovered, Reopens, SparesCanBeUsed}
 

@@ -21,11 +21,11 @@ use Rattle.raft_log_atomic_groups.specs.Marking.{marking_of_items}
 use Rattle.raft_log_atomic_groups.specs.Meaning.{marked, tagged_items}
 use Rattle.raft_log_records.specs.Places.{entry_bytes}
 use Rattle.raft_log_disk.specs.Chains.{Written, spelled}
-use Rattle.raft_log_layout.specs.declared.record.LogRecord.{LogRecord}
+use Rattle.raft_log_engine_state.specs.raft_log_layout.specs.declared.record.LogRecord.{LogRecord}
 use Rattle.raft_log_places.specs.declared.place.Place.{Place}
 use Rattle.raft_log_places.specs.Bridge.{Located, in_queue}
 use Rattle.raft_log_held.specs.Entries.{place_of}
-use Rattle.raft_log_tables.specs.Replays.{in_append}
+use Rattle.raft_log_engine_state.specs.raft_log_tables.specs.Replays.{in_append}
 use Rattle.raft_log_file_queue.specs.Bridge.{said as said_all}
 use Rattle.raft_log_reader.specs.Batches.{block_at}
 use Rattle.raft_log_segments.specs.Machines.{Batch}
@@ -33,9 +33,9 @@ use Rattle.raft_log_contexts.specs.Batches.{AreRead}
 use Rattle.raft_log_contexts.specs.Records.{in_file, record_read, records_of, said_in, taken_as, ReadItem, ReadRecord}
 use Rattle.raft_log_contexts.specs.Noting.{AreWhereRead, LieIn}
 use Rattle.raft_log_contexts.specs.Opened.{told_record, told_records, told_tagged, AllReadIn}
-use Rattle.raft_log_stored.specs.Stored.{part}
+use Rattle.raft_log_engine_state.specs.raft_log_stored.specs.Stored.{part}
 use Rattle.raft_log_found_pipes.specs.Records.{AreBatchesOf, IsBatchOf}
-use Rattle.raft_log_dual_pipes.specs.Pipes.{Said}
+use Rattle.raft_log_engine_state.specs.raft_log_dual_pipes.specs.Pipes.{Said}
 use Rattle.raft_log_opened.specs.Entries.{EntriesHave, ItemsHave, RecordsHave}
 use Rattle.raft_log_opened.specs.Reading.{as_counted, batches_in}
 use Rattle.raft_log_opened.proofs.Placed.{items_alike, read_has, read_lies, read_told, same_marking}

@@ -6,14 +6,14 @@ use Rattle.raft_log_disk.specs.Disk.{Disk}
 use Rattle.raft_log_base.specs.declared.errors.Error.{Error}
 use Rattle.raft_log_base.specs.declared.pipe_log.LogQueue.TheVariants.{Append, Rewrite}
 use Rattle.raft_log_directory.proofs.Follows.{taken_twice}
-use Rattle.raft_log_layout.specs.LayoutLaws.{files_are_told, is_layout, queues_are_apart}
-use Rattle.raft_log_steps.specs.Queues.{AreTwoQueues}
-use Rattle.raft_log_steps.specs.Lying.{none_open}
-use Rattle.raft_log_steps.specs.OnDisk.{LogRestsOn}
-use Rattle.raft_log_steps.proofs.OnDiskLaws.{logs_go_on_disks}
-use Rattle.raft_log_dual_pipes.specs.Opening.{FailsToOpenLog, RestsAsFound}
-use Rattle.raft_log_dual_pipes.specs.Pipes.{Said}
-use Rattle.raft_log_dual_pipes.specs.declared.opening.FoundPipe.{FoundPipe}
+use Rattle.raft_log_engine_state.specs.raft_log_layout.specs.LayoutLaws.{files_are_told, is_layout, queues_are_apart}
+use Rattle.raft_log_engine_state.specs.raft_log_steps.specs.Queues.{AreTwoQueues}
+use Rattle.raft_log_engine_state.specs.raft_log_steps.specs.Lying.{none_open}
+use Rattle.raft_log_engine_state.specs.raft_log_steps.specs.OnDisk.{LogRestsOn}
+use Rattle.raft_log_engine_state.specs.raft_log_steps.proofs.OnDiskLaws.{logs_go_on_disks}
+use Rattle.raft_log_engine_state.specs.raft_log_dual_pipes.specs.Opening.{FailsToOpenLog, RestsAsFound}
+use Rattle.raft_log_engine_state.specs.raft_log_dual_pipes.specs.Pipes.{Said}
+use Rattle.raft_log_engine_state.specs.raft_log_dual_pipes.specs.declared.opening.FoundPipe.{FoundPipe}
 use Rattle.raft_log_engine_state.specs.Shows.{log_in, sense, Home, LogMap}
 use Rattle.raft_log_engine_state.specs.Holding.{IsLeftAt}
 use Rattle.raft_log_opened.specs.Left.{CrashedLogsRest, IsCrashOf, RefusedOpensLeaveLogs}

@@ -29,10 +29,10 @@ use Rattle.raft_log_places.specs.Shown.{whereabouts, Shown}
 use Rattle.raft_log_places.specs.Bridge.{located, Located}
 use Rattle.raft_log_places.specs.Noted.{file_at, noted_at}
 use Rattle.raft_log_places.specs.Replayed.{standing, told}
-use Rattle.raft_log_replay.specs.declared.mem_tables.MemTables.{MemTables}
-use Rattle.raft_log_replay.specs.Tables.{shown_of}
-use Rattle.raft_log_steps.specs.State.{Ties}
-use Rattle.raft_log_views.specs.Views.{view_of, AreMeant}
+use Rattle.raft_log_engine_state.specs.raft_log_replay.specs.declared.mem_tables.MemTables.{MemTables}
+use Rattle.raft_log_engine_state.specs.raft_log_replay.specs.Tables.{shown_of}
+use Rattle.raft_log_engine_state.specs.raft_log_steps.specs.State.{Ties}
+use Rattle.raft_log_engine_state.specs.raft_log_views.specs.Views.{view_of, AreMeant}
 use Rattle.raft_log_contexts.specs.Records.{counted, records_of, AreHealthy, ReadRecord}
 use Rattle.raft_log_contexts.specs.Context.{ArePlain, ComesOver}
 use Rattle.raft_log_contexts.specs.Noting.{AreWhereRead}
@@ -41,9 +41,9 @@ use Rattle.raft_log_contexts.proofs.Contexts.{over_means, plain_counted}
 use Rattle.raft_log_contexts.proofs.Opening.{made_of, map_is, recovered, sound, stands_as}
 use Rattle.raft_log_contexts.proofs.OpenGroups.{records_append}
 use Rattle.raft_log_contexts.proofs.Told.{appended_told, rewritten_told}
-use Rattle.raft_log_stored.specs.Stored.{entries_at, AreStored, Each, IsStored}
-use Rattle.raft_log_dual_pipes.specs.Pipes.{LogPipes, Said, State}
-use Rattle.raft_log_blocks.proofs.Kept.{none_kept}
+use Rattle.raft_log_engine_state.specs.raft_log_stored.specs.Stored.{entries_at, AreStored, Each, IsStored}
+use Rattle.raft_log_engine_state.specs.raft_log_dual_pipes.specs.Pipes.{LogPipes, Said, State}
+use Rattle.raft_log_engine_state.specs.raft_log_blocks.proofs.Kept.{none_kept}
 use Rattle.raft_log_engine_state.specs.Shows.{log_in, no_place, said_by, Home, LogMap}
 use Rattle.raft_log_engine_state.specs.Holding.{FilesRiseIn}
 use Rattle.raft_log_opened.specs.Entries.{EntriesHave, RecordsHave}

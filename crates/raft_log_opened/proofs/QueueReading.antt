@@ -20,9 +20,9 @@ use Rattle.raft_log_format.proofs.Headers.{header_length}
 use Rattle.raft_log_settings.specs.declared.recovery_mode.RecoveryMode.{RecoveryMode}
 use Rattle.raft_log_files.specs.Layout.{path_of}
 use Rattle.raft_log_files.specs.declared.format.File.{File}
-use Rattle.raft_log_layout.specs.Layout.{log_format, log_paths}
-use Rattle.raft_log_layout.specs.LayoutLaws.{is_layout}
-use Rattle.raft_log_layout.specs.declared.record.LogRecord.{LogRecord}
+use Rattle.raft_log_engine_state.specs.raft_log_layout.specs.Layout.{log_format, log_paths}
+use Rattle.raft_log_engine_state.specs.raft_log_layout.specs.LayoutLaws.{is_layout}
+use Rattle.raft_log_engine_state.specs.raft_log_layout.specs.declared.record.LogRecord.{LogRecord}
 use Rattle.raft_log_pipes.specs.Files.{IsSpan}
 use Rattle.raft_log_pipes.specs.Opening.{first_number}
 use Rattle.raft_log_pipes.proofs.Lists.{path_numbered, span_end}
@@ -41,8 +41,8 @@ use Rattle.raft_log_found_pipes.specs.Reading.{context_in, ReadsTo}
 use Rattle.raft_log_found_pipes.specs.Records.{AreBatchesOf}
 use Rattle.raft_log_found_pipes.proofs.LastFiles.{last_file_is_read}
 use Rattle.raft_log_found_pipes.proofs.PastFiles.{finished_file_is_read}
-use Rattle.raft_log_steps.specs.State.{IsStopped, Spanned}
-use Rattle.raft_log_steps.specs.Own.{log_layout}
+use Rattle.raft_log_engine_state.specs.raft_log_steps.specs.State.{IsStopped, Spanned}
+use Rattle.raft_log_engine_state.specs.raft_log_steps.specs.Own.{log_layout}
 use Rattle.raft_log_opened.specs.Entries.{EachHas}
 use Rattle.raft_log_opened.specs.Reading.{batches_in, AreOfFile, AreOfFiles, AreOfQueue}
 use Rattle.raft_log_opened.specs.Found.{AreListed, GoesOnWith, NoFilesAreTheQueue, ReadFilesAreTheQueue, ReadsFiles, TellsLast}

@@ -18,22 +18,22 @@ use Rattle.raft_log_disk.specs.Disk.{Disk}
 use Rattle.raft_log_disk.specs.Chains.{Written, spelled}
 use Rattle.raft_log_disk.specs.LogFormat.{Format}
 use Rattle.raft_log_disk.specs.LogQueue.{LogFiles, recent}
-use Rattle.raft_log_layout.specs.declared.record.LogRecord.{LogRecord}
+use Rattle.raft_log_engine_state.specs.raft_log_layout.specs.declared.record.LogRecord.{LogRecord}
 use Rattle.raft_log_file_queue.specs.Queue.{past_bytes, whole}
 use Rattle.raft_log_file_queue.specs.Bridge.{filed, said as said_all, IsFileQueue}
 use Rattle.raft_log_places.specs.declared.place.Place.{Place}
 use Rattle.raft_log_places.specs.Bridge.{Located, in_queue}
-use Rattle.raft_log_tables.specs.Replays.{in_append}
+use Rattle.raft_log_engine_state.specs.raft_log_tables.specs.Replays.{in_append}
 use Rattle.raft_log_segments.specs.Machines.{Batch}
-use Rattle.raft_log_steps.specs.State.{Spanned}
+use Rattle.raft_log_engine_state.specs.raft_log_steps.specs.State.{Spanned}
 use Rattle.raft_log_contexts.specs.Batches.{AreRead}
 use Rattle.raft_log_contexts.specs.Records.{records_of, ReadRecord}
 use Rattle.raft_log_contexts.specs.Noting.{AreWhereRead}
 use Rattle.raft_log_contexts.specs.Opened.{FilesHold}
 use Rattle.raft_log_contexts.proofs.OpenGroups.{records_append as records_of_both}
-use Rattle.raft_log_stored.specs.Stored.{entries_at, file_bytes, part, queue_in, BlockLiesIn, EntryLiesIn, IsStored}
+use Rattle.raft_log_engine_state.specs.raft_log_stored.specs.Stored.{entries_at, file_bytes, part, queue_in, BlockLiesIn, EntryLiesIn, IsStored}
 use Rattle.raft_log_found_pipes.specs.Reading.{context_in}
-use Rattle.raft_log_dual_pipes.specs.Pipes.{Said, State}
+use Rattle.raft_log_engine_state.specs.raft_log_dual_pipes.specs.Pipes.{Said, State}
 use Rattle.raft_log_opened.specs.Entries.{EntriesHave, RecordsHave}
 use Rattle.raft_log_opened.specs.Reading.{as_counted, counted_file, counted_queue, AreOfFile, AreOfFiles, AreOfQueue}
 use Rattle.raft_log_opened.proofs.Counting.{records_append}

@@ -12,23 +12,23 @@ use Rattle.raft_log_settings.specs.declared.recovery_mode.RecoveryMode.{Recovery
 use Rattle.raft_log_files.specs.Layout.{path_of, FilePaths}
 use Rattle.raft_log_files.specs.declared.format.File.{File}
 use Rattle.raft_log_file_queue.specs.Standing.{Names}
-use Rattle.raft_log_layout.specs.declared.record.LogRecord.{LogRecord}
+use Rattle.raft_log_engine_state.specs.raft_log_layout.specs.declared.record.LogRecord.{LogRecord}
 use Rattle.raft_log_pipes.specs.Files.{IsSpan}
 use Rattle.raft_log_pipes.specs.Opening.{first_number, taken_up, IsListedAs, IsListedFirst, Opens}
 use Rattle.raft_log_pipes.specs.Opening.Opens.{begins, takes_up}
 use Rattle.raft_log_pipes.specs.declared.found_files.FoundFiles.{FoundFiles}
 use Rattle.raft_log_pipes.specs.declared.new_files.NewFiles.{NewFiles}
 use Rattle.raft_log_pipes.specs.declared.pipe_files.PipeFiles.{PipeFiles}
-use Rattle.raft_log_replay.specs.declared.mem_tables.MemTables.{MemTables}
+use Rattle.raft_log_engine_state.specs.raft_log_replay.specs.declared.mem_tables.MemTables.{MemTables}
 use Rattle.raft_log_segments.specs.Machines.{Batch}
 use Rattle.raft_log_found_queue.specs.declared.file_ending.FileEnding.{FileEnding}
-use Rattle.raft_log_steps.specs.Own.{log_layout}
-use Rattle.raft_log_steps.specs.State.{Spanned}
-use Rattle.raft_log_steps.specs.Reopening.{AreFound, GoesOnFound, IsFoundOf}
-use Rattle.raft_log_steps.specs.Reopening.IsFoundOf.{stopped, unbegun}
-use Rattle.raft_log_dual_pipes.specs.Opening.{OpensLog, RestsAsFound}
-use Rattle.raft_log_dual_pipes.specs.Pipes.{LogPipes}
-use Rattle.raft_log_dual_pipes.specs.declared.opening.FoundPipe.{FoundPipe}
+use Rattle.raft_log_engine_state.specs.raft_log_steps.specs.Own.{log_layout}
+use Rattle.raft_log_engine_state.specs.raft_log_steps.specs.State.{Spanned}
+use Rattle.raft_log_engine_state.specs.raft_log_steps.specs.Reopening.{AreFound, GoesOnFound, IsFoundOf}
+use Rattle.raft_log_engine_state.specs.raft_log_steps.specs.Reopening.IsFoundOf.{stopped, unbegun}
+use Rattle.raft_log_engine_state.specs.raft_log_dual_pipes.specs.Opening.{OpensLog, RestsAsFound}
+use Rattle.raft_log_engine_state.specs.raft_log_dual_pipes.specs.Pipes.{LogPipes}
+use Rattle.raft_log_engine_state.specs.raft_log_dual_pipes.specs.declared.opening.FoundPipe.{FoundPipe}
 use Rattle.raft_log_engine_state.specs.Shows.{sense, Home, LogMap}
 use Rattle.raft_log_opened.specs.Reading.{AreOfQueue}
 use Rattle.raft_log_opened.specs.Found.{AreListed, ReadsFiles}

@@ -23,15 +23,15 @@ use Rattle.raft_log_places.specs.Bridge.{located, Located}
 use Rattle.raft_log_places.specs.Noted.{file_at, place_file}
 use Rattle.raft_log_places.specs.Replayed.{standing, told}
 use Rattle.raft_log_places.proofs.Telling.{says_told, there}
-use Rattle.raft_log_replay.specs.declared.mem_tables.MemTables.{MemTables}
-use Rattle.raft_log_replay.specs.Tables.{shown_of}
-use Rattle.raft_log_stored.specs.Stored.{Each, IsStored}
+use Rattle.raft_log_engine_state.specs.raft_log_replay.specs.declared.mem_tables.MemTables.{MemTables}
+use Rattle.raft_log_engine_state.specs.raft_log_replay.specs.Tables.{shown_of}
+use Rattle.raft_log_engine_state.specs.raft_log_stored.specs.Stored.{Each, IsStored}
 use Rattle.raft_log_contexts.specs.Records.{counted, records_of, ReadItem, ReadRecord}
 use Rattle.raft_log_contexts.specs.Noting.{file_in, AllLieIn, AreWhereRead, LieIn, LiesIn}
 use Rattle.raft_log_contexts.specs.Context.{is_plain, ArePlain}
 use Rattle.raft_log_contexts.specs.Opened.{AllReadIn, FilesHold, IsOpened}
 use Rattle.raft_log_contexts.proofs.Opening.{entry_stands, recovered, stands_as}
-use Rattle.raft_log_dual_pipes.specs.Pipes.{State}
+use Rattle.raft_log_engine_state.specs.raft_log_dual_pipes.specs.Pipes.{State}
 
 -- Items in files that don't fall.
 

@@ -8,7 +8,7 @@ use Rattle.raft_log_format.specs.declared.header.LogFileFormat.{LogFileFormat}
 use Rattle.raft_log_settings.specs.declared.recovery_mode.RecoveryMode.{RecoveryMode}
 use Rattle.raft_log_files.specs.Layout.{path_of}
 use Rattle.raft_log_files.specs.declared.format.File.{File}
-use Rattle.raft_log_layout.specs.declared.record.LogRecord.{LogRecord}
+use Rattle.raft_log_engine_state.specs.raft_log_layout.specs.declared.record.LogRecord.{LogRecord}
 use Rattle.raft_log_pipes.specs.Files.{IsSpan}
 use Rattle.raft_log_pipes.specs.Opening.{first_number}
 use Rattle.raft_log_segments.specs.Machines.{Batch}
@@ -16,9 +16,9 @@ use Rattle.raft_log_segments.specs.Segments.{all_batches}
 use Rattle.raft_log_segments.specs.Sources.{HoldEach}
 use Rattle.raft_log_found_queue.specs.Segments.{HoldsFile}
 use Rattle.raft_log_found_queue.specs.declared.file_ending.FileEnding.{FileEnding}
-use Rattle.raft_log_steps.specs.Queues.{QueueLayout}
-use Rattle.raft_log_steps.specs.State.{IsStopped, Spanned}
-use Rattle.raft_log_steps.specs.Own.{log_layout}
+use Rattle.raft_log_engine_state.specs.raft_log_steps.specs.Queues.{QueueLayout}
+use Rattle.raft_log_engine_state.specs.raft_log_steps.specs.State.{IsStopped, Spanned}
+use Rattle.raft_log_engine_state.specs.raft_log_steps.specs.Own.{log_layout}
 use Rattle.raft_log_opened.specs.Entries.{EachHas}
 use Rattle.raft_log_opened.specs.Reading.{AreOfQueue}
 

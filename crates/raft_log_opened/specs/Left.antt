@@ -5,10 +5,10 @@ use Rattle.raft_log_disk.specs.Disk.{Disk}
 use Rattle.raft_log_disk.specs.Image.{IsImage}
 use Rattle.raft_log_disk.specs.LogQueue.{NoChanceInLast}
 use Rattle.raft_log_base.specs.declared.errors.Error.{Error}
-use Rattle.raft_log_steps.specs.OnDisk.{LogRestsOn}
-use Rattle.raft_log_dual_pipes.specs.Opening.{FailsToOpenLog, RestsAsFound}
-use Rattle.raft_log_dual_pipes.specs.Pipes.{Said, State}
-use Rattle.raft_log_dual_pipes.specs.declared.opening.FoundPipe.{FoundPipe}
+use Rattle.raft_log_engine_state.specs.raft_log_steps.specs.OnDisk.{LogRestsOn}
+use Rattle.raft_log_engine_state.specs.raft_log_dual_pipes.specs.Opening.{FailsToOpenLog, RestsAsFound}
+use Rattle.raft_log_engine_state.specs.raft_log_dual_pipes.specs.Pipes.{Said, State}
+use Rattle.raft_log_engine_state.specs.raft_log_dual_pipes.specs.declared.opening.FoundPipe.{FoundPipe}
 use Rattle.raft_log_engine_state.specs.Shows.{Home, LogMap, log_in, sense}
 use Rattle.raft_log_engine_state.specs.Holding.{IsLeftAt}
 

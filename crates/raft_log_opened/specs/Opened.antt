@@ -1,17 +1,17 @@
 -- An engine that is made of what was read of a log's files.
 use Rattle.std.specs.Prelude.{◌≡◌, List, [], None}
 use Rattle.raft_log_base.specs.declared.pipe_log.LogQueue.TheVariants.{Append, Rewrite}
-use Rattle.raft_log_replay.specs.declared.mem_tables.MemTables.{MemTables}
+use Rattle.raft_log_engine_state.specs.raft_log_replay.specs.declared.mem_tables.MemTables.{MemTables}
 use Rattle.raft_log_segments.specs.Machines.{Batch}
 use Rattle.raft_log_contexts.specs.Records.{ReadRecord}
 use Rattle.raft_log_contexts.specs.Context.{ComesOver, HasRead}
 use Rattle.raft_log_contexts.specs.Batches.{HasReadBatches}
 use Rattle.raft_log_contexts.specs.declared.context.MemTableRecoverContext.{MemTableRecoverContext}
 use Rattle.raft_log_directory.specs.Log.{IsLog}
-use Rattle.raft_log_steps.specs.State.{Ties}
-use Rattle.raft_log_steps.specs.Reopening.{ReadsBothAgain}
-use Rattle.raft_log_dual_pipes.specs.Pipes.{LogPipes, RunsOn, State}
-use Rattle.raft_log_blocks.specs.declared.block_cache.BlockCache.{BlockCache}
+use Rattle.raft_log_engine_state.specs.raft_log_steps.specs.State.{Ties}
+use Rattle.raft_log_engine_state.specs.raft_log_steps.specs.Reopening.{ReadsBothAgain}
+use Rattle.raft_log_engine_state.specs.raft_log_dual_pipes.specs.Pipes.{LogPipes, RunsOn, State}
+use Rattle.raft_log_engine_state.specs.raft_log_blocks.specs.declared.block_cache.BlockCache.{BlockCache}
 use Rattle.raft_log_engine_state.specs.Shows.{Home, LogMap, log_in, sense, shows}
 use Rattle.raft_log_engine_state.specs.Holding.{Holds}
 use Rattle.raft_log_opened.specs.Reading.{AreOfQueue}

@@ -8,12 +8,12 @@ use Rattle.raft_log_items.specs.declared.item.LogItem.{LogItem}
 use Rattle.raft_log_disk.specs.Chains.{Written}
 use Rattle.raft_log_disk.specs.LogQueue.{Past, recent}
 use Rattle.raft_log_format.specs.declared.header.LogFileFormat.{LogFileFormat}
-use Rattle.raft_log_layout.specs.declared.record.LogRecord.{LogRecord}
+use Rattle.raft_log_engine_state.specs.raft_log_layout.specs.declared.record.LogRecord.{LogRecord}
 use Rattle.raft_log_segments.specs.Machines.{Batch}
-use Rattle.raft_log_steps.specs.State.{Spanned}
+use Rattle.raft_log_engine_state.specs.raft_log_steps.specs.State.{Spanned}
 use Rattle.raft_log_found_pipes.specs.Reading.{context_in}
 use Rattle.raft_log_found_pipes.specs.Records.{AreBatchesOf}
-use Rattle.raft_log_dual_pipes.specs.Pipes.{Said}
+use Rattle.raft_log_engine_state.specs.raft_log_dual_pipes.specs.Pipes.{Said}
 
 -- the batches of these items, which were read in that file
 abbrev pub batches_in : ℕ → List (List LogItem) → List Batch

@@ -6,14 +6,14 @@ use Rattle.raft_log_disk.specs.Disk.{Disk}
 use Rattle.raft_log_settings.specs.declared.recovery_mode.RecoveryMode.{RecoveryMode}
 use Rattle.raft_log_files.specs.declared.format.File.{File}
 use Rattle.raft_log_pipes.specs.declared.found_files.FoundFiles.{FoundFiles}
-use Rattle.raft_log_replay.specs.declared.mem_tables.MemTables.{MemTables}
+use Rattle.raft_log_engine_state.specs.raft_log_replay.specs.declared.mem_tables.MemTables.{MemTables}
 use Rattle.raft_log_segments.specs.Machines.{Batch}
 use Rattle.raft_log_found_queue.specs.declared.file_ending.FileEnding.{FileEnding}
-use Rattle.raft_log_steps.specs.OnDisk.{LogRestsOn}
-use Rattle.raft_log_steps.specs.Reopening.{IsFoundOf}
-use Rattle.raft_log_dual_pipes.specs.Opening.{IsFoundAs, OpensLog, RestsAsFound}
-use Rattle.raft_log_dual_pipes.specs.Pipes.{LogPipes, Said, State}
-use Rattle.raft_log_dual_pipes.specs.declared.opening.FoundPipe.{FoundPipe}
+use Rattle.raft_log_engine_state.specs.raft_log_steps.specs.OnDisk.{LogRestsOn}
+use Rattle.raft_log_engine_state.specs.raft_log_steps.specs.Reopening.{IsFoundOf}
+use Rattle.raft_log_engine_state.specs.raft_log_dual_pipes.specs.Opening.{IsFoundAs, OpensLog, RestsAsFound}
+use Rattle.raft_log_engine_state.specs.raft_log_dual_pipes.specs.Pipes.{LogPipes, Said, State}
+use Rattle.raft_log_engine_state.specs.raft_log_dual_pipes.specs.declared.opening.FoundPipe.{FoundPipe}
 use Rattle.raft_log_engine_state.specs.Shows.{log_in, sense, Home, LogMap}
 use Rattle.raft_log_engine_state.specs.Holding.{IsLeftAt}
 use Rattle.raft_log_opened.specs.Found.{ReadsFiles}

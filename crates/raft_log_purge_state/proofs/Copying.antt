@@ -13,11 +13,11 @@ use Rattle.raft_log_base.specs.declared.pipe_log.LogQueue.TheVariants.{Rewrite}
 use Rattle.raft_log_base.specs.declared.pipe_log.FileBlockHandle.{FileBlockHandle}
 use Rattle.raft_log_items.specs.declared.entry.EntryIndex.{EntryIndex}
 use Rattle.raft_log_items.specs.Placed.{written_entry}
-use Rattle.raft_log_layout.specs.declared.record.LogRecord.{LogRecord}
+use Rattle.raft_log_engine_state.specs.raft_log_layout.specs.declared.record.LogRecord.{LogRecord}
 use Rattle.raft_log_records.specs.Batch.{Batch, block_place}
 use Rattle.raft_log_records.specs.Places.{entry_bytes}
 use Rattle.raft_log_held.specs.Entries.{place_of}
-use Rattle.raft_log_signed_batch.specs.Signing.{signed_for}
+use Rattle.raft_log_engine_state.specs.raft_log_signed_batch.specs.Signing.{signed_for}
 use Rattle.raft_log_directory.specs.Calls.Which.{InRewrite}
 use Rattle.raft_log_directory.specs.Tables.{CarriesTo}
 use Rattle.raft_log_places.specs.declared.place.Place.{Place}
@@ -27,18 +27,18 @@ use Rattle.raft_log_places.specs.Bridge.Move.{MoveKey, MoveRun}
 use Rattle.raft_log_places.proofs.Moving.{move_orderly}
 use Rattle.raft_log_places.specs.Noted.{AllIn, AllUpTo, AreIn, AreUpTo, FilesRise, MovesIn}
 use Rattle.raft_log_places.proofs.Rising.{copies_rise}
-use Rattle.raft_log_replay.specs.Rewriting.{AreCopies, copied_items, moves_of}
-use Rattle.raft_log_replay.proofs.Copies.{copies_move}
-use Rattle.raft_log_steps.specs.Turning.{HasLast}
-use Rattle.raft_log_stored.specs.Stored.{AreStored, Each, IsStored, entries_at, file_bytes}
-use Rattle.raft_log_stored.specs.Written.{IsLaidOver, RunIsStored}
-use Rattle.raft_log_stored.proofs.Staying.{means_alike}
-use Rattle.raft_log_stored.proofs.Lasting.{written_entries_are_stored}
-use Rattle.raft_log_views.specs.Views.{AreMeant, ViewCarries, view_of}
-use Rattle.raft_log_views.proofs.Carrying.{copies_on}
-use Rattle.raft_log_views.proofs.Lying.{written_in}
-use Rattle.raft_log_dual_pipes.specs.Pipes.{State}
-use Rattle.raft_log_dual_pipes.specs.Calls.{AppendsTo, FailsToAppendTo}
+use Rattle.raft_log_engine_state.specs.raft_log_replay.specs.Rewriting.{AreCopies, copied_items, moves_of}
+use Rattle.raft_log_engine_state.specs.raft_log_replay.proofs.Copies.{copies_move}
+use Rattle.raft_log_engine_state.specs.raft_log_steps.specs.Turning.{HasLast}
+use Rattle.raft_log_engine_state.specs.raft_log_stored.specs.Stored.{AreStored, Each, IsStored, entries_at, file_bytes}
+use Rattle.raft_log_engine_state.specs.raft_log_stored.specs.Written.{IsLaidOver, RunIsStored}
+use Rattle.raft_log_engine_state.specs.raft_log_stored.proofs.Staying.{means_alike}
+use Rattle.raft_log_engine_state.specs.raft_log_stored.proofs.Lasting.{written_entries_are_stored}
+use Rattle.raft_log_engine_state.specs.raft_log_views.specs.Views.{AreMeant, ViewCarries, view_of}
+use Rattle.raft_log_engine_state.specs.raft_log_views.proofs.Carrying.{copies_on}
+use Rattle.raft_log_engine_state.specs.raft_log_views.proofs.Lying.{written_in}
+use Rattle.raft_log_engine_state.specs.raft_log_dual_pipes.specs.Pipes.{State}
+use Rattle.raft_log_engine_state.specs.raft_log_dual_pipes.specs.Calls.{AppendsTo, FailsToAppendTo}
 use Rattle.raft_log_engine_state.specs.Shows.{Home, IsLaidOut, KeepsOrForgets, LogMap, Shows}
 use Rattle.raft_log_purge_state.specs.Settled.{SameTables}
 use Rattle.raft_log_engine_state.specs.Holding.{FilesRiseIn, Holds}

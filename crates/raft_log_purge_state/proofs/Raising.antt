@@ -10,7 +10,7 @@ use Rattle.raft_log_disk.specs.Disk.{Disk}
 use Rattle.raft_log_disk.specs.LogQueue.{LogFiles}
 use Rattle.raft_log_base.specs.declared.errors.Error.{Error}
 use Rattle.raft_log_base.specs.declared.errors.Error.TheVariants as errors
-use Rattle.raft_log_layout.specs.declared.record.LogRecord.{LogRecord}
+use Rattle.raft_log_engine_state.specs.raft_log_layout.specs.declared.record.LogRecord.{LogRecord}
 use Rattle.raft_log_machine.specs.Whereabouts.{OwesNothing}
 use Rattle.raft_log_directory.specs.Calls.{Raises, Which}
 use Rattle.raft_log_directory.specs.Calls.Which.{InAppend, InRewrite}
@@ -23,19 +23,19 @@ use Rattle.raft_log_places.specs.Shown.{KeyValue, Shown, is_in_append, whereabou
 use Rattle.raft_log_places.specs.Bridge.{Located, in_queue, located, table_of}
 use Rattle.raft_log_places.specs.Noted.{IsLeastInRewrite, file_at, held_file, noted_at, place_file, start_of}
 use Rattle.raft_log_places.proofs.Noting.{least_is_noted}
-use Rattle.raft_log_tables.specs.Files.{IsLeastInAppend}
-use Rattle.raft_log_steps.specs.State.{LogOnDisk, Ties}
-use Rattle.raft_log_steps.specs.Syncing.{raised_log}
-use Rattle.raft_log_steps.specs.Lying.{RunOrLie, both_open, with_open}
-use Rattle.raft_log_stored.specs.Stored.{AreStored, Each, EntryLiesIn, IsStored, entries_at, entry_at, queue_in}
-use Rattle.raft_log_stored.proofs.Staying.{means_alike}
-use Rattle.raft_log_views.specs.Views.{AreMeant, view_of}
-use Rattle.raft_log_dual_pipes.specs.Pipes.{RunsOn, Said, State, files_of}
-use Rattle.raft_log_dual_pipes.specs.Calls.{FailsToPurgeQueue, PurgesQueue}
+use Rattle.raft_log_engine_state.specs.raft_log_tables.specs.Files.{IsLeastInAppend}
+use Rattle.raft_log_engine_state.specs.raft_log_steps.specs.State.{LogOnDisk, Ties}
+use Rattle.raft_log_engine_state.specs.raft_log_steps.specs.Syncing.{raised_log}
+use Rattle.raft_log_engine_state.specs.raft_log_steps.specs.Lying.{RunOrLie, both_open, with_open}
+use Rattle.raft_log_engine_state.specs.raft_log_stored.specs.Stored.{AreStored, Each, EntryLiesIn, IsStored, entries_at, entry_at, queue_in}
+use Rattle.raft_log_engine_state.specs.raft_log_stored.proofs.Staying.{means_alike}
+use Rattle.raft_log_engine_state.specs.raft_log_views.specs.Views.{AreMeant, view_of}
+use Rattle.raft_log_engine_state.specs.raft_log_dual_pipes.specs.Pipes.{RunsOn, Said, State, files_of}
+use Rattle.raft_log_engine_state.specs.raft_log_dual_pipes.specs.Calls.{FailsToPurgeQueue, PurgesQueue}
 use Rattle.raft_log_engine_state.specs.Shows.{Home, LogMap, Shows, log_in, sense}
 use Rattle.raft_log_engine_state.specs.Holding.{FilesRiseIn, IsLeftAt}
 use Rattle.raft_log_purge_state.specs.Raising.{AppendMayBegin, MayBegin, PurgeLeavesHeld, RewriteMayBegin}
-use Rattle.raft_log_blocks.proofs.Kept.{none_kept}
+use Rattle.raft_log_engine_state.specs.raft_log_blocks.proofs.Kept.{none_kept}
 use Rattle.raft_log_purge_state.specs.Settled.{HoldsSettled}
 use Rattle.raft_log_purge_state.proofs.Settling.{left_whole}
 

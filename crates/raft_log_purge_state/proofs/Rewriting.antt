@@ -14,7 +14,7 @@ use Rattle.raft_log_base.specs.declared.pipe_log.LogQueue.TheVariants.{Rewrite}
 use Rattle.raft_log_base.specs.declared.pipe_log.FileBlockHandle.{FileBlockHandle}
 use Rattle.raft_log_base.specs.declared.pipe_log.LogFileContext.{LogFileContext}
 use Rattle.raft_log_items.specs.declared.entry.EntryIndex.{EntryIndex}
-use Rattle.raft_log_layout.specs.declared.record.LogRecord.{LogRecord}
+use Rattle.raft_log_engine_state.specs.raft_log_layout.specs.declared.record.LogRecord.{LogRecord}
 use Rattle.raft_log_machine.specs.Whereabouts.{top}
 use Rattle.raft_log_atomic_groups.specs.declared.marking.Marking.{Marking}
 use Rattle.raft_log_atomic_groups.specs.declared.marking.Marking.TheVariants.{Unmarked}
@@ -22,7 +22,7 @@ use Rattle.raft_log_atomic_groups.specs.Marking.{marking_of_items}
 use Rattle.raft_log_atomic_groups.specs.Meaning.{marked, tagged_items}
 use Rattle.raft_log_records.specs.Batch.{Batch}
 use Rattle.raft_log_records.specs.Places.{entry_bytes}
-use Rattle.raft_log_signed_batch.specs.Signing.{SaysItself, signed_for}
+use Rattle.raft_log_engine_state.specs.raft_log_signed_batch.specs.Signing.{SaysItself, signed_for}
 use Rattle.raft_log_directory.specs.Calls.{Appends, MayAppend}
 use Rattle.raft_log_directory.specs.Calls.Which.{InRewrite}
 use Rattle.raft_log_directory.specs.Log.{IsAt, IsLog, View}
@@ -31,22 +31,22 @@ use Rattle.raft_log_directory.proofs.CallLaws.{copies_answered, copies_may_be_th
 use Rattle.raft_log_directory.proofs.SettledLaws.{cut_back_settles, rewrite_settles}
 use Rattle.raft_log_places.specs.Shown.{Shown}
 use Rattle.raft_log_places.specs.Bridge.{dels, marks, unmarked, without}
-use Rattle.raft_log_replay.specs.Owing.{AreOwedAt}
-use Rattle.raft_log_replay.proofs.Applied.{items_renamed}
-use Rattle.raft_log_steps.specs.Crash.{AllowsIn}
-use Rattle.raft_log_steps.specs.Queues.{SaysRecord}
-use Rattle.raft_log_steps.specs.Own.{log_layout}
-use Rattle.raft_log_steps.specs.Lying.{both_open, with_open}
-use Rattle.raft_log_steps.specs.State.{Ties}
-use Rattle.raft_log_steps.specs.Steps.{next_log}
-use Rattle.raft_log_steps.specs.Turning.{HasLast, IsCutBack}
-use Rattle.raft_log_stored.specs.Stored.{AreStored, KeepsBytes, KeepsLog, entries_at}
-use Rattle.raft_log_stored.proofs.Keeping.{calls_keep_bytes, calls_keep_log}
-use Rattle.raft_log_stored.proofs.Staying.{stored_entries_stay}
-use Rattle.raft_log_views.specs.Views.{AreMeant, ViewCarries, view_of}
-use Rattle.raft_log_views.proofs.Carrying.{marks_on}
-use Rattle.raft_log_dual_pipes.specs.Pipes.{LogPipes, RunsOn, Said, State, files_of, header_at, spares_at}
-use Rattle.raft_log_dual_pipes.specs.Calls.{AppendsTo, CutsBackOn, FailsToAppendTo, LeavesOutOn}
+use Rattle.raft_log_engine_state.specs.raft_log_replay.specs.Owing.{AreOwedAt}
+use Rattle.raft_log_engine_state.specs.raft_log_replay.proofs.Applied.{items_renamed}
+use Rattle.raft_log_engine_state.specs.raft_log_steps.specs.Crash.{AllowsIn}
+use Rattle.raft_log_engine_state.specs.raft_log_steps.specs.Queues.{SaysRecord}
+use Rattle.raft_log_engine_state.specs.raft_log_steps.specs.Own.{log_layout}
+use Rattle.raft_log_engine_state.specs.raft_log_steps.specs.Lying.{both_open, with_open}
+use Rattle.raft_log_engine_state.specs.raft_log_steps.specs.State.{Ties}
+use Rattle.raft_log_engine_state.specs.raft_log_steps.specs.Steps.{next_log}
+use Rattle.raft_log_engine_state.specs.raft_log_steps.specs.Turning.{HasLast, IsCutBack}
+use Rattle.raft_log_engine_state.specs.raft_log_stored.specs.Stored.{AreStored, KeepsBytes, KeepsLog, entries_at}
+use Rattle.raft_log_engine_state.specs.raft_log_stored.proofs.Keeping.{calls_keep_bytes, calls_keep_log}
+use Rattle.raft_log_engine_state.specs.raft_log_stored.proofs.Staying.{stored_entries_stay}
+use Rattle.raft_log_engine_state.specs.raft_log_views.specs.Views.{AreMeant, ViewCarries, view_of}
+use Rattle.raft_log_engine_state.specs.raft_log_views.proofs.Carrying.{marks_on}
+use Rattle.raft_log_engine_state.specs.raft_log_dual_pipes.specs.Pipes.{LogPipes, RunsOn, Said, State, files_of, header_at, spares_at}
+use Rattle.raft_log_engine_state.specs.raft_log_dual_pipes.specs.Calls.{AppendsTo, CutsBackOn, FailsToAppendTo, LeavesOutOn}
 use Rattle.raft_log_engine_state.specs.Shows.{Home, IsLaidOut, IsWellMarked, KeepsOrForgets, LogMap, Shows, log_in, said_by, said_of, sense}
 use Rattle.raft_log_engine_state.specs.Holding.{FilesRiseIn, Holds}
 use Rattle.raft_log_engine_state.proofs.Keeping.{rise_on, stays_cached}

@@ -6,7 +6,7 @@ use Rattle.raft_log_disk.specs.Disk.{Disk}
 use Rattle.raft_log_disk.specs.LogQueue.{LogFiles}
 use Rattle.raft_log_base.specs.declared.errors.Error.{Error}
 use Rattle.raft_log_base.specs.declared.errors.Error.TheVariants as errors
-use Rattle.raft_log_layout.specs.declared.record.LogRecord.{LogRecord}
+use Rattle.raft_log_engine_state.specs.raft_log_layout.specs.declared.record.LogRecord.{LogRecord}
 use Rattle.raft_log_file_queue.specs.Queue.{synced}
 use Rattle.raft_log_directory.specs.Calls.{Which}
 use Rattle.raft_log_directory.specs.Calls.Which.{InAppend, InRewrite}
@@ -15,22 +15,22 @@ use Rattle.raft_log_directory.specs.Model.{with_append, with_rewrite}
 use Rattle.raft_log_directory.proofs.CallLaws.{failed_whole, rewrite_synced, stands_log}
 use Rattle.raft_log_directory.proofs.Follows.{append_follows, rewrite_follows}
 use Rattle.raft_log_directory.proofs.SettledLaws.{append_settles, rewrite_settles, settled_stays, sync_settles}
-use Rattle.raft_log_steps.specs.Crash.{AllowsIn}
-use Rattle.raft_log_steps.specs.Failing.{failed_pipe}
-use Rattle.raft_log_steps.specs.Lying.{OpenPipes, RunOrLie, both_open, with_open}
-use Rattle.raft_log_steps.specs.Syncing.{FailsMoved}
-use Rattle.raft_log_steps.specs.State.{Ties, spanned_at}
-use Rattle.raft_log_steps.specs.Steps.{next_log}
-use Rattle.raft_log_stored.specs.Stored.{AreStored, KeepsBytes, KeepsLog, entries_at}
-use Rattle.raft_log_stored.proofs.Keeping.{calls_keep_bytes, calls_keep_log}
-use Rattle.raft_log_stored.proofs.Staying.{stored_entries_stay}
-use Rattle.raft_log_views.specs.Views.{AreMeant, view_of}
-use Rattle.raft_log_dual_pipes.specs.Pipes.{LogPipes, RunsOn, Said, State, files_of}
-use Rattle.raft_log_dual_pipes.specs.Calls.{FailsToRotateQueue, FailsToSyncQueue, RotatesQueue, SyncsQueue}
+use Rattle.raft_log_engine_state.specs.raft_log_steps.specs.Crash.{AllowsIn}
+use Rattle.raft_log_engine_state.specs.raft_log_steps.specs.Failing.{failed_pipe}
+use Rattle.raft_log_engine_state.specs.raft_log_steps.specs.Lying.{OpenPipes, RunOrLie, both_open, with_open}
+use Rattle.raft_log_engine_state.specs.raft_log_steps.specs.Syncing.{FailsMoved}
+use Rattle.raft_log_engine_state.specs.raft_log_steps.specs.State.{Ties, spanned_at}
+use Rattle.raft_log_engine_state.specs.raft_log_steps.specs.Steps.{next_log}
+use Rattle.raft_log_engine_state.specs.raft_log_stored.specs.Stored.{AreStored, KeepsBytes, KeepsLog, entries_at}
+use Rattle.raft_log_engine_state.specs.raft_log_stored.proofs.Keeping.{calls_keep_bytes, calls_keep_log}
+use Rattle.raft_log_engine_state.specs.raft_log_stored.proofs.Staying.{stored_entries_stay}
+use Rattle.raft_log_engine_state.specs.raft_log_views.specs.Views.{AreMeant, view_of}
+use Rattle.raft_log_engine_state.specs.raft_log_dual_pipes.specs.Pipes.{LogPipes, RunsOn, Said, State, files_of}
+use Rattle.raft_log_engine_state.specs.raft_log_dual_pipes.specs.Calls.{FailsToRotateQueue, FailsToSyncQueue, RotatesQueue, SyncsQueue}
 use Rattle.raft_log_engine_state.specs.Shows.{Home, LogMap, Shows, log_in, sense}
 use Rattle.raft_log_engine_state.specs.Holding.{FilesRiseIn, Holds, IsLeftAt, RunsAs}
 use Rattle.raft_log_engine_state.proofs.Keeping.{rise_on, stays_cached}
-use Rattle.raft_log_blocks.specs.Blocks.{IsOfLog}
+use Rattle.raft_log_engine_state.specs.raft_log_blocks.specs.Blocks.{IsOfLog}
 use Rattle.raft_log_purge_state.specs.Quiet.{TurnLeavesHeld}
 use Rattle.raft_log_purge_state.specs.Settled.{HoldsSettled, SameTables}
 

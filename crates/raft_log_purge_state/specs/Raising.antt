@@ -8,8 +8,8 @@ use Rattle.raft_log_directory.specs.Calls.{Which}
 use Rattle.raft_log_directory.specs.Calls.Which.{InAppend, InRewrite}
 use Rattle.raft_log_places.specs.Shown.{Shown, whereabouts}
 use Rattle.raft_log_places.specs.Noted.{IsLeastInRewrite, start_of}
-use Rattle.raft_log_tables.specs.Files.{IsLeastInAppend}
-use Rattle.raft_log_dual_pipes.specs.Calls.{FailsToPurgeQueue, PurgesQueue}
+use Rattle.raft_log_engine_state.specs.raft_log_tables.specs.Files.{IsLeastInAppend}
+use Rattle.raft_log_engine_state.specs.raft_log_dual_pipes.specs.Calls.{FailsToPurgeQueue, PurgesQueue}
 use Rattle.raft_log_engine_state.specs.Shows.{Home, LogMap, Shows}
 use Rattle.raft_log_engine_state.specs.Holding.{IsLeftAt}
 use Rattle.raft_log_purge_state.specs.Settled.{HoldsSettled}

@@ -10,16 +10,16 @@ use Rattle.raft_log_atomic_groups.specs.declared.marking.Marking.TheVariants.{Un
 use Rattle.raft_log_atomic_groups.specs.Marking.{marking_of_items}
 use Rattle.raft_log_atomic_groups.specs.Meaning.{tagged_items}
 use Rattle.raft_log_records.specs.Batch.{Batch}
-use Rattle.raft_log_signed_batch.specs.Signing.{SaysItself, signed_for}
+use Rattle.raft_log_engine_state.specs.raft_log_signed_batch.specs.Signing.{SaysItself, signed_for}
 use Rattle.raft_log_directory.specs.Calls.Which.{InRewrite}
 use Rattle.raft_log_places.specs.Shown.{Shown}
 use Rattle.raft_log_places.specs.Bridge.{Located, in_queue, unmarked}
-use Rattle.raft_log_replay.specs.Owing.{AreOwedAt}
-use Rattle.raft_log_replay.specs.Rewriting.{AreCopies, all_rewritten}
+use Rattle.raft_log_engine_state.specs.raft_log_replay.specs.Owing.{AreOwedAt}
+use Rattle.raft_log_engine_state.specs.raft_log_replay.specs.Rewriting.{AreCopies, all_rewritten}
 use Rattle.raft_log_records.specs.Places.{entry_bytes}
-use Rattle.raft_log_views.specs.Views.{AreMeant}
+use Rattle.raft_log_engine_state.specs.raft_log_views.specs.Views.{AreMeant}
 use Rattle.raft_log_engine_state.specs.Writing.{items_at}
-use Rattle.raft_log_dual_pipes.specs.Calls.{AppendsTo, FailsToAppendTo}
+use Rattle.raft_log_engine_state.specs.raft_log_dual_pipes.specs.Calls.{AppendsTo, FailsToAppendTo}
 use Rattle.raft_log_engine_state.specs.Shows.{Home, IsLaidOut, KeepsOrForgets, LogMap, Shows}
 use Rattle.raft_log_engine_state.specs.Holding.{Holds, IsLeftAt}
 use Rattle.raft_log_purge_state.specs.Settled.{HoldsSettled, SameTables}

@@ -1,11 +1,11 @@
 -- An engine of whose log nothing is pending: what a purge makes before files go.
 use Rattle.std.specs.Prelude.{◌≡◌, List}
 use Rattle.raft_log_directory.specs.Log.{IsSettled}
-use Rattle.raft_log_steps.specs.State.{Ties}
-use Rattle.raft_log_views.specs.Views.{AreMeant, view_of}
-use Rattle.raft_log_stored.specs.Stored.{AreStored, entries_at}
-use Rattle.raft_log_dual_pipes.specs.Pipes.{RunsOn, State}
-use Rattle.raft_log_blocks.specs.Blocks.{IsOfLog}
+use Rattle.raft_log_engine_state.specs.raft_log_steps.specs.State.{Ties}
+use Rattle.raft_log_engine_state.specs.raft_log_views.specs.Views.{AreMeant, view_of}
+use Rattle.raft_log_engine_state.specs.raft_log_stored.specs.Stored.{AreStored, entries_at}
+use Rattle.raft_log_engine_state.specs.raft_log_dual_pipes.specs.Pipes.{RunsOn, State}
+use Rattle.raft_log_engine_state.specs.raft_log_blocks.specs.Blocks.{IsOfLog}
 use Rattle.raft_log_engine_state.specs.Shows.{Home, KeepsOrForgets, LogMap, Shows, log_in, sense}
 use Rattle.raft_log_engine_state.specs.Holding.{FilesRiseIn}
 

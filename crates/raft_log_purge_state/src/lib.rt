@@ -6,3 +6,5 @@
 #![tactic(auto)]
 
 pub mod laws;
+
+pub use raft_log_engine_state::raft_log_blocks;

@@ -9,13 +9,13 @@ use Rattle.raft_log_tables.specs.declared.global_stats.GlobalStats.{GlobalStats}
 use Rattle.raft_log_replay.specs.declared.mem_tables.MemTables.{MemTables}
 use Rattle.raft_log_dual_pipes.specs.Pipes.{LogPipes, Said, is_failed}
 use Rattle.raft_log_dual_pipes.specs.Calls.{SyncsQueue}
-use Rattle.raft_log_blocks.specs.declared.block_cache.BlockCache.{BlockCache}
-use Rattle.raft_log_engine_state.specs.Shows.{Home, LogMap, Shows, has_failed, shows}
-use Rattle.raft_log_engine_state.specs.Holding.{Holds}
-use Rattle.raft_log_purge_state.proofs.Settling.{settled_held}
+use Rattle.raft_log_restating.specs.raft_log_blocks.specs.declared.block_cache.BlockCache.{BlockCache}
+use Rattle.raft_log_restating.specs.raft_log_engine_state.specs.Shows.{Home, LogMap, Shows, has_failed, shows}
+use Rattle.raft_log_restating.specs.raft_log_engine_state.specs.Holding.{Holds}
+use Rattle.raft_log_restating.specs.raft_log_purge_state.proofs.Settling.{settled_held}
 use Rattle.raft_log_purge.specs.declared.thresholds.Thresholds.{Thresholds}
 use Rattle.raft_log_purge_rules.specs.declared.rounds.Rounds.{Rounds}
-use Rattle.raft_log_rewriting.proofs.Parts.{later_on, same_later}
+use Rattle.raft_log_restating.specs.raft_log_rewriting.proofs.Parts.{later_on, same_later}
 use Rattle.raft_log_restating.specs.Queue.{FailsToRewriteRewrite, RewritesRewrite}
 use Rattle.raft_log_purging.specs.declared.expired_files.PurgeCounts.{PurgeCounts}
 use Rattle.raft_log_purging.specs.Append.{FailsToRewriteAppend}

@@ -4,10 +4,10 @@ use Rattle.raft_log_disk.specs.LogQueue.{LogFiles}
 use Rattle.raft_log_directory.specs.Calls.Which.{InAppend}
 use Rattle.raft_log_dual_pipes.specs.Pipes.{LogPipes, RunsOn, Said, State}
 use Rattle.raft_log_dual_pipes.specs.Calls.{PurgesQueue, RotatesQueue, SyncsQueue}
-use Rattle.raft_log_engine_state.specs.Shows.{Home, LogMap, Shows, sense}
-use Rattle.raft_log_engine_state.specs.Holding.{Holds}
+use Rattle.raft_log_restating.specs.raft_log_engine_state.specs.Shows.{Home, LogMap, Shows, sense}
+use Rattle.raft_log_restating.specs.raft_log_engine_state.specs.Holding.{Holds}
 use Rattle.raft_log_purge.specs.Watermarks.{first_at, last_at}
-use Rattle.raft_log_rewriting.specs.Parts.{StaysInFile}
+use Rattle.raft_log_restating.specs.raft_log_rewriting.specs.Parts.{StaysInFile}
 use Rattle.raft_log_purging.specs.Append.{GoesOnPast, HasOneFile, beginning}
 
 -- a purge of Append's files leaves the last one

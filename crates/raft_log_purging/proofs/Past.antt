@@ -20,23 +20,23 @@ use Rattle.raft_log_replay.specs.Tables.{has_table, shown_in, shown_of}
 use Rattle.raft_log_replay.specs.Walking.{ListsGroups}
 use Rattle.raft_log_dual_pipes.specs.Pipes.{LogPipes}
 use Rattle.raft_log_dual_pipes.specs.Calls.{FailsToPurgeQueue, FailsToSyncQueue, PurgesQueue, SyncsQueue, TellsFailure}
-use Rattle.raft_log_blocks.specs.declared.block_cache.BlockCache.{BlockCache}
-use Rattle.raft_log_engine_state.specs.Shows.{Home, LogMap, Shows, sense, shows}
-use Rattle.raft_log_engine_state.specs.Holding.{Holds, IsLeftAt}
-use Rattle.raft_log_engine_state.proofs.Keeping.{holds_runs}
-use Rattle.raft_log_purge_state.specs.Settled.{HoldsSettled}
-use Rattle.raft_log_purge_state.specs.Raising.{AppendMayBegin, PurgeLeavesHeld}
-use Rattle.raft_log_purge_state.proofs.Settling.{failed_sync, settled_held, sync_settles_log}
-use Rattle.raft_log_purge_state.proofs.Raising.{raise_refused, raised}
+use Rattle.raft_log_restating.specs.raft_log_blocks.specs.declared.block_cache.BlockCache.{BlockCache}
+use Rattle.raft_log_restating.specs.raft_log_engine_state.specs.Shows.{Home, LogMap, Shows, sense, shows}
+use Rattle.raft_log_restating.specs.raft_log_engine_state.specs.Holding.{Holds, IsLeftAt}
+use Rattle.raft_log_restating.specs.raft_log_engine_state.proofs.Keeping.{holds_runs}
+use Rattle.raft_log_restating.specs.raft_log_purge_state.specs.Settled.{HoldsSettled}
+use Rattle.raft_log_restating.specs.raft_log_purge_state.specs.Raising.{AppendMayBegin, PurgeLeavesHeld}
+use Rattle.raft_log_restating.specs.raft_log_purge_state.proofs.Settling.{failed_sync, settled_held, sync_settles_log}
+use Rattle.raft_log_restating.specs.raft_log_purge_state.proofs.Raising.{raise_refused, raised}
 use Rattle.raft_log_purge.specs.Watermarks.{first_at, last_at}
-use Rattle.raft_log_rewriting.specs.Files.{IsLeastOf}
-use Rattle.raft_log_rewriting.specs.Groups.{Rewrites, RewritesGroups, StopsAtGroups, StopsRewriting}
-use Rattle.raft_log_rewriting.specs.Moving.{IsRewrittenTo}
-use Rattle.raft_log_rewriting.specs.Rewriting.{OweNothing}
-use Rattle.raft_log_rewriting.proofs.Grouping.{among, part_same, part_wider, rewritten_is_past}
-use Rattle.raft_log_rewriting.proofs.Leasts.{queue_may_begin}
-use Rattle.raft_log_rewriting.proofs.Parts.{alive_ok, later_on, same_later, tells_err}
-use Rattle.raft_log_rewriting.proofs.Staying.{stays_on, stays_same, sync_stays}
+use Rattle.raft_log_restating.specs.raft_log_rewriting.specs.Files.{IsLeastOf}
+use Rattle.raft_log_restating.specs.raft_log_rewriting.specs.Groups.{Rewrites, RewritesGroups, StopsAtGroups, StopsRewriting}
+use Rattle.raft_log_restating.specs.raft_log_rewriting.specs.Moving.{IsRewrittenTo}
+use Rattle.raft_log_restating.specs.raft_log_rewriting.specs.Rewriting.{OweNothing}
+use Rattle.raft_log_restating.specs.raft_log_rewriting.proofs.Grouping.{among, part_same, part_wider, rewritten_is_past}
+use Rattle.raft_log_restating.specs.raft_log_rewriting.proofs.Leasts.{queue_may_begin}
+use Rattle.raft_log_restating.specs.raft_log_rewriting.proofs.Parts.{alive_ok, later_on, same_later, tells_err}
+use Rattle.raft_log_restating.specs.raft_log_rewriting.proofs.Staying.{stays_on, stays_same, sync_stays}
 use Rattle.raft_log_purging.proofs.OneFile.{purge_stays}
 use Rattle.raft_log_purging.specs.Append.{AreRewrittenTo, FailsToLoseTo, LosesTo, RewritesAll, RewritesSynced, RewritesThese, beginning}
 

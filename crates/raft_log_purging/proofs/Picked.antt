@@ -13,23 +13,23 @@ use Rattle.raft_log_replay.specs.Tables.{shown_of}
 use Rattle.raft_log_replay.specs.Walking.{ListsGroups}
 use Rattle.raft_log_dual_pipes.specs.Pipes.{LogPipes}
 use Rattle.raft_log_dual_pipes.specs.Calls.{FailsToPurgeQueue, PurgesQueue, TellsFailure}
-use Rattle.raft_log_blocks.specs.declared.block_cache.BlockCache.{BlockCache}
-use Rattle.raft_log_engine_state.specs.Shows.{Home, LogMap, Shows, sense, shows}
-use Rattle.raft_log_engine_state.specs.Holding.{Holds}
-use Rattle.raft_log_purge_state.specs.Settled.{HoldsSettled}
-use Rattle.raft_log_purge_state.specs.Raising.{AppendMayBegin}
-use Rattle.raft_log_purge_state.proofs.Settling.{settled_held}
-use Rattle.raft_log_purge_state.proofs.Raising.{raise_refused, raised}
+use Rattle.raft_log_restating.specs.raft_log_blocks.specs.declared.block_cache.BlockCache.{BlockCache}
+use Rattle.raft_log_restating.specs.raft_log_engine_state.specs.Shows.{Home, LogMap, Shows, sense, shows}
+use Rattle.raft_log_restating.specs.raft_log_engine_state.specs.Holding.{Holds}
+use Rattle.raft_log_restating.specs.raft_log_purge_state.specs.Settled.{HoldsSettled}
+use Rattle.raft_log_restating.specs.raft_log_purge_state.specs.Raising.{AppendMayBegin}
+use Rattle.raft_log_restating.specs.raft_log_purge_state.proofs.Settling.{settled_held}
+use Rattle.raft_log_restating.specs.raft_log_purge_state.proofs.Raising.{raise_refused, raised}
 use Rattle.raft_log_purge.specs.Watermarks.{first_at, last_at}
-use Rattle.raft_log_rewriting.specs.Files.{IsLeastOf}
-use Rattle.raft_log_rewriting.specs.Groups.{StopsRewriting}
-use Rattle.raft_log_rewriting.specs.Marks.{CarriesMarks}
-use Rattle.raft_log_rewriting.specs.Moving.{IsRewrittenTo}
-use Rattle.raft_log_rewriting.specs.Parts.{IsRefused}
-use Rattle.raft_log_rewriting.specs.Rewriting.{OweNothing}
-use Rattle.raft_log_rewriting.proofs.Grouping.{among, part_wider}
-use Rattle.raft_log_rewriting.proofs.Leasts.{queue_may_begin}
-use Rattle.raft_log_rewriting.proofs.Parts.{alive_ok, later_on, same_later, tells_err}
+use Rattle.raft_log_restating.specs.raft_log_rewriting.specs.Files.{IsLeastOf}
+use Rattle.raft_log_restating.specs.raft_log_rewriting.specs.Groups.{StopsRewriting}
+use Rattle.raft_log_restating.specs.raft_log_rewriting.specs.Marks.{CarriesMarks}
+use Rattle.raft_log_restating.specs.raft_log_rewriting.specs.Moving.{IsRewrittenTo}
+use Rattle.raft_log_restating.specs.raft_log_rewriting.specs.Parts.{IsRefused}
+use Rattle.raft_log_restating.specs.raft_log_rewriting.specs.Rewriting.{OweNothing}
+use Rattle.raft_log_restating.specs.raft_log_rewriting.proofs.Grouping.{among, part_wider}
+use Rattle.raft_log_restating.specs.raft_log_rewriting.proofs.Leasts.{queue_may_begin}
+use Rattle.raft_log_restating.specs.raft_log_rewriting.proofs.Parts.{alive_ok, later_on, same_later, tells_err}
 use Rattle.raft_log_purging.specs.Append.{RewritesSynced, StopsGoingOn, up_to}
 use Rattle.raft_log_purging.specs.Expired.{FailsToPurgeAppend, LosesBelow, RewritesPicked}
 use Rattle.raft_log_purging.proofs.Past.{left_or_held}

@@ -10,24 +10,24 @@ use Rattle.raft_log_places.specs.Shown.{Shown}
 use Rattle.raft_log_replay.specs.declared.mem_tables.MemTables.{MemTables}
 use Rattle.raft_log_dual_pipes.specs.Pipes.{LogPipes, Said, is_failed}
 use Rattle.raft_log_dual_pipes.specs.Calls.{FailsToRotateQueue, FailsToSyncQueue, RotatesQueue, SyncsQueue, TellsFailure}
-use Rattle.raft_log_engine_state.specs.Shows.{Home, LogMap, Shows, has_failed}
-use Rattle.raft_log_engine_state.specs.Holding.{Holds, IsLeftAt}
-use Rattle.raft_log_engine_state.proofs.Keeping.{holds_runs}
-use Rattle.raft_log_engine_state.proofs.Calling.{synced_all}
-use Rattle.raft_log_engine_state.proofs.Refusing.{unsynced_left}
-use Rattle.raft_log_purge_state.specs.Settled.{HoldsSettled}
-use Rattle.raft_log_purge_state.specs.Quiet.{TurnLeavesHeld}
-use Rattle.raft_log_purge_state.proofs.Settling.{append_rotates, settled_held, turn_refused}
+use Rattle.raft_log_restating.specs.raft_log_engine_state.specs.Shows.{Home, LogMap, Shows, has_failed}
+use Rattle.raft_log_restating.specs.raft_log_engine_state.specs.Holding.{Holds, IsLeftAt}
+use Rattle.raft_log_restating.specs.raft_log_engine_state.proofs.Keeping.{holds_runs}
+use Rattle.raft_log_restating.specs.raft_log_engine_state.proofs.Calling.{synced_all}
+use Rattle.raft_log_restating.specs.raft_log_engine_state.proofs.Refusing.{unsynced_left}
+use Rattle.raft_log_restating.specs.raft_log_purge_state.specs.Settled.{HoldsSettled}
+use Rattle.raft_log_restating.specs.raft_log_purge_state.specs.Quiet.{TurnLeavesHeld}
+use Rattle.raft_log_restating.specs.raft_log_purge_state.proofs.Settling.{append_rotates, settled_held, turn_refused}
 use Rattle.raft_log_purge.specs.Watermarks.{last_at}
-use Rattle.raft_log_rewriting.specs.Groups.{StopsRewriting}
-use Rattle.raft_log_rewriting.specs.Marks.{CarriesMarks}
-use Rattle.raft_log_rewriting.specs.Moving.{IsRewrittenTo}
-use Rattle.raft_log_rewriting.specs.Parts.{IsRefused, Remains}
-use Rattle.raft_log_rewriting.specs.Rewriting.{OweNothing}
-use Rattle.raft_log_rewriting.proofs.Grouping.{owe_then}
-use Rattle.raft_log_rewriting.proofs.Parts.{alive_ok, later_on, same_later, tells_err}
+use Rattle.raft_log_restating.specs.raft_log_rewriting.specs.Groups.{StopsRewriting}
+use Rattle.raft_log_restating.specs.raft_log_rewriting.specs.Marks.{CarriesMarks}
+use Rattle.raft_log_restating.specs.raft_log_rewriting.specs.Moving.{IsRewrittenTo}
+use Rattle.raft_log_restating.specs.raft_log_rewriting.specs.Parts.{IsRefused, Remains}
+use Rattle.raft_log_restating.specs.raft_log_rewriting.specs.Rewriting.{OweNothing}
+use Rattle.raft_log_restating.specs.raft_log_rewriting.proofs.Grouping.{owe_then}
+use Rattle.raft_log_restating.specs.raft_log_rewriting.proofs.Parts.{alive_ok, later_on, same_later, tells_err}
 use Rattle.raft_log_purging.specs.Append.{AreRewrittenTo, FailsToLoseTo, FailsToRewriteAppend, GoesOn, HasOneFile, LosesTo, PassesGate, RewritesAll, RewritesAndLoses, RewritesAppend, RewritesSynced, StopsGoingOn, ends_after, gate_of, up_to}
-use Rattle.raft_log_rewriting.proofs.Staying.{stays_on}
+use Rattle.raft_log_restating.specs.raft_log_rewriting.proofs.Staying.{stays_on}
 use Rattle.raft_log_purging.proofs.Past.{every}
 use Rattle.raft_log_purging.proofs.OneFile.{begins_low, one_is_left}
 

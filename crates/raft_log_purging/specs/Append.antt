@@ -10,16 +10,16 @@ use Rattle.raft_log_directory.specs.Calls.Which.{InAppend, InRewrite}
 use Rattle.raft_log_replay.specs.declared.mem_tables.MemTables.{MemTables}
 use Rattle.raft_log_dual_pipes.specs.Pipes.{LogPipes, Said, is_failed}
 use Rattle.raft_log_dual_pipes.specs.Calls.{RotatesQueue, SyncsQueue}
-use Rattle.raft_log_engine_state.specs.Shows.{Home, LogMap, Shows, has_failed}
-use Rattle.raft_log_engine_state.specs.Holding.{Holds, IsLeftAt}
-use Rattle.raft_log_purge_state.specs.Settled.{HoldsSettled}
+use Rattle.raft_log_restating.specs.raft_log_engine_state.specs.Shows.{Home, LogMap, Shows, has_failed}
+use Rattle.raft_log_restating.specs.raft_log_engine_state.specs.Holding.{Holds, IsLeftAt}
+use Rattle.raft_log_restating.specs.raft_log_purge_state.specs.Settled.{HoldsSettled}
 use Rattle.raft_log_purge.specs.Watermarks.{first_at, last_at}
-use Rattle.raft_log_rewriting.specs.Parts.{StaysInFile}
-use Rattle.raft_log_rewriting.specs.Marks.{CarriesMarks}
-use Rattle.raft_log_rewriting.specs.Files.{IsLeastOf}
-use Rattle.raft_log_rewriting.specs.Groups.{Rewrites}
-use Rattle.raft_log_rewriting.specs.Moving.{IsRewrittenTo}
-use Rattle.raft_log_rewriting.specs.Rewriting.{OweNothing}
+use Rattle.raft_log_restating.specs.raft_log_rewriting.specs.Parts.{StaysInFile}
+use Rattle.raft_log_restating.specs.raft_log_rewriting.specs.Marks.{CarriesMarks}
+use Rattle.raft_log_restating.specs.raft_log_rewriting.specs.Files.{IsLeastOf}
+use Rattle.raft_log_restating.specs.raft_log_rewriting.specs.Groups.{Rewrites}
+use Rattle.raft_log_restating.specs.raft_log_rewriting.specs.Moving.{IsRewrittenTo}
+use Rattle.raft_log_restating.specs.raft_log_rewriting.specs.Rewriting.{OweNothing}
 
 -- The gate.
 

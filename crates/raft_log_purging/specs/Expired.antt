@@ -7,19 +7,19 @@ use Rattle.raft_log_base.specs.declared.pipe_log.LogQueue.TheVariants.{Append}
 use Rattle.raft_log_directory.specs.Calls.Which.{InAppend}
 use Rattle.raft_log_replay.specs.declared.mem_tables.MemTables.{MemTables}
 use Rattle.raft_log_replay.specs.Walking.{ListsGroups}
-use Rattle.raft_log_engine_state.specs.Shows.{Home, LogMap, Shows, has_failed}
-use Rattle.raft_log_engine_state.specs.Holding.{Holds, IsLeftAt}
-use Rattle.raft_log_purge_state.specs.Settled.{HoldsSettled}
+use Rattle.raft_log_restating.specs.raft_log_engine_state.specs.Shows.{Home, LogMap, Shows, has_failed}
+use Rattle.raft_log_restating.specs.raft_log_engine_state.specs.Holding.{Holds, IsLeftAt}
+use Rattle.raft_log_restating.specs.raft_log_purge_state.specs.Settled.{HoldsSettled}
 use Rattle.raft_log_purge.specs.declared.thresholds.Thresholds.{Thresholds}
 use Rattle.raft_log_purge.specs.declared.watermarks.Watermarks.{Watermarks}
 use Rattle.raft_log_purge.specs.Watermarks.{TakesAppend, first_at, last_at, watermarks_of}
 use Rattle.raft_log_purge_rules.specs.declared.rounds.Rounds.{Rounds}
 use Rattle.raft_log_purge_rules.specs.Behind.{round_behind}
 use Rattle.raft_log_purge_rules.specs.Picking.{answers_at, asks_at, count_of, rewrites_at}
-use Rattle.raft_log_rewriting.specs.Files.{IsLeastOf}
-use Rattle.raft_log_rewriting.specs.Marks.{CarriesMarks}
-use Rattle.raft_log_rewriting.specs.Moving.{IsRewrittenTo}
-use Rattle.raft_log_rewriting.specs.Rewriting.{OweNothing}
+use Rattle.raft_log_restating.specs.raft_log_rewriting.specs.Files.{IsLeastOf}
+use Rattle.raft_log_restating.specs.raft_log_rewriting.specs.Marks.{CarriesMarks}
+use Rattle.raft_log_restating.specs.raft_log_rewriting.specs.Moving.{IsRewrittenTo}
+use Rattle.raft_log_restating.specs.raft_log_rewriting.specs.Rewriting.{OweNothing}
 use Rattle.raft_log_purging.specs.declared.expired.PickedGroups.{PickedGroups}
 use Rattle.raft_log_purging.specs.Append.{RewritesSynced, up_to}
 

@@ -8,10 +8,10 @@ use Rattle.raft_log_tables.specs.declared.global_stats.GlobalStats.{GlobalStats}
 use Rattle.raft_log_replay.specs.declared.mem_tables.MemTables.{MemTables}
 use Rattle.raft_log_dual_pipes.specs.Pipes.{LogPipes, Said}
 use Rattle.raft_log_dual_pipes.specs.Calls.{SyncsQueue}
-use Rattle.raft_log_blocks.specs.declared.block_cache.BlockCache.{BlockCache}
-use Rattle.raft_log_engine_state.specs.Shows.{Home, LogMap, Shows, has_failed, shows}
-use Rattle.raft_log_engine_state.specs.Holding.{Holds}
-use Rattle.raft_log_purge_state.specs.Settled.{HoldsSettled}
+use Rattle.raft_log_restating.specs.raft_log_blocks.specs.declared.block_cache.BlockCache.{BlockCache}
+use Rattle.raft_log_restating.specs.raft_log_engine_state.specs.Shows.{Home, LogMap, Shows, has_failed, shows}
+use Rattle.raft_log_restating.specs.raft_log_engine_state.specs.Holding.{Holds}
+use Rattle.raft_log_restating.specs.raft_log_purge_state.specs.Settled.{HoldsSettled}
 use Rattle.raft_log_purge.specs.declared.thresholds.Thresholds.{Thresholds}
 use Rattle.raft_log_purge.specs.Watermarks.{TakesRewrite}
 use Rattle.raft_log_restating.specs.Queue.{RewritesRewrite, reset_counts}

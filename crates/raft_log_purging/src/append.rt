@@ -4,9 +4,9 @@ ghost use Rattle.std.specs.Prelude.{◌≡◌, true, IfErr, IfOk, OnErr, OnOk};
 ghost use Rattle.raft_log_directory.specs.Calls.Which.{InAppend};
 ghost use Rattle.raft_log_disk.specs.Causes.{IsLater};
 ghost use Rattle.raft_log_dual_pipes.specs.Calls.{FailsToRotateQueue, TellsFailure};
-ghost use Rattle.raft_log_engine_state.specs.Shows.{shows};
+ghost use Rattle.raft_log_restating.specs.raft_log_engine_state.specs.Shows.{shows};
 ghost use Rattle.raft_log_replay.specs.Tables.{IsAtRest};
-ghost use Rattle.raft_log_rewriting.specs.Groups.{StopsAtGroups, StopsRewriting};
+ghost use Rattle.raft_log_restating.specs.raft_log_rewriting.specs.Groups.{StopsAtGroups, StopsRewriting};
 ghost use Rattle.raft_log_purging.specs.Append.{
   FailsToLoseTo,
   FailsToRewriteAppend,
@@ -23,10 +23,10 @@ ghost use Rattle.raft_log_purging.specs.Append.{
 
 use log::Log;
 use raft_log_base::{Error, FileId, FileSeq, LogQueue, Result};
-use raft_log_blocks::BlockCache;
 use raft_log_dual_pipes::PipeLog;
 use raft_log_replay::MemTables;
-use raft_log_rewriting::{least_file, rewrite_groups, rewrite_marks};
+use raft_log_restating::raft_log_blocks::BlockCache;
+use raft_log_restating::raft_log_rewriting::{least_file, rewrite_groups, rewrite_marks};
 use std::alloc::Global;
 
 /// Rewrites Append up to a file, the watermark: none after the last, and the last where there is none. Append

@@ -3,7 +3,7 @@
 
 ghost use Rattle.std.specs.Prelude.{◌≡◌, ◌==◌, IfErr, IfOk, OnErr, OnOk};
 ghost use Rattle.std.specs.List.{list_any};
-ghost use Rattle.raft_log_engine_state.specs.Shows.{shows};
+ghost use Rattle.raft_log_restating.specs.raft_log_engine_state.specs.Shows.{shows};
 ghost use Rattle.raft_log_replay.specs.Tables.{IsAtRest};
 ghost use Rattle.raft_log_purging.specs.Append.{StopsGoingOn};
 ghost use Rattle.raft_log_purging.specs.Expired.{
@@ -18,12 +18,12 @@ ghost use Rattle.raft_log_purging.specs.Expired.{
 use crate::append::{rewrite_synced, up_to};
 use log::Log;
 use raft_log_base::{FileId, FileSeq, LogQueue, Result};
-use raft_log_blocks::BlockCache;
 use raft_log_dual_pipes::PipeLog;
 use raft_log_purge::{Thresholds, Watermarks, append_watermarks, takes_append};
 use raft_log_purge_rules::{Rounds, answered_groups, asked_groups, rewritten_groups};
 use raft_log_replay::MemTables;
-use raft_log_rewriting::{least_file, rewrite_marks};
+use raft_log_restating::raft_log_blocks::BlockCache;
+use raft_log_restating::raft_log_rewriting::{least_file, rewrite_marks};
 use std::alloc::{AllocError, Global};
 
 /// The groups that a purge of Append picks, from the least up.

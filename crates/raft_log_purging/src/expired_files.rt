@@ -1,7 +1,7 @@
 //! Both queues are purged once their files are past their thresholds.
 
 ghost use Rattle.std.specs.Prelude.{◌≡◌, ◌≤◌, ℕ, IfErr, IfOk, OnErr, OnOk};
-ghost use Rattle.raft_log_engine_state.specs.Shows.{shows};
+ghost use Rattle.raft_log_restating.specs.raft_log_engine_state.specs.Shows.{shows};
 ghost use Rattle.raft_log_replay.specs.Tables.{IsAtRest};
 ghost use Rattle.raft_log_restating.specs.Queue.{FailsToRewriteRewrite, reset_counts};
 ghost use Rattle.raft_log_purging.specs.ExpiredFiles.{
@@ -16,12 +16,12 @@ ghost use Rattle.raft_log_purging.specs.ExpiredFiles.{
 use crate::expired::purge_append;
 use log::Log;
 use raft_log_base::{LogQueue, Result};
-use raft_log_blocks::BlockCache;
 use raft_log_dual_pipes::PipeLog;
 use raft_log_purge::{Thresholds, takes_rewrite};
 use raft_log_purge_rules::Rounds;
 use raft_log_replay::MemTables;
 use raft_log_restating::queue::rewrite_rewrite_queue;
+use raft_log_restating::raft_log_blocks::BlockCache;
 use raft_log_restating::standing::standing_count;
 use raft_log_tables::GlobalStats;
 use std::alloc::{AllocError, Global};

@@ -11,3 +11,4 @@ pub mod expired_files;
 pub use append::rewrite_append_queue;
 pub use expired::purge_append;
 pub use expired_files::{PurgeCounts, purge_expired_files, sync_and_rewrite};
+pub use raft_log_restating::{raft_log_blocks, raft_log_rewriting};

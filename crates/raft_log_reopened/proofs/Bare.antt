@@ -27,16 +27,16 @@ use Rattle.raft_log_settings.specs.Sanitized.{Clash, IsFileIn, IsSound as IsSoun
 use Rattle.raft_log_settings.specs.Settings.{settings_of}
 use Rattle.raft_log_settings.specs.declared.config.Config.{Config}
 use Rattle.raft_log_settings.specs.declared.fault.ConfigFault.TheVariants as faults
-use Rattle.raft_log_contexts.specs.declared.context.MemTableRecoverContext.{MemTableRecoverContext}
-use Rattle.raft_log_replay.specs.declared.mem_tables.MemTables.{MemTables}
+use Rattle.raft_log_opened.specs.raft_log_contexts.specs.declared.context.MemTableRecoverContext.{MemTableRecoverContext}
+use Rattle.raft_log_opened.specs.raft_log_replay.specs.declared.mem_tables.MemTables.{MemTables}
 use Rattle.raft_log_recovery.specs.Directories.{FailsToHave, HasDirectories}
 use Rattle.raft_log_recovery.specs.Metadata.{LeavesFiles}
 use Rattle.raft_log_recovery.specs.Scanned.{FailsToScan}
 use Rattle.raft_log_steps.specs.OnDisk.{LogRestsOn}
 use Rattle.raft_log_steps.proofs.OnDiskLaws.{logs_go_on_disks}
-use Rattle.raft_log_dual_pipes.specs.Pipes.{LogPipes}
-use Rattle.raft_log_engine_state.specs.Shows.{log_in}
-use Rattle.raft_log_engine_state.specs.Holding.{IsLeftAt}
+use Rattle.raft_log_opened.specs.raft_log_dual_pipes.specs.Pipes.{LogPipes}
+use Rattle.raft_log_opened.specs.raft_log_engine_state.specs.Shows.{log_in}
+use Rattle.raft_log_opened.specs.raft_log_engine_state.specs.Holding.{IsLeftAt}
 use Rattle.raft_log_builder.specs.Directories.{directories_of, spill_directory}
 use Rattle.raft_log_builder.specs.Scanning.{FailsToScanLog}
 use Rattle.raft_log_builder.specs.Scanning.FailsToScanLog.{uncleared, unready as scan_unready, unscanned as scan_refused}

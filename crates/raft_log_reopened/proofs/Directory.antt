@@ -4,9 +4,9 @@ use Rattle.raft_log_model.specs.Groups.{taken}
 use Rattle.raft_log_base.specs.declared.errors.Error.{Error}
 use Rattle.raft_log_disk.specs.Disk.{Disk}
 use Rattle.raft_log_settings.specs.declared.config.Config.{Config}
-use Rattle.raft_log_replay.specs.declared.mem_tables.MemTables.{MemTables}
-use Rattle.raft_log_dual_pipes.specs.Pipes.{LogPipes}
-use Rattle.raft_log_engine_state.specs.Shows.{LogMap}
+use Rattle.raft_log_opened.specs.raft_log_replay.specs.declared.mem_tables.MemTables.{MemTables}
+use Rattle.raft_log_opened.specs.raft_log_dual_pipes.specs.Pipes.{LogPipes}
+use Rattle.raft_log_opened.specs.raft_log_engine_state.specs.Shows.{LogMap}
 use Rattle.raft_log_builder.specs.declared.builder.DualPipesBuilder.{DualPipesBuilder}
 use Rattle.raft_log_opening.specs.Opening.{FailsToOpenDirectory, OpensDirectory}
 use Rattle.raft_log_opening.specs.Opening.FailsToOpenDirectory.{unfinished, unfound, unsound, unmerged as tables_unmerged, unread as files_unread, unreadied as spares_unreadied}

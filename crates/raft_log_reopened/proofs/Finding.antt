@@ -23,13 +23,13 @@ use Rattle.raft_log_recovery.specs.Directories.{HasDirectories}
 use Rattle.raft_log_recovery.specs.Found.{AreDistinct}
 use Rattle.raft_log_recovery.specs.Metadata.{LeavesFiles}
 use Rattle.raft_log_recovery.specs.Scanned.{IsQueueIn}
-use Rattle.raft_log_found_pipes.specs.Scanned.{kind_of}
-use Rattle.raft_log_found_pipes.proofs.AllFiles.{no_files_are_scanned, scanned_files_are_all}
+use Rattle.raft_log_opened.specs.raft_log_found_pipes.specs.Scanned.{kind_of}
+use Rattle.raft_log_opened.specs.raft_log_found_pipes.proofs.AllFiles.{no_files_are_scanned, scanned_files_are_all}
 use Rattle.raft_log_steps.specs.Own.{log_layout}
 use Rattle.raft_log_steps.specs.OnDisk.{LogRestsOn}
 use Rattle.raft_log_steps.specs.Reopening.{RestsQueue}
 use Rattle.raft_log_steps.specs.State.{Spanned}
-use Rattle.raft_log_engine_state.specs.Shows.{log_in, LogMap}
+use Rattle.raft_log_opened.specs.raft_log_engine_state.specs.Shows.{log_in, LogMap}
 use Rattle.raft_log_builder.specs.Directories.{directories_of, spill_directory}
 use Rattle.raft_log_builder.specs.Recovering.{append_files, rewrite_files}
 use Rattle.raft_log_builder.specs.Scanning.{ScansLog}

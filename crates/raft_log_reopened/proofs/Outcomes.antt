@@ -4,12 +4,12 @@ use Rattle.raft_log_model.specs.Groups.{taken}
 use Rattle.raft_log_disk.specs.Disk.{Disk}
 use Rattle.raft_log_disk.specs.Image.{IsSound}
 use Rattle.raft_log_settings.specs.declared.config.Config.{Config}
-use Rattle.raft_log_contexts.specs.declared.context.MemTableRecoverContext.{MemTableRecoverContext}
-use Rattle.raft_log_replay.specs.declared.mem_tables.MemTables.{MemTables}
+use Rattle.raft_log_opened.specs.raft_log_contexts.specs.declared.context.MemTableRecoverContext.{MemTableRecoverContext}
+use Rattle.raft_log_opened.specs.raft_log_replay.specs.declared.mem_tables.MemTables.{MemTables}
 use Rattle.raft_log_steps.specs.OnDisk.{LogRestsOn}
-use Rattle.raft_log_dual_pipes.specs.Pipes.{LogPipes}
-use Rattle.raft_log_engine_state.specs.Shows.{log_in, Home, LogMap}
-use Rattle.raft_log_engine_state.specs.Holding.{IsLeftAt}
+use Rattle.raft_log_opened.specs.raft_log_dual_pipes.specs.Pipes.{LogPipes}
+use Rattle.raft_log_opened.specs.raft_log_engine_state.specs.Shows.{log_in, Home, LogMap}
+use Rattle.raft_log_opened.specs.raft_log_engine_state.specs.Holding.{IsLeftAt}
 use Rattle.raft_log_builder.specs.Directories.{directories_of}
 use Rattle.raft_log_builder.specs.declared.builder.DualPipesBuilder.{DualPipesBuilder}
 use Rattle.raft_log_opened.proofs.Left.{crashed_logs_rest}

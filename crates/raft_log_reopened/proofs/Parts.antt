@@ -4,9 +4,9 @@ use Rattle.raft_log_base.specs.declared.pipe_log.LogQueue.TheVariants.{Append}
 use Rattle.raft_log_disk.specs.Disk.{Disk}
 use Rattle.raft_log_layout.specs.Layout.{log_format, log_paths}
 use Rattle.raft_log_pipes.specs.Files.{AreKept}
-use Rattle.raft_log_contexts.specs.declared.context.MemTableRecoverContext.{MemTableRecoverContext}
-use Rattle.raft_log_dual_pipes.specs.Pipes.{State}
-use Rattle.raft_log_engine_state.specs.Shows.{log_in, Home}
+use Rattle.raft_log_opened.specs.raft_log_contexts.specs.declared.context.MemTableRecoverContext.{MemTableRecoverContext}
+use Rattle.raft_log_opened.specs.raft_log_dual_pipes.specs.Pipes.{State}
+use Rattle.raft_log_opened.specs.raft_log_engine_state.specs.Shows.{log_in, Home}
 use Rattle.raft_log_builder.specs.Directories.{directories_of}
 use Rattle.raft_log_builder.specs.Finishing.{SyncsLog}
 use Rattle.raft_log_builder.specs.Recovering.{RecoversLog, append_files, rewrite_files}

@@ -25,9 +25,9 @@ use Rattle.raft_log_segments.specs.Machines.{Batch}
 use Rattle.raft_log_segments.specs.Sources.{HoldEach}
 use Rattle.raft_log_found_queue.specs.Segments.{id_of, is_at_end, HoldsFile}
 use Rattle.raft_log_found_queue.specs.declared.file_ending.FileEnding.{FileEnding}
-use Rattle.raft_log_found_pipes.proofs.Headers.{header_is_written}
-use Rattle.raft_log_found_pipes.proofs.LastFiles.{last_file_is_read}
-use Rattle.raft_log_found_pipes.proofs.PastFiles.{finished_file_is_read}
+use Rattle.raft_log_opened.specs.raft_log_found_pipes.proofs.Headers.{header_is_written}
+use Rattle.raft_log_opened.specs.raft_log_found_pipes.proofs.LastFiles.{last_file_is_read}
+use Rattle.raft_log_opened.specs.raft_log_found_pipes.proofs.PastFiles.{finished_file_is_read}
 use Rattle.raft_log_steps.specs.State.{IsStopped, Spanned}
 use Rattle.raft_log_steps.specs.Own.{log_layout}
 use Rattle.raft_log_builder.specs.Unaligned.{AreUnaligned}

@@ -15,16 +15,16 @@ use Rattle.raft_log_prefill.specs.Readying.{FailsToReady, Readies}
 use Rattle.raft_log_recovery.specs.Directories.{HasDirectories}
 use Rattle.raft_log_recovery.specs.declared.recovery_config.RecoveryConfig.{RecoveryConfig}
 use Rattle.raft_log_found_queue.specs.declared.file_ending.FileEnding.{FileEnding}
-use Rattle.raft_log_contexts.specs.declared.context.MemTableRecoverContext.{MemTableRecoverContext}
+use Rattle.raft_log_opened.specs.raft_log_contexts.specs.declared.context.MemTableRecoverContext.{MemTableRecoverContext}
 use Rattle.raft_log_steps.specs.Queues.{AreTwoQueues, IsQueueLayout, QueueLayout}
 use Rattle.raft_log_steps.specs.State.{Spanned}
 use Rattle.raft_log_steps.specs.Own.{log_layout}
 use Rattle.raft_log_steps.specs.Lying.{none_open}
 use Rattle.raft_log_steps.specs.Reopening.{RestsQueue}
 use Rattle.raft_log_steps.specs.OnDisk.{LogLiesOn, LogRestsOn}
-use Rattle.raft_log_dual_pipes.specs.Pipes.{State}
-use Rattle.raft_log_engine_state.specs.Shows.{log_in, Home, LogMap}
-use Rattle.raft_log_engine_state.specs.Holding.{IsLeftAt}
+use Rattle.raft_log_opened.specs.raft_log_dual_pipes.specs.Pipes.{State}
+use Rattle.raft_log_opened.specs.raft_log_engine_state.specs.Shows.{log_in, Home, LogMap}
+use Rattle.raft_log_opened.specs.raft_log_engine_state.specs.Holding.{IsLeftAt}
 use Rattle.raft_log_builder.specs.Cutting.{CutsEach, FailsToCutEach}
 use Rattle.raft_log_builder.specs.Directories.{directories_of}
 use Rattle.raft_log_builder.specs.Finishing.{FailsToOpenRecovered, FailsToSyncLog}

@@ -8,24 +8,24 @@ use Rattle.raft_log_layout.specs.Layout.{log_format, log_paths}
 use Rattle.raft_log_layout.specs.LayoutLaws.{files_are_told as formats_are_told, is_layout, queues_are_apart}
 use Rattle.raft_log_layout.specs.declared.record.LogRecord.{LogRecord}
 use Rattle.raft_log_pipes.specs.Files.{AreKept}
-use Rattle.raft_log_replay.specs.declared.mem_tables.MemTables.{MemTables}
+use Rattle.raft_log_opened.specs.raft_log_replay.specs.declared.mem_tables.MemTables.{MemTables}
 use Rattle.raft_log_segments.specs.Machines.{Batch}
 use Rattle.raft_log_segments.specs.Segments.{all_batches}
 use Rattle.raft_log_segments.specs.Sources.{HoldEach}
 use Rattle.raft_log_found_queue.specs.Segments.{HoldsFile}
 use Rattle.raft_log_found_queue.specs.declared.file_ending.FileEnding.{FileEnding}
 use Rattle.raft_log_recovery.specs.declared.recovery_config.RecoveryConfig.{RecoveryConfig}
-use Rattle.raft_log_contexts.specs.declared.context.MemTableRecoverContext.{MemTableRecoverContext}
+use Rattle.raft_log_opened.specs.raft_log_contexts.specs.declared.context.MemTableRecoverContext.{MemTableRecoverContext}
 use Rattle.raft_log_steps.specs.Queues.{AreTwoQueues}
 use Rattle.raft_log_steps.specs.State.{Spanned}
 use Rattle.raft_log_steps.specs.Own.{log_layout}
 use Rattle.raft_log_steps.specs.OnDisk.{LogRestsOn}
-use Rattle.raft_log_dual_pipes.specs.Opening.{IsFoundAs, OpensLog, RestsAsFound}
-use Rattle.raft_log_dual_pipes.specs.declared.opening.FoundPipe.{FoundPipe}
+use Rattle.raft_log_opened.specs.raft_log_dual_pipes.specs.Opening.{IsFoundAs, OpensLog, RestsAsFound}
+use Rattle.raft_log_opened.specs.raft_log_dual_pipes.specs.declared.opening.FoundPipe.{FoundPipe}
 use Rattle.raft_log_builder.specs.declared.builder.DualPipesBuilder.{DualPipesBuilder}
 use Rattle.raft_log_builder.specs.Finishing.{IsPipeRecovered, IsRead, OpensRecovered, SyncsLog}
-use Rattle.raft_log_dual_pipes.specs.Pipes.{LogPipes, State}
-use Rattle.raft_log_engine_state.specs.Shows.{log_in, sense, Home, LogMap}
+use Rattle.raft_log_opened.specs.raft_log_dual_pipes.specs.Pipes.{LogPipes, State}
+use Rattle.raft_log_opened.specs.raft_log_engine_state.specs.Shows.{log_in, sense, Home, LogMap}
 use Rattle.raft_log_builder.specs.Directories.{directories_of}
 use Rattle.raft_log_builder.specs.Endings.{as_read, end_of_last}
 use Rattle.raft_log_builder.specs.Reading.{HasReadFiles}

@@ -27,13 +27,13 @@ use Rattle.raft_log_recovery.specs.Runs.{Follows, IsConsecutive}
 use Rattle.raft_log_recovery.specs.Scanned.{IsReserveIn}
 use Rattle.raft_log_recovery.specs.declared.file_kind.FileKind.TheVariants.{Reserved}
 use Rattle.raft_log_recovery.specs.declared.scanning.found.FoundFile.{FoundFile}
-use Rattle.raft_log_contexts.specs.declared.context.MemTableRecoverContext.{MemTableRecoverContext}
+use Rattle.raft_log_opened.specs.raft_log_contexts.specs.declared.context.MemTableRecoverContext.{MemTableRecoverContext}
 use Rattle.raft_log_prefill.specs.Readying.{kept_of, next_number, Readies}
 use Rattle.raft_log_steps.specs.Own.{log_layout}
 use Rattle.raft_log_steps.specs.OnDisk.{LogRestsOn}
 use Rattle.raft_log_steps.specs.Queues.{AreTwoQueues, IsQueueLayout}
 use Rattle.raft_log_steps.specs.State.{Spanned}
-use Rattle.raft_log_engine_state.specs.Shows.{log_in, LogMap}
+use Rattle.raft_log_opened.specs.raft_log_engine_state.specs.Shows.{log_in, LogMap}
 use Rattle.raft_log_builder.specs.Directories.{directories_of}
 use Rattle.raft_log_builder.specs.Finishing.{SyncsLog}
 use Rattle.raft_log_builder.specs.Recovering.{append_files, rewrite_files}

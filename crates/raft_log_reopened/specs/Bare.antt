@@ -9,10 +9,10 @@ use Rattle.raft_log_format.specs.Name.{suffix_of}
 use Rattle.raft_log_layout.specs.Paths.{IsPathWith, reserved_suffix_of}
 use Rattle.raft_log_machine.specs.Fresh.{nothing_stands}
 use Rattle.raft_log_settings.specs.declared.config.Config.{Config}
-use Rattle.raft_log_replay.specs.declared.mem_tables.MemTables.{MemTables}
+use Rattle.raft_log_opened.specs.raft_log_replay.specs.declared.mem_tables.MemTables.{MemTables}
 use Rattle.raft_log_recovery.specs.Directories.{IsAbsent}
-use Rattle.raft_log_dual_pipes.specs.Pipes.{LogPipes}
-use Rattle.raft_log_engine_state.specs.Holding.{IsLeftAt}
+use Rattle.raft_log_opened.specs.raft_log_dual_pipes.specs.Pipes.{LogPipes}
+use Rattle.raft_log_opened.specs.raft_log_engine_state.specs.Holding.{IsLeftAt}
 use Rattle.raft_log_builder.specs.Directories.{directories_of}
 use Rattle.raft_log_opening.specs.Opening.{FailsToOpenDirectory, OpensDirectory}
 use Rattle.raft_log_opened.specs.Opened.{HoldsFresh}

@@ -5,8 +5,8 @@ use Rattle.raft_log_base.specs.declared.pipe_log.LogQueue.{LogQueue}
 use Rattle.raft_log_disk.specs.Disk.{Disk}
 use Rattle.raft_log_settings.specs.declared.config.Config.{Config}
 use Rattle.raft_log_segments.specs.Machines.{Batch}
-use Rattle.raft_log_contexts.specs.Batches.{Declines}
-use Rattle.raft_log_contexts.specs.declared.context.MemTableRecoverContext.{MemTableRecoverContext}
+use Rattle.raft_log_opened.specs.raft_log_contexts.specs.Batches.{Declines}
+use Rattle.raft_log_opened.specs.raft_log_contexts.specs.declared.context.MemTableRecoverContext.{MemTableRecoverContext}
 use Rattle.raft_log_builder.specs.Finishing.{FailsToOpenRecovered}
 use Rattle.raft_log_builder.specs.Recovering.{FailsToRecoverLog, RecoversLog}
 use Rattle.raft_log_builder.specs.Reserving.{FailsToReadyLog}

@@ -8,15 +8,15 @@ use Rattle.raft_log_disk.specs.Touching.{HasFile}
 use Rattle.raft_log_settings.specs.declared.config.Config.{Config}
 use Rattle.raft_log_layout.specs.Layout.{log_format, log_paths}
 use Rattle.raft_log_pipes.specs.Files.{AreKept, CanBeUsed}
-use Rattle.raft_log_replay.specs.declared.mem_tables.MemTables.{MemTables}
+use Rattle.raft_log_opened.specs.raft_log_replay.specs.declared.mem_tables.MemTables.{MemTables}
 use Rattle.raft_log_segments.specs.Machines.{Batch}
-use Rattle.raft_log_contexts.specs.Records.{ReadRecord}
-use Rattle.raft_log_contexts.specs.Context.{ComesOver, HasRead}
-use Rattle.raft_log_contexts.specs.Batches.{HasReadBatches}
-use Rattle.raft_log_contexts.specs.declared.context.MemTableRecoverContext.{MemTableRecoverContext}
+use Rattle.raft_log_opened.specs.raft_log_contexts.specs.Records.{ReadRecord}
+use Rattle.raft_log_opened.specs.raft_log_contexts.specs.Context.{ComesOver, HasRead}
+use Rattle.raft_log_opened.specs.raft_log_contexts.specs.Batches.{HasReadBatches}
+use Rattle.raft_log_opened.specs.raft_log_contexts.specs.declared.context.MemTableRecoverContext.{MemTableRecoverContext}
 use Rattle.raft_log_steps.specs.OnDisk.{LogRestsOn}
-use Rattle.raft_log_dual_pipes.specs.Pipes.{LogPipes}
-use Rattle.raft_log_engine_state.specs.Shows.{log_in, Home, LogMap}
+use Rattle.raft_log_opened.specs.raft_log_dual_pipes.specs.Pipes.{LogPipes}
+use Rattle.raft_log_opened.specs.raft_log_engine_state.specs.Shows.{log_in, Home, LogMap}
 use Rattle.raft_log_builder.specs.Directories.{directories_of}
 use Rattle.raft_log_builder.specs.Finishing.{OpensRecovered, SyncsLog}
 use Rattle.raft_log_builder.specs.Recovering.{RecoversLog, append_files, rewrite_files}

@@ -25,9 +25,9 @@ use Rattle.raft_log_replay.specs.declared.mem_tables.MemTables.{MemTables}
 use Rattle.raft_log_replay.specs.Joining.{noted_in}
 use Rattle.raft_log_replay.specs.Tables.{counts, has_table, replayed_of, shown_in, shown_of}
 use Rattle.raft_log_dual_pipes.specs.Pipes.{LogPipes}
-use Rattle.raft_log_blocks.specs.declared.block_cache.BlockCache.{BlockCache}
-use Rattle.raft_log_engine_state.specs.Shows.{Home, IsLaidOut, LogMap, Shows, shows}
-use Rattle.raft_log_engine_state.specs.Holding.{Holds}
+use Rattle.raft_log_rewriting.specs.raft_log_blocks.specs.declared.block_cache.BlockCache.{BlockCache}
+use Rattle.raft_log_rewriting.specs.raft_log_engine_state.specs.Shows.{Home, IsLaidOut, LogMap, Shows, shows}
+use Rattle.raft_log_rewriting.specs.raft_log_engine_state.specs.Holding.{Holds}
 use Rattle.raft_log_group_state.specs.Parts.{FilesGoUp, HoldsInGroup, IsGroupPart, UnendedGroup, WrittenPart, parts_of, said_items}
 use Rattle.raft_log_group_state.specs.Whole.{batches_of, parts_moved}
 use Rattle.raft_log_group_state.specs.Restating.{RestatesGroup, entries_of_pieces, said_of_group}

@@ -6,8 +6,8 @@ use Rattle.raft_log_model.proofs.Cases.{at_bool, eq_true}
 use Rattle.raft_log_base.specs.declared.errors.Error.{Error}
 use Rattle.raft_log_places.specs.declared.place.Place.{Place}
 use Rattle.raft_log_places.specs.Shown.{Shown}
-use Rattle.raft_log_engine_state.specs.Shows.{Home, LogMap, Shows}
-use Rattle.raft_log_engine_state.specs.Holding.{Holds}
+use Rattle.raft_log_rewriting.specs.raft_log_engine_state.specs.Shows.{Home, LogMap, Shows}
+use Rattle.raft_log_rewriting.specs.raft_log_engine_state.specs.Holding.{Holds}
 use Rattle.raft_log_rewriting.proofs.Grouping.{among}
 use Rattle.raft_log_rewriting.proofs.Leasts.{among_more}
 use Rattle.raft_log_rewriting.proofs.Parts.{later_on, same_later}

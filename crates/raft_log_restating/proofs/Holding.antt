@@ -6,7 +6,7 @@ use Rattle.raft_log_base.specs.declared.errors.Error.TheVariants as errors
 use Rattle.raft_log_base.specs.declared.pipe_log.FileBlockHandle.{FileBlockHandle}
 use Rattle.raft_log_base.specs.declared.pipe_log.LogFileContext.{LogFileContext}
 use Rattle.raft_log_base.specs.declared.pipe_log.LogQueue.TheVariants.{Rewrite}
-use Rattle.raft_log_layout.specs.declared.record.LogRecord.{LogRecord}
+use Rattle.raft_log_rewriting.specs.raft_log_layout.specs.declared.record.LogRecord.{LogRecord}
 use Rattle.raft_log_atomic_groups.specs.Meaning.{part_of}
 use Rattle.raft_log_atomic_groups.specs.declared.status.AtomicGroupStatus.{AtomicGroupStatus}
 use Rattle.raft_log_atomic_groups.specs.declared.status.AtomicGroupStatus.TheVariants as statuses
@@ -14,16 +14,16 @@ use Rattle.raft_log_file_queue.specs.Queue.{synced}
 use Rattle.raft_log_records.specs.Batch.{Batch}
 use Rattle.raft_log_signed_batch.specs.Signing.{signed_for}
 use Rattle.raft_log_directory.specs.Calls.Which.{InRewrite}
-use Rattle.raft_log_steps.specs.Steps.{next_log}
-use Rattle.raft_log_stored.proofs.Keeping.{calls_keep_bytes}
+use Rattle.raft_log_rewriting.specs.raft_log_steps.specs.Steps.{next_log}
+use Rattle.raft_log_rewriting.specs.raft_log_stored.proofs.Keeping.{calls_keep_bytes}
 use Rattle.raft_log_dual_pipes.specs.Pipes.{LogPipes, RunsOn, Said, State}
 use Rattle.raft_log_dual_pipes.specs.Calls.{AppendsTo, FailsToSyncQueue, SyncsQueue}
-use Rattle.raft_log_engine_state.specs.Shows.{Home, LogMap, Shows, sense}
-use Rattle.raft_log_engine_state.specs.Holding.{Holds, IsLeftAt}
-use Rattle.raft_log_engine_state.proofs.Keeping.{holds_runs}
-use Rattle.raft_log_purge_state.specs.Rewriting.{RewriteLeaves}
-use Rattle.raft_log_purge_state.proofs.Rewriting.{IsTaken, record_taken}
-use Rattle.raft_log_purge_state.proofs.Settling.{failed_sync, settled_held, sync_keeps}
+use Rattle.raft_log_rewriting.specs.raft_log_engine_state.specs.Shows.{Home, LogMap, Shows, sense}
+use Rattle.raft_log_rewriting.specs.raft_log_engine_state.specs.Holding.{Holds, IsLeftAt}
+use Rattle.raft_log_rewriting.specs.raft_log_engine_state.proofs.Keeping.{holds_runs}
+use Rattle.raft_log_rewriting.specs.raft_log_purge_state.specs.Rewriting.{RewriteLeaves}
+use Rattle.raft_log_rewriting.specs.raft_log_purge_state.proofs.Rewriting.{IsTaken, record_taken}
+use Rattle.raft_log_rewriting.specs.raft_log_purge_state.proofs.Settling.{failed_sync, settled_held, sync_keeps}
 use Rattle.raft_log_group_state.specs.Parts.{HoldsInGroup, IsGroupPart, UnendedGroup, begun_by, gone_on_by, said_items}
 use Rattle.raft_log_group_state.proofs.Writing.{begin_refused, middle_refused, part_begins, part_goes_on, says_part, sync_leaves_open}
 use Rattle.raft_log_rewriting.specs.Stale.{written_file}

@@ -10,7 +10,7 @@ use Rattle.raft_log_places.specs.Noted.{noting}
 use Rattle.raft_log_held.specs.Listing.{ListsAll, asked_bytes, rewritten_values}
 use Rattle.raft_log_tables.specs.Moves.{rewritten_at, rewritten_to}
 use Rattle.raft_log_tables.specs.Files.{noted_after}
-use Rattle.raft_log_stored.specs.Stored.{Each}
+use Rattle.raft_log_rewriting.specs.raft_log_stored.specs.Stored.{Each}
 use Rattle.raft_log_group_state.specs.Parts.{WrittenPart}
 use Rattle.raft_log_group_state.specs.Whole.{all_places, filed_in, parts_moved}
 use Rattle.raft_log_group_state.specs.Restating.{HoldsRewritten}

@@ -28,14 +28,14 @@ use Rattle.raft_log_replay.specs.declared.mem_tables.MemTables.{MemTables}
 use Rattle.raft_log_replay.specs.Rewriting.{AreCopies, rewritten_item}
 use Rattle.raft_log_replay.specs.Tables.{shown_of}
 use Rattle.raft_log_dual_pipes.specs.Pipes.{LogPipes}
-use Rattle.raft_log_blocks.specs.declared.block_cache.BlockCache.{BlockCache}
-use Rattle.raft_log_blocks.specs.Blocks.{IsOfLog}
-use Rattle.raft_log_engine_state.specs.Shows.{Home, IsLaidOut, LogMap, Shows, shows}
-use Rattle.raft_log_engine_state.specs.Holding.{Holds}
-use Rattle.raft_log_engine_state.specs.Writing.{items_at}
-use Rattle.raft_log_purge_state.specs.Rewriting.{CountsAlone, HasCopies, SaysAt, moved_to}
-use Rattle.raft_log_purge_state.proofs.Copying.{copies_refused, copies_written}
-use Rattle.raft_log_purge_state.proofs.Rewriting.{bytes_of, record_taken, says_marked}
+use Rattle.raft_log_rewriting.specs.raft_log_blocks.specs.declared.block_cache.BlockCache.{BlockCache}
+use Rattle.raft_log_rewriting.specs.raft_log_blocks.specs.Blocks.{IsOfLog}
+use Rattle.raft_log_rewriting.specs.raft_log_engine_state.specs.Shows.{Home, IsLaidOut, LogMap, Shows, shows}
+use Rattle.raft_log_rewriting.specs.raft_log_engine_state.specs.Holding.{Holds}
+use Rattle.raft_log_rewriting.specs.raft_log_engine_state.specs.Writing.{items_at}
+use Rattle.raft_log_rewriting.specs.raft_log_purge_state.specs.Rewriting.{CountsAlone, HasCopies, SaysAt, moved_to}
+use Rattle.raft_log_rewriting.specs.raft_log_purge_state.proofs.Copying.{copies_refused, copies_written}
+use Rattle.raft_log_rewriting.specs.raft_log_purge_state.proofs.Rewriting.{bytes_of, record_taken, says_marked}
 use Rattle.raft_log_group_state.specs.Parts.{WrittenPart}
 use Rattle.raft_log_group_state.specs.Restating.{puts}
 use Rattle.raft_log_group_state.specs.Taking.{MovedParts}

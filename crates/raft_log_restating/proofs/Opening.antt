@@ -24,10 +24,10 @@ use Rattle.raft_log_places.specs.Shown.{Shown}
 use Rattle.raft_log_tables.specs.Reads.{rewritten_entries}
 use Rattle.raft_log_replay.specs.declared.mem_tables.MemTables.{MemTables}
 use Rattle.raft_log_dual_pipes.specs.Pipes.{LogPipes, is_failed}
-use Rattle.raft_log_blocks.specs.declared.block_cache.BlockCache.{BlockCache}
-use Rattle.raft_log_blocks.specs.Blocks.{IsOfLog}
-use Rattle.raft_log_engine_state.specs.Shows.{Home, IsLaidOut, LogMap, Shows, has_failed, shows}
-use Rattle.raft_log_engine_state.specs.Holding.{Holds}
+use Rattle.raft_log_rewriting.specs.raft_log_blocks.specs.declared.block_cache.BlockCache.{BlockCache}
+use Rattle.raft_log_rewriting.specs.raft_log_blocks.specs.Blocks.{IsOfLog}
+use Rattle.raft_log_rewriting.specs.raft_log_engine_state.specs.Shows.{Home, IsLaidOut, LogMap, Shows, has_failed, shows}
+use Rattle.raft_log_rewriting.specs.raft_log_engine_state.specs.Holding.{Holds}
 use Rattle.raft_log_group_state.specs.Parts.{HoldsInGroup, IsGroupPart, WrittenPart, begun_by, gone_on_by, parts_of}
 use Rattle.raft_log_group_state.specs.Restating.{entries_of_pieces}
 use Rattle.raft_log_rewriting.specs.Entries.{AreBytesAt}

@@ -7,7 +7,7 @@ use Rattle.raft_log_base.specs.declared.pipe_log.FileBlockHandle.{FileBlockHandl
 use Rattle.raft_log_records.specs.Batch.{Batch}
 use Rattle.raft_log_places.specs.declared.place.Place.{Place}
 use Rattle.raft_log_places.specs.Noted.{AllIn}
-use Rattle.raft_log_engine_state.specs.Writing.{items_at}
+use Rattle.raft_log_rewriting.specs.raft_log_engine_state.specs.Writing.{items_at}
 use Rattle.raft_log_group_state.specs.Parts.{FilesGoUp, WrittenPart, said_items}
 use Rattle.raft_log_group_state.specs.Whole.{Filed, RunPiece, all_places, batches_of, filed_in, filed_items, in_pieces}
 use Rattle.raft_log_group_state.specs.Restating.{KeyBytes, entries_of_pieces, puts, runs_in, said_of_group}

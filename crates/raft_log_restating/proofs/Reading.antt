@@ -12,12 +12,12 @@ use Rattle.raft_log_places.specs.declared.place.Place.{Place}
 use Rattle.raft_log_places.specs.Shown.{IsOrderly, Shown}
 use Rattle.raft_log_held.specs.Entries.{entry_of, queue_of}
 use Rattle.raft_log_tables.specs.Reads.{entries_from, rewritten_entries}
-use Rattle.raft_log_blocks.specs.declared.block_cache.BlockCache.{BlockCache}
-use Rattle.raft_log_blocks.specs.Blocks.{AreUnread, IsOfLog, ReadsEntries}
-use Rattle.raft_log_engine_state.specs.Shows.{Home, LogMap, Shows}
-use Rattle.raft_log_engine_state.specs.Holding.{Holds}
-use Rattle.raft_log_engine_state.specs.Fetching.{AreEntriesOf}
-use Rattle.raft_log_engine_state.proofs.Fetching.{all_told, all_untold}
+use Rattle.raft_log_rewriting.specs.raft_log_blocks.specs.declared.block_cache.BlockCache.{BlockCache}
+use Rattle.raft_log_rewriting.specs.raft_log_blocks.specs.Blocks.{AreUnread, IsOfLog, ReadsEntries}
+use Rattle.raft_log_rewriting.specs.raft_log_engine_state.specs.Shows.{Home, LogMap, Shows}
+use Rattle.raft_log_rewriting.specs.raft_log_engine_state.specs.Holding.{Holds}
+use Rattle.raft_log_rewriting.specs.raft_log_engine_state.specs.Fetching.{AreEntriesOf}
+use Rattle.raft_log_rewriting.specs.raft_log_engine_state.proofs.Fetching.{all_told, all_untold}
 use Rattle.raft_log_group_state.specs.Parts.{HoldsInGroup, UnendedGroup}
 use Rattle.raft_log_rewriting.specs.declared.entries.EntryBytes.{EntryBytes}
 use Rattle.raft_log_rewriting.specs.Entries.{AreBytesAt}

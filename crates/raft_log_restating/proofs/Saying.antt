@@ -25,7 +25,7 @@ use Rattle.raft_log_records.specs.ItemBatch.{all_entries}
 use Rattle.raft_log_records.specs.Places.{entry_bytes}
 use Rattle.raft_log_places.specs.Noted.{AllIn}
 use Rattle.raft_log_held.specs.Entries.{place_of}
-use Rattle.raft_log_engine_state.specs.Writing.{items_at}
+use Rattle.raft_log_rewriting.specs.raft_log_engine_state.specs.Writing.{items_at}
 use Rattle.raft_log_group_state.specs.Parts.{said_items}
 use Rattle.raft_log_rewriting.specs.Entries.{IsRunBatch}
 use Rattle.raft_log_rewriting.specs.Marks.{AreNoMarks}

@@ -12,22 +12,22 @@ use Rattle.raft_log_base.specs.declared.errors.Error.{Error}
 use Rattle.raft_log_base.specs.declared.errors.Error.TheVariants as errors
 use Rattle.raft_log_base.specs.declared.pipe_log.LogQueue.TheVariants.{Rewrite}
 use Rattle.raft_log_directory.specs.Calls.Which.{InRewrite}
-use Rattle.raft_log_layout.specs.declared.record.LogRecord.{LogRecord}
+use Rattle.raft_log_rewriting.specs.raft_log_layout.specs.declared.record.LogRecord.{LogRecord}
 use Rattle.raft_log_places.specs.Shown.{Shown}
 use Rattle.raft_log_replay.specs.declared.group_table.GroupTable.{GroupTable}
 use Rattle.raft_log_replay.specs.declared.mem_tables.MemTables.{MemTables}
 use Rattle.raft_log_replay.specs.Tables.{has_table, shown_in, shown_of}
 use Rattle.raft_log_replay.specs.Walking.{ListsGroups}
-use Rattle.raft_log_steps.specs.Steps.{next_log}
+use Rattle.raft_log_rewriting.specs.raft_log_steps.specs.Steps.{next_log}
 use Rattle.raft_log_dual_pipes.specs.Pipes.{LogPipes, is_failed}
 use Rattle.raft_log_dual_pipes.specs.Calls.{FailsToRotateQueue, FailsToSyncQueue, RotatesQueue, SyncsQueue, TellsFailure}
-use Rattle.raft_log_blocks.specs.declared.block_cache.BlockCache.{BlockCache}
-use Rattle.raft_log_engine_state.specs.Shows.{Home, LogMap, Shows, sense, shows}
-use Rattle.raft_log_engine_state.specs.Holding.{Holds}
-use Rattle.raft_log_engine_state.proofs.Keeping.{holds_runs}
-use Rattle.raft_log_purge_state.specs.Settled.{HoldsSettled}
-use Rattle.raft_log_purge_state.specs.Quiet.{TurnLeavesHeld}
-use Rattle.raft_log_purge_state.proofs.Settling.{failed_sync, rewrite_rotates, settled_held, sync_settles_log, turn_refused}
+use Rattle.raft_log_rewriting.specs.raft_log_blocks.specs.declared.block_cache.BlockCache.{BlockCache}
+use Rattle.raft_log_rewriting.specs.raft_log_engine_state.specs.Shows.{Home, LogMap, Shows, sense, shows}
+use Rattle.raft_log_rewriting.specs.raft_log_engine_state.specs.Holding.{Holds}
+use Rattle.raft_log_rewriting.specs.raft_log_engine_state.proofs.Keeping.{holds_runs}
+use Rattle.raft_log_rewriting.specs.raft_log_purge_state.specs.Settled.{HoldsSettled}
+use Rattle.raft_log_rewriting.specs.raft_log_purge_state.specs.Quiet.{TurnLeavesHeld}
+use Rattle.raft_log_rewriting.specs.raft_log_purge_state.proofs.Settling.{failed_sync, rewrite_rotates, settled_held, sync_settles_log, turn_refused}
 use Rattle.raft_log_rewriting.specs.Files.{FailsToLoseFiles, LosesFiles, RemainsSettled}
 use Rattle.raft_log_rewriting.specs.Stale.{written_file}
 use Rattle.raft_log_rewriting.proofs.Grouping.{among}

@@ -8,8 +8,8 @@ use Rattle.raft_log_atomic_groups.specs.declared.marking.Marking.TheVariants.{Pa
 use Rattle.raft_log_atomic_groups.specs.Marking.{marking_of_items}
 use Rattle.raft_log_records.specs.declared.log_batch.BatchState.TheVariants.{Filling}
 use Rattle.raft_log_records.specs.Batch.{Batch, block_place}
-use Rattle.raft_log_engine_state.specs.Shows.{Home, LogMap, Shows, has_failed}
-use Rattle.raft_log_engine_state.specs.Holding.{Holds}
+use Rattle.raft_log_rewriting.specs.raft_log_engine_state.specs.Shows.{Home, LogMap, Shows, has_failed}
+use Rattle.raft_log_rewriting.specs.raft_log_engine_state.specs.Holding.{Holds}
 use Rattle.raft_log_group_state.specs.Parts.{HoldsInGroup, UnendedGroup, WrittenPart, parts_of}
 use Rattle.raft_log_group_state.specs.Restating.{entries_of_pieces}
 use Rattle.raft_log_rewriting.specs.Entries.{AreBytesAt}

@@ -11,7 +11,7 @@ use Rattle.raft_log_signed_batch.specs.Signing.{SaysItself, signed_for}
 use Rattle.raft_log_directory.specs.Calls.Which.{InRewrite}
 use Rattle.raft_log_dual_pipes.specs.Pipes.{LogPipes, is_failed}
 use Rattle.raft_log_dual_pipes.specs.Calls.{AppendsTo, FailsToAppendTo, FailsToSyncQueue}
-use Rattle.raft_log_engine_state.specs.Shows.{IsLaidOut}
+use Rattle.raft_log_rewriting.specs.raft_log_engine_state.specs.Shows.{IsLaidOut}
 use Rattle.raft_log_rewriting.specs.Parts.{IsUnmade}
 use Rattle.raft_log_rewriting.specs.Syncing.{MaySync}
 

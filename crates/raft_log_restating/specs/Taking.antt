@@ -13,8 +13,8 @@ use Rattle.raft_log_replay.specs.Rewriting.{GroupsStay, MayMove}
 use Rattle.raft_log_replay.specs.Tables.{ShowsSame}
 use Rattle.raft_log_tables.specs.Reads.{rewritten_entries}
 use Rattle.raft_log_dual_pipes.specs.Pipes.{LogPipes}
-use Rattle.raft_log_blocks.specs.declared.block_cache.BlockCache.{BlockCache}
-use Rattle.raft_log_engine_state.specs.Shows.{Shows, shows}
+use Rattle.raft_log_rewriting.specs.raft_log_blocks.specs.declared.block_cache.BlockCache.{BlockCache}
+use Rattle.raft_log_rewriting.specs.raft_log_engine_state.specs.Shows.{Shows, shows}
 use Rattle.raft_log_group_state.specs.Parts.{WrittenPart}
 use Rattle.raft_log_group_state.specs.Taking.{MovedParts}
 use Rattle.raft_log_restating.specs.declared.parts.RestatedPart.{RestatedPart}

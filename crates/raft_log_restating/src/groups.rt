@@ -2,7 +2,7 @@
 //! group where it is more than one record may have.
 
 ghost use Rattle.std.specs.Prelude.{◌≡◌, ◌≤◌, ◌<◌, IfErr, IfOk, None, OnOk, length};
-ghost use Rattle.raft_log_engine_state.specs.Shows.{shows};
+ghost use Rattle.raft_log_rewriting.specs.raft_log_engine_state.specs.Shows.{shows};
 ghost use Rattle.raft_log_records.specs.declared.log_batch.BatchState.TheVariants.{Filling};
 ghost use Rattle.raft_log_replay.specs.Tables.{IsAtRest};
 ghost use Rattle.raft_log_restating.specs.Restated.{
@@ -23,12 +23,12 @@ use crate::pieces::{piece_len, piece_of, rewritten_entries, rewritten_keys};
 use crate::taking::{first_file, write_last};
 use log::Log;
 use raft_log_base::Result;
-use raft_log_blocks::BlockCache;
 use raft_log_dual_pipes::PipeLog;
 use raft_log_items::{Bytes, EntryIndex};
 use raft_log_places::GroupFiles;
 use raft_log_records::{AtomicGroupBuilder, LogBatch};
 use raft_log_replay::MemTables;
+use raft_log_rewriting::raft_log_blocks::BlockCache;
 use std::alloc::Global;
 
 /// Restates groups, one after another: all that each has in Rewrite lies from the file on that was written

@@ -11,3 +11,6 @@ pub mod queue;
 pub mod records;
 pub mod standing;
 pub mod taking;
+
+pub use raft_log_rewriting;
+pub use raft_log_rewriting::raft_log_blocks;

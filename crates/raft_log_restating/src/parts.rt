@@ -11,10 +11,10 @@ use crate::pieces::{piece_len, piece_of};
 use crate::records::{WrittenRecord, write_record};
 use log::Log;
 use raft_log_base::{FileBlockHandle, Result};
-use raft_log_blocks::BlockCache;
 use raft_log_dual_pipes::PipeLog;
 use raft_log_items::{Bytes, EntryIndex, LogItem};
 use raft_log_records::{AtomicGroupBuilder, LogBatch};
+use raft_log_rewriting::raft_log_blocks::BlockCache;
 use std::alloc::Global;
 
 /// A part of an atomic group that was written: the place of its record, and its items there.

@@ -8,12 +8,12 @@ ghost use Rattle.raft_log_tables.specs.Reads.{rewritten_entries};
 ghost use Rattle.raft_log_restating.specs.Pieces.{AddsKeys, BuildsPiece, FailsToBuild};
 
 use raft_log_base::Result;
-use raft_log_blocks::BlockCache;
 use raft_log_dual_pipes::PipeLog;
 use raft_log_items::{Bytes, EntryIndex};
 use raft_log_records::LogBatch;
 use raft_log_replay::MemTables;
 use raft_log_rewriting::entries::{EntryBytes, run_batch};
+use raft_log_rewriting::raft_log_blocks::BlockCache;
 use std::alloc::{AllocError, Global};
 
 /// How many bytes of entries are written at once, but for an entry that has more.

@@ -1,7 +1,7 @@
 //! Rewrite is rewritten: what stands there is written again, and its old files go.
 
 ghost use Rattle.std.specs.Prelude.{◌≡◌, ◌≤◌, ◌⊎◌, IfErr, OnErr, OnOk};
-ghost use Rattle.raft_log_engine_state.specs.Shows.{shows};
+ghost use Rattle.raft_log_rewriting.specs.raft_log_engine_state.specs.Shows.{shows};
 ghost use Rattle.raft_log_replay.specs.Tables.{IsAtRest};
 ghost use Rattle.raft_log_restating.specs.Queue.{
   FailsToRewriteRewrite,
@@ -14,10 +14,10 @@ ghost use Rattle.raft_log_restating.specs.Queue.{
 use crate::groups::restate_groups;
 use log::Log;
 use raft_log_base::{LogQueue, Result};
-use raft_log_blocks::BlockCache;
 use raft_log_dual_pipes::PipeLog;
 use raft_log_replay::MemTables;
 use raft_log_rewriting::purge_stale;
+use raft_log_rewriting::raft_log_blocks::BlockCache;
 use raft_log_tables::GlobalStats;
 use std::alloc::Global;
 

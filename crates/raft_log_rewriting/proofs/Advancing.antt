@@ -17,8 +17,8 @@ use Rattle.raft_log_held.specs.Counts.{passing}
 use Rattle.raft_log_held.specs.Entries.{place_of}
 use Rattle.raft_log_replay.specs.Rewriting.{all_rewritten}
 use Rattle.raft_log_replay.proofs.Copies.{run_moves}
-use Rattle.raft_log_engine_state.specs.Shows.{Shows}
-use Rattle.raft_log_engine_state.specs.Writing.{items_at}
+use Rattle.raft_log_purge_state.specs.raft_log_engine_state.specs.Shows.{Shows}
+use Rattle.raft_log_purge_state.specs.raft_log_engine_state.specs.Writing.{items_at}
 use Rattle.raft_log_rewriting.specs.Copies.{MovesCopies}
 use Rattle.raft_log_rewriting.specs.Moving.{Advances}
 use Rattle.raft_log_rewriting.proofs.OneRun.{items_there, run_places}

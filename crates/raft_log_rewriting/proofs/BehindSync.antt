@@ -9,10 +9,10 @@ use Rattle.raft_log_directory.specs.Calls.Which.{InRewrite}
 use Rattle.raft_log_replay.specs.declared.mem_tables.MemTables.{MemTables}
 use Rattle.raft_log_dual_pipes.specs.Pipes.{LogPipes, is_failed}
 use Rattle.raft_log_dual_pipes.specs.Calls.{FailsToSyncQueue}
-use Rattle.raft_log_blocks.specs.declared.block_cache.BlockCache.{BlockCache}
-use Rattle.raft_log_engine_state.specs.Shows.{Home, LogMap, Shows, shows}
-use Rattle.raft_log_engine_state.specs.Holding.{Holds}
-use Rattle.raft_log_engine_state.proofs.Keeping.{holds_runs}
+use Rattle.raft_log_purge_state.specs.raft_log_blocks.specs.declared.block_cache.BlockCache.{BlockCache}
+use Rattle.raft_log_purge_state.specs.raft_log_engine_state.specs.Shows.{Home, LogMap, Shows, shows}
+use Rattle.raft_log_purge_state.specs.raft_log_engine_state.specs.Holding.{Holds}
+use Rattle.raft_log_purge_state.specs.raft_log_engine_state.proofs.Keeping.{holds_runs}
 use Rattle.raft_log_purge_state.proofs.Settling.{failed_sync, settled_held, sync_settles_log}
 use Rattle.raft_log_rewriting.specs.Parts.{Remains, StaysInFile}
 use Rattle.raft_log_rewriting.specs.Syncing.{MaySync, StaysAlive}

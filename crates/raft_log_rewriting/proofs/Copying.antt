@@ -24,8 +24,8 @@ use Rattle.raft_log_replay.specs.Tables.{ShowsSame, counts, shown_of}
 use Rattle.raft_log_replay.proofs.Moved.{written_may_move}
 use Rattle.raft_log_dual_pipes.specs.Pipes.{LogPipes}
 use Rattle.raft_log_dual_pipes.specs.Calls.{AppendsTo, FailsToAppendTo, TellsFailure}
-use Rattle.raft_log_blocks.specs.declared.block_cache.BlockCache.{BlockCache}
-use Rattle.raft_log_engine_state.specs.Shows.{Shows, shows}
+use Rattle.raft_log_purge_state.specs.raft_log_blocks.specs.declared.block_cache.BlockCache.{BlockCache}
+use Rattle.raft_log_purge_state.specs.raft_log_engine_state.specs.Shows.{Shows, shows}
 use Rattle.raft_log_purge_state.specs.Rewriting.{CountsAlone}
 use Rattle.raft_log_purge_state.proofs.Copying.{copies_refused, copies_written}
 use Rattle.raft_log_rewriting.specs.Parts.{IsRecordMade, IsUnmade, Remains}

@@ -12,10 +12,10 @@ use Rattle.raft_log_places.specs.declared.place.Place.{Place}
 use Rattle.raft_log_places.specs.Shown.{Shown, whereabouts}
 use Rattle.raft_log_places.specs.Noted.{file_at, place_file}
 use Rattle.raft_log_held.specs.Counts.{passing}
-use Rattle.raft_log_tables.specs.Files.{FrontIsLeast, IsLeastInAppend}
-use Rattle.raft_log_tables.proofs.Leasts.{place_there}
-use Rattle.raft_log_engine_state.specs.Shows.{Home, LogMap, Shows, has_failed}
-use Rattle.raft_log_engine_state.specs.Holding.{Holds, IsLeftAt}
+use Rattle.raft_log_purge_state.specs.raft_log_tables.specs.Files.{FrontIsLeast, IsLeastInAppend}
+use Rattle.raft_log_purge_state.specs.raft_log_tables.proofs.Leasts.{place_there}
+use Rattle.raft_log_purge_state.specs.raft_log_engine_state.specs.Shows.{Home, LogMap, Shows, has_failed}
+use Rattle.raft_log_purge_state.specs.raft_log_engine_state.specs.Holding.{Holds, IsLeftAt}
 use Rattle.raft_log_purge_state.specs.Raising.{AppendMayBegin}
 use Rattle.raft_log_records.specs.Entries.{indexes_of}
 use Rattle.raft_log_rewriting.specs.Parts.{StaysInFile}

@@ -26,7 +26,7 @@ use Rattle.raft_log_places.specs.Shown.{KeyValue, Shown, with_held}
 use Rattle.raft_log_places.specs.Bridge.{Located}
 use Rattle.raft_log_held.specs.Entries.{place_of}
 use Rattle.raft_log_held.specs.Listing.{ListsAll, appended_values, asked_bytes, is_asked}
-use Rattle.raft_log_tables.specs.Moves.{key_rewritten, may_move, rewritten_to}
+use Rattle.raft_log_purge_state.specs.raft_log_tables.specs.Moves.{key_rewritten, may_move, rewritten_to}
 use Rattle.raft_log_replay.specs.Rewriting.{AreCopies, IsCopy, all_rewritten}
 use Rattle.raft_log_rewriting.specs.Moving.{copied_value, with_copied_values}
 

@@ -26,14 +26,14 @@ use Rattle.raft_log_places.specs.declared.place.Place.{Place}
 use Rattle.raft_log_places.specs.Shown.{Shown}
 use Rattle.raft_log_held.specs.Entries.{place_of}
 use Rattle.raft_log_held.specs.Listing.{AddsAll, ListsAll, appended_values}
-use Rattle.raft_log_tables.specs.Table.{Raw, shown}
+use Rattle.raft_log_purge_state.specs.raft_log_tables.specs.Table.{Raw, shown}
 use Rattle.raft_log_replay.specs.declared.group_table.GroupTable.{GroupTable}
 use Rattle.raft_log_replay.specs.declared.mem_tables.MemTables.{MemTables}
 use Rattle.raft_log_replay.specs.Rewriting.{AreCopies, all_rewritten}
 use Rattle.raft_log_replay.specs.Tables.{raw_of, shown_in, shown_of}
-use Rattle.raft_log_engine_state.specs.Shows.{Home, LogMap, Shows, has_failed}
-use Rattle.raft_log_engine_state.specs.Holding.{Holds}
-use Rattle.raft_log_engine_state.specs.Writing.{items_at}
+use Rattle.raft_log_purge_state.specs.raft_log_engine_state.specs.Shows.{Home, LogMap, Shows, has_failed}
+use Rattle.raft_log_purge_state.specs.raft_log_engine_state.specs.Holding.{Holds}
+use Rattle.raft_log_purge_state.specs.raft_log_engine_state.specs.Writing.{items_at}
 use Rattle.raft_log_purge_state.specs.Rewriting.{HasCopies}
 use Rattle.raft_log_rewriting.specs.Parts.{IsUnmade, Remains}
 use Rattle.raft_log_rewriting.specs.Marks.{AreNoMarks}

@@ -18,9 +18,9 @@ use Rattle.raft_log_held.specs.declared.key_map.HeldValue.{HeldValue}
 use Rattle.raft_log_held.specs.declared.key_map.KeySlot.{KeySlot}
 use Rattle.raft_log_held.specs.Counts.{file_of_value, least_over, least_value, lesser}
 use Rattle.raft_log_held.specs.Keys.{held_in, slot_at, value_of}
-use Rattle.raft_log_tables.specs.Files.{FrontIsLeast, IsLeastInAppend, first_place, min_file}
-use Rattle.raft_log_tables.specs.Table.{Raw, shown}
-use Rattle.raft_log_tables.proofs.Leasts.{front_is_least, least_in_append, least_in_rewrite, nothing_in_rewrite, place_there}
+use Rattle.raft_log_purge_state.specs.raft_log_tables.specs.Files.{FrontIsLeast, IsLeastInAppend, first_place, min_file}
+use Rattle.raft_log_purge_state.specs.raft_log_tables.specs.Table.{Raw, shown}
+use Rattle.raft_log_purge_state.specs.raft_log_tables.proofs.Leasts.{front_is_least, least_in_append, least_in_rewrite, nothing_in_rewrite, place_there}
 use Rattle.raft_log_replay.specs.declared.group_table.GroupTable.{GroupTable}
 use Rattle.raft_log_replay.specs.declared.mem_tables.MemTables.{MemTables}
 use Rattle.raft_log_replay.specs.Tables.{has_table, raw_of, shown_in, shown_of}
@@ -28,11 +28,11 @@ use Rattle.raft_log_replay.specs.Walking.{ListsGroups}
 use Rattle.raft_log_disk.specs.Causes.{IsLater}
 use Rattle.raft_log_places.specs.declared.group_files.GroupFiles.{GroupFiles}
 use Rattle.raft_log_pipes.specs.Purging.{IsInSpan}
-use Rattle.raft_log_steps.specs.State.{pipe_at}
+use Rattle.raft_log_purge_state.specs.raft_log_steps.specs.State.{pipe_at}
 use Rattle.raft_log_dual_pipes.specs.Pipes.{LogPipes, RunsOn, State, files_of, which_of}
 use Rattle.raft_log_dual_pipes.specs.Calls.{FailsToPurgeQueue, PurgesQueue, TellsFailure}
-use Rattle.raft_log_blocks.specs.declared.block_cache.BlockCache.{BlockCache}
-use Rattle.raft_log_engine_state.specs.Shows.{Home, LogMap, Shows, sense, shows}
+use Rattle.raft_log_purge_state.specs.raft_log_blocks.specs.declared.block_cache.BlockCache.{BlockCache}
+use Rattle.raft_log_purge_state.specs.raft_log_engine_state.specs.Shows.{Home, LogMap, Shows, sense, shows}
 use Rattle.raft_log_purge_state.specs.Settled.{HoldsSettled}
 use Rattle.raft_log_purge_state.specs.Raising.{MayBegin, PurgeLeavesHeld}
 use Rattle.raft_log_purge_state.proofs.Raising.{raise_refused, raised}

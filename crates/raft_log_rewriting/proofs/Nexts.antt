@@ -9,8 +9,8 @@ use Rattle.raft_log_places.specs.declared.place.Place.{Place}
 use Rattle.raft_log_places.specs.Shown.{IsOrderly, Shown}
 use Rattle.raft_log_held.specs.Counts.{fitting, passing, sized}
 use Rattle.raft_log_held.specs.Entries.{entry_of, place_of, queue_of}
-use Rattle.raft_log_tables.specs.Reads.{entries_from, fetched, places_between}
-use Rattle.raft_log_tables.specs.Table.{Raw, shown}
+use Rattle.raft_log_purge_state.specs.raft_log_tables.specs.Reads.{entries_from, fetched, places_between}
+use Rattle.raft_log_purge_state.specs.raft_log_tables.specs.Table.{Raw, shown}
 use Rattle.raft_log_replay.specs.declared.group_table.GroupTable.{GroupTable}
 use Rattle.raft_log_replay.specs.declared.mem_tables.MemTables.{MemTables}
 use Rattle.raft_log_replay.specs.Tables.{raw_of, shown_in, shown_of}

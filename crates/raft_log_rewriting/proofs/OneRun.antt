@@ -24,9 +24,9 @@ use Rattle.raft_log_held.specs.Counts.{passing}
 use Rattle.raft_log_held.specs.Entries.{place_of}
 use Rattle.raft_log_replay.specs.Rewriting.{AreCopies, IsCopy}
 use Rattle.raft_log_replay.proofs.Ready.{by_group, same_or_apart}
-use Rattle.raft_log_views.specs.Views.{AreMeant}
-use Rattle.raft_log_engine_state.specs.Shows.{LogMap}
-use Rattle.raft_log_engine_state.specs.Writing.{items_at}
+use Rattle.raft_log_purge_state.specs.raft_log_views.specs.Views.{AreMeant}
+use Rattle.raft_log_purge_state.specs.raft_log_engine_state.specs.Shows.{LogMap}
+use Rattle.raft_log_purge_state.specs.raft_log_engine_state.specs.Writing.{items_at}
 use Rattle.raft_log_purge_state.specs.Rewriting.{HasCopies, SaysAt}
 use Rattle.raft_log_rewriting.specs.Entries.{AreBytesAt}
 

@@ -19,13 +19,13 @@ use Rattle.raft_log_records.specs.Places.{entry_bytes}
 use Rattle.raft_log_places.specs.declared.place.Place.{Place}
 use Rattle.raft_log_places.specs.Shown.{Shown}
 use Rattle.raft_log_held.specs.Counts.{passing}
-use Rattle.raft_log_tables.specs.Reads.{entries_from}
-use Rattle.raft_log_blocks.specs.declared.block_cache.BlockCache.{BlockCache}
-use Rattle.raft_log_blocks.specs.Blocks.{AreUnread, IsOfLog, ReadsEntries}
-use Rattle.raft_log_engine_state.specs.Shows.{Home, LogMap, Shows}
-use Rattle.raft_log_engine_state.specs.Holding.{Holds, IsLeftAt}
-use Rattle.raft_log_engine_state.specs.Fetching.{AreEntriesOf}
-use Rattle.raft_log_engine_state.proofs.Fetching.{all_told, all_untold}
+use Rattle.raft_log_purge_state.specs.raft_log_tables.specs.Reads.{entries_from}
+use Rattle.raft_log_purge_state.specs.raft_log_blocks.specs.declared.block_cache.BlockCache.{BlockCache}
+use Rattle.raft_log_purge_state.specs.raft_log_blocks.specs.Blocks.{AreUnread, IsOfLog, ReadsEntries}
+use Rattle.raft_log_purge_state.specs.raft_log_engine_state.specs.Shows.{Home, LogMap, Shows}
+use Rattle.raft_log_purge_state.specs.raft_log_engine_state.specs.Holding.{Holds, IsLeftAt}
+use Rattle.raft_log_purge_state.specs.raft_log_engine_state.specs.Fetching.{AreEntriesOf}
+use Rattle.raft_log_purge_state.specs.raft_log_engine_state.proofs.Fetching.{all_told, all_untold}
 use Rattle.raft_log_purge_state.specs.Rewriting.{HasCopies}
 use Rattle.raft_log_rewriting.specs.declared.entries.EntryBytes.{EntryBytes}
 use Rattle.raft_log_rewriting.specs.Parts.{Remains}

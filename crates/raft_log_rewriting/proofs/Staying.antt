@@ -8,10 +8,10 @@ use Rattle.raft_log_model.specs.Item.Record.{Plain}
 use Rattle.raft_log_records.specs.Batch.{Batch}
 use Rattle.raft_log_signed_batch.specs.Signing.{signed_for}
 use Rattle.raft_log_directory.specs.Calls.Which.{InRewrite}
-use Rattle.raft_log_steps.specs.Steps.{next_log}
+use Rattle.raft_log_purge_state.specs.raft_log_steps.specs.Steps.{next_log}
 use Rattle.raft_log_dual_pipes.specs.Pipes.{LogPipes, RunsOn, State}
 use Rattle.raft_log_dual_pipes.specs.Calls.{AppendsTo, SyncsQueue}
-use Rattle.raft_log_engine_state.specs.Shows.{Home, sense}
+use Rattle.raft_log_purge_state.specs.raft_log_engine_state.specs.Shows.{Home, sense}
 use Rattle.raft_log_purge_state.specs.Rewriting.{CountsAlone}
 use Rattle.raft_log_purge_state.proofs.Rewriting.{bytes_of, says_marked}
 use Rattle.raft_log_rewriting.specs.Parts.{StaysInFile, append_file}

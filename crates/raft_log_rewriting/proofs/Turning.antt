@@ -13,11 +13,11 @@ use Rattle.raft_log_places.specs.Shown.{Shown, whereabouts}
 use Rattle.raft_log_replay.specs.declared.mem_tables.MemTables.{MemTables}
 use Rattle.raft_log_dual_pipes.specs.Pipes.{LogPipes, Said, is_failed, which_of}
 use Rattle.raft_log_dual_pipes.specs.Calls.{FailsToRotateQueue, FailsToSyncQueue, RotatesQueue, SyncsQueue, TellsFailure}
-use Rattle.raft_log_engine_state.specs.Shows.{Home, LogMap, Shows}
-use Rattle.raft_log_engine_state.specs.Holding.{Holds}
-use Rattle.raft_log_engine_state.proofs.Keeping.{holds_runs}
-use Rattle.raft_log_engine_state.proofs.Calling.{synced_all}
-use Rattle.raft_log_engine_state.proofs.Refusing.{unsynced_left}
+use Rattle.raft_log_purge_state.specs.raft_log_engine_state.specs.Shows.{Home, LogMap, Shows}
+use Rattle.raft_log_purge_state.specs.raft_log_engine_state.specs.Holding.{Holds}
+use Rattle.raft_log_purge_state.specs.raft_log_engine_state.proofs.Keeping.{holds_runs}
+use Rattle.raft_log_purge_state.specs.raft_log_engine_state.proofs.Calling.{synced_all}
+use Rattle.raft_log_purge_state.specs.raft_log_engine_state.proofs.Refusing.{unsynced_left}
 use Rattle.raft_log_purge_state.specs.Settled.{HoldsSettled}
 use Rattle.raft_log_purge_state.specs.Quiet.{TurnLeavesHeld}
 use Rattle.raft_log_purge_state.proofs.Settling.{rewrite_rotates, settled_held, settled_rotates, turn_refused}

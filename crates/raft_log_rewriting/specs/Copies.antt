@@ -7,8 +7,8 @@ use Rattle.raft_log_base.specs.declared.pipe_log.FileBlockHandle.{FileBlockHandl
 use Rattle.raft_log_atomic_groups.specs.declared.marking.Marking.TheVariants.{Unmarked}
 use Rattle.raft_log_atomic_groups.specs.Marking.{marking_of_items}
 use Rattle.raft_log_records.specs.Batch.{Batch}
-use Rattle.raft_log_engine_state.specs.Shows.{Home, LogMap, Shows, has_failed}
-use Rattle.raft_log_engine_state.specs.Holding.{Holds}
+use Rattle.raft_log_purge_state.specs.raft_log_engine_state.specs.Shows.{Home, LogMap, Shows, has_failed}
+use Rattle.raft_log_purge_state.specs.raft_log_engine_state.specs.Holding.{Holds}
 use Rattle.raft_log_purge_state.specs.Rewriting.{HasCopies, moved_to}
 use Rattle.raft_log_rewriting.specs.Parts.{Remains, StaysInFile}
 

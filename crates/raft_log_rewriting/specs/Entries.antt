@@ -10,8 +10,8 @@ use Rattle.raft_log_records.specs.Places.{bytes_in}
 use Rattle.raft_log_held.specs.Counts.{passing, sized}
 use Rattle.raft_log_places.specs.declared.place.Place.{Place}
 use Rattle.raft_log_places.specs.Shown.{Shown}
-use Rattle.raft_log_tables.specs.Reads.{entries_from}
-use Rattle.raft_log_engine_state.specs.Shows.{LogMap}
+use Rattle.raft_log_purge_state.specs.raft_log_tables.specs.Reads.{entries_from}
+use Rattle.raft_log_purge_state.specs.raft_log_engine_state.specs.Shows.{LogMap}
 
 -- how many bytes of entries are copied at once, but for an entry that has more
 abbrev pub copied_at_once : ℕ

@@ -8,14 +8,14 @@ use Rattle.raft_log_machine.specs.Whereabouts.{OwesNothing}
 use Rattle.raft_log_directory.specs.Calls.{Which}
 use Rattle.raft_log_directory.specs.Calls.Which.{InAppend, InRewrite}
 use Rattle.raft_log_places.specs.Shown.{Shown, whereabouts}
-use Rattle.raft_log_tables.specs.Files.{min_file}
-use Rattle.raft_log_tables.specs.Table.{Raw}
+use Rattle.raft_log_purge_state.specs.raft_log_tables.specs.Files.{min_file}
+use Rattle.raft_log_purge_state.specs.raft_log_tables.specs.Table.{Raw}
 use Rattle.raft_log_replay.specs.declared.mem_tables.MemTables.{MemTables}
 use Rattle.raft_log_replay.specs.Tables.{raw_of}
-use Rattle.raft_log_steps.specs.State.{pipe_at}
+use Rattle.raft_log_purge_state.specs.raft_log_steps.specs.State.{pipe_at}
 use Rattle.raft_log_dual_pipes.specs.Pipes.{files_of, which_of}
-use Rattle.raft_log_engine_state.specs.Shows.{Home, LogMap, Shows, has_failed}
-use Rattle.raft_log_engine_state.specs.Holding.{IsLeftAt}
+use Rattle.raft_log_purge_state.specs.raft_log_engine_state.specs.Shows.{Home, LogMap, Shows, has_failed}
+use Rattle.raft_log_purge_state.specs.raft_log_engine_state.specs.Holding.{IsLeftAt}
 use Rattle.raft_log_purge_state.specs.Settled.{HoldsSettled}
 
 -- the least file of a queue in which a group has something, if it has a table, and there is one

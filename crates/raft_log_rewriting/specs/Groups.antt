@@ -6,8 +6,8 @@ use Rattle.raft_log_base.specs.declared.errors.Error.{Error}
 use Rattle.raft_log_base.specs.declared.errors.Error.TheVariants as errors
 use Rattle.raft_log_places.specs.Shown.{Shown}
 use Rattle.raft_log_held.specs.Counts.{passing}
-use Rattle.raft_log_tables.specs.Files.{FrontIsLeast, IsLeastInAppend}
-use Rattle.raft_log_engine_state.specs.Shows.{Shows, has_failed}
+use Rattle.raft_log_purge_state.specs.raft_log_tables.specs.Files.{FrontIsLeast, IsLeastInAppend}
+use Rattle.raft_log_purge_state.specs.raft_log_engine_state.specs.Shows.{Shows, has_failed}
 use Rattle.raft_log_purge_state.specs.Raising.{AppendMayBegin}
 use Rattle.raft_log_rewriting.specs.Parts.{StaysInFile}
 use Rattle.raft_log_rewriting.specs.Moving.{IsPartlyRewritten, IsRewrittenTo}

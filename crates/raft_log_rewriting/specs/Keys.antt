@@ -7,7 +7,7 @@ use Rattle.raft_log_items.specs.Items.{put_item}
 use Rattle.raft_log_records.specs.declared.log_batch.BatchState.TheVariants.{Filling}
 use Rattle.raft_log_records.specs.Batch.{Batch}
 use Rattle.raft_log_held.specs.Listing.{ListsAll, appended_values}
-use Rattle.raft_log_engine_state.specs.Shows.{Shows, has_failed}
+use Rattle.raft_log_purge_state.specs.raft_log_engine_state.specs.Shows.{Shows, has_failed}
 use Rattle.raft_log_rewriting.specs.Copies.{WritesCopies}
 use Rattle.raft_log_rewriting.specs.Marks.{AreNoMarks}
 use Rattle.raft_log_rewriting.specs.Moving.{MovesKeys}

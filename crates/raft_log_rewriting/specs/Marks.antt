@@ -12,9 +12,9 @@ use Rattle.raft_log_places.specs.Shown.{Shown}
 use Rattle.raft_log_places.specs.Bridge.{unmarked}
 use Rattle.raft_log_replay.specs.Owing.{AreOwedAt}
 use Rattle.raft_log_dual_pipes.specs.Pipes.{LogPipes, is_failed}
-use Rattle.raft_log_blocks.specs.declared.block_cache.BlockCache.{BlockCache}
-use Rattle.raft_log_engine_state.specs.Shows.{Home, LogMap, Shows, has_failed}
-use Rattle.raft_log_engine_state.specs.Holding.{Holds}
+use Rattle.raft_log_purge_state.specs.raft_log_blocks.specs.declared.block_cache.BlockCache.{BlockCache}
+use Rattle.raft_log_purge_state.specs.raft_log_engine_state.specs.Shows.{Home, LogMap, Shows, has_failed}
+use Rattle.raft_log_purge_state.specs.raft_log_engine_state.specs.Holding.{Holds}
 use Rattle.raft_log_purge_state.specs.Settled.{HoldsSettled}
 use Rattle.raft_log_rewriting.specs.Parts.{StaysInFile}
 

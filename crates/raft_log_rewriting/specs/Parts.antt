@@ -6,10 +6,10 @@ use Rattle.raft_log_base.specs.declared.errors.Error.TheVariants as errors
 use Rattle.raft_log_records.specs.Batch.{Batch}
 use Rattle.raft_log_signed_batch.specs.Signing.{SaysItself, signed_for}
 use Rattle.raft_log_directory.specs.Calls.Which.{InAppend}
-use Rattle.raft_log_steps.specs.State.{pipe_at}
+use Rattle.raft_log_purge_state.specs.raft_log_steps.specs.State.{pipe_at}
 use Rattle.raft_log_dual_pipes.specs.Pipes.{LogPipes, RunsOn, State, files_of}
-use Rattle.raft_log_engine_state.specs.Shows.{Home, IsLaidOut, LogMap, Shows, has_failed, sense}
-use Rattle.raft_log_engine_state.specs.Holding.{Holds, IsLeftAt}
+use Rattle.raft_log_purge_state.specs.raft_log_engine_state.specs.Shows.{Home, IsLaidOut, LogMap, Shows, has_failed, sense}
+use Rattle.raft_log_purge_state.specs.raft_log_engine_state.specs.Holding.{Holds, IsLeftAt}
 
 -- What is true where a part was refused, by the error: the engine's log is what it was, and nothing is
 -- pending; and where the engine has failed, its log is held.

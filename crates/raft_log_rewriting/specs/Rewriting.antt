@@ -8,8 +8,8 @@ use Rattle.raft_log_machine.specs.Whereabouts.{OwesNothing}
 use Rattle.raft_log_places.specs.Shown.{Shown, whereabouts}
 use Rattle.raft_log_records.specs.Batch.{Batch}
 use Rattle.raft_log_records.specs.Entries.{indexes_of}
-use Rattle.raft_log_engine_state.specs.Shows.{Home, LogMap, Shows, has_failed}
-use Rattle.raft_log_engine_state.specs.Holding.{Holds, IsLeftAt}
+use Rattle.raft_log_purge_state.specs.raft_log_engine_state.specs.Shows.{Home, LogMap, Shows, has_failed}
+use Rattle.raft_log_purge_state.specs.raft_log_engine_state.specs.Holding.{Holds, IsLeftAt}
 use Rattle.raft_log_rewriting.specs.Copies.{MovesCopies}
 use Rattle.raft_log_rewriting.specs.Entries.{AreNext, IsRunBatch}
 use Rattle.raft_log_rewriting.specs.Moving.{Advances}

@@ -8,11 +8,11 @@ use Rattle.raft_log_base.specs.declared.pipe_log.LogQueue.{LogQueue}
 use Rattle.raft_log_base.specs.declared.pipe_log.LogQueue.TheVariants.{Append, Rewrite}
 use Rattle.raft_log_directory.specs.Calls.Which.{InAppend}
 use Rattle.raft_log_replay.specs.declared.mem_tables.MemTables.{MemTables}
-use Rattle.raft_log_steps.specs.State.{pipe_at}
+use Rattle.raft_log_purge_state.specs.raft_log_steps.specs.State.{pipe_at}
 use Rattle.raft_log_dual_pipes.specs.Pipes.{LogPipes, Said, files_of, which_of}
 use Rattle.raft_log_dual_pipes.specs.Calls.{RotatesQueue, SyncsQueue}
-use Rattle.raft_log_engine_state.specs.Shows.{Home, LogMap, Shows, has_failed}
-use Rattle.raft_log_engine_state.specs.Holding.{Holds, IsLeftAt}
+use Rattle.raft_log_purge_state.specs.raft_log_engine_state.specs.Shows.{Home, LogMap, Shows, has_failed}
+use Rattle.raft_log_purge_state.specs.raft_log_engine_state.specs.Holding.{Holds, IsLeftAt}
 use Rattle.raft_log_purge_state.specs.Settled.{HoldsSettled}
 use Rattle.raft_log_rewriting.specs.Parts.{Remains}
 use Rattle.raft_log_rewriting.specs.Marks.{CarriesMarks}

@@ -2,8 +2,8 @@
 
 ghost use Rattle.std.specs.Prelude.{◌≡◌, [], Some, IfErr, IfOk};
 ghost use Rattle.raft_log_atomic_groups.specs.Meaning.{tagged_items};
-ghost use Rattle.raft_log_blocks.specs.declared.block_cache.BlockCache.{BlockCache};
-ghost use Rattle.raft_log_engine_state.specs.Shows.{shows};
+ghost use Rattle.raft_log_purge_state.specs.raft_log_blocks.specs.declared.block_cache.BlockCache.{BlockCache};
+ghost use Rattle.raft_log_purge_state.specs.raft_log_engine_state.specs.Shows.{shows};
 ghost use Rattle.raft_log_records.specs.declared.log_batch.BatchState.TheVariants.{Filling, Populated};
 ghost use Rattle.raft_log_records.specs.Batch.{emptied, IsButBuffer};
 ghost use Rattle.raft_log_replay.specs.Rewriting.{MayMove};

@@ -2,14 +2,14 @@
 
 ghost use Rattle.std.specs.Prelude.{◌≡◌, ◌⊎◌, ◌≤◌, ◌==◌, ℕ, true, Some, IfErr, IfOk, min};
 ghost use Rattle.std.specs.List.{list_any};
-ghost use Rattle.raft_log_engine_state.specs.Shows.{shows};
+ghost use Rattle.raft_log_purge_state.specs.raft_log_engine_state.specs.Shows.{shows};
 ghost use Rattle.raft_log_replay.specs.Tables.{raw_of};
 ghost use Rattle.raft_log_rewriting.specs.Files.{FailsToLoseFiles, IsLeastOf, LosesFiles, least_in};
 
 use log::Log;
 use raft_log_base::{FileId, FileSeq, LogQueue, Result};
-use raft_log_blocks::BlockCache;
 use raft_log_dual_pipes::PipeLog;
+use raft_log_purge_state::raft_log_blocks::BlockCache;
 use raft_log_replay::MemTables;
 use std::alloc::{AllocError, Global};
 

@@ -1,7 +1,7 @@
 //! Groups are rewritten: all that they have in Append in files up to a gate is copied to Rewrite.
 
 ghost use Rattle.std.specs.Prelude.{IfErr, OnOk};
-ghost use Rattle.raft_log_engine_state.specs.Shows.{shows};
+ghost use Rattle.raft_log_purge_state.specs.raft_log_engine_state.specs.Shows.{shows};
 ghost use Rattle.raft_log_replay.specs.Tables.{IsAtRest};
 ghost use Rattle.raft_log_rewriting.specs.Groups.{
   RewritesEntries,
@@ -15,8 +15,8 @@ use crate::keys::copy_keys;
 use crate::rewriting::copy_entries;
 use log::Log;
 use raft_log_base::{FileSeq, Result};
-use raft_log_blocks::BlockCache;
 use raft_log_dual_pipes::PipeLog;
+use raft_log_purge_state::raft_log_blocks::BlockCache;
 use raft_log_replay::MemTables;
 use std::alloc::Global;
 

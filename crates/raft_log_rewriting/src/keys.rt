@@ -1,8 +1,8 @@
 //! A group's values in Append are copied to Rewrite, all of them as one record.
 
 ghost use Rattle.std.specs.Prelude.{◌≡◌, IfErr, IfOk, OnOk};
-ghost use Rattle.raft_log_blocks.specs.declared.block_cache.BlockCache.{BlockCache};
-ghost use Rattle.raft_log_engine_state.specs.Shows.{shows};
+ghost use Rattle.raft_log_purge_state.specs.raft_log_blocks.specs.declared.block_cache.BlockCache.{BlockCache};
+ghost use Rattle.raft_log_purge_state.specs.raft_log_engine_state.specs.Shows.{shows};
 ghost use Rattle.raft_log_held.specs.Listing.{ListsAll, appended_values};
 ghost use Rattle.raft_log_replay.specs.Tables.{IsAtRest, shown_of};
 ghost use Rattle.raft_log_rewriting.specs.Keys.{CopiesKeys, FailsToCopyKeys, IsKeysBatch};

@@ -21,6 +21,7 @@ pub use files::{least_file, purge_stale};
 pub use groups::{rewrite_group, rewrite_groups};
 pub use keys::copy_keys;
 pub use marks::rewrite_marks;
+pub use raft_log_purge_state::raft_log_blocks;
 pub use rewriting::copy_entries;
 pub use stale::purge_all_stale;
 pub use syncing::sync_if_due;

@@ -3,8 +3,8 @@
 
 ghost use Rattle.std.specs.Prelude.{◌≡◌, [], IfErr, IfOk, OnErr, OnOk};
 ghost use Rattle.raft_log_atomic_groups.specs.Meaning.{tagged_items};
-ghost use Rattle.raft_log_engine_state.specs.Shows.{shows};
-ghost use Rattle.raft_log_blocks.specs.declared.block_cache.BlockCache.{BlockCache};
+ghost use Rattle.raft_log_purge_state.specs.raft_log_engine_state.specs.Shows.{shows};
+ghost use Rattle.raft_log_purge_state.specs.raft_log_blocks.specs.declared.block_cache.BlockCache.{BlockCache};
 ghost use Rattle.raft_log_records.specs.declared.log_batch.BatchState.TheVariants.{Filling};
 ghost use Rattle.raft_log_replay.specs.Tables.{shown_of, IsAtRest};
 ghost use Rattle.raft_log_rewriting.specs.Marks.{AddsSame, CarriesMarks, SaysMarks, SaysSame, WritesMarks};

@@ -1,7 +1,7 @@
 //! A group's entries in Append are copied to Rewrite, as many at once as a batch may have.
 
 ghost use Rattle.std.specs.Prelude.{◌≡◌, IfErr, IfOk};
-ghost use Rattle.raft_log_engine_state.specs.Shows.{shows};
+ghost use Rattle.raft_log_purge_state.specs.raft_log_engine_state.specs.Shows.{shows};
 ghost use Rattle.raft_log_replay.specs.Tables.{IsAtRest};
 ghost use Rattle.raft_log_rewriting.specs.Rewriting.{CopiesIfAny, FailsToCopyEntries};
 
@@ -9,8 +9,8 @@ use crate::copies::write_copies;
 use crate::entries::{EntryBytes, next_entries, run_batch};
 use log::Log;
 use raft_log_base::{FileSeq, Result};
-use raft_log_blocks::BlockCache;
 use raft_log_dual_pipes::PipeLog;
+use raft_log_purge_state::raft_log_blocks::BlockCache;
 use raft_log_replay::MemTables;
 use std::alloc::Global;
 

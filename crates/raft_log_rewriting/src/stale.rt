@@ -1,7 +1,7 @@
 //! All files of both queues go that nothing is in that is in use.
 
 ghost use Rattle.std.specs.Prelude.{◌≡◌, IfErr, IfOk, OnOk};
-ghost use Rattle.raft_log_engine_state.specs.Shows.{shows};
+ghost use Rattle.raft_log_purge_state.specs.raft_log_engine_state.specs.Shows.{shows};
 ghost use Rattle.raft_log_replay.specs.Tables.{IsAtRest};
 ghost use Rattle.raft_log_rewriting.specs.Stale.{FailsToPurge, FailsToTurn, PurgesAllStale, TurnsAndLoses};
 
@@ -9,8 +9,8 @@ use crate::files::purge_stale;
 use crate::marks::rewrite_marks;
 use log::Log;
 use raft_log_base::{LogQueue, Result};
-use raft_log_blocks::BlockCache;
 use raft_log_dual_pipes::PipeLog;
+use raft_log_purge_state::raft_log_blocks::BlockCache;
 use raft_log_replay::MemTables;
 use std::alloc::Global;
 

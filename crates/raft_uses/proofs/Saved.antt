@@ -23,11 +23,11 @@ use Rattle.raft_log_replay.specs.declared.mem_tables.MemTables.{MemTables}
 use Rattle.raft_log_blocks.specs.declared.block_cache.BlockCache.{BlockCache}
 use Rattle.raft_log_dual_pipes.specs.Pipes.{LogPipes, Said, is_failed}
 use Rattle.raft_log_dual_pipes.specs.Closing.{ClosesLog}
-use Rattle.raft_log_engine_state.specs.Shows.{Home, LogMap, Shows, said_of, shows}
-use Rattle.raft_log_engine_state.specs.Holding.{Holds}
-use Rattle.raft_log_engine_state.specs.Reading.{ReadsValue}
-use Rattle.raft_log_engine_state.specs.Writing.{Writes, WritesBytes}
-use Rattle.raft_log_opening.specs.Opening.{OpensDirectory}
+use Rattle.raft_log_engine.specs.raft_log_engine_state.specs.Shows.{Home, LogMap, Shows, said_of, shows}
+use Rattle.raft_log_engine.specs.raft_log_engine_state.specs.Holding.{Holds}
+use Rattle.raft_log_engine.specs.raft_log_engine_state.specs.Reading.{ReadsValue}
+use Rattle.raft_log_engine.specs.raft_log_engine_state.specs.Writing.{Writes, WritesBytes}
+use Rattle.raft_log_engine.specs.raft_log_opening.specs.Opening.{OpensDirectory}
 use Rattle.raft_uses.specs.Engine.{SavesInLog}
 
 -- a key that a batch took isn't the log's own

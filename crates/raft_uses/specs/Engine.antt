@@ -8,11 +8,11 @@ use Rattle.raft_log_replay.specs.declared.mem_tables.MemTables.{MemTables}
 use Rattle.raft_log_blocks.specs.declared.block_cache.BlockCache.{BlockCache}
 use Rattle.raft_log_dual_pipes.specs.Pipes.{LogPipes}
 use Rattle.raft_log_dual_pipes.specs.Closing.{ClosesLog}
-use Rattle.raft_log_engine_state.specs.Shows.{Home, LogMap, Shows, shows}
-use Rattle.raft_log_engine_state.specs.Holding.{Holds}
-use Rattle.raft_log_engine_state.specs.Reading.{ReadsValue}
-use Rattle.raft_log_engine_state.specs.Writing.{Writes}
-use Rattle.raft_log_opening.specs.Opening.{OpensDirectory}
+use Rattle.raft_log_engine.specs.raft_log_engine_state.specs.Shows.{Home, LogMap, Shows, shows}
+use Rattle.raft_log_engine.specs.raft_log_engine_state.specs.Holding.{Holds}
+use Rattle.raft_log_engine.specs.raft_log_engine_state.specs.Reading.{ReadsValue}
+use Rattle.raft_log_engine.specs.raft_log_engine_state.specs.Writing.{Writes}
+use Rattle.raft_log_engine.specs.raft_log_opening.specs.Opening.{OpensDirectory}
 
 -- A log was opened; a batch that says that a group's key has this value was written and synced; the key was
 -- read; and the log was closed. Whatever map the log was when it was opened, what was read is the value.

@@ -4,7 +4,7 @@ ghost use Rattle.std.specs.Prelude.{◌≡◌, ◌⊎◌, true, IfErr, IfOk, OnE
 ghost use Rattle.raft_log_tables.specs.Reads.{entry_at, FetchRefused};
 ghost use Rattle.raft_log_tables.specs.Table.{shown};
 ghost use Rattle.raft_log_replay.specs.Tables.{counts, shown_of};
-ghost use Rattle.raft_log_engine_state.specs.Fetching.{
+ghost use Rattle.raft_log_purging.specs.raft_log_engine_state.specs.Fetching.{
   AreToRead,
   FailsToFetch,
   FailsToTell,

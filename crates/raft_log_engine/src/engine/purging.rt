@@ -1,7 +1,7 @@
 //! Files go that are no longer needed.
 
 ghost use Rattle.std.specs.Prelude.{◌≡◌, IfErr, IfOk, OnErr, OnOk};
-ghost use Rattle.raft_log_rewriting.specs.Stale.{PurgesAllStale};
+ghost use Rattle.raft_log_purging.specs.raft_log_rewriting.specs.Stale.{PurgesAllStale};
 ghost use Rattle.raft_log_purging.specs.Append.{RewritesAppend};
 ghost use Rattle.raft_log_purging.specs.ExpiredFiles.{KeepsCounts, PurgesExpired, SyncsAndRewrites};
 ghost use Rattle.raft_log_engine.specs.Purging.{StopsPurging, StopsPurgingExpired, StopsRewritingAppend};
@@ -11,8 +11,8 @@ use super::Engine;
 use log::Log;
 use raft_log_base::{Error, FileSeq, Result};
 use raft_log_dual_pipes::PipeLog;
+use raft_log_purging::raft_log_rewriting::purge_all_stale;
 use raft_log_purging::{purge_expired_files, rewrite_append_queue, sync_and_rewrite};
-use raft_log_rewriting::purge_all_stale;
 
 impl<P: PipeLog> Engine<P> {
     /// Purges both queues where they are past the thresholds of the settings: Append is synced; Rewrite is

@@ -6,7 +6,7 @@ ghost use Rattle.raft_log_places.specs.Bridge.{bytes_held};
 ghost use Rattle.raft_log_tables.specs.Table.{shown};
 ghost use Rattle.raft_log_replay.specs.Tables.{counts};
 ghost use Rattle.raft_log_replay.specs.Walking.{ListsGroups};
-ghost use Rattle.raft_log_engine_state.specs.Reading.{ReadsFirst, ReadsLast, ReadsValue};
+ghost use Rattle.raft_log_purging.specs.raft_log_engine_state.specs.Reading.{ReadsFirst, ReadsLast, ReadsValue};
 ghost use Rattle.raft_log_engine.specs.Reads.{shows_of, IsFailed, IsUncopied, Lives, NoneCounts};
 
 use super::Engine;

@@ -3,7 +3,7 @@
 ghost use Rattle.std.specs.Fn.{CalledAtTwo};
 ghost use Rattle.std.specs.Prelude.{◌≡◌, ◌↔◌, option_copied, IfErr, IfOk, IsTrue, OnOk};
 ghost use Rattle.raft_log_base.specs.declared.errors.Error.TheVariants as errors;
-ghost use Rattle.raft_log_engine_state.specs.Reading.{ReadsKeys};
+ghost use Rattle.raft_log_purging.specs.raft_log_engine_state.specs.Reading.{ReadsKeys};
 ghost use Rattle.raft_log_engine.specs.Messages.{CalledAtKey, IsNoMessage, ScansMessages, VisitsMessages};
 ghost use Rattle.raft_log_engine.specs.Reads.{shows_of, IsFailed, IsUncopied, Lives, Scans};
 

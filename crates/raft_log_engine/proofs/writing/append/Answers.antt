@@ -4,9 +4,9 @@ use Rattle.raft_log_records.specs.Batch.{Batch, signed_as}
 use Rattle.raft_log_signed_batch.specs.Signing.{SaysItself, signed_for}
 use Rattle.raft_log_base.specs.declared.pipe_log.FileBlockHandle.{FileBlockHandle}
 use Rattle.raft_log_dual_pipes.specs.Pipes.{LogPipes}
-use Rattle.raft_log_engine_state.specs.Shows.{shows}
-use Rattle.raft_log_engine_state.specs.Trying.{RefusesAt, WritesAt}
-use Rattle.raft_log_engine_state.specs.Writing.{Writes}
+use Rattle.raft_log_purging.specs.raft_log_engine_state.specs.Shows.{shows}
+use Rattle.raft_log_purging.specs.raft_log_engine_state.specs.Trying.{RefusesAt, WritesAt}
+use Rattle.raft_log_purging.specs.raft_log_engine_state.specs.Writing.{Writes}
 use Rattle.raft_log_engine.proofs.Put.{ready_of, refuses_with, writes_at}
 use Rattle.raft_log_engine.proofs.writing.append.Goals as goal
 

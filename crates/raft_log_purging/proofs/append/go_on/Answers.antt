@@ -1,6 +1,6 @@
 use Rattle.std.proofs.Common.{sym, ◌∙◌}
 use Rattle.std.proofs.lemmas.Result.{err_from_is_err_and}
-use Rattle.raft_log_engine_state.specs.Shows.{shows}
+use Rattle.raft_log_restating.specs.raft_log_engine_state.specs.Shows.{shows}
 use Rattle.raft_log_purging.proofs.Past.{every}
 use Rattle.raft_log_purging.proofs.Whole.{ends_with_groups, ends_with_marks, stops_rewriting, whole_lost, whole_not_lost}
 use Rattle.raft_log_purging.proofs.append.go_on.Goals as goal

@@ -6,7 +6,7 @@ use Rattle.raft_log_directory.specs.Calls.Which.{InAppend}
 use Rattle.raft_log_dual_pipes.specs.Pipes.{which_of}
 use Rattle.raft_log_dual_pipes.specs.Calls.{FailsToPurgeQueue, PurgesQueue}
 use Rattle.raft_log_purge.specs.Watermarks.{first_at}
-use Rattle.raft_log_rewriting.specs.Files.{IsLeastOf}
+use Rattle.raft_log_restating.specs.raft_log_rewriting.specs.Files.{IsLeastOf}
 use Rattle.raft_log_purging.proofs.Past.{lost_to, not_lost_to}
 use Rattle.raft_log_purging.proofs.append.purge_past.Goals as goal
 

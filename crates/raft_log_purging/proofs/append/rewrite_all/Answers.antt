@@ -1,7 +1,7 @@
 use Rattle.std.proofs.Common.{List, ℕ, subst}
 use Rattle.std.specs.Prelude.{IfErr, OnOk}
-use Rattle.raft_log_engine_state.specs.Shows.{shows}
-use Rattle.raft_log_rewriting.specs.Groups.{StopsAtGroups}
+use Rattle.raft_log_restating.specs.raft_log_engine_state.specs.Shows.{shows}
+use Rattle.raft_log_restating.specs.raft_log_rewriting.specs.Groups.{StopsAtGroups}
 use Rattle.raft_log_purging.specs.Append.{RewritesThese}
 use Rattle.raft_log_purging.proofs.Past.{none_yet, whole_listed, whole_unlisted}
 use Rattle.raft_log_purging.proofs.append.rewrite_all.Goals as goal

@@ -1,6 +1,6 @@
 use Rattle.std.proofs.lemmas.Result.{err_from_is_err_and}
-use Rattle.raft_log_engine_state.specs.Shows.{shows}
-use Rattle.raft_log_rewriting.proofs.Parts.{alive_ok}
+use Rattle.raft_log_restating.specs.raft_log_engine_state.specs.Shows.{shows}
+use Rattle.raft_log_restating.specs.raft_log_rewriting.proofs.Parts.{alive_ok}
 use Rattle.raft_log_purging.proofs.Whole.{append_unsynced, not_carried, not_passed, whole_done, whole_stopped}
 use Rattle.raft_log_purging.proofs.append.rewrite_append_queue.Goals as goal
 

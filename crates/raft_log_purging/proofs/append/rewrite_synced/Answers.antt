@@ -1,6 +1,6 @@
 use Rattle.std.proofs.lemmas.Result.{err_from_is_err_and}
-use Rattle.raft_log_engine_state.specs.Shows.{shows}
-use Rattle.raft_log_rewriting.proofs.Grouping.{among}
+use Rattle.raft_log_restating.specs.raft_log_engine_state.specs.Shows.{shows}
+use Rattle.raft_log_restating.specs.raft_log_rewriting.proofs.Grouping.{among}
 use Rattle.raft_log_purging.proofs.Past.{whole_synced, whole_unsynced}
 use Rattle.raft_log_purging.proofs.append.rewrite_synced.Goals as goal
 

@@ -1,4 +1,4 @@
-use Rattle.raft_log_engine_state.specs.Shows.{shows}
+use Rattle.raft_log_restating.specs.raft_log_engine_state.specs.Shows.{shows}
 use Rattle.raft_log_purging.proofs.Picked.{nothing_purged_yet}
 use Rattle.raft_log_purging.proofs.expired.purge_append.Goals as goal
 

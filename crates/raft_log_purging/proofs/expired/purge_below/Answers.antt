@@ -5,9 +5,9 @@ use Rattle.raft_log_base.specs.declared.pipe_log.LogQueue.TheVariants.{Append}
 use Rattle.raft_log_directory.specs.Calls.Which.{InAppend}
 use Rattle.raft_log_dual_pipes.specs.Pipes.{which_of}
 use Rattle.raft_log_dual_pipes.specs.Calls.{FailsToPurgeQueue, PurgesQueue}
-use Rattle.raft_log_engine_state.specs.Shows.{shows}
+use Rattle.raft_log_restating.specs.raft_log_engine_state.specs.Shows.{shows}
 use Rattle.raft_log_purge.specs.Watermarks.{first_at, last_at}
-use Rattle.raft_log_rewriting.specs.Files.{IsLeastOf}
+use Rattle.raft_log_restating.specs.raft_log_rewriting.specs.Files.{IsLeastOf}
 use Rattle.raft_log_purging.specs.Append.{up_to}
 use Rattle.raft_log_purging.proofs.Picked.{lost_below, none_below, none_gone_yet, not_lost_below}
 use Rattle.raft_log_purging.proofs.expired.purge_below.Goals as goal

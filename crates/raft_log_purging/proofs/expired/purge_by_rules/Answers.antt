@@ -1,11 +1,11 @@
 use Rattle.std.proofs.Common.{◌≡◌, ℕ, List, subst}
 use Rattle.std.proofs.lemmas.Result.{err_from_is_err_and}
-use Rattle.raft_log_engine_state.specs.Shows.{shows}
+use Rattle.raft_log_restating.specs.raft_log_engine_state.specs.Shows.{shows}
 use Rattle.raft_log_purge.specs.declared.watermarks.Watermarks.{Watermarks}
 use Rattle.raft_log_purge.specs.Watermarks.{watermarks_of}
 use Rattle.raft_log_purge_rules.specs.Picking.{count_of, rewrites_at}
 use Rattle.raft_log_purging.specs.Expired.{PicksGroups, RewritesPicked}
-use Rattle.raft_log_rewriting.proofs.Grouping.{among}
+use Rattle.raft_log_restating.specs.raft_log_rewriting.proofs.Grouping.{among}
 use Rattle.raft_log_purging.proofs.Picked.{listed_picked, nothing_purged_yet}
 use Rattle.raft_log_purging.proofs.expired.purge_by_rules.Goals as goal
 

@@ -1,6 +1,6 @@
 use Rattle.std.proofs.lemmas.Result.{err_from_is_err_and}
-use Rattle.raft_log_engine_state.specs.Shows.{shows}
-use Rattle.raft_log_rewriting.proofs.Grouping.{among}
+use Rattle.raft_log_restating.specs.raft_log_engine_state.specs.Shows.{shows}
+use Rattle.raft_log_restating.specs.raft_log_rewriting.proofs.Grouping.{among}
 use Rattle.raft_log_purging.proofs.Picked.{marks_refused, not_rewritten, whole_picked, whole_unpicked}
 use Rattle.raft_log_purging.proofs.expired.rewrite_picked.Goals as goal
 

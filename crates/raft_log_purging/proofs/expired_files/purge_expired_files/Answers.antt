@@ -1,7 +1,7 @@
 use Rattle.std.proofs.Common.{refl}
 use Rattle.std.proofs.lemmas.Result.{err_from_is_err_and}
-use Rattle.raft_log_engine_state.specs.Shows.{shows}
-use Rattle.raft_log_rewriting.proofs.Parts.{alive_ok}
+use Rattle.raft_log_restating.specs.raft_log_engine_state.specs.Shows.{shows}
+use Rattle.raft_log_restating.specs.raft_log_rewriting.proofs.Parts.{alive_ok}
 use Rattle.raft_log_purging.proofs.Expiring.{not_restated, whole_purged, whole_unpurged}
 use Rattle.raft_log_purging.proofs.Whole.{append_unsynced}
 use Rattle.raft_log_purging.proofs.expired_files.purge_expired_files.Goals as goal

@@ -1,6 +1,6 @@
 use Rattle.std.proofs.lemmas.Result.{err_from_is_err_and}
-use Rattle.raft_log_engine_state.specs.Shows.{shows}
-use Rattle.raft_log_rewriting.proofs.Parts.{alive_ok}
+use Rattle.raft_log_restating.specs.raft_log_engine_state.specs.Shows.{shows}
+use Rattle.raft_log_restating.specs.raft_log_rewriting.proofs.Parts.{alive_ok}
 use Rattle.raft_log_purging.proofs.Expiring.{whole_restated, whole_unrestated}
 use Rattle.raft_log_purging.proofs.Whole.{append_unsynced}
 use Rattle.raft_log_purging.proofs.expired_files.sync_and_rewrite.Goals as goal

@@ -2,7 +2,7 @@ use Rattle.std.proofs.Common.{List, ℕ, sym, subst, ◌∙◌}
 use Rattle.std.proofs.lemmas.Result.{err_from_is_err_and}
 use Rattle.raft_log_held.specs.Listing.{ListsAll, rewritten_values}
 use Rattle.raft_log_replay.specs.Tables.{shown_of}
-use Rattle.raft_log_engine_state.specs.Shows.{shows}
+use Rattle.raft_log_rewriting.specs.raft_log_engine_state.specs.Shows.{shows}
 use Rattle.raft_log_restating.proofs.Closing.{nothing_done, these_restated}
 use Rattle.raft_log_restating.proofs.groups.restate_group.Goals as goal
 

@@ -1,6 +1,6 @@
 use Rattle.std.proofs.Common.{get_or, refl, arith}
 use Rattle.std.proofs.lemmas.Result.{err_from_is_err_and}
-use Rattle.raft_log_engine_state.specs.Shows.{shows}
+use Rattle.raft_log_rewriting.specs.raft_log_engine_state.specs.Shows.{shows}
 use Rattle.raft_log_restating.proofs.Each.{all_restated, none_restated, one_more_restated, one_stopped}
 use Rattle.raft_log_restating.proofs.groups.restate_groups.Goals as goal
 

@@ -1,5 +1,5 @@
 use Rattle.std.proofs.Common.{◌≤◌, take}
-use Rattle.raft_log_engine_state.specs.Shows.{shows}
+use Rattle.raft_log_rewriting.specs.raft_log_engine_state.specs.Shows.{shows}
 use Rattle.raft_log_replay.specs.Tables.{IsAtRest}
 use Rattle.raft_log_rewriting.proofs.Grouping.{among}
 use Rattle.raft_log_restating.specs.Restated.{Restates}

@@ -1,6 +1,6 @@
 use Rattle.std.proofs.Common.{◌≡◌, ℕ, List, [], ◌∷◌, ◌++◌, sym, ap, subst, ◌∙◌}
 use Rattle.std.proofs.lemmas.Result.{err_from_is_err_and}
-use Rattle.raft_log_engine_state.specs.Shows.{shows}
+use Rattle.raft_log_rewriting.specs.raft_log_engine_state.specs.Shows.{shows}
 use Rattle.raft_log_restating.specs.declared.parts.RestatedPart.{RestatedPart}
 use Rattle.raft_log_restating.specs.Parts.{HasParts}
 use Rattle.raft_log_restating.proofs.Closing.{ended_then, not_ended_then, not_restated_then, restated_then}

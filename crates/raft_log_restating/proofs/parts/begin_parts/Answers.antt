@@ -1,7 +1,7 @@
 use Rattle.std.proofs.Common.{◌≡◌, ◌+◌, ◌∙◌, ℕ, List, [], take, refl, ap, subst}
 use Rattle.std.proofs.lemmas.Result.{err_from_is_err_and}
 use Rattle.raft_log_atomic_groups.specs.declared.status.AtomicGroupStatus.TheVariants.{Begin}
-use Rattle.raft_log_engine_state.specs.Shows.{shows}
+use Rattle.raft_log_rewriting.specs.raft_log_engine_state.specs.Shows.{shows}
 use Rattle.raft_log_restating.specs.Pieces.{BuildsPiece}
 use Rattle.raft_log_restating.proofs.Opening.{begin_stopped, begin_unmarked, begin_unread, built_piece, built_plain, bytes, err_map, marked_piece, ok_map, parts_begun}
 use Rattle.raft_log_restating.proofs.parts.begin_parts.Goals as goal

@@ -2,7 +2,7 @@ use Rattle.std.proofs.Common.{◌+◌, ◌-◌, ◌∙◌, ◌<◌, ℕ, List, [
 use Rattle.std.proofs.lemmas.List.{length-take}
 use Rattle.std.proofs.lemmas.Result.{err_from_is_err_and}
 use Rattle.raft_log_items.specs.declared.entry.EntryIndex.{EntryIndex}
-use Rattle.raft_log_engine_state.specs.Shows.{shows}
+use Rattle.raft_log_rewriting.specs.raft_log_engine_state.specs.Shows.{shows}
 use Rattle.raft_log_restating.specs.declared.parts.RestatedPart.{RestatedPart}
 use Rattle.raft_log_restating.specs.Parts.{HasParts}
 use Rattle.raft_log_restating.proofs.Opening.{given_up}

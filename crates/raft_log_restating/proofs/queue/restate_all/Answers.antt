@@ -1,6 +1,6 @@
 use Rattle.std.proofs.Common.{List, ℕ, subst}
 use Rattle.std.proofs.lemmas.Result.{err_from_is_err_and}
-use Rattle.raft_log_engine_state.specs.Shows.{shows}
+use Rattle.raft_log_rewriting.specs.raft_log_engine_state.specs.Shows.{shows}
 use Rattle.raft_log_restating.specs.Restated.{RestatesEach}
 use Rattle.raft_log_restating.proofs.Turning.{every_restated, none_yet, some_restated, whole_synced, whole_unsynced}
 use Rattle.raft_log_restating.proofs.queue.restate_all.Goals as goal

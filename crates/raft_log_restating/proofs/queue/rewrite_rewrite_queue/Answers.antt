@@ -1,6 +1,6 @@
 use Rattle.std.proofs.Common.{refl}
 use Rattle.std.proofs.lemmas.Result.{err_from_is_err_and}
-use Rattle.raft_log_engine_state.specs.Shows.{shows}
+use Rattle.raft_log_rewriting.specs.raft_log_engine_state.specs.Shows.{shows}
 use Rattle.raft_log_rewriting.proofs.Parts.{alive_ok}
 use Rattle.raft_log_restating.proofs.Turning.{not_lost, not_restated, not_turned, rewritten}
 use Rattle.raft_log_restating.proofs.queue.rewrite_rewrite_queue.Goals as goal

@@ -3,7 +3,7 @@ use Rattle.std.specs.Prelude.{IfErr, IfOk, OnOk}
 use Rattle.raft_log_base.specs.declared.pipe_log.FileId.{FileId}
 use Rattle.raft_log_base.specs.declared.pipe_log.LogQueue.{LogQueue}
 use Rattle.raft_log_pipes.specs.Purging.{IsInSpan}
-use Rattle.raft_log_steps.specs.State.{pipe_at}
+use Rattle.raft_log_purge_state.specs.raft_log_steps.specs.State.{pipe_at}
 use Rattle.raft_log_dual_pipes.specs.Pipes.{files_of, which_of}
 use Rattle.raft_log_dual_pipes.specs.Calls.{FailsToPurgeQueue, PurgesQueue}
 use Rattle.raft_log_rewriting.proofs.Leasts.{not_purged, purged}

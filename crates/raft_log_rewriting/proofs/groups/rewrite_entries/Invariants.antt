@@ -1,4 +1,4 @@
-use Rattle.raft_log_engine_state.specs.Shows.{shows}
+use Rattle.raft_log_purge_state.specs.raft_log_engine_state.specs.Shows.{shows}
 use Rattle.raft_log_replay.specs.Tables.{IsAtRest, shown_of}
 use Rattle.raft_log_rewriting.proofs.Grouping.{EntriesSoFar, left_in}
 use Rattle.raft_log_rewriting.proofs.groups.rewrite_entries.Given as goal

@@ -1,5 +1,5 @@
 use Rattle.std.proofs.lemmas.Result.{err_from_is_err_and}
-use Rattle.raft_log_engine_state.specs.Shows.{shows}
+use Rattle.raft_log_purge_state.specs.raft_log_engine_state.specs.Shows.{shows}
 use Rattle.raft_log_rewriting.proofs.Grouping.{group_rewritten, keys_stopped}
 use Rattle.raft_log_rewriting.proofs.groups.rewrite_group.Goals as goal
 

@@ -1,6 +1,6 @@
 use Rattle.std.proofs.Common.{get_or, refl, arith}
 use Rattle.std.proofs.lemmas.Result.{err_from_is_err_and}
-use Rattle.raft_log_engine_state.specs.Shows.{shows}
+use Rattle.raft_log_purge_state.specs.raft_log_engine_state.specs.Shows.{shows}
 use Rattle.raft_log_rewriting.proofs.Grouping.{group_more, group_stopped, groups_rewritten, none_rewritten}
 use Rattle.raft_log_rewriting.proofs.groups.rewrite_groups.Goals as goal
 

@@ -1,6 +1,6 @@
 use Rattle.std.proofs.Common.{ℕ, List, subst}
 use Rattle.std.proofs.lemmas.Result.{err_from_is_err_and}
-use Rattle.raft_log_engine_state.specs.Shows.{shows}
+use Rattle.raft_log_purge_state.specs.raft_log_engine_state.specs.Shows.{shows}
 use Rattle.raft_log_rewriting.specs.Keys.{IsKeysBatch}
 use Rattle.raft_log_rewriting.proofs.KeysCopied.{keys_copied, keys_not_copied}
 use Rattle.raft_log_rewriting.proofs.keys.copy_keys.Goals as goal

@@ -3,8 +3,8 @@ use Rattle.std.proofs.lemmas.Bool.{eqb-false}
 use Rattle.std.proofs.lemmas.Result.{err_from_is_err_and}
 use Rattle.raft_log_items.specs.declared.entry.EntryIndex.{EntryIndex}
 use Rattle.raft_log_records.specs.Entries.{indexes_of}
-use Rattle.raft_log_blocks.specs.Blocks.{AreUnread, ReadsEntries}
-use Rattle.raft_log_engine_state.specs.Shows.{shows}
+use Rattle.raft_log_purge_state.specs.raft_log_blocks.specs.Blocks.{AreUnread, ReadsEntries}
+use Rattle.raft_log_purge_state.specs.raft_log_engine_state.specs.Shows.{shows}
 use Rattle.raft_log_rewriting.specs.declared.entries.EntryBytes.{EntryBytes}
 use Rattle.raft_log_rewriting.specs.Entries.{IsRunBatch}
 use Rattle.raft_log_rewriting.proofs.Reading.{as_bytes, entries_copied, entries_not_copied, none_written, read_is_held, unread_is_held}

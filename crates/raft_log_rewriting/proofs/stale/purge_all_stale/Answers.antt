@@ -1,6 +1,6 @@
 use Rattle.std.proofs.Common.{refl}
 use Rattle.std.proofs.lemmas.Result.{err_from_is_err_and}
-use Rattle.raft_log_engine_state.specs.Shows.{shows}
+use Rattle.raft_log_purge_state.specs.raft_log_engine_state.specs.Shows.{shows}
 use Rattle.raft_log_rewriting.proofs.Parts.{alive_ok}
 use Rattle.raft_log_rewriting.proofs.Turning.{all_purged, append_refused_then, marks_refused_then, rewrite_refused_then, unsynced}
 use Rattle.raft_log_rewriting.proofs.stale.purge_all_stale.Goals as goal

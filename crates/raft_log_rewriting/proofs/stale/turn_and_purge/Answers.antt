@@ -1,5 +1,5 @@
 use Rattle.std.proofs.lemmas.Result.{err_from_is_err_and}
-use Rattle.raft_log_engine_state.specs.Shows.{shows}
+use Rattle.raft_log_purge_state.specs.raft_log_engine_state.specs.Shows.{shows}
 use Rattle.raft_log_rewriting.proofs.Parts.{alive_ok}
 use Rattle.raft_log_rewriting.proofs.Turning.{not_turned, turned, unturned}
 use Rattle.raft_log_rewriting.proofs.stale.turn_and_purge.Goals as goal

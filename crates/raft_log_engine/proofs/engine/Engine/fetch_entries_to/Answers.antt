@@ -2,8 +2,8 @@ use Rattle.std.proofs.Common.{◌≡◌, List, length, false, inr, refl, sym, su
 use Rattle.std.proofs.lemmas.Result.{err_from_is_err_and}
 use Rattle.raft_log_items.specs.declared.entry.EntryIndex.{EntryIndex}
 use Rattle.raft_log_dual_pipes.specs.Pipes.{is_failed}
-use Rattle.raft_log_blocks.specs.Blocks.{AreUnread, ReadsEntries}
-use Rattle.raft_log_engine_state.specs.Shows.{shows}
+use Rattle.raft_log_purging.specs.raft_log_blocks.specs.Blocks.{AreUnread, ReadsEntries}
+use Rattle.raft_log_purging.specs.raft_log_engine_state.specs.Shows.{shows}
 use Rattle.raft_log_engine.proofs.Entries.{fails_to_fetch, fetch_unfit, fetches_to}
 use Rattle.raft_log_engine.proofs.engine.Engine.fetch_entries_to.Goals as goal
 

@@ -2,7 +2,7 @@ use Rattle.std.proofs.Common.{◌≡◌, None, Some, false, inr, refl, sym, ◌�
 use Rattle.raft_log_tables.specs.Reads.{entry_at}
 use Rattle.raft_log_replay.specs.Tables.{shown_of}
 use Rattle.raft_log_dual_pipes.specs.Pipes.{is_failed}
-use Rattle.raft_log_engine_state.specs.Shows.{shows}
+use Rattle.raft_log_purging.specs.raft_log_engine_state.specs.Shows.{shows}
 use Rattle.raft_log_engine.proofs.Entries.{fails_to_tell, tells_none, tells_one}
 use Rattle.raft_log_engine.proofs.engine.Engine.get_entry.Goals as goal
 

@@ -1,4 +1,4 @@
-use Rattle.raft_log_engine_state.proofs.Exits.{sync_answers, sync_refuses}
+use Rattle.raft_log_purging.specs.raft_log_engine_state.proofs.Exits.{sync_answers, sync_refuses}
 use Rattle.raft_log_engine.proofs.engine.Engine.sync.Goals as goal
 
 pub returns-clause-ok : goal.returns-clause-ok

@@ -1,6 +1,6 @@
 use Rattle.std.proofs.Common.{◌≡◌, true, sym, subst, arith}
-use Rattle.raft_log_engine_state.specs.Shows.{shows}
-use Rattle.raft_log_engine_state.specs.Writing.{WritesBytes}
+use Rattle.raft_log_purging.specs.raft_log_engine_state.specs.Shows.{shows}
+use Rattle.raft_log_purging.specs.raft_log_engine_state.specs.Writing.{WritesBytes}
 use Rattle.raft_log_engine.proofs.Put.{none_unsynced, put_synced, put_unsynced}
 use Rattle.raft_log_engine.proofs.engine.Engine.write.Goals as goal
 

@@ -1,5 +1,5 @@
 #!/usr/bin/env bash
-# Builds a benchmark's main.rt.txt, with its proofs/ if it has some, over crates of this repository, and its Rust twin rust.rs,
+# Builds a benchmark's main.rt.txt, with its proofs/ (each file's name ends in .txt) if it has some, over crates of this repository, and its Rust twin rust.rs,
 # runs both so many times, and prints the best of each. Each line that they print has the work, its MB/s (or what UNIT says) and
 # a sum, which must be the same.
 # Usage: bench/common/run.sh FOLDER ROUNDS CRATE..; the crates are those that main.rt.txt names. RT names the toolchain's command.
@@ -26,7 +26,11 @@ cut -d: -f1 "$room/crates.txt" | while read -r crate; do
 done
 echo "$name: $*" >> "$room/crates.txt"
 cp "$here/main.rt.txt" "$room/crates/$name/src/main.rt"
-[ ! -d "$here/proofs" ] || cp -r "$here/proofs" "$room/crates/$name/"
+if [ -d "$here/proofs" ]; then
+    cp -r "$here/proofs" "$room/crates/$name/"
+    # (the gate refuses a proof outside a crate, so each ends in .txt here)
+    find "$room/crates/$name/proofs" -name '*.txt' | while read -r file; do mv "$file" "${file%.txt}"; done
+fi
 (cd "$room/crates/$name" && "${RT:-rt}" run > "$room/first" 2> "$room/log") || { cat "$room/log" >&2; exit 1; }
 rustc --edition 2021 -O -C codegen-units=1 -o "$room/rust" "$here/rust.rs"
 

@@ -1,5 +1,6 @@
 -- Keys that are listed in the order of a map.
-use Rattle.std.proofs.Common.{◌≡◌, ℕ, Bool, true, false, ◌&&◌, List, [], ◌∷◌, ◌++◌, map, reverse, length, take, Option, Some, None, if◌then◌else◌, bytes_eq, refl, sym, ap, subst, ◌∙◌, append_assoc}
+use Rattle.std.proofs.Common.{◌≡◌, ◌+◌, ◌-◌, ◌^◌, ℕ, Bool, true, false, ◌&&◌, List, [], ◌∷◌, ◌++◌, map, reverse, length, take, Option, Some, None, is_some, option_map, if◌then◌else◌, bytes_eq, refl, sym, ap, subst, ◌∙◌, arith, append_assoc}
+use Rattle.std.specs.Prelude.{min}
 use Rattle.std.specs.Cmp.Lexicographic.{slice_cmp, nat_list_eq_equiv}
 use Rattle.std.specs.List.{AllByRecursion}
 use Rattle.std.specs.List.Sorted.{IsStrictlySortedBy}
@@ -13,7 +14,7 @@ use Rattle.raft_log_model.proofs.Cases.{at_bool}
 use Rattle.raft_log_places.specs.Bridge.{AllOwed, bytes_held, without}
 use Rattle.raft_log_held.specs.declared.key_map.KeySlot.{KeySlot}
 use Rattle.raft_log_held.specs.Keys.{deleted_in, held_in, shown_value, slot_at}
-use Rattle.raft_log_held.specs.Listing.{asked_bytes, bytes_within, is_below, is_from, AddsAll, ListsAll, ListsMarked, Visits}
+use Rattle.raft_log_held.specs.Listing.{asked_bytes, bytes_within, is_below, is_from, AddsAll, CountsAll, ListsAll, ListsMarked, Visits}
 use Rattle.raft_log_held.proofs.ByteKeys.{by_bytes}
 
 -- the keys come after this one
@@ -185,6 +186,34 @@ lists_asked gate es h = lists_listed (asked_in gate) es (λ k. asked_bytes gate 
     here None = refl
     here (Some s) = refl
 
+-- how many are asked for of these slots
+abbrev pub one_more_if : Option (List ℕ) → ℕ → ℕ
+one_more_if None n = n
+one_more_if (Some x) n = n + 1
+
+abbrev pub asked_count : Option ℕ → List KeySlot → ℕ
+asked_count gate [] = 0
+asked_count gate (s ∷ ss) = one_more_if (asked_bytes gate (shown_value s.held)) (asked_count gate ss)
+
+-- one of them is asked for
+pub counted_one : {B : Type 0} (f : B → List ℕ) (gate : Option ℕ) (n all : ℕ) (s : KeySlot) (slots rest : List KeySlot) (o : Option B) → slots ≡ s ∷ rest
+    → option_map f o ≡ asked_bytes gate (shown_value s.held) → is_some o ≡ true → n + asked_count gate slots ≡ all → (n + 1) + asked_count gate rest ≡ all
+counted_one f gate n all s slots rest None is found some h = absurd (never some)
+  where
+    never : false ≡ true → ⊥
+    never e = cc e
+counted_one f gate n all s slots rest (Some x) is found some h =
+    let one : asked_count gate slots ≡ asked_count gate rest + 1 = ap (asked_count gate) is ∙ ap (λ o. one_more_if o (asked_count gate rest)) (sym found) in
+    omega (arith, one, h)
+
+asked_length : (gate : Option ℕ) (es : List (List ℕ × KeySlot)) → length (listed (asked_in gate) es) ≡ asked_count gate (map (λ e. e.1) es)
+asked_length gate [] = refl
+asked_length gate (e ∷ es) = at_found (asked_in gate e.0 e.1) ∙ ap (one_more_if (asked_in gate e.0 e.1)) (asked_length gate es)
+  where
+    at_found : (o : Option (List ℕ)) → length (with_found e.0 o (listed (asked_in gate) es)) ≡ one_more_if o (length (listed (asked_in gate) es))
+    at_found None = refl
+    at_found (Some x) = let more : length ((e.0, x) ∷ listed (asked_in gate) es) ≡ length (listed (asked_in gate) es) + 1 = omega arith in more
+
 -- one more that is found, and one that isn't
 pub found_more : {X : Type 0} (k : List ℕ) (x : X) (o : Option X) (front rest : List (List ℕ × X)) (all : List (List ℕ × X)) → o ≡ Some x
     → front ++ with_found k o rest ≡ all → (front ++ ((k, x) ∷ [])) ++ rest ≡ all
@@ -216,6 +245,17 @@ module _ {K : Type 0} (items : K → List ℕ) (es : List (K × KeySlot)) (now :
     listed (asked_in gate) now,
     lists_asked gate now (rises o),
     sym (append-nil front) ∙ ap (λ l. front ++ listed (asked_in gate) (by_bytes items l)) (sym none) ∙ h,
+  )
+
+  -- and all of that is counted
+  pub all_counted : (n count : ℕ) (rest : List KeySlot) → rest ≡ [] → count ≡ min n (2 ^ 64 - 1) → n + asked_count None rest ≡ asked_count None (map (λ e. e.1) now)
+      → IsStrictlySortedBy (λ x y. slice_cmp nat_cmp (items x) (items y)) (keys_of es)
+      → CountsAll (λ k. asked_bytes None (held_in (slot_at now k))) count
+  all_counted n count rest none least h o = (
+    listed (asked_in None) now,
+    lists_asked None now (rises o),
+    least ∙ ap (λ (m : ℕ). min m (2 ^ 64 - 1))
+    ((let same : n ≡ n + asked_count None [] = omega arith in same) ∙ ap (λ (ss : List KeySlot). n + asked_count None ss) (sym none) ∙ h ∙ sym (asked_length None now)),
   )
 
   pub all_marked : (front : List (List ℕ)) (rest : List (K × KeySlot)) → rest ≡ []

@@ -1,5 +1,5 @@
 -- What is read of a table's keys: those that are asked for, in the order of their bytes.
-use Rattle.std.specs.Prelude.{◌≡◌, ℕ, Bool, true, false, not, ◌&&◌, List, [], ◌∷◌, ◌++◌, reverse, Option, Some, None, if◌then◌else◌, nat_le, bytes_eq}
+use Rattle.std.specs.Prelude.{◌≡◌, ◌-◌, ◌^◌, ℕ, min, Bool, true, false, not, ◌&&◌, List, [], ◌∷◌, ◌++◌, length, reverse, Option, Some, None, if◌then◌else◌, nat_le, bytes_eq}
 use Rattle.std.specs.Cmp.Lexicographic.{slice_cmp}
 use Rattle.std.specs.List.Sorted.{IsStrictlySortedBy}
 use Rattle.std.specs.Map.{keys_of, lookup}
@@ -11,6 +11,10 @@ use Rattle.raft_log_places.specs.Shown.{KeyValue, Shown}
 pub record ListsAll {X : Type 0} (values : List ℕ → Option X) (es : List (List ℕ × X)) : Type 0 where
   pub rising : IsStrictlySortedBy (slice_cmp nat_cmp) (keys_of es)
   pub exact : (k : List ℕ) → lookup (bytes_eq k) es ≡ values k
+
+-- so many the function has, or the greatest number of 64 bits where these are more
+abbrev pub CountsAll : {X : Type 0} → (List ℕ → Option X) → ℕ → Type 0
+CountsAll {X} values n = (es : List (List ℕ × X)) × ListsAll values es × (n ≡ min (length es) (2 ^ 64 - 1))
 
 -- such pairs come behind the old ones
 abbrev pub AddsAll : {X : Type 0} → (List ℕ → Option X) → List (List ℕ × X) → List (List ℕ × X) → Type 0

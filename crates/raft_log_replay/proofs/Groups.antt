@@ -1,5 +1,5 @@
 -- The groups that are listed, table by table.
-use Rattle.std.proofs.Common.{◌≡◌, ℕ, ◌==◌, Bool, true, false, ◌||◌, List, [], ◌∷◌, ◌++◌, Result, Ok, Err, IfOk, refl, sym, ap, subst, ◌∙◌, arith, append-nil}
+use Rattle.std.proofs.Common.{◌≡◌, ℕ, ◌==◌, Bool, true, false, ◌||◌, List, [], ◌∷◌, ◌++◌, Option, Some, None, is_some, Result, Ok, Err, IfOk, refl, sym, ap, subst, ◌∙◌, arith, append-nil}
 use Rattle.std.specs.List.{AllByRecursion, list_any}
 use Rattle.std.specs.List.Sorted.{IsStrictlySortedBy}
 use Rattle.std.specs.Map.{keys_of}
@@ -69,3 +69,13 @@ pub listed_as : {T : Type 0} (items : T → List ℕ) {E : Type 0} (p q : ℕ �
     → IfOk r (λ t. ListsGroups p (items t)) → IfOk r (λ t. ListsGroups q (items t))
 listed_as items p q same (Ok t) h = record { rising = h.rising; exact = λ g. h.exact g ∙ same g }
 listed_as items p q same (Err e) h = h
+
+-- all tables are listed
+pub all_known : (es : List (ℕ × GroupTable)) → AllOnce es → IsStrictlySortedBy nat_cmp (keys_of es) → ListsGroups (λ g. is_some (found es g)) (group_list true es)
+all_known es once sorted =
+    let listed = all_listed true es (group_list true es) [] refl (append-nil (group_list true es)) once sorted in
+    record { rising = listed.rising; exact = λ g. listed.exact g ∙ same (found es g) }
+  where
+    same : (o : Option GroupTable) → listed_in true o ≡ is_some o
+    same None = refl
+    same (Some t) = refl

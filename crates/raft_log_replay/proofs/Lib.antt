@@ -10,3 +10,4 @@ pub mod Rewritten
 pub mod Moved
 pub mod Copies
 pub mod Owed
+pub mod Counting

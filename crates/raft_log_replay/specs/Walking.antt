@@ -1,11 +1,14 @@
--- Lists of groups.
-use Rattle.std.specs.Prelude.{◌≡◌, ℕ, ◌==◌, Bool, false, ◌||◌, List, Option, Some, None}
+-- Lists of groups, and what is counted of all of them.
+use Rattle.std.specs.Prelude.{◌≡◌, ◌-◌, ◌^◌, ℕ, ◌==◌, min, Bool, false, ◌||◌, List, [], ◌∷◌, Option, Some, None, sum_by}
 use Rattle.std.specs.BTreeMap.{get}
 use Rattle.std.specs.List.{list_any}
 use Rattle.std.specs.List.Sorted.{IsStrictlySortedBy}
 use Rattle.std.specs.Ordering.{nat_cmp}
+use Rattle.raft_log_places.specs.Shown.{Shown}
+use Rattle.raft_log_tables.specs.Reads.{StandIn}
 use Rattle.raft_log_replay.specs.declared.group_table.GroupTable.{GroupTable}
 use Rattle.raft_log_replay.specs.declared.mem_tables.MemTables.{MemTables}
+use Rattle.raft_log_replay.specs.Tables.{has_table, shown_of}
 
 -- the numbers are those of all groups that pass the test: each of them once, from the least up
 pub record ListsGroups (test : ℕ → Bool) (gs : List ℕ) : Type 0 where
@@ -20,3 +23,14 @@ listed_in all (Some t) = all || t.counts
 -- whether a group is listed
 abbrev pub is_listed : Bool → MemTables → ℕ → Bool
 is_listed all m g = listed_in all (get nat_cmp m.groups g)
+
+-- so many entries and values of each of these groups stand in Rewrite
+abbrev pub StandInEach : (ℕ → Shown) → List ℕ → List ℕ → Type 0
+StandInEach v [] [] = Unit {0}
+StandInEach v (g ∷ gs) (n ∷ ns) = StandIn (v g) n × StandInEach v gs ns
+StandInEach v gs ns = ⊥
+
+-- so many of all groups stand there, or the greatest number of 64 bits where these are more
+abbrev pub Stand : MemTables → ℕ → Type 0
+Stand m n = (gs : List ℕ) × ListsGroups (has_table m) gs
+    × ((ns : List ℕ) × StandInEach (shown_of m) gs ns × (n ≡ min (sum_by (λ k. k) ns) (2 ^ 64 - 1)))

@@ -1,5 +1,5 @@
 -- What is read of a table.
-use Rattle.std.specs.Prelude.{◌≡◌, ℕ, zero, suc, ◌+◌, ◌-◌, ◌<◌, ◌≤◌, ◌⊎◌, Bool, true, false, List, [], ◌∷◌, ◌++◌, length, take, drop, Option, Some, None, option_map, if◌then◌else◌, nat_lt, nat_le, slice_get}
+use Rattle.std.specs.Prelude.{◌≡◌, ℕ, zero, suc, ◌+◌, ◌-◌, ◌^◌, min, ◌<◌, ◌≤◌, ◌⊎◌, Bool, true, false, List, [], ◌∷◌, ◌++◌, length, take, drop, Option, Some, None, option_map, if◌then◌else◌, nat_lt, nat_le, slice_get}
 use Rattle.std.specs.Ordering.{is_le}
 use Rattle.raft_log_base.specs.declared.errors.Error.{Error}
 use Rattle.raft_log_base.specs.declared.errors.Error.TheVariants as errors
@@ -11,6 +11,7 @@ use Rattle.raft_log_places.specs.declared.place.Place.{Place}
 use Rattle.raft_log_places.specs.Shown.{Shown}
 use Rattle.raft_log_held.specs.Counts.{passing, sized}
 use Rattle.raft_log_held.specs.Entries.{entry_of, queue_of}
+use Rattle.raft_log_held.specs.Listing.{rewritten_values, ListsAll}
 
 -- the first index, if there are entries
 abbrev pub first_of : Shown → Option ℕ
@@ -81,3 +82,8 @@ FetchRefused v begin end error =
     ⊎ (((error ≡ errors.EntryCompacted) × (0 < length v.places) × (begin < v.first))
     ⊎ (((error ≡ errors.EntryNotFound) × (v.first ≤ begin) × (v.first + length v.places < end))
     ⊎ ((error ≡ errors.Memory) × (v.first ≤ begin) × (end ≤ v.first + length v.places)))))
+
+-- so many entries and values stand in Rewrite, or the greatest number of 64 bits where these are more
+abbrev pub StandIn : Shown → ℕ → Type 0
+StandIn v n = (pairs : List (List ℕ × List ℕ)) × ListsAll (rewritten_values v) pairs
+    × (n ≡ min (v.rewritten + length pairs) (2 ^ 64 - 1))

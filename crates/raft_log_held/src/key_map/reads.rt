@@ -1,8 +1,8 @@
 //! What is read of all keys, in the order of their bytes.
 ghost use Rattle.std.specs.Fn.{CalledAtTwo};
-ghost use Rattle.std.specs.Prelude.{◌≡◌, List, ℕ, reverse, IfOk, OnOk, OnErr, length, take, option_map, option_copied};
+ghost use Rattle.std.specs.Prelude.{◌≡◌, List, None, ℕ, reverse, IfOk, OnOk, OnErr, length, take, option_map, option_copied};
 ghost use Rattle.raft_log_held.specs.Keys.{keys_of, shown_value};
-ghost use Rattle.raft_log_held.specs.Listing.{asked_bytes, bytes_within, in_direction, AddsAll, ListsAll, ListsMarked, Visits};
+ghost use Rattle.raft_log_held.specs.Listing.{asked_bytes, bytes_within, in_direction, AddsAll, CountsAll, ListsAll, ListsMarked, Visits};
 
 use super::{HeldValue, KeyMap, KeySlot};
 use raft_log_base::FileSeq;
@@ -102,6 +102,19 @@ impl KeyMap {
         let key = Bytes::from_slice(self.alloc, key)?;
         let value = Bytes::from_slice(self.alloc, value.bytes.as_slice())?;
         Ok((key, value))
+    }
+
+    /// How many values stand in Rewrite, at most 2^64 - 1.
+    pub fn rewritten_count(&self) -> u64
+        ensures { CountsAll (λ k. asked_bytes None ((keys_of self.now).values k)) result }
+    {
+        let mut count: u64 = 0;
+        for slot in self.slots.values() {
+            if slot.asked(None).is_some() {
+                count = count.saturating_add(1);
+            }
+        }
+        count
     }
 
     /// Calls back with each key that isn't below the start and is below the end, where they are given, and

@@ -1,7 +1,7 @@
-//! The groups that have a table, in the order of their numbers.
+//! The groups that have a table, in the order of their numbers, and what is counted of them.
 ghost use Rattle.std.specs.Prelude.{◌≡◌, option_copied, IfOk};
 ghost use Rattle.raft_log_replay.specs.Tables.{counts, has_table, raw_of};
-ghost use Rattle.raft_log_replay.specs.Walking.{is_listed, ListsGroups};
+ghost use Rattle.raft_log_replay.specs.Walking.{is_listed, ListsGroups, Stand};
 
 use super::MemTables;
 use raft_log_tables::MemTable;
@@ -29,6 +29,18 @@ impl MemTables {
     {
         let found = self.groups.get(&group)?;
         Some(&found.table)
+    }
+
+    /// How many entries and values of all groups stand in Rewrite, at most 2^64 - 1. It takes time in all
+    /// keys of all groups, and no memory.
+    pub fn standing_count(&self) -> u64
+        ensures { Stand self.now result }
+    {
+        let mut count: u64 = 0;
+        for (_, table) in self.groups.iter() {
+            count = count.saturating_add(table.table.standing_count());
+        }
+        count
     }
 
     /// The numbers of all groups that have a table, or only of those that count.

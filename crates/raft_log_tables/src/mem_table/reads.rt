@@ -2,7 +2,7 @@
 ghost use Rattle.std.specs.Fn.{CalledAtTwo};
 ghost use Rattle.std.specs.Prelude.{◌≡◌, ◌++◌, List, ℕ, option_copied, IfOk, OnOk, OnErr};
 ghost use Rattle.raft_log_held.specs.Listing.{appended_values, in_direction, rewritten_values, values_within, AddsAll, ListsAll, ListsMarked, Visits};
-ghost use Rattle.raft_log_tables.specs.Reads.{appended_entries, has_before, rewritten_entries};
+ghost use Rattle.raft_log_tables.specs.Reads.{appended_entries, has_before, rewritten_entries, StandIn};
 ghost use Rattle.raft_log_tables.specs.Table.{shown};
 
 use super::MemTable;
@@ -64,6 +64,13 @@ impl MemTable {
         ensures err { OnErr result (pairs.new.items ≡ pairs.old.items) }
     {
         self.keys.fetch_values(None, pairs)
+    }
+
+    /// How many entries and values stand in Rewrite, at most 2^64 - 1.
+    pub fn standing_count(&self) -> u64
+        ensures { StandIn (shown self.now) result }
+    {
+        (self.rewritten as u64).saturating_add(self.keys.rewritten_count())
     }
 
     /// Whether there are so many entries, and the last of these many lies in a file up to the gate: each

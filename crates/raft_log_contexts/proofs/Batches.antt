@@ -1,5 +1,7 @@
 -- Batches that a context has read, as its records say it.
-use Rattle.std.proofs.Common.{◌≡◌, List, [], ◌∷◌, ◌++◌, Option, Some, None, refl, sym, subst, ◌∙◌}
+use Rattle.std.proofs.Common.{◌≡◌, ◌+◌, ◌-◌, ◌^◌, ℕ, arith, List, [], ◌∷◌, ◌++◌, Option, Some, None, refl, sym, subst, ◌∙◌}
+use Rattle.std.specs.Prelude.{min}
+use Rattle.std.proofs.lemmas.List.Sums.{sum_by-append, sum_by_push}
 use Rattle.raft_log_base.specs.declared.errors.Error.{Error}
 use Rattle.raft_log_base.specs.declared.errors.Error.TheVariants as errors
 use Rattle.raft_log_base.specs.declared.pipe_log.FileId.{FileId}
@@ -8,7 +10,8 @@ use Rattle.raft_log_items.specs.declared.item.LogItem.{LogItem}
 use Rattle.raft_log_segments.specs.Machines.{batch_in, Batch, DeclinesBatch, DeclinesLater, JoinsLater, TakesBatch}
 use Rattle.raft_log_contexts.specs.declared.context.MemTableRecoverContext.{MemTableRecoverContext}
 use Rattle.raft_log_contexts.specs.Records.{record_read, ReadRecord}
-use Rattle.raft_log_contexts.specs.Context.{HasRead, MergesInto, ReadsOn, ReadsOne}
+use Rattle.raft_log_contexts.specs.Context.{written_to, HasRead, MergesInto, ReadsOn, ReadsOne}
+use Rattle.raft_log_contexts.specs.Written.{written_in}
 use Rattle.raft_log_contexts.specs.Batches.{AreApart, AreRead, Declines, HasReadBatches, IsDeclined, MergeDeclined, ReplayDeclined}
 
 told_both : (queue : LogQueue) (bs cs : List Batch) (rs ss : List ReadRecord) → AreRead queue bs rs → AreRead queue cs ss → AreRead queue (bs ++ cs) (rs ++ ss)
@@ -22,20 +25,24 @@ one_read : (queue : LogQueue) (o : Option ReadRecord) (old new : MemTableRecover
 one_read queue None old new reads rs h = absurd reads
 one_read queue (Some r) old new reads rs h = (r, refl, reads rs h)
 
-pub takes_batch : (file : FileId) (items : List LogItem) (old new : MemTableRecoverContext) → ReadsOn file items old new → TakesBatch HasReadBatches file items old new
-takes_batch file items old new reads before h =
+pub takes_batch : (file : FileId) (items : List LogItem) (old new : MemTableRecoverContext) → ReadsOn file items old new → written_to new ≡ min (written_to old + written_in items) (2 ^ 64 - 1)
+    → TakesBatch HasReadBatches file items old new
+takes_batch file items old new reads more before h =
     let one = one_read file.queue (record_read file.queue file.seq items) old new reads h.records h.read in
     record {
       records = h.records ++ one.0 ∷ [];
       told = told_both file.queue before (batch_in file items ∷ []) h.records (one.0 ∷ []) h.told (one.1, tt);
       read = one.2;
+      written = let all = sum_by_push (λ b. written_in b.items) before (batch_in file items) in omega (arith, more, h.written, all);
     }
 
-pub joins_later : (queue : LogQueue) (old later new : MemTableRecoverContext) → MergesInto queue old later new → JoinsLater (HasReadBatches queue) old later new
-joins_later queue old later new merges xs ys h k = record {
+pub joins_later : (queue : LogQueue) (old later new : MemTableRecoverContext) → MergesInto queue old later new → written_to new ≡ min (written_to old + written_to later) (2 ^ 64 - 1)
+    → JoinsLater (HasReadBatches queue) old later new
+joins_later queue old later new merges more xs ys h k = record {
   records = h.records ++ k.records;
   told = told_both queue xs ys h.records k.records h.told k.told;
   read = merges h.records k.records h.read k.read;
+  written = let all = sum_by-append (λ b. written_in b.items) xs ys in omega (arith, more, h.written, k.written, all);
 }
 
 abbrev IsAbsent : Option ReadRecord → Type 0

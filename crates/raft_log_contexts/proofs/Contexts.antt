@@ -1,5 +1,7 @@
 -- What a context has read.
 use Rattle.std.proofs.Common.{◌≡◌, ℕ, ◌≤◌, ◌==◌, Bool, true, false, List, [], ◌∷◌, ◌++◌, map, Option, Some, None, unwrap_or, refl, sym, ap, ap₂, subst, ◌∙◌, append_assoc, append-nil}
+use Rattle.raft_log_base.specs.declared.errors.Error.{Error}
+use Rattle.raft_log_base.specs.declared.pipe_log.FileId.{FileId}
 use Rattle.raft_log_base.specs.declared.pipe_log.LogQueue.{LogQueue}
 use Rattle.raft_log_base.specs.declared.pipe_log.LogQueue.TheVariants.{Append, Rewrite}
 use Rattle.raft_log_items.specs.declared.item.LogItem.{LogItem}
@@ -27,7 +29,7 @@ use Rattle.raft_log_places.specs.Bridge.{Located}
 use Rattle.raft_log_held.specs.Entries.{place_of}
 use Rattle.raft_log_tables.specs.Replays.{in_append}
 use Rattle.raft_log_replay.specs.declared.mem_tables.MemTables.{MemTables}
-use Rattle.raft_log_replay.specs.Tables.{counts as counting_of, replayed_of, shown_of}
+use Rattle.raft_log_replay.specs.Tables.{counts as counting_of, replayed_of, shown_of, IsAtRest}
 use Rattle.raft_log_replay.specs.Replaying.{ReadsAll}
 use Rattle.raft_log_replay.specs.Joining.{JoinsAll, MergesAll}
 use Rattle.raft_log_replay.proofs.Rereading.{table_is}
@@ -36,6 +38,7 @@ use Rattle.raft_log_places.specs.Bridge.{IsMeant}
 use Rattle.raft_log_places.proofs.Merging.{means, recovers}
 use Rattle.raft_log_machine.specs.Recovery.{IsRecovered}
 use Rattle.raft_log_contexts.specs.declared.context.MemTableRecoverContext.{MemTableRecoverContext}
+use Rattle.raft_log_contexts.specs.Batches.{MergeDeclined, ReplayDeclined}
 use Rattle.raft_log_contexts.specs.declared.part.GroupPart.{GroupPart}
 use Rattle.raft_log_contexts.specs.declared.pieces.GroupPieces.{GroupPieces}
 use Rattle.raft_log_contexts.specs.Records.{counted, in_file, records_of, said_in, AreHealthy, AreReplayed, ReadItem, ReadRecord, TakesItems}
@@ -356,3 +359,16 @@ module _ {E : Type 0} (at : Located → E) (rewrite append : List ReadRecord) (m
       let told_all = over sound.tidy sound.tidy_append g sound.of_rewrite sound.of_append in
       subst (λ v. IsRecovered (meant_by at rewrite append g) (map (told at) (counted g append)) (whereabouts v)) (sym told_all.shows)
       (recovers at (counted g rewrite) (counted g append) told_all.rewritten told_all.appended told_all.of_rewrite told_all.of_append sound.solid)
+
+-- what was read isn't changed by what is counted
+read_as_counted : (queue : LogQueue) (rs : List ReadRecord) (c : MemTableRecoverContext) (n : ℕ) (rests : IsAtRest c.tables) → HasRead queue rs c
+    → HasRead queue rs (record c { written = n; rests = rests })
+read_as_counted queue rs c n rests h = record { plain = h.plain; fit = h.fit; tables = h.tables; counting = h.counting; notes = h.notes; pieces = h.pieces }
+
+pub replay_declined_counted : (file : FileId) (items : List LogItem) (c : MemTableRecoverContext) (n : ℕ) (rests : IsAtRest c.tables) (e : Error)
+    → ReplayDeclined file items (record c { written = n; rests = rests }) e → ReplayDeclined file items c e
+replay_declined_counted file items c n rests e h rs read = h rs (read_as_counted file.queue rs c n rests read)
+
+pub merge_declined_counted : (queue : LogQueue) (c later : MemTableRecoverContext) (n : ℕ) (rests : IsAtRest c.tables) (e : Error)
+    → MergeDeclined queue (record c { written = n; rests = rests }) later e → MergeDeclined queue c later e
+merge_declined_counted queue c later n rests e h xs ys read = h xs ys (read_as_counted queue xs c n rests read)

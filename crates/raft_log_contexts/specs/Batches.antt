@@ -1,5 +1,5 @@
 -- The batches of a queue as a context reads them, and why it declines some.
-use Rattle.std.specs.Prelude.{◌≡◌, ℕ, List, [], ◌∷◌, ◌++◌, Option, Some, None}
+use Rattle.std.specs.Prelude.{◌≡◌, ◌-◌, ◌^◌, ℕ, min, List, [], ◌∷◌, ◌++◌, Option, Some, None}
 use Rattle.std.specs.List.{AllZip}
 use Rattle.std.specs.String.{string_bytes}
 use Rattle.raft_log_base.specs.declared.errors.Error.{Error}
@@ -16,7 +16,8 @@ use Rattle.raft_log_segments.specs.Machines.{Batch}
 use Rattle.raft_log_contexts.specs.declared.context.MemTableRecoverContext.{MemTableRecoverContext}
 use Rattle.raft_log_contexts.specs.Records.{counted, record_read, records_of, AreHealthy, ReadRecord}
 use Rattle.raft_log_contexts.specs.Pieces.{invalid_mark}
-use Rattle.raft_log_contexts.specs.Context.{tables_of, HasRead}
+use Rattle.raft_log_contexts.specs.Context.{tables_of, written_to, HasRead}
+use Rattle.raft_log_contexts.specs.Written.{written_by}
 
 -- no record touches the raft group of an open atomic group, and what counts of the records is healthy
 pub record AreOrderly (rs : List ReadRecord) : Type 0 where
@@ -63,11 +64,13 @@ MergeDeclined queue old later error =
 abbrev pub AreRead : LogQueue → List Batch → List ReadRecord → Type 0
 AreRead queue bs rs = AllZip (λ b r. record_read queue b.file b.items ≡ Some r) bs rs
 
--- the context has read these batches of a queue: each is a record, and it has read the records
+-- The context has read these batches of a queue: each is a record, and it has read the records. It has
+-- counted what they bring, up to the greatest number of 64 bits
 pub record HasReadBatches (queue : LogQueue) (bs : List Batch) (c : MemTableRecoverContext) : Type 0 where
   pub records : List ReadRecord
   pub told : AreRead queue bs records
   pub read : HasRead queue records c
+  pub written : written_to c ≡ min (written_by bs) (2 ^ 64 - 1)
 
 -- the batches are records, which aren't in order
 pub record AreDisorderly (queue : LogQueue) (bs : List Batch) : Type 0 where

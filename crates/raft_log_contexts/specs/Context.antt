@@ -69,6 +69,10 @@ ReadsOn file items old new = ReadsOne file.queue (record_read file.queue file.se
 abbrev pub tables_of : MemTableRecoverContext → MemTables
 tables_of c = c.tables
 
+-- how many entries and values the context has read
+abbrev pub written_to : MemTableRecoverContext → ℕ
+written_to c = c.written
+
 -- in Append no run of the items leaves a hole behind what the context has of the group
 abbrev pub LeavesNoHole : FileId → List LogItem → MemTableRecoverContext → Type 0
 LeavesNoHole file items c =

@@ -2,5 +2,6 @@ pub mod Records
 pub mod Pieces
 pub mod Noting
 pub mod Context
+pub mod Written
 pub mod Batches
 pub mod Opened

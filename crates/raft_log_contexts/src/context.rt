@@ -1,5 +1,5 @@
 //! What a worker keeps of one segment of a queue.
-ghost use Rattle.std.specs.Prelude.{◌≡◌, List, [], Some, OnOk, IfErr};
+ghost use Rattle.std.specs.Prelude.{◌≡◌, ◌+◌, ◌-◌, ◌^◌, min, List, [], Some, OnOk, IfErr};
 ghost use Rattle.raft_log_base.specs.declared.errors.Error.TheVariants.{Memory};
 ghost use Rattle.raft_log_base.specs.declared.pipe_log.LogQueue.{LogQueue};
 ghost use Rattle.raft_log_base.specs.declared.pipe_log.LogQueue.TheVariants.{Append, Rewrite};
@@ -12,6 +12,7 @@ ghost use Rattle.raft_log_contexts.specs.Pieces.{part_read, IsBroken};
 use crate::part::GroupPart;
 use crate::pieces::GroupPieces;
 use crate::settle::{settle_all, settle_whole};
+use crate::written::written_count;
 use raft_log_atomic_groups::{AtomicGroupStatus, Marking};
 use raft_log_base::{Error, FileId, FileSeq, LogQueue, Result};
 use raft_log_items::LogItem;
@@ -26,13 +27,17 @@ pub struct MemTableRecoverContext {
     alloc: Global,
     tables: MemTables,
     pieces: GroupPieces,
+    /// How many entries and values were read.
+    written: u64,
     ghost rests: { IsAtRest tables },
 }
 
 impl MemTableRecoverContext {
     ghost use Rattle.raft_log_contexts.specs.Batches.{IsUnread, MergeDeclined, ReplayDeclined};
+    ghost use Rattle.raft_log_contexts.specs.Written.{written_in};
     ghost use Rattle.raft_log_contexts.specs.Context.{
       tables_of,
+      written_to,
       AppendRefused,
       ComesOver,
       HasRead,
@@ -45,12 +50,14 @@ impl MemTableRecoverContext {
 
     /// The context of a segment without records.
     pub fn new(alloc: Global) -> MemTableRecoverContext
-        ensures { (queue : LogQueue) → HasRead queue [] result }
+        ensures read { (queue : LogQueue) → HasRead queue [] result }
+        ensures written { written_to result ≡ 0 }
     {
         MemTableRecoverContext {
             alloc,
             tables: MemTables::new(alloc),
             pieces: GroupPieces::new(alloc),
+            written: 0,
         }
     }
 
@@ -64,6 +71,21 @@ impl MemTableRecoverContext {
         ensures fits { OnOk result (LeavesNoHole file items.items self.old) }
         ensures errors { IfErr result (ReplayDeclined file items.items self.old) }
         ensures partly { IfErr result (λ e. AppendRefused file items.items self.old self.new e) }
+        ensures written { OnOk result (written_to self.new
+            ≡ min (written_to self.old + written_in items.items) (2 ^ 64 - 1)) }
+    {
+        let written = written_count(items.as_slice());
+        self.written = self.written.saturating_add(written);
+        self.take(items, file)
+    }
+
+    /// The items of a batch go to the tables, or to the pieces of their atomic group.
+    fn take(&mut self, items: Vec<LogItem>, file: FileId) -> Result<()>
+        ensures ok { OnOk result (ReadsOn file items.items self.old self.new) }
+        ensures fits { OnOk result (LeavesNoHole file items.items self.old) }
+        ensures errors { IfErr result (ReplayDeclined file items.items self.old) }
+        ensures partly { IfErr result (λ e. AppendRefused file items.items self.old self.new e) }
+        ensures written { written_to self.new ≡ written_to self.old }
     {
         match file.queue {
             LogQueue::Append => self.tables.replay_append_writes(items, file.seq),
@@ -76,6 +98,7 @@ impl MemTableRecoverContext {
         ensures ok { OnOk result
             (ReadsOne Rewrite (record_read Rewrite file items.items) self.old self.new) }
         ensures errors { IfErr result (IsUnread (record_read Rewrite file items.items)) }
+        ensures written { written_to self.new ≡ written_to self.old }
     {
         match Marking::parse_all(items.as_slice()) {
             Marking::Unmarked => self.tables.replay_rewrite_writes(items, file),
@@ -91,6 +114,7 @@ impl MemTableRecoverContext {
         ensures ok { OnOk result
             (ReadsOne Rewrite (Some (part_read (part_of number status) part)) self.old self.new) }
         ensures errors { IfErr result (λ e. e ≡ Memory) }
+        ensures written { written_to self.new ≡ written_to self.old }
     {
         match status {
             AtomicGroupStatus::Begin => Ok(self.pieces.begin(number, part)?),
@@ -104,6 +128,7 @@ impl MemTableRecoverContext {
         ensures ok { OnOk result
             (ReadsOne Rewrite (Some (part_read (End number) part)) self.old self.new) }
         ensures errors { IfErr result (λ e. e ≡ Memory) }
+        ensures written { written_to self.new ≡ written_to self.old }
     {
         let whole = self.pieces.end(number, part)?;
         settle_whole(self.alloc, &mut self.tables, whole)
@@ -117,6 +142,19 @@ impl MemTableRecoverContext {
         ensures ok { OnOk result (MergesInto queue self.old later self.new) }
         ensures fits { OnOk result (JoinsOn later self.new) }
         ensures errors { IfErr result (MergeDeclined queue self.old later) }
+        ensures written { OnOk result (written_to self.new
+            ≡ min (written_to self.old + written_to later) (2 ^ 64 - 1)) }
+    {
+        self.written = self.written.saturating_add(later.written);
+        self.join(later, queue)
+    }
+
+    /// The tables and the pieces of the next segment come behind these.
+    fn join(&mut self, later: MemTableRecoverContext, queue: LogQueue) -> Result<()>
+        ensures ok { OnOk result (MergesInto queue self.old later self.new) }
+        ensures fits { OnOk result (JoinsOn later self.new) }
+        ensures errors { IfErr result (MergeDeclined queue self.old later) }
+        ensures written { written_to self.new ≡ written_to self.old }
     {
         match queue {
             LogQueue::Append => self.tables.merge_newer_neighbor(later.tables),
@@ -129,11 +167,19 @@ impl MemTableRecoverContext {
         ensures ok { OnOk result (MergesInto Rewrite self.old later self.new) }
         ensures fits { OnOk result (JoinsOn later self.new) }
         ensures errors { IfErr result (MergeDeclined Rewrite self.old later) }
+        ensures written { written_to self.new ≡ written_to self.old }
     {
         let MemTableRecoverContext { tables, pieces, .. } = later;
         let done = self.pieces.merge(pieces)?;
         settle_all(self.alloc, &mut self.tables, done)?;
         self.tables.merge_newer_neighbor(tables)
+    }
+
+    /// How many entries and values were read, at most 2^64 - 1.
+    pub fn written(&self) -> u64
+        ensures { result ≡ written_to self.now }
+    {
+        self.written
     }
 
     /// The context of all of Append comes over this one, which is that of all of Rewrite.

@@ -9,6 +9,7 @@ pub mod machine;
 mod part;
 mod pieces;
 mod settle;
+mod written;
 
 pub use context::MemTableRecoverContext;
 pub use machine::MemTableRecoverContextFactory;

@@ -5,8 +5,8 @@ use Rattle.raft_log_places.proofs.Replays.{read_nothing}
 use Rattle.raft_log_tables.specs.Replays.{in_append}
 use Rattle.raft_log_contexts.proofs.context.MemTableRecoverContext.new.Goals as goal
 
-pub returns : goal.returns
-returns c = λ queue. record {
+pub returns-clause-read : goal.returns-clause-read
+returns-clause-read c = λ queue. record {
   plain = λ q. tt;
   fit = λ q. tt;
   tables = λ tidy g healthy. subst (λ z. IsReplayed (in_append queue) [] z) (sym (c.new.ensures.replay g)) (read_nothing (in_append queue));

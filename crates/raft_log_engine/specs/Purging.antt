@@ -1,16 +1,24 @@
 -- Files of an engine's log go.
 use Rattle.std.specs.Prelude.{◌≡◌, ◌⊎◌, ℕ}
 use Rattle.raft_log_base.specs.declared.errors.Error.{Error}
+use Rattle.raft_log_base.specs.declared.pipe_log.LogQueue.TheVariants.{Rewrite}
+use Rattle.raft_log_disk.specs.Disk.{Disk}
+use Rattle.raft_log_opening.specs.Reading.{BringsInRewrite}
+use Rattle.raft_log_replay.specs.declared.mem_tables.MemTables.{MemTables}
 use Rattle.raft_log_settings.specs.Sanitized.{sanitized}
 use Rattle.raft_log_settings.specs.Settings.{settings_of}
 use Rattle.raft_log_settings.specs.declared.config.Config.{Config}
 use Rattle.raft_log_purge.specs.Thresholds.{thresholds_of}
 use Rattle.raft_log_purge.specs.declared.thresholds.Thresholds.{Thresholds}
+use Rattle.raft_log_tables.specs.Stats.{added, no_entries}
 use Rattle.raft_log_purge_rules.specs.Picking.{count_of}
 use Rattle.raft_log_purge_rules.specs.declared.rounds.Rounds.{Rounds}
 use Rattle.raft_log_purging.specs.raft_log_rewriting.specs.Stale.{FailsToPurge}
 use Rattle.raft_log_purging.specs.Append.{FailsToRewriteAppend}
+use Rattle.raft_log_purging.specs.Counted.{CountsAndKeeps}
+use Rattle.raft_log_purging.specs.Counting.{CountsStanding}
 use Rattle.raft_log_purging.specs.ExpiredFiles.{FailsToPurgeExpired}
+use Rattle.raft_log_purging.specs.declared.expired_files.PurgeCounts.{PurgeCounts}
 use Rattle.raft_log_purging.specs.raft_log_engine_state.specs.Fetching.{HadFailed}
 use Rattle.raft_log_purging.specs.raft_log_engine_state.specs.Shows.{Shows}
 use Rattle.raft_log_engine.specs.Reads.{Lives}
@@ -31,3 +39,18 @@ StopsRewritingAppend s t error = HadFailed s t error ⊎ (Lives s × FailsToRewr
 -- why expired files don't go, or Rewrite isn't rewritten: so it is of these
 abbrev pub StopsPurgingExpired : Shows → Shows → Error → Type 0
 StopsPurgingExpired s t error = HadFailed s t error ⊎ (Lives s × FailsToPurgeExpired error s t)
+
+-- of an engine that was opened all that was read of Rewrite counts as written there
+pub record CountsBrought (config : Config) (d : Disk) (counts : PurgeCounts) : Type 0 where
+  pub written : ℕ
+  pub brings : BringsInRewrite config d written
+  pub stats : counts.stats ≡ added Rewrite written no_entries
+
+-- what is counted of Rewrite where a purge was refused: nothing, of an engine that had failed; else what stood
+-- there before, and after that no round
+abbrev pub StopsCounting : MemTables → PurgeCounts → PurgeCounts → Type 0
+StopsCounting m old new = (new ≡ old) ⊎ CountsAndKeeps m old new
+
+-- or just what stood there before
+abbrev pub MayCountStanding : MemTables → PurgeCounts → PurgeCounts → Type 0
+MayCountStanding m old new = (new ≡ old) ⊎ CountsStanding m old new

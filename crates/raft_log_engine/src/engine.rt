@@ -48,6 +48,8 @@ impl<P: PipeLog> Engine<P> {
       WritesBytes,
     };
     ghost use Rattle.raft_log_records.specs.Batch.{emptied, max_kept_len, IsButBuffer, IsReadyForEach};
+    ghost use Rattle.raft_log_base.specs.declared.pipe_log.LogQueue.TheVariants.{Rewrite};
+    ghost use Rattle.raft_log_tables.specs.Stats.{added, no_entries};
     ghost use Rattle.raft_log_engine.specs.Reads.{shows_of};
     ghost use Rattle.raft_log_engine.specs.Room.{KeepsLittle, PutFails, StaysWritable};
     ghost use Rattle.std.specs.Prelude.{false, true};
@@ -55,15 +57,22 @@ impl<P: PipeLog> Engine<P> {
     ghost use Rattle.raft_log_dual_pipes.specs.Closing.{ClosesInOrder, ClosesLog};
     ghost use Rattle.raft_log_dual_pipes.specs.Pipes.{is_failed};
 
-    /// An engine over these pipes, whose tables these are, with these thresholds. No block is kept, and no
-    /// group was asked to be compacted yet.
-    pub fn new(alloc: Global, thresholds: Thresholds, pipes: P, tables: MemTables) -> Engine<P>
+    /// An engine over these pipes, whose tables these are, with these thresholds. So many entries and values
+    /// were written to Rewrite before. No block is kept, and no group was asked to be compacted yet.
+    pub fn new(
+        alloc: Global,
+        thresholds: Thresholds,
+        pipes: P,
+        tables: MemTables,
+        written: u64,
+    ) -> Engine<P>
         requires { IsAtRest tables }
         ensures pipes { result.pipes ≡ pipes }
         ensures tables { result.tables ≡ tables }
         ensures none { result.cache.place ≡ None }
         ensures thresholds { result.thresholds ≡ thresholds }
         ensures unasked { (g : ℕ) → count_of result.counts.rounds g ≡ 0 }
+        ensures written { result.counts.stats ≡ added Rewrite written no_entries }
     {
         Engine {
             alloc,
@@ -71,7 +80,7 @@ impl<P: PipeLog> Engine<P> {
             tables,
             cache: BlockCache::new(alloc),
             thresholds,
-            counts: PurgeCounts::new(alloc),
+            counts: PurgeCounts::new(alloc, written),
         }
     }
 

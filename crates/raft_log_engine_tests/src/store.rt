@@ -62,7 +62,7 @@ pub fn fresh(rt: &HostRuntime, refused: u64) -> std::result::Result<Store, Fail>
     }
     let pipes = DualPipes::new(system, append, rewrite);
     Ok(Store {
-        engine: Engine::new(rt.alloc(), THRESHOLDS, pipes, MemTables::new(rt.alloc())),
+        engine: Engine::new(rt.alloc(), THRESHOLDS, pipes, MemTables::new(rt.alloc()), 0),
         batch: LogBatch::default(rt.alloc())?,
     })
 }

@@ -14,13 +14,14 @@ use Rattle.raft_log_segments.specs.Sources.{HoldEach}
 use Rattle.raft_log_found_queue.specs.Segments.{HoldsFile}
 use Rattle.raft_log_found_queue.specs.declared.file_ending.FileEnding.{FileEnding}
 use Rattle.raft_log_contexts.specs.Batches.{HasReadBatches}
+use Rattle.raft_log_contexts.specs.Context.{written_to}
 use Rattle.raft_log_contexts.specs.declared.context.MemTableRecoverContext.{MemTableRecoverContext}
 use Rattle.raft_log_builder.specs.Finishing.{IsRead}
 use Rattle.raft_log_builder.specs.Recovering.{append_files, rewrite_files, RecoversLog}
 use Rattle.raft_log_builder.specs.Reserving.{ReadiesLog}
 use Rattle.raft_log_builder.specs.declared.builder.DualPipesBuilder.{DualPipesBuilder}
 use Rattle.raft_log_opening.specs.Finding.{FindsLog}
-use Rattle.raft_log_opening.specs.Reading.{AreMergedOf, HasReadAll, ReadsLog, ReadsQueues}
+use Rattle.raft_log_opening.specs.Reading.{AreMergedOf, BringsInRewrite, HasReadAll, ReadsLog, ReadsQueues}
 
 one_each : {E : Type 0} (holds : ℕ → List Batch → E → Type 0) (k : ℕ) (bss : List (List Batch)) (es : List E) → HoldEach holds k bss es → length bss ≡ length es
 one_each holds k [] [] held = refl
@@ -109,3 +110,19 @@ reads_log disk tells config append rewrite recovered b old between new tables re
   readies = readies;
   all = all_told disk tells config append rewrite recovered b old between new reads readies;
 }
+
+-- what was read of Rewrite was counted
+pub brings : (config : Config) (append rewrite : MemTableRecoverContext) (b : DualPipesBuilder) (old new : Disk) (n : ℕ) → ReadsQueues config append rewrite b old new → n ≡ written_to rewrite
+    → BringsInRewrite config old n
+brings config append rewrite b old new n reads is =
+    let all = reads.rewrite_all in
+    record {
+      found = reads.found;
+      scanned = reads.scanned;
+      finds = reads.finds;
+      segments = all.segments;
+      endings = b.rewrite.endings.items;
+      held = all.held;
+      all = all.all;
+      count = is ∙ all.read.written;
+    }

@@ -1,5 +1,5 @@
 -- The queues of a log are read into contexts, and its tables are made of both.
-use Rattle.std.specs.Prelude.{◌≡◌, ℕ, List, length}
+use Rattle.std.specs.Prelude.{◌≡◌, ◌-◌, ◌^◌, ℕ, min, List, length}
 use Rattle.raft_log_base.specs.declared.pipe_log.LogQueue.{LogQueue}
 use Rattle.raft_log_base.specs.declared.pipe_log.LogQueue.TheVariants.{Append, Rewrite}
 use Rattle.raft_log_disk.specs.Disk.{Disk}
@@ -16,6 +16,7 @@ use Rattle.raft_log_found_queue.specs.declared.file_ending.FileEnding.{FileEndin
 use Rattle.raft_log_contexts.specs.Batches.{HasReadBatches}
 use Rattle.raft_log_contexts.specs.Context.{ComesOver, HasRead}
 use Rattle.raft_log_contexts.specs.Records.{ReadRecord}
+use Rattle.raft_log_contexts.specs.Written.{written_by}
 use Rattle.raft_log_contexts.specs.declared.context.MemTableRecoverContext.{MemTableRecoverContext}
 use Rattle.raft_log_builder.specs.Finishing.{IsRead}
 use Rattle.raft_log_builder.specs.Recovering.{append_files, rewrite_files, RecoversLog}
@@ -44,6 +45,19 @@ pub record ReadsQueues (config : Config) (append rewrite : MemTableRecoverContex
       b.append.endings.items
   pub rewrite_all : HasReadAll Rewrite found.config.recovery_mode (rewrite_files found) scanned rewrite
       b.rewrite.endings.items
+
+-- So many entries and values the files of Rewrite bring, as they stood on the disk when the log was found, or
+-- the greatest number of 64 bits where these are more: all that is read of them, whether it stands still or not.
+pub record BringsInRewrite (config : Config) (d : Disk) (n : ℕ) : Type 0 where
+  pub found : DualPipesBuilder
+  pub scanned : Disk
+  pub finds : FindsLog config found d scanned
+  pub segments : List (List Batch)
+  pub endings : List FileEnding
+  pub held : HoldEach (HoldsFile found.config.recovery_mode Rewrite (rewrite_files found) scanned) 0 segments
+      endings
+  pub all : length segments ≡ length (rewrite_files found)
+  pub count : n ≡ min (written_by (all_batches segments)) (2 ^ 64 - 1)
 
 -- the tables are what the context of Append came to over that of Rewrite, and nothing is prepared in them
 pub record AreMergedOf (append rewrite : MemTableRecoverContext) (tables : MemTables) : Type 0 where

@@ -3,6 +3,7 @@
 ghost use Rattle.std.specs.Prelude.{IfErr, IfOk};
 ghost use Rattle.raft_log_replay.specs.Tables.{IsAtRest};
 ghost use Rattle.raft_log_opening.specs.Opening.{FailsToOpenDirectory, OpensDirectory};
+ghost use Rattle.raft_log_opening.specs.Reading.{BringsInRewrite};
 
 use crate::reading::{ReadLog, read_log};
 use log::Log;
@@ -20,6 +21,8 @@ pub struct OpenedLog<F> {
     pub pipes: DualPipes<F>,
     /// The tables of all groups.
     pub tables: MemTables,
+    /// How many entries and values were read of Rewrite, at most 2^64 - 1: with what stands no more.
+    pub written: u64,
     pub ghost rests: { IsAtRest tables },
 }
 
@@ -40,16 +43,25 @@ pub fn open_directory<R: Threads + Log + Sync, F: FileSystem + Sync>(
 ) -> Result<OpenedLog<F>, OpenRefused<F>>
     ensures ok { IfOk result (λ log. OpensDirectory F.disk F.tells_space config file_system
         (⟦<DualPipes<F> as PipeLog>⟧.shown log.pipes) log.tables) }
+    ensures brought { IfOk result (λ log. BringsInRewrite config (F.disk file_system) log.written) }
     ensures err { IfErr result (λ refused. FailsToOpenDirectory F.disk F.tells_space config refused.error
         file_system refused.file_system) }
 {
     let mut file_system = file_system;
-    let ReadLog { builder, tables } = match read_log(rt, alloc, config, &mut file_system) {
+    let ReadLog {
+        builder,
+        tables,
+        written,
+    } = match read_log(rt, alloc, config, &mut file_system) {
         Ok(read) => read,
         Err(error) => return Err(OpenRefused { error, file_system }),
     };
     match builder.finish(alloc, rt, file_system) {
-        Ok(pipes) => Ok(OpenedLog { pipes, tables }),
+        Ok(pipes) => Ok(OpenedLog {
+            pipes,
+            tables,
+            written,
+        }),
         Err(refused) => Err(refused),
     }
 }

@@ -6,7 +6,7 @@ ghost use Rattle.raft_log_settings.specs.Sanitized.{IsRefusedFor};
 ghost use Rattle.raft_log_settings.specs.Settings.{settings_of};
 ghost use Rattle.raft_log_opening.specs.Finding.{FindsLog, IsBegun};
 ghost use Rattle.raft_log_opening.specs.Opening.{FailsToOpenDirectory};
-ghost use Rattle.raft_log_opening.specs.Reading.{AreMergedOf, ReadsLog, ReadsQueues};
+ghost use Rattle.raft_log_opening.specs.Reading.{AreMergedOf, BringsInRewrite, ReadsLog, ReadsQueues};
 
 use log::Log;
 use raft_log_base::Result;
@@ -23,6 +23,8 @@ use std::thread::Threads;
 pub struct ReadLog {
     pub builder: DualPipesBuilder,
     pub tables: MemTables,
+    /// How many entries and values were read of Rewrite.
+    pub written: u64,
 }
 
 /// The queues of a log that were read: their files, and what was read of each.
@@ -42,6 +44,7 @@ pub fn read_log<R: Threads + Log + Sync, F: FileSystem + Sync>(
 ) -> Result<ReadLog>
     ensures ok { IfOk result (λ read. ReadsLog F.disk F.tells_space config read.tables read.builder
         file_system.old file_system.new) }
+    ensures brought { IfOk result (λ read. BringsInRewrite config (F.disk file_system.old) read.written) }
     ensures err { IfErr result (λ error. FailsToOpenDirectory F.disk F.tells_space config error
         file_system.old file_system.new) }
 {
@@ -54,12 +57,17 @@ pub fn read_log<R: Threads + Log + Sync, F: FileSystem + Sync>(
         Err(error) => return Err(error),
     };
     let mut builder = builder;
+    let written = rewrite.written();
     let tables = match merge(append, rewrite) {
         Ok(tables) => tables,
         Err(error) => return Err(error),
     };
     match builder.initialize_files(alloc, rt, file_system) {
-        Ok(()) => Ok(ReadLog { builder, tables }),
+        Ok(()) => Ok(ReadLog {
+            builder,
+            tables,
+            written,
+        }),
         Err(error) => Err(error),
     }
 }

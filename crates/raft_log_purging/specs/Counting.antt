@@ -1,10 +1,10 @@
 -- What is counted of Rewrite from one purge to the next.
-use Rattle.std.specs.Prelude.{◌≡◌, ◌⊎◌, ◌-◌, ℕ}
+use Rattle.std.specs.Prelude.{◌≡◌, ◌-◌, ℕ}
 use Rattle.raft_log_base.specs.declared.pipe_log.LogQueue.TheVariants.{Rewrite}
 use Rattle.raft_log_tables.specs.declared.global_stats.GlobalStats.{GlobalStats}
 use Rattle.raft_log_tables.specs.Stats.{added, deleted, live}
+use Rattle.raft_log_replay.specs.Walking.{Stand}
 use Rattle.raft_log_replay.specs.declared.mem_tables.MemTables.{MemTables}
-use Rattle.raft_log_restating.specs.Standing.{Stand}
 use Rattle.raft_log_purging.specs.declared.expired_files.PurgeCounts.{PurgeCounts}
 
 -- the counts where so much stands in Rewrite: what stands there and wasn't counted was written, and what was
@@ -20,6 +20,8 @@ pub record CountsStanding (m : MemTables) (old new : PurgeCounts) : Type 0 where
   pub rounds : new.rounds ≡ old.rounds
   pub number : new.number ≡ old.number
 
--- so they were, or not, for want of memory
-abbrev pub MayCountStanding : MemTables → PurgeCounts → PurgeCounts → Type 0
-MayCountStanding m old new = CountsStanding m old new ⊎ (new ≡ old)
+-- so they were before something was written, and behind it
+pub record CountsTwice (before after : MemTables) (old new : PurgeCounts) : Type 0 where
+  pub between : PurgeCounts
+  pub first : CountsStanding before old between
+  pub second : CountsStanding after between new

@@ -1,6 +1,7 @@
 pub mod Append
 pub mod Expired
 pub mod ExpiredFiles
+pub mod Counted
 pub mod Counting
 -- libraries below, passed on to who stands on this one
 pub use Rattle.raft_log_restating.specs.raft_log_steps

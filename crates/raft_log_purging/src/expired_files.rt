@@ -22,9 +22,8 @@ use raft_log_purge_rules::Rounds;
 use raft_log_replay::MemTables;
 use raft_log_restating::queue::rewrite_rewrite_queue;
 use raft_log_restating::raft_log_blocks::BlockCache;
-use raft_log_restating::standing::standing_count;
 use raft_log_tables::GlobalStats;
-use std::alloc::{AllocError, Global};
+use std::alloc::Global;
 
 /// What is counted from one purge of a log to the next.
 #[derive(Drop)]
@@ -39,35 +38,36 @@ pub struct PurgeCounts {
 
 impl PurgeCounts {
     ghost use Rattle.raft_log_purge_rules.specs.Picking.{count_of};
-    ghost use Rattle.raft_log_tables.specs.Stats.{no_entries};
+    ghost use Rattle.raft_log_base.specs.declared.pipe_log.LogQueue.TheVariants.{Rewrite};
+    ghost use Rattle.raft_log_tables.specs.Stats.{added, no_entries};
     ghost use Rattle.raft_log_purging.specs.Counting.{CountsStanding};
 
-    /// Nothing was counted yet.
-    pub fn new(alloc: Global) -> PurgeCounts
+    /// So many entries and values were written to Rewrite before; nothing else was counted yet.
+    pub fn new(alloc: Global, written: u64) -> PurgeCounts
         ensures rounds { (g : ℕ) → count_of result.rounds g ≡ 0 }
-        ensures stats { result.stats ≡ no_entries }
+        ensures stats { result.stats ≡ added Rewrite written no_entries }
         ensures number { result.number ≡ 1 }
     {
+        let mut stats = GlobalStats::new();
+        stats.add(LogQueue::Rewrite, written);
         PurgeCounts {
             rounds: Rounds::new(alloc),
-            stats: GlobalStats::new(),
+            stats,
             number: 1,
         }
     }
 
     /// Brings the counts to what stands in Rewrite: what stands there and wasn't counted was written, and what
-    /// was counted and doesn't stand is garbage. Refused, nothing changes.
-    pub fn count_standing(&mut self, alloc: Global, tables: &MemTables) -> Result<(), AllocError>
-        ensures ok { OnOk result (CountsStanding tables.now self.old self.new) }
-        ensures err { OnErr result (self.new ≡ self.old) }
+    /// was counted and doesn't stand is garbage.
+    pub fn count_standing(&mut self, tables: &MemTables)
+        ensures { CountsStanding tables.now self.old self.new }
     {
-        let standing = standing_count(alloc, tables)?;
+        let standing = tables.standing_count();
         let live = self.stats.live_entries(LogQueue::Rewrite);
         self.stats
             .add(LogQueue::Rewrite, standing.saturating_sub(live));
         self.stats
             .delete(LogQueue::Rewrite, live.saturating_sub(standing));
-        Ok(())
     }
 }
 

@@ -5,10 +5,11 @@
 #![tactic(auto)]
 
 pub mod append;
+pub mod counted;
 pub mod expired;
 pub mod expired_files;
 
-pub use append::rewrite_append_queue;
+pub use counted::{purge_and_count, rewrite_and_count, rewrite_append_and_count};
 pub use expired::purge_append;
-pub use expired_files::{PurgeCounts, purge_expired_files, sync_and_rewrite};
+pub use expired_files::PurgeCounts;
 pub use raft_log_restating::{raft_log_blocks, raft_log_rewriting};

@@ -1,4 +1,3 @@
-pub mod Counting
 pub mod Building
 pub mod Recording
 pub mod Saying

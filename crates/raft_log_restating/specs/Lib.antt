@@ -5,7 +5,6 @@ pub mod Parts
 pub mod Steps
 pub mod Taking
 pub mod Queue
-pub mod Standing
 -- libraries below, passed on to who stands on this one
 pub use Rattle.raft_log_rewriting.specs.raft_log_steps
 pub use Rattle.raft_log_rewriting.specs.raft_log_stored

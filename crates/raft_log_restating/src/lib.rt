@@ -9,7 +9,6 @@ pub mod parts;
 pub mod pieces;
 pub mod queue;
 pub mod records;
-pub mod standing;
 pub mod taking;
 
 pub use raft_log_rewriting;

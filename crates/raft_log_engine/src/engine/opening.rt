@@ -2,7 +2,7 @@
 
 ghost use Rattle.std.specs.Prelude.{◌≡◌, None, IfErr, IfOk};
 ghost use Rattle.raft_log_opening.specs.Opening.{FailsToOpenDirectory, OpensDirectory};
-ghost use Rattle.raft_log_engine.specs.Purging.{IsPurgedBy};
+ghost use Rattle.raft_log_engine.specs.Purging.{CountsBrought, IsPurgedBy};
 
 use super::Engine;
 use log::Log;
@@ -37,12 +37,19 @@ impl<F: FileSystem + Sync> Engine<DualPipes<F>> {
             (⟦<DualPipes<F> as PipeLog>⟧.shown engine.pipes) engine.tables) }
         ensures none { IfOk result (λ engine. engine.cache.place ≡ None) }
         ensures purges { IfOk result (λ engine. IsPurgedBy config engine.thresholds engine.counts.rounds) }
+        ensures brought { IfOk result (λ engine. CountsBrought config (F.disk file_system) engine.counts) }
         ensures err { IfErr result (λ refused. FailsToOpenDirectory F.disk F.tells_space config refused.error
             file_system refused.file_system) }
     {
         let thresholds = Thresholds::of(&config);
         match open_directory(rt, alloc, config, file_system) {
-            Ok(OpenedLog { pipes, tables }) => Ok(Engine::new(alloc, thresholds, pipes, tables)),
+            Ok(OpenedLog {
+                pipes,
+                tables,
+                written,
+            }) => Ok(Engine::new(
+                alloc, thresholds, pipes, tables, written,
+            )),
             Err(refused) => Err(refused),
         }
     }
@@ -68,15 +75,22 @@ impl<F: FileSystem + Sync, E: EventListener> Engine<
             engine.tables) }
         ensures none { IfOk result (λ engine. engine.cache.place ≡ None) }
         ensures purges { IfOk result (λ engine. IsPurgedBy config engine.thresholds engine.counts.rounds) }
+        ensures brought { IfOk result (λ engine. CountsBrought config (F.disk file_system) engine.counts) }
         ensures err { IfErr result (λ refused. FailsToOpenDirectory F.disk F.tells_space config refused.error
             file_system refused.file_system) }
     {
         let thresholds = Thresholds::of(&config);
         match open_directory(rt, alloc, config, file_system) {
-            Ok(OpenedLog { pipes, tables }) => {
+            Ok(OpenedLog {
+                pipes,
+                tables,
+                written,
+            }) => {
                 let told = ToldPipes::new(pipes, listener);
                 let hooked = ToldPipes::new(told, PurgeHook::new(alloc));
-                Ok(Engine::new(alloc, thresholds, hooked, tables))
+                Ok(Engine::new(
+                    alloc, thresholds, hooked, tables, written,
+                ))
             }
             Err(refused) => Err(refused),
         }

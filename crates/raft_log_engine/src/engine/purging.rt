@@ -3,8 +3,16 @@
 ghost use Rattle.std.specs.Prelude.{◌≡◌, IfErr, IfOk, OnErr, OnOk};
 ghost use Rattle.raft_log_purging.specs.raft_log_rewriting.specs.Stale.{PurgesAllStale};
 ghost use Rattle.raft_log_purging.specs.Append.{RewritesAppend};
-ghost use Rattle.raft_log_purging.specs.ExpiredFiles.{KeepsCounts, PurgesExpired, SyncsAndRewrites};
-ghost use Rattle.raft_log_engine.specs.Purging.{StopsPurging, StopsPurgingExpired, StopsRewritingAppend};
+ghost use Rattle.raft_log_purging.specs.Counted.{CountsAndResets, PurgesAndCounts};
+ghost use Rattle.raft_log_purging.specs.Counting.{CountsTwice};
+ghost use Rattle.raft_log_purging.specs.ExpiredFiles.{SyncsAndRewrites};
+ghost use Rattle.raft_log_engine.specs.Purging.{
+  MayCountStanding,
+  StopsCounting,
+  StopsPurging,
+  StopsPurgingExpired,
+  StopsRewritingAppend,
+};
 ghost use Rattle.raft_log_engine.specs.Reads.{shows_of, Lives};
 
 use super::Engine;
@@ -12,7 +20,7 @@ use log::Log;
 use raft_log_base::{Error, FileSeq, Result};
 use raft_log_dual_pipes::PipeLog;
 use raft_log_purging::raft_log_rewriting::purge_all_stale;
-use raft_log_purging::{purge_expired_files, rewrite_append_queue, sync_and_rewrite};
+use raft_log_purging::{purge_and_count, rewrite_and_count, rewrite_append_and_count};
 
 impl<P: PipeLog> Engine<P> {
     /// Purges both queues where they are past the thresholds of the settings: Append is synced; Rewrite is
@@ -21,23 +29,24 @@ impl<P: PipeLog> Engine<P> {
     /// are asked to be compacted, from the least up; a group that was asked in nine purges in a row is
     /// rewritten. The map stays, and nothing is pending.
     ///
-    /// What is written to Rewrite isn't counted yet, so that Rewrite counts as without garbage, and is let be.
+    /// What stands in Rewrite is counted before and behind, which takes time in all keys: what was written there
+    /// and stands no more is garbage.
     ///
     /// `Failed` of an engine that has failed. Then what a sync, a rotation, the marks, what is copied, and
     /// files that go refuse: the map stays, and no round is counted.
     pub fn purge_expired_files<L: Log>(&mut self, rt: &L) -> Result<Vec<u64>>
-        ensures ok { IfOk result (λ groups. PurgesExpired self.old.thresholds self.old.tables self.new.tables
+        ensures ok { IfOk result (λ groups. PurgesAndCounts self.old.thresholds self.old.tables self.new.tables
             self.old.counts self.new.counts groups.items
             (shows_of P.shown self.old) (shows_of P.shown self.new)) }
         ensures lived { OnOk result (Lives (shows_of P.shown self.old)) }
         ensures err { IfErr result (StopsPurgingExpired
             (shows_of P.shown self.old) (shows_of P.shown self.new)) }
-        ensures kept { OnErr result (KeepsCounts self.old.counts self.new.counts) }
+        ensures kept { OnErr result (StopsCounting self.old.tables self.old.counts self.new.counts) }
     {
         if self.is_failed() {
             return Err(Error::Failed);
         }
-        purge_expired_files(
+        purge_and_count(
             self.alloc,
             rt,
             &self.thresholds,
@@ -59,19 +68,19 @@ impl<P: PipeLog> Engine<P> {
         ensures lived { OnOk result (Lives (shows_of P.shown self.old)) }
         ensures err { IfErr result (StopsPurgingExpired
             (shows_of P.shown self.old) (shows_of P.shown self.new)) }
+        ensures reset { OnOk result (CountsAndResets self.old.tables self.old.counts self.new.counts) }
+        ensures kept { OnErr result (StopsCounting self.old.tables self.old.counts self.new.counts) }
     {
         if self.is_failed() {
             return Err(Error::Failed);
         }
-        let counts = &mut self.counts;
-        sync_and_rewrite(
+        rewrite_and_count(
             self.alloc,
             rt,
             &mut self.pipes,
             &mut self.tables,
             &mut self.cache,
-            &mut counts.stats,
-            &mut counts.number,
+            &mut self.counts,
         )
     }
 
@@ -94,16 +103,20 @@ impl<P: PipeLog> Engine<P> {
         ensures lived { OnOk result (Lives (shows_of P.shown self.old)) }
         ensures err { IfErr result (StopsRewritingAppend
             (shows_of P.shown self.old) (shows_of P.shown self.new)) }
+        ensures counted { OnOk result (CountsTwice self.old.tables self.new.tables
+            self.old.counts self.new.counts) }
+        ensures kept { OnErr result (MayCountStanding self.old.tables self.old.counts self.new.counts) }
     {
         if self.is_failed() {
             return Err(Error::Failed);
         }
-        rewrite_append_queue(
+        rewrite_append_and_count(
             self.alloc,
             rt,
             &mut self.pipes,
             &mut self.tables,
             &mut self.cache,
+            &mut self.counts,
             watermark,
             exit_after_step,
         )

@@ -1,5 +1,5 @@
 use Rattle.raft_log_opening.specs.Opening.FailsToOpenDirectory.{unmerged, unreadied}
-use Rattle.raft_log_opening.proofs.Whole.{reads_log}
+use Rattle.raft_log_opening.proofs.Whole.{brings, reads_log}
 use Rattle.raft_log_opening.proofs.reading.read_log.Goals as goal
 
 pub returns-in-Err-merge-clause-err : goal.returns-in-Err-merge-clause-err
@@ -14,3 +14,7 @@ returns-in-Ok-initialize_files-clause-ok g c =
 pub returns-in-Err-initialize_files-clause-err : goal.returns-in-Err-initialize_files-clause-err
 returns-in-Err-initialize_files-clause-err g c =
     unreadied c.in-Ok.read.append c.in-Ok.read.rewrite c.in-Ok.read.builder _ c.in-Ok.ensures.ok c.in-Err-initialize_files.ensures.err
+
+pub returns-in-Ok-initialize_files-clause-brought : goal.returns-in-Ok-initialize_files-clause-brought
+returns-in-Ok-initialize_files-clause-brought g c =
+    brings c.args.config c.in-Ok.read.append c.in-Ok.read.rewrite c.in-Ok.read.builder _ _ _ c.in-Ok.ensures.ok c.written-written.ensures

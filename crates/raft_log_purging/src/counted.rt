@@ -1,0 +1,104 @@
+//! Purges with what stands in Rewrite counted before them, and behind where they are answered: what of Rewrite
+//! is garbage is known by no other way.
+
+ghost use Rattle.std.specs.Prelude.{◌≤◌, IfErr, IfOk, OnErr, OnOk};
+ghost use Rattle.raft_log_restating.specs.raft_log_engine_state.specs.Shows.{shows};
+ghost use Rattle.raft_log_replay.specs.Tables.{IsAtRest};
+ghost use Rattle.raft_log_purging.specs.Append.{FailsToRewriteAppend, RewritesAppend};
+ghost use Rattle.raft_log_purging.specs.Counted.{CountsAndKeeps, CountsAndResets, PurgesAndCounts};
+ghost use Rattle.raft_log_purging.specs.Counting.{CountsStanding, CountsTwice};
+ghost use Rattle.raft_log_purging.specs.ExpiredFiles.{FailsToPurgeExpired, SyncsAndRewrites};
+
+use crate::append::rewrite_append_queue;
+use crate::expired_files::{PurgeCounts, purge_expired_files, sync_and_rewrite};
+use log::Log;
+use raft_log_base::{FileSeq, Result};
+use raft_log_dual_pipes::PipeLog;
+use raft_log_purge::Thresholds;
+use raft_log_replay::MemTables;
+use raft_log_restating::raft_log_blocks::BlockCache;
+use std::alloc::Global;
+
+/// Purges both queues as `purge_expired_files` does.
+///
+/// Refused, what stands in Rewrite was counted before, and no round is counted.
+pub fn purge_and_count<P: PipeLog, L: Log>(
+    alloc: Global,
+    rt: &L,
+    thresholds: &Thresholds,
+    pipes: &mut P,
+    tables: &mut MemTables,
+    cache: &mut BlockCache,
+    counts: &mut PurgeCounts,
+) -> Result<Vec<u64>>
+    ensures ok { IfOk result (λ groups. PurgesAndCounts thresholds.now tables.old tables.new
+        counts.old counts.new groups.items
+        (shows (P.shown pipes.old) tables.old cache.old) (shows (P.shown pipes.new) tables.new cache.new)) }
+    ensures err { IfErr result (λ error. FailsToPurgeExpired error
+        (shows (P.shown pipes.old) tables.old cache.old) (shows (P.shown pipes.new) tables.new cache.new)) }
+    ensures kept { OnErr result (CountsAndKeeps tables.old counts.old counts.new) }
+    ensures rests { IsAtRest tables.old → IsAtRest tables.new }
+    ensures numbered { counts.old.number ≤ counts.new.number }
+{
+    counts.count_standing(tables);
+    let purged = purge_expired_files(alloc, rt, thresholds, pipes, tables, cache, counts);
+    if purged.is_ok() {
+        counts.count_standing(tables);
+    }
+    purged
+}
+
+/// Syncs Append and rewrites Rewrite as `sync_and_rewrite` does.
+///
+/// Refused, what stands in Rewrite was counted before.
+pub fn rewrite_and_count<P: PipeLog, L: Log>(
+    alloc: Global,
+    rt: &L,
+    pipes: &mut P,
+    tables: &mut MemTables,
+    cache: &mut BlockCache,
+    counts: &mut PurgeCounts,
+) -> Result<()>
+    ensures ok { OnOk result (SyncsAndRewrites tables.new
+        (shows (P.shown pipes.old) tables.old cache.old) (shows (P.shown pipes.new) tables.new cache.new)) }
+    ensures err { IfErr result (λ error. FailsToPurgeExpired error
+        (shows (P.shown pipes.old) tables.old cache.old) (shows (P.shown pipes.new) tables.new cache.new)) }
+    ensures reset { OnOk result (CountsAndResets tables.old counts.old counts.new) }
+    ensures kept { OnErr result (CountsAndKeeps tables.old counts.old counts.new) }
+    ensures rests { IsAtRest tables.old → IsAtRest tables.new }
+    ensures numbered { counts.old.number ≤ counts.new.number }
+{
+    counts.count_standing(tables);
+    let PurgeCounts { stats, number, .. } = counts;
+    sync_and_rewrite(alloc, rt, pipes, tables, cache, stats, number)
+}
+
+/// Rewrites Append as `rewrite_append_queue` does.
+///
+/// Refused, what stands in Rewrite was counted before.
+pub fn rewrite_append_and_count<P: PipeLog, L: Log>(
+    alloc: Global,
+    rt: &L,
+    pipes: &mut P,
+    tables: &mut MemTables,
+    cache: &mut BlockCache,
+    counts: &mut PurgeCounts,
+    watermark: Option<FileSeq>,
+    exit_after_step: Option<u64>,
+) -> Result<()>
+    ensures ok { OnOk result (RewritesAppend watermark exit_after_step tables.new
+        (shows (P.shown pipes.old) tables.old cache.old) (shows (P.shown pipes.new) tables.new cache.new)) }
+    ensures err { IfErr result (λ error. FailsToRewriteAppend error
+        (shows (P.shown pipes.old) tables.old cache.old) (shows (P.shown pipes.new) tables.new cache.new)) }
+    ensures counted { OnOk result (CountsTwice tables.old tables.new counts.old counts.new) }
+    ensures kept { OnErr result (CountsStanding tables.old counts.old counts.new) }
+    ensures rests { IsAtRest tables.old → IsAtRest tables.new }
+{
+    counts.count_standing(tables);
+    let rewritten =
+        rewrite_append_queue(alloc, rt, pipes, tables, cache, watermark, exit_after_step);
+    if rewritten.is_ok() {
+        counts.count_standing(tables);
+    }
+    rewritten
+}

@@ -78,7 +78,7 @@ mentions_push g (y ∷ ys) x = ap (λ (b : Bool). (y.raft_group_id == g) || b) (
 pub mentions_more : (g : ℕ) (xs : List LogItem) (i : ℕ) (d x : LogItem) → i < length xs → x ≡ get_or xs i d → mentions g (take (i + 1) xs) ≡ (mentions g (take i xs) || (x.raft_group_id == g))
 mentions_more g xs i d x lt is = ap (mentions g) (take_more xs i d lt ∙ ap (λ (y : LogItem). take i xs ++ y ∷ []) (sym is)) ∙ mentions_push g (take i xs) x
 
-neither : (a b : Bool) → (a || b) ≡ false → (a ≡ false) × (b ≡ false)
+pub neither : (a b : Bool) → (a || b) ≡ false → (a ≡ false) × (b ≡ false)
 neither true b h = (h, absurd (let clash : true ≡ false = h in let never : ⊥ = cc in never))
 neither false b h = (refl, h)
 

@@ -1,6 +1,7 @@
 pub mod Bare
 pub mod Items
 pub mod Ready
+pub mod Promised
 pub mod Applied
 pub mod Rereading
 pub mod Clearing

@@ -1,5 +1,5 @@
 -- The tables of all groups get ready for a batch item by item, and do it item by item.
-use Rattle.std.proofs.Common.{◌≡◌, ℕ, ◌==◌, ◌||◌, Bool, true, false, if◌then◌else◌, List, [], ◌∷◌, ◌++◌, refl, sym, ap, subst, ◌∙◌, arith, Result, Ok, Err, OnOk, OnErr, inl, inr}
+use Rattle.std.proofs.Common.{◌≡◌, ℕ, ◌==◌, ◌||◌, Bool, true, false, if◌then◌else◌, List, [], ◌∷◌, ◌++◌, refl, sym, ap, subst, ◌∙◌, arith, Result, Ok, Err, OnOk, OnErr, inl, inr, append-nil}
 use Rattle.raft_log_model.specs.Item.{Item, Tagged}
 use Rattle.raft_log_model.specs.Groups.{of_group}
 use Rattle.raft_log_model.proofs.Records.{of_group_append}
@@ -55,17 +55,22 @@ module _ {E V : Type 0} where
   one_of : (g : ℕ) (x : Tagged E V) (b : Bool) → (x.group == g) ≡ b → of_group g (x ∷ []) ≡ (if b then x.item ∷ [] else [])
   one_of g x b h = ap (λ (t : Bool). if t then x.item ∷ [] else []) h
 
+  -- the items of a group among some and one more
+  pub of_more_here : (g : ℕ) (xs : List (Tagged E V)) (x : Tagged E V) → (x.group == g) ≡ true → of_group g (xs ++ x ∷ []) ≡ of_group g xs ++ x.item ∷ []
+  of_more_here g xs x t = of_group_append g xs (x ∷ []) ∙ ap (λ l. of_group g xs ++ l) (one_of g x true t)
+
+  pub of_more_there : (g : ℕ) (xs : List (Tagged E V)) (x : Tagged E V) → (x.group == g) ≡ false → of_group g (xs ++ x ∷ []) ≡ of_group g xs
+  of_more_there g xs x t = of_group_append g xs (x ∷ []) ∙ ap (λ l. of_group g xs ++ l) (one_of g x false t) ∙ append-nil (of_group g xs)
+
   pub none_ready : (m : MemTables) → IsAtRest m → IsReadyFor {E = E} {V = V} m []
   none_ready m rest = record { tables = tt; groups = λ g. ready_none (shown_of m g) (promise_of m g) (rest g) }
 
   ready_here : (m n : MemTables) (xs : List (Tagged E V)) (x : Tagged E V) (g : ℕ) → x.group ≡ g → (x.group == g) ≡ true → IsReadyFor m xs → ShowsSame m n → IsPrepared m n x
       → IsReady (shown_of n g) (promise_of n g) (of_group g (xs ++ x ∷ []))
   ready_here m n xs x g is test r same p =
-      let items : of_group g (xs ++ x ∷ []) ≡ of_group g xs ++ x.item ∷ [] =
-      of_group_append g xs (x ∷ []) ∙ ap (λ l. of_group g xs ++ l) (one_of g x true test) in
       let now : promise_of n g ≡ promised (promise_of m g) x.item = subst (λ k. promise_of n k ≡ promised (promise_of m k) x.item) is p.promised in
       let follows : MayFollow (promise_of m g).ends x.item = subst (λ k. MayFollow (promise_of m k).ends x.item) is p.follows in
-      subst (λ l. IsReady (shown_of n g) (promise_of n g) l) (sym items)
+      subst (λ l. IsReady (shown_of n g) (promise_of n g) l) (sym (of_more_here g xs x test))
       (subst (λ q. IsReady (shown_of n g) q (of_group g xs ++ x.item ∷ [])) (sym now)
       (subst (λ v. IsReady v (promised (promise_of m g) x.item) (of_group g xs ++ x.item ∷ [])) (sym (same.shown g))
       (ready_more (shown_of m g) (promise_of m g) (of_group g xs) x.item (r.groups g) follows)))
@@ -73,15 +78,9 @@ module _ {E V : Type 0} where
   ready_elsewhere : (m n : MemTables) (xs : List (Tagged E V)) (x : Tagged E V) (g : ℕ) → (x.group == g) ≡ false → IsReadyFor m xs → ShowsSame m n → IsPrepared m n x
       → IsReady (shown_of n g) (promise_of n g) (of_group g (xs ++ x ∷ []))
   ready_elsewhere m n xs x g test r same p =
-      let items : of_group g (xs ++ x ∷ []) ≡ of_group g xs ++ [] =
-      of_group_append g xs (x ∷ []) ∙ ap (λ l. of_group g xs ++ l) (one_of g x false test) in
-      subst (λ l. IsReady (shown_of n g) (promise_of n g) l) (sym (items ∙ nothing_more (of_group g xs)))
+      subst (λ l. IsReady (shown_of n g) (promise_of n g) l) (sym (of_more_there g xs x test))
       (subst (λ q. IsReady (shown_of n g) q (of_group g xs)) (sym (p.others g test))
       (subst (λ v. IsReady v (promise_of m g) (of_group g xs)) (sym (same.shown g)) (r.groups g)))
-    where
-      nothing_more : (l : List (Item E V)) → l ++ [] ≡ l
-      nothing_more [] = refl
-      nothing_more (y ∷ l) = ap (λ k. y ∷ k) (nothing_more l)
 
   -- tables that are ready for some items, and prepared for one more, are ready for them all
   pub one_more_ready : (m n : MemTables) (xs : List (Tagged E V)) (x : Tagged E V) → IsReadyFor m xs → ShowsSame m n → IsPrepared m n x → IsReadyFor n (xs ++ x ∷ [])

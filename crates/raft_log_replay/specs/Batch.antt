@@ -11,7 +11,7 @@ use Rattle.raft_log_model.specs.Renamed.{renamed_tagged}
 use Rattle.raft_log_places.specs.Bridge.{in_queue, Located}
 use Rattle.raft_log_places.specs.declared.place.Place.{Place}
 use Rattle.raft_log_places.specs.Shown.{Shown, stepped, all_stepped, span, MayFollow, MayAllFollow}
-use Rattle.raft_log_tables.specs.Room.{kept, promised, IsReady}
+use Rattle.raft_log_tables.specs.Room.{Promise, kept, promised, IsForgotten, IsReady}
 use Rattle.raft_log_replay.specs.declared.mem_tables.MemTables.{MemTables}
 use Rattle.raft_log_replay.specs.Tables.{counts, shown_of, promise_of, has_table}
 
@@ -36,6 +36,27 @@ pub record IsPrepared {E V : Type 0} (old new : MemTables) (x : Tagged E V) : Ty
   pub follows : MayFollow (promise_of old x.group).ends x.item
   pub promised : promise_of new x.group ≡ promised (promise_of old x.group) x.item
   pub others : (g : ℕ) → (x.group == g) ≡ false → promise_of new g ≡ promise_of old g
+
+-- what is promised once all of these items were prepared too
+abbrev pub all_promised : {E V : Type 0} → Promise → List (Item E V) → Promise
+all_promised q [] = q
+all_promised q (x ∷ xs) = all_promised (promised q x) xs
+
+-- whether an item of the group is among these
+abbrev pub speaks_of : {E V : Type 0} → ℕ → List (Tagged E V) → Bool
+speaks_of g [] = false
+speaks_of g (x ∷ xs) = (x.group == g) || speaks_of g xs
+
+-- each group promised what its items ask for, beside all that it promised before; of the groups without a
+-- table just those of the items got one
+pub record PromisesAll {E V : Type 0} (old new : MemTables) (xs : List (Tagged E V)) : Type 0 where
+  pub tables : (g : ℕ) → has_table new g ≡ speaks_of g xs || has_table old g
+  pub promises : (g : ℕ) → promise_of new g ≡ all_promised (promise_of old g) (of_group g xs)
+
+-- what is promised once all of these items were done
+abbrev pub all_kept : {E V : Type 0} → Promise → List (Item E V) → Promise
+all_kept q [] = q
+all_kept q (x ∷ xs) = all_kept (kept q x) xs
 
 -- what shows of each group after the items, in file n of Append
 abbrev pub all_shown : ℕ → (ℕ → Shown) → List (Tagged Place (List ℕ)) → ℕ → Shown
@@ -64,6 +85,13 @@ counts_at_end b (x ∷ xs) = counts_at_end (counts_after b x) xs
 abbrev pub mentions : ℕ → List LogItem → Bool
 mentions g [] = false
 mentions g (x ∷ xs) = (x.raft_group_id == g) || mentions g xs
+
+-- nothing is promised any more to the groups of the items; the others have a table where they had one, and
+-- promise what they promised
+pub record IsTakenBack (old new : MemTables) (items : List LogItem) : Type 0 where
+  pub forgotten : (g : ℕ) → mentions g items ≡ true → IsForgotten (promise_of new g)
+  pub others : (g : ℕ) → mentions g items ≡ false → promise_of new g ≡ promise_of old g
+  pub tables : (g : ℕ) → mentions g items ≡ false → has_table new g ≡ has_table old g
 
 -- why an item is refused where the entries have these ends: its run leaves a hole, or memory ran out
 abbrev pub ItemRefused : {E V : Type 0} → Window → Item E V → Error → Type 0

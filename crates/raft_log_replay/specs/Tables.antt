@@ -74,3 +74,7 @@ IsAtRest m = (g : ℕ) → (promise_of m g).ends ≡ span (shown_of m g)
 -- what is promised stays
 abbrev pub PromisesSame : MemTables → MemTables → Type 0
 PromisesSame old new = (g : ℕ) → promise_of new g ≡ promise_of old g
+
+-- the groups that have a table stay
+abbrev pub TablesSame : MemTables → MemTables → Type 0
+TablesSame old new = (g : ℕ) → has_table new g ≡ has_table old g

@@ -6,8 +6,9 @@ ghost use Rattle.raft_log_places.specs.Shown.{nothing_shown, span};
 ghost use Rattle.raft_log_atomic_groups.specs.Marking.{has_mark_key};
 ghost use Rattle.raft_log_atomic_groups.specs.Meaning.{meaning, tagged, tagged_items};
 ghost use Rattle.raft_log_held.specs.Entries.{place_of};
-ghost use Rattle.raft_log_tables.specs.Room.{CanTake, IsForgotten};
+ghost use Rattle.raft_log_tables.specs.Room.{CanTake};
 ghost use Rattle.raft_log_replay.specs.Batch.{
+  all_kept,
   all_shown,
   counts_at_end,
   mentions,
@@ -15,7 +16,9 @@ ghost use Rattle.raft_log_replay.specs.Batch.{
   IsApplied,
   IsPrepared,
   IsReadyFor,
+  IsTakenBack,
   ItemRefused,
+  PromisesAll,
 };
 ghost use Rattle.raft_log_replay.specs.Tables.{
   counts,
@@ -27,6 +30,7 @@ ghost use Rattle.raft_log_replay.specs.Tables.{
   IsAtRest,
   PromisesSame,
   ShowsSame,
+  TablesSame,
 };
 
 mod joining;
@@ -82,16 +86,15 @@ impl MemTables {
     /// Makes room for a batch that is to be written to Append, all of it or nothing.
     ///
     /// `Hole` where the entries of a group would start past the index after the last; `Memory`. Refused or
-    /// not, nothing shows; where it is refused, nothing is prepared.
+    /// not, nothing shows, and what was promised to other groups stays; where it is refused, nothing is
+    /// prepared.
     pub fn prepare(&mut self, items: &[LogItem]) -> Result<()>
         requires { IsAtRest self.old }
         ensures shows { ShowsSame self.old self.new }
         ensures ok { OnOk result (IsReadyFor self.new (tagged_items (λ e. e) items.now)) }
+        ensures promises { OnOk result (PromisesAll self.old self.new (tagged_items (λ e. e) items.now)) }
         ensures err { OnErr result (IsAtRest self.new) }
-        ensures forgotten { OnErr result ((g : ℕ) → mentions g items.now ≡ true
-            → IsForgotten (promise_of self.new g)) }
-        ensures others { OnErr result ((g : ℕ) → mentions g items.now ≡ false
-            → promise_of self.new g ≡ promise_of self.old g) }
+        ensures taken_back { OnErr result (IsTakenBack self.old self.new items.now) }
         ensures errors { IfErr result
             (BatchRefused (shown_of self.old) (tagged_items (λ e. e) items.now)) }
     {
@@ -111,6 +114,7 @@ impl MemTables {
         ensures room { (g : ℕ) → mentions g items.now ≡ true → (promise_of self.new g).wanted ≡ 0 }
         ensures others { (g : ℕ) → mentions g items.now ≡ false
             → promise_of self.new g ≡ promise_of self.old g }
+        ensures tables { TablesSame self.old self.new }
         ensures unwritten { IsReadyFor self.old (tagged_items (λ e. e) items.now) → IsAtRest self.new }
         ensures rested { IsAtRest self.old → IsAtRest self.new }
     {
@@ -126,6 +130,9 @@ impl MemTables {
             ≡ all_shown file (shown_of self.old) (tagged_items place_of items.items) g }
         ensures counts { (g : ℕ) → counts self.new g
             ≡ counts_at_end (counts self.old g) (of_group g (tagged_items place_of items.items)) }
+        ensures promises { (g : ℕ) → promise_of self.new g
+            ≡ all_kept (promise_of self.old g) (of_group g (tagged_items place_of items.items)) }
+        ensures tables { TablesSame self.old self.new }
         ensures rest { IsAtRest self.new }
     {
         for item in items {
@@ -165,6 +172,7 @@ impl MemTables {
         ensures moves { (promise_of self.new group).moves ≡ 0 }
         ensures room { (promise_of self.new group).wanted ≡ 0 }
         ensures others { (g : ℕ) → (group == g) ≡ false → promise_of self.new g ≡ promise_of self.old g }
+        ensures tables { TablesSame self.old self.new }
     {
         if let Some(found) = self.groups.get_mut(&group) {
             found.take_back();
@@ -176,8 +184,9 @@ impl MemTables {
         requires { IsAtRest self.old }
         ensures shows { ShowsSame self.old self.new }
         ensures ok { OnOk result (IsReadyFor self.new (tagged_items (λ e. e) items.now)) }
+        ensures promises { OnOk result (PromisesAll self.old self.new (tagged_items (λ e. e) items.now)) }
         ensures err { OnErr result ((g : ℕ) → mentions g items.now ≡ false
-            → promise_of self.new g ≡ promise_of self.old g) }
+            → (promise_of self.new g ≡ promise_of self.old g) × (has_table self.new g ≡ has_table self.old g)) }
         ensures errors { IfErr result
             (BatchRefused (shown_of self.old) (tagged_items (λ e. e) items.now)) }
     {
@@ -194,6 +203,7 @@ impl MemTables {
         ensures shows { ShowsSame self.old self.new }
         ensures ok { OnOk result (IsPrepared self.old self.new (tagged (λ e. e) item.now)) }
         ensures err { OnErr result (PromisesSame self.old self.new) }
+        ensures tables { OnErr result (TablesSame self.old self.new) }
         ensures errors { IfErr result (λ e. ItemRefused (promise_of self.old item.now.raft_group_id).ends
             (meaning (λ e. e) item.now.content) e) }
     {

@@ -3,7 +3,7 @@ ghost use Rattle.std.specs.Prelude.{◌≡◌, ◌≤◌, true, false, ℕ, OnOk
 ghost use Rattle.raft_log_atomic_groups.specs.Meaning.{meaning, tagged, tagged_items};
 ghost use Rattle.raft_log_held.specs.Entries.{place_of};
 ghost use Rattle.raft_log_tables.specs.Room.{count_of};
-ghost use Rattle.raft_log_replay.specs.Batch.{mentions};
+ghost use Rattle.raft_log_replay.specs.Batch.{mentions, IsTakenBack};
 ghost use Rattle.raft_log_replay.specs.Rewriting.{
   MayMove,
   PromisesMove,
@@ -17,6 +17,7 @@ ghost use Rattle.raft_log_replay.specs.Tables.{
   IsAtRest,
   PromisesSame,
   ShowsSame,
+  TablesSame,
 };
 
 use super::{MemTables, is_mark};
@@ -28,17 +29,14 @@ impl MemTables {
     /// Makes room for the places of a batch that is to be written to Rewrite, beside what is prepared
     /// already: so the batches of an atomic group are prepared one after another.
     ///
-    /// Refused or not, nothing shows. Where it is refused, nothing is prepared any more for its groups.
+    /// Refused or not, nothing shows, and what was promised to other groups stays. Where it is refused,
+    /// nothing is prepared any more for its groups.
     pub fn prepare_rewrite(&mut self, items: &[LogItem]) -> Result<(), AllocError>
         ensures shows { ShowsSame self.old self.new }
         ensures ok { OnOk result (PromisesMoves self.old self.new (tagged_items (λ e. e) items.now)) }
         ensures ready { OnOk result (MayMove self.new (tagged_items (λ e. e) items.now)) }
-        ensures err { OnErr result ((g : ℕ) → mentions g items.now ≡ false
-            → promise_of self.new g ≡ promise_of self.old g) }
-        ensures forgotten { OnErr result ((g : ℕ) → mentions g items.now ≡ true
-            → (promise_of self.new g).moves ≡ 0) }
-        ensures room { OnErr result ((g : ℕ) → mentions g items.now ≡ true
-            → (promise_of self.new g).wanted ≡ 0) }
+        ensures err { OnErr result (IsTakenBack self.old self.new items.now) }
+        ensures tables { TablesSame self.old self.new }
         ensures rest { IsAtRest self.old → IsAtRest self.new }
     {
         let prepared = self.prepare_copies(items);
@@ -72,6 +70,7 @@ impl MemTables {
         ensures ready { OnOk result (MayMove self.new (tagged_items (λ e. e) items.now)) }
         ensures err { OnErr result ((g : ℕ) → mentions g items.now ≡ false
             → promise_of self.new g ≡ promise_of self.old g) }
+        ensures tables { TablesSame self.old self.new }
         ensures rest { IsAtRest self.old → IsAtRest self.new }
     {
         for item in items {
@@ -87,6 +86,7 @@ impl MemTables {
         ensures shows { ShowsSame self.old self.new }
         ensures ok { OnOk result (PromisesMove self.old self.new (tagged (λ e. e) item.now)) }
         ensures err { OnErr result (PromisesSame self.old self.new) }
+        ensures tables { TablesSame self.old self.new }
     {
         match self.groups.get_mut(&item.raft_group_id) {
             Some(found) => found.prepare_rewrite(&item.content),

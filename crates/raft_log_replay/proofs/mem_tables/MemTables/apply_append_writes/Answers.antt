@@ -1,12 +1,13 @@
-use Rattle.std.proofs.Common.{◌∙◌, List, ap, subst, sym}
+use Rattle.std.proofs.Common.{◌∙◌, List, ap, refl, subst, sym}
 use Rattle.std.specs.Vec.Iter.{into_iter_items}
 use Rattle.raft_log_items.specs.declared.item.LogItem.{LogItem}
 use Rattle.raft_log_model.specs.Groups.{of_group}
 use Rattle.raft_log_atomic_groups.specs.Meaning.{tagged_items}
 use Rattle.raft_log_held.specs.Entries.{place_of}
-use Rattle.raft_log_replay.specs.Tables.{counts, shown_of}
-use Rattle.raft_log_replay.specs.Batch.{all_shown, counts_at_end, IsReadyFor}
+use Rattle.raft_log_replay.specs.Tables.{counts, promise_of, shown_of}
+use Rattle.raft_log_replay.specs.Batch.{all_kept, all_shown, counts_at_end, IsReadyFor}
 use Rattle.raft_log_replay.proofs.Applied.{counts_on, first_has, first_takes, ready_for, ready_on, shown_on}
+use Rattle.raft_log_replay.proofs.Promised.{promises_on, tables_on}
 use Rattle.raft_log_replay.proofs.mem_tables.MemTables.apply_append_writes.Goals as goal
 
 pub loop-item-init : goal.loop-item-init
@@ -16,6 +17,8 @@ loop-item-init c =
       ready = subst (λ (xs : List LogItem). IsReadyFor c.args.self.now (tagged_items place_of xs)) (sym all) (ready_for place_of c.args.self.now c.args.items.items c.requires);
       shows = λ g. ap (λ (xs : List LogItem). all_shown c.args.file (shown_of c.args.self.now) (tagged_items place_of xs) g) all;
       counting = λ g. ap (λ (xs : List LogItem). counts_at_end (counts c.args.self.now g) (of_group g (tagged_items place_of xs))) all;
+      promises = λ g. ap (λ (xs : List LogItem). all_kept (promise_of c.args.self.now g) (of_group g (tagged_items place_of xs))) all;
+      tables = λ g. refl;
     }
 
 pub apply_unless_mark-requires-clause-table : goal.apply_unless_mark-requires-clause-table
@@ -45,4 +48,8 @@ loop-item-preserved c =
       counting = λ g.
           counts_on c.args.file m k x xs e.mark e.applied g ∙ sym (ap (λ (ys : List LogItem). counts_at_end (counts m g) (of_group g (tagged_items place_of ys))) is)
           ∙ so_far.counting g;
+      promises = λ g.
+          promises_on c.args.file m k x xs e.mark e.applied g ∙ sym (ap (λ (ys : List LogItem). all_kept (promise_of m g) (of_group g (tagged_items place_of ys))) is)
+          ∙ so_far.promises g;
+      tables = λ g. tables_on c.args.file m k x xs e.mark e.applied g ∙ so_far.tables g;
     }

@@ -1,16 +1,22 @@
-use Rattle.std.proofs.Common.{◌≡◌, ℕ, true, false, ◌∙◌, rules, sym}
+use Rattle.std.proofs.Common.{◌≡◌, true, false, ◌∙◌, rules, take}
 use Rattle.std.proofs.lemmas.Result.{err_from_is_err_and}
 use Rattle.raft_log_items.specs.declared.entry.EntryIndex.{EntryIndex}
 use Rattle.raft_log_atomic_groups.specs.Marking.{has_mark_key}
 use Rattle.raft_log_atomic_groups.specs.Meaning.{tagged}
-use Rattle.raft_log_replay.proofs.Items.{mentions_more, none_of_first, tagged_more, tagged_split}
-use Rattle.raft_log_replay.proofs.Ready.{first_of, still_ready, batch_refused, on_err_all, one_more_ready, others_more}
+use Rattle.raft_log_replay.proofs.Items.{none_of_first, tagged_more, tagged_split}
+use Rattle.raft_log_replay.proofs.Promised.{promised_elsewhere, promised_more, still_promised_all, table_elsewhere}
+use Rattle.raft_log_replay.proofs.Ready.{still_ready, batch_refused, on_err_all, one_more_ready}
 use Rattle.raft_log_replay.proofs.mem_tables.MemTables.prepare_all.Goals as goal
 use Rattle.raft_log_replay.proofs.mem_tables.MemTables.prepare_all.Goals.{then-not-is_mark+in_ok-prepare_item, else-not-is_mark}
 
 pub returns-in_err-prepare_item-clause-err : goal.returns-in_err-prepare_item-clause-err
 returns-in_err-prepare_item-clause-err c =
-    on_err_all c.from_residual.result (λ g h. c.in_err-prepare_item.ensures.err g ∙ c.loop-item.invariant.others g (none_of_first g c.args.items.now c.loop-item.item-index h))
+    let first = take c.loop-item.item-index c.args.items.now in
+    let so_far = c.loop-item.invariant.promises in
+    on_err_all c.from_residual.result (λ g h.
+    let apart = none_of_first g c.args.items.now c.loop-item.item-index h in
+    (c.in_err-prepare_item.ensures.err g ∙ promised_elsewhere (λ e. e) c.args.self.now c.loop-item.self first so_far g apart,
+    c.in_err-prepare_item.ensures.tables g ∙ table_elsewhere (λ e. e) c.args.self.now c.loop-item.self first so_far g apart))
 
 pub returns-in_err-prepare_item-clause-errors : goal.returns-in_err-prepare_item-clause-errors
 returns-in_err-prepare_item-clause-errors c =
@@ -28,7 +34,6 @@ loop-item-preserved c =
     let i = c.loop-item.item-index in
     let so_far = c.loop-item.invariant in
     let x = c.item-item.result in
-    let more : (g : ℕ) → _ = λ g. mentions_more g xs i x x c.loop-item-test.true c.item-item.is in
     elim c.if-not-is_mark.branch [
       | then-not-is_mark+in_ok-prepare_item w ↦
           let e = w.in_ok-prepare_item.ensures in
@@ -37,13 +42,13 @@ loop-item-preserved c =
           rw (w.self-is, said) (record {
             shows = record { shown = λ g. e.shows.shown g ∙ so_far.shows.shown g; counts = λ g. e.shows.counts g ∙ so_far.shows.counts g };
             ready = one_more_ready c.loop-item.self w.prepare_item.new.self _ (tagged {E = EntryIndex} (λ e. e) x) so_far.ready e.shows e.ok;
-            others = λ g h. others_more c.args.self.now c.loop-item.self w.prepare_item.new.self x.raft_group_id g _ e.ok.others (so_far.others g) (sym (more g) ∙ h);
+            promises = promised_more c.args.self.now c.loop-item.self w.prepare_item.new.self _ (tagged {E = EntryIndex} (λ e. e) x) so_far.promises e.ok;
           })
       | else-not-is_mark w ↦
           let said = tagged_more {E = EntryIndex} (λ e. e) xs i x x true c.loop-item-test.true c.item-item.is w.if-not-is_mark.ensures in
           rw (w.self-is, said) (record {
             shows = so_far.shows;
             ready = still_ready c.loop-item.self _ so_far.ready;
-            others = λ g h. so_far.others g (first_of _ _ (sym (more g) ∙ h));
+            promises = still_promised_all c.args.self.now c.loop-item.self _ so_far.promises;
           })
     ]

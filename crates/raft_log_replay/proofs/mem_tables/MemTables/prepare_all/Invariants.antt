@@ -1,13 +1,13 @@
-use Rattle.std.proofs.Common.{◌≡◌, ℕ, false, take}
+use Rattle.std.proofs.Common.{take}
 use Rattle.raft_log_atomic_groups.specs.Meaning.{tagged_items}
-use Rattle.raft_log_replay.specs.Tables.{promise_of, ShowsSame}
-use Rattle.raft_log_replay.specs.Batch.{mentions, IsReadyFor}
+use Rattle.raft_log_replay.specs.Tables.{ShowsSame}
+use Rattle.raft_log_replay.specs.Batch.{IsReadyFor, PromisesAll}
 use Rattle.raft_log_replay.proofs.mem_tables.MemTables.prepare_all.Given as goal
 
--- the tables are ready for the items so far, and those of other groups promise what they promised
+-- the tables are ready for the items so far, and promised just what these ask for
 abbrev pub invariant-loop-item : goal.invariant-loop-item
 invariant-loop-item l = record {
   shows : ShowsSame l.fn.self l.self;
   ready : IsReadyFor l.self (tagged_items (λ e. e) (take l.item-index l.items));
-  others : (g : ℕ) → mentions g (take l.item-index l.items) ≡ false → promise_of l.self g ≡ promise_of l.fn.self g;
+  promises : PromisesAll l.fn.self l.self (tagged_items (λ e. e) (take l.item-index l.items));
 }

@@ -18,6 +18,7 @@ loop-item-preserved c =
       moves = λ g h. none_more (λ q. q.moves) c.loop-item.self c.take_back_of.new.self c.item-item.result.raft_group_id g _ e.moves e.others (so_far.moves g) (sym (more g) ∙ h);
       room = λ g h. none_more (λ q. q.wanted) c.loop-item.self c.take_back_of.new.self c.item-item.result.raft_group_id g _ e.room e.others (so_far.room g) (sym (more g) ∙ h);
       others = λ g h. others_more c.args.self.now c.loop-item.self c.take_back_of.new.self c.item-item.result.raft_group_id g _ e.others (so_far.others g) (sym (more g) ∙ h);
+      tables = λ g. e.tables g ∙ so_far.tables g;
     }
 
 pub returns-clause-unwritten : goal.returns-clause-unwritten

@@ -1,6 +1,6 @@
 use Rattle.std.proofs.Common.{◌≡◌, ℕ, true, false, take}
 use Rattle.raft_log_places.specs.Shown.{span}
-use Rattle.raft_log_replay.specs.Tables.{promise_of, shown_of, ShowsSame}
+use Rattle.raft_log_replay.specs.Tables.{promise_of, shown_of, ShowsSame, TablesSame}
 use Rattle.raft_log_replay.specs.Batch.{mentions}
 use Rattle.raft_log_replay.proofs.mem_tables.MemTables.take_back.Given as goal
 
@@ -12,4 +12,5 @@ invariant-loop-item l = record {
   moves : (g : ℕ) → mentions g (take l.item-index l.items) ≡ true → (promise_of l.self g).moves ≡ 0;
   room : (g : ℕ) → mentions g (take l.item-index l.items) ≡ true → (promise_of l.self g).wanted ≡ 0;
   others : (g : ℕ) → mentions g (take l.item-index l.items) ≡ false → promise_of l.self g ≡ promise_of l.fn.self g;
+  tables : TablesSame l.fn.self l.self;
 }

@@ -49,17 +49,22 @@ pub record IsRead (b : DualPipesBuilder) : Type 0 where
   pub append : length b.append.endings.items ≡ length (append_files b)
   pub rewrite : length b.rewrite.endings.items ≡ length (rewrite_files b)
 
--- the files of both queues were synced, Append's first
+-- the files of both queues were synced, Append's first, and behind them those that are kept for use
 pub record SyncsLog (b : DualPipesBuilder) (old new : Disk) : Type 0 where
   pub between : Disk
+  pub behind : Disk
   pub append : SyncsEach (append_files b) old between
-  pub rewrite : SyncsEach (rewrite_files b) between new
+  pub rewrite : SyncsEach (rewrite_files b) between behind
+  pub reserved : SyncsEach b.reserved.items behind new
 
--- a file of one of them wasn't; those before it are
+-- one of them wasn't; those before it are
 pub data FailsToSyncLog (b : DualPipesBuilder) (kind : ErrorKind) (old new : Disk) : Type 0 where
   append_unsynced : FailsToSyncEach (append_files b) kind old new → FailsToSyncLog b kind old new
   rewrite_unsynced : (between : Disk) → SyncsEach (append_files b) old between
       → FailsToSyncEach (rewrite_files b) kind between new → FailsToSyncLog b kind old new
+  reserved_unsynced : (between behind : Disk) → SyncsEach (append_files b) old between
+      → SyncsEach (rewrite_files b) between behind → FailsToSyncEach b.reserved.items kind behind new
+      → FailsToSyncLog b kind old new
 
 -- A log was opened over its files as they were recovered: all of them were synced, and then its pipes opened.
 pub record OpensRecovered (b : DualPipesBuilder) (old : Disk) (v : LogPipes) : Type 0 where

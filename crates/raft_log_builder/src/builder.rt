@@ -191,8 +191,9 @@ impl DualPipesBuilder {
     }
 
     /// Opens the pipes of the log over its files as they were recovered, that of Append first; before that all
-    /// files are synced, so that nothing that was recovered is lost behind a stop. The file system is the
-    /// pipes' from then on.
+    /// files are synced, so that nothing that was recovered is lost behind a stop, and those that are kept for
+    /// use, so that no record that one may hold counts under its next number. The file system is the pipes'
+    /// from then on.
     ///
     /// Refused, it is handed back. `InvalidArgument` where not all files were recovered, `Memory`: nothing was
     /// done. `Io` where a file isn't synced, or as either pipe is refused: all that was recovered is there
@@ -250,7 +251,8 @@ impl DualPipesBuilder {
         Ok((append, rewrite))
     }
 
-    /// Syncs the files of both queues, Append's first. Refused, those before one are synced.
+    /// Syncs the files of both queues, Append's first, and behind them those that are kept for use. Refused,
+    /// those before one are synced.
     fn sync_all<F: FileSystem>(&self, file_system: &mut F) -> Result<(), ErrorKind>
         ensures ok { OnOk result
             (SyncsLog self.now (F.disk file_system.old) (F.disk file_system.new)) }
@@ -258,6 +260,7 @@ impl DualPipesBuilder {
             FailsToSyncLog self.now kind (F.disk file_system.old) (F.disk file_system.new)) }
     {
         sync_files(file_system, &self.append.files)?;
-        sync_files(file_system, &self.rewrite.files)
+        sync_files(file_system, &self.rewrite.files)?;
+        sync_files(file_system, &self.reserved)
     }
 }

@@ -16,7 +16,6 @@ use Rattle.raft_log_reopened.proofs.Directory.{resting_directories_open}
 use Rattle.raft_log_reopened.proofs.Finding.{some_directory}
 use Rattle.raft_log_forked.specs.Left.{ClosedEnginesAreLeft, LeftLogsAreForked}
 use Rattle.raft_log_forked.proofs.Copies.{ForksQueue, forks_standing}
-use Rattle.raft_log_forked.proofs.Opening.{no_spares}
 use Rattle.raft_log_forked.proofs.Resting.{RestsIn, both_copied, forks_each}
 
 pub left_logs_are_forked : {S : Type 0} (disk : S → Disk) (tells : S → List ℕ → ℕ → Type 0) → LeftLogsAreForked disk tells
@@ -28,7 +27,7 @@ left_logs_are_forked disk tells config to target copied old now m pending sound 
     (both_copied (builder.directories_of config) target (as_it_stands (disk old)) (disk now) (each Append) (each Rewrite) (taken m (take k pending)) source) in (
       k,
       within,
-      record { source = source; rests = rests.0; opens = resting_directories_open disk tells to now (taken m (take k pending)) sound_now rests.0 (no_spares config target copied (disk old) (disk now) forks to only clear) },
+      record { source = source; rests = rests.0; opens = resting_directories_open disk tells to now (taken m (take k pending)) sound_now rests.0 },
     )
 
 pub closed_engines_are_left : ClosedEnginesAreLeft

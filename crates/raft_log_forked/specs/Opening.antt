@@ -6,19 +6,18 @@ use Rattle.raft_log_settings.specs.Settings.{settings_of}
 use Rattle.raft_log_settings.specs.declared.config.Config.{Config}
 use Rattle.raft_log_steps.specs.OnDisk.{LogRestsOn}
 use Rattle.raft_log_reopened.specs.raft_log_engine_state.specs.Shows.{log_in, LogMap}
-use Rattle.raft_log_reopened.specs.Reopened.{home_of, SparesCanBeUsed}
+use Rattle.raft_log_reopened.specs.Reopened.{home_of}
 use Rattle.raft_log_reopened.specs.Directory.{OpensAs}
 use Rattle.raft_log_fork.specs.Forks.{Forks}
 use Rattle.raft_log_forked.specs.Resting.{IsClear, NamesOnly}
 
 -- An engine that is opened over the fork holds this map, and nothing is pending; so does one that is opened
--- over the source, before and after, where what has a reserved name there can be used. (A fork has no such
--- file.) And where either isn't opened, whyever, the log is left there with the map.
+-- over the source, before and after. And where either isn't opened, whyever, the log is left there with the map.
 pub record OpenAlike {F : Type 0} (disk : F → Disk) (tells : F → List ℕ → ℕ → Type 0) (config to : Config)
     (old now : F) (m : LogMap) : Type 0 where
   pub fork : OpensAs disk tells to now m
-  pub source : SparesCanBeUsed config (disk old) → OpensAs disk tells config now m
-  pub before : SparesCanBeUsed config (disk old) → OpensAs disk tells config old m
+  pub source : OpensAs disk tells config now m
+  pub before : OpensAs disk tells config old m
 
 -- So it is of a log that rests, and its fork.
 abbrev pub ForksOpenAsTheirSource : {F : Type 0} → (F → Disk) → (F → List ℕ → ℕ → Type 0) → Type 0

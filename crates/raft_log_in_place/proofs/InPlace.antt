@@ -36,7 +36,7 @@ use Rattle.raft_log_resting.proofs.Keeping.{kept_logs_stay}
 use Rattle.raft_log_reopened.specs.Files.{AreFilesOf}
 use Rattle.raft_log_reopened.specs.Refused.{FailsToReopen}
 use Rattle.raft_log_reopened.specs.Refused.FailsToReopen.{unopened}
-use Rattle.raft_log_reopened.specs.Reopened.{home_of, reads, IsRecovered, Reopens, SparesCanBeUsed}
+use Rattle.raft_log_reopened.specs.Reopened.{home_of, reads, IsRecovered, Reopens}
 use Rattle.raft_log_reopened.proofs.Finding.{scans_find_all_files, some_directory}
 use Rattle.raft_log_reopened.proofs.Outcomes.{resting_logs_reopen}
 use Rattle.raft_log_reopened.proofs.Reopened.{two_queues}
@@ -152,25 +152,6 @@ module _ (config : Config) (d : Disk) (m : LogMap) (pending : List Said) (sound 
     | inr (n, last) ↦ named_is_used d last.path id sound last.named
   ]
 
-  -- none of them is kept for later use
-  spare_apart : (place n id : ℕ) → d.names ((log_paths Append (directories_of config)).reserved place n) ≡ Some id → lasts id ≡ false
-  spare_apart place n id at = elim (cases_Bool (lasts id)) [
-    | inr miss ↦ miss
-    | inl hit ↦ elim (its_last id hit) [
-      | inl (k, last) ↦
-          (let same = sound.one_name last.path ((log_paths Append (directories_of config)).reserved place n) id last.named at in
-          absurd (two.append.lawful.apart place n k last.bound (subst ((log_in home).append.format.IsPath k) same last.at)))
-      | inr (k, last) ↦
-          (let same = sound.one_name last.path ((log_paths Append (directories_of config)).reserved place n) id last.named at in
-          absurd (two.apart ((log_paths Append (directories_of config)).reserved place n) (two.append.lawful.kept place n) (subst (log_in home).rewrite.own same (two.rewrite.lawful.owns k last.path last.bound last.at))))
-    ]
-  ]
-
-  pub usable_still : SparesCanBeUsed config d → SparesCanBeUsed config standing
-  usable_still usable place n id at =
-      let was = usable place n id at in
-      record { file = was.file; is = ap (λ (b : Bool). settled_if b (d.files id)) (spare_apart place n id at) ∙ was.is; has = was.has }
-
   module _ {S : Type 0} (disk : S → Disk) (tells : S → List ℕ → ℕ → Type 0) where
     abbrev settled_disk : S → Disk
     settled_disk x = settled_in lasts (disk x)
@@ -218,19 +199,23 @@ module _ (config : Config) (d : Disk) (m : LogMap) (pending : List Said) (sound 
       rested : (synced : Disk) → SyncsLog ready readied synced → (id : ℕ) → lasts id ≡ true → IsRested id synced
       rested synced y id hit = elim (its_last id hit) [
         | inl (n, last) ↦
-            rested_then id (rewrite_files ready) y.between synced y.rewrite
+            rested_then id ready.reserved.items y.behind synced y.reserved
+            (rested_then id (rewrite_files ready) y.between y.behind y.rewrite
             (found_rested (log_in home).append two.append there.state.append (settled_in lasts r.scanned) (append_files r.found) n id files_found.0 (subst (IsLast (log_in home).append.format n id) scanned_names last) readied y.between
-            (subst (λ (l : List File). SyncsEach l readied y.between) (sym append_same) y.append))
+            (subst (λ (l : List File). SyncsEach l readied y.between) (sym append_same) y.append)))
         | inr (n, last) ↦
-            found_rested (log_in home).rewrite two.rewrite there.state.rewrite (settled_in lasts r.scanned) (rewrite_files r.found) n id files_found.1 (subst (IsLast (log_in home).rewrite.format n id) scanned_names last) y.between synced
-            (subst (λ (l : List File). SyncsEach l y.between synced) (sym rewrite_same) y.rewrite)
+            rested_then id ready.reserved.items y.behind synced y.reserved
+            (found_rested (log_in home).rewrite two.rewrite there.state.rewrite (settled_in lasts r.scanned) (rewrite_files r.found) n id files_found.1 (subst (IsLast (log_in home).rewrite.format n id) scanned_names last) y.between y.behind
+            (subst (λ (l : List File). SyncsEach l y.between y.behind) (sym rewrite_same) y.rewrite))
       ]
 
       syncs_same : (synced : Disk) → SyncsLog ready readied synced → SyncsLog ready (settled_in lasts readied) synced
       syncs_same synced y = subst (SyncsLog ready (settled_in lasts readied)) (all_rested lasts synced (rested synced y)) (record {
         between = settled_in lasts y.between;
+        behind = settled_in lasts y.behind;
         append = settled_syncs lasts (append_files ready) readied y.between y.append;
-        rewrite = settled_syncs lasts (rewrite_files ready) y.between synced y.rewrite;
+        rewrite = settled_syncs lasts (rewrite_files ready) y.between y.behind y.rewrite;
+        reserved = settled_syncs lasts ready.reserved.items y.behind synced y.reserved;
       })
 
       opens : (v : LogPipes) → OpensRecovered ready readied v → OpensRecovered ready (settled_in lasts readied) v
@@ -261,8 +246,8 @@ module _ (config : Config) (d : Disk) (m : LogMap) (pending : List Said) (sound 
         unopened s.append s.rewrite s.ready (settled_in lasts s.readied) s.error (recovered s.append s.rewrite s.ready s.readied s.recovered)
         (pipes_unopened s.synced s.append_pipe s.rewrite_pipe s.read (syncs_same s.append s.rewrite s.ready s.readied s.recovered s.synced s.syncs) s.append_is s.rewrite_is s.fails)
 
-    pub answered_in_place : SparesCanBeUsed config d → (v : LogPipes) (tables : MemTables) → Reopens disk tells config d v tables → HoldsFresh home v tables map
-    answered_in_place usable v tables it = (resting_logs_reopen settled_disk tells config standing map standing_sound there (usable_still usable)).answered v tables (reopens v tables it)
+    pub answered_in_place : (v : LogPipes) (tables : MemTables) → Reopens disk tells config d v tables → HoldsFresh home v tables map
+    answered_in_place v tables it = (resting_logs_reopen settled_disk tells config standing map standing_sound there).answered v tables (reopens v tables it)
 
-    pub synced_in_place : SparesCanBeUsed config d → (new : Disk) → StopsSynced disk tells config d new → IsLeftAt home new map []
-    synced_in_place usable new stops = (resting_logs_reopen settled_disk tells config standing map standing_sound there (usable_still usable)).refused new (not_opened new stops)
+    pub synced_in_place : (new : Disk) → StopsSynced disk tells config d new → IsLeftAt home new map []
+    synced_in_place new stops = (resting_logs_reopen settled_disk tells config standing map standing_sound there).refused new (not_opened new stops)

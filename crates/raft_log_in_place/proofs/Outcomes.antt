@@ -7,20 +7,20 @@ use Rattle.raft_log_in_place.proofs.InPlace.{answered_in_place, crashed, synced_
 use Rattle.raft_log_in_place.proofs.Refusing.{refused_in_place}
 
 pub standing_logs_reopen : {S : Type 0} (disk : S → Disk) (tells : S → List ℕ → ℕ → Type 0) → StandingLogsReopen disk tells
-standing_logs_reopen disk tells config d m pending sound left chance usable =
+standing_logs_reopen disk tells config d m pending sound left chance =
     let c = crashed config d m pending sound left chance in (
       c.0,
       c.1,
       record {
-        answered = answered_in_place config d m pending sound left chance disk tells usable;
-        synced = synced_in_place config d m pending sound left chance disk tells usable;
-        refused = refused_in_place config d m pending sound left chance disk tells usable;
+        answered = answered_in_place config d m pending sound left chance disk tells;
+        synced = synced_in_place config d m pending sound left chance disk tells;
+        refused = refused_in_place config d m pending sound left chance disk tells;
       },
     )
 
 pub standing_directories_open : {S : Type 0} (disk : S → Disk) (tells : S → List ℕ → ℕ → Type 0) → StandingDirectoriesOpen disk tells
-standing_directories_open disk tells config old m pending sound left chance usable =
-    let (k, within, outcome) = standing_logs_reopen disk tells config (disk old) m pending sound left chance usable in (
+standing_directories_open disk tells config old m pending sound left chance =
+    let (k, within, outcome) = standing_logs_reopen disk tells config (disk old) m pending sound left chance in (
       k,
       within,
       record {

@@ -36,7 +36,7 @@ use Rattle.raft_log_resting.proofs.Keeping.{bounded}
 use Rattle.raft_log_reopened.specs.Files.{AreFilesOf}
 use Rattle.raft_log_reopened.specs.Refused.{declines, FailsToReadyOn, FailsToReopen}
 use Rattle.raft_log_reopened.specs.Refused.FailsToReopen.{given_up, undone, unmerged, unopened, unreadied, unrecovered, unscanned}
-use Rattle.raft_log_reopened.specs.Reopened.{home_of, reads, IsRecovered, ReadiesOn, SparesCanBeUsed}
+use Rattle.raft_log_reopened.specs.Reopened.{home_of, reads, IsRecovered, ReadiesOn}
 use Rattle.raft_log_reopened.proofs.Finding.{found_set, scans_find_all_files}
 use Rattle.raft_log_reopened.proofs.Parts.{LiesAsSet}
 use Rattle.raft_log_reopened.proofs.Readying.{readies_leave, unreadied_leaves, IsReserved}
@@ -282,19 +282,19 @@ module _ (config : Config) (d : Disk) (m : LogMap) (pending : List Said) (sound 
           rewrite_names = λ k path less is. ap (λ (f : Names). f path) same ∙ at.rewrite_names k path less is;
         })
 
-    pub refused_in_place : SparesCanBeUsed config d → (new : Disk) → FailsToReopen disk tells config d new → IsLeftAt home new m pending ⊎ IsLeftAt home new (map config d m pending sound left chance) []
-    refused_in_place usable new (undone same) = inl (stops_uncut config d m pending left new (stops_undone same))
-    refused_in_place usable new (unscanned b error begun fails) = inl (stops_uncut config d m pending left new (stops_unscanned b error begun fails))
-    refused_in_place usable new (unrecovered found scanned error finds fails) = inl (not_recovered found scanned finds error new fails)
-    refused_in_place usable new (unmerged found read scanned append rewrite finds recovers) = inl (steadies_left new (at_cut found scanned finds append rewrite read new recovers).0)
-    refused_in_place usable new (unreadied found read scanned cut append rewrite error finds recovers fails) = inl (not_readied found scanned finds append rewrite read cut recovers disk tells error new fails)
-    refused_in_place usable new (given_up append rewrite ready it) = inl (steadies_left new (recovered_steadies append rewrite ready new it).0)
-    refused_in_place usable new (unopened append rewrite ready readied error it (unready why same)) = inl (steadies_left new (subst Steadies (sym same) (recovered_steadies append rewrite ready readied it).0))
-    refused_in_place usable new (unopened append rewrite ready readied error it (unsynced kind is read fails)) =
+    pub refused_in_place : (new : Disk) → FailsToReopen disk tells config d new → IsLeftAt home new m pending ⊎ IsLeftAt home new (map config d m pending sound left chance) []
+    refused_in_place new (undone same) = inl (stops_uncut config d m pending left new (stops_undone same))
+    refused_in_place new (unscanned b error begun fails) = inl (stops_uncut config d m pending left new (stops_unscanned b error begun fails))
+    refused_in_place new (unrecovered found scanned error finds fails) = inl (not_recovered found scanned finds error new fails)
+    refused_in_place new (unmerged found read scanned append rewrite finds recovers) = inl (steadies_left new (at_cut found scanned finds append rewrite read new recovers).0)
+    refused_in_place new (unreadied found read scanned cut append rewrite error finds recovers fails) = inl (not_readied found scanned finds append rewrite read cut recovers disk tells error new fails)
+    refused_in_place new (given_up append rewrite ready it) = inl (steadies_left new (recovered_steadies append rewrite ready new it).0)
+    refused_in_place new (unopened append rewrite ready readied error it (unready why same)) = inl (steadies_left new (subst Steadies (sym same) (recovered_steadies append rewrite ready readied it).0))
+    refused_in_place new (unopened append rewrite ready readied error it (unsynced kind is read fails)) =
         let at = recovered_steadies append rewrite ready readied it in
         inl (unsynced_stays ready kind readied new at.0 at.1 fails)
-    refused_in_place usable new (unopened append rewrite ready readied error it (pipes_unopened synced one_pipe other_pipe read syncs one_is other_is fails)) =
-        inr (synced_in_place config d m pending sound left chance disk tells usable new (record {
+    refused_in_place new (unopened append rewrite ready readied error it (pipes_unopened synced one_pipe other_pipe read syncs one_is other_is fails)) =
+        inr (synced_in_place config d m pending sound left chance disk tells new (record {
           append = append;
           rewrite = rewrite;
           ready = ready;

@@ -32,7 +32,7 @@ use Rattle.raft_log_steps.proofs.LyingQueues.{lies}
 use Rattle.raft_log_reopened.specs.raft_log_dual_pipes.specs.Pipes.{State}
 use Rattle.raft_log_reopened.specs.raft_log_engine_state.specs.Shows.{log_in}
 use Rattle.raft_log_reopened.specs.raft_log_builder.specs.Finishing.{FailsToSyncLog}
-use Rattle.raft_log_reopened.specs.raft_log_builder.specs.Finishing.FailsToSyncLog.{append_unsynced, rewrite_unsynced}
+use Rattle.raft_log_reopened.specs.raft_log_builder.specs.Finishing.FailsToSyncLog.{append_unsynced, reserved_unsynced, rewrite_unsynced}
 use Rattle.raft_log_reopened.specs.raft_log_builder.specs.Recovering.{append_files, rewrite_files}
 use Rattle.raft_log_reopened.specs.raft_log_builder.specs.Syncing.{FailsToSyncEach, SyncsEach}
 use Rattle.raft_log_reopened.specs.raft_log_builder.specs.declared.builder.DualPipesBuilder.{DualPipesBuilder}
@@ -220,10 +220,16 @@ module _ (layout : QueueLayout LogRecord) (told : IsQueueLayout layout) (q : Spa
   log_then b kind old new one (rewrite_unsynced between syncs fails) steady =
       let names = syncs_names (append_files b) old between syncs in
       no_syncs_then (rewrite_files b) kind between new (subst HaveOneName (sym names) one) fails (syncs_then layout told q (append_files b) old between one syncs steady)
+  log_then b kind old new one (reserved_unsynced between behind syncs more fails) steady =
+      let names = syncs_names (append_files b) old between syncs in
+      let one_between = subst HaveOneName (sym names) one in
+      let one_behind = subst HaveOneName (sym (syncs_names (rewrite_files b) between behind more)) one_between in
+      no_syncs_then b.reserved.items kind behind new one_behind fails (syncs_then layout told q (rewrite_files b) between behind one_between more (syncs_then layout told q (append_files b) old between one syncs steady))
 
 pub log_names : (b : DualPipesBuilder) (kind : ErrorKind) (old new : Disk) → FailsToSyncLog b kind old new → new.names ≡ old.names
 log_names b kind old new (append_unsynced fails) = no_syncs_names (append_files b) kind old new fails
 log_names b kind old new (rewrite_unsynced between syncs fails) = no_syncs_names (rewrite_files b) kind between new fails ∙ syncs_names (append_files b) old between syncs
+log_names b kind old new (reserved_unsynced between behind syncs more fails) = no_syncs_names b.reserved.items kind behind new fails ∙ (syncs_names (rewrite_files b) between behind more ∙ syncs_names (append_files b) old between syncs)
 
 numbered_named : {R E V : Type 0} (says : R → Record E V) (F : Format R) (q : LogFiles R) (low first : ℕ) (old new : Disk) (files : FileQueue E V) → new.names ≡ old.names → IsFileQueue says F q low first old files → IsFileQueue says F q low first new files
 numbered_named says F q low first old new files names is = record {

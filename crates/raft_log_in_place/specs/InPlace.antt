@@ -29,7 +29,7 @@ use Rattle.raft_log_reopened.specs.raft_log_opening.specs.Opening.{FailsToOpenDi
 use Rattle.raft_log_reopened.specs.raft_log_opened.specs.Left.{IsCrashOf}
 use Rattle.raft_log_reopened.specs.raft_log_opened.specs.Opened.{HoldsFresh}
 use Rattle.raft_log_reopened.specs.Refused.{FailsToReopen}
-use Rattle.raft_log_reopened.specs.Reopened.{home_of, IsRecovered, Reopens, SparesCanBeUsed}
+use Rattle.raft_log_reopened.specs.Reopened.{home_of, IsRecovered, Reopens}
 
 -- No checksum is met by chance in the last file of either queue, as its bytes stand: what is read there now
 -- is what a crash may leave that keeps all of them.
@@ -76,7 +76,7 @@ pub record ReopensStanding {F : Type 0} (disk : F → Disk) (tells : F → List 
 abbrev pub StandingLogsReopen : {F : Type 0} → (F → Disk) → (F → List ℕ → ℕ → Type 0) → Type 0
 StandingLogsReopen {F} disk tells = (config : Config) (d : Disk) (m : LogMap) (pending : List Said)
     → IsSound d → (left : IsLeftAt (home_of config) d m pending)
-    → StandsWithoutChance (home_of config) left.1.lies.state d → SparesCanBeUsed config d
+    → StandsWithoutChance (home_of config) left.1.lies.state d
     → (k : ℕ) × (k ≤ length pending) × ReopensStanding disk tells config d m pending (taken m (take k pending))
 
 -- So it is where its directories are opened by the call that does all of it, answered and refused.
@@ -91,7 +91,7 @@ pub record OpensStanding {F : Type 0} (disk : F → Disk) (tells : F → List �
 abbrev pub StandingDirectoriesOpen : {F : Type 0} → (F → Disk) → (F → List ℕ → ℕ → Type 0) → Type 0
 StandingDirectoriesOpen {F} disk tells = (config : Config) (old : F) (m : LogMap) (pending : List Said)
     → IsSound (disk old) → (left : IsLeftAt (home_of config) (disk old) m pending)
-    → StandsWithoutChance (home_of config) left.1.lies.state (disk old) → SparesCanBeUsed config (disk old)
+    → StandsWithoutChance (home_of config) left.1.lies.state (disk old)
     → (k : ℕ) × (k ≤ length pending)
     × OpensStanding disk tells config old m pending (taken m (take k pending))
 

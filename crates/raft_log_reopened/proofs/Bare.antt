@@ -1,10 +1,10 @@
 -- A log's directories are opened for the first time: a scan makes them, and the log that begins there rests.
 use Rattle.std.specs.Option.{option_map}
-use Rattle.std.specs.Prelude.{IsSomeAnd, Result, Err, min}
+use Rattle.std.specs.Prelude.{IsSomeAnd, Result, Err}
 use Rattle.std.specs.Str.{bytes_eq}
 use Rattle.std.specs.String.{string_bytes}
 use Rattle.std.specs.declared.io.ErrorKind.{ErrorKind}
-use Rattle.std.proofs.Common.{◌≡◌, ◌⊎◌, ℕ, Bool, true, false, cond, zero, suc, ◌-◌, ◌^◌, Option, Some, None, List, [], ◌∷◌, ◌++◌, length, refl, sym, ap, subst, ◌∙◌, inl, inr, Contains, arith, length-append}
+use Rattle.std.proofs.Common.{◌≡◌, ◌⊎◌, ℕ, Bool, true, false, cond, zero, suc, Option, Some, None, List, [], ◌∷◌, ◌++◌, length, refl, sym, ap, subst, ◌∙◌, inl, inr, Contains, arith, length-append}
 use Rattle.std.proofs.lemmas.Bool.{cases_Bool}
 use Rattle.std.proofs.lemmas.List.Elements.{Contains-append_left, Contains-append_right}
 use Rattle.std.proofs.lemmas.Slice.Eq.{bytes_eq-Decides}
@@ -19,8 +19,7 @@ use Rattle.raft_log_disk.specs.Image.{IsSound}
 use Rattle.raft_log_disk.proofs.KeptLaws.{kept_directory, IsCalm}
 use Rattle.raft_log_file_queue.specs.Beginning.{IsFresh}
 use Rattle.raft_log_format.specs.Name.{suffix_of}
-use Rattle.raft_log_layout.specs.Layout.{log_format, log_paths}
-use Rattle.raft_log_layout.specs.PathLaws.{reserved_is}
+use Rattle.raft_log_layout.specs.Layout.{log_format}
 use Rattle.raft_log_layout.specs.Paths.{IsOwnPath, IsPathWith}
 use Rattle.raft_log_machine.specs.Fresh.{nothing_stands}
 use Rattle.raft_log_settings.specs.Sanitized.{Clash, IsFileIn, IsSound as IsSoundSettings}
@@ -47,7 +46,7 @@ use Rattle.raft_log_reopened.specs.Bare.{BareDirectoriesOpen, IsBare}
 use Rattle.raft_log_reopened.specs.Outcomes.{ReopensAs}
 use Rattle.raft_log_reopened.specs.Refused.{FailsToReopen}
 use Rattle.raft_log_reopened.specs.Refused.FailsToReopen.{given_up, undone, unmerged, unopened, unreadied, unrecovered, unscanned}
-use Rattle.raft_log_reopened.specs.Reopened.{home_of, IsRecovered, Reopens, SparesCanBeUsed}
+use Rattle.raft_log_reopened.specs.Reopened.{home_of, IsRecovered, Reopens}
 use Rattle.raft_log_reopened.proofs.Directory.{call_by_call, not_opened}
 use Rattle.raft_log_reopened.proofs.Finding.{begun_directories, some_directory}
 use Rattle.raft_log_reopened.proofs.Outcomes.{resting_logs_reopen}
@@ -141,12 +140,6 @@ module _ (config : Config) (sound : IsSoundSettings (settings_of config)) where
       let made = subst (λ (l : List (List ℕ)). HasDirectories l old scanned) (begun_directories config b begun) scans.made in
       bare_cleared scanned new leaves (bare_made (directories_of config) (λ path listed. listed) old scanned made bare)
 
--- And no file is kept there for later use.
-no_spares : (config : Config) (d : Disk) → IsBare config d → SparesCanBeUsed config d
-no_spares config d bare place n id is =
-    let none : d.names ((log_paths Append (directories_of config)).reserved place n) ≡ None = bare.reserved (min n (10 ^ 16 - 1)) ((log_paths Append (directories_of config)).reserved place n) (reserved_is Append (directories_of config) place n (some_directory config)) in
-    (let never : ⊥ = cc in absurd never)
-
 -- Where the directories are there, a log in which nothing stands rests in bare ones.
 module _ (config : Config) (d : Disk) (bare : IsBare config d) (there : (path : List ℕ) → Contains (directories_of config) path → d.directories path ≡ true) where
   fresh : (queue : LogQueue) → IsFresh (log_format queue (directories_of config)) (IsOwnPath queue (directories_of config)) d d
@@ -200,7 +193,7 @@ module _ (config : Config) (d : Disk) (sound : IsSound d) (bare : IsBare config 
 
   module _ {S : Type 0} (disk : S → Disk) (tells : S → List ℕ → ℕ → Type 0) where
     reopens_first : ReopensAs disk tells config mid nothing_stands
-    reopens_first = resting_logs_reopen disk tells config mid nothing_stands sound_mid (rests_first config mid bare_mid made.there) (no_spares config mid bare_mid)
+    reopens_first = resting_logs_reopen disk tells config mid nothing_stands sound_mid (rests_first config mid bare_mid made.there)
 
 module _ {S : Type 0} (disk : S → Disk) (tells : S → List ℕ → ℕ → Type 0) (config : Config) (d : Disk) (sound : IsSound d) (bare : IsBare config d) where
   recovered_again : (append rewrite : MemTableRecoverContext) (ready : DualPipesBuilder) (readied : Disk) (r : IsRecovered disk tells config d append rewrite ready readied)

@@ -59,7 +59,7 @@ module _ {S : Type 0} (disk : S → Disk) (tells : S → List ℕ → ℕ → Ty
   }
 
 pub resting_directories_open : {S : Type 0} (disk : S → Disk) (tells : S → List ℕ → ℕ → Type 0) → RestingDirectoriesOpen disk tells
-resting_directories_open disk tells config old m sound rests usable = opens_as disk tells config old m (resting_logs_reopen disk tells config (disk old) m sound rests usable)
+resting_directories_open disk tells config old m sound rests = opens_as disk tells config old m (resting_logs_reopen disk tells config (disk old) m sound rests)
 
 pub crashed_directories_open : {S : Type 0} (disk : S → Disk) (tells : S → List ℕ → ℕ → Type 0) → CrashedDirectoriesOpen disk tells
 crashed_directories_open disk tells config d old m pending sound left crash =

@@ -17,16 +17,15 @@ use Rattle.raft_log_opened.specs.Opened.{HoldsFresh}
 use Rattle.raft_log_reopened.specs.Outcomes.{CrashedLogsReopen, ReopensAs, RestingLogsReopen}
 use Rattle.raft_log_reopened.specs.Refused.{FailsToReopen}
 use Rattle.raft_log_reopened.specs.Refused.FailsToReopen.{given_up, undone, unmerged, unopened, unreadied, unrecovered, unscanned}
-use Rattle.raft_log_reopened.specs.Reopened.{home_of, IsRecovered, Reopens, SparesCanBeUsed}
+use Rattle.raft_log_reopened.specs.Reopened.{home_of, IsRecovered, Reopens}
 use Rattle.raft_log_reopened.proofs.Finding.{begun_directories, finds_all, found_set, some_directory}
 use Rattle.raft_log_reopened.proofs.Parts.{IsRecoveredFrom, SparesStay}
 use Rattle.raft_log_reopened.proofs.Refused.{cut_stays, not_opened, not_readied, not_recovered, not_scanned, recovered_stays, stays_left, stays_same}
 use Rattle.raft_log_reopened.proofs.Reopened.{recovered_reopens, two_queues}
 use Rattle.raft_log_reopened.proofs.Spares.{synced_spares_can_be_used}
 use Rattle.raft_log_reopened.proofs.Stays.{stays_first}
-use Rattle.raft_log_reopened.proofs.Usable.{spares_at_crash}
 
-module _ {S : Type 0} (disk : S → Disk) (tells : S → List ℕ → ℕ → Type 0) (config : Config) (d : Disk) (m : LogMap) (sound : IsSound d) (h : LogRestsOn (log_in (home_of config)) d m) (usable : SparesCanBeUsed config d) where
+module _ {S : Type 0} (disk : S → Disk) (tells : S → List ℕ → ℕ → Type 0) (config : Config) (d : Disk) (m : LogMap) (sound : IsSound d) (h : LogRestsOn (log_in (home_of config)) d m) where
   abbrev home : Home
   home = home_of config
 
@@ -46,7 +45,7 @@ module _ {S : Type 0} (disk : S → Disk) (tells : S → List ℕ → ℕ → Ty
   }
 
   spares_stay : (append rewrite : MemTableRecoverContext) (ready : DualPipesBuilder) (readied : Disk) → IsRecovered disk tells config d append rewrite ready readied → SparesStay home ready readied
-  spares_stay append rewrite ready readied r synced syncs first = synced_spares_can_be_used disk tells config d m sound h usable append rewrite ready readied synced r syncs first
+  spares_stay append rewrite ready readied r synced syncs first = synced_spares_can_be_used disk tells config d m sound h append rewrite ready readied synced r syncs first
 
   answered : (v : LogPipes) (tables : MemTables) → Reopens disk tells config d v tables → HoldsFresh home v tables m
   answered v tables r =
@@ -75,9 +74,9 @@ module _ {S : Type 0} (disk : S → Disk) (tells : S → List ℕ → ℕ → Ty
   reopens_as = record { answered = answered; refused = refused }
 
 pub resting_logs_reopen : {S : Type 0} (disk : S → Disk) (tells : S → List ℕ → ℕ → Type 0) → RestingLogsReopen disk tells
-resting_logs_reopen disk tells config d m sound h usable = reopens_as disk tells config d m sound h usable
+resting_logs_reopen disk tells config d m sound h = reopens_as disk tells config d m sound h
 
 pub crashed_logs_reopen : {S : Type 0} (disk : S → Disk) (tells : S → List ℕ → ℕ → Type 0) → CrashedLogsReopen disk tells
 crashed_logs_reopen disk tells config d image m pending sound left crash =
     let (k, within, rests) = crashed_logs_rest (home_of config) (some_directory config) (some_directory config) d image m pending left crash in
-    (k, within, rests, reopens_as disk tells config image (taken m (take k pending)) sound rests (spares_at_crash config d image sound crash.is))
+    (k, within, rests, reopens_as disk tells config image (taken m (take k pending)) sound rests)

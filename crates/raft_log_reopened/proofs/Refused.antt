@@ -29,7 +29,7 @@ use Rattle.raft_log_builder.specs.Cutting.{CutsEach, FailsToCutEach}
 use Rattle.raft_log_builder.specs.Directories.{directories_of}
 use Rattle.raft_log_builder.specs.Finishing.{FailsToOpenRecovered, FailsToSyncLog}
 use Rattle.raft_log_builder.specs.Finishing.FailsToOpenRecovered.{unready, unsynced, unopened as pipes_unopened}
-use Rattle.raft_log_builder.specs.Finishing.FailsToSyncLog.{append_unsynced, rewrite_unsynced}
+use Rattle.raft_log_builder.specs.Finishing.FailsToSyncLog.{append_unsynced, reserved_unsynced, rewrite_unsynced}
 use Rattle.raft_log_builder.specs.Reading.{HasReadFiles}
 use Rattle.raft_log_builder.specs.Recovering.{append_config, append_files, rewrite_config, rewrite_files, FailsToRecoverLog, HasReadBoth, RecoversLog}
 use Rattle.raft_log_builder.specs.Recovering.FailsToRecoverLog.{aligned, append_uncut, append_unread, rewrite_uncut, rewrite_unread}
@@ -37,7 +37,7 @@ use Rattle.raft_log_builder.specs.Reserving.{wanted_files, FailsToReadyLog, Read
 use Rattle.raft_log_builder.specs.Scanning.{FailsToScanLog, ScansLog}
 use Rattle.raft_log_builder.specs.Scanning.FailsToScanLog.{uncleared, unready as scan_unready, unscanned as scan_refused}
 use Rattle.raft_log_recovery.specs.Scanned.{FailsToScan}
-use Rattle.raft_log_builder.specs.Syncing.{FailsToSyncEach}
+use Rattle.raft_log_builder.specs.Syncing.{FailsToSyncEach, SyncsEach}
 use Rattle.raft_log_builder.specs.Unaligned.{AreUnaligned}
 use Rattle.raft_log_builder.specs.declared.builder.DualPipesBuilder.{DualPipesBuilder}
 use Rattle.raft_log_opened.specs.Entries.{EachHas}
@@ -340,10 +340,14 @@ module _ (home : Home) (one : 0 < length home.append) (other : 0 < length home.r
     rewrite = no_syncs_keep (log_in home).rewrite.format files kind old new (rests_at_rest (log_in home).rewrite old s.rewrite at.rests.rewrite) fails;
   }) at
 
+  synced_stays : (files : List File) (old new : Disk) → Stays old → SyncsEach files old new → Stays new
+  synced_stays files old new at syncs = stays_kept (log_in home) two s m old new (stays_synced (log_in home) two s m files old new at syncs) at
+
   log_unsynced : (b : DualPipesBuilder) (kind : ErrorKind) (old new : Disk) → Stays old → FailsToSyncLog b kind old new → Stays new
   log_unsynced b kind old new at (append_unsynced fails) = not_synced (append_files b) kind old new at fails
-  log_unsynced b kind old new at (rewrite_unsynced between syncs fails) =
-      not_synced (rewrite_files b) kind between new (stays_kept (log_in home) two s m old between (stays_synced (log_in home) two s m (append_files b) old between at syncs) at) fails
+  log_unsynced b kind old new at (rewrite_unsynced between syncs fails) = not_synced (rewrite_files b) kind between new (synced_stays (append_files b) old between at syncs) fails
+  log_unsynced b kind old new at (reserved_unsynced between behind syncs more fails) =
+      not_synced b.reserved.items kind behind new (synced_stays (rewrite_files b) between behind (synced_stays (append_files b) old between at syncs) more) fails
 
   pub not_opened : {S : Type 0} (disk : S → Disk) (tells : S → List ℕ → ℕ → Type 0) (append rewrite : MemTableRecoverContext) (ready : DualPipesBuilder) (readied : Disk) (error : Error) (new : Disk) → IsRecoveredFrom disk tells home s d append rewrite ready readied → SparesStay home ready readied
       → FailsToOpenRecovered ready error readied new → IsLeftAt home new m []

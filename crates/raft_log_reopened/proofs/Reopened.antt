@@ -225,6 +225,9 @@ module _ {S : Type 0} (disk : S → Disk) (tells : S → List ℕ → ℕ → Ty
   abbrev half : Disk
   half = o.syncs.between
 
+  abbrev behind : Disk
+  behind = o.syncs.behind
+
   abbrev synced : Disk
   synced = o.synced
 
@@ -234,23 +237,31 @@ module _ {S : Type 0} (disk : S → Disk) (tells : S → List ℕ → ℕ → Ty
   at_half : Stays half
   at_half = stays_kept (log_in home) two s m readied half first_syncs at_ready
 
-  more_syncs : KeepsLog (log_in home) half synced
-  more_syncs = stays_synced (log_in home) two s m (rewrite_files ready) half synced at_half o.syncs.rewrite
+  more_syncs : KeepsLog (log_in home) half behind
+  more_syncs = stays_synced (log_in home) two s m (rewrite_files ready) half behind at_half o.syncs.rewrite
+
+  at_behind : Stays behind
+  at_behind = stays_kept (log_in home) two s m half behind more_syncs at_half
+
+  last_syncs : KeepsLog (log_in home) behind synced
+  last_syncs = stays_synced (log_in home) two s m ready.reserved.items behind synced at_behind o.syncs.reserved
 
   at_sync : Stays synced
-  at_sync = stays_kept (log_in home) two s m half synced more_syncs at_half
+  at_sync = stays_kept (log_in home) two s m behind synced last_syncs at_behind
 
   a_told_sync : AreToldOf (log_in home).append s.append synced a_files a_endings
   a_told_sync =
-      told_kept (log_in home).append two.append s.append a_files a_endings half synced more_syncs.append
+      told_kept (log_in home).append two.append s.append a_files a_endings behind synced last_syncs.append
+      (told_kept (log_in home).append two.append s.append a_files a_endings half behind more_syncs.append
       (told_kept (log_in home).append two.append s.append a_files a_endings readied half first_syncs.append
-      (told_kept (log_in home).append two.append s.append a_files a_endings r.cut readied ready_keeps.append a_told_cut))
+      (told_kept (log_in home).append two.append s.append a_files a_endings r.cut readied ready_keeps.append a_told_cut)))
 
   r_told_sync : AreToldOf (log_in home).rewrite s.rewrite synced r_files r_endings
   r_told_sync =
-      told_kept (log_in home).rewrite two.rewrite s.rewrite r_files r_endings half synced more_syncs.rewrite
+      told_kept (log_in home).rewrite two.rewrite s.rewrite r_files r_endings behind synced last_syncs.rewrite
+      (told_kept (log_in home).rewrite two.rewrite s.rewrite r_files r_endings half behind more_syncs.rewrite
       (told_kept (log_in home).rewrite two.rewrite s.rewrite r_files r_endings readied half first_syncs.rewrite
-      (told_kept (log_in home).rewrite two.rewrite s.rewrite r_files r_endings r.cut readied ready_keeps.rewrite r_cut.told))
+      (told_kept (log_in home).rewrite two.rewrite s.rewrite r_files r_endings r.cut readied ready_keeps.rewrite r_cut.told)))
 
   -- what the pipes are told
   a_items : o.append.found.files.items ≡ as_read a_endings a_files

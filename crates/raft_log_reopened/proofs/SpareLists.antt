@@ -81,12 +81,15 @@ rising_made fs made rising small more = rising_append 0 (next_number fs) fs made
 
 -- Under reserved names.
 module _ (directories : List (List ℕ)) (some : 0 < length directories) where
-  -- the file is kept under a reserved name, and can be used
+  -- the file is kept under a reserved name
   pub record IsSpareOn (d : Disk) (f : File) : Type 0 where
     pub reserved : f.reserved ≡ true
     pub small : f.seq < 10 ^ 16
     pub named : d.names (path_of (log_paths Append directories) f) ≡ Some f.handle.file
-    pub usable : HasFile f.handle.file (CanBeUsed (log_format Append directories)) d
+
+  -- it can be used
+  abbrev pub IsUsableOn : Disk → File → Type 0
+  IsUsableOn d f = HasFile f.handle.file (CanBeUsed (log_format Append directories)) d
 
   reserved_at : (f : File) → f.reserved ≡ true → IsPathWith (reserved_suffix_of Append) directories (min f.seq (10 ^ 16 - 1)) (path_of (log_paths Append directories) f)
   reserved_at f is = subst (IsPathWith (reserved_suffix_of Append) directories (min f.seq (10 ^ 16 - 1))) (sym (path_reserved (log_paths Append directories) f is)) (reserved_is Append directories f.path_id f.seq some)
@@ -108,16 +111,16 @@ module _ (directories : List (List ℕ)) (some : 0 < length directories) where
   pub are_small : (d : Disk) (fs : List File) → EachHas (IsSpareOn d) fs → AreSmall fs
   are_small d fs spares = each_weaker (IsSpareOn d) (λ (g : File). g.seq < 10 ^ 16) fs (λ g is. is.small) spares
 
-  -- all of them can be used
-  pub are_kept : (first n : ℕ) (d : Disk) (fs : List File) → AreRising n fs → EachHas (IsSpareOn d) fs → AreKept (log_format Append directories) (log_paths Append directories) first d fs
-  are_kept first n d [] rising spares = tt
-  are_kept first n d (f ∷ fs) (here, rising) (is, spares) = (
+  -- such files are kept for use, where each can be used
+  pub are_kept : (first n : ℕ) (d : Disk) (fs : List File) → AreRising n fs → EachHas (IsSpareOn d) fs → EachHas (IsUsableOn d) fs → AreKept (log_format Append directories) (log_paths Append directories) first d fs
+  are_kept first n d [] rising spares usable = tt
+  are_kept first n d (f ∷ fs) (here, rising) (is, spares) (can, usable) = (
     record {
       named = is.named;
       below = λ plain. (let clash : true ≡ false = sym is.reserved ∙ plain in let never : ⊥ = cc in absurd never);
       small = is.small;
-      usable = is.usable;
+      usable = can;
     },
     none_has f fs is.reserved is.small (above (suc f.seq) (suc f.seq) fs (omega arith) rising) (names_of d fs spares),
-    are_kept first (suc f.seq) d fs rising spares,
+    are_kept first (suc f.seq) d fs rising spares usable,
   )

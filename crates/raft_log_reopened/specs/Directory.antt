@@ -13,7 +13,7 @@ use Rattle.raft_log_opened.specs.raft_log_engine_state.specs.Holding.{IsLeftAt}
 use Rattle.raft_log_opening.specs.Opening.{FailsToOpenDirectory, OpensDirectory}
 use Rattle.raft_log_opened.specs.Left.{IsCrashOf}
 use Rattle.raft_log_opened.specs.Opened.{HoldsFresh}
-use Rattle.raft_log_reopened.specs.Reopened.{home_of, SparesCanBeUsed}
+use Rattle.raft_log_reopened.specs.Reopened.{home_of}
 
 -- Where the directories are opened that these settings name, an engine of them holds this map, and nothing is
 -- pending, whatever the number of workers was; and where they aren't, whyever, the log is left there with the
@@ -28,8 +28,7 @@ pub record OpensAs {F : Type 0} (disk : F → Disk) (tells : F → List ℕ → 
 -- So are those of a log that rests there.
 abbrev pub RestingDirectoriesOpen : {F : Type 0} → (F → Disk) → (F → List ℕ → ℕ → Type 0) → Type 0
 RestingDirectoriesOpen {F} disk tells = (config : Config) (old : F) (m : LogMap) → IsSound (disk old)
-    → LogRestsOn (log_in (home_of config)) (disk old) m → SparesCanBeUsed config (disk old)
-    → OpensAs disk tells config old m
+    → LogRestsOn (log_in (home_of config)) (disk old) m → OpensAs disk tells config old m
 
 -- And so are those of whatever a crash leaves of what an engine left, which rests there: as the map after
 -- some first pending batches.

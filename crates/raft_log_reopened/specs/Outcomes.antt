@@ -11,7 +11,7 @@ use Rattle.raft_log_opened.specs.raft_log_engine_state.specs.Shows.{log_in, LogM
 use Rattle.raft_log_opened.specs.raft_log_engine_state.specs.Holding.{IsLeftAt}
 use Rattle.raft_log_opened.specs.Left.{IsCrashOf}
 use Rattle.raft_log_opened.specs.Opened.{HoldsFresh}
-use Rattle.raft_log_reopened.specs.Reopened.{home_of, Reopens, SparesCanBeUsed}
+use Rattle.raft_log_reopened.specs.Reopened.{home_of, Reopens}
 use Rattle.raft_log_reopened.specs.Refused.{FailsToReopen}
 
 -- An engine that is opened over what is on the disk holds this map, and nothing is pending, whatever the
@@ -26,7 +26,7 @@ pub record ReopensAs {F : Type 0} (disk : F → Disk) (tells : F → List ℕ �
 -- So does a log that rests there, where its settings name it.
 abbrev pub RestingLogsReopen : {F : Type 0} → (F → Disk) → (F → List ℕ → ℕ → Type 0) → Type 0
 RestingLogsReopen disk tells = (config : Config) (d : Disk) (m : LogMap) → IsSound d
-    → LogRestsOn (log_in (home_of config)) d m → SparesCanBeUsed config d → ReopensAs disk tells config d m
+    → LogRestsOn (log_in (home_of config)) d m → ReopensAs disk tells config d m
 
 -- And so does whatever a crash leaves of what an engine left, which rests there: as the map after some first
 -- pending batches.

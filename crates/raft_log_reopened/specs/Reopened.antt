@@ -1,13 +1,12 @@
 -- A log that rests on a disk is scanned, recovered and opened, call by call, as an engine does it.
-use Rattle.std.specs.Prelude.{◌≡◌, ℕ, Some, List}
+use Rattle.std.specs.Prelude.{◌≡◌, ℕ, List}
 use Rattle.raft_log_base.specs.declared.pipe_log.LogQueue.{LogQueue}
 use Rattle.raft_log_base.specs.declared.pipe_log.LogQueue.TheVariants.{Append, Rewrite}
 use Rattle.raft_log_disk.specs.Disk.{Disk}
 use Rattle.raft_log_disk.specs.Image.{IsSound}
-use Rattle.raft_log_disk.specs.Touching.{HasFile}
 use Rattle.raft_log_settings.specs.declared.config.Config.{Config}
 use Rattle.raft_log_layout.specs.Layout.{log_format, log_paths}
-use Rattle.raft_log_pipes.specs.Files.{AreKept, CanBeUsed}
+use Rattle.raft_log_pipes.specs.Files.{AreKept}
 use Rattle.raft_log_opened.specs.raft_log_replay.specs.declared.mem_tables.MemTables.{MemTables}
 use Rattle.raft_log_segments.specs.Machines.{Batch}
 use Rattle.raft_log_opened.specs.raft_log_contexts.specs.Records.{ReadRecord}
@@ -82,17 +81,11 @@ ScansFindAllFiles = (config : Config) (d : Disk) (m : LogMap) → IsSound d
     → AreFilesOf (log_in (home_of config)).append rests.state.append scanned (append_files found)
     × AreFilesOf (log_in (home_of config)).rewrite rests.state.rewrite scanned (rewrite_files found)
 
--- Whatever file has a reserved name can be used: it holds no record, whatever number it gets. Of what a crash
--- left that is so, as each file is at rest then.
-abbrev pub SparesCanBeUsed : Config → Disk → Type 0
-SparesCanBeUsed config d = (place n id : ℕ)
-    → d.names ((log_paths Append (directories_of config)).reserved place n) ≡ Some id
-    → HasFile id (CanBeUsed (log_format Append (directories_of config))) d
-
--- And then so can all that are kept for use by an engine that is opened there, once all is synced.
+-- All files that are kept for use by an engine that is opened there can be used, once all is synced: each holds
+-- no record of whatever number it gets.
 abbrev pub SyncedSparesCanBeUsed : {F : Type 0} → (F → Disk) → (F → List ℕ → ℕ → Type 0) → Type 0
 SyncedSparesCanBeUsed disk tells = (config : Config) (d : Disk) (m : LogMap) → IsSound d
-    → LogRestsOn (log_in (home_of config)) d m → SparesCanBeUsed config d
+    → LogRestsOn (log_in (home_of config)) d m
     → (append rewrite : MemTableRecoverContext) (ready : DualPipesBuilder) (readied synced : Disk)
     → IsRecovered disk tells config d append rewrite ready readied → SyncsLog ready readied synced
     → (first : ℕ) → AreKept (log_format Append (directories_of config))

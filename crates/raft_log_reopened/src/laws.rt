@@ -13,8 +13,8 @@ pub fn scans_find_all_files()
     ensures { ScansFindAllFiles }
 {}
 
-/// Where no file under a reserved name holds a record, all files can be used that are kept for use by an
-/// engine that is opened there.
+/// All files that are kept for use by an engine that is opened there can be used, whatever they held: they are
+/// synced before.
 pub fn synced_spares_can_be_used<F: FileSystem>()
     ensures { SyncedSparesCanBeUsed F.disk F.tells_space }
 {}

@@ -255,7 +255,7 @@ module _ {K : Type 0} (items : K → List ℕ) (es : List (K × KeySlot)) (now :
     listed (asked_in None) now,
     lists_asked None now (rises o),
     least ∙ ap (λ (m : ℕ). min m (2 ^ 64 - 1))
-    ((let same : n ≡ n + asked_count None [] = omega arith in same) ∙ ap (λ (ss : List KeySlot). n + asked_count None ss) (sym none) ∙ h ∙ sym (asked_length None now)),
+        ((let same : n ≡ n + asked_count None [] = omega arith in same) ∙ ap (λ (ss : List KeySlot). n + asked_count None ss) (sym none) ∙ h ∙ sym (asked_length None now)),
   )
 
   pub all_marked : (front : List (List ℕ)) (rest : List (K × KeySlot)) → rest ≡ []

@@ -95,8 +95,15 @@ pub fn rewrite_append_and_count<P: PipeLog, L: Log>(
     ensures rests { IsAtRest tables.old → IsAtRest tables.new }
 {
     counts.count_standing(tables);
-    let rewritten =
-        rewrite_append_queue(alloc, rt, pipes, tables, cache, watermark, exit_after_step);
+    let rewritten = rewrite_append_queue(
+        alloc,
+        rt,
+        pipes,
+        tables,
+        cache,
+        watermark,
+        exit_after_step,
+    );
     if rewritten.is_ok() {
         counts.count_standing(tables);
     }

@@ -53,10 +53,12 @@ AreFound all es = AllByRecursion (λ (e : ℕ × GroupTable). found all e.0 ≡ 
 
 found_behind : (e : ℕ × GroupTable) (es sub : List (ℕ × GroupTable)) → found es e.0 ≡ None → AreFound es sub → AreFound (e ∷ es) sub
 found_behind e es [] none h = tt
-found_behind e es (x ∷ sub) none h =
-    (by_group e.0 x.0 (same_or_apart e.0 x.0)
-    (λ t is. absurd (never (sym none ∙ ap (found es) is ∙ h.0)))
-    (λ apart. found_later e es x.0 apart ∙ h.0), found_behind e es sub none h.1)
+found_behind e es (x ∷ sub) none h = (
+  by_group e.0 x.0 (same_or_apart e.0 x.0)
+      (λ t is. absurd (never (sym none ∙ ap (found es) is ∙ h.0)))
+      (λ apart. found_later e es x.0 apart ∙ h.0),
+  found_behind e es sub none h.1,
+)
   where
     never : None ≡ Some x.1 → ⊥
     never p = cc p

@@ -43,13 +43,13 @@ impl<F: FileSystem + Sync> Engine<DualPipes<F>> {
     {
         let thresholds = Thresholds::of(&config);
         match open_directory(rt, alloc, config, file_system) {
-            Ok(OpenedLog {
-                pipes,
-                tables,
-                written,
-            }) => Ok(Engine::new(
-                alloc, thresholds, pipes, tables, written,
-            )),
+            Ok(
+                OpenedLog {
+                    pipes,
+                    tables,
+                    written,
+                },
+            ) => Ok(Engine::new(alloc, thresholds, pipes, tables, written)),
             Err(refused) => Err(refused),
         }
     }
@@ -81,16 +81,16 @@ impl<F: FileSystem + Sync, E: EventListener> Engine<
     {
         let thresholds = Thresholds::of(&config);
         match open_directory(rt, alloc, config, file_system) {
-            Ok(OpenedLog {
-                pipes,
-                tables,
-                written,
-            }) => {
+            Ok(
+                OpenedLog {
+                    pipes,
+                    tables,
+                    written,
+                },
+            ) => {
                 let told = ToldPipes::new(pipes, listener);
                 let hooked = ToldPipes::new(told, PurgeHook::new(alloc));
-                Ok(Engine::new(
-                    alloc, thresholds, hooked, tables, written,
-                ))
+                Ok(Engine::new(alloc, thresholds, hooked, tables, written))
             }
             Err(refused) => Err(refused),
         }

@@ -15,10 +15,12 @@ returns c =
 
 pub loop-slot-preserved-then-is_some : goal.loop-slot-preserved-then-is_some
 loop-slot-preserved-then-is_some c =
-    let (n, least, all) = c.loop-slot.invariant in
-    (n + 1, omega (arith, least, c.saturating_add-count.ensures),
-    counted_one (λ (h : HeldValue). h.bytes) None n _ c.in-Some.slot.now c.loop-slot.slot-iterator c.next.new.self _ c.in-Some.ensures.steps c.asked.ensures
-    (mapped (λ x. x.now) c.asked.result ∙ sym c.is_some.ensures ∙ c.if-is_some.true) all)
+    let (n, least, all) = c.loop-slot.invariant in (
+      n + 1,
+      omega (arith, least, c.saturating_add-count.ensures),
+      counted_one (λ (h : HeldValue). h.bytes) None n _ c.in-Some.slot.now c.loop-slot.slot-iterator c.next.new.self _ c.in-Some.ensures.steps c.asked.ensures
+          (mapped (λ x. x.now) c.asked.result ∙ sym c.is_some.ensures ∙ c.if-is_some.true) all,
+    )
   where
     mapped : {X Y : Type 0} (f : X → Y) (o : Option X) → is_some (option_map f o) ≡ is_some o
     mapped f None = refl

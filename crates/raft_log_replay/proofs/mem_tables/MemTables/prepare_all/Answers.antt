@@ -14,9 +14,10 @@ returns-in_err-prepare_item-clause-err c =
     let first = take c.loop-item.item-index c.args.items.now in
     let so_far = c.loop-item.invariant.promises in
     on_err_all c.from_residual.result (λ g h.
-    let apart = none_of_first g c.args.items.now c.loop-item.item-index h in
-    (c.in_err-prepare_item.ensures.err g ∙ promised_elsewhere (λ e. e) c.args.self.now c.loop-item.self first so_far g apart,
-    c.in_err-prepare_item.ensures.tables g ∙ table_elsewhere (λ e. e) c.args.self.now c.loop-item.self first so_far g apart))
+    let apart = none_of_first g c.args.items.now c.loop-item.item-index h in (
+      c.in_err-prepare_item.ensures.err g ∙ promised_elsewhere (λ e. e) c.args.self.now c.loop-item.self first so_far g apart,
+      c.in_err-prepare_item.ensures.tables g ∙ table_elsewhere (λ e. e) c.args.self.now c.loop-item.self first so_far g apart,
+    ))
 
 pub returns-in_err-prepare_item-clause-errors : goal.returns-in_err-prepare_item-clause-errors
 returns-in_err-prepare_item-clause-errors c =

@@ -11,9 +11,11 @@ pub returns : goal.returns
 returns c =
     let es = c.args.self.now.groups.entries in
     let sorted = c.iter-table-items.ensures.ordered in
-    let once = once_each es (IsDistinct-from_sorted nat_cmp (keys c.args.self.now.groups) sorted) in
-    (group_list true es, all_known es once sorted,
-    each_counted es c.loop-table.table-iterator c.loop-table.count c.in-None.ensures.steps.0 once c.loop-table.invariant)
+    let once = once_each es (IsDistinct-from_sorted nat_cmp (keys c.args.self.now.groups) sorted) in (
+      group_list true es,
+      all_known es once sorted,
+      each_counted es c.loop-table.table-iterator c.loop-table.count c.in-None.ensures.steps.0 once c.loop-table.invariant,
+    )
 
 pub loop-table-preserved : goal.loop-table-preserved
 loop-table-preserved c =

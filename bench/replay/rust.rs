@@ -172,8 +172,22 @@ struct GroupTable {
 
 type Tables = BTreeMap<u64, GroupTable>;
 
+/// Whether an item is a mark of an atomic group, which says nothing of a group.
+fn is_mark(item: &Item) -> bool {
+    match &item.content {
+        Content::KeyValue(key_value) => match key_value.op_type {
+            OpType::Put => item.group == 0 && key_value.key == [b'_', b'_', 1],
+            OpType::Del => false,
+        },
+        _ => false,
+    }
+}
+
 fn replay(tables: &mut Tables, items: Vec<Item>, file: u64) -> Result<()> {
     for item in items {
+        if is_mark(&item) {
+            continue;
+        }
         let found = tables.entry(item.group).or_default();
         found.counts = true;
         match item.content {

@@ -1,5 +1,6 @@
 //! The places of a group's entries, and room for more.
 ghost use Rattle.std.specs.Prelude.{◌≡◌, ◌+◌, ◌-◌, ◌≤◌, ◌++◌, [], length, map, take, drop, slice_get, ◌<◌, Some, OnOk, OnErr};
+ghost use Rattle.std.specs.VecDeque.{deque_len};
 ghost use Rattle.raft_log_held.specs.Entries.{place_of, entry_of};
 ghost use Rattle.raft_log_held.specs.Counts.{passing};
 ghost use Rattle.raft_log_held.specs.Counts.{sized};
@@ -10,6 +11,7 @@ use raft_log_places::Place;
 use std::alloc::{AllocError, Global};
 use std::collections::VecDeque;
 use std::marker::Model;
+use std::mem;
 
 /// Where a written entry lies. One that isn't written lies nowhere: its file, its block's offset and length
 /// are 0.
@@ -145,10 +147,12 @@ impl Places {
         ensures wanted { self.new.wanted ≡ self.old.wanted - length entries.now }
         ensures moves { self.new.moves ≡ self.old.moves }
     {
+        let mut places = taken(&mut self.places);
         for entry in entries {
-            self.places.push_back_reserved(place_of(entry));
-            self.wanted -= 1;
+            places.push_back_reserved(place_of(entry));
         }
+        self.places = places;
+        self.wanted -= entries.len();
     }
 
     /// More places come to the end, in room that was promised for them.
@@ -158,9 +162,26 @@ impl Places {
         ensures wanted { self.new.wanted ≡ self.old.wanted - length more.items }
         ensures moves { self.new.moves ≡ self.old.moves }
     {
-        let Places { mut places, .. } = more;
-        self.wanted -= places.len();
-        self.places.append(&mut places).unwrap();
+        let Places { places, .. } = more;
+        let (front, back) = places.as_slices();
+        self.push_places(front);
+        self.push_places(back);
+    }
+
+    /// These places come to the end, in room that was promised for them.
+    fn push_places(&mut self, more: &[Place])
+        requires { length more.now ≤ self.old.wanted }
+        ensures { self.new ≡ record self.old {
+          items = self.old.items ++ more.now;
+          wanted = self.old.wanted - length more.now;
+        } }
+    {
+        let mut places = taken(&mut self.places);
+        for place in more {
+            places.push_back_reserved(*place);
+        }
+        self.places = places;
+        self.wanted -= more.len();
     }
 
     /// Only so many first places stay.
@@ -245,4 +266,14 @@ impl Places {
         }
         count
     }
+}
+
+/// Takes a queue of places out and leaves none: a loop knows the ends of a queue of its own without looking at
+/// them each time.
+fn taken(places: &mut VecDeque<Place>) -> VecDeque<Place>
+    ensures value { result ≡ places.old }
+    ensures left { deque_len places.new ≡ 0 }
+{
+    let alloc = *places.allocator();
+    mem::replace(places, VecDeque::new(alloc))
 }

@@ -76,8 +76,10 @@ fn holes_between_segments_are_refused(rt: HostRuntime) -> Result<(), Fail> {
     Ok(())
 }
 
-/// What shows of each group where Append came over Rewrite.
-const OVER: [(u64, &str); 3] = [
+/// What shows of each group where Append came over Rewrite. In group 4 the first run of Append starts past
+/// the end of Rewrite's entry, and the last one, which cuts it off, right behind that: they leave no hole.
+const OVER: [(u64, &str); 4] = [
+    (4, "(Some(6), Some(7)) (Some(1), Some(20)) None"),
     (
         5,
         "(Some(1), Some(6)) (Some(1), Some(20)) Some((false, 20))",
@@ -88,9 +90,16 @@ const OVER: [(u64, &str); 3] = [
 
 /// Append over Rewrite.
 fn merged(alloc: Global) -> Result<MemTables> {
-    let rewritten = [Run(5, 1, 5), Put(5), Run(6, 1, 5), Compact(6, 3)];
+    let rewritten = [
+        Run(4, 6, 1),
+        Run(5, 1, 5),
+        Put(5),
+        Run(6, 1, 5),
+        Compact(6, 3),
+    ];
     let mut tables = segment(alloc, rewrite(20), &rewritten)?;
-    let appended = segment(alloc, append(1), &[Run(5, 4, 3), Compact(7, 9)])?;
+    let appended = [Run(4, 8, 4), Run(4, 7, 1), Run(5, 4, 3), Compact(7, 9)];
+    let appended = segment(alloc, append(1), &appended)?;
     tables.merge_append_table(appended)?;
     Ok(tables)
 }

@@ -5,7 +5,7 @@ use Rattle.raft_log_held.proofs.places.Places.push.Given as goal
 
 abbrev pub invariant-loop-entry : goal.invariant-loop-entry
 invariant-loop-entry l =
-    (l.self-inside.places.items ≡ l.fn.self.items ++ map place_of (take l.entry-index l.entries))
-    × (l.self-inside.wanted + l.entry-index ≡ l.fn.self.wanted)
-    × (deque_len l.self-inside.places + l.self-inside.wanted ≤ deque_capacity l.self-inside.places)
+    (l.places.items ≡ l.fn.self.items ++ map place_of (take l.entry-index l.entries))
+    × (deque_len l.places + l.fn.self.wanted ≤ deque_capacity l.places + l.entry-index)
+    × (l.self-inside.wanted ≡ l.fn.self.wanted)
     × (l.self-inside.moves ≡ l.fn.self.moves)

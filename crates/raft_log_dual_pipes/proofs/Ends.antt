@@ -11,9 +11,9 @@ use Rattle.raft_log_directory.specs.Calls.Which.{InAppend, InRewrite}
 use Rattle.raft_log_steps.specs.Queues.{QueueLayout}
 use Rattle.raft_log_steps.specs.Own.{log_layout}
 use Rattle.raft_log_steps.proofs.CloseSteps.{closed_log_is_a_log}
-use Rattle.raft_log_dual_pipes.specs.Pipes.{LogPipes, files_of, queues}
+use Rattle.raft_log_dual_pipes.specs.Pipes.{LogPipes, files_of, layout_of, queues}
 use Rattle.raft_log_dual_pipes.specs.Closing.{ClosesLog}
-use Rattle.raft_log_dual_pipes.proofs.Pairing.{at_log, layout_of, two_of}
+use Rattle.raft_log_dual_pipes.proofs.Pairing.{at_log, two_of}
 
 -- what is said of files kept for use by a pipe that goes by the same layout, with the same such files
 pub stays_same : (n m : LogQueue) (ds es : List (List ℕ)) (fs gs : List Listed) (d e : Disk) → m ≡ n → es ≡ ds → gs ≡ fs → StaysLeft (log_layout m es).format (log_layout m es).own gs d e → StaysLeft (log_layout n ds).format (log_layout n ds).own fs d e

@@ -27,9 +27,10 @@ use Rattle.raft_log_steps.proofs.AppendStep.{append_is_a_step}
 use Rattle.raft_log_steps.proofs.RefusedStep.{refused_append_is_a_step, refused_append_has_failed}
 use Rattle.raft_log_steps.proofs.OtherSteps.{sync_is_a_step}
 use Rattle.raft_log_steps.proofs.BesideSteps.{fails_to_append_beside, quiet_calls_beside}
-use Rattle.raft_log_dual_pipes.specs.Pipes.{OnePipe, LogPipes, LogSense, RunsOn, Said, State, files_of, header_at, one_at, queue_of, queues}
+use Rattle.raft_log_dual_pipes.specs.Pipes.{LogPipes, LogSense, OnePipe, RunsOn, Said, State, files_of, header_at, layout_of, one_at, queue_of, queues}
 use Rattle.raft_log_dual_pipes.specs.Calls.{AppendsTo, FailsToAppendTo, FailsToSyncQueue, RefusalLeaves, SyncsQueue}
-use Rattle.raft_log_dual_pipes.proofs.Pairing.{SameRules, answered, at_log, both_run, err_through, is_failure, layout_of, mended_at, next_disk, ok_through, runs_again, same_files, told, two_of, with_one}
+use Rattle.raft_log_dual_pipes.specs.PipeCalls.{SameRules}
+use Rattle.raft_log_dual_pipes.proofs.Pairing.{answered, at_log, both_run, err_through, is_failure, mended_at, next_disk, ok_through, runs_again, same_files, told, two_of, with_one}
 
 -- The pipe that is called, and what it is and on which disk once it answers.
 module _ (which : Which) (v : LogPipes) (o : OnePipe) (d : Disk) where

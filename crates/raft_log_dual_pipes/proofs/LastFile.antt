@@ -22,8 +22,8 @@ use Rattle.raft_log_directory.specs.Calls.{Which}
 use Rattle.raft_log_directory.specs.Calls.Which.{InAppend, InRewrite}
 use Rattle.raft_log_steps.specs.State.{pipe_at}
 use Rattle.raft_log_dual_pipes.specs.LastFile.{IsNextIfFull, RaisesPipe, TurnsBehind, last_of}
-use Rattle.raft_log_dual_pipes.specs.Pipes.{LogPipes, OnePipe, files_of, one_at}
-use Rattle.raft_log_dual_pipes.proofs.Pairing.{err_through, layout_of, with_one}
+use Rattle.raft_log_dual_pipes.specs.Pipes.{LogPipes, OnePipe, files_of, layout_of, one_at}
+use Rattle.raft_log_dual_pipes.proofs.Pairing.{err_through, with_one}
 
 -- the next file where the last one is full, and else the last one, of files
 abbrev GoesIfFull : NewFiles → PipeFiles → ℕ → Type 0

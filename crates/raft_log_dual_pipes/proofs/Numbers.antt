@@ -36,8 +36,8 @@ use Rattle.raft_log_steps.specs.State.{pipe_at, spanned_at}
 use Rattle.raft_log_steps.proofs.Lifts.{run_at, told_at}
 use Rattle.raft_log_steps.proofs.OneQueue.{On, framed_one, turn_one}
 use Rattle.raft_log_dual_pipes.specs.Numbers.{EndsNumbers, EndsNumbersAt, EndsNumbersBelow}
-use Rattle.raft_log_dual_pipes.specs.Pipes.{LogPipes, LogSense, OnePipe, RunsOn, State, files_of, header_at, one_at, queue_of, queues}
-use Rattle.raft_log_dual_pipes.proofs.Pairing.{at_log, err_through, layout_of, two_of, with_one}
+use Rattle.raft_log_dual_pipes.specs.Pipes.{LogPipes, LogSense, OnePipe, RunsOn, State, files_of, header_at, layout_of, one_at, queue_of, queues}
+use Rattle.raft_log_dual_pipes.proofs.Pairing.{at_log, err_through, two_of, with_one}
 
 -- One pipe.
 module _ {R E V : Type 0} (says : R → Record E V) (layout : QueueLayout R) (told : IsQueueLayout layout) (base : Disk) where

@@ -16,11 +16,8 @@ use Rattle.raft_log_steps.specs.Queues.{QueueLayout, AreTwoQueues, layout_at}
 use Rattle.raft_log_steps.specs.State.{Spanned, with_spanned, pipe_at, with_pipe, Run}
 use Rattle.raft_log_steps.specs.Lying.{both_open, with_open, RunOrLie}
 use Rattle.raft_log_steps.specs.Own.{log_layout}
-use Rattle.raft_log_dual_pipes.specs.Pipes.{OnePipe, LogPipes, LogSense, IsPipeOf, RunsOn, State, files_of, is_failed, one_at, queue_of, queues}
-
--- how the files of a pipe are written, and where they lie
-abbrev pub layout_of : OnePipe → QueueLayout LogRecord
-layout_of o = log_layout o.queue o.directories
+use Rattle.raft_log_dual_pipes.specs.PipeCalls.{SameRules}
+use Rattle.raft_log_dual_pipes.specs.Pipes.{OnePipe, LogPipes, LogSense, IsPipeOf, RunsOn, State, files_of, is_failed, layout_of, one_at, queue_of, queues}
 
 abbrev pub append_with : Which → LogPipes → OnePipe → OnePipe
 append_with InAppend v o = o
@@ -33,12 +30,6 @@ rewrite_with InRewrite v o = o
 -- the pipes with another such one, on another disk
 abbrev pub with_one : Which → LogPipes → OnePipe → Disk → LogPipes
 with_one which v o d = record { append = append_with which v o; rewrite = rewrite_with which v o; disk = d }
-
--- the pipe goes by the rules that it went by
-pub record SameRules (old new : OnePipe) : Type 0 where
-  pub queue : new.queue ≡ old.queue
-  pub directories : new.directories ≡ old.directories
-  pub settings : new.settings ≡ old.settings
 
 -- the directories of a queue
 abbrev pub directories_at : Which → LogSense → List (List ℕ)
@@ -146,6 +137,11 @@ err_through (Err e) P Q h all = all e refl h
 pub ok_through : {A : Type 0} (r : Result A Error) (P Q : A → Type 0) → IfOk r P → ((x : A) → r ≡ Ok x → P x → Q x) → IfOk r Q
 ok_through (Ok x) P Q h all = all x refl h
 ok_through (Err e) P Q h all = tt
+
+-- what a refusal says, it says of pipes that hadn't failed
+pub when_alive : {A : Type 0} (r : Result A Error) (P : Error → Type 0) (failed : Bool) → IfErr r P → IfErr r (λ e. failed ≡ false → P e)
+when_alive (Ok x) P failed h = tt
+when_alive (Err e) P failed h = λ alive. h
 
 -- a call that answers hasn't failed
 pub answered : {A : Type 0} (r : Result A Error) (x : A) (b : Bool) → r ≡ Ok x → (IsTrue b ↔ IsErr r) → b ≡ false

@@ -22,9 +22,10 @@ use Rattle.raft_log_steps.proofs.Lifts.{run_at}
 use Rattle.raft_log_steps.proofs.RefusedStep.{refused_rotation_has_failed}
 use Rattle.raft_log_steps.proofs.BesideSteps.{quiet_calls_beside}
 use Rattle.raft_log_steps.proofs.OtherSteps.{purge_is_a_step, refused_purge_is_a_step, refused_rotation_is_a_step, rotation_is_a_step}
-use Rattle.raft_log_dual_pipes.specs.Pipes.{OnePipe, LogPipes, LogSense, RunsOn, State, files_of, header_at, one_at, queues}
+use Rattle.raft_log_dual_pipes.specs.Pipes.{LogPipes, LogSense, OnePipe, RunsOn, State, files_of, header_at, layout_of, one_at, queues}
 use Rattle.raft_log_dual_pipes.specs.Calls.{FailsToPurgeQueue, FailsToRotateQueue, IsSpanOf, LeavesSame, PurgeLeavesOn, PurgesQueue, RotatesQueue, TurnLeaves}
-use Rattle.raft_log_dual_pipes.proofs.Pairing.{SameRules, at_log, both_run, err_through, is_failure, layout_of, mended_at, next_disk, ok_through, runs_again, told, two_of, with_one}
+use Rattle.raft_log_dual_pipes.specs.PipeCalls.{SameRules}
+use Rattle.raft_log_dual_pipes.proofs.Pairing.{at_log, both_run, err_through, is_failure, mended_at, next_disk, ok_through, runs_again, told, two_of, with_one}
 
 module _ (which : Which) (v : LogPipes) (o : OnePipe) (d : Disk) where
   -- nothing was done

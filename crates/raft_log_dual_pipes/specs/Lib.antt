@@ -1,5 +1,6 @@
 pub mod Pipes
 pub mod Calls
+pub mod PipeCalls
 pub mod Numbers
 pub mod LastFile
 pub mod Closing

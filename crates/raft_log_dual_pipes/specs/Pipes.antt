@@ -11,9 +11,9 @@ use Rattle.raft_log_pipes.specs.declared.single_pipe.PipeSettings.{PipeSettings}
 use Rattle.raft_log_pipes.specs.Files.{Listed}
 use Rattle.raft_log_directory.specs.Calls.{Which}
 use Rattle.raft_log_directory.specs.Calls.Which.{InAppend, InRewrite}
-use Rattle.raft_log_steps.specs.Queues.{TwoQueues}
+use Rattle.raft_log_steps.specs.Queues.{QueueLayout, TwoQueues}
 use Rattle.raft_log_steps.specs.State.{LogOnDisk, Pipes, pipe_at, Run}
-use Rattle.raft_log_steps.specs.Own.{log_queues}
+use Rattle.raft_log_steps.specs.Own.{log_layout, log_queues}
 
 -- one of a log's pipes: of which queue its files are and in which directories they lie, by which rules it
 -- goes on, its files, and whether it has failed
@@ -23,6 +23,10 @@ pub record OnePipe : Type 0 where
   pub settings : PipeSettings
   pub files : PipeFiles
   pub failed : Bool
+
+-- how its files are written, and where they lie
+abbrev pub layout_of : OnePipe → QueueLayout LogRecord
+layout_of pipe = log_layout pipe.queue pipe.directories
 
 -- both pipes, and the disk that they are on
 pub record LogPipes : Type 0 where

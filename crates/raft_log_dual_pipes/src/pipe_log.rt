@@ -24,6 +24,7 @@ pub trait PipeLog {
     ghost use Rattle.raft_log_dual_pipes.specs.Numbers.{EndsNumbers, EndsNumbersAt, EndsNumbersBelow};
     ghost use Rattle.raft_log_dual_pipes.specs.LastFile.{IsNextIfFull, RaisesPipe, TurnsBehind, last_of};
     ghost use Rattle.raft_log_dual_pipes.specs.Calls.{AppendsTo, FailsToAppendTo, FailsToPurgeQueue, FailsToRotateQueue, FailsToSyncQueue, IsIo, IsSpanOf, PurgesQueue, RotatesQueue, StaysFailed, SyncsQueue, TellsFailure, seq_at, size_at};
+    ghost use Rattle.raft_log_dual_pipes.specs.PipeCalls.{KeepRules, PipeAppends, PipeFailsToAppend, PipeFailsToPurge, PipeFailsToRotate, PipeFailsToSync, PipePurges, PipeRotates, PipeSyncs};
 
     /// The file system that the files are in, which a close gives back.
     type Files;
@@ -102,8 +103,13 @@ pub trait PipeLog {
             (last_of (which_of queue) (shown self.new))) }
         ensures behind { IfErr result (λ error. TurnsBehind (which_of queue) error
             (shown self.old) (shown self.new)) }
+        ensures calls { IfOk result (λ block. PipeAppends (which_of queue) (B.signed bytes.old) block
+            (shown self.old) (shown self.new)) }
+        ensures refusal { IfErr result (λ error. PipeFailsToAppend (which_of queue) (B.signed bytes.old) error
+            (shown self.old) (shown self.new)) }
         ensures signed { B.signed bytes.new ≡ B.signed bytes.old }
         ensures said { B.said bytes.new ≡ B.said bytes.old }
+        ensures rules { KeepRules (shown self.old) (shown self.new) }
         ensures failed { StaysFailed result (shown self.old) (shown self.new) }
         ensures fails { TellsFailure result (shown self.new) }
         ensures later { IsLater (shown self.old).disk (shown self.new).disk };
@@ -113,6 +119,9 @@ pub trait PipeLog {
         ensures ok { OnOk result (SyncsQueue (which_of queue) (shown self.old) (shown self.new)) }
         ensures err { OnErr result (FailsToSyncQueue (which_of queue) (shown self.old) (shown self.new)) }
         ensures error { IfErr result (λ error. error ≡ errors.Failed) }
+        ensures calls { OnOk result (PipeSyncs (which_of queue) (shown self.old) (shown self.new)) }
+        ensures refusal { OnErr result (PipeFailsToSync (which_of queue) (shown self.old) (shown self.new)) }
+        ensures rules { KeepRules (shown self.old) (shown self.new) }
         ensures failed { StaysFailed result (shown self.old) (shown self.new) }
         ensures fails { TellsFailure result (shown self.new) }
         ensures later { IsLater (shown self.old).disk (shown self.new).disk };
@@ -127,6 +136,10 @@ pub trait PipeLog {
         ensures err { IfErr result (λ error. FailsToRotateQueue (which_of queue) error
             (shown self.old) (shown self.new)) }
         ensures range { IfErr result (λ error. EndsNumbers (which_of queue) error (shown self.old)) }
+        ensures calls { OnOk result (PipeRotates (which_of queue) (shown self.old) (shown self.new)) }
+        ensures refusal { IfErr result (λ error. PipeFailsToRotate (which_of queue) error
+            (shown self.old) (shown self.new)) }
+        ensures rules { KeepRules (shown self.old) (shown self.new) }
         ensures failed { StaysFailed result (shown self.old) (shown self.new) }
         ensures fails { TellsFailure result (shown self.new) }
         ensures later { IsLater (shown self.old).disk (shown self.new).disk };
@@ -149,6 +162,11 @@ pub trait PipeLog {
             (shown self.old) (shown self.new)) }
         ensures range { IfErr result (λ error. EndsNumbersBelow (which_of file_id.queue) error
             (shown self.old)) }
+        ensures calls { OnOk result (PipePurges (which_of file_id.queue) file_id.seq
+            (shown self.old) (shown self.new)) }
+        ensures refusal { IfErr result (λ error. PipeFailsToPurge (which_of file_id.queue) file_id.seq error
+            (shown self.old) (shown self.new)) }
+        ensures rules { KeepRules (shown self.old) (shown self.new) }
         ensures failed { StaysFailed result (shown self.old) (shown self.new) }
         ensures fails { TellsFailure result (shown self.new) }
         ensures later { IsLater (shown self.old).disk (shown self.new).disk };

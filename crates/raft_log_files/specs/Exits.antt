@@ -2,7 +2,7 @@
 use Rattle.std.specs.Prelude.{◌≡◌, ℕ, ◌⊎◌, true, List, [], ◌∷◌, length}
 use Rattle.raft_log_disk.specs.Disk.{Disk}
 use Rattle.raft_log_disk.specs.Causes.{Fails}
-use Rattle.raft_log_disk.specs.Exits.{FailsToSync}
+use Rattle.raft_log_disk.specs.Exits.{FailsToSync, Syncs}
 use Rattle.std.specs.declared.io.ErrorKind.{ErrorKind}
 use Rattle.raft_log_disk.specs.Chains.{Written}
 use Rattle.raft_log_disk.specs.LogFormat.{Format}
@@ -80,6 +80,14 @@ abbrev pub BeginMakes : Handle → List ℕ → ErrorKind → Disk → Disk → 
 BeginMakes handle header error old new = FailsToTakeUp handle header true error old new
     ⊎ ((writer : LogFileWriter) × (between : Disk) × TakesUp handle header true writer old between
     × FailsToSync writer.handle error between new)
+
+-- The calls that begin a file: its header was written at its front, with room for what it lacked of that and
+-- no more, and synced.
+pub record BeginsBy (handle : Handle) (header : List ℕ) (writer : LogFileWriter) (old new : Disk)
+    : Type 0 where
+  pub between : Disk
+  pub takes : TakesUp handle header true writer old between
+  pub syncs : Syncs writer.handle between new
 
 -- all records were synced
 abbrev pub SyncsAll : {R : Type 0} → Format R → (List ℕ → Type 0) → LogFileWriter → Disk → Disk → Type 0

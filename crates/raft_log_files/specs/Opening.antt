@@ -14,7 +14,7 @@ use Rattle.raft_log_disk.specs.declared.handle.Permission.TheVariants.{ReadWrite
 use Rattle.raft_log_file.specs.declared.writer.LogFileWriter.{LogFileWriter}
 use Rattle.raft_log_file_queue.specs.Queue.{with_room}
 use Rattle.raft_log_file_queue.specs.Beginning.{IsFresh, fresh_queue}
-use Rattle.raft_log_files.specs.Exits.{BeginMakes, IsOpen}
+use Rattle.raft_log_files.specs.Exits.{BeginMakes, BeginsBy, IsOpen}
 use Rattle.raft_log_files.specs.Rotation.{IsLeft}
 
 -- each file that was there is as it was
@@ -48,6 +48,13 @@ abbrev pub FailsToBeginQueue : {R : Type 0} → Format R → (List ℕ → Type 
 FailsToBeginQueue {R} F own header path old new = (base : Disk) (older : ℕ → Past R)
     → CanBegin F own base header path old
     → Fails old new × IsHalfBegun F own base (fresh_queue older header) new × IsAbsent F 0 new
+
+-- the calls that begin a queue: its file was made, and begun
+pub record BeginsQueueBy (path header : List ℕ) (handle : Handle) (writer : LogFileWriter) (old new : Disk)
+    : Type 0 where
+  pub made : Disk
+  pub creates : Creates path handle.file old made
+  pub begins : BeginsBy handle header writer made new
 
 -- whose refusal is told: that of the file's creation, or of what begins it
 abbrev pub BeginQueueMakes : List ℕ → List ℕ → ErrorKind → Disk → Disk → Type 0

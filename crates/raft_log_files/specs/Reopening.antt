@@ -9,12 +9,12 @@ use Rattle.raft_log_disk.specs.LogQueue.{LogFiles, IsLeftover, IsPast, recent}
 use Rattle.raft_log_disk.specs.Touching.{HasFile}
 use Rattle.raft_log_disk.specs.declared.handle.Handle.{Handle}
 use Rattle.raft_log_disk.specs.declared.handle.Permission.TheVariants.{ReadWrite}
-use Rattle.raft_log_file.specs.Writer.{FailsToTakeUp}
+use Rattle.raft_log_file.specs.Writer.{FailsToTakeUp, TakesUp}
 use Rattle.raft_log_file.specs.declared.writer.LogFileWriter.{LogFileWriter}
 use Rattle.raft_log_file_queue.specs.Queue.{finished, with_room}
 use Rattle.raft_log_file_queue.specs.Standing.{Names, Stands}
 use Rattle.raft_log_file_queue.specs.Reopening.{IsReadTo, reread}
-use Rattle.raft_log_files.specs.Exits.{BeginMakes, IsOpen}
+use Rattle.raft_log_files.specs.Exits.{BeginMakes, BeginsBy, IsOpen}
 use Rattle.raft_log_files.specs.Rotation.{IsLeft}
 
 -- the queue stands as a stop left it, its last file was read so far, and this handle may write it
@@ -91,6 +91,19 @@ FailsToTrim {R} F own handle end old new = (base : Disk) (q : LogFiles R) (path 
 abbrev pub TakeUpMakes : Handle → Option ℕ → List ℕ → ErrorKind → Disk → Disk → Type 0
 TakeUpMakes handle (Some end) header error old new = FailsToTakeUp handle [] false error old new
 TakeUpMakes handle None header error old new = BeginMakes handle header error old new
+
+-- what is done once it is cut: the writer goes on behind the records, and no call is made; or the file is
+-- begun
+abbrev pub TakesUpBy : Handle → Option ℕ → List ℕ → LogFileWriter → Disk → Disk → Type 0
+TakesUpBy handle (Some end) header writer old new = TakesUp handle [] false writer old new
+TakesUpBy handle None header writer old new = BeginsBy handle header writer old new
+
+-- the calls that take a file up: it was cut and synced, and then taken up
+pub record ReopensBy (handle : Handle) (end : Option ℕ) (header : List ℕ) (writer : LogFileWriter)
+    (old new : Disk) : Type 0 where
+  pub trimmed : Disk
+  pub trims : Trims handle (unwrap_or end 0) old trimmed
+  pub takes : TakesUpBy handle end header writer trimmed new
 
 -- whose refusal is told: that of the cut or of its sync, or of what is done behind them
 pub data ReopenMakes (handle : Handle) (end : Option ℕ) (header : List ℕ) (error : ErrorKind)

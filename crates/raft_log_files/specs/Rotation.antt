@@ -16,7 +16,7 @@ use Rattle.raft_log_file_queue.specs.Queue.{with_room}
 use Rattle.raft_log_file_queue.specs.States.{IsNew}
 use Rattle.raft_log_file_queue.specs.Standing.{Names, Stands}
 use Rattle.raft_log_file_queue.specs.Bridge.{GapsStay}
-use Rattle.raft_log_files.specs.Exits.{IsOpen, BeginMakes}
+use Rattle.raft_log_files.specs.Exits.{IsOpen, BeginMakes, BeginsBy}
 
 -- the next number is one, and this is a header and a path for it
 pub record CanRotate {R : Type 0} (F : Format R) (q : LogFiles R) (header to : List ℕ) : Type 0 where
@@ -101,6 +101,17 @@ FailsToRotateOver {R} F own header handle from to before old new = (base : Disk)
 abbrev pub FilesStay : ℕ → ℕ → Disk → Disk → Type 0
 FilesStay a b old new = (id : ℕ) (file : File) → (id ≡ a → ⊥) → (id ≡ b → ⊥) → old.files id ≡ Some file
     → new.files id ≡ Some file
+
+-- The calls of a rotation, in their order: the file before was cut and synced, the call on names made, and the
+-- next file begun.
+pub record RotatesBy (before : LogFileWriter) (header : List ℕ) (Names : Handle → Disk → Disk → Type 0)
+    (handle : Handle) (after : LogFileWriter) (old new : Disk) : Type 0 where
+  pub finished : LogFileWriter
+  pub closed : Disk
+  pub named : Disk
+  pub closes : Closes before finished old closed
+  pub names : Names handle closed named
+  pub begins : BeginsBy handle header after named new
 
 -- whose refusal a rotation tells: that of the cut of the file before, or of its sync; that of the call on
 -- names; or that of what begins the next file

@@ -5,7 +5,7 @@ ghost use Rattle.raft_log_disk.specs.Causes.{IsLater};
 ghost use Rattle.raft_log_disk.specs.Exits.{FailsToSync, Syncs};
 ghost use Rattle.raft_log_disk.specs.Touching.{TouchesOnly};
 ghost use Rattle.raft_log_file.specs.Writer.{Closes, FailsToClose, WritesNext};
-ghost use Rattle.raft_log_files.specs.Exits.{AppendMakes, Appends, BeginMakes, Begins, FailsToAppend, FailsToBegin, FailsToFinish, FailsToSyncAll, Finishes, SyncsAll};
+ghost use Rattle.raft_log_files.specs.Exits.{AppendMakes, Appends, BeginMakes, Begins, BeginsBy, FailsToAppend, FailsToBegin, FailsToFinish, FailsToSyncAll, Finishes, SyncsAll};
 
 use super::format::PipeFormat;
 use log::Log;
@@ -109,6 +109,8 @@ pub fn begin_file<G: PipeFormat, F: FileSystem, L: Log>(
         writer
         (F.disk file_system.old) (F.disk file_system.new)) }
     ensures err { OnErr result (FailsToBegin (G.format layout.now) (G.own layout.now) handle header.now
+        (F.disk file_system.old) (F.disk file_system.new)) }
+    ensures calls { IfOk result (λ writer. BeginsBy handle header.now writer
         (F.disk file_system.old) (F.disk file_system.new)) }
     ensures refusal { IfErr result (λ error. BeginMakes handle header.now error
         (F.disk file_system.old) (F.disk file_system.new)) }

@@ -3,8 +3,8 @@
 ghost use Rattle.std.specs.Prelude.{IfOk, IfErr, OnOk, OnErr, unwrap_or};
 ghost use Rattle.raft_log_disk.specs.Causes.{IsLater};
 ghost use Rattle.raft_log_disk.specs.Touching.{TouchesOnly};
-ghost use Rattle.raft_log_files.specs.Opening.{AllFilesStay, BeginQueueMakes, BeginsQueue, FailsToBeginQueue};
-ghost use Rattle.raft_log_files.specs.Reopening.{FailsToReopen, FailsToTrim, ReopenMakes, Reopens, TrimMakes, Trims, TrimsLeftover};
+ghost use Rattle.raft_log_files.specs.Opening.{AllFilesStay, BeginQueueMakes, BeginsQueue, BeginsQueueBy, FailsToBeginQueue};
+ghost use Rattle.raft_log_files.specs.Reopening.{FailsToReopen, FailsToTrim, ReopenMakes, Reopens, ReopensBy, TrimMakes, Trims, TrimsLeftover};
 
 use super::format::PipeFormat;
 use super::last_file::begin_file;
@@ -29,7 +29,9 @@ pub fn begin_queue<G: PipeFormat, F: FileSystem, L: Log>(
     ensures err { OnErr result (FailsToBeginQueue (G.format layout.now) (G.own layout.now)
         header.now path.now (F.disk file_system.old) (F.disk file_system.new)) }
 
-    // Whose refusal is told; and no file that was there changes.
+    // Which calls were made, and whose refusal is told; and no file that was there changes.
+    ensures calls { IfOk result (λ begun. BeginsQueueBy path.now header.now begun.0 begun.1
+        (F.disk file_system.old) (F.disk file_system.new)) }
     ensures refusal { IfErr result (λ error. BeginQueueMakes path.now header.now error
         (F.disk file_system.old) (F.disk file_system.new)) }
     ensures files { AllFilesStay (F.disk file_system.old) (F.disk file_system.new) }
@@ -83,6 +85,8 @@ pub fn reopen_file<G: PipeFormat, F: FileSystem, L: Log>(
         header.now writer (F.disk file_system.old) (F.disk file_system.new)) }
     ensures err { OnErr result (FailsToReopen (G.format layout.now) (G.own layout.now) handle end
         header.now (F.disk file_system.old) (F.disk file_system.new)) }
+    ensures calls { IfOk result (λ writer. ReopensBy handle end header.now writer
+        (F.disk file_system.old) (F.disk file_system.new)) }
     ensures refusal { IfErr result (λ error. ReopenMakes handle end header.now error
         (F.disk file_system.old) (F.disk file_system.new)) }
     ensures others { TouchesOnly handle.file (F.disk file_system.old) (F.disk file_system.new) }

@@ -3,10 +3,10 @@
 
 ghost use Rattle.std.specs.Prelude.{◌≡◌, ℕ, Some, None, IfOk, IfErr, OnOk, OnErr};
 ghost use Rattle.std.specs.String.{string_bytes};
-ghost use Rattle.raft_log_disk.specs.Calls.{Creates, Renames};
+ghost use Rattle.raft_log_disk.specs.Calls.{Creates, Deletes, Renames};
 ghost use Rattle.raft_log_disk.specs.Causes.{IsLater};
 ghost use Rattle.raft_log_disk.specs.Exits.{FailsToCreate, FailsToDelete, FailsToRename};
-ghost use Rattle.raft_log_files.specs.Rotation.{Drops, FilesStay, RotationMakes, FailsToDrop, FailsToRotateOver, FailsToRotateToNew, RotatesOver, RotatesToNew};
+ghost use Rattle.raft_log_files.specs.Rotation.{Drops, FilesStay, RotatesBy, RotationMakes, FailsToDrop, FailsToRotateOver, FailsToRotateToNew, RotatesOver, RotatesToNew};
 
 use super::format::PipeFormat;
 use super::last_file::{begin_file, finish_file};
@@ -29,7 +29,10 @@ pub fn rotate_to_new<G: PipeFormat, F: FileSystem, L: Log>(
     ensures err { OnErr result (FailsToRotateToNew (G.format layout.now) (G.own layout.now)
         header.now path.now writer.old (F.disk file_system.old) (F.disk file_system.new)) }
 
-    // Whose refusal is told; and no other file changes.
+    // Which calls were made, and whose refusal is told; and no other file changes.
+    ensures calls { IfOk result (λ handle. RotatesBy writer.old header.now
+        (λ handle. Creates path.now handle.file) handle writer.new
+        (F.disk file_system.old) (F.disk file_system.new)) }
     ensures refusal { IfErr result (λ error. RotationMakes writer.old header.now (FailsToCreate path.now)
         (λ handle. Creates path.now handle.file) error (F.disk file_system.old) (F.disk file_system.new)) }
     ensures files { IfOk result (λ handle. FilesStay writer.old.handle.file handle.file
@@ -63,7 +66,9 @@ pub fn rotate_over<G: PipeFormat, F: FileSystem, L: Log>(
         writer.old
         (F.disk file_system.old) (F.disk file_system.new)) }
 
-    // Whose refusal is told; and no other file changes.
+    // Which calls were made, and whose refusal is told; and no other file changes.
+    ensures calls { OnOk result (RotatesBy writer.old header.now (λ named. Renames from.now to.now) handle
+        writer.new (F.disk file_system.old) (F.disk file_system.new)) }
     ensures refusal { IfErr result (λ error. RotationMakes writer.old header.now
         (FailsToRename from.now to.now) (λ named. Renames from.now to.now) error
         (F.disk file_system.old) (F.disk file_system.new)) }
@@ -88,6 +93,8 @@ pub fn drop_file<G: PipeFormat, F: FileSystem>(
         (F.disk file_system.old) (F.disk file_system.new)) }
     ensures err { OnErr result
         (FailsToDrop (G.format layout.now) (G.own layout.now) path.now
+        (F.disk file_system.old) (F.disk file_system.new)) }
+    ensures calls { OnOk result (Deletes path.now
         (F.disk file_system.old) (F.disk file_system.new)) }
     ensures refusal { IfErr result (λ error. FailsToDelete path.now error
         (F.disk file_system.old) (F.disk file_system.new)) }

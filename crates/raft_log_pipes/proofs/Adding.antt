@@ -1,9 +1,10 @@
 -- A record that is written to the last file of a pipe: all other files are where they were.
 use Rattle.std.specs.Prelude.{Result, Ok, Err}
-use Rattle.std.specs.Result.{OnOk, OnErr}
+use Rattle.std.specs.Result.{IfErr, OnOk, OnErr}
 use Rattle.std.specs.declared.io.ErrorKind.{ErrorKind}
 use Rattle.std.proofs.Common.{◌≡◌, ℕ, Some, List, [], ◌∷◌, refl, sym, ◌∙◌, ap, subst, arith}
 use Rattle.raft_log_disk.specs.Disk.{Disk}
+use Rattle.raft_log_disk.specs.Exits.{FailsToSync, Syncs}
 use Rattle.raft_log_disk.specs.Image.{IsSound}
 use Rattle.raft_log_disk.specs.LogFormat.{Format}
 use Rattle.raft_log_disk.specs.LogQueue.{LogFiles}
@@ -76,15 +77,19 @@ module _ {R : Type 0} (F : Format R) (own : List ℕ → Type 0) (paths : FilePa
         ),
       )
 
-  pub syncs_either : (result : Result (Unit {0}) ErrorKind) (old new : Disk) (files : PipeFiles) → IsSound old → OnOk result (SyncsAll F own files.writer old new) → TouchesOnly files.writer.handle.file old new → OnOk result (SyncsPipe F own paths files old new)
-  syncs_either (Ok v) old new files sound syncs only = λ base q is. pipe_touched base old new files files q (synced q) sound is only (syncs base q (path_of paths files.active) old.names is.active) refl refl refl refl refl refl
-  syncs_either (Err e) old new files sound syncs only = tt
+  pub syncs_either : (result : Result (Unit {0}) ErrorKind) (old new : Disk) (files : PipeFiles) → IsSound old → OnOk result (SyncsAll F own files.writer old new) → TouchesOnly files.writer.handle.file old new → OnOk result (Syncs files.writer.handle old new)
+      → OnOk result (SyncsPipe F own paths files old new)
+  syncs_either (Ok v) old new files sound syncs only call = λ base q is.
+      (pipe_touched base old new files files q (synced q) sound is only (syncs base q (path_of paths files.active) old.names is.active) refl refl refl refl refl refl, call)
+  syncs_either (Err e) old new files sound syncs only call = tt
 
-  pub fails_either : (result : Result (Unit {0}) ErrorKind) (old new : Disk) (files : PipeFiles) → OnErr result (FailsToSyncAll F own files.writer old new) → TouchesOnly files.writer.handle.file old new → OnErr result (FailsToSyncPipe F own paths files old new)
-  fails_either (Ok v) old new files fails only = tt
-  fails_either (Err e) old new files fails only = λ base q is.
+  pub fails_either : (result : Result (Unit {0}) ErrorKind) (old new : Disk) (files : PipeFiles) → OnErr result (FailsToSyncAll F own files.writer old new) → TouchesOnly files.writer.handle.file old new → IfErr result (λ e. FailsToSync files.writer.handle e old new)
+      → OnErr result (FailsToSyncPipe F own paths files old new)
+  fails_either (Ok v) old new files fails only call = tt
+  fails_either (Err e) old new files fails only call = λ base q is.
       (let (cause, held) = fails base q (path_of paths files.active) old.names is.active in (
         cause,
         record { path = path_of paths files.active; id = files.writer.handle.file; N = old.names; stands = held },
         subst (λ (N : Names). IsSpan paths N files.first_seq files.earlier.items q.last) (sym only.names) is.span,
+        (e, call),
       ))

@@ -5,11 +5,11 @@ use Rattle.std.specs.String.{string_bytes}
 use Rattle.std.specs.Global.{Global}
 use Rattle.std.specs.Map.{update}
 use Rattle.std.specs.Str.{bytes_eq}
-use Rattle.std.proofs.Common.{◌≡◌, ℕ, ◌<◌, suc, Some, None, List, [], ◌∷◌, ◌++◌, length, drop, take, map, get_or, String, zero, false, refl, sym, ◌∙◌, ap, subst, arith}
+use Rattle.std.proofs.Common.{◌≡◌, ℕ, ◌<◌, suc, Some, None, List, [], ◌∷◌, ◌++◌, length, drop, take, map, get_or, String, zero, false, inl, inr, append_assoc, refl, sym, ◌∙◌, ap, subst, arith}
 use Rattle.raft_log_disk.specs.Disk.{File, Disk}
-use Rattle.std.proofs.lemmas.List.{length-map}
+use Rattle.std.proofs.lemmas.List.{length-map, take-append-drop}
 use Rattle.raft_log_disk.specs.Arguments.{WrongName}
-use Rattle.raft_log_disk.specs.Calls.{deleted}
+use Rattle.raft_log_disk.specs.Calls.{Deletes, deleted}
 use Rattle.raft_log_disk.specs.Causes.{IsLater}
 use Rattle.raft_log_disk.specs.Exits.{FailsToDelete}
 use Rattle.raft_log_disk.specs.Image.{IsSound}
@@ -28,6 +28,7 @@ use Rattle.raft_log_files.specs.Exits.{IsOpen}
 use Rattle.raft_log_files.specs.Rotation.{CanDrop, Drops, FailsToDrop, FilesStay}
 use Rattle.raft_log_pipes.specs.declared.pipe_files.PipeFiles.{PipeFiles}
 use Rattle.raft_log_pipes.specs.Files.{Listed, IsSpan, CanBeUsed, NoneHas, IsPipe}
+use Rattle.raft_log_pipes.specs.Calls.{DropsBy, DropsUntil}
 use Rattle.raft_log_pipes.specs.Purging.{without, AreGone, DropsTo, LosesFirst, FailsToDropAll}
 use Rattle.raft_log_pipes.proofs.Lists.{path_numbered, span_end, span_moved, kept_moved, numbers_apart}
 
@@ -105,6 +106,20 @@ same_last : (xs : List (List ℕ)) (a b : List ℕ) → xs ++ a ∷ [] ≡ xs ++
 same_last [] a b same = cc same
 same_last (x ∷ xs) a b same = same_last xs a b (let tails : xs ++ a ∷ [] ≡ xs ++ b ∷ [] = cc same in tails)
 
+-- one more is deleted, or isn't
+drops_by_more : (ps : List (List ℕ)) (p : List ℕ) (old mid new : Disk) → DropsBy ps old mid → Deletes p mid new → DropsBy (ps ++ p ∷ []) old new
+drops_by_more [] p old mid new same deletes = (new, subst (λ (d : Disk). Deletes p d new) same deletes, refl)
+drops_by_more (x ∷ ps) p old mid new (between, first, more) deletes = (between, first, drops_by_more ps p between mid new more deletes)
+
+drops_until : (ps rest : List (List ℕ)) (p : List ℕ) (error : ErrorKind) (old mid new : Disk) → DropsBy ps old mid → FailsToDelete p error mid new → DropsUntil (ps ++ p ∷ rest) old new
+drops_until [] rest p error old mid new same fails = inl (error, subst (λ (d : Disk). FailsToDelete p error d new) same fails)
+drops_until (x ∷ ps) rest p error old mid new (between, first, more) fails = inr (between, first, drops_until ps rest p error between mid new more fails)
+
+-- a list by the place of an item
+split_here : (ps : List (List ℕ)) (p : List ℕ) (i : ℕ) → take (suc i) ps ≡ take i ps ++ p ∷ [] → take i ps ++ p ∷ drop (suc i) ps ≡ ps
+split_here ps p i front =
+    sym (append_assoc (take i ps) (p ∷ []) (drop (suc i) ps)) ∙ ap (λ (xs : List (List ℕ)). xs ++ drop (suc i) ps) (sym front) ∙ take-append-drop (suc i) ps
+
 -- files that are gone go on to be there under names that are the same for them
 gone_stay : (paths : FilePaths) (N M : Names) (first : ℕ) (kept : List Listed) (path : List ℕ) (gs : List Listed) → NoneHas paths path gs → ((other : List ℕ) → (other ≡ path → ⊥) → M other ≡ N other) → AreGone paths N first kept gs → AreGone paths M first kept gs
 gone_stay paths N M first kept path [] apart same is = tt
@@ -113,13 +128,13 @@ gone_stay paths N M first kept path (f ∷ fs) (here, behind) same (below, liste
 
 module _ {R : Type 0} (F : Format R) (own : List ℕ → Type 0) (paths : FilePaths) (lawful : IsLayout F own paths) where
   pub none_dropped : (gone : List (List ℕ)) (d : Disk) → DropsTo F own paths gone 0 d d
-  none_dropped gone d base files q gs spelled is are = (is, λ m below none. none, are, refl)
+  none_dropped gone d base files q gs spelled is are = (is, λ m below none. none, are, refl, refl)
 
   -- one more is dropped
   pub drops_more : (gone : List (List ℕ)) (i : ℕ) (path : List ℕ) (old mid new : Disk) → IsSound mid → i < length gone → take (suc i) gone ≡ take i gone ++ path ∷ [] → DropsTo F own paths gone i old mid → Drops F own path mid new
-      → ((id : ℕ) → mid.names path ≡ Some id → FilesStay id id mid new) → DropsTo F own paths gone (suc i) old new
-  drops_more gone i path old mid new sound less front before drops stay base files q gs spelled is are =
-      let (pipe, gaps, there, names) = before base files q gs spelled is are in
+      → ((id : ℕ) → mid.names path ≡ Some id → FilesStay id id mid new) → Deletes path mid new → DropsTo F own paths gone (suc i) old new
+  drops_more gone i path old mid new sound less front before drops stay deletes base files q gs spelled is are =
+      let (pipe, gaps, there, names, calls) = before base files q gs spelled is are in
       let (f, rest, here, behind, fronts) = split_drop paths i gs (omega (arith, less, ap length spelled, length-map gs (path_of paths))) in
       let (below, listed, (id, named), others, alone, are_rest) = subst (AreGone paths mid.names files.first_seq files.recycled.items) here there in
       let path_is : path ≡ path_of paths f = same_last (take i gone) path (path_of paths f) (sym front ∙ ap (take (suc i)) spelled ∙ fronts ∙ ap (λ (ps : List (List ℕ)). take i ps ++ path_of paths f ∷ []) (sym spelled)) in
@@ -131,6 +146,7 @@ module _ {R : Type 0} (F : Format R) (own : List ℕ → Type 0) (paths : FilePa
         λ m under none. more_gaps m under (gaps m under none),
         subst (AreGone paths new.names files.first_seq files.recycled.items) (sym behind) (gone_stay paths mid.names new.names files.first_seq files.recycled.items (path_of paths f) rest alone (λ other apart. ap (λ (N : Names). N other) new_names ∙ name_apart mid.names (path_of paths f) None other apart) are_rest),
         new_names ∙ ap (λ (N : Names). update bytes_eq N (path_of paths f) None) names ∙ sym (without_more (take i gone) (path_of paths f) old.names) ∙ ap (λ (ps : List (List ℕ)). without ps old.names) (ap (λ (p : List ℕ). take i gone ++ p ∷ []) (sym path_is) ∙ sym front),
+        subst (λ (ps : List (List ℕ)). DropsBy ps old new) (sym front) (drops_by_more (take i gone) path old mid new calls deletes),
       )
 
   span_dropped : (base mid : Disk) (files : PipeFiles) (q : LogFiles R) (f : Listed) (id : ℕ) → IsPipe F own paths base files q mid → f.seq < files.first_seq → f.reserved ≡ false → IsSpan paths (deleted (path_of paths f) id mid).names files.first_seq files.earlier.items q.last
@@ -144,7 +160,7 @@ module _ {R : Type 0} (F : Format R) (own : List ℕ → Type 0) (paths : FilePa
   pub drop_fails : (gone : List (List ℕ)) (i : ℕ) (path : List ℕ) (error : ErrorKind) (old mid new : Disk) → i < length gone → take (suc i) gone ≡ take i gone ++ path ∷ [] → DropsTo F own paths gone i old mid → IsLater old mid → FailsToDrop F own path mid new
       → FailsToDelete path error mid new → FailsToDropAll F own paths gone old new
   drop_fails gone i path error old mid new less front before later fails refused base files q gs spelled is are =
-      let (pipe, gaps, there, names) = before base files q gs spelled is are in
+      let (pipe, gaps, there, names, calls) = before base files q gs spelled is are in
       let (f, rest, here, behind, fronts) = split_drop paths i gs (omega (arith, less, ap length spelled, length-map gs (path_of paths))) in
       let (below, listed, (id, named), others, alone, are_rest) = subst (AreGone paths mid.names files.first_seq files.recycled.items) here there in
       let path_is : path ≡ path_of paths f = same_last (take i gone) path (path_of paths f) (sym front ∙ ap (take (suc i)) spelled ∙ fronts ∙ ap (λ (ps : List (List ℕ)). take i ps ++ path_of paths f ∷ []) (sym spelled)) in
@@ -163,6 +179,7 @@ module _ {R : Type 0} (F : Format R) (own : List ℕ → Type 0) (paths : FilePa
         λ m under none. more_gaps m under (gaps m under none),
         span,
         first,
+        subst (λ (ps : List (List ℕ)). DropsUntil ps old new) (split_here gone path i front) (drops_until (take i gone) (drop (suc i) gone) path error old mid new calls refused),
       )
 
 -- the front of a list of texts, with the one at a place

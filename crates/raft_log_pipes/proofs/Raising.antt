@@ -16,6 +16,7 @@ use Rattle.raft_log_files.specs.Layout.{FilePaths, IsLayout, path_of}
 use Rattle.raft_log_files.specs.Exits.{IsOpen}
 use Rattle.raft_log_pipes.specs.declared.pipe_files.PipeFiles.{PipeFiles}
 use Rattle.raft_log_pipes.specs.Files.{Listed, IsSpan, IsKept, NoneHas, AreKept, IsPipe}
+use Rattle.raft_log_pipes.specs.Calls.{DropsBy, DropsUntil}
 use Rattle.raft_log_pipes.specs.Purging.{is_signed, staying, going, room_from, without, AreGone, IsInSpan, IsRaised, LosesFirst, paths_going, DropsTo, FailsToDropAll, Purges, FailsToPurge, PartFails}
 use Rattle.raft_log_pipes.proofs.Lists.{path_numbered, span_end, numbers_apart, kept_is_no_number}
 use Rattle.raft_log_pipes.proofs.Dropping.{past_is_usable}
@@ -170,8 +171,9 @@ module _ {R : Type 0} (F : Format R) (own : List ℕ → Type 0) (paths : FilePa
   purges before after capacity seq gone old new within raises spelled drops base q is =
       let (stands, are) = raised base old before after q capacity seq is within raises in
       let gs : List Listed = going (room_from capacity seq before) (take (seq - before.first_seq) before.earlier.items) in
-      let (pipe, gaps, rest, names) = drops base after q gs spelled stands are in
-      (pipe, gaps, names ∙ ap (λ (ps : List (List ℕ)). without ps old.names) (take_all (length gone) gone (omega arith) ∙ spelled))
+      let (pipe, gaps, rest, names, calls) = drops base after q gs spelled stands are in
+      let all = take_all (length gone) gone (omega arith) ∙ spelled in
+      (pipe, gaps, names ∙ ap (λ (ps : List (List ℕ)). without ps old.names) all, subst (λ (ps : List (List ℕ)). DropsBy ps old new) all calls)
 
   -- or not
   pub purge_fails : (before after : PipeFiles) (capacity seq : ℕ) (gone : List (List ℕ)) (old new : Disk) → IsInSpan seq before → IsRaised capacity seq before after → gone ≡ paths_going paths capacity seq before
@@ -179,8 +181,8 @@ module _ {R : Type 0} (F : Format R) (own : List ℕ → Type 0) (paths : FilePa
   purge_fails before after capacity seq gone old new within raises spelled fails base q is =
       let (stands, are) = raised base old before after q capacity seq is within raises in
       let gs : List Listed = going (room_from capacity seq before) (take (seq - before.first_seq) before.earlier.items) in
-      let (cause, left, gaps, span, first) = fails base after q gs spelled stands are in
-      (cause, left, gaps, span, subst (λ (ps : List (List ℕ)). LosesFirst ps old new) spelled first)
+      let (cause, left, gaps, span, first, calls) = fails base after q gs spelled stands are in
+      (cause, left, gaps, span, subst (λ (ps : List (List ℕ)). LosesFirst ps old new) spelled first, subst (λ (ps : List (List ℕ)). DropsUntil ps old new) spelled calls)
 
 -- Parting the files, one after the other.
 

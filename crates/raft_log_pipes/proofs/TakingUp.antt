@@ -21,8 +21,8 @@ use Rattle.raft_log_file_queue.specs.Reopening.{reread}
 use Rattle.raft_log_file_queue.specs.Standing.{Names}
 use Rattle.raft_log_files.specs.Layout.{FilePaths, IsLayout, path_of}
 use Rattle.raft_log_files.specs.Exits.{IsOpen}
-use Rattle.raft_log_files.specs.Opening.{AllFilesStay, CanBegin, BeginsQueue, FailsToBeginQueue, BeginQueueMakes}
-use Rattle.raft_log_files.specs.Reopening.{GoesOnBehind, BeginsWithHeader, Reopens, FailsToReopen, ReopenMakes}
+use Rattle.raft_log_files.specs.Opening.{AllFilesStay, CanBegin, BeginsQueue, BeginsQueueBy, FailsToBeginQueue, BeginQueueMakes}
+use Rattle.raft_log_files.specs.Reopening.{GoesOnBehind, BeginsWithHeader, Reopens, ReopensBy, FailsToReopen, ReopenMakes}
 use Rattle.raft_log_pipes.specs.declared.pipe_files.PipeFiles.{PipeFiles}
 use Rattle.raft_log_pipes.specs.Files.{Listed, IsSpan, AreKept, IsPipe}
 use Rattle.raft_log_pipes.specs.declared.found_files.FoundFiles.{FoundFiles}
@@ -80,8 +80,8 @@ module _ {R : Type 0} (F : Format R) (own : List ℕ → Type 0) (paths : FilePa
       })) are
 
   pub takes_up : (earlier : List Listed) (last : Listed) (end : Option ℕ) (kept : List Listed) (header : List ℕ) (files : PipeFiles) (old new : Disk) → IsSound old → HasHeader (taken_up end last).format → header ≡ header_bytes (taken_up end last).format
-      → IsListedAs earlier (taken_up end last) kept files → Reopens F own last.handle end header files.writer old new → TouchesOnly last.handle.file old new → TakesUpFound F own paths earlier last end kept files old new
-  takes_up earlier last end kept header files old new sound has spelled listed reopens only base q found =
+      → IsListedAs earlier (taken_up end last) kept files → Reopens F own last.handle end header files.writer old new → TouchesOnly last.handle.file old new → ReopensBy last.handle end header files.writer old new → TakesUpFound F own paths earlier last end kept files old new
+  takes_up earlier last end kept header files old new sound has spelled listed reopens only calls base q found =
       let format = (taken_up end last).format in
       let head : F.IsHeader header = subst F.IsHeader (sym spelled) (lawful.headed format has) in
       let (front, room, goes, stands) = reopens base q (path_of paths last) old.names head found.left in
@@ -110,6 +110,7 @@ module _ {R : Type 0} (F : Format R) (own : List ℕ → Type 0) (paths : FilePa
         room,
         subst (λ (h : List ℕ). IsPipe F own paths base files (with_room room (reread h [] q)) new) active_front pipe,
         λ m below none path at. ap (λ (N : Names). N path) names ∙ none path at,
+        subst (λ (h : List ℕ). ReopensBy last.handle end h files.writer old new) spelled calls,
       )
 
   pub fails_to_take_up : (earlier : List Listed) (last : Listed) (end : Option ℕ) (kept : List Listed) (header : List ℕ) (old new : Disk) → HasHeader (taken_up end last).format → header ≡ header_bytes (taken_up end last).format
@@ -130,8 +131,8 @@ module _ {R : Type 0} (F : Format R) (own : List ℕ → Type 0) (paths : FilePa
 
   pub begins : (kept : List Listed) (format : LogFileFormat) (directory : ℕ) (header path : List ℕ) (handle : Handle) (files : PipeFiles) (old new : Disk) → HasHeader format → header ≡ header_bytes format → path ≡ paths.numbered directory 1
       → files.first_seq ≡ 1 → files.earlier.items ≡ [] → files.active ≡ record { seq = 1; handle = handle; format = format; path_id = directory; reserved = false } → files.recycled.items ≡ kept
-      → BeginsQueue F own header path handle files.writer old new → AllFilesStay old new → BeginsPipe F own paths format kept files old new
-  begins kept format directory header path handle files old new has header_is path_is first earlier active recycled begun stay base older can =
+      → BeginsQueue F own header path handle files.writer old new → AllFilesStay old new → BeginsQueueBy path header handle files.writer old new → BeginsPipe F own paths format kept files old new
+  begins kept format directory header path handle files old new has header_is path_is first earlier active recycled begun stay calls base older can =
       let limit = lawful.limit in
       let less : 1 < F.limit = omega (arith, limit) in
       let head = header_bytes format in
@@ -162,6 +163,8 @@ module _ {R : Type 0} (F : Format R) (own : List ℕ → Type 0) (paths : FilePa
           kept = subst (λ (n : ℕ). AreKept F paths n new files.recycled.items) (sym first) (subst (AreKept F paths 1 new) (sym recycled) kept_new);
         },
         absent,
+        subst (λ (f : Listed). BeginsQueueBy (path_of paths f) head f.handle files.writer old new) (sym active)
+            (subst (λ (p : List ℕ). BeginsQueueBy p head handle files.writer old new) path_is (subst (λ (h : List ℕ). BeginsQueueBy path h handle files.writer old new) header_is calls)),
       )
 
   pub fails_to_begin : (kept : List Listed) (format : LogFileFormat) (directory : ℕ) (header path : List ℕ) (old new : Disk) → HasHeader format → header ≡ header_bytes format → path ≡ paths.numbered directory 1
@@ -182,10 +185,12 @@ module _ {R : Type 0} (F : Format R) (own : List ℕ → Type 0) (paths : FilePa
 
   -- the same by the file as it is taken up
   pub takes_up_as : (earlier : List Listed) (last active : Listed) (end : Option ℕ) (kept : List Listed) (header : List ℕ) (files : PipeFiles) (old new : Disk) → IsSound old → active ≡ taken_up end last → HasHeader active.format → header ≡ header_bytes active.format
-      → IsListedAs earlier (taken_up end last) kept files → Reopens F own active.handle end header files.writer old new → TouchesOnly active.handle.file old new → TakesUpFound F own paths earlier last end kept files old new
-  takes_up_as earlier last active end kept header files old new sound is has spelled listed reopens only =
+      → IsListedAs earlier (taken_up end last) kept files → Reopens F own active.handle end header files.writer old new → TouchesOnly active.handle.file old new → ReopensBy active.handle end header files.writer old new
+      → TakesUpFound F own paths earlier last end kept files old new
+  takes_up_as earlier last active end kept header files old new sound is has spelled listed reopens only calls =
       takes_up F own paths lawful earlier last end kept header files old new sound (subst HasHeader (format_of end last active is) has) (spelled ∙ ap header_bytes (format_of end last active is)) listed
       (subst (λ (h : Handle). Reopens F own h end header files.writer old new) (handle_of end last active is) reopens) (subst (λ (h : Handle). TouchesOnly h.file old new) (handle_of end last active is) only)
+      (subst (λ (h : Handle). ReopensBy h end header files.writer old new) (handle_of end last active is) calls)
 
   pub fails_to_take_up_as : (earlier : List Listed) (last active : Listed) (end : Option ℕ) (kept : List Listed) (header : List ℕ) (kind : ErrorKind) (old new : Disk) → active ≡ taken_up end last → HasHeader active.format → header ≡ header_bytes active.format
       → FailsToReopen F own active.handle end header old new → TouchesOnly active.handle.file old new → ReopenMakes active.handle end header kind old new

@@ -26,10 +26,11 @@ use Rattle.raft_log_file_queue.specs.Queue.{with_room}
 use Rattle.raft_log_file_queue.specs.Standing.{Names}
 use Rattle.raft_log_files.specs.Layout.{FilePaths, IsLayout, path_of}
 use Rattle.raft_log_files.specs.Exits.{IsOpen}
-use Rattle.raft_log_files.specs.Rotation.{CanRotate, IsSpare, RotatesToNew, FailsToRotateToNew, RotatesOver, FailsToRotateOver, RotationMakes, FilesStay}
+use Rattle.raft_log_files.specs.Rotation.{CanRotate, IsSpare, RotatesBy, RotatesToNew, FailsToRotateToNew, RotatesOver, FailsToRotateOver, RotationMakes, FilesStay}
 use Rattle.raft_log_files.proofs.Rotating.{open_left}
 use Rattle.raft_log_pipes.specs.declared.pipe_files.PipeFiles.{PipeFiles}
 use Rattle.raft_log_pipes.specs.Files.{Listed, IsSpan, NoneHas, AreKept, IsPipe}
+use Rattle.raft_log_pipes.specs.Calls.{TurnsBy, TurnsNot}
 use Rattle.raft_log_pipes.specs.Exits.{SameFiles, IsTurned, IsStale, Rotates, FailsToRotate, RotationLeaves, StaysClosed}
 use Rattle.raft_log_pipes.proofs.Naming.{NamesStayBut, over_names, new_names}
 use Rattle.raft_log_pipes.proofs.Lists.{path_numbered, span_end, span_moved, span_more, kept_moved, numbers_apart, kept_is_no_number, kept_is_own}
@@ -136,11 +137,33 @@ module _ {R : Type 0} (F : Format R) (own : List ℕ → Type 0) (paths : FilePa
         },
       )
 
+  -- which calls were made, by the file as it is listed then
+  turned_over : (old new : Disk) (active kept next : Listed) (rest : List Listed) (header : List ℕ) (handle : Handle) (writer after : LogFileWriter) → active ≡ next → next.handle ≡ handle → IsOpened (path_of paths kept) ReadWrite handle old
+      → RotatesBy writer header (λ named. Renames (path_of paths kept) (path_of paths next)) handle after old new → TurnsBy paths header (kept ∷ rest) writer active after old new
+  turned_over old new active kept next rest header handle writer after is itself opened calls =
+      let held : handle ≡ active.handle = sym (ap (λ (f : Listed). f.handle) is ∙ itself) in (
+        subst (λ (h : Handle). IsOpened (path_of paths kept) ReadWrite h old) held opened,
+        subst (λ (p : List ℕ). RotatesBy writer header (λ named. Renames (path_of paths kept) p) active.handle after old new) (sym (ap (path_of paths) is))
+            (subst (λ (h : Handle). RotatesBy writer header (λ named. Renames (path_of paths kept) (path_of paths next)) h after old new) held calls),
+      )
+
+  turned_new : (old new : Disk) (active next : Listed) (header : List ℕ) (handle : Handle) (writer after : LogFileWriter) → active ≡ next → next.handle ≡ handle
+      → RotatesBy writer header (λ made. Creates (path_of paths next) made.file) handle after old new → TurnsBy paths header [] writer active after old new
+  turned_new old new active next header handle writer after is itself calls =
+      let held : handle ≡ active.handle = sym (ap (λ (f : Listed). f.handle) is ∙ itself) in
+      subst (λ (p : List ℕ). RotatesBy writer header (λ made. Creates p made.file) active.handle after old new) (sym (ap (path_of paths) is))
+      (subst (λ (h : Handle). RotatesBy writer header (λ made. Creates (path_of paths next) made.file) h after old new) held calls)
+
+  -- the path of the next number
+  next_is : (before : PipeFiles) (next : Listed) (header : List ℕ) → IsNext next header before → path_of paths next ≡ paths.numbered next.path_id (suc before.active.seq)
+  next_is before next header is_next = path_numbered paths next is_next.listed ∙ ap (paths.numbered next.path_id) is_next.number
+
   -- a rotation over the oldest of the files kept for use
   pub goes_over : (old new : Disk) (before after : PipeFiles) (kept next : Listed) (rest : List Listed) (header : List ℕ) (handle : Handle) → IsSound old → IsSound new → before.recycled.items ≡ kept ∷ rest → IsOpened (path_of paths kept) ReadWrite handle old
-      → IsNext next header before → next.handle.file ≡ handle.file → IsTurnedTo next before after → RotatesOver F own header handle (path_of paths kept) (path_of paths next) before.writer after.writer old new
-      → (old.names (path_of paths next) ≡ None → FilesStay before.writer.handle.file handle.file old new) → Rotates F own paths header before after old new
-  goes_over old new before after kept next rest header handle sound sound_then list opened is_next itself turns rotates files base q is =
+      → IsNext next header before → next.handle ≡ handle → IsTurnedTo next before after → RotatesOver F own header handle (path_of paths kept) (path_of paths next) before.writer after.writer old new
+      → (old.names (path_of paths next) ≡ None → FilesStay before.writer.handle.file handle.file old new) → RotatesBy before.writer header (λ named. Renames (path_of paths kept) (path_of paths next)) handle after.writer old new
+      → Rotates F own paths header before after old new
+  goes_over old new before after kept next rest header handle sound sound_then list opened is_next itself turns rotates files calls base q is =
       let from = path_of paths kept in
       let to = path_of paths next in
       let head = header_of next header before is_next in
@@ -165,19 +188,21 @@ module _ {R : Type 0} (F : Format R) (own : List ℕ → Type 0) (paths : FilePa
         turned base old new before after q header stale from room sound sound_then is
             (subst (λ (p : List ℕ). IsOpen F own base after.writer (with_room room (rotated header stale q)) p new.names new) (sym to_is)
             (subst (λ (N : Names). IsOpen F own base after.writer (with_room room (rotated header stale q)) to N new) (sym named) stands))
-            (ap (λ (f : Listed). f.handle.file) active ∙ itself ∙ sym file) (ap (λ (f : Listed). f.seq) active ∙ is_next.number) (ap (λ (f : Listed). f.reserved) active ∙ is_next.listed)
+            (ap (λ (f : Listed). f.handle.file) active ∙ ap (λ (h : Handle). h.file) itself ∙ sym file) (ap (λ (f : Listed). f.seq) active ∙ is_next.number) (ap (λ (f : Listed). f.reserved) active ∙ is_next.listed)
             (is_next.header_is ∙ ap (λ (f : Listed). header_bytes f.format) (sym active)) turns.first turns.earlier
             (subst (AreKept F paths before.first_seq old) (sym behind) more) (subst (NoneHas paths from) (sym behind) others)
             (λ directory n over less same. kept_is_no_number F own paths lawful before.first_seq old kept n kept_is over (omega (arith, less, bound)) (subst (F.IsPath n) same (lawful.numbered directory n (omega (arith, less, bound)))))
             (λ path apart_from apart_to. ap (λ (N : Names). N path) named ∙ name_apart (update bytes_eq old.names from None) to (Some handle.file) path (λ e. apart_to (e ∙ sym to_is)) ∙ name_apart old.names from None path apart_from)
             (subst (λ (id : ℕ). FilesStay before.writer.handle.file id old new) (sym file) (files fresh)),
         gaps,
+        subst (λ (fs : List Listed). TurnsBy paths header fs before.writer after.active after.writer old new) (sym list) (turned_over old new after.active kept next rest header handle before.writer after.writer active itself opened calls),
       )
 
   -- one into a new file
-  pub goes_new : (old new : Disk) (before after : PipeFiles) (next : Listed) (header : List ℕ) (handle : Handle) → IsSound old → IsSound new → before.recycled.items ≡ [] → IsNext next header before → next.handle.file ≡ handle.file → IsTurnedTo next before after
-      → RotatesToNew F own header (path_of paths next) before.writer after.writer handle old new → FilesStay before.writer.handle.file handle.file old new → Rotates F own paths header before after old new
-  goes_new old new before after next header handle sound sound_then list is_next itself turns rotates files base q is =
+  pub goes_new : (old new : Disk) (before after : PipeFiles) (next : Listed) (header : List ℕ) (handle : Handle) → IsSound old → IsSound new → before.recycled.items ≡ [] → IsNext next header before → next.handle ≡ handle → IsTurnedTo next before after
+      → RotatesToNew F own header (path_of paths next) before.writer after.writer handle old new → FilesStay before.writer.handle.file handle.file old new
+      → RotatesBy before.writer header (λ made. Creates (path_of paths next) made.file) handle after.writer old new → Rotates F own paths header before after old new
+  goes_new old new before after next header handle sound sound_then list is_next itself turns rotates files calls base q is =
       let to = path_of paths next in
       let can = can_rotate base old before q next header is is_next in
       let (room, stands, gaps) = rotates base q (path_of paths before.active) old.names can is.active in
@@ -201,13 +226,14 @@ module _ {R : Type 0} (F : Format R) (own : List ℕ → Type 0) (paths : FilePa
         turned base old new before after q header [] to room sound sound_then is
             (subst (λ (p : List ℕ). IsOpen F own base after.writer (with_room room (rotated header [] q)) p new.names new) (sym to_is)
             (subst (λ (N : Names). IsOpen F own base after.writer (with_room room (rotated header [] q)) to N new) (sym named) stands))
-            (ap (λ (f : Listed). f.handle.file) active ∙ itself ∙ sym file) (ap (λ (f : Listed). f.seq) active ∙ number) (ap (λ (f : Listed). f.reserved) active ∙ is_next.listed)
+            (ap (λ (f : Listed). f.handle.file) active ∙ ap (λ (h : Handle). h.file) itself ∙ sym file) (ap (λ (f : Listed). f.seq) active ∙ number) (ap (λ (f : Listed). f.reserved) active ∙ is_next.listed)
             (is_next.header_is ∙ ap (λ (f : Listed). header_bytes f.format) (sym active)) turns.first turns.earlier
             (subst (AreKept F paths before.first_seq old) (sym behind) tt) (subst (NoneHas paths to) (sym behind) tt)
             (λ directory n over less same. numbers_apart F own paths lawful directory next.path_id n next.seq (omega (arith, less, bound)) (omega (arith, small, limit)) (λ e. omega (arith, e, less, number, last)) (same ∙ next_is))
             (λ path apart_from apart_to. ap (λ (N : Names). N path) named ∙ name_apart old.names to (Some handle.file) path apart_from)
             (subst (λ (id : ℕ). FilesStay before.writer.handle.file id old new) (sym file) files),
         gaps,
+        subst (λ (fs : List Listed). TurnsBy paths header fs before.writer after.active after.writer old new) (sym list) (turned_new old new after.active next header handle before.writer after.writer active itself calls),
       )
 
   -- the files of the span are there, and so is the last one
@@ -231,8 +257,9 @@ module _ {R : Type 0} (F : Format R) (own : List ℕ → Type 0) (paths : FilePa
 
   -- rotations that a file call refused
   pub stays_over : (old new : Disk) (before : PipeFiles) (kept next : Listed) (rest : List Listed) (header : List ℕ) (handle : Handle) (writer : LogFileWriter) → writer ≡ before.writer → before.recycled.items ≡ kept ∷ rest → IsOpened (path_of paths kept) ReadWrite handle old
-      → IsNext next header before → FailsToRotateOver F own header handle (path_of paths kept) (path_of paths next) writer old new → NamesStayBut (path_of paths kept) (path_of paths next) old new → FailsToRotate F own paths header before old new
-  stays_over old new before kept next rest header handle writer same list opened is_next fails stay base q is =
+      → IsNext next header before → next.path_id ≡ kept.path_id → FailsToRotateOver F own header handle (path_of paths kept) (path_of paths next) writer old new → NamesStayBut (path_of paths kept) (path_of paths next) old new
+      → (error : ErrorKind) → RotationMakes before.writer header (FailsToRename (path_of paths kept) (path_of paths next)) (λ named. Renames (path_of paths kept) (path_of paths next)) error old new → FailsToRotate F own paths header before old new
+  stays_over old new before kept next rest header handle writer same list opened is_next beside fails stay error makes base q is =
       let head = header_of next header before is_next in
       let can = can_rotate base old before q next header is is_next in
       let (stale, holds, free) = spare base old before q kept rest handle header is list head opened in
@@ -244,17 +271,26 @@ module _ {R : Type 0} (F : Format R) (own : List ℕ → Type 0) (paths : FilePa
         span_stays base old new before q (path_of paths kept) (path_of paths next) is
             (λ directory n over less same_path. kept_is_no_number F own paths lawful before.first_seq old kept n kept_is over (omega (arith, less, bound)) (subst (F.IsPath n) same_path (lawful.numbered directory n (omega (arith, less, bound)))))
             (λ directory n over less. next_free before q next header bound is.number is_next directory n less) stay,
+        subst (λ (fs : List Listed). TurnsNot paths header fs before.writer (suc before.active.seq) old new) (sym list)
+            (inr (
+              error,
+              subst (λ (p : List ℕ). RotationMakes before.writer header (FailsToRename (path_of paths kept) p) (λ named. Renames (path_of paths kept) p) error old new)
+                  (next_is before next header is_next ∙ ap (λ (n : ℕ). paths.numbered n (suc before.active.seq)) beside) makes,
+            )),
       )
 
   pub stays_new : (old new : Disk) (before : PipeFiles) (next : Listed) (header : List ℕ) (writer : LogFileWriter) → writer ≡ before.writer → before.recycled.items ≡ [] → IsNext next header before → FailsToRotateToNew F own header (path_of paths next) writer old new
-      → NamesStayBut (path_of paths next) (path_of paths next) old new → FailsToRotate F own paths header before old new
-  stays_new old new before next header writer same list is_next fails stay base q is =
+      → NamesStayBut (path_of paths next) (path_of paths next) old new → (error : ErrorKind) → RotationMakes before.writer header (FailsToCreate (path_of paths next)) (λ made. Creates (path_of paths next) made.file) error old new
+      → FailsToRotate F own paths header before old new
+  stays_new old new before next header writer same list is_next fails stay error makes base q is =
       let can = can_rotate base old before q next header is is_next in
       let free = next_free before q next header can.bound is.number is_next in (
         [],
         subst (λ (fs : List Listed). IsStale fs old []) (sym list) refl,
         fails base q (path_of paths before.active) old.names can (subst (λ (w : LogFileWriter). IsOpen F own base w q (path_of paths before.active) old.names old) (sym same) is.active),
         span_stays base old new before q (path_of paths next) (path_of paths next) is (λ directory n over less. free directory n less) (λ directory n over less. free directory n less) stay,
+        subst (λ (fs : List Listed). TurnsNot paths header fs before.writer (suc before.active.seq) old new) (sym list)
+            (next.path_id, error, subst (λ (p : List ℕ). RotationMakes before.writer header (FailsToCreate p) (λ made. Creates p made.file) error old new) (next_is before next header is_next) makes),
       )
 
   -- one that never began, as the file that was to be used wasn't opened
@@ -267,6 +303,7 @@ module _ {R : Type 0} (F : Format R) (own : List ℕ → Type 0) (paths : FilePa
         subst (λ (fs : List Listed). IsStale fs d usable.file.content) (sym list) (record { file = usable.file; is = usable.is; has = refl }),
         (cause, inl (open_left F own lawful.format lawful.owns base before.writer q (path_of paths before.active) d.names d is.active), λ m below none. none),
         span_whole base d before q is,
+        subst (λ (fs : List Listed). TurnsNot paths header fs before.writer (suc before.active.seq) d d) (sym list) (inl refl),
       )
 
 module _ {R : Type 0} (F : Format R) (own : List ℕ → Type 0) (paths : FilePaths) (lawful : IsLayout F own paths) where
@@ -282,24 +319,32 @@ module _ {R : Type 0} (F : Format R) (own : List ℕ → Type 0) (paths : FilePa
   closed_leaves d before kept path header _ is list why = absurd why
 
   pub over_refused : (old new : Disk) (before : PipeFiles) (kept next : Listed) (from to header lent : List ℕ) (handle : Handle) (kind : ErrorKind) → from ≡ path_of paths kept → to ≡ path_of paths next → lent ≡ header → before.recycled.items ≡ kept ∷ drop 1 before.recycled.items
-      → IsOpened from ReadWrite handle old → IsNext next header before → FailsToRotateOver F own lent handle from to before.writer old new
+      → IsOpened from ReadWrite handle old → IsNext next header before → next.path_id ≡ kept.path_id → FailsToRotateOver F own lent handle from to before.writer old new
       → RotationMakes before.writer lent (FailsToRename from to) (λ named. Renames from to) kind old new → FailsToRotate F own paths header before old new
-  over_refused old new before kept next from to header lent handle kind from_is to_is header_is list opened is_next fails makes =
-      stays_over F own paths lawful old new before kept next (drop 1 before.recycled.items) header handle before.writer refl list (subst (λ (p : List ℕ). IsOpened p ReadWrite handle old) from_is opened) is_next
+  over_refused old new before kept next from to header lent handle kind from_is to_is header_is list opened is_next beside fails makes =
+      stays_over F own paths lawful old new before kept next (drop 1 before.recycled.items) header handle before.writer refl list (subst (λ (p : List ℕ). IsOpened p ReadWrite handle old) from_is opened) is_next beside
       (subst (λ (h : List ℕ). FailsToRotateOver F own h handle (path_of paths kept) (path_of paths next) before.writer old new) header_is
       (subst (λ (p : List ℕ). FailsToRotateOver F own lent handle p (path_of paths next) before.writer old new) from_is
       (subst (λ (p : List ℕ). FailsToRotateOver F own lent handle from p before.writer old new) to_is fails)))
       (subst (λ (p : List ℕ). NamesStayBut p (path_of paths next) old new) from_is (subst (λ (p : List ℕ). NamesStayBut from p old new) to_is (over_names before.writer lent from to kind old new makes)))
+      kind
+      (subst (λ (h : List ℕ). RotationMakes before.writer h (FailsToRename (path_of paths kept) (path_of paths next)) (λ named. Renames (path_of paths kept) (path_of paths next)) kind old new) header_is
+      (subst (λ (p : List ℕ). RotationMakes before.writer lent (FailsToRename p (path_of paths next)) (λ named. Renames p (path_of paths next)) kind old new) from_is
+      (subst (λ (p : List ℕ). RotationMakes before.writer lent (FailsToRename from p) (λ named. Renames from p) kind old new) to_is makes)))
 
   pub over_done : (old new : Disk) (before after : PipeFiles) (kept next : Listed) (from to header lent : List ℕ) (handle : Handle) → IsSound old → IsSound new → from ≡ path_of paths kept → to ≡ path_of paths next → lent ≡ header
-      → before.recycled.items ≡ kept ∷ drop 1 before.recycled.items → IsOpened from ReadWrite handle old → IsNext next header before → next.handle.file ≡ handle.file → IsTurnedTo next before after
-      → RotatesOver F own lent handle from to before.writer after.writer old new → (old.names to ≡ None → FilesStay before.writer.handle.file handle.file old new) → Rotates F own paths header before after old new
-  over_done old new before after kept next from to header lent handle sound sound_then from_is to_is header_is list opened is_next itself turns rotates files =
+      → before.recycled.items ≡ kept ∷ drop 1 before.recycled.items → IsOpened from ReadWrite handle old → IsNext next header before → next.handle ≡ handle → IsTurnedTo next before after
+      → RotatesOver F own lent handle from to before.writer after.writer old new → (old.names to ≡ None → FilesStay before.writer.handle.file handle.file old new)
+      → RotatesBy before.writer lent (λ named. Renames from to) handle after.writer old new → Rotates F own paths header before after old new
+  over_done old new before after kept next from to header lent handle sound sound_then from_is to_is header_is list opened is_next itself turns rotates files calls =
       goes_over F own paths lawful old new before after kept next (drop 1 before.recycled.items) header handle sound sound_then list (subst (λ (p : List ℕ). IsOpened p ReadWrite handle old) from_is opened) is_next itself turns
       (subst (λ (h : List ℕ). RotatesOver F own h handle (path_of paths kept) (path_of paths next) before.writer after.writer old new) header_is
       (subst (λ (p : List ℕ). RotatesOver F own lent handle p (path_of paths next) before.writer after.writer old new) from_is
       (subst (λ (p : List ℕ). RotatesOver F own lent handle from p before.writer after.writer old new) to_is rotates)))
       (λ fresh. files (ap old.names to_is ∙ fresh))
+      (subst (λ (h : List ℕ). RotatesBy before.writer h (λ named. Renames (path_of paths kept) (path_of paths next)) handle after.writer old new) header_is
+      (subst (λ (p : List ℕ). RotatesBy before.writer lent (λ named. Renames p (path_of paths next)) handle after.writer old new) from_is
+      (subst (λ (p : List ℕ). RotatesBy before.writer lent (λ named. Renames from p) handle after.writer old new) to_is calls)))
 
   pub new_refused : (old new : Disk) (before : PipeFiles) (next : Listed) (to header lent : List ℕ) (kind : ErrorKind) → to ≡ path_of paths next → lent ≡ header → before.recycled.items ≡ [] → IsNext next header before
       → FailsToRotateToNew F own lent to before.writer old new → RotationMakes before.writer lent (FailsToCreate to) (λ handle. Creates to handle.file) kind old new → FailsToRotate F own paths header before old new
@@ -307,12 +352,18 @@ module _ {R : Type 0} (F : Format R) (own : List ℕ → Type 0) (paths : FilePa
       stays_new F own paths lawful old new before next header before.writer refl list is_next
       (subst (λ (h : List ℕ). FailsToRotateToNew F own h (path_of paths next) before.writer old new) header_is (subst (λ (p : List ℕ). FailsToRotateToNew F own lent p before.writer old new) to_is fails))
       (subst (λ (p : List ℕ). NamesStayBut p p old new) to_is (new_names before.writer lent to kind old new makes))
+      kind
+      (subst (λ (h : List ℕ). RotationMakes before.writer h (FailsToCreate (path_of paths next)) (λ made. Creates (path_of paths next) made.file) kind old new) header_is
+      (subst (λ (p : List ℕ). RotationMakes before.writer lent (FailsToCreate p) (λ made. Creates p made.file) kind old new) to_is makes))
 
   pub new_done : (old new : Disk) (before after : PipeFiles) (next : Listed) (to header lent : List ℕ) (handle : Handle) → IsSound old → IsSound new → to ≡ path_of paths next → lent ≡ header → before.recycled.items ≡ [] → IsNext next header before
-      → next.handle.file ≡ handle.file → IsTurnedTo next before after → RotatesToNew F own lent to before.writer after.writer handle old new → FilesStay before.writer.handle.file handle.file old new → Rotates F own paths header before after old new
-  new_done old new before after next to header lent handle sound sound_then to_is header_is list is_next itself turns rotates files =
+      → next.handle ≡ handle → IsTurnedTo next before after → RotatesToNew F own lent to before.writer after.writer handle old new → FilesStay before.writer.handle.file handle.file old new
+      → RotatesBy before.writer lent (λ made. Creates to made.file) handle after.writer old new → Rotates F own paths header before after old new
+  new_done old new before after next to header lent handle sound sound_then to_is header_is list is_next itself turns rotates files calls =
       goes_new F own paths lawful old new before after next header handle sound sound_then list is_next itself turns
       (subst (λ (h : List ℕ). RotatesToNew F own h (path_of paths next) before.writer after.writer handle old new) header_is (subst (λ (p : List ℕ). RotatesToNew F own lent p before.writer after.writer handle old new) to_is rotates)) files
+      (subst (λ (h : List ℕ). RotatesBy before.writer h (λ made. Creates (path_of paths next) made.file) handle after.writer old new) header_is
+      (subst (λ (p : List ℕ). RotatesBy before.writer lent (λ made. Creates p made.file) handle after.writer old new) to_is calls))
 
 -- files that are listed alike stand alike
 pub pipe_same : {R : Type 0} (F : Format R) (own : List ℕ → Type 0) (paths : FilePaths) (base : Disk) (before after : PipeFiles) (q : LogFiles R) (d : Disk) → SameFiles before after → IsPipe F own paths base before q d → IsPipe F own paths base after q d
@@ -330,8 +381,15 @@ module _ {R : Type 0} (F : Format R) (own : List ℕ → Type 0) (paths : FilePa
   -- what a rotation makes of files that are listed alike
   pub rotates_same : (header : List ℕ) (before like after : PipeFiles) (old new : Disk) → SameFiles before like → Rotates F own paths header like after old new → Rotates F own paths header before after old new
   rotates_same header before like after old new same rotates base q is =
-      let (room, stale, holds, stands, gaps) = rotates base q (pipe_same F own paths base before like q old same is) in
-      (room, stale, subst (λ (fs : List Listed). IsStale fs old stale) same.recycled holds, stands, gaps)
+      let (room, stale, holds, stands, gaps, calls) = rotates base q (pipe_same F own paths base before like q old same is) in (
+        room,
+        stale,
+        subst (λ (fs : List Listed). IsStale fs old stale) same.recycled holds,
+        stands,
+        gaps,
+        subst (λ (w : LogFileWriter). TurnsBy paths header before.recycled.items w after.active after.writer old new) same.writer
+            (subst (λ (fs : List Listed). TurnsBy paths header fs like.writer after.active after.writer old new) same.recycled calls),
+      )
 
   pub turned_same : (format : LogFileFormat) (before like after : PipeFiles) → SameFiles before like → IsTurned format like after → IsTurned format before after
   turned_same format before like after same turns = record {
@@ -360,13 +418,16 @@ module _ {R : Type 0} (F : Format R) (own : List ℕ → Type 0) (paths : FilePa
   )
   leaves_same header before like after errors.Failed old new same fails =
       λ base q pipe.
-      (let (stale, holds, left, span) = fails base q (pipe_same F own paths base before like q old same pipe) in (
+      (let (stale, holds, left, span, calls) = fails base q (pipe_same F own paths base before like q old same pipe) in (
         stale,
         subst (λ (fs : List Listed). IsStale fs old stale) same.recycled holds,
         left,
         subst (λ (n : ℕ). IsSpan paths new.names n (before.earlier.items ++ before.active ∷ []) (suc q.last)) same.first
             (subst (λ (f : Listed). IsSpan paths new.names like.first_seq (before.earlier.items ++ f ∷ []) (suc q.last)) same.active
             (subst (λ (fs : List Listed). IsSpan paths new.names like.first_seq (fs ++ like.active ∷ []) (suc q.last)) same.earlier span)),
+        subst (λ (f : Listed). TurnsNot paths header before.recycled.items before.writer (suc f.seq) old new) same.active
+            (subst (λ (w : LogFileWriter). TurnsNot paths header before.recycled.items w (suc like.active.seq) old new) same.writer
+            (subst (λ (fs : List Listed). TurnsNot paths header fs like.writer (suc like.active.seq) old new) same.recycled calls)),
       ))
   leaves_same header before like after _ old new same left = absurd left
 

@@ -1,7 +1,9 @@
 -- What stands of a pipe after each of its calls, answered and refused.
 use Rattle.std.specs.Prelude.{◌≡◌, ◌⊎◌, true, None, ℕ, ◌≤◌, ◌^◌, List, [], ◌∷◌, ◌++◌, length, drop, suc}
+use Rattle.std.specs.declared.io.ErrorKind.{ErrorKind}
 use Rattle.raft_log_disk.specs.Disk.{Disk}
 use Rattle.raft_log_disk.specs.Causes.{Fails}
+use Rattle.raft_log_disk.specs.Exits.{FailsToSync, Syncs}
 use Rattle.raft_log_disk.specs.Chains.{Written}
 use Rattle.raft_log_disk.specs.LogFormat.{Format}
 use Rattle.raft_log_disk.specs.LogQueue.{LogFiles, rotated}
@@ -16,6 +18,7 @@ use Rattle.raft_log_files.specs.Rotation.{IsLeft, StaysBehind}
 use Rattle.raft_log_files.specs.declared.last_file.WriteFault.{WriteFault}
 use Rattle.raft_log_files.specs.declared.last_file.WriteFault.TheVariants.{CutBack, Failed}
 use Rattle.raft_log_pipes.specs.Files.{Listed, IsSpan, IsPipe}
+use Rattle.raft_log_pipes.specs.Calls.{TurnsBy, TurnsNot}
 use Rattle.raft_log_pipes.specs.declared.pipe_files.PipeFiles.{PipeFiles}
 
 -- the same files, listed alike
@@ -41,16 +44,17 @@ pub record IsTurned (format : LogFileFormat) (before after : PipeFiles) : Type 0
   pub format_is : after.active.format ≡ format
   pub recycled : after.recycled.items ≡ drop 1 before.recycled.items
 
--- a rotation: the queue goes on in the next file, and no gap is filled
+-- a rotation: the queue goes on in the next file, and no gap is filled; and by which calls
 abbrev pub Rotates : {R : Type 0} → Format R → (List ℕ → Type 0) → FilePaths → List ℕ → PipeFiles → PipeFiles
     → Disk → Disk → Type 0
 Rotates {R} F own paths header before after old new = (base : Disk) (q : LogFiles R)
     → IsPipe F own paths base before q old
     → (room : ℕ) × (stale : List ℕ) × IsStale before.recycled.items old stale
     × IsPipe F own paths base after (with_room room (rotated header stale q)) new × GapsStay F q old new
+    × TurnsBy paths header before.recycled.items before.writer after.active after.writer old new
 
 -- A rotation that a file call refused: what there was is held, and maybe a next file without records; and the
--- files of the span are there, the last one too.
+-- files of the span are there, the last one too. And by which calls.
 abbrev pub FailsToRotate : {R : Type 0} → Format R → (List ℕ → Type 0) → FilePaths → List ℕ → PipeFiles
     → Disk → Disk → Type 0
 FailsToRotate {R} F own paths header before old new = (base : Disk) (q : LogFiles R)
@@ -58,6 +62,7 @@ FailsToRotate {R} F own paths header before old new = (base : Disk) (q : LogFile
     → (stale : List ℕ) × IsStale before.recycled.items old stale × StaysBehind F own base q header stale
     old new
     × IsSpan paths new.names before.first_seq (before.earlier.items ++ before.active ∷ []) (suc q.last)
+    × TurnsNot paths header before.recycled.items before.writer (suc before.active.seq) old new
 
 -- why a file that is kept for use wasn't opened: for want of memory; or the file system has stopped, or no
 -- file has the path
@@ -112,15 +117,16 @@ pub record SameLists (before after : PipeFiles) : Type 0 where
   pub active : after.active ≡ before.active
   pub recycled : after.recycled.items ≡ before.recycled.items
 
--- all records were synced
+-- all records were synced, by one call
 abbrev pub SyncsPipe : {R : Type 0} → Format R → (List ℕ → Type 0) → FilePaths → PipeFiles → Disk → Disk
     → Type 0
 SyncsPipe {R} F own paths files old new = (base : Disk) (q : LogFiles R) → IsPipe F own paths base files q old
-    → IsPipe F own paths base files (synced q) new
+    → IsPipe F own paths base files (synced q) new × Syncs files.writer.handle old new
 
--- they weren't: a file call failed, the records are held, and the files of the span are there
+-- they weren't: that file call failed, the records are held, and the files of the span are there
 abbrev pub FailsToSyncPipe : {R : Type 0} → Format R → (List ℕ → Type 0) → FilePaths → PipeFiles → Disk → Disk
     → Type 0
 FailsToSyncPipe {R} F own paths files old new = (base : Disk) (q : LogFiles R)
     → IsPipe F own paths base files q old → Fails old new × IsLeft F own base q new
     × IsSpan paths new.names files.first_seq files.earlier.items q.last
+    × ((error : ErrorKind) × FailsToSync files.writer.handle error old new)

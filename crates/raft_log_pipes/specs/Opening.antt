@@ -14,8 +14,8 @@ use Rattle.raft_log_file_queue.specs.Beginning.{IsFresh, fresh_queue}
 use Rattle.raft_log_file_queue.specs.Bridge.{GapsStay}
 use Rattle.raft_log_file_queue.specs.Reopening.{reread}
 use Rattle.raft_log_files.specs.Layout.{FilePaths, path_of}
-use Rattle.raft_log_files.specs.Opening.{BeginQueueMakes, IsHalfBegun}
-use Rattle.raft_log_files.specs.Reopening.{IsLeftBehind, BeginsWithHeader, IsHalfOpen, ReopenMakes}
+use Rattle.raft_log_files.specs.Opening.{BeginQueueMakes, BeginsQueueBy, IsHalfBegun}
+use Rattle.raft_log_files.specs.Reopening.{IsLeftBehind, BeginsWithHeader, IsHalfOpen, ReopenMakes, ReopensBy}
 use Rattle.raft_log_pipes.specs.Files.{Listed, IsSpan, AreKept, IsPipe}
 use Rattle.raft_log_pipes.specs.declared.found_files.FoundFiles.{FoundFiles}
 use Rattle.raft_log_pipes.specs.declared.new_files.NewFiles.{NewFiles}
@@ -60,7 +60,8 @@ pub record IsListedAs (earlier : List Listed) (last : Listed) (kept : List Liste
   pub active : files.active ≡ last
   pub spares : files.recycled.items ≡ kept
 
--- the queue goes on behind what was read of its last file, all of which is durable (and maybe room was made)
+-- the queue goes on behind what was read of its last file, all of which is durable (and maybe room was made);
+-- and by which calls
 abbrev pub TakesUpFound : {R : Type 0} → Format R → (List ℕ → Type 0) → FilePaths → List Listed → Listed
     → Option ℕ → List Listed → PipeFiles → Disk → Disk → Type 0
 TakesUpFound {R} F own paths earlier last end kept files old new = (base : Disk) (q : LogFiles R)
@@ -68,6 +69,7 @@ TakesUpFound {R} F own paths earlier last end kept files old new = (base : Disk)
     → (room : ℕ)
     × IsPipe F own paths base files (with_room room (reread (header_bytes files.active.format) [] q)) new
     × GapsStay F q old new
+    × ReopensBy last.handle end (header_bytes (taken_up end last).format) files.writer old new
 
 -- it doesn't: a file call failed, all that was read is held, and the files that were found are there
 abbrev pub FailsToTakeUpFound : {R : Type 0} → Format R → (List ℕ → Type 0) → FilePaths → List Listed → Listed
@@ -83,13 +85,15 @@ pub record CanBeginWith {R : Type 0} (F : Format R) (own : List ℕ → Type 0) 
   pub fresh : IsFresh F own base d
   pub spares : AreKept F paths 1 d kept
 
--- the queue began in its file 1, without a record; it has no file 0
+-- the queue began in its file 1, without a record; it has no file 0; and by which calls
 abbrev pub BeginsPipe : {R : Type 0} → Format R → (List ℕ → Type 0) → FilePaths → LogFileFormat → List Listed
     → PipeFiles → Disk → Disk → Type 0
 BeginsPipe {R} F own paths format kept files old new = (base : Disk) (older : ℕ → Past R)
     → CanBeginWith F own paths base kept old
     → (room : ℕ) × IsPipe F own paths base files
     (with_room room (fresh_queue older (header_bytes format))) new × IsAbsent F 0 new
+    × BeginsQueueBy (path_of paths files.active) (header_bytes format) files.active.handle files.writer
+    old new
 
 -- it didn't: a file call failed, and there is a place for it still, or its file 1 is there, without a record
 abbrev pub FailsToBeginPipe : {R : Type 0} → Format R → (List ℕ → Type 0) → FilePaths → LogFileFormat

@@ -15,6 +15,7 @@ use Rattle.raft_log_file_queue.specs.Bridge.{GapsStay}
 use Rattle.raft_log_files.specs.Layout.{FilePaths, path_of}
 use Rattle.raft_log_files.specs.Rotation.{IsLeft}
 use Rattle.raft_log_pipes.specs.Files.{Listed, NoneHas, IsSpan, IsPipe}
+use Rattle.raft_log_pipes.specs.Calls.{DropsBy, DropsUntil}
 use Rattle.raft_log_pipes.specs.Exits.{SameFiles}
 use Rattle.raft_log_pipes.specs.declared.pipe_files.PipeFiles.{PipeFiles}
 
@@ -57,7 +58,7 @@ AreGone paths N first kept (f ∷ fs) = (f.seq < first) × (f.reserved ≡ false
     × ((id : ℕ) × (N (path_of paths f) ≡ Some id)) × NoneHas paths (path_of paths f) kept
     × NoneHas paths (path_of paths f) fs × AreGone paths N first kept fs
 
--- the first so many of these paths were dropped, and the others are there
+-- the first so many of these paths were dropped, one after the other, and the others are there
 abbrev pub DropsTo : {R : Type 0} → Format R → (List ℕ → Type 0) → FilePaths → List (List ℕ) → ℕ → Disk → Disk
     → Type 0
 DropsTo {R} F own paths gone count old new = (base : Disk) (files : PipeFiles) (q : LogFiles R)
@@ -65,7 +66,7 @@ DropsTo {R} F own paths gone count old new = (base : Disk) (files : PipeFiles) (
     → AreGone paths old.names files.first_seq files.recycled.items gs → IsPipe F own paths base files q new
     × GapsStay F q old new
     × AreGone paths new.names files.first_seq files.recycled.items (drop count gs) × (new.names ≡ without
-    (take count gone) old.names)
+    (take count gone) old.names) × DropsBy (take count gone) old new
 
 -- some first ones of these paths lost their names, and no other name changed
 abbrev pub LosesFirst : List (List ℕ) → Disk → Disk → Type 0
@@ -79,6 +80,7 @@ FailsToDropAll {R} F own paths gone old new = (base : Disk) (files : PipeFiles) 
     → AreGone paths old.names files.first_seq files.recycled.items gs → Fails old new × IsLeft F own base q
     new × GapsStay F q old new
     × IsSpan paths new.names files.first_seq files.earlier.items q.last × LosesFirst gone old new
+    × DropsUntil gone old new
 
 -- the files that are listed once those below a number have left the span
 pub record IsRaised (capacity seq : ℕ) (before after : PipeFiles) : Type 0 where
@@ -94,12 +96,13 @@ abbrev pub paths_going : FilePaths → ℕ → ℕ → PipeFiles → List (List 
 paths_going paths capacity seq files = map (path_of paths)
     (going (room_from capacity seq files) (take (seq - files.first_seq) files.earlier.items))
 
--- they went, and no other name changed
+-- they went, one after the other, and no other name changed
 abbrev pub Purges : {R : Type 0} → Format R → (List ℕ → Type 0) → FilePaths → ℕ → ℕ → PipeFiles → PipeFiles
     → Disk → Disk → Type 0
 Purges {R} F own paths capacity seq before after old new = (base : Disk) (q : LogFiles R)
     → IsPipe F own paths base before q old → IsPipe F own paths base after q new × GapsStay F q old new
     × (new.names ≡ without (paths_going paths capacity seq before) old.names)
+    × DropsBy (paths_going paths capacity seq before) old new
 
 -- one of them didn't: a file call failed, the records are held, the span is there, and of the files that were
 -- to go only some first ones went
@@ -109,6 +112,7 @@ FailsToPurge {R} F own paths capacity seq before after old new = (base : Disk) (
     → IsPipe F own paths base before q old → Fails old new × IsLeft F own base q new × GapsStay F q old new
     × IsSpan paths new.names after.first_seq after.earlier.items q.last
     × LosesFirst (paths_going paths capacity seq before) old new
+    × DropsUntil (paths_going paths capacity seq before) old new
 
 -- an invalid argument, or want of memory for its text
 abbrev pub IsArgumentOrMemory : Error → Type 0

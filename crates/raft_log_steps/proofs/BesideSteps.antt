@@ -142,7 +142,7 @@ module _ {R E V : Type 0} (log : TwoQueues R E V) (two : AreTwoQueues log) (whic
   synced_so : SyncsBeside log which o before s
   synced_so = record {
     answered = λ new syncs.
-        (let pipe = syncs s.disk q.files runs.pipe in
+        (let (pipe, call) = syncs s.disk q.files runs.pipe in
         let only : TouchesOnlyNames layout.own s.disk new = pipe.active.stands.others in
         let gaps = sync_gaps log.says layout told q.first s.disk before q.files s.disk new syncs runs.pipe in (
           synced q.files,
@@ -153,7 +153,7 @@ module _ {R E V : Type 0} (log : TwoQueues R E V) (two : AreTwoQueues log) (whic
               (sync_one log.says layout told q.first s.disk q.files s.disk new gaps (from_at which f) (queue_at which f) (tie_at log two which s f ties)),
         ));
     refused = λ new fails.
-        (let (cause, left, span) = fails s.disk q.files runs.pipe in
+        (let (cause, left, span, call) = fails s.disk q.files runs.pipe in
         let gaps = unsynced_gaps log.says layout told q.first s.disk before q.files s.disk new fails runs.pipe in (
           q.files,
           refl,
@@ -191,7 +191,7 @@ module _ {R E V : Type 0} (log : TwoQueues R E V) (two : AreTwoQueues log) (whic
   rotated_so : RotatesBeside log which o before s
   rotated_so = record {
     answered = λ header format after new rotates turned.
-        (let (room, stale, holds, pipe, gaps) = rotates s.disk q.files runs.pipe in
+        (let (room, stale, holds, pipe, gaps, calls) = rotates s.disk q.files runs.pipe in
         let files = with_room room (rotated header stale q.files) in
         let only : TouchesOnlyNames layout.own s.disk new = pipe.active.stands.others in
         let quiet = quiet_rotates log.says layout.format q.first q.files header stale room s.disk new gaps in (
@@ -224,7 +224,7 @@ module _ {R E V : Type 0} (log : TwoQueues R E V) (two : AreTwoQueues log) (whic
   not_purged capacity seq after (errors.InvalidArgument text) new (out, same, disk) = nothing_done after new same disk
   not_purged capacity seq after errors.NumberRange new (far, same, disk) = nothing_done after new same disk
   not_purged capacity seq after errors.Failed new (raised, fails) =
-      let (cause, left, gaps, span, first) = fails s.disk q.files runs.pipe in
+      let (cause, left, gaps, span, first, calls) = fails s.disk q.files runs.pipe in
       let (above, under) = raised_in_span log.says layout told q.first s.disk capacity seq before after q.files s.disk.names new.names raised runs.first runs.pipe.span span in
       (left_there (record { first = seq; files = q.files }) new left (listed_there after seq q.files new raised.first left span), raises seq new left.stands.others gaps above under)
   not_purged capacity seq after _ new fails = absurd fails
@@ -232,7 +232,7 @@ module _ {R E V : Type 0} (log : TwoQueues R E V) (two : AreTwoQueues log) (whic
   purged_so : PurgesBeside log which o before s
   purged_so = record {
     answered = λ capacity seq after new purges raised.
-        (let (pipe, gaps, names) = purges s.disk q.files runs.pipe in
+        (let (pipe, gaps, names, calls) = purges s.disk q.files runs.pipe in
         let only : TouchesOnlyNames layout.own s.disk new = pipe.active.stands.others in
         let (above, under) = raised_in_span log.says layout told q.first s.disk capacity seq before after q.files s.disk.names new.names raised runs.first runs.pipe.span pipe.span in
         let next : Spanned R = record { first = seq; files = q.files } in (

@@ -49,7 +49,7 @@ module _ {R E V : Type 0} (says : R → Record E V) (layout : QueueLayout R) (to
     quiet_same says layout.format first q q old new refl refl refl refl (no_gap_is_filled q old new new_is),
   )
   turn_one begin before middle q old new (turns long rotates turned) is =
-      let (room, stale, holds, pipe, gaps) = rotates base q is in (
+      let (room, stale, holds, pipe, gaps, calls) = rotates base q is in (
         with_room room (rotated (header_bytes begin.format) stale q),
         inr (room, stale, holds, refl),
         pipe,

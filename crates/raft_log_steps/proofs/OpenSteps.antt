@@ -203,7 +203,7 @@ module _ {R E V : Type 0} (log : TwoQueues R E V) (two : AreTwoQueues log) (whic
 
     taken_so : (files : PipeFiles) (new : Disk) → TakesUpFound layout.format layout.own layout.paths earlier last found.end found.recycled.items files s.disk new → IsListedAs earlier (taken_up found.end last) found.recycled.items files → Answered files new
     taken_so files new takes listed =
-        let (room, pipe, gaps) = takes s.disk q.files here in
+        let (room, pipe, gaps, calls) = takes s.disk q.files here in
         let p = with_room room (reread (header_bytes files.active.format) [] q.files) in
         let first : files.first_seq ≡ first_number earlier last = listed.first ∙ first_taken earlier found.end last in
         let bound = left.stands.bound in (
@@ -255,7 +255,7 @@ module _ {R E V : Type 0} (log : TwoQueues R E V) (two : AreTwoQueues log) (whic
 
     begun_so : (files : PipeFiles) (new : Disk) → BeginsPipe layout.format layout.own layout.paths begin.format found.recycled.items files s.disk new → IsListedFirst begin.format found.recycled.items files → Answered files new
     begun_so files new begun listed =
-        let (room, pipe, absent) = begun s.disk older (record { fresh = none.fresh; spares = spares }) in
+        let (room, pipe, absent, calls) = begun s.disk older (record { fresh = none.fresh; spares = spares }) in
         let p = with_room room (fresh_queue older (header_bytes begin.format)) in
         let q_is = none.is.3 in
         let on : GoesOnFound files q.files p =

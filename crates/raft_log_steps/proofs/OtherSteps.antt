@@ -41,7 +41,7 @@ module _ {R E V : Type 0} (says : R → Record E V) (layout : QueueLayout R) (to
   -- A sync fills no gap, answered or refused.
   pub sync_gaps : (files : PipeFiles) (q : LogFiles R) (old new : Disk) → SyncsPipe layout.format layout.own layout.paths files old new → On layout base files q old → GapsStay layout.format q old new
   sync_gaps files q old new syncs is = gaps_stay layout told base files q old new is (λ m xs less other.
-      (synced (with_past m xs q), past_there m xs q, less, pipe_left layout told base files (synced (with_past m xs q)) new (syncs base (with_past m xs q) other)))
+      (synced (with_past m xs q), past_there m xs q, less, pipe_left layout told base files (synced (with_past m xs q)) new (syncs base (with_past m xs q) other).0))
 
   pub unsynced_gaps : (files : PipeFiles) (q : LogFiles R) (old new : Disk) → FailsToSyncPipe layout.format layout.own layout.paths files old new → On layout base files q old → GapsStay layout.format q old new
   unsynced_gaps files q old new fails is = gaps_stay layout told base files q old new is (λ m xs less other. (with_past m xs q, past_there m xs q, less, (fails base (with_past m xs q) other).1))
@@ -100,7 +100,7 @@ module _ {R E V : Type 0} (log : TwoQueues R E V) where
       let told = told_at log two which in
       let q = spanned_at which s in
       let runs = run_at log two which p s run in
-      let is = syncs s.disk q.files runs.pipe in
+      let (is, call) = syncs s.disk q.files runs.pipe in
       let only : TouchesOnlyNames layout.own s.disk new = is.active.stands.others in
       let gaps = sync_gaps log.says layout told q.first s.disk (pipe_at which p) q.files s.disk new syncs runs.pipe in (
         same_pipe log which p (next_log which s (synced q.files) new)
@@ -115,7 +115,7 @@ module _ {R E V : Type 0} (log : TwoQueues R E V) where
       let layout = layout_at which log in
       let q = spanned_at which s in
       let runs = run_at log two which p s run in
-      let (room, stale, holds, is, gaps) = rotates s.disk q.files runs.pipe in
+      let (room, stale, holds, is, gaps, calls) = rotates s.disk q.files runs.pipe in
       let files = with_room room (rotated header stale q.files) in
       let only : TouchesOnlyNames layout.own s.disk new = is.active.stands.others in
       let quiet = quiet_rotates log.says layout.format q.first q.files header stale room s.disk new gaps in (
@@ -165,7 +165,7 @@ module _ {R E V : Type 0} (log : TwoQueues R E V) (two : AreTwoQueues log) (whic
       let told = told_at log two which in
       let q = spanned_at which s in
       let runs = run_at log two which p s run in
-      let (cause, left, gaps, span, first) = fails s.disk q.files runs.pipe in
+      let (cause, left, gaps, span, first, calls) = fails s.disk q.files runs.pipe in
       let (above, under) = raised_in_span log.says layout told q.first s.disk capacity seq (pipe_at which p) after q.files s.disk.names new.names raised runs.first runs.pipe.span span in
       let next : Spanned R = record { first = seq; files = q.files } in (
         left_on log two which p s run next new left,
@@ -190,7 +190,7 @@ module _ {R E V : Type 0} (log : TwoQueues R E V) (two : AreTwoQueues log) (whic
       let told = told_at log two which in
       let q = spanned_at which s in
       let runs = run_at log two which p s run in
-      let (pipe, gaps, names) = purges s.disk q.files runs.pipe in
+      let (pipe, gaps, names, calls) = purges s.disk q.files runs.pipe in
       let only : TouchesOnlyNames layout.own s.disk new = pipe.active.stands.others in
       let (above, under) = raised_in_span log.says layout told q.first s.disk capacity seq (pipe_at which p) after q.files s.disk.names new.names raised runs.first runs.pipe.span pipe.span in
       let next : Spanned R = record { first = seq; files = q.files } in (

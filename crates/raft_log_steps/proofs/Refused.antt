@@ -86,7 +86,7 @@ module _ {R E V : Type 0} (says : R → Record E V) (layout : QueueLayout R) (to
     quiet_none q old new new_is,
   )
   rotation_left header before after q errors.Failed old new fails is =
-      let (stale, holds, stays, span) = fails base q is in
+      let (stale, holds, stays, span, calls) = fails base q is in
       let bound = is.active.stands.bound in
       let there = span_is_there layout told before.first_seq (suc q.last) (before.earlier.items ++ before.active ∷ []) new (omega (arith, bound)) span in
       let (cause, turned, gaps) = stays in elim turned [
@@ -118,7 +118,7 @@ module _ {R E V : Type 0} (says : R → Record E V) (layout : QueueLayout R) (to
   cut_back_tells : (begin : NewFiles) (y : Record E V) (before cut after : PipeFiles) (q p : LogFiles R) (error : Error) (old short new : Disk) → cut.first_seq ≡ before.first_seq → IsOrGoesOn (header_bytes begin.format) before.recycled.items old q p → On layout base cut (settled p) short
       → QuietTo says layout.format first q old (settled p) short → TurnsElsewhere layout.format layout.own layout.paths begin cut after error short new → RefusedOne says layout first base (header_bytes begin.format) y before after q error old new
   cut_back_tells begin y before cut after q p (errors.TryAgain text) old short new first_is turned is quiet (elsewhere rotates turns tells) =
-      let (room, stale, holds, pipe, gaps) = rotates base (settled p) is in
+      let (room, stale, holds, pipe, gaps, calls) = rotates base (settled p) is in
       let r = with_room room (rotated (header_bytes begin.format) stale (settled p)) in (
         r,
         (p, turned, cut.recycled.items, short, inr (room, stale, holds, refl)),
@@ -205,7 +205,7 @@ module _ {R E V : Type 0} (says : R → Record E V) (layout : QueueLayout R) (to
   pub rotation_failed : (header : List ℕ) (before after : PipeFiles) (q : LogFiles R) (error : Error) (old new : Disk) → RotationLeaves layout.format layout.own layout.paths header before after error old new → On layout base before q old → TellsOfCall error → Fails old new
   rotation_failed header before after q errors.Memory old new leaves is of_call = absurd of_call
   rotation_failed header before after q errors.NumberRange old new leaves is of_call = absurd of_call
-  rotation_failed header before after q errors.Failed old new fails is of_call = (let (stale, holds, stays, span) = fails base q is in stays.0)
+  rotation_failed header before after q errors.Failed old new fails is of_call = (let (stale, holds, stays, span, calls) = fails base q is in stays.0)
   rotation_failed header before after q _ old new leaves is of_call = absurd leaves
 
   pub append_failed : (begin : NewFiles) (queue : LogQueue) (signed : LogFileContext → List ℕ) (y : Record E V) (before after : PipeFiles) (q : LogFiles R) (error : Error) (old new : Disk) → SaysRecord says layout queue signed y

@@ -17,7 +17,7 @@ returns-in-Ok-clause-ok g c =
     } in
     begins (g.G.PipeFormat.format layout) (g.G.PipeFormat.own layout) (g.G.PipeFormat.file_paths layout) (g.met.G.PipeFormat.lawful layout) c.args.recycled.items c.args.new_files.now.format c.in_ok-choose_directory.field-0
     c.header.result.now c.deref.result.now c.in-Ok.handle files (D c.args.file_system.now) (D c.begin_queue.new.file_system) c.header.ensures.has c.header.ensures.bytes (c.deref.ensures ∙ c.in_ok-path.ensures.ok)
-    refl c.new.ensures.items refl refl c.in-Ok.ensures.ok c.in-Ok.ensures.files
+    refl c.new.ensures.items refl refl c.in-Ok.ensures.ok c.in-Ok.ensures.files c.in-Ok.ensures.calls
 
 pub returns-in-Err-clause-err : goal.returns-in-Err-clause-err
 returns-in-Err-clause-err g c =

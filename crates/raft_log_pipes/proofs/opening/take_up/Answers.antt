@@ -17,7 +17,7 @@ returns-in-Ok-clause-ok g c =
     record { first = c.first_seq.ensures ∙ ap (λ (f : Listed). first_number c.args.earlier.items f) is; before = refl; active = is; spares = refl } in
     let spelled : c.deref.result.now ≡ header_bytes active.format = c.deref.ensures.value ∙ c.in_ok-encode.ensures.ok.1 ∙ ap (λ (xs : List ℕ). xs ++ header_bytes active.format) c.new-header.ensures.items in
     takes_up_as (g.G.PipeFormat.format layout) (g.G.PipeFormat.own layout) (g.G.PipeFormat.file_paths layout) (g.met.G.PipeFormat.lawful layout) c.args.earlier.items c.args.last active c.args.end c.args.recycled.items c.deref.result.now files
-    (D c.args.file_system.now) (D c.reopen_file.new.file_system) (g.met.F.FileSystem.sound c.args.file_system.now) is c.in_ok-encode.ensures.ok.0 spelled listed c.in-Ok.ensures.ok c.in-Ok.ensures.others
+    (D c.args.file_system.now) (D c.reopen_file.new.file_system) (g.met.F.FileSystem.sound c.args.file_system.now) is c.in_ok-encode.ensures.ok.0 spelled listed c.in-Ok.ensures.ok c.in-Ok.ensures.others c.in-Ok.ensures.calls
 
 pub returns-in-Err-clause-err : goal.returns-in-Err-clause-err
 returns-in-Err-clause-err g c =

@@ -30,7 +30,7 @@ loop-path-preserved g c =
     let up : suc i ≡ i + 1 = omega arith in (
       subst (λ (n : ℕ). DropsTo (g.G.PipeFormat.format c.args.layout.now) (g.G.PipeFormat.own c.args.layout.now) (g.G.PipeFormat.file_paths c.args.layout.now) gone n (D c.args.file_system.now) (D c.drop_file.new.file_system)) up
           (drops_more (g.G.PipeFormat.format c.args.layout.now) (g.G.PipeFormat.own c.args.layout.now) (g.G.PipeFormat.file_paths c.args.layout.now) (g.met.G.PipeFormat.lawful c.args.layout.now) gone i c.deref.result.now
-          (D c.args.file_system.now) (D c.loop-path.file_system) (D c.drop_file.new.file_system) (g.met.F.FileSystem.sound c.loop-path.file_system) less front c.loop-path.invariant.0 c.in_ok-drop_file.ensures.ok c.in_ok-drop_file.ensures.files),
+          (D c.args.file_system.now) (D c.loop-path.file_system) (D c.drop_file.new.file_system) (g.met.F.FileSystem.sound c.loop-path.file_system) less front c.loop-path.invariant.0 c.in_ok-drop_file.ensures.ok c.in_ok-drop_file.ensures.files c.in_ok-drop_file.ensures.calls),
       later_then (D c.args.file_system.now) (D c.loop-path.file_system) (D c.drop_file.new.file_system) c.loop-path.invariant.1 c.drop_file.ensures.later,
     )
 

@@ -1,6 +1,7 @@
 use Rattle.std.proofs.Common.{rules, ◌∙◌, refl, sym, subst, false}
+use Rattle.raft_log_disk.specs.Calls.{Creates}
 use Rattle.raft_log_file.specs.declared.writer.LogFileWriter.{LogFileWriter}
-use Rattle.raft_log_files.specs.Rotation.{RotatesToNew}
+use Rattle.raft_log_files.specs.Rotation.{RotatesBy, RotatesToNew}
 use Rattle.raft_log_format.specs.Header.{header_bytes}
 use Rattle.raft_log_pipes.specs.Files.{Listed}
 use Rattle.raft_log_pipes.specs.Placing.{IsChosen}
@@ -27,6 +28,8 @@ returns-in-Ok-clause-ok g c =
     (g.met.F.FileSystem.sound c.rotate_to_new.new.file_system) (c.deref.ensures ∙ c.in_ok-path.ensures.ok) c.header-header.ensures.bytes c.requires.none is_next refl turns
     (subst (λ (w : LogFileWriter). RotatesToNew (g.G.PipeFormat.format c.args.layout.now) (g.G.PipeFormat.own c.args.layout.now) c.header-header.result.now c.deref.result.now c.args.files.now.writer w c.in-Ok.handle
     (D c.args.file_system.now) (D c.rotate_to_new.new.file_system)) (sym c.turn_to.ensures.writer) c.in-Ok.ensures.ok) c.in-Ok.ensures.files
+    (subst (λ (w : LogFileWriter). RotatesBy c.args.files.now.writer c.header-header.result.now (λ made. Creates c.deref.result.now made.file) c.in-Ok.handle w (D c.args.file_system.now) (D c.rotate_to_new.new.file_system))
+    (sym c.turn_to.ensures.writer) c.in-Ok.ensures.calls)
 
 pub returns-in-Ok-clause-placed : goal.returns-in-Ok-clause-placed
 returns-in-Ok-clause-placed g c =

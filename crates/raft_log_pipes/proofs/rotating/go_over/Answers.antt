@@ -1,8 +1,9 @@
 use Rattle.std.proofs.Common.{rules, ◌∙◌, refl, sym, subst, false}
 use Rattle.std.proofs.lemmas.Result.{err_from_is_err_and}
 use Rattle.raft_log_format.specs.Header.{header_bytes}
+use Rattle.raft_log_disk.specs.Calls.{Renames}
 use Rattle.raft_log_file.specs.declared.writer.LogFileWriter.{LogFileWriter}
-use Rattle.raft_log_files.specs.Rotation.{RotatesOver}
+use Rattle.raft_log_files.specs.Rotation.{RotatesBy, RotatesOver}
 use Rattle.raft_log_pipes.specs.Files.{Listed}
 use Rattle.raft_log_pipes.specs.Exits.{RotationLeaves}
 use Rattle.raft_log_pipes.proofs.Turning.{IsNext, IsTurnedTo, closed_leaves, over_refused, over_done}
@@ -24,7 +25,7 @@ returns-in-Err-clause-err g c =
     let is_next : IsNext next (header_bytes c.args.new_files.now.format) c.args.files.now = record { number = c.requires.number; listed = refl; small = c.in_ok-to.ensures.named; header_is = refl; has = c.header-header.ensures.has } in
     over_refused (g.G.PipeFormat.format c.args.layout.now) (g.G.PipeFormat.own c.args.layout.now) (g.G.PipeFormat.file_paths c.args.layout.now) (g.met.G.PipeFormat.lawful c.args.layout.now) (D c.args.file_system.now) (D c.rotate_over.new.file_system)
     c.args.files.now c.args.kept next c.deref-2.result.now c.deref-3.result.now (header_bytes c.args.new_files.now.format) c.header-header.result.now c.in_ok-handle.handle c.in-Err.kind (c.deref-2.ensures ∙ c.in_ok-from.ensures.ok) (c.deref-3.ensures ∙ c.in_ok-to.ensures.ok)
-    c.header-header.ensures.bytes c.requires.oldest (search rules) is_next c.in-Err.ensures.err c.in-Err.ensures.refusal
+    c.header-header.ensures.bytes c.requires.oldest (search rules) is_next refl c.in-Err.ensures.err c.in-Err.ensures.refusal
 
 pub returns-clause-ok : goal.returns-clause-ok
 returns-clause-ok g c =
@@ -37,3 +38,5 @@ returns-clause-ok g c =
     (g.met.F.FileSystem.sound c.rotate_over.new.file_system) (c.deref-2.ensures ∙ c.in_ok-from.ensures.ok) (c.deref-3.ensures ∙ c.in_ok-to.ensures.ok) c.header-header.ensures.bytes c.requires.oldest (search rules) is_next refl turns
     (subst (λ (w : LogFileWriter). RotatesOver (g.G.PipeFormat.format c.args.layout.now) (g.G.PipeFormat.own c.args.layout.now) c.header-header.result.now c.in_ok-handle.handle c.deref-2.result.now c.deref-3.result.now c.args.files.now.writer w
     (D c.args.file_system.now) (D c.rotate_over.new.file_system)) (sym c.turn_to.ensures.writer) c.in_default.ensures.ok) c.in_default.ensures.files
+    (subst (λ (w : LogFileWriter). RotatesBy c.args.files.now.writer c.header-header.result.now (λ named. Renames c.deref-2.result.now c.deref-3.result.now) c.in_ok-handle.handle w (D c.args.file_system.now) (D c.rotate_over.new.file_system))
+    (sym c.turn_to.ensures.writer) c.in_default.ensures.calls)

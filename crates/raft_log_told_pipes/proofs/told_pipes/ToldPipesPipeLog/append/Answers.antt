@@ -5,3 +5,6 @@ returns-in_default-clause-err g c = rw c.loop-seq.invariant c.append-answer.ensu
 
 pub returns-in_default-clause-range : goal.returns-in_default-clause-range
 returns-in_default-clause-range g c = rw c.loop-seq.invariant c.append-answer.ensures.range
+
+pub returns-in_default-clause-refusal : goal.returns-in_default-clause-refusal
+returns-in_default-clause-refusal g c = rw c.loop-seq.invariant c.append-answer.ensures.refusal

@@ -32,6 +32,7 @@ pub fn build_file_writer<F: FileSystem, L: Log>(
         (F.disk file_system.old) (F.disk file_system.new)) }
     ensures err { IfErr result (λ error. FailsToBuild path.now format create error
         (F.disk file_system.old) (F.disk file_system.new)) }
+    ensures has_header { IfOk result (λ writer. HasHeader format) }
 
     // What stands in the file.
     ensures created { create ≡ true → IfOk result (λ writer. IsWritten writer (header_bytes format)

@@ -1,5 +1,5 @@
 -- What is written is a record.
-use Rattle.std.proofs.Common.{◌≡◌, ℕ, zero, suc, ◌+◌, ◌*◌, ◌/◌, ◌%◌, ◌<◌, ◌^◌, List, [], ◌∷◌, ◌++◌, length, map, get_or, eqb, true, false, Bool, cond, Option, unwrap_or, ◌⊎◌, inl, inr, refl, sym, ap, ◌∙◌, subst, arith, bit_xor}
+use Rattle.std.proofs.Common.{◌≡◌, ℕ, zero, suc, ◌+◌, ◌*◌, ◌/◌, ◌%◌, ◌<◌, ◌^◌, List, [], ◌∷◌, ◌++◌, length, map, get_or, eqb, true, false, Bool, cond, Option, None, unwrap_or, ◌⊎◌, inl, inr, refl, sym, ap, ◌∙◌, subst, arith, bit_xor}
 use Rattle.std.proofs.lemmas.Nat.{xor_of_32, from_le_bytes-to_le_bytes_4, from_be_bytes-to_be_bytes_8}
 use Rattle.std.proofs.lemmas.List.{length-append}
 use Rattle.std.proofs.lemmas.List.Sums.{sum_by-append}
@@ -14,6 +14,7 @@ use Rattle.raft_log_items.specs.Run.{unplaced}
 use Rattle.raft_log_items.specs.Placed.{run_len, content_len, entries_len}
 use Rattle.raft_log_items.specs.Writing.{items_bytes, plain_item, plain_content}
 use Rattle.raft_log_frames.specs.Record.{signed, block_bytes, footer_bytes, header_bytes, record_len, record_bytes, IsHeader, IsBlock, IsFooter, IsRecord, AddsUp}
+use Rattle.raft_log_frames.specs.Made.{IsPlainFooter}
 use Rattle.raft_log_frames.specs.Written.{AreBytes}
 use Rattle.raft_log_frames.proofs.Made.{four_bytes, record-length}
 
@@ -72,7 +73,7 @@ plain_content_len (contents.EntryIndexes es) = plain_run es
 plain_content_len (contents.Command c) = refl
 plain_content_len (contents.Kv kv) = refl
 
-plain_len : (items : List LogItem) → entries_len (map plain_item items) ≡ entries_len items
+pub plain_len : (items : List LogItem) → entries_len (map plain_item items) ≡ entries_len items
 plain_len [] = refl
 plain_len (x ∷ xs) =
     let a = sum_by-append (λ (y : LogItem). content_len y.content) (x ∷ []) xs in
@@ -94,6 +95,18 @@ block_length (b ∷ bs) = inr (length-append (b ∷ bs) (u32_le_bytes (crc32_of 
 
 adds_up_written : (len n : ℕ) (items : List LogItem) → entries_len items ≡ n → n < 2 ^ 32 → ((len ≡ 0) × (n ≡ 0)) ⊎ (len ≡ n + 4) → AddsUp items len
 adds_up_written len n items e fits h = (omega (arith, e), elim h [ inl p ↦ inl (p.0, e ∙ p.1) | inr q ↦ inr (q ∙ ap (λ (k : ℕ). k + 4) (sym e)) ])
+
+-- what is written of items and of their checksum is a footer, where the checksum has 32 bits
+pub plain_footer : (items : List LogItem) → crc32_of (items_bytes items) < 2 ^ 32 → AreItems (items_bytes items) (map plain_item items)
+    → IsPlainFooter (footer_bytes None items) items
+unfolding footer_bytes
+plain_footer items fits spelled = record {
+  body = items_bytes items;
+  checksum = u32_le_bytes (signed None (items_bytes items));
+  joined = refl;
+  items_spelled = spelled;
+  checksum_spelled = u32_written (signed None (items_bytes items)) (xor_of_32 (crc32_of (items_bytes items)) 0 fits (omega arith));
+}
 
 footer_written : (signature : Option ℕ) (items : List LogItem) → unwrap_or signature 0 < 2 ^ 32 → AreItems (items_bytes items) (map plain_item items) → AreBytes (items_bytes items) → IsFooter signature (footer_bytes signature items) (map plain_item items)
 unfolding footer_bytes

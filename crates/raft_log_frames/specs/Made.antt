@@ -6,7 +6,7 @@ use Rattle.raft_log_base.specs.declared.errors.Error.TheVariants as errors
 use Rattle.raft_log_items.specs.declared.item.LogItem.{LogItem}
 use Rattle.raft_log_items.specs.Items.{AreItems}
 use Rattle.raft_log_items.specs.Writing.{items_bytes, plain_item}
-use Rattle.raft_log_frames.specs.Record.{block_bytes, record_bytes, record_len}
+use Rattle.raft_log_frames.specs.Record.{IsFooter, block_bytes, record_bytes, record_len}
 
 -- the record in the buffer, whose length fits, and the checksum of its items before it is signed
 pub record HoldsRecordBytes (signature : Option ℕ) (buffer : List ℕ) (checksum : ℕ) (items : List LogItem)
@@ -16,6 +16,10 @@ pub record HoldsRecordBytes (signature : Option ℕ) (buffer : List ℕ) (checks
   pub spelled : AreItems (items_bytes items) (map plain_item items)
   pub signs : unwrap_or signature 0 < 2 ^ 32
   pub short : record_len items entries < 2 ^ 56
+
+-- the bytes are a footer of these items without their places, in a file without signatures
+abbrev pub IsPlainFooter : List ℕ → List LogItem → Type 0
+IsPlainFooter bytes items = IsFooter None bytes (map plain_item items)
 
 -- the buffer with the block of the entries' bytes that stand behind room for a header
 abbrev pub with_block : List ℕ → List ℕ

@@ -5,7 +5,7 @@ ghost use Rattle.raft_log_checksum.specs.Checksum.{crc32_of};
 ghost use Rattle.raft_log_items.specs.Items.{AreItems};
 ghost use Rattle.raft_log_items.specs.Writing.{KeepsFront, items_bytes, plain_item};
 ghost use Rattle.raft_log_frames.specs.Record.{header_bytes, block_bytes, footer_bytes, record_len};
-ghost use Rattle.raft_log_frames.specs.Made.{MakesRecord, IsMemoryOrFull, with_block};
+ghost use Rattle.raft_log_frames.specs.Made.{MakesRecord, IsMemoryOrFull, IsPlainFooter, with_block};
 ghost use Rattle.raft_log_frames.specs.Written.{AreBytes};
 
 use crate::header::LOG_BATCH_HEADER_LEN;
@@ -60,13 +60,14 @@ fn close_block(buf: &mut Vec<u8>) -> Result<(), AllocError>
     Ok(())
 }
 
-/// Appends the footer of these items, not signed, and answers their checksum. A refusal may leave a part of
-/// it behind what was there.
+/// Appends the footer of these items without their places, not signed, and answers their checksum. A refusal
+/// may leave a part of it behind what was there.
 #[tactic(auto, unfolding(crate::specs::Record::footer_bytes))]
 pub fn append_footer(buf: &mut Vec<u8>, items: &[LogItem]) -> Result<u32, AllocError>
     ensures ok { OnOk result (buf.new.items ≡ buf.old.items ++ footer_bytes None items.now) }
     ensures sum { IfOk result (λ checksum. checksum ≡ crc32_of (items_bytes items.now)) }
     ensures spelled { OnOk result (AreItems (items_bytes items.now) (map plain_item items.now)) }
+    ensures footer { OnOk result (IsPlainFooter (footer_bytes None items.now) items.now) }
     ensures err { OnErr result (KeepsFront buf.old.items buf.new.items) }
 {
     let start = buf.len();

@@ -1,5 +1,5 @@
 //! Commands: what is said of all of a group.
-ghost use Rattle.std.specs.Prelude.{◌≡◌, ◌++◌, OnOk, OnErr};
+ghost use Rattle.std.specs.Prelude.{◌≡◌, ◌++◌, IsOk, OnOk, OnErr};
 ghost use Rattle.raft_log_base.specs.Fault.{ReadsOrMemory, DecodesOrMemory};
 ghost use Rattle.raft_log_items.specs.Items.{IsCommand};
 ghost use Rattle.raft_log_items.specs.Reading.{command_of_at, command_at};
@@ -25,10 +25,11 @@ pub enum Command {
 }
 
 impl Command {
-    /// Reads a command. An unknown one is refused with its number.
+    /// Reads a command. An unknown one is refused with its number, and only the text of that takes memory.
     pub fn decode(alloc: Global, source: &mut BytesSlice<'_>) -> Result<Command>
         ensures decodes { DecodesOrMemory IsCommand result source.old.now source.new.now }
         ensures exact { ReadsOrMemory result source.old.now source.new.now (command_at source.old.now) }
+        ensures sure { IsOk (command_at source.old.now) → IsOk result }
     {
         split_command(alloc, source)
     }
@@ -47,7 +48,8 @@ impl Command {
 /// Reads a command.
 #[tactic(auto, unfolding(crate::specs::Reading::command_at))]
 fn split_command(alloc: Global, source: &mut BytesSlice<'_>) -> Result<Command>
-    ensures { ReadsOrMemory result source.old.now source.new.now (command_at source.old.now) }
+    ensures exact { ReadsOrMemory result source.old.now source.new.now (command_at source.old.now) }
+    ensures sure { IsOk (command_at source.old.now) → IsOk result }
 {
     let mut rest: &[u8] = *source;
     let kind = read_u8(&mut rest)?;
@@ -59,7 +61,8 @@ fn split_command(alloc: Global, source: &mut BytesSlice<'_>) -> Result<Command>
 /// Reads the command of this kind.
 #[tactic(auto, unfolding(crate::specs::Reading::command_of_at))]
 fn split_command_of(alloc: Global, source: &mut BytesSlice<'_>, kind: u8) -> Result<Command>
-    ensures { ReadsOrMemory result source.old.now source.new.now (command_of_at kind source.old.now) }
+    ensures exact { ReadsOrMemory result source.old.now source.new.now (command_of_at kind source.old.now) }
+    ensures sure { IsOk (command_of_at kind source.old.now) → IsOk result }
 {
     if kind == COMMAND_CLEAN {
         return Ok(Command::Clean);

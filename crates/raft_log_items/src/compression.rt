@@ -1,5 +1,5 @@
 //! How the entries of a batch are compressed: not at all.
-ghost use Rattle.std.specs.Prelude.{◌≡◌};
+ghost use Rattle.std.specs.Prelude.{◌≡◌, IsOk};
 ghost use Rattle.raft_log_base.specs.Fault.{GivesOrMemory};
 ghost use Rattle.raft_log_items.specs.Reading.{compression_of};
 
@@ -13,9 +13,10 @@ pub enum CompressionType {
 }
 
 impl CompressionType {
-    /// The kind of this byte. Any but 0 is refused as a corruption.
+    /// The kind of this byte. Any but 0 is refused as a corruption, and only the text of that takes memory.
     pub fn from_u8(alloc: Global, byte: u8) -> Result<CompressionType>
-        ensures { GivesOrMemory result (compression_of byte) }
+        ensures exact { GivesOrMemory result (compression_of byte) }
+        ensures sure { IsOk (compression_of byte) → IsOk result }
     {
         if byte != 0 {
             return Err(Error::Corruption(format!(in alloc;

@@ -1,5 +1,5 @@
 //! What happens to a key: it gets a value, or loses it.
-ghost use Rattle.std.specs.Prelude.{◌≡◌};
+ghost use Rattle.std.specs.Prelude.{◌≡◌, IsOk};
 ghost use Rattle.raft_log_base.specs.Fault.{GivesOrMemory};
 ghost use Rattle.raft_log_items.specs.Reading.{operation_of};
 ghost use Rattle.raft_log_items.specs.Writing.{operation_number};
@@ -15,9 +15,11 @@ pub enum OpType {
 }
 
 impl OpType {
-    /// The operation of this byte. An unknown one is refused as a corruption.
+    /// The operation of this byte. An unknown one is refused as a corruption, and only the text of that takes
+    /// memory.
     pub fn from_u8(alloc: Global, byte: u8) -> Result<OpType>
-        ensures { GivesOrMemory result (operation_of byte) }
+        ensures exact { GivesOrMemory result (operation_of byte) }
+        ensures sure { IsOk (operation_of byte) → IsOk result }
     {
         match byte {
             1 => Ok(OpType::Put),

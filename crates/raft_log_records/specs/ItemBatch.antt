@@ -1,6 +1,6 @@
 -- Lists of items: what callers see of one, about how many bytes it has, its entries, and what a footer says
 -- with its places.
-use Rattle.std.specs.Prelude.{◌≡◌, ℕ, ◌+◌, ◌*◌, ◌≤◌, List, [], ◌∷◌, ◌++◌, length, take, drop, map, flat_map, sum_by, Option, Result, Ok, Err, IfOk, MatchResult}
+use Rattle.std.specs.Prelude.{◌≡◌, ℕ, ◌+◌, ◌*◌, ◌≤◌, List, [], ◌∷◌, ◌++◌, length, take, drop, map, flat_map, sum_by, Option, None, Result, Ok, Err, IfOk, MatchResult}
 use Rattle.raft_log_base.specs.declared.errors.Error.{Error}
 use Rattle.raft_log_base.specs.declared.errors.Error.TheVariants as errors
 use Rattle.raft_log_base.specs.declared.pipe_log.FileBlockHandle.{FileBlockHandle}
@@ -13,7 +13,7 @@ use Rattle.raft_log_base.specs.Fault.{Fault, Fails}
 use Rattle.raft_log_items.specs.Items.{put_item, AreItems}
 use Rattle.raft_log_items.specs.Placed.{laid_out, placed}
 use Rattle.raft_log_items.specs.Writing.{items_bytes, plain_item, value_of}
-use Rattle.raft_log_frames.specs.Record.{IsFooter, IsFooterOf, AddsUp}
+use Rattle.raft_log_frames.specs.Record.{IsFooter, IsFooterOf, AddsUp, placed_footer_of}
 
 -- the items, and how many there is room for before memory is asked for
 pub record ItemBatch : Type 0 where
@@ -65,6 +65,13 @@ items_size xs = sum_by item_size xs
 -- what is written of these items spells them without their places
 abbrev pub IsSpelling : List LogItem → Type 0
 IsSpelling items = AreItems (items_bytes items) (map plain_item items)
+
+-- Whichever block the entries of these items fill, the bytes are read in a file without signatures as the
+-- items, placed in that block.
+abbrev pub AreRead : List ℕ → List LogItem → Type 0
+AreRead bytes items =
+    (block : FileBlockHandle) → AddsUp items block.len
+    → placed_footer_of None block bytes ≡ Ok (placed block (map plain_item items))
 
 -- the items, and from this one on they are laid out from this offset in their block on
 abbrev pub laid_from : ℕ → ℕ → List LogItem → List LogItem

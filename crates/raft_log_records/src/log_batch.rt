@@ -232,7 +232,7 @@ impl LogBatch {
     }
 
     /// Makes the record, and answers how many bytes it has, for whatever file it will be signed. An empty
-    /// batch has none.
+    /// batch has none, and isn't refused.
     ///
     /// Refused as full is a record whose length needs more than 56 bits. A refusal changes nothing but the
     /// memory of the buffer.
@@ -240,6 +240,7 @@ impl LogBatch {
         requires { self.old.state ≡ Filling }
         ensures ok { OnOk result (IsButBuffer (record self.old { state = Populated }) self.new) }
         ensures ready { IfOk result (λ len. IsReadyForEach len self.old.items self.old.entries) }
+        ensures succeeds { self.old.items ≡ [] → IsOk result }
         ensures err { OnErr result (IsButBuffer self.old self.new) }
         ensures errors { IfErr result (λ e. IsMemoryOrFull e (record_len self.old.items self.old.entries)) }
     {
@@ -362,9 +363,11 @@ impl LogBatch {
     }
 
     /// Gives the items back, behind what is there, and leaves an empty batch that is being filled, with its
-    /// room. Only where there is no room for the items it may be refused, and then changes nothing.
+    /// room. Only where there is no room for the items it may be refused, and then changes nothing. The
+    /// vector has no less room than it had.
     pub fn drain(&mut self, into: &mut Vec<LogItem>) -> Result<(), AllocError>
         ensures items { OnOk result (into.new.items ≡ into.old.items ++ self.old.items) }
+        ensures room { vec_capacity into.old ≤ vec_capacity into.new }
         ensures emptied { OnOk result (self.new ≡ emptied self.old) }
         ensures bounded { OnOk result (self.new.buffer ≤ max_kept_len) }
         ensures err { OnErr result ((into.new.items ≡ into.old.items) × (self.new ≡ self.old)) }

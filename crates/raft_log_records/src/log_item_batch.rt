@@ -58,10 +58,11 @@ impl LogItemBatch {
     ghost use Rattle.raft_log_items.specs.Placed.{entries_len, written};
     ghost use Rattle.raft_log_base.specs.Files.{signature_of};
     ghost use Rattle.raft_log_frames.specs.Record.{footer_bytes, placed_footer_of};
+    ghost use Rattle.raft_log_frames.specs.Made.{IsPlainFooter};
     ghost use Rattle.raft_log_records.specs.ItemBatch.{no_items, AddsItems, AddsPut, TakesItems, HasRoom};
     ghost use Rattle.raft_log_records.specs.ItemBatch.{IsSpelling, laid_from, run_item, command_item};
     ghost use Rattle.raft_log_records.specs.ItemBatch.{items_size, all_entries, FindsPlaced, OnlyPlaced};
-    ghost use Rattle.raft_log_records.specs.ItemBatch.{GivesPlaced};
+    ghost use Rattle.raft_log_records.specs.ItemBatch.{GivesPlaced, AreRead};
     ghost use Rattle.raft_log_records.specs.Places.{AllLieIn};
 
     /// An empty batch, which has no room yet.
@@ -149,9 +150,11 @@ impl LogItemBatch {
     }
 
     /// Gives the items back, behind what is there, and leaves an empty batch with its room. Only where there
-    /// is no room for them it may be refused, and then changes nothing.
+    /// is no room for them it may be refused, and then changes nothing. The vector has no less room than it
+    /// had.
     pub fn drain(&mut self, into: &mut Vec<LogItem>) -> Result<(), AllocError>
         ensures items { OnOk result (into.new.items ≡ into.old.items ++ self.old.items) }
+        ensures room { vec_capacity into.old ≤ vec_capacity into.new }
         ensures emptied { OnOk result (self.new ≡ no_items self.old.capacity) }
         ensures err { OnErr result ((into.new.items ≡ into.old.items) × (self.new ≡ self.old)) }
         ensures succeeds { vec_len into.old + length self.old.items ≤ vec_capacity into.old → IsOk result }
@@ -286,10 +289,13 @@ impl LogItemBatch {
         Ok(())
     }
 
-    /// Appends the count of the items, each of them, and their checksum: the footer that `decode` reads in a
-    /// file without signatures. A refusal changes nothing.
+    /// Appends the count of the items, each of them, and their checksum: a footer of the items without their
+    /// places, which `decode` reads in a file without signatures, whichever block their entries fill. A
+    /// refusal changes nothing.
     pub fn encode(&self, out: &mut Vec<u8>) -> Result<(), AllocError>
         ensures ok { OnOk result (out.new.items ≡ out.old.items ++ footer_bytes None self.now.items) }
+        ensures footer { OnOk result (IsPlainFooter (footer_bytes None self.now.items) self.now.items) }
+        ensures read { OnOk result (AreRead (footer_bytes None self.now.items) self.now.items) }
         ensures err { OnErr result (out.new.items ≡ out.old.items) }
         ensures spelled { OnOk result (IsSpelling self.now.items) }
     {

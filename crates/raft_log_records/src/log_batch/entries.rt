@@ -6,7 +6,6 @@ ghost use Rattle.raft_log_records.specs.Entries.{RisesFrom, IsIndexRun, indexes_
 ghost use Rattle.raft_log_records.specs.Entries.{laid_slices, joined, bytes_len, IsRunRefusal};
 
 use super::{LogBatch, MAX_ENTRIES_LEN, make_room};
-use raft_log_base::codec::or_cut_back;
 use raft_log_items::{EntryIndex, EntryIndexes, Error, LogItem, Result};
 use std::alloc::{AllocError, Global};
 
@@ -24,7 +23,7 @@ impl LogBatch {
     ///
     /// Refused, in this order: as an invalid argument, indexes that are not as many as the entries, that
     /// don't rise by one, or of which one is 2^64 - 1; as full, more than 2,147,483,647 bytes of entries in
-    /// the batch. A refusal changes no item.
+    /// the batch. A refusal changes no item. Answered or refused, there is no less room.
     pub fn add_raw_entries(
         &mut self,
         alloc: Global,
@@ -38,7 +37,7 @@ impl LogBatch {
         ensures run { OnOk result (IsRunOf (indexes_of entry_indexes.now) (slices_bytes entries.now)) }
         ensures room { OnOk result (MayHold self.old (slices_bytes entries.now)) }
         ensures err { OnErr result (Becomes self.old self.new) }
-        ensures buffer { OnOk result (self.old.buffer ≤ self.new.buffer) }
+        ensures buffer { self.old.buffer ≤ self.new.buffer }
         ensures errors { IfErr result (λ e. IsSlicesRefusal e self.old entry_indexes.now entries.now) }
     {
         check_run(alloc, entry_indexes, entries.len())?;
@@ -121,7 +120,7 @@ fn bytes_len(entries: &[&[u8]]) -> u64
 /// Appends each entry's bytes. A refusal may leave a part behind what was there.
 fn append_each(out: &mut Vec<u8>, entries: &[&[u8]]) -> Result<(), AllocError>
     ensures ok { OnOk result (out.new.items ≡ out.old.items ++ joined (slices_bytes entries.now)) }
-    ensures grows { OnOk result (vec_capacity out.old ≤ vec_capacity out.new) }
+    ensures grows { vec_capacity out.old ≤ vec_capacity out.new }
     ensures err { OnErr result (KeepsFront out.old.items out.new.items) }
 {
     for entry in entries {
@@ -130,14 +129,18 @@ fn append_each(out: &mut Vec<u8>, entries: &[&[u8]]) -> Result<(), AllocError>
     Ok(())
 }
 
-/// The same, and a refusal changes nothing.
+/// The same, and a refusal changes no byte.
 fn append_entries(out: &mut Vec<u8>, entries: &[&[u8]]) -> Result<(), AllocError>
     ensures ok { OnOk result (out.new.items ≡ out.old.items ++ joined (slices_bytes entries.now)) }
-    ensures grows { OnOk result (vec_capacity out.old ≤ vec_capacity out.new) }
+    ensures grows { vec_capacity out.old ≤ vec_capacity out.new }
     ensures err { OnErr result (out.new.items ≡ out.old.items) }
 {
     let start = out.len();
-    or_cut_back(append_each(out, entries), out, start)
+    let appended = append_each(out, entries);
+    if appended.is_err() {
+        out.truncate(start);
+    }
+    appended
 }
 
 /// The entries with these indexes and bytes, laid out one after another from this offset on.

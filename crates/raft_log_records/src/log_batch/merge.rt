@@ -5,7 +5,6 @@ ghost use Rattle.raft_log_records.specs.ItemBatch.{TakesItems};
 
 use super::{LogBatch, MAX_ENTRIES_LEN, empty, make_room};
 use crate::log_item_batch::LogItemBatch;
-use raft_log_base::codec::or_cut_back;
 use raft_log_frames::LOG_BATCH_HEADER_LEN;
 use raft_log_items::{Error, Result};
 use std::alloc::AllocError;
@@ -23,7 +22,8 @@ impl LogBatch {
     /// empty, as `clear` does.
     ///
     /// Refused as full are more than 2,147,483,647 bytes of entries in all. A refusal changes neither but the
-    /// memory of the own buffer, and where there is room for the other's items and bytes there is none.
+    /// memory of the own buffer, which is no less, and where there is room for the other's items and bytes
+    /// there is none.
     pub fn merge(&mut self, rhs: &mut LogBatch) -> Result<()>
         requires own { self.old.state ≡ Filling }
         requires other { rhs.old.state ≡ Filling }
@@ -34,6 +34,7 @@ impl LogBatch {
         ensures room { OnOk result (length self.old.entries + length rhs.old.entries ≤ max_entries_len) }
         ensures succeeds { HasRoomFor self.old rhs.old → IsOk result }
         ensures err { OnErr result (IsButBuffer self.old self.new × (rhs.new ≡ rhs.old)) }
+        ensures buffer { self.old.buffer ≤ self.new.buffer }
         ensures errors { IfErr result (λ e. IsMergeRefusal e self.old.entries rhs.old.entries) }
     {
         if rhs.entries_len > MAX_ENTRIES_LEN - self.entries_len {
@@ -53,7 +54,7 @@ impl LogBatch {
 }
 
 /// Moves the other items behind these, and copies bytes behind those of the buffer. A refusal changes
-/// nothing.
+/// nothing but the buffer's room, which is no less.
 fn move_parts(
     items: &mut LogItemBatch,
     buf: &mut Vec<u8>,
@@ -62,12 +63,16 @@ fn move_parts(
 ) -> Result<(), AllocError>
     ensures items { OnOk result (TakesItems items.old items.new other.old other.new) }
     ensures bytes { OnOk result (buf.new.items ≡ buf.old.items ++ bytes.now) }
-    ensures grows { OnOk result (vec_capacity buf.old ≤ vec_capacity buf.new) }
+    ensures grows { vec_capacity buf.old ≤ vec_capacity buf.new }
     ensures kept { OnErr result ((items.new ≡ items.old) × (other.new ≡ other.old)) }
     ensures err { OnErr result (buf.new.items ≡ buf.old.items) }
     ensures succeeds { Fits items.old other.old buf.old bytes.now → IsOk result }
 {
     let filled = buf.len();
     buf.extend_from_slice(bytes)?;
-    or_cut_back(items.merge(other), buf, filled)
+    let merged = items.merge(other);
+    if merged.is_err() {
+        buf.truncate(filled);
+    }
+    merged
 }

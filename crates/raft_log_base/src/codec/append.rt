@@ -66,12 +66,13 @@ pub fn append_var_u64(out: &mut Vec<u8>, number: u64) -> Result<(), AllocError>
 }
 
 /// The answer of an addition to the buffer. Where it is a refusal, what stands behind the first `len`
-/// bytes is taken away: where the addition left these as they were, the buffer is as it was.
+/// bytes is taken away: where the addition left these as they were, the buffer is as it was. Its room stays.
 #[inline]
 pub fn or_cut_back<E>(appended: Result<(), E>, out: &mut Vec<u8>, len: usize) -> Result<(), E>
     ensures value { result ≡ appended }
     ensures ok { OnOk appended (out.new ≡ out.old) }
     ensures err { OnErr appended (out.new.items ≡ take len out.old.items) }
+    ensures room { vec_capacity out.new ≡ vec_capacity out.old }
 {
     if appended.is_err() {
         out.truncate(len);

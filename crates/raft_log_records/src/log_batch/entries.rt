@@ -6,6 +6,7 @@ ghost use Rattle.raft_log_records.specs.Entries.{RisesFrom, IsIndexRun, indexes_
 ghost use Rattle.raft_log_records.specs.Entries.{laid_slices, joined, bytes_len, IsRunRefusal};
 
 use super::{LogBatch, MAX_ENTRIES_LEN, make_room};
+use raft_log_base::codec::or_cut_back;
 use raft_log_items::{EntryIndex, EntryIndexes, Error, LogItem, Result};
 use std::alloc::{AllocError, Global};
 
@@ -136,11 +137,7 @@ fn append_entries(out: &mut Vec<u8>, entries: &[&[u8]]) -> Result<(), AllocError
     ensures err { OnErr result (out.new.items ≡ out.old.items) }
 {
     let start = out.len();
-    let appended = append_each(out, entries);
-    if appended.is_err() {
-        out.truncate(start);
-    }
-    appended
+    or_cut_back(append_each(out, entries), out, start)
 }
 
 /// The entries with these indexes and bytes, laid out one after another from this offset on.

@@ -5,6 +5,7 @@ ghost use Rattle.raft_log_records.specs.ItemBatch.{TakesItems};
 
 use super::{LogBatch, MAX_ENTRIES_LEN, empty, make_room};
 use crate::log_item_batch::LogItemBatch;
+use raft_log_base::codec::or_cut_back;
 use raft_log_frames::LOG_BATCH_HEADER_LEN;
 use raft_log_items::{Error, Result};
 use std::alloc::AllocError;
@@ -70,9 +71,5 @@ fn move_parts(
 {
     let filled = buf.len();
     buf.extend_from_slice(bytes)?;
-    let merged = items.merge(other);
-    if merged.is_err() {
-        buf.truncate(filled);
-    }
-    merged
+    or_cut_back(items.merge(other), buf, filled)
 }

@@ -11,7 +11,7 @@ use Rattle.raft_log_model.proofs.Cases.{at_bool, if_false, if_true}
 use Rattle.raft_log_places.specs.Shown.{KeyValue}
 use Rattle.raft_log_held.specs.declared.key_map.KeySlot.{KeySlot}
 use Rattle.raft_log_held.specs.declared.key_map.HeldValue.{HeldValue}
-use Rattle.raft_log_held.specs.Keys.{HaveRoom, HasRoomFor, Keys, deleted_in, held_in, joined_keys, keys_of, shown_value, slot_at, with_later, with_mark, with_room, with_slot, with_slots}
+use Rattle.raft_log_held.specs.Keys.{HaveRoom, Keys, deleted_in, held_in, joined_keys, keys_of, shown_value, slot_at, with_later, with_mark, with_slot, with_slots}
 use Rattle.raft_log_held.proofs.ByteKeys.{by_bytes}
 
 turned : (bs cs : List ℕ) → bytes_eq bs cs ≡ bytes_eq cs bs

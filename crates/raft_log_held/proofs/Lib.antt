@@ -3,3 +3,4 @@ pub mod JoinedKeys
 pub mod Replacing
 pub mod Sizing
 pub mod Listing
+pub mod LeastValues

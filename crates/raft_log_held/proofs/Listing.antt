@@ -21,7 +21,8 @@ use Rattle.raft_log_held.proofs.ByteKeys.{by_bytes}
 abbrev pub AllAbove : {X : Type 0} → List ℕ → List (List ℕ × X) → Type 0
 AllAbove k es = AllByRecursion (λ j. slice_cmp nat_cmp k j ≡ Less) (keys_of es)
 
-none_there : {X : Type 0} (k : List ℕ) (es : List (List ℕ × X)) → AllAbove k es → lookup (bytes_eq k) es ≡ None
+-- a key below all of them is none of them
+pub none_there : {X : Type 0} (k : List ℕ) (es : List (List ℕ × X)) → AllAbove k es → lookup (bytes_eq k) es ≡ None
 none_there k [] h = refl
 none_there k (e ∷ es) h =
     ap (λ b. if b then Some e.1 else lookup (bytes_eq k) es) (sym (is_eq-slice_cmp k e.0) ∙ ap is_eq h.0) ∙ none_there k es h.1

@@ -1,6 +1,7 @@
 -- What is counted and compared along places and keys: files, and lengths of entries.
-use Rattle.std.specs.Prelude.{ℕ, suc, ◌-◌, min, Bool, not, List, [], ◌∷◌, Option, Some, None, map, if◌then◌else◌, nat_le, length}
+use Rattle.std.specs.Prelude.{◌≡◌, ℕ, suc, ◌-◌, ◌≤◌, min, Bool, not, List, [], ◌∷◌, Option, Some, None, map, if◌then◌else◌, nat_le, length}
 use Rattle.raft_log_places.specs.declared.place.Place.{Place}
+use Rattle.raft_log_places.specs.Shown.{KeyValue}
 use Rattle.raft_log_held.specs.declared.key_map.HeldValue.{HeldValue}
 use Rattle.raft_log_held.specs.declared.key_map.KeySlot.{KeySlot}
 
@@ -24,6 +25,15 @@ least_over appended least (s ∷ ss) = least_over appended (lesser least (file_o
 -- the least file of the values in that queue
 abbrev pub least_value : Bool → List (List ℕ × KeySlot) → Option ℕ
 least_value appended slots = least_over appended None (map (λ e. e.1) slots)
+
+-- It is the least file of the values that stand in that queue, Append or else Rewrite: none of them lies in
+-- an earlier file, and one lies in it; there is no such file where none stands there
+abbrev pub IsLeastValue : Bool → (List ℕ → Option KeyValue) → Option ℕ → Type 0
+IsLeastValue appended held None =
+    (k : List ℕ) (h : KeyValue) → held k ≡ Some h → h.appended ≡ appended → ⊥
+IsLeastValue appended held (Some n) =
+    ((k : List ℕ) (h : KeyValue) → held k ≡ Some h → h.appended ≡ appended → n ≤ h.file)
+    × ((k : List ℕ) × (h : KeyValue) × (held k ≡ Some h) × (h.appended ≡ appended) × (h.file ≡ n))
 
 -- how many of the places lie in files up to the gate, up to the first that doesn't
 abbrev pub passing : ℕ → List Place → ℕ

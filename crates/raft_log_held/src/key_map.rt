@@ -16,7 +16,7 @@ ghost use Rattle.raft_log_held.specs.Keys.{
   with_value,
   HasRoomFor,
 };
-ghost use Rattle.raft_log_held.specs.Counts.{file_of_value, least_value, lesser};
+ghost use Rattle.raft_log_held.specs.Counts.{file_of_value, least_value, lesser, IsLeastValue};
 
 mod reads;
 
@@ -225,7 +225,8 @@ impl KeyMap {
 
     /// The least file of the values in Append, or of those in Rewrite.
     pub fn least_file(&self, appended: bool) -> Option<FileSeq>
-        ensures { result ≡ least_value appended self.now }
+        ensures exact { IsLeastValue appended (keys_of self.now).values result }
+        ensures slots { result ≡ least_value appended self.now }
     {
         let mut least = None;
         for slot in self.slots.values() {

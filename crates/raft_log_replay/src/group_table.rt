@@ -7,7 +7,7 @@ ghost use Rattle.raft_log_places.specs.Shown.{nothing_shown, span, stepped, MayF
 ghost use Rattle.raft_log_places.specs.Replayed.{joined, merged, nothing_replayed, replayed, LeavesHole};
 ghost use Rattle.raft_log_atomic_groups.specs.Meaning.{key_meaning, meaning};
 ghost use Rattle.raft_log_held.specs.Entries.{place_of, run_of};
-ghost use Rattle.raft_log_tables.specs.Files.{with_group, with_read_group};
+ghost use Rattle.raft_log_tables.specs.Files.{with_group, with_read_group, NotesGroup};
 ghost use Rattle.raft_log_tables.specs.Replays.{in_append, MergeRefused};
 ghost use Rattle.raft_log_tables.specs.Room.{
   count_of,
@@ -260,6 +260,7 @@ impl GroupTable {
 
     /// An atomic group of Rewrite ended, whose items this table took: its files are noted.
     pub(crate) fn note(&mut self, files: GroupFiles)
+        ensures exact { NotesGroup files (shown self.old.table) (shown self.new.table) }
         ensures read { replay_of self.new.table
             ≡ record (replay_of self.old.table) { table = with_group self.old.table files } }
         ensures counts { self.new.counts ≡ self.old.counts }

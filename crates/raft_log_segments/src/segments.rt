@@ -1,5 +1,6 @@
 //! The segments of a queue, read by workers side by side.
-ghost use Rattle.std.specs.Prelude.{◌≡◌, ◌+◌, ◌*◌, ◌<◌, ◌≤◌, IfOk, IfErr};
+ghost use Rattle.std.specs.Int.{div_ceil};
+ghost use Rattle.std.specs.Prelude.{◌≡◌, ◌+◌, ◌*◌, ◌<◌, ◌≤◌, max, IfOk, IfErr};
 ghost use Rattle.raft_log_segments.specs.Segments.{chunk_start, read_by, HasReadSegments, IsChunk, IsRefusedIn};
 
 use crate::chunk::{merge_chunks, replay_chunk};
@@ -67,7 +68,8 @@ pub fn replay_segments<S: ReplaySource, M: ReplayMachine, FA: Factory<M>>(
 /// chunk, and one at least.
 fn chunk_size(segments: usize, workers: usize) -> usize
     requires { 0 < workers }
-    ensures { 0 < result }
+    ensures value { result ≡ max 1 (div_ceil segments workers) }
+    ensures some { 0 < result }
 {
     segments.div_ceil(workers).max(1)
 }
@@ -75,7 +77,8 @@ fn chunk_size(segments: usize, workers: usize) -> usize
 /// How many chunks there are, where each has so many segments.
 fn chunk_count(segments: usize, size: usize) -> usize
     requires { 0 < size }
-    ensures { segments ≤ result * size }
+    ensures value { result ≡ div_ceil segments size }
+    ensures enough { segments ≤ result * size }
 {
     segments.div_ceil(size)
 }

@@ -1,75 +1,19 @@
 -- The least file that a table answers is at or below everything that stands in the queue.
-use Rattle.std.proofs.Common.{◌≡◌, ℕ, zero, suc, ◌+◌, ◌-◌, ◌<◌, ◌≤◌, min, Bool, true, false, not, List, [], ◌∷◌, map, length, Option, Some, None, option_map, slice_get, if◌then◌else◌, nat_le, nat_lt, bytes_eq, refl, sym, ap, subst, ◌∙◌, inl, inr, arith, le_refl}
+use Rattle.std.proofs.Common.{◌≡◌, ℕ, zero, suc, ◌+◌, ◌-◌, ◌<◌, ◌≤◌, max, min, Bool, true, false, List, [], ◌∷◌, length, Option, Some, None, option_map, slice_get, if◌then◌else◌, nat_le, nat_lt, refl, sym, ap, subst, ◌∙◌, inl, inr, arith, le_refl}
 use Rattle.raft_log_base.specs.declared.pipe_log.LogQueue.TheVariants.{Append, Rewrite}
 use Rattle.raft_log_model.specs.Meaning.Slot.{Index}
-use Rattle.raft_log_model.proofs.Cases.{at_bool, at_option, if_false, if_true, le_false, lt_true}
+use Rattle.raft_log_model.proofs.Cases.{at_bool, at_option, from_le_true, from_lt_true, if_false, if_true, le_false, lt_true}
 use Rattle.raft_log_machine.proofs.TruthRaises.{no_word}
 use Rattle.std.proofs.lemmas.Bool.{cases_lt}
 use Rattle.raft_log_places.specs.declared.group_files.GroupFiles.{GroupFiles}
 use Rattle.raft_log_places.specs.Shown.{KeyValue, Shown}
 use Rattle.raft_log_places.specs.Noted.{file_at, noting, place_file, start_of, FilesRise, IsLeastInRewrite}
-use Rattle.raft_log_held.specs.declared.key_map.HeldValue.{HeldValue}
-use Rattle.raft_log_held.specs.declared.key_map.KeySlot.{KeySlot}
-use Rattle.raft_log_held.specs.Counts.{lesser, file_of_value, least_over, least_value}
-use Rattle.raft_log_tables.specs.Files.{least_rewritten, first_place, min_file, noted_after, FrontIsLeast, IsLeastInAppend}
-use Rattle.raft_log_held.specs.Keys.{held_in, slot_at, value_of}
+use Rattle.raft_log_places.specs.declared.place.Place.{Place}
+use Rattle.raft_log_held.specs.Counts.{lesser, least_value, IsLeastValue}
+use Rattle.raft_log_tables.specs.Files.{first_file, first_place, least_rewritten, min_file, noted_after, ArePast, FrontIsLeast, IsLeastInAppend, IsMinFile}
+use Rattle.raft_log_held.specs.Keys.{slot_at}
+use Rattle.raft_log_held.proofs.LeastValues.{from_value, lesser_is_one, lesser_left, lesser_right, same_number, shown_file}
 use Rattle.raft_log_tables.specs.Table.{Raw, shown}
-
-same_number : (a b : ℕ) → ◌≡◌ {A = Option ℕ} (Some a) (Some b) → a ≡ b
-same_number a b h = cc
-
-lesser_left : (a : ℕ) (o : Option ℕ) → (m : ℕ) × (lesser (Some a) o ≡ Some m) × (m ≤ a)
-lesser_left a None = (a, refl, le_refl a)
-lesser_left a (Some b) = (min a b, refl, omega arith)
-
-lesser_right : (o : Option ℕ) (b : ℕ) → (m : ℕ) × (lesser o (Some b) ≡ Some m) × (m ≤ b)
-lesser_right None b = (b, refl, le_refl b)
-lesser_right (Some a) b = (min a b, refl, omega arith)
-
--- what was found before bounds the answer
-from_before : (appended : Bool) (acc : ℕ) (ss : List KeySlot) → (n : ℕ) × (least_over appended (Some acc) ss ≡ Some n) × (n ≤ acc)
-from_before appended acc [] = (acc, refl, le_refl acc)
-from_before appended acc (s ∷ ss) =
-    let one = lesser_left acc (file_of_value appended s.held) in
-    let rest = from_before appended one.0 ss in
-    (rest.0, ap (λ o. least_over appended o ss) one.1 ∙ rest.1, (let a = one.2 in let b = rest.2 in omega (arith, a, b)))
-
--- and so does each value in the queue
-from_value : (appended : Bool) (acc : Option ℕ) (slots : List (List ℕ × KeySlot)) (k : List ℕ) (s : KeySlot) (m : ℕ) → slot_at slots k ≡ Some s
-    → file_of_value appended s.held ≡ Some m → (n : ℕ) × (least_over appended acc (map (λ e. e.1) slots) ≡ Some n) × (n ≤ m)
-from_value appended acc [] k s m h f = no_word s h
-from_value appended acc (e ∷ es) k s m h f =
-    at_bool (bytes_eq k e.0)
-    (λ b. (if b then Some e.1 else slot_at es k) ≡ Some s
-    → (n : ℕ) × (least_over appended (lesser acc (file_of_value appended e.1.held)) (map (λ e. e.1) es) ≡ Some n) × (n ≤ m))
-    (λ _ here. let same : e.1 ≡ s = cc in
-    let one = lesser_right acc m in
-    let rest = from_before appended one.0 (map (λ e. e.1) es) in (
-      rest.0,
-      ap (λ o. least_over appended (lesser acc o) (map (λ e. e.1) es)) (ap (λ x. file_of_value appended x.held) same ∙ f)
-          ∙ ap (λ o. least_over appended o (map (λ e. e.1) es)) one.1 ∙ rest.1,
-      (let a = one.2 in let b = rest.2 in omega (arith, a, b)),
-    ))
-    (λ _ later. from_value appended (lesser acc (file_of_value appended e.1.held)) es k s m later f) h
-
--- a value that shows has a slot, and its file is told
-shown_file : (appended : Bool) (o : Option KeySlot) (h : KeyValue) → held_in o ≡ Some h → h.appended ≡ appended
-    → (s : KeySlot) × (o ≡ Some s) × (file_of_value appended s.held ≡ Some h.file)
-shown_file appended None h e a = no_word h e
-shown_file appended (Some s) h e a = (s, refl, told s.held e)
-  where
-    in_queue : (b c : Bool) → b ≡ c → (if c then b else not b) ≡ true
-    in_queue true true h = refl
-    in_queue true false h = cc
-    in_queue false true h = cc
-    in_queue false false h = refl
-
-    told : (o : Option HeldValue) → held_in (Some (record { held = o; deleted = s.deleted })) ≡ Some h → file_of_value appended o ≡ Some h.file
-    told None e = no_word h e
-    told (Some x) e =
-        let same : value_of x ≡ h = cc in
-        if_true (if appended then x.appended else not x.appended) (Some x.file) None (in_queue x.appended appended (ap (λ v. v.appended) same ∙ a))
-        ∙ ap (λ v. Some v.file) same
 
 -- the least of a queue's values, and of a file beside them
 value_bound : (appended : Bool) (t : Raw) (k : List ℕ) (h : KeyValue) → (shown t).held k ≡ Some h → h.appended ≡ appended
@@ -186,3 +130,60 @@ noted_by_least t new parts front =
       (λ i from to. entries i from to (old.to + 1), λ k h held appended. values k h held appended (old.to + 1)),
       sym (if_false (nat_le (old.to + 1) old.to) _ new (le_false (old.to + 1) old.to (omega arith))),
     )
+
+-- Where all of Rewrite lies past a file, it begins past it.
+first_past : (v : Shown) (n m : ℕ) → IsLeastInRewrite v (n + 1) → first_file Rewrite v ≡ Some m → n < m
+first_past v n m low is =
+    at_bool (nat_lt 0 v.rewritten)
+    (λ b. nat_lt 0 v.rewritten ≡ b → (if b then option_map (λ p. p.file) (slice_get v.places 0) else None) ≡ Some m → n < m)
+    (λ _ some file.
+    let same : v.first - v.first ≡ 0 = omega arith in
+    let entry = low.0 v.first (le_refl v.first) (let more = from_lt_true 0 v.rewritten some in omega (arith, more)) in
+    past_place (slice_get v.places 0) file (subst (λ i. n + 1 ≤ place_file (slice_get v.places i)) same entry))
+    (λ _ none file. no_word m file) refl is
+  where
+    past_place : (o : Option Place) → option_map (λ p. p.file) o ≡ Some m → n + 1 ≤ place_file o → n < m
+    past_place None h l = no_word m h
+    past_place (Some p) h l = let same = same_number p.file m h in omega (arith, same, l)
+
+value_past : (v : Shown) (n m : ℕ) (w : Option ℕ) → IsLeastInRewrite v (n + 1) → IsLeastValue false v.held w → w ≡ Some m → n < m
+value_past v n m None low least is = no_word m is
+value_past v n m (Some x) low least is =
+    let there = least.1 in
+    let past = low.1 there.0 there.1 there.2 there.3 in
+    let same = same_number x m is in
+    let file = there.4 in omega (arith, past, same, file)
+
+starts_past : (n m : ℕ) (noted : Option GroupFiles) → ArePast n noted → n < m → n < start_of m noted
+starts_past n m None past h = h
+starts_past n m (Some files) past h =
+    at_bool (nat_le m files.to) (λ b. nat_le m files.to ≡ b → n < (if b then min files.from m else m))
+    (λ _ within. let reach = from_le_true m files.to within in elim past [
+      | inl from ↦ omega (arith, from, h)
+      | inr to ↦ absurd (omega (arith, reach, to, h))
+    ])
+    (λ _ over. h) refl
+
+pub begins_past : (v : Shown) (n file : ℕ) → IsLeastInRewrite v (n + 1) → ArePast n v.noted → IsMinFile Rewrite v (Some file) → n < file
+begins_past v n file low past (None, least, is) = no_word file (sym is)
+begins_past v n file low past (Some m, (w, value, least), is) =
+    let m_past : n < m = elim (lesser_is_one (first_file Rewrite v) w m (sym least)) [
+      | inl first ↦ first_past v n m low first
+      | inr held ↦ value_past v n m w low value held
+    ] in
+    let same = same_number file (start_of m v.noted) is in
+    let start = starts_past n m v.noted past m_past in omega (arith, same, start)
+
+pub notes_past : (v : Shown) (n least : ℕ) (new : GroupFiles) → n < least → n < new.from → ArePast n v.noted → ArePast n (Some (noting least v.noted new))
+notes_past v n least new low from past = noted v.noted past
+  where
+    noted : (o : Option GroupFiles) → ArePast n o → ArePast n (Some (noting least o new))
+    noted None p = inl from
+    noted (Some old) p =
+        at_bool (nat_le least old.to)
+        (λ b. nat_le least old.to ≡ b → ArePast n (Some (if b then record { from = min old.from new.from; to = max old.to new.to } else new)))
+        (λ _ within. let reach = from_le_true least old.to within in elim p [
+          | inl first ↦ inl (omega (arith, first, from))
+          | inr to ↦ absurd (omega (arith, reach, to, low))
+        ])
+        (λ _ over. inl from) refl

@@ -1,14 +1,14 @@
 //! A table that was prepared for a batch takes it, item after item, and nothing of that can be refused.
 
-ghost use Rattle.std.specs.Prelude.{◌≡◌, ◌<◌, ◌≤◌, ◌∷◌, ◌++◌, [], false, ℕ, List, map, None, Option, Some};
+ghost use Rattle.std.specs.Prelude.{◌≡◌, ◌+◌, ◌<◌, ◌≤◌, ◌∷◌, ◌++◌, [], false, ℕ, List, map, None, Option, Some};
 ghost use Rattle.raft_log_base.specs.declared.pipe_log.LogQueue.TheVariants.{Append, Rewrite};
 ghost use Rattle.raft_log_model.specs.Item.{Item};
 ghost use Rattle.raft_log_model.specs.Renamed.{renamed};
 ghost use Rattle.raft_log_places.specs.declared.place.Place.{Place};
 ghost use Rattle.raft_log_places.specs.declared.group_files.GroupFiles.{GroupFiles};
-ghost use Rattle.raft_log_places.specs.Noted.{noting, start_of, FilesRise, IsLeastInRewrite};
+ghost use Rattle.raft_log_places.specs.Noted.{noting, start_of, with_note, FilesRise, IsLeastInRewrite};
 ghost use Rattle.raft_log_places.specs.Shown.{span, stepped, IsOrderly, KeyValue, MayFollow, Shown};
-ghost use Rattle.raft_log_tables.specs.Files.{least_rewritten, min_file, noted_after, FrontIsLeast, IsLeastInAppend};
+ghost use Rattle.raft_log_tables.specs.Files.{least_rewritten, min_file, noted_after, ArePast, FrontIsLeast, IsLeastInAppend, IsMinFile};
 ghost use Rattle.raft_log_tables.specs.Room.{kept, promised, CanTake, IsReady, Promise};
 ghost use Rattle.raft_log_tables.specs.Table.{shown, Raw};
 
@@ -50,4 +50,14 @@ pub fn least_file_in_use()
     ensures noted { (t : Raw) (new : GroupFiles) → IsOrderly (shown t) → FrontIsLeast (shown t)
         → (least : ℕ) × IsLeastInRewrite (shown t) least
         × (noted_after (least_rewritten t) t.noted new ≡ noting least t.noted new) }
+{}
+
+/// Where all that stands in Rewrite lies in files past one, and the noted groups begin past it or end at or
+/// before it, the least file in use is past it too: so it is once all was written there again. A group that
+/// begins past it and ends then changes nothing of that.
+pub fn rewritten_begins_past()
+    ensures begins { (v : Shown) (n file : ℕ) → IsLeastInRewrite v (n + 1) → ArePast n v.noted
+        → IsMinFile Rewrite v (Some file) → n < file }
+    ensures noted { (v : Shown) (n least : ℕ) (new : GroupFiles) → n < least → n < new.from
+        → ArePast n v.noted → ArePast n (with_note v least new).noted }
 {}

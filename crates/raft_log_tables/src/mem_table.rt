@@ -18,7 +18,7 @@ ghost use Rattle.raft_log_places.specs.Shown.{
 ghost use Rattle.raft_log_places.specs.Bridge.{moved_key, unmarked};
 ghost use Rattle.raft_log_places.specs.Noted.{start_of};
 ghost use Rattle.raft_log_held.specs.Entries.{entry_of, queue_of, run_of};
-ghost use Rattle.raft_log_tables.specs.Files.{least_rewritten, min_file, noted_after, with_group};
+ghost use Rattle.raft_log_tables.specs.Files.{least_rewritten, min_file, noted_after, with_group, IsLeastRewritten, IsMinFile, NotesGroup};
 ghost use Rattle.raft_log_tables.specs.Moves.{key_rewritten, may_move, moved_by, owed_compact, rewritten_by, StandsIn};
 ghost use Rattle.raft_log_held.specs.Keys.{shown_value, value_of};
 ghost use Rattle.raft_log_tables.specs.Reads.{entries_from, entry_at, first_of, last_of, AreIn, Fetches, FetchRefused};
@@ -402,7 +402,8 @@ impl MemTable {
     /// or of a value, of Rewrite the same, but the first file of the groups that are noted where they may
     /// reach to it. Along the entries of a queue files don't fall.
     pub fn min_file_seq(&self, queue: LogQueue) -> Option<FileSeq>
-        ensures { result ≡ min_file queue self.now }
+        ensures exact { IsMinFile queue (shown self.now) result }
+        ensures slots { result ≡ min_file queue self.now }
     {
         match queue {
             LogQueue::Append => {
@@ -419,7 +420,8 @@ impl MemTable {
     /// The file of the first rewritten entry or of a rewritten value, the lesser of them, where there is
     /// one.
     fn least_rewritten(&self) -> Option<FileSeq>
-        ensures { result ≡ least_rewritten self.now }
+        ensures exact { IsLeastRewritten (shown self.now) result }
+        ensures slots { result ≡ least_rewritten self.now }
     {
         let place = if self.rewritten > 0 {
             self.places.get(0)
@@ -432,6 +434,7 @@ impl MemTable {
     /// An atomic group of Rewrite ended, whose copies moved already: its files are noted, and while
     /// something lies at or below the last file noted before, also those.
     pub fn apply_rewrite_atomic_group(&mut self, files: GroupFiles)
+        ensures exact { NotesGroup files (shown self.old) (shown self.new) }
         ensures shows { shown self.new ≡ with_group self.old files }
         ensures room { promise self.new ≡ promise self.old }
         ensures bounds { IsBoundAs self.old self.new }

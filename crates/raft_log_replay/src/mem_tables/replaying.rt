@@ -4,6 +4,7 @@ ghost use Rattle.raft_log_places.specs.Shown.{span};
 ghost use Rattle.raft_log_atomic_groups.specs.Marking.{has_mark_key};
 ghost use Rattle.raft_log_atomic_groups.specs.Meaning.{meaning, tagged, tagged_items};
 ghost use Rattle.raft_log_held.specs.Entries.{place_of};
+ghost use Rattle.raft_log_tables.specs.Files.{NotesGroup};
 ghost use Rattle.raft_log_tables.specs.Replays.{in_append};
 ghost use Rattle.raft_log_replay.specs.Joining.{noted_in, read_noted_in};
 ghost use Rattle.raft_log_replay.specs.Replaying.{
@@ -14,7 +15,7 @@ ghost use Rattle.raft_log_replay.specs.Replaying.{
   RestsAt,
   StaysAt,
 };
-ghost use Rattle.raft_log_replay.specs.Tables.{counts, promise_of, raw_of, replayed_of, shown_of, IsAtRest, PromisesSame};
+ghost use Rattle.raft_log_replay.specs.Tables.{counts, has_table, promise_of, raw_of, replayed_of, shown_of, IsAtRest, PromisesSame};
 
 use super::{MemTables, is_mark};
 use crate::group_table::GroupTable;
@@ -87,6 +88,8 @@ impl MemTables {
     /// An atomic group of Rewrite ended, in these files, whose items of a group are done: its files are
     /// noted there, and while something of the group lies at or below the last file noted before, also those.
     pub fn note_group(&mut self, group: u64, files: GroupFiles)
+        ensures exact { has_table self.old group ≡ true
+            → NotesGroup files (shown_of self.old group) (shown_of self.new group) }
         ensures noted { replayed_of self.new group ≡ noted_in files (raw_of self.old group) }
         ensures others { (g : ℕ) → (group == g) ≡ false → replayed_of self.new g ≡ replayed_of self.old g }
         ensures counts { (g : ℕ) → counts self.new g ≡ counts self.old g }

@@ -1,4 +1,4 @@
-use Rattle.std.proofs.Common.{◌≡◌, ap, inl, inr, is_some, refl, subst, sym, true, ◌∙◌}
+use Rattle.std.proofs.Common.{ap, inr, is_some, refl, subst, sym, ◌∙◌}
 use Rattle.raft_log_held.specs.Keys.{keys_of, slot_at, with_room}
 use Rattle.raft_log_held.proofs.JoinedKeys.{RoomOrLeft, has_key, has_slot_key, none_left, one_room_more}
 use Rattle.raft_log_held.proofs.key_map.KeyMap.make_room_for.Goals as goal

@@ -1,11 +1,14 @@
 -- Refusals that are of the bytes that were read, and the others.
-use Rattle.std.proofs.Common.{◌≡◌, ℕ, ◌≤◌, length, inl, inr, Option, Some, None, Result, Err, refl, arith, take}
+use Rattle.std.proofs.Common.{◌≡◌, ℕ, ◌≤◌, length, inl, inr, Option, Some, None, Result, Err, refl, ap, subst, arith, take}
 use Rattle.std.specs.String.{string_bytes}
+use Rattle.std.specs.declared.io.ErrorKind.{ErrorKind}
 use Rattle.raft_log_base.specs.Fault.{Fault}
 use Rattle.raft_log_base.specs.Fault.Fault.{number, corrupt}
 use Rattle.raft_log_base.specs.declared.errors.Error.{Error}
 use Rattle.raft_log_base.specs.declared.errors.Error.TheVariants as errors
-use Rattle.raft_log_disk.specs.Disk.{Disk}
+use Rattle.raft_log_disk.specs.Disk.{Disk, File}
+use Rattle.raft_log_disk.specs.Reading.{IsUnread}
+use Rattle.raft_log_disk.specs.Reading.IsUnread.{stopped, gone, unreadable}
 use Rattle.raft_log_disk.specs.declared.handle.Handle.{Handle}
 use Rattle.raft_log_format.specs.Header.{header_at}
 use Rattle.raft_log_reader.specs.Source.{bytes_in, bytes_of, CannotRead, IsUnreadFrom}
@@ -53,13 +56,22 @@ part_unread source d at _ reading h other = absurd h
 
 -- Of a file that is opened.
 
+-- what can't be read of a file is some of its bytes
+unread_anywhere : (handle : Handle) (at count : ℕ) (d : Disk) (kind : ErrorKind) → IsUnread handle at count d kind → IsUnread handle 0 (length (bytes_in (d.files handle.file))) d kind
+unread_anywhere handle at count d kind (stopped is) = stopped is
+unread_anywhere handle at count d kind (gone wrong) = gone wrong
+unread_anywhere handle at count d kind (unreadable file place is behind before inside bad) =
+    let size : length (bytes_in (d.files handle.file)) ≡ length file.content = ap (λ (f : Option File). length (bytes_in f)) is in
+    unreadable file place is (omega arith) (omega (arith, inside, size)) inside bad
+
 pub header_damaged : (handle : Handle) (d : Disk) (e : Error) → FailsToOpen handle d e → IsDamage e → (f : Fault) × TellsFault e f × (header_at (take 69 (bytes_in (d.files handle.file))) ≡ Err f)
 header_damaged handle d (errors.Codec c) h damaged = (number c, refl, h)
 header_damaged handle d (errors.Corruption text) h damaged = (corrupt (string_bytes text), refl, h)
 header_damaged handle d _ h damaged = absurd damaged
 
 pub header_unread : (handle : Handle) (d : Disk) (e : Error) → FailsToOpen handle d e → (IsDamage e → ⊥) → FailsToRead handle d e
-header_unread handle d (errors.Io kind) h other = h
+header_unread handle d (errors.Io kind) (inl h) other = inl h
+header_unread handle d (errors.Io kind) (inr h) other = inr (unread_anywhere handle 0 69 d kind h)
 header_unread handle d errors.Memory h other = tt
 header_unread handle d (errors.Codec c) h other = absurd (other tt)
 header_unread handle d (errors.Corruption text) h other = absurd (other tt)
@@ -67,6 +79,6 @@ header_unread handle d _ h other = absurd h
 
 -- what can't be read of a file that is open is why it isn't read
 pub file_unread : (source : Source) (handle : Handle) (d : Disk) (e : Error) → source.handle ≡ handle → source.size ≡ length (bytes_of source d) → CannotRead source 0 d e → FailsToRead handle d e
-file_unread source handle d (errors.Io kind) reads size h = inr (record { source = source; reads_by = reads; size = size; unread = h })
+file_unread source handle d (errors.Io kind) reads size h = inr (subst (λ (by : Handle). IsUnread by 0 (length (bytes_in (d.files by.file))) d kind) reads (unread_anywhere source.handle h.at h.count d kind h.unread))
 file_unread source handle d errors.Memory reads size h = tt
 file_unread source handle d _ reads size h = absurd h

@@ -1,16 +1,16 @@
 -- What a log file that was found reads as.
-use Rattle.std.specs.Prelude.{◌≡◌, ℕ, ◌⊎◌, Bool, Option, Some, None, List, [], take, Result, Err}
+use Rattle.std.specs.Prelude.{◌≡◌, ℕ, ◌⊎◌, Bool, Option, Some, None, List, [], length, take, Result, Err}
 use Rattle.raft_log_base.specs.Fault.{Fault}
 use Rattle.raft_log_base.specs.declared.errors.Error.{Error}
 use Rattle.raft_log_base.specs.declared.errors.Error.TheVariants as errors
 use Rattle.raft_log_base.specs.declared.pipe_log.FileId.{FileId}
 use Rattle.raft_log_base.specs.declared.pipe_log.Version.TheVariants.{V1}
 use Rattle.raft_log_disk.specs.Disk.{Disk}
-use Rattle.raft_log_disk.specs.Reading.{IsNotMeasured}
+use Rattle.raft_log_disk.specs.Reading.{IsNotMeasured, IsUnread}
 use Rattle.raft_log_disk.specs.declared.handle.Handle.{Handle}
 use Rattle.raft_log_format.specs.Header.{header_at}
 use Rattle.raft_log_format.specs.declared.header.LogFileFormat.{LogFileFormat}
-use Rattle.raft_log_reader.specs.Opening.{BeginsWithHeader, IsUnreadInFront}
+use Rattle.raft_log_reader.specs.Opening.{BeginsWithHeader}
 use Rattle.raft_log_reader.specs.Source.{bytes_in}
 use Rattle.raft_log_reader.specs.declared.open_file.OpenFile.{OpenFile}
 use Rattle.raft_log_found_files.specs.Behind.{items_of}
@@ -41,6 +41,7 @@ ReadsFile last id handle d read = ReadsBytes last id (bytes_in (d.files handle.f
 -- why a file isn't read: its size isn't told, or some of its bytes can't be read; or memory ran out. No fault
 -- of the bytes is among these.
 abbrev pub FailsToRead : Handle → Disk → Error → Type 0
-FailsToRead handle d (errors.Io kind) = IsNotMeasured handle d kind ⊎ IsUnreadInFront handle d kind
+FailsToRead handle d (errors.Io kind) = IsNotMeasured handle d kind
+    ⊎ IsUnread handle 0 (length (bytes_in (d.files handle.file))) d kind
 FailsToRead handle d errors.Memory = Unit {0}
 FailsToRead handle d _ = ⊥

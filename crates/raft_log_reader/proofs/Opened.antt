@@ -1,20 +1,22 @@
 -- Opening a file, and where its reading goes on.
 use Rattle.std.proofs.lemmas.Bool.{cases_lt}
-use Rattle.std.proofs.Common.{◌≡◌, ℕ, ◌-◌, ◌<◌, ◌≤◌, inl, inr, min, List, ◌++◌, length, take, drop, sym, ap, ◌∙◌, arith, append_assoc}
+use Rattle.std.proofs.Common.{◌≡◌, ℕ, ◌+◌, ◌-◌, ◌<◌, ◌≤◌, inl, inr, min, List, ◌++◌, length, take, drop, sym, ap, ◌∙◌, arith, append_assoc}
 use Rattle.std.proofs.lemmas.List.{length-take, length-drop, length-append, take_all, take-append-drop}
 use Rattle.raft_log_base.specs.Fault.{Fails}
 use Rattle.raft_log_base.specs.declared.errors.Error.{Error}
 use Rattle.raft_log_base.specs.declared.errors.Error.TheVariants as errors
 use Rattle.raft_log_disk.specs.Disk.{Disk}
-use Rattle.raft_log_disk.specs.Reading.{IsSize}
+use Rattle.raft_log_disk.specs.Reading.{IsSize, IsUnread}
+use Rattle.raft_log_disk.specs.Reading.IsUnread.{stopped, gone, unreadable}
 use Rattle.raft_log_disk.specs.declared.handle.Handle.{Handle}
 use Rattle.raft_log_format.specs.Header.{IsHeader, header_at}
 use Rattle.raft_log_format.specs.declared.header.LogFileFormat.{LogFileFormat}
-use Rattle.raft_log_reader.specs.Source.{bytes_in, bytes_of, CannotRead}
+use Rattle.raft_log_reader.specs.Source.{bytes_in, bytes_of, CannotRead, CannotReadPart}
 use Rattle.raft_log_reader.specs.Batches.{GoesOnAt, batch_at, context_of}
 use Rattle.raft_log_reader.specs.Batches.GoesOnAt.{behind_padding, at_once}
 use Rattle.raft_log_reader.specs.Refused.{FailsAt, FailsBehind}
 use Rattle.raft_log_reader.specs.Opening.{BeginsWithHeader, FailsToOpen}
+use Rattle.raft_log_reader.specs.declared.source.Source.{Source}
 use Rattle.raft_log_reader.specs.declared.open_file.OpenFile.{OpenFile}
 use Rattle.raft_log_frames.specs.Written.{AreBytes}
 use Rattle.raft_log_reader.proofs.WrittenHeaders.{front_bytes, written_in}
@@ -52,6 +54,16 @@ front-is content len is = elim (cases_lt (length content) 69) [
   | inl short ↦ let all : length content ≤ len = omega (arith, is) in take_all len content all ∙ sym (take_all 69 content (omega arith))
   | inr long ↦ let sixty_nine : len ≡ 69 = omega (arith, is) in ap (λ n. take n content) sixty_nine
 ]
+
+-- a part of them that isn't read is why the file isn't opened
+pub front_unread : (source : Source) (d : Disk) (at count : ℕ) (e : Error) → at + count ≤ 69 → CannotReadPart source at count d e → FailsToOpen source.handle d e
+front_unread source d at count (errors.Io kind) few h = inr (unread_within h) where
+  unread_within : IsUnread source.handle at count d kind → IsUnread source.handle 0 69 d kind
+  unread_within (stopped is) = stopped is
+  unread_within (gone wrong) = gone wrong
+  unread_within (unreadable file place is behind before inside bad) = unreadable file place is (omega arith) (omega (arith, before, few)) inside bad
+front_unread source d at count errors.Memory few h = tt
+front_unread source d at count _ few h = absurd h
 
 -- what is wrong with them is why the file isn't opened
 pub open_fault : (handle : Handle) (d : Disk) (e : Error) → Fails e (header_at (take 69 (bytes_in (d.files handle.file)))) → FailsToOpen handle d e

@@ -5,12 +5,11 @@ use Rattle.raft_log_base.specs.Fault.{Fails}
 use Rattle.raft_log_base.specs.declared.errors.Error.{Error}
 use Rattle.raft_log_base.specs.declared.errors.Error.TheVariants as errors
 use Rattle.raft_log_disk.specs.Disk.{Disk}
-use Rattle.raft_log_disk.specs.Reading.{IsNotMeasured}
+use Rattle.raft_log_disk.specs.Reading.{IsNotMeasured, IsUnread}
 use Rattle.raft_log_disk.specs.declared.handle.Handle.{Handle}
 use Rattle.raft_log_format.specs.Header.{IsHeader, header_at, header_bytes}
 use Rattle.raft_log_format.specs.declared.header.LogFileFormat.{LogFileFormat}
-use Rattle.raft_log_reader.specs.Source.{bytes_in, bytes_of, IsUnreadFrom}
-use Rattle.raft_log_reader.specs.declared.source.Source.{Source}
+use Rattle.raft_log_reader.specs.Source.{bytes_in}
 
 -- The bytes begin with a header that says this format, and it ends there: the one that the format is written
 -- with.
@@ -22,12 +21,9 @@ pub record BeginsWithHeader (content : List ℕ) (format : LogFileFormat) (end :
   pub splits : content ≡ header ++ rest
   pub ends : end ≡ length header
 
--- some of the first bytes of the file couldn't be read, which has a size
-pub record IsUnreadInFront (handle : Handle) (d : Disk) (kind : ErrorKind) : Type 0 where
-  pub source : Source
-  pub reads_by : source.handle ≡ handle
-  pub size : source.size ≡ length (bytes_of source d)
-  pub unread : IsUnreadFrom source 0 d kind
+-- some of the first 69 bytes of the file couldn't be read: no unreadable place behind them refuses an open
+abbrev pub IsUnreadInFront : Handle → Disk → ErrorKind → Type 0
+IsUnreadInFront handle d kind = IsUnread handle 0 69 d kind
 
 -- Why a file wasn't opened: its size wasn't told or its first bytes couldn't be read, memory ran out, or this
 -- is the first fault of a header in its first 69 bytes.

@@ -29,3 +29,9 @@ abbrev pub CannotRead : Source → ℕ → Disk → Error → Type 0
 CannotRead source offset d (errors.Io kind) = IsUnreadFrom source offset d kind
 CannotRead source offset d errors.Memory = Unit {0}
 CannotRead source offset d _ = ⊥
+
+-- why so many bytes from an offset on didn't come: the file system refused to read them, or memory ran out
+abbrev pub CannotReadPart : Source → ℕ → ℕ → Disk → Error → Type 0
+CannotReadPart source offset count d (errors.Io kind) = IsUnread source.handle offset count d kind
+CannotReadPart source offset count d errors.Memory = Unit {0}
+CannotReadPart source offset count d _ = ⊥

@@ -1,7 +1,7 @@
 //! The part of a file's bytes that a reader holds.
 ghost use Rattle.std.specs.Prelude.{◌≡◌, ◌+◌, ◌-◌, ◌≤◌, ◌<◌, ◌^◌, ◌++◌, [], List, ℕ, length, take, drop, min, vec_len, OnOk, OnErr, IfErr};
 ghost use Rattle.raft_log_reader.specs.Window.{IsPart, Covers};
-ghost use Rattle.raft_log_reader.specs.Source.{bytes_of, CannotRead};
+ghost use Rattle.raft_log_reader.specs.Source.{bytes_of, CannotRead, CannotReadPart};
 
 use crate::source::Source;
 use raft_log_base::{Error, Result};
@@ -132,6 +132,8 @@ impl Window {
         ensures ok { OnOk result (length self.new.bytes.items ≡ length self.old.bytes.items + room) }
         ensures err { IfErr result
             (CannotRead source (self.old.start + length self.old.bytes.items) (F.disk file_system.now)) }
+        ensures unread { IfErr result (CannotReadPart source
+            (self.old.start + length self.old.bytes.items) room (F.disk file_system.now)) }
         ensures block { self.new.block_size ≡ self.old.block_size }
     {
         let held = self.bytes.len();
@@ -164,6 +166,8 @@ fn fill<F: FileSystem>(file_system: &F, source: Source, at: usize, room: &mut [u
     ensures ok { OnOk result
         (room.new ≡ take (length room.old) (drop at (bytes_of source (F.disk file_system.now)))) }
     ensures err { IfErr result (CannotRead source at (F.disk file_system.now)) }
+    ensures unread { IfErr result
+        (CannotReadPart source at (length room.old) (F.disk file_system.now)) }
 {
     match file_system.read_at(source.handle, at, room) {
         Ok(_) => Ok(()),

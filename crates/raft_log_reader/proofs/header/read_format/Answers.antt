@@ -1,17 +1,25 @@
-use Rattle.std.proofs.Common.{◌≡◌, ◌≤◌, List, ℕ, length, take, min, sym, subst, ◌∙◌, arith}
+use Rattle.std.proofs.Common.{◌≡◌, ◌+◌, ◌≤◌, List, ℕ, length, take, min, sym, ap, subst, ◌∙◌, arith}
 use Rattle.std.proofs.lemmas.Result.{err_from_is_err_and}
 use Rattle.raft_log_base.specs.Fault.{Fails}
 use Rattle.raft_log_format.specs.Header.{header_at}
 use Rattle.raft_log_frames.specs.Written.{AreBytes}
 use Rattle.raft_log_reader.specs.Source.{bytes_of}
 use Rattle.raft_log_reader.proofs.Parts.{nothing_held}
-use Rattle.raft_log_reader.proofs.Opened.{front-is, open_fault, header_begins, rest_fits}
+use Rattle.raft_log_reader.proofs.Opened.{front-is, front_unread, open_fault, header_begins, rest_fits}
 use Rattle.raft_log_reader.proofs.header.read_format.Goals as goal
 
 pub read_on-requires-clause-part : goal.read_on-requires-clause-part
 read_on-requires-clause-part g c =
     let content = bytes_of c.args.source (g.F.FileSystem.disk c.args.file_system.now) in
     record { size = c.requires; part = rw (c.begin.ensures.bytes, c.begin.ensures.start) (nothing_held 0 content (omega arith)) }
+
+pub returns-in_err-read_on-clause-err : goal.returns-in_err-read_on-clause-err
+returns-in_err-read_on-clause-err g c =
+    let d = g.F.FileSystem.disk c.args.file_system.now in
+    let p = err_from_is_err_and c.from_residual.result c.from_residual.ensures.1 in
+    let few : c.min-len.result ≤ 69 = omega (arith, c.min-len.ensures) in
+    let nothing : length c.begin.new.self.bytes.items ≡ 0 = ap length c.begin.ensures.bytes in
+    rw (p.1, p.2) (front_unread c.args.source d (c.begin.new.self.start + length c.begin.new.self.bytes.items) c.min-len.result c.in_err-read_on.field-0.0 (omega (arith, few, nothing, c.begin.ensures.start)) c.in_err-read_on.ensures.unread)
 
 pub returns-in_err-format-clause-err : goal.returns-in_err-format-clause-err
 returns-in_err-format-clause-err g c =

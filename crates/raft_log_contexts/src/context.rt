@@ -190,6 +190,7 @@ impl MemTableRecoverContext {
             → HasRead Rewrite rewrite self.old → HasRead Append behind append
             → ComesOver rewrite behind (tables_of self.new)) }
         ensures errors { IfErr result (λ e. e ≡ Memory) }
+        ensures written { written_to self.new ≡ written_to self.old }
     {
         self.tables.merge_append_table(append.tables)
     }

@@ -7,6 +7,7 @@ use crate::batches::{is_emptied, is_made_anew};
 use crate::messages::{TestEntries, TestEntry};
 use crate::rows::context;
 use crate::steps::{Step, filled, record};
+use raft_log_frames::decode_record;
 use raft_log_items::{
     Bytes, EntryIndex, Error, FileBlockHandle, FileId, LogItem, LogItemContent, LogQueue, Result,
     Version,
@@ -271,12 +272,19 @@ fn has_room(alloc: Global) -> Result<bool> {
     Ok(batch.entries_len() == 2 && batch.reserve(0, 2_147_483_646).is_err())
 }
 
-/// How many bytes the record of an entry of 2 MiB has.
-fn large_record(alloc: Global) -> Result<usize> {
+/// The record of an entry of 2 MiB.
+fn large_record(alloc: Global) -> Result<Vec<u8>> {
     let entry = vec![in alloc; 7u8; 2 << 20]?;
     let mut batch = LogBatch::default(alloc)?;
     add(alloc, &mut batch, 1, &[1], &[entry.as_slice()])?;
-    batch.finish_populate()
+    record(alloc, &mut batch, Version::V2)
+}
+
+/// How many bytes it has, and how many of its entries are read back.
+fn large_lengths(alloc: Global) -> Result<(usize, usize)> {
+    let bytes = large_record(alloc)?;
+    let (len, _, entries) = decode_record(alloc, &bytes, Some(1))?;
+    Ok((len, entries.len()))
 }
 
 /// What holds, by its number.
@@ -290,7 +298,7 @@ const HOLDS: [&str; 12] = [
     "merged batches are one",
     "merged entries lie behind",
     "a batch with room takes another",
-    "a batch of two mebibytes is made",
+    "a batch of two mebibytes is made and read",
     "a batch goes back",
     "a batch is emptied",
 ];
@@ -309,7 +317,7 @@ fn holds(alloc: Global, number: usize) -> Result<bool> {
         6 => has_both(alloc),
         7 => lie_behind(alloc),
         8 => has_room(alloc),
-        9 => Ok(large_record(alloc)? == 16 + (2 << 20) + 4 + 1 + 8 + 4),
+        9 => Ok(large_lengths(alloc)? == (16 + (2 << 20) + 4 + 1 + 8 + 4, 2 << 20)),
         10 => is_made_anew(alloc),
         _ => is_emptied(alloc),
     }

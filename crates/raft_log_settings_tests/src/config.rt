@@ -1,4 +1,6 @@
 //! Settings that are refused, made whole, and counted with.
+use log::sink::Memory;
+use log::{Level, Logged};
 use raft_log_base::{Error, ReadableSize, Version};
 use raft_log_settings::Config;
 use std::alloc::Global;
@@ -85,4 +87,26 @@ fn prefill_limit_goes_with_prefilling(rt: HostRuntime) {
     assert!(rt; config.sanitize(&rt, rt.alloc()).is_ok());
     assert!(rt; config.prefill_limit == Some(config.purge_threshold));
     assert!(rt; config.prefill_capacity() == 120);
+}
+
+/// What is said of settings that have no effect, line by line.
+const WARNED: [&str; 3] = [
+    "bytes-per-sync has no effect",
+    "memory-limit has no effect",
+    "prefill-limit has no effect without prefill-for-recycle",
+];
+
+#[test]
+fn what_has_no_effect_is_warned_of(rt: HostRuntime) {
+    let sink = Memory::new(rt.alloc());
+    let mut config = Config::default(rt.alloc());
+    config.bytes_per_sync = Some(ReadableSize(1));
+    config.memory_limit = Some(ReadableSize(1));
+    config.prefill_limit = Some(ReadableSize(1));
+    let made = config.sanitize(&Logged::new(&rt, Level::Warn, &sink), rt.alloc());
+    let lines = sink.into_lines();
+    assert!(rt; made.is_ok() && lines.len() == 3);
+    for (line, want) in lines.as_slice().iter().zip(WARNED.iter()) {
+        assert!(rt; line.contains(*want), "{want}");
+    }
 }

@@ -2,6 +2,8 @@
 #![tactic(auto)]
 
 #[cfg(test)]
+mod carried;
+#[cfg(test)]
 mod counts;
 #[cfg(test)]
 mod reads;

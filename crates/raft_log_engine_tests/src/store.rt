@@ -175,6 +175,19 @@ impl Store {
         Ok(seen)
     }
 
+    /// The last bytes of the keys of group 7, or of their values, in the keys' order or backwards.
+    pub fn scan_ends(&self, reverse: bool, of_values: bool) -> Result<u64> {
+        let mut seen: u64 = 0;
+        self.engine
+            .scan_raw_messages(7, None, None, reverse, |key, value| {
+                let bytes = if of_values { value } else { key };
+                let byte = bytes.last().copied().unwrap_or(0);
+                seen = seen.wrapping_mul(256).wrapping_add(byte as u64);
+                true
+            })?;
+        Ok(seen)
+    }
+
     /// The numbers under the keys of group 7, as digits, up to the first that is this one.
     pub fn scan_numbers(&self, start: Option<&[u8]>, reverse: bool, last: u32) -> Result<u32> {
         let mut seen: u32 = 0;

@@ -2,6 +2,14 @@
 #![tactic(auto)]
 
 #[cfg(test)]
+mod carried;
+#[cfg(test)]
 mod entries;
 #[cfg(test)]
+mod expired;
+#[cfg(test)]
+mod logs;
+#[cfg(test)]
 mod opening;
+#[cfg(test)]
+mod purges;

@@ -1,8 +1,9 @@
 //! Logs that are opened, left, and opened again.
 use super::entries::TestEntries;
+use super::logs::{append, open_small};
 use log::Log;
 use raft_log_base::{Error, Result};
-use raft_log_disk::FileSystem;
+use raft_log_disk::{FileSystem, Permission};
 use raft_log_dual_pipes::{DualPipes, OpenRefused, PipeLog};
 use raft_log_engine::Engine;
 use raft_log_items::EntryIndex;
@@ -13,8 +14,11 @@ use std::alloc::Global;
 use std::test::Fail;
 use std::thread::Threads;
 
+// How many bytes the header of a file has.
+const HEADER_LEN: usize = 69;
+
 // The usual settings of a log in the directory `d`, with so many workers and this mode of recovery.
-fn settings(alloc: Global, workers: usize, mode: RecoveryMode) -> Result<Config> {
+pub fn settings(alloc: Global, workers: usize, mode: RecoveryMode) -> Result<Config> {
     let mut config = Config::default(alloc);
     config.dir = String::from_str(alloc, "d")?;
     config.recovery_threads = workers;
@@ -23,7 +27,7 @@ fn settings(alloc: Global, workers: usize, mode: RecoveryMode) -> Result<Config>
 }
 
 // Opens the log in these files by so many workers.
-fn open<R: Threads + Log + Sync, F: FileSystem + Sync + Drop>(
+pub fn open<R: Threads + Log + Sync, F: FileSystem + Sync + Drop>(
     rt: &R,
     alloc: Global,
     files: F,
@@ -155,6 +159,40 @@ fn damage_is_refused_and_the_files_are_handed_back(
     Ok(())
 }
 
+// Whether records of a log are found to be damaged where no damage is tolerated.
+fn is_damaged<R: Threads + Log + Sync, F: FileSystem + Sync + Drop>(
+    rt: &R,
+    alloc: Global,
+    files: F,
+) -> Result<bool> {
+    match refused(rt, alloc, files, RecoveryMode::AbsoluteConsistency)? {
+        Some(OpenRefused { error, .. }) => Ok(matches!(error, Error::Corruption(_))),
+        None => Ok(false),
+    }
+}
+
+// A log with a batch, closed.
+fn closed<R: Threads + Log + Sync>(rt: &R, alloc: Global) -> Result<MemoryFileSystem> {
+    let mut engine = open(rt, alloc, MemoryFileSystem::new(alloc), 1)?;
+    write(rt, alloc, &mut engine, 1, 1, true)?;
+    Ok(engine.close(rt))
+}
+
+#[test]
+fn zeros_behind_records_are_damage_where_none_is_tolerated(
+    rt: HostRuntime,
+) -> std::result::Result<(), Fail> {
+    assert!(rt;
+        is_damaged(
+            &rt,
+            rt.alloc(),
+            crashed(&rt, rt.alloc(), &Remainder::LastSync)?
+        )?
+    );
+    assert!(rt; !is_damaged(&rt, rt.alloc(), closed(&rt, rt.alloc())?)?);
+    Ok(())
+}
+
 // Whether an open at which the changing call of this number is refused hands the files back, and they open.
 fn opens_behind<R: Threads + Log + Sync>(rt: &R, alloc: Global, call: u64) -> Result<bool> {
     let mut files = crashed(rt, alloc, &Remainder::AllWritten)?;
@@ -166,6 +204,45 @@ fn opens_behind<R: Threads + Log + Sync>(rt: &R, alloc: Global, call: u64) -> Re
         }
         None => Ok(false),
     }
+}
+
+// Three runs of a group's entries were written, each to a file of its own behind the first one, and the second
+// run's file has lost its records.
+fn with_a_hole<R: Threads + Log + Sync>(rt: &R, alloc: Global) -> Result<MemoryFileSystem> {
+    let mut engine = open_small(rt, alloc, MemoryFileSystem::new(alloc))?;
+    for begin in [1u64, 3, 5] {
+        append(
+            rt,
+            alloc,
+            &mut engine,
+            1,
+            (begin, begin.saturating_add(2)),
+            b"abc",
+        )?;
+    }
+    let mut files = engine.close(rt);
+    let Ok(handle) = files.open("d/0000000000000003.raftlog", Permission::ReadWrite) else {
+        return Err(Error::Full);
+    };
+    match files.truncate(handle, HEADER_LEN) {
+        Ok(()) => Ok(files),
+        Err(kind) => Err(Error::Io(kind)),
+    }
+}
+
+// Whether it is refused for the hole.
+fn is_refused_for_its_hole<R: Threads + Log + Sync>(rt: &R, alloc: Global) -> Result<bool> {
+    let files = with_a_hole(rt, alloc)?;
+    match refused(rt, alloc, files, RecoveryMode::TolerateAnyCorruption)? {
+        Some(OpenRefused { error, .. }) => Ok(matches!(error, Error::Hole)),
+        None => Ok(false),
+    }
+}
+
+#[test]
+fn a_hole_between_files_is_refused(rt: HostRuntime) -> std::result::Result<(), Fail> {
+    assert!(rt; is_refused_for_its_hole(&rt, rt.alloc())?);
+    Ok(())
 }
 
 #[test]

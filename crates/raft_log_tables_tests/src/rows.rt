@@ -18,7 +18,7 @@ const C: Step = Append(3, 25, 10);
 
 /// Steps, and what is told of the entries: first and last index, how many there are and how many in
 /// Rewrite, the least file of each queue.
-const ENTRIES: [(&[Step], &str); 22] = [
+const ENTRIES: [(&[Step], &str); 24] = [
     (
         &[Append(1, 1, 10), Compact(100)],
         "(None, None) (0, 0) (None, None)",
@@ -111,6 +111,19 @@ const ENTRIES: [(&[Step], &str); 22] = [
             Group(59, 61),
         ],
         "(Some(10), Some(19)) (10, 10) (None, Some(58))",
+    ),
+    (
+        &[Put(b"a", 3), RewriteKey(b"a", Some(3), 7), Group(5, 7)],
+        "(None, None) (0, 0) (None, Some(5))",
+    ),
+    (
+        &[
+            Put(b"a", 3),
+            RewriteKey(b"a", Some(3), 7),
+            Group(5, 7),
+            RewriteKey(b"a", None, 9),
+        ],
+        "(None, None) (0, 0) (None, Some(9))",
     ),
 ];
 

@@ -1,6 +1,6 @@
 -- What a write was told by its pipes and its tables, put together.
 use Rattle.std.proofs.Common.{◌≡◌, ◌↔◌, ℕ, true, false, None, List, [], inl, inr, refl, sym, ap, ap₂, subst, ◌∙◌}
-use Rattle.std.specs.Prelude.{IsTrue, IsOk, IfErr, IfOk, OnOk, Result, Ok, Err, is_err}
+use Rattle.std.specs.Prelude.{Bool, IsTrue, IsOk, IfErr, IfOk, OnOk, Result, Ok, Err, is_err}
 use Rattle.std.proofs.lemmas.Bool.{cases_Bool, false≢true}
 use std.Path.{fun_ext}
 use Rattle.raft_log_model.specs.Groups.{of_group}
@@ -19,7 +19,7 @@ use Rattle.raft_log_replay.specs.Batch.{BatchRefused, IsReadyFor, all_shown, cou
 use Rattle.raft_log_replay.specs.Tables.{ShowsSame, counts, shown_of}
 use Rattle.raft_log_purging.specs.raft_log_stored.specs.Written.{placed_items}
 use Rattle.raft_log_dual_pipes.specs.Pipes.{LogPipes, is_failed}
-use Rattle.raft_log_dual_pipes.specs.Calls.{AppendsTo, FailsToAppendTo, TellsFailure}
+use Rattle.raft_log_dual_pipes.specs.Calls.{AppendsTo, FailsToAppendTo, FailsToSyncQueue, SyncsQueue, TellsFailure}
 use Rattle.raft_log_base.specs.declared.pipe_log.LogFileContext.{LogFileContext}
 use Rattle.raft_log_purging.specs.raft_log_blocks.specs.declared.block_cache.BlockCache.{BlockCache}
 use Rattle.raft_log_purging.specs.raft_log_engine_state.specs.Shows.{IsLaidOut, IsWellMarked, Shows, shows}
@@ -29,6 +29,7 @@ use Rattle.raft_log_purging.specs.raft_log_engine_state.specs.Syncing.{NotSynced
 use Rattle.raft_log_purging.specs.raft_log_engine_state.specs.Laws.{IsReady}
 use Rattle.raft_log_purging.specs.raft_log_engine_state.proofs.Exits.{empty_unsynced, refuses, write_unsynced, writes, writes_synced}
 use Rattle.raft_log_engine.specs.Room.{PutFails}
+use Rattle.raft_log_engine.specs.Touching.{LeavesFiles, LeavesRecord, WritesFiles, WritesRecord}
 
 pub on_ok : {A E : Type 0} {P : Type 0} (r : Result A E) → IsOk r → OnOk r P → P
 on_ok (Ok x) ok p = p
@@ -148,3 +149,25 @@ pub refused_again : (signed other : LogFileContext → List ℕ) (error : Error)
     → FailsToAppendTo InAppend signed error v mid → IfErr r (λ e. FailsToAppendTo InAppend other e mid w) → IfErr r (λ e. RefusesAt signed e v w)
 refused_again signed other error v mid w (Ok block) same none later next failed call = tt
 refused_again signed other error v mid w (Err e) same none later next failed call = inr (mid, (error, none, later, failed), next, subst (λ s. FailsToAppendTo InAppend s e mid w) same call)
+
+-- what was done to the files, of a batch whose record was made
+pub kept_record : {A : Type 0} (b kept : Batch) (v w : LogPipes) (r : Result A Error) → IsKept b kept → OnOk r (WritesRecord kept v w) → OnOk r (WritesRecord b v w)
+kept_record b kept v w (Ok x) is h = subst (λ k. WritesRecord k v w) is h
+kept_record b kept v w (Err e) is h = tt
+
+pub kept_unrecorded : {A : Type 0} (b kept : Batch) (v w : LogPipes) (r : Result A Error) → IsKept b kept → IfErr r (λ e. RefusesAt (signed_for kept) e v w) → IfErr r (λ e. LeavesRecord b e v w)
+kept_unrecorded b kept v w (Ok x) is h = tt
+kept_unrecorded b kept v w (Err e) is h = inr (subst (λ k. RefusesAt (signed_for k) e v w) is h)
+
+-- what a write did to the files
+pub none_synced_files : (b : Batch) (v w : LogPipes) → b.items ≡ [] → SyncsQueue InAppend v w → WritesFiles b true v w
+none_synced_files b v w none call = inl (none, call)
+
+pub none_unsynced_files : (b : Batch) (sync : Bool) (error : Error) (v w : LogPipes) → b.items ≡ [] → sync ≡ true → FailsToSyncQueue InAppend v w → LeavesFiles b sync error v w
+none_unsynced_files b sync error v w none asked call = inr (asked, (v, inl (none, refl), call))
+
+pub put_synced_files : (b : Batch) (v mid w : LogPipes) → WritesRecord b v mid → SyncsQueue InAppend mid w → WritesFiles b true v w
+put_synced_files b v mid w wrote call = inr (mid, wrote, call)
+
+pub put_unsynced_files : (b : Batch) (sync : Bool) (error : Error) (v mid w : LogPipes) → sync ≡ true → WritesRecord b v mid → FailsToSyncQueue InAppend mid w → LeavesFiles b sync error v w
+put_unsynced_files b sync error v mid w asked wrote call = inr (asked, (mid, inr wrote, call))

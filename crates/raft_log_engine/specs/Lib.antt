@@ -3,6 +3,7 @@ pub mod Messages
 pub mod Purging
 pub mod Reads
 pub mod Room
+pub mod Touching
 pub mod Whole
 -- libraries below, passed on to who stands on this one
 pub use Rattle.raft_log_purging.specs.raft_log_engine_state

@@ -52,6 +52,15 @@ impl<P: PipeLog> Engine<P> {
     ghost use Rattle.raft_log_tables.specs.Stats.{added, no_entries};
     ghost use Rattle.raft_log_engine.specs.Reads.{shows_of};
     ghost use Rattle.raft_log_engine.specs.Room.{KeepsLittle, PutFails, StaysWritable};
+    ghost use Rattle.raft_log_engine.specs.Touching.{
+      LeavesFiles,
+      LeavesRecord,
+      StaysPurged,
+      WritesFiles,
+      WritesRecord,
+    };
+    ghost use Rattle.raft_log_directory.specs.Calls.Which.{InAppend};
+    ghost use Rattle.raft_log_dual_pipes.specs.Calls.{FailsToSyncQueue, SyncsQueue};
     ghost use Rattle.std.specs.Prelude.{false, true};
     ghost use Rattle.raft_log_disk.specs.Causes.{IsLater};
     ghost use Rattle.raft_log_dual_pipes.specs.Closing.{ClosesInOrder, ClosesLog};
@@ -96,6 +105,10 @@ impl<P: PipeLog> Engine<P> {
         ensures ok { OnOk result (Syncs (shows_of P.shown self.old) (shows_of P.shown self.new)) }
         ensures err { IfErr result (λ error.
             NotSynced error (shows_of P.shown self.old) (shows_of P.shown self.new)) }
+        ensures files { OnOk result (SyncsQueue InAppend (P.shown self.old.pipes) (P.shown self.new.pipes)) }
+        ensures left { OnErr result (FailsToSyncQueue InAppend
+            (P.shown self.old.pipes) (P.shown self.new.pipes)) }
+        ensures purges { StaysPurged self.old self.new }
     {
         self.pipes.sync(rt, LogQueue::Append)
     }
@@ -118,6 +131,11 @@ impl<P: PipeLog> Engine<P> {
         ensures bounded { OnOk result (KeepsLittle batch.old batch.new) }
         ensures kept { IfErr result (λ error. IsKeptUnlessFailed error batch.old batch.new) }
         ensures again { StaysWritable batch.old batch.new }
+        ensures files { OnOk result (WritesFiles batch.old sync
+            (P.shown self.old.pipes) (P.shown self.new.pipes)) }
+        ensures left { IfErr result (λ error. LeavesFiles batch.old sync error
+            (P.shown self.old.pipes) (P.shown self.new.pipes)) }
+        ensures purges { StaysPurged self.old self.new }
     {
         if self.is_failed() {
             return Err(Error::Failed);
@@ -157,6 +175,11 @@ impl<P: PipeLog> Engine<P> {
         ensures bounded { OnOk result (batch.new.buffer ≤ max_kept_len) }
         ensures kept { OnErr result (IsKept batch.old batch.new) }
         ensures again { StaysWritable batch.old batch.new }
+        ensures files { OnOk result (WritesRecord batch.old
+            (P.shown self.old.pipes) (P.shown self.new.pipes)) }
+        ensures left { IfErr result (λ error. LeavesRecord batch.old error
+            (P.shown self.old.pipes) (P.shown self.new.pipes)) }
+        ensures purges { StaysPurged self.old self.new }
     {
         let alloc = self.alloc;
         match writing::make_room(alloc, &mut self.tables, batch) {

@@ -21,6 +21,7 @@ ghost use Rattle.raft_log_purging.specs.raft_log_engine_state.specs.Trying.{IsNo
 ghost use Rattle.raft_log_purging.specs.raft_log_engine_state.specs.Shows.{shows, IsWellMarked, IsWritable};
 ghost use Rattle.raft_log_purging.specs.raft_log_engine_state.specs.Writing.{items_at, IsKept, IsUnfit, Refuses, Writes};
 ghost use Rattle.raft_log_engine.specs.Room.{HasRoomFor, IsUnfitItself, StaysWritable};
+ghost use Rattle.raft_log_engine.specs.Touching.{WritesRecord};
 
 use log::Log;
 use raft_log_atomic_groups::Marking;
@@ -101,6 +102,9 @@ pub fn append<P: PipeLog, L: Log>(
         (shows (P.shown pipes.new) tables.new cache.new)) }
     ensures err { IfErr result (λ error. Refuses batch.old error
         (shows (P.shown pipes.old) tables.old cache.old) (shows (P.shown pipes.new) tables.new cache.new)) }
+    ensures files { OnOk result (WritesRecord batch.old (P.shown pipes.old) (P.shown pipes.new)) }
+    ensures left { IfErr result (λ error. RefusesAt (signed_for batch.old) error
+        (P.shown pipes.old) (P.shown pipes.new)) }
     ensures rests { IsAtRest tables.new }
     ensures emptied { OnOk result (batch.new ≡ emptied batch.old) }
     ensures bounded { OnOk result (batch.new.buffer ≤ max_kept_len) }

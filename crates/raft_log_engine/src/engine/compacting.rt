@@ -6,6 +6,7 @@ ghost use Rattle.raft_log_records.specs.declared.log_batch.BatchState.TheVariant
 ghost use Rattle.raft_log_replay.specs.Tables.{shown_of};
 ghost use Rattle.raft_log_engine.specs.Compacting.{entries_below, CompactsTo, FailsToCompact, SaysCompact};
 ghost use Rattle.raft_log_engine.specs.Reads.{shows_of};
+ghost use Rattle.raft_log_engine.specs.Touching.{StaysPurged};
 
 use super::Engine;
 use log::Log;
@@ -25,6 +26,7 @@ impl<P: PipeLog> Engine<P> {
             (shows_of P.shown self.old) (shows_of P.shown self.new)) }
         ensures err { IfErr result (λ error. FailsToCompact raft_group_id index error
             (shows_of P.shown self.old) (shows_of P.shown self.new)) }
+        ensures purges { StaysPurged self.old self.new }
     {
         if self.is_failed() {
             return Err(Error::Failed);

@@ -13,6 +13,7 @@ ghost use Rattle.raft_log_purging.specs.raft_log_engine_state.specs.Fetching.{
   TellsEntry,
 };
 ghost use Rattle.raft_log_engine.specs.Reads.{shows_of};
+ghost use Rattle.raft_log_engine.specs.Touching.{StaysPurged};
 
 use super::Engine;
 use raft_log_base::{Error, Result};
@@ -38,6 +39,7 @@ impl<P: PipeLog> Engine<P> {
             ⊎ FailsToTell M.Entry.reading raft_group_id log_idx
             (shows_of P.shown self.old)
             (shows_of P.shown self.new) error) }
+        ensures purges { StaysPurged self.old self.new }
     {
         if self.is_failed() {
             return Err(Error::Failed);
@@ -77,6 +79,7 @@ impl<P: PipeLog> Engine<P> {
             ⊎ FailsToFetch M.Entry.reading raft_group_id begin end
             (shows_of P.shown self.old)
             (shows_of P.shown self.new) error) }
+        ensures purges { StaysPurged self.old self.new }
     {
         if self.is_failed() {
             return Err(Error::Failed);

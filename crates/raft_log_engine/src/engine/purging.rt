@@ -14,6 +14,7 @@ ghost use Rattle.raft_log_engine.specs.Purging.{
   StopsRewritingAppend,
 };
 ghost use Rattle.raft_log_engine.specs.Reads.{shows_of, Lives};
+ghost use Rattle.raft_log_engine.specs.Touching.{StaysPurged};
 
 use super::Engine;
 use log::Log;
@@ -42,6 +43,7 @@ impl<P: PipeLog> Engine<P> {
         ensures err { IfErr result (StopsPurgingExpired
             (shows_of P.shown self.old) (shows_of P.shown self.new)) }
         ensures kept { OnErr result (StopsCounting self.old.tables self.old.counts self.new.counts) }
+        ensures sizes { self.new.thresholds ≡ self.old.thresholds }
     {
         if self.is_failed() {
             return Err(Error::Failed);
@@ -70,6 +72,7 @@ impl<P: PipeLog> Engine<P> {
             (shows_of P.shown self.old) (shows_of P.shown self.new)) }
         ensures reset { OnOk result (CountsAndResets self.old.tables self.old.counts self.new.counts) }
         ensures kept { OnErr result (StopsCounting self.old.tables self.old.counts self.new.counts) }
+        ensures sizes { self.new.thresholds ≡ self.old.thresholds }
     {
         if self.is_failed() {
             return Err(Error::Failed);
@@ -106,6 +109,7 @@ impl<P: PipeLog> Engine<P> {
         ensures counted { OnOk result (CountsTwice self.old.tables self.new.tables
             self.old.counts self.new.counts) }
         ensures kept { OnErr result (MayCountStanding self.old.tables self.old.counts self.new.counts) }
+        ensures sizes { self.new.thresholds ≡ self.old.thresholds }
     {
         if self.is_failed() {
             return Err(Error::Failed);
@@ -134,6 +138,7 @@ impl<P: PipeLog> Engine<P> {
         ensures lived { OnOk result (Lives (shows_of P.shown self.old)) }
         ensures err { IfErr result (StopsPurging
             (shows_of P.shown self.old) (shows_of P.shown self.new)) }
+        ensures purges { StaysPurged self.old self.new }
     {
         if self.is_failed() {
             return Err(Error::Failed);

@@ -3,6 +3,7 @@
 ghost use Rattle.std.specs.Prelude.{◌≡◌, IfErr, IfOk, OnOk};
 ghost use Rattle.raft_log_dual_pipes.specs.Calls.{IsIo};
 ghost use Rattle.raft_log_engine.specs.Reads.{shows_of, IsFailed, Lives};
+ghost use Rattle.raft_log_engine.specs.Touching.{StaysPurged};
 ghost use Rattle.raft_log_engine.specs.Whole.{used_size, TellsSpan};
 
 use super::Engine;
@@ -23,6 +24,7 @@ impl<P: PipeLog> Engine<P> {
     /// `Io` where it isn't armed.
     pub fn arm(&mut self, fault: &Fault) -> Result<()>
         ensures shown { shows_of P.shown self.new ≡ shows_of P.shown self.old }
+        ensures purges { StaysPurged self.old self.new }
         ensures errors { IfErr result IsIo }
     {
         self.pipes.arm(fault)

@@ -7,6 +7,7 @@ use Rattle.raft_log_dual_pipes.specs.Pipes.{LogPipes}
 use Rattle.raft_log_purging.specs.raft_log_engine_state.specs.Shows.{shows}
 use Rattle.raft_log_purging.specs.raft_log_engine_state.specs.Trying.{RefusesAt, WritesAt}
 use Rattle.raft_log_purging.specs.raft_log_engine_state.specs.Writing.{Writes}
+use Rattle.raft_log_engine.specs.Touching.{WritesRecord}
 use Rattle.raft_log_engine.proofs.Put.{ready_of, refuses_with, writes_at}
 use Rattle.raft_log_engine.proofs.writing.append.Goals as goal
 
@@ -42,3 +43,20 @@ returns-in-Err-clause-err g c =
     let ready = ready_of b v c.args.tables.now c.args.cache.now c.requires.some c.requires.marked c.requires.ready says (record { laid = len.laid; adds = len.adds }) in
     let call = subst (λ (x : Batch). RefusesAt (signed_for x) c.in-Err.error v w) was told.err in
     refuses_with b v w c.args.tables.now c.take_back.new.self c.args.cache.now c.clear.new.self c.requires.lives told.later ready {A = FileBlockHandle} c.in-Err.error told.fails c.take_back.ensures.shows c.clear.ensures call
+
+pub returns-in-Ok-clause-files : goal.returns-in-Ok-clause-files
+returns-in-Ok-clause-files g c =
+    let b = c.args.batch.now in
+    let v = g.P.PipeLog.shown c.args.pipes.now in
+    let w = g.P.PipeLog.shown c.append_or_again-appended.new.pipes in
+    let was : c.new-signed.result.batch ≡ signed_as None b = c.new-signed.ensures ∙ ap (signed_as None) c.replace.ensures.value in
+    let call = subst (λ (x : Batch). WritesAt (signed_for x) c.in-Ok.block v w) was c.in-Ok.ensures.ok in
+    subst (λ (x : LogPipes). WritesRecord b v x) (sym c.post_apply_memtables.ensures.shown) (c.in-Ok.block, call)
+
+pub returns-in-Err-clause-left : goal.returns-in-Err-clause-left
+returns-in-Err-clause-left g c =
+    let b = c.args.batch.now in
+    let v = g.P.PipeLog.shown c.args.pipes.now in
+    let w = g.P.PipeLog.shown c.append_or_again-appended.new.pipes in
+    let was : c.new-signed.result.batch ≡ signed_as None b = c.new-signed.ensures ∙ ap (signed_as None) c.replace.ensures.value in
+    subst (λ (x : Batch). RefusesAt (signed_for x) c.in-Err.error v w) was c.in-Err.ensures.err

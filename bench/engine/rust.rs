@@ -14,7 +14,7 @@ mod window;
 
 use batch::Batch;
 use frame::{next, report};
-use pipe::{Files, Pipe};
+use pipe::{Files, Pipe, TARGET_SIZE};
 use place::Place;
 use record::{read_block, Command, CompressionType, Content, EntryIndex, Error, FileBlockHandle, FileId, Item, LogQueue, Result, HEADER};
 use std::collections::{HashMap, VecDeque};
@@ -27,12 +27,20 @@ const SIZE: usize = 2_118;
 const FETCHED: u64 = 1_000;
 const READ_BLOCK: usize = 16 << 10;
 const MAX_COPIED_LEN: u64 = 128 << 10;
+const SHORT: usize = 16;
+const PURGED_FROM: usize = 10 << 30;
+const REWRITTEN_FROM: usize = PURGED_FROM / 10;
+/// How many files are kept for use where they aren't deleted.
+const KEPT: usize = PURGED_FROM / TARGET_SIZE * 3 / 2;
+/// Rewrite has a file too, from the first open on.
+const REWRITE_FILES: usize = 1;
 
 /// Where a group's entries lie.
 #[derive(Default)]
 struct Table {
     first: u64,
     places: VecDeque<Place>,
+    rewritten: usize,
 }
 
 fn place_of(entry: &EntryIndex, block: FileBlockHandle) -> Place {
@@ -59,12 +67,14 @@ impl Table {
             self.first = front.index;
         }
         self.places.truncate((front.index - self.first) as usize);
+        self.rewritten = self.rewritten.min(self.places.len());
         self.places.extend(entries.iter().map(|entry| place_of(entry, block)));
     }
 
     fn compact_to(&mut self, index: u64) {
         let gone = index.saturating_sub(self.first).min(self.places.len() as u64);
         self.places.drain(..gone as usize);
+        self.rewritten = self.rewritten.saturating_sub(gone as usize);
         self.first += gone;
     }
 
@@ -102,6 +112,8 @@ struct Engine {
     rewrite: Pipe,
     tables: Tables,
     kept: Kept,
+    standing: usize,
+    garbage: usize,
 }
 
 fn refused<E: std::fmt::Debug>(error: E) -> Error {
@@ -116,12 +128,13 @@ fn header_of() -> Vec<u8> {
 }
 
 impl Engine {
-    fn new() -> Result<Engine> {
+    /// An engine of an empty log, which keeps so many files for use.
+    fn new(capacity: usize) -> Result<Engine> {
         let mut files = Files::default();
-        let pipe = Pipe::begin(&mut files, 0, header_of()).map_err(refused)?;
+        let pipe = Pipe::begin(&mut files, capacity, header_of()).map_err(refused)?;
         let mut rewrite_files = Files::default();
         let rewrite = Pipe::begin(&mut rewrite_files, 0, header_of()).map_err(refused)?;
-        Ok(Engine { files, pipe, rewrite_files, rewrite, tables: Tables::new(), kept: Kept::default() })
+        Ok(Engine { files, pipe, rewrite_files, rewrite, tables: Tables::new(), kept: Kept::default(), standing: 0, garbage: 0 })
     }
 
     fn prepare(&mut self, items: &[Item]) -> Result<()> {
@@ -232,6 +245,27 @@ impl Engine {
         self.pipe.purge_to(&mut self.files, seq).map_err(refused)
     }
 
+    /// Counts what stands in Rewrite, and what of it stands no more.
+    fn count_standing(&mut self) {
+        let standing = self.tables.values().map(|table| table.rewritten).sum();
+        self.garbage += self.standing.saturating_sub(standing);
+        self.standing = standing;
+    }
+
+    /// Syncs Append, and purges both queues where they are past their thresholds, which none is here.
+    fn purge_expired(&mut self) -> Result<Vec<u64>> {
+        self.count_standing();
+        self.pipe.sync(&mut self.files).map_err(refused)?;
+        if is_past(&self.rewrite, &self.rewrite_files, REWRITTEN_FROM) && self.garbage > self.standing {
+            return Err(Error::Full);
+        }
+        if is_past(&self.pipe, &self.files, PURGED_FROM) {
+            return Err(Error::Full);
+        }
+        self.count_standing();
+        Ok(Vec::new())
+    }
+
     /// Copies all entries of all groups to Rewrite, and deletes all files of Append but the last.
     fn rewrite(&mut self) -> Result<u64> {
         self.pipe.rotate(&mut self.files).map_err(refused)?;
@@ -269,8 +303,10 @@ impl Engine {
         for item in items {
             if let (Content::Entries(entries), Some(table)) = (&item.content, self.tables.get_mut(&item.group)) {
                 for entry in entries {
-                    if let Some(place) = table.places.get_mut((entry.index - table.first) as usize) {
+                    let position = (entry.index - table.first) as usize;
+                    if let Some(place) = table.places.get_mut(position) {
                         *place = place_of(entry, block);
+                        table.rewritten = position + 1;
                     }
                 }
             }
@@ -281,6 +317,12 @@ impl Engine {
         self.pipe.writer.close(&mut self.files).map_err(refused)?;
         Ok(self.files)
     }
+}
+
+/// Whether a queue has more than one file, and is larger than this.
+fn is_past(pipe: &Pipe, files: &Files, threshold: usize) -> bool {
+    let size = || pipe.earlier.iter().chain([&pipe.active]).map(|file| files.size(file.file)).sum::<usize>();
+    pipe.first < pipe.active.seq && threshold < size()
 }
 
 /// The files of a log by number, oldest first: the number, and the bytes.
@@ -321,10 +363,16 @@ fn read_files(part: &[(u64, &[u8])], last: u64) -> Result<Tables> {
     Ok(tables)
 }
 
+/// How many of so many workers read Append: its share by the number of files, as Rewrite has files too.
+fn share(workers: usize, append: usize, rewrite: usize) -> usize {
+    let all = workers.min(append + rewrite);
+    (all * append / (append + rewrite)).max(1)
+}
+
 fn recover(files: &mut Files, workers: usize) -> Result<Tables> {
     let found = found(files);
     let last = found.last().map_or(0, |(seq, _)| *seq);
-    let size = found.len().div_ceil(workers);
+    let size = found.len().div_ceil(share(workers, found.len(), REWRITE_FILES));
     let parts: Vec<Result<Tables>> = std::thread::scope(|scope| {
         let running: Vec<_> = found.chunks(size.max(1)).map(|part| scope.spawn(move || read_files(part, last))).collect();
         running.into_iter().map(|worker| worker.join().unwrap()).collect()
@@ -399,24 +447,46 @@ fn compact_all(engine: &mut Engine) -> Result<()> {
     Ok(())
 }
 
-/// Half of all that a log has is compacted, and its files are deleted; then all that is left is rewritten.
-fn collect(entries: &[Vec<u8>]) -> Result<()> {
-    let mut engine = Engine::new()?;
+/// Half of all that a log has is compacted, and its files are kept for use or deleted; then all that is left is
+/// rewritten.
+fn collect(entries: &[Vec<u8>], keeps: bool) -> Result<()> {
+    let (capacity, purge, rewrite) = if keeps { (KEPT, "purge", "rewrite") } else { (0, "purge-deleting", "rewrite-deleting") };
+    let mut engine = Engine::new(capacity)?;
     let written = write_all(&mut engine, entries)?;
     compact_all(&mut engine)?;
     let start = Instant::now();
     engine.purge()?;
-    report("purge", written / 2, start, engine.pipe.first);
+    report(purge, written / 2, start, engine.pipe.first);
     let start = Instant::now();
     let copied = engine.rewrite()?;
-    report("rewrite", copied, start, engine.pipe.first);
+    report(rewrite, copied, start, engine.pipe.first);
+    Ok(())
+}
+
+/// A log of so many groups is purged so many times, with nothing to do: purges a second.
+fn idle(entry: &[u8], groups: u64, times: u64) -> Result<()> {
+    let mut engine = Engine::new(KEPT)?;
+    let mut batch = Batch::new();
+    for group in 1..=groups {
+        batch.add(group, vec![EntryIndex::new(1, SHORT as u32)], &[&entry[..SHORT]])?;
+        engine.write(&mut batch)?;
+    }
+    let mut asked = 0;
+    let start = Instant::now();
+    for _ in 0..times {
+        asked += engine.purge_expired()?.len() as u64;
+    }
+    report(&format!("idle-{groups}"), times * 1_000_000, start, asked);
     Ok(())
 }
 
 fn main() -> Result<()> {
     let entries = entries_of();
-    collect(&entries)?;
-    let mut engine = Engine::new()?;
+    idle(&entries[0], 10, 100_000)?;
+    idle(&entries[0], 100_000, 20)?;
+    collect(&entries, true)?;
+    collect(&entries, false)?;
+    let mut engine = Engine::new(KEPT)?;
     let start = Instant::now();
     let written = write_all(&mut engine, &entries)?;
     report("write", written, start, written);
@@ -427,7 +497,7 @@ fn main() -> Result<()> {
     let start = Instant::now();
     let sum = scanned(&files)?;
     report("footers", written, start, sum);
-    for workers in [1, 2] {
+    for workers in [1, 2, 3, 4] {
         let start = Instant::now();
         let tables = recover(&mut files, workers)?;
         let sum = tables.values().map(|table| table.end() - 1).sum();

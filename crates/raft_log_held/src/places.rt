@@ -1,6 +1,6 @@
 //! The places of a group's entries, and room for more.
 ghost use Rattle.std.specs.Prelude.{◌≡◌, ◌+◌, ◌-◌, ◌≤◌, ◌++◌, [], length, map, take, drop, slice_get, ◌<◌, Some, OnOk, OnErr};
-ghost use Rattle.std.specs.VecDeque.{deque_len};
+ghost use Rattle.std.specs.VecDeque.{deque_capacity, deque_len};
 ghost use Rattle.raft_log_held.specs.Entries.{place_of, entry_of};
 ghost use Rattle.raft_log_held.specs.Counts.{passing};
 ghost use Rattle.raft_log_held.specs.Counts.{sized};
@@ -147,11 +147,10 @@ impl Places {
         ensures wanted { self.new.wanted ≡ self.old.wanted - length entries.now }
         ensures moves { self.new.moves ≡ self.old.moves }
     {
-        let mut places = taken(&mut self.places);
-        for entry in entries {
-            places.push_back_reserved(place_of(entry));
+        match entries {
+            [entry] => self.places.push_back_reserved(place_of(entry)),
+            _ => push_all(&mut self.places, entries),
         }
-        self.places = places;
         self.wanted -= entries.len();
     }
 
@@ -266,6 +265,20 @@ impl Places {
         }
         count
     }
+}
+
+/// The places of these entries come to the end of a queue that has room for them.
+fn push_all(places: &mut VecDeque<Place>, entries: &[EntryIndex])
+    requires { deque_len places.old + length entries.now ≤ deque_capacity places.old }
+    ensures items { places.new.items ≡ places.old.items ++ map place_of entries.now }
+    ensures len { deque_len places.new ≡ deque_len places.old + length entries.now }
+    ensures capacity { deque_capacity places.new ≡ deque_capacity places.old }
+{
+    let mut queue = taken(places);
+    for entry in entries {
+        queue.push_back_reserved(place_of(entry));
+    }
+    *places = queue;
 }
 
 /// Takes a queue of places out and leaves none: a loop knows the ends of a queue of its own without looking at

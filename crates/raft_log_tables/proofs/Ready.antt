@@ -1,5 +1,5 @@
 -- A table that was prepared for items one after another takes them one after another.
-use Rattle.std.proofs.Common.{◌≡◌, ℕ, ◌+◌, ◌≤◌, Bool, true, false, List, [], ◌∷◌, ◌++◌, map, if◌then◌else◌, nat_lt, ◌&&◌, bytes_eq, refl, sym, ap, subst, ◌∙◌, arith}
+use Rattle.std.proofs.Common.{◌≡◌, ℕ, ◌+◌, ◌-◌, ◌≤◌, length, Bool, true, false, List, [], ◌∷◌, ◌++◌, map, if◌then◌else◌, nat_lt, ◌&&◌, bytes_eq, refl, sym, ap, subst, ◌∙◌, arith}
 use Rattle.std.proofs.lemmas.List.{length-map}
 use Rattle.raft_log_model.specs.Item.{Item}
 use Rattle.raft_log_model.specs.Item.Item.{Run, Clean, Compact, Put, Del}
@@ -10,7 +10,7 @@ use Rattle.raft_log_machine.specs.Whereabouts.{top, with_key}
 use Rattle.raft_log_places.specs.declared.place.Place.{Place}
 use Rattle.raft_log_places.specs.Shown.{Shown, span, next_span, stepped, MayFollow, MayAllFollow}
 use Rattle.raft_log_places.proofs.Spans.{span_stepped}
-use Rattle.raft_log_tables.specs.Room.{Promise, count_of, promised, kept, HasRoom, CanTake, needs, AllHave, span_after, IsReady}
+use Rattle.raft_log_tables.specs.Room.{Promise, count_of, promised, kept, HasRoom, CanTake, needs, AllHave, span_after, IsForgotten, IsReady}
 
 key_stays : (b : Bool) (old : Bool) → old ≡ true → (if b then true else old) ≡ true
 key_stays true old h = refl
@@ -183,3 +183,16 @@ pub prepared_takes : {E V : Type 0} (v now : Shown) (q next : Promise) (x : Item
 prepared_takes v now q next x same ends follows is =
     subst (λ w. CanTake w next x) (sym same)
     (subst (λ p. CanTake v p x) (sym is) (ready_can v (promised q x) x [] (ready_more v q [] x (ready_none v q ends) follows)))
+
+-- and once it was taken, the ends that were promised are those of the entries
+pub taken_rests : (n : ℕ) (v now : Shown) (q next : Promise) (x : Item Place (List ℕ)) → now ≡ v → q.ends ≡ span v → MayFollow q.ends x → next ≡ promised q x → (kept next x).ends ≡ span (stepped n now x)
+taken_rests n v now q next x same ends follows is =
+    ap (λ p. (kept p x).ends) is ∙ (ready_next n v (promised q x) x [] (ready_more v q [] x (ready_none v q ends) follows)).ends ∙ ap (λ u. span (stepped n u x)) (sym same)
+
+-- of what was prepared alone nothing is promised any more
+pub taken_forgets : {E V : Type 0} (q : Promise) (x : Item E V) → IsForgotten q → IsForgotten (kept (promised q x) x)
+taken_forgets q (Run f es) h = ((let none = h.0 in let left : q.wanted + length es - length es ≡ 0 = omega (arith, none) in left), h.1)
+taken_forgets q Clean h = h
+taken_forgets q (Compact c) h = h
+taken_forgets q (Put k v) h = h
+taken_forgets q (Del k) h = h

@@ -57,14 +57,14 @@ pub struct MemTable {
     places: Places,
     rewritten: usize,
     ahead: Ends,
-    keys: KeyMap,
-    cleaned: bool,
-    compacted: bool,
-    noted: Option<GroupFiles>,
     /// The greatest index of a Compact that was read.
     low: u64,
     /// The least start of a run that was read.
     high: Option<u64>,
+    keys: KeyMap,
+    cleaned: bool,
+    compacted: bool,
+    noted: Option<GroupFiles>,
 }
 
 impl Model for MemTable {

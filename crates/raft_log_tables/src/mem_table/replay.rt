@@ -32,7 +32,6 @@ impl MemTable {
         self.prepare_append(entries)?;
         self.append(entries);
         self.note_run(entries);
-        self.take_back();
         Ok(())
     }
 

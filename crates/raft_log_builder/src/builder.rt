@@ -7,7 +7,7 @@ use crate::cutting::cut_files;
 use crate::finishing::{recovered_pipe, unread, wanted_pipe};
 use crate::paths::paths;
 use crate::queue_files::QueueFiles;
-use crate::reading::recover_files;
+use crate::reading::recover_both;
 use crate::syncing::sync_files;
 use crate::unaligned::{aligned, are_unaligned};
 use log::Log;
@@ -92,8 +92,9 @@ impl DualPipesBuilder {
         Ok(())
     }
 
-    /// Reads both queues by workers into machines, that of Append and that of Rewrite; then cuts the files
-    /// that are damaged, Append's first, each behind its last good record, and syncs them.
+    /// Reads both queues at once, each by its share of the workers, into machines, that of Append and that of
+    /// Rewrite; then cuts the files that are damaged, Append's first, each behind its last good record, and
+    /// syncs them.
     ///
     /// Nothing is cut unless all files of both queues could be read and none has an alignment. `Io` where a
     /// read is refused, which is never taken for damage; `Corruption` or `Codec` for damage that isn't
@@ -114,10 +115,20 @@ impl DualPipesBuilder {
     {
         let (count, others) = (self.append.files.len(), self.rewrite.files.len());
         let workers = share_workers(self.config.recovery_threads, count, others);
-        let config = RecoveryConfig::new(&self.config, LogQueue::Append, workers.append);
-        let append = recover_files(rt, alloc, file_system, config, &self.append.files, factory)?;
-        let config = RecoveryConfig::new(&self.config, LogQueue::Rewrite, workers.rewrite);
-        let rewrite = recover_files(rt, alloc, file_system, config, &self.rewrite.files, factory)?;
+        let append = RecoveryConfig::new(&self.config, LogQueue::Append, workers.append);
+        let rewrite = RecoveryConfig::new(&self.config, LogQueue::Rewrite, workers.rewrite);
+        let (append, rewrite) = recover_both(
+            rt,
+            alloc,
+            file_system,
+            append,
+            &self.append.files,
+            rewrite,
+            &self.rewrite.files,
+            factory,
+        );
+        let append = append?;
+        let rewrite = rewrite?;
         if !are_unaligned(&append.endings) || !are_unaligned(&rewrite.endings) {
             return Err(aligned(alloc));
         }

@@ -17,11 +17,12 @@ returns-in_err-append-clause-err g c =
     let b = c.args.self.now in
     let gave = err_from_is_err_and c.from_residual.result c.from_residual.ensures.1 in
     let e = c.in_err-append.field-0.0 in
-    let workers : c.new-config.result.concurrency ≡ (append_config b).concurrency = search rules in
-    let same : c.new-config.result ≡ append_config b = λ i. record { queue = c.new-config.ensures.queue i; mode = c.new-config.ensures.mode i; concurrency = workers i; read_block_size = c.new-config.ensures.block i } in
+    let workers : c.new-append.result.concurrency ≡ (append_config b).concurrency = search rules in
+    let same : c.new-append.result ≡ append_config b = λ i. record { queue = c.new-append.ensures.queue i; mode = c.new-append.ensures.mode i; concurrency = workers i; read_block_size = c.new-append.ensures.block i } in
+    let raw : IsUnread g.M.ReplayMachine.declines c.new-append.result c.deref.result.now (D c.args.file_system.now) e = rw c.in_err-append.was at c.recover_both-append.ensures.append_err in
     let why : IsUnread g.M.ReplayMachine.declines (append_config b) (append_files b) (D c.args.file_system.now) e =
     subst (λ (fs : List File). IsUnread g.M.ReplayMachine.declines (append_config b) fs (D c.args.file_system.now) e) c.deref.ensures.value
-    (subst (λ (r : RecoveryConfig). IsUnread g.M.ReplayMachine.declines r c.deref.result.now (D c.args.file_system.now) e) same c.in_err-append.ensures.err) in
+    (subst (λ (r : RecoveryConfig). IsUnread g.M.ReplayMachine.declines r c.deref.result.now (D c.args.file_system.now) e) same raw) in
     rw (gave.1, gave.2) (append_unread refl why)
 
 pub returns-in_err-rewrite-clause-err : goal.returns-in_err-rewrite-clause-err
@@ -31,21 +32,24 @@ returns-in_err-rewrite-clause-err g c =
     let gave = err_from_is_err_and c.from_residual-in_err-rewrite.result c.from_residual-in_err-rewrite.ensures.1 in
     let first : HasReadFiles g.M.ReplayMachine.reads (append_config b) (append_files b) (D c.args.file_system.now) c.in_ok-append.append.machine c.in_ok-append.append.endings.items = search rules in
     let e = c.in_err-rewrite.field-0.0 in
-    let workers : c.new-config-2.result.concurrency ≡ (rewrite_config b).concurrency = search rules in
-    let same : c.new-config-2.result ≡ rewrite_config b = λ i. record { queue = c.new-config-2.ensures.queue i; mode = c.new-config-2.ensures.mode i; concurrency = workers i; read_block_size = c.new-config-2.ensures.block i } in
+    let workers : c.new-rewrite.result.concurrency ≡ (rewrite_config b).concurrency = search rules in
+    let same : c.new-rewrite.result ≡ rewrite_config b = λ i. record { queue = c.new-rewrite.ensures.queue i; mode = c.new-rewrite.ensures.mode i; concurrency = workers i; read_block_size = c.new-rewrite.ensures.block i } in
+    let raw : IsUnread g.M.ReplayMachine.declines c.new-rewrite.result c.deref-2.result.now (D c.args.file_system.now) e = rw c.in_err-rewrite.was at c.recover_both-append.ensures.rewrite_err in
     let why : IsUnread g.M.ReplayMachine.declines (rewrite_config b) (rewrite_files b) (D c.args.file_system.now) e =
     subst (λ (fs : List File). IsUnread g.M.ReplayMachine.declines (rewrite_config b) fs (D c.args.file_system.now) e) c.deref-2.ensures.value
-    (subst (λ (r : RecoveryConfig). IsUnread g.M.ReplayMachine.declines r c.deref-2.result.now (D c.args.file_system.now) e) same c.in_err-rewrite.ensures.err) in
+    (subst (λ (r : RecoveryConfig). IsUnread g.M.ReplayMachine.declines r c.deref-2.result.now (D c.args.file_system.now) e) same raw) in
     rw (gave.1, gave.2) (rewrite_unread c.in_ok-append.append.machine c.in_ok-append.append.endings.items first refl why)
 
 pub cut_files-requires : goal.cut_files-requires
 cut_files-requires g c =
-    let fit : length c.in_ok-append.append.endings.items ≤ length c.deref.result.now = endings_fit _ _ c.new-config.result.concurrency (length c.deref.result.now) _ c.in_ok-append.append.endings.items c.in_ok-append.ensures.ok in
+    let read : HasReadFiles g.M.ReplayMachine.reads c.new-append.result c.deref.result.now (g.F.FileSystem.disk c.args.file_system.now) c.in_ok-append.append.machine c.in_ok-append.append.endings.items = search rules in
+    let fit : length c.in_ok-append.append.endings.items ≤ length c.deref.result.now = endings_fit _ _ c.new-append.result.concurrency (length c.deref.result.now) _ c.in_ok-append.append.endings.items read in
     omega (arith, fit, ap length c.deref.ensures.value, ap length c.deref-3.ensures.value, ap length c.deref-4.ensures.value)
 
 pub cut_files-requires-2 : goal.cut_files-requires-2
 cut_files-requires-2 g c =
-    let fit : length c.in_ok-rewrite.rewrite.endings.items ≤ length c.deref-2.result.now = endings_fit _ _ c.new-config-2.result.concurrency (length c.deref-2.result.now) _ c.in_ok-rewrite.rewrite.endings.items c.in_ok-rewrite.ensures.ok in
+    let read : HasReadFiles g.M.ReplayMachine.reads c.new-rewrite.result c.deref-2.result.now (g.F.FileSystem.disk c.args.file_system.now) c.in_ok-rewrite.rewrite.machine c.in_ok-rewrite.rewrite.endings.items = search rules in
+    let fit : length c.in_ok-rewrite.rewrite.endings.items ≤ length c.deref-2.result.now = endings_fit _ _ c.new-rewrite.result.concurrency (length c.deref-2.result.now) _ c.in_ok-rewrite.rewrite.endings.items read in
     omega (arith, fit, ap length c.deref-2.ensures.value, ap length c.deref-5.ensures.value, ap length c.deref-6.ensures.value)
 
 pub returns-in_err-cut_files-clause-err : goal.returns-in_err-cut_files-clause-err

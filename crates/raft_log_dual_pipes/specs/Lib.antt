@@ -5,3 +5,4 @@ pub mod Numbers
 pub mod LastFile
 pub mod Closing
 pub mod Opening
+pub mod HoldingBack

@@ -38,7 +38,7 @@ impl<F: FileSystem> DualPipes<F> {
 }
 
 impl<F: FileSystem> PipeLog for DualPipes<F> {
-    ghost use Rattle.std.specs.Prelude.{map, refl};
+    ghost use Rattle.std.specs.Prelude.{None, map, refl};
     ghost use Rattle.std.specs.String.{string_bytes};
 
     type Files = F;
@@ -64,6 +64,8 @@ impl<F: FileSystem> PipeLog for DualPipes<F> {
     ghost files = { λ pipes. pipes.file_system };
 
     ghost disk_of = { λ file_system. F.disk file_system };
+
+    ghost holds_back = { λ pipes queue held. held ≡ None };
 
     fn is_failed(&self) -> bool {
         self.append.is_failed() || self.rewrite.is_failed()
@@ -151,6 +153,11 @@ impl<F: FileSystem> PipeLog for DualPipes<F> {
             LogQueue::Append => self.append.purge_to(alloc, rt, &mut self.file_system, seq),
             LogQueue::Rewrite => self.rewrite.purge_to(alloc, rt, &mut self.file_system, seq),
         }
+    }
+
+    /// Nobody listens.
+    fn first_file_not_ready_for_purge(&self, _queue: LogQueue) -> Option<FileSeq> {
+        None
     }
 
     fn close<L: Log>(self, alloc: Global, rt: &L) -> F {

@@ -3,6 +3,7 @@
 #![tactic(auto)]
 
 pub mod dual_pipes;
+pub mod laws;
 pub mod opening;
 pub mod pipe_log;
 

@@ -1,6 +1,6 @@
 //! A log's two queues of files, as an engine uses them.
 
-ghost use Rattle.std.specs.Prelude.{◌≡◌, ◌-◌, ◌≤◌, ◌<◌, ◌^◌, false, true, IfErr, IfOk, OnErr, OnOk};
+ghost use Rattle.std.specs.Prelude.{◌≡◌, ◌-◌, ◌≤◌, ◌<◌, ◌^◌, ℕ, Option, false, true, IfErr, IfOk, OnErr, OnOk};
 ghost use Rattle.raft_log_base.specs.declared.errors.Error.TheVariants as errors;
 ghost use Rattle.raft_log_disk.specs.Causes.{IsLater};
 
@@ -20,6 +20,7 @@ pub trait PipeLog {
     ghost use Rattle.raft_log_pipes.specs.Purging.{IsInSpan};
     ghost use Rattle.raft_log_dual_pipes.specs.Pipes.{LogPipes, files_of, is_failed, which_of};
     ghost use Rattle.raft_log_disk.specs.Disk.{Disk};
+    ghost use Rattle.raft_log_base.specs.declared.pipe_log.LogQueue.{LogQueue};
     ghost use Rattle.raft_log_dual_pipes.specs.Closing.{ClosesInOrder, ClosesLog};
     ghost use Rattle.raft_log_dual_pipes.specs.Numbers.{EndsNumbers, EndsNumbersAt, EndsNumbersBelow};
     ghost use Rattle.raft_log_dual_pipes.specs.LastFile.{IsNextIfFull, RaisesPipe, TurnsBehind, last_of};
@@ -37,6 +38,9 @@ pub trait PipeLog {
 
     /// Its disk.
     ghost disk_of: { Self.Files → Disk };
+
+    /// What whoever listens holds back of a queue: nothing, or the files from a number on.
+    ghost holds_back: { Self → LogQueue → Option ℕ → Type 0 };
 
     /// Whether a call was refused that couldn't be mended.
     fn is_failed(&self) -> bool
@@ -179,9 +183,8 @@ pub trait PipeLog {
 
     /// The number of the first file of a queue that must not be purged yet, if there is one, as whoever listens
     /// has it.
-    fn first_file_not_ready_for_purge(&self, _queue: LogQueue) -> Option<FileSeq> {
-        None
-    }
+    fn first_file_not_ready_for_purge(&self, queue: LogQueue) -> Option<FileSeq>
+        ensures { holds_back self.now queue result };
 
     /// Closes both pipes, and gives the file system back: both last files are cut behind their records and
     /// synced, Append's first, and then the files that are kept for use get reserved names. Refusals are

@@ -22,6 +22,10 @@ impl Noting {
 }
 
 impl EventListener for Noting {
+    ghost use Rattle.std.specs.Prelude.{◌≡◌, Some};
+
+    ghost holds_back = { λ noting queue held. held ≡ Some noting.number };
+
     fn post_new_log_file(&mut self, _file_id: FileId) {
         self.note();
     }
@@ -48,7 +52,11 @@ impl EventListener for Noting {
 #[derive(Drop)]
 struct Idle;
 
-impl EventListener for Idle {}
+impl EventListener for Idle {
+    fn first_file_not_ready_for_purge(&self, _queue: LogQueue) -> Option<FileSeq> {
+        None
+    }
+}
 
 #[test]
 fn each_is_told_in_its_turn(rt: HostRuntime) -> Result<(), Fail> {

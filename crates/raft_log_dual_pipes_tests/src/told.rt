@@ -45,6 +45,10 @@ impl EventListener for Writing {
         self.write(3, file_id);
     }
 
+    fn first_file_not_ready_for_purge(&self, _queue: LogQueue) -> Option<FileSeq> {
+        None
+    }
+
     fn post_purge(&mut self, file_id: FileId) {
         self.write(4, file_id);
     }

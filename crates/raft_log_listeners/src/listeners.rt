@@ -1,7 +1,7 @@
 //! Several listeners, told in their order.
 
 ghost use Rattle.std.specs.Prelude.{◌≡◌};
-ghost use Rattle.raft_log_listeners.specs.Least.{lesser};
+ghost use Rattle.raft_log_listeners.specs.Least.{AllHoldBack, BothHoldBack, lesser};
 
 use crate::event_listener::EventListener;
 use raft_log_base::{FileBlockHandle, FileId, FileSeq, LogQueue};
@@ -31,6 +31,11 @@ impl<H: EventListener> Listeners<H> {
 }
 
 impl<H: EventListener> EventListener for Listeners<H> {
+    ghost holds_back = { λ all queue. BothHoldBack
+      (AllHoldBack (λ one. (⟦<dyn EventListener as EventListener>⟧ one.vtable).holds_back one.value queue)
+        all.listeners.items)
+      (H.holds_back all.hook queue) };
+
     fn post_new_log_file(&mut self, file_id: FileId) {
         for listener in self.listeners.iter_mut() {
             listener.post_new_log_file(file_id);
@@ -54,10 +59,7 @@ impl<H: EventListener> EventListener for Listeners<H> {
 
     /// The least number that one of them says.
     fn first_file_not_ready_for_purge(&self, queue: LogQueue) -> Option<FileSeq> {
-        let mut least = None;
-        for listener in &self.listeners {
-            least = lesser(least, listener.first_file_not_ready_for_purge(queue));
-        }
+        let least = least_of(self.listeners.as_slice(), queue);
         lesser(least, self.hook.first_file_not_ready_for_purge(queue))
     }
 
@@ -67,6 +69,24 @@ impl<H: EventListener> EventListener for Listeners<H> {
         }
         self.hook.post_purge(file_id);
     }
+}
+
+/// The least number that one of these listeners says.
+fn least_of(listeners: &[Box<dyn EventListener>], queue: LogQueue) -> Option<FileSeq>
+    ensures { AllHoldBack (λ one. holds_back one queue) listeners.now result }
+{
+    let mut least = None;
+    for listener in listeners {
+        least = lesser(least, held_by(listener, queue));
+    }
+    least
+}
+
+/// What a listener says.
+fn held_by(listener: &Box<dyn EventListener>, queue: LogQueue) -> Option<FileSeq>
+    ensures { holds_back listener.now queue result }
+{
+    listener.first_file_not_ready_for_purge(queue)
 }
 
 /// The lesser one of two numbers, where both are there; else the one that is.

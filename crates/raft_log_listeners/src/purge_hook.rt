@@ -157,6 +157,8 @@ impl PurgeHook {
 impl EventListener for PurgeHook {
     ghost use Rattle.raft_log_listeners.specs.Active.{DropsOrNot, ListsOrMisses};
 
+    ghost holds_back = { λ hook queue held. held ≡ first_held queue hook };
+
     /// A file that can't be listed holds back a purge from its number on.
     fn post_new_log_file(&mut self, file_id: FileId)
         ensures { ListsOrMisses file_id.queue file_id.seq self.old self.new }

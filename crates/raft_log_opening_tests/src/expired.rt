@@ -266,6 +266,10 @@ fn test_fork(rt: HostRuntime) -> std::result::Result<(), Fail> {
 struct HoldsBack {}
 
 impl EventListener for HoldsBack {
+    ghost use Rattle.std.specs.Prelude.{◌≡◌, Some};
+
+    ghost holds_back = { λ listener queue held. held ≡ Some 3 };
+
     fn first_file_not_ready_for_purge(&self, _queue: LogQueue) -> Option<FileSeq> {
         Some(3)
     }

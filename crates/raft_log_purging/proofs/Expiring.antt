@@ -104,9 +104,9 @@ module _ (s : Shows) (synced : LogPipes) (syncs : SyncsQueue InAppend s.pipes sy
     whole_unpurged t (Ok x) fails = tt
     whole_unpurged t (Err e) fails = append_unpurged e t fails
 
-    all_purged : (held : Option ℕ) (after : MemTables) (first last : PurgeCounts) (groups : List ℕ) (t : Shows) → first.stats ≡ old → last.stats ≡ new → PurgesIfPast thresholds held restated between after first.rounds last.rounds groups mid t
-        → PurgesExpired thresholds before after first last groups s t
-    all_purged held after first last groups t from to purges =
+    all_purged : (hold_back : LogPipes → Option ℕ → Type 0) (held : Option ℕ) → hold_back pipes held → (after : MemTables) (first last : PurgeCounts) (groups : List ℕ) (t : Shows) → first.stats ≡ old → last.stats ≡ new → PurgesIfPast thresholds held restated between after first.rounds last.rounds groups mid t
+        → PurgesExpired hold_back thresholds before after first last groups s t
+    all_purged hold_back held told after first last groups t from to purges =
         let ends = purged_well thresholds held restated between after first.rounds last.rounds groups mid t purges in record {
           synced = synced;
           syncs = syncs;
@@ -116,13 +116,14 @@ module _ (s : Shows) (synced : LogPipes) (syncs : SyncsQueue InAppend s.pipes sy
           cache = cache;
           rewrites = rw (from, to) rewrites;
           held = held;
+          told = told;
           purges = purges;
           alive = ends.alive (went.alive lives);
           later = later_on s.pipes.disk pipes.disk t.pipes.disk to_mid ends.later;
           holds = λ home log pending h. ends.holds home (taken log pending) (held_there home log pending h);
         }
 
-    pub whole_purged : {A : Type 0} (q : Result A Error) (items : A → List ℕ) (held : Option ℕ) (after : MemTables) (first last : PurgeCounts) (t : Shows) → first.stats ≡ old → last.stats ≡ new
-        → IfOk q (λ x. PurgesIfPast thresholds held restated between after first.rounds last.rounds (items x) mid t) → IfOk q (λ x. PurgesExpired thresholds before after first last (items x) s t)
-    whole_purged (Ok x) items held after first last t from to purges = all_purged held after first last (items x) t from to purges
-    whole_purged (Err e) items held after first last t from to purges = tt
+    pub whole_purged : {A : Type 0} (q : Result A Error) (items : A → List ℕ) (hold_back : LogPipes → Option ℕ → Type 0) (held : Option ℕ) → hold_back pipes held → (after : MemTables) (first last : PurgeCounts) (t : Shows) → first.stats ≡ old → last.stats ≡ new
+        → IfOk q (λ x. PurgesIfPast thresholds held restated between after first.rounds last.rounds (items x) mid t) → IfOk q (λ x. PurgesExpired hold_back thresholds before after first last (items x) s t)
+    whole_purged (Ok x) items hold_back held told after first last t from to purges = all_purged hold_back held told after first last (items x) t from to purges
+    whole_purged (Err e) items hold_back held told after first last t from to purges = tt

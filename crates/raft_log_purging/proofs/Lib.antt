@@ -1,5 +1,6 @@
 pub mod OneFile
 pub mod Expiring
+pub mod Free
 pub mod Past
 pub mod Picked
 pub mod Whole

@@ -1,6 +1,7 @@
 -- Purges with what stands in Rewrite counted before, and behind.
-use Rattle.std.specs.Prelude.{◌≡◌, ℕ, List}
+use Rattle.std.specs.Prelude.{◌≡◌, ℕ, List, Option}
 use Rattle.raft_log_replay.specs.declared.mem_tables.MemTables.{MemTables}
+use Rattle.raft_log_dual_pipes.specs.Pipes.{LogPipes}
 use Rattle.raft_log_restating.specs.Queue.{reset_counts}
 use Rattle.raft_log_restating.specs.raft_log_engine_state.specs.Shows.{Shows}
 use Rattle.raft_log_purge.specs.declared.thresholds.Thresholds.{Thresholds}
@@ -10,12 +11,12 @@ use Rattle.raft_log_purging.specs.declared.expired_files.PurgeCounts.{PurgeCount
 
 -- Expired files were purged, and just these groups are answered: what stands in Rewrite was counted before, so
 -- that the rules know what of it is garbage, and behind.
-pub record PurgesAndCounts (thresholds : Thresholds) (before after : MemTables) (old new : PurgeCounts)
-    (groups : List ℕ) (s t : Shows) : Type 0 where
+pub record PurgesAndCounts (hold_back : LogPipes → Option ℕ → Type 0) (thresholds : Thresholds)
+    (before after : MemTables) (old new : PurgeCounts) (groups : List ℕ) (s t : Shows) : Type 0 where
   pub counted : PurgeCounts
   pub first : CountsStanding before old counted
   pub purged : PurgeCounts
-  pub purges : PurgesExpired thresholds before after counted purged groups s t
+  pub purges : PurgesExpired hold_back thresholds before after counted purged groups s t
   pub second : CountsStanding after purged new
 
 -- Where Rewrite was rewritten: what stood there was counted before, and then what stands no more was counted no

@@ -40,10 +40,10 @@ pub record SyncsAndRewrites (m : MemTables) (s t : Shows) : Type 0 where
       → HoldsSettled home t (taken log pending)
 
 -- Expired files were purged, and just these groups are answered: Append was synced; Rewrite was rewritten
--- where it is to be; then Append was purged where it is to be, but for what whoever listens holds back. The
--- map stays, and nothing is pending.
-pub record PurgesExpired (thresholds : Thresholds) (before after : MemTables) (old new : PurgeCounts)
-    (groups : List ℕ) (s t : Shows) : Type 0 where
+-- where it is to be; then Append was purged where it is to be, but for what the pipes held back then. The map
+-- stays, and nothing is pending.
+pub record PurgesExpired (hold_back : LogPipes → Option ℕ → Type 0) (thresholds : Thresholds)
+    (before after : MemTables) (old new : PurgeCounts) (groups : List ℕ) (s t : Shows) : Type 0 where
   pub synced : LogPipes
   pub syncs : SyncsQueue InAppend s.pipes synced
   pub restated : Bool
@@ -53,6 +53,7 @@ pub record PurgesExpired (thresholds : Thresholds) (before after : MemTables) (o
   pub rewrites : RewritesIfPast thresholds old.stats new.stats before between restated
       (record s { pipes = synced }) (shows pipes between cache)
   pub held : Option ℕ
+  pub told : hold_back pipes held
   pub purges : PurgesIfPast thresholds held restated between after old.rounds new.rounds groups
       (shows pipes between cache) t
   pub alive : has_failed t ≡ false

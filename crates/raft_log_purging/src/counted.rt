@@ -2,6 +2,8 @@
 //! is garbage is known by no other way.
 
 ghost use Rattle.std.specs.Prelude.{◌≤◌, IfErr, IfOk, OnErr, OnOk};
+ghost use Rattle.raft_log_base.specs.declared.pipe_log.LogQueue.TheVariants.{Append};
+ghost use Rattle.raft_log_dual_pipes.specs.HoldingBack.{PipesHoldBack};
 ghost use Rattle.raft_log_restating.specs.raft_log_engine_state.specs.Shows.{shows};
 ghost use Rattle.raft_log_replay.specs.Tables.{IsAtRest};
 ghost use Rattle.raft_log_purging.specs.Append.{FailsToRewriteAppend, RewritesAppend};
@@ -31,8 +33,8 @@ pub fn purge_and_count<P: PipeLog, L: Log>(
     cache: &mut BlockCache,
     counts: &mut PurgeCounts,
 ) -> Result<Vec<u64>>
-    ensures ok { IfOk result (λ groups. PurgesAndCounts thresholds.now tables.old tables.new
-        counts.old counts.new groups.items
+    ensures ok { IfOk result (λ groups. PurgesAndCounts (PipesHoldBack P.shown P.holds_back Append)
+        thresholds.now tables.old tables.new counts.old counts.new groups.items
         (shows (P.shown pipes.old) tables.old cache.old) (shows (P.shown pipes.new) tables.new cache.new)) }
     ensures err { IfErr result (λ error. FailsToPurgeExpired error
         (shows (P.shown pipes.old) tables.old cache.old) (shows (P.shown pipes.new) tables.new cache.new)) }

@@ -1,6 +1,8 @@
 //! Both queues are purged once their files are past their thresholds.
 
 ghost use Rattle.std.specs.Prelude.{◌≡◌, ◌≤◌, ℕ, IfErr, IfOk, OnErr, OnOk};
+ghost use Rattle.raft_log_base.specs.declared.pipe_log.LogQueue.TheVariants.{Append};
+ghost use Rattle.raft_log_dual_pipes.specs.HoldingBack.{PipesHoldBack};
 ghost use Rattle.raft_log_restating.specs.raft_log_engine_state.specs.Shows.{shows};
 ghost use Rattle.raft_log_replay.specs.Tables.{IsAtRest};
 ghost use Rattle.raft_log_restating.specs.Queue.{FailsToRewriteRewrite, reset_counts};
@@ -88,8 +90,8 @@ pub fn purge_expired_files<P: PipeLog, L: Log>(
     cache: &mut BlockCache,
     counts: &mut PurgeCounts,
 ) -> Result<Vec<u64>>
-    ensures ok { IfOk result (λ groups. PurgesExpired thresholds.now tables.old tables.new counts.old counts.new
-        groups.items
+    ensures ok { IfOk result (λ groups. PurgesExpired (PipesHoldBack P.shown P.holds_back Append)
+        thresholds.now tables.old tables.new counts.old counts.new groups.items
         (shows (P.shown pipes.old) tables.old cache.old) (shows (P.shown pipes.new) tables.new cache.new)) }
     ensures err { IfErr result (λ error. FailsToPurgeExpired error
         (shows (P.shown pipes.old) tables.old cache.old) (shows (P.shown pipes.new) tables.new cache.new)) }

@@ -8,6 +8,7 @@ pub mod append;
 pub mod counted;
 pub mod expired;
 pub mod expired_files;
+pub mod laws;
 
 pub use counted::{purge_and_count, rewrite_and_count, rewrite_append_and_count};
 pub use expired::purge_append;

@@ -62,6 +62,8 @@ fn tell_new_files<E: EventListener>(
 }
 
 impl<P: PipeLog, E: EventListener> PipeLog for ToldPipes<P, E> {
+    ghost use Rattle.raft_log_listeners.specs.Least.{BothHoldBack};
+
     type Files = P::Files;
 
     ghost shown = { λ told. P.shown told.pipes };
@@ -69,6 +71,9 @@ impl<P: PipeLog, E: EventListener> PipeLog for ToldPipes<P, E> {
     ghost files = { λ told. P.files told.pipes };
 
     ghost disk_of = { λ files. P.disk_of files };
+
+    ghost holds_back = { λ told queue.
+      BothHoldBack (P.holds_back told.pipes queue) (E.holds_back told.listener queue) };
 
     fn is_failed(&self) -> bool {
         self.pipes.is_failed()
@@ -147,6 +152,7 @@ impl<P: PipeLog, E: EventListener> PipeLog for ToldPipes<P, E> {
         self.listener.post_apply_memtables(file_id);
     }
 
+    /// The lesser number of those that the pipes and the listener say.
     fn first_file_not_ready_for_purge(&self, queue: LogQueue) -> Option<FileSeq> {
         lesser(
             self.pipes.first_file_not_ready_for_purge(queue),

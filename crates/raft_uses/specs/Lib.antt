@@ -5,6 +5,7 @@ pub mod Chain
 pub mod Sessions
 pub mod Pipes
 pub mod DualPipes
+pub mod Listeners
 pub mod Engine
 pub mod Blocks
 pub mod Dump

@@ -1,6 +1,8 @@
 //! Files go that are no longer needed.
 
 ghost use Rattle.std.specs.Prelude.{◌≡◌, IfErr, IfOk, OnErr, OnOk};
+ghost use Rattle.raft_log_base.specs.declared.pipe_log.LogQueue.TheVariants.{Append};
+ghost use Rattle.raft_log_dual_pipes.specs.HoldingBack.{PipesHoldBack};
 ghost use Rattle.raft_log_purging.specs.raft_log_rewriting.specs.Stale.{PurgesAllStale};
 ghost use Rattle.raft_log_purging.specs.Append.{RewritesAppend};
 ghost use Rattle.raft_log_purging.specs.Counted.{CountsAndResets, PurgesAndCounts};
@@ -36,8 +38,8 @@ impl<P: PipeLog> Engine<P> {
     /// `Failed` of an engine that has failed. Then what a sync, a rotation, the marks, what is copied, and
     /// files that go refuse: the map stays, and no round is counted.
     pub fn purge_expired_files<L: Log>(&mut self, rt: &L) -> Result<Vec<u64>>
-        ensures ok { IfOk result (λ groups. PurgesAndCounts self.old.thresholds self.old.tables self.new.tables
-            self.old.counts self.new.counts groups.items
+        ensures ok { IfOk result (λ groups. PurgesAndCounts (PipesHoldBack P.shown P.holds_back Append)
+            self.old.thresholds self.old.tables self.new.tables self.old.counts self.new.counts groups.items
             (shows_of P.shown self.old) (shows_of P.shown self.new)) }
         ensures lived { OnOk result (Lives (shows_of P.shown self.old)) }
         ensures err { IfErr result (StopsPurgingExpired

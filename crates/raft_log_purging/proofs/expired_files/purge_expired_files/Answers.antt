@@ -1,5 +1,7 @@
 use Rattle.std.proofs.Common.{refl}
 use Rattle.std.proofs.lemmas.Result.{err_from_is_err_and}
+use Rattle.raft_log_base.specs.declared.pipe_log.LogQueue.TheVariants.{Append}
+use Rattle.raft_log_dual_pipes.specs.HoldingBack.{PipesHoldBack}
 use Rattle.raft_log_restating.specs.raft_log_engine_state.specs.Shows.{shows}
 use Rattle.raft_log_restating.specs.raft_log_rewriting.proofs.Parts.{alive_ok}
 use Rattle.raft_log_purging.proofs.Expiring.{not_restated, whole_purged, whole_unpurged}
@@ -32,7 +34,7 @@ returns-clause-ok g c =
     let after = c.purge_append.new.tables in
     let t = shows (g.P.PipeLog.shown c.purge_append.new.pipes) after c.purge_append.new.cache in
     whole_purged s synced e.ok e.later (alive_ok c.in_ok-sync.field-0 synced e.fails) c.args.thresholds.now c.args.counts.now.stats c.purge_rewrite.new.stats c.args.tables.now between c.in_ok-restated.restated v c.purge_rewrite.new.cache c.in_ok-restated.ensures.ok
-    c.purge_append.result (λ groups. groups.items) c.first_file_not_ready_for_purge-held.result after c.args.counts.now (record { rounds = c.purge_append.new.rounds; stats = c.purge_rewrite.new.stats; number = c.purge_rewrite.new.number }) t refl refl c.purge_append.ensures.ok
+    c.purge_append.result (λ groups. groups.items) (PipesHoldBack g.P.PipeLog.shown g.P.PipeLog.holds_back Append) c.first_file_not_ready_for_purge-held.result (c.purge_rewrite.new.pipes, refl, c.first_file_not_ready_for_purge-held.ensures) after c.args.counts.now (record { rounds = c.purge_append.new.rounds; stats = c.purge_rewrite.new.stats; number = c.purge_rewrite.new.number }) t refl refl c.purge_append.ensures.ok
 
 pub returns-clause-err : goal.returns-clause-err
 returns-clause-err g c =

@@ -12,7 +12,7 @@ use Rattle.raft_log_places.specs.Shown.{KeyValue}
 use Rattle.raft_log_places.specs.Bridge.{Located}
 use Rattle.raft_log_contexts.specs.Records.{ReadItem, ReadRecord}
 use Rattle.raft_log_contexts.specs.Pieces.{seen_as, seen_by, Reading}
-use Rattle.raft_log_contexts.specs.Noting.{AreWhereRead}
+use Rattle.raft_log_contexts.specs.Noting.{AllReadTo, AreWhereRead}
 
 -- what is made of these records, one after another
 abbrev pub all_seen : Reading → List ReadRecord → List ReadItem
@@ -27,6 +27,7 @@ Opens = Open Located KeyValue
 pub record GoesOnBy (k : ℕ) (rs : List ReadRecord) : Type 0 where
   pub more : List ReadRecord
   pub lie : AreWhereRead rs → AreWhereRead more
+  pub upto : (n : ℕ) → AllReadTo n rs → AllReadTo n more
   pub opened_is : (φ : Reading) (o : Opens) → opened o (seen_by φ rs) k ≡ onto (o k) (all_seen φ more)
 
 abbrev pub IsOver : ℕ → List ReadRecord → Type 0
@@ -39,6 +40,7 @@ pub record BeginsIn (k : ℕ) (rs : List ReadRecord) : Type 0 where
   pub more : List ReadRecord
   pub splits : front ++ (first ∷ back) ≡ rs
   pub lie : AreWhereRead rs → AreWhereRead (first ∷ more)
+  pub upto : (n : ℕ) → AllReadTo n rs → AllReadTo n (first ∷ more)
   pub opened_is : (φ : Reading) (o : Opens) → opened o (seen_by φ rs) k ≡ Some (all_seen φ (first ∷ more))
   pub opened_here : (φ : Reading) (o : Opens) → opened o (seen_by φ (first ∷ back)) k ≡ Some (all_seen φ (first ∷ more))
 
@@ -64,6 +66,7 @@ passes : (k : ℕ) (r : ReadRecord) (rs : List ReadRecord) (h : GoesOnBy k rs) �
 passes k r rs h same = record {
   more = h.more;
   lie = λ l. h.lie l.1;
+  upto = λ m l. h.upto m l.1;
   opened_is = λ φ o. h.opened_is φ (opens o (seen_as φ r.file r.taken)) ∙ ap (λ v. onto v (all_seen φ h.more)) (same φ o);
 }
 
@@ -79,6 +82,7 @@ next k n (Part (Begin j) xs) rs h =
       more = h.more;
       splits = refl;
       lie = λ l. (l.0, h.lie l.1);
+      upto = λ m l. (l.0, h.upto m l.1);
       opened_is = λ φ o. h.opened_is φ (opens o (Part (Begin j) (φ n xs))) ∙ ap (λ v. onto v (all_seen φ h.more)) (there o j k (Some (φ n xs)) e);
       opened_here = λ φ o. h.opened_is φ (opens o (Part (Begin j) (φ n xs))) ∙ ap (λ v. onto v (all_seen φ h.more)) (there o j k (Some (φ n xs)) e);
     })))
@@ -89,6 +93,7 @@ next k n (Part (Middle j) xs) rs h =
     (λ e. inl (record {
       more = r ∷ h.more;
       lie = λ l. (l.0, h.lie l.1);
+      upto = λ m l. (l.0, h.upto m l.1);
       opened_is = λ φ o.
           h.opened_is φ (opens o (Part (Middle j) (φ n xs)))
           ∙ ap (λ v. onto v (all_seen φ h.more)) (there o j k (onto (o j) (φ n xs)) e ∙ ap (λ m. onto (o m) (φ n xs)) (from_eq_true j k e))
@@ -102,7 +107,7 @@ next k n (Part (End j) xs) rs h =
     (λ e. inl (passes k r rs h (λ φ o. elsewhere o j k None e)))
 
 becomes : (k : ℕ) (rs : List ReadRecord) → Becomes k rs
-becomes k [] = inl (record { more = []; lie = λ l. tt; opened_is = λ φ o. onto_nil (o k) })
+becomes k [] = inl (record { more = []; lie = λ l. tt; upto = λ m l. tt; opened_is = λ φ o. onto_nil (o k) })
 becomes k (r ∷ rs) = elim (becomes k rs) [
   | inl h ↦ next k r.file r.taken rs h
   | inr (inl over) ↦ inr (inl (λ φ o. over φ (opens o (seen_as φ r.file r.taken))))
@@ -113,6 +118,7 @@ becomes k (r ∷ rs) = elim (becomes k rs) [
     more = b.more;
     splits = ap (λ l. r ∷ l) b.splits;
     lie = λ l. b.lie l.1;
+    upto = λ m l. b.upto m l.1;
     opened_is = λ φ o. b.opened_is φ (opens o (seen_as φ r.file r.taken));
     opened_here = b.opened_here;
   }))
@@ -178,22 +184,24 @@ ends_among k base so_far w o (Part (End j) xs ∷ rs) is_open h =
 -- What some records do with a group that is open before them: each time with some of the records.
 pub data HeadIs (k : ℕ) (rs : List ReadRecord) : Type 0 where
   On : (more : List ReadRecord) → ((φ : Reading) (acc : List ReadItem) → head k acc (seen_by φ rs) ≡ GoesOn (acc ++ all_seen φ more)) → (AreWhereRead rs → AreWhereRead more)
-      → HeadIs k rs
+      → ((n : ℕ) → AllReadTo n rs → AllReadTo n more) → HeadIs k rs
   Over : (more : List ReadRecord) → ((φ : Reading) (acc : List ReadItem) → head k acc (seen_by φ rs) ≡ Ends (acc ++ all_seen φ more)) → (AreWhereRead rs → AreWhereRead more)
-      → HeadIs k rs
+      → ((n : ℕ) → AllReadTo n rs → AllReadTo n more) → HeadIs k rs
   Anew : ((φ : Reading) (acc : List ReadItem) → head k acc (seen_by φ rs) ≡ BeginsAnew) → HeadIs k rs
 
 skips : (k : ℕ) (r : ReadRecord) (rs : List ReadRecord) → ((φ : Reading) (acc : List ReadItem) → head k acc (seen_by φ (r ∷ rs)) ≡ head k acc (seen_by φ rs)) → HeadIs k rs → HeadIs k (r ∷ rs)
-skips k r rs same (On more is lie) = On more (λ φ acc. same φ acc ∙ is φ acc) (λ l. lie l.1)
-skips k r rs same (Over more is lie) = Over more (λ φ acc. same φ acc ∙ is φ acc) (λ l. lie l.1)
+skips k r rs same (On more is lie upto) = On more (λ φ acc. same φ acc ∙ is φ acc) (λ l. lie l.1) (λ n l. upto n l.1)
+skips k r rs same (Over more is lie upto) = Over more (λ φ acc. same φ acc ∙ is φ acc) (λ l. lie l.1) (λ n l. upto n l.1)
 skips k r rs same (Anew is) = Anew (λ φ acc. same φ acc ∙ is φ acc)
 
 takes_in : (k : ℕ) (r : ReadRecord) (rs : List ReadRecord)
     → ((φ : Reading) (acc : List ReadItem) → head k acc (seen_by φ (r ∷ rs)) ≡ head k (acc ++ φ r.file (items_of r.taken)) (seen_by φ rs)) → HeadIs k rs → HeadIs k (r ∷ rs)
-takes_in k r rs same (On more is lie) =
+takes_in k r rs same (On more is lie upto) =
     On (r ∷ more) (λ φ acc. same φ acc ∙ is φ (acc ++ φ r.file (items_of r.taken)) ∙ ap GoesOn (append_assoc acc (φ r.file (items_of r.taken)) (all_seen φ more))) (λ l. (l.0, lie l.1))
-takes_in k r rs same (Over more is lie) =
+    (λ n l. (l.0, upto n l.1))
+takes_in k r rs same (Over more is lie upto) =
     Over (r ∷ more) (λ φ acc. same φ acc ∙ is φ (acc ++ φ r.file (items_of r.taken)) ∙ ap Ends (append_assoc acc (φ r.file (items_of r.taken)) (all_seen φ more))) (λ l. (l.0, lie l.1))
+    (λ n l. (l.0, upto n l.1))
 takes_in k r rs same (Anew is) = Anew (λ φ acc. same φ acc ∙ is φ (acc ++ φ r.file (items_of r.taken)))
 
 next_head : (k n : ℕ) (x : Record Located KeyValue) (rs : List ReadRecord) → HeadIs k rs → HeadIs k (record { file = n; taken = x } ∷ rs)
@@ -211,11 +219,11 @@ next_head k n (Part (Middle j) xs) rs h =
 next_head k n (Part (End j) xs) rs h =
     let r : ReadRecord = record { file = n; taken = Part (End j) xs } in
     at_bool (j == k) (λ _. HeadIs k (r ∷ rs))
-    (λ e. Over (r ∷ []) (λ φ acc. if_true (j == k) (Ends (acc ++ φ n xs)) (head k acc (seen_by φ rs)) e ∙ ap (λ l. Ends (acc ++ l)) (sym (append-nil (φ n xs)))) (λ l. (l.0, tt)))
+    (λ e. Over (r ∷ []) (λ φ acc. if_true (j == k) (Ends (acc ++ φ n xs)) (head k acc (seen_by φ rs)) e ∙ ap (λ l. Ends (acc ++ l)) (sym (append-nil (φ n xs)))) (λ l. (l.0, tt)) (λ m l. (l.0, tt)))
     (λ e. skips k r rs (λ φ acc. if_false (j == k) (Ends (acc ++ φ n xs)) (head k acc (seen_by φ rs)) e) h)
 
 head_is : (k : ℕ) (rs : List ReadRecord) → HeadIs k rs
-head_is k [] = On [] (λ φ acc. ap GoesOn (sym (append-nil acc))) (λ l. tt)
+head_is k [] = On [] (λ φ acc. ap GoesOn (sym (append-nil acc))) (λ l. tt) (λ n l. tt)
 head_is k (r ∷ rs) = next_head k r.file r.taken rs (head_is k rs)
 
 -- the records of a group that ends, up to its end
@@ -223,13 +231,14 @@ pub record EndsBy (k : ℕ) (rs : List ReadRecord) : Type 0 where
   pub more : List ReadRecord
   pub head_is : (φ : Reading) → head k [] (seen_by φ rs) ≡ Ends (all_seen φ more)
   pub lie : AreWhereRead rs → AreWhereRead more
+  pub upto : (n : ℕ) → AllReadTo n rs → AllReadTo n more
 
 pub ends_by : (k : ℕ) (rs : List ReadRecord) (φ : Reading) (w : List ReadItem) → head k [] (seen_by φ rs) ≡ Ends w → EndsBy k rs
 ends_by k rs φ w h = by_head (head_is k rs)
   where
     by_head : HeadIs k rs → EndsBy k rs
-    by_head (On more is lie) = not_on ([] ++ all_seen φ more) w (sym (is φ []) ∙ h)
-    by_head (Over more is lie) = record { more = more; head_is = λ ψ. is ψ []; lie = lie }
+    by_head (On more is lie upto) = not_on ([] ++ all_seen φ more) w (sym (is φ []) ∙ h)
+    by_head (Over more is lie upto) = record { more = more; head_is = λ ψ. is ψ []; lie = lie; upto = upto }
     by_head (Anew is) = not_anew w (sym (is φ []) ∙ h)
 
 pub same_ends : (xs ys : List ReadItem) → ◌≡◌ {A = Head Located KeyValue} (Ends xs) (Ends ys) → xs ≡ ys
@@ -250,3 +259,15 @@ lie_front (r ∷ rs) qs l = (l.0, lie_front rs qs l.1)
 pub lie_back : (rs qs : List ReadRecord) → AreWhereRead (rs ++ qs) → AreWhereRead qs
 lie_back [] qs l = l
 lie_back (r ∷ rs) qs l = lie_back rs qs l.1
+
+pub upto_both : (n : ℕ) (rs qs : List ReadRecord) → AllReadTo n rs → AllReadTo n qs → AllReadTo n (rs ++ qs)
+upto_both n [] qs l m = m
+upto_both n (r ∷ rs) qs l m = (l.0, upto_both n rs qs l.1 m)
+
+pub upto_front : (n : ℕ) (rs qs : List ReadRecord) → AllReadTo n (rs ++ qs) → AllReadTo n rs
+upto_front n [] qs l = tt
+upto_front n (r ∷ rs) qs l = (l.0, upto_front n rs qs l.1)
+
+pub upto_back : (n : ℕ) (rs qs : List ReadRecord) → AllReadTo n (rs ++ qs) → AllReadTo n qs
+upto_back n [] qs l = l
+upto_back n (r ∷ rs) qs l = upto_back n rs qs l.1

@@ -42,15 +42,16 @@ use Rattle.raft_log_contexts.specs.Batches.{MergeDeclined, ReplayDeclined}
 use Rattle.raft_log_contexts.specs.declared.part.GroupPart.{GroupPart}
 use Rattle.raft_log_contexts.specs.declared.pieces.GroupPieces.{GroupPieces}
 use Rattle.raft_log_contexts.specs.Records.{counted, in_file, records_of, said_in, AreHealthy, AreReplayed, ReadItem, ReadRecord, TakesItems}
-use Rattle.raft_log_contexts.specs.Pieces.{as_said, groups_items, part_items, part_read, part_seen, parts_items, seen_as, seen_by, whole_seen, ArePieces, EndsGroup, EndsWhole, IsBorder, IsCompleted, JoinsPieces, Reading, TakesRecord}
-use Rattle.raft_log_contexts.specs.Noting.{file_in, AreNotedRead, AreWhereRead, CountsFrom, SettlesAll, SettlesWhole}
-use Rattle.raft_log_contexts.proofs.Begins.{all_seen, begins, lie_back, lie_front}
+use Rattle.raft_log_contexts.specs.Pieces.{as_file, as_said, groups_items, part_items, part_read, part_seen, parts_items, seen_as, seen_by, whole_seen, ArePieces, EndsGroup, EndsWhole, IsBorder, IsCompleted, JoinsPieces, Reading, TakesRecord}
+use Rattle.raft_log_contexts.specs.Noting.{file_in, files_of, AllReadTo, AreNotedRead, AreWhereRead, CountsFrom, IsNotedTo, SettlesAll, SettlesWhole}
+use Rattle.raft_log_contexts.proofs.Begins.{all_seen, begins, lie_back, lie_front, upto_back, upto_front}
 use Rattle.raft_log_contexts.proofs.CarryOn.{all_turned}
 use Rattle.raft_log_contexts.proofs.Counting.{counts_left, counts_right}
 use Rattle.raft_log_contexts.proofs.Notes.{all_cover, all_take, completed_group, group_covers, group_takes, join_covers, plain_covers, Cover, CountsWhole}
 use Rattle.raft_log_contexts.specs.Context.{is_plain, tables_of, ArePlain, ComesOver, HasRead, IsSound, MergesInto, ReadsOne, meant_by}
 use Rattle.raft_log_contexts.proofs.Fragments.{then_nothing}
 use Rattle.raft_log_contexts.proofs.GroupsCount.{all_count, counting_joined, counting_more, counting_over, counts_none, counts_read, whole_count, CountsItems}
+use Rattle.raft_log_contexts.proofs.NotedTo.{both_none, both_to, completed_to, no_files_to, of_group_read, of_groups_read, of_joins, of_merged, of_reads}
 use Rattle.raft_log_contexts.proofs.OpenGroups.{pieces_more, records_append, seen_said}
 use Rattle.raft_log_contexts.proofs.Taking.{counted_more, healthy_back, healthy_front, tables_joined, tables_more, read_fit, takes_none, takes_read}
 
@@ -172,6 +173,8 @@ reads_plain queue n old new items reads same = λ rs h.
       tables = tables_more (in_append queue) rs r (replayed_of old.tables) (replayed_of new.tables) h.tables (takes_read (in_append queue) n old.tables new.tables items reads);
       counting = counting_more rs r (counting_of old.tables) (counting_of new.tables) h.counting (counts_read (in_append queue) n old.tables new.tables items reads);
       notes = λ q. notes_plain (in_append queue) q rs n old.tables new.tables items reads (h.notes q);
+      ends = λ q m upto g. of_reads (IsNotedTo m) tt (both_to m) (in_append queue) n old.tables new.tables (tagged_items place_of items) reads g (h.ends q m (upto_front m rs (r ∷ []) upto) g);
+      none = λ q g. of_reads (λ o. o ≡ None) refl both_none (in_append queue) n old.tables new.tables (tagged_items place_of items) reads g (h.none q g);
       pieces = subst (ArePieces (rs ++ r ∷ [])) (sym same) (pieces_plain rs n (said_in (in_append queue) n items) old.pieces h.pieces);
     }
 
@@ -196,6 +199,8 @@ reads_quiet m part old new quiet takes same = λ rs h. record {
   counting = counting_more rs (part_read m part) (counting_of old.tables) (counting_of new.tables) h.counting
       (subst (λ l. CountsItems l (counting_of old.tables) (counting_of new.tables)) (sym (quiet (opened none_open (records_of rs)))) (counts_none old.tables new.tables same));
   notes = λ q. notes_quiet rs (part_read m part) old.tables new.tables (quiet (opened none_open (records_of rs))) same (h.notes q);
+  ends = λ q n upto g. subst (λ t. IsNotedTo n (replayed_of t g).table.noted) (sym same) (h.ends q n (upto_front n rs (part_read m part ∷ []) upto) g);
+  none = λ q. never_append q;
   pieces = takes rs h.pieces;
 }
 
@@ -245,6 +250,20 @@ notes_end rs n part (Some ps) old new ends settles read h = λ lie tidy g health
     (λ s c stands. counts_right rs (r ∷ []) g (start_of (file_in c) (replayed_of old g).table.noted) s
     (h (lie_front rs (r ∷ []) lie) (front_tidy rs r (parts_items ps.items) is tidy g healthy) g (front_healthy rs r (parts_items ps.items) is tidy g healthy) s c stands)))
 
+-- its files were read
+whole_upto : (rs : List ReadRecord) (n : ℕ) (part : GroupPart) (ps : Vec GroupPart) → EndsWhole rs n part (Some ps) → (m : ℕ) → AllReadTo m (rs ++ part_read (End n) part ∷ []) → IsNotedTo m (files_of ps.items)
+whole_upto rs n part ps ends m upto =
+    at_option (opened none_open (seen_by as_file rs) n) (λ o. opened none_open (seen_by as_file rs) n ≡ o → IsNotedTo m (files_of ps.items))
+    (λ _ none. no_files_to m ps.items (ends as_file ∙ ap (λ o. unwrap_or (onto o (part_seen as_file part)) []) none))
+    (λ z _ is_open.
+    let b = begins n rs as_file z is_open in
+    completed_to rs (part_read (End n) part ∷ []) ps.items (ends_complete rs n part ps ends (all_seen as_said (b.first ∷ b.more)) (b.opened_is as_said none_open)) m upto) refl
+
+ends_whole : (rs : List ReadRecord) (n : ℕ) (part : GroupPart) (whole : Option (Vec GroupPart)) (old new : MemTables) → EndsWhole rs n part whole → SettlesWhole whole old new
+    → (m : ℕ) → AllReadTo m (rs ++ part_read (End n) part ∷ []) → (g : ℕ) → IsNotedTo m (replayed_of old g).table.noted → IsNotedTo m (replayed_of new g).table.noted
+ends_whole rs n part None old new ends same m upto g h = subst (λ t. IsNotedTo m (replayed_of t g).table.noted) (sym same) h
+ends_whole rs n part (Some ps) old new ends settles m upto g h = of_group_read (IsNotedTo m) tt (both_to m) ps.items old new settles (whole_upto rs n part ps ends m upto) g h
+
 whole_takes : (whole : Option (Vec GroupPart)) (old new : MemTables) → SettlesWhole whole old new → TakesItems false (whole_seen as_said whole) (replayed_of old) (replayed_of new)
 whole_takes None old new same = subst (λ m. TakesItems false [] (replayed_of old) (replayed_of m)) (sym same) (takes_none false (replayed_of old))
 whole_takes (Some ps) old new settles = group_takes ps.items old new settles
@@ -262,6 +281,8 @@ reads_end n part whole old new ends settles = λ rs h.
       counting = counting_more rs (part_read (End n) part) (counting_of old.tables) (counting_of new.tables) h.counting
           (subst (λ l. CountsItems l (counting_of old.tables) (counting_of new.tables)) (sym (ended_items rs n part whole told.1)) (whole_count whole old.tables new.tables settles));
       notes = λ q. notes_end rs n part whole old.tables new.tables told.1 settles tables (h.notes q);
+      ends = λ q m upto g. ends_whole rs n part whole old.tables new.tables told.1 settles m upto g (h.ends q m (upto_front m rs (part_read (End n) part ∷ []) upto) g);
+      none = λ q. never_append q;
       pieces = told.0;
     }
 
@@ -307,6 +328,12 @@ merges_rewrite done between old later new joins settles merges = λ xs ys h k.
       counting = counting_joined false xs ys (counting_of old.tables) between later.tables new.tables h.counting k.counting k.tables
           (subst (λ l. CountsItems l (counting_of old.tables) (counting_of between)) (border_items xs ys done told.1) (all_count done old.tables between settles)) merges;
       notes = λ q. notes_joined xs ys done old.tables between later.tables new.tables told.1 settles merges h.tables k.tables (h.notes q) (k.notes q);
+      ends = λ q n upto g.
+          of_joins (IsNotedTo n) tt (both_to n) between later.tables new.tables merges g
+          (of_groups_read (IsNotedTo n) tt (both_to n) done old.tables between settles
+          (all_turned (IsCompleted xs ys) (λ ps. IsNotedTo n (files_of ps)) done (λ ps is. completed_to xs ys ps is n upto) told.1.groups) g (h.ends q n (upto_front n xs ys upto) g))
+          (k.ends q n (upto_back n xs ys upto) g);
+      none = λ q. never_append q;
       pieces = told.0;
     }
 
@@ -330,6 +357,8 @@ merges_append old later new same merges = λ xs ys h k.
           (subst (λ us. CountsItems (completed us (λ n. head n [] (records_of ys))) (counting_of old.tables) (counting_of old.tables)) (sym (plain_unfinished xs (h.plain refl)))
           (counts_none old.tables old.tables refl)) merges;
       notes = λ q. never_rewrite q;
+      ends = λ q. never_rewrite q;
+      none = λ q g. of_joins (λ o. o ≡ None) refl both_none old.tables later.tables new.tables merges g (h.none q g) (k.none q g);
       pieces = subst (ArePieces (xs ++ ys)) (sym same) (plain_pieces xs ys old.pieces (h.plain refl) (k.plain refl) h.pieces);
     }
 
@@ -342,6 +371,9 @@ comes_over old append new merges rewrite behind h k = λ tidy neat g whole sound
   of_rewrite = h.tables tidy g whole;
   of_append = k.tables neat g sound;
   noted = λ lie. h.notes refl lie tidy g whole;
+  ends = λ n upto.
+      subst (λ v. IsNotedTo n v.noted) (sym ((merges g).shows ∙ ap (λ v. merged v (replayed_of append.tables g)) (sym (table_is old.tables g))))
+      (of_merged (IsNotedTo n) tt (both_to n) (replayed_of old.tables g).table (replayed_of append.tables g) (h.ends refl n upto g) (subst (IsNotedTo n) (sym (k.none refl g)) tt));
   shows = (merges g).shows ∙ ap (λ v. merged v (replayed_of append.tables g)) (sym (table_is old.tables g));
   counting = counting_over rewrite behind old.tables append.tables new merges h.counting k.counting k.tables tidy neat g whole sound;
 }
@@ -363,7 +395,7 @@ module _ {E : Type 0} (at : Located → E) (rewrite append : List ReadRecord) (m
 -- what was read isn't changed by what is counted
 read_as_counted : (queue : LogQueue) (rs : List ReadRecord) (c : MemTableRecoverContext) (n : ℕ) (rests : IsAtRest c.tables) → HasRead queue rs c
     → HasRead queue rs (record c { written = n; rests = rests })
-read_as_counted queue rs c n rests h = record { plain = h.plain; fit = h.fit; tables = h.tables; counting = h.counting; notes = h.notes; pieces = h.pieces }
+read_as_counted queue rs c n rests h = record { plain = h.plain; fit = h.fit; tables = h.tables; counting = h.counting; notes = h.notes; ends = h.ends; none = h.none; pieces = h.pieces }
 
 pub replay_declined_counted : (file : FileId) (items : List LogItem) (c : MemTableRecoverContext) (n : ℕ) (rests : IsAtRest c.tables) (e : Error)
     → ReplayDeclined file items (record c { written = n; rests = rests }) e → ReplayDeclined file items c e

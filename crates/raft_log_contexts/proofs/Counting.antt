@@ -207,10 +207,10 @@ wider f (p ∷ ps) files e =
     let a = rest.0 in let b = rest.1 in let c = step.0 in let d = step.1 in
     (omega (arith, a, c), omega (arith, b, d))
 
-same_cons : (a b : ReadItem) (xs ys : List ReadItem) → ◌≡◌ {A = List ReadItem} (a ∷ xs) (b ∷ ys) → (a ≡ b) × (xs ≡ ys)
+pub same_cons : (a b : ReadItem) (xs ys : List ReadItem) → ◌≡◌ {A = List ReadItem} (a ∷ xs) (b ∷ ys) → (a ≡ b) × (xs ≡ ys)
 same_cons a b xs ys h = (cc, cc)
 
-same_compact : (a b : ℕ) → ◌≡◌ {A = Item Located KeyValue} (Compact a) (Compact b) → a ≡ b
+pub same_compact : (a b : ℕ) → ◌≡◌ {A = Item Located KeyValue} (Compact a) (Compact b) → a ≡ b
 same_compact a b h = cc
 
 pub all_within : (o : Option GroupFiles) (ps : List GroupPart) (rs : List ReadRecord) (files : GroupFiles) → parts_seen as_file ps ≡ all_seen as_file rs

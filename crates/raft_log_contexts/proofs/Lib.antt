@@ -12,6 +12,7 @@ mod Alike
 mod Begins
 mod Counting
 mod Notes
+mod NotedTo
 pub mod Opening
 mod Settling
 pub mod Told

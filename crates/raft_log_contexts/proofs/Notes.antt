@@ -37,9 +37,9 @@ use Rattle.raft_log_replay.proofs.Items.{none_said}
 use Rattle.raft_log_contexts.specs.declared.part.GroupPart.{GroupPart}
 use Rattle.raft_log_contexts.specs.Records.{counted, in_file, said_in, AreHealthy, KeepsRead, ReadItem, ReadRecord, TakesItems}
 use Rattle.raft_log_contexts.specs.Pieces.{as_file, as_said, groups_items, part_items, parts_items, parts_seen, seen_by, with_file, AllGroups, GoesToEnd, IsCompleted, Reading}
-use Rattle.raft_log_contexts.specs.Noting.{file_in, files_after, files_of, parts_mention, AreWhereRead, CountsFrom, LieIn, NotesAll, NotesAt, ReadsParts, SettlesAll, SettlesGroup}
+use Rattle.raft_log_contexts.specs.Noting.{file_in, files_after, files_of, parts_mention, AllReadTo, AreWhereRead, CountsFrom, LieIn, NotesAll, NotesAt, ReadsParts, SettlesAll, SettlesGroup}
 use Rattle.raft_log_contexts.proofs.Counting.{all_within, counts_completed, counts_here, counts_lower, counts_right, either_says, said_lies, seen_lies, silent_no_clean, silent_rest, start_low, AllWithin}
-use Rattle.raft_log_contexts.proofs.Begins.{all_seen, begins, ends_by, lie_back, lie_both, lie_front, same_ends, seen_both, BeginsIn, EndsBy}
+use Rattle.raft_log_contexts.proofs.Begins.{all_seen, begins, ends_by, lie_back, lie_both, lie_front, same_ends, seen_both, upto_back, upto_both, upto_front, BeginsIn, EndsBy}
 use Rattle.raft_log_contexts.proofs.Taking.{healthy_front, placed_group, takes_both, takes_kept, takes_none, takes_read}
 
 -- Items that are read.
@@ -191,29 +191,33 @@ same_some : (a b : List ReadItem) → Some a ≡ Some b → a ≡ b
 same_some a b h = cc
 
 -- A group that is completed counts from its first file on, and all of it lies up to its last.
-module _ (xs ys : List ReadRecord) (ps : List GroupPart) (whole : IsCompleted xs ys ps) (lie : AreWhereRead (xs ++ ys)) where
+module _ (xs ys : List ReadRecord) (ps : List GroupPart) (whole : IsCompleted xs ys ps) where
   said_whole : GoesToEnd as_said (opened none_open (seen_by as_said xs) whole.0) (head whole.0 [] (seen_by as_said ys)) ps
   said_whole = whole.1 as_said
 
-  start : BeginsIn whole.0 xs
+  pub start : BeginsIn whole.0 xs
   start = begins whole.0 xs as_said said_whole.so_far said_whole.begun
 
-  end : EndsBy whole.0 ys
+  pub end : EndsBy whole.0 ys
   end = ends_by whole.0 ys as_said said_whole.behind said_whole.ends
 
-  abbrev records : List ReadRecord
+  abbrev pub records : List ReadRecord
   records = (start.first ∷ start.more) ++ end.more
 
-  parts_are : (φ : Reading) → parts_seen φ ps ≡ all_seen φ records
+  pub parts_are : (φ : Reading) → parts_seen φ ps ≡ all_seen φ records
   parts_are φ =
       let at = whole.1 φ in
       let so_far : Some at.so_far ≡ Some (all_seen φ (start.first ∷ start.more)) = sym at.begun ∙ start.opened_is φ none_open in
       let behind = same_ends at.behind (all_seen φ end.more) (sym at.ends ∙ end.head_is φ) in
       at.parts ∙ ap₂ (λ a b. a ++ b) (same_some at.so_far (all_seen φ (start.first ∷ start.more)) so_far) behind ∙ sym (seen_both φ (start.first ∷ start.more) end.more)
 
-  pub completed_group : (g : ℕ) (files : GroupFiles) → files_of ps ≡ Some files → (s : Slot) (c : Content Located KeyValue)
+  -- they were read up to the file where all were
+  pub records_upto : (n : ℕ) → AllReadTo n (xs ++ ys) → AllReadTo n records
+  records_upto n upto = upto_both n (start.first ∷ start.more) end.more (start.upto n (upto_front n xs ys upto)) (end.upto n (upto_back n xs ys upto))
+
+  pub completed_group : AreWhereRead (xs ++ ys) → (g : ℕ) (files : GroupFiles) → files_of ps ≡ Some files → (s : Slot) (c : Content Located KeyValue)
       → says s (of_group g (parts_items ps)) ≡ Some (Some c) → (file_in c ≤ files.to) × CountsFrom (xs ++ ys) g files.from s
-  completed_group g files is s c now =
+  completed_group lie g files is s c now =
       let within : AllWithin files records = all_within None ps records files (parts_are as_file) is in
       let lies = lie_both (start.first ∷ start.more) end.more (start.lie (lie_front xs ys lie)) (end.lie (lie_back xs ys lie)) in (
         seen_lies files g s records c within lies (ap (λ l. says s (of_group g l)) (sym (parts_are as_said)) ∙ now),

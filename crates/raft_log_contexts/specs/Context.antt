@@ -25,7 +25,7 @@ use Rattle.raft_log_replay.specs.Replaying.{ReadsUpTo}
 use Rattle.raft_log_contexts.specs.declared.context.MemTableRecoverContext.{MemTableRecoverContext}
 use Rattle.raft_log_contexts.specs.Records.{counted, record_read, records_of, AreHealthy, AreReplayed, ReadRecord}
 use Rattle.raft_log_contexts.specs.Pieces.{ArePieces}
-use Rattle.raft_log_contexts.specs.Noting.{AreNotedRead, AreWhereRead, NotesCover}
+use Rattle.raft_log_contexts.specs.Noting.{AllReadTo, AreNotedRead, AreNotedTo, AreWhereRead, IsNotedTo, NotesCover}
 
 -- the record counts at once
 abbrev pub is_plain : Record Located KeyValue → Bool
@@ -45,14 +45,16 @@ AreCounting rs counting =
 
 -- The context has read these records of a queue: its tables are those of what counts in them, and so are the
 -- groups that count, and its pieces those of the atomic groups that they leave open or that began before them.
--- In Append all records count at once, and each run of theirs ends at or below 2^64 - 1; of Rewrite the tables
--- note the files of the atomic groups
+-- In Append all records count at once, each run of theirs ends at or below 2^64 - 1, and nothing is noted;
+-- of Rewrite the tables note the files of the atomic groups, and none past those that were read
 pub record HasRead (queue : LogQueue) (rs : List ReadRecord) (c : MemTableRecoverContext) : Type 0 where
   pub plain : in_append queue ≡ true → ArePlain rs
   pub fit : in_append queue ≡ true → RecordsFit (records_of rs)
   pub tables : AreReplayed (in_append queue) rs (replayed_of c.tables)
   pub counting : AreCounting rs (counts c.tables)
   pub notes : in_append queue ≡ false → AreNotedRead rs (replayed_of c.tables)
+  pub ends : in_append queue ≡ false → AreNotedTo rs (replayed_of c.tables)
+  pub none : in_append queue ≡ true → (g : ℕ) → (replayed_of c.tables g).table.noted ≡ None
   pub pieces : ArePieces rs c.pieces
 
 -- a context that has read some records of a queue has then read these and this one, if it is one
@@ -98,14 +100,15 @@ MergesInto queue old later new =
     (xs ys : List ReadRecord) → HasRead queue xs old → HasRead queue ys later → HasRead queue (xs ++ ys) new
 
 -- What shows of a group is what was read of these records of Append over what was read of those of Rewrite,
--- of which the files of the atomic groups are noted; and the group counts where something of it does behind
--- the last Clean of both
+-- of which the files of the atomic groups are noted, and none past those that were read; and the group
+-- counts where something of it does behind the last Clean of both
 pub record IsOverAt (rewrite append : List ReadRecord) (m : MemTables) (g : ℕ) : Type 0 where
   pub rewritten : Replayed
   pub appended : Replayed
   pub of_rewrite : IsReplayed false (counted g rewrite) rewritten
   pub of_append : IsReplayed true (counted g append) appended
   pub noted : AreWhereRead rewrite → NotesCover rewrite g rewritten.table.noted
+  pub ends : (n : ℕ) → AllReadTo n rewrite → IsNotedTo n (shown_of m g).noted
   pub shows : shown_of m g ≡ merged rewritten.table appended
   pub counting : counts m g ≡ counts_at_end (counts_at_end false (counted g rewrite)) (counted g append)
 

@@ -100,6 +100,20 @@ abbrev pub AreWhereRead : List ReadRecord → Type 0
 AreWhereRead [] = Unit {0}
 AreWhereRead (r ∷ rs) = LieIn r.file (items_of r.taken) × AreWhereRead rs
 
+-- the records were read in files up to that one
+abbrev pub AllReadTo : ℕ → List ReadRecord → Type 0
+AllReadTo n [] = Unit {0}
+AllReadTo n (r ∷ rs) = (r.file ≤ n) × AllReadTo n rs
+
+-- what is noted of atomic groups ends no later than in that file
+abbrev pub IsNotedTo : ℕ → Option GroupFiles → Type 0
+IsNotedTo n None = Unit {0}
+IsNotedTo n (Some files) = files.to ≤ n
+
+-- of no raft group a file is noted past those that these records were read in
+abbrev pub AreNotedTo : List ReadRecord → (ℕ → Replayed) → Type 0
+AreNotedTo rs z = (n : ℕ) → AllReadTo n rs → (g : ℕ) → IsNotedTo n (z g).table.noted
+
 -- the file of an entry or a value
 abbrev pub file_in : Content Located KeyValue → ℕ
 file_in (Entry p) = p.place.file

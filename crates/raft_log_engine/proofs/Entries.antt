@@ -71,7 +71,7 @@ none_at i = by (nat_le 0 i)
 with_block : (home : Home) (s t : Shows) (m : LogMap) (pending : List Said) → t ≡ record s { cache = t.cache } → (h : Holds home s m pending) → IsOfLog h.state t.cache → Holds home t m pending
 with_block home s t m pending same h cached =
     subst (λ u. Holds home u m pending) (sym same)
-    (record { state = h.state; map = h.map; runs = h.runs; stored = h.stored; rises = h.rises; meant = h.meant; cached = cached; at = h.at })
+    (record { state = h.state; map = h.map; runs = h.runs; stored = h.stored; rises = h.rises; noted = h.noted; meant = h.meant; cached = cached; at = h.at })
 
 pub stays_same : (s : Shows) → StaysButBlock s s
 stays_same s = record { same = refl; holds = λ home m pending h. h }

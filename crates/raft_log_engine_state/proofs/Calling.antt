@@ -1,8 +1,10 @@
 -- A batch that was written, and a sync, are steps of an engine's log.
-use Rattle.std.proofs.Common.{◌≡◌, ℕ, ◌≤◌, Bool, true, false, List, [], ◌∷◌, ◌++◌, refl, sym, ap, subst, ◌∙◌, arith}
+use Rattle.std.proofs.Common.{◌≡◌, ℕ, ◌≤◌, Bool, true, false, Some, List, [], ◌∷◌, ◌++◌, refl, sym, ap, subst, ◌∙◌, arith}
 use Rattle.std.specs.Prelude.{◌^◌, ◌+◌, ◌<◌}
-use Rattle.raft_log_model.specs.Item.{Tagged, items_of}
+use Rattle.raft_log_model.specs.Item.{Item, Tagged, items_of}
+use Rattle.raft_log_model.specs.Item.Item.{Run, Clean, Compact, Put, Del}
 use Rattle.raft_log_model.specs.Groups.{of_group, taken}
+use Rattle.raft_log_machine.proofs.TruthRaises.{no_word}
 use Rattle.raft_log_disk.specs.Disk.{Disk}
 use Rattle.raft_log_disk.specs.LogQueue.{LogFiles}
 use Rattle.raft_log_base.specs.declared.pipe_log.LogQueue.TheVariants.{Append}
@@ -15,7 +17,8 @@ use Rattle.raft_log_directory.specs.Calls.Which.{InAppend}
 use Rattle.raft_log_directory.specs.Log.{IsAt, View}
 use Rattle.raft_log_directory.specs.Log.{EndsAt as ViewEnds}
 use Rattle.raft_log_directory.proofs.CallLaws.{append_answered, append_synced}
-use Rattle.raft_log_places.specs.Shown.{IsOrderly, Shown}
+use Rattle.raft_log_places.specs.declared.group_files.GroupFiles.{GroupFiles}
+use Rattle.raft_log_places.specs.Shown.{IsOrderly, Shown, all_stepped, stepped}
 use Rattle.raft_log_places.specs.Noted.{FilesRise}
 use Rattle.raft_log_places.specs.declared.place.Place.{Place}
 use Rattle.raft_log_places.proofs.Rising.{rises_on}
@@ -37,7 +40,7 @@ use Rattle.raft_log_file_queue.specs.Queue.{synced}
 use Rattle.raft_log_blocks.specs.raft_log_dual_pipes.specs.Pipes.{LogPipes, RunsOn, Said, State, queue_of}
 use Rattle.raft_log_blocks.specs.raft_log_dual_pipes.specs.Calls.{AppendsTo, SyncsQueue}
 use Rattle.raft_log_engine_state.specs.Shows.{Home, KeepsOrForgets, LogMap, Shows, log_in, said_by, said_of, sense}
-use Rattle.raft_log_engine_state.specs.Holding.{EndsAt, FilesRiseIn, Holds, RunsAs, RunsEnding}
+use Rattle.raft_log_engine_state.specs.Holding.{EndsAt, FilesRiseIn, Holds, NotesEndIn, RunsAs, RunsEnding}
 use Rattle.raft_log_engine_state.specs.Writing.{items_at}
 use Rattle.raft_log_engine_state.specs.Laws.{IsReady}
 use Rattle.raft_log_engine_state.proofs.Renaming.{places_follow}
@@ -55,6 +58,23 @@ taken_rises : (s : State) (files : LogFiles LogRecord) (d : Disk) (n : ℕ) (v :
 taken_rises s files d n v xs later number orderly follows lie rises g =
     subst (λ (k : ℕ). FilesRise k s.rewrite.files.last (all_shown n v xs g)) number
     (rises_on s.append.files.last s.rewrite.files.last n (v g) (of_group g xs) (orderly g) (rises g) (omega (arith, later, number)) (follows g) (lie g))
+
+-- nothing is noted in Append, and a Clean forgets what was
+noted_before : (n : ℕ) (v : Shown) (xs : List (Item Place (List ℕ))) (files : GroupFiles) → (all_stepped n v xs).noted ≡ Some files → v.noted ≡ Some files
+noted_before n v [] files is = is
+noted_before n v (x ∷ xs) files is = one x (noted_before n (stepped n v x) xs files is)
+  where
+    one : (y : Item Place (List ℕ)) → (stepped n v y).noted ≡ Some files → v.noted ≡ Some files
+    one (Run f []) e = e
+    one (Run f (p ∷ ps)) e = e
+    one Clean e = no_word files e
+    one (Compact c) e = e
+    one (Put k w) e = e
+    one (Del k) e = e
+
+taken_noted : (s : State) (files : LogFiles LogRecord) (d : Disk) (n : ℕ) (v : ℕ → Shown) (xs : List (Tagged Place (List ℕ))) → NotesEndIn s v
+    → NotesEndIn (next_log InAppend s files d) (all_shown n v xs)
+taken_noted s files d n v xs noted g these is = noted g these (noted_before n (v g) (of_group g xs) these is)
 
 module _ (home : Home) (e : Shows) (w : LogPipes) (b : Batch) (block : FileBlockHandle) (m : LogMap) (pending : List Said) (h : Holds home e m pending) (ready : IsReady e b) (call : AppendsTo InAppend (signed_for b) block e.pipes w) where
   abbrev after : ℕ → Shown
@@ -101,6 +121,7 @@ module _ (home : Home) (e : Shows) (w : LogPipes) (b : Batch) (block : FileBlock
           runs = subst (λ v. RunsOn (sense home) v next) (sym pipes) runs;
           stored = subst (λ v. AreStored next v) (sym tables) stored;
           rises = subst (λ v. FilesRiseIn next v) (sym tables) rises;
+          noted = subst (λ v. NotesEndIn next v) (sym tables) (taken_noted h.state files w.disk block.id.seq e.tables (items_at block b) h.noted);
           meant = subst (λ v. AreMeant (entries_at next) v (taken h.map (said_of b ∷ []))) (sym tables) meant;
           cached = stays_cached h.state next (keeps_log h.state files w.disk keeps) e.cache t.cache kept h.cached;
           at = subst (λ v. IsAt (Ties (log_in home) next) (view_of v (taken h.map (said_of b ∷ []))) (taken m ends.done) ends.rest) (sym tables) ends.at;

@@ -19,7 +19,7 @@ use Rattle.raft_log_blocks.specs.declared.block_cache.BlockCache.{BlockCache}
 use Rattle.raft_log_blocks.specs.Blocks.{IsOfLog}
 use Rattle.raft_log_blocks.proofs.Kept.{kept_blocks_stay, none_kept}
 use Rattle.raft_log_engine_state.specs.Shows.{Home, KeepsOrForgets, LogMap, Shows, log_in, sense}
-use Rattle.raft_log_engine_state.specs.Holding.{EndsAt, FilesRiseIn, Holds, RunsAs}
+use Rattle.raft_log_engine_state.specs.Holding.{EndsAt, FilesRiseIn, Holds, NotesEndIn, RunsAs}
 
 -- what Append's files keep the log keeps
 pub keeps_log : (s : State) (files : LogFiles LogRecord) (d : Disk) → KeepsBytes s.append.files files → KeepsLog s (next_log InAppend s files d)
@@ -43,6 +43,10 @@ pub rise_on : (s t : State) → KeepsLog s t → (v : ℕ → Shown) → FilesRi
 rise_on s t keeps v rises g =
     rise_later s.append.files.last t.append.files.last s.rewrite.files.last t.rewrite.files.last (v g) keeps.append.last keeps.rewrite.last (rises g)
 
+-- and what was noted up to the last file of Rewrite is noted up to a later one
+pub notes_on : (s t : State) → KeepsLog s t → (v : ℕ → Shown) → NotesEndIn s v → NotesEndIn t v
+notes_on s t keeps v noted g files is = (let low = noted g files is in let later = keeps.rewrite.last in omega (arith, low, later))
+
 -- an engine whose pipes run is one whose log runs
 pub holds_runs : (home : Home) (e : Shows) (m : LogMap) (pending : List Said) → Holds home e m pending → RunsAs home e.pipes m pending
 holds_runs home e m pending h = record { state = h.state; view = view_of e.tables h.map; runs = h.runs; at = h.at }
@@ -65,6 +69,7 @@ module _ (home : Home) (e t : Shows) (m : LogMap) (pending : List Said) (h : Hol
         runs = runs;
         stored = subst (λ v. AreStored next v) (sym same) stays.0;
         rises = subst (λ v. FilesRiseIn next v) (sym same) (rise_on h.state next log e.tables h.rises);
+        noted = subst (λ v. NotesEndIn next v) (sym same) (notes_on h.state next log e.tables h.noted);
         meant = subst (λ v. AreMeant (entries_at next) v h.map) (sym same) (stays.1 h.map h.meant);
         cached = stays_cached h.state next log e.cache t.cache kept h.cached;
         at = subst (λ v. IsAt (Ties (log_in home) next) (view_of v h.map) k rest) (sym same) at;

@@ -1,12 +1,13 @@
 -- What is true of an engine: which map its log is, and which batches are pending behind it. No code holds
 -- either: each clause on a call is told of whatever map and batches were true of the engine before.
-use Rattle.std.specs.Prelude.{◌≡◌, ℕ, List, ◌++◌}
+use Rattle.std.specs.Prelude.{◌≡◌, ◌≤◌, ℕ, List, ◌++◌, Some}
 use Rattle.raft_log_model.specs.Groups.{taken}
 use Rattle.raft_log_disk.specs.Disk.{Disk}
 use Rattle.raft_log_directory.specs.Log.{IsAt, View}
 use Rattle.raft_log_blocks.specs.raft_log_steps.specs.State.{Ties}
 use Rattle.raft_log_blocks.specs.raft_log_steps.specs.Lying.{OpenPipes}
 use Rattle.raft_log_blocks.specs.raft_log_steps.specs.Failing.{LogEndsLying}
+use Rattle.raft_log_places.specs.declared.group_files.GroupFiles.{GroupFiles}
 use Rattle.raft_log_places.specs.Shown.{Shown}
 use Rattle.raft_log_places.specs.Noted.{FilesRise}
 use Rattle.raft_log_blocks.specs.raft_log_views.specs.Views.{AreMeant, view_of}
@@ -19,16 +20,22 @@ use Rattle.raft_log_engine_state.specs.Shows.{Home, LogMap, Shows, log_in, sense
 abbrev pub FilesRiseIn : State → (ℕ → Shown) → Type 0
 FilesRiseIn s v = (g : ℕ) → FilesRise s.append.files.last s.rewrite.files.last (v g)
 
+-- what is noted of atomic groups ends no later than in the last file of Rewrite
+abbrev pub NotesEndIn : State → (ℕ → Shown) → Type 0
+NotesEndIn s v =
+    (g : ℕ) (files : GroupFiles) → (v g).noted ≡ Some files → files.to ≤ s.rewrite.files.last
+
 -- The engine's log, in these directories, is the map m with the batches pending behind it: its pipes run over
 -- a log that is so, each place that its tables show lies there, along a group's entries in files that don't
--- fall, what is read at these places is the map after the batches, and the block that is kept is what was
--- written at its place.
+-- fall, no file is noted past the last one, what is read at these places is the map after the batches, and
+-- the block that is kept is what was written at its place.
 pub record Holds (home : Home) (e : Shows) (m : LogMap) (pending : List Said) : Type 0 where
   pub state : State
   pub map : LogMap
   pub runs : RunsOn (sense home) e.pipes state
   pub stored : AreStored state e.tables
   pub rises : FilesRiseIn state e.tables
+  pub noted : NotesEndIn state e.tables
   pub meant : AreMeant (entries_at state) e.tables map
   pub cached : IsOfLog state e.cache
   pub at : IsAt (Ties (log_in home) state) (view_of e.tables map) m pending

@@ -1,5 +1,5 @@
 -- The part that ends an atomic group.
-use Rattle.std.proofs.Common.{◌≡◌, ℕ, Bool, true, false, if◌then◌else◌, List, [], ◌∷◌, ◌++◌, length, map, Option, Some, ◌+◌, refl, sym, ap, ap₂, subst, ◌∙◌, arith, append_assoc, append-nil}
+use Rattle.std.proofs.Common.{◌≡◌, ℕ, ◌≤◌, min, max, nat_le, Bool, true, false, if◌then◌else◌, List, [], ◌∷◌, ◌++◌, length, map, Option, None, Some, ◌+◌, refl, sym, ap, ap₂, subst, ◌∙◌, arith, append_assoc, append-nil}
 use Rattle.std.proofs.lemmas.Bool.{false≢true}
 use Rattle.std.proofs.lemmas.List.{map-append}
 use std.Path.{fun_ext}
@@ -27,7 +27,7 @@ use Rattle.raft_log_places.specs.declared.place.Place.{Place}
 use Rattle.raft_log_places.specs.Shown.{IsOrderly, Shown}
 use Rattle.raft_log_places.specs.Bridge.{CanAllMove, Located, all_moved, in_queue, items_of as copies_of, located, moved_key, moved_run}
 use Rattle.raft_log_places.specs.Bridge.Move.{MoveKey, MoveRun}
-use Rattle.raft_log_places.specs.Noted.{FilesRise, IsLeastInRewrite, with_note}
+use Rattle.raft_log_places.specs.Noted.{FilesRise, IsLeastInRewrite, noting, with_note}
 use Rattle.raft_log_places.proofs.Moving.{move_orderly}
 use Rattle.raft_log_purge_state.specs.raft_log_tables.proofs.Leasts.{front_is_least, noted_by_least}
 use Rattle.raft_log_purge_state.specs.raft_log_tables.specs.Table.{shown}
@@ -39,12 +39,12 @@ use Rattle.raft_log_purge_state.specs.raft_log_views.proofs.Ending.{group_ends}
 use Rattle.raft_log_purge_state.specs.raft_log_dual_pipes.specs.Calls.{AppendsTo, FailsToAppendTo}
 use Rattle.raft_log_purge_state.specs.raft_log_dual_pipes.specs.Pipes.{State}
 use Rattle.raft_log_purge_state.specs.raft_log_engine_state.specs.Shows.{Home, KeepsOrForgets, LogMap, Shows, log_in}
-use Rattle.raft_log_purge_state.specs.raft_log_engine_state.specs.Holding.{FilesRiseIn, Holds}
+use Rattle.raft_log_purge_state.specs.raft_log_engine_state.specs.Holding.{FilesRiseIn, Holds, NotesEndIn}
 use Rattle.raft_log_purge_state.specs.raft_log_engine_state.specs.Writing.{items_at}
-use Rattle.raft_log_purge_state.specs.raft_log_engine_state.proofs.Keeping.{rise_on}
+use Rattle.raft_log_purge_state.specs.raft_log_engine_state.proofs.Keeping.{notes_on, rise_on}
 use Rattle.raft_log_purge_state.specs.Rewriting.{RewriteLeaves}
 use Rattle.raft_log_purge_state.specs.Settled.{SameTables}
-use Rattle.raft_log_purge_state.proofs.Copying.{block_behind, bytes_behind, held_map, meant_behind, moved_lies}
+use Rattle.raft_log_purge_state.proofs.Copying.{block_behind, bytes_behind, held_map, meant_behind, moved_lies, moved_noted}
 use Rattle.raft_log_purge_state.proofs.Rewriting.{IsTaken, held_taken, record_taken, refusal_leaves}
 use Rattle.raft_log_group_state.specs.Parts.{FilesGoUp, HoldsInGroup, IsGroupPart, LiesInRewrite, OfEntries, SaysPart, UnendedGroup, WrittenPart, parts_of, said_items}
 use Rattle.raft_log_group_state.specs.Whole.{Filed, HasWhole, IsWholeCopy, RunPiece, all_places, batches_of, filed_in, filed_copies, filed_items, filed_moves, in_one, in_pieces, parts_moved, whole_moves}
@@ -195,6 +195,25 @@ end_refused home e t gate o b m error h is has same call =
 noted_rises : (a r : ℕ) (v : Shown) (least : ℕ) (files : GroupFiles) → FilesRise a r v → FilesRise a r (with_note v least files)
 noted_rises a r v least files rise = record { appended = rise.appended; rewritten = rise.rewritten; in_append = rise.in_append; in_rewrite = rise.in_rewrite }
 
+-- what is noted ends with the group, or where it ended before
+noting_to : (n least : ℕ) (o : Option GroupFiles) (new : GroupFiles) → ((old : GroupFiles) → o ≡ Some old → old.to ≤ n) → new.to ≤ n → (noting least o new).to ≤ n
+noting_to n least None new was high = high
+noting_to n least (Some old) new was high = by (nat_le least old.to)
+  where
+    before : old.to ≤ n
+    before = was old refl
+
+    by : (b : Bool) → (if b then (record { from = min old.from new.from; to = max old.to new.to }) else new).to ≤ n
+    by true = omega (arith, before, high)
+    by false = high
+
+same_files : (a b : GroupFiles) → ◌≡◌ {A = Option GroupFiles} (Some a) (Some b) → a ≡ b
+same_files a b h = cc
+
+noted_ends : (n : ℕ) (v : Shown) (least : ℕ) (new : GroupFiles) → new.to ≤ n → ((old : GroupFiles) → v.noted ≡ Some old → old.to ≤ n) → (files : GroupFiles)
+    → (with_note v least new).noted ≡ Some files → files.to ≤ n
+noted_ends n v least new high was files is = subst (λ (x : GroupFiles). x.to ≤ n) (same_files (noting least v.noted new) files is) (noting_to n least v.noted new was high)
+
 -- what is true of each table once it took the group or stayed
 took_each : (P : ℕ → Shown → Type 0) (gate : Option ℕ) (ps : List WrittenPart) (files : GroupFiles) (v u : ℕ → Shown) (k : ShowsWhole gate ps files v u)
     → ((g : ℕ) → P g (with_note (parts_moved gate g ps (v g)) (k.took.least g) files)) → ((g : ℕ) → P g (v g)) → (g : ℕ) → P g (u g)
@@ -274,6 +293,12 @@ end_shown home e t gate o b block m h k is f took kept =
     (noted_rises next.append.files.last block.id.seq (parts_moved gate g ps (e.tables g)) (took.took.least g) files
     (moved_rise at gate s.append.files.last o.first.block.id.seq block.id.seq (e.tables g) g ps (f.meant.orderly g) (h.rises g) f.up (f.whole g))))
     (rise_on s next k.keeps e.tables h.holds.rises)))
+    (subst (λ v. NotesEndIn next v) shows
+    (took_each (λ g v. (these : GroupFiles) → v.noted ≡ Some these → these.to ≤ next.rewrite.files.last) gate ps files e.tables t.tables took
+    (λ g.
+    let same = ap (λ (v : Shown). v.noted) (whole_moved at gate (e.tables g) g ps (f.meant.orderly g) (f.whole g)).0 ∙ moved_noted (e.tables g) (whole_moves (f.whole g)) in
+    noted_ends next.rewrite.files.last (parts_moved gate g ps (e.tables g)) (took.took.least g) files (omega (arith, last)) (λ old there. notes_on s next k.keeps e.tables h.holds.noted g old (sym same ∙ there)))
+    (notes_on s next k.keeps e.tables h.holds.noted)))
     ends.meant
     (end_answered (Ties (log_in home)) (AllowsIn (log_in home)) s next (view_of e.tables h.holds.map) m files.from o.number (said_items o.first.batch) (said_more o)
     (view_of u h.holds.map) block.id.seq (said_items b) k.step ends.ends (in_group home e m o h))

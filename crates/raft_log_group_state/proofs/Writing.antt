@@ -36,7 +36,7 @@ use Rattle.raft_log_purge_state.specs.raft_log_dual_pipes.specs.Calls.{AppendsTo
 use Rattle.raft_log_purge_state.specs.raft_log_dual_pipes.specs.Pipes.{RunsOn, State}
 use Rattle.raft_log_purge_state.specs.raft_log_engine_state.specs.Shows.{Home, LogMap, Shows, log_in, said_by, sense}
 use Rattle.raft_log_purge_state.specs.raft_log_engine_state.specs.Holding.{Holds}
-use Rattle.raft_log_purge_state.specs.raft_log_engine_state.proofs.Keeping.{rise_on, stays_cached}
+use Rattle.raft_log_purge_state.specs.raft_log_engine_state.proofs.Keeping.{notes_on, rise_on, stays_cached}
 use Rattle.raft_log_purge_state.specs.Rewriting.{RewriteLeaves}
 use Rattle.raft_log_purge_state.specs.Settled.{SameTables}
 use Rattle.raft_log_purge_state.proofs.Rewriting.{left_out_keeps, record_taken, refusal_leaves, says_marked}
@@ -76,6 +76,7 @@ module _ (home : Home) (e t : Shows) (m : LogMap) (h : Holds home e m []) (same 
           runs = runs;
           stored = stays.0;
           rises = rise_on h.state next keeps e.tables h.rises;
+          noted = notes_on h.state next keeps e.tables h.noted;
           meant = stays.1 h.map h.meant;
           cached = stays_cached h.state next keeps e.cache t.cache same.cache h.cached;
           at = record { files = g.files; stands = g.stands; there = g.there };

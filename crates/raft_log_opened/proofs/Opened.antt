@@ -35,7 +35,7 @@ use Rattle.raft_log_engine_state.specs.raft_log_steps.specs.State.{Ties}
 use Rattle.raft_log_engine_state.specs.raft_log_views.specs.Views.{view_of, AreMeant}
 use Rattle.raft_log_contexts.specs.Records.{counted, records_of, AreHealthy, ReadRecord}
 use Rattle.raft_log_contexts.specs.Context.{ArePlain, ComesOver}
-use Rattle.raft_log_contexts.specs.Noting.{AreWhereRead}
+use Rattle.raft_log_contexts.specs.Noting.{AllReadTo, AreWhereRead, IsNotedTo}
 use Rattle.raft_log_contexts.specs.Opened.{map_read, told_record, told_records, FilesHold, IsOpened}
 use Rattle.raft_log_contexts.proofs.Contexts.{over_means, plain_counted}
 use Rattle.raft_log_contexts.proofs.Opening.{made_of, map_is, recovered, sound, stands_as}
@@ -45,12 +45,12 @@ use Rattle.raft_log_engine_state.specs.raft_log_stored.specs.Stored.{entries_at,
 use Rattle.raft_log_engine_state.specs.raft_log_dual_pipes.specs.Pipes.{LogPipes, Said, State}
 use Rattle.raft_log_engine_state.specs.raft_log_blocks.proofs.Kept.{none_kept}
 use Rattle.raft_log_engine_state.specs.Shows.{log_in, no_place, said_by, Home, LogMap}
-use Rattle.raft_log_engine_state.specs.Holding.{FilesRiseIn}
+use Rattle.raft_log_engine_state.specs.Holding.{FilesRiseIn, NotesEndIn}
 use Rattle.raft_log_opened.specs.Entries.{EntriesHave, RecordsHave}
 use Rattle.raft_log_opened.specs.Reading.{as_counted, counted_file, counted_queue}
 use Rattle.raft_log_opened.specs.Opened.{AreMerged, HoldsFresh, IsOpenedOver, OpenedEnginesHold}
 use Rattle.raft_log_opened.proofs.Counting.{counted_fit, meant_has, rewritten_has}
-use Rattle.raft_log_opened.proofs.Queues.{queue_held, queue_rises}
+use Rattle.raft_log_opened.proofs.Queues.{queue_held, queue_rises, queue_upto}
 use Rattle.raft_log_opened.proofs.Rising.{appended_rise, appended_within, plain_unbroken, rewritten_rise, rewritten_within}
 use Rattle.raft_log_opened.proofs.Sound.{again_sound, append_whole, fit_untold, hole_untold, rewrite_fits, rewrite_unbroken, records_of_both, rewrite_whole, span_records, unbroken_untold}
 
@@ -241,6 +241,10 @@ module _ (at : Located → List ℕ) (P : Located → Type 0) (first behind : Li
           in_rewrite = λ i low high. rewritten_within s v.rewritten v.places (i - v.first) (omega (arith, low, high)) (omega (arith, low, high, parts)) (lie g);
         }
 
+    -- what is noted ends in a file of Rewrite that was read
+    pub ends : (s : State) → AllReadTo s.rewrite.files.last first → NotesEndIn s (shown_of tables)
+    ends s upto g files is = subst (IsNotedTo s.rewrite.files.last) is ((over first_tidy behind_tidy g (first_healthy g) (behind_healthy fit g)).ends s.rewrite.files.last upto)
+
 -- The engine.
 module _ (home : Home) (was : State) (m : LogMap) (v : LogPipes) (tables : MemTables) (log : IsLog (Ties (log_in home) was) m []) (over : IsOpenedOver home was v tables) where
   abbrev state : State
@@ -305,6 +309,9 @@ module _ (home : Home) (was : State) (m : LogMap) (v : LogPipes) (tables : MemTa
   rewrite_rises : IsRising (span (counted_queue false files.rewrite) (counted_queue false files.rewrite).pending)
   rewrite_rises = queue_rises said_by no_place (λ record_is. refl) state Rewrite state.rewrite refl (log_in home).rewrite.format files.rewrite_from state.disk files.rewrite tied.rewrite
 
+  rewrite_upto : AllReadTo state.rewrite.files.last first
+  rewrite_upto = queue_upto said_by no_place (λ record_is. refl) state Rewrite state.rewrite refl over.rewrite_batches over.of_rewrite first merged.rewrite_read.told
+
   over_read : ComesOver first behind tables
   over_read = merged.over first behind merged.rewrite_read.read merged.append_read.read
 
@@ -347,6 +354,8 @@ module _ (home : Home) (was : State) (m : LogMap) (v : LogPipes) (tables : MemTa
     stored = all_stored;
     rises = rises at (IsStored state) first behind tables over_read model is_sound rewrite_held.0 append_held.0 (merged.append_read.read.plain refl)
         (merged.append_read.read.fit refl) rewrite_held.1 append_held.1 rewrite_rises append_rises runs state all_stored;
+    noted = ends at (IsStored state) first behind tables over_read model is_sound rewrite_held.0 append_held.0 (merged.append_read.read.plain refl)
+        (merged.append_read.read.fit refl) rewrite_held.1 append_held.1 rewrite_rises append_rises runs state rewrite_upto;
     meant = meant at (IsStored state) first behind tables over_read model is_sound rewrite_held.0 append_held.0 (merged.append_read.read.plain refl)
         (merged.append_read.read.fit refl) rewrite_held.1 append_held.1 rewrite_rises append_rises runs;
     cached = none_kept state cache none;

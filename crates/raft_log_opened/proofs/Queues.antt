@@ -28,8 +28,8 @@ use Rattle.raft_log_segments.specs.Machines.{Batch}
 use Rattle.raft_log_engine_state.specs.raft_log_steps.specs.State.{Spanned}
 use Rattle.raft_log_contexts.specs.Batches.{AreRead}
 use Rattle.raft_log_contexts.specs.Records.{records_of, ReadRecord}
-use Rattle.raft_log_contexts.specs.Noting.{AreWhereRead}
-use Rattle.raft_log_contexts.specs.Opened.{FilesHold}
+use Rattle.raft_log_contexts.specs.Noting.{AllReadTo, AreWhereRead}
+use Rattle.raft_log_contexts.specs.Opened.{AllReadIn, FilesHold}
 use Rattle.raft_log_contexts.proofs.OpenGroups.{records_append as records_of_both}
 use Rattle.raft_log_engine_state.specs.raft_log_stored.specs.Stored.{entries_at, file_bytes, part, queue_in, BlockLiesIn, EntryLiesIn, IsStored}
 use Rattle.raft_log_found_pipes.specs.Reading.{context_in}
@@ -52,6 +52,15 @@ split_zip {A} {B} R (x ∷ xs) ys (z ∷ zs) (one, all) =
 lie_append : (xs ys : List ReadRecord) → AreWhereRead xs → AreWhereRead ys → AreWhereRead (xs ++ ys)
 lie_append [] ys h k = k
 lie_append (x ∷ xs) ys h k = (h.0, lie_append xs ys h.1 k)
+
+-- what was read in a file was read up to any later one
+upto_append : (n : ℕ) (xs ys : List ReadRecord) → AllReadTo n xs → AllReadTo n ys → AllReadTo n (xs ++ ys)
+upto_append n [] ys h k = k
+upto_append n (x ∷ xs) ys h k = (h.0, upto_append n xs ys h.1 k)
+
+read_upto : (n m : ℕ) (rs : List ReadRecord) → n ≤ m → AllReadIn n rs → AllReadTo m rs
+read_upto n m [] low h = tt
+read_upto n m (r ∷ rs) low h = (let file = h.0 in omega (arith, file, low), read_upto n m rs low h.1)
 
 -- which bytes stand in which file
 last_bytes : (q : LogFiles LogRecord) → file_bytes q q.last ≡ q.header ++ spelled (recent q)
@@ -101,13 +110,15 @@ module _ (says : LogRecord → Said) (none : FileBlockHandle) (sense : (r : LogR
   pub record HeldBy (rs : List ReadRecord) (fs : List (LogFile (List ℕ) (List ℕ))) : Type 0 where
     pub holds : FilesHold at rs (map (counted_file appended) fs)
     pub lie : AreWhereRead rs
+    pub upto : AllReadTo q.files.last rs
     pub has : RecordsHave (EntriesHave P) (records_of rs)
 
-  more_held : (f : LogFile (List ℕ) (List ℕ)) (fs : List (LogFile (List ℕ) (List ℕ))) (here rest : List ReadRecord) → AreReadAs at P f.number here (map (as_counted appended) f.records) → HeldBy rest fs
+  more_held : (f : LogFile (List ℕ) (List ℕ)) (fs : List (LogFile (List ℕ) (List ℕ))) (here rest : List ReadRecord) → f.number ≤ q.files.last → AreReadAs at P f.number here (map (as_counted appended) f.records) → HeldBy rest fs
       → HeldBy (here ++ rest) (f ∷ fs)
-  more_held f fs here rest one more = record {
+  more_held f fs here rest low one more = record {
     holds = (here, rest, refl, one.file, one.says, more.holds);
     lie = lie_append here rest one.lie more.lie;
+    upto = upto_append q.files.last here rest (read_upto f.number q.files.last here low one.file) more.upto;
     has = subst (RecordsHave (EntriesHave P)) (sym (records_of_both here rest)) (records_append (EntriesHave P) (records_of here) (records_of rest) one.has more.has);
   }
 
@@ -125,7 +136,7 @@ module _ (says : LogRecord → Said) (none : FileBlockHandle) (sense : (r : LogR
       let there = file_read n (q.files.older n).header (q.files.older n).records first from (omega (arith, upto)) (past_is q.files n (omega (arith, upto))) one here read_first in
       let later = files_held count (suc n) more (omega (arith, from)) (omega (arith, upto)) others rest read_more fs behind held in
       subst (λ (l : List ReadRecord). HeldBy l (filed says q.files.older n (suc count) ++ fs)) (append_assoc_of here rest behind is)
-      (more_held (record { number = n; records = said_all says (q.files.older n).records }) (filed says q.files.older (suc n) count ++ fs) here (rest ++ behind) there later)
+      (more_held (record { number = n; records = said_all says (q.files.older n).records }) (filed says q.files.older (suc n) count ++ fs) here (rest ++ behind) (omega (arith, upto)) there later)
     where
       append_assoc_of : (a b c : List ReadRecord) → rs ≡ a ++ b → a ++ (b ++ c) ≡ rs ++ c
       append_assoc_of a b c e = sym (ap (λ (l : List ReadRecord). l ++ c) e ∙ append_assoc a b c)
@@ -139,10 +150,14 @@ module _ (says : LogRecord → Said) (none : FileBlockHandle) (sense : (r : LogR
       let (earlier, active, is, read_earlier, read_active) = split_zip _ are.finished are.last rs (subst (λ (l : List Batch). AreRead queue l rs) are.splits read) in
       let upto = are.reaches in
       let last = file_read q.files.last q.files.header (recent q.files) are.last (omega (arith, upto)) (omega arith) (last_bytes q.files) are.of_last active read_active in
-      let none_behind : HeldBy [] [] = record { holds = refl; lie = tt; has = tt } in
-      let ending = more_held (record { number = q.files.last; records = said_all says (recent q.files) }) [] active [] last none_behind in
+      let none_behind : HeldBy [] [] = record { holds = refl; lie = tt; upto = tt; has = tt } in
+      let ending = more_held (record { number = q.files.last; records = said_all says (recent q.files) }) [] active [] (omega arith) last none_behind in
       subst (λ (l : List ReadRecord). HeldBy l (spanned are.count)) (ap (λ (l : List ReadRecord). earlier ++ l) (append-nil active) ∙ sym is)
       (files_held are.count q.first are.finished (omega arith) are.reaches are.of_finished earlier read_earlier (record { number = q.files.last; records = said_all says (recent q.files) } ∷ []) (active ++ []) ending)
+
+  -- they were read up to the last file
+  pub queue_upto : (batches : List Batch) → AreOfQueue queue q batches → (rs : List ReadRecord) → AreRead queue batches rs → AllReadTo q.files.last rs
+  queue_upto batches are rs read = (all_held batches are rs read).upto
 
   -- the numbered files of the queue
   module _ (F : Format LogRecord) (low : ℕ) (d : Disk) (files : FileQueue (List ℕ) (List ℕ)) (numbered : IsFileQueue says F q.files low q.first d files) where

@@ -41,7 +41,7 @@ use Rattle.raft_log_engine_state.specs.raft_log_dual_pipes.specs.Pipes.{State}
 use Rattle.raft_log_engine_state.specs.raft_log_dual_pipes.specs.Calls.{AppendsTo, FailsToAppendTo}
 use Rattle.raft_log_engine_state.specs.Shows.{Home, IsLaidOut, KeepsOrForgets, LogMap, Shows}
 use Rattle.raft_log_purge_state.specs.Settled.{SameTables}
-use Rattle.raft_log_engine_state.specs.Holding.{FilesRiseIn, Holds}
+use Rattle.raft_log_engine_state.specs.Holding.{FilesRiseIn, Holds, NotesEndIn}
 use Rattle.raft_log_engine_state.specs.Writing.{items_at}
 use Rattle.raft_log_engine_state.proofs.Renaming.{places_say}
 use Rattle.raft_log_purge_state.specs.Rewriting.{CountsAlone, HasCopies, RewriteLeaves, SaysAt, moved_to}
@@ -197,6 +197,18 @@ moved_rises s gate block b v m number meant says copies rises =
         (copies_rise (entries_at s) s.append.files.last s.rewrite.files.last block.id.seq (v g) (moves_at block b g) (meant.orderly g) (rises g) (omega (arith, number))
         (each_moved (entries_at s) gate block b v m meant says copies g).1 (moves_in block.id.seq (of_group g (items_at block b)) (lie g)))
 
+-- Copies change nothing of what is noted.
+pub moved_noted : (v : Shown) (xs : List Move) → (all_moved v xs).noted ≡ v.noted
+moved_noted v [] = refl
+moved_noted v (MoveRun f ps ∷ xs) = moved_noted (moved v (MoveRun f ps)) xs
+moved_noted v (MoveKey k n ∷ xs) = moved_noted (moved v (MoveKey k n)) xs
+
+copies_noted : (s : State) (gate : Option ℕ) (block : FileBlockHandle) (b : Batch) (v : ℕ → Shown) (m : LogMap) → AreMeant (entries_at s) v m → SaysAt (entries_at s) block b
+    → HasCopies gate b v m → NotesEndIn s v → NotesEndIn s (moved_to gate block b v)
+copies_noted s gate block b v m meant says copies noted =
+    subst (λ u. NotesEndIn s u) (sym (all_are_moved (entries_at s) gate block b v m meant says copies))
+    (λ g files is. noted g files (sym (moved_noted (v g) (moves_at block b g)) ∙ is))
+
 -- A batch that may be there or not: told as if it were written behind all that stands.
 
 -- behind all that stands in that file of Rewrite
@@ -267,10 +279,11 @@ pub copies_written : (home : Home) (e t : Shows) (gate : Option ℕ) (b : Batch)
 copies_written home e t gate b block m h alone copies call same kept =
     let these : HasCopies gate b e.tables h.map = subst (λ k. HasCopies gate b e.tables k) (held_map home e m h) copies in
     record_written home e t b block m h alone call (moved_to gate block b e.tables) same kept
-    (λ s r last spans stored rises meant.
+    (λ s r last spans stored rises noted meant.
     let says = says_there s r block b spans alone.some alone.laid last in (
       copies_stored s gate block b e.tables h.map meant says these (runs_there s r block b spans alone.some alone.laid last) stored,
       moved_rises s gate block b e.tables h.map last.number meant says these rises,
+      copies_noted s gate block b e.tables h.map meant says these noted,
       copies_carry (entries_at s) gate block b e.tables h.map meant says these,
     ))
 

@@ -33,7 +33,7 @@ use Rattle.raft_log_engine_state.specs.raft_log_views.specs.Views.{AreMeant, vie
 use Rattle.raft_log_engine_state.specs.raft_log_dual_pipes.specs.Pipes.{RunsOn, Said, State, files_of}
 use Rattle.raft_log_engine_state.specs.raft_log_dual_pipes.specs.Calls.{FailsToPurgeQueue, PurgesQueue}
 use Rattle.raft_log_engine_state.specs.Shows.{Home, LogMap, Shows, log_in, sense}
-use Rattle.raft_log_engine_state.specs.Holding.{FilesRiseIn, IsLeftAt}
+use Rattle.raft_log_engine_state.specs.Holding.{FilesRiseIn, IsLeftAt, NotesEndIn}
 use Rattle.raft_log_purge_state.specs.Raising.{AppendMayBegin, MayBegin, PurgeLeavesHeld, RewriteMayBegin}
 use Rattle.raft_log_engine_state.specs.raft_log_blocks.proofs.Kept.{none_kept}
 use Rattle.raft_log_purge_state.specs.Settled.{HoldsSettled}
@@ -60,6 +60,10 @@ raised_means which s n d v m meant = means_alike (entries_at s) (entries_at (rai
 raised_rises : (which : Which) (s : State) (n : ℕ) (d : Disk) (v : ℕ → Shown) → FilesRiseIn s v → FilesRiseIn (raised_log which s n d) v
 raised_rises InAppend s n d v rises = rises
 raised_rises InRewrite s n d v rises = rises
+
+raised_noted : (which : Which) (s : State) (n : ℕ) (d : Disk) (v : ℕ → Shown) → NotesEndIn s v → NotesEndIn (raised_log which s n d) v
+raised_noted InAppend s n d v noted = noted
+raised_noted InRewrite s n d v noted = noted
 
 -- An entry that lies in no file below lies in the log still.
 lies_in_append : (s : State) (n : ℕ) (d : Disk) (p : Place) → n ≤ p.file → IsStored s (in_queue true p) → IsStored (raised_log InAppend s n d) (in_queue true p)
@@ -149,6 +153,7 @@ raised_settled which home e t m n h may same forgets runs stored at =
       runs = runs;
       stored = subst (λ v. AreStored next v) (sym same) stored;
       rises = subst (λ v. FilesRiseIn next v) (sym same) (raised_rises which h.state n t.pipes.disk e.tables h.rises);
+      noted = subst (λ v. NotesEndIn next v) (sym same) (raised_noted which h.state n t.pipes.disk e.tables h.noted);
       meant = subst (λ v. AreMeant (entries_at next) v h.map) (sym same) (raised_means which h.state n t.pipes.disk e.tables h.map h.meant);
       cached = none_kept next t.cache forgets;
       at = subst (λ v. IsSettled (Ties (log_in home) next) (view_of v h.map) m) (sym same) at;
@@ -179,6 +184,7 @@ settled_same home e t m h same forgets runs = record {
   runs = runs;
   stored = subst (λ v. AreStored h.state v) (sym same) h.stored;
   rises = subst (λ v. FilesRiseIn h.state v) (sym same) h.rises;
+  noted = subst (λ v. NotesEndIn h.state v) (sym same) h.noted;
   meant = subst (λ v. AreMeant (entries_at h.state) v h.map) (sym same) h.meant;
   cached = none_kept h.state t.cache forgets;
   at = subst (λ v. IsSettled (Ties (log_in home) h.state) (view_of v h.map) m) (sym same) h.at;

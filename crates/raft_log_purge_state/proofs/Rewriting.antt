@@ -48,8 +48,8 @@ use Rattle.raft_log_engine_state.specs.raft_log_views.proofs.Carrying.{marks_on}
 use Rattle.raft_log_engine_state.specs.raft_log_dual_pipes.specs.Pipes.{LogPipes, RunsOn, Said, State, files_of, header_at, spares_at}
 use Rattle.raft_log_engine_state.specs.raft_log_dual_pipes.specs.Calls.{AppendsTo, CutsBackOn, FailsToAppendTo, LeavesOutOn}
 use Rattle.raft_log_engine_state.specs.Shows.{Home, IsLaidOut, IsWellMarked, KeepsOrForgets, LogMap, Shows, log_in, said_by, said_of, sense}
-use Rattle.raft_log_engine_state.specs.Holding.{FilesRiseIn, Holds}
-use Rattle.raft_log_engine_state.proofs.Keeping.{rise_on, stays_cached}
+use Rattle.raft_log_engine_state.specs.Holding.{FilesRiseIn, Holds, NotesEndIn}
+use Rattle.raft_log_engine_state.proofs.Keeping.{notes_on, rise_on, stays_cached}
 use Rattle.raft_log_engine_state.proofs.Growing.{read_is_said}
 use Rattle.raft_log_purge_state.specs.Rewriting.{CountsAlone, RewriteLeaves, SaysOwed}
 use Rattle.raft_log_purge_state.specs.Settled.{HoldsSettled, SameTables}
@@ -88,14 +88,14 @@ left_out : (home : Home) (e t : Shows) (m : LogMap) (h : Holds home e m []) → 
 left_out home e t m h same call =
     let s = h.state in
     let (files, left, runs, step) = call in
-    held_on home e t InRewrite s h.map h.stored h.rises h.meant h.cached same files (left_out_keeps s e.pipes files left) runs m []
+    held_on home e t InRewrite s h.map h.stored h.rises h.noted h.meant h.cached same files (left_out_keeps s e.pipes files left) runs m []
     (rewrite_left_out (Ties (log_in home)) (AllowsIn (log_in home)) s (next_log InRewrite s files t.pipes.disk) (view_of e.tables h.map) m [] h.at step)
 
 cut_back : (home : Home) (e t : Shows) (m : LogMap) (h : Holds home e m []) → SameTables e t → CutsBackOn (sense home) InRewrite h.state e.pipes t.pipes → HoldsSettled home t m
 cut_back home e t m h same call =
     let s = h.state in
     let (files, cut, runs, step) = call in
-    settled_on home e t InRewrite s h.map h.stored h.rises h.meant h.cached same files ((calls_keep_bytes {R = LogRecord}).cut_back _ _ _ s.rewrite.files files cut) runs m
+    settled_on home e t InRewrite s h.map h.stored h.rises h.noted h.meant h.cached same files ((calls_keep_bytes {R = LogRecord}).cut_back _ _ _ s.rewrite.files files cut) runs m
     (rewrite_settles (Ties (log_in home)) s (next_log InRewrite s files t.pipes.disk) (view_of e.tables h.map) m
     (cut_back_settles (Ties (log_in home)) s (next_log InRewrite s files t.pipes.disk) InRewrite step) h.at)
 
@@ -152,15 +152,17 @@ record_taken home e t m h signed y block says call =
 -- the tables show what the record makes of them
 pub held_taken : (home : Home) (e t : Shows) (m : LogMap) (h : Holds home e m []) (signed : LogFileContext → List ℕ) (y : Said) (block : FileBlockHandle) (k : IsTaken home e t m h signed y block)
     → (u : ℕ → Shown) → t.tables ≡ u → KeepsOrForgets e t → AreStored (next_log InRewrite h.state k.files t.pipes.disk) u → FilesRiseIn (next_log InRewrite h.state k.files t.pipes.disk) u
+    → NotesEndIn (next_log InRewrite h.state k.files t.pipes.disk) u
     → AreMeant (entries_at (next_log InRewrite h.state k.files t.pipes.disk)) u h.map → IsAt (Ties (log_in home) (next_log InRewrite h.state k.files t.pipes.disk)) (view_of u h.map) m []
     → Holds home t m []
-held_taken home e t m h signed y block k u same kept stored rises meant at =
+held_taken home e t m h signed y block k u same kept stored rises noted meant at =
     let next : State = next_log InRewrite h.state k.files t.pipes.disk in record {
       state = next;
       map = h.map;
       runs = k.runs;
       stored = subst (λ v. AreStored next v) (sym same) stored;
       rises = subst (λ v. FilesRiseIn next v) (sym same) rises;
+      noted = subst (λ v. NotesEndIn next v) (sym same) noted;
       meant = subst (λ v. AreMeant (entries_at next) v h.map) (sym same) meant;
       cached = stays_cached h.state next k.keeps e.cache t.cache kept h.cached;
       at = subst (λ v. IsAt (Ties (log_in home) next) (view_of v h.map) m []) (sym same) at;
@@ -168,14 +170,15 @@ held_taken home e t m h signed y block k u same kept stored rises meant at =
 
 pub record_written : (home : Home) (e t : Shows) (b : Batch) (block : FileBlockHandle) (m : LogMap) (h : Holds home e m []) → CountsAlone b → (call : AppendsTo InRewrite (signed_for b) block e.pipes t.pipes)
     → (u : ℕ → Shown) → t.tables ≡ u → KeepsOrForgets e t
-    → ((s : State) (r : LogRecord) → HasLast (signed_for b) r block s.rewrite.files → s.rewrite.first ≤ s.rewrite.files.last → AreStored s e.tables → FilesRiseIn s e.tables → AreMeant (entries_at s) e.tables h.map
-    → AreStored s u × FilesRiseIn s u × ViewCarries (entries_at s) block.id.seq e.tables u h.map (bytes_of b)) → Holds home t m []
+    → ((s : State) (r : LogRecord) → HasLast (signed_for b) r block s.rewrite.files → s.rewrite.first ≤ s.rewrite.files.last → AreStored s e.tables → FilesRiseIn s e.tables → NotesEndIn s e.tables → AreMeant (entries_at s) e.tables h.map
+    → AreStored s u × FilesRiseIn s u × NotesEndIn s u × ViewCarries (entries_at s) block.id.seq e.tables u h.map (bytes_of b)) → Holds home t m []
 record_written home e t b block m h alone call u same kept carry =
     let k = record_taken home e t m h (signed_for b) (Plain (bytes_of b)) block (says_alone home b alone) call in
     let next : State = next_log InRewrite h.state k.files t.pipes.disk in
     let stays = stored_entries_stay h.state next k.keeps e.tables h.stored in
-    let (stored, rises, view) = carry next k.value k.last k.spans stays.0 (rise_on h.state next k.keeps e.tables h.rises) (stays.1 h.map h.meant) in
-    held_taken home e t m h (signed_for b) (Plain (bytes_of b)) block k u same kept stored rises view.meant
+    let (stored, rises, noted, view) =
+    carry next k.value k.last k.spans stays.0 (rise_on h.state next k.keeps e.tables h.rises) (notes_on h.state next k.keeps e.tables h.noted) (stays.1 h.map h.meant) in
+    held_taken home e t m h (signed_for b) (Plain (bytes_of b)) block k u same kept stored rises noted view.meant
     (copies_answered (Ties (log_in home)) (AllowsIn (log_in home)) h.state next (view_of e.tables h.map) m (view_of u h.map) (bytes_of b) block.id.seq k.step view.carries h.at)
 
 -- Marks.
@@ -217,7 +220,7 @@ marks_rise s v rises g = record { appended = (rises g).appended; rewritten = (ri
 pub marks_written : (home : Home) (e t : Shows) (b : Batch) (block : FileBlockHandle) (m : LogMap) → Holds home e m [] → SaysOwed b e.tables → AppendsTo InRewrite (signed_for b) block e.pipes t.pipes
     → t.tables ≡ (λ g. unmarked (e.tables g)) → KeepsOrForgets e t → Holds home t m []
 marks_written home e t b block m h says call same kept =
-    record_written home e t b block m h says.alone call (λ g. unmarked (e.tables g)) same kept (λ s r last spans stored rises meant. (λ g. stored g, marks_rise s e.tables rises, marks_carried home e b s block.id.seq h.map says meant))
+    record_written home e t b block m h says.alone call (λ g. unmarked (e.tables g)) same kept (λ s r last spans stored rises noted meant. (λ g. stored g, marks_rise s e.tables rises, noted, marks_carried home e b s block.id.seq h.map says meant))
 
 pub marks_refused : (home : Home) (e t : Shows) (b : Batch) (m : LogMap) (error : Error) → Holds home e m [] → SaysOwed b e.tables → SameTables e t
     → FailsToAppendTo InRewrite (signed_for b) error e.pipes t.pipes → RewriteLeaves home m t error

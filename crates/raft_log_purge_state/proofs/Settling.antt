@@ -28,18 +28,18 @@ use Rattle.raft_log_engine_state.specs.raft_log_views.specs.Views.{AreMeant, vie
 use Rattle.raft_log_engine_state.specs.raft_log_dual_pipes.specs.Pipes.{LogPipes, RunsOn, Said, State, files_of}
 use Rattle.raft_log_engine_state.specs.raft_log_dual_pipes.specs.Calls.{FailsToRotateQueue, FailsToSyncQueue, RotatesQueue, SyncsQueue}
 use Rattle.raft_log_engine_state.specs.Shows.{Home, LogMap, Shows, log_in, sense}
-use Rattle.raft_log_engine_state.specs.Holding.{FilesRiseIn, Holds, IsLeftAt, RunsAs}
-use Rattle.raft_log_engine_state.proofs.Keeping.{rise_on, stays_cached}
+use Rattle.raft_log_engine_state.specs.Holding.{FilesRiseIn, Holds, IsLeftAt, NotesEndIn, RunsAs}
+use Rattle.raft_log_engine_state.proofs.Keeping.{notes_on, rise_on, stays_cached}
 use Rattle.raft_log_engine_state.specs.raft_log_blocks.specs.Blocks.{IsOfLog}
 use Rattle.raft_log_purge_state.specs.Quiet.{TurnLeavesHeld}
 use Rattle.raft_log_purge_state.specs.Settled.{HoldsSettled, SameTables}
 
 -- what is settled is held
 pub settled_held : (home : Home) (e : Shows) (m : LogMap) → HoldsSettled home e m → Holds home e m []
-settled_held home e m h = record { state = h.state; map = h.map; runs = h.runs; stored = h.stored; rises = h.rises; meant = h.meant; cached = h.cached; at = h.at.at }
+settled_held home e m h = record { state = h.state; map = h.map; runs = h.runs; stored = h.stored; rises = h.rises; noted = h.noted; meant = h.meant; cached = h.cached; at = h.at.at }
 
 -- the same tables go on with a log that keeps its bytes
-module _ (home : Home) (e t : Shows) (which : Which) (s : State) (map : LogMap) (stored : AreStored s e.tables) (rises : FilesRiseIn s e.tables) (meant : AreMeant (entries_at s) e.tables map) (cached : IsOfLog s e.cache) (same : SameTables e t) (files : LogFiles LogRecord)
+module _ (home : Home) (e t : Shows) (which : Which) (s : State) (map : LogMap) (stored : AreStored s e.tables) (rises : FilesRiseIn s e.tables) (noted : NotesEndIn s e.tables) (meant : AreMeant (entries_at s) e.tables map) (cached : IsOfLog s e.cache) (same : SameTables e t) (files : LogFiles LogRecord)
     (keeps : KeepsBytes (spanned_at which s).files files) (runs : RunsOn (sense home) t.pipes (next_log which s files t.pipes.disk)) where
   abbrev next : State
   next = next_log which s files t.pipes.disk
@@ -52,6 +52,7 @@ module _ (home : Home) (e t : Shows) (which : Which) (s : State) (map : LogMap) 
         runs = runs;
         stored = subst (λ v. AreStored next v) (sym same.tables) stays.0;
         rises = subst (λ v. FilesRiseIn next v) (sym same.tables) (rise_on s next (calls_keep_log which s files t.pipes.disk keeps) e.tables rises);
+        noted = subst (λ v. NotesEndIn next v) (sym same.tables) (notes_on s next (calls_keep_log which s files t.pipes.disk keeps) e.tables noted);
         meant = subst (λ v. AreMeant (entries_at next) v map) (sym same.tables) (stays.1 map meant);
         cached = stays_cached s next (calls_keep_log which s files t.pipes.disk keeps) e.cache t.cache same.cache cached;
         at = subst (λ v. IsAt (Ties (log_in home) next) (view_of v map) k rest) (sym same.tables) at;
@@ -65,6 +66,7 @@ module _ (home : Home) (e t : Shows) (which : Which) (s : State) (map : LogMap) 
         runs = runs;
         stored = subst (λ v. AreStored next v) (sym same.tables) stays.0;
         rises = subst (λ v. FilesRiseIn next v) (sym same.tables) (rise_on s next (calls_keep_log which s files t.pipes.disk keeps) e.tables rises);
+        noted = subst (λ v. NotesEndIn next v) (sym same.tables) (notes_on s next (calls_keep_log which s files t.pipes.disk keeps) e.tables noted);
         meant = subst (λ v. AreMeant (entries_at next) v map) (sym same.tables) (stays.1 map meant);
         cached = stays_cached s next (calls_keep_log which s files t.pipes.disk keeps) e.cache t.cache same.cache cached;
         at = subst (λ v. IsSettled (Ties (log_in home) next) (view_of v map) k) (sym same.tables) at;
@@ -77,7 +79,7 @@ sync_keeps home e t m pending h same call =
     let s = h.state in
     let files : LogFiles LogRecord = synced s.rewrite.files in
     let (runs, step) = call (sense home) s h.runs in
-    held_on home e t InRewrite s h.map h.stored h.rises h.meant h.cached same files ((calls_keep_bytes {R = LogRecord}).synced s.rewrite.files) runs m pending
+    held_on home e t InRewrite s h.map h.stored h.rises h.noted h.meant h.cached same files ((calls_keep_bytes {R = LogRecord}).synced s.rewrite.files) runs m pending
     (rewrite_synced (Ties (log_in home)) (AllowsIn (log_in home)) s (next_log InRewrite s files t.pipes.disk) (view_of e.tables h.map) m pending h.at step)
 
 pub sync_settles_log : (home : Home) (e t : Shows) (m : LogMap) → Holds home e m [] → SameTables e t → SyncsQueue InRewrite e.pipes t.pipes → HoldsSettled home t m
@@ -86,7 +88,7 @@ sync_settles_log home e t m h same call =
     let files : LogFiles LogRecord = synced s.rewrite.files in
     let (runs, step) = call (sense home) s h.runs in
     let next : State = next_log InRewrite s files t.pipes.disk in
-    settled_on home e t InRewrite s h.map h.stored h.rises h.meant h.cached same files ((calls_keep_bytes {R = LogRecord}).synced s.rewrite.files) runs m
+    settled_on home e t InRewrite s h.map h.stored h.rises h.noted h.meant h.cached same files ((calls_keep_bytes {R = LogRecord}).synced s.rewrite.files) runs m
     (rewrite_settles (Ties (log_in home)) s next (view_of e.tables h.map) m (sync_settles (Ties (log_in home)) s next InRewrite step) h.at)
 
 -- a log that is so lies on its disk
@@ -123,7 +125,7 @@ append_rotates home e t m pending h same call =
     let s = h.state in
     let (files, goes, runs, step) = call (sense home) s h.runs in
     let next : State = next_log InAppend s files t.pipes.disk in
-    held_on home e t InAppend s h.map h.stored h.rises h.meant h.cached same files ((calls_keep_bytes {R = LogRecord}).turned _ _ _ s.append.files files (inr goes)) runs (taken m pending) []
+    held_on home e t InAppend s h.map h.stored h.rises h.noted h.meant h.cached same files ((calls_keep_bytes {R = LogRecord}).turned _ _ _ s.append.files files (inr goes)) runs (taken m pending) []
     (append_settles (Ties (log_in home)) s next (view_of e.tables h.map) m pending step h.at)
 
 pub settled_rotates : (home : Home) (e t : Shows) (m : LogMap) → HoldsSettled home e m → SameTables e t → RotatesQueue InAppend e.pipes t.pipes → HoldsSettled home t m
@@ -131,7 +133,7 @@ settled_rotates home e t m h same call =
     let s = h.state in
     let (files, goes, runs, step) = call (sense home) s h.runs in
     let next : State = next_log InAppend s files t.pipes.disk in
-    settled_on home e t InAppend s h.map h.stored h.rises h.meant h.cached same files ((calls_keep_bytes {R = LogRecord}).turned _ _ _ s.append.files files (inr goes)) runs m
+    settled_on home e t InAppend s h.map h.stored h.rises h.noted h.meant h.cached same files ((calls_keep_bytes {R = LogRecord}).turned _ _ _ s.append.files files (inr goes)) runs m
     (settled_stays (Ties (log_in home)) s next (view_of e.tables h.map) m step h.at)
 
 pub rewrite_rotates : (home : Home) (e t : Shows) (m : LogMap) → Holds home e m [] → SameTables e t → RotatesQueue InRewrite e.pipes t.pipes → HoldsSettled home t m
@@ -139,7 +141,7 @@ rewrite_rotates home e t m h same call =
     let s = h.state in
     let (files, goes, runs, step) = call (sense home) s h.runs in
     let next : State = next_log InRewrite s files t.pipes.disk in
-    settled_on home e t InRewrite s h.map h.stored h.rises h.meant h.cached same files ((calls_keep_bytes {R = LogRecord}).turned _ _ _ s.rewrite.files files (inr goes)) runs m
+    settled_on home e t InRewrite s h.map h.stored h.rises h.noted h.meant h.cached same files ((calls_keep_bytes {R = LogRecord}).turned _ _ _ s.rewrite.files files (inr goes)) runs m
     (rewrite_settles (Ties (log_in home)) s next (view_of e.tables h.map) m step h.at)
 
 -- Refused rotations.
@@ -161,6 +163,7 @@ held_same home e t m pending h same runs = record {
   runs = runs;
   stored = subst (λ v. AreStored h.state v) (sym same.tables) h.stored;
   rises = subst (λ v. FilesRiseIn h.state v) (sym same.tables) h.rises;
+  noted = subst (λ v. NotesEndIn h.state v) (sym same.tables) h.noted;
   meant = subst (λ v. AreMeant (entries_at h.state) v h.map) (sym same.tables) h.meant;
   cached = stays_cached h.state h.state (same_log h.state) e.cache t.cache same.cache h.cached;
   at = subst (λ v. IsAt (Ties (log_in home) h.state) (view_of v h.map) m pending) (sym same.tables) h.at;

@@ -1,5 +1,5 @@
 -- The end of an atomic group in which a group is restated.
-use Rattle.std.proofs.Common.{◌≡◌, ℕ, ◌+◌, ◌<◌, ◌≤◌, ◌==◌, true, false, List, [], ◌∷◌, ◌++◌, length, Option, Some, None, is_some, option_map, inl, refl, sym, ap, subst, ◌∙◌, arith, length-append}
+use Rattle.std.proofs.Common.{◌≡◌, ℕ, ◌+◌, ◌<◌, ◌≤◌, ◌==◌, true, false, List, [], ◌∷◌, ◌++◌, length, Option, Some, None, is_some, inl, refl, sym, ap, subst, ◌∙◌, arith, length-append}
 use Rattle.std.specs.Prelude.{Result, Ok, Err, IfErr, OnOk}
 use Rattle.std.specs.BTreeMap.{get}
 use Rattle.std.specs.Ordering.{nat_cmp}
@@ -19,11 +19,10 @@ use Rattle.raft_log_places.specs.declared.group_files.GroupFiles.{GroupFiles}
 use Rattle.raft_log_places.specs.Replayed.{Replayed}
 use Rattle.raft_log_places.specs.Shown.{Shown}
 use Rattle.raft_log_held.specs.Listing.{ListsAll, rewritten_values}
-use Rattle.raft_log_tables.specs.Files.{least_rewritten, noted_after}
+use Rattle.raft_log_tables.specs.Files.{NotesGroup}
 use Rattle.raft_log_replay.specs.declared.group_table.GroupTable.{GroupTable}
 use Rattle.raft_log_replay.specs.declared.mem_tables.MemTables.{MemTables}
-use Rattle.raft_log_replay.specs.Joining.{noted_in}
-use Rattle.raft_log_replay.specs.Tables.{counts, has_table, replayed_of, shown_in, shown_of}
+use Rattle.raft_log_replay.specs.Tables.{counts, has_table, shown_in, shown_of}
 use Rattle.raft_log_dual_pipes.specs.Pipes.{LogPipes}
 use Rattle.raft_log_rewriting.specs.raft_log_blocks.specs.declared.block_cache.BlockCache.{BlockCache}
 use Rattle.raft_log_rewriting.specs.raft_log_engine_state.specs.Shows.{Home, IsLaidOut, LogMap, Shows, shows}
@@ -57,12 +56,6 @@ use Rattle.raft_log_restating.proofs.Reading.{bytes_join, bytes_restate}
 in_table : (o : Option GroupTable) → 0 < (shown_in o).rewritten → is_some o ≡ true
 in_table None some = absurd (omega (arith, some))
 in_table (Some t) some = refl
-
--- what shows of a table whose group's files were noted
-noted_shown : (files : GroupFiles) (o : Option GroupTable) (z : Replayed) → is_some o ≡ true → z ≡ noted_in files (option_map (λ t. t.table) o)
-    → (least : Option ℕ) × (z.table ≡ record (shown_in o) { noted = Some (noted_after least (shown_in o).noted files) })
-noted_shown files None z there is = absurd (false≢true there)
-noted_shown files (Some t) z there is = (least_rewritten t.table, ap (λ (x : Replayed). x.table) is)
 
 -- Parts.
 
@@ -167,7 +160,7 @@ module _ (g number done : ℕ) (parts : List RestatedPart) (pairs : List (List �
   -- It was written, and the tables took it.
 
   module _ (block : FileBlockHandle) (w : LogPipes) (mid new : MemTables) (wrote : WritesLast parts b block v old w mid) (files : GroupFiles) (is_files : files ≡ record { from = first_file_of parts block.id.seq; to = block.id.seq })
-      (notes : NotesFiles g files mid new) (counted : (k : ℕ) → counts new k ≡ counts mid k) where
+      (notes : NotesFiles g files mid new) (exact : has_table mid g ≡ true → NotesGroup files (shown_of mid g) (shown_of new g)) (counted : (k : ℕ) → counts new k ≡ counts mid k) where
     abbrev ps : List WrittenPart
     ps = parts_of o ++ record { block = block; batch = b } ∷ []
 
@@ -239,10 +232,10 @@ module _ (g number done : ℕ) (parts : List RestatedPart) (pairs : List (List �
           let filed = subst (λ (n : ℕ). WholeFiled g f n pairs ps) (few_there home m h) (whole_filed g f has.pieces (parts_of o) has.are last.bytes pairs b last_piece block) in
           let lies = whole_lies (s.tables g) g pairs ps filed (h.meant.orderly g) lists (last_file s) all_from in
           let now : shown_of mid g ≡ parts_moved None g ps (s.tables g) = moved g ∙ ap (λ (u : ℕ → Shown). parts_moved None g ps (u g)) tabled in
-          let (least, is) = noted_shown files (get nat_cmp mid.groups g) (replayed_of new g) table_there notes.noted in
-          restated_noted (last_file s) (s.tables g) (shown_of mid g) (shown_of new g) least files (subst (LiesFrom (last_file s) (s.tables g)) (sym now) lies)
-          (let low = has.low home m h in let same = ap (λ (x : GroupFiles). x.from) the_files in omega (arith, low, same))
-          (sym (shows_read (get nat_cmp new.groups g)) ∙ is)
+          let (least, is_least, is) = exact table_there in
+          let within = subst (λ (x : Shown). x.rewritten ≤ length x.places) is (ended_holds.meant.orderly g).parts in
+          restated_noted (last_file s) (s.tables g) (shown_of mid g) (shown_of new g) least files (subst (LiesFrom (last_file s) (s.tables g)) (sym now) lies) within
+          (let low = has.low home m h in let same = ap (λ (x : GroupFiles). x.from) the_files in omega (arith, low, same)) is_least is
 
     pub group_ended : RestatesOne g s t
     group_ended = record {

@@ -1,15 +1,16 @@
 -- What shows of a group once the parts that restate it moved: all that it has in Rewrite lies where they lie.
-use Rattle.std.proofs.Common.{◌≡◌, ℕ, ◌+◌, ◌≤◌, max, min, nat_le, Bool, true, false, not, List, [], ◌∷◌, ◌++◌, length, take, drop, Option, Some, None, is_some, if◌then◌else◌, refl, sym, ap, subst, ◌∙◌, arith, append-nil}
+use Rattle.std.proofs.Common.{◌≡◌, ℕ, zero, suc, ◌+◌, ◌-◌, ◌<◌, ◌≤◌, inl, max, min, nat_le, slice_get, Bool, true, false, not, List, [], ◌∷◌, ◌++◌, length, take, drop, Option, Some, None, is_some, if◌then◌else◌, refl, sym, ap, subst, ◌∙◌, arith, append-nil}
 use Rattle.std.proofs.lemmas.Bool.{false≢true}
 use Rattle.std.proofs.lemmas.List.{take_at}
 use Rattle.raft_log_machine.proofs.TruthRaises.{no_word}
 use Rattle.raft_log_places.specs.declared.place.Place.{Place}
 use Rattle.raft_log_places.specs.declared.group_files.GroupFiles.{GroupFiles}
 use Rattle.raft_log_places.specs.Shown.{IsOrderly, KeyValue, Shown}
-use Rattle.raft_log_places.specs.Noted.{noting}
+use Rattle.raft_log_places.specs.Noted.{IsLeastInRewrite, noting, place_file}
 use Rattle.raft_log_held.specs.Listing.{ListsAll, asked_bytes, rewritten_values}
 use Rattle.raft_log_tables.specs.Moves.{rewritten_at, rewritten_to}
-use Rattle.raft_log_tables.specs.Files.{noted_after}
+use Rattle.raft_log_tables.specs.Files.{ArePast, IsLeastRewritten, noted_after}
+use Rattle.raft_log_tables.proofs.Leasts.{begins_past, notes_past}
 use Rattle.raft_log_rewriting.specs.raft_log_stored.specs.Stored.{Each}
 use Rattle.raft_log_group_state.specs.Parts.{WrittenPart}
 use Rattle.raft_log_group_state.specs.Whole.{all_places, filed_in, parts_moved}
@@ -105,7 +106,35 @@ module _ (v : Shown) (g : ℕ) (pairs : List (List ℕ × List ℕ)) (ps : List 
 
 -- nothing was noted
 pub restated_plain : (n : ℕ) (v u : Shown) → LiesFrom n v u → IsRestatedFrom n v u
-restated_plain n v u lies = record { entries = lies.entries; values = lies.values; noted = λ k low from. subst (IsNotedFrom k) (sym lies.noted) from }
+restated_plain n v u lies = record {
+  entries = lies.entries;
+  values = lies.values;
+  noted = λ k low from. subst (IsNotedFrom k) (sym lies.noted) from;
+  past = λ k low past. subst (ArePast k) (sym lies.noted) past;
+}
+
+-- what lies from a file on lies in no file before it
+each_from : (n : ℕ) (ps : List Place) (count j : ℕ) → j < count → count ≤ length ps → AllFrom n (take count ps) → n ≤ place_file (slice_get ps j)
+each_from n [] count j less within all = absurd (omega (arith, less, within))
+each_from n (p ∷ ps) zero j less within all = absurd (omega (arith, less))
+each_from n (p ∷ ps) (suc count) zero less within (first, rest) = first
+each_from n (p ∷ ps) (suc count) (suc j) less within (first, rest) = each_from n ps count j (omega (arith, less)) (omega (arith, within)) rest
+
+pub least_from : (n : ℕ) (u : Shown) → u.rewritten ≤ length u.places → AllFrom n (take u.rewritten u.places)
+    → ((k : List ℕ) (h : KeyValue) → u.held k ≡ Some h → h.appended ≡ false → n ≤ h.file) → IsLeastInRewrite u n
+least_from n u within entries values = (λ i from to. each_from n u.places u.rewritten (i - u.first) (omega (arith, from, to)) within entries, values)
+
+lower_least : (v : Shown) (n m : ℕ) → m ≤ n → IsLeastInRewrite v n → IsLeastInRewrite v m
+lower_least v n m low is = (
+  λ i from to. (let one = is.0 i from to in omega (arith, low, one)),
+  λ k h held rewritten. (let one = is.1 k h held rewritten in omega (arith, low, one)),
+)
+
+-- noted groups that begin past a file, or end at or before it, do so once a group is noted that begins past it
+after_past : (v : Shown) (k : ℕ) (least : Option ℕ) (new : GroupFiles) → IsLeastInRewrite v (k + 1) → IsLeastRewritten v least → k < new.from → ArePast k v.noted
+    → ArePast k (Some (noted_after least v.noted new))
+after_past v k None new low is from past = inl from
+after_past v k (Some m) new low is from past = notes_past v k m new (begins_past (record v { noted = None }) k m low tt (Some m, is, refl)) from past
 
 noting_from : (k least : ℕ) (old : Option GroupFiles) (new : GroupFiles) → IsNotedFrom k old → k ≤ new.from → k ≤ (noting least old new).from
 noting_from k least None new from low = low
@@ -120,10 +149,13 @@ after_from k None old new from low = low
 after_from k (Some least) old new from low = noting_from k least old new from low
 
 -- an atomic group was noted that lies from there on
-pub restated_noted : (n : ℕ) (v u w : Shown) (least : Option ℕ) (files : GroupFiles) → LiesFrom n v u → n ≤ files.from → w ≡ record u { noted = Some (noted_after least u.noted files) } → IsRestatedFrom n v w
-restated_noted n v u w least files lies low is =
+pub restated_noted : (n : ℕ) (v u w : Shown) (least : Option ℕ) (files : GroupFiles) → LiesFrom n v u → u.rewritten ≤ length u.places → n ≤ files.from → IsLeastRewritten u least → w ≡ record u { noted = Some (noted_after least u.noted files) } → IsRestatedFrom n v w
+restated_noted n v u w least files lies within low is_least is =
     subst (IsRestatedFrom n v) (sym is) (record {
       entries = lies.entries;
       values = lies.values;
       noted = λ k few from. after_from k least u.noted files (subst (IsNotedFrom k) (sym lies.noted) from) (omega (arith, few, low));
+      past = λ k few past.
+          after_past u k least files (lower_least u n (k + 1) (omega (arith, few)) (least_from n u within lies.entries lies.values)) is_least (omega (arith, few, low))
+          (subst (ArePast k) (sym lies.noted) past);
     })

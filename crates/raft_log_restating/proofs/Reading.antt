@@ -90,12 +90,12 @@ abbrev pub caching : Shows → BlockCache → Shows
 caching e new = record e { cache = new }
 
 pub held_caching : (home : Home) (e : Shows) (m : LogMap) (new : BlockCache) (h : Holds home e m []) → IsOfLog h.state new → Holds home (caching e new) m []
-held_caching home e m new h cached = record { state = h.state; map = h.map; runs = h.runs; stored = h.stored; rises = h.rises; meant = h.meant; cached = cached; at = h.at }
+held_caching home e m new h cached = record { state = h.state; map = h.map; runs = h.runs; stored = h.stored; rises = h.rises; noted = h.noted; meant = h.meant; cached = cached; at = h.at }
 
 pub open_caching : (home : Home) (e : Shows) (m : LogMap) (o : UnendedGroup) (new : BlockCache) (h : HoldsInGroup home e m o) → IsOfLog h.holds.state new → HoldsInGroup home (caching e new) m o
 open_caching home e m o new k cached =
     let h = k.holds in record {
-      holds = record { state = h.state; map = h.map; runs = h.runs; stored = h.stored; rises = h.rises; meant = h.meant; cached = cached; at = h.at };
+      holds = record { state = h.state; map = h.map; runs = h.runs; stored = h.stored; rises = h.rises; noted = h.noted; meant = h.meant; cached = cached; at = h.at };
       unended = k.unended;
       parts = k.parts;
       files = k.files;

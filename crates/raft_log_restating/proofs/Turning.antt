@@ -1,5 +1,5 @@
 -- Rewrite is rewritten: its exits, put together of what each part told.
-use Rattle.std.proofs.Common.{◌≡◌, ℕ, suc, ◌+◌, ◌≤◌, false, List, [], Option, Some, None, is_some, inl, inr, refl, sym, ap, subst, ◌∙◌, arith}
+use Rattle.std.proofs.Common.{◌≡◌, ℕ, suc, ◌+◌, ◌<◌, ◌≤◌, false, List, [], Option, Some, None, is_some, inl, inr, refl, sym, ap, subst, ◌∙◌, arith}
 use Rattle.std.specs.Prelude.{Result, Ok, Err, IfErr, OnErr, OnOk}
 use Rattle.std.specs.BTreeMap.{get}
 use Rattle.std.specs.Ordering.{nat_cmp}
@@ -13,7 +13,10 @@ use Rattle.raft_log_base.specs.declared.errors.Error.TheVariants as errors
 use Rattle.raft_log_base.specs.declared.pipe_log.LogQueue.TheVariants.{Rewrite}
 use Rattle.raft_log_directory.specs.Calls.Which.{InRewrite}
 use Rattle.raft_log_rewriting.specs.raft_log_layout.specs.declared.record.LogRecord.{LogRecord}
-use Rattle.raft_log_places.specs.Shown.{Shown}
+use Rattle.raft_log_places.specs.declared.group_files.GroupFiles.{GroupFiles}
+use Rattle.raft_log_places.specs.Shown.{IsOrderly, Shown}
+use Rattle.raft_log_tables.specs.Files.{ArePast}
+use Rattle.raft_log_tables.proofs.Leasts.{begins_past}
 use Rattle.raft_log_replay.specs.declared.group_table.GroupTable.{GroupTable}
 use Rattle.raft_log_replay.specs.declared.mem_tables.MemTables.{MemTables}
 use Rattle.raft_log_replay.specs.Tables.{has_table, shown_in, shown_of}
@@ -28,20 +31,21 @@ use Rattle.raft_log_rewriting.specs.raft_log_engine_state.proofs.Keeping.{holds_
 use Rattle.raft_log_rewriting.specs.raft_log_purge_state.specs.Settled.{HoldsSettled}
 use Rattle.raft_log_rewriting.specs.raft_log_purge_state.specs.Quiet.{TurnLeavesHeld}
 use Rattle.raft_log_rewriting.specs.raft_log_purge_state.proofs.Settling.{failed_sync, rewrite_rotates, settled_held, sync_settles_log, turn_refused}
-use Rattle.raft_log_rewriting.specs.Files.{FailsToLoseFiles, LosesFiles, RemainsSettled}
+use Rattle.raft_log_rewriting.specs.Files.{FailsToLoseFiles, IsLeastOf, LosesFiles, RemainsSettled}
 use Rattle.raft_log_rewriting.specs.Stale.{written_file}
 use Rattle.raft_log_rewriting.proofs.Grouping.{among}
 use Rattle.raft_log_rewriting.proofs.Parts.{alive_ok, later_on, same_later, tells_err}
 use Rattle.raft_log_restating.specs.Restated.{IsRestatedFrom, Restates, RestatesEach, StopsRestating, last_file}
-use Rattle.raft_log_restating.specs.Queue.{FailsToRewriteRewrite, RestatesAll, RewritesRewrite, StopsRestatingAll, every}
+use Rattle.raft_log_restating.specs.Queue.{FailsToRewriteRewrite, RestatesAll, RewritesRewrite, StopsRestatingAll, every, first_file}
 use Rattle.raft_log_restating.proofs.Each.{from_lower}
-use Rattle.raft_log_restating.proofs.Holding.{IsLeft, last_told}
+use Rattle.raft_log_restating.proofs.Holding.{IsLeft, last_is, last_told, synced_last}
+use Rattle.raft_log_restating.proofs.Moving.{least_from}
 
 -- All groups.
 
 -- nothing is in Rewrite of a group that has no table
 unknown_restated : (n : ℕ) (o : Option GroupTable) → is_some o ≡ false → IsRestatedFrom n (shown_in o) (shown_in o)
-unknown_restated n None none = record { entries = tt; values = λ k h held rewritten. no_word h held; noted = λ k low from. from }
+unknown_restated n None none = record { entries = tt; values = λ k h held rewritten. no_word h held; noted = λ k low from. from; past = λ k low past. past }
 unknown_restated n (Some t) none = absurd (false≢true (sym none))
 
 pub every_restated : (groups : List ℕ) (m : MemTables) (v : LogPipes) (cache : BlockCache) (t : Shows) → ListsGroups (has_table m) groups → RestatesEach groups (shows v m cache) t → Restates every (shows v m cache) t
@@ -99,6 +103,11 @@ module _ (s restated : Shows) (r : Restates every s restated) (w : LogPipes) (la
   whole_unsynced (Err e) is call = not_synced e is call
 
 -- The whole.
+
+-- what is noted up to a file ends at or before it
+up_to_past : (n : ℕ) (o : Option GroupFiles) → ((files : GroupFiles) → o ≡ Some files → files.to ≤ n) → ArePast n o
+up_to_past n None h = tt
+up_to_past n (Some files) h = inr (h files refl)
 
 turned_or_left : (home : Home) (m : LogMap) (t : Shows) (error : Error) → TurnLeavesHeld home m [] t error → IsLeft home m error t
 turned_or_left home m t errors.Memory h = inl h
@@ -167,8 +176,27 @@ module _ (s : Shows) (turned : LogPipes) (turns : RotatesQueue InRewrite s.pipes
         subst (λ (e : Shows). IsRestatedFrom (last_file s + 1) (s.tables g) (e.tables g)) (sym all.same)
         (from_lower (last_file s + 1) (last_file behind) (s.tables g) (all.restated.tables g) (next_file home m h) (all.restates.from home m (held_behind home m h) g refl))
 
-    pub rewritten : (m : MemTables) (count last : ℕ) (t : Shows) → last ≡ written_file Rewrite restated.pipes → t.tables ≡ restated.tables → t.counts ≡ restated.counts → LosesFiles Rewrite last m count restated t → RewritesRewrite m s t
-    rewritten m count last t is tables counts loses =
+    -- and so does the least file that is in use
+    least_past : (m : MemTables) (least : ℕ) → shown_of m ≡ restated.tables → IsLeastOf Rewrite (written_file Rewrite restated.pipes) m least → (home : Home) (log : LogMap) → Holds home s log [] → last_file s < least
+    least_past m least tabled is home log h = elim is.exact [
+      | inl limit ↦ (
+          let one = next_file home log h in
+          let two = all.restates.rises home log (held_behind home log h) in
+          let three = synced_last home all.restated log restated.pipes (all.restates.holds home log (held_behind home log h)) all.syncs in
+          omega (arith, limit, one, two, three)
+          )
+      | inr found ↦ (
+          let g = found.0 in
+          let there = subst (λ (u : ℕ → Shown). IsRestatedFrom (last_file s + 1) (s.tables g) (u g)) (sym tabled) (lies_behind home log h g) in
+          let orderly = subst (λ (u : ℕ → Shown). IsOrderly (u g)) (sym tabled) ((settled_there home log h).meant.orderly g) in
+          let last = last_is home s log h in
+          let before = up_to_past (last_file s) (s.tables g).noted (λ files noted. (let end = h.noted g files noted in omega (arith, end, last))) in
+          begins_past (shown_of m g) (last_file s) least (least_from (last_file s + 1) (shown_of m g) orderly.parts there.entries there.values) (there.past (last_file s) (omega arith) before) found.1.1
+          )
+    ]
+
+    pub rewritten : (m : MemTables) (count last : ℕ) (t : Shows) → shown_of m ≡ restated.tables → last ≡ written_file Rewrite restated.pipes → t.tables ≡ restated.tables → t.counts ≡ restated.counts → LosesFiles Rewrite last m count restated t → RewritesRewrite m s t
+    rewritten m count last t tabled is tables counts loses =
         let gone = subst (λ (n : ℕ). LosesFiles Rewrite n m count restated t) is loses in record {
           turned = turned;
           turns = turns;
@@ -181,6 +209,9 @@ module _ (s : Shows) (turned : LogPipes) (turns : RotatesQueue InRewrite s.pipes
           alive = gone.alive;
           later = later_on s.pipes.disk restated.pipes.disk t.pipes.disk to_restated gone.later;
           begins = λ home log h. gone.begins home log (settled_there home log h);
+          past = λ home log h.
+              (let low = least_past m gone.least tabled gone.is home log h in
+              let first : first_file t ≡ gone.least = gone.begins home log (settled_there home log h) in omega (arith, low, first));
           from = λ home log h g. subst (λ (u : ℕ → Shown). IsRestatedFrom (last_file s + 1) (s.tables g) (u g)) (sym tables) (lies_behind home log h g);
           settles = λ home log h. gone.keeps home log (settled_there home log h) tt;
         }

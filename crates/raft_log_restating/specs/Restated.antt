@@ -1,5 +1,5 @@
 -- Groups are restated: all that they have in Rewrite is written there again.
-use Rattle.std.specs.Prelude.{◌≡◌, ◌⊎◌, ◌≤◌, ◌==◌, ℕ, Bool, true, false, List, [], ◌∷◌, Option, Some, None, take}
+use Rattle.std.specs.Prelude.{◌≡◌, ◌⊎◌, ◌<◌, ◌≤◌, ◌==◌, ℕ, Bool, true, false, List, [], ◌∷◌, Option, Some, None, take}
 use Rattle.std.specs.List.{list_any}
 use Rattle.raft_log_disk.specs.Causes.{IsLater}
 use Rattle.raft_log_base.specs.declared.errors.Error.{Error}
@@ -8,6 +8,7 @@ use Rattle.raft_log_base.specs.declared.pipe_log.LogQueue.TheVariants.{Rewrite}
 use Rattle.raft_log_places.specs.declared.place.Place.{Place}
 use Rattle.raft_log_places.specs.declared.group_files.GroupFiles.{GroupFiles}
 use Rattle.raft_log_places.specs.Shown.{KeyValue, Shown}
+use Rattle.raft_log_tables.specs.Files.{ArePast}
 use Rattle.raft_log_rewriting.specs.raft_log_engine_state.specs.Shows.{Home, LogMap, Shows, has_failed}
 use Rattle.raft_log_rewriting.specs.raft_log_engine_state.specs.Holding.{Holds, IsLeftAt}
 use Rattle.raft_log_rewriting.specs.Stale.{written_file}
@@ -22,12 +23,14 @@ abbrev pub IsNotedFrom : ℕ → Option GroupFiles → Type 0
 IsNotedFrom n None = Unit {0}
 IsNotedFrom n (Some files) = n ≤ files.from
 
--- All that the group has in Rewrite lies in files from that one on: its entries and its values there; and
--- what is noted begins no earlier than it began before, or there.
+-- All that the group has in Rewrite lies in files from that one on: its entries and its values there; what
+-- is noted begins no earlier than it began before, or there; and where it began past an earlier file, or
+-- ended at or before that, it does so still.
 pub record IsRestatedFrom (n : ℕ) (v w : Shown) : Type 0 where
   pub entries : AllFrom n (take w.rewritten w.places)
   pub values : (k : List ℕ) (h : KeyValue) → w.held k ≡ Some h → h.appended ≡ false → n ≤ h.file
   pub noted : (k : ℕ) → k ≤ n → IsNotedFrom k v.noted → IsNotedFrom k w.noted
+  pub past : (k : ℕ) → k < n → ArePast k v.noted → ArePast k w.noted
 
 -- the file of Rewrite that is written
 abbrev pub last_file : Shows → ℕ

@@ -36,7 +36,7 @@ use Rattle.raft_log_purge_state.specs.raft_log_engine_state.specs.Shows.{Home, L
 use Rattle.raft_log_purge_state.specs.Settled.{HoldsSettled}
 use Rattle.raft_log_purge_state.specs.Raising.{MayBegin, PurgeLeavesHeld}
 use Rattle.raft_log_purge_state.proofs.Raising.{raise_refused, raised}
-use Rattle.raft_log_rewriting.specs.Files.{FailsToLoseFiles, IsLeastOf, LosesFiles, MayLoseFiles, RemainsSettled, least_in}
+use Rattle.raft_log_rewriting.specs.Files.{FailsToLoseFiles, IsLeastIn, IsLeastOf, LosesFiles, MayLoseFiles, RemainsSettled, least_in}
 use Rattle.raft_log_rewriting.proofs.Parts.{alive_ok, same_later, tells_err}
 
 -- Group by group.
@@ -73,11 +73,10 @@ module _ (queue : LogQueue) (m : MemTables) where
     | inr same ↦ one n (subst (λ (k : ℕ). least_in queue (raw_of m k) ≡ Some n) (sym same) h)
   ]
 
-  pub exact_more : (limit least next x : ℕ) → (least ≡ limit) ⊎ ((g : ℕ) × (least_in queue (raw_of m g) ≡ Some least)) → (next ≡ least) ⊎ (least_in queue (raw_of m x) ≡ Some next)
-      → (next ≡ limit) ⊎ ((g : ℕ) × (least_in queue (raw_of m g) ≡ Some next))
+  pub exact_more : (limit least next x : ℕ) → (least ≡ limit) ⊎ ((g : ℕ) × IsLeastIn queue m g least) → (next ≡ least) ⊎ IsLeastIn queue m x next → (next ≡ limit) ⊎ ((g : ℕ) × IsLeastIn queue m g next)
   exact_more limit least next x so_far (inr here) = inr (x, here)
   exact_more limit least next x (inl all) (inl same) = inl (same ∙ all)
-  exact_more limit least next x (inr there) (inl same) = inr (there.0, subst (λ (k : ℕ). least_in queue (raw_of m there.0) ≡ Some k) (sym same) there.1)
+  exact_more limit least next x (inr there) (inl same) = inr (there.0, subst (IsLeastIn queue m there.0) (sym same) there.1)
 
 -- Where no file of Append is in use, nothing stands there.
 

@@ -51,7 +51,7 @@ bytes_of_read m g i (x ∷ xs) ((bytes, maps, is), rest) =
 
 -- the engine is what it was, with another block
 with_block : (home : Home) (s : Shows) (m : LogMap) (new : BlockCache) (h : Holds home s m []) → IsOfLog h.state new → Holds home (record s { cache = new }) m []
-with_block home s m new h cached = record { state = h.state; map = h.map; runs = h.runs; stored = h.stored; rises = h.rises; meant = h.meant; cached = cached; at = h.at }
+with_block home s m new h cached = record { state = h.state; map = h.map; runs = h.runs; stored = h.stored; rises = h.rises; noted = h.noted; meant = h.meant; cached = cached; at = h.at }
 
 module _ (s : Shows) (g gate : ℕ) (es : List EntryIndex) (next : AreNext gate (s.tables g) es) (new : BlockCache) where
   abbrev v : Shown

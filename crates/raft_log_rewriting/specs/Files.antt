@@ -8,10 +8,10 @@ use Rattle.raft_log_machine.specs.Whereabouts.{OwesNothing}
 use Rattle.raft_log_directory.specs.Calls.{Which}
 use Rattle.raft_log_directory.specs.Calls.Which.{InAppend, InRewrite}
 use Rattle.raft_log_places.specs.Shown.{Shown, whereabouts}
-use Rattle.raft_log_purge_state.specs.raft_log_tables.specs.Files.{min_file}
+use Rattle.raft_log_purge_state.specs.raft_log_tables.specs.Files.{IsMinFile, min_file}
 use Rattle.raft_log_purge_state.specs.raft_log_tables.specs.Table.{Raw}
 use Rattle.raft_log_replay.specs.declared.mem_tables.MemTables.{MemTables}
-use Rattle.raft_log_replay.specs.Tables.{raw_of}
+use Rattle.raft_log_replay.specs.Tables.{raw_of, shown_of}
 use Rattle.raft_log_purge_state.specs.raft_log_steps.specs.State.{pipe_at}
 use Rattle.raft_log_dual_pipes.specs.Pipes.{files_of, which_of}
 use Rattle.raft_log_purge_state.specs.raft_log_engine_state.specs.Shows.{Home, LogMap, Shows, has_failed}
@@ -23,11 +23,15 @@ abbrev pub least_in : LogQueue → Option Raw → Option ℕ
 least_in queue None = None
 least_in queue (Some t) = min_file queue t
 
+-- it is the least file of a queue in which a group has something, as its table answers it and by what shows
+abbrev pub IsLeastIn : LogQueue → MemTables → ℕ → ℕ → Type 0
+IsLeastIn queue m g n = (least_in queue (raw_of m g) ≡ Some n) × IsMinFile queue (shown_of m g) (Some n)
+
 -- the least file of a queue in which any group has something, where that is below the limit, else the limit
 pub record IsLeastOf (queue : LogQueue) (limit : ℕ) (m : MemTables) (least : ℕ) : Type 0 where
   pub limited : least ≤ limit
   pub below : (g n : ℕ) → least_in queue (raw_of m g) ≡ Some n → least ≤ n
-  pub exact : (least ≡ limit) ⊎ ((g : ℕ) × (least_in queue (raw_of m g) ≡ Some least))
+  pub exact : (least ≡ limit) ⊎ ((g : ℕ) × IsLeastIn queue m g least)
 
 -- what is asked of the tables before files of a queue go: of Append, that no mark is owed
 abbrev pub MayLoseFiles : Which → (ℕ → Shown) → Type 0

@@ -4,7 +4,7 @@ ghost use Rattle.std.specs.Prelude.{◌≡◌, ◌⊎◌, ◌≤◌, ◌==◌, �
 ghost use Rattle.std.specs.List.{list_any};
 ghost use Rattle.raft_log_purge_state.specs.raft_log_engine_state.specs.Shows.{shows};
 ghost use Rattle.raft_log_replay.specs.Tables.{raw_of};
-ghost use Rattle.raft_log_rewriting.specs.Files.{FailsToLoseFiles, IsLeastOf, LosesFiles, least_in};
+ghost use Rattle.raft_log_rewriting.specs.Files.{FailsToLoseFiles, IsLeastIn, IsLeastOf, LosesFiles, least_in};
 
 use log::Log;
 use raft_log_base::{FileId, FileSeq, LogQueue, Result};
@@ -54,7 +54,7 @@ fn least_of(tables: &MemTables, groups: &[u64], queue: LogQueue, limit: FileSeq)
     ensures limited { result ≤ limit }
     ensures below { (g n : ℕ) → list_any (λ k. k == g) groups.now ≡ true
         → least_in queue (raw_of tables.now g) ≡ Some n → result ≤ n }
-    ensures exact { (result ≡ limit) ⊎ ((g : ℕ) × (least_in queue (raw_of tables.now g) ≡ Some result)) }
+    ensures exact { (result ≡ limit) ⊎ ((g : ℕ) × IsLeastIn queue tables.now g result) }
 {
     let mut least = limit;
     for group in groups {
@@ -67,7 +67,7 @@ fn least_of(tables: &MemTables, groups: &[u64], queue: LogQueue, limit: FileSeq)
 fn lesser_in(tables: &MemTables, group: u64, queue: LogQueue, least: FileSeq) -> FileSeq
     ensures limited { result ≤ least }
     ensures below { (n : ℕ) → least_in queue (raw_of tables.now group) ≡ Some n → result ≤ n }
-    ensures exact { (result ≡ least) ⊎ (least_in queue (raw_of tables.now group) ≡ Some result) }
+    ensures exact { (result ≡ least) ⊎ IsLeastIn queue tables.now group result }
 {
     match tables.known_table(group) {
         Some(table) => match table.min_file_seq(queue) {

@@ -41,4 +41,4 @@ returns-clause-ok g c =
     let m = c.restate_all.new.tables in
     let restated = shows (g.P.PipeLog.shown c.restate_all.new.pipes) m c.restate_all.new.cache in
     let t = shows (g.P.PipeLog.shown c.purge_stale.new.pipes) m c.purge_stale.new.cache in
-    rewritten s turned e.ok e.later (alive_ok c.in_ok-rotate.field-0 turned e.fails) restated c.in_ok-restate_all.ensures.ok m c.in_ok-purge_stale.field-0 _ t c.file_span-first.ensures.last refl refl c.in_ok-purge_stale.ensures.ok
+    rewritten s turned e.ok e.later (alive_ok c.in_ok-rotate.field-0 turned e.fails) restated c.in_ok-restate_all.ensures.ok m c.in_ok-purge_stale.field-0 _ t refl c.file_span-first.ensures.last refl refl c.in_ok-purge_stale.ensures.ok

@@ -1,7 +1,7 @@
 use Rattle.std.proofs.Common.{◌≡◌, ◌⊎◌, ◌≤◌, ◌==◌, ℕ, true, Some, take}
 use Rattle.std.specs.List.{list_any}
 use Rattle.raft_log_replay.specs.Tables.{raw_of}
-use Rattle.raft_log_rewriting.specs.Files.{least_in}
+use Rattle.raft_log_rewriting.specs.Files.{IsLeastIn, least_in}
 use Rattle.raft_log_rewriting.proofs.files.least_of.Given as goal
 
 -- so it is of the groups so far
@@ -9,5 +9,5 @@ abbrev pub invariant-loop-group : goal.invariant-loop-group
 invariant-loop-group l = record {
   limited : l.least ≤ l.fn.limit;
   below : (g n : ℕ) → list_any (λ k. k == g) (take l.group-index l.groups) ≡ true → least_in l.fn.queue (raw_of l.fn.tables g) ≡ Some n → l.least ≤ n;
-  exact : (l.least ≡ l.fn.limit) ⊎ ((g : ℕ) × (least_in l.fn.queue (raw_of l.fn.tables g) ≡ Some l.least));
+  exact : (l.least ≡ l.fn.limit) ⊎ ((g : ℕ) × IsLeastIn l.fn.queue l.fn.tables g l.least);
 }

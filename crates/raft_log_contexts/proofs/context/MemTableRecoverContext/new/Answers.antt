@@ -1,8 +1,9 @@
-use Rattle.std.proofs.Common.{sym, subst, [], Some}
+use Rattle.std.proofs.Common.{sym, ap, subst, [], Some}
 use Rattle.raft_log_machine.proofs.TruthRaises.{no_word}
 use Rattle.raft_log_places.specs.Replayed.{IsReplayed}
 use Rattle.raft_log_places.proofs.Replays.{read_nothing}
 use Rattle.raft_log_tables.specs.Replays.{in_append}
+use Rattle.raft_log_contexts.specs.Noting.{IsNotedTo}
 use Rattle.raft_log_contexts.proofs.context.MemTableRecoverContext.new.Goals as goal
 
 pub returns-clause-read : goal.returns-clause-read
@@ -12,5 +13,7 @@ returns-clause-read c = λ queue. record {
   tables = λ tidy g healthy. subst (λ z. IsReplayed (in_append queue) [] z) (sym (c.new.ensures.replay g)) (read_nothing (in_append queue));
   counting = λ tidy g healthy. c.new.ensures.counts g;
   notes = λ q lie tidy g healthy s d stands. no_word (Some d) stands;
+  ends = λ q n upto g. subst (λ z. IsNotedTo n z.table.noted) (sym (c.new.ensures.replay g)) tt;
+  none = λ q g. ap (λ z. z.table.noted) (c.new.ensures.replay g);
   pieces = c.new-2.ensures;
 }

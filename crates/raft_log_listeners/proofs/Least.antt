@@ -30,10 +30,10 @@ least_still said n next (has, least) more = (Contains-append_left said (next ∷
 least_of_two : (said : List (Option ℕ)) (n m : ℕ) → IsLeast said (Some n) → (m < n) ⊎ (n ≤ m)
     → IsLeast (said ++ Some m ∷ []) (lesser (Some n) (Some m))
 least_of_two said n m (has, least) (inl less) =
-    subst (λ k. IsLeast (said ++ Some m ∷ []) (Some k)) (sym (min-eq_right {m} {n} (omega (arith, less))))
+    subst (λ k. IsLeast (said ++ Some m ∷ []) (Some k)) (sym (min-eq_right {n = m} {m = n} (omega (arith, less))))
     (least_last said m (All-weaker (λ one. IfSome one (λ k. n ≤ k)) (λ one. IfSome one (λ k. m ≤ k)) (less_yet n m (omega (arith, less))) said least))
 least_of_two said n m least (inr more) =
-    subst (λ k. IsLeast (said ++ Some m ∷ []) (Some k)) (sym (min-eq_left {n} {m} more)) (least_still said n (Some m) least more)
+    subst (λ k. IsLeast (said ++ Some m ∷ []) (Some k)) (sym (min-eq_left {n = n} {m = m} more)) (least_still said n (Some m) least more)
 
 -- where one more is said, the lesser one of that and the least so far is the least
 least_push : (said : List (Option ℕ)) (held next : Option ℕ) → IsLeast said held

@@ -32,9 +32,8 @@ impl<H: EventListener> Listeners<H> {
 
 impl<H: EventListener> EventListener for Listeners<H> {
     ghost holds_back = { λ all queue. BothHoldBack
-      (AllHoldBack (λ one. (⟦<dyn EventListener as EventListener>⟧ one.vtable).holds_back one.value queue)
-        all.listeners.items)
-      (H.holds_back all.hook queue) };
+        (AllHoldBack (λ one. (EventListener-box one).holds_back one.value queue) all.listeners.items)
+        (H.holds_back all.hook queue) };
 
     fn post_new_log_file(&mut self, file_id: FileId) {
         for listener in self.listeners.iter_mut() {

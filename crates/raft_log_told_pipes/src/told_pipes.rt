@@ -73,7 +73,7 @@ impl<P: PipeLog, E: EventListener> PipeLog for ToldPipes<P, E> {
     ghost disk_of = { λ files. P.disk_of files };
 
     ghost holds_back = { λ told queue.
-      BothHoldBack (P.holds_back told.pipes queue) (E.holds_back told.listener queue) };
+        BothHoldBack (P.holds_back told.pipes queue) (E.holds_back told.listener queue) };
 
     fn is_failed(&self) -> bool {
         self.pipes.is_failed()

@@ -4,4 +4,4 @@ use Rattle.raft_log_listeners.specs.Least.{AllHoldBack}
 use Rattle.raft_log_listeners.proofs.listeners.least_of.Given as goal
 
 abbrev pub invariant-loop-listener : goal.invariant-loop-listener
-invariant-loop-listener l = AllHoldBack (λ one. (goal.EventListener-dyn (one.vtable, one.value)).EventListener.holds_back one.value l.queue) (take l.listener-index l.listeners) l.least
+invariant-loop-listener g l = AllHoldBack (λ one. (goal.EventListener-dyn g (one.vtable, one.value)).holds_back one.value l.queue) (take l.listener-index l.listeners) l.least

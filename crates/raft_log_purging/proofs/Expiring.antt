@@ -16,6 +16,7 @@ use Rattle.raft_log_restating.specs.raft_log_purge_state.proofs.Settling.{settle
 use Rattle.raft_log_purge.specs.declared.thresholds.Thresholds.{Thresholds}
 use Rattle.raft_log_purge_rules.specs.declared.rounds.Rounds.{Rounds}
 use Rattle.raft_log_restating.specs.raft_log_rewriting.proofs.Parts.{later_on, same_later}
+use Rattle.raft_log_restating.specs.raft_log_rewriting.proofs.Reasons.{reason_after}
 use Rattle.raft_log_restating.specs.Queue.{FailsToRewriteRewrite, RewritesRewrite}
 use Rattle.raft_log_purging.specs.declared.expired_files.PurgeCounts.{PurgeCounts}
 use Rattle.raft_log_purging.specs.Append.{FailsToRewriteAppend}
@@ -55,9 +56,10 @@ module _ (s : Shows) (synced : LogPipes) (syncs : SyncsQueue InAppend s.pipes sy
   -- Rewrite wasn't rewritten
   pub not_restated : (error : Error) (t : Shows) → FailsToRewriteRewrite error behind t → FailsToRewriteAppend error s t
   not_restated error t fails = record {
-    failed = λ lived hit. fails.failed lives hit;
+    tells = λ lived. fails.tells lives;
     later = later_on s.pipes.disk synced.disk t.pipes.disk later fails.later;
     remains = λ home log pending h. on_the_map home log pending t error (fails.remains home (taken log pending) (held_behind s synced syncs later lives home log pending h));
+    cause = λ home log pending h. reason_after home (taken log pending) error s behind t later (fails.cause home (taken log pending) (held_behind s synced syncs later lives home log pending h));
   }
 
   restated_whole : (m : MemTables) (t : Shows) → RewritesRewrite m behind t → SyncsAndRewrites m s t
@@ -95,9 +97,10 @@ module _ (s : Shows) (synced : LogPipes) (syncs : SyncsQueue InAppend s.pipes sy
     -- Append wasn't purged
     append_unpurged : (error : Error) (t : Shows) → FailsToPurgeAppend error mid t → FailsToRewriteAppend error s t
     append_unpurged error t fails = record {
-      failed = λ lived hit. fails.failed (went.alive lives) hit;
+      tells = λ lived. fails.tells (went.alive lives);
       later = later_on s.pipes.disk pipes.disk t.pipes.disk to_mid fails.later;
       remains = λ home log pending h. on_the_map home log pending t error (fails.remains home (taken log pending) (held_there home log pending h));
+      cause = λ home log pending h. reason_after home (taken log pending) error s mid t to_mid (fails.cause home (taken log pending) (held_there home log pending h));
     }
 
     pub whole_unpurged : {A : Type 0} (t : Shows) (q : Result A Error) → IfErr q (λ error. FailsToPurgeAppend error mid t) → IfErr q (λ error. FailsToRewriteAppend error s t)

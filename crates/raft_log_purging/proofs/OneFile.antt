@@ -1,5 +1,5 @@
 -- Append's span has one file once all of it was rewritten.
-use Rattle.std.proofs.Common.{◌≡◌, ◌⊎◌, ◌<◌, ◌≤◌, ℕ, suc, max, List, inl, inr, refl, sym, ap, ◌∙◌, arith}
+use Rattle.std.proofs.Common.{◌≡◌, ◌≤◌, ℕ, suc, List, inl, inr, sym, ap, ◌∙◌, arith}
 use Rattle.raft_log_disk.specs.LogQueue.{LogFiles}
 use Rattle.raft_log_directory.specs.Calls.Which.{InAppend}
 use Rattle.raft_log_dual_pipes.specs.Pipes.{LogPipes, RunsOn, Said, State}
@@ -25,7 +25,7 @@ synced_stays v w call home s runs =
     ((_, on), there ∙ sym runs.run.append.pipe.number)
 
 -- it went on in its next file
-turned : (v w : LogPipes) (home : Home) (s : State) → RunsOn (sense home) v s → RotatesQueue InAppend v w
+pub turned : (v w : LogPipes) (home : Home) (s : State) → RunsOn (sense home) v s → RotatesQueue InAppend v w
     → ((next : State) × RunsOn (sense home) w next) × (last_at InAppend w ≡ suc (last_at InAppend v))
 turned v w home s runs call =
     let (files, goes, on, step) = call (sense home) s runs in

@@ -1,5 +1,5 @@
 -- All groups are rewritten, and the files behind which nothing lies go.
-use Rattle.std.proofs.Common.{◌≡◌, ◌⊎◌, ◌+◌, ◌<◌, ◌≤◌, ℕ, max, Bool, true, false, List, [], Option, Some, None, is_some, inl, inr, refl, sym, subst, ◌∙◌, arith}
+use Rattle.std.proofs.Common.{◌≡◌, ◌⊎◌, ◌+◌, ◌^◌, ◌<◌, ◌≤◌, ℕ, max, Bool, true, false, List, [], Option, Some, None, is_some, inl, inr, refl, sym, subst, ◌∙◌, arith}
 use Rattle.std.specs.Prelude.{Result, Ok, Err, IfErr, OnErr, OnOk}
 use Rattle.std.specs.BTreeMap.{get}
 use Rattle.std.specs.Ordering.{nat_cmp}
@@ -20,6 +20,7 @@ use Rattle.raft_log_replay.specs.Tables.{has_table, shown_in, shown_of}
 use Rattle.raft_log_replay.specs.Walking.{ListsGroups}
 use Rattle.raft_log_dual_pipes.specs.Pipes.{LogPipes}
 use Rattle.raft_log_dual_pipes.specs.Calls.{FailsToPurgeQueue, FailsToSyncQueue, PurgesQueue, SyncsQueue, TellsFailure}
+use Rattle.raft_log_dual_pipes.specs.Numbers.{EndsNumbersBelow}
 use Rattle.raft_log_restating.specs.raft_log_blocks.specs.declared.block_cache.BlockCache.{BlockCache}
 use Rattle.raft_log_restating.specs.raft_log_engine_state.specs.Shows.{Home, LogMap, Shows, sense, shows}
 use Rattle.raft_log_restating.specs.raft_log_engine_state.specs.Holding.{Holds, IsLeftAt}
@@ -33,9 +34,11 @@ use Rattle.raft_log_restating.specs.raft_log_rewriting.specs.Files.{IsLeastOf}
 use Rattle.raft_log_restating.specs.raft_log_rewriting.specs.Groups.{Rewrites, RewritesGroups, StopsAtGroups, StopsRewriting}
 use Rattle.raft_log_restating.specs.raft_log_rewriting.specs.Moving.{IsRewrittenTo}
 use Rattle.raft_log_restating.specs.raft_log_rewriting.specs.Rewriting.{OweNothing}
+use Rattle.raft_log_restating.specs.raft_log_rewriting.specs.Reasons.{HasFileReason}
 use Rattle.raft_log_restating.specs.raft_log_rewriting.proofs.Grouping.{among, part_same, part_wider, rewritten_is_past}
 use Rattle.raft_log_restating.specs.raft_log_rewriting.proofs.Leasts.{queue_may_begin}
 use Rattle.raft_log_restating.specs.raft_log_rewriting.proofs.Parts.{alive_ok, later_on, same_later, tells_err}
+use Rattle.raft_log_restating.specs.raft_log_rewriting.proofs.Reasons.{memory_is_none, memory_reason, purge_reason, reason_after, sync_reason, tells_nothing}
 use Rattle.raft_log_restating.specs.raft_log_rewriting.proofs.Staying.{stays_on, stays_same, sync_stays}
 use Rattle.raft_log_purging.proofs.OneFile.{purge_stays}
 use Rattle.raft_log_purging.specs.Append.{AreRewrittenTo, FailsToLoseTo, LosesTo, RewritesAll, RewritesSynced, RewritesThese, beginning}
@@ -45,18 +48,21 @@ use Rattle.raft_log_purging.specs.Append.{AreRewrittenTo, FailsToLoseTo, LosesTo
 abbrev pub every : ℕ → Bool
 every g = true
 
-pub none_rewritten_yet : (gate : ℕ) (error : Error) (s : Shows) → StopsRewriting every gate error s s
-none_rewritten_yet gate error s = record {
+-- nothing was done, for want of memory
+pub none_rewritten_yet : (gate : ℕ) (error : Error) (s : Shows) → error ≡ errors.Memory → StopsRewriting every gate error s s
+none_rewritten_yet gate error s memory = record {
   part = part_same every gate s;
-  failed = λ lived hit. absurd (false≢true (sym lived ∙ hit));
+  tells = λ lived. tells_nothing error s.pipes lived (memory_is_none error memory);
   remains = λ owes home m h. inl h;
+  cause = λ owes home m h. memory_reason home m error s s memory;
 }
 
 pub some_rewritten : (groups : List ℕ) (gate : ℕ) (error : Error) (s t : Shows) → StopsAtGroups groups gate error s t → StopsRewriting every gate error s t
 some_rewritten groups gate error s t stops = record {
   part = part_wider (among groups) every gate s t (λ g h. refl) stops.part;
-  failed = stops.failed;
+  tells = stops.tells;
   remains = stops.remains;
+  cause = stops.cause;
 }
 
 -- nothing is in Append of a group that has no table
@@ -113,35 +119,46 @@ module _ (test : ℕ → Bool) (gate : ℕ) (s copied : Shows) (r : Rewrites tes
     settles = λ owes home m h. sync_settles_log home copied (record copied { pipes = w }) m (r.holds owes home m h) (record { tables = refl; cache = inl refl }) call;
   }
 
-  not_synced : (error : Error) → error ≡ errors.Failed → FailsToSyncQueue InRewrite copied.pipes w → StopsRewriting test gate error s (record copied { pipes = w })
-  not_synced error is call = record {
+  not_synced : (error : Error) → TellsFailure {A = Unit {0}} (Err error) w → error ≡ errors.Failed → FailsToSyncQueue InRewrite copied.pipes w → StopsRewriting test gate error s (record copied { pipes = w })
+  not_synced error tells is call = record {
     part = record {
       parts = r.part.parts;
       others = r.part.others;
       counts = r.part.counts;
       later = later_on s.pipes.disk copied.pipes.disk w.disk r.part.later later;
     };
-    failed = λ lived hit. is;
+    tells = λ lived. tells_err {A = Unit {0}} error w tells;
     remains = λ owes home m h. inr (is, (failed_sync InRewrite home copied.pipes w m [] (holds_runs home copied m [] (r.holds owes home m h)) call).1);
+    cause = λ owes home m h.
+        (let there = r.holds owes home m h in
+        reason_after home m error s copied (record copied { pipes = w }) r.part.later (sync_reason InRewrite home m error copied (record copied { pipes = w }) there.state there.runs is call));
   }
 
   pub whole_synced : (q : Result (Unit {0}) Error) → TellsFailure q w → OnOk q (SyncsQueue InRewrite copied.pipes w) → OnOk q (RewritesSynced test gate s (record copied { pipes = w }))
   whole_synced (Ok x) tells call = all_synced x tells call
   whole_synced (Err e) tells call = tt
 
-  pub whole_unsynced : (q : Result (Unit {0}) Error) → IfErr q (λ error. error ≡ errors.Failed) → OnErr q (FailsToSyncQueue InRewrite copied.pipes w)
+  pub whole_unsynced : (q : Result (Unit {0}) Error) → TellsFailure q w → IfErr q (λ error. error ≡ errors.Failed) → OnErr q (FailsToSyncQueue InRewrite copied.pipes w)
       → IfErr q (λ error. StopsRewriting test gate error s (record copied { pipes = w }))
-  whole_unsynced (Ok x) is call = tt
-  whole_unsynced (Err e) is call = not_synced e is call
+  whole_unsynced (Ok x) tells is call = tt
+  whole_unsynced (Err e) tells is call = not_synced e tells is call
 
 -- Files go.
 
-pub nothing_lost : (gate : ℕ) (error : Error) (s : Shows) → FailsToLoseTo gate error s s
-nothing_lost gate error s = record {
-  failed = λ lived hit. absurd (false≢true (sym lived ∙ hit));
+nothing_lost : (gate : ℕ) (error : Error) (s : Shows) → (error ≡ errors.Failed → ⊥) → (gate ≤ last_at InAppend s.pipes → HasFileReason error s s) → FailsToLoseTo gate error s s
+nothing_lost gate error s other reason = record {
+  tells = λ lived. tells_nothing error s.pipes lived other;
   later = same_later s.pipes.disk;
   remains = λ past owes home m h. inl (settled_held home s m h);
+  cause = λ low home log h. reason low;
 }
+
+-- for want of memory, or of a number behind the gate
+pub none_lost_for_memory : (gate : ℕ) (error : Error) (s : Shows) → error ≡ errors.Memory → FailsToLoseTo gate error s s
+none_lost_for_memory gate error s memory = nothing_lost gate error s (memory_is_none error memory) (λ low. subst (λ (e : Error). HasFileReason e s s) (sym memory) tt)
+
+pub none_behind : (gate : ℕ) (s : Shows) → 2 ^ 64 ≤ gate + 1 → FailsToLoseTo gate errors.NumberRange s s
+none_behind gate s high = nothing_lost gate errors.NumberRange s (λ is. let never : ⊥ = cc in never) (λ low. (InAppend, omega (arith, high, low)))
 
 -- what lies behind both lies behind the greater
 behind_both : (v : Shown) (a b n : ℕ) → n ≡ max a b → IsLeastInAppend v a → IsLeastInAppend v b → IsLeastInAppend v n
@@ -202,20 +219,11 @@ module _ (gate least seq : ℕ) (m : MemTables) (v : LogPipes) (old : BlockCache
       keeps = λ past owes home log h. raised InAppend home before (shows w m new) log seq h (may_begin past owes home log h) refl none call;
     }
 
-    pub not_lost_to : {A : Type 0} (error : Error) → TellsFailure {A = A} (Err error) w → FailsToPurgeQueue InAppend seq error v w → FailsToLoseTo gate error before (shows w m new)
-    not_lost_to {A} error tells call = record {
-      failed = λ lived hit. (tells_err {A = A} error w tells).0 hit;
+    pub not_lost_to : {A : Type 0} (error : Error) → TellsFailure {A = A} (Err error) w → FailsToPurgeQueue InAppend seq error v w → EndsNumbersBelow InAppend error v → FailsToLoseTo gate error before (shows w m new)
+    not_lost_to {A} error tells call ends = record {
+      tells = λ lived. tells_err {A = A} error w tells;
       later = later;
       remains = λ past owes home log h.
           left_or_held home log (shows w m new) error (raise_refused InAppend home before (shows w m new) log seq error h (may_begin past owes home log h) refl none call);
+      cause = λ low home log h. purge_reason InAppend seq home error before (shows w m new) h.state h.runs call ends;
     }
-
--- whatever was refused before anything was done
-
-pub none_yet : (gate : ℕ) (s : Shows) (q : Result (Unit {0}) Error) → IfErr q (λ error. StopsRewriting every gate error s s)
-none_yet gate s (Ok x) = tt
-none_yet gate s (Err e) = none_rewritten_yet gate e s
-
-pub none_lost_yet : (gate : ℕ) (s : Shows) (q : Result (Unit {0}) Error) → IfErr q (λ error. FailsToLoseTo gate error s s)
-none_lost_yet gate s (Ok x) = tt
-none_lost_yet gate s (Err e) = nothing_lost gate e s

@@ -1,9 +1,9 @@
 -- Append is purged by the rules: its exits, put together of what each part told.
 use Rattle.std.proofs.Common.{◌≡◌, ◌<◌, ◌≤◌, ℕ, max, Bool, List, [], Option, None, inl, refl, sym, subst, ◌∙◌, arith}
 use Rattle.std.specs.Prelude.{Result, Ok, Err, IfErr, OnOk}
-use Rattle.std.proofs.lemmas.Bool.{false≢true}
 use Rattle.raft_log_disk.specs.Causes.{IsLater}
 use Rattle.raft_log_base.specs.declared.errors.Error.{Error}
+use Rattle.raft_log_base.specs.declared.errors.Error.TheVariants as errors
 use Rattle.raft_log_base.specs.declared.pipe_log.LogQueue.TheVariants.{Append}
 use Rattle.raft_log_directory.specs.Calls.Which.{InAppend}
 use Rattle.raft_log_places.specs.Shown.{Shown}
@@ -13,6 +13,7 @@ use Rattle.raft_log_replay.specs.Tables.{shown_of}
 use Rattle.raft_log_replay.specs.Walking.{ListsGroups}
 use Rattle.raft_log_dual_pipes.specs.Pipes.{LogPipes}
 use Rattle.raft_log_dual_pipes.specs.Calls.{FailsToPurgeQueue, PurgesQueue, TellsFailure}
+use Rattle.raft_log_dual_pipes.specs.Numbers.{EndsNumbersBelow}
 use Rattle.raft_log_restating.specs.raft_log_blocks.specs.declared.block_cache.BlockCache.{BlockCache}
 use Rattle.raft_log_restating.specs.raft_log_engine_state.specs.Shows.{Home, LogMap, Shows, sense, shows}
 use Rattle.raft_log_restating.specs.raft_log_engine_state.specs.Holding.{Holds}
@@ -27,26 +28,26 @@ use Rattle.raft_log_restating.specs.raft_log_rewriting.specs.Marks.{CarriesMarks
 use Rattle.raft_log_restating.specs.raft_log_rewriting.specs.Moving.{IsRewrittenTo}
 use Rattle.raft_log_restating.specs.raft_log_rewriting.specs.Parts.{IsRefused}
 use Rattle.raft_log_restating.specs.raft_log_rewriting.specs.Rewriting.{OweNothing}
+use Rattle.raft_log_restating.specs.raft_log_rewriting.specs.Reasons.{HasFileReason}
 use Rattle.raft_log_restating.specs.raft_log_rewriting.proofs.Grouping.{among, part_wider}
 use Rattle.raft_log_restating.specs.raft_log_rewriting.proofs.Leasts.{queue_may_begin}
 use Rattle.raft_log_restating.specs.raft_log_rewriting.proofs.Parts.{alive_ok, later_on, same_later, tells_err}
-use Rattle.raft_log_purging.specs.Append.{RewritesSynced, StopsGoingOn, up_to}
-use Rattle.raft_log_purging.specs.Expired.{FailsToPurgeAppend, LosesBelow, RewritesPicked}
+use Rattle.raft_log_restating.specs.raft_log_rewriting.proofs.Reasons.{memory_is_none, memory_reason, purge_reason, reason_after, reason_of_files, tells_nothing}
+use Rattle.raft_log_purging.specs.Append.{RewritesSynced, up_to}
+use Rattle.raft_log_purging.specs.Expired.{FailsToLoseBelow, FailsToPurgeAppend, LosesBelow, RewritesPicked}
 use Rattle.raft_log_purging.proofs.Past.{left_or_held}
-use Rattle.raft_log_purging.proofs.Whole.{after_sync, held_or_left, stops_rewriting, synced_owe_nothing}
+use Rattle.raft_log_purging.proofs.Whole.{after_sync, held_or_left, synced_owe_nothing}
 
 -- Files go.
 
-none_gone : (error : Error) (s : Shows) → StopsGoingOn error s s
-none_gone error s = record {
-  failed = λ lived hit. absurd (false≢true (sym lived ∙ hit));
+-- none went, for want of memory
+pub none_gone : (error : Error) (s : Shows) → error ≡ errors.Memory → FailsToLoseBelow error s s
+none_gone error s memory = record {
+  tells = λ lived. tells_nothing error s.pipes lived (memory_is_none error memory);
   later = same_later s.pipes.disk;
   remains = λ owes home m h. inl (settled_held home s m h);
+  cause = λ home log h. subst (λ (e : Error). HasFileReason e s s) (sym memory) tt;
 }
-
-pub none_gone_yet : (s : Shows) (q : Result (Unit {0}) Error) → IfErr q (λ error. StopsGoingOn error s s)
-none_gone_yet s (Ok x) = tt
-none_gone_yet s (Err e) = none_gone e s
 
 module _ (held : Option ℕ) (least : ℕ) (m : MemTables) (v : LogPipes) (old : BlockCache) (is : IsLeastOf Append (up_to held (last_at InAppend v)) m least) where
   abbrev before : Shows
@@ -90,32 +91,33 @@ module _ (held : Option ℕ) (least : ℕ) (m : MemTables) (v : LogPipes) (old :
       keeps = λ owes home log h. raised InAppend home before (shows w m new) log least h (may_begin owes home log h) refl none call;
     }
 
-    pub not_lost_below : {A : Type 0} (error : Error) → TellsFailure {A = A} (Err error) w → FailsToPurgeQueue InAppend least error v w → StopsGoingOn error before (shows w m new)
-    not_lost_below {A} error tells call = record {
-      failed = λ lived hit. (tells_err {A = A} error w tells).0 hit;
+    pub not_lost_below : {A : Type 0} (error : Error) → TellsFailure {A = A} (Err error) w → FailsToPurgeQueue InAppend least error v w → EndsNumbersBelow InAppend error v
+        → FailsToLoseBelow error before (shows w m new)
+    not_lost_below {A} error tells call ends = record {
+      tells = λ lived. tells_err {A = A} error w tells;
       later = later;
       remains = λ owes home log h.
           left_or_held home log (shows w m new) error (raise_refused InAppend home before (shows w m new) log least error h (may_begin owes home log h) refl none call);
+      cause = λ home log h. purge_reason InAppend least home error before (shows w m new) h.state h.runs call ends;
     }
 
 -- Groups are rewritten, and then files go.
 
-nothing_purged : (error : Error) (s : Shows) → FailsToPurgeAppend error s s
-nothing_purged error s = record {
-  failed = λ lived hit. absurd (false≢true (sym lived ∙ hit));
+-- nothing was done, for want of memory
+pub nothing_purged : (error : Error) (s : Shows) → error ≡ errors.Memory → FailsToPurgeAppend error s s
+nothing_purged error s memory = record {
+  tells = λ lived. tells_nothing error s.pipes lived (memory_is_none error memory);
   later = same_later s.pipes.disk;
   remains = λ home m h. inl h;
+  cause = λ home m h. memory_reason home m error s s memory;
 }
-
-pub nothing_purged_yet : {A : Type 0} (s : Shows) (q : Result A Error) → IfErr q (λ error. FailsToPurgeAppend error s s)
-nothing_purged_yet s (Ok x) = tt
-nothing_purged_yet s (Err e) = nothing_purged e s
 
 pub marks_refused : (error : Error) (s t : Shows) → IsRefused error s t → FailsToPurgeAppend error s t
 marks_refused error s t refused = record {
-  failed = λ lived hit. (refused.tells lived).0 hit;
+  tells = refused.tells;
   later = refused.later;
   remains = λ home m h. held_or_left home m t error (refused.remains home m h);
+  cause = refused.cause;
 }
 
 -- so it is of the groups that pass another test, which is the same of each
@@ -142,16 +144,14 @@ module _ (s carried : Shows) (carries : CarriesMarks s carried) where
   none_owed : OweNothing carried.tables
   none_owed = subst OweNothing (sym carries.tables) (λ g. (refl, refl, λ k. refl))
 
-  stopped_behind : (error : Error) (t : Shows) → StopsGoingOn error carried t → FailsToPurgeAppend error s t
-  stopped_behind error t stops = record {
-    failed = λ lived hit. stops.failed carries.alive hit;
-    later = later_on s.pipes.disk carried.pipes.disk t.pipes.disk carries.later stops.later;
-    remains = λ home log h. stops.remains none_owed home log (carries.settles home log h);
-  }
-
   -- the groups weren't rewritten, not all of them
   pub not_rewritten : (test : ℕ → Bool) (gate : ℕ) (error : Error) (t : Shows) → StopsRewriting test gate error carried t → FailsToPurgeAppend error s t
-  not_rewritten test gate error t stops = stopped_behind error t (stops_rewriting test gate error carried t stops)
+  not_rewritten test gate error t stops = record {
+    tells = λ lived. stops.tells carries.alive;
+    later = later_on s.pipes.disk carried.pipes.disk t.pipes.disk carries.later stops.part.later;
+    remains = λ home log h. stops.remains none_owed home log (settled_held home carried log (carries.settles home log h));
+    cause = λ home log h. reason_after home log error s carried t carries.later (stops.cause none_owed home log (settled_held home carried log (carries.settles home log h)));
+  }
 
   module _ (test : ℕ → Bool) (gate : ℕ) (copied : Shows) (copies : RewritesSynced test gate carried copied) where
     owe_none : OweNothing copied.tables
@@ -164,11 +164,12 @@ module _ (s carried : Shows) (carries : CarriesMarks s carried) where
     to_copied = later_on s.pipes.disk carried.pipes.disk copied.pipes.disk carries.later copies.later
 
     -- files didn't go
-    stopped_there : (error : Error) (t : Shows) → StopsGoingOn error copied t → FailsToPurgeAppend error s t
+    stopped_there : (error : Error) (t : Shows) → FailsToLoseBelow error copied t → FailsToPurgeAppend error s t
     stopped_there error t stops = record {
-      failed = λ lived hit. stops.failed copies.alive hit;
+      tells = λ lived. stops.tells copies.alive;
       later = later_on s.pipes.disk copied.pipes.disk t.pipes.disk to_copied stops.later;
       remains = λ home log h. stops.remains owe_none home log (settled_there home log h);
+      cause = λ home log h. reason_after home log error s copied t to_copied (reason_of_files home log error copied t (stops.cause home log (settled_there home log h)));
     }
 
     picked_rewritten : (held : Option ℕ) (m : MemTables) (t : Shows) → LosesBelow held m copied t → RewritesPicked test gate held m s t
@@ -189,7 +190,7 @@ module _ (s carried : Shows) (carries : CarriesMarks s carried) where
     whole_picked held m t (Ok x) loses = picked_rewritten held m t loses
     whole_picked held m t (Err e) loses = tt
 
-    pub whole_unpicked : (t : Shows) (q : Result (Unit {0}) Error) → IfErr q (λ error. StopsGoingOn error copied t) → IfErr q (λ error. FailsToPurgeAppend error s t)
+    pub whole_unpicked : (t : Shows) (q : Result (Unit {0}) Error) → IfErr q (λ error. FailsToLoseBelow error copied t) → IfErr q (λ error. FailsToPurgeAppend error s t)
     whole_unpicked t (Ok x) stops = tt
     whole_unpicked t (Err e) stops = stopped_there e t stops
 

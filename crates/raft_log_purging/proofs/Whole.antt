@@ -10,6 +10,7 @@ use Rattle.raft_log_places.specs.Shown.{Shown}
 use Rattle.raft_log_replay.specs.declared.mem_tables.MemTables.{MemTables}
 use Rattle.raft_log_dual_pipes.specs.Pipes.{LogPipes, Said, is_failed}
 use Rattle.raft_log_dual_pipes.specs.Calls.{FailsToRotateQueue, FailsToSyncQueue, RotatesQueue, SyncsQueue, TellsFailure}
+use Rattle.raft_log_dual_pipes.specs.Numbers.{EndsNumbers}
 use Rattle.raft_log_restating.specs.raft_log_engine_state.specs.Shows.{Home, LogMap, Shows, has_failed}
 use Rattle.raft_log_restating.specs.raft_log_engine_state.specs.Holding.{Holds, IsLeftAt}
 use Rattle.raft_log_restating.specs.raft_log_engine_state.proofs.Keeping.{holds_runs}
@@ -26,10 +27,11 @@ use Rattle.raft_log_restating.specs.raft_log_rewriting.specs.Parts.{IsRefused, R
 use Rattle.raft_log_restating.specs.raft_log_rewriting.specs.Rewriting.{OweNothing}
 use Rattle.raft_log_restating.specs.raft_log_rewriting.proofs.Grouping.{owe_then}
 use Rattle.raft_log_restating.specs.raft_log_rewriting.proofs.Parts.{alive_ok, later_on, same_later, tells_err}
+use Rattle.raft_log_restating.specs.raft_log_rewriting.proofs.Reasons.{reason_after, reason_of_files, sync_reason, turn_reason}
 use Rattle.raft_log_purging.specs.Append.{AreRewrittenTo, FailsToLoseTo, FailsToRewriteAppend, GoesOn, HasOneFile, LosesTo, PassesGate, RewritesAll, RewritesAndLoses, RewritesAppend, RewritesSynced, StopsGoingOn, ends_after, gate_of, up_to}
 use Rattle.raft_log_restating.specs.raft_log_rewriting.proofs.Staying.{stays_on}
 use Rattle.raft_log_purging.proofs.Past.{every}
-use Rattle.raft_log_purging.proofs.OneFile.{begins_low, one_is_left}
+use Rattle.raft_log_purging.proofs.OneFile.{begins_low, one_is_left, turned}
 
 -- The gate.
 
@@ -61,25 +63,29 @@ synced_owe_nothing test gate s t all owes = subst OweNothing (sym (after_sync te
 all_owe_nothing : (gate : ℕ) (s t : Shows) → RewritesAll gate s t → OweNothing s.tables → OweNothing t.tables
 all_owe_nothing gate s t all owes = synced_owe_nothing every gate s t all owes
 
-pub stops_rewriting : (test : ℕ → Bool) (gate : ℕ) (error : Error) (s t : Shows) → StopsRewriting test gate error s t → StopsGoingOn error s t
+pub stops_rewriting : (test : ℕ → Bool) (gate : ℕ) (error : Error) (s t : Shows) → StopsRewriting test gate error s t → StopsGoingOn gate error s t
 stops_rewriting test gate error s t stops = record {
-  failed = stops.failed;
+  tells = stops.tells;
   later = stops.part.later;
   remains = λ owes home m h. stops.remains owes home m (settled_held home s m h);
+  cause = λ low owes home m h. stops.cause owes home m (settled_held home s m h);
 }
 
 -- the log once all groups are rewritten
 all_settled : (gate : ℕ) (s t : Shows) → RewritesAll gate s t → OweNothing s.tables → (home : Home) (m : LogMap) → HoldsSettled home s m → HoldsSettled home t m
 all_settled gate s t all owes home m h = all.settles owes home m (settled_held home s m h)
 
-stops_losing : (gate : ℕ) (error : Error) (s mid t : Shows) → RewritesAll gate s mid → FailsToLoseTo gate error mid t → StopsGoingOn error s t
+stops_losing : (gate : ℕ) (error : Error) (s mid t : Shows) → RewritesAll gate s mid → FailsToLoseTo gate error mid t → StopsGoingOn gate error s t
 stops_losing gate error s mid t all fails = record {
-  failed = λ lived hit. fails.failed all.alive hit;
+  tells = λ lived. fails.tells all.alive;
   later = later_on s.pipes.disk mid.pipes.disk t.pipes.disk all.later fails.later;
   remains = λ owes home m h. fails.remains (all_past gate s mid all) (all_owe_nothing gate s mid all owes) home m (all_settled gate s mid all owes home m h);
+  cause = λ low owes home m h.
+      (let still = (all.stays home h.state h.runs).1 in
+      reason_after home m error s mid t all.later (reason_of_files home m error mid t (fails.cause (omega (arith, low, still)) home m (all_settled gate s mid all owes home m h))));
 }
 
-pub whole_not_lost : (gate : ℕ) (s mid t : Shows) → RewritesAll gate s mid → (q : Result (Unit {0}) Error) → IfErr q (λ error. FailsToLoseTo gate error mid t) → IfErr q (λ error. StopsGoingOn error s t)
+pub whole_not_lost : (gate : ℕ) (s mid t : Shows) → RewritesAll gate s mid → (q : Result (Unit {0}) Error) → IfErr q (λ error. FailsToLoseTo gate error mid t) → IfErr q (λ error. StopsGoingOn gate error s t)
 whole_not_lost gate s mid t all (Ok x) fails = tt
 whole_not_lost gate s mid t all (Err e) fails = stops_losing gate e s mid t all fails
 
@@ -138,11 +144,13 @@ went_on exit gate m s t goes = went_on_at (ends_after 1 exit) (ends_after 2 exit
 -- The whole.
 
 -- Append's sync failed
-pub append_unsynced : (error : Error) (s : Shows) (w : LogPipes) → error ≡ errors.Failed → IsLater s.pipes.disk w.disk → FailsToSyncQueue InAppend s.pipes w → FailsToRewriteAppend error s (record s { pipes = w })
-append_unsynced error s w is later call = record {
-  failed = λ lived hit. is;
+pub append_unsynced : (error : Error) (s : Shows) (w : LogPipes) → TellsFailure {A = Unit {0}} (Err error) w → error ≡ errors.Failed → IsLater s.pipes.disk w.disk → FailsToSyncQueue InAppend s.pipes w
+    → FailsToRewriteAppend error s (record s { pipes = w })
+append_unsynced error s w tells is later call = record {
+  tells = λ lived. tells_err {A = Unit {0}} error w tells;
   later = later;
   remains = λ home log pending h. inr (is, inr (unsynced_left home s.pipes w log pending (holds_runs home s log pending h) call).1);
+  cause = λ home log pending h. sync_reason InAppend home (taken log pending) error s (record s { pipes = w }) h.state h.runs is call;
 }
 
 pub held_or_left : (home : Home) (m : LogMap) (t : Shows) (error : Error) → Remains home m t error → Holds home t m [] ⊎ ((error ≡ errors.Failed) × IsLeftAt home t.pipes.disk m [])
@@ -169,14 +177,19 @@ module _ (s : Shows) (synced : LogPipes) (syncs : SyncsQueue InAppend s.pipes sy
   held_behind home log pending h = synced_all home s behind log pending h refl (inl refl) syncs
 
   -- Append didn't go on
-  pub not_passed : (error : Error) (w : LogPipes) → TellsFailure {A = ℕ} (Err error) w → IsLater synced.disk w.disk → FailsToRotateQueue InAppend error synced w → FailsToRewriteAppend error s (record s { pipes = w })
-  not_passed error w tells after call = record {
-    failed = λ lived hit. (tells_err {A = ℕ} error w tells).0 hit;
+  pub not_passed : (error : Error) (w : LogPipes) → TellsFailure {A = ℕ} (Err error) w → IsLater synced.disk w.disk → FailsToRotateQueue InAppend error synced w → EndsNumbers InAppend error synced
+      → FailsToRewriteAppend error s (record s { pipes = w })
+  not_passed error w tells after call ends = record {
+    tells = λ lived. tells_err {A = ℕ} error w tells;
     later = later_on s.pipes.disk synced.disk w.disk later after;
     remains = λ home log pending h.
         on_the_map home log pending (record s { pipes = w }) error
         (turned_or_left home (taken log pending) (record s { pipes = w }) error
         (turn_refused InAppend home behind (record s { pipes = w }) (taken log pending) [] error (held_behind home log pending h) (record { tables = refl; cache = inl refl }) call));
+    cause = λ home log pending h.
+        (let there = held_behind home log pending h in
+        reason_after home (taken log pending) error s behind (record s { pipes = w }) later
+        (reason_of_files home (taken log pending) error behind (record s { pipes = w }) (turn_reason InAppend home error behind (record s { pipes = w }) there.state there.runs call ends)));
   }
 
   module _ (watermark : Option ℕ) (gate : ℕ) (past : LogPipes) (passes : PassesGate watermark gate synced past) where
@@ -194,9 +207,10 @@ module _ (s : Shows) (synced : LogPipes) (syncs : SyncsQueue InAppend s.pipes sy
 
     pub not_carried : (error : Error) (t : Shows) → IsRefused error beyond t → FailsToRewriteAppend error s t
     not_carried error t refused = record {
-      failed = λ lived hit. (refused.tells (passes.alive lives)).0 hit;
+      tells = λ lived. refused.tells (passes.alive lives);
       later = later_on s.pipes.disk past.disk t.pipes.disk to_past refused.later;
       remains = λ home log pending h. on_the_map home log pending t error (held_or_left home (taken log pending) t error (refused.remains home (taken log pending) (held_beyond home log pending h)));
+      cause = λ home log pending h. reason_after home (taken log pending) error s beyond t to_past (refused.cause home (taken log pending) (held_beyond home log pending h));
     }
 
     module _ (carried : Shows) (carries : CarriesMarks beyond carried) where
@@ -210,11 +224,26 @@ module _ (s : Shows) (synced : LogPipes) (syncs : SyncsQueue InAppend s.pipes sy
       to_carried : IsLater s.pipes.disk carried.pipes.disk
       to_carried = later_on s.pipes.disk past.disk carried.pipes.disk to_past carries.later
 
-      stopped : (error : Error) (t : Shows) → StopsGoingOn error carried t → FailsToRewriteAppend error s t
+      -- the gate isn't past Append's last file
+      gate_within : (home : Home) (log : LogMap) (pending : List Said) → Holds home s log pending → gate ≤ last_at InAppend carried.pipes
+      gate_within home log pending h =
+          let there = held_beyond home log pending h in
+          let still = (carries.stays home there.state there.runs).1 in
+          let most = at_most_last watermark (last_at InAppend synced) in
+          let is = passes.is in
+          elim passes.goes as (λ _. gate ≤ last_at InAppend carried.pipes) [
+            | inl rotates ↦ (let before = held_behind home log pending h in
+                let next = (turned synced past home before.state before.runs rotates.1).1 in omega (arith, is, most, next, still))
+            | inr stays ↦ (let same : last_at InAppend past ≡ last_at InAppend synced = ap (last_at InAppend) stays.1 in omega (arith, is, most, same, still))
+          ]
+
+      stopped : (error : Error) (t : Shows) → StopsGoingOn gate error carried t → FailsToRewriteAppend error s t
       stopped error t stops = record {
-        failed = λ lived hit. stops.failed carries.alive hit;
+        tells = λ lived. stops.tells carries.alive;
         later = later_on s.pipes.disk carried.pipes.disk t.pipes.disk to_carried stops.later;
         remains = λ home log pending h. on_the_map home log pending t error (stops.remains none_owed home (taken log pending) (settled_there home log pending h));
+        cause = λ home log pending h.
+            reason_after home (taken log pending) error s carried t to_carried (stops.cause (gate_within home log pending h) none_owed home (taken log pending) (settled_there home log pending h));
       }
 
       -- one file is left in Append's span
@@ -242,7 +271,7 @@ module _ (s : Shows) (synced : LogPipes) (syncs : SyncsQueue InAppend s.pipes sy
             one = λ all_of_it to_the_end home log pending h. one_left (subst (λ w. gate ≡ gate_of w synced) all_of_it passes.is) m t (subst (λ x. GoesOn x gate m carried t) to_the_end goes) home log pending h;
           }
 
-      pub whole_stopped : (t : Shows) (q : Result (Unit {0}) Error) → IfErr q (λ error. StopsGoingOn error carried t) → IfErr q (λ error. FailsToRewriteAppend error s t)
+      pub whole_stopped : (t : Shows) (q : Result (Unit {0}) Error) → IfErr q (λ error. StopsGoingOn gate error carried t) → IfErr q (λ error. FailsToRewriteAppend error s t)
       whole_stopped t (Ok x) stops = tt
       whole_stopped t (Err e) stops = stopped e t stops
 

@@ -1,5 +1,5 @@
 -- What a purge does of Append once its files are past their threshold.
-use Rattle.std.specs.Prelude.{◌≡◌, ◌⊎◌, ℕ, max, Bool, true, false, List, [], Option, Some, None}
+use Rattle.std.specs.Prelude.{◌≡◌, ◌⊎◌, ◌↔◌, IsTrue, ℕ, max, Bool, true, false, List, [], Option, Some, None}
 use Rattle.raft_log_disk.specs.Causes.{IsLater}
 use Rattle.raft_log_base.specs.declared.errors.Error.{Error}
 use Rattle.raft_log_base.specs.declared.errors.Error.TheVariants as errors
@@ -19,9 +19,10 @@ use Rattle.raft_log_purge_rules.specs.Picking.{answers_at, asks_at, count_of, re
 use Rattle.raft_log_restating.specs.raft_log_rewriting.specs.Files.{IsLeastOf}
 use Rattle.raft_log_restating.specs.raft_log_rewriting.specs.Marks.{CarriesMarks}
 use Rattle.raft_log_restating.specs.raft_log_rewriting.specs.Moving.{IsRewrittenTo}
+use Rattle.raft_log_restating.specs.raft_log_rewriting.specs.Reasons.{GivesReason, HasFileReason}
 use Rattle.raft_log_restating.specs.raft_log_rewriting.specs.Rewriting.{OweNothing}
 use Rattle.raft_log_purging.specs.declared.expired.PickedGroups.{PickedGroups}
-use Rattle.raft_log_purging.specs.Append.{RewritesSynced, up_to}
+use Rattle.raft_log_purging.specs.Append.{RewritesSynced, StaysOrIsLeftSettled, up_to}
 
 -- The groups.
 
@@ -53,6 +54,14 @@ pub record LosesBelow (held : Option ℕ) (m : MemTables) (s t : Shows) : Type 0
       → first_at InAppend t.pipes ≡ max (first_at InAppend s.pipes) least
   pub keeps : OweNothing s.tables → (home : Home) (log : LogMap) → HoldsSettled home s log
       → HoldsSettled home t log
+
+-- they didn't go, and why: where no mark is owed, whatever the log was, with nothing pending, it is so; or the
+-- engine has failed, and its log is held
+pub record FailsToLoseBelow (error : Error) (s t : Shows) : Type 0 where
+  pub tells : has_failed s ≡ false → IsTrue (has_failed t) ↔ (error ≡ errors.Failed)
+  pub later : IsLater s.pipes.disk t.pipes.disk
+  pub remains : StaysOrIsLeftSettled error s t
+  pub cause : (home : Home) (log : LogMap) → HoldsSettled home s log → HasFileReason error s t
 
 -- The groups that pass the test were rewritten, and then files went: the marks were carried before, and
 -- Rewrite synced between. Nothing of these groups is left in Append up to the gate, no mark is owed, and
@@ -96,10 +105,11 @@ PurgesIfPast thresholds held restated before after old new groups s t =
     (TakesAppend thresholds s.pipes × PurgesAppend held restated before after old new groups s t)
     ⊎ ((TakesAppend thresholds s.pipes → ⊥) × LeavesAppend restated before old new groups s t)
 
--- Append's purge was refused: whatever the log was, with nothing pending, it is so; or the engine has failed,
--- and its log is held
+-- Append's purge was refused, and why: whatever the log was, with nothing pending, it is so; or the engine has
+-- failed, and its log is held
 pub record FailsToPurgeAppend (error : Error) (s t : Shows) : Type 0 where
-  pub failed : has_failed s ≡ false → has_failed t ≡ true → error ≡ errors.Failed
+  pub tells : has_failed s ≡ false → IsTrue (has_failed t) ↔ (error ≡ errors.Failed)
   pub later : IsLater s.pipes.disk t.pipes.disk
   pub remains : (home : Home) (log : LogMap) → Holds home s log []
       → Holds home t log [] ⊎ ((error ≡ errors.Failed) × IsLeftAt home t.pipes.disk log [])
+  pub cause : GivesReason error s t

@@ -61,8 +61,8 @@ pub record PurgesExpired (hold_back : LogPipes → Option ℕ → Type 0) (thres
   pub holds : (home : Home) (log : LogMap) (pending : List Said) → Holds home s log pending
       → Holds home t (taken log pending) []
 
--- Either was refused: the map stays, with nothing pending; or the engine has failed, and its log is held, with
--- the batches on the map, or pending as they were.
+-- Either was refused, and why: the map stays, with nothing pending; or the engine has failed, and its log is
+-- held, with the batches on the map, or pending as they were.
 abbrev pub FailsToPurgeExpired : Error → Shows → Shows → Type 0
 FailsToPurgeExpired error s t = FailsToRewriteAppend error s t
 

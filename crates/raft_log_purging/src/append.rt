@@ -4,6 +4,7 @@ ghost use Rattle.std.specs.Prelude.{◌≡◌, true, IfErr, IfOk, OnErr, OnOk};
 ghost use Rattle.raft_log_directory.specs.Calls.Which.{InAppend};
 ghost use Rattle.raft_log_disk.specs.Causes.{IsLater};
 ghost use Rattle.raft_log_dual_pipes.specs.Calls.{FailsToRotateQueue, TellsFailure};
+ghost use Rattle.raft_log_dual_pipes.specs.Numbers.{EndsNumbers};
 ghost use Rattle.raft_log_restating.specs.raft_log_engine_state.specs.Shows.{shows};
 ghost use Rattle.raft_log_replay.specs.Tables.{IsAtRest};
 ghost use Rattle.raft_log_restating.specs.raft_log_rewriting.specs.Groups.{StopsAtGroups, StopsRewriting};
@@ -66,6 +67,7 @@ fn pass_gate<P: PipeLog, L: Log>(
     ensures ok { IfOk result (λ gate. PassesGate watermark gate (P.shown pipes.old) (P.shown pipes.new)) }
     ensures err { IfErr result (λ error.
         FailsToRotateQueue InAppend error (P.shown pipes.old) (P.shown pipes.new)) }
+    ensures range { IfErr result (λ error. EndsNumbers InAppend error (P.shown pipes.old)) }
     ensures fails { OnErr result (TellsFailure result (P.shown pipes.new)) }
     ensures later { IsLater (P.shown pipes.old).disk (P.shown pipes.new).disk }
 {
@@ -112,7 +114,7 @@ fn go_on<P: PipeLog, L: Log>(
 ) -> Result<()>
     ensures ok { OnOk result (GoesOn exit_after_step gate tables.new
         (shows (P.shown pipes.old) tables.old cache.old) (shows (P.shown pipes.new) tables.new cache.new)) }
-    ensures err { IfErr result (λ error. StopsGoingOn error
+    ensures err { IfErr result (λ error. StopsGoingOn gate error
         (shows (P.shown pipes.old) tables.old cache.old) (shows (P.shown pipes.new) tables.new cache.new)) }
     ensures rests { IsAtRest tables.old → IsAtRest tables.new }
 {

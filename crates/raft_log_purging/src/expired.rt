@@ -5,8 +5,8 @@ ghost use Rattle.std.specs.Prelude.{◌≡◌, ◌==◌, IfErr, IfOk, OnErr, OnO
 ghost use Rattle.std.specs.List.{list_any};
 ghost use Rattle.raft_log_restating.specs.raft_log_engine_state.specs.Shows.{shows};
 ghost use Rattle.raft_log_replay.specs.Tables.{IsAtRest};
-ghost use Rattle.raft_log_purging.specs.Append.{StopsGoingOn};
 ghost use Rattle.raft_log_purging.specs.Expired.{
+  FailsToLoseBelow,
   FailsToPurgeAppend,
   LosesBelow,
   PicksGroups,
@@ -164,7 +164,7 @@ fn purge_below<P: PipeLog, L: Log>(
 ) -> Result<()>
     ensures ok { OnOk result (LosesBelow held tables.now
         (shows (P.shown pipes.old) tables.now cache.old) (shows (P.shown pipes.new) tables.now cache.new)) }
-    ensures err { IfErr result (λ error. StopsGoingOn error
+    ensures err { IfErr result (λ error. FailsToLoseBelow error
         (shows (P.shown pipes.old) tables.now cache.old) (shows (P.shown pipes.new) tables.now cache.new)) }
 {
     let (first, last) = pipes.file_span(LogQueue::Append);

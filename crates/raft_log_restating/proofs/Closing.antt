@@ -8,6 +8,7 @@ use std.Path.{fun_ext}
 use Rattle.raft_log_model.proofs.Cases.{at_bool, from_eq_true}
 use Rattle.raft_log_machine.specs.Whereabouts.{Restates}
 use Rattle.raft_log_base.specs.declared.errors.Error.{Error}
+use Rattle.raft_log_base.specs.declared.errors.Error.TheVariants as errors
 use Rattle.raft_log_base.specs.declared.pipe_log.FileBlockHandle.{FileBlockHandle}
 use Rattle.raft_log_model.specs.Item.Mark.{End}
 use Rattle.raft_log_model.specs.Item.Record.{Part}
@@ -36,15 +37,17 @@ use Rattle.raft_log_group_state.proofs.Ending.{end_refused, end_taken}
 use Rattle.raft_log_group_state.proofs.Restating.{restated_whole}
 use Rattle.raft_log_group_state.proofs.Taking.{end_over_tables, nothing_moved, shows_read}
 use Rattle.raft_log_rewriting.specs.Entries.{AreBytesAt}
+use Rattle.raft_log_rewriting.specs.Reasons.{HasReason}
 use Rattle.raft_log_rewriting.proofs.Copying.{same_but_pipes}
 use Rattle.raft_log_rewriting.proofs.Parts.{later_on, same_later}
+use Rattle.raft_log_rewriting.proofs.Reasons.{memory_is_none, memory_reason, reason_after, tells_nothing}
 use Rattle.raft_log_restating.specs.declared.parts.RestatedPart.{RestatedPart}
 use Rattle.raft_log_restating.specs.Parts.{AreKept, ArePieces, HasParts}
 use Rattle.raft_log_restating.specs.Pieces.{IsPiece}
 use Rattle.raft_log_restating.specs.Restated.{FailsToRestate, IsRestatedFrom, RestatesOne, last_file}
 use Rattle.raft_log_restating.specs.Steps.{IsLastPart}
 use Rattle.raft_log_restating.specs.Taking.{EndsParts, FailsToEnd, FailsToRestateThese, FailsToWriteLast, RestatesThese, StandsAs, WritesLast, first_file_of}
-use Rattle.raft_log_restating.proofs.Holding.{IsLeft, last_is, may_sync_last, may_sync_open, over, taken_last, unwritten_left}
+use Rattle.raft_log_restating.proofs.Holding.{IsLeft, last_is, may_sync_last, may_sync_open, over, part_speaks, taken_last, unwritten_left, unwritten_reason}
 use Rattle.raft_log_restating.proofs.Moving.{LiesFrom, listed_held, restated_noted, whole_lies}
 use Rattle.raft_log_restating.proofs.Opening.{part_fits}
 use Rattle.raft_log_restating.proofs.Parting.{PartsFrom, WholeFiled, entries_both, key_bytes, no_others_filed, no_others_said, one_more_from, parts_from, said_piece, whole_filed, whole_said}
@@ -147,7 +150,7 @@ module _ (g number done : ℕ) (parts : List RestatedPart) (pairs : List (List �
   not_ended error w new refused =
       let same = same_but_pipes v w old new cache refused.same in record {
         same = same ∙ ap (λ (x : Shows). record x { pipes = w }) has.same;
-        failed = λ lived hit. (refused.fails.tells has.alive).0 hit;
+        tells = λ lived. refused.fails.tells has.alive;
         later = later_on s.pipes.disk v.disk w.disk has.later refused.fails.later;
         remains = λ home m h.
             (let stood = has.stands home m h in
@@ -155,6 +158,11 @@ module _ (g number done : ℕ) (parts : List RestatedPart) (pairs : List (List �
             (unwritten_left home e m b error w stood.holds
             (λ r. end_refused home (over e r.synced) (over e w) None o b m error (may_sync_open home e o m r.synced stood r.syncs) (end_part home m h r.says r.laid)
             (restated_whole None bs (shown_of old) m (restates_each home m h)) (record { tables = refl; cache = inl refl }) r.call) refused.fails.why));
+        cause = λ home m h.
+            (let stood = has.stands home m h in
+            reason_after home m error s e (shows w new cache) has.later
+            (subst (HasReason home m error e) (sym same)
+            (unwritten_reason home e m b error w stood.holds (λ r. part_speaks home o.number statuses.End b (end_part home m h r.says r.laid)) refused.fails.why)));
       }
 
   -- It was written, and the tables took it.
@@ -250,9 +258,15 @@ module _ (g number done : ℕ) (parts : List RestatedPart) (pairs : List (List �
 
 -- The exits of an atomic group, from its first part on.
 
--- nothing was done
-pub nothing_done : (error : Error) (s : Shows) → FailsToRestate error s s
-nothing_done error s = record { same = refl; failed = λ lived hit. absurd (false≢true (sym lived ∙ hit)); later = same_later s.pipes.disk; remains = λ home m h. inl h }
+-- nothing was done, for want of memory
+pub nothing_done : (error : Error) (s : Shows) → error ≡ errors.Memory → FailsToRestate error s s
+nothing_done error s memory = record {
+  same = refl;
+  tells = λ lived. tells_nothing error s.pipes lived (memory_is_none error memory);
+  later = same_later s.pipes.disk;
+  remains = λ home m h. inl h;
+  cause = λ home m h. memory_reason home m error s s memory;
+}
 
 pub ended_then : (r : Result (Unit {0}) Error) (g number done : ℕ) (parts : List RestatedPart) (pairs : List (List ℕ × List ℕ)) (b : Batch) (s : Shows) (v w : LogPipes) (old new : MemTables) (cache : BlockCache)
     → HasParts g number done parts s (shows v old cache) → IsLastPart g number done pairs b s → ListsAll (rewritten_values (s.tables g)) pairs → OnOk r (EndsParts g parts b v old w new) → OnOk r (RestatesOne g s (shows w new cache))

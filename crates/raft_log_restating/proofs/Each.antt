@@ -11,6 +11,7 @@ use Rattle.raft_log_rewriting.specs.raft_log_engine_state.specs.Holding.{Holds}
 use Rattle.raft_log_rewriting.proofs.Grouping.{among}
 use Rattle.raft_log_rewriting.proofs.Leasts.{among_more}
 use Rattle.raft_log_rewriting.proofs.Parts.{later_on, same_later}
+use Rattle.raft_log_rewriting.proofs.Reasons.{reason_after}
 use Rattle.raft_log_restating.specs.Restated.{AllFrom, FailsToRestate, IsRestatedFrom, Restates, RestatesEach, RestatesOne, StopsRestating, last_file}
 
 -- Files.
@@ -84,9 +85,10 @@ module _ (groups : List ℕ) (i d x : ℕ) (s t u : Shows) (lt : i < length grou
   one_stopped error fails = record {
     others = λ g apart. ap (λ (e : Shows). e.tables g) fails.same ∙ so_far.others g (none_of_first g apart);
     counts = ap (λ (e : Shows). e.counts) fails.same ∙ so_far.counts;
-    failed = λ lived hit. fails.failed (so_far.alive lived) hit;
+    tells = λ lived. fails.tells (so_far.alive lived);
     later = later_on s.pipes.disk t.pipes.disk u.pipes.disk so_far.later fails.later;
     remains = λ home m h. fails.remains home m (so_far.holds home m h);
+    cause = λ home m h. reason_after home m error s t u so_far.later (fails.cause home m (so_far.holds home m h));
   }
     where
       none_of : (xs : List ℕ) (j g : ℕ) → among xs g ≡ false → among (take j xs) g ≡ false

@@ -14,11 +14,13 @@ use Rattle.raft_log_file_queue.specs.Queue.{synced}
 use Rattle.raft_log_records.specs.Batch.{Batch}
 use Rattle.raft_log_signed_batch.specs.Signing.{signed_for}
 use Rattle.raft_log_directory.specs.Calls.Which.{InRewrite}
+use Rattle.raft_log_rewriting.specs.raft_log_steps.specs.Own.{log_layout}
+use Rattle.raft_log_rewriting.specs.raft_log_steps.specs.Queues.{SaysRecord}
 use Rattle.raft_log_rewriting.specs.raft_log_steps.specs.Steps.{next_log}
 use Rattle.raft_log_rewriting.specs.raft_log_stored.proofs.Keeping.{calls_keep_bytes}
 use Rattle.raft_log_dual_pipes.specs.Pipes.{LogPipes, RunsOn, Said, State}
 use Rattle.raft_log_dual_pipes.specs.Calls.{AppendsTo, FailsToSyncQueue, SyncsQueue}
-use Rattle.raft_log_rewriting.specs.raft_log_engine_state.specs.Shows.{Home, LogMap, Shows, sense}
+use Rattle.raft_log_rewriting.specs.raft_log_engine_state.specs.Shows.{Home, LogMap, Shows, said_by, sense}
 use Rattle.raft_log_rewriting.specs.raft_log_engine_state.specs.Holding.{Holds, IsLeftAt}
 use Rattle.raft_log_rewriting.specs.raft_log_engine_state.proofs.Keeping.{holds_runs}
 use Rattle.raft_log_rewriting.specs.raft_log_purge_state.specs.Rewriting.{RewriteLeaves}
@@ -26,8 +28,10 @@ use Rattle.raft_log_rewriting.specs.raft_log_purge_state.proofs.Rewriting.{IsTak
 use Rattle.raft_log_rewriting.specs.raft_log_purge_state.proofs.Settling.{failed_sync, settled_held, sync_keeps}
 use Rattle.raft_log_group_state.specs.Parts.{HoldsInGroup, IsGroupPart, UnendedGroup, begun_by, gone_on_by, said_items}
 use Rattle.raft_log_group_state.proofs.Writing.{begin_refused, middle_refused, part_begins, part_goes_on, says_part, sync_leaves_open}
+use Rattle.raft_log_rewriting.specs.Reasons.{HasReason}
 use Rattle.raft_log_rewriting.specs.Stale.{written_file}
 use Rattle.raft_log_rewriting.specs.Syncing.{MaySync}
+use Rattle.raft_log_rewriting.proofs.Reasons.{reason_after, record_reason, sync_reason, unmade_reason}
 use Rattle.raft_log_restating.specs.Records.{FailsToWrite, IsUnwritten, RefusesRecord}
 use Rattle.raft_log_restating.specs.Restated.{last_file}
 
@@ -98,6 +102,24 @@ pub unwritten_left : (home : Home) (e : Shows) (m : LogMap) (b : Batch) (error :
 unwritten_left home e m b error w h leaves (inl (why, same)) = inl (subst (λ x. Holds home (over e x) m []) (sym same) h)
 unwritten_left home e m b error w h leaves (inr (inl (is, call))) = unsynced_left home e m error w h is call
 unwritten_left home e m b error w h leaves (inr (inr r)) = refused_left home m (over e w) error (leaves r)
+
+-- what the record of a batch says
+abbrev pub Speaks : Home → Batch → Type 0
+Speaks home b = (y : Said) × SaysRecord said_by (log_layout Rewrite home.rewrite) Rewrite (signed_for b) y
+
+-- why it wasn't written, where a record that Rewrite refused says something
+pub unwritten_reason : (home : Home) (e : Shows) (m : LogMap) (b : Batch) (error : Error) (w : LogPipes) → Holds home e m [] → ((r : RefusesRecord b error e.pipes w) → Speaks home b) → IsUnwritten b error e.pipes w
+    → HasReason home m error e (over e w)
+unwritten_reason home e m b error w h says (inl (why, same)) = unmade_reason home m error e (over e w) why
+unwritten_reason home e m b error w h says (inr (inl (is, call))) = sync_reason InRewrite home m error e (over e w) h.state h.runs is call
+unwritten_reason home e m b error w h says (inr (inr r)) =
+    let behind = may_sync_held home e m r.synced h r.syncs in
+    let (y, speaks) = says r in
+    reason_after home m error e (over e r.synced) (over e w) r.before (record_reason home m error (over e r.synced) (over e w) behind.state y (signed_for b) behind.runs speaks r.call r.range)
+
+-- a part of a group says that it is one
+pub part_speaks : (home : Home) (number : ℕ) (status : AtomicGroupStatus) (b : Batch) → IsGroupPart number status b → Speaks home b
+part_speaks home number status b part = (Part (part_of number status) (said_items b), says_part home number status b part)
 
 -- the part of a group
 abbrev group_part : (number : ℕ) (status : AtomicGroupStatus) (b : Batch) → Type 0

@@ -44,11 +44,13 @@ use Rattle.raft_log_group_state.proofs.Restating.{in_one_copies}
 use Rattle.raft_log_group_state.proofs.Taking.{nothing_moved}
 use Rattle.raft_log_rewriting.specs.Entries.{AreBytesAt}
 use Rattle.raft_log_rewriting.proofs.Copying.{same_but_pipes}
+use Rattle.raft_log_rewriting.specs.Reasons.{HasReason}
 use Rattle.raft_log_rewriting.proofs.Parts.{same_later}
+use Rattle.raft_log_rewriting.proofs.Reasons.{reason_after}
 use Rattle.raft_log_restating.specs.Pieces.{BuildsPiece, FailsToBuild, IsPiece, put_items, run_items}
 use Rattle.raft_log_restating.specs.Restated.{AllFrom, FailsToRestate, IsRestatedFrom, RestatesOne, last_file}
 use Rattle.raft_log_restating.specs.Taking.{FailsToWriteLast, StandsAs, WritesLast}
-use Rattle.raft_log_restating.proofs.Holding.{IsLeft, may_sync_held, may_sync_last, over, taken_last, unwritten_left}
+use Rattle.raft_log_restating.proofs.Holding.{IsLeft, may_sync_held, may_sync_last, over, taken_last, unwritten_left, unwritten_reason}
 use Rattle.raft_log_restating.proofs.Moving.{LiesFrom, listed_held, restated_plain, whole_lies}
 use Rattle.raft_log_restating.proofs.Opening.{begin_unread, built_len, built_piece, built_plain, bytes}
 use Rattle.raft_log_restating.proofs.Parting.{WholeFiled, filed_both, key_bytes, no_others_filed, piece_of_group, piece_of_other, piece_places, run_piece, whole_filed}
@@ -198,13 +200,18 @@ module _ (g : ℕ) (es : List EntryIndex) (pairs : List (List ℕ × List ℕ)) 
           let same = same_but_pipes v w old after new refused.same in
           record {
             same = same;
-            failed = λ lived hit. (refused.fails.tells lived).0 hit;
+            tells = refused.fails.tells;
             later = refused.fails.later;
             remains = λ home m h.
                 subst (IsLeft home m error) (sym same)
                 (unwritten_left home (caching s new) m b error w (held home m h)
                 (λ r. copies_refused home (over (caching s new) r.synced) (over (caching s new) w) None b m error (may_sync_held home (caching s new) m r.synced (held home m h) r.syncs) (alone r.says r.laid) (copies home m h)
                 (record { tables = refl; cache = inl refl }) r.call) refused.fails.why);
+            cause = λ home m h.
+                reason_after home m error s (caching s new) (shows w after new) (same_later v.disk)
+                (subst (HasReason home m error (caching s new)) (sym same)
+                (unwritten_reason home (caching s new) m b error w (held home m h)
+                (λ r. (Plain (bytes_of b), says_marked home b Unmarked (Plain (bytes_of b)) some (built_plain g es pairs v cache new b built) refl r.says r.laid)) refused.fails.why));
           }
 
       module _ (block : FileBlockHandle) (w : LogPipes) (after : MemTables) (wrote : WritesLast [] b block v old w after) where

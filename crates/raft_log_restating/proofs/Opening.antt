@@ -1,12 +1,12 @@
 -- Atomic groups that are begun, that go on, and that are given up.
 use Rattle.std.proofs.Common.{◌≡◌, ℕ, ◌+◌, ◌≤◌, ◌<◌, false, List, [], ◌∷◌, ◌++◌, length, map, take, drop, inl, refl, sym, ap, ap₂, subst, ◌∙◌, arith, append-nil, append_assoc, length-append, length-drop}
 use Rattle.std.specs.Prelude.{Result, Ok, Err, IfErr, IfOk}
-use Rattle.std.proofs.lemmas.Bool.{false≢true}
 use Rattle.std.proofs.lemmas.List.{length-map, length-take}
 use Rattle.raft_log_machine.specs.Machine.{AllFit}
 use Rattle.raft_log_machine.specs.Whereabouts.{top}
 use Rattle.raft_log_disk.specs.Causes.{IsLater}
 use Rattle.raft_log_base.specs.declared.errors.Error.{Error}
+use Rattle.raft_log_base.specs.declared.errors.Error.TheVariants as errors
 use Rattle.raft_log_items.specs.declared.entry.EntryIndex.{EntryIndex}
 use Rattle.raft_log_items.specs.declared.item.LogItem.{LogItem}
 use Rattle.raft_log_items.specs.Placed.{written}
@@ -32,17 +32,19 @@ use Rattle.raft_log_group_state.specs.Parts.{HoldsInGroup, IsGroupPart, WrittenP
 use Rattle.raft_log_group_state.specs.Restating.{entries_of_pieces}
 use Rattle.raft_log_rewriting.specs.Entries.{AreBytesAt}
 use Rattle.raft_log_rewriting.specs.Marks.{AreNoMarks}
+use Rattle.raft_log_rewriting.specs.Reasons.{GivesReason, HasReason}
 use Rattle.raft_log_rewriting.proofs.Carried.{plain_items}
 use Rattle.raft_log_rewriting.proofs.OneRun.{entries_count}
 use Rattle.raft_log_rewriting.proofs.Parts.{later_on, same_later}
+use Rattle.raft_log_rewriting.proofs.Reasons.{memory_is_none, memory_reason, reason_after, tells_nothing}
 use Rattle.raft_log_restating.specs.declared.parts.RestatedPart.{RestatedPart}
 use Rattle.raft_log_restating.specs.Pieces.{BuildsPiece, FailsToBuild, IsPiece, run_items, tagged_all, put_items}
 use Rattle.raft_log_restating.specs.Records.{FailsToWrite, WritesRecord}
 use Rattle.raft_log_restating.specs.Restated.{FailsToRestate}
 use Rattle.raft_log_restating.specs.Parts.{AreKept, ArePieces, HasParts, IsMarkedPiece}
 use Rattle.raft_log_restating.specs.Steps.{IsLastPart}
-use Rattle.raft_log_restating.proofs.Holding.{IsLeft, begin_left, begun, gone_on, middle_left}
-use Rattle.raft_log_restating.proofs.Reading.{begins_there, bytes_join, caching, held_caching, open_caching, piece_read, piece_unbuilt, rewritten_len}
+use Rattle.raft_log_restating.proofs.Holding.{IsLeft, begin_left, begun, gone_on, middle_left, part_speaks, unwritten_reason}
+use Rattle.raft_log_restating.proofs.Reading.{begins_there, bytes_join, caching, held_caching, open_caching, piece_read, piece_unbuilt, rewritten_len, unbuilt_is_none, unbuilt_reason}
 use Rattle.raft_log_restating.proofs.Saying.{becomes_part, run_is_piece, with_keys, with_mark}
 
 -- The batch of a piece.
@@ -115,27 +117,32 @@ part_fits home s m g done number status bytes pairs made h marked few says laid 
 
 module _ (g done count : ℕ) (s : Shows) (v : LogPipes) (old new : BlockCache) (es : List EntryIndex) (is : es ≡ take count (drop done (rewritten_entries (s.tables g)))) (held : (home : Home) (m : LogMap) → Holds home s m [] → Holds home (at_pipes s v old) m [])
     (alive : has_failed s ≡ false → is_failed v ≡ false) (before : IsLater s.pipes.disk v.disk) where
-  stopped : (error : Error) → ((home : Home) (m : LogMap) → Holds home s m [] → Holds home (at_pipes s v new) m []) → FailsToRestate error s (at_pipes s v new)
-  stopped error stays = record { same = refl; failed = λ lived hit. absurd (false≢true (sym (alive lived) ∙ hit)); later = before; remains = λ home m h. inl (stays home m h) }
+  stopped : (error : Error) → (error ≡ errors.Failed → ⊥) → ((home : Home) (m : LogMap) → Holds home s m [] → Holds home (at_pipes s v new) m []) → GivesReason error s (at_pipes s v new)
+      → FailsToRestate error s (at_pipes s v new)
+  stopped error other stays reason = record { same = refl; tells = λ lived. tells_nothing error v (alive lived) other; later = before; remains = λ home m h. inl (stays home m h); cause = reason }
 
   pub stopped_reading : (error : Error) → FailsToBuild es v old new error → FailsToRestate error s (at_pipes s v new)
   stopped_reading error fails =
-      stopped error
+      stopped error (unbuilt_is_none v es old new error fails)
       (λ home m h.
       let k = held home m h in held_caching home (at_pipes s v old) m new k (piece_unbuilt (at_pipes s v old) g done count es is new home m k error fails))
+      (λ home m h. reason_after home m error s (at_pipes s v old) (at_pipes s v new) before (unbuilt_reason (at_pipes s v old) g done count es is new home m (held home m h) error fails))
 
-  pub stopped_marking : (error : Error) (pairs : List (List ℕ × List ℕ)) (b : Batch) → BuildsPiece g es pairs v old new b → FailsToRestate error s (at_pipes s v new)
-  stopped_marking error pairs b built =
-      stopped error
+  pub stopped_marking : (error : Error) → error ≡ errors.Memory → (pairs : List (List ℕ × List ℕ)) (b : Batch) → BuildsPiece g es pairs v old new b → FailsToRestate error s (at_pipes s v new)
+  stopped_marking error memory pairs b built =
+      stopped error (memory_is_none error memory)
       (λ home m h.
       let k = held home m h in held_caching home (at_pipes s v old) m new k (piece_read (at_pipes s v old) g done count es is new home m k built.read built.reads).0)
+      (λ home m h. memory_reason home m error s (at_pipes s v new) memory)
 
-  pub stopped_writing : (error : Error) (made : Batch) (w : LogPipes) → ((home : Home) (m : LogMap) → Holds home s m [] → IsLeft home m error (at_pipes s w new)) → FailsToWrite made error v w → FailsToRestate error s (at_pipes s w new)
-  stopped_writing error made w left fails = record {
+  pub stopped_writing : (error : Error) (made : Batch) (w : LogPipes) → ((home : Home) (m : LogMap) → Holds home s m [] → IsLeft home m error (at_pipes s w new))
+      → ((home : Home) (m : LogMap) → Holds home s m [] → HasReason home m error (at_pipes s v new) (at_pipes s w new)) → FailsToWrite made error v w → FailsToRestate error s (at_pipes s w new)
+  stopped_writing error made w left reason fails = record {
     same = refl;
-    failed = λ lived hit. (fails.tells (alive lived)).0 hit;
+    tells = λ lived. fails.tells (alive lived);
     later = later_on s.pipes.disk v.disk w.disk before fails.later;
     remains = left;
+    cause = λ home m h. reason_after home m error s (at_pipes s v new) (at_pipes s w new) before (reason home m h);
   }
 
 -- Begun.
@@ -145,10 +152,10 @@ pub begin_unread : (g count : ℕ) (s : Shows) (new : BlockCache) (all es : List
 begin_unread g count s new all es is_all is error fails =
     stopped_reading g 0 count s s.pipes s.cache new es (is ∙ ap (take count) is_all) (λ home m h. h) (λ lived. lived) (same_later s.pipes.disk) error fails
 
-pub begin_unmarked : (g count : ℕ) (s : Shows) (new : BlockCache) (all es : List EntryIndex) → all ≡ rewritten_entries (s.tables g) → es ≡ take count all → (error : Error) (pairs : List (List ℕ × List ℕ)) (b : Batch)
+pub begin_unmarked : (g count : ℕ) (s : Shows) (new : BlockCache) (all es : List EntryIndex) → all ≡ rewritten_entries (s.tables g) → es ≡ take count all → (error : Error) → error ≡ errors.Memory → (pairs : List (List ℕ × List ℕ)) (b : Batch)
     → BuildsPiece g es pairs s.pipes s.cache new b → FailsToRestate error s (at_pipes s s.pipes new)
-begin_unmarked g count s new all es is_all is error pairs b built =
-    stopped_marking g 0 count s s.pipes s.cache new es (is ∙ ap (take count) is_all) (λ home m h. h) (λ lived. lived) (same_later s.pipes.disk) error pairs b built
+begin_unmarked g count s new all es is_all is error memory pairs b built =
+    stopped_marking g 0 count s s.pipes s.cache new es (is ∙ ap (take count) is_all) (λ home m h. h) (λ lived. lived) (same_later s.pipes.disk) error memory pairs b built
 
 few_rewritten : (home : Home) (s : Shows) (m : LogMap) (g done n : ℕ) (es : List EntryIndex) → Holds home s m [] → es ≡ rewritten_entries (s.tables g) → done + n ≤ length es → done + n ≤ (s.tables g).rewritten
 few_rewritten home s m g done n es h is few = (let long = ap length is ∙ rewritten_len (s.tables g) (h.meant.orderly g) in omega (arith, few, long))
@@ -175,7 +182,9 @@ module _ (g number count : ℕ) (s : Shows) (new : BlockCache) (all es : List En
   begin_stopped error w fails =
       stopped_writing g 0 count s s.pipes s.cache new es here (λ home m h. h) (λ lived. lived) (same_later s.pipes.disk) error made w
       (λ home m h.
-      begin_left home (caching s new) m number made error w (held_caching home s m new h (read_here home m h).0) (λ r. part_of_group home m h r.says r.laid) fails) fails
+      begin_left home (caching s new) m number made error w (held_caching home s m new h (read_here home m h).0) (λ r. part_of_group home m h r.says r.laid) fails)
+      (λ home m h.
+      unwritten_reason home (caching s new) m made error w (held_caching home s m new h (read_here home m h).0) (λ r. part_speaks home number statuses.Begin made (part_of_group home m h r.says r.laid)) fails.why) fails
 
   pub parts_begun : (w : LogPipes) (part : RestatedPart) → WritesRecord made part.block part.items.items s.pipes w → HasParts g number count (part ∷ []) s (at_pipes s w new)
   parts_begun w part wrote =
@@ -234,8 +243,8 @@ module _ (g number done count : ℕ) (parts : List RestatedPart) (s : Shows) (v 
   pub more_unread : (error : Error) → FailsToBuild es v old new error → FailsToRestate error s (at_pipes s v new)
   more_unread error fails = stopped_reading g done count s v old new es there held_open (λ lived. has.alive) has.later error fails
 
-  pub more_unmarked : (error : Error) (pairs : List (List ℕ × List ℕ)) (b : Batch) → BuildsPiece g es pairs v old new b → FailsToRestate error s (at_pipes s v new)
-  more_unmarked error pairs b built = stopped_marking g done count s v old new es there held_open (λ lived. has.alive) has.later error pairs b built
+  pub more_unmarked : (error : Error) → error ≡ errors.Memory → (pairs : List (List ℕ × List ℕ)) (b : Batch) → BuildsPiece g es pairs v old new b → FailsToRestate error s (at_pipes s v new)
+  more_unmarked error memory pairs b built = stopped_marking g done count s v old new es there held_open (λ lived. has.alive) has.later error memory pairs b built
 
   module _ (pairs : List (List ℕ × List ℕ)) (b : Batch) (built : BuildsPiece g es pairs v old new b) where
     abbrev more_bytes : List (List ℕ)
@@ -261,7 +270,9 @@ module _ (g number done count : ℕ) (parts : List RestatedPart) (s : Shows) (v 
     pub middle_stopped : (error : Error) (w : LogPipes) → FailsToWrite made error v w → FailsToRestate error s (at_pipes s w new)
     middle_stopped error w fails =
         stopped_writing g done count s v old new es there held_open (λ lived. has.alive) has.later error made w
-        (λ home m h. middle_left home (at_pipes s v new) m has.group made error w (more_read [] b built home m h).0 (λ r. middle_part home m h r.says r.laid) fails) fails
+        (λ home m h. middle_left home (at_pipes s v new) m has.group made error w (more_read [] b built home m h).0 (λ r. middle_part home m h r.says r.laid) fails)
+        (λ home m h.
+        unwritten_reason home (at_pipes s v new) m made error w (more_read [] b built home m h).0.holds (λ r. part_speaks home has.group.number statuses.Middle made (middle_part home m h r.says r.laid)) fails.why) fails
 
     pub parts_gone_on : (w : LogPipes) (part : RestatedPart) → WritesRecord made part.block part.items.items v w → HasParts g number (done + count) (parts ++ part ∷ []) s (at_pipes s w new)
     parts_gone_on w part wrote =
@@ -346,11 +357,12 @@ module _ (g number done : ℕ) (parts : List RestatedPart) (s : Shows) (v w : Lo
   pub fails_shown : (error : Error) → FailsToRestate error s (at_pipes s w new) → FailsToRestate error s (shows w m new)
   fails_shown error h = subst (FailsToRestate error s) shown_same h
 
--- a group that stands open may be given up at any time
-pub given_up : (g number done : ℕ) (parts : List RestatedPart) (s t : Shows) → HasParts g number done parts s t → (error : Error) → FailsToRestate error s t
-given_up g number done parts s t has error = record {
+-- a group that stands open may be given up at any time, for want of memory
+pub given_up : (g number done : ℕ) (parts : List RestatedPart) (s t : Shows) → HasParts g number done parts s t → (error : Error) → error ≡ errors.Memory → FailsToRestate error s t
+given_up g number done parts s t has error memory = record {
   same = has.same;
-  failed = λ lived hit. absurd (false≢true (sym has.alive ∙ hit));
+  tells = λ lived. tells_nothing error t.pipes has.alive (memory_is_none error memory);
   later = has.later;
   remains = λ home m h. inl (has.stands home m h).holds;
+  cause = λ home m h. memory_reason home m error s t memory;
 }

@@ -2,6 +2,7 @@
 use Rattle.std.proofs.Common.{◌≡◌, ℕ, zero, suc, ◌+◌, ◌-◌, ◌<◌, List, [], ◌∷◌, ◌++◌, length, map, take, drop, Option, Some, option_map, unwrap_or, nat_lt, slice_get, inl, inr, refl, sym, ap, subst, ◌∙◌, arith}
 use Rattle.std.proofs.lemmas.List.{length-take}
 use Rattle.raft_log_base.specs.declared.errors.Error.{Error}
+use Rattle.raft_log_base.specs.declared.errors.Error.TheVariants as errors
 use Rattle.raft_log_model.specs.Meaning.{Content}
 use Rattle.raft_log_model.specs.Meaning.Slot.{Index}
 use Rattle.raft_log_model.specs.Meaning.Content.{Entry}
@@ -12,6 +13,7 @@ use Rattle.raft_log_places.specs.declared.place.Place.{Place}
 use Rattle.raft_log_places.specs.Shown.{IsOrderly, Shown}
 use Rattle.raft_log_held.specs.Entries.{entry_of, queue_of}
 use Rattle.raft_log_tables.specs.Reads.{entries_from, rewritten_entries}
+use Rattle.raft_log_dual_pipes.specs.Pipes.{LogPipes}
 use Rattle.raft_log_rewriting.specs.raft_log_blocks.specs.declared.block_cache.BlockCache.{BlockCache}
 use Rattle.raft_log_rewriting.specs.raft_log_blocks.specs.Blocks.{AreUnread, IsOfLog, ReadsEntries}
 use Rattle.raft_log_rewriting.specs.raft_log_engine_state.specs.Shows.{Home, LogMap, Shows}
@@ -20,9 +22,12 @@ use Rattle.raft_log_rewriting.specs.raft_log_engine_state.specs.Fetching.{AreEnt
 use Rattle.raft_log_rewriting.specs.raft_log_engine_state.proofs.Fetching.{all_told, all_untold}
 use Rattle.raft_log_group_state.specs.Parts.{HoldsInGroup, UnendedGroup}
 use Rattle.raft_log_rewriting.specs.declared.entries.EntryBytes.{EntryBytes}
-use Rattle.raft_log_rewriting.specs.Entries.{AreBytesAt}
+use Rattle.raft_log_rewriting.specs.Entries.{AreBytesAt, as_bytes}
+use Rattle.raft_log_rewriting.specs.Reasons.{HasReason}
 use Rattle.raft_log_rewriting.proofs.OneRun.{dropped_at, taken_at}
-use Rattle.raft_log_restating.specs.Pieces.{BeginsAt, FailsToBuild, as_bytes}
+use Rattle.raft_log_rewriting.proofs.Parts.{unmade_is_none}
+use Rattle.raft_log_rewriting.proofs.Reasons.{unmade_reason, unread_is_none, untold_reason}
+use Rattle.raft_log_restating.specs.Pieces.{BeginsAt, FailsToBuild}
 
 -- Entries of a table.
 
@@ -124,7 +129,24 @@ module _ (e : Shows) (g done count : ℕ) (es : List EntryIndex) (is : es ≡ ta
 
   pub piece_unbuilt : (error : Error) → FailsToBuild es e.pipes e.cache new error → IsOfLog h.state new
   piece_unbuilt error (inl unread) = piece_unread error unread
-  piece_unbuilt error (inr (xs, reads)) = (piece_read xs reads).0
+  piece_unbuilt error (inr (why, (xs, reads))) = (piece_read xs reads).0
+
+  unread_reason : (error : Error) → AreUnread as_bytes e.pipes es e.cache new error → HasReason home m error e (caching e new)
+  unread_reason error unread =
+      let (cached, why) = all_untold e g home m [] h as_bytes done ps (v.first + done) (v.first + done + length ps) e.cache new error stands_from (omega arith) (omega arith) h.cached
+      (subst (λ l. AreUnread as_bytes e.pipes l e.cache new error) (is ∙ piece_entries v done count) unread) in
+      untold_reason home m error e new h.state (record { state = h.state; map = h.map; runs = h.runs; stored = h.stored; rises = h.rises; meant = h.meant; cached = cached; at = h.at }) refl g (v.first + done)
+      (v.first + done + length ps) why
+
+  -- why there is no batch
+  pub unbuilt_reason : (error : Error) → FailsToBuild es e.pipes e.cache new error → HasReason home m error e (caching e new)
+  unbuilt_reason error (inl unread) = unread_reason error unread
+  unbuilt_reason error (inr (why, (xs, reads))) = unmade_reason home m error e (caching e new) why
+
+-- that isn't told as a failure
+pub unbuilt_is_none : (u : LogPipes) (es : List EntryIndex) (old new : BlockCache) (error : Error) → FailsToBuild es u old new error → error ≡ errors.Failed → ⊥
+unbuilt_is_none u es old new error (inl unread) = unread_is_none u es old new error unread
+unbuilt_is_none u es old new error (inr (why, (xs, reads))) = unmade_is_none error why
 
 pub read_len : (v : Shown) (es : List EntryIndex) (reading : List ℕ → Option EntryBytes) (e : Shows) (old new : BlockCache) (xs : List EntryBytes) → ReadsEntries reading e.pipes es old new xs → length xs ≡ length es
 read_len v [] reading e old new xs (same, none) = ap length none

@@ -11,6 +11,7 @@ use Rattle.raft_log_signed_batch.specs.Signing.{signed_for}
 use Rattle.raft_log_directory.specs.Calls.Which.{InRewrite}
 use Rattle.raft_log_dual_pipes.specs.Pipes.{LogPipes}
 use Rattle.raft_log_dual_pipes.specs.Calls.{AppendsTo, FailsToAppendTo, TellsFailure}
+use Rattle.raft_log_dual_pipes.specs.Numbers.{EndsNumbersAt}
 use Rattle.raft_log_rewriting.specs.Parts.{IsRecordMade}
 use Rattle.raft_log_rewriting.proofs.Parts.{alive_ok, later_on, same_record, tells_err}
 use Rattle.raft_log_rewriting.specs.Syncing.{MaySync}
@@ -29,14 +30,16 @@ module _ (b made : Batch) (v mid w : LogPipes) (syncs : MaySync v mid) (is : IsR
     later = later_on v.disk mid.disk w.disk before later;
   }
 
-  pub record_refused : {A : Type 0} (error : Error) → TellsFailure {A = A} (Err error) w → FailsToAppendTo InRewrite (signed_for made) error mid w → FailsToWrite b error v w
-  record_refused {A} error tells call = record {
+  pub record_refused : {A : Type 0} (error : Error) → TellsFailure {A = A} (Err error) w → FailsToAppendTo InRewrite (signed_for made) error mid w → EndsNumbersAt InRewrite (signed_for made) error mid w → FailsToWrite b error v w
+  record_refused {A} error tells call ends = record {
     why = inr (inr (record {
       synced = mid;
       syncs = syncs;
       says = is.says;
       laid = is.laid;
       call = subst (λ s. FailsToAppendTo InRewrite s error mid w) (same_record b made is) call;
+      range = subst (λ s. EndsNumbersAt InRewrite s error mid w) (same_record b made is) ends;
+      before = before;
     }));
     tells = λ lived. tells_err {A = A} error w tells;
     later = later_on v.disk mid.disk w.disk before later;

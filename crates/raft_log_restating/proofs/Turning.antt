@@ -24,6 +24,7 @@ use Rattle.raft_log_replay.specs.Walking.{ListsGroups}
 use Rattle.raft_log_rewriting.specs.raft_log_steps.specs.Steps.{next_log}
 use Rattle.raft_log_dual_pipes.specs.Pipes.{LogPipes, is_failed}
 use Rattle.raft_log_dual_pipes.specs.Calls.{FailsToRotateQueue, FailsToSyncQueue, RotatesQueue, SyncsQueue, TellsFailure}
+use Rattle.raft_log_dual_pipes.specs.Numbers.{EndsNumbers}
 use Rattle.raft_log_rewriting.specs.raft_log_blocks.specs.declared.block_cache.BlockCache.{BlockCache}
 use Rattle.raft_log_rewriting.specs.raft_log_engine_state.specs.Shows.{Home, LogMap, Shows, sense, shows}
 use Rattle.raft_log_rewriting.specs.raft_log_engine_state.specs.Holding.{Holds}
@@ -35,6 +36,7 @@ use Rattle.raft_log_rewriting.specs.Files.{FailsToLoseFiles, IsLeastOf, LosesFil
 use Rattle.raft_log_rewriting.specs.Stale.{written_file}
 use Rattle.raft_log_rewriting.proofs.Grouping.{among}
 use Rattle.raft_log_rewriting.proofs.Parts.{alive_ok, later_on, same_later, tells_err}
+use Rattle.raft_log_rewriting.proofs.Reasons.{memory_is_none, memory_reason, reason_after, reason_of_files, sync_reason, tells_nothing, turn_reason}
 use Rattle.raft_log_restating.specs.Restated.{IsRestatedFrom, Restates, RestatesEach, StopsRestating, last_file}
 use Rattle.raft_log_restating.specs.Queue.{FailsToRewriteRewrite, RestatesAll, RewritesRewrite, StopsRestatingAll, every, first_file}
 use Rattle.raft_log_restating.proofs.Each.{from_lower}
@@ -63,16 +65,18 @@ every_restated groups m v cache t lists r = record {
       (unknown_restated (last_file (shows v m cache)) (get nat_cmp m.groups g) (sym (lists.exact g) ∙ unknown))) refl;
 }
 
--- nothing was done
-none_restated_yet : (error : Error) (s : Shows) → StopsRestatingAll error s s
-none_restated_yet error s = record { counts = refl; failed = λ lived hit. absurd (false≢true (sym lived ∙ hit)); later = same_later s.pipes.disk; remains = λ home m h. inl h }
-
-pub none_yet : (s : Shows) (q : Result (Unit {0}) Error) → IfErr q (λ error. StopsRestatingAll error s s)
-none_yet s (Ok x) = tt
-none_yet s (Err e) = none_restated_yet e s
+-- nothing was done, for want of memory
+pub none_restated_yet : (error : Error) (s : Shows) → error ≡ errors.Memory → StopsRestatingAll error s s
+none_restated_yet error s memory = record {
+  counts = refl;
+  tells = λ lived. tells_nothing error s.pipes lived (memory_is_none error memory);
+  later = same_later s.pipes.disk;
+  remains = λ home m h. inl h;
+  cause = λ home m h. memory_reason home m error s s memory;
+}
 
 pub some_restated : (groups : List ℕ) (error : Error) (s t : Shows) → StopsRestating groups error s t → StopsRestatingAll error s t
-some_restated groups error s t stops = record { counts = stops.counts; failed = stops.failed; later = stops.later; remains = stops.remains }
+some_restated groups error s t stops = record { counts = stops.counts; tells = stops.tells; later = stops.later; remains = stops.remains; cause = stops.cause }
 
 module _ (s restated : Shows) (r : Restates every s restated) (w : LogPipes) (later : IsLater restated.pipes.disk w.disk) where
   all_synced : {A : Type 0} (x : A) → TellsFailure (Ok x) w → SyncsQueue InRewrite restated.pipes w → RestatesAll s (record restated { pipes = w })
@@ -86,21 +90,25 @@ module _ (s restated : Shows) (r : Restates every s restated) (w : LogPipes) (la
     settles = λ home m h. sync_settles_log home restated (record restated { pipes = w }) m (r.holds home m h) (record { tables = refl; cache = inl refl }) call;
   }
 
-  not_synced : (error : Error) → error ≡ errors.Failed → FailsToSyncQueue InRewrite restated.pipes w → StopsRestatingAll error s (record restated { pipes = w })
-  not_synced error is call = record {
+  not_synced : (error : Error) → TellsFailure {A = Unit {0}} (Err error) w → error ≡ errors.Failed → FailsToSyncQueue InRewrite restated.pipes w → StopsRestatingAll error s (record restated { pipes = w })
+  not_synced error tells is call = record {
     counts = r.counts;
-    failed = λ lived hit. is;
+    tells = λ lived. tells_err {A = Unit {0}} error w tells;
     later = later_on s.pipes.disk restated.pipes.disk w.disk r.later later;
     remains = λ home m h. inr (is, (failed_sync InRewrite home restated.pipes w m [] (holds_runs home restated m [] (r.holds home m h)) call).1);
+    cause = λ home m h.
+        (let there = r.holds home m h in
+        reason_after home m error s restated (record restated { pipes = w }) r.later (sync_reason InRewrite home m error restated (record restated { pipes = w }) there.state there.runs is call));
   }
 
   pub whole_synced : (q : Result (Unit {0}) Error) → TellsFailure q w → OnOk q (SyncsQueue InRewrite restated.pipes w) → OnOk q (RestatesAll s (record restated { pipes = w }))
   whole_synced (Ok x) tells call = all_synced x tells call
   whole_synced (Err e) tells call = tt
 
-  pub whole_unsynced : (q : Result (Unit {0}) Error) → IfErr q (λ error. error ≡ errors.Failed) → OnErr q (FailsToSyncQueue InRewrite restated.pipes w) → IfErr q (λ error. StopsRestatingAll error s (record restated { pipes = w }))
-  whole_unsynced (Ok x) is call = tt
-  whole_unsynced (Err e) is call = not_synced e is call
+  pub whole_unsynced : (q : Result (Unit {0}) Error) → TellsFailure q w → IfErr q (λ error. error ≡ errors.Failed) → OnErr q (FailsToSyncQueue InRewrite restated.pipes w)
+      → IfErr q (λ error. StopsRestatingAll error s (record restated { pipes = w }))
+  whole_unsynced (Ok x) tells is call = tt
+  whole_unsynced (Err e) tells is call = not_synced e tells is call
 
 -- The whole.
 
@@ -120,12 +128,14 @@ lost_or_left home m t errors.Failed h = inr (refl, h)
 lost_or_left home m t _ h = inl (settled_held home t m h)
 
 -- Rewrite didn't go on
-pub not_turned : (error : Error) (s : Shows) (w : LogPipes) → TellsFailure {A = Unit {0}} (Err error) w → IsLater s.pipes.disk w.disk → FailsToRotateQueue InRewrite error s.pipes w → FailsToRewriteRewrite error s (record s { pipes = w })
-not_turned error s w tells later call = record {
+pub not_turned : (error : Error) (s : Shows) (w : LogPipes) → TellsFailure {A = Unit {0}} (Err error) w → IsLater s.pipes.disk w.disk → FailsToRotateQueue InRewrite error s.pipes w → EndsNumbers InRewrite error s.pipes
+    → FailsToRewriteRewrite error s (record s { pipes = w })
+not_turned error s w tells later call ends = record {
   counts = refl;
-  failed = λ lived hit. (tells_err {A = Unit {0}} error w tells).0 hit;
+  tells = λ lived. tells_err {A = Unit {0}} error w tells;
   later = later;
   remains = λ home m h. turned_or_left home m (record s { pipes = w }) error (turn_refused InRewrite home s (record s { pipes = w }) m [] error h (record { tables = refl; cache = inl refl }) call);
+  cause = λ home m h. reason_of_files home m error s (record s { pipes = w }) (turn_reason InRewrite home error s (record s { pipes = w }) h.state h.runs call ends);
 }
 
 module _ (s : Shows) (turned : LogPipes) (turns : RotatesQueue InRewrite s.pipes turned) (later : IsLater s.pipes.disk turned.disk) (lives : is_failed turned ≡ false) where
@@ -148,9 +158,10 @@ module _ (s : Shows) (turned : LogPipes) (turns : RotatesQueue InRewrite s.pipes
   pub not_restated : (error : Error) (t : Shows) → StopsRestatingAll error behind t → FailsToRewriteRewrite error s t
   not_restated error t stops = record {
     counts = stops.counts;
-    failed = λ lived hit. stops.failed lives hit;
+    tells = λ lived. stops.tells lives;
     later = later_on s.pipes.disk turned.disk t.pipes.disk later stops.later;
     remains = λ home m h. stops.remains home m (held_behind home m h);
+    cause = λ home m h. reason_after home m error s behind t later (stops.cause home m (held_behind home m h));
   }
 
   module _ (restated : Shows) (all : RestatesAll behind restated) where
@@ -166,9 +177,10 @@ module _ (s : Shows) (turned : LogPipes) (turns : RotatesQueue InRewrite s.pipes
     pub not_lost : (error : Error) (t : Shows) → t.counts ≡ restated.counts → FailsToLoseFiles Rewrite error restated t → FailsToRewriteRewrite error s t
     not_lost error t counts fails = record {
       counts = counts ∙ same_counts;
-      failed = λ lived hit. (fails.tells all.alive).0 hit;
+      tells = λ lived. fails.tells all.alive;
       later = later_on s.pipes.disk restated.pipes.disk t.pipes.disk to_restated fails.later;
       remains = λ home m h. lost_or_left home m t error (fails.remains home m (settled_there home m h) tt);
+      cause = λ home m h. reason_after home m error s restated t to_restated (reason_of_files home m error restated t (fails.cause home m (settled_there home m h)));
     }
 
     lies_behind : (home : Home) (m : LogMap) → Holds home s m [] → (g : ℕ) → IsRestatedFrom (last_file s + 1) (s.tables g) (restated.tables g)

@@ -1,5 +1,5 @@
 -- What a batch says that restates a part of a group: entries one behind another, and keys with their values.
-use Rattle.std.specs.Prelude.{◌≡◌, ◌⊎◌, ℕ, List, [], ◌∷◌, ◌++◌, length, map, Option, Some}
+use Rattle.std.specs.Prelude.{◌≡◌, ◌⊎◌, ℕ, List, [], ◌∷◌, ◌++◌, length, map}
 use Rattle.raft_log_model.specs.Item.{Item, Tagged}
 use Rattle.raft_log_model.specs.Item.Item.{Put, Run}
 use Rattle.raft_log_base.specs.declared.pipe_log.FileBlockHandle.{FileBlockHandle}
@@ -17,8 +17,9 @@ use Rattle.raft_log_dual_pipes.specs.Pipes.{LogPipes}
 use Rattle.raft_log_rewriting.specs.raft_log_engine_state.specs.Writing.{items_at}
 use Rattle.raft_log_group_state.specs.Parts.{said_items}
 use Rattle.raft_log_rewriting.specs.declared.entries.EntryBytes.{EntryBytes}
-use Rattle.raft_log_rewriting.specs.Entries.{IsRunBatch}
+use Rattle.raft_log_rewriting.specs.Entries.{IsRunBatch, as_bytes}
 use Rattle.raft_log_rewriting.specs.Marks.{AreNoMarks}
+use Rattle.raft_log_rewriting.specs.Parts.{IsUnmade}
 
 -- entries from an index on as a run, if there are any
 abbrev pub run_items : {E : Type 0} → ℕ → List E → List (Item E (List ℕ))
@@ -52,10 +53,6 @@ pub record AddsKeys (g : ℕ) (pairs : List (List ℕ × List ℕ)) (old new : B
   pub entries : new.entries ≡ old.entries
   pub plain : AreNoMarks (map (λ e. put_item g e.0 e.1) pairs)
 
--- what is read of an entry's bytes
-abbrev pub as_bytes : List ℕ → Option EntryBytes
-as_bytes bytes = Some (record { bytes = bytes })
-
 -- The entries were read, and the batch has them, with their group's keys behind them.
 pub record BuildsPiece (g : ℕ) (es : List EntryIndex) (pairs : List (List ℕ × List ℕ)) (v : LogPipes)
     (old new : BlockCache) (b : Batch) : Type 0 where
@@ -68,4 +65,4 @@ pub record BuildsPiece (g : ℕ) (es : List EntryIndex) (pairs : List (List ℕ 
 -- why there is no such batch: the entries aren't read; or they were, and it isn't made
 abbrev pub FailsToBuild : List EntryIndex → LogPipes → BlockCache → BlockCache → Error → Type 0
 FailsToBuild es v old new error = AreUnread as_bytes v es old new error
-    ⊎ ((read : List EntryBytes) × ReadsEntries as_bytes v es old new read)
+    ⊎ (IsUnmade error × ((read : List EntryBytes) × ReadsEntries as_bytes v es old new read))

@@ -1,5 +1,5 @@
 -- Rewrite is rewritten: what stands there is written again, and its old files go.
-use Rattle.std.specs.Prelude.{◌≡◌, ◌+◌, ◌-◌, ◌<◌, ℕ, Bool, true, false, []}
+use Rattle.std.specs.Prelude.{◌≡◌, ◌↔◌, ◌+◌, ◌-◌, ◌<◌, IsTrue, ℕ, Bool, true, false, []}
 use Rattle.raft_log_disk.specs.Causes.{IsLater}
 use Rattle.raft_log_base.specs.declared.errors.Error.{Error}
 use Rattle.raft_log_base.specs.declared.errors.Error.TheVariants as errors
@@ -14,6 +14,7 @@ use Rattle.raft_log_rewriting.specs.raft_log_engine_state.specs.Shows.{Home, Log
 use Rattle.raft_log_rewriting.specs.raft_log_engine_state.specs.Holding.{Holds}
 use Rattle.raft_log_rewriting.specs.raft_log_purge_state.specs.Settled.{HoldsSettled}
 use Rattle.raft_log_rewriting.specs.Files.{LosesFiles}
+use Rattle.raft_log_rewriting.specs.Reasons.{GivesReason}
 use Rattle.raft_log_rewriting.specs.Stale.{written_file}
 use Rattle.raft_log_restating.specs.Restated.{IsRestatedFrom, Restates, StaysOrIsLeft, last_file}
 
@@ -32,12 +33,13 @@ pub record RestatesAll (s t : Shows) : Type 0 where
   pub later : IsLater s.pipes.disk t.pipes.disk
   pub settles : (home : Home) (m : LogMap) → Holds home s m [] → HoldsSettled home t m
 
--- or not all of them, or it wasn't synced
+-- or not all of them, or it wasn't synced; and why
 pub record StopsRestatingAll (error : Error) (s t : Shows) : Type 0 where
   pub counts : t.counts ≡ s.counts
-  pub failed : has_failed s ≡ false → has_failed t ≡ true → error ≡ errors.Failed
+  pub tells : has_failed s ≡ false → IsTrue (has_failed t) ↔ (error ≡ errors.Failed)
   pub later : IsLater s.pipes.disk t.pipes.disk
   pub remains : StaysOrIsLeft error s t
+  pub cause : GivesReason error s t
 
 -- the file with which Rewrite's span begins
 abbrev pub first_file : Shows → ℕ
@@ -63,12 +65,14 @@ pub record RewritesRewrite (m : MemTables) (s t : Shows) : Type 0 where
       → IsRestatedFrom (last_file s + 1) (s.tables g) (t.tables g)
   pub settles : (home : Home) (log : LogMap) → Holds home s log [] → HoldsSettled home t log
 
--- That was refused: the map stays, with nothing pending; or the engine has failed, and its log is held.
+-- That was refused, and why: the map stays, with nothing pending; or the engine has failed, and its log is
+-- held.
 pub record FailsToRewriteRewrite (error : Error) (s t : Shows) : Type 0 where
   pub counts : t.counts ≡ s.counts
-  pub failed : has_failed s ≡ false → has_failed t ≡ true → error ≡ errors.Failed
+  pub tells : has_failed s ≡ false → IsTrue (has_failed t) ↔ (error ≡ errors.Failed)
   pub later : IsLater s.pipes.disk t.pipes.disk
   pub remains : StaysOrIsLeft error s t
+  pub cause : GivesReason error s t
 
 -- what stands no more in Rewrite is counted no more
 abbrev pub reset_counts : GlobalStats → GlobalStats

@@ -11,6 +11,7 @@ use Rattle.raft_log_signed_batch.specs.Signing.{SaysItself, signed_for}
 use Rattle.raft_log_directory.specs.Calls.Which.{InRewrite}
 use Rattle.raft_log_dual_pipes.specs.Pipes.{LogPipes, is_failed}
 use Rattle.raft_log_dual_pipes.specs.Calls.{AppendsTo, FailsToAppendTo, FailsToSyncQueue}
+use Rattle.raft_log_dual_pipes.specs.Numbers.{EndsNumbersAt}
 use Rattle.raft_log_rewriting.specs.raft_log_engine_state.specs.Shows.{IsLaidOut}
 use Rattle.raft_log_rewriting.specs.Parts.{IsUnmade}
 use Rattle.raft_log_rewriting.specs.Syncing.{MaySync}
@@ -34,6 +35,8 @@ pub record RefusesRecord (b : Batch) (error : Error) (v w : LogPipes) : Type 0 w
   pub says : SaysItself (signed_for b) b
   pub laid : IsLaidOut b
   pub call : FailsToAppendTo InRewrite (signed_for b) error synced w
+  pub range : EndsNumbersAt InRewrite (signed_for b) error synced w
+  pub before : IsLater v.disk synced.disk
 
 -- why it wasn't written: it isn't made; or the sync failed; or Rewrite refused it
 abbrev pub IsUnwritten : Batch → Error → LogPipes → LogPipes → Type 0

@@ -1,5 +1,5 @@
 -- Groups are restated: all that they have in Rewrite is written there again.
-use Rattle.std.specs.Prelude.{◌≡◌, ◌⊎◌, ◌<◌, ◌≤◌, ◌==◌, ℕ, Bool, true, false, List, [], ◌∷◌, Option, Some, None, take}
+use Rattle.std.specs.Prelude.{◌≡◌, ◌⊎◌, ◌↔◌, ◌<◌, ◌≤◌, ◌==◌, IsTrue, ℕ, Bool, true, false, List, [], ◌∷◌, Option, Some, None, take}
 use Rattle.std.specs.List.{list_any}
 use Rattle.raft_log_disk.specs.Causes.{IsLater}
 use Rattle.raft_log_base.specs.declared.errors.Error.{Error}
@@ -11,6 +11,7 @@ use Rattle.raft_log_places.specs.Shown.{KeyValue, Shown}
 use Rattle.raft_log_tables.specs.Files.{ArePast}
 use Rattle.raft_log_rewriting.specs.raft_log_engine_state.specs.Shows.{Home, LogMap, Shows, has_failed}
 use Rattle.raft_log_rewriting.specs.raft_log_engine_state.specs.Holding.{Holds, IsLeftAt}
+use Rattle.raft_log_rewriting.specs.Reasons.{GivesReason}
 use Rattle.raft_log_rewriting.specs.Stale.{written_file}
 
 -- the places lie in files from that one on
@@ -61,21 +62,23 @@ pub record Restates (test : ℕ → Bool) (s t : Shows) : Type 0 where
 abbrev pub RestatesOne : ℕ → Shows → Shows → Type 0
 RestatesOne group s t = Restates (λ g. group == g) s t
 
--- It wasn't: all that shows of the tables shows as it did.
+-- It wasn't, and why: all that shows of the tables shows as it did.
 pub record FailsToRestate (error : Error) (s t : Shows) : Type 0 where
   pub same : t ≡ record s { pipes = t.pipes; cache = t.cache }
-  pub failed : has_failed s ≡ false → has_failed t ≡ true → error ≡ errors.Failed
+  pub tells : has_failed s ≡ false → IsTrue (has_failed t) ↔ (error ≡ errors.Failed)
   pub later : IsLater s.pipes.disk t.pipes.disk
   pub remains : StaysOrIsLeft error s t
+  pub cause : GivesReason error s t
 
 -- each of these groups was restated
 abbrev pub RestatesEach : List ℕ → Shows → Shows → Type 0
 RestatesEach groups s t = Restates (λ g. list_any (λ k. k == g) groups) s t
 
--- or not all of them
+-- or not all of them, and why
 pub record StopsRestating (groups : List ℕ) (error : Error) (s t : Shows) : Type 0 where
   pub others : (g : ℕ) → list_any (λ k. k == g) groups ≡ false → t.tables g ≡ s.tables g
   pub counts : t.counts ≡ s.counts
-  pub failed : has_failed s ≡ false → has_failed t ≡ true → error ≡ errors.Failed
+  pub tells : has_failed s ≡ false → IsTrue (has_failed t) ↔ (error ≡ errors.Failed)
   pub later : IsLater s.pipes.disk t.pipes.disk
   pub remains : StaysOrIsLeft error s t
+  pub cause : GivesReason error s t

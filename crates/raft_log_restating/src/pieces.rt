@@ -5,6 +5,7 @@ ghost use Rattle.raft_log_held.specs.Listing.{ListsAll, rewritten_values};
 ghost use Rattle.raft_log_records.specs.declared.log_batch.BatchState.TheVariants.{Filling};
 ghost use Rattle.raft_log_replay.specs.Tables.{shown_of};
 ghost use Rattle.raft_log_tables.specs.Reads.{rewritten_entries};
+ghost use Rattle.raft_log_rewriting.specs.Parts.{IsUnmade};
 ghost use Rattle.raft_log_restating.specs.Pieces.{AddsKeys, BuildsPiece, FailsToBuild};
 
 use raft_log_base::Result;
@@ -91,7 +92,8 @@ pub fn piece_of<P: PipeLog>(
 /// Adds keys of a group, with their values.
 fn add_keys(alloc: Global, batch: &mut LogBatch, group: u64, pairs: &[(Bytes, Bytes)]) -> Result<()>
     requires { batch.old.state ≡ Filling }
-    ensures { OnOk result (AddsKeys group pairs.now batch.old batch.new) }
+    ensures ok { OnOk result (AddsKeys group pairs.now batch.old batch.new) }
+    ensures errors { IfErr result IsUnmade }
 {
     for pair in pairs {
         batch.put(alloc, group, pair.0.as_slice(), pair.1.as_slice())?;

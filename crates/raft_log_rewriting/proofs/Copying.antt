@@ -1,7 +1,6 @@
 -- Copies that are written to Rewrite, or refused there.
-use Rattle.std.proofs.Common.{◌≡◌, ℕ, Bool, Option, Some, List, [], inl, inr, refl, sym, ap, ap₂, subst, ◌∙◌}
+use Rattle.std.proofs.Common.{◌≡◌, ℕ, Bool, Option, Some, List, [], inl, refl, sym, ap, ap₂, subst, ◌∙◌}
 use Rattle.std.specs.Prelude.{Result, Ok, Err, IfErr, IfOk}
-use Rattle.std.proofs.lemmas.Bool.{false≢true}
 use std.Path.{fun_ext}
 use Rattle.raft_log_model.specs.Groups.{of_group}
 use Rattle.raft_log_disk.specs.Causes.{IsLater}
@@ -24,6 +23,7 @@ use Rattle.raft_log_replay.specs.Tables.{ShowsSame, counts, shown_of}
 use Rattle.raft_log_replay.proofs.Moved.{written_may_move}
 use Rattle.raft_log_dual_pipes.specs.Pipes.{LogPipes}
 use Rattle.raft_log_dual_pipes.specs.Calls.{AppendsTo, FailsToAppendTo, TellsFailure}
+use Rattle.raft_log_dual_pipes.specs.Numbers.{EndsNumbersAt}
 use Rattle.raft_log_purge_state.specs.raft_log_blocks.specs.declared.block_cache.BlockCache.{BlockCache}
 use Rattle.raft_log_purge_state.specs.raft_log_engine_state.specs.Shows.{Shows, shows}
 use Rattle.raft_log_purge_state.specs.Rewriting.{CountsAlone}
@@ -31,6 +31,7 @@ use Rattle.raft_log_purge_state.proofs.Copying.{copies_refused, copies_written}
 use Rattle.raft_log_rewriting.specs.Parts.{IsRecordMade, IsUnmade, Remains}
 use Rattle.raft_log_rewriting.specs.Copies.{FailsToCopy, MovesCopies}
 use Rattle.raft_log_rewriting.proofs.Parts.{alive_ok, remains_same, rewrite_remains, same_later, same_record, tells_err, unmade_is_none}
+use Rattle.raft_log_rewriting.proofs.Reasons.{alone_reason, tells_nothing, unmade_reason}
 use Rattle.raft_log_rewriting.proofs.Staying.{record_stays}
 
 -- the items of a batch that was written
@@ -71,9 +72,9 @@ module _ (gate : ℕ) (b made : Batch) (v w : LogPipes) (old new : MemTables) (s
             (subst (λ s. AppendsTo InRewrite s block v w) (same_record b made is) call) tables (inl refl);
       }
 
-  pub copies_not_moved : {A : Type 0} (error : Error) → TellsFailure {A = A} (Err error) w → FailsToAppendTo InRewrite (signed_for made) error v w → ShowsSame old new
-      → FailsToCopy (Some gate) b error (shows v old cache) (shows w new cache)
-  copies_not_moved {A} error tells call same = record {
+  pub copies_not_moved : {A : Type 0} (error : Error) → TellsFailure {A = A} (Err error) w → FailsToAppendTo InRewrite (signed_for made) error v w → EndsNumbersAt InRewrite (signed_for made) error v w
+      → ShowsSame old new → FailsToCopy (Some gate) b error (shows v old cache) (shows w new cache)
+  copies_not_moved {A} error tells call ends same = record {
     same = same_but_pipes v w old new cache same;
     tells = λ lived. tells_err {A = A} error w tells;
     later = later;
@@ -81,6 +82,9 @@ module _ (gate : ℕ) (b made : Batch) (v w : LogPipes) (old new : MemTables) (s
         rewrite_remains home m (shows w new cache) error
         (copies_refused home (shows v old cache) (shows w new cache) (Some gate) b m error h (counts_alone plain) copies (record { tables = fun_ext same.shown; cache = inl refl })
         (subst (λ s. FailsToAppendTo InRewrite s error v w) (same_record b made is) call));
+    cause = λ plain home m h.
+        alone_reason home m error (shows v old cache) (shows w new cache) h.state b (counts_alone plain) h.runs (subst (λ s. FailsToAppendTo InRewrite s error v w) (same_record b made is) call)
+        (subst (λ s. EndsNumbersAt InRewrite s error v w) (same_record b made is) ends);
   }
 
 -- Before that: the record is made, and room in the tables.
@@ -90,9 +94,10 @@ pub not_copied : (gate : Option ℕ) (b : Batch) (error : Error) (v : LogPipes) 
 not_copied gate b error v old new cache why same =
     let here = same_but_pipes v v old new cache same in record {
       same = here;
-      tells = λ lived. (λ hit. absurd (false≢true (sym lived ∙ hit)), λ is. absurd (unmade_is_none error why is));
+      tells = λ lived. tells_nothing error v lived (unmade_is_none error why);
       later = same_later v.disk;
       remains = λ plain home m h copies. subst (λ e. Remains home m e error) (sym here) (remains_same home m (shows v old cache) error why h);
+      cause = λ plain home m h. unmade_reason home m error (shows v old cache) (shows v new cache) why;
     }
 
 -- what is said of a batch whose record was made is said of the batch
@@ -102,7 +107,7 @@ moves_kept gate b kept s t is w =
 
 fails_kept : (gate : Option ℕ) (b kept : Batch) (error : Error) (s t : Shows) → kept ≡ record b { state = kept.state; buffer = kept.buffer } → FailsToCopy gate kept error s t → FailsToCopy gate b error s t
 fails_kept gate b kept error s t is f =
-    let k = subst (λ (x : Batch). FailsToCopy gate x error s t) is f in record { same = k.same; tells = k.tells; later = k.later; remains = k.remains }
+    let k = subst (λ (x : Batch). FailsToCopy gate x error s t) is f in record { same = k.same; tells = k.tells; later = k.later; remains = k.remains; cause = k.cause }
 
 populated : (b kept : Batch) → IsButBuffer (record b { state = Populated }) kept → kept ≡ record b { state = kept.state; buffer = kept.buffer }
 populated b kept is = is ∙ ap (λ s. record b { state = s; buffer = kept.buffer }) (sym (ap (λ (x : Batch). x.state) is))

@@ -1,25 +1,23 @@
 -- Groups that are rewritten, one after another.
-use Rattle.std.proofs.Common.{◌≡◌, ◌⊎◌, ℕ, zero, suc, ◌+◌, ◌-◌, ◌<◌, ◌≤◌, ◌==◌, ◌||◌, Bool, true, false, if◌then◌else◌, List, [], ◌∷◌, ◌++◌, length, take, drop, get_or, slice_get, nat_le, Option, Some, None, inl, inr, refl, sym, ap, subst, ◌∙◌, arith}
+use Rattle.std.proofs.Common.{◌≡◌, ◌⊎◌, ℕ, zero, suc, ◌+◌, ◌-◌, ◌<◌, ◌≤◌, ◌==◌, ◌||◌, Bool, true, false, if◌then◌else◌, List, [], ◌∷◌, ◌++◌, length, take, drop, get_or, slice_get, nat_le, Some, inl, inr, refl, sym, ap, subst, ◌∙◌, arith}
 use Rattle.std.specs.List.{list_any}
 use Rattle.std.proofs.lemmas.Bool.{false≢true}
 use Rattle.std.proofs.lemmas.List.{length-drop, take_all, take_more}
 use Rattle.raft_log_model.specs.Meaning.Slot.{Index}
 use Rattle.raft_log_model.proofs.Cases.{at_bool, eq_true, from_le_false}
-use Rattle.raft_log_machine.specs.Whereabouts.{OwesNothing}
 use Rattle.raft_log_base.specs.declared.errors.Error.{Error}
-use Rattle.raft_log_base.specs.declared.errors.Error.TheVariants as errors
 use Rattle.raft_log_places.specs.declared.place.Place.{Place}
-use Rattle.raft_log_places.specs.Shown.{Shown, whereabouts}
+use Rattle.raft_log_places.specs.Shown.{Shown}
 use Rattle.raft_log_places.specs.Noted.{file_at, place_file}
 use Rattle.raft_log_held.specs.Counts.{passing}
 use Rattle.raft_log_purge_state.specs.raft_log_tables.specs.Files.{FrontIsLeast, IsLeastInAppend}
 use Rattle.raft_log_purge_state.specs.raft_log_tables.proofs.Leasts.{place_there}
-use Rattle.raft_log_purge_state.specs.raft_log_engine_state.specs.Shows.{Home, LogMap, Shows, has_failed}
-use Rattle.raft_log_purge_state.specs.raft_log_engine_state.specs.Holding.{Holds, IsLeftAt}
+use Rattle.raft_log_purge_state.specs.raft_log_engine_state.specs.Shows.{Shows, has_failed}
 use Rattle.raft_log_purge_state.specs.Raising.{AppendMayBegin}
 use Rattle.raft_log_records.specs.Entries.{indexes_of}
 use Rattle.raft_log_rewriting.specs.Parts.{StaysInFile}
-use Rattle.raft_log_rewriting.specs.Moving.{Advances, IsPartlyRewritten, IsRewrittenTo, MovesKeys}
+use Rattle.raft_log_rewriting.specs.Moving.{IsPartlyRewritten, IsRewrittenTo}
+use Rattle.raft_log_rewriting.specs.Reasons.{GivesReason}
 use Rattle.raft_log_rewriting.specs.Rewriting.{CopiesEntries, CopiesIfAny, FailsToCopyEntries, OweNothing, StaysHeld, StaysOrIsLeft}
 use Rattle.raft_log_rewriting.specs.Keys.{CopiesKeys, FailsToCopyKeys}
 use Rattle.raft_log_rewriting.specs.Groups.{Rewrites, RewritesEntries, RewritesPart, StopsRewriting}
@@ -30,6 +28,7 @@ use Rattle.raft_log_rewriting.proofs.Moving.{partly_same, partly_then, passing_a
 use Rattle.raft_log_rewriting.proofs.Nexts.{next_few, none_passes}
 use Rattle.raft_log_rewriting.proofs.Leasts.{among_more}
 use Rattle.raft_log_rewriting.proofs.Parts.{later_on, same_later}
+use Rattle.raft_log_rewriting.proofs.Reasons.{reason_after}
 
 -- Parts.
 
@@ -62,6 +61,10 @@ held_then test gate s t u p h k owes home m held = k (owe_then test gate s t p o
 
 left_then : (test : ℕ → Bool) (gate : ℕ) (error : Error) (s t u : Shows) → RewritesPart test gate s t → StaysHeld s t → StaysOrIsLeft error t u → StaysOrIsLeft error s u
 left_then test gate error s t u p h k owes home m held = k (owe_then test gate s t p owes) home m (h owes home m held)
+
+-- what a later part is refused for
+pub reason_then : (test : ℕ → Bool) (gate : ℕ) (error : Error) (s t u : Shows) → RewritesPart test gate s t → StaysHeld s t → (OweNothing t.tables → GivesReason error t u) → OweNothing s.tables → GivesReason error s u
+reason_then test gate error s t u p h reason owes home m held = reason_after home m error s t u p.later (reason (owe_then test gate s t p owes) home m (h owes home m held))
 
 -- One group's entries.
 
@@ -147,8 +150,9 @@ entries_stopped group gate more error s t u so_far fails = record {
     counts = ap (λ (e : Shows). e.counts) fails.same;
     later = fails.later;
   });
-  failed = λ lived hit. fails.failed (so_far.alive lived) hit;
+  tells = λ lived. fails.tells (so_far.alive lived);
   remains = left_then (λ g. group == g) gate error s t u so_far.part so_far.holds fails.remains;
+  cause = reason_then (λ g. group == g) gate error s t u so_far.part so_far.holds (λ owes. fails.cause);
 }
 
 -- One group.
@@ -189,8 +193,9 @@ keys_stopped group gate error s t u entries fails = record {
     counts = ap (λ (e : Shows). e.counts) fails.same;
     later = fails.later;
   });
-  failed = λ lived hit. (fails.tells (entries.alive lived)).0 hit;
+  tells = λ lived. fails.tells (entries.alive lived);
   remains = left_then (λ g. group == g) gate error s t u entries.part entries.holds fails.remains;
+  cause = reason_then (λ g. group == g) gate error s t u entries.part entries.holds (λ owes. fails.cause);
 }
 
 -- Many groups.
@@ -241,8 +246,9 @@ pub group_stopped : (groups : List ℕ) (i d x gate : ℕ) (error : Error) (s t 
 group_stopped groups i d x gate error s t u lt is so_far stops = record {
   part = part_then (among groups) gate s t u (part_wider (among (take i groups)) (among groups) gate s t (λ g h. any_front (λ k. k == g) i groups h) so_far.part)
       (part_wider (λ g. x == g) (among groups) gate t u (λ g h. among_all g groups i d x lt is h) stops.part);
-  failed = λ lived hit. stops.failed (so_far.alive lived) hit;
+  tells = λ lived. stops.tells (so_far.alive lived);
   remains = left_then (among (take i groups)) gate error s t u so_far.part so_far.holds stops.remains;
+  cause = reason_then (among (take i groups)) gate error s t u so_far.part so_far.holds stops.cause;
 }
 
 pub groups_rewritten : (groups : List ℕ) (i gate : ℕ) (s t : Shows) → length groups ≤ i → Rewrites (among (take i groups)) gate s t → Rewrites (among groups) gate s t

@@ -1,5 +1,5 @@
 -- Copies of a group's values: what they say, and what shows once the tables took them.
-use Rattle.std.proofs.Common.{◌≡◌, ℕ, ◌==◌, ◌&&◌, ◌||◌, Bool, true, false, not, if◌then◌else◌, List, [], ◌∷◌, map, Option, Some, None, is_some, bytes_eq, nat_le, inl, inr, refl, sym, ap, ap₂, subst, ◌∙◌, Less}
+use Rattle.std.proofs.Common.{◌≡◌, ℕ, ◌==◌, ◌&&◌, ◌||◌, Bool, true, false, not, if◌then◌else◌, List, [], ◌∷◌, map, Option, Some, None, is_some, bytes_eq, nat_le, refl, sym, ap, subst, ◌∙◌, Less}
 use Rattle.std.specs.List.{AllByRecursion}
 use Rattle.std.specs.Map.{keys_of, lookup}
 use Rattle.std.specs.Cmp.Lexicographic.{slice_cmp}
@@ -27,7 +27,7 @@ use Rattle.raft_log_places.specs.Bridge.{Located}
 use Rattle.raft_log_held.specs.Entries.{place_of}
 use Rattle.raft_log_held.specs.Listing.{ListsAll, appended_values, asked_bytes, is_asked}
 use Rattle.raft_log_purge_state.specs.raft_log_tables.specs.Moves.{key_rewritten, may_move, rewritten_to}
-use Rattle.raft_log_replay.specs.Rewriting.{AreCopies, IsCopy, all_rewritten}
+use Rattle.raft_log_replay.specs.Rewriting.{AreCopies, all_rewritten}
 use Rattle.raft_log_rewriting.specs.Moving.{copied_value, with_copied_values}
 
 -- What the copies say.

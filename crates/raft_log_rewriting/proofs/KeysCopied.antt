@@ -1,17 +1,16 @@
 -- A group's values, copied or not.
-use Rattle.std.proofs.Common.{◌≡◌, ℕ, ◌+◌, ◌<◌, ◌==◌, Bool, true, false, if◌then◌else◌, List, [], ◌∷◌, ◌++◌, length, map, take, get_or, Option, Some, None, option_map, inl, inr, refl, sym, ap, ap₂, subst, ◌∙◌, arith}
-use Rattle.std.specs.Prelude.{IsTrue, Result, Ok, Err, IsErr}
+use Rattle.std.proofs.Common.{◌≡◌, ℕ, ◌+◌, ◌<◌, ◌==◌, Bool, true, false, if◌then◌else◌, List, [], ◌∷◌, ◌++◌, length, map, take, get_or, Option, Some, None, option_map, inl, inr, refl, sym, ap, subst, ◌∙◌, arith}
+use Rattle.std.specs.Prelude.{IsTrue, Result, Ok, IsErr}
 use Rattle.std.specs.BTreeMap.{get}
 use Rattle.std.specs.Ordering.{nat_cmp}
 use Rattle.std.specs.List.Sorted.{IsStrictlySortedBy}
 use Rattle.std.proofs.lemmas.Bool.{false≢true}
 use Rattle.std.proofs.lemmas.List.{take_more}
-use Rattle.raft_log_model.specs.Item.{Item, Tagged}
+use Rattle.raft_log_model.specs.Item.{Item}
 use Rattle.raft_log_model.specs.Groups.{of_group}
 use Rattle.raft_log_model.proofs.Cases.{at_bool, eq_true}
 use Rattle.raft_log_disk.specs.Causes.{IsLater}
 use Rattle.raft_log_base.specs.declared.errors.Error.{Error}
-use Rattle.raft_log_base.specs.declared.errors.Error.TheVariants as errors
 use Rattle.raft_log_base.specs.declared.pipe_log.FileBlockHandle.{FileBlockHandle}
 use Rattle.raft_log_items.specs.declared.item.LogItem.{LogItem}
 use Rattle.raft_log_items.specs.Items.{put_item}
@@ -31,21 +30,22 @@ use Rattle.raft_log_replay.specs.declared.group_table.GroupTable.{GroupTable}
 use Rattle.raft_log_replay.specs.declared.mem_tables.MemTables.{MemTables}
 use Rattle.raft_log_replay.specs.Rewriting.{AreCopies, all_rewritten}
 use Rattle.raft_log_replay.specs.Tables.{raw_of, shown_in, shown_of}
-use Rattle.raft_log_purge_state.specs.raft_log_engine_state.specs.Shows.{Home, LogMap, Shows, has_failed}
+use Rattle.raft_log_purge_state.specs.raft_log_engine_state.specs.Shows.{LogMap, Shows, has_failed}
 use Rattle.raft_log_purge_state.specs.raft_log_engine_state.specs.Holding.{Holds}
 use Rattle.raft_log_purge_state.specs.raft_log_engine_state.specs.Writing.{items_at}
 use Rattle.raft_log_purge_state.specs.Rewriting.{HasCopies}
-use Rattle.raft_log_rewriting.specs.Parts.{IsUnmade, Remains}
+use Rattle.raft_log_rewriting.specs.Parts.{IsUnmade}
 use Rattle.raft_log_rewriting.specs.Marks.{AreNoMarks}
 use Rattle.raft_log_rewriting.specs.Copies.{FailsToCopy, MovesCopies, WritesCopies}
-use Rattle.raft_log_rewriting.specs.Moving.{MovesKeys, with_copied_values}
+use Rattle.raft_log_rewriting.specs.Moving.{MovesKeys}
 use Rattle.raft_log_rewriting.specs.Rewriting.{OweNothing}
 use Rattle.raft_log_rewriting.specs.Keys.{CopiesKeys, FailsToCopyKeys, IsKeysBatch}
 use Rattle.raft_log_rewriting.proofs.Carried.{plain_items}
 use Rattle.raft_log_rewriting.proofs.KeyCopies.{AllCount, no_values, pairs_of_group, pairs_there, put_of_pair, tagged_pair, values_are_copies, values_moved}
 use Rattle.raft_log_rewriting.proofs.Nexts.{raw_shown}
-use Rattle.raft_log_rewriting.proofs.Parts.{remains_same, same_later, unmade_is_none}
+use Rattle.raft_log_rewriting.proofs.Parts.{same_later, unmade_is_none}
 use Rattle.raft_log_rewriting.proofs.Reading.{remains_or}
+use Rattle.raft_log_rewriting.proofs.Reasons.{tells_nothing, unmade_reason}
 
 -- Which keys come next.
 
@@ -180,13 +180,15 @@ module _ (g gate : ℕ) (pairs : List (List ℕ × List ℕ)) (b : Batch) (is : 
       tells = fails.tells;
       later = fails.later;
       remains = λ owes home m h. remains_or home m t error (fails.remains (plain_items b.items is.plain) home m h (has_copies s.tables m lists owes));
+      cause = fails.cause (plain_items b.items is.plain);
     }
 
 -- nothing was written
 pub no_keys_written : (error : Error) (s : Shows) → IsUnmade error → FailsToCopyKeys error s s
 no_keys_written error s why = record {
   same = refl;
-  tells = λ lived. (λ hit. absurd (false≢true (sym lived ∙ hit)), λ is. absurd (unmade_is_none error why is));
+  tells = λ lived. tells_nothing error s.pipes lived (unmade_is_none error why);
   later = same_later s.pipes.disk;
   remains = λ owes home m h. inl h;
+  cause = λ home m h. unmade_reason home m error s s why;
 }

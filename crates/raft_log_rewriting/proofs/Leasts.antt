@@ -5,7 +5,6 @@ use Rattle.std.specs.List.{list_any}
 use Rattle.std.specs.BTreeMap.{get}
 use Rattle.std.specs.Ordering.{nat_cmp}
 use Rattle.std.proofs.lemmas.List.{take_more}
-use Rattle.std.proofs.lemmas.Bool.{false≢true}
 use Rattle.raft_log_model.proofs.Cases.{at_bool, if_false, if_true, le_false}
 use Rattle.raft_log_machine.proofs.TruthRaises.{no_word}
 use Rattle.raft_log_base.specs.declared.errors.Error.{Error}
@@ -31,6 +30,7 @@ use Rattle.raft_log_pipes.specs.Purging.{IsInSpan}
 use Rattle.raft_log_purge_state.specs.raft_log_steps.specs.State.{pipe_at}
 use Rattle.raft_log_dual_pipes.specs.Pipes.{LogPipes, RunsOn, State, files_of, which_of}
 use Rattle.raft_log_dual_pipes.specs.Calls.{FailsToPurgeQueue, PurgesQueue, TellsFailure}
+use Rattle.raft_log_dual_pipes.specs.Numbers.{EndsNumbersBelow}
 use Rattle.raft_log_purge_state.specs.raft_log_blocks.specs.declared.block_cache.BlockCache.{BlockCache}
 use Rattle.raft_log_purge_state.specs.raft_log_engine_state.specs.Shows.{Home, LogMap, Shows, sense, shows}
 use Rattle.raft_log_purge_state.specs.Settled.{HoldsSettled}
@@ -38,6 +38,7 @@ use Rattle.raft_log_purge_state.specs.Raising.{MayBegin, PurgeLeavesHeld}
 use Rattle.raft_log_purge_state.proofs.Raising.{raise_refused, raised}
 use Rattle.raft_log_rewriting.specs.Files.{FailsToLoseFiles, IsLeastIn, IsLeastOf, LosesFiles, MayLoseFiles, RemainsSettled, least_in}
 use Rattle.raft_log_rewriting.proofs.Parts.{alive_ok, same_later, tells_err}
+use Rattle.raft_log_rewriting.proofs.Reasons.{memory_is_none, purge_reason, tells_nothing}
 
 -- Group by group.
 
@@ -193,21 +194,24 @@ module _ (queue : LogQueue) (limit : ℕ) (m : MemTables) (v w : LogPipes) (old 
     keeps = λ home log h owes. raised (which_of queue) home (shows v m old) (shows w m new) log least h (begins home log h owes) refl none call;
   }
 
-  pub fails_to_lose : {A : Type 0} (error : Error) → TellsFailure {A = A} (Err error) w → FailsToPurgeQueue (which_of queue) least error v w → FailsToLoseFiles queue error (shows v m old) (shows w m new)
-  fails_to_lose {A} error tells call = record {
+  pub fails_to_lose : {A : Type 0} (error : Error) → TellsFailure {A = A} (Err error) w → FailsToPurgeQueue (which_of queue) least error v w → EndsNumbersBelow (which_of queue) error v
+      → FailsToLoseFiles queue error (shows v m old) (shows w m new)
+  fails_to_lose {A} error tells call ends = record {
     tells = λ lived. tells_err {A = A} error w tells;
     later = later;
     remains = λ home log h owes.
         remains_settled home log (shows w m new) error
         (raise_refused (which_of queue) home (shows v m old) (shows w m new) log least error h (begins home log h owes) refl none call);
+    cause = λ home log h. purge_reason (which_of queue) least home error (shows v m old) (shows w m new) h.state h.runs call ends;
   }
 
 -- the least file wasn't told: memory ran out
 pub none_told : (queue : LogQueue) (e : Shows) → FailsToLoseFiles queue errors.Memory e e
 none_told queue e = record {
-  tells = λ lived. (λ hit. absurd (false≢true (sym lived ∙ hit)), λ is. absurd (let never : ⊥ = cc is in never));
+  tells = λ lived. tells_nothing errors.Memory e.pipes lived (memory_is_none errors.Memory refl);
   later = same_later e.pipes.disk;
   remains = λ home log h owes. h;
+  cause = λ home log h. tt;
 }
 
 -- What a purge tells, whichever way it went.
@@ -220,6 +224,6 @@ purged queue limit m v w old new none least is later (Ok count) tells call count
 purged queue limit m v w old new none least is later (Err e) tells call counted = tt
 
 pub not_purged : (queue : LogQueue) (limit : ℕ) (m : MemTables) (v w : LogPipes) (old new : BlockCache) → new.place ≡ None → (least : ℕ) → IsLeastOf queue limit m least → IsLater v.disk w.disk → (r : Result ℕ Error) → TellsFailure r w
-    → IfErr r (λ error. FailsToPurgeQueue (which_of queue) least error v w) → IfErr r (λ error. FailsToLoseFiles queue error (shows v m old) (shows w m new))
-not_purged queue limit m v w old new none least is later (Ok count) tells call = tt
-not_purged queue limit m v w old new none least is later (Err e) tells call = fails_to_lose queue limit m v w old new none least is later {A = ℕ} e tells call
+    → IfErr r (λ error. FailsToPurgeQueue (which_of queue) least error v w) → IfErr r (λ error. EndsNumbersBelow (which_of queue) error v) → IfErr r (λ error. FailsToLoseFiles queue error (shows v m old) (shows w m new))
+not_purged queue limit m v w old new none least is later (Ok count) tells call ends = tt
+not_purged queue limit m v w old new none least is later (Err e) tells call ends = fails_to_lose queue limit m v w old new none least is later {A = ℕ} e tells call ends

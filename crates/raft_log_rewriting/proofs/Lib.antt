@@ -1,3 +1,4 @@
+pub mod Reasons
 pub mod Carried
 pub mod Staying
 pub mod BehindSync

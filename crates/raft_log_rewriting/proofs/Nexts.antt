@@ -1,15 +1,17 @@
 -- The entries that come next.
-use Rattle.std.proofs.Common.{◌≡◌, ◌⊎◌, ℕ, zero, suc, ◌+◌, ◌-◌, ◌<◌, ◌≤◌, min, true, false, if◌then◌else◌, List, [], ◌∷◌, ◌++◌, length, map, take, drop, Option, Some, None, option_map, unwrap_or, nat_le, nat_lt, inl, inr, refl, sym, ap, ap₂, subst, ◌∙◌, arith}
+use Rattle.std.proofs.Common.{◌≡◌, ◌⊎◌, ℕ, zero, suc, ◌+◌, ◌-◌, ◌≤◌, min, if◌then◌else◌, List, [], ◌∷◌, ◌++◌, length, map, take, drop, Option, Some, None, option_map, unwrap_or, nat_le, nat_lt, inl, inr, refl, sym, ap, ap₂, subst, ◌∙◌, arith}
 use Rattle.std.proofs.lemmas.List.{length-drop, length-take, take_all}
 use Rattle.std.specs.BTreeMap.{get}
 use Rattle.std.specs.Ordering.{nat_cmp}
-use Rattle.raft_log_model.proofs.Cases.{at_bool, if_false, if_true}
+use Rattle.raft_log_model.proofs.Cases.{at_bool}
+use Rattle.raft_log_base.specs.declared.errors.Error.{Error}
+use Rattle.raft_log_base.specs.declared.errors.Error.TheVariants as errors
 use Rattle.raft_log_items.specs.declared.entry.EntryIndex.{EntryIndex}
 use Rattle.raft_log_places.specs.declared.place.Place.{Place}
 use Rattle.raft_log_places.specs.Shown.{IsOrderly, Shown}
 use Rattle.raft_log_held.specs.Counts.{fitting, passing, sized}
 use Rattle.raft_log_held.specs.Entries.{entry_of, place_of, queue_of}
-use Rattle.raft_log_purge_state.specs.raft_log_tables.specs.Reads.{entries_from, fetched, places_between}
+use Rattle.raft_log_purge_state.specs.raft_log_tables.specs.Reads.{FetchRefused, entries_from, fetched, places_between}
 use Rattle.raft_log_purge_state.specs.raft_log_tables.specs.Table.{Raw, shown}
 use Rattle.raft_log_replay.specs.declared.group_table.GroupTable.{GroupTable}
 use Rattle.raft_log_replay.specs.declared.mem_tables.MemTables.{MemTables}
@@ -81,6 +83,13 @@ next_found m g gate begin end n t old mid new is orderly from to none found coun
     subst (λ (v : Shown). AreNext gate v new) (sym (raw_shown m g t is))
     (subst (AreNext gate (shown t)) (sym cut_off)
     (next_of (shown t) gate begin end n mid orderly from to (found ∙ ap (λ (l : List EntryIndex). l ++ fetched (shown t) begin end (Some copied_at_once)) none) count))
+
+-- they are there: only for want of memory they aren't fetched
+pub next_refused : (v : Shown) (begin end : ℕ) (error : Error) → begin ≡ v.first + v.rewritten → end ≡ v.first + length v.places → FetchRefused v begin end error → error ≡ errors.Memory
+next_refused v begin end error from to (some, inl (is, none)) = absurd (omega (arith, some, from, to, none))
+next_refused v begin end error from to (some, inr (inl (is, more, low))) = absurd (omega (arith, low, from))
+next_refused v begin end error from to (some, inr (inr (inl (is, low, high)))) = absurd (omega (arith, high, to))
+next_refused v begin end error from to (some, inr (inr (inr (is, low, high)))) = is
 
 -- Where none comes next, none passes the gate.
 

@@ -29,6 +29,7 @@ use Rattle.raft_log_replay.specs.declared.mem_tables.MemTables.{MemTables}
 use Rattle.raft_log_replay.specs.Tables.{counts, shown_of}
 use Rattle.raft_log_dual_pipes.specs.Pipes.{LogPipes, is_failed}
 use Rattle.raft_log_dual_pipes.specs.Calls.{AppendsTo, FailsToAppendTo, FailsToSyncQueue, SyncsQueue, TellsFailure}
+use Rattle.raft_log_dual_pipes.specs.Numbers.{EndsNumbersAt}
 use Rattle.raft_log_purge_state.specs.raft_log_blocks.specs.declared.block_cache.BlockCache.{BlockCache}
 use Rattle.raft_log_purge_state.specs.raft_log_engine_state.specs.Shows.{Home, LogMap, Shows, shows}
 use Rattle.raft_log_purge_state.specs.raft_log_engine_state.specs.Holding.{Holds}
@@ -39,6 +40,7 @@ use Rattle.raft_log_purge_state.proofs.Rewriting.{marks_refused, marks_written}
 use Rattle.raft_log_rewriting.specs.Parts.{IsRecordMade, IsRefused, IsUnmade, Remains}
 use Rattle.raft_log_rewriting.specs.Marks.{CarriesMarks, SaysMarks, WritesMarks, showing}
 use Rattle.raft_log_rewriting.proofs.Carried.{plain_items}
+use Rattle.raft_log_rewriting.proofs.Reasons.{alone_reason, reason_after, sync_reason, tells_nothing, unmade_reason}
 use Rattle.raft_log_rewriting.proofs.Staying.{record_stays, stays_on, stays_same, sync_stays}
 
 pub later_on : (a b c : Disk) → IsLater a b → IsLater b c → IsLater a c
@@ -77,9 +79,10 @@ remains_same home m e _ why h = absurd why
 -- nothing was done
 pub refused_unmade : (error : Error) (e : Shows) → IsUnmade error → IsRefused error e e
 refused_unmade error e why = record {
-  tells = λ lived. (λ hit. absurd (false≢true (sym lived ∙ hit)), λ is. absurd (unmade_is_none error why is));
+  tells = λ lived. tells_nothing error e.pipes lived (unmade_is_none error why);
   later = same_later e.pipes.disk;
   remains = λ home m h. remains_same home m e error why h;
+  cause = λ home m h. unmade_reason home m error e e why;
 }
 
 -- The record of a batch.
@@ -155,14 +158,17 @@ module _ (tables : ℕ → Shown) (b made : Batch) (v w : LogPipes) (says : Says
   }
 
   pub marks_are_refused : {A : Type 0} (error : Error) (counts : ℕ → Bool) (cache : BlockCache) → TellsFailure {A = A} (Err error) w → FailsToAppendTo InRewrite (signed_for made) error v w
-      → IsRefused error (showing v tables counts cache) (showing w tables counts cache)
-  marks_are_refused {A} error counts cache tells call = record {
+      → EndsNumbersAt InRewrite (signed_for made) error v w → IsRefused error (showing v tables counts cache) (showing w tables counts cache)
+  marks_are_refused {A} error counts cache tells call ends = record {
     tells = λ lived. tells_err {A = A} error w tells;
     later = later;
     remains = λ home m h.
         rewrite_remains home m (showing w tables counts cache) error
         (marks_refused home (showing v tables counts cache) (showing w tables counts cache) b m error h (says_owed tables b made says some is) (record { tables = refl; cache = inl refl })
         (subst (λ s. FailsToAppendTo InRewrite s error v w) (same_record b made is) call));
+    cause = λ home m h.
+        alone_reason home m error (showing v tables counts cache) (showing w tables counts cache) h.state b (says_owed tables b made says some is).alone h.runs
+        (subst (λ s. FailsToAppendTo InRewrite s error v w) (same_record b made is) call) (subst (λ s. EndsNumbersAt InRewrite s error v w) (same_record b made is) ends);
   }
 
 -- The marks are written, and then synced, or not.
@@ -189,4 +195,8 @@ module _ (old new : MemTables) (v mid w : LogPipes) (wrote : WritesMarks (shown_
     remains = λ home m h.
         subst (λ e. Remains home m (shows w old cache) e) (sym is)
         (failed_sync InRewrite home mid w m [] (holds_runs home (showing mid (λ g. unmarked (shown_of old g)) (counts old) cache) m [] (wrote.holds (counts old) cache home m h)) call).1;
+    cause = λ home m h.
+        (let there = wrote.holds (counts old) cache home m h in
+        reason_after home m error (shows v old cache) (showing mid (λ g. unmarked (shown_of old g)) (counts old) cache) (shows w old cache) wrote.later
+        (sync_reason InRewrite home m error (showing mid (λ g. unmarked (shown_of old g)) (counts old) cache) (shows w old cache) there.state there.runs is call));
   }

@@ -1,7 +1,6 @@
 -- Entries that are read to be copied are the map's, and a batch of them has copies of them.
-use Rattle.std.proofs.Common.{◌≡◌, ◌⊎◌, ℕ, ◌+◌, ◌≤◌, List, [], ◌∷◌, length, map, take, drop, Option, Some, option_map, unwrap_or, slice_get, inl, inr, refl, sym, ap, subst, ◌∙◌, arith, append-nil}
+use Rattle.std.proofs.Common.{◌≡◌, ◌⊎◌, ℕ, ◌+◌, ◌≤◌, List, [], ◌∷◌, length, map, drop, Option, Some, option_map, unwrap_or, slice_get, inl, inr, refl, sym, ap, subst, ◌∙◌, arith, append-nil}
 use Rattle.std.proofs.lemmas.List.{length-map, length-take}
-use Rattle.std.proofs.lemmas.Bool.{false≢true}
 use Rattle.raft_log_base.specs.declared.errors.Error.{Error}
 use Rattle.raft_log_base.specs.declared.errors.Error.TheVariants as errors
 use Rattle.raft_log_model.specs.Meaning.Slot.{Index}
@@ -28,20 +27,18 @@ use Rattle.raft_log_purge_state.specs.raft_log_engine_state.specs.Fetching.{AreE
 use Rattle.raft_log_purge_state.specs.raft_log_engine_state.proofs.Fetching.{all_told, all_untold}
 use Rattle.raft_log_purge_state.specs.Rewriting.{HasCopies}
 use Rattle.raft_log_rewriting.specs.declared.entries.EntryBytes.{EntryBytes}
-use Rattle.raft_log_rewriting.specs.Parts.{Remains}
+use Rattle.raft_log_rewriting.specs.Parts.{IsUnmade, Remains}
 use Rattle.raft_log_rewriting.specs.Copies.{FailsToCopy, MovesCopies, WritesCopies}
-use Rattle.raft_log_rewriting.specs.Entries.{AreBytesAt, AreNext, IsRunBatch, copied_count, next_places}
+use Rattle.raft_log_rewriting.specs.Entries.{AreBytesAt, AreNext, IsRunBatch, as_bytes, copied_count, next_places}
 use Rattle.raft_log_rewriting.specs.Moving.{Advances}
+use Rattle.raft_log_rewriting.specs.Reasons.{GivesReason, HasReason}
 use Rattle.raft_log_rewriting.specs.Rewriting.{CopiesEntries, FailsToCopyEntries, OweNothing}
 use Rattle.raft_log_rewriting.proofs.Advancing.{moved_on}
 use Rattle.raft_log_rewriting.proofs.Carried.{plain_items}
 use Rattle.raft_log_rewriting.proofs.Nexts.{copied_few}
 use Rattle.raft_log_rewriting.proofs.OneRun.{dropped_at, entries_count, run_has_copies, taken_at}
-use Rattle.raft_log_rewriting.proofs.Parts.{same_later}
-
--- what is read of an entry's bytes
-abbrev pub as_bytes : List ℕ → Option EntryBytes
-as_bytes bytes = Some (record { bytes = bytes })
+use Rattle.raft_log_rewriting.proofs.Parts.{same_later, unmade_is_none}
+use Rattle.raft_log_rewriting.proofs.Reasons.{reason_after, tells_nothing, unmade_reason, unread_is_none, untold_reason}
 
 bytes_of_read : (m : LogMap) (g i : ℕ) (xs : List EntryBytes) → AreEntriesOf as_bytes m g i xs → AreBytesAt m g i (map (λ e. e.bytes) xs)
 bytes_of_read m g i [] all = tt
@@ -71,11 +68,29 @@ module _ (s : Shows) (g gate : ℕ) (es : List EntryIndex) (next : AreNext gate 
       (with_block home s m new h cached, bytes_of_read m g (v.first + v.rewritten) xs told)
 
   -- what wasn't read changed nothing
-  pub unread_is_held : (home : Home) (m : LogMap) → Holds home s m [] → (error : Error) → AreUnread as_bytes s.pipes es s.cache new error → Holds home (record s { cache = new }) m []
+  unread_is_held : (home : Home) (m : LogMap) → Holds home s m [] → (error : Error) → AreUnread as_bytes s.pipes es s.cache new error → Holds home (record s { cache = new }) m []
   unread_is_held home m h error unread =
       with_block home s m new h
       (all_untold s g home m [] h as_bytes v.rewritten ps (v.first + v.rewritten) (v.first + v.rewritten + length ps) s.cache new error stands_from (omega arith) (omega arith) h.cached
       (subst (λ l. AreUnread as_bytes s.pipes l s.cache new error) next unread)).0
+
+  -- and why it wasn't
+  unread_reason : (error : Error) → AreUnread as_bytes s.pipes es s.cache new error → GivesReason error s (record s { cache = new })
+  unread_reason error unread home m h =
+      let (cached, why) = all_untold s g home m [] h as_bytes v.rewritten ps (v.first + v.rewritten) (v.first + v.rewritten + length ps) s.cache new error stands_from (omega arith) (omega arith) h.cached
+      (subst (λ l. AreUnread as_bytes s.pipes l s.cache new error) next unread) in
+      untold_reason home m error s new h.state (record { state = h.state; map = h.map; runs = h.runs; stored = h.stored; rises = h.rises; meant = h.meant; cached = cached; at = h.at }) refl g (v.first + v.rewritten)
+      (v.first + v.rewritten + length ps) why
+
+  -- nothing was written
+  pub none_read : (error : Error) → AreUnread as_bytes s.pipes es s.cache new error → FailsToCopyEntries error s (record s { cache = new })
+  none_read error unread = record {
+    same = refl;
+    tells = λ lived. tells_nothing error s.pipes lived (unread_is_none s.pipes es s.cache new error unread);
+    later = same_later s.pipes.disk;
+    remains = λ owes home m h. inl (unread_is_held home m h error unread);
+    cause = unread_reason error unread;
+  }
 
 -- The batch.
 
@@ -176,21 +191,29 @@ module _ (s : Shows) (g gate : ℕ) (es : List EntryIndex) (next : AreNext gate 
     holds = λ owes home m h. moved.holds (run_plain g b (indexes_of es) (map (λ e. e.bytes) xs) is) home m (read_is_held s g gate es next new home m h xs reads).0 (copies home m h owes);
   }
 
+  -- with the block that was kept before
+  reason_on : (home : Home) (m : LogMap) (error : Error) (t : Shows) → HasReason home m error (record s { cache = new }) t → HasReason home m error s t
+  reason_on home m error t reason = reason_after home m error s (record s { cache = new }) t (same_later s.pipes.disk) reason
+
   pub entries_not_copied : (error : Error) (t : Shows) → FailsToCopy (Some gate) b error (record s { cache = new }) t → FailsToCopyEntries error s t
   entries_not_copied error t fails = record {
     same = fails.same ∙ ap (λ (c : BlockCache). record s { cache = c; pipes = t.pipes }) (sym (ap (λ (e : Shows). e.cache) fails.same));
-    failed = λ lived hit. (fails.tells lived).0 hit;
+    tells = fails.tells;
     later = fails.later;
     remains = λ owes home m h.
         remains_or home m t error
         (fails.remains (run_plain g b (indexes_of es) (map (λ e. e.bytes) xs) is) home m (read_is_held s g gate es next new home m h xs reads).0 (copies home m h owes));
+    cause = λ home m h.
+        reason_on home m error t (fails.cause (run_plain g b (indexes_of es) (map (λ e. e.bytes) xs) is) home m (read_is_held s g gate es next new home m h xs reads).0);
   }
 
--- nothing was written
-pub none_written : (error : Error) (s : Shows) (new : BlockCache) → ((home : Home) (m : LogMap) → Holds home s m [] → Holds home (record s { cache = new }) m []) → FailsToCopyEntries error s (record s { cache = new })
-none_written error s new stays = record {
+-- nothing was written: the batch isn't made
+pub none_written : (error : Error) (s : Shows) (new : BlockCache) → IsUnmade error → ((home : Home) (m : LogMap) → Holds home s m [] → Holds home (record s { cache = new }) m [])
+    → FailsToCopyEntries error s (record s { cache = new })
+none_written error s new why stays = record {
   same = refl;
-  failed = λ lived hit. absurd (false≢true (sym lived ∙ hit));
+  tells = λ lived. tells_nothing error s.pipes lived (unmade_is_none error why);
   later = same_later s.pipes.disk;
   remains = λ owes home m h. inl (stays home m h);
+  cause = λ home m h. unmade_reason home m error s (record s { cache = new }) why;
 }

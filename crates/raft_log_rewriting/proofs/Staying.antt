@@ -1,8 +1,6 @@
 -- Append goes on in its file while Rewrite is written and synced.
-use Rattle.std.proofs.Common.{◌≡◌, List, ℕ, refl, sym, ◌∙◌}
+use Rattle.std.proofs.Common.{◌≡◌, refl, sym, ◌∙◌}
 use Rattle.raft_log_base.specs.declared.pipe_log.FileBlockHandle.{FileBlockHandle}
-use Rattle.raft_log_base.specs.declared.pipe_log.LogFileContext.{LogFileContext}
-use Rattle.raft_log_base.specs.declared.pipe_log.LogQueue.TheVariants.{Rewrite}
 use Rattle.raft_log_atomic_groups.specs.declared.marking.Marking.TheVariants.{Unmarked}
 use Rattle.raft_log_model.specs.Item.Record.{Plain}
 use Rattle.raft_log_records.specs.Batch.{Batch}

@@ -13,6 +13,7 @@ use Rattle.raft_log_places.specs.Shown.{Shown, whereabouts}
 use Rattle.raft_log_replay.specs.declared.mem_tables.MemTables.{MemTables}
 use Rattle.raft_log_dual_pipes.specs.Pipes.{LogPipes, Said, is_failed, which_of}
 use Rattle.raft_log_dual_pipes.specs.Calls.{FailsToRotateQueue, FailsToSyncQueue, RotatesQueue, SyncsQueue, TellsFailure}
+use Rattle.raft_log_dual_pipes.specs.Numbers.{EndsNumbers}
 use Rattle.raft_log_purge_state.specs.raft_log_engine_state.specs.Shows.{Home, LogMap, Shows}
 use Rattle.raft_log_purge_state.specs.raft_log_engine_state.specs.Holding.{Holds}
 use Rattle.raft_log_purge_state.specs.raft_log_engine_state.proofs.Keeping.{holds_runs}
@@ -26,6 +27,7 @@ use Rattle.raft_log_rewriting.specs.Marks.{CarriesMarks}
 use Rattle.raft_log_rewriting.specs.Files.{FailsToLoseFiles, LosesFiles, MayLoseFiles, RemainsSettled}
 use Rattle.raft_log_rewriting.specs.Stale.{FailsToPurge, FailsToTurn, PurgesAllStale, TurnsAndLoses, written_file}
 use Rattle.raft_log_rewriting.proofs.Parts.{later_on, tells_err}
+use Rattle.raft_log_rewriting.proofs.Reasons.{file_reason_after, reason_after, reason_of_files, sync_reason, turn_reason}
 
 -- One queue.
 
@@ -50,13 +52,14 @@ turn_remains home m t errors.Failed h = h
 turn_remains home m t _ h = absurd h
 
 pub not_turned : {A : Type 0} (queue : LogQueue) (error : Error) (s : Shows) (mid : LogPipes) → TellsFailure {A = A} (Err error) mid → IsLater s.pipes.disk mid.disk → FailsToRotateQueue (which_of queue) error s.pipes mid
-    → FailsToTurn queue error s (record s { pipes = mid })
-not_turned {A} queue error s mid tells later call = record {
+    → EndsNumbers (which_of queue) error s.pipes → FailsToTurn queue error s (record s { pipes = mid })
+not_turned {A} queue error s mid tells later call ends = record {
   tells = λ lived. tells_err {A = A} error mid tells;
   later = later;
   remains = λ home log h owes.
       turn_remains home log (record s { pipes = mid }) error
       (turn_refused (which_of queue) home s (record s { pipes = mid }) log [] error (settled_held home s log h) (record { tables = refl; cache = inl refl }) call);
+  cause = λ home log h. turn_reason (which_of queue) home error s (record s { pipes = mid }) h.state h.runs call ends;
 }
 
 lost_remains : (home : Home) (m : LogMap) (t : Shows) (error : Error) → RemainsSettled home m t error → Remains home m t error
@@ -70,6 +73,8 @@ turned_not_lost queue error s t mid alive turns later fails = record {
   later = later_on s.pipes.disk mid.disk t.pipes.disk later fails.later;
   remains = λ home log h owes.
       lost_remains home log t error (fails.remains home log (settled_turns queue home s (record s { pipes = mid }) log h refl refl turns) owes);
+  cause = λ home log h.
+      file_reason_after error s (record s { pipes = mid }) t later (fails.cause home log (settled_turns queue home s (record s { pipes = mid }) log h refl refl turns));
 }
 
 pub turned : (queue : LogQueue) (m : MemTables) (last : ℕ) (s t : Shows) (mid : LogPipes) → last ≡ written_file queue mid → RotatesQueue (which_of queue) s.pipes mid → IsLater s.pipes.disk mid.disk → (r : Result ℕ Error)
@@ -101,6 +106,7 @@ module _ (s : Shows) (synced : LogPipes) (syncs : SyncsQueue InAppend s.pipes sy
     tells = λ lived. refused.tells alive;
     later = later_on s.pipes.disk synced.disk t.pipes.disk later refused.later;
     remains = λ home log pending h. inl (refused.remains home (taken log pending) (held_behind home log pending h));
+    cause = λ home log pending h. reason_after home (taken log pending) error s behind t later (refused.cause home (taken log pending) (held_behind home log pending h));
   }
 
   module _ (carried : Shows) (carries : CarriesMarks behind carried) where
@@ -115,6 +121,8 @@ module _ (s : Shows) (synced : LogPipes) (syncs : SyncsQueue InAppend s.pipes sy
       tells = λ lived. fails.tells carries.alive;
       later = later_on s.pipes.disk carried.pipes.disk t.pipes.disk to_carried fails.later;
       remains = λ home log pending h. inl (fails.remains home (taken log pending) (settled_there home log pending h) tt);
+      cause = λ home log pending h.
+          reason_after home (taken log pending) error s carried t to_carried (reason_of_files home (taken log pending) error carried t (fails.cause home (taken log pending) (settled_there home log pending h)));
     }
 
     module _ (m : MemTables) (lost : ℕ) (mid : Shows) (rewrite : TurnsAndLoses Rewrite m lost carried mid) (tables : mid.tables ≡ carried.tables) where
@@ -132,6 +140,8 @@ module _ (s : Shows) (synced : LogPipes) (syncs : SyncsQueue InAppend s.pipes sy
         tells = λ lived. fails.tells rewrite.loses.alive;
         later = later_on s.pipes.disk mid.pipes.disk t.pipes.disk to_mid fails.later;
         remains = λ home log pending h. inl (fails.remains home (taken log pending) (settled_mid home log pending h) none_mid);
+        cause = λ home log pending h.
+            reason_after home (taken log pending) error s mid t to_mid (reason_of_files home (taken log pending) error mid t (fails.cause home (taken log pending) (settled_mid home log pending h)));
       }
 
       pub all_purged : (gone : ℕ) (t : Shows) → TurnsAndLoses Append m gone mid t → PurgesAllStale m s t
@@ -156,4 +166,5 @@ unsynced {A} error s w is tells later call = record {
   tells = λ lived. tells_err {A = A} error w tells;
   later = later;
   remains = λ home log pending h. inr (is, (unsynced_left home s.pipes w log pending (holds_runs home s log pending h) call).1);
+  cause = λ home log pending h. sync_reason InAppend home (taken log pending) error s (record s { pipes = w }) h.state h.runs is call;
 }

@@ -1,5 +1,5 @@
 -- Entries of Append are copied to Rewrite.
-use Rattle.std.specs.Prelude.{◌≡◌, ◌+◌, ℕ, min, List, [], ◌∷◌, Some, length, take, drop}
+use Rattle.std.specs.Prelude.{◌≡◌, ◌+◌, ℕ, min, List, [], ◌∷◌, Option, Some, length, take, drop}
 use Rattle.raft_log_items.specs.declared.entry.EntryIndex.{EntryIndex}
 use Rattle.raft_log_model.specs.Meaning.Slot.{Index}
 use Rattle.raft_log_model.specs.Meaning.Content.{Entry}
@@ -12,6 +12,7 @@ use Rattle.raft_log_places.specs.declared.place.Place.{Place}
 use Rattle.raft_log_places.specs.Shown.{Shown}
 use Rattle.raft_log_purge_state.specs.raft_log_tables.specs.Reads.{entries_from}
 use Rattle.raft_log_purge_state.specs.raft_log_engine_state.specs.Shows.{LogMap}
+use Rattle.raft_log_rewriting.specs.declared.entries.EntryBytes.{EntryBytes}
 
 -- how many bytes of entries are copied at once, but for an entry that has more
 abbrev pub copied_at_once : ℕ
@@ -29,6 +30,10 @@ next_places gate v = take (copied_count gate (drop v.rewritten v.places)) (drop 
 -- the entries are these
 abbrev pub AreNext : ℕ → Shown → List EntryIndex → Type 0
 AreNext gate v es = es ≡ entries_from v v.rewritten (next_places gate v)
+
+-- what is read of an entry's bytes
+abbrev pub as_bytes : List ℕ → Option EntryBytes
+as_bytes bytes = Some (record { bytes = bytes })
 
 -- these are the bytes of a group's entries in the map, from an index on
 abbrev pub AreBytesAt : LogMap → ℕ → ℕ → List (List ℕ) → Type 0

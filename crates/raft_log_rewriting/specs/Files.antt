@@ -17,6 +17,7 @@ use Rattle.raft_log_dual_pipes.specs.Pipes.{files_of, which_of}
 use Rattle.raft_log_purge_state.specs.raft_log_engine_state.specs.Shows.{Home, LogMap, Shows, has_failed}
 use Rattle.raft_log_purge_state.specs.raft_log_engine_state.specs.Holding.{IsLeftAt}
 use Rattle.raft_log_purge_state.specs.Settled.{HoldsSettled}
+use Rattle.raft_log_rewriting.specs.Reasons.{HasFileReason}
 
 -- the least file of a queue in which a group has something, if it has a table, and there is one
 abbrev pub least_in : LogQueue → Option Raw → Option ℕ
@@ -57,9 +58,10 @@ abbrev pub RemainsSettled : Home → LogMap → Shows → Error → Type 0
 RemainsSettled home m t errors.Failed = IsLeftAt home t.pipes.disk m []
 RemainsSettled home m t _ = HoldsSettled home t m
 
--- So it is of whatever log it was.
+-- So it is of whatever log it was; and why.
 pub record FailsToLoseFiles (queue : LogQueue) (error : Error) (s t : Shows) : Type 0 where
   pub tells : has_failed s ≡ false → IsTrue (has_failed t) ↔ (error ≡ errors.Failed)
   pub later : IsLater s.pipes.disk t.pipes.disk
   pub remains : (home : Home) (log : LogMap) → HoldsSettled home s log
       → MayLoseFiles (which_of queue) s.tables → RemainsSettled home log t error
+  pub cause : (home : Home) (log : LogMap) → HoldsSettled home s log → HasFileReason error s t

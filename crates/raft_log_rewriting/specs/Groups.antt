@@ -1,5 +1,5 @@
 -- Groups are rewritten: all that they have in Append in files up to the gate is copied to Rewrite.
-use Rattle.std.specs.Prelude.{◌≡◌, ◌+◌, ◌==◌, ℕ, Bool, true, false, List, drop}
+use Rattle.std.specs.Prelude.{◌≡◌, ◌↔◌, ◌+◌, ◌==◌, IsTrue, ℕ, Bool, true, false, List, drop}
 use Rattle.std.specs.List.{list_any}
 use Rattle.raft_log_disk.specs.Causes.{IsLater}
 use Rattle.raft_log_base.specs.declared.errors.Error.{Error}
@@ -11,6 +11,7 @@ use Rattle.raft_log_purge_state.specs.raft_log_engine_state.specs.Shows.{Shows, 
 use Rattle.raft_log_purge_state.specs.Raising.{AppendMayBegin}
 use Rattle.raft_log_rewriting.specs.Parts.{StaysInFile}
 use Rattle.raft_log_rewriting.specs.Moving.{IsPartlyRewritten, IsRewrittenTo}
+use Rattle.raft_log_rewriting.specs.Reasons.{GivesReason}
 use Rattle.raft_log_rewriting.specs.Rewriting.{OweNothing, StaysHeld, StaysOrIsLeft}
 
 -- Of each group that passes the test a part of what it had in Append, in files up to the gate, is in Rewrite
@@ -29,11 +30,12 @@ pub record Rewrites (test : ℕ → Bool) (gate : ℕ) (s t : Shows) : Type 0 wh
   pub stays : StaysInFile s.pipes t.pipes
   pub holds : StaysHeld s t
 
--- rewriting was refused, with a part done
+-- rewriting was refused, with a part done; and why, where no mark is owed
 pub record StopsRewriting (test : ℕ → Bool) (gate : ℕ) (error : Error) (s t : Shows) : Type 0 where
   pub part : RewritesPart test gate s t
-  pub failed : has_failed s ≡ false → has_failed t ≡ true → error ≡ errors.Failed
+  pub tells : has_failed s ≡ false → IsTrue (has_failed t) ↔ (error ≡ errors.Failed)
   pub remains : StaysOrIsLeft error s t
+  pub cause : OweNothing s.tables → GivesReason error s t
 
 -- all entries of a group in Append, in files up to the gate, were copied
 pub record RewritesEntries (group gate : ℕ) (s t : Shows) : Type 0 where

@@ -11,6 +11,7 @@ use Rattle.raft_log_purge_state.specs.raft_log_engine_state.specs.Shows.{Shows, 
 use Rattle.raft_log_rewriting.specs.Copies.{WritesCopies}
 use Rattle.raft_log_rewriting.specs.Marks.{AreNoMarks}
 use Rattle.raft_log_rewriting.specs.Moving.{MovesKeys}
+use Rattle.raft_log_rewriting.specs.Reasons.{GivesReason}
 use Rattle.raft_log_rewriting.specs.Rewriting.{StaysHeld, StaysOrIsLeft}
 
 -- the batch is being filled, gives the group's keys these values, and is no part of an atomic group
@@ -33,9 +34,10 @@ pub record CopiesKeys (group gate : ℕ) (s t : Shows) : Type 0 where
   pub later : IsLater s.pipes.disk t.pipes.disk
   pub holds : StaysHeld s t
 
--- they were refused: all that shows of the tables shows as it did
+-- they were refused, and why: all that shows of the tables shows as it did
 pub record FailsToCopyKeys (error : Error) (s t : Shows) : Type 0 where
   pub same : t ≡ record s { pipes = t.pipes }
   pub tells : has_failed s ≡ false → IsTrue (has_failed t) ↔ (error ≡ errors.Failed)
   pub later : IsLater s.pipes.disk t.pipes.disk
   pub remains : StaysOrIsLeft error s t
+  pub cause : GivesReason error s t

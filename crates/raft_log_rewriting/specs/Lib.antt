@@ -1,3 +1,4 @@
+pub mod Reasons
 pub mod Parts
 pub mod Syncing
 pub mod Marks

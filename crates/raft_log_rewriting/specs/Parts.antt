@@ -10,6 +10,7 @@ use Rattle.raft_log_purge_state.specs.raft_log_steps.specs.State.{pipe_at}
 use Rattle.raft_log_dual_pipes.specs.Pipes.{LogPipes, RunsOn, State, files_of}
 use Rattle.raft_log_purge_state.specs.raft_log_engine_state.specs.Shows.{Home, IsLaidOut, LogMap, Shows, has_failed, sense}
 use Rattle.raft_log_purge_state.specs.raft_log_engine_state.specs.Holding.{Holds, IsLeftAt}
+use Rattle.raft_log_rewriting.specs.Reasons.{GivesReason}
 
 -- What is true where a part was refused, by the error: the engine's log is what it was, and nothing is
 -- pending; and where the engine has failed, its log is held.
@@ -17,11 +18,13 @@ abbrev pub Remains : Home → LogMap → Shows → Error → Type 0
 Remains home m t errors.Failed = IsLeftAt home t.pipes.disk m []
 Remains home m t _ = Holds home t m []
 
--- A part was refused: the engine has failed now exactly where that is told, and whatever its log was, it is.
+-- A part was refused: the engine has failed now exactly where that is told, and whatever its log was, it is;
+-- and why.
 pub record IsRefused (error : Error) (s t : Shows) : Type 0 where
   pub tells : has_failed s ≡ false → IsTrue (has_failed t) ↔ (error ≡ errors.Failed)
   pub later : IsLater s.pipes.disk t.pipes.disk
   pub remains : (home : Home) (m : LogMap) → Holds home s m [] → Remains home m t error
+  pub cause : GivesReason error s t
 
 -- why a record isn't made: it would be too long, a key is one of the log's own, or memory is short
 abbrev pub IsUnmade : Error → Type 0

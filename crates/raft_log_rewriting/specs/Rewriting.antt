@@ -1,5 +1,5 @@
 -- A group's entries in Append are copied, as many at once as a batch may have.
-use Rattle.std.specs.Prelude.{◌≡◌, ◌⊎◌, ℕ, Bool, true, false, List, [], Some, length}
+use Rattle.std.specs.Prelude.{◌≡◌, ◌⊎◌, ◌↔◌, IsTrue, ℕ, Bool, true, false, List, [], Some, length}
 use Rattle.raft_log_disk.specs.Causes.{IsLater}
 use Rattle.raft_log_base.specs.declared.errors.Error.{Error}
 use Rattle.raft_log_base.specs.declared.errors.Error.TheVariants as errors
@@ -13,6 +13,7 @@ use Rattle.raft_log_purge_state.specs.raft_log_engine_state.specs.Holding.{Holds
 use Rattle.raft_log_rewriting.specs.Copies.{MovesCopies}
 use Rattle.raft_log_rewriting.specs.Entries.{AreNext, IsRunBatch}
 use Rattle.raft_log_rewriting.specs.Moving.{Advances}
+use Rattle.raft_log_rewriting.specs.Reasons.{GivesReason}
 
 -- no group owes a mark
 abbrev pub OweNothing : (ℕ → Shown) → Type 0
@@ -45,9 +46,10 @@ abbrev pub CopiesIfAny : ℕ → ℕ → Bool → Shows → Shows → Type 0
 CopiesIfAny group gate true s t = CopiesEntries group gate s t
 CopiesIfAny group gate false s t = (t ≡ s) × AreNext gate (s.tables group) []
 
--- It was refused: all that shows of the tables shows as it did.
+-- It was refused, and why: all that shows of the tables shows as it did.
 pub record FailsToCopyEntries (error : Error) (s t : Shows) : Type 0 where
   pub same : t ≡ record s { pipes = t.pipes; cache = t.cache }
-  pub failed : has_failed s ≡ false → has_failed t ≡ true → error ≡ errors.Failed
+  pub tells : has_failed s ≡ false → IsTrue (has_failed t) ↔ (error ≡ errors.Failed)
   pub later : IsLater s.pipes.disk t.pipes.disk
   pub remains : StaysOrIsLeft error s t
+  pub cause : GivesReason error s t

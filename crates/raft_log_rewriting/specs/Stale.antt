@@ -17,6 +17,7 @@ use Rattle.raft_log_purge_state.specs.Settled.{HoldsSettled}
 use Rattle.raft_log_rewriting.specs.Parts.{Remains}
 use Rattle.raft_log_rewriting.specs.Marks.{CarriesMarks}
 use Rattle.raft_log_rewriting.specs.Files.{LosesFiles, MayLoseFiles}
+use Rattle.raft_log_rewriting.specs.Reasons.{HasFileReason, HasReason}
 
 -- the number of the file that a queue is being written in
 abbrev pub written_file : LogQueue → LogPipes → ℕ
@@ -32,12 +33,13 @@ pub record TurnsAndLoses (queue : LogQueue) (m : MemTables) (count : ℕ) (s t :
   pub keeps : (home : Home) (log : LogMap) → HoldsSettled home s log
       → MayLoseFiles (which_of queue) s.tables → HoldsSettled home t log
 
--- it was refused: whatever the log was, it is so; and where the engine has failed, its log is held
+-- it was refused, and why: whatever the log was, it is so; and where the engine has failed, its log is held
 pub record FailsToTurn (queue : LogQueue) (error : Error) (s t : Shows) : Type 0 where
   pub tells : has_failed s ≡ false → IsTrue (has_failed t) ↔ (error ≡ errors.Failed)
   pub later : IsLater s.pipes.disk t.pipes.disk
   pub remains : (home : Home) (log : LogMap) → HoldsSettled home s log
       → MayLoseFiles (which_of queue) s.tables → Remains home log t error
+  pub cause : (home : Home) (log : LogMap) → HoldsSettled home s log → HasFileReason error s t
 
 -- All stale files are purged: Append was synced, then marks were carried, then each queue went on in its next
 -- file and lost those before that aren't in use, Rewrite first. The map stays, and nothing is pending.
@@ -55,11 +57,13 @@ pub record PurgesAllStale (m : MemTables) (s t : Shows) : Type 0 where
   pub settles : (home : Home) (log : LogMap) (pending : List Said) → Holds home s log pending
       → HoldsSettled home t (taken log pending)
 
--- That was refused: the map stays, and where the engine has failed, its log is held, with the batches on the
--- map, or pending as they were.
+-- That was refused, and why: the map stays, and where the engine has failed, its log is held, with the batches
+-- on the map, or pending as they were.
 pub record FailsToPurge (error : Error) (s t : Shows) : Type 0 where
   pub tells : has_failed s ≡ false → IsTrue (has_failed t) ↔ (error ≡ errors.Failed)
   pub later : IsLater s.pipes.disk t.pipes.disk
   pub remains : (home : Home) (log : LogMap) (pending : List Said) → Holds home s log pending
       → Remains home (taken log pending) t error
       ⊎ ((error ≡ errors.Failed) × IsLeftAt home t.pipes.disk log pending)
+  pub cause : (home : Home) (log : LogMap) (pending : List Said) → Holds home s log pending
+      → HasReason home (taken log pending) error s t

@@ -1,11 +1,13 @@
 //! Entries of Append that are to be copied: which come next, their bytes, and a batch of them.
 
-ghost use Rattle.std.specs.Prelude.{◌≡◌, Some, map, nat_le, IfOk};
+ghost use Rattle.std.specs.Prelude.{◌≡◌, Some, map, nat_le, IfErr, IfOk};
+ghost use Rattle.raft_log_base.specs.declared.errors.Error.TheVariants as errors;
 ghost use Rattle.raft_log_held.specs.Counts.{passing};
 ghost use Rattle.raft_log_held.specs.Entries.{place_of};
 ghost use Rattle.raft_log_records.specs.Entries.{indexes_of, slices_bytes};
 ghost use Rattle.raft_log_replay.specs.Tables.{shown_of};
 ghost use Rattle.raft_log_rewriting.specs.Entries.{AreNext, IsRunBatch};
+ghost use Rattle.raft_log_rewriting.specs.Parts.{IsUnmade};
 
 use raft_log_base::{FileSeq, Result};
 use raft_log_items::{Bytes, EntryIndex, Message};
@@ -39,14 +41,15 @@ impl Message for EntryBytes {
 }
 
 /// The entries of a group that are to be copied next: the first ones in Append, all in files up to the gate,
-/// as many as a batch may have, and one at least where there is one.
+/// as many as a batch may have, and one at least where there is one. It is refused for want of memory alone.
 pub fn next_entries(
     alloc: Global,
     tables: &MemTables,
     group: u64,
     gate: FileSeq,
 ) -> Result<Vec<EntryIndex>>
-    ensures { IfOk result (λ entries. AreNext gate (shown_of tables.now group) entries.items) }
+    ensures ok { IfOk result (λ entries. AreNext gate (shown_of tables.now group) entries.items) }
+    ensures errors { IfErr result (λ error. error ≡ errors.Memory) }
 {
     let mut entries = Vec::new(alloc);
     if let Some(table) = tables.known_table(group) {
@@ -82,6 +85,8 @@ fn is_up_to(entry: &EntryIndex, gate: FileSeq) -> bool
 }
 
 /// A batch of one run: a group's entries with these indexes and bytes.
+///
+/// `Full`, `Memory`, or `InvalidArgument` where these indexes are no run.
 pub fn run_batch(
     alloc: Global,
     group: u64,
@@ -89,6 +94,7 @@ pub fn run_batch(
     read: &[EntryBytes],
 ) -> Result<LogBatch>
     ensures ok { IfOk result (IsRunBatch group (indexes_of entries.now) (map (λ e. e.bytes) read.now)) }
+    ensures errors { IfErr result IsUnmade }
 {
     let mut batch = LogBatch::default(alloc)?;
     let slices = slices_of(alloc, read)?;

@@ -1,13 +1,16 @@
 use Rattle.std.proofs.Common.{List, ℕ, subst}
 use Rattle.std.specs.Prelude.{IfErr, OnOk}
+use Rattle.std.proofs.lemmas.Result.{err_from_is_err_and}
 use Rattle.raft_log_restating.specs.raft_log_engine_state.specs.Shows.{shows}
 use Rattle.raft_log_restating.specs.raft_log_rewriting.specs.Groups.{StopsAtGroups}
 use Rattle.raft_log_purging.specs.Append.{RewritesThese}
-use Rattle.raft_log_purging.proofs.Past.{none_yet, whole_listed, whole_unlisted}
+use Rattle.raft_log_purging.proofs.Past.{none_rewritten_yet, whole_listed, whole_unlisted}
 use Rattle.raft_log_purging.proofs.append.rewrite_all.Goals as goal
 
 pub returns-in_err-groups-clause-err : goal.returns-in_err-groups-clause-err
-returns-in_err-groups-clause-err g c = none_yet c.args.gate (shows (g.P.PipeLog.shown c.args.pipes.now) c.args.tables.now c.args.cache.now) c.from_residual.result
+returns-in_err-groups-clause-err g c =
+    let p = err_from_is_err_and c.from_residual.result c.from_residual.ensures.1 in
+    rw p.1 (none_rewritten_yet c.args.gate p.0 (shows (g.P.PipeLog.shown c.args.pipes.now) c.args.tables.now c.args.cache.now) p.2)
 
 pub returns-clause-ok : goal.returns-clause-ok
 returns-clause-ok g c =

@@ -9,7 +9,7 @@ returns-in_err-sync-clause-err g c =
     let e = c.in_err-sync.ensures in
     let s = shows (g.P.PipeLog.shown c.args.pipes.now) c.args.tables.now c.args.cache.now in
     let p = err_from_is_err_and c.from_residual.result c.from_residual.ensures.1 in
-    rw (p.1, p.2) (append_unsynced c.in_err-sync.field-0.0 s (g.P.PipeLog.shown c.sync.new.self) e.error e.later e.err)
+    rw (p.1, p.2) (append_unsynced c.in_err-sync.field-0.0 s (g.P.PipeLog.shown c.sync.new.self) e.fails e.error e.later e.err)
 
 pub returns-in_err-gate-clause-err : goal.returns-in_err-gate-clause-err
 returns-in_err-gate-clause-err g c =
@@ -18,7 +18,7 @@ returns-in_err-gate-clause-err g c =
     let synced = g.P.PipeLog.shown c.sync.new.self in
     let p = err_from_is_err_and c.from_residual-in_err-gate.result c.from_residual-in_err-gate.ensures.1 in
     let k = c.in_err-gate.ensures in
-    rw (p.1, p.2) (not_passed s synced e.ok e.later (alive_ok c.in_ok-sync.field-0 synced e.fails) c.in_err-gate.field-0.0 (g.P.PipeLog.shown c.pass_gate.new.pipes) k.fails k.later k.err)
+    rw (p.1, p.2) (not_passed s synced e.ok e.later (alive_ok c.in_ok-sync.field-0 synced e.fails) c.in_err-gate.field-0.0 (g.P.PipeLog.shown c.pass_gate.new.pipes) k.fails k.later k.err k.range)
 
 pub returns-in_err-rewrite_marks-clause-err : goal.returns-in_err-rewrite_marks-clause-err
 returns-in_err-rewrite_marks-clause-err g c =

@@ -21,4 +21,4 @@ returns-clause-err g c =
     let s = shows (g.P.PipeLog.shown c.args.pipes.now) c.args.tables.now c.args.cache.now in
     let t = shows (g.P.PipeLog.shown c.rewrite_groups.new.pipes) c.rewrite_groups.new.tables c.rewrite_groups.new.cache in
     let e = c.sync.ensures in
-    whole_unsynced (among c.args.groups.now) c.args.gate s t c.in_ok-rewrite_groups.ensures.ok (g.P.PipeLog.shown c.sync.new.self) e.later c.sync.result e.error e.err
+    whole_unsynced (among c.args.groups.now) c.args.gate s t c.in_ok-rewrite_groups.ensures.ok (g.P.PipeLog.shown c.sync.new.self) e.later c.sync.result e.fails e.error e.err

@@ -1,22 +1,26 @@
 use Rattle.std.proofs.Common.{◌≡◌, ◌<◌, ◌∙◌, ℕ, ap, ap₂, subst, arith}
+use Rattle.std.proofs.lemmas.Result.{err_from_is_err_and}
 use Rattle.raft_log_base.specs.declared.pipe_log.FileId.{FileId}
 use Rattle.raft_log_base.specs.declared.pipe_log.LogQueue.{LogQueue}
 use Rattle.raft_log_base.specs.declared.pipe_log.LogQueue.TheVariants.{Append}
 use Rattle.raft_log_directory.specs.Calls.Which.{InAppend}
 use Rattle.raft_log_dual_pipes.specs.Pipes.{which_of}
 use Rattle.raft_log_dual_pipes.specs.Calls.{FailsToPurgeQueue, PurgesQueue}
+use Rattle.raft_log_dual_pipes.specs.Numbers.{EndsNumbersBelow}
 use Rattle.raft_log_restating.specs.raft_log_engine_state.specs.Shows.{shows}
 use Rattle.raft_log_purge.specs.Watermarks.{first_at, last_at}
 use Rattle.raft_log_restating.specs.raft_log_rewriting.specs.Files.{IsLeastOf}
 use Rattle.raft_log_purging.specs.Append.{up_to}
-use Rattle.raft_log_purging.proofs.Picked.{lost_below, none_below, none_gone_yet, not_lost_below}
+use Rattle.raft_log_purging.proofs.Picked.{lost_below, none_below, none_gone, not_lost_below}
 use Rattle.raft_log_purging.proofs.expired.purge_below.Goals as goal
 
 abbrev file_of : LogQueue → ℕ → FileId
 file_of q n = record { queue = q; seq = n }
 
 pub returns-in_err-least-clause-err : goal.returns-in_err-least-clause-err
-returns-in_err-least-clause-err g c = none_gone_yet (shows (g.P.PipeLog.shown c.args.pipes.now) c.args.tables.now c.args.cache.now) c.from_residual.result
+returns-in_err-least-clause-err g c =
+    let p = err_from_is_err_and c.from_residual.result c.from_residual.ensures.1 in
+    rw p.1 (none_gone p.0 (shows (g.P.PipeLog.shown c.args.pipes.now) c.args.tables.now c.args.cache.now) p.2)
 
 pub returns-then-least-first-clause-ok : goal.returns-then-least-first-clause-ok
 returns-then-least-first-clause-ok g c =
@@ -44,9 +48,10 @@ returns-in-Err-clause-err g c =
     let v = g.P.PipeLog.shown c.args.pipes.now in
     let w = g.P.PipeLog.shown c.purge_to.new.self in
     let e = c.in-Err.ensures in
-    let ends = c.file_span-first.ensures in
-    let limit : c.up_to.result ≡ up_to c.args.held (last_at InAppend v) = c.up_to.ensures ∙ ap (up_to c.args.held) ends.last in
+    let span = c.file_span-first.ensures in
+    let limit : c.up_to.result ≡ up_to c.args.held (last_at InAppend v) = c.up_to.ensures ∙ ap (up_to c.args.held) span.last in
     let least = subst (λ (n : ℕ). IsLeastOf Append n c.args.tables.now c.in_ok-least.least) limit c.in_ok-least.ensures in
     let named : ◌≡◌ {A = FileId} c.new.result (record { queue = Append; seq = c.in_ok-least.least }) = ap₂ file_of c.new.ensures.queue c.new.ensures.seq in
     let call = subst (λ (f : FileId). FailsToPurgeQueue (which_of f.queue) f.seq c.in-Err.error v w) named e.err in
-    not_lost_below c.args.held c.in_ok-least.least c.args.tables.now v c.args.cache.now least w c.clear.new.self c.clear.ensures e.later {A = ℕ} c.in-Err.error e.fails call
+    let ends = subst (λ (f : FileId). EndsNumbersBelow (which_of f.queue) c.in-Err.error v) named e.range in
+    not_lost_below c.args.held c.in_ok-least.least c.args.tables.now v c.args.cache.now least w c.clear.new.self c.clear.ensures e.later {A = ℕ} c.in-Err.error e.fails call ends

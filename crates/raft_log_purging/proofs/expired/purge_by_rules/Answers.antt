@@ -6,11 +6,13 @@ use Rattle.raft_log_purge.specs.Watermarks.{watermarks_of}
 use Rattle.raft_log_purge_rules.specs.Picking.{count_of, rewrites_at}
 use Rattle.raft_log_purging.specs.Expired.{PicksGroups, RewritesPicked}
 use Rattle.raft_log_restating.specs.raft_log_rewriting.proofs.Grouping.{among}
-use Rattle.raft_log_purging.proofs.Picked.{listed_picked, nothing_purged_yet}
+use Rattle.raft_log_purging.proofs.Picked.{listed_picked, nothing_purged}
 use Rattle.raft_log_purging.proofs.expired.purge_by_rules.Goals as goal
 
 pub returns-in_err-picked-clause-err : goal.returns-in_err-picked-clause-err
-returns-in_err-picked-clause-err g c = nothing_purged_yet (shows (g.P.PipeLog.shown c.args.pipes.now) c.args.tables.now c.args.cache.now) c.from_residual.result
+returns-in_err-picked-clause-err g c =
+    let p = err_from_is_err_and c.from_residual.result c.from_residual.ensures.1 in
+    rw p.1 (nothing_purged p.0 (shows (g.P.PipeLog.shown c.args.pipes.now) c.args.tables.now c.args.cache.now) p.2)
 
 pub returns-in_err-rewrite_picked-clause-err : goal.returns-in_err-rewrite_picked-clause-err
 returns-in_err-rewrite_picked-clause-err g c =

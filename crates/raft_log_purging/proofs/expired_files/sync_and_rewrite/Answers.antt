@@ -10,7 +10,7 @@ returns-in_err-sync-clause-err g c =
     let e = c.in_err-sync.ensures in
     let s = shows (g.P.PipeLog.shown c.args.pipes.now) c.args.tables.now c.args.cache.now in
     let p = err_from_is_err_and c.from_residual.result c.from_residual.ensures.1 in
-    rw (p.1, p.2) (append_unsynced c.in_err-sync.field-0.0 s (g.P.PipeLog.shown c.sync.new.self) e.error e.later e.err)
+    rw (p.1, p.2) (append_unsynced c.in_err-sync.field-0.0 s (g.P.PipeLog.shown c.sync.new.self) e.fails e.error e.later e.err)
 
 pub returns-clause-ok : goal.returns-clause-ok
 returns-clause-ok g c =

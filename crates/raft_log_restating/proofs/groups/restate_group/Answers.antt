@@ -9,12 +9,12 @@ use Rattle.raft_log_restating.proofs.groups.restate_group.Goals as goal
 pub returns-in_err-entries-clause-err : goal.returns-in_err-entries-clause-err
 returns-in_err-entries-clause-err g c =
     let p = err_from_is_err_and c.from_residual.result c.from_residual.ensures.1 in
-    rw p.1 (nothing_done p.0 (shows (g.P.PipeLog.shown c.args.pipes.now) c.args.tables.now c.args.cache.now))
+    rw p.1 (nothing_done p.0 (shows (g.P.PipeLog.shown c.args.pipes.now) c.args.tables.now c.args.cache.now) p.2)
 
 pub returns-in_err-pairs-clause-err : goal.returns-in_err-pairs-clause-err
 returns-in_err-pairs-clause-err g c =
     let p = err_from_is_err_and c.from_residual-in_err-pairs.result c.from_residual-in_err-pairs.ensures.1 in
-    rw p.1 (nothing_done p.0 (shows (g.P.PipeLog.shown c.args.pipes.now) c.args.tables.now c.args.cache.now))
+    rw p.1 (nothing_done p.0 (shows (g.P.PipeLog.shown c.args.pipes.now) c.args.tables.now c.args.cache.now) p.2)
 
 pub returns-clause-ok : goal.returns-clause-ok
 returns-clause-ok g c =

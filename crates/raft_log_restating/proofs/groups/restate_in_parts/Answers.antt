@@ -19,7 +19,7 @@ returns-in_err-push-clause-err g c =
     let s = shows (g.P.PipeLog.shown c.args.pipes.now) m c.args.cache.now in
     rw p.1
     (λ stands.
-    given_up c.args.group c.args.builder.now.id c.args.count (c.in_ok-first.first ∷ []) s (shows (g.P.PipeLog.shown c.begin_parts.new.pipes) m c.begin_parts.new.cache) (c.in_ok-first.ensures.ok m stands.entries) p.0)
+    given_up c.args.group c.args.builder.now.id c.args.count (c.in_ok-first.first ∷ []) s (shows (g.P.PipeLog.shown c.begin_parts.new.pipes) m c.begin_parts.new.cache) (c.in_ok-first.ensures.ok m stands.entries) p.0 p.2)
 
 pub returns-in_err-done-clause-err : goal.returns-in_err-done-clause-err
 returns-in_err-done-clause-err g c =

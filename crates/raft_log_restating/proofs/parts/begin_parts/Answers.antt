@@ -24,7 +24,7 @@ returns-in_err-begin-clause-err g c =
     let p = err_from_is_err_and c.from_residual-in_err-begin.result c.from_residual-in_err-begin.ensures.1 in
     rw p.1
     (λ m is.
-    begin_unmarked c.args.group c.args.count (shows v m c.args.cache.now) c.piece_of.new.cache c.args.entries.now (take c.args.count c.args.entries.now) is refl p.0 c.as_slice.result.now c.in_ok-batch.batch c.in_ok-batch.ensures.ok)
+    begin_unmarked c.args.group c.args.count (shows v m c.args.cache.now) c.piece_of.new.cache c.args.entries.now (take c.args.count c.args.entries.now) is refl p.0 p.2 c.as_slice.result.now c.in_ok-batch.batch c.in_ok-batch.ensures.ok)
 
 pub returns-clause-ok : goal.returns-clause-ok
 returns-clause-ok g c =

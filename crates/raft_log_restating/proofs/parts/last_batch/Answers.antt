@@ -34,7 +34,7 @@ returns-in_err-end-clause-err g c =
     (λ m s is has.
     fails_shown c.args.group n c.args.done parts s v v m c.args.cache.now c.piece_of.new.cache has p.0
     (more_unmarked c.args.group n c.args.done (length all - c.args.done) parts s v c.args.cache.now c.piece_of.new.cache (at_shown c.args.group n c.args.done parts s v m c.args.cache.now has) all (take (length all - c.args.done) (drop c.args.done all)) is refl
-    (omega (arith, within)) p.0 c.args.pairs.now c.in_ok-batch.batch c.in_ok-batch.ensures.ok))
+    (omega (arith, within)) p.0 p.2 c.args.pairs.now c.in_ok-batch.batch c.in_ok-batch.ensures.ok))
 
 pub returns-clause-ok : goal.returns-clause-ok
 returns-clause-ok g c =

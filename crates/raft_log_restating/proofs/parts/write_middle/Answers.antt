@@ -39,7 +39,7 @@ returns-in_err-add-clause-err g c =
     (λ m s is has.
     fails_shown c.args.group n c.args.done parts s v v m c.args.cache.now c.piece_of.new.cache has p.0
     (more_unmarked c.args.group n c.args.done c.args.count parts s v c.args.cache.now c.piece_of.new.cache (at_shown c.args.group n c.args.done parts s v m c.args.cache.now has) all
-    (take ((c.args.done + c.args.count) - c.args.done) (drop c.args.done all)) is (cut c.args.done c.args.count all) c.requires.few p.0 c.as_slice.result.now c.in_ok-batch.batch c.in_ok-batch.ensures.ok))
+    (take ((c.args.done + c.args.count) - c.args.done) (drop c.args.done all)) is (cut c.args.done c.args.count all) c.requires.few p.0 p.2 c.as_slice.result.now c.in_ok-batch.batch c.in_ok-batch.ensures.ok))
 
 pub returns-clause-ok : goal.returns-clause-ok
 returns-clause-ok g c =

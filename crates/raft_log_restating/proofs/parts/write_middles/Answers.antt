@@ -60,7 +60,7 @@ returns-in_err-push-clause-err g c =
     given_up c.args.group l.builder.id (l.done + l.count) (l.parts.items ++ c.in_ok-part.part ∷ []) s (shows (g.P.PipeLog.shown c.write_middle.new.pipes) m c.write_middle.new.cache)
     (c.in_ok-part.ensures.ok l.parts.items m s is
     (subst (λ (k : ℕ). HasParts c.args.group k l.done l.parts.items s (shows (g.P.PipeLog.shown l.pipes) m l.cache)) (sym l.invariant.same) (l.invariant.goes m s is has)))
-    p.0)
+    p.0 p.2)
 
 pub returns-clause-ok : goal.returns-clause-ok
 returns-clause-ok g c = c.loop-count.invariant.goes

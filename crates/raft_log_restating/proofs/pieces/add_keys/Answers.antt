@@ -17,5 +17,5 @@ loop-pair-preserved c =
     (subst (λ (w : List ℕ). Puts c.loop-pair.batch c.put.new.self c.args.group c.pair-item.result.0 w) value
     (subst (λ (k : List ℕ). Puts c.loop-pair.batch c.put.new.self c.args.group k c.as_slice-in-loop-pair.result.now) key c.in_ok-put.ensures.ok))
 
-pub returns : goal.returns
-returns c = all_keys c.args.group c.args.pairs.now c.loop-pair.pair-index c.args.batch.now c.loop-pair.batch (omega (arith, c.loop-pair-test.false)) c.loop-pair.invariant
+pub returns-clause-ok : goal.returns-clause-ok
+returns-clause-ok c = all_keys c.args.group c.args.pairs.now c.loop-pair.pair-index c.args.batch.now c.loop-pair.batch (omega (arith, c.loop-pair-test.false)) c.loop-pair.invariant

@@ -10,7 +10,7 @@ returns-in_err-rotate-clause-err g c =
     let e = c.in_err-rotate.ensures in
     let s = shows (g.P.PipeLog.shown c.args.pipes.now) c.args.tables.now c.args.cache.now in
     let p = err_from_is_err_and c.from_residual.result c.from_residual.ensures.1 in
-    rw (p.1, p.2) (not_turned c.in_err-rotate.field-0.0 s (g.P.PipeLog.shown c.rotate.new.self) e.fails e.later e.err)
+    rw (p.1, p.2) (not_turned c.in_err-rotate.field-0.0 s (g.P.PipeLog.shown c.rotate.new.self) e.fails e.later e.err e.range)
 
 pub returns-in_err-restate_all-clause-err : goal.returns-in_err-restate_all-clause-err
 returns-in_err-restate_all-clause-err g c =

@@ -1,8 +1,16 @@
-use Rattle.std.proofs.Common.{Some, sym, subst}
+use Rattle.std.proofs.Common.{Some, refl, sym, subst}
 use Rattle.std.proofs.lemmas.Result.{err_from_is_err_and}
 use Rattle.raft_log_rewriting.specs.Parts.{IsUnmade}
 use Rattle.raft_log_rewriting.proofs.Copying.{copied_then, not_copied, refused_then}
+use Rattle.raft_log_rewriting.proofs.Reasons.{memory_or_full_unmade}
 use Rattle.raft_log_rewriting.proofs.copies.write_batch.Goals as goal
+
+pub returns-in_err-len-clause-err : goal.returns-in_err-len-clause-err
+returns-in_err-len-clause-err g c =
+    let p = err_from_is_err_and c.from_residual.result c.from_residual.ensures.1 in
+    rw (p.1, p.2) (λ cache.
+    not_copied (Some c.args.gate) c.args.batch c.in_err-len.field-0.0 (g.P.PipeLog.shown c.args.pipes.now) c.args.tables.now c.args.tables.now cache (memory_or_full_unmade c.in_err-len.field-0.0 _ c.in_err-len.ensures.errors)
+    (record { shown = λ g. refl; counts = λ g. refl }))
 
 pub returns-in_err-prepare_rewrite-clause-err : goal.returns-in_err-prepare_rewrite-clause-err
 returns-in_err-prepare_rewrite-clause-err g c =

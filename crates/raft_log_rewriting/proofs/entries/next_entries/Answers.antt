@@ -8,8 +8,8 @@ use Rattle.raft_log_rewriting.proofs.Nexts.{next_found, next_none}
 use Rattle.raft_log_rewriting.proofs.entries.next_entries.Goals as goal
 use Rattle.raft_log_rewriting.proofs.entries.next_entries.Goals.{in-Some+in_ok-fetch_entries_to, in_default}
 
-pub returns : goal.returns
-returns c = elim c.match-known_table.branch [
+pub returns-clause-ok : goal.returns-clause-ok
+returns-clause-ok c = elim c.match-known_table.branch [
   | in-Some+in_ok-fetch_entries_to w ↦ (
       let ends = w.span-ends.ensures.ends in
       let count = w.rewritten_count.ensures in

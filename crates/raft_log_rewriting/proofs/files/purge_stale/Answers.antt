@@ -6,6 +6,7 @@ use Rattle.raft_log_pipes.specs.Purging.{IsInSpan}
 use Rattle.raft_log_purge_state.specs.raft_log_steps.specs.State.{pipe_at}
 use Rattle.raft_log_dual_pipes.specs.Pipes.{files_of, which_of}
 use Rattle.raft_log_dual_pipes.specs.Calls.{FailsToPurgeQueue, PurgesQueue}
+use Rattle.raft_log_dual_pipes.specs.Numbers.{EndsNumbersBelow}
 use Rattle.raft_log_rewriting.proofs.Leasts.{not_purged, purged}
 use Rattle.raft_log_rewriting.proofs.files.purge_stale.Goals as goal
 
@@ -32,3 +33,4 @@ returns-clause-err g c =
     let w = g.P.PipeLog.shown c.purge_to.new.self in
     not_purged c.args.queue c.args.limit c.args.tables.now v w c.args.cache.now c.clear.new.self c.clear.ensures c.in_ok-seq.seq c.in_ok-seq.ensures e.later c.purge_to.result e.fails
     (subst (λ (f : FileId). IfErr c.purge_to.result (λ error. FailsToPurgeQueue (which_of f.queue) f.seq error v w)) named e.err)
+    (subst (λ (f : FileId). IfErr c.purge_to.result (λ error. EndsNumbersBelow (which_of f.queue) error v)) named e.range)

@@ -1,7 +1,6 @@
-use Rattle.std.proofs.Common.{◌<◌, Bool, true, sym, subst}
+use Rattle.std.proofs.Common.{◌<◌, Bool, sym, subst}
 use Rattle.std.proofs.lemmas.Result.{err_from_is_err_and}
 use Rattle.raft_log_purge_state.specs.raft_log_engine_state.specs.Shows.{shows}
-use Rattle.raft_log_replay.specs.Tables.{shown_of}
 use Rattle.raft_log_rewriting.proofs.Grouping.{EntriesSoFar, all_entries_copied, entries_stopped, fewer_left, left_in, none_so_far, one_more}
 use Rattle.raft_log_rewriting.proofs.groups.rewrite_entries.Goals as goal
 

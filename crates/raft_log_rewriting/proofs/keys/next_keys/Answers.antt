@@ -1,4 +1,3 @@
-use Rattle.std.proofs.Common.{List, ap, ◌∙◌}
 use Rattle.raft_log_rewriting.proofs.KeysCopied.{keys_found, keys_none}
 use Rattle.raft_log_rewriting.proofs.keys.next_keys.Goals as goal
 use Rattle.raft_log_rewriting.proofs.keys.next_keys.Goals.{in-Some+in_ok-fetch_kvs_before, in_default}

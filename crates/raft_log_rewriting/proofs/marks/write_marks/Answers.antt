@@ -2,9 +2,20 @@ use Rattle.std.proofs.Common.{sym, ◌∙◌}
 use Rattle.std.proofs.lemmas.Bool.{false≢true}
 use Rattle.std.proofs.lemmas.Result.{err_from_is_err_and}
 use Rattle.raft_log_base.specs.declared.pipe_log.FileBlockHandle.{FileBlockHandle}
+use Rattle.raft_log_purge_state.specs.raft_log_engine_state.specs.Shows.{shows}
 use Rattle.raft_log_replay.specs.Tables.{counts, shown_of}
-use Rattle.raft_log_rewriting.proofs.Parts.{marks_are_refused, marks_are_written, no_marks}
+use Rattle.raft_log_rewriting.proofs.Parts.{marks_are_refused, marks_are_written, no_marks, refused_unmade}
 use Rattle.raft_log_rewriting.proofs.marks.write_marks.Goals as goal
+
+pub returns-in_err-batch-clause-err : goal.returns-in_err-batch-clause-err
+returns-in_err-batch-clause-err g c =
+    let p = err_from_is_err_and c.from_residual.result c.from_residual.ensures.1 in
+    rw (p.1, p.2) (λ cache. refused_unmade c.in_err-batch.field-0.0 (shows (g.P.PipeLog.shown c.args.pipes.now) c.args.tables.now cache) c.in_err-batch.ensures.errors)
+
+pub returns-in_err-signed-clause-err : goal.returns-in_err-signed-clause-err
+returns-in_err-signed-clause-err g c =
+    let p = err_from_is_err_and c.from_residual-in_err-signed.result c.from_residual-in_err-signed.ensures.1 in
+    rw (p.1, p.2) (λ cache. refused_unmade c.in_err-signed.field-0.0 (shows (g.P.PipeLog.shown c.args.pipes.now) c.args.tables.now cache) c.in_err-signed.ensures.errors)
 
 pub returns-then-is_empty-clause-ok : goal.returns-then-is_empty-clause-ok
 returns-then-is_empty-clause-ok g c =
@@ -16,7 +27,7 @@ returns-in_err-append-clause-err g c =
     let p = err_from_is_err_and c.from_residual-in_err-append.result c.from_residual-in_err-append.ensures.1 in
     rw (p.1, p.2) (λ cache.
     marks_are_refused (shown_of c.args.tables.now) c.in_ok-batch.batch c.in_ok-signed.signed.batch (g.P.PipeLog.shown c.args.pipes.now) (g.P.PipeLog.shown c.append.new.self) c.in_ok-batch.ensures.ok
-    (λ none. false≢true (sym c.if-is_empty.false ∙ c.is_empty.ensures.1 none)) c.in_ok-signed.ensures.ok e.later {A = FileBlockHandle} c.in_err-append.field-0.0 (counts c.args.tables.now) cache e.fails e.err)
+    (λ none. false≢true (sym c.if-is_empty.false ∙ c.is_empty.ensures.1 none)) c.in_ok-signed.ensures.ok e.later {A = FileBlockHandle} c.in_err-append.field-0.0 (counts c.args.tables.now) cache e.fails e.err e.range)
 
 pub returns-clause-ok : goal.returns-clause-ok
 returns-clause-ok g c =

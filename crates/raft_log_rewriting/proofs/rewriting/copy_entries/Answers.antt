@@ -6,9 +6,16 @@ use Rattle.raft_log_records.specs.Entries.{indexes_of}
 use Rattle.raft_log_purge_state.specs.raft_log_blocks.specs.Blocks.{AreUnread, ReadsEntries}
 use Rattle.raft_log_purge_state.specs.raft_log_engine_state.specs.Shows.{shows}
 use Rattle.raft_log_rewriting.specs.declared.entries.EntryBytes.{EntryBytes}
-use Rattle.raft_log_rewriting.specs.Entries.{IsRunBatch}
-use Rattle.raft_log_rewriting.proofs.Reading.{as_bytes, entries_copied, entries_not_copied, none_written, read_is_held, unread_is_held}
+use Rattle.raft_log_rewriting.specs.Entries.{IsRunBatch, as_bytes}
+use Rattle.raft_log_rewriting.proofs.Reading.{entries_copied, entries_not_copied, none_read, none_written, read_is_held}
+use Rattle.raft_log_rewriting.proofs.Reasons.{memory_unmade}
 use Rattle.raft_log_rewriting.proofs.rewriting.copy_entries.Goals as goal
+
+pub returns-in_err-entries-clause-err : goal.returns-in_err-entries-clause-err
+returns-in_err-entries-clause-err g c =
+    let s = shows (g.P.PipeLog.shown c.args.pipes.now) c.args.tables.now c.args.cache.now in
+    let p = err_from_is_err_and c.from_residual.result c.from_residual.ensures.1 in
+    rw (p.1, p.2) (none_written c.in_err-entries.field-0.0 s c.args.cache.now (memory_unmade c.in_err-entries.field-0.0 c.in_err-entries.ensures.errors) (λ home m h. h))
 
 pub returns-in_err-read-clause-err : goal.returns-in_err-read-clause-err
 returns-in_err-read-clause-err g c =
@@ -19,7 +26,7 @@ returns-in_err-read-clause-err g c =
     let error = c.in_err-read.field-0.0 in
     let unread = subst (λ (l : List EntryIndex). AreUnread as_bytes v l c.args.cache.now new error) c.as_slice.ensures.value c.in_err-read.ensures.err in
     let p = err_from_is_err_and c.from_residual-in_err-read.result c.from_residual-in_err-read.ensures.1 in
-    rw (p.1, p.2) (none_written error s new (λ home m h. unread_is_held s c.args.group c.args.gate es c.in_ok-entries.ensures new home m h error unread))
+    rw (p.1, p.2) (none_read s c.args.group c.args.gate es c.in_ok-entries.ensures.ok new error unread)
 
 pub returns-in_err-batch-clause-err : goal.returns-in_err-batch-clause-err
 returns-in_err-batch-clause-err g c =
@@ -29,8 +36,9 @@ returns-in_err-batch-clause-err g c =
     let new = c.read_entries.new.self in
     let xs = c.in_ok-read.read.items in
     let reads = subst (λ (l : List EntryIndex). ReadsEntries as_bytes v l c.args.cache.now new xs) c.as_slice.ensures.value c.in_ok-read.ensures.ok in
+    let errors = c.in_err-batch.ensures.errors in
     let p = err_from_is_err_and c.from_residual-in_err-batch.result c.from_residual-in_err-batch.ensures.1 in
-    rw (p.1, p.2) (none_written c.in_err-batch.field-0.0 s new (λ home m h. (read_is_held s c.args.group c.args.gate es c.in_ok-entries.ensures new home m h xs reads).0))
+    rw (p.1, p.2) (none_written c.in_err-batch.field-0.0 s new errors (λ home m h. (read_is_held s c.args.group c.args.gate es c.in_ok-entries.ensures.ok new home m h xs reads).0))
 
 pub returns-in_err-write_copies-clause-err : goal.returns-in_err-write_copies-clause-err
 returns-in_err-write_copies-clause-err g c =
@@ -49,7 +57,7 @@ returns-in_err-write_copies-clause-err g c =
     subst (λ (l : List EntryBytes). IsRunBatch c.args.group (indexes_of es) (map (λ e. e.bytes) l) b) c.as_slice-3.ensures.value
     (subst (λ (l : List EntryIndex). IsRunBatch c.args.group (indexes_of l) (map (λ e. e.bytes) c.as_slice-3.result.now) b) c.as_slice-2.ensures.value c.in_ok-batch.ensures.ok) in
     let p = err_from_is_err_and c.from_residual-in_err-write_copies.result c.from_residual-in_err-write_copies.ensures.1 in
-    rw (p.1, p.2) (entries_not_copied s c.args.group c.args.gate es c.in_ok-entries.ensures some new xs reads b is c.in_err-write_copies.field-0.0 t (c.in_err-write_copies.ensures.err new))
+    rw (p.1, p.2) (entries_not_copied s c.args.group c.args.gate es c.in_ok-entries.ensures.ok some new xs reads b is c.in_err-write_copies.field-0.0 t (c.in_err-write_copies.ensures.err new))
 
 pub returns-clause-ok : goal.returns-clause-ok
 returns-clause-ok g c =
@@ -67,4 +75,4 @@ returns-clause-ok g c =
     let is : IsRunBatch c.args.group (indexes_of es) (map (λ e. e.bytes) xs) b =
     subst (λ (l : List EntryBytes). IsRunBatch c.args.group (indexes_of es) (map (λ e. e.bytes) l) b) c.as_slice-3.ensures.value
     (subst (λ (l : List EntryIndex). IsRunBatch c.args.group (indexes_of l) (map (λ e. e.bytes) c.as_slice-3.result.now) b) c.as_slice-2.ensures.value c.in_ok-batch.ensures.ok) in
-    entries_copied s c.args.group c.args.gate es c.in_ok-entries.ensures some new xs reads b is t (c.in_ok-write_copies.ensures.ok new) refl
+    entries_copied s c.args.group c.args.gate es c.in_ok-entries.ensures.ok some new xs reads b is t (c.in_ok-write_copies.ensures.ok new) refl

@@ -10,7 +10,7 @@ returns-in_err-rotate-clause-err g c =
     let v = g.P.PipeLog.shown c.args.pipes.now in
     let mid = g.P.PipeLog.shown c.rotate.new.self in
     let p = err_from_is_err_and c.from_residual.result c.from_residual.ensures.1 in
-    rw (p.1, p.2) (not_turned {A = Unit {0}} c.args.queue c.in_err-rotate.field-0.0 (shows v c.args.tables.now c.args.cache.now) mid e.fails e.later e.err)
+    rw (p.1, p.2) (not_turned {A = Unit {0}} c.args.queue c.in_err-rotate.field-0.0 (shows v c.args.tables.now c.args.cache.now) mid e.fails e.later e.err e.range)
 
 pub returns-clause-ok : goal.returns-clause-ok
 returns-clause-ok g c =

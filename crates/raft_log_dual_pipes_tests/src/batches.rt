@@ -1,24 +1,30 @@
 //! Batches that are signed for the files that they go into.
 use super::pair::pair;
-use raft_log_base::LogQueue;
+use log::Log;
+use raft_log_base::{LogQueue, Result};
 use raft_log_dual_pipes::PipeLog;
 use raft_log_records::LogBatch;
 use raft_log_signed_batch::SignedBatch;
+use std::alloc::Global;
 use std::test::Fail;
 
-#[test]
-fn what_is_read_is_the_record(rt: HostRuntime) -> Result<(), Fail> {
-    let mut pipes = pair(&rt, 0)?;
-    pipes.rotate(rt.alloc(), &rt, LogQueue::Append)?;
-    let mut batch = LogBatch::default(rt.alloc())?;
-    batch.put(rt.alloc(), 3, b"key", b"value")?;
+// Whether what is read of a record in the second file of Append is its batch, signed for that file.
+fn is_the_record<R: Log, P: PipeLog>(rt: &R, alloc: Global, pipes: &mut P) -> Result<bool> {
+    pipes.rotate(alloc, rt, LogQueue::Append)?;
+    let mut batch = LogBatch::default(alloc)?;
+    batch.put(alloc, 3, b"key", b"value")?;
     let len = batch.finish_populate()?;
     let mut signed = SignedBatch::new(batch);
-    assert!(rt; signed.encoded_len() == len);
-    let place = pipes.append(rt.alloc(), &rt, LogQueue::Append, &mut signed)?;
-    assert!(rt; (place.id.seq, place.offset, place.len) == (2, 69, len));
-    let bytes = pipes.read_bytes(rt.alloc(), place)?;
-    let batch = signed.into_batch();
-    assert!(rt; bytes.as_slice() == batch.encoded_bytes());
+    let same = signed.encoded_len() == len;
+    let place = pipes.append(alloc, rt, LogQueue::Append, &mut signed)?;
+    let lies = (place.id.seq, place.offset, place.len) == (2, 69, len);
+    let bytes = pipes.read_bytes(alloc, place)?;
+    Ok(same & lies & (bytes.as_slice() == signed.into_batch().encoded_bytes()))
+}
+
+#[test]
+fn what_is_read_is_the_record(rt: HostRuntime) -> std::result::Result<(), Fail> {
+    let mut pipes = pair(&rt, 0)?;
+    assert!(rt; is_the_record(&rt, rt.alloc(), &mut pipes)?);
     Ok(())
 }

@@ -1,10 +1,10 @@
 //! Entries are read through the entry block that is kept.
 use super::pair::pair;
+use log::Log;
 use raft_log_base::{Error, FileBlockHandle, LogQueue, Result, codec};
 use raft_log_blocks::BlockCache;
-use raft_log_dual_pipes::{DualPipes, PipeLog};
+use raft_log_dual_pipes::PipeLog;
 use raft_log_items::{EntryIndex, Message};
-use raft_log_memory_files::MemoryFileSystem;
 use raft_log_records::LogBatch;
 use raft_log_signed_batch::SignedBatch;
 use std::alloc::{AllocError, Global};
@@ -42,13 +42,13 @@ impl Message for Count {
 
 /// Two pipes, of whose Append an entry block is known, and the block that is kept of them.
 #[derive(Drop)]
-struct Reading {
-    pipes: DualPipes<MemoryFileSystem>,
+struct Reading<P> {
+    pipes: P,
     cache: BlockCache,
     block: FileBlockHandle,
 }
 
-impl Reading {
+impl<P: PipeLog> Reading<P> {
     // Reads the entry at this offset of the block, of so many bytes.
     fn count(&mut self, alloc: Global, offset: u32, len: u32) -> Result<Count> {
         let entry = entry_in(Some(self.block), offset, len);
@@ -85,11 +85,11 @@ fn batch(alloc: Global) -> Result<SignedBatch> {
     Ok(SignedBatch::new(batch))
 }
 
-// Pipes to which the batch was written.
-fn written(rt: &HostRuntime) -> std::result::Result<Reading, Fail> {
-    let mut pipes = pair(rt, 0)?;
-    let mut signed = batch(rt.alloc())?;
-    let record = pipes.append(rt.alloc(), rt, LogQueue::Append, &mut signed)?;
+// Pipes to which the batch is written.
+fn written<R: Log, P: PipeLog>(rt: &R, alloc: Global, pipes: P) -> Result<Reading<P>> {
+    let mut pipes = pipes;
+    let mut signed = batch(alloc)?;
+    let record = pipes.append(alloc, rt, LogQueue::Append, &mut signed)?;
     let block = FileBlockHandle {
         id: record.id,
         offset: record.offset.saturating_add(16),
@@ -97,36 +97,50 @@ fn written(rt: &HostRuntime) -> std::result::Result<Reading, Fail> {
     };
     Ok(Reading {
         pipes,
-        cache: BlockCache::new(rt.alloc()),
+        cache: BlockCache::new(alloc),
         block,
     })
 }
 
+// Whether entries are read through the block, and one of three bytes is no number.
+fn entries_are_read<R: Log, P: PipeLog>(rt: &R, alloc: Global, pipes: P) -> Result<bool> {
+    let mut reading = written(rt, alloc, pipes)?;
+    let count = reading.count(alloc, 0, 4)? == Count { count: 258 };
+    let has = reading.has(alloc, 4, 3, b"abc");
+    Ok(count & has & matches!(reading.count(alloc, 4, 3), Err(Error::Message(_))))
+}
+
+// Whether a place past the block, and a block of another length, are refused as damage.
+fn others_are_refused<R: Log, P: PipeLog>(rt: &R, alloc: Global, pipes: P) -> Result<bool> {
+    let mut reading = written(rt, alloc, pipes)?;
+    let past = matches!(reading.count(alloc, 4, 4), Err(Error::Corruption(_)));
+    let short = matches!(reading.read(alloc, 10), Err(Error::Corruption(_)));
+    reading.read(alloc, 11)?;
+    Ok(past & short & reading.has(alloc, 0, 7, b"\x02\x01\0\0abc"))
+}
+
+// Whether an entry that lies in no file is refused as an argument.
+fn nowhere_is_refused<R: Log, P: PipeLog>(rt: &R, alloc: Global, pipes: P) -> Result<bool> {
+    let mut reading = written(rt, alloc, pipes)?;
+    let entry = entry_in(None, 0, 4);
+    let nowhere: Result<Count> = reading.cache.read_entry(alloc, &reading.pipes, &entry);
+    Ok(matches!(nowhere, Err(Error::InvalidArgument(_))))
+}
+
 #[test]
 fn entries_are_read_through_the_kept_block(rt: HostRuntime) -> std::result::Result<(), Fail> {
-    let mut reading = written(&rt)?;
-    let count = reading.count(rt.alloc(), 0, 4)?;
-    assert!(rt; count == Count { count: 258 });
-    assert!(rt; reading.has(rt.alloc(), 4, 3, b"abc"));
-    assert!(rt; matches!(reading.count(rt.alloc(), 4, 3), Err(Error::Message(_))));
+    assert!(rt; entries_are_read(&rt, rt.alloc(), pair(&rt, 0)?)?);
     Ok(())
 }
 
 #[test]
 fn what_is_no_entry_is_refused(rt: HostRuntime) -> std::result::Result<(), Fail> {
-    let mut reading = written(&rt)?;
-    assert!(rt; matches!(reading.count(rt.alloc(), 4, 4), Err(Error::Corruption(_))));
-    assert!(rt; matches!(reading.read(rt.alloc(), 10), Err(Error::Corruption(_))));
-    reading.read(rt.alloc(), 11)?;
-    assert!(rt; reading.has(rt.alloc(), 0, 7, b"\x02\x01\0\0abc"));
+    assert!(rt; others_are_refused(&rt, rt.alloc(), pair(&rt, 0)?)?);
     Ok(())
 }
 
 #[test]
 fn an_entry_in_no_file_is_refused(rt: HostRuntime) -> std::result::Result<(), Fail> {
-    let mut reading = written(&rt)?;
-    let entry = entry_in(None, 0, 4);
-    let nowhere: Result<Count> = reading.cache.read_entry(rt.alloc(), &reading.pipes, &entry);
-    assert!(rt; matches!(nowhere, Err(Error::InvalidArgument(_))));
+    assert!(rt; nowhere_is_refused(&rt, rt.alloc(), pair(&rt, 0)?)?);
     Ok(())
 }

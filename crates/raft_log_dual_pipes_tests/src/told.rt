@@ -1,12 +1,14 @@
 //! A listener is told what happens to the files of a log's pipes, in its order; and the engine's own hook holds
 //! back the files of which a record waits for the tables.
 use crate::pair::{Plain, pair};
+use log::Log;
 use raft_log_base::{FileBlockHandle, FileId, FileSeq, LogQueue};
 use raft_log_disk::FileSystem;
 use raft_log_dual_pipes::{DualPipes, PipeLog};
 use raft_log_listeners::{EventListener, Listeners, PurgeHook};
 use raft_log_memory_files::MemoryFileSystem;
 use raft_log_told_pipes::ToldPipes;
+use std::alloc::Global;
 use std::sync::Arc;
 use std::sync::atomic::AtomicU64;
 use std::sync::atomic::Ordering::SeqCst;
@@ -54,17 +56,18 @@ impl EventListener for Writing {
     }
 }
 
-// Appends so many bytes.
-fn append<P: PipeLog>(
-    rt: &HostRuntime,
+// Appends so many bytes: to which file.
+fn append<R: Log, P: PipeLog>(
+    rt: &R,
+    alloc: Global,
     pipes: &mut P,
     queue: LogQueue,
     len: usize,
 ) -> raft_log_base::Result<FileSeq> {
     let mut plain = Plain {
-        bytes: vec![in rt.alloc(); 1u8; len]?,
+        bytes: vec![in alloc; 1u8; len]?,
     };
-    Ok(pipes.append(rt.alloc(), rt, queue, &mut plain)?.id.seq)
+    Ok(pipes.append(alloc, rt, queue, &mut plain)?.id.seq)
 }
 
 // What was heard since it was asked last.
@@ -90,65 +93,103 @@ fn told(
     Ok((ToldPipes::new(pair(rt, refused)?, listener), heard))
 }
 
+// Whether rotations and records are heard.
+fn records_are_heard<R: Log, P: PipeLog>(
+    rt: &R,
+    alloc: Global,
+    pipes: &mut P,
+    events: &Arc<AtomicU64>,
+) -> raft_log_base::Result<bool> {
+    let begun = heard(events) == 1151;
+    pipes.rotate(alloc, rt, LogQueue::Append)?;
+    let rotated = heard(events) == 12;
+    // a file as long as it is to be gets no more records
+    let second = append(rt, alloc, pipes, LogQueue::Append, 1024)? == 2;
+    let third = append(rt, alloc, pipes, LogQueue::Append, 13)? == 3;
+    let written = heard(events) == 22_1323;
+    let other = append(rt, alloc, pipes, LogQueue::Rewrite, 13)? == 1;
+    Ok(begun & rotated & second & third & written & other & (heard(events) == 61))
+}
+
+// Whether what the tables have is heard, and files that go, but not that none does.
+fn purges_are_heard<R: Log, P: PipeLog>(
+    rt: &R,
+    alloc: Global,
+    pipes: &mut P,
+    events: &Arc<AtomicU64>,
+) -> raft_log_base::Result<bool> {
+    let third = FileId::new(LogQueue::Append, 3);
+    pipes.rotate(alloc, rt, LogQueue::Append)?;
+    pipes.rotate(alloc, rt, LogQueue::Append)?;
+    let rotated = heard(events) == 1151_1213;
+    pipes.post_apply_memtables(third);
+    let two = pipes.purge_to(alloc, rt, third)? == 2;
+    let purged = heard(events) == 33_42;
+    // nothing leaves the span
+    let none = pipes.purge_to(alloc, rt, third)? == 0;
+    Ok(rotated & two & purged & none & (heard(events) == 0))
+}
+
 #[test]
 fn files_and_records_are_told(rt: HostRuntime) -> Result<(), Fail> {
     let (mut pipes, events) = told(&rt, 0)?;
-    assert!(rt; heard(&events) == 1151);
-    pipes.rotate(rt.alloc(), &rt, LogQueue::Append)?;
-    assert!(rt; heard(&events) == 12);
-    // a file as long as it is to be gets no more records
-    assert!(rt; append(&rt, &mut pipes, LogQueue::Append, 1024)? == 2);
-    assert!(rt; append(&rt, &mut pipes, LogQueue::Append, 13)? == 3);
-    assert!(rt; heard(&events) == 22_1323);
-    assert!(rt; append(&rt, &mut pipes, LogQueue::Rewrite, 13)? == 1);
-    assert!(rt; heard(&events) == 61);
+    assert!(rt; records_are_heard(&rt, rt.alloc(), &mut pipes, &events)?);
     Ok(())
 }
 
 #[test]
 fn tables_and_purges_are_told(rt: HostRuntime) -> Result<(), Fail> {
     let (mut pipes, events) = told(&rt, 0)?;
-    pipes.rotate(rt.alloc(), &rt, LogQueue::Append)?;
-    pipes.rotate(rt.alloc(), &rt, LogQueue::Append)?;
-    assert!(rt; heard(&events) == 1151_1213);
-    pipes.post_apply_memtables(FileId::new(LogQueue::Append, 3));
-    let third = FileId::new(LogQueue::Append, 3);
-    assert!(rt; pipes.purge_to(rt.alloc(), &rt, third)? == 2);
-    assert!(rt; heard(&events) == 33_42);
-    // nothing leaves the span
-    assert!(rt; pipes.purge_to(rt.alloc(), &rt, third)? == 0);
-    assert!(rt; heard(&events) == 0);
+    assert!(rt; purges_are_heard(&rt, rt.alloc(), &mut pipes, &events)?);
     Ok(())
+}
+
+// Whether a record that is refused isn't heard.
+fn is_not_heard<R: Log, P: PipeLog>(
+    rt: &R,
+    alloc: Global,
+    pipes: &mut P,
+    events: &Arc<AtomicU64>,
+) -> bool {
+    let begun = heard(events) == 1151;
+    let refused = append(rt, alloc, pipes, LogQueue::Append, 13).is_err();
+    begun & refused & (heard(events) == 0)
 }
 
 #[test]
 fn a_refused_record_is_not_told(rt: HostRuntime) -> Result<(), Fail> {
     // the calls are an allocation and a write
     let (mut pipes, events) = told(&rt, 2)?;
-    assert!(rt; heard(&events) == 1151);
-    assert!(rt; append(&rt, &mut pipes, LogQueue::Append, 13).is_err());
-    assert!(rt; heard(&events) == 0);
+    assert!(rt; is_not_heard(&rt, rt.alloc(), &mut pipes, &events));
     let system = pipes.close(rt.alloc(), &rt);
     assert!(rt; !system.has_stopped());
     Ok(())
+}
+
+// Whether the file of a record that waits for the tables is held back, and no longer once the tables have it.
+fn is_held_back<R: Log, P: PipeLog>(
+    rt: &R,
+    alloc: Global,
+    pipes: &mut P,
+) -> raft_log_base::Result<bool> {
+    let one = append(rt, alloc, pipes, LogQueue::Append, 13)? == 1;
+    pipes.rotate(alloc, rt, LogQueue::Append)?;
+    let two = append(rt, alloc, pipes, LogQueue::Append, 13)? == 2;
+    let first = pipes.first_file_not_ready_for_purge(LogQueue::Append) == Some(1);
+    pipes.post_apply_memtables(FileId::new(LogQueue::Append, 1));
+    let second = pipes.first_file_not_ready_for_purge(LogQueue::Append) == Some(2);
+    let gone = pipes.purge_to(alloc, rt, FileId::new(LogQueue::Append, 2))? == 1;
+    pipes.post_apply_memtables(FileId::new(LogQueue::Append, 2));
+    let none = pipes
+        .first_file_not_ready_for_purge(LogQueue::Append)
+        .is_none();
+    Ok(one & two & first & second & gone & none)
 }
 
 #[test]
 fn a_record_that_waits_holds_its_file_back(rt: HostRuntime) -> Result<(), Fail> {
     let listeners = Listeners::new(Vec::new(rt.alloc()), PurgeHook::new(rt.alloc()));
     let mut pipes = ToldPipes::new(pair(&rt, 0)?, listeners);
-    assert!(rt; append(&rt, &mut pipes, LogQueue::Append, 13)? == 1);
-    pipes.rotate(rt.alloc(), &rt, LogQueue::Append)?;
-    assert!(rt; append(&rt, &mut pipes, LogQueue::Append, 13)? == 2);
-    assert!(rt; pipes.first_file_not_ready_for_purge(LogQueue::Append) == Some(1));
-    pipes.post_apply_memtables(FileId::new(LogQueue::Append, 1));
-    assert!(rt; pipes.first_file_not_ready_for_purge(LogQueue::Append) == Some(2));
-    assert!(rt; pipes.purge_to(rt.alloc(), &rt, FileId::new(LogQueue::Append, 2))? == 1);
-    pipes.post_apply_memtables(FileId::new(LogQueue::Append, 2));
-    assert!(rt;
-        pipes
-            .first_file_not_ready_for_purge(LogQueue::Append)
-            .is_none()
-    );
+    assert!(rt; is_held_back(&rt, rt.alloc(), &mut pipes)?);
     Ok(())
 }

@@ -1,8 +1,9 @@
 //! An engine over a fresh log in memory, behind calls without contracts.
 use super::counts::{Count, Counts};
+use log::Log;
 use raft_log_base::{Error, LogQueue, Result, Version};
 use raft_log_disk::FileSystem;
-use raft_log_dual_pipes::DualPipes;
+use raft_log_dual_pipes::{DualPipes, PipeLog};
 use raft_log_engine::Engine;
 use raft_log_format::LogFileFormat;
 use raft_log_items::EntryIndex;
@@ -12,6 +13,7 @@ use raft_log_pipes::{FoundFiles, NewFiles, PipeSettings, SinglePipe};
 use raft_log_purge::Thresholds;
 use raft_log_records::{BatchState, LogBatch};
 use raft_log_replay::MemTables;
+use std::alloc::Global;
 use std::collections::VecDeque;
 use std::test::Fail;
 
@@ -24,8 +26,9 @@ const THRESHOLDS: Thresholds = Thresholds {
 
 /// An engine, and a batch that is written through it.
 #[derive(Drop)]
-pub struct Store {
-    engine: Engine<DualPipes<MemoryFileSystem>>,
+pub struct Store<P> {
+    alloc: Global,
+    engine: Engine<P>,
     batch: LogBatch,
 }
 
@@ -52,7 +55,10 @@ fn begun(
 }
 
 /// An engine over a log that begins, of which the changing call of this number is refused (none for 0).
-pub fn fresh(rt: &HostRuntime, refused: u64) -> std::result::Result<Store, Fail> {
+pub fn fresh(
+    rt: &HostRuntime,
+    refused: u64,
+) -> std::result::Result<Store<DualPipes<MemoryFileSystem>>, Fail> {
     let mut system = MemoryFileSystem::new(rt.alloc());
     system.create_dir("d")?;
     let append = begun(rt, &mut system, LogQueue::Append)?;
@@ -62,14 +68,15 @@ pub fn fresh(rt: &HostRuntime, refused: u64) -> std::result::Result<Store, Fail>
     }
     let pipes = DualPipes::new(system, append, rewrite);
     Ok(Store {
+        alloc: rt.alloc(),
         engine: Engine::new(rt.alloc(), THRESHOLDS, pipes, MemTables::new(rt.alloc()), 0),
         batch: LogBatch::default(rt.alloc())?,
     })
 }
 
-impl Store {
+impl<P: PipeLog> Store<P> {
     /// Adds the numbers 1 and 2 as entries of group 7, from an index on; nothing to a batch whose record is made.
-    pub fn add(&mut self, rt: &HostRuntime, index: u64) -> Result<()> {
+    pub fn add(&mut self, index: u64) -> Result<()> {
         let indexes = [
             EntryIndex::unplaced(index, 4),
             EntryIndex::unplaced(index.saturating_add(1), 4),
@@ -78,21 +85,21 @@ impl Store {
         match self.batch.state() {
             BatchState::Filling => self
                 .batch
-                .add_raw_entries(rt.alloc(), 7, &indexes, &entries),
+                .add_raw_entries(self.alloc, 7, &indexes, &entries),
             _ => Err(Error::Full),
         }
     }
 
     /// Adds a key of group 7, unless the record of the batch is made.
-    pub fn put(&mut self, rt: &HostRuntime, key: &[u8], value: &[u8]) -> Result<()> {
+    pub fn put(&mut self, key: &[u8], value: &[u8]) -> Result<()> {
         match self.batch.state() {
-            BatchState::Filling => self.batch.put(rt.alloc(), 7, key, value),
+            BatchState::Filling => self.batch.put(self.alloc, 7, key, value),
             _ => Err(Error::Full),
         }
     }
 
     /// Writes what was added.
-    pub fn write(&mut self, rt: &HostRuntime, sync: bool) -> Result<usize> {
+    pub fn write<L: Log>(&mut self, rt: &L, sync: bool) -> Result<usize> {
         self.engine.write(rt, &mut self.batch, sync)
     }
 
@@ -135,14 +142,8 @@ impl Store {
     }
 
     /// How many entries of group 7 come from an index on, below another one, and their sum.
-    pub fn fetch(
-        &mut self,
-        rt: &HostRuntime,
-        begin: u64,
-        end: u64,
-        max: Option<usize>,
-    ) -> Result<(usize, u32)> {
-        let mut counts = Vec::new(rt.alloc());
+    pub fn fetch(&mut self, begin: u64, end: u64, max: Option<usize>) -> Result<(usize, u32)> {
+        let mut counts = Vec::new(self.alloc);
         let count = self
             .engine
             .fetch_entries_to::<Counts>(7, begin, end, max, &mut counts)?;
@@ -200,7 +201,7 @@ impl Store {
     }
 
     /// Compacts a group up to an index.
-    pub fn compact(&mut self, rt: &HostRuntime, group: u64, index: u64) -> Result<u64> {
+    pub fn compact<L: Log>(&mut self, rt: &L, group: u64, index: u64) -> Result<u64> {
         self.engine.compact_to(rt, group, index)
     }
 

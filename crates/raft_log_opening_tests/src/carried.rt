@@ -43,9 +43,14 @@ fn has_all<P: PipeLog>(alloc: Global, engine: &mut Engine<P>, data: &[u8]) -> Re
     Ok(all)
 }
 // Whether entries of so many bytes are read before and behind an open.
-fn are_read<R: Threads + Log + Sync>(rt: &R, alloc: Global, size: usize) -> Result<bool> {
+fn are_read<R: Threads + Log + Sync, F: FileSystem + Sync + Drop>(
+    rt: &R,
+    alloc: Global,
+    files: F,
+    size: usize,
+) -> Result<bool> {
     let data = letters(alloc, size)?;
-    let mut engine = open_small(rt, alloc, MemoryFileSystem::new(alloc))?;
+    let mut engine = open_small(rt, alloc, files)?;
     append_all(rt, alloc, &mut engine, data.as_slice())?;
     let before = has_all(alloc, &mut engine, data.as_slice())?;
     let mut engine = open_small(rt, alloc, engine.close(rt))?;
@@ -84,6 +89,39 @@ fn write_nothing<R: Log, P: PipeLog>(
     Ok(())
 }
 
+// Writes two entries to each of these groups, and closes the log.
+fn filled<R: Threads + Log + Sync, F: FileSystem + Sync + Drop>(
+    rt: &R,
+    alloc: Global,
+    files: F,
+    data: &[u8],
+) -> Result<F> {
+    let mut engine = open(rt, alloc, files, 4)?;
+    append_all(rt, alloc, &mut engine, data)?;
+    Ok(engine.close(rt))
+}
+
+// Whether a log that is opened has them.
+fn opens_filled<R: Threads + Log + Sync, F: FileSystem + Sync + Drop>(
+    rt: &R,
+    alloc: Global,
+    files: F,
+    data: &[u8],
+) -> Result<bool> {
+    let mut engine = open(rt, alloc, files, 4)?;
+    has_all(alloc, &mut engine, data)
+}
+
+// Whether a log in which nothing stands is empty.
+fn opens_empty<R: Threads + Log + Sync, F: FileSystem + Sync + Drop>(
+    rt: &R,
+    alloc: Global,
+    files: F,
+) -> Result<bool> {
+    let engine = open(rt, alloc, files, 4)?;
+    engine.is_empty()
+}
+
 // Whether a group has an entry without bytes at index 0.
 fn has_empty_entry<P: PipeLog>(engine: &mut Engine<P>, group: u64) -> Result<bool> {
     match engine.get_entry::<TestEntries>(group, 0)? {
@@ -100,39 +138,49 @@ fn has_empty_message<P: PipeLog>(engine: &Engine<P>, group: u64) -> Result<bool>
     }
 }
 
+// Whether entries and messages without bytes are read behind an open.
+fn nothing_is_read<R: Threads + Log + Sync, F: FileSystem + Sync + Drop>(
+    rt: &R,
+    alloc: Global,
+    files: F,
+) -> Result<bool> {
+    let mut engine = open(rt, alloc, files, 1)?;
+    write_nothing(rt, alloc, &mut engine, 0, (true, false))?;
+    write_nothing(rt, alloc, &mut engine, 1, (false, true))?;
+    write_nothing(rt, alloc, &mut engine, 2, (true, true))?;
+    let mut engine = open(rt, alloc, engine.close(rt), 1)?;
+    let entries = has_empty_entry(&mut engine, 0)? & has_empty_entry(&mut engine, 2)?;
+    Ok(entries & has_empty_message(&engine, 1)? & has_empty_message(&engine, 2)?)
+}
+
 #[test]
 fn test_empty_engine(rt: HostRuntime) -> std::result::Result<(), Fail> {
-    let engine = open(&rt, rt.alloc(), MemoryFileSystem::new(rt.alloc()), 4)?;
-    assert!(rt; engine.is_empty()?);
+    let files = MemoryFileSystem::new(rt.alloc());
+    assert!(rt; opens_empty(&rt, rt.alloc(), files)?);
     Ok(())
 }
 
 #[test]
 fn test_get_entry(rt: HostRuntime) -> std::result::Result<(), Fail> {
-    assert!(rt; are_read(&rt, rt.alloc(), 10)? & are_read(&rt, rt.alloc(), 5120)?);
+    let alloc = rt.alloc();
+    assert!(rt; are_read(&rt, alloc, MemoryFileSystem::new(alloc), 10)?);
+    assert!(rt; are_read(&rt, alloc, MemoryFileSystem::new(alloc), 5120)?);
     Ok(())
 }
 
 #[test]
 fn test_empty_protobuf_message(rt: HostRuntime) -> std::result::Result<(), Fail> {
-    let mut engine = open(&rt, rt.alloc(), MemoryFileSystem::new(rt.alloc()), 1)?;
-    write_nothing(&rt, rt.alloc(), &mut engine, 0, (true, false))?;
-    write_nothing(&rt, rt.alloc(), &mut engine, 1, (false, true))?;
-    write_nothing(&rt, rt.alloc(), &mut engine, 2, (true, true))?;
-    let mut engine = open(&rt, rt.alloc(), engine.close(&rt), 1)?;
-    assert!(rt; has_empty_entry(&mut engine, 0)? & has_empty_entry(&mut engine, 2)?);
-    assert!(rt; has_empty_message(&engine, 1)? & has_empty_message(&engine, 2)?);
+    let files = MemoryFileSystem::new(rt.alloc());
+    assert!(rt; nothing_is_read(&rt, rt.alloc(), files)?);
     Ok(())
 }
 
 #[test]
 fn test_dirty_recovery(rt: HostRuntime) -> std::result::Result<(), Fail> {
-    let data = letters(rt.alloc(), 1024)?;
-    let mut engine = open(&rt, rt.alloc(), MemoryFileSystem::new(rt.alloc()), 4)?;
-    append_all(&rt, rt.alloc(), &mut engine, data.as_slice())?;
-    let mut files = engine.close(&rt);
+    let alloc = rt.alloc();
+    let data = letters(alloc, 1024)?;
+    let mut files = filled(&rt, alloc, MemoryFileSystem::new(alloc), data.as_slice())?;
     add_others(&mut files)?;
-    let mut engine = open(&rt, rt.alloc(), files, 4)?;
-    assert!(rt; has_all(rt.alloc(), &mut engine, data.as_slice())?);
+    assert!(rt; opens_filled(&rt, alloc, files, data.as_slice())?);
     Ok(())
 }

@@ -137,11 +137,16 @@ fn goes_on<R: Threads + Log + Sync, F: FileSystem + Sync + Drop>(
 
 // Whether a log goes on in the first version, in the second one, with files that are used again or without, and
 // in the first again.
-fn goes_on_in_both<R: Threads + Log + Sync>(rt: &R, alloc: Global, recycles: bool) -> Result<bool> {
+fn goes_on_in_both<R: Threads + Log + Sync, F: FileSystem + Sync + Drop>(
+    rt: &R,
+    alloc: Global,
+    files: F,
+    recycles: bool,
+) -> Result<bool> {
     let data = letters(alloc, 1024)?;
     let of = data.as_slice();
     let first = version(alloc, Version::V1, false)?;
-    let (old, files) = goes_on(rt, alloc, first, MemoryFileSystem::new(alloc), (0, of))?;
+    let (old, files) = goes_on(rt, alloc, first, files, (0, of))?;
     let (new, files) = goes_on(
         rt,
         alloc,
@@ -154,13 +159,14 @@ fn goes_on_in_both<R: Threads + Log + Sync>(rt: &R, alloc: Global, recycles: boo
 }
 
 // A log of four values of 1,024 bytes, of which Append was rewritten behind the first two, closed.
-fn with_four_keys<R: Threads + Log + Sync>(
+fn with_four_keys<R: Threads + Log + Sync, F: FileSystem + Sync + Drop>(
     rt: &R,
     alloc: Global,
+    files: F,
     config: Config,
     data: &[u8],
-) -> Result<MemoryFileSystem> {
-    let mut engine = open_with(rt, alloc, config, MemoryFileSystem::new(alloc))?;
+) -> Result<F> {
+    let mut engine = open_with(rt, alloc, config, files)?;
     for group in 1..5u64 {
         append(rt, alloc, &mut engine, group, (1, 2), data)?;
         if group < 3 {
@@ -179,10 +185,15 @@ fn in_directory(alloc: Global, directory: &str) -> Result<Config> {
 }
 
 // Whether groups 1 to 4 have their entry in the copy of a log.
-fn copy_has_all<R: Threads + Log + Sync>(rt: &R, alloc: Global) -> Result<bool> {
+fn copy_has_all<R: Threads + Log + Sync, F: FileSystem + Sync + Drop>(
+    rt: &R,
+    alloc: Global,
+    files: F,
+) -> Result<bool> {
     let data = letters(alloc, 1024)?;
     let config = in_directory(alloc, "d")?;
-    let mut files = with_four_keys(rt, alloc, in_directory(alloc, "d")?, data.as_slice())?;
+    let source = in_directory(alloc, "d")?;
+    let mut files = with_four_keys(rt, alloc, files, source, data.as_slice())?;
     fork(rt, alloc, &config, &mut files, "t")?;
     let mut engine = open_with(rt, alloc, in_directory(alloc, "t")?, files)?;
     let mut all = true;
@@ -192,72 +203,114 @@ fn copy_has_all<R: Threads + Log + Sync>(rt: &R, alloc: Global) -> Result<bool> 
     Ok(all)
 }
 
-#[test]
-fn test_rewrite_and_recover(rt: HostRuntime) -> std::result::Result<(), Fail> {
-    let alloc = rt.alloc();
+// Whether eleven groups' entries stand behind a purge that asks nobody and takes files, and behind an open.
+fn are_rewritten_and_recovered<R: Threads + Log + Sync, F: FileSystem + Sync + Drop>(
+    rt: &R,
+    alloc: Global,
+    files: F,
+) -> Result<bool> {
     let data = letters(alloc, 1024)?;
     let config = sizes(alloc, 5 << 10, 80 << 10)?;
-    let mut engine = open_with(&rt, alloc, config, MemoryFileSystem::new(alloc))?;
-    fill(&rt, alloc, &mut engine, 11, data.as_slice())?;
-    assert!(rt; purge(&rt, &mut engine)? == (0, true));
-    assert!(rt; are_filled(alloc, &mut engine, 11, data.as_slice())?);
-    let mut engine = open_with(
-        &rt,
-        alloc,
-        sizes(alloc, 5 << 10, 80 << 10)?,
-        engine.close(&rt),
-    )?;
-    assert!(rt; are_filled(alloc, &mut engine, 11, data.as_slice())?);
+    let mut engine = open_with(rt, alloc, config, files)?;
+    fill(rt, alloc, &mut engine, 11, data.as_slice())?;
+    let (asked, gone) = purge(rt, &mut engine)?;
+    let stood = are_filled(alloc, &mut engine, 11, data.as_slice())?;
+    let config = sizes(alloc, 5 << 10, 80 << 10)?;
+    let mut engine = open_with(rt, alloc, config, engine.close(rt))?;
+    let stands = are_filled(alloc, &mut engine, 11, data.as_slice())?;
+    Ok((asked == 0) & gone & stood & stands)
+}
+
+#[test]
+fn test_rewrite_and_recover(rt: HostRuntime) -> std::result::Result<(), Fail> {
+    let files = MemoryFileSystem::new(rt.alloc());
+    assert!(rt; are_rewritten_and_recovered(&rt, rt.alloc(), files)?);
     Ok(())
+}
+
+// Whether three groups' entries of two mebibytes each, and one key a group, stand behind both queues were
+// rewritten whole, and the entries behind an open.
+fn large_batches_stand<R: Threads + Log + Sync, F: FileSystem + Sync + Drop>(
+    rt: &R,
+    alloc: Global,
+    files: F,
+) -> Result<bool> {
+    let data = letters(alloc, 2 << 20)?;
+    let mut engine = open_with(rt, alloc, sizes(alloc, 1, 1)?, files)?;
+    for group in 1..4u64 {
+        append(rt, alloc, &mut engine, group, (1, 11), data.as_slice())?;
+    }
+    let behind = begin_behind(rt, &mut engine)? & have_one_key(&engine)?;
+    let mut engine = open_with(rt, alloc, sizes(alloc, 1, 1)?, engine.close(rt))?;
+    Ok(behind & are_filled(alloc, &mut engine, 3, data.as_slice())?)
 }
 
 #[test]
 fn test_large_rewrite_batch(rt: HostRuntime) -> std::result::Result<(), Fail> {
-    let alloc = rt.alloc();
-    let data = letters(alloc, 2 << 20)?;
-    let mut engine = open_with(
-        &rt,
-        alloc,
-        sizes(alloc, 1, 1)?,
-        MemoryFileSystem::new(alloc),
-    )?;
-    for group in 1..4u64 {
-        append(&rt, alloc, &mut engine, group, (1, 11), data.as_slice())?;
-    }
-    assert!(rt; begin_behind(&rt, &mut engine)? & have_one_key(&engine)?);
-    let mut engine = open_with(&rt, alloc, sizes(alloc, 1, 1)?, engine.close(&rt))?;
-    assert!(rt; are_filled(alloc, &mut engine, 3, data.as_slice())?);
+    let files = MemoryFileSystem::new(rt.alloc());
+    assert!(rt; large_batches_stand(&rt, rt.alloc(), files)?);
     Ok(())
+}
+
+// Compacts group 1 to an index, and purges: how many entries go, how many groups are asked to be compacted, and
+// whether files went.
+fn compact_and_purge<R: Log, P: PipeLog>(
+    rt: &R,
+    engine: &mut Engine<P>,
+    index: u64,
+) -> Result<(u64, usize, bool)> {
+    let count = engine.compact_to(rt, 1, index)?;
+    let (asked, gone) = purge(rt, engine)?;
+    Ok((count, asked, gone))
+}
+
+// Whether a group that is compacted is purged once its files are too large, and then asked to be compacted.
+fn is_asked_once_purged<R: Log, P: PipeLog>(
+    rt: &R,
+    alloc: Global,
+    engine: &mut Engine<P>,
+    data: &[u8],
+) -> Result<bool> {
+    append_each(rt, alloc, engine, 1, (0, 100), data)?;
+    let small = compact_and_purge(rt, engine, 100)? == (100, 0, false);
+    append_each(rt, alloc, engine, 1, (100, 250), data)?;
+    let large = compact_and_purge(rt, engine, 101)? == (1, 0, true);
+    let stands = has(alloc, engine, 1, (101, 250), data)?;
+    let count = engine.compact_to(rt, 1, 102)?;
+    let asked = engine.purge_expired_files(rt)?;
+    Ok(small & large & stands & (count == 1) & (asked.as_slice() == [1].as_slice()))
+}
+
+// Whether it is of a log in these files.
+fn is_triggered_by_compact<R: Threads + Log + Sync, F: FileSystem + Sync + Drop>(
+    rt: &R,
+    alloc: Global,
+    files: F,
+) -> Result<bool> {
+    let data = letters(alloc, 1024)?;
+    let mut engine = open_with(rt, alloc, sizes(alloc, 5 << 10, 150 << 10)?, files)?;
+    is_asked_once_purged(rt, alloc, &mut engine, data.as_slice())
 }
 
 #[test]
 fn test_purge_triggered_by_compact(rt: HostRuntime) -> std::result::Result<(), Fail> {
-    let alloc = rt.alloc();
-    let data = letters(alloc, 1024)?;
-    let config = sizes(alloc, 5 << 10, 150 << 10)?;
-    let mut engine = open_with(&rt, alloc, config, MemoryFileSystem::new(alloc))?;
-    append_each(&rt, alloc, &mut engine, 1, (0, 100), data.as_slice())?;
-    assert!(rt;
-        (engine.compact_to(&rt, 1, 100)? == 100) & (purge(&rt, &mut engine)? == (0, false))
-    );
-    append_each(&rt, alloc, &mut engine, 1, (100, 250), data.as_slice())?;
-    assert!(rt; (engine.compact_to(&rt, 1, 101)? == 1) & (purge(&rt, &mut engine)? == (0, true)));
-    assert!(rt; has(alloc, &mut engine, 1, (101, 250), data.as_slice())?);
-    assert!(rt; engine.compact_to(&rt, 1, 102)? == 1);
-    assert!(rt; engine.purge_expired_files(&rt)?.as_slice() == [1].as_slice());
+    let files = MemoryFileSystem::new(rt.alloc());
+    assert!(rt; is_triggered_by_compact(&rt, rt.alloc(), files)?);
     Ok(())
 }
 
 #[test]
 fn test_combination_of_version_and_recycle(rt: HostRuntime) -> std::result::Result<(), Fail> {
     let alloc = rt.alloc();
-    assert!(rt; goes_on_in_both(&rt, alloc, false)? & goes_on_in_both(&rt, alloc, true)?);
+    assert!(rt; goes_on_in_both(&rt, alloc, MemoryFileSystem::new(alloc), false)?);
+    assert!(rt; goes_on_in_both(&rt, alloc, MemoryFileSystem::new(alloc), true)?);
     Ok(())
 }
 
 #[test]
 fn test_fork(rt: HostRuntime) -> std::result::Result<(), Fail> {
-    assert!(rt; copy_has_all(&rt, rt.alloc())?);
+    let files = MemoryFileSystem::new(rt.alloc());
+    assert!(rt; copy_has_all(&rt, rt.alloc(), files)?);
     Ok(())
 }
 
@@ -285,24 +338,31 @@ fn first_behind<R: Log, P: PipeLog>(rt: &R, alloc: Global, engine: &mut Engine<P
 }
 
 // Where Append begins behind a purge of a log, with somebody who holds files back.
-fn first_held_back<R: Threads + Log + Sync>(rt: &R, alloc: Global) -> Result<u64> {
-    let files = MemoryFileSystem::new(alloc);
+fn first_held_back<R: Threads + Log + Sync, F: FileSystem + Sync + Drop>(
+    rt: &R,
+    alloc: Global,
+    files: F,
+) -> Result<u64> {
     match Engine::open_with(rt, alloc, sizes(alloc, 1, 1)?, files, HoldsBack {}) {
         Ok(mut engine) => first_behind(rt, alloc, &mut engine),
         Err(OpenRefused { error, .. }) => Err(error),
     }
 }
 
+// Where it begins where nobody does.
+fn first_free<R: Threads + Log + Sync, F: FileSystem + Sync + Drop>(
+    rt: &R,
+    alloc: Global,
+    files: F,
+) -> Result<u64> {
+    let mut engine = open_with(rt, alloc, sizes(alloc, 1, 1)?, files)?;
+    first_behind(rt, alloc, &mut engine)
+}
+
 #[test]
 fn files_that_are_held_back_stay(rt: HostRuntime) -> std::result::Result<(), Fail> {
     let alloc = rt.alloc();
-    let mut free = open_with(
-        &rt,
-        alloc,
-        sizes(alloc, 1, 1)?,
-        MemoryFileSystem::new(alloc),
-    )?;
-    assert!(rt; first_behind(&rt, alloc, &mut free)? > 3);
-    assert!(rt; first_held_back(&rt, alloc)? == 3);
+    assert!(rt; first_free(&rt, alloc, MemoryFileSystem::new(alloc))? > 3);
+    assert!(rt; first_held_back(&rt, alloc, MemoryFileSystem::new(alloc))? == 3);
     Ok(())
 }

@@ -103,27 +103,57 @@ fn crashed<R: Threads + Log + Sync>(
     Ok(engine.file_system().remainder(what)?)
 }
 
-// Whether a log of which a crash left this opens, with the batch of group 1, and that of group 2 up to there.
+// Whether a log opens with the batch of group 1, and that of group 2 up to there.
+fn opens_to<R: Threads + Log + Sync, F: FileSystem + Sync + Drop>(
+    rt: &R,
+    alloc: Global,
+    files: F,
+    last: u64,
+) -> Result<bool> {
+    let mut engine = open(rt, alloc, files, 4)?;
+    Ok(has(&mut engine, 1, 2)? & has(&mut engine, 2, last)?)
+}
+
+// Whether so one does of which a crash left this.
 fn opens_with<R: Threads + Log + Sync>(
     rt: &R,
     alloc: Global,
     what: &Remainder,
     last: u64,
 ) -> Result<bool> {
-    let mut engine = open(rt, alloc, crashed(rt, alloc, what)?, 4)?;
-    Ok(has(&mut engine, 1, 2)? && has(&mut engine, 2, last)?)
+    opens_to(rt, alloc, crashed(rt, alloc, what)?, last)
+}
+
+// A log of two batches of which one isn't synced, closed.
+fn closed_with_two<R: Threads + Log + Sync, F: FileSystem + Sync + Drop>(
+    rt: &R,
+    alloc: Global,
+    files: F,
+) -> Result<F> {
+    let mut engine = open(rt, alloc, files, 1)?;
+    write(rt, alloc, &mut engine, 1, 1, true)?;
+    write(rt, alloc, &mut engine, 2, 1, false)?;
+    Ok(engine.close(rt))
+}
+
+// Whether it is opened, goes on, and is opened again.
+fn goes_on<R: Threads + Log + Sync, F: FileSystem + Sync + Drop>(
+    rt: &R,
+    alloc: Global,
+    files: F,
+) -> Result<bool> {
+    let mut engine = open(rt, alloc, files, 1)?;
+    let before = has(&mut engine, 1, 2)? & has(&mut engine, 2, 2)?;
+    write(rt, alloc, &mut engine, 1, 3, false)?;
+    let mut engine = open(rt, alloc, engine.close(rt), 4)?;
+    let behind = has(&mut engine, 1, 4)? & has(&mut engine, 2, 2)? & has(&mut engine, 3, 0)?;
+    Ok(before & behind)
 }
 
 #[test]
 fn a_closed_log_is_opened(rt: HostRuntime) -> std::result::Result<(), Fail> {
-    let mut engine = open(&rt, rt.alloc(), MemoryFileSystem::new(rt.alloc()), 1)?;
-    write(&rt, rt.alloc(), &mut engine, 1, 1, true)?;
-    write(&rt, rt.alloc(), &mut engine, 2, 1, false)?;
-    let mut engine = open(&rt, rt.alloc(), engine.close(&rt), 1)?;
-    assert!(rt; has(&mut engine, 1, 2)? & has(&mut engine, 2, 2)?);
-    write(&rt, rt.alloc(), &mut engine, 1, 3, false)?;
-    let mut engine = open(&rt, rt.alloc(), engine.close(&rt), 4)?;
-    assert!(rt; has(&mut engine, 1, 4)? & has(&mut engine, 2, 2)? & has(&mut engine, 3, 0)?);
+    let files = closed_with_two(&rt, rt.alloc(), MemoryFileSystem::new(rt.alloc()))?;
+    assert!(rt; goes_on(&rt, rt.alloc(), files)?);
     Ok(())
 }
 
@@ -154,8 +184,7 @@ fn damage_is_refused_and_the_files_are_handed_back(
         return Ok(assert!(rt; false));
     };
     assert!(rt; matches!(refused.error, Error::Corruption(_)));
-    let mut engine = open(&rt, rt.alloc(), refused.file_system, 2)?;
-    assert!(rt; has(&mut engine, 1, 2)? & has(&mut engine, 2, 0)?);
+    assert!(rt; opens_to(&rt, rt.alloc(), refused.file_system, 0)?);
     Ok(())
 }
 
@@ -172,8 +201,12 @@ fn is_damaged<R: Threads + Log + Sync, F: FileSystem + Sync + Drop>(
 }
 
 // A log with a batch, closed.
-fn closed<R: Threads + Log + Sync>(rt: &R, alloc: Global) -> Result<MemoryFileSystem> {
-    let mut engine = open(rt, alloc, MemoryFileSystem::new(alloc), 1)?;
+fn closed<R: Threads + Log + Sync, F: FileSystem + Sync + Drop>(
+    rt: &R,
+    alloc: Global,
+    files: F,
+) -> Result<F> {
+    let mut engine = open(rt, alloc, files, 1)?;
     write(rt, alloc, &mut engine, 1, 1, true)?;
     Ok(engine.close(rt))
 }
@@ -189,27 +222,39 @@ fn zeros_behind_records_are_damage_where_none_is_tolerated(
             crashed(&rt, rt.alloc(), &Remainder::LastSync)?
         )?
     );
-    assert!(rt; !is_damaged(&rt, rt.alloc(), closed(&rt, rt.alloc())?)?);
+    let files = closed(&rt, rt.alloc(), MemoryFileSystem::new(rt.alloc()))?;
+    assert!(rt; !is_damaged(&rt, rt.alloc(), files)?);
     Ok(())
 }
 
-// Whether an open at which the changing call of this number is refused hands the files back, and they open.
-fn opens_behind<R: Threads + Log + Sync>(rt: &R, alloc: Global, call: u64) -> Result<bool> {
-    let mut files = crashed(rt, alloc, &Remainder::AllWritten)?;
-    files.refuse_call(call)?;
+// Whether an open is refused by the file system and hands the files back, and they open.
+fn opens_again<R: Threads + Log + Sync, F: FileSystem + Sync + Drop>(
+    rt: &R,
+    alloc: Global,
+    files: F,
+) -> Result<bool> {
     match refused(rt, alloc, files, RecoveryMode::TolerateTailCorruption)? {
         Some(OpenRefused { error, file_system }) => {
-            let mut engine = open(rt, alloc, file_system, 1)?;
-            Ok(matches!(error, Error::Io(_)) && has(&mut engine, 1, 2)? && has(&mut engine, 2, 2)?)
+            Ok(matches!(error, Error::Io(_)) & opens_to(rt, alloc, file_system, 2)?)
         }
         None => Ok(false),
     }
 }
 
-// Three runs of a group's entries were written, each to a file of its own behind the first one, and the second
-// run's file has lost its records.
-fn with_a_hole<R: Threads + Log + Sync>(rt: &R, alloc: Global) -> Result<MemoryFileSystem> {
-    let mut engine = open_small(rt, alloc, MemoryFileSystem::new(alloc))?;
+// Whether so it is of one at which the changing call of this number is refused.
+fn opens_behind<R: Threads + Log + Sync>(rt: &R, alloc: Global, call: u64) -> Result<bool> {
+    let mut files = crashed(rt, alloc, &Remainder::AllWritten)?;
+    files.refuse_call(call)?;
+    opens_again(rt, alloc, files)
+}
+
+// Three runs of a group's entries were written, each to a file of its own behind the first one.
+fn in_three_files<R: Threads + Log + Sync, F: FileSystem + Sync + Drop>(
+    rt: &R,
+    alloc: Global,
+    files: F,
+) -> Result<F> {
+    let mut engine = open_small(rt, alloc, files)?;
     for begin in [1u64, 3, 5] {
         append(
             rt,
@@ -220,7 +265,12 @@ fn with_a_hole<R: Threads + Log + Sync>(rt: &R, alloc: Global) -> Result<MemoryF
             b"abc",
         )?;
     }
-    let mut files = engine.close(rt);
+    Ok(engine.close(rt))
+}
+
+// The second run's file has lost its records.
+fn with_a_hole<R: Threads + Log + Sync>(rt: &R, alloc: Global) -> Result<MemoryFileSystem> {
+    let mut files = in_three_files(rt, alloc, MemoryFileSystem::new(alloc))?;
     let Ok(handle) = files.open("d/0000000000000003.raftlog", Permission::ReadWrite) else {
         return Err(Error::Full);
     };

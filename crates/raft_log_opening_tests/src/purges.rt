@@ -136,14 +136,15 @@ fn stands<P: PipeLog>(
 
 // Whether a log to which steps were made, with a purge behind the one of this number, holds such entries, also
 // behind a whole purge and another open.
-fn ends_as<R: Threads + Log + Sync>(
+fn ends_as<R: Threads + Log + Sync, F: FileSystem + Sync + Drop>(
     rt: &R,
     alloc: Global,
+    files: F,
     steps: &[Step],
     cut: (usize, Option<u64>),
     ends: Option<(u64, u64)>,
 ) -> Result<bool> {
-    let files = left(rt, alloc, MemoryFileSystem::new(alloc), steps, cut)?;
+    let files = left(rt, alloc, files, steps, cut)?;
     let mut engine = open_small(rt, alloc, files)?;
     let first = stands(alloc, &mut engine, ends)?;
     engine.must_rewrite_append_queue(rt, None, None)?;
@@ -152,14 +153,15 @@ fn ends_as<R: Threads + Log + Sync>(
 }
 
 // Whether the key has this value behind steps with a purge behind the one of this number, and an open.
-fn key_ends_as<R: Threads + Log + Sync>(
+fn key_ends_as<R: Threads + Log + Sync, F: FileSystem + Sync + Drop>(
     rt: &R,
     alloc: Global,
+    files: F,
     steps: &[Step],
     cut: (usize, Option<u64>),
     value: &[u8],
 ) -> Result<bool> {
-    let files = left(rt, alloc, MemoryFileSystem::new(alloc), steps, cut)?;
+    let files = left(rt, alloc, files, steps, cut)?;
     let engine = open_small(rt, alloc, files)?;
     match engine.get(1, b"key")? {
         Some(found) => Ok(found.as_slice() == value),
@@ -177,7 +179,8 @@ fn last_run_stands<R: Threads + Log + Sync>(rt: &R, alloc: Global, count: usize)
     let mut all = true;
     for at in 0..count {
         for exit in [None, Some(1), Some(2)] {
-            all = all & ends_as(rt, alloc, steps, (at, exit), ends)?;
+            let files = MemoryFileSystem::new(alloc);
+            all = all & ends_as(rt, alloc, files, steps, (at, exit), ends)?;
         }
     }
     Ok(all)
@@ -194,7 +197,8 @@ fn last_word_stands<R: Threads + Log + Sync>(
     let mut all = true;
     for at in 0..count {
         for exit in [None, Some(2)] {
-            all = all & key_ends_as(rt, alloc, steps, (at, exit), value)?;
+            let files = MemoryFileSystem::new(alloc);
+            all = all & key_ends_as(rt, alloc, files, steps, (at, exit), value)?;
         }
     }
     Ok(all)
@@ -203,7 +207,31 @@ fn last_word_stands<R: Threads + Log + Sync>(
 // Whether the key is gone, where Append is rewritten behind the put and behind the delete.
 fn deleted_key_is_gone<R: Threads + Log + Sync>(rt: &R, alloc: Global) -> Result<bool> {
     let steps = [Step::Put(b"v1"), Step::Purge(None), Step::Delete];
-    key_ends_as(rt, alloc, &steps, (2, None), b"")
+    let files = MemoryFileSystem::new(alloc);
+    key_ends_as(rt, alloc, files, &steps, (2, None), b"")
+}
+
+// Whether a log to which steps were made holds such entries behind them.
+fn are_left<R: Threads + Log + Sync>(
+    rt: &R,
+    alloc: Global,
+    steps: &[Step],
+    ends: (u64, u64),
+) -> Result<bool> {
+    let files = MemoryFileSystem::new(alloc);
+    ends_as(rt, alloc, files, steps, (9, None), Some(ends))
+}
+
+// Whether no entry stands where steps were made.
+fn are_gone<R: Threads + Log + Sync, F: FileSystem + Sync + Drop>(
+    rt: &R,
+    alloc: Global,
+    files: F,
+    steps: &[Step],
+) -> Result<bool> {
+    let files = left(rt, alloc, files, steps, (9, None))?;
+    let engine = open_small(rt, alloc, files)?;
+    Ok(engine.first_index(1)?.is_none())
 }
 
 #[test]
@@ -227,23 +255,15 @@ fn test_delete_key_value(rt: HostRuntime) -> std::result::Result<(), Fail> {
 #[test]
 fn test_compact_raft_group(rt: HostRuntime) -> std::result::Result<(), Fail> {
     let alloc = rt.alloc();
-    assert!(rt; ends_as(&rt, alloc, &COMPACTED, (9, None), Some((5, 10)))?);
-    assert!(rt; ends_as(&rt, alloc, &TWICE, (9, None), Some((20, 25)))?);
-    assert!(rt; ends_as(&rt, alloc, &BEFORE, (9, None), Some((10, 15)))?);
+    assert!(rt; are_left(&rt, alloc, &COMPACTED, (5, 10))?);
+    assert!(rt; are_left(&rt, alloc, &TWICE, (20, 25))?);
+    assert!(rt; are_left(&rt, alloc, &BEFORE, (10, 15))?);
     Ok(())
 }
 
 #[test]
 fn replaced_and_compacted_entries_stay_gone(rt: HostRuntime) -> std::result::Result<(), Fail> {
-    let alloc = rt.alloc();
-    let files = left(
-        &rt,
-        alloc,
-        MemoryFileSystem::new(alloc),
-        &REPLACED,
-        (9, None),
-    )?;
-    let engine = open_small(&rt, alloc, files)?;
-    assert!(rt; engine.first_index(1)?.is_none());
+    let files = MemoryFileSystem::new(rt.alloc());
+    assert!(rt; are_gone(&rt, rt.alloc(), files, &REPLACED)?);
     Ok(())
 }

@@ -11,3 +11,5 @@ pub mod Blocks
 pub mod Dump
 pub mod Fork
 pub mod Consistency
+pub mod Builder
+pub mod Rewriting

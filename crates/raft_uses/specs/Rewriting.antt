@@ -1,0 +1,19 @@
+-- What a caller of the parts of a purge does with a group.
+use Rattle.std.specs.Prelude.{ℕ}
+use Rattle.raft_log_directory.specs.Calls.Which.{InAppend, InRewrite}
+use Rattle.raft_log_dual_pipes.specs.Calls.{SyncsQueue}
+use Rattle.raft_log_dual_pipes.specs.Pipes.{LogPipes}
+use Rattle.raft_log_engine.specs.raft_log_engine_state.specs.Shows.{Shows}
+use Rattle.raft_log_rewriting.specs.Groups.{RewritesGroup}
+use Rattle.raft_log_rewriting.specs.Marks.{CarriesMarks}
+
+-- Append was synced and the marks carried; then what the group has in Append up to the gate was rewritten, and
+-- Rewrite synced
+pub record MovesGroup (group gate : ℕ) (s t : Shows) : Type 0 where
+  pub synced : LogPipes
+  pub syncs : SyncsQueue InAppend s.pipes synced
+  pub carried : Shows
+  pub carries : CarriesMarks (record s { pipes = synced }) carried
+  pub rewritten : Shows
+  pub rewrites : RewritesGroup group gate carried rewritten
+  pub ends : SyncsQueue InRewrite rewritten.pipes t.pipes

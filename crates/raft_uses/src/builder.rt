@@ -1,0 +1,30 @@
+//! A caller of `raft_log_builder`: what a log's files say is read, and no pipe is opened.
+
+ghost use Rattle.std.specs.Prelude.{IfOk};
+ghost use Rattle.raft_uses.specs.Builder.{ReadsInto};
+
+use log::Log;
+use raft_log_base::Result;
+use raft_log_builder::DualPipesBuilder;
+use raft_log_disk::FileSystem;
+use raft_log_segments::{Factory, ReplayMachine};
+use raft_log_settings::Config;
+use std::alloc::Global;
+use std::thread::Threads;
+
+/// Reads the log of these settings into machines, that of Append and that of Rewrite.
+pub fn read_into<R: Threads + Log + Sync, F: FileSystem + Sync, M: ReplayMachine, A: Factory<M>>(
+    rt: &R,
+    alloc: Global,
+    config: Config,
+    file_system: &mut F,
+    factory: &A,
+) -> Result<(M, M)>
+    ensures ok { IfOk result (λ both. ReadsInto M.reads config both.0 both.1
+        (F.disk file_system.old) (F.disk file_system.new)) }
+{
+    let mut builder = DualPipesBuilder::new(alloc, config);
+    builder.scan(alloc, rt, file_system)?;
+    let both = builder.recover(rt, alloc, file_system, factory)?;
+    Ok(both)
+}

@@ -1,0 +1,28 @@
+//! A caller of `raft_log_opening`: how much a log has read of its Rewrite files when it is opened.
+
+ghost use Rattle.std.specs.Prelude.{IfErr, IfOk};
+ghost use Rattle.raft_log_opening.specs.Opening.{FailsToOpenDirectory};
+ghost use Rattle.raft_log_opening.specs.Reading.{BringsInRewrite};
+
+use log::Log;
+use raft_log_disk::FileSystem;
+use raft_log_dual_pipes::OpenRefused;
+use raft_log_opening::open_directory;
+use raft_log_settings::Config;
+use std::alloc::Global;
+use std::thread::Threads;
+
+/// Opens the log of these settings and gives it up: how many entries and values its Rewrite files bring.
+pub fn count_brought<R: Threads + Log + Sync, F: FileSystem + Sync + Drop>(
+    rt: &R,
+    alloc: Global,
+    config: Config,
+    files: F,
+) -> Result<u64, OpenRefused<F>>
+    ensures ok { IfOk result (BringsInRewrite config (F.disk files)) }
+    ensures err { IfErr result (λ refused. FailsToOpenDirectory F.disk F.tells_space config refused.error
+        files refused.file_system) }
+{
+    let log = open_directory(rt, alloc, config, files)?;
+    Ok(log.written)
+}

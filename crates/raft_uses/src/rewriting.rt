@@ -1,0 +1,34 @@
+//! A caller of `raft_log_rewriting`: a group's entries and values move from Append to Rewrite.
+
+ghost use Rattle.std.specs.Prelude.{OnOk};
+ghost use Rattle.raft_log_engine.specs.raft_log_engine_state.specs.Shows.{shows};
+ghost use Rattle.raft_uses.specs.Rewriting.{MovesGroup};
+
+use log::Log;
+use raft_log_base::{FileSeq, LogQueue, Result};
+use raft_log_blocks::BlockCache;
+use raft_log_dual_pipes::PipeLog;
+use raft_log_replay::MemTables;
+use raft_log_rewriting::{rewrite_group, rewrite_marks};
+use std::alloc::Global;
+
+/// Rewrites what a group has in Append in files up to the gate, and syncs it; the marks are carried before.
+pub fn move_group<P: PipeLog, L: Log>(
+    alloc: Global,
+    rt: &L,
+    pipes: &mut P,
+    tables: &mut MemTables,
+    cache: &mut BlockCache,
+    group: u64,
+    gate: FileSeq,
+) -> Result<()>
+    ensures ok { OnOk result (MovesGroup group gate
+        (shows (P.shown pipes.old) tables.old cache.old) (shows (P.shown pipes.new) tables.new cache.new)) }
+{
+    let mut unsynced = 0;
+    pipes.sync(rt, LogQueue::Append)?;
+    rewrite_marks(alloc, rt, pipes, tables)?;
+    rewrite_group(alloc, rt, pipes, tables, cache, group, gate, &mut unsynced)?;
+    pipes.sync(rt, LogQueue::Rewrite)?;
+    Ok(())
+}

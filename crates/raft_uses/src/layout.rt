@@ -1,0 +1,20 @@
+//! A caller of `raft_log_layout`: how a queue's files are written that lie in one directory.
+
+ghost use Rattle.std.specs.Prelude.{◌≡◌, [], ◌∷◌, IfOk};
+ghost use Rattle.raft_log_layout.specs.Layout.{log_paths};
+
+use raft_log_base::LogQueue;
+use raft_log_files::PipeFormat;
+use raft_log_layout::LogLayout;
+use std::alloc::{AllocError, Global};
+
+/// The layout of a queue whose files all lie in this directory, for its pipe.
+pub fn layout_in(alloc: Global, queue: LogQueue, directory: &str) -> Result<LogLayout, AllocError>
+    ensures queue { IfOk result (λ layout. layout.queue ≡ queue) }
+    ensures lies { IfOk result (λ layout.
+        ⟦<LogLayout as PipeFormat>⟧.file_paths layout ≡ log_paths queue (directory.now ∷ [])) }
+{
+    let mut paths = Vec::new(alloc);
+    paths.push(String::from_str(alloc, directory)?)?;
+    Ok(LogLayout::new(queue, paths))
+}

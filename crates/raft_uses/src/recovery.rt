@@ -1,0 +1,28 @@
+//! A caller of `raft_log_recovery`: how many files a log has that nobody has open.
+
+ghost use Rattle.std.specs.Prelude.{IfErr, IfOk, map};
+ghost use Rattle.std.specs.String.{string_bytes};
+ghost use Rattle.raft_log_recovery.specs.Scanned.{FailsToScan};
+ghost use Rattle.raft_uses.specs.Recovery.{FindsFiles};
+
+use raft_log_base::Result;
+use raft_log_disk::FileSystem;
+use raft_log_recovery::scanning::scan;
+use raft_log_settings::RecoveryMode;
+use std::alloc::Global;
+
+/// How many files of Append and how many of Rewrite an open would read in these directories. No file is changed.
+pub fn count_files<F: FileSystem>(
+    alloc: Global,
+    file_system: &mut F,
+    paths: &[String],
+    mode: RecoveryMode,
+) -> Result<(usize, usize)>
+    ensures ok { IfOk result (λ counts. FindsFiles (map string_bytes paths.now) mode counts.0 counts.1
+        (F.disk file_system.old) (F.disk file_system.new)) }
+    ensures err { IfErr result (λ error. FailsToScan (map string_bytes paths.now) error
+        (F.disk file_system.old) (F.disk file_system.new)) }
+{
+    let scanned = scan(alloc, file_system, paths, mode)?;
+    Ok((scanned.append.len(), scanned.rewrite.len()))
+}

@@ -1,0 +1,16 @@
+//! A caller of `raft_log_replay`: where a group's log ends.
+
+ghost use Rattle.std.specs.Prelude.{◌≡◌, option_and_then};
+ghost use Rattle.raft_log_replay.specs.Tables.{table_of};
+ghost use Rattle.raft_log_tables.specs.Reads.{last_of};
+ghost use Rattle.raft_log_tables.specs.Table.{shown};
+
+use raft_log_replay::MemTables;
+
+/// The last index of a group's entries: none where the group has taken nothing since it was cleaned, or has no
+/// entries.
+pub fn last_index(tables: &MemTables, group: u64) -> Option<u64>
+    ensures { result ≡ option_and_then (λ table. last_of (shown table)) (table_of tables.now group) }
+{
+    tables.get(group)?.last_index()
+}

@@ -43,6 +43,13 @@ fn headers_are_read_back(rt: HostRuntime) {
 }
 
 #[test]
+fn test_version(rt: HostRuntime) {
+    let usual = Version::default();
+    assert!(rt; usual == Version::V1 && usual.to_u64() == 1);
+    assert!(rt; Version::from_u64(1) == Some(usual));
+}
+
+#[test]
 fn test_encoding_decoding_file_format(rt: HostRuntime) {
     let read = LogFileFormat::decode(rt.alloc(), &mut &ALIGNED[..]);
     assert!(rt; matches!(read, Ok(f) if f == LogFileFormat::new(Version::V2, 4096)));

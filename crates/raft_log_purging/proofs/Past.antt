@@ -38,6 +38,7 @@ use Rattle.raft_log_restating.specs.raft_log_rewriting.specs.Reasons.{HasFileRea
 use Rattle.raft_log_restating.specs.raft_log_rewriting.proofs.Grouping.{among, part_same, part_wider, rewritten_is_past}
 use Rattle.raft_log_restating.specs.raft_log_rewriting.proofs.Leasts.{queue_may_begin}
 use Rattle.raft_log_restating.specs.raft_log_rewriting.proofs.Parts.{alive_ok, later_on, same_later, tells_err}
+use Rattle.raft_log_restating.specs.raft_log_rewriting.proofs.Spanned.{within_span}
 use Rattle.raft_log_restating.specs.raft_log_rewriting.proofs.Reasons.{memory_is_none, memory_reason, purge_reason, reason_after, sync_reason, tells_nothing}
 use Rattle.raft_log_restating.specs.raft_log_rewriting.proofs.Staying.{stays_on, stays_same, sync_stays}
 use Rattle.raft_log_purging.proofs.OneFile.{purge_stays}
@@ -145,7 +146,7 @@ module _ (test : ℕ → Bool) (gate : ℕ) (s copied : Shows) (r : Rewrites tes
 
 -- Files go.
 
-nothing_lost : (gate : ℕ) (error : Error) (s : Shows) → (error ≡ errors.Failed → ⊥) → (gate ≤ last_at InAppend s.pipes → HasFileReason error s s) → FailsToLoseTo gate error s s
+nothing_lost : (gate : ℕ) (error : Error) (s : Shows) → (error ≡ errors.Failed → ⊥) → (gate < last_at InAppend s.pipes → HasFileReason error s s) → FailsToLoseTo gate error s s
 nothing_lost gate error s other reason = record {
   tells = λ lived. tells_nothing error s.pipes lived other;
   later = same_later s.pipes.disk;
@@ -219,11 +220,13 @@ module _ (gate least seq : ℕ) (m : MemTables) (v : LogPipes) (old : BlockCache
       keeps = λ past owes home log h. raised InAppend home before (shows w m new) log seq h (may_begin past owes home log h) refl none call;
     }
 
-    pub not_lost_to : {A : Type 0} (error : Error) → TellsFailure {A = A} (Err error) w → FailsToPurgeQueue InAppend seq error v w → EndsNumbersBelow InAppend error v → FailsToLoseTo gate error before (shows w m new)
-    not_lost_to {A} error tells call ends = record {
+    pub not_lost_to : {A : Type 0} (error : Error) → TellsFailure {A = A} (Err error) w → first_at InAppend v < seq → FailsToPurgeQueue InAppend seq error v w → EndsNumbersBelow InAppend error v → FailsToLoseTo gate error before (shows w m new)
+    not_lost_to {A} error tells above call ends = record {
       tells = λ lived. tells_err {A = A} error w tells;
       later = later;
       remains = λ past owes home log h.
           left_or_held home log (shows w m new) error (raise_refused InAppend home before (shows w m new) log seq error h (may_begin past owes home log h) refl none call);
-      cause = λ low home log h. purge_reason InAppend seq home error before (shows w m new) h.state h.runs call ends;
+      cause = λ low home log h.
+          (let most = is_least.limited in
+          purge_reason InAppend seq home error before (shows w m new) h.state h.runs (within_span InAppend seq home v h.state h.runs (omega (arith, above)) (omega (arith, is, low, most))) call ends);
     }

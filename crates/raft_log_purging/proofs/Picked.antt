@@ -32,11 +32,12 @@ use Rattle.raft_log_restating.specs.raft_log_rewriting.specs.Reasons.{HasFileRea
 use Rattle.raft_log_restating.specs.raft_log_rewriting.proofs.Grouping.{among, part_wider}
 use Rattle.raft_log_restating.specs.raft_log_rewriting.proofs.Leasts.{queue_may_begin}
 use Rattle.raft_log_restating.specs.raft_log_rewriting.proofs.Parts.{alive_ok, later_on, same_later, tells_err}
+use Rattle.raft_log_restating.specs.raft_log_rewriting.proofs.Spanned.{within_span}
 use Rattle.raft_log_restating.specs.raft_log_rewriting.proofs.Reasons.{memory_is_none, memory_reason, purge_reason, reason_after, reason_of_files, tells_nothing}
 use Rattle.raft_log_purging.specs.Append.{RewritesSynced, up_to}
 use Rattle.raft_log_purging.specs.Expired.{FailsToLoseBelow, FailsToPurgeAppend, LosesBelow, RewritesPicked}
 use Rattle.raft_log_purging.proofs.Past.{left_or_held}
-use Rattle.raft_log_purging.proofs.Whole.{after_sync, held_or_left, synced_owe_nothing}
+use Rattle.raft_log_purging.proofs.Whole.{after_sync, at_most_last, held_or_left, synced_owe_nothing}
 
 -- Files go.
 
@@ -91,14 +92,17 @@ module _ (held : Option ℕ) (least : ℕ) (m : MemTables) (v : LogPipes) (old :
       keeps = λ owes home log h. raised InAppend home before (shows w m new) log least h (may_begin owes home log h) refl none call;
     }
 
-    pub not_lost_below : {A : Type 0} (error : Error) → TellsFailure {A = A} (Err error) w → FailsToPurgeQueue InAppend least error v w → EndsNumbersBelow InAppend error v
+    pub not_lost_below : {A : Type 0} (error : Error) → TellsFailure {A = A} (Err error) w → first_at InAppend v < least → FailsToPurgeQueue InAppend least error v w → EndsNumbersBelow InAppend error v
         → FailsToLoseBelow error before (shows w m new)
-    not_lost_below {A} error tells call ends = record {
+    not_lost_below {A} error tells above call ends = record {
       tells = λ lived. tells_err {A = A} error w tells;
       later = later;
       remains = λ owes home log h.
           left_or_held home log (shows w m new) error (raise_refused InAppend home before (shows w m new) log least error h (may_begin owes home log h) refl none call);
-      cause = λ home log h. purge_reason InAppend least home error before (shows w m new) h.state h.runs call ends;
+      cause = λ home log h.
+          (let most = is.limited in
+          let last = at_most_last held (last_at InAppend v) in
+          purge_reason InAppend least home error before (shows w m new) h.state h.runs (within_span InAppend least home v h.state h.runs (omega (arith, above)) (omega (arith, most, last))) call ends);
     }
 
 -- Groups are rewritten, and then files go.

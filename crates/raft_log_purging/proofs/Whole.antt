@@ -38,7 +38,7 @@ use Rattle.raft_log_purging.proofs.OneFile.{begins_low, one_is_left, turned}
 pub gate_before_last : (watermark : Option ℕ) (gate : ℕ) (v : LogPipes) → gate ≡ gate_of watermark v → gate < last_at InAppend v → PassesGate watermark gate v v
 gate_before_last watermark gate v is low = record { is = is; goes = inr (low, refl); alive = λ lived. lived; later = same_later v.disk }
 
-at_most_last : (watermark : Option ℕ) (last : ℕ) → up_to watermark last ≤ last
+pub at_most_last : (watermark : Option ℕ) (last : ℕ) → up_to watermark last ≤ last
 at_most_last None last = omega arith
 at_most_last (Some w) last = omega arith
 
@@ -224,17 +224,17 @@ module _ (s : Shows) (synced : LogPipes) (syncs : SyncsQueue InAppend s.pipes sy
       to_carried : IsLater s.pipes.disk carried.pipes.disk
       to_carried = later_on s.pipes.disk past.disk carried.pipes.disk to_past carries.later
 
-      -- the gate isn't past Append's last file
-      gate_within : (home : Home) (log : LogMap) (pending : List Said) → Holds home s log pending → gate ≤ last_at InAppend carried.pipes
+      -- the gate lies below Append's last file
+      gate_within : (home : Home) (log : LogMap) (pending : List Said) → Holds home s log pending → gate < last_at InAppend carried.pipes
       gate_within home log pending h =
           let there = held_beyond home log pending h in
           let still = (carries.stays home there.state there.runs).1 in
           let most = at_most_last watermark (last_at InAppend synced) in
           let is = passes.is in
-          elim passes.goes as (λ _. gate ≤ last_at InAppend carried.pipes) [
+          elim passes.goes as (λ _. gate < last_at InAppend carried.pipes) [
             | inl rotates ↦ (let before = held_behind home log pending h in
                 let next = (turned synced past home before.state before.runs rotates.1).1 in omega (arith, is, most, next, still))
-            | inr stays ↦ (let same : last_at InAppend past ≡ last_at InAppend synced = ap (last_at InAppend) stays.1 in omega (arith, is, most, same, still))
+            | inr stays ↦ (let same : last_at InAppend past ≡ last_at InAppend synced = ap (last_at InAppend) stays.1 in let under = stays.0 in omega (arith, under, same, still))
           ]
 
       stopped : (error : Error) (t : Shows) → StopsGoingOn gate error carried t → FailsToRewriteAppend error s t

@@ -1,5 +1,5 @@
 -- Append is rewritten up to a file, and the files up to it go.
-use Rattle.std.specs.Prelude.{◌≡◌, ◌⊎◌, ◌↔◌, ◌<◌, ◌≤◌, ◌==◌, IsTrue, ℕ, suc, min, max, Bool, true, false, List, [], Option, Some, None, MatchBool}
+use Rattle.std.specs.Prelude.{◌≡◌, ◌⊎◌, ◌↔◌, ◌<◌, ◌==◌, IsTrue, ℕ, suc, min, max, Bool, true, false, List, [], Option, Some, None, MatchBool}
 use Rattle.std.specs.List.{list_any}
 use Rattle.raft_log_model.specs.Groups.{taken}
 use Rattle.raft_log_disk.specs.Causes.{IsLater}
@@ -142,12 +142,12 @@ abbrev pub StaysOrIsLeftSettled : Error → Shows → Shows → Type 0
 StaysOrIsLeftSettled error s t = OweNothing s.tables → (home : Home) (m : LogMap) → HoldsSettled home s m
     → Holds home t m [] ⊎ ((error ≡ errors.Failed) × IsLeftAt home t.pipes.disk m [])
 
--- so it is of files that don't go; and why, where the gate isn't past Append's last file
+-- so it is of files that don't go; and why, where the gate lies below Append's last file
 pub record FailsToLoseTo (gate : ℕ) (error : Error) (s t : Shows) : Type 0 where
   pub tells : has_failed s ≡ false → IsTrue (has_failed t) ↔ (error ≡ errors.Failed)
   pub later : IsLater s.pipes.disk t.pipes.disk
   pub remains : AreRewrittenTo gate s → StaysOrIsLeftSettled error s t
-  pub cause : gate ≤ last_at InAppend s.pipes → (home : Home) (log : LogMap) → HoldsSettled home s log
+  pub cause : gate < last_at InAppend s.pipes → (home : Home) (log : LogMap) → HoldsSettled home s log
       → HasFileReason error s t
 
 -- so it is of what is done behind the marks
@@ -155,7 +155,7 @@ pub record StopsGoingOn (gate : ℕ) (error : Error) (s t : Shows) : Type 0 wher
   pub tells : has_failed s ≡ false → IsTrue (has_failed t) ↔ (error ≡ errors.Failed)
   pub later : IsLater s.pipes.disk t.pipes.disk
   pub remains : StaysOrIsLeftSettled error s t
-  pub cause : gate ≤ last_at InAppend s.pipes → OweNothing s.tables → (home : Home) (log : LogMap)
+  pub cause : gate < last_at InAppend s.pipes → OweNothing s.tables → (home : Home) (log : LogMap)
       → HoldsSettled home s log → HasReason home log error s t
 
 -- The whole was refused, and why: the map stays, with nothing pending; or the engine has failed, and its log is

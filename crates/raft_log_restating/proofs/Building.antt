@@ -17,7 +17,7 @@ use Rattle.raft_log_tables.specs.Table.{Raw, shown}
 use Rattle.raft_log_replay.specs.declared.group_table.GroupTable.{GroupTable}
 use Rattle.raft_log_replay.specs.declared.mem_tables.MemTables.{MemTables}
 use Rattle.raft_log_replay.specs.Tables.{raw_of, shown_in, shown_of}
-use Rattle.raft_log_rewriting.specs.Marks.{AreNoMarks}
+use Rattle.raft_log_rewriting.specs.Owed.{AreNoMarks}
 use Rattle.raft_log_rewriting.proofs.Nexts.{raw_shown}
 use Rattle.raft_log_restating.specs.Pieces.{AddsKeys}
 

@@ -1,9 +1,8 @@
 -- The end of an atomic group in which a group is restated.
-use Rattle.std.proofs.Common.{◌≡◌, ℕ, ◌+◌, ◌<◌, ◌≤◌, ◌==◌, true, false, List, [], ◌∷◌, ◌++◌, length, Option, Some, None, is_some, inl, refl, sym, ap, subst, ◌∙◌, arith, length-append}
+use Rattle.std.proofs.Common.{◌≡◌, ℕ, ◌+◌, ◌<◌, ◌≤◌, ◌==◌, true, false, List, [], ◌∷◌, ◌++◌, length, Option, Some, None, is_some, inl, inr, refl, sym, ap, subst, ◌∙◌, arith, length-append}
 use Rattle.std.specs.Prelude.{Result, Ok, Err, IfErr, OnOk}
 use Rattle.std.specs.BTreeMap.{get}
 use Rattle.std.specs.Ordering.{nat_cmp}
-use Rattle.std.proofs.lemmas.Bool.{false≢true}
 use std.Path.{fun_ext}
 use Rattle.raft_log_model.proofs.Cases.{at_bool, from_eq_true}
 use Rattle.raft_log_machine.specs.Whereabouts.{Restates}
@@ -13,6 +12,7 @@ use Rattle.raft_log_base.specs.declared.pipe_log.FileBlockHandle.{FileBlockHandl
 use Rattle.raft_log_model.specs.Item.Mark.{End}
 use Rattle.raft_log_model.specs.Item.Record.{Part}
 use Rattle.raft_log_atomic_groups.specs.declared.status.AtomicGroupStatus.TheVariants as statuses
+use Rattle.raft_log_atomic_groups.specs.Marking.{mark_item}
 use Rattle.raft_log_items.specs.declared.entry.EntryIndex.{EntryIndex}
 use Rattle.raft_log_records.specs.Batch.{Batch}
 use Rattle.raft_log_signed_batch.specs.Signing.{SaysItself, signed_for}
@@ -40,7 +40,7 @@ use Rattle.raft_log_rewriting.specs.Entries.{AreBytesAt}
 use Rattle.raft_log_rewriting.specs.Reasons.{HasReason}
 use Rattle.raft_log_rewriting.proofs.Copying.{same_but_pipes}
 use Rattle.raft_log_rewriting.proofs.Parts.{later_on, same_later}
-use Rattle.raft_log_rewriting.proofs.Reasons.{memory_is_none, memory_reason, reason_after, tells_nothing}
+use Rattle.raft_log_rewriting.proofs.Reasons.{long_reason, memory_is_none, memory_reason, reason_after, tells_nothing, values_in}
 use Rattle.raft_log_restating.specs.declared.parts.RestatedPart.{RestatedPart}
 use Rattle.raft_log_restating.specs.Parts.{AreKept, ArePieces, HasParts}
 use Rattle.raft_log_restating.specs.Pieces.{IsPiece}
@@ -162,7 +162,10 @@ module _ (g number done : ℕ) (parts : List RestatedPart) (pairs : List (List �
             (let stood = has.stands home m h in
             reason_after home m error s e (shows w new cache) has.later
             (subst (HasReason home m error e) (sym same)
-            (unwritten_reason home e m b error w stood.holds (λ r. part_speaks home o.number statuses.End b (end_part home m h r.says r.laid)) refused.fails.why)));
+            (unwritten_reason home e m b error w stood.holds (λ r. part_speaks home o.number statuses.End b (end_part home m h r.says r.laid))
+            (long_reason home m error e (over e w) g (f + done) last.bytes pairs (mark_item number statuses.End ∷ []) b (inr (number, statuses.End, refl)) last.is.made (last.says home m h)
+            (values_in home m s h g None pairs lists) lists.rising)
+            refused.fails.why)));
       }
 
   -- It was written, and the tables took it.

@@ -29,9 +29,10 @@ use Rattle.raft_log_rewriting.specs.raft_log_purge_state.proofs.Settling.{failed
 use Rattle.raft_log_group_state.specs.Parts.{HoldsInGroup, IsGroupPart, UnendedGroup, begun_by, gone_on_by, said_items}
 use Rattle.raft_log_group_state.proofs.Writing.{begin_refused, middle_refused, part_begins, part_goes_on, says_part, sync_leaves_open}
 use Rattle.raft_log_rewriting.specs.Reasons.{HasReason}
+use Rattle.raft_log_rewriting.specs.Refusals.{IsOverlong}
 use Rattle.raft_log_rewriting.specs.Stale.{written_file}
 use Rattle.raft_log_rewriting.specs.Syncing.{MaySync}
-use Rattle.raft_log_rewriting.proofs.Reasons.{reason_after, record_reason, sync_reason, unmade_reason}
+use Rattle.raft_log_rewriting.proofs.Reasons.{memory_reason, reason_after, record_reason, sync_reason}
 use Rattle.raft_log_restating.specs.Records.{FailsToWrite, IsUnwritten, RefusesRecord}
 use Rattle.raft_log_restating.specs.Restated.{last_file}
 
@@ -107,12 +108,13 @@ unwritten_left home e m b error w h leaves (inr (inr r)) = refused_left home m (
 abbrev pub Speaks : Home → Batch → Type 0
 Speaks home b = (y : Said) × SaysRecord said_by (log_layout Rewrite home.rewrite) Rewrite (signed_for b) y
 
--- why it wasn't written, where a record that Rewrite refused says something
-pub unwritten_reason : (home : Home) (e : Shows) (m : LogMap) (b : Batch) (error : Error) (w : LogPipes) → Holds home e m [] → ((r : RefusesRecord b error e.pipes w) → Speaks home b) → IsUnwritten b error e.pipes w
-    → HasReason home m error e (over e w)
-unwritten_reason home e m b error w h says (inl (why, same)) = unmade_reason home m error e (over e w) why
-unwritten_reason home e m b error w h says (inr (inl (is, call))) = sync_reason InRewrite home m error e (over e w) h.state h.runs is call
-unwritten_reason home e m b error w h says (inr (inr r)) =
+-- why it wasn't written, where a record that Rewrite refused says something, and one that is too long is a reason
+pub unwritten_reason : (home : Home) (e : Shows) (m : LogMap) (b : Batch) (error : Error) (w : LogPipes) → Holds home e m [] → ((r : RefusesRecord b error e.pipes w) → Speaks home b)
+    → (IsOverlong b error → HasReason home m error e (over e w)) → IsUnwritten b error e.pipes w → HasReason home m error e (over e w)
+unwritten_reason home e m b error w h says long (inl (inl memory, same)) = memory_reason home m error e (over e w) memory
+unwritten_reason home e m b error w h says long (inl (inr over_long, same)) = long over_long
+unwritten_reason home e m b error w h says long (inr (inl (is, call))) = sync_reason InRewrite home m error e (over e w) h.state h.runs is call
+unwritten_reason home e m b error w h says long (inr (inr r)) =
     let behind = may_sync_held home e m r.synced h r.syncs in
     let (y, speaks) = says r in
     reason_after home m error e (over e r.synced) (over e w) r.before (record_reason home m error (over e r.synced) (over e w) behind.state y (signed_for b) behind.runs speaks r.call r.range)

@@ -46,13 +46,13 @@ use Rattle.raft_log_rewriting.specs.Entries.{AreBytesAt}
 use Rattle.raft_log_rewriting.proofs.Copying.{same_but_pipes}
 use Rattle.raft_log_rewriting.specs.Reasons.{HasReason}
 use Rattle.raft_log_rewriting.proofs.Parts.{same_later}
-use Rattle.raft_log_rewriting.proofs.Reasons.{reason_after}
+use Rattle.raft_log_rewriting.proofs.Reasons.{long_reason, reason_after, values_in}
 use Rattle.raft_log_restating.specs.Pieces.{BuildsPiece, FailsToBuild, IsPiece, put_items, run_items}
 use Rattle.raft_log_restating.specs.Restated.{AllFrom, FailsToRestate, IsRestatedFrom, RestatesOne, last_file}
 use Rattle.raft_log_restating.specs.Taking.{FailsToWriteLast, StandsAs, WritesLast}
 use Rattle.raft_log_restating.proofs.Holding.{IsLeft, may_sync_held, may_sync_last, over, taken_last, unwritten_left, unwritten_reason}
 use Rattle.raft_log_restating.proofs.Moving.{LiesFrom, listed_held, restated_plain, whole_lies}
-use Rattle.raft_log_restating.proofs.Opening.{begin_unread, built_len, built_piece, built_plain, bytes}
+use Rattle.raft_log_restating.proofs.Opening.{begin_unread, built_len, built_made, built_piece, built_plain, bytes}
 use Rattle.raft_log_restating.proofs.Parting.{WholeFiled, filed_both, key_bytes, no_others_filed, piece_of_group, piece_of_other, piece_places, run_piece, whole_filed}
 use Rattle.raft_log_restating.proofs.Reading.{bytes_restate, caching, held_caching, piece_read, rewritten_len}
 use Rattle.raft_log_restating.proofs.Saying.{all_of_group}
@@ -122,8 +122,8 @@ module _ (g : ℕ) (es : List EntryIndex) (pairs : List (List ℕ × List ℕ)) 
   whole_piece = stands.entries ∙ sym (take_all (length es) (rewritten_entries (s.tables g)) (let long = ap length stands.entries in omega (arith, long)))
 
   -- the entries weren't read
-  pub once_unread : (error : Error) → FailsToBuild es v cache new error → FailsToRestate error s (shows v old new)
-  once_unread error fails = begin_unread g (length es) s new es es stands.entries (sym (take_all (length es) es (omega arith))) error fails
+  pub once_unread : (error : Error) → FailsToBuild es pairs v cache new error → FailsToRestate error s (shows v old new)
+  once_unread error fails = begin_unread g (length es) s new es es stands.entries (sym (take_all (length es) es (omega arith))) pairs (λ home m h. values_in home m s h g None pairs stands.keys) error fails
 
   module _ (b : Batch) (built : BuildsPiece g es pairs v cache new b) where
     abbrev read : List (List ℕ)
@@ -211,7 +211,10 @@ module _ (g : ℕ) (es : List EntryIndex) (pairs : List (List ℕ × List ℕ)) 
                 reason_after home m error s (caching s new) (shows w after new) (same_later v.disk)
                 (subst (HasReason home m error (caching s new)) (sym same)
                 (unwritten_reason home (caching s new) m b error w (held home m h)
-                (λ r. (Plain (bytes_of b), says_marked home b Unmarked (Plain (bytes_of b)) some (built_plain g es pairs v cache new b built) refl r.says r.laid)) refused.fails.why));
+                (λ r. (Plain (bytes_of b), says_marked home b Unmarked (Plain (bytes_of b)) some (built_plain g es pairs v cache new b built) refl r.says r.laid))
+                (long_reason home m error (caching s new) (over (caching s new) w) g ((s.tables g).first + 0) read pairs [] b (inl refl) (built_made g es pairs v cache new b built (s.tables g) 0 (length es) whole_piece) (read_there home m h).1
+                (values_in home m s h g None pairs stands.keys) stands.keys.rising)
+                refused.fails.why));
           }
 
       module _ (block : FileBlockHandle) (w : LogPipes) (after : MemTables) (wrote : WritesLast [] b block v old w after) where

@@ -1,5 +1,5 @@
 -- Atomic groups that are begun, that go on, and that are given up.
-use Rattle.std.proofs.Common.{◌≡◌, ℕ, ◌+◌, ◌≤◌, ◌<◌, false, List, [], ◌∷◌, ◌++◌, length, map, take, drop, inl, refl, sym, ap, ap₂, subst, ◌∙◌, arith, append-nil, append_assoc, length-append, length-drop}
+use Rattle.std.proofs.Common.{◌≡◌, ℕ, ◌+◌, ◌≤◌, ◌<◌, false, List, [], ◌∷◌, ◌++◌, length, map, take, drop, inl, inr, refl, sym, ap, ap₂, subst, ◌∙◌, arith, append-nil, append_assoc, length-append, length-drop}
 use Rattle.std.specs.Prelude.{Result, Ok, Err, IfErr, IfOk}
 use Rattle.std.proofs.lemmas.List.{length-map, length-take}
 use Rattle.raft_log_machine.specs.Machine.{AllFit}
@@ -9,6 +9,7 @@ use Rattle.raft_log_base.specs.declared.errors.Error.{Error}
 use Rattle.raft_log_base.specs.declared.errors.Error.TheVariants as errors
 use Rattle.raft_log_items.specs.declared.entry.EntryIndex.{EntryIndex}
 use Rattle.raft_log_items.specs.declared.item.LogItem.{LogItem}
+use Rattle.raft_log_items.specs.Items.{put_item}
 use Rattle.raft_log_items.specs.Placed.{written}
 use Rattle.raft_log_atomic_groups.specs.declared.status.AtomicGroupStatus.{AtomicGroupStatus}
 use Rattle.raft_log_atomic_groups.specs.declared.status.AtomicGroupStatus.TheVariants as statuses
@@ -19,7 +20,7 @@ use Rattle.raft_log_records.specs.AtomicGroup.{AtomicGroup, Marks}
 use Rattle.raft_log_records.specs.declared.log_batch.BatchState.TheVariants.{Filling}
 use Rattle.raft_log_records.specs.Batch.{Batch, block_place}
 use Rattle.raft_log_signed_batch.specs.Signing.{SaysItself, signed_for}
-use Rattle.raft_log_records.specs.Entries.{entries_items, indexes_of}
+use Rattle.raft_log_records.specs.Entries.{RisesFrom, entries_items, indexes_of}
 use Rattle.raft_log_places.specs.Shown.{Shown}
 use Rattle.raft_log_tables.specs.Reads.{rewritten_entries}
 use Rattle.raft_log_replay.specs.declared.mem_tables.MemTables.{MemTables}
@@ -31,12 +32,14 @@ use Rattle.raft_log_rewriting.specs.raft_log_engine_state.specs.Holding.{Holds}
 use Rattle.raft_log_group_state.specs.Parts.{HoldsInGroup, IsGroupPart, WrittenPart, begun_by, gone_on_by, parts_of}
 use Rattle.raft_log_group_state.specs.Restating.{entries_of_pieces}
 use Rattle.raft_log_rewriting.specs.Entries.{AreBytesAt}
-use Rattle.raft_log_rewriting.specs.Marks.{AreNoMarks}
+use Rattle.raft_log_rewriting.specs.Lengths.{AreOfGroup, AreValuesIn}
+use Rattle.raft_log_rewriting.specs.Owed.{AreNoMarks}
 use Rattle.raft_log_rewriting.specs.Reasons.{GivesReason, HasReason}
 use Rattle.raft_log_rewriting.proofs.Carried.{plain_items}
 use Rattle.raft_log_rewriting.proofs.OneRun.{entries_count}
 use Rattle.raft_log_rewriting.proofs.Parts.{later_on, same_later}
-use Rattle.raft_log_rewriting.proofs.Reasons.{memory_is_none, memory_reason, reason_after, tells_nothing}
+use Rattle.raft_log_rewriting.proofs.Reading.{from_rises}
+use Rattle.raft_log_rewriting.proofs.Reasons.{long_reason, memory_is_none, memory_reason, none_twice, reason_after, tells_nothing}
 use Rattle.raft_log_restating.specs.declared.parts.RestatedPart.{RestatedPart}
 use Rattle.raft_log_restating.specs.Pieces.{BuildsPiece, FailsToBuild, IsPiece, run_items, tagged_all, put_items}
 use Rattle.raft_log_restating.specs.Records.{FailsToWrite, WritesRecord}
@@ -44,7 +47,7 @@ use Rattle.raft_log_restating.specs.Restated.{FailsToRestate}
 use Rattle.raft_log_restating.specs.Parts.{AreKept, ArePieces, HasParts, IsMarkedPiece}
 use Rattle.raft_log_restating.specs.Steps.{IsLastPart}
 use Rattle.raft_log_restating.proofs.Holding.{IsLeft, begin_left, begun, gone_on, middle_left, part_speaks, unwritten_reason}
-use Rattle.raft_log_restating.proofs.Reading.{begins_there, bytes_join, caching, held_caching, open_caching, piece_read, piece_unbuilt, rewritten_len, unbuilt_is_none, unbuilt_reason}
+use Rattle.raft_log_restating.proofs.Reading.{begins_there, bytes_join, caching, held_caching, open_caching, piece_entries, piece_places, piece_read, piece_unbuilt, rewritten_len, unbuilt_is_none, unbuilt_reason}
 use Rattle.raft_log_restating.proofs.Saying.{becomes_part, run_is_piece, with_keys, with_mark}
 
 -- The batch of a piece.
@@ -69,6 +72,17 @@ module _ (g : ℕ) (es : List EntryIndex) (pairs : List (List ℕ × List ℕ)) 
   built_piece t done count is =
       with_keys g (t.first + done) bytes pairs built.run (run_is_piece g (t.first + done) built.run (indexes_of es) bytes built.is (begins_there t done count es is)) b built.keys
 
+  -- its items, and the bytes of its entries
+  pub built_made : (t : Shown) (done count : ℕ) → es ≡ take count (drop done (rewritten_entries t)) → AreOfGroup g (t.first + done) bytes pairs [] b.items b.entries
+  built_made t done count is =
+      let puts : List LogItem = map (λ (e : List ℕ × List ℕ). put_item g e.0 e.1) pairs in
+      record {
+        indexes = indexes_of es;
+        rise = subst (λ l. RisesFrom (t.first + done) (indexes_of l)) (sym (is ∙ piece_entries t done count)) (from_rises t done (piece_places t done count));
+        are = built.keys.items ∙ ap (λ (l : List LogItem). l ++ puts) built.is.items ∙ sym (append-nil (entries_items g 0 (indexes_of es) bytes ++ puts));
+        joins = built.keys.entries ∙ built.is.joins;
+      }
+
   pub built_len : length bytes ≡ length es
   built_len = sym built.is.same ∙ length-map es (λ e. e.index)
 
@@ -77,12 +91,21 @@ not_empty : (xs : List LogItem) (x : LogItem) (ys : List LogItem) → ys ≡ xs 
 not_empty [] x ys is none = (let never : ⊥ = cc in never)
 not_empty (y ∷ xs) x ys is none = (let never : ⊥ = cc in never)
 
-pub marked_piece : (g f number : ℕ) (status : AtomicGroupStatus) (bytes : List (List ℕ)) (pairs : List (List ℕ × List ℕ)) (b made : Batch) (was now : AtomicGroup) → IsPiece g f bytes pairs b → b.state ≡ Filling → was.id ≡ number
+pub marked_piece : (g f number : ℕ) (status : AtomicGroupStatus) (bytes : List (List ℕ)) (pairs : List (List ℕ × List ℕ)) (b made : Batch) (was now : AtomicGroup) → IsPiece g f bytes pairs b → AreOfGroup g f bytes pairs [] b.items b.entries → b.state ≡ Filling → was.id ≡ number
     → Marks was now b made status → BecomesPart b.items made.items was.id status → IsMarkedPiece g f number status bytes pairs made
-marked_piece g f number status bytes pairs b made was now piece state is marks becomes =
+marked_piece g f number status bytes pairs b made was now piece plain state is marks becomes =
     let items : made.items ≡ b.items ++ mark_item was.id status ∷ [] = ap (λ (x : Batch). x.items) marks.1.0 in record {
       state = ap (λ (x : Batch). x.state) marks.1.0 ∙ state;
       piece = with_mark g f bytes pairs b made was.id status piece items (ap (λ (x : Batch). x.entries) marks.1.0);
+      made = record {
+        indexes = plain.indexes;
+        rise = plain.rise;
+        are =
+            items
+            ∙ ap (λ (l : List LogItem). l ++ mark_item was.id status ∷ []) (plain.are ∙ append-nil (entries_items g 0 plain.indexes bytes ++ map (λ (e : List ℕ × List ℕ). put_item g e.0 e.1) pairs))
+            ∙ ap (λ (n : ℕ). (entries_items g 0 plain.indexes bytes ++ map (λ (e : List ℕ × List ℕ). put_item g e.0 e.1) pairs) ++ mark_item n status ∷ []) is;
+        joins = ap (λ (x : Batch). x.entries) marks.1.0 ∙ plain.joins;
+      };
       part = subst (λ (n : ℕ). marking_of_items made.items ≡ Part n status) is (becomes_part b.items made.items was.id status becomes);
       some = not_empty b.items (mark_item was.id status) made.items items;
     }
@@ -121,12 +144,12 @@ module _ (g done count : ℕ) (s : Shows) (v : LogPipes) (old new : BlockCache) 
       → FailsToRestate error s (at_pipes s v new)
   stopped error other stays reason = record { same = refl; tells = λ lived. tells_nothing error v (alive lived) other; later = before; remains = λ home m h. inl (stays home m h); cause = reason }
 
-  pub stopped_reading : (error : Error) → FailsToBuild es v old new error → FailsToRestate error s (at_pipes s v new)
-  stopped_reading error fails =
-      stopped error (unbuilt_is_none v es old new error fails)
+  pub stopped_reading : (pairs : List (List ℕ × List ℕ)) → ((home : Home) (m : LogMap) → Holds home s m [] → AreValuesIn m g pairs) → (error : Error) → FailsToBuild es pairs v old new error → FailsToRestate error s (at_pipes s v new)
+  stopped_reading pairs values error fails =
+      stopped error (unbuilt_is_none v es pairs old new error fails)
       (λ home m h.
-      let k = held home m h in held_caching home (at_pipes s v old) m new k (piece_unbuilt (at_pipes s v old) g done count es is new home m k error fails))
-      (λ home m h. reason_after home m error s (at_pipes s v old) (at_pipes s v new) before (unbuilt_reason (at_pipes s v old) g done count es is new home m (held home m h) error fails))
+      let k = held home m h in held_caching home (at_pipes s v old) m new k (piece_unbuilt (at_pipes s v old) g done count es is new home m k pairs error fails))
+      (λ home m h. reason_after home m error s (at_pipes s v old) (at_pipes s v new) before (unbuilt_reason (at_pipes s v old) g done count es is new home m (held home m h) pairs (values home m h) error fails))
 
   pub stopped_marking : (error : Error) → error ≡ errors.Memory → (pairs : List (List ℕ × List ℕ)) (b : Batch) → BuildsPiece g es pairs v old new b → FailsToRestate error s (at_pipes s v new)
   stopped_marking error memory pairs b built =
@@ -147,10 +170,10 @@ module _ (g done count : ℕ) (s : Shows) (v : LogPipes) (old new : BlockCache) 
 
 -- Begun.
 
-pub begin_unread : (g count : ℕ) (s : Shows) (new : BlockCache) (all es : List EntryIndex) → all ≡ rewritten_entries (s.tables g) → es ≡ take count all → (error : Error) → FailsToBuild es s.pipes s.cache new error
-    → FailsToRestate error s (at_pipes s s.pipes new)
-begin_unread g count s new all es is_all is error fails =
-    stopped_reading g 0 count s s.pipes s.cache new es (is ∙ ap (take count) is_all) (λ home m h. h) (λ lived. lived) (same_later s.pipes.disk) error fails
+pub begin_unread : (g count : ℕ) (s : Shows) (new : BlockCache) (all es : List EntryIndex) → all ≡ rewritten_entries (s.tables g) → es ≡ take count all → (pairs : List (List ℕ × List ℕ))
+    → ((home : Home) (m : LogMap) → Holds home s m [] → AreValuesIn m g pairs) → (error : Error) → FailsToBuild es pairs s.pipes s.cache new error → FailsToRestate error s (at_pipes s s.pipes new)
+begin_unread g count s new all es is_all is pairs values error fails =
+    stopped_reading g 0 count s s.pipes s.cache new es (is ∙ ap (take count) is_all) (λ home m h. h) (λ lived. lived) (same_later s.pipes.disk) pairs values error fails
 
 pub begin_unmarked : (g count : ℕ) (s : Shows) (new : BlockCache) (all es : List EntryIndex) → all ≡ rewritten_entries (s.tables g) → es ≡ take count all → (error : Error) → error ≡ errors.Memory → (pairs : List (List ℕ × List ℕ)) (b : Batch)
     → BuildsPiece g es pairs s.pipes s.cache new b → FailsToRestate error s (at_pipes s s.pipes new)
@@ -184,7 +207,9 @@ module _ (g number count : ℕ) (s : Shows) (new : BlockCache) (all es : List En
       (λ home m h.
       begin_left home (caching s new) m number made error w (held_caching home s m new h (read_here home m h).0) (λ r. part_of_group home m h r.says r.laid) fails)
       (λ home m h.
-      unwritten_reason home (caching s new) m made error w (held_caching home s m new h (read_here home m h).0) (λ r. part_speaks home number statuses.Begin made (part_of_group home m h r.says r.laid)) fails.why) fails
+      unwritten_reason home (caching s new) m made error w (held_caching home s m new h (read_here home m h).0) (λ r. part_speaks home number statuses.Begin made (part_of_group home m h r.says r.laid))
+      (long_reason home m error (caching s new) (at_pipes s w new) g ((s.tables g).first + 0) first_bytes [] (mark_item number statuses.Begin ∷ []) made (inr (number, statuses.Begin, refl)) marked.made (read_here home m h).1 tt none_twice)
+      fails.why) fails
 
   pub parts_begun : (w : LogPipes) (part : RestatedPart) → WritesRecord made part.block part.items.items s.pipes w → HasParts g number count (part ∷ []) s (at_pipes s w new)
   parts_begun w part wrote =
@@ -240,8 +265,8 @@ module _ (g number done count : ℕ) (parts : List RestatedPart) (s : Shows) (v 
   held_open : (home : Home) (m : LogMap) → Holds home s m [] → Holds home (at_pipes s v old) m []
   held_open home m h = (has.stands home m h).holds
 
-  pub more_unread : (error : Error) → FailsToBuild es v old new error → FailsToRestate error s (at_pipes s v new)
-  more_unread error fails = stopped_reading g done count s v old new es there held_open (λ lived. has.alive) has.later error fails
+  pub more_unread : (pairs : List (List ℕ × List ℕ)) → ((home : Home) (m : LogMap) → Holds home s m [] → AreValuesIn m g pairs) → (error : Error) → FailsToBuild es pairs v old new error → FailsToRestate error s (at_pipes s v new)
+  more_unread pairs values error fails = stopped_reading g done count s v old new es there held_open (λ lived. has.alive) has.later pairs values error fails
 
   pub more_unmarked : (error : Error) → error ≡ errors.Memory → (pairs : List (List ℕ × List ℕ)) (b : Batch) → BuildsPiece g es pairs v old new b → FailsToRestate error s (at_pipes s v new)
   more_unmarked error memory pairs b built = stopped_marking g done count s v old new es there held_open (λ lived. has.alive) has.later error memory pairs b built
@@ -272,7 +297,9 @@ module _ (g number done count : ℕ) (parts : List RestatedPart) (s : Shows) (v 
         stopped_writing g done count s v old new es there held_open (λ lived. has.alive) has.later error made w
         (λ home m h. middle_left home (at_pipes s v new) m has.group made error w (more_read [] b built home m h).0 (λ r. middle_part home m h r.says r.laid) fails)
         (λ home m h.
-        unwritten_reason home (at_pipes s v new) m made error w (more_read [] b built home m h).0.holds (λ r. part_speaks home has.group.number statuses.Middle made (middle_part home m h r.says r.laid)) fails.why) fails
+        unwritten_reason home (at_pipes s v new) m made error w (more_read [] b built home m h).0.holds (λ r. part_speaks home has.group.number statuses.Middle made (middle_part home m h r.says r.laid))
+        (long_reason home m error (at_pipes s v new) (at_pipes s w new) g ((s.tables g).first + done) these [] (mark_item number statuses.Middle ∷ []) made (inr (number, statuses.Middle, refl)) marked.made (more_read [] b built home m h).1 tt none_twice)
+        fails.why) fails
 
     pub parts_gone_on : (w : LogPipes) (part : RestatedPart) → WritesRecord made part.block part.items.items v w → HasParts g number (done + count) (parts ++ part ∷ []) s (at_pipes s w new)
     parts_gone_on w part wrote =

@@ -1,6 +1,6 @@
 -- Entries of Rewrite that are read to be written again are the map's.
-use Rattle.std.proofs.Common.{◌≡◌, ℕ, zero, suc, ◌+◌, ◌-◌, ◌<◌, List, [], ◌∷◌, ◌++◌, length, map, take, drop, Option, Some, option_map, unwrap_or, nat_lt, slice_get, inl, inr, refl, sym, ap, subst, ◌∙◌, arith}
-use Rattle.std.proofs.lemmas.List.{length-take}
+use Rattle.std.proofs.Common.{◌≡◌, ℕ, zero, suc, ◌+◌, ◌-◌, ◌<◌, ◌≤◌, List, [], ◌∷◌, ◌++◌, length, map, take, drop, Option, Some, option_map, unwrap_or, nat_lt, slice_get, inl, inr, refl, sym, ap, subst, ◌∙◌, arith}
+use Rattle.std.proofs.lemmas.List.{length-drop, length-map, length-take}
 use Rattle.raft_log_base.specs.declared.errors.Error.{Error}
 use Rattle.raft_log_base.specs.declared.errors.Error.TheVariants as errors
 use Rattle.raft_log_model.specs.Meaning.{Content}
@@ -8,7 +8,8 @@ use Rattle.raft_log_model.specs.Meaning.Slot.{Index}
 use Rattle.raft_log_model.specs.Meaning.Content.{Entry}
 use Rattle.raft_log_machine.specs.Whereabouts.{Restates}
 use Rattle.raft_log_items.specs.declared.entry.EntryIndex.{EntryIndex}
-use Rattle.raft_log_records.specs.Entries.{indexes_of}
+use Rattle.raft_log_machine.specs.Whereabouts.{top}
+use Rattle.raft_log_records.specs.Entries.{RisesFrom, indexes_of}
 use Rattle.raft_log_places.specs.declared.place.Place.{Place}
 use Rattle.raft_log_places.specs.Shown.{IsOrderly, Shown}
 use Rattle.raft_log_held.specs.Entries.{entry_of, queue_of}
@@ -23,10 +24,12 @@ use Rattle.raft_log_rewriting.specs.raft_log_engine_state.proofs.Fetching.{all_t
 use Rattle.raft_log_group_state.specs.Parts.{HoldsInGroup, UnendedGroup}
 use Rattle.raft_log_rewriting.specs.declared.entries.EntryBytes.{EntryBytes}
 use Rattle.raft_log_rewriting.specs.Entries.{AreBytesAt, as_bytes}
+use Rattle.raft_log_rewriting.specs.Lengths.{AreValuesIn}
 use Rattle.raft_log_rewriting.specs.Reasons.{HasReason}
 use Rattle.raft_log_rewriting.proofs.OneRun.{dropped_at, taken_at}
 use Rattle.raft_log_rewriting.proofs.Parts.{unmade_is_none}
-use Rattle.raft_log_rewriting.proofs.Reasons.{unmade_reason, unread_is_none, untold_reason}
+use Rattle.raft_log_rewriting.proofs.Reading.{from_rises, reads_len}
+use Rattle.raft_log_rewriting.proofs.Reasons.{entries_reason, entries_unmade, keys_reason, keys_unmade, unread_is_none, untold_reason}
 use Rattle.raft_log_restating.specs.Pieces.{BeginsAt, FailsToBuild}
 
 -- Entries of a table.
@@ -127,9 +130,9 @@ module _ (e : Shows) (g done count : ℕ) (es : List EntryIndex) (is : es ≡ ta
       (all_untold e g home m [] h as_bytes done ps (v.first + done) (v.first + done + length ps) e.cache new error stands_from (omega arith) (omega arith) h.cached
       (subst (λ l. AreUnread as_bytes e.pipes l e.cache new error) (is ∙ piece_entries v done count) unread)).0
 
-  pub piece_unbuilt : (error : Error) → FailsToBuild es e.pipes e.cache new error → IsOfLog h.state new
-  piece_unbuilt error (inl unread) = piece_unread error unread
-  piece_unbuilt error (inr (why, (xs, reads))) = (piece_read xs reads).0
+  pub piece_unbuilt : (pairs : List (List ℕ × List ℕ)) (error : Error) → FailsToBuild es pairs e.pipes e.cache new error → IsOfLog h.state new
+  piece_unbuilt pairs error (inl unread) = piece_unread error unread
+  piece_unbuilt pairs error (inr (xs, reads, why)) = (piece_read xs reads).0
 
   unread_reason : (error : Error) → AreUnread as_bytes e.pipes es e.cache new error → HasReason home m error e (caching e new)
   unread_reason error unread =
@@ -138,15 +141,32 @@ module _ (e : Shows) (g done count : ℕ) (es : List EntryIndex) (is : es ≡ ta
       untold_reason home m error e new h.state (record { state = h.state; map = h.map; runs = h.runs; stored = h.stored; rises = h.rises; noted = h.noted; meant = h.meant; cached = cached; at = h.at }) refl g (v.first + done)
       (v.first + done + length ps) why
 
+  piece_rises : RisesFrom (v.first + done) (indexes_of es)
+  piece_rises = subst (λ l. RisesFrom (v.first + done) (indexes_of l)) (sym (is ∙ piece_entries v done count)) (from_rises v done ps)
+
+  piece_low : 0 < length (indexes_of es) → v.first + done + length (indexes_of es) ≤ top
+  piece_low some =
+      let o = h.meant.orderly g in
+      let parts = o.parts in
+      let end = o.end in
+      let front : List Place = take v.rewritten v.places in
+      let long = length-map es (λ x. x.index) ∙ ap length (is ∙ piece_entries v done count) ∙ from_len v done ps ∙ length-take count (drop done front) in
+      let left = length-drop done front in
+      let first = length-take v.rewritten v.places in omega (arith, parts, end, long, left, first, some)
+
   -- why there is no batch
-  pub unbuilt_reason : (error : Error) → FailsToBuild es e.pipes e.cache new error → HasReason home m error e (caching e new)
-  unbuilt_reason error (inl unread) = unread_reason error unread
-  unbuilt_reason error (inr (why, (xs, reads))) = unmade_reason home m error e (caching e new) why
+  pub unbuilt_reason : (pairs : List (List ℕ × List ℕ)) → AreValuesIn m g pairs → (error : Error) → FailsToBuild es pairs e.pipes e.cache new error → HasReason home m error e (caching e new)
+  unbuilt_reason pairs values error (inl unread) = unread_reason error unread
+  unbuilt_reason pairs values error (inr (xs, reads, inl why)) =
+      entries_reason home m error e (caching e new) g (v.first + done) (indexes_of es) (map (λ x. x.bytes) xs) piece_rises piece_low
+      (length-map es (λ x. x.index) ∙ sym (reads_len e.pipes es e.cache new xs reads) ∙ sym (length-map xs (λ x. x.bytes))) (piece_read xs reads).1 why
+  unbuilt_reason pairs values error (inr (xs, reads, inr why)) = keys_reason home m error e (caching e new) g pairs values why
 
 -- that isn't told as a failure
-pub unbuilt_is_none : (u : LogPipes) (es : List EntryIndex) (old new : BlockCache) (error : Error) → FailsToBuild es u old new error → error ≡ errors.Failed → ⊥
-unbuilt_is_none u es old new error (inl unread) = unread_is_none u es old new error unread
-unbuilt_is_none u es old new error (inr (why, (xs, reads))) = unmade_is_none error why
+pub unbuilt_is_none : (u : LogPipes) (es : List EntryIndex) (pairs : List (List ℕ × List ℕ)) (old new : BlockCache) (error : Error) → FailsToBuild es pairs u old new error → error ≡ errors.Failed → ⊥
+unbuilt_is_none u es pairs old new error (inl unread) = unread_is_none u es old new error unread
+unbuilt_is_none u es pairs old new error (inr (xs, reads, inl why)) = unmade_is_none error (entries_unmade error 0 (indexes_of es) (map (λ x. x.bytes) xs) why)
+unbuilt_is_none u es pairs old new error (inr (xs, reads, inr why)) = unmade_is_none error (keys_unmade error pairs why)
 
 pub read_len : (v : Shown) (es : List EntryIndex) (reading : List ℕ → Option EntryBytes) (e : Shows) (old new : BlockCache) (xs : List EntryBytes) → ReadsEntries reading e.pipes es old new xs → length xs ≡ length es
 read_len v [] reading e old new xs (same, none) = ap length none

@@ -28,7 +28,7 @@ use Rattle.raft_log_held.specs.Entries.{place_of}
 use Rattle.raft_log_rewriting.specs.raft_log_engine_state.specs.Writing.{items_at}
 use Rattle.raft_log_group_state.specs.Parts.{said_items}
 use Rattle.raft_log_rewriting.specs.Entries.{IsRunBatch}
-use Rattle.raft_log_rewriting.specs.Marks.{AreNoMarks}
+use Rattle.raft_log_rewriting.specs.Owed.{AreNoMarks}
 use Rattle.raft_log_rewriting.proofs.OneRun.{entries_count}
 use Rattle.raft_log_restating.specs.Pieces.{AddsKeys, BeginsAt, IsPiece, put_items, run_items, tagged_all}
 

@@ -36,6 +36,7 @@ use Rattle.raft_log_rewriting.specs.Files.{FailsToLoseFiles, IsLeastOf, LosesFil
 use Rattle.raft_log_rewriting.specs.Stale.{written_file}
 use Rattle.raft_log_rewriting.proofs.Grouping.{among}
 use Rattle.raft_log_rewriting.proofs.Parts.{alive_ok, later_on, same_later, tells_err}
+use Rattle.raft_log_rewriting.proofs.Spanned.{limited_reason}
 use Rattle.raft_log_rewriting.proofs.Reasons.{memory_is_none, memory_reason, reason_after, reason_of_files, sync_reason, tells_nothing, turn_reason}
 use Rattle.raft_log_restating.specs.Restated.{IsRestatedFrom, Restates, RestatesEach, StopsRestating, last_file}
 use Rattle.raft_log_restating.specs.Queue.{FailsToRewriteRewrite, RestatesAll, RewritesRewrite, StopsRestatingAll, every, first_file}
@@ -174,13 +175,15 @@ module _ (s : Shows) (turned : LogPipes) (turns : RotatesQueue InRewrite s.pipes
     same_counts : restated.counts ≡ s.counts
     same_counts = ap (λ (e : Shows). e.counts) all.same ∙ all.restates.counts
 
-    pub not_lost : (error : Error) (t : Shows) → t.counts ≡ restated.counts → FailsToLoseFiles Rewrite error restated t → FailsToRewriteRewrite error s t
-    not_lost error t counts fails = record {
+    pub not_lost : (last : ℕ) (error : Error) (t : Shows) → last ≡ written_file Rewrite restated.pipes → t.counts ≡ restated.counts → FailsToLoseFiles Rewrite last error restated t → FailsToRewriteRewrite error s t
+    not_lost last error t is counts fails = record {
       counts = counts ∙ same_counts;
       tells = λ lived. fails.tells all.alive;
       later = later_on s.pipes.disk restated.pipes.disk t.pipes.disk to_restated fails.later;
       remains = λ home m h. lost_or_left home m t error (fails.remains home m (settled_there home m h) tt);
-      cause = λ home m h. reason_after home m error s restated t to_restated (reason_of_files home m error restated t (fails.cause home m (settled_there home m h)));
+      cause = λ home m h.
+          (let there = settled_there home m h in
+          reason_after home m error s restated t to_restated (reason_of_files home m error restated t (limited_reason Rewrite last home error restated t there.state there.runs is (fails.cause home m there))));
     }
 
     lies_behind : (home : Home) (m : LogMap) → Holds home s m [] → (g : ℕ) → IsRestatedFrom (last_file s + 1) (s.tables g) (restated.tables g)

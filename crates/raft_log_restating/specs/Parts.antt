@@ -5,7 +5,7 @@ use Rattle.raft_log_items.specs.declared.item.LogItem.{LogItem}
 use Rattle.raft_log_items.specs.Placed.{written}
 use Rattle.raft_log_atomic_groups.specs.declared.status.AtomicGroupStatus.{AtomicGroupStatus}
 use Rattle.raft_log_atomic_groups.specs.declared.marking.Marking.TheVariants.{Part}
-use Rattle.raft_log_atomic_groups.specs.Marking.{marking_of_items}
+use Rattle.raft_log_atomic_groups.specs.Marking.{mark_item, marking_of_items}
 use Rattle.raft_log_records.specs.declared.log_batch.BatchState.TheVariants.{Filling}
 use Rattle.raft_log_records.specs.Batch.{Batch, block_place}
 use Rattle.raft_log_rewriting.specs.raft_log_engine_state.specs.Shows.{Home, LogMap, Shows, has_failed}
@@ -13,6 +13,7 @@ use Rattle.raft_log_rewriting.specs.raft_log_engine_state.specs.Holding.{Holds}
 use Rattle.raft_log_group_state.specs.Parts.{HoldsInGroup, UnendedGroup, WrittenPart, parts_of}
 use Rattle.raft_log_group_state.specs.Restating.{entries_of_pieces}
 use Rattle.raft_log_rewriting.specs.Entries.{AreBytesAt}
+use Rattle.raft_log_rewriting.specs.Lengths.{AreOfGroup}
 use Rattle.raft_log_restating.specs.declared.parts.RestatedPart.{RestatedPart}
 use Rattle.raft_log_restating.specs.Pieces.{IsPiece}
 use Rattle.raft_log_restating.specs.Restated.{last_file}
@@ -37,11 +38,13 @@ abbrev pub items_of_all : List RestatedPart → List LogItem
 items_of_all [] = []
 items_of_all (x ∷ xs) = x.items.items ++ items_of_all xs
 
--- the batch is this part of the atomic group, is being filled, and says entries of a group and its keys
+-- the batch is this part of the atomic group, is being filled, and says entries of a group and its keys; its
+-- items are these, and the mark
 pub record IsMarkedPiece (g f number : ℕ) (status : AtomicGroupStatus) (bytes : List (List ℕ))
     (pairs : List (List ℕ × List ℕ)) (b : Batch) : Type 0 where
   pub state : b.state ≡ Filling
   pub piece : IsPiece g f bytes pairs b
+  pub made : AreOfGroup g f bytes pairs (mark_item number status ∷ []) b.items b.entries
   pub part : marking_of_items b.items ≡ Part number status
   pub some : b.items ≡ [] → ⊥
 

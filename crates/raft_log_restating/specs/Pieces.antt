@@ -7,7 +7,7 @@ use Rattle.raft_log_items.specs.declared.entry.EntryIndex.{EntryIndex}
 use Rattle.raft_log_items.specs.Items.{put_item}
 use Rattle.raft_log_records.specs.declared.log_batch.BatchState.TheVariants.{Filling}
 use Rattle.raft_log_records.specs.Batch.{Batch}
-use Rattle.raft_log_records.specs.Entries.{indexes_of}
+use Rattle.raft_log_records.specs.Entries.{IsEntriesRefusal, indexes_of}
 use Rattle.raft_log_places.specs.declared.place.Place.{Place}
 use Rattle.raft_log_places.specs.Noted.{AllIn}
 use Rattle.raft_log_rewriting.specs.raft_log_blocks.specs.declared.block_cache.BlockCache.{BlockCache}
@@ -18,8 +18,8 @@ use Rattle.raft_log_rewriting.specs.raft_log_engine_state.specs.Writing.{items_a
 use Rattle.raft_log_group_state.specs.Parts.{said_items}
 use Rattle.raft_log_rewriting.specs.declared.entries.EntryBytes.{EntryBytes}
 use Rattle.raft_log_rewriting.specs.Entries.{IsRunBatch, as_bytes}
-use Rattle.raft_log_rewriting.specs.Marks.{AreNoMarks}
-use Rattle.raft_log_rewriting.specs.Parts.{IsUnmade}
+use Rattle.raft_log_rewriting.specs.Owed.{AreNoMarks}
+use Rattle.raft_log_rewriting.specs.Refusals.{AreUnput}
 
 -- entries from an index on as a run, if there are any
 abbrev pub run_items : {E : Type 0} → ℕ → List E → List (Item E (List ℕ))
@@ -62,7 +62,9 @@ pub record BuildsPiece (g : ℕ) (es : List EntryIndex) (pairs : List (List ℕ 
   pub is : IsRunBatch g (indexes_of es) (map (λ e. e.bytes) read) run
   pub keys : AddsKeys g pairs run b
 
--- why there is no such batch: the entries aren't read; or they were, and it isn't made
-abbrev pub FailsToBuild : List EntryIndex → LogPipes → BlockCache → BlockCache → Error → Type 0
-FailsToBuild es v old new error = AreUnread as_bytes v es old new error
-    ⊎ (IsUnmade error × ((read : List EntryBytes) × ReadsEntries as_bytes v es old new read))
+-- why there is no such batch: the entries aren't read; or they were, and they, or the keys, aren't put in one
+abbrev pub FailsToBuild : List EntryIndex → List (List ℕ × List ℕ) → LogPipes → BlockCache → BlockCache → Error
+    → Type 0
+FailsToBuild es pairs v old new error = AreUnread as_bytes v es old new error
+    ⊎ ((read : List EntryBytes) × ReadsEntries as_bytes v es old new read
+    × (IsEntriesRefusal error 0 (indexes_of es) (map (λ e. e.bytes) read) ⊎ AreUnput pairs error))

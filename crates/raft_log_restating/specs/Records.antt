@@ -13,7 +13,7 @@ use Rattle.raft_log_dual_pipes.specs.Pipes.{LogPipes, is_failed}
 use Rattle.raft_log_dual_pipes.specs.Calls.{AppendsTo, FailsToAppendTo, FailsToSyncQueue}
 use Rattle.raft_log_dual_pipes.specs.Numbers.{EndsNumbersAt}
 use Rattle.raft_log_rewriting.specs.raft_log_engine_state.specs.Shows.{IsLaidOut}
-use Rattle.raft_log_rewriting.specs.Parts.{IsUnmade}
+use Rattle.raft_log_rewriting.specs.Refusals.{IsUnrecorded}
 use Rattle.raft_log_rewriting.specs.Syncing.{MaySync}
 
 -- The batch's record was written to Rewrite, maybe behind a sync: these are its items there.
@@ -38,9 +38,10 @@ pub record RefusesRecord (b : Batch) (error : Error) (v w : LogPipes) : Type 0 w
   pub range : EndsNumbersAt InRewrite (signed_for b) error synced w
   pub before : IsLater v.disk synced.disk
 
--- why it wasn't written: it isn't made; or the sync failed; or Rewrite refused it
+-- why it wasn't written: it isn't made, as it would be too long or for want of memory; or the sync failed; or
+-- Rewrite refused it
 abbrev pub IsUnwritten : Batch → Error → LogPipes → LogPipes → Type 0
-IsUnwritten b error v w = (IsUnmade error × (w ≡ v))
+IsUnwritten b error v w = (IsUnrecorded b error × (w ≡ v))
     ⊎ (((error ≡ errors.Failed) × FailsToSyncQueue InRewrite v w)
     ⊎ RefusesRecord b error v w)
 

@@ -5,6 +5,7 @@ use Rattle.raft_log_items.specs.declared.entry.EntryIndex.{EntryIndex}
 use Rattle.raft_log_atomic_groups.specs.declared.status.AtomicGroupStatus.TheVariants.{End}
 use Rattle.raft_log_records.specs.Batch.{Batch}
 use Rattle.raft_log_rewriting.specs.raft_log_blocks.specs.declared.block_cache.BlockCache.{BlockCache}
+use Rattle.raft_log_held.specs.Listing.{ListsAll, rewritten_values}
 use Rattle.raft_log_tables.specs.Reads.{rewritten_entries}
 use Rattle.raft_log_replay.specs.declared.mem_tables.MemTables.{MemTables}
 use Rattle.raft_log_dual_pipes.specs.Pipes.{LogPipes}
@@ -41,6 +42,13 @@ abbrev pub GivesUp : ℕ → ℕ → List EntryIndex → ℕ → List RestatedPa
 GivesUp g number es before parts error v old w new = (m : MemTables) (s : Shows)
     → es ≡ rewritten_entries (s.tables g) → HasParts g number before parts s (shows v m old)
     → FailsToRestate error s (shows w m new)
+
+-- it doesn't end, and is given up, where these are the keys that the group has in Rewrite
+abbrev pub GivesUpLast : ℕ → ℕ → List EntryIndex → ℕ → List RestatedPart → List (List ℕ × List ℕ) → Error
+    → LogPipes → BlockCache → BlockCache → Type 0
+GivesUpLast g number es done parts pairs error v old new = (m : MemTables) (s : Shows)
+    → es ≡ rewritten_entries (s.tables g) → ListsAll (rewritten_values (s.tables g)) pairs
+    → HasParts g number done parts s (shows v m old) → FailsToRestate error s (shows v m new)
 
 -- The batch ends an atomic group: it says the rewritten entries of a group from there on, and all its
 -- rewritten keys with their values.

@@ -5,7 +5,8 @@ ghost use Rattle.raft_log_records.specs.AtomicGroup.{IsOpen};
 ghost use Rattle.raft_log_records.specs.declared.log_batch.BatchState.TheVariants.{Filling};
 ghost use Rattle.raft_log_restating.specs.Records.{FailsToWrite, WritesRecord};
 ghost use Rattle.raft_log_restating.specs.declared.parts.RestatedPart.{RestatedPart};
-ghost use Rattle.raft_log_restating.specs.Steps.{BeginsParts, FailsToBegin, GivesUp, GoesOn, MakesLast};
+ghost use Rattle.raft_log_restating.specs.Steps.{BeginsParts, FailsToBegin, GivesUp, GivesUpLast};
+ghost use Rattle.raft_log_restating.specs.Steps.{GoesOn, MakesLast};
 
 use crate::pieces::{piece_len, piece_of};
 use crate::records::{WrittenRecord, write_record};
@@ -157,8 +158,8 @@ pub fn last_batch<P: PipeLog>(
     requires open { IsOpen builder.old.status }
     ensures ok { (parts : List RestatedPart) → IfOk result (λ b. MakesLast group builder.old.id entries.now
         done parts pairs.now b (P.shown pipes.now) cache.old cache.new) }
-    ensures err { (parts : List RestatedPart) → IfErr result (λ error. GivesUp group builder.old.id entries.now
-        done parts error (P.shown pipes.now) cache.old (P.shown pipes.now) cache.new) }
+    ensures err { (parts : List RestatedPart) → IfErr result (λ error. GivesUpLast group builder.old.id
+        entries.now done parts pairs.now error (P.shown pipes.now) cache.old cache.new) }
     ensures filling { IfOk result (λ b. b.state ≡ Filling) }
 {
     let mut batch = piece_of(alloc, pipes, cache, group, &entries[done..], pairs)?;

@@ -5,7 +5,7 @@ ghost use Rattle.raft_log_held.specs.Listing.{ListsAll, rewritten_values};
 ghost use Rattle.raft_log_records.specs.declared.log_batch.BatchState.TheVariants.{Filling};
 ghost use Rattle.raft_log_replay.specs.Tables.{shown_of};
 ghost use Rattle.raft_log_tables.specs.Reads.{rewritten_entries};
-ghost use Rattle.raft_log_rewriting.specs.Parts.{IsUnmade};
+ghost use Rattle.raft_log_rewriting.specs.Refusals.{AreUnput};
 ghost use Rattle.raft_log_restating.specs.Pieces.{AddsKeys, BuildsPiece, FailsToBuild};
 
 use raft_log_base::Result;
@@ -80,7 +80,7 @@ pub fn piece_of<P: PipeLog>(
 ) -> Result<LogBatch>
     ensures ok { IfOk result (λ b. BuildsPiece group entries.now pairs.now
         (P.shown pipes.now) cache.old cache.new b) }
-    ensures err { IfErr result (λ error. FailsToBuild entries.now
+    ensures err { IfErr result (λ error. FailsToBuild entries.now pairs.now
         (P.shown pipes.now) cache.old cache.new error) }
 {
     let read: Vec<EntryBytes> = cache.read_entries(alloc, pipes, entries)?;
@@ -93,7 +93,7 @@ pub fn piece_of<P: PipeLog>(
 fn add_keys(alloc: Global, batch: &mut LogBatch, group: u64, pairs: &[(Bytes, Bytes)]) -> Result<()>
     requires { batch.old.state ≡ Filling }
     ensures ok { OnOk result (AddsKeys group pairs.now batch.old batch.new) }
-    ensures errors { IfErr result IsUnmade }
+    ensures errors { IfErr result (λ error. AreUnput pairs.now error) }
 {
     for pair in pairs {
         batch.put(alloc, group, pair.0.as_slice(), pair.1.as_slice())?;

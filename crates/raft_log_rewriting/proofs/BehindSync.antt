@@ -18,7 +18,7 @@ use Rattle.raft_log_rewriting.specs.Parts.{Remains, StaysInFile}
 use Rattle.raft_log_rewriting.specs.Syncing.{MaySync, StaysAlive}
 use Rattle.raft_log_rewriting.specs.Copies.{FailsToCopy, MovesCopies, WritesCopies}
 use Rattle.raft_log_rewriting.proofs.Parts.{later_on}
-use Rattle.raft_log_rewriting.proofs.Reasons.{reason_after, sync_reason}
+use Rattle.raft_log_rewriting.proofs.Reasons.{overlong_after, sync_reason}
 use Rattle.raft_log_rewriting.proofs.Staying.{stays_on, stays_same, sync_stays}
 
 -- the log stays through the sync
@@ -51,7 +51,7 @@ module _ (gate : Option ℕ) (b : Batch) (v mid : LogPipes) (old : MemTables) (s
     tells = λ lived. k.tells (alive lived);
     later = later_on v.disk mid.disk t.pipes.disk before k.later;
     remains = λ plain home m h copies. k.remains plain home m (held_synced home v mid old cache m syncs h) copies;
-    cause = λ plain home m h. reason_after home m error (shows v old cache) (shows mid old cache) t before (k.cause plain home m (held_synced home v mid old cache m syncs h));
+    cause = λ plain home m h. overlong_after home m b error (shows v old cache) (shows mid old cache) t before (k.cause plain home m (held_synced home v mid old cache m syncs h));
   }
 
 pub written_behind_sync : {A : Type 0} (gate : Option ℕ) (b : Batch) (v mid w : LogPipes) (old new : MemTables) (r : Result A Error) → (b.items ≡ [] → ⊥) → MaySync v mid → StaysAlive v mid → IsLater v.disk mid.disk
@@ -75,5 +75,5 @@ sync_refused gate b error v w old cache is failed later call = record {
   later = later;
   remains = λ plain home m h copies.
       subst (λ e. Remains home m (shows w old cache) e) (sym is) (failed_sync InRewrite home v w m [] (holds_runs home (shows v old cache) m [] h) call).1;
-  cause = λ plain home m h. sync_reason InRewrite home m error (shows v old cache) (shows w old cache) h.state h.runs is call;
+  cause = λ plain home m h. inr (sync_reason InRewrite home m error (shows v old cache) (shows w old cache) h.state h.runs is call);
 }

@@ -22,7 +22,7 @@ use Rattle.raft_log_records.specs.Batch.{AddsItem, Batch}
 use Rattle.raft_log_replay.specs.declared.mem_tables.MemTables.{MemTables}
 use Rattle.raft_log_replay.specs.Tables.{shown_of}
 use Rattle.raft_log_replay.specs.Owing.{AreOwed, AreOwedAt}
-use Rattle.raft_log_rewriting.specs.Marks.{AddsSame, AreNoMarks, SaysMarks, SaysSame}
+use Rattle.raft_log_rewriting.specs.Owed.{AddsSame, AreNoMarks, SaysMarks, SaysSame}
 
 never : (b : Bool) → (b && false) ≡ false
 never true = refl
@@ -50,6 +50,7 @@ command_added old new x c state is adds =
     let same : x ≡ command_item x.raft_group_id c = ap (λ (k : LogItemContent). record { raft_group_id = x.raft_group_id; content = k }) is in record {
       added = command_item x.raft_group_id c;
       items = ap (λ (b : Batch). b.items) adds.0;
+      entries = ap (λ (b : Batch). b.entries) adds.0;
       state = ap (λ (b : Batch). b.state) adds.0 ∙ state;
       plain = command_counts x.raft_group_id c;
       none = subst (λ (y : LogItem). has_mark_key y ≡ false) (sym same) (command_counts x.raft_group_id c);
@@ -64,6 +65,7 @@ delete_added old new x pair state is del adds =
     ap (λ (k : LogItemContent). record { raft_group_id = x.raft_group_id; content = k }) (is ∙ ap contents.Kv whole) in record {
       added = del_item x.raft_group_id pair.key;
       items = ap (λ (b : Batch). b.items) adds.0;
+      entries = ap (λ (b : Batch). b.entries) adds.0;
       state = ap (λ (b : Batch). b.state) adds.0 ∙ state;
       plain = delete_counts x.raft_group_id pair.key;
       none = subst (λ (y : LogItem). has_mark_key y ≡ false) (sym same) (pair_counts x.raft_group_id ops.Del pair.key (record pair { op_type = ops.Del }) refl refl);
@@ -116,9 +118,10 @@ pub same_none : (b : Batch) → b.state ≡ Filling → b.items ≡ [] → SaysS
 same_none b state none = record { state = state; plain = subst AreNoMarks (sym none) tt; said = ap (tagged_items {E = EntryIndex} (λ e. e)) none }
 
 -- what says the marks that the tables owe
-pub says_marks : (m : MemTables) (items : List LogItem) (b : Batch) → AreOwed m items → SaysSame items b → SaysMarks (shown_of m) b
-says_marks m items b owed same = record {
+pub says_marks : (m : MemTables) (items : List LogItem) (b : Batch) → AreOwed m items → SaysSame items b → b.entries ≡ [] → SaysMarks (shown_of m) b
+says_marks m items b owed same none = record {
   state = same.state;
+  none = none;
   plain = same.plain;
   owed = λ g. subst (λ l. AreOwedAt (shown_of m g) (of_group g l)) (sym same.said) (owed.owed g);
 }

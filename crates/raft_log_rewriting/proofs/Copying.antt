@@ -1,5 +1,5 @@
 -- Copies that are written to Rewrite, or refused there.
-use Rattle.std.proofs.Common.{◌≡◌, ℕ, Bool, Option, Some, List, [], inl, refl, sym, ap, ap₂, subst, ◌∙◌}
+use Rattle.std.proofs.Common.{◌≡◌, ◌⊎◌, ℕ, Bool, Option, Some, List, [], inl, inr, refl, sym, ap, ap₂, subst, ◌∙◌}
 use Rattle.std.specs.Prelude.{Result, Ok, Err, IfErr, IfOk}
 use std.Path.{fun_ext}
 use Rattle.raft_log_model.specs.Groups.{of_group}
@@ -25,13 +25,15 @@ use Rattle.raft_log_dual_pipes.specs.Pipes.{LogPipes}
 use Rattle.raft_log_dual_pipes.specs.Calls.{AppendsTo, FailsToAppendTo, TellsFailure}
 use Rattle.raft_log_dual_pipes.specs.Numbers.{EndsNumbersAt}
 use Rattle.raft_log_purge_state.specs.raft_log_blocks.specs.declared.block_cache.BlockCache.{BlockCache}
-use Rattle.raft_log_purge_state.specs.raft_log_engine_state.specs.Shows.{Shows, shows}
+use Rattle.raft_log_purge_state.specs.raft_log_engine_state.specs.Shows.{Home, LogMap, Shows, shows}
 use Rattle.raft_log_purge_state.specs.Rewriting.{CountsAlone}
 use Rattle.raft_log_purge_state.proofs.Copying.{copies_refused, copies_written}
-use Rattle.raft_log_rewriting.specs.Parts.{IsRecordMade, IsUnmade, Remains}
+use Rattle.raft_log_rewriting.specs.Parts.{IsRecordMade, Remains}
+use Rattle.raft_log_rewriting.specs.Refusals.{IsOverlong, IsUnmade, IsUnrecorded}
+use Rattle.raft_log_rewriting.specs.Reasons.{HasReason}
 use Rattle.raft_log_rewriting.specs.Copies.{FailsToCopy, MovesCopies}
 use Rattle.raft_log_rewriting.proofs.Parts.{alive_ok, remains_same, rewrite_remains, same_later, same_record, tells_err, unmade_is_none}
-use Rattle.raft_log_rewriting.proofs.Reasons.{alone_reason, tells_nothing, unmade_reason}
+use Rattle.raft_log_rewriting.proofs.Reasons.{alone_reason, memory_or_full_unmade, memory_reason, tells_nothing}
 use Rattle.raft_log_rewriting.proofs.Staying.{record_stays}
 
 -- the items of a batch that was written
@@ -83,21 +85,27 @@ module _ (gate : ℕ) (b made : Batch) (v w : LogPipes) (old new : MemTables) (s
         (copies_refused home (shows v old cache) (shows w new cache) (Some gate) b m error h (counts_alone plain) copies (record { tables = fun_ext same.shown; cache = inl refl })
         (subst (λ s. FailsToAppendTo InRewrite s error v w) (same_record b made is) call));
     cause = λ plain home m h.
-        alone_reason home m error (shows v old cache) (shows w new cache) h.state b (counts_alone plain) h.runs (subst (λ s. FailsToAppendTo InRewrite s error v w) (same_record b made is) call)
-        (subst (λ s. EndsNumbersAt InRewrite s error v w) (same_record b made is) ends);
+        inr
+        (alone_reason home m error (shows v old cache) (shows w new cache) h.state b (counts_alone plain) h.runs (subst (λ s. FailsToAppendTo InRewrite s error v w) (same_record b made is) call)
+        (subst (λ s. EndsNumbersAt InRewrite s error v w) (same_record b made is) ends));
   }
 
 -- Before that: the record is made, and room in the tables.
 
+overlong_or_memory : (home : Home) (m : LogMap) (b : Batch) (error : Error) (s t : Shows) → IsUnrecorded b error → IsOverlong b error ⊎ HasReason home m error s t
+overlong_or_memory home m b error s t (inl memory) = inr (memory_reason home m error s t memory)
+overlong_or_memory home m b error s t (inr long) = inl long
+
 -- nothing was done but that room was made
-pub not_copied : (gate : Option ℕ) (b : Batch) (error : Error) (v : LogPipes) (old new : MemTables) (cache : BlockCache) → IsUnmade error → ShowsSame old new → FailsToCopy gate b error (shows v old cache) (shows v new cache)
+pub not_copied : (gate : Option ℕ) (b : Batch) (error : Error) (v : LogPipes) (old new : MemTables) (cache : BlockCache) → IsUnrecorded b error → ShowsSame old new → FailsToCopy gate b error (shows v old cache) (shows v new cache)
 not_copied gate b error v old new cache why same =
-    let here = same_but_pipes v v old new cache same in record {
+    let here = same_but_pipes v v old new cache same in
+    let unmade : IsUnmade error = memory_or_full_unmade error _ why in record {
       same = here;
-      tells = λ lived. tells_nothing error v lived (unmade_is_none error why);
+      tells = λ lived. tells_nothing error v lived (unmade_is_none error unmade);
       later = same_later v.disk;
-      remains = λ plain home m h copies. subst (λ e. Remains home m e error) (sym here) (remains_same home m (shows v old cache) error why h);
-      cause = λ plain home m h. unmade_reason home m error (shows v old cache) (shows v new cache) why;
+      remains = λ plain home m h copies. subst (λ e. Remains home m e error) (sym here) (remains_same home m (shows v old cache) error unmade h);
+      cause = λ plain home m h. overlong_or_memory home m b error (shows v old cache) (shows v new cache) why;
     }
 
 -- what is said of a batch whose record was made is said of the batch

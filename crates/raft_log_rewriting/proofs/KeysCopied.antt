@@ -1,5 +1,5 @@
 -- A group's values, copied or not.
-use Rattle.std.proofs.Common.{◌≡◌, ℕ, ◌+◌, ◌<◌, ◌==◌, Bool, true, false, if◌then◌else◌, List, [], ◌∷◌, ◌++◌, length, map, take, get_or, Option, Some, None, option_map, inl, inr, refl, sym, ap, subst, ◌∙◌, arith}
+use Rattle.std.proofs.Common.{◌≡◌, ◌⊎◌, ℕ, zero, suc, ◌+◌, ◌<◌, ◌==◌, Bool, true, false, if◌then◌else◌, List, [], ◌∷◌, ◌++◌, length, map, take, get_or, Option, Some, None, option_map, inl, inr, refl, sym, ap, subst, ◌∙◌, arith, append-nil}
 use Rattle.std.specs.Prelude.{IsTrue, Result, Ok, IsErr}
 use Rattle.std.specs.BTreeMap.{get}
 use Rattle.std.specs.Ordering.{nat_cmp}
@@ -11,6 +11,7 @@ use Rattle.raft_log_model.specs.Groups.{of_group}
 use Rattle.raft_log_model.proofs.Cases.{at_bool, eq_true}
 use Rattle.raft_log_disk.specs.Causes.{IsLater}
 use Rattle.raft_log_base.specs.declared.errors.Error.{Error}
+use Rattle.raft_log_base.specs.declared.errors.Error.TheVariants as errors
 use Rattle.raft_log_base.specs.declared.pipe_log.FileBlockHandle.{FileBlockHandle}
 use Rattle.raft_log_items.specs.declared.item.LogItem.{LogItem}
 use Rattle.raft_log_items.specs.Items.{put_item}
@@ -21,6 +22,7 @@ use Rattle.raft_log_atomic_groups.specs.Meaning.{tagged_items}
 use Rattle.raft_log_atomic_groups.proofs.Meanings.{no_mark_key}
 use Rattle.raft_log_records.specs.declared.log_batch.BatchState.TheVariants.{Filling}
 use Rattle.raft_log_records.specs.Batch.{Batch, Puts, block_place}
+use Rattle.raft_log_records.specs.Key.{IsKeyRefusal}
 use Rattle.raft_log_places.specs.declared.place.Place.{Place}
 use Rattle.raft_log_places.specs.Shown.{Shown}
 use Rattle.raft_log_held.specs.Entries.{place_of}
@@ -30,12 +32,14 @@ use Rattle.raft_log_replay.specs.declared.group_table.GroupTable.{GroupTable}
 use Rattle.raft_log_replay.specs.declared.mem_tables.MemTables.{MemTables}
 use Rattle.raft_log_replay.specs.Rewriting.{AreCopies, all_rewritten}
 use Rattle.raft_log_replay.specs.Tables.{raw_of, shown_in, shown_of}
-use Rattle.raft_log_purge_state.specs.raft_log_engine_state.specs.Shows.{LogMap, Shows, has_failed}
+use Rattle.raft_log_purge_state.specs.raft_log_engine_state.specs.Shows.{Home, LogMap, Shows, has_failed}
 use Rattle.raft_log_purge_state.specs.raft_log_engine_state.specs.Holding.{Holds}
 use Rattle.raft_log_purge_state.specs.raft_log_engine_state.specs.Writing.{items_at}
 use Rattle.raft_log_purge_state.specs.Rewriting.{HasCopies}
-use Rattle.raft_log_rewriting.specs.Parts.{IsUnmade}
-use Rattle.raft_log_rewriting.specs.Marks.{AreNoMarks}
+use Rattle.raft_log_rewriting.specs.Lengths.{AreOfGroup}
+use Rattle.raft_log_rewriting.specs.Reasons.{HasReason}
+use Rattle.raft_log_rewriting.specs.Refusals.{AreUnput, HasOwn, IsOverlong}
+use Rattle.raft_log_rewriting.specs.Owed.{AreNoMarks}
 use Rattle.raft_log_rewriting.specs.Copies.{FailsToCopy, MovesCopies, WritesCopies}
 use Rattle.raft_log_rewriting.specs.Moving.{MovesKeys}
 use Rattle.raft_log_rewriting.specs.Rewriting.{OweNothing}
@@ -45,7 +49,7 @@ use Rattle.raft_log_rewriting.proofs.KeyCopies.{AllCount, no_values, pairs_of_gr
 use Rattle.raft_log_rewriting.proofs.Nexts.{raw_shown}
 use Rattle.raft_log_rewriting.proofs.Parts.{same_later, unmade_is_none}
 use Rattle.raft_log_rewriting.proofs.Reading.{remains_or}
-use Rattle.raft_log_rewriting.proofs.Reasons.{tells_nothing, unmade_reason}
+use Rattle.raft_log_rewriting.proofs.Reasons.{keys_reason, keys_unmade, long_reason, memory_is_none, memory_reason, tells_nothing, values_in}
 
 -- Which keys come next.
 
@@ -68,8 +72,8 @@ keys_none m g gate es none is = by (get nat_cmp m.groups g) none
 
 -- A batch of them.
 
-pub is_empty_batch : (g : ℕ) (b : Batch) → b.state ≡ Filling → b.items ≡ [] → IsKeysBatch g [] b
-is_empty_batch g b state none = record { state = state; items = none; plain = subst AreNoMarks (sym none) tt }
+pub is_empty_batch : (g : ℕ) (b : Batch) → b.state ≡ Filling → b.entries ≡ [] → b.items ≡ [] → IsKeysBatch g [] b
+is_empty_batch g b state bare none = record { state = state; none = bare; items = none; plain = subst AreNoMarks (sym none) tt }
 
 plain_push : (xs : List LogItem) (x : LogItem) → AreNoMarks xs → has_mark_key x ≡ false → AreNoMarks (xs ++ x ∷ [])
 plain_push [] x all none = (none, tt)
@@ -85,6 +89,7 @@ pub key_more : (g : ℕ) (pairs : List (List ℕ × List ℕ)) (i : ℕ) (d x : 
 key_more g pairs i d x old new lt is so_far users adds =
     let items : new.items ≡ old.items ++ put_item g x.0 x.1 ∷ [] = ap (λ (b : Batch). b.items) adds.0 in record {
       state = ap (λ (b : Batch). b.state) adds.0 ∙ so_far.state;
+      none = ap (λ (b : Batch). b.entries) adds.0 ∙ so_far.none;
       items =
           items
           ∙ ap (λ (l : List LogItem). l ++ put_item g x.0 x.1 ∷ []) so_far.items
@@ -174,21 +179,53 @@ module _ (g gate : ℕ) (pairs : List (List ℕ × List ℕ)) (b : Batch) (is : 
       holds = λ owes home m h. moved.holds (plain_items b.items is.plain) home m h (has_copies s.tables m lists owes);
     }
 
+    -- what the record says
+    keys_made : AreOfGroup g 0 [] pairs [] b.items b.entries
+    keys_made = record { indexes = []; rise = tt; are = is.items ∙ sym (append-nil (map (λ (e : List ℕ × List ℕ). put_item g e.0 e.1) pairs)); joins = is.none }
+
+    keys_cause : (error : Error) (home : Home) (m : LogMap) → Holds home s m [] → IsOverlong b error ⊎ HasReason home m error s t → HasReason home m error s t
+    keys_cause error home m h (inl long) = long_reason home m error s t g 0 [] pairs [] b (inl refl) keys_made tt (values_in home m s h g (Some gate) pairs lists) lists.rising long
+    keys_cause error home m h (inr reason) = reason
+
     pub keys_not_copied : (error : Error) → FailsToCopy (Some gate) b error s t → FailsToCopyKeys error s t
     keys_not_copied error fails = record {
       same = fails.same;
       tells = fails.tells;
       later = fails.later;
       remains = λ owes home m h. remains_or home m t error (fails.remains (plain_items b.items is.plain) home m h (has_copies s.tables m lists owes));
-      cause = fails.cause (plain_items b.items is.plain);
+      cause = λ home m h. keys_cause error home m h (fails.cause (plain_items b.items is.plain) home m h);
     }
 
 -- nothing was written
-pub no_keys_written : (error : Error) (s : Shows) → IsUnmade error → FailsToCopyKeys error s s
-no_keys_written error s why = record {
+
+pub no_memory_for_keys : (error : Error) (s : Shows) → error ≡ errors.Memory → FailsToCopyKeys error s s
+no_memory_for_keys error s memory = record {
   same = refl;
-  tells = λ lived. tells_nothing error s.pipes lived (unmade_is_none error why);
+  tells = λ lived. tells_nothing error s.pipes lived (memory_is_none error memory);
   later = same_later s.pipes.disk;
   remains = λ owes home m h. inl h;
-  cause = λ home m h. unmade_reason home m error s s why;
+  cause = λ home m h. memory_reason home m error s s memory;
 }
+
+pub keys_not_written : (g gate : ℕ) (pairs : List (List ℕ × List ℕ)) (error : Error) (s : Shows) → ListsAll (appended_values gate (s.tables g)) pairs → AreUnput pairs error → FailsToCopyKeys error s s
+keys_not_written g gate pairs error s lists why = record {
+  same = refl;
+  tells = λ lived. tells_nothing error s.pipes lived (unmade_is_none error (keys_unmade error pairs why));
+  later = same_later s.pipes.disk;
+  remains = λ owes home m h. inl h;
+  cause = λ home m h. keys_reason home m error s s g pairs (values_in home m s h g (Some gate) pairs lists) why;
+}
+
+-- Keys one after another.
+
+own_at : (pairs : List (List ℕ × List ℕ)) (i : ℕ) (d : List ℕ × List ℕ) → i < length pairs → IsTrue (is_internal (get_or pairs i d).0) → HasOwn pairs
+own_at [] i d lt own = absurd (omega (arith, lt))
+own_at (e ∷ es) zero d lt own = inl own
+own_at (e ∷ es) (suc i) d lt own = inr (own_at es i d (omega (arith, lt)) own)
+
+-- one of them isn't put
+pub key_unput : (pairs : List (List ℕ × List ℕ)) (i : ℕ) (d x : List ℕ × List ℕ) (key : List ℕ) (error : Error) → i < length pairs → x ≡ get_or pairs i d → key ≡ x.0 → IsKeyRefusal error key → AreUnput pairs error
+key_unput pairs i d x key errors.Memory lt is same why = tt
+key_unput pairs i d x key (errors.InvalidArgument text) lt is same why =
+    own_at pairs i d lt (subst (λ (e : List ℕ × List ℕ). IsTrue (is_internal e.0)) is (subst (λ (k : List ℕ). IsTrue (is_internal k)) same why.0))
+key_unput pairs i d x key _ lt is same why = absurd why

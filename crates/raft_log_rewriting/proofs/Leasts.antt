@@ -38,7 +38,8 @@ use Rattle.raft_log_purge_state.specs.Raising.{MayBegin, PurgeLeavesHeld}
 use Rattle.raft_log_purge_state.proofs.Raising.{raise_refused, raised}
 use Rattle.raft_log_rewriting.specs.Files.{FailsToLoseFiles, IsLeastIn, IsLeastOf, LosesFiles, MayLoseFiles, RemainsSettled, least_in}
 use Rattle.raft_log_rewriting.proofs.Parts.{alive_ok, same_later, tells_err}
-use Rattle.raft_log_rewriting.proofs.Reasons.{memory_is_none, purge_reason, tells_nothing}
+use Rattle.raft_log_rewriting.proofs.Reasons.{memory_is_none, tells_nothing}
+use Rattle.raft_log_rewriting.proofs.Spanned.{lose_reason}
 
 -- Group by group.
 
@@ -195,23 +196,23 @@ module _ (queue : LogQueue) (limit : ℕ) (m : MemTables) (v w : LogPipes) (old 
   }
 
   pub fails_to_lose : {A : Type 0} (error : Error) → TellsFailure {A = A} (Err error) w → FailsToPurgeQueue (which_of queue) least error v w → EndsNumbersBelow (which_of queue) error v
-      → FailsToLoseFiles queue error (shows v m old) (shows w m new)
+      → FailsToLoseFiles queue limit error (shows v m old) (shows w m new)
   fails_to_lose {A} error tells call ends = record {
     tells = λ lived. tells_err {A = A} error w tells;
     later = later;
     remains = λ home log h owes.
         remains_settled home log (shows w m new) error
         (raise_refused (which_of queue) home (shows v m old) (shows w m new) log least error h (begins home log h owes) refl none call);
-    cause = λ home log h. purge_reason (which_of queue) least home error (shows v m old) (shows w m new) h.state h.runs call ends;
+    cause = λ home log h. lose_reason queue limit least m home error v w old new log is h call ends;
   }
 
 -- the least file wasn't told: memory ran out
-pub none_told : (queue : LogQueue) (e : Shows) → FailsToLoseFiles queue errors.Memory e e
-none_told queue e = record {
+pub none_told : (queue : LogQueue) (limit : ℕ) (e : Shows) → FailsToLoseFiles queue limit errors.Memory e e
+none_told queue limit e = record {
   tells = λ lived. tells_nothing errors.Memory e.pipes lived (memory_is_none errors.Memory refl);
   later = same_later e.pipes.disk;
   remains = λ home log h owes. h;
-  cause = λ home log h. tt;
+  cause = λ home log h. inl tt;
 }
 
 -- What a purge tells, whichever way it went.
@@ -224,6 +225,6 @@ purged queue limit m v w old new none least is later (Ok count) tells call count
 purged queue limit m v w old new none least is later (Err e) tells call counted = tt
 
 pub not_purged : (queue : LogQueue) (limit : ℕ) (m : MemTables) (v w : LogPipes) (old new : BlockCache) → new.place ≡ None → (least : ℕ) → IsLeastOf queue limit m least → IsLater v.disk w.disk → (r : Result ℕ Error) → TellsFailure r w
-    → IfErr r (λ error. FailsToPurgeQueue (which_of queue) least error v w) → IfErr r (λ error. EndsNumbersBelow (which_of queue) error v) → IfErr r (λ error. FailsToLoseFiles queue error (shows v m old) (shows w m new))
+    → IfErr r (λ error. FailsToPurgeQueue (which_of queue) least error v w) → IfErr r (λ error. EndsNumbersBelow (which_of queue) error v) → IfErr r (λ error. FailsToLoseFiles queue limit error (shows v m old) (shows w m new))
 not_purged queue limit m v w old new none least is later (Ok count) tells call ends = tt
 not_purged queue limit m v w old new none least is later (Err e) tells call ends = fails_to_lose queue limit m v w old new none least is later {A = ℕ} e tells call ends

@@ -1,8 +1,10 @@
 pub mod Reasons
 pub mod Carried
+pub mod Marking
 pub mod Staying
 pub mod BehindSync
 pub mod Parts
+pub mod Spanned
 pub mod Leasts
 pub mod Turning
 pub mod Copying

@@ -37,10 +37,13 @@ use Rattle.raft_log_purge_state.specs.raft_log_engine_state.proofs.Keeping.{hold
 use Rattle.raft_log_purge_state.specs.Rewriting.{RewriteLeaves, SaysOwed}
 use Rattle.raft_log_purge_state.proofs.Settling.{failed_sync, settled_held, sync_settles_log}
 use Rattle.raft_log_purge_state.proofs.Rewriting.{marks_refused, marks_written}
-use Rattle.raft_log_rewriting.specs.Parts.{IsRecordMade, IsRefused, IsUnmade, Remains}
-use Rattle.raft_log_rewriting.specs.Marks.{CarriesMarks, SaysMarks, WritesMarks, showing}
+use Rattle.raft_log_rewriting.specs.Parts.{IsRecordMade, IsRefused, Remains}
+use Rattle.raft_log_rewriting.specs.Reasons.{GivesReason}
+use Rattle.raft_log_rewriting.specs.Refusals.{IsUnmade}
+use Rattle.raft_log_rewriting.specs.Marks.{CarriesMarks, WritesMarks, showing}
+use Rattle.raft_log_rewriting.specs.Owed.{SaysMarks}
 use Rattle.raft_log_rewriting.proofs.Carried.{plain_items}
-use Rattle.raft_log_rewriting.proofs.Reasons.{alone_reason, reason_after, sync_reason, tells_nothing, unmade_reason}
+use Rattle.raft_log_rewriting.proofs.Reasons.{alone_reason, reason_after, sync_reason, tells_nothing}
 use Rattle.raft_log_rewriting.proofs.Staying.{record_stays, stays_on, stays_same, sync_stays}
 
 pub later_on : (a b c : Disk) → IsLater a b → IsLater b c → IsLater a c
@@ -77,12 +80,12 @@ remains_same home m e (errors.InvalidArgument text) why h = h
 remains_same home m e _ why h = absurd why
 
 -- nothing was done
-pub refused_unmade : (error : Error) (e : Shows) → IsUnmade error → IsRefused error e e
-refused_unmade error e why = record {
+pub refused_unmade : (error : Error) (e : Shows) → IsUnmade error → GivesReason error e e → IsRefused error e e
+refused_unmade error e why reason = record {
   tells = λ lived. tells_nothing error e.pipes lived (unmade_is_none error why);
   later = same_later e.pipes.disk;
   remains = λ home m h. remains_same home m e error why h;
-  cause = λ home m h. unmade_reason home m error e e why;
+  cause = reason;
 }
 
 -- The record of a batch.

@@ -1,6 +1,6 @@
 -- Entries that are read to be copied are the map's, and a batch of them has copies of them.
-use Rattle.std.proofs.Common.{◌≡◌, ◌⊎◌, ℕ, ◌+◌, ◌≤◌, List, [], ◌∷◌, length, map, drop, Option, Some, option_map, unwrap_or, slice_get, inl, inr, refl, sym, ap, subst, ◌∙◌, arith, append-nil}
-use Rattle.std.proofs.lemmas.List.{length-map, length-take}
+use Rattle.std.proofs.Common.{◌≡◌, ◌⊎◌, ℕ, ◌+◌, ◌≤◌, List, [], ◌∷◌, ◌++◌, length, map, drop, Option, Some, option_map, unwrap_or, slice_get, inl, inr, refl, sym, ap, subst, ◌∙◌, arith, append-nil}
+use Rattle.std.proofs.lemmas.List.{length-drop, length-map, length-take}
 use Rattle.raft_log_base.specs.declared.errors.Error.{Error}
 use Rattle.raft_log_base.specs.declared.errors.Error.TheVariants as errors
 use Rattle.raft_log_model.specs.Meaning.Slot.{Index}
@@ -12,7 +12,8 @@ use Rattle.raft_log_items.specs.Placed.{laid_run}
 use Rattle.raft_log_atomic_groups.specs.declared.marking.Marking.TheVariants.{Unmarked}
 use Rattle.raft_log_atomic_groups.specs.Marking.{marking_of_items}
 use Rattle.raft_log_records.specs.Batch.{Batch}
-use Rattle.raft_log_records.specs.Entries.{entries_items, entries_of, indexes_of}
+use Rattle.raft_log_machine.specs.Whereabouts.{top}
+use Rattle.raft_log_records.specs.Entries.{IsEntriesRefusal, RisesFrom, entries_items, entries_of, indexes_of}
 use Rattle.raft_log_records.specs.ItemBatch.{all_entries}
 use Rattle.raft_log_records.specs.Places.{entry_bytes}
 use Rattle.raft_log_places.specs.declared.place.Place.{Place}
@@ -21,13 +22,16 @@ use Rattle.raft_log_held.specs.Counts.{passing}
 use Rattle.raft_log_purge_state.specs.raft_log_tables.specs.Reads.{entries_from}
 use Rattle.raft_log_purge_state.specs.raft_log_blocks.specs.declared.block_cache.BlockCache.{BlockCache}
 use Rattle.raft_log_purge_state.specs.raft_log_blocks.specs.Blocks.{AreUnread, IsOfLog, ReadsEntries}
+use Rattle.raft_log_dual_pipes.specs.Pipes.{LogPipes}
 use Rattle.raft_log_purge_state.specs.raft_log_engine_state.specs.Shows.{Home, LogMap, Shows}
 use Rattle.raft_log_purge_state.specs.raft_log_engine_state.specs.Holding.{Holds, IsLeftAt}
 use Rattle.raft_log_purge_state.specs.raft_log_engine_state.specs.Fetching.{AreEntriesOf}
 use Rattle.raft_log_purge_state.specs.raft_log_engine_state.proofs.Fetching.{all_told, all_untold}
 use Rattle.raft_log_purge_state.specs.Rewriting.{HasCopies}
 use Rattle.raft_log_rewriting.specs.declared.entries.EntryBytes.{EntryBytes}
-use Rattle.raft_log_rewriting.specs.Parts.{IsUnmade, Remains}
+use Rattle.raft_log_rewriting.specs.Parts.{Remains}
+use Rattle.raft_log_rewriting.specs.Lengths.{AreOfGroup}
+use Rattle.raft_log_rewriting.specs.Refusals.{IsOverlong}
 use Rattle.raft_log_rewriting.specs.Copies.{FailsToCopy, MovesCopies, WritesCopies}
 use Rattle.raft_log_rewriting.specs.Entries.{AreBytesAt, AreNext, IsRunBatch, as_bytes, copied_count, next_places}
 use Rattle.raft_log_rewriting.specs.Moving.{Advances}
@@ -38,7 +42,7 @@ use Rattle.raft_log_rewriting.proofs.Carried.{plain_items}
 use Rattle.raft_log_rewriting.proofs.Nexts.{copied_few}
 use Rattle.raft_log_rewriting.proofs.OneRun.{dropped_at, entries_count, run_has_copies, taken_at}
 use Rattle.raft_log_rewriting.proofs.Parts.{same_later, unmade_is_none}
-use Rattle.raft_log_rewriting.proofs.Reasons.{reason_after, tells_nothing, unmade_reason, unread_is_none, untold_reason}
+use Rattle.raft_log_rewriting.proofs.Reasons.{entries_reason, entries_unmade, long_reason, memory_is_none, memory_reason, none_twice, reason_after, tells_nothing, unread_is_none, untold_reason}
 
 bytes_of_read : (m : LogMap) (g i : ℕ) (xs : List EntryBytes) → AreEntriesOf as_bytes m g i xs → AreBytesAt m g i (map (λ e. e.bytes) xs)
 bytes_of_read m g i [] all = tt
@@ -49,6 +53,21 @@ bytes_of_read m g i (x ∷ xs) ((bytes, maps, is), rest) =
 -- the engine is what it was, with another block
 with_block : (home : Home) (s : Shows) (m : LogMap) (new : BlockCache) (h : Holds home s m []) → IsOfLog h.state new → Holds home (record s { cache = new }) m []
 with_block home s m new h cached = record { state = h.state; map = h.map; runs = h.runs; stored = h.stored; rises = h.rises; noted = h.noted; meant = h.meant; cached = cached; at = h.at }
+
+-- as many were read
+pub reads_len : (v : LogPipes) (es : List EntryIndex) (old new : BlockCache) (xs : List EntryBytes) → ReadsEntries as_bytes v es old new xs → length xs ≡ length es
+reads_len v [] old new xs (same, none) = ap length none
+reads_len v (e ∷ es) old new [] never = absurd never
+reads_len v (e ∷ es) old new (x ∷ xs) (next, one, rest) = (let more = reads_len v es next new xs rest in omega (arith, more))
+
+from_len : (v : Shown) (k : ℕ) (ps : List Place) → length (entries_from v k ps) ≡ length ps
+from_len v k [] = refl
+from_len v k (p ∷ ps) = let rest = from_len v (k + 1) ps in omega (arith, rest)
+
+-- the indexes of a table's entries rise by one
+pub from_rises : (v : Shown) (k : ℕ) (ps : List Place) → RisesFrom (v.first + k) (indexes_of (entries_from v k ps))
+from_rises v k [] = tt
+from_rises v k (p ∷ ps) = (refl, subst (λ (n : ℕ). RisesFrom n (indexes_of (entries_from v (k + 1) ps))) (let same : v.first + (k + 1) ≡ (v.first + k) + 1 = omega arith in same) (from_rises v (k + 1) ps))
 
 module _ (s : Shows) (g gate : ℕ) (es : List EntryIndex) (next : AreNext gate (s.tables g) es) (new : BlockCache) where
   abbrev v : Shown
@@ -82,6 +101,31 @@ module _ (s : Shows) (g gate : ℕ) (es : List EntryIndex) (next : AreNext gate 
       untold_reason home m error s new h.state (record { state = h.state; map = h.map; runs = h.runs; stored = h.stored; rises = h.rises; noted = h.noted; meant = h.meant; cached = cached; at = h.at }) refl g (v.first + v.rewritten)
       (v.first + v.rewritten + length ps) why
 
+  -- what comes next rises by one
+  next_rises : RisesFrom (v.first + v.rewritten) (indexes_of es)
+  next_rises = subst (λ l. RisesFrom (v.first + v.rewritten) (indexes_of l)) (sym next) (from_rises v v.rewritten ps)
+
+  -- and ends where the group's entries end, or before
+  next_low : (home : Home) (m : LogMap) → Holds home s m [] → v.first + v.rewritten + length (indexes_of es) ≤ top
+  next_low home m h =
+      let o = h.meant.orderly g in
+      let parts = o.parts in
+      let end = o.end in
+      let count = length-map es (λ e. e.index) ∙ ap length next ∙ from_len v v.rewritten ps ∙ length-take (copied_count gate (drop v.rewritten v.places)) (drop v.rewritten v.places) in
+      let left = length-drop v.rewritten v.places in omega (arith, parts, end, count, left)
+
+  -- there is no batch of them
+  pub unbuilt : (error : Error) (xs : List EntryBytes) → ReadsEntries as_bytes s.pipes es s.cache new xs → IsEntriesRefusal error 0 (indexes_of es) (map (λ e. e.bytes) xs) → FailsToCopyEntries error s (record s { cache = new })
+  unbuilt error xs reads why = record {
+    same = refl;
+    tells = λ lived. tells_nothing error s.pipes lived (unmade_is_none error (entries_unmade error 0 (indexes_of es) (map (λ e. e.bytes) xs) why));
+    later = same_later s.pipes.disk;
+    remains = λ owes home m h. inl (read_is_held home m h xs reads).0;
+    cause = λ home m h.
+        entries_reason home m error s (record s { cache = new }) g (v.first + v.rewritten) (indexes_of es) (map (λ e. e.bytes) xs) next_rises (λ some. next_low home m h)
+        (length-map es (λ e. e.index) ∙ sym (reads_len s.pipes es s.cache new xs reads) ∙ sym (length-map xs (λ e. e.bytes))) (read_is_held home m h xs reads).1 why;
+  }
+
   -- nothing was written
   pub none_read : (error : Error) → AreUnread as_bytes s.pipes es s.cache new error → FailsToCopyEntries error s (record s { cache = new })
   none_read error unread = record {
@@ -93,10 +137,6 @@ module _ (s : Shows) (g gate : ℕ) (es : List EntryIndex) (next : AreNext gate 
   }
 
 -- The batch.
-
-from_len : (v : Shown) (k : ℕ) (ps : List Place) → length (entries_from v k ps) ≡ length ps
-from_len v k [] = refl
-from_len v k (p ∷ ps) = let rest = from_len v (k + 1) ps in omega (arith, rest)
 
 -- entries that come next begin at the first one in Append
 first_is : (v : Shown) (ps : List Place) (i : ℕ) (is : List ℕ) → indexes_of (entries_from v v.rewritten ps) ≡ i ∷ is → i ≡ v.first + v.rewritten
@@ -195,6 +235,17 @@ module _ (s : Shows) (g gate : ℕ) (es : List EntryIndex) (next : AreNext gate 
   reason_on : (home : Home) (m : LogMap) (error : Error) (t : Shows) → HasReason home m error (record s { cache = new }) t → HasReason home m error s t
   reason_on home m error t reason = reason_after home m error s (record s { cache = new }) t (same_later s.pipes.disk) reason
 
+  -- what the record says
+  entries_made : AreOfGroup g ((s.tables g).first + (s.tables g).rewritten) (map (λ e. e.bytes) xs) [] [] b.items b.entries
+  entries_made =
+      let run : List LogItem = entries_items g 0 (indexes_of es) (map (λ e. e.bytes) xs) in
+      record { indexes = indexes_of es; rise = next_rises s g gate es next new; are = is.items ∙ sym (append-nil run) ∙ sym (append-nil (run ++ [])); joins = is.joins }
+
+  entries_cause : (home : Home) (m : LogMap) → Holds home s m [] → (error : Error) (t : Shows) → IsOverlong b error ⊎ HasReason home m error (record s { cache = new }) t → HasReason home m error s t
+  entries_cause home m h error t (inl long) =
+      long_reason home m error s t g ((s.tables g).first + (s.tables g).rewritten) (map (λ e. e.bytes) xs) [] [] b (inl refl) entries_made (read_is_held s g gate es next new home m h xs reads).1 tt none_twice long
+  entries_cause home m h error t (inr reason) = reason_on home m error t reason
+
   pub entries_not_copied : (error : Error) (t : Shows) → FailsToCopy (Some gate) b error (record s { cache = new }) t → FailsToCopyEntries error s t
   entries_not_copied error t fails = record {
     same = fails.same ∙ ap (λ (c : BlockCache). record s { cache = c; pipes = t.pipes }) (sym (ap (λ (e : Shows). e.cache) fails.same));
@@ -204,16 +255,15 @@ module _ (s : Shows) (g gate : ℕ) (es : List EntryIndex) (next : AreNext gate 
         remains_or home m t error
         (fails.remains (run_plain g b (indexes_of es) (map (λ e. e.bytes) xs) is) home m (read_is_held s g gate es next new home m h xs reads).0 (copies home m h owes));
     cause = λ home m h.
-        reason_on home m error t (fails.cause (run_plain g b (indexes_of es) (map (λ e. e.bytes) xs) is) home m (read_is_held s g gate es next new home m h xs reads).0);
+        entries_cause home m h error t (fails.cause (run_plain g b (indexes_of es) (map (λ e. e.bytes) xs) is) home m (read_is_held s g gate es next new home m h xs reads).0);
   }
 
--- nothing was written: the batch isn't made
-pub none_written : (error : Error) (s : Shows) (new : BlockCache) → IsUnmade error → ((home : Home) (m : LogMap) → Holds home s m [] → Holds home (record s { cache = new }) m [])
-    → FailsToCopyEntries error s (record s { cache = new })
-none_written error s new why stays = record {
+-- nothing was written, for want of memory
+pub none_written : (error : Error) (s : Shows) → error ≡ errors.Memory → FailsToCopyEntries error s s
+none_written error s memory = record {
   same = refl;
-  tells = λ lived. tells_nothing error s.pipes lived (unmade_is_none error why);
+  tells = λ lived. tells_nothing error s.pipes lived (memory_is_none error memory);
   later = same_later s.pipes.disk;
-  remains = λ owes home m h. inl (stays home m h);
-  cause = λ home m h. unmade_reason home m error s (record s { cache = new }) why;
+  remains = λ owes home m h. inl h;
+  cause = λ home m h. memory_reason home m error s s memory;
 }

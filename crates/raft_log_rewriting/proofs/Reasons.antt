@@ -1,7 +1,17 @@
 -- Why a part of a purge was refused: of what each call told.
-use Rattle.std.proofs.Common.{◌≡◌, ◌⊎◌, ◌↔◌, ◌==◌, ◌-◌, ◌^◌, ◌≤◌, ℕ, suc, Bool, true, false, if◌then◌else◌, List, [], ◌∷◌, inl, inr, refl, sym, subst, ◌∙◌, nat_lt, length, take, drop}
+use Rattle.std.proofs.Common.{◌≡◌, ◌⊎◌, ◌↔◌, ◌==◌, ◌+◌, ◌-◌, ◌^◌, ◌<◌, ◌≤◌, ℕ, suc, Bool, true, false, if◌then◌else◌, List, [], ◌∷◌, ◌++◌, Option, Some, None, option_map, inl, inr, refl, sym, ap, subst, ◌∙◌, arith, nat_lt, length, take, drop}
 use Rattle.std.specs.Prelude.{IsTrue, Result, Ok, Err}
+use Rattle.std.specs.Cmp.Lexicographic.{slice_cmp}
+use Rattle.std.specs.List.Sorted.{IsStrictlySortedBy}
+use Rattle.std.specs.Map.{keys_of}
+use Rattle.std.specs.Ordering.{nat_cmp}
 use Rattle.std.proofs.lemmas.Bool.{false≢true}
+use Rattle.raft_log_model.specs.Meaning.Slot.{Key}
+use Rattle.raft_log_model.specs.Meaning.Content.{Value}
+use Rattle.raft_log_model.specs.Renamed.{renamed_content}
+use Rattle.raft_log_model.proofs.Cases.{at_bool}
+use Rattle.raft_log_machine.specs.Whereabouts.{top}
+use Rattle.raft_log_machine.proofs.TruthRaises.{no_word}
 use Rattle.raft_log_model.specs.Item.Record.{Plain}
 use Rattle.std.specs.Int.{from_le_bytes, w32}
 use Rattle.raft_log_checksum.specs.Checksum.{crc32_of}
@@ -19,19 +29,26 @@ use Rattle.raft_log_base.specs.Fault.{Fails as FailsToRead}
 use Rattle.raft_log_frames.specs.Record.{block_mismatch, block_of, block_too_short}
 use Rattle.raft_log_frames.specs.Made.{IsMemoryOrFull}
 use Rattle.raft_log_items.specs.declared.entry.EntryIndex.{EntryIndex}
+use Rattle.raft_log_items.specs.declared.item.LogItem.{LogItem}
 use Rattle.raft_log_items.specs.Message.{Parses}
 use Rattle.raft_log_atomic_groups.specs.declared.marking.Marking.TheVariants.{Unmarked}
+use Rattle.raft_log_atomic_groups.specs.Key.{is_internal}
+use Rattle.raft_log_pipes.specs.Purging.{IsInSpan}
 use Rattle.raft_log_pipes.specs.Reading.{IsReadRefused}
 use Rattle.raft_log_pipes.specs.declared.pipe_files.PipeFiles.{PipeFiles}
 use Rattle.raft_log_records.specs.Batch.{Batch}
-use Rattle.raft_log_records.specs.Entries.{IsEntriesRefusal}
+use Rattle.raft_log_records.specs.Entries.{IsEntriesRefusal, IsIndexRun, RisesFrom, entries_items, joined}
+use Rattle.raft_log_records.proofs.Entries.{joined-length}
+use Rattle.raft_log_places.specs.Shown.{KeyValue, Shown}
+use Rattle.raft_log_places.specs.Bridge.{Located, bytes_held}
+use Rattle.raft_log_held.specs.Listing.{ListsAll, asked_bytes, is_asked}
 use Rattle.raft_log_signed_batch.specs.Signing.{signed_for}
 use Rattle.raft_log_directory.specs.Calls.{Which}
 use Rattle.raft_log_directory.specs.Calls.Which.{InAppend, InRewrite}
 use Rattle.raft_log_purge_state.specs.raft_log_steps.specs.Own.{log_layout}
 use Rattle.raft_log_purge_state.specs.raft_log_steps.specs.Queues.{SaysRecord}
 use Rattle.raft_log_purge_state.specs.raft_log_steps.specs.State.{pipe_at}
-use Rattle.raft_log_purge_state.specs.raft_log_stored.specs.Stored.{part}
+use Rattle.raft_log_purge_state.specs.raft_log_stored.specs.Stored.{entries_at, part}
 use Rattle.raft_log_dual_pipes.specs.Pipes.{LogPipes, LogSense, RunsOn, Said, State, files_of, is_failed, which_of}
 use Rattle.raft_log_dual_pipes.specs.Calls.{FailsToAppendTo, FailsToPurgeQueue, FailsToRotateQueue, FailsToSyncQueue}
 use Rattle.raft_log_dual_pipes.specs.Numbers.{EndsNumbers, EndsNumbersAt, EndsNumbersBelow, HasLastNumber}
@@ -43,9 +60,12 @@ use Rattle.raft_log_purge_state.specs.raft_log_engine_state.specs.Fetching.{IsOn
 use Rattle.raft_log_purge_state.specs.Rewriting.{CountsAlone}
 use Rattle.raft_log_purge_state.proofs.Rewriting.{bytes_of, says_marked}
 use Rattle.raft_log_rewriting.specs.declared.entries.EntryBytes.{EntryBytes}
-use Rattle.raft_log_rewriting.specs.Entries.{as_bytes}
-use Rattle.raft_log_rewriting.specs.Parts.{IsUnmade}
+use Rattle.raft_log_rewriting.specs.Entries.{AreBytesAt, as_bytes}
+use Rattle.raft_log_rewriting.specs.Lengths.{AreOfGroup, AreValuesIn, IsOneMark}
+use Rattle.raft_log_rewriting.specs.Owed.{SaysMarks}
 use Rattle.raft_log_rewriting.specs.Reasons.{HasFileReason, HasReason, IsOneUnread}
+use Rattle.raft_log_rewriting.specs.Refusals.{AreMarksUnmade, AreUnput, HasOwn, IsOverlong, IsUnmade, IsUnrecorded}
+use Rattle.raft_log_rewriting.proofs.KeyCopies.{EachOf, each_listed}
 
 -- What came before takes no cause away.
 
@@ -56,10 +76,14 @@ reason_after home m (errors.TryAgain text) s t u later fails = fails_after s.pip
 reason_after home m errors.Failed s t u later fails = fails_after s.pipes.disk t.pipes.disk u.pipes.disk later fails
 reason_after home m (errors.Corruption text) s t u later unread = unread
 reason_after home m errors.NumberRange s t u later ends = ends
-reason_after home m errors.Full s t u later reason = reason
+reason_after home m errors.Full s t u later long = long
 reason_after home m (errors.InvalidArgument text) s t u later reason = reason
 reason_after home m errors.Memory s t u later reason = reason
 reason_after home m _ s t u later never = absurd never
+
+pub overlong_after : (home : Home) (m : LogMap) (b : Batch) (error : Error) (s t u : Shows) → IsLater s.pipes.disk t.pipes.disk → IsOverlong b error ⊎ HasReason home m error t u → IsOverlong b error ⊎ HasReason home m error s u
+overlong_after home m b error s t u later (inl long) = inl long
+overlong_after home m b error s t u later (inr reason) = inr (reason_after home m error s t u later reason)
 
 pub file_reason_after : (error : Error) (s t u : Shows) → IsLater s.pipes.disk t.pipes.disk → HasFileReason error t u → HasFileReason error s u
 file_reason_after errors.Failed s t u later fails = fails_after s.pipes.disk t.pipes.disk u.pipes.disk later fails
@@ -72,17 +96,11 @@ file_reason_after _ s t u later never = absurd never
 pub reason_of_files : (home : Home) (m : LogMap) (error : Error) (s t : Shows) → HasFileReason error s t → HasReason home m error s t
 reason_of_files home m errors.Failed s t fails = fails
 reason_of_files home m errors.NumberRange s t ends = ends
-reason_of_files home m (errors.InvalidArgument text) s t reason = tt
+reason_of_files home m (errors.InvalidArgument text) s t stray = inr stray
 reason_of_files home m errors.Memory s t reason = tt
 reason_of_files home m _ s t never = absurd never
 
 -- What isn't made.
-
-pub unmade_reason : (home : Home) (m : LogMap) (error : Error) (s t : Shows) → IsUnmade error → HasReason home m error s t
-unmade_reason home m errors.Full s t why = tt
-unmade_reason home m errors.Memory s t why = tt
-unmade_reason home m (errors.InvalidArgument text) s t why = tt
-unmade_reason home m _ s t why = absurd why
 
 -- memory ran out
 pub memory_reason : (home : Home) (m : LogMap) (error : Error) (s t : Shows) → error ≡ errors.Memory → HasReason home m error s t
@@ -100,6 +118,104 @@ entries_unmade errors.Memory held indexes entries why = tt
 entries_unmade (errors.InvalidArgument text) held indexes entries why = tt
 entries_unmade errors.Full held indexes entries why = tt
 entries_unmade _ held indexes entries why = absurd why
+
+pub keys_unmade : (error : Error) (pairs : List (List ℕ × List ℕ)) → AreUnput pairs error → IsUnmade error
+keys_unmade errors.Memory pairs why = tt
+keys_unmade (errors.InvalidArgument text) pairs why = tt
+keys_unmade _ pairs why = absurd why
+
+pub marks_are_unmade : (error : Error) (v : ℕ → Shown) → AreMarksUnmade v error → IsUnmade error
+marks_are_unmade errors.Memory v why = tt
+marks_are_unmade (errors.InvalidArgument text) v why = tt
+marks_are_unmade _ v why = absurd why
+
+-- a record of what a group has in the map is too long
+pub long_reason : (home : Home) (m : LogMap) (error : Error) (s t : Shows) (g first : ℕ) (bytes : List (List ℕ)) (pairs : List (List ℕ × List ℕ)) (mark : List LogItem) (b : Batch) → IsOneMark mark
+    → AreOfGroup g first bytes pairs mark b.items b.entries → AreBytesAt m g first bytes → AreValuesIn m g pairs → IsStrictlySortedBy (slice_cmp nat_cmp) (keys_of pairs) → IsOverlong b error → HasReason home m error s t
+long_reason home m error s t g first bytes pairs mark b one made run values once (is, long) =
+    subst (λ (e : Error). HasReason home m e s t) (sym is)
+    (inl (b.items, b.entries, record { group = g; first = first; bytes = bytes; pairs = pairs; mark = mark; one = one; made = made; run = run; values = values; once = once }, inr long))
+
+-- that of the marks that are owed
+pub marks_long_reason : (home : Home) (m : LogMap) (error : Error) (s t : Shows) (b : Batch) → SaysMarks t.tables b → IsUnrecorded b error → HasReason home m error s t
+marks_long_reason home m error s t b says (inl memory) = memory_reason home m error s t memory
+marks_long_reason home m error s t b says (inr (is, long)) = subst (λ (e : Error). HasReason home m e s t) (sym is) (inr (b, says, inr long))
+
+-- a mark isn't made
+pub mark_reason : (home : Home) (m : LogMap) (error : Error) (s t : Shows) → AreMarksUnmade t.tables error → HasReason home m error s t
+mark_reason home m errors.Memory s t why = tt
+mark_reason home m (errors.InvalidArgument text) s t (g, k, own, deleted) = inl (g, k, own, inr deleted)
+mark_reason home m _ s t why = absurd why
+
+-- a key isn't put
+own_value : (m : LogMap) (g : ℕ) (pairs : List (List ℕ × List ℕ)) → AreValuesIn m g pairs → HasOwn pairs → (k : List ℕ) × IsTrue (is_internal k) × ((value : List ℕ) × (m g (Key k) ≡ Some (Value value)))
+own_value m g [] values own = absurd own
+own_value m g (e ∷ es) (value, rest) (inl own) = (e.0, own, (e.1, value))
+own_value m g (e ∷ es) (value, rest) (inr own) = own_value m g es rest own
+
+pub keys_reason : (home : Home) (m : LogMap) (error : Error) (s t : Shows) (g : ℕ) (pairs : List (List ℕ × List ℕ)) → AreValuesIn m g pairs → AreUnput pairs error → HasReason home m error s t
+keys_reason home m errors.Memory s t g pairs values why = tt
+keys_reason home m (errors.InvalidArgument text) s t g pairs values why = (let (k, own, value) = own_value m g pairs values why in inl (g, k, own, inl value))
+keys_reason home m _ s t g pairs values why = absurd why
+
+pub none_twice : IsStrictlySortedBy (slice_cmp nat_cmp) []
+unfolding IsStrictlySortedBy
+none_twice = tt
+
+-- indexes from one on are a run
+index_run : (first : ℕ) (indexes : List ℕ) → RisesFrom first indexes → (0 < length indexes → first + length indexes ≤ top) → IsIndexRun indexes
+unfolding top
+index_run first [] rise low = tt
+index_run first (i ∷ is) (same, rise) low = ((refl, subst (λ (n : ℕ). RisesFrom (n + 1) is) (sym same) rise), (let end = low (omega arith) in omega (arith, same, end)))
+
+-- entries aren't added
+pub entries_reason : (home : Home) (m : LogMap) (error : Error) (s t : Shows) (g first : ℕ) (indexes : List ℕ) (bytes : List (List ℕ)) → RisesFrom first indexes → (0 < length indexes → first + length indexes ≤ top) → length indexes ≡ length bytes
+    → AreBytesAt m g first bytes → IsEntriesRefusal error 0 indexes bytes → HasReason home m error s t
+entries_reason home m errors.Memory s t g first indexes bytes rise low same run why = tt
+entries_reason home m (errors.InvalidArgument text) s t g first indexes bytes rise low same run (none, told) = absurd (none (same, index_run first indexes rise low))
+entries_reason home m errors.Full s t g first indexes bytes rise low same run (is, long) =
+    let items : List LogItem = (entries_items g 0 indexes bytes ++ []) ++ [] in
+    let joins = joined-length bytes in
+    inl (
+      items,
+      joined bytes,
+      record {
+        group = g;
+        first = first;
+        bytes = bytes;
+        pairs = [];
+        mark = [];
+        one = inl refl;
+        made = record { indexes = indexes; rise = rise; are = refl; joins = refl };
+        run = run;
+        values = tt;
+        once = none_twice;
+      },
+      inl (omega (arith, joins, long)),
+    )
+entries_reason home m _ s t g first indexes bytes rise low same run why = absurd why
+
+-- Values of a group are those of the map.
+
+value_stands : (at : Located → List ℕ) (o : Option (List ℕ)) → option_map (renamed_content at) (option_map Value o) ≡ option_map Value o
+value_stands at None = refl
+value_stands at (Some w) = refl
+
+value_held : (home : Home) (m : LogMap) (e : Shows) → Holds home e m [] → (g : ℕ) (k w : List ℕ) → bytes_held ((e.tables g).held k) ≡ Some w → m g (Key k) ≡ Some (Value w)
+value_held home m e h g k w is =
+    subst (λ (n : LogMap). n g (Key k) ≡ Some (Value w)) h.at.stands.map
+    (sym (h.meant.meant g (Key k)) ∙ value_stands (entries_at h.state) (bytes_held ((e.tables g).held k)) ∙ ap (option_map Value) is)
+
+asked_held : (gate : Option ℕ) (o : Option KeyValue) (w : List ℕ) → asked_bytes gate o ≡ Some w → bytes_held o ≡ Some w
+asked_held gate None w is = is
+asked_held gate (Some h) w is = at_bool (is_asked gate h) (λ b. (if b then Some h.bytes else None) ≡ Some w → Some h.bytes ≡ Some w) (λ _ e. e) (λ _ e. no_word w e) is
+
+each_value : (home : Home) (m : LogMap) (e : Shows) → Holds home e m [] → (g : ℕ) (gate : Option ℕ) (pairs : List (List ℕ × List ℕ)) → EachOf (λ k. asked_bytes gate ((e.tables g).held k)) pairs → AreValuesIn m g pairs
+each_value home m e h g gate [] all = tt
+each_value home m e h g gate (p ∷ ps) (one, rest) = (value_held home m e h g p.0 p.1 (asked_held gate ((e.tables g).held p.0) p.1 one), each_value home m e h g gate ps rest)
+
+pub values_in : (home : Home) (m : LogMap) (e : Shows) → Holds home e m [] → (g : ℕ) (gate : Option ℕ) (pairs : List (List ℕ × List ℕ)) → ListsAll (λ k. asked_bytes gate ((e.tables g).held k)) pairs → AreValuesIn m g pairs
+values_in home m e h g gate pairs lists = each_value home m e h g gate pairs (each_listed (λ k. asked_bytes gate ((e.tables g).held k)) pairs lists.rising lists.exact)
 
 -- that isn't told as a failure, and nothing has failed
 pub tells_nothing : (error : Error) (w : LogPipes) → is_failed w ≡ false → (error ≡ errors.Failed → ⊥) → IsTrue (is_failed w) ↔ (error ≡ errors.Failed)
@@ -139,20 +255,29 @@ turn_reason which home errors.NumberRange s t log runs call ends = (which, still
 turn_reason which home errors.Failed s t log runs call ends = (call (sense home) log runs).0
 turn_reason which home _ s t log runs call ends = absurd (call (sense home) log runs)
 
-pub purge_reason : (which : Which) (n : ℕ) (home : Home) (error : Error) (s t : Shows) (log : State) → RunsOn (sense home) s.pipes log → FailsToPurgeQueue which n error s.pipes t.pipes → EndsNumbersBelow which error s.pipes → HasFileReason error s t
-purge_reason which n home errors.Memory s t log runs call ends = tt
-purge_reason which n home (errors.InvalidArgument text) s t log runs call ends = tt
-purge_reason which n home errors.NumberRange s t log runs call ends = absurd ((ends refl).1 (sense home) log runs)
-purge_reason which n home errors.Failed s t log runs call ends = (call (sense home) log runs).0
-purge_reason which n home _ s t log runs call ends = absurd (call (sense home) log runs)
+-- a file of the span is one
+pub purge_reason : (which : Which) (n : ℕ) (home : Home) (error : Error) (s t : Shows) (log : State) → RunsOn (sense home) s.pipes log → IsInSpan n (pipe_at which (files_of s.pipes)) → FailsToPurgeQueue which n error s.pipes t.pipes
+    → EndsNumbersBelow which error s.pipes → HasFileReason error s t
+purge_reason which n home errors.Memory s t log runs within call ends = tt
+purge_reason which n home (errors.InvalidArgument text) s t log runs within call ends = absurd ((call (sense home) log runs).0 within)
+purge_reason which n home errors.NumberRange s t log runs within call ends = absurd ((ends refl).1 (sense home) log runs)
+purge_reason which n home errors.Failed s t log runs within call ends = (call (sense home) log runs).0
+purge_reason which n home _ s t log runs within call ends = absurd (call (sense home) log runs)
 
 -- What isn't read.
 
--- the errors of reading, and of what is to be read
+-- the errors of reading a block, and an entry in it
+abbrev pub IsOfBlock : Error → Type 0
+IsOfBlock (errors.Io kind) = Unit {0}
+IsOfBlock (errors.Corruption text) = Unit {0}
+IsOfBlock errors.Memory = Unit {0}
+IsOfBlock _ = ⊥
+
+-- and of what is to be read
 abbrev pub IsOfReading : Error → Type 0
+IsOfReading (errors.InvalidArgument text) = Unit {0}
 IsOfReading (errors.Io kind) = Unit {0}
 IsOfReading (errors.Corruption text) = Unit {0}
-IsOfReading (errors.InvalidArgument text) = Unit {0}
 IsOfReading errors.Memory = Unit {0}
 IsOfReading _ = ⊥
 
@@ -177,44 +302,49 @@ no_number bytes c is =
     either_is (length bytes == 0) (Ok []) (if nat_lt (length bytes) 4 then short else summed) c (no_fault [] c)
     (either_is (nat_lt (length bytes) 4) short summed c (other_fault (block_too_short (length bytes)) c) (either_is sums (Ok entries) (Err (corrupt block_mismatch)) c (no_fault entries c) (other_fault block_mismatch c))) is
 
-refused_read : (files : PipeFiles) (block : FileBlockHandle) (d : Disk) (error : Error) → IsReadRefused files block d error → IsOfReading error
+refused_read : (files : PipeFiles) (block : FileBlockHandle) (d : Disk) (error : Error) → IsReadRefused files block d error → IsOfBlock error
 refused_read files block d (errors.Io kind) why = tt
 refused_read files block d (errors.Corruption text) why = tt
-refused_read files block d (errors.InvalidArgument text) why = tt
 refused_read files block d errors.Memory why = tt
 refused_read files block d _ (inl unlisted) = absurd unlisted
 refused_read files block d _ (inr (handle, listed, refused)) = absurd refused
 
-faulty_block : (bytes : List ℕ) (error : Error) → FailsToRead error (block_of bytes) → IsOfReading error
+faulty_block : (bytes : List ℕ) (error : Error) → FailsToRead error (block_of bytes) → IsOfBlock error
 faulty_block bytes errors.Memory why = tt
 faulty_block bytes (errors.Codec c) why = absurd (no_number bytes c why)
 faulty_block bytes (errors.Corruption text) why = tt
 faulty_block bytes _ why = absurd why
 
-unread_block : (v : LogPipes) (block : FileBlockHandle) (error : Error) → IsBlockUnread v block error → IsOfReading error
+unread_block : (v : LogPipes) (block : FileBlockHandle) (error : Error) → IsBlockUnread v block error → IsOfBlock error
 unread_block v block error (inl refused) = refused_read (pipe_at (which_of block.id.queue) (files_of v)) block v.disk error refused
 unread_block v block error (inr (bytes, stands, faulty)) = faulty_block bytes error faulty
 
-unparsed : (bytes : List ℕ) (error : Error) → Parses {M = EntryBytes} (Err error) (as_bytes bytes) → IsOfReading error
+unparsed : (bytes : List ℕ) (error : Error) → Parses {M = EntryBytes} (Err error) (as_bytes bytes) → IsOfBlock error
 unparsed bytes errors.Memory why = tt
 unparsed bytes (errors.Message text) why = absurd (let never : ⊥ = cc in never)
 unparsed bytes _ why = absurd why
+
+of_block : (error : Error) → IsOfBlock error → IsOfReading error
+of_block (errors.Io kind) of = tt
+of_block (errors.Corruption text) of = tt
+of_block errors.Memory of = tt
+of_block _ of = absurd of
 
 unplaced : (e : EntryIndex) (error : Error) → IsUnplaced e error → IsOfReading error
 unplaced e errors.Memory why = tt
 unplaced e (errors.InvalidArgument text) why = tt
 unplaced e _ why = absurd why
 
-no_entry : (offset len : ℕ) (cache : BlockCache) (error : Error) → IsNoEntry offset len cache error → IsOfReading error
+no_entry : (offset len : ℕ) (cache : BlockCache) (error : Error) → IsNoEntry offset len cache error → IsOfBlock error
 no_entry offset len cache errors.Memory why = tt
 no_entry offset len cache (errors.Corruption text) why = tt
 no_entry offset len cache _ why = absurd why
 
 unread_entry : (v : LogPipes) (e : EntryIndex) (old new : BlockCache) (error : Error) → IsEntryUnread as_bytes v e old new error → IsOfReading error
 unread_entry v e old new error (inl (none, same)) = unplaced e error none
-unread_entry v e old new error (inr (block, placed, inl (unread, none, apart))) = unread_block v block error unread
-unread_entry v e old new error (inr (block, placed, inr (kept, inl none))) = no_entry e.entry_offset e.entry_len new error none
-unread_entry v e old new error (inr (block, placed, inr (kept, inr none))) = unparsed (part e.entry_offset e.entry_len new.bytes.items) error none
+unread_entry v e old new error (inr (block, placed, inl (unread, none, apart))) = of_block error (unread_block v block error unread)
+unread_entry v e old new error (inr (block, placed, inr (kept, inl none))) = of_block error (no_entry e.entry_offset e.entry_len new error none)
+unread_entry v e old new error (inr (block, placed, inr (kept, inr none))) = of_block error (unparsed (part e.entry_offset e.entry_len new.bytes.items) error none)
 
 pub unread_entries : (v : LogPipes) (es : List EntryIndex) (old new : BlockCache) (error : Error) → AreUnread as_bytes v es old new error → IsOfReading error
 unread_entries v [] old new error (memory, same) = subst IsOfReading (sym memory) tt
@@ -226,21 +356,20 @@ unread_entries v (e ∷ es) old new error (inr (inr (next, m, one, rest))) = unr
 pub unread_is_none : (v : LogPipes) (es : List EntryIndex) (old new : BlockCache) (error : Error) → AreUnread as_bytes v es old new error → error ≡ errors.Failed → ⊥
 unread_is_none v es old new error unread is = subst IsOfReading is (unread_entries v es old new error unread)
 
-outside : (e : EntryIndex) (bytes : List ℕ) (error : Error) → LiesOutside e bytes error → IsOfReading error
+outside : (e : EntryIndex) (bytes : List ℕ) (error : Error) → LiesOutside e bytes error → IsOfBlock error
 outside e bytes errors.Memory why = tt
 outside e bytes (errors.Corruption text) why = tt
 outside e bytes _ why = absurd why
 
 untold_of_reading : (v : LogPipes) (e : EntryIndex) (block : FileBlockHandle) (written bytes : List ℕ) (error : Error)
-    → IsBlockUnread v block error ⊎ (LiesOutside e written error ⊎ Parses {M = EntryBytes} (Err error) (as_bytes bytes)) → IsOfReading error
+    → IsBlockUnread v block error ⊎ (LiesOutside e written error ⊎ Parses {M = EntryBytes} (Err error) (as_bytes bytes)) → IsOfBlock error
 untold_of_reading v e block written bytes error (inl unread) = unread_block v block error unread
 untold_of_reading v e block written bytes error (inr (inl lies)) = outside e written error lies
 untold_of_reading v e block written bytes error (inr (inr none)) = unparsed bytes error none
 
-of_reading : (home : Home) (m : LogMap) (error : Error) (s t : Shows) → IsOfReading error → IsOneUnread home m t error → HasReason home m error s t
+of_reading : (home : Home) (m : LogMap) (error : Error) (s t : Shows) → IsOfBlock error → IsOneUnread home m t error → HasReason home m error s t
 of_reading home m (errors.Io kind) s t of unread = inr unread
 of_reading home m (errors.Corruption text) s t of unread = unread
-of_reading home m (errors.InvalidArgument text) s t of unread = tt
 of_reading home m errors.Memory s t of unread = tt
 of_reading home m _ s t of unread = absurd of
 

@@ -27,6 +27,7 @@ use Rattle.raft_log_rewriting.specs.Marks.{CarriesMarks}
 use Rattle.raft_log_rewriting.specs.Files.{FailsToLoseFiles, LosesFiles, MayLoseFiles, RemainsSettled}
 use Rattle.raft_log_rewriting.specs.Stale.{FailsToPurge, FailsToTurn, PurgesAllStale, TurnsAndLoses, written_file}
 use Rattle.raft_log_rewriting.proofs.Parts.{later_on, tells_err}
+use Rattle.raft_log_rewriting.proofs.Spanned.{limited_reason}
 use Rattle.raft_log_rewriting.proofs.Reasons.{file_reason_after, reason_after, reason_of_files, sync_reason, turn_reason}
 
 -- One queue.
@@ -66,15 +67,16 @@ lost_remains : (home : Home) (m : LogMap) (t : Shows) (error : Error) → Remain
 lost_remains home m t errors.Failed h = h
 lost_remains home m t _ h = settled_held home t m h
 
-pub turned_not_lost : (queue : LogQueue) (error : Error) (s t : Shows) (mid : LogPipes) → is_failed mid ≡ false → RotatesQueue (which_of queue) s.pipes mid → IsLater s.pipes.disk mid.disk
-    → FailsToLoseFiles queue error (record s { pipes = mid }) t → FailsToTurn queue error s t
-turned_not_lost queue error s t mid alive turns later fails = record {
+pub turned_not_lost : (queue : LogQueue) (last : ℕ) (error : Error) (s t : Shows) (mid : LogPipes) → last ≡ written_file queue mid → is_failed mid ≡ false → RotatesQueue (which_of queue) s.pipes mid → IsLater s.pipes.disk mid.disk
+    → FailsToLoseFiles queue last error (record s { pipes = mid }) t → FailsToTurn queue error s t
+turned_not_lost queue last error s t mid is alive turns later fails = record {
   tells = λ lived. fails.tells alive;
   later = later_on s.pipes.disk mid.disk t.pipes.disk later fails.later;
   remains = λ home log h owes.
       lost_remains home log t error (fails.remains home log (settled_turns queue home s (record s { pipes = mid }) log h refl refl turns) owes);
   cause = λ home log h.
-      file_reason_after error s (record s { pipes = mid }) t later (fails.cause home log (settled_turns queue home s (record s { pipes = mid }) log h refl refl turns));
+      (let there = settled_turns queue home s (record s { pipes = mid }) log h refl refl turns in
+      file_reason_after error s (record s { pipes = mid }) t later (limited_reason queue last home error (record s { pipes = mid }) t there.state there.runs is (fails.cause home log there)));
 }
 
 pub turned : (queue : LogQueue) (m : MemTables) (last : ℕ) (s t : Shows) (mid : LogPipes) → last ≡ written_file queue mid → RotatesQueue (which_of queue) s.pipes mid → IsLater s.pipes.disk mid.disk → (r : Result ℕ Error)
@@ -82,10 +84,10 @@ pub turned : (queue : LogQueue) (m : MemTables) (last : ℕ) (s t : Shows) (mid 
 turned queue m last s t mid is turns later (Ok count) loses = turns_and_loses queue m count last s t mid is turns later loses
 turned queue m last s t mid is turns later (Err e) loses = tt
 
-pub unturned : (queue : LogQueue) (s t : Shows) (mid : LogPipes) → is_failed mid ≡ false → RotatesQueue (which_of queue) s.pipes mid → IsLater s.pipes.disk mid.disk → (r : Result ℕ Error)
-    → IfErr r (λ error. FailsToLoseFiles queue error (record s { pipes = mid }) t) → IfErr r (λ error. FailsToTurn queue error s t)
-unturned queue s t mid alive turns later (Ok count) fails = tt
-unturned queue s t mid alive turns later (Err e) fails = turned_not_lost queue e s t mid alive turns later fails
+pub unturned : (queue : LogQueue) (last : ℕ) (s t : Shows) (mid : LogPipes) → last ≡ written_file queue mid → is_failed mid ≡ false → RotatesQueue (which_of queue) s.pipes mid → IsLater s.pipes.disk mid.disk → (r : Result ℕ Error)
+    → IfErr r (λ error. FailsToLoseFiles queue last error (record s { pipes = mid }) t) → IfErr r (λ error. FailsToTurn queue error s t)
+unturned queue last s t mid is alive turns later (Ok count) fails = tt
+unturned queue last s t mid is alive turns later (Err e) fails = turned_not_lost queue last e s t mid is alive turns later fails
 
 -- Both.
 

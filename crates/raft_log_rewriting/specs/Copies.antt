@@ -11,7 +11,8 @@ use Rattle.raft_log_purge_state.specs.raft_log_engine_state.specs.Shows.{Home, L
 use Rattle.raft_log_purge_state.specs.raft_log_engine_state.specs.Holding.{Holds}
 use Rattle.raft_log_purge_state.specs.Rewriting.{HasCopies, moved_to}
 use Rattle.raft_log_rewriting.specs.Parts.{Remains, StaysInFile}
-use Rattle.raft_log_rewriting.specs.Reasons.{GivesReason}
+use Rattle.raft_log_rewriting.specs.Reasons.{HasReason}
+use Rattle.raft_log_rewriting.specs.Refusals.{IsOverlong}
 
 -- A batch that isn't empty was written to Rewrite, and the tables took it in the file of its place: whatever
 -- the log was, with nothing pending, it is so, if the batch has copies of what it had, and is no part of an
@@ -33,11 +34,12 @@ WritesCopies gate b s t = ((b.items ≡ []) × (t ≡ s)) ⊎ (((b.items ≡ [])
 
 -- It was refused: all that shows shows as it did; and whatever the log was, it is so, if the batch has
 -- copies; where the engine has failed, its log is held. Why is told of a batch that is no part of an atomic
--- group.
+-- group: its record is too long, or as of any part.
 pub record FailsToCopy (gate : Option ℕ) (b : Batch) (error : Error) (s t : Shows) : Type 0 where
   pub same : t ≡ record s { pipes = t.pipes }
   pub tells : has_failed s ≡ false → IsTrue (has_failed t) ↔ (error ≡ errors.Failed)
   pub later : IsLater s.pipes.disk t.pipes.disk
   pub remains : marking_of_items b.items ≡ Unmarked → (home : Home) (m : LogMap) → Holds home s m []
       → HasCopies gate b s.tables m → Remains home m t error
-  pub cause : marking_of_items b.items ≡ Unmarked → GivesReason error s t
+  pub cause : marking_of_items b.items ≡ Unmarked → (home : Home) (m : LogMap) → Holds home s m []
+      → IsOverlong b error ⊎ HasReason home m error s t

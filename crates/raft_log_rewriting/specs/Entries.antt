@@ -5,7 +5,7 @@ use Rattle.raft_log_model.specs.Meaning.Slot.{Index}
 use Rattle.raft_log_model.specs.Meaning.Content.{Entry}
 use Rattle.raft_log_records.specs.declared.log_batch.BatchState.TheVariants.{Filling}
 use Rattle.raft_log_records.specs.Batch.{Batch}
-use Rattle.raft_log_records.specs.Entries.{entries_items}
+use Rattle.raft_log_records.specs.Entries.{entries_items, joined}
 use Rattle.raft_log_records.specs.Places.{bytes_in}
 use Rattle.raft_log_held.specs.Counts.{passing, sized}
 use Rattle.raft_log_places.specs.declared.place.Place.{Place}
@@ -44,5 +44,6 @@ AreBytesAt m g i (x ∷ xs) = (m g (Index i) ≡ Some (Entry x)) × AreBytesAt m
 pub record IsRunBatch (g : ℕ) (indexes : List ℕ) (bytes : List (List ℕ)) (b : Batch) : Type 0 where
   pub state : b.state ≡ Filling
   pub items : b.items ≡ entries_items g 0 indexes bytes
+  pub joins : b.entries ≡ joined bytes
   pub says : bytes_in b ≡ bytes
   pub same : length indexes ≡ length bytes

@@ -7,6 +7,7 @@ use Rattle.raft_log_base.specs.declared.pipe_log.LogQueue.{LogQueue}
 use Rattle.raft_log_machine.specs.Whereabouts.{OwesNothing}
 use Rattle.raft_log_directory.specs.Calls.{Which}
 use Rattle.raft_log_directory.specs.Calls.Which.{InAppend, InRewrite}
+use Rattle.raft_log_pipes.specs.Purging.{IsInSpan}
 use Rattle.raft_log_places.specs.Shown.{Shown, whereabouts}
 use Rattle.raft_log_purge_state.specs.raft_log_tables.specs.Files.{IsMinFile, min_file}
 use Rattle.raft_log_purge_state.specs.raft_log_tables.specs.Table.{Raw}
@@ -58,10 +59,17 @@ abbrev pub RemainsSettled : Home → LogMap → Shows → Error → Type 0
 RemainsSettled home m t errors.Failed = IsLeftAt home t.pipes.disk m []
 RemainsSettled home m t _ = HoldsSettled home t m
 
+-- the limit is none of the queue's files: so only is an argument refused
+abbrev pub IsNoLimit : LogQueue → ℕ → Error → Shows → Type 0
+IsNoLimit queue limit (errors.InvalidArgument text) s =
+    IsInSpan limit (pipe_at (which_of queue) (files_of s.pipes)) → ⊥
+IsNoLimit queue limit _ s = ⊥
+
 -- So it is of whatever log it was; and why.
-pub record FailsToLoseFiles (queue : LogQueue) (error : Error) (s t : Shows) : Type 0 where
+pub record FailsToLoseFiles (queue : LogQueue) (limit : ℕ) (error : Error) (s t : Shows) : Type 0 where
   pub tells : has_failed s ≡ false → IsTrue (has_failed t) ↔ (error ≡ errors.Failed)
   pub later : IsLater s.pipes.disk t.pipes.disk
   pub remains : (home : Home) (log : LogMap) → HoldsSettled home s log
       → MayLoseFiles (which_of queue) s.tables → RemainsSettled home log t error
-  pub cause : (home : Home) (log : LogMap) → HoldsSettled home s log → HasFileReason error s t
+  pub cause : (home : Home) (log : LogMap) → HoldsSettled home s log
+      → HasFileReason error s t ⊎ IsNoLimit queue limit error s

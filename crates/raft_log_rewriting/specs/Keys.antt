@@ -1,5 +1,5 @@
 -- A group's values in Append are copied to Rewrite.
-use Rattle.std.specs.Prelude.{◌≡◌, ◌↔◌, IsTrue, ℕ, false, List, Some, map}
+use Rattle.std.specs.Prelude.{◌≡◌, ◌↔◌, IsTrue, ℕ, false, List, [], Some, map}
 use Rattle.raft_log_disk.specs.Causes.{IsLater}
 use Rattle.raft_log_base.specs.declared.errors.Error.{Error}
 use Rattle.raft_log_base.specs.declared.errors.Error.TheVariants as errors
@@ -9,7 +9,7 @@ use Rattle.raft_log_records.specs.Batch.{Batch}
 use Rattle.raft_log_held.specs.Listing.{ListsAll, appended_values}
 use Rattle.raft_log_purge_state.specs.raft_log_engine_state.specs.Shows.{Shows, has_failed}
 use Rattle.raft_log_rewriting.specs.Copies.{WritesCopies}
-use Rattle.raft_log_rewriting.specs.Marks.{AreNoMarks}
+use Rattle.raft_log_rewriting.specs.Owed.{AreNoMarks}
 use Rattle.raft_log_rewriting.specs.Moving.{MovesKeys}
 use Rattle.raft_log_rewriting.specs.Reasons.{GivesReason}
 use Rattle.raft_log_rewriting.specs.Rewriting.{StaysHeld, StaysOrIsLeft}
@@ -17,6 +17,7 @@ use Rattle.raft_log_rewriting.specs.Rewriting.{StaysHeld, StaysOrIsLeft}
 -- the batch is being filled, gives the group's keys these values, and is no part of an atomic group
 pub record IsKeysBatch (g : ℕ) (pairs : List (List ℕ × List ℕ)) (b : Batch) : Type 0 where
   pub state : b.state ≡ Filling
+  pub none : b.entries ≡ []
   pub items : b.items ≡ map (λ e. put_item g e.0 e.1) pairs
   pub plain : AreNoMarks b.items
 

@@ -1,3 +1,6 @@
+pub mod Owed
+pub mod Lengths
+pub mod Refusals
 pub mod Reasons
 pub mod Parts
 pub mod Syncing

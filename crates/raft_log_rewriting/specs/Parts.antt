@@ -26,13 +26,6 @@ pub record IsRefused (error : Error) (s t : Shows) : Type 0 where
   pub remains : (home : Home) (m : LogMap) → Holds home s m [] → Remains home m t error
   pub cause : GivesReason error s t
 
--- why a record isn't made: it would be too long, a key is one of the log's own, or memory is short
-abbrev pub IsUnmade : Error → Type 0
-IsUnmade errors.Full = Unit {0}
-IsUnmade errors.Memory = Unit {0}
-IsUnmade (errors.InvalidArgument text) = Unit {0}
-IsUnmade _ = ⊥
-
 -- the record of this batch was made: whichever file it is signed for, it says the batch
 pub record IsRecordMade (b made : Batch) : Type 0 where
   pub items : made.items ≡ b.items

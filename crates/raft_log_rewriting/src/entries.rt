@@ -4,10 +4,9 @@ ghost use Rattle.std.specs.Prelude.{◌≡◌, Some, map, nat_le, IfErr, IfOk};
 ghost use Rattle.raft_log_base.specs.declared.errors.Error.TheVariants as errors;
 ghost use Rattle.raft_log_held.specs.Counts.{passing};
 ghost use Rattle.raft_log_held.specs.Entries.{place_of};
-ghost use Rattle.raft_log_records.specs.Entries.{indexes_of, slices_bytes};
+ghost use Rattle.raft_log_records.specs.Entries.{IsEntriesRefusal, indexes_of, slices_bytes};
 ghost use Rattle.raft_log_replay.specs.Tables.{shown_of};
 ghost use Rattle.raft_log_rewriting.specs.Entries.{AreNext, IsRunBatch};
-ghost use Rattle.raft_log_rewriting.specs.Parts.{IsUnmade};
 
 use raft_log_base::{FileSeq, Result};
 use raft_log_items::{Bytes, EntryIndex, Message};
@@ -86,7 +85,7 @@ fn is_up_to(entry: &EntryIndex, gate: FileSeq) -> bool
 
 /// A batch of one run: a group's entries with these indexes and bytes.
 ///
-/// `Full`, `Memory`, or `InvalidArgument` where these indexes are no run.
+/// `Full` where the entries have too many bytes, `Memory`, or `InvalidArgument` where these indexes are no run.
 pub fn run_batch(
     alloc: Global,
     group: u64,
@@ -94,7 +93,8 @@ pub fn run_batch(
     read: &[EntryBytes],
 ) -> Result<LogBatch>
     ensures ok { IfOk result (IsRunBatch group (indexes_of entries.now) (map (λ e. e.bytes) read.now)) }
-    ensures errors { IfErr result IsUnmade }
+    ensures errors { IfErr result (λ error. IsEntriesRefusal error 0
+        (indexes_of entries.now) (map (λ e. e.bytes) read.now)) }
 {
     let mut batch = LogBatch::default(alloc)?;
     let slices = slices_of(alloc, read)?;

@@ -16,8 +16,8 @@ use std::alloc::{AllocError, Global};
 /// Takes the files of a queue below the least one that is in use out of its span, none from the limit on, and
 /// answers how many. No block is kept.
 ///
-/// `Memory`, or `InvalidArgument` where that file is none of the span's: nothing is done. `Failed`: a file
-/// wasn't deleted.
+/// `Memory`, or `InvalidArgument` where that file, the limit or one in use, is none of the span's: nothing is
+/// done. `Failed`: a file wasn't deleted.
 pub fn purge_stale<P: PipeLog, L: Log>(
     alloc: Global,
     rt: &L,
@@ -29,7 +29,7 @@ pub fn purge_stale<P: PipeLog, L: Log>(
 ) -> Result<usize>
     ensures ok { IfOk result (λ count. LosesFiles queue limit tables.now count
         (shows (P.shown pipes.old) tables.now cache.old) (shows (P.shown pipes.new) tables.now cache.new)) }
-    ensures err { IfErr result (λ error. FailsToLoseFiles queue error
+    ensures err { IfErr result (λ error. FailsToLoseFiles queue limit error
         (shows (P.shown pipes.old) tables.now cache.old) (shows (P.shown pipes.new) tables.now cache.new)) }
 {
     let seq = least_file(tables, queue, limit)?;

@@ -6,7 +6,7 @@ ghost use Rattle.raft_log_purge_state.specs.raft_log_engine_state.specs.Shows.{s
 ghost use Rattle.raft_log_held.specs.Listing.{ListsAll, appended_values};
 ghost use Rattle.raft_log_replay.specs.Tables.{IsAtRest, shown_of};
 ghost use Rattle.raft_log_rewriting.specs.Keys.{CopiesKeys, FailsToCopyKeys, IsKeysBatch};
-ghost use Rattle.raft_log_rewriting.specs.Parts.{IsUnmade};
+ghost use Rattle.raft_log_rewriting.specs.Refusals.{AreUnput};
 
 use crate::copies::write_copies;
 use log::Log;
@@ -62,7 +62,7 @@ fn next_keys(
 /// A batch that gives a group's keys these values.
 fn keys_batch(alloc: Global, group: u64, pairs: &[(Bytes, Bytes)]) -> Result<LogBatch>
     ensures ok { IfOk result (IsKeysBatch group pairs.now) }
-    ensures errors { IfErr result IsUnmade }
+    ensures errors { IfErr result (λ error. AreUnput pairs.now error) }
 {
     let mut batch = LogBatch::with_capacity(alloc, pairs.len())?;
     for pair in pairs {

@@ -1,14 +1,16 @@
 //! Marks that are owed to Rewrite are carried there: read from the tables, written, synced, and only then
 //! owed no more.
 
-ghost use Rattle.std.specs.Prelude.{◌≡◌, [], IfErr, IfOk, OnErr, OnOk};
+ghost use Rattle.std.specs.Prelude.{◌≡◌, ◌∷◌, [], IfErr, IfOk, OnErr, OnOk};
 ghost use Rattle.raft_log_atomic_groups.specs.Meaning.{tagged_items};
 ghost use Rattle.raft_log_purge_state.specs.raft_log_engine_state.specs.Shows.{shows};
 ghost use Rattle.raft_log_purge_state.specs.raft_log_blocks.specs.declared.block_cache.BlockCache.{BlockCache};
 ghost use Rattle.raft_log_records.specs.declared.log_batch.BatchState.TheVariants.{Filling};
 ghost use Rattle.raft_log_replay.specs.Tables.{shown_of, IsAtRest};
-ghost use Rattle.raft_log_rewriting.specs.Marks.{AddsSame, CarriesMarks, SaysMarks, SaysSame, WritesMarks};
-ghost use Rattle.raft_log_rewriting.specs.Parts.{IsRefused, IsUnmade};
+ghost use Rattle.raft_log_rewriting.specs.Marks.{CarriesMarks, WritesMarks};
+ghost use Rattle.raft_log_rewriting.specs.Owed.{AddsSame, SaysMarks, SaysSame};
+ghost use Rattle.raft_log_rewriting.specs.Parts.{IsRefused};
+ghost use Rattle.raft_log_rewriting.specs.Refusals.{AreMarksUnmade, AreUnmarked};
 
 use crate::record::record_of;
 use log::Log;
@@ -67,7 +69,7 @@ fn write_marks<P: PipeLog, L: Log>(
 /// A batch of the marks that are owed.
 fn marks_batch(alloc: Global, tables: &MemTables) -> Result<LogBatch>
     ensures ok { IfOk result (SaysMarks (shown_of tables.now)) }
-    ensures errors { IfErr result IsUnmade }
+    ensures errors { IfErr result (λ error. AreMarksUnmade (shown_of tables.now) error) }
 {
     let marks = tables.owed_marks()?;
     let mut batch = LogBatch::with_capacity(alloc, marks.len())?;
@@ -80,7 +82,8 @@ fn add_marks(alloc: Global, batch: &mut LogBatch, items: &[LogItem]) -> Result<(
     requires state { batch.old.state ≡ Filling }
     requires none { batch.old.items ≡ [] }
     ensures ok { OnOk result (SaysSame items.now batch.new) }
-    ensures errors { IfErr result IsUnmade }
+    ensures bare { OnOk result (batch.new.entries ≡ batch.old.entries) }
+    ensures errors { IfErr result (λ error. AreUnmarked items.now error) }
 {
     for item in items {
         add_mark(alloc, batch, item)?;
@@ -92,7 +95,7 @@ fn add_marks(alloc: Global, batch: &mut LogBatch, items: &[LogItem]) -> Result<(
 fn add_mark(alloc: Global, batch: &mut LogBatch, item: &LogItem) -> Result<()>
     requires { batch.old.state ≡ Filling }
     ensures ok { OnOk result (AddsSame batch.old batch.new item.now) }
-    ensures errors { IfErr result IsUnmade }
+    ensures errors { IfErr result (λ error. AreUnmarked (item.now ∷ []) error) }
 {
     match &item.content {
         LogItemContent::Command(command) => {

@@ -45,4 +45,5 @@ returns-in-Err-clause-err g c =
     let ends = subst (λ (f : FileId). EndsNumbersBelow (which_of f.queue) c.in-Err.error v) named e.range in
     let least = subst (λ (n : ℕ). IsLeastOf Append n c.args.tables.now c.in_ok-least.least) span.last c.in_ok-least.ensures in
     let is : c.max-seq.result ≡ max (c.args.gate + 1) c.in_ok-least.least = omega (arith, c.in-Some.ensures, c.max-seq.ensures) in
-    not_lost_to c.args.gate c.in_ok-least.least c.max-seq.result c.args.tables.now v c.args.cache.now least is w c.clear.new.self c.clear.ensures e.later {A = ℕ} c.in-Err.error e.fails call ends
+    let above : first_at InAppend v < c.max-seq.result = omega (arith, span.first, c.if-seq-first.false) in
+    not_lost_to c.args.gate c.in_ok-least.least c.max-seq.result c.args.tables.now v c.args.cache.now least is w c.clear.new.self c.clear.ensures e.later {A = ℕ} c.in-Err.error e.fails above call ends

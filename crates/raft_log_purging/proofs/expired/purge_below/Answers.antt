@@ -54,4 +54,5 @@ returns-in-Err-clause-err g c =
     let named : ◌≡◌ {A = FileId} c.new.result (record { queue = Append; seq = c.in_ok-least.least }) = ap₂ file_of c.new.ensures.queue c.new.ensures.seq in
     let call = subst (λ (f : FileId). FailsToPurgeQueue (which_of f.queue) f.seq c.in-Err.error v w) named e.err in
     let ends = subst (λ (f : FileId). EndsNumbersBelow (which_of f.queue) c.in-Err.error v) named e.range in
-    not_lost_below c.args.held c.in_ok-least.least c.args.tables.now v c.args.cache.now least w c.clear.new.self c.clear.ensures e.later {A = ℕ} c.in-Err.error e.fails call ends
+    let above : first_at InAppend v < c.in_ok-least.least = omega (arith, span.first, c.if-least-first.false) in
+    not_lost_below c.args.held c.in_ok-least.least c.args.tables.now v c.args.cache.now least w c.clear.new.self c.clear.ensures e.later {A = ℕ} c.in-Err.error e.fails above call ends

@@ -44,7 +44,7 @@ returns-in_err-batch-clause-err g c =
     let pushed : c.push.new.self.items ≡ c.in_ok-first.first ∷ [] = c.in_ok-push.ensures.items ∙ ap (λ (l : List RestatedPart). l ++ c.in_ok-first.first ∷ []) c.new-parts.ensures.items in
     rw (p.1, p.2)
     (λ stands.
-    c.in_err-batch.ensures.err c.write_middles.new.parts.items m s stands.entries
+    c.in_err-batch.ensures.err c.write_middles.new.parts.items m s stands.entries stands.keys
     (subst (λ (n : ℕ). HasParts c.args.group n c.in_ok-done.done c.write_middles.new.parts.items s two) (sym c.in_ok-done.ensures.same)
     (c.in_ok-done.ensures.ok m s stands.entries
     (subst (λ (l : List RestatedPart). HasParts c.args.group c.begin_parts.new.builder.id c.args.count l s one) (sym pushed)

@@ -2,8 +2,8 @@ use Rattle.std.proofs.Common.{◌≡◌, ◌+◌, ◌∙◌, ℕ, List, [], take
 use Rattle.std.proofs.lemmas.Result.{err_from_is_err_and}
 use Rattle.raft_log_atomic_groups.specs.declared.status.AtomicGroupStatus.TheVariants.{Begin}
 use Rattle.raft_log_rewriting.specs.raft_log_engine_state.specs.Shows.{shows}
-use Rattle.raft_log_restating.specs.Pieces.{BuildsPiece}
-use Rattle.raft_log_restating.proofs.Opening.{begin_stopped, begin_unmarked, begin_unread, built_piece, built_plain, bytes, err_map, marked_piece, ok_map, parts_begun}
+use Rattle.raft_log_restating.specs.Pieces.{BuildsPiece, FailsToBuild}
+use Rattle.raft_log_restating.proofs.Opening.{begin_stopped, begin_unmarked, begin_unread, built_made, built_piece, built_plain, bytes, err_map, marked_piece, ok_map, parts_begun}
 use Rattle.raft_log_restating.proofs.parts.begin_parts.Goals as goal
 
 pub begin-requires-clause-unmarked : goal.begin-requires-clause-unmarked
@@ -13,10 +13,14 @@ begin-requires-clause-unmarked g c =
 pub returns-in_err-batch-clause-err : goal.returns-in_err-batch-clause-err
 returns-in_err-batch-clause-err g c =
     let v = g.P.PipeLog.shown c.args.pipes.now in
+    let es = take c.args.count c.args.entries.now in
+    let error = c.in_err-batch.field-0.0 in
+    let none : c.as_slice.result.now ≡ [] = c.as_slice.ensures.value ∙ c.new-none.ensures.items in
+    let fails = subst (λ (l : List (List ℕ × List ℕ)). FailsToBuild es l v c.args.cache.now c.piece_of.new.cache error) none c.in_err-batch.ensures.err in
     let p = err_from_is_err_and c.from_residual.result c.from_residual.ensures.1 in
     rw (p.1, p.2)
     (λ m is.
-    begin_unread c.args.group c.args.count (shows v m c.args.cache.now) c.piece_of.new.cache c.args.entries.now (take c.args.count c.args.entries.now) is refl c.in_err-batch.field-0.0 c.in_err-batch.ensures.err)
+    begin_unread c.args.group c.args.count (shows v m c.args.cache.now) c.piece_of.new.cache c.args.entries.now es is refl [] (λ home log h. tt) error fails)
 
 pub returns-in_err-begin-clause-err : goal.returns-in_err-begin-clause-err
 returns-in_err-begin-clause-err g c =
@@ -39,7 +43,8 @@ returns-clause-ok g c =
     (λ part wrote m is.
     let s = shows v m c.args.cache.now in
     let marked = marked_piece c.args.group ((s.tables c.args.group).first + 0) c.args.builder.now.id Begin (bytes c.args.group es [] v c.args.cache.now new b built) [] b c.begin.new.batch c.args.builder.now c.begin.new.self
-    (built_piece c.args.group es [] v c.args.cache.now new b built (s.tables c.args.group) 0 c.args.count (ap (take c.args.count) is)) built.keys.state refl c.in_ok-begin.ensures.ok c.in_ok-begin.ensures.part in
+    (built_piece c.args.group es [] v c.args.cache.now new b built (s.tables c.args.group) 0 c.args.count (ap (take c.args.count) is))
+    (built_made c.args.group es [] v c.args.cache.now new b built (s.tables c.args.group) 0 c.args.count (ap (take c.args.count) is)) built.keys.state refl c.in_ok-begin.ensures.ok c.in_ok-begin.ensures.part in
     parts_begun c.args.group c.args.builder.now.id c.args.count s new all es is refl c.requires.few c.requires.some b c.begin.new.batch built marked (g.P.PipeLog.shown c.write_part.new.pipes) part wrote)
     c.write_part.ensures.ok
 
@@ -56,6 +61,7 @@ returns-clause-err g c =
     (λ error fails m is.
     let s = shows v m c.args.cache.now in
     let marked = marked_piece c.args.group ((s.tables c.args.group).first + 0) c.args.builder.now.id Begin (bytes c.args.group es [] v c.args.cache.now new b built) [] b c.begin.new.batch c.args.builder.now c.begin.new.self
-    (built_piece c.args.group es [] v c.args.cache.now new b built (s.tables c.args.group) 0 c.args.count (ap (take c.args.count) is)) built.keys.state refl c.in_ok-begin.ensures.ok c.in_ok-begin.ensures.part in
+    (built_piece c.args.group es [] v c.args.cache.now new b built (s.tables c.args.group) 0 c.args.count (ap (take c.args.count) is))
+    (built_made c.args.group es [] v c.args.cache.now new b built (s.tables c.args.group) 0 c.args.count (ap (take c.args.count) is)) built.keys.state refl c.in_ok-begin.ensures.ok c.in_ok-begin.ensures.part in
     begin_stopped c.args.group c.args.builder.now.id c.args.count s new all es is refl c.requires.few c.requires.some b c.begin.new.batch built marked error (g.P.PipeLog.shown c.write_part.new.pipes) fails)
     c.write_part.ensures.err

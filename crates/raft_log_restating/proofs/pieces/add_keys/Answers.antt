@@ -1,7 +1,8 @@
 use Rattle.std.proofs.Common.{◌≡◌, ℕ, false, List, subst, arith}
 use Rattle.raft_log_atomic_groups.specs.Key.{is_internal}
 use Rattle.raft_log_records.specs.Batch.{Puts}
-use Rattle.raft_log_rewriting.proofs.KeysCopied.{is_users}
+use Rattle.std.proofs.lemmas.Result.{err_from_is_err_and}
+use Rattle.raft_log_rewriting.proofs.KeysCopied.{is_users, key_unput}
 use Rattle.raft_log_restating.proofs.Building.{all_keys, key_more, no_keys}
 use Rattle.raft_log_restating.proofs.pieces.add_keys.Goals as goal
 
@@ -19,3 +20,9 @@ loop-pair-preserved c =
 
 pub returns-clause-ok : goal.returns-clause-ok
 returns-clause-ok c = all_keys c.args.group c.args.pairs.now c.loop-pair.pair-index c.args.batch.now c.loop-pair.batch (omega (arith, c.loop-pair-test.false)) c.loop-pair.invariant
+
+pub returns-in_err-put-clause-errors : goal.returns-in_err-put-clause-errors
+returns-in_err-put-clause-errors c =
+    let p = err_from_is_err_and c.from_residual.result c.from_residual.ensures.1 in
+    rw (p.1, p.2)
+    (key_unput c.args.pairs.now c.loop-pair.pair-index c.pair-item.result c.pair-item.result c.as_slice.result.now c.in_err-put.field-0.0 c.loop-pair-test.true c.pair-item.is c.as_slice.ensures c.in_err-put.ensures.errors)

@@ -31,7 +31,7 @@ returns-in_err-purge_stale-clause-err g c =
     let t = shows (g.P.PipeLog.shown c.purge_stale.new.pipes) m c.purge_stale.new.cache in
     let p = err_from_is_err_and c.from_residual-in_err-purge_stale.result c.from_residual-in_err-purge_stale.ensures.1 in
     rw (p.1, p.2)
-    (not_lost s turned e.ok e.later (alive_ok c.in_ok-rotate.field-0 turned e.fails) restated c.in_ok-restate_all.ensures.ok c.in_err-purge_stale.field-0.0 t refl c.in_err-purge_stale.ensures.err)
+    (not_lost s turned e.ok e.later (alive_ok c.in_ok-rotate.field-0 turned e.fails) restated c.in_ok-restate_all.ensures.ok _ c.in_err-purge_stale.field-0.0 t c.file_span-first.ensures.last refl c.in_err-purge_stale.ensures.err)
 
 pub returns-clause-ok : goal.returns-clause-ok
 returns-clause-ok g c =

@@ -1,22 +1,20 @@
-use Rattle.std.proofs.Common.{Some, refl, sym, subst}
+use Rattle.std.proofs.Common.{Some, inl, refl}
 use Rattle.std.proofs.lemmas.Result.{err_from_is_err_and}
-use Rattle.raft_log_rewriting.specs.Parts.{IsUnmade}
 use Rattle.raft_log_rewriting.proofs.Copying.{copied_then, not_copied, refused_then}
-use Rattle.raft_log_rewriting.proofs.Reasons.{memory_or_full_unmade}
 use Rattle.raft_log_rewriting.proofs.copies.write_batch.Goals as goal
 
 pub returns-in_err-len-clause-err : goal.returns-in_err-len-clause-err
 returns-in_err-len-clause-err g c =
     let p = err_from_is_err_and c.from_residual.result c.from_residual.ensures.1 in
     rw (p.1, p.2) (λ cache.
-    not_copied (Some c.args.gate) c.args.batch c.in_err-len.field-0.0 (g.P.PipeLog.shown c.args.pipes.now) c.args.tables.now c.args.tables.now cache (memory_or_full_unmade c.in_err-len.field-0.0 _ c.in_err-len.ensures.errors)
+    not_copied (Some c.args.gate) c.args.batch c.in_err-len.field-0.0 (g.P.PipeLog.shown c.args.pipes.now) c.args.tables.now c.args.tables.now cache c.in_err-len.ensures.errors
     (record { shown = λ g. refl; counts = λ g. refl }))
 
 pub returns-in_err-prepare_rewrite-clause-err : goal.returns-in_err-prepare_rewrite-clause-err
 returns-in_err-prepare_rewrite-clause-err g c =
     let p = err_from_is_err_and c.from_residual-in_err-prepare_rewrite.result c.from_residual-in_err-prepare_rewrite.ensures.1 in
     rw p.1 (λ cache.
-    not_copied (Some c.args.gate) c.args.batch p.0 (g.P.PipeLog.shown c.args.pipes.now) c.args.tables.now c.prepare_rewrite.new.self cache (subst IsUnmade (sym p.2) tt) c.prepare_rewrite.ensures.shows)
+    not_copied (Some c.args.gate) c.args.batch p.0 (g.P.PipeLog.shown c.args.pipes.now) c.args.tables.now c.prepare_rewrite.new.self cache (inl p.2) c.prepare_rewrite.ensures.shows)
 
 pub returns-clause-ok : goal.returns-clause-ok
 returns-clause-ok g c =

@@ -5,17 +5,25 @@ use Rattle.raft_log_base.specs.declared.pipe_log.FileBlockHandle.{FileBlockHandl
 use Rattle.raft_log_purge_state.specs.raft_log_engine_state.specs.Shows.{shows}
 use Rattle.raft_log_replay.specs.Tables.{counts, shown_of}
 use Rattle.raft_log_rewriting.proofs.Parts.{marks_are_refused, marks_are_written, no_marks, refused_unmade}
+use Rattle.raft_log_rewriting.proofs.Reasons.{mark_reason, marks_are_unmade, marks_long_reason, memory_or_full_unmade}
 use Rattle.raft_log_rewriting.proofs.marks.write_marks.Goals as goal
 
 pub returns-in_err-batch-clause-err : goal.returns-in_err-batch-clause-err
 returns-in_err-batch-clause-err g c =
     let p = err_from_is_err_and c.from_residual.result c.from_residual.ensures.1 in
-    rw (p.1, p.2) (λ cache. refused_unmade c.in_err-batch.field-0.0 (shows (g.P.PipeLog.shown c.args.pipes.now) c.args.tables.now cache) c.in_err-batch.ensures.errors)
+    rw (p.1, p.2) (λ cache.
+    let s = shows (g.P.PipeLog.shown c.args.pipes.now) c.args.tables.now cache in
+    let error = c.in_err-batch.field-0.0 in
+    refused_unmade error s (marks_are_unmade error s.tables c.in_err-batch.ensures.errors) (λ home m h. mark_reason home m error s s c.in_err-batch.ensures.errors))
 
 pub returns-in_err-signed-clause-err : goal.returns-in_err-signed-clause-err
 returns-in_err-signed-clause-err g c =
     let p = err_from_is_err_and c.from_residual-in_err-signed.result c.from_residual-in_err-signed.ensures.1 in
-    rw (p.1, p.2) (λ cache. refused_unmade c.in_err-signed.field-0.0 (shows (g.P.PipeLog.shown c.args.pipes.now) c.args.tables.now cache) c.in_err-signed.ensures.errors)
+    rw (p.1, p.2) (λ cache.
+    let s = shows (g.P.PipeLog.shown c.args.pipes.now) c.args.tables.now cache in
+    let error = c.in_err-signed.field-0.0 in
+    refused_unmade error s (memory_or_full_unmade error _ c.in_err-signed.ensures.errors)
+    (λ home m h. marks_long_reason home m error s s c.in_ok-batch.batch c.in_ok-batch.ensures.ok c.in_err-signed.ensures.errors))
 
 pub returns-then-is_empty-clause-ok : goal.returns-then-is_empty-clause-ok
 returns-then-is_empty-clause-ok g c =

@@ -2,20 +2,19 @@ use Rattle.std.proofs.Common.{◌≡◌, List, [], length, map, sym, ap, subst, 
 use Rattle.std.proofs.lemmas.Bool.{eqb-false}
 use Rattle.std.proofs.lemmas.Result.{err_from_is_err_and}
 use Rattle.raft_log_items.specs.declared.entry.EntryIndex.{EntryIndex}
-use Rattle.raft_log_records.specs.Entries.{indexes_of}
+use Rattle.raft_log_records.specs.Entries.{IsEntriesRefusal, indexes_of}
 use Rattle.raft_log_purge_state.specs.raft_log_blocks.specs.Blocks.{AreUnread, ReadsEntries}
 use Rattle.raft_log_purge_state.specs.raft_log_engine_state.specs.Shows.{shows}
 use Rattle.raft_log_rewriting.specs.declared.entries.EntryBytes.{EntryBytes}
 use Rattle.raft_log_rewriting.specs.Entries.{IsRunBatch, as_bytes}
-use Rattle.raft_log_rewriting.proofs.Reading.{entries_copied, entries_not_copied, none_read, none_written, read_is_held}
-use Rattle.raft_log_rewriting.proofs.Reasons.{memory_unmade}
+use Rattle.raft_log_rewriting.proofs.Reading.{entries_copied, entries_not_copied, none_read, none_written, unbuilt}
 use Rattle.raft_log_rewriting.proofs.rewriting.copy_entries.Goals as goal
 
 pub returns-in_err-entries-clause-err : goal.returns-in_err-entries-clause-err
 returns-in_err-entries-clause-err g c =
     let s = shows (g.P.PipeLog.shown c.args.pipes.now) c.args.tables.now c.args.cache.now in
     let p = err_from_is_err_and c.from_residual.result c.from_residual.ensures.1 in
-    rw (p.1, p.2) (none_written c.in_err-entries.field-0.0 s c.args.cache.now (memory_unmade c.in_err-entries.field-0.0 c.in_err-entries.ensures.errors) (λ home m h. h))
+    rw (p.1, p.2) (none_written c.in_err-entries.field-0.0 s c.in_err-entries.ensures.errors)
 
 pub returns-in_err-read-clause-err : goal.returns-in_err-read-clause-err
 returns-in_err-read-clause-err g c =
@@ -36,9 +35,12 @@ returns-in_err-batch-clause-err g c =
     let new = c.read_entries.new.self in
     let xs = c.in_ok-read.read.items in
     let reads = subst (λ (l : List EntryIndex). ReadsEntries as_bytes v l c.args.cache.now new xs) c.as_slice.ensures.value c.in_ok-read.ensures.ok in
-    let errors = c.in_err-batch.ensures.errors in
+    let error = c.in_err-batch.field-0.0 in
+    let why : IsEntriesRefusal error 0 (indexes_of es) (map (λ e. e.bytes) xs) =
+    subst (λ (l : List EntryBytes). IsEntriesRefusal error 0 (indexes_of es) (map (λ e. e.bytes) l)) c.as_slice-3.ensures.value
+    (subst (λ (l : List EntryIndex). IsEntriesRefusal error 0 (indexes_of l) (map (λ e. e.bytes) c.as_slice-3.result.now)) c.as_slice-2.ensures.value c.in_err-batch.ensures.errors) in
     let p = err_from_is_err_and c.from_residual-in_err-batch.result c.from_residual-in_err-batch.ensures.1 in
-    rw (p.1, p.2) (none_written c.in_err-batch.field-0.0 s new errors (λ home m h. (read_is_held s c.args.group c.args.gate es c.in_ok-entries.ensures.ok new home m h xs reads).0))
+    rw (p.1, p.2) (unbuilt s c.args.group c.args.gate es c.in_ok-entries.ensures.ok new error xs reads why)
 
 pub returns-in_err-write_copies-clause-err : goal.returns-in_err-write_copies-clause-err
 returns-in_err-write_copies-clause-err g c =

@@ -26,4 +26,4 @@ returns-clause-err g c =
     let v = g.P.PipeLog.shown c.args.pipes.now in
     let mid = g.P.PipeLog.shown c.rotate.new.self in
     let w = g.P.PipeLog.shown c.purge_stale.new.pipes in
-    unturned c.args.queue (shows v c.args.tables.now c.args.cache.now) (shows w c.args.tables.now c.purge_stale.new.cache) mid (alive_ok c.in_ok-rotate.field-0 mid e.fails) e.ok e.later c.purge_stale.result c.purge_stale.ensures.err
+    unturned c.args.queue _ (shows v c.args.tables.now c.args.cache.now) (shows w c.args.tables.now c.purge_stale.new.cache) mid c.file_span-first.ensures.last (alive_ok c.in_ok-rotate.field-0 mid e.fails) e.ok e.later c.purge_stale.result c.purge_stale.ensures.err

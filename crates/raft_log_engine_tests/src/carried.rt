@@ -1,61 +1,56 @@
 //! Tests of the Rust crate's engine, under their names.
-use super::store::{Store, fresh};
-use log::Log;
-use raft_log_base::Result;
-use raft_log_dual_pipes::PipeLog;
+use super::steps::End::So;
+use super::steps::Step::{IsEmpty, Put, ScanEnds, ScanNumbers, Write};
+use super::steps::{End, Step, played};
 use std::test::Fail;
 
-/// Whether three keys are called back with, and none of their values as a number.
-fn raw_keys_are_scanned<P: PipeLog>(store: &Store<P>) -> Result<bool> {
-    let up = (store.scan_ends(false, false)? == 0x313233)
-        & (store.scan_ends(false, true)? == 0x313233);
-    let down = (store.scan_ends(true, false)? == 0x333231)
-        & (store.scan_ends(true, true)? == 0x333231);
-    Ok(up & down & (store.scan_numbers(None, false, 0)? == 0))
-}
-
-/// Whether keys are scanned as bytes, and those with numbers as numbers too.
-fn keys_are_scanned<L: Log, P: PipeLog>(rt: &L, store: &mut Store<P>) -> Result<bool> {
-    let none = store.scan_numbers(None, false, 0)? == 0;
-    store.put(b"k1", b"v1")?;
-    store.put(b"k2", b"v2")?;
-    store.put(b"k3", b"v3")?;
-    store.write(rt, false)?;
-    let raw = raw_keys_are_scanned(store)?;
-    store.put(b"k22", &[22, 0, 0, 0])?;
-    store.put(b"k33", &[33, 0, 0, 0])?;
-    store.write(rt, false)?;
-    let up = store.scan_numbers(None, false, 22)? == 22;
-    Ok(none & raw & up & (store.scan_numbers(None, true, 33)? == 33))
-}
-
-/// Whether a batch is empty behind each of two writes, before which a key is put or not.
-fn stays_empty<L: Log, P: PipeLog>(
-    rt: &L,
-    store: &mut Store<P>,
-    (first, second): (bool, bool),
-) -> Result<bool> {
-    let mut empty = true;
-    for put in [first, second] {
-        if put {
-            store.put(b"key", b"xxxxxxxxxxxxxxxx")?;
-        }
-        store.write(rt, true)?;
-        empty = empty & store.is_empty();
-    }
-    Ok(empty)
-}
+/// Keys are scanned as bytes, and those with numbers as numbers too.
+const SCANNED: [(Step, End); 15] = [
+    (ScanNumbers(None, false, 0, 0), So),
+    (Put(b"k1", b"v1"), So),
+    (Put(b"k2", b"v2"), So),
+    (Put(b"k3", b"v3"), So),
+    (Write(false, true), So),
+    (ScanEnds(false, false, 0x313233), So),
+    (ScanEnds(false, true, 0x313233), So),
+    (ScanEnds(true, false, 0x333231), So),
+    (ScanEnds(true, true, 0x333231), So),
+    (ScanNumbers(None, false, 0, 0), So),
+    (Put(b"k22", &[22, 0, 0, 0]), So),
+    (Put(b"k33", &[33, 0, 0, 0]), So),
+    (Write(false, true), So),
+    (ScanNumbers(None, false, 22, 22), So),
+    (ScanNumbers(None, true, 33, 33), So),
+];
 
 #[test]
-fn test_key_value_scan(rt: HostRuntime) -> std::result::Result<(), Fail> {
-    assert!(rt; keys_are_scanned(&rt, &mut fresh(&rt, 0)?)?);
+fn test_key_value_scan(rt: HostRuntime) -> Result<(), Fail> {
+    assert!(rt; played(&rt, 0, &SCANNED)? == 15);
     Ok(())
 }
 
+/// A key is put.
+const PUT: (Step, End) = (Put(b"key", b"xxxxxxxxxxxxxxxx"), So);
+
+/// A batch is written that has some bytes, and one that has none.
+const SOME: (Step, End) = (Write(true, true), So);
+
+const NOTHING: (Step, End) = (Write(true, false), So);
+
+/// The batch is empty.
+const EMPTY: (Step, End) = (IsEmpty(true), So);
+
+/// A batch is empty behind each of two writes, before which a key is put or not.
+const WRITTEN: [&[(Step, End)]; 3] = [
+    &[NOTHING, EMPTY, NOTHING, EMPTY],
+    &[NOTHING, EMPTY, PUT, SOME, EMPTY],
+    &[PUT, SOME, EMPTY, PUT, SOME, EMPTY],
+];
+
 #[test]
-fn test_empty_batch(rt: HostRuntime) -> std::result::Result<(), Fail> {
-    assert!(rt; stays_empty(&rt, &mut fresh(&rt, 0)?, (false, false))?);
-    assert!(rt; stays_empty(&rt, &mut fresh(&rt, 0)?, (false, true))?);
-    assert!(rt; stays_empty(&rt, &mut fresh(&rt, 0)?, (true, true))?);
+fn test_empty_batch(rt: HostRuntime) -> Result<(), Fail> {
+    for steps in WRITTEN.iter() {
+        assert!(rt; played(&rt, 0, steps)? == steps.len());
+    }
     Ok(())
 }

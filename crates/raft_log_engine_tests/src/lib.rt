@@ -1,4 +1,5 @@
-//! Tests of the engine over both pipes of a log, on a file system in memory.
+//! Tests of the engine over both pipes of a log, on a file system in memory: each is a list of steps, and of how they
+//! end.
 #![tactic(auto)]
 
 #[cfg(test)]
@@ -7,6 +8,8 @@ mod carried;
 mod counts;
 #[cfg(test)]
 mod reads;
+#[cfg(test)]
+mod steps;
 #[cfg(test)]
 mod store;
 #[cfg(test)]

@@ -1,155 +1,126 @@
 //! What is read through an engine, and what is refused.
-use super::counts::Count;
-use super::store::{Store, fresh};
-use log::Log;
-use raft_log_base::{Error, Result};
-use raft_log_dual_pipes::PipeLog;
+use super::steps::End::{Compacted, Failed, NoMessage, NotFound, So};
+use super::steps::Step::{
+    Add, Compact, Ends, Entry, Fetch, Files, Groups, HasNone, Message, Put, Scan, ScanNumbers,
+    Write,
+};
+use super::steps::{End, Step, played, played_behind};
 use std::test::Fail;
 
-/// Writes the numbers 1, 2, 1, 2 as entries 1 to 4 of group 7, and four keys, of which the last has no number.
-fn fill<L: Log, P: PipeLog>(rt: &L, store: &mut Store<P>) -> Result<()> {
-    store.add(1)?;
-    store.put(b"b", &[6, 0, 0, 0])?;
-    store.write(rt, false)?;
-    store.add(3)?;
-    store.put(b"a", &[5, 0, 0, 0])?;
-    store.put(b"c", &[7, 0, 0, 0])?;
-    store.put(b"d", b"no number")?;
-    store.write(rt, true)?;
-    Ok(())
-}
-
-/// Whether entries are read.
-fn entries_are_read<P: PipeLog>(store: &mut Store<P>) -> Result<bool> {
-    let first = store.entry(1)? == Some(Count { count: 1 });
-    let last = store.entry(4)? == Some(Count { count: 2 });
-    let none = store.entry(5)?.is_none() & store.entry(0)?.is_none();
-    Ok(first & last & none)
-}
-
-/// Whether entries are fetched, as many as a size lets come.
-fn entries_are_fetched<P: PipeLog>(store: &mut Store<P>) -> Result<bool> {
-    let all = store.fetch(1, 5, None)? == (4, 6);
-    let first = store.fetch(2, 5, Some(0))? == (1, 2);
-    let two = store.fetch(1, 5, Some(8))? == (2, 3);
-    let none = store.fetch(9, 9, None)? == (0, 0);
-    Ok(all & first & two & none)
-}
-
-/// Whether a fetch of entries that aren't there is refused.
-fn fetches_are_refused<L: Log, P: PipeLog>(rt: &L, store: &mut Store<P>) -> Result<bool> {
-    let past = matches!(store.fetch(1, 6, None), Err(Error::EntryNotFound));
-    let gone = store.compact(rt, 7, 3)? == 2;
-    let below = matches!(store.fetch(2, 4, None), Err(Error::EntryCompacted));
-    Ok(past & gone & below & (store.ends()? == (Some(3), Some(4))))
-}
-
-/// Whether as many entries go as there are.
-fn as_many_go_as_there_are<L: Log, P: PipeLog>(rt: &L, store: &mut Store<P>) -> Result<bool> {
-    let none = store.compact(rt, 7, 0)? == 0;
-    let all = store.compact(rt, 7, 100)? == 4;
-    let again = store.compact(rt, 7, 100)? == 0;
-    let other = store.compact(rt, 8, 100)? == 0;
-    Ok(none & all & again & other & (store.ends()? == (None, None)) & (store.groups()? == 1))
-}
-
-/// Whether messages are read, and a value that is none is refused.
-fn messages_are_read<P: PipeLog>(store: &mut Store<P>) -> Result<bool> {
-    let some = store.message(b"a")? == Some(Count { count: 5 });
-    let none = store.message(b"z")?.is_none();
-    let wrong = matches!(store.message(b"d"), Err(Error::Message(_)));
-    Ok(some & none & wrong)
-}
-
-/// Whether keys are scanned in their order and backwards, within bounds, up to a call that answers false.
-fn keys_are_scanned<P: PipeLog>(store: &mut Store<P>) -> Result<bool> {
-    let up = store.scan(None, None, false, 0)? == 0x61626364;
-    let down = store.scan(None, None, true, b'c')? == 0x6463;
-    let within = store.scan(Some(b"b"), Some(b"d"), false, 0)? == 0x6263;
-    let none = store.scan(Some(b"c"), Some(b"b"), true, 0)? == 0;
-    Ok(up & down & within & none)
-}
-
-/// Whether values are scanned as messages, where they are some.
-fn numbers_are_scanned<P: PipeLog>(store: &mut Store<P>) -> Result<bool> {
-    let up = store.scan_numbers(None, false, 0)? == 567;
-    let down = store.scan_numbers(None, true, 6)? == 76;
-    let within = store.scan_numbers(Some(b"b"), false, 0)? == 67;
-    Ok(up & down & within)
-}
-
-/// Whether the log's files and groups are told.
-fn the_whole_is_told<P: PipeLog>(store: &mut Store<P>) -> Result<bool> {
-    let ((first, last), size) = store.size()?;
-    Ok((first == 1) & (last >= first) & (size > 0) & !store.has_none()?)
-}
-
-/// Whether an engine that has failed reads nothing.
-fn a_failed_engine_reads_nothing<L: Log, P: PipeLog>(rt: &L, store: &mut Store<P>) -> bool {
-    matches!(store.entry(1), Err(Error::Failed))
-        & matches!(store.fetch(9, 9, None), Err(Error::Failed))
-        & matches!(store.message(b"a"), Err(Error::Failed))
-        & matches!(store.scan(None, None, false, 0), Err(Error::Failed))
-        & matches!(store.scan_numbers(None, false, 0), Err(Error::Failed))
-        & matches!(store.compact(rt, 8, 1), Err(Error::Failed))
-        & matches!(store.has_none(), Err(Error::Failed))
-        & matches!(store.groups(), Err(Error::Failed))
-        & matches!(store.size(), Err(Error::Failed))
-}
-
-/// What holds of an engine that was written, by its number.
-const HOLDS: [&str; 8] = [
-    "entries are read",
-    "entries are fetched",
-    "fetches are refused",
-    "as many go as there are",
-    "messages are read",
-    "keys are scanned",
-    "numbers are scanned",
-    "the whole is told",
+/// The numbers 1, 2, 1, 2 come as entries 1 to 4 of group 7, and four keys, of which the last has no number.
+const FILL: [(Step, End); 8] = [
+    (Add(1), So),
+    (Put(b"b", &[6, 0, 0, 0]), So),
+    (Write(false, true), So),
+    (Add(3), So),
+    (Put(b"a", &[5, 0, 0, 0]), So),
+    (Put(b"c", &[7, 0, 0, 0]), So),
+    (Put(b"d", b"no number"), So),
+    (Write(true, true), So),
 ];
 
-/// Whether it holds.
-fn holds<L: Log, P: PipeLog>(rt: &L, store: &mut Store<P>, number: usize) -> Result<bool> {
-    fill(rt, store)?;
-    match number {
-        0 => entries_are_read(store),
-        1 => entries_are_fetched(store),
-        2 => fetches_are_refused(rt, store),
-        3 => as_many_go_as_there_are(rt, store),
-        4 => messages_are_read(store),
-        5 => keys_are_scanned(store),
-        6 => numbers_are_scanned(store),
-        _ => the_whole_is_told(store),
-    }
-}
+/// What holds of an engine behind that.
+const HOLDS: [(&str, &[(Step, End)]); 8] = [
+    (
+        "entries are read",
+        &[
+            (Entry(1, Some(1)), So),
+            (Entry(4, Some(2)), So),
+            (Entry(5, None), So),
+            (Entry(0, None), So),
+        ],
+    ),
+    (
+        "entries are fetched, as many as a size lets come",
+        &[
+            (Fetch(1, 5, None, (4, 6)), So),
+            (Fetch(2, 5, Some(0), (1, 2)), So),
+            (Fetch(1, 5, Some(8), (2, 3)), So),
+            (Fetch(9, 9, None, (0, 0)), So),
+        ],
+    ),
+    (
+        "fetches of entries that aren't there are refused",
+        &[
+            (Fetch(1, 6, None, (0, 0)), NotFound),
+            (Compact(7, 3, 2), So),
+            (Fetch(2, 4, None, (0, 0)), Compacted),
+            (Ends(Some(3), Some(4)), So),
+        ],
+    ),
+    (
+        "as many entries go as there are",
+        &[
+            (Compact(7, 0, 0), So),
+            (Compact(7, 100, 4), So),
+            (Compact(7, 100, 0), So),
+            (Compact(8, 100, 0), So),
+            (Ends(None, None), So),
+            (Groups(1), So),
+        ],
+    ),
+    (
+        "messages are read, and a value that is none is refused",
+        &[
+            (Message(b"a", Some(5)), So),
+            (Message(b"z", None), So),
+            (Message(b"d", None), NoMessage),
+        ],
+    ),
+    (
+        "keys are scanned in their order and backwards, within bounds, up to a call that answers false",
+        &[
+            (Scan(None, None, false, 0, 0x61626364), So),
+            (Scan(None, None, true, b'c', 0x6463), So),
+            (Scan(Some(b"b"), Some(b"d"), false, 0, 0x6263), So),
+            (Scan(Some(b"c"), Some(b"b"), true, 0, 0), So),
+        ],
+    ),
+    (
+        "values are scanned as messages, where they are some",
+        &[
+            (ScanNumbers(None, false, 0, 567), So),
+            (ScanNumbers(None, true, 6, 76), So),
+            (ScanNumbers(Some(b"b"), false, 0, 67), So),
+        ],
+    ),
+    (
+        "the log's files and groups are told",
+        &[(Files, So), (HasNone(false), So)],
+    ),
+];
 
 #[test]
-fn what_was_written_is_read(rt: HostRuntime) -> std::result::Result<(), Fail> {
-    for (number, what) in HOLDS.iter().enumerate() {
-        assert!(rt;
-            holds(&rt, &mut fresh(&rt, 0)?, number).ok() == Some(true),
-            "{what}"
-        );
+fn what_was_written_is_read(rt: HostRuntime) -> Result<(), Fail> {
+    for (what, steps) in HOLDS.iter() {
+        assert!(rt; played_behind(&rt, &FILL, steps)? == steps.len(), "{what}");
     }
     Ok(())
 }
 
 #[test]
-fn a_fresh_engine_is_empty(rt: HostRuntime) -> std::result::Result<(), Fail> {
-    assert!(rt; fresh(&rt, 0)?.has_none()?);
+fn a_fresh_engine_is_empty(rt: HostRuntime) -> Result<(), Fail> {
+    assert!(rt; played(&rt, 0, &[(HasNone(true), So)])? == 1);
     Ok(())
 }
 
-/// Whether an engine whose sync fails reads nothing then.
-fn fails_and_reads_nothing<L: Log, P: PipeLog>(rt: &L, store: &mut Store<P>) -> Result<bool> {
-    store.add(1)?;
-    let failed = matches!(store.write(rt, true), Err(Error::Failed));
-    Ok(failed & a_failed_engine_reads_nothing(rt, store))
-}
+/// An engine whose sync fails reads nothing then.
+const NOT_SYNCED: [(Step, End); 11] = [
+    (Add(1), So),
+    (Write(true, true), Failed),
+    (Entry(1, None), Failed),
+    (Fetch(9, 9, None, (0, 0)), Failed),
+    (Message(b"a", None), Failed),
+    (Scan(None, None, false, 0, 0), Failed),
+    (ScanNumbers(None, false, 0, 0), Failed),
+    (Compact(8, 1, 0), Failed),
+    (HasNone(true), Failed),
+    (Groups(0), Failed),
+    (Files, Failed),
+];
 
 #[test]
-fn nothing_is_read_of_a_failed_engine(rt: HostRuntime) -> std::result::Result<(), Fail> {
-    assert!(rt; fails_and_reads_nothing(&rt, &mut fresh(&rt, 3)?)?);
+fn nothing_is_read_of_a_failed_engine(rt: HostRuntime) -> Result<(), Fail> {
+    assert!(rt; played(&rt, 3, &NOT_SYNCED)? == 11);
     Ok(())
 }

@@ -1,4 +1,7 @@
 //! An engine over a fresh log in memory, behind calls without contracts.
+ghost use Rattle.std.specs.Prelude.{◌≡◌};
+ghost use Rattle.raft_log_records.specs.declared.log_batch.BatchState.TheVariants.{Filling};
+
 use super::counts::{Count, Counts};
 use log::Log;
 use raft_log_base::{Error, LogQueue, Result, Version};
@@ -74,33 +77,51 @@ pub fn fresh(
     })
 }
 
+/// Adds the numbers 1 and 2 as entries of group 7 to a batch, from an index on.
+fn add_pair(alloc: Global, batch: &mut LogBatch, index: u64) -> Result<()>
+    requires { batch.old.state ≡ Filling }
+{
+    let indexes = [
+        EntryIndex::unplaced(index, 4),
+        EntryIndex::unplaced(index.saturating_add(1), 4),
+    ];
+    let entries: [&[u8]; 2] = [&[1, 0, 0, 0], &[2, 0, 0, 0]];
+    batch.add_raw_entries(alloc, 7, &indexes, &entries)
+}
+
+/// How many numbers there are, and their sum.
+fn summed(counts: &[Count]) -> (usize, u32) {
+    let sum = counts
+        .iter()
+        .fold(0u32, |sum, found| sum.wrapping_add(found.count));
+    (counts.len(), sum)
+}
+
 impl<P: PipeLog> Store<P> {
     /// Adds the numbers 1 and 2 as entries of group 7, from an index on; nothing to a batch whose record is made.
-    pub fn add(&mut self, index: u64) -> Result<()> {
-        let indexes = [
-            EntryIndex::unplaced(index, 4),
-            EntryIndex::unplaced(index.saturating_add(1), 4),
-        ];
-        let entries: [&[u8]; 2] = [&[1, 0, 0, 0], &[2, 0, 0, 0]];
+    pub fn add(&mut self, index: u64) -> Result<bool> {
         match self.batch.state() {
-            BatchState::Filling => self
-                .batch
-                .add_raw_entries(self.alloc, 7, &indexes, &entries),
-            _ => Err(Error::Full),
+            BatchState::Filling => add_pair(self.alloc, &mut self.batch, index)?,
+            _ => return Err(Error::Full),
         }
+        Ok(true)
     }
 
     /// Adds a key of group 7, unless the record of the batch is made.
-    pub fn put(&mut self, key: &[u8], value: &[u8]) -> Result<()> {
+    pub fn put(&mut self, key: &[u8], value: &[u8]) -> Result<bool> {
         match self.batch.state() {
-            BatchState::Filling => self.batch.put(self.alloc, 7, key, value),
-            _ => Err(Error::Full),
+            BatchState::Filling => self.batch.put(self.alloc, 7, key, value)?,
+            _ => return Err(Error::Full),
         }
+        Ok(true)
     }
 
-    /// Writes what was added.
-    pub fn write<L: Log>(&mut self, rt: &L, sync: bool) -> Result<usize> {
-        self.engine.write(rt, &mut self.batch, sync)
+    /// Writes what was added: whether that are some bytes, or none.
+    pub fn write<L: Log>(&mut self, rt: &L, sync: bool, some: bool) -> Result<bool> {
+        match self.engine.write(rt, &mut self.batch, sync) {
+            Ok(len) => Ok((len > 0) == some),
+            Err(error) => Err(error),
+        }
     }
 
     /// Whether nothing is to be written.
@@ -113,22 +134,26 @@ impl<P: PipeLog> Store<P> {
         self.engine.is_failed()
     }
 
-    /// The first and the last index of group 7.
-    pub fn ends(&self) -> Result<(Option<u64>, Option<u64>)> {
-        Ok((self.engine.first_index(7)?, self.engine.last_index(7)?))
+    /// Whether these are the first and the last index of group 7.
+    pub fn has_ends(&self, first: Option<u64>, last: Option<u64>) -> Result<bool> {
+        Ok((self.engine.first_index(7)? == first) & (self.engine.last_index(7)? == last))
     }
 
     /// Whether a key of group 7 has this value.
     pub fn has(&self, key: &[u8], value: &[u8]) -> Result<bool> {
-        let Some(found) = self.engine.get(7, key)? else {
-            return Ok(false);
-        };
-        Ok(found.as_slice() == value)
+        match self.engine.get(7, key) {
+            Ok(Some(found)) => Ok(found.as_slice() == value),
+            Ok(None) => Ok(false),
+            Err(error) => Err(error),
+        }
     }
 
-    /// How many groups there are.
-    pub fn groups(&self) -> Result<usize> {
-        Ok(self.engine.raft_groups()?.len())
+    /// Whether there are so many groups.
+    pub fn has_groups(&self, count: usize) -> Result<bool> {
+        match self.engine.raft_groups() {
+            Ok(groups) => Ok(groups.len() == count),
+            Err(error) => Err(error),
+        }
     }
 
     /// Whether there is no group.
@@ -136,36 +161,48 @@ impl<P: PipeLog> Store<P> {
         self.engine.is_empty()
     }
 
-    /// The entry of group 7 at an index.
-    pub fn entry(&mut self, index: u64) -> Result<Option<Count>> {
-        self.engine.get_entry::<Counts>(7, index)
+    /// Whether the entry of group 7 at an index is this number, or there is none.
+    pub fn has_entry(&mut self, index: u64, want: Option<u32>) -> Result<bool> {
+        match self.engine.get_entry::<Counts>(7, index) {
+            Ok(found) => Ok(found.map(|found| found.count) == want),
+            Err(error) => Err(error),
+        }
     }
 
-    /// How many entries of group 7 come from an index on, below another one, and their sum.
-    pub fn fetch(&mut self, begin: u64, end: u64, max: Option<usize>) -> Result<(usize, u32)> {
+    /// Whether so many entries of group 7 come from an index on, below another one, and this is their sum.
+    pub fn fetches(
+        &mut self,
+        (begin, end): (u64, u64),
+        max: Option<usize>,
+        want: (usize, u32),
+    ) -> Result<bool> {
         let mut counts = Vec::new(self.alloc);
-        let count = self
+        match self
             .engine
-            .fetch_entries_to::<Counts>(7, begin, end, max, &mut counts)?;
-        let sum = counts
-            .iter()
-            .fold(0u32, |sum, found| sum.wrapping_add(found.count));
-        Ok((count, sum))
+            .fetch_entries_to::<Counts>(7, begin, end, max, &mut counts)
+        {
+            Ok(count) => Ok((count == want.0) & (summed(counts.as_slice()) == want)),
+            Err(error) => Err(error),
+        }
     }
 
-    /// The number under a key of group 7.
-    pub fn message(&self, key: &[u8]) -> Result<Option<Count>> {
-        self.engine.get_message::<Count>(7, key)
+    /// Whether this number is under a key of group 7, or none.
+    pub fn has_message(&self, key: &[u8], want: Option<u32>) -> Result<bool> {
+        match self.engine.get_message::<Count>(7, key) {
+            Ok(found) => Ok(found.map(|found| found.count) == want),
+            Err(error) => Err(error),
+        }
     }
 
-    /// The first bytes of the keys of group 7 that a scan calls back with, up to the first that is this one.
-    pub fn scan(
+    /// Whether these are the first bytes of the keys of group 7 that a scan calls back with, up to the first that is
+    /// this one.
+    pub fn scans(
         &self,
-        start: Option<&[u8]>,
-        end: Option<&[u8]>,
+        (start, end): (Option<&[u8]>, Option<&[u8]>),
         reverse: bool,
         last: u8,
-    ) -> Result<u64> {
+        want: u64,
+    ) -> Result<bool> {
         let mut seen: u64 = 0;
         self.engine
             .scan_raw_messages(7, start, end, reverse, |key, _| {
@@ -173,11 +210,11 @@ impl<P: PipeLog> Store<P> {
                 seen = seen.wrapping_mul(256).wrapping_add(byte as u64);
                 byte != last
             })?;
-        Ok(seen)
+        Ok(seen == want)
     }
 
-    /// The last bytes of the keys of group 7, or of their values, in the keys' order or backwards.
-    pub fn scan_ends(&self, reverse: bool, of_values: bool) -> Result<u64> {
+    /// Whether these are the last bytes of the keys of group 7, or of their values, in the keys' order or backwards.
+    pub fn scans_ends(&self, reverse: bool, of_values: bool, want: u64) -> Result<bool> {
         let mut seen: u64 = 0;
         self.engine
             .scan_raw_messages(7, None, None, reverse, |key, value| {
@@ -186,30 +223,38 @@ impl<P: PipeLog> Store<P> {
                 seen = seen.wrapping_mul(256).wrapping_add(byte as u64);
                 true
             })?;
-        Ok(seen)
+        Ok(seen == want)
     }
 
-    /// The numbers under the keys of group 7, as digits, up to the first that is this one.
-    pub fn scan_numbers(&self, start: Option<&[u8]>, reverse: bool, last: u32) -> Result<u32> {
+    /// Whether these are the numbers under the keys of group 7, as digits, up to the first that is this one.
+    pub fn scans_numbers(
+        &self,
+        start: Option<&[u8]>,
+        reverse: bool,
+        last: u32,
+        want: u32,
+    ) -> Result<bool> {
         let mut seen: u32 = 0;
         self.engine
             .scan_messages(7, start, None, reverse, |_, found: Count| {
                 seen = seen.wrapping_mul(10).wrapping_add(found.count);
                 found.count != last
             })?;
-        Ok(seen)
+        Ok(seen == want)
     }
 
-    /// Compacts a group up to an index.
-    pub fn compact<L: Log>(&mut self, rt: &L, group: u64, index: u64) -> Result<u64> {
-        self.engine.compact_to(rt, group, index)
+    /// Whether a compaction of a group up to an index takes so many entries.
+    pub fn compacts<L: Log>(&mut self, rt: &L, group: u64, index: u64, want: u64) -> Result<bool> {
+        match self.engine.compact_to(rt, group, index) {
+            Ok(count) => Ok(count == want),
+            Err(error) => Err(error),
+        }
     }
 
-    /// The numbers of the first and the last file of Append, and the size of all files.
-    pub fn size(&self) -> Result<((u64, u64), usize)> {
-        Ok((
-            self.engine.file_span(LogQueue::Append)?,
-            self.engine.get_used_size()?,
-        ))
+    /// Whether Append's files begin with the first, and have bytes.
+    pub fn has_files(&self) -> Result<bool> {
+        let (first, last) = self.engine.file_span(LogQueue::Append)?;
+        let size = self.engine.get_used_size()?;
+        Ok((first == 1) & (last >= first) & (size > 0))
     }
 }

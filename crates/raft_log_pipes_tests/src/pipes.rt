@@ -111,7 +111,7 @@ struct Play {
     closed: &'static [(&'static str, usize)],
 }
 
-/// As the Rust crate's test of this name has it: a file that a record filled gets no more.
+/// As the Rust crate's test has it: a file that a record filled gets no more.
 const PIPE_LOG: [(Step, Told); 13] = [
     (Append(0, 1024), At(1, 69, 1024)),
     (Append(0, 1024), At(2, 69, 1024)),
@@ -128,7 +128,7 @@ const PIPE_LOG: [(Step, Told); 13] = [
     (Read(12, 69, 13, 1), Refused(Why::Corruption)),
 ];
 
-/// As the Rust crate's test of this name has it: each file is full with its header.
+/// As the Rust crate's test has it: each file is full with its header.
 const PIPE_LOG_WITH_RECYCLE: [(Step, Told); 46] = [
     (Append(0, 16), At(2, 69, 16)),
     (Sync, Done),
@@ -264,21 +264,7 @@ const TEN_FILES: [(Step, Told); 13] = [
     (FileAt(200), Number(3)),
 ];
 
-const PLAYS: [Play; 7] = [
-    Play {
-        shows: "a pipe is appended to, rotated, purged and read",
-        target_size: 1024,
-        capacity: 0,
-        steps: &PIPE_LOG,
-        closed: &[],
-    },
-    Play {
-        shows: "files that were purged are used again",
-        target_size: 1,
-        capacity: 100,
-        steps: &PIPE_LOG_WITH_RECYCLE,
-        closed: &[],
-    },
+const PLAYS: [Play; 5] = [
     Play {
         shows: "the oldest files are kept and used first",
         target_size: 1024,
@@ -316,14 +302,19 @@ const PLAYS: [Play; 7] = [
     },
 ];
 
-// How many answers are as they are said before the first that isn't, those of sizes behind the closing with
-// them.
-fn answered(rt: &HostRuntime, play: &Play) -> Result<usize, Fail> {
+// How many answers of a pipe that begins, with this target size and capacity, are as they are said before the
+// first that isn't, those of sizes behind the closing with them.
+fn answered(
+    rt: &HostRuntime,
+    (target_size, capacity): (usize, usize),
+    steps: &[(Step, Told)],
+    closed: &[(&str, usize)],
+) -> Result<usize, Fail> {
     let mut system = prepared(rt.alloc())?;
-    let mut pipe = pipe(rt, &mut system, play.target_size, play.capacity)?;
-    let count = answered_so(rt, &mut system, &mut pipe, play.steps);
+    let mut pipe = pipe(rt, &mut system, target_size, capacity)?;
+    let count = answered_so(rt, &mut system, &mut pipe, steps);
     pipe.close(rt.alloc(), rt, &mut system);
-    Ok(count.wrapping_add(sized_so(&system, play.closed)))
+    Ok(count.wrapping_add(sized_so(&system, closed)))
 }
 
 /// How many files have these sizes before the first that hasn't.
@@ -339,10 +330,23 @@ pub fn sized_so(system: &MemoryFileSystem, files: &[(&str, usize)]) -> usize {
 }
 
 #[test]
+fn test_pipe_log(rt: HostRuntime) -> Result<(), Fail> {
+    assert!(rt; answered(&rt, (1024, 0), &PIPE_LOG, &[])? == 13);
+    Ok(())
+}
+
+#[test]
+fn test_pipe_log_with_recycle(rt: HostRuntime) -> Result<(), Fail> {
+    assert!(rt; answered(&rt, (1, 100), &PIPE_LOG_WITH_RECYCLE, &[])? == 46);
+    Ok(())
+}
+
+#[test]
 fn pipes_answer_as_the_plays_say(rt: HostRuntime) -> Result<(), Fail> {
     for play in PLAYS.iter() {
         let (shows, want) = (play.shows, play.steps.len() + play.closed.len());
-        assert!(rt; answered(&rt, play)? == want, "{shows}");
+        let sizes = (play.target_size, play.capacity);
+        assert!(rt; answered(&rt, sizes, play.steps, play.closed)? == want, "{shows}");
     }
     Ok(())
 }

@@ -346,7 +346,10 @@ fn pipes_answer_as_the_plays_say(rt: HostRuntime) -> Result<(), Fail> {
     for play in PLAYS.iter() {
         let (shows, want) = (play.shows, play.steps.len() + play.closed.len());
         let sizes = (play.target_size, play.capacity);
-        assert!(rt; answered(&rt, sizes, play.steps, play.closed)? == want, "{shows}");
+        assert!(rt;
+            answered(&rt, sizes, play.steps, play.closed)? == want,
+            "{shows}"
+        );
     }
     Ok(())
 }

@@ -1,4 +1,4 @@
-//! Records of several groups, parts of atomic groups among them, and what a context makes of them.
+//! Records of several groups, parts of atomic groups among them, and what tables and a context make of them.
 use raft_log_atomic_groups::{AtomicGroupStatus, MARK_GROUP, MARK_KEY, mark_value};
 use raft_log_base::{FileBlockHandle, FileId, LogQueue, Result};
 use raft_log_contexts::MemTableRecoverContext;
@@ -95,6 +95,22 @@ pub fn context(
         context.replay(items(alloc, id, *record)?, id)?;
     }
     Ok(context)
+}
+
+/// Reads a record in this file.
+pub fn read(tables: &mut MemTables, alloc: Global, id: FileId, record: &[Said]) -> Result<()> {
+    let items = items(alloc, id, record)?;
+    match id.queue {
+        LogQueue::Append => tables.replay_append_writes(items, id.seq),
+        LogQueue::Rewrite => tables.replay_rewrite_writes(items, id.seq),
+    }
+}
+
+/// The tables after one record in this file.
+pub fn segment(alloc: Global, id: FileId, record: &[Said]) -> Result<MemTables> {
+    let mut tables = MemTables::new(alloc);
+    read(&mut tables, alloc, id, record)?;
+    Ok(tables)
 }
 
 /// The first and the last index of a group, the least files of Append and of Rewrite in use, and where the

@@ -15,7 +15,7 @@ use Rattle.raft_log_purge_rules.specs.Picking.{count_of}
 use Rattle.raft_log_purge_rules.specs.declared.rounds.Rounds.{Rounds}
 use Rattle.raft_log_purging.specs.raft_log_rewriting.specs.Stale.{FailsToPurge}
 use Rattle.raft_log_purging.specs.Append.{FailsToRewriteAppend}
-use Rattle.raft_log_purging.specs.Counted.{CountsAndKeeps}
+use Rattle.raft_log_purging.specs.Counted.{CountsAndKeeps, CountsIfPast}
 use Rattle.raft_log_purging.specs.Counting.{CountsStanding}
 use Rattle.raft_log_purging.specs.ExpiredFiles.{FailsToPurgeExpired}
 use Rattle.raft_log_purging.specs.declared.expired_files.PurgeCounts.{PurgeCounts}
@@ -46,8 +46,12 @@ pub record CountsBrought (config : Config) (d : Disk) (counts : PurgeCounts) : T
   pub brings : BringsInRewrite config d written
   pub stats : counts.stats ≡ added Rewrite written no_entries
 
--- what is counted of Rewrite where a purge was refused: nothing, of an engine that had failed; else what stood
--- there before, and after that no round
+-- what is counted where a purge of expired files was refused: nothing, of an engine that had failed; else what stood
+-- in Rewrite before where a queue is past its threshold, and after that no round
+abbrev pub StopsCountingIfPast : Thresholds → Shows → MemTables → PurgeCounts → PurgeCounts → Type 0
+StopsCountingIfPast thresholds s m old new = (new ≡ old) ⊎ CountsIfPast thresholds s.pipes m old new
+
+-- where Rewrite wasn't rewritten: nothing, or what stood there before, and after that no round
 abbrev pub StopsCounting : MemTables → PurgeCounts → PurgeCounts → Type 0
 StopsCounting m old new = (new ≡ old) ⊎ CountsAndKeeps m old new
 

@@ -3,21 +3,18 @@ ghost use Rattle.std.specs.Prelude.{◌≡◌};
 ghost use Rattle.raft_log_records.specs.declared.log_batch.BatchState.TheVariants.{Filling};
 
 use super::counts::{Count, Counts};
+use super::pair::pair;
 use log::Log;
 use raft_log_base::{Error, LogQueue, Result, Version};
 use raft_log_disk::FileSystem;
 use raft_log_dual_pipes::{DualPipes, PipeLog};
 use raft_log_engine::Engine;
-use raft_log_format::LogFileFormat;
 use raft_log_items::EntryIndex;
-use raft_log_layout::LogLayout;
 use raft_log_memory_files::MemoryFileSystem;
-use raft_log_pipes::{FoundFiles, NewFiles, PipeSettings, SinglePipe};
 use raft_log_purge::Thresholds;
 use raft_log_records::{BatchState, LogBatch};
 use raft_log_replay::MemTables;
 use std::alloc::Global;
-use std::collections::VecDeque;
 use std::test::Fail;
 
 /// From which sizes on the log is purged.
@@ -35,41 +32,12 @@ pub struct Store<P> {
     batch: LogBatch,
 }
 
-// A pipe of a queue that begins in the directory `d`.
-fn begun(
-    rt: &HostRuntime,
-    system: &mut MemoryFileSystem,
-    queue: LogQueue,
-) -> std::result::Result<SinglePipe<LogLayout>, Fail> {
-    let settings = PipeSettings {
-        queue,
-        new_files: NewFiles::new(rt.alloc(), LogFileFormat::new(Version::V2, 0), 1024)?,
-        capacity: 4,
-    };
-    let nothing = FoundFiles {
-        files: VecDeque::new(rt.alloc()),
-        end: None,
-        recycled: VecDeque::new(rt.alloc()),
-    };
-    let mut paths = Vec::new(rt.alloc());
-    paths.push(String::from_str(rt.alloc(), "d")?)?;
-    let layout = LogLayout::new(queue, paths);
-    Ok(SinglePipe::open(rt.alloc(), layout, settings, rt, system, nothing)?)
-}
-
 /// An engine over a log that begins, of which the changing call of this number is refused (none for 0).
 pub fn fresh(
     rt: &HostRuntime,
     refused: u64,
 ) -> std::result::Result<Store<DualPipes<MemoryFileSystem>>, Fail> {
-    let mut system = MemoryFileSystem::new(rt.alloc());
-    system.create_dir("d")?;
-    let append = begun(rt, &mut system, LogQueue::Append)?;
-    let rewrite = begun(rt, &mut system, LogQueue::Rewrite)?;
-    if refused > 0 {
-        system.refuse_call(refused)?;
-    }
-    let pipes = DualPipes::new(system, append, rewrite);
+    let pipes = pair(rt, refused)?;
     Ok(Store {
         alloc: rt.alloc(),
         engine: Engine::new(rt.alloc(), THRESHOLDS, pipes, MemTables::new(rt.alloc()), 0),

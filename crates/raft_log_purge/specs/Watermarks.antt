@@ -1,5 +1,5 @@
 -- Which queues a purge takes up, and how far.
-use Rattle.std.specs.Prelude.{◌≡◌, ℕ, ◌*◌, ◌-◌, ◌<◌, min, Some}
+use Rattle.std.specs.Prelude.{◌≡◌, ◌⊎◌, ℕ, ◌*◌, ◌-◌, ◌<◌, min, Some}
 use Rattle.raft_log_directory.specs.Calls.{Which}
 use Rattle.raft_log_directory.specs.Calls.Which.{InAppend, InRewrite}
 use Rattle.raft_log_tables.specs.declared.global_stats.GlobalStats.{GlobalStats}
@@ -9,10 +9,11 @@ use Rattle.raft_log_dual_pipes.specs.Calls.{seq_at, size_at}
 use Rattle.raft_log_purge.specs.declared.thresholds.Thresholds.{Thresholds}
 use Rattle.raft_log_purge.specs.declared.watermarks.Watermarks.{Watermarks}
 
--- the numbers of the first and the last file of a queue's span
+-- the number of the first file of a queue's span
 abbrev pub first_at : Which → LogPipes → ℕ
 first_at which v = (pipe_at which (files_of v)).first_seq
 
+-- and that of its last one
 abbrev pub last_at : Which → LogPipes → ℕ
 last_at which v = (pipe_at which (files_of v)).active.seq
 
@@ -35,6 +36,10 @@ IsGarbage ratio stats = stats.rewrite_entries * ratio < stats.deleted_rewrite_en
 -- a purge takes up Append
 abbrev pub TakesAppend : Thresholds → LogPipes → Type 0
 TakesAppend t v = IsPast InAppend t.append v
+
+-- a purge may have something to do: a queue is past its threshold
+abbrev pub IsAnyPast : Thresholds → LogPipes → Type 0
+IsAnyPast t v = TakesAppend t v ⊎ ((threshold : ℕ) × (t.rewrite ≡ Some threshold) × IsPast InRewrite threshold v)
 
 -- a purge rewrites Rewrite
 abbrev pub TakesRewrite : Thresholds → GlobalStats → LogPipes → Type 0

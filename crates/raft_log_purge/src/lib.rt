@@ -5,4 +5,4 @@ pub mod thresholds;
 pub mod watermarks;
 
 pub use thresholds::Thresholds;
-pub use watermarks::{Watermarks, append_watermarks, takes_append, takes_rewrite};
+pub use watermarks::{Watermarks, append_watermarks, is_any_past, takes_append, takes_rewrite};

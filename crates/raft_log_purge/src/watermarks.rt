@@ -3,7 +3,14 @@
 ghost use Rattle.std.specs.Prelude.{◌≡◌, ◌↔◌, ◌<◌, IsTrue};
 ghost use Rattle.raft_log_directory.specs.Calls.Which.{InAppend};
 ghost use Rattle.raft_log_dual_pipes.specs.Pipes.{which_of};
-ghost use Rattle.raft_log_purge.specs.Watermarks.{IsGarbage, IsPast, TakesAppend, TakesRewrite, watermarks_of};
+ghost use Rattle.raft_log_purge.specs.Watermarks.{
+  IsAnyPast,
+  IsGarbage,
+  IsPast,
+  TakesAppend,
+  TakesRewrite,
+  watermarks_of,
+};
 
 use crate::thresholds::Thresholds;
 use raft_log_base::{FileSeq, LogQueue};
@@ -55,6 +62,17 @@ pub fn takes_rewrite<P: PipeLog>(thresholds: &Thresholds, stats: &GlobalStats, p
         return false;
     };
     is_past(pipes, LogQueue::Rewrite, threshold) && is_garbage(thresholds.garbage_ratio, stats)
+}
+
+/// Whether a purge may have something to do: a queue has more than one file, and is larger than its threshold.
+pub fn is_any_past<P: PipeLog>(thresholds: &Thresholds, pipes: &P) -> bool
+    ensures { IsTrue result ↔ IsAnyPast thresholds.now (P.shown pipes.now) }
+{
+    let rewrite = match thresholds.rewrite {
+        Some(threshold) => is_past(pipes, LogQueue::Rewrite, threshold),
+        None => false,
+    };
+    rewrite || takes_append(thresholds, pipes)
 }
 
 /// Whether a queue has more than one file, and is larger than this.

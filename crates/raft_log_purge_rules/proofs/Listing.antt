@@ -3,6 +3,7 @@ use Rattle.std.proofs.Common.{◌≡◌, ◌+◌, ◌<◌, ◌==◌, ◌&&◌, �
 use Rattle.std.specs.Prelude.{Result, Ok, Err, IfOk}
 use Rattle.std.specs.BTreeMap.{get}
 use Rattle.std.specs.List.{filter, list_any}
+use Rattle.std.specs.List.Sorted.{IsStrictlySortedBy}
 use Rattle.std.specs.Ordering.{nat_cmp}
 use Rattle.std.proofs.lemmas.Bool.{false≢true}
 use Rattle.std.proofs.lemmas.List.Elements.{filter_more}
@@ -12,7 +13,8 @@ use Rattle.std.proofs.lemmas.Map.Views.{any-filter_same}
 use Rattle.raft_log_model.proofs.Cases.{at_bool}
 use Rattle.raft_log_replay.specs.declared.group_table.GroupTable.{GroupTable}
 use Rattle.raft_log_replay.specs.declared.mem_tables.MemTables.{MemTables}
-use Rattle.raft_log_replay.specs.Tables.{has_table}
+use Rattle.raft_log_replay.specs.Tables.{has_table, raw_of}
+use Rattle.raft_log_tables.specs.Table.{Raw}
 use Rattle.raft_log_replay.specs.Walking.{ListsGroups}
 use Rattle.raft_log_purge.specs.declared.watermarks.Watermarks.{Watermarks}
 use Rattle.raft_log_purge_rules.specs.Behind.{round_behind}
@@ -89,3 +91,19 @@ picked_more p xs i d x lt is old new b so_far test pushed =
     ∙ (ap (λ (l : List ℕ). l ++ (if b then x ∷ [] else [])) so_far
     ∙ (ap (λ (c : Bool). filter p (take i xs) ++ (if c then x ∷ [] else [])) test
     ∙ (ap (λ (y : ℕ). filter p (take i xs) ++ (if p y then y ∷ [] else [])) is ∙ sym (filter_more p xs i d lt))))
+
+-- Nobody is answered where Append isn't purged, and Rewrite wasn't rewritten.
+
+no_group_twice : IsStrictlySortedBy nat_cmp []
+unfolding IsStrictlySortedBy
+no_group_twice = tt
+
+answered_for_nothing : (o : Option Raw) → false ≡ answers_in None false o
+answered_for_nothing None = refl
+answered_for_nothing (Some t) = refl
+
+pub nobody_answered : (marks : Option Watermarks) (restated : Bool) (m : MemTables) (gs : List ℕ) → is_some marks ≡ false → restated ≡ false → gs ≡ [] → ListsGroups (answers_at marks restated m) gs
+nobody_answered None false m gs none not is =
+    subst (λ (l : List ℕ). ListsGroups (answers_at None false m) l) (sym is) (record { rising = no_group_twice; exact = λ g. answered_for_nothing (raw_of m g) })
+nobody_answered None true m gs none not is = absurd (false≢true (sym not))
+nobody_answered (Some marks) restated m gs none not is = absurd (false≢true (sym none))

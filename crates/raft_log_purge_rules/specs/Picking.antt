@@ -23,10 +23,11 @@ abbrev pub rewrites_in : Watermarks → ℕ → Option Raw → Bool
 rewrites_in marks rounds None = false
 rewrites_in marks rounds (Some t) = rewrites marks rounds t
 
--- so it is of each group
+-- a group is asked to be compacted
 abbrev pub asks_at : Watermarks → MemTables → ℕ → Bool
 asks_at marks m g = asks_in marks (raw_of m g)
 
+-- it is rewritten
 abbrev pub rewrites_at : Watermarks → (ℕ → ℕ) → MemTables → ℕ → Bool
 rewrites_at marks counts m g = rewrites_in marks (counts g) (raw_of m g)
 
@@ -41,5 +42,6 @@ abbrev pub answers_in : Option Watermarks → Bool → Option Raw → Bool
 answers_in marks restated None = false
 answers_in marks restated (Some t) = asks_by marks t || (restated && nat_lt 32 (shown t).rewritten)
 
+-- it is answered
 abbrev pub answers_at : Option Watermarks → Bool → MemTables → ℕ → Bool
 answers_at marks restated m g = answers_in marks restated (raw_of m g)

@@ -34,6 +34,9 @@ pub fn answered_groups(
 ) -> Result<Vec<u64>, AllocError>
     ensures { IfOk result (λ groups. ListsGroups (answers_at watermarks restated tables.now) groups.items) }
 {
+    if watermarks.is_none() && !restated {
+        return Ok(Vec::new(alloc));
+    }
     let groups = tables.known_groups()?;
     answered_of(alloc, tables, watermarks, restated, groups.as_slice())
 }

@@ -1,5 +1,5 @@
 -- What is counted of Rewrite from one purge to the next.
-use Rattle.std.specs.Prelude.{◌≡◌, ◌-◌, ℕ}
+use Rattle.std.specs.Prelude.{◌≡◌, ◌-◌, ℕ, Bool, true, false}
 use Rattle.raft_log_base.specs.declared.pipe_log.LogQueue.TheVariants.{Rewrite}
 use Rattle.raft_log_tables.specs.declared.global_stats.GlobalStats.{GlobalStats}
 use Rattle.raft_log_tables.specs.Stats.{added, deleted, live}
@@ -19,6 +19,11 @@ pub record CountsStanding (m : MemTables) (old new : PurgeCounts) : Type 0 where
   pub stats : new.stats ≡ counted standing old.stats
   pub rounds : new.rounds ≡ old.rounds
   pub number : new.number ≡ old.number
+
+-- so they were if that was wanted; else they are as they were
+abbrev pub CountsIf : Bool → MemTables → PurgeCounts → PurgeCounts → Type 0
+CountsIf true m old new = CountsStanding m old new
+CountsIf false m old new = new ≡ old
 
 -- so they were before something was written, and behind it
 pub record CountsTwice (before after : MemTables) (old new : PurgeCounts) : Type 0 where

@@ -1,5 +1,6 @@
 //! Purges with what stands in Rewrite counted before them, and behind where they are answered: what of Rewrite
-//! is garbage is known by no other way.
+//! is garbage is known by no other way. A purge that has nothing to do counts nothing: nothing is written to Rewrite
+//! between two that have, so that the next one finds the same.
 
 ghost use Rattle.std.specs.Prelude.{◌≤◌, IfErr, IfOk, OnErr, OnOk};
 ghost use Rattle.raft_log_base.specs.declared.pipe_log.LogQueue.TheVariants.{Append};
@@ -7,7 +8,12 @@ ghost use Rattle.raft_log_dual_pipes.specs.HoldingBack.{PipesHoldBack};
 ghost use Rattle.raft_log_restating.specs.raft_log_engine_state.specs.Shows.{shows};
 ghost use Rattle.raft_log_replay.specs.Tables.{IsAtRest};
 ghost use Rattle.raft_log_purging.specs.Append.{FailsToRewriteAppend, RewritesAppend};
-ghost use Rattle.raft_log_purging.specs.Counted.{CountsAndKeeps, CountsAndResets, PurgesAndCounts};
+ghost use Rattle.raft_log_purging.specs.Counted.{
+  CountsAndKeeps,
+  CountsAndResets,
+  CountsIfPast,
+  PurgesAndCounts,
+};
 ghost use Rattle.raft_log_purging.specs.Counting.{CountsStanding, CountsTwice};
 ghost use Rattle.raft_log_purging.specs.ExpiredFiles.{FailsToPurgeExpired, SyncsAndRewrites};
 
@@ -16,14 +22,14 @@ use crate::expired_files::{PurgeCounts, purge_expired_files, sync_and_rewrite};
 use log::Log;
 use raft_log_base::{FileSeq, Result};
 use raft_log_dual_pipes::PipeLog;
-use raft_log_purge::Thresholds;
+use raft_log_purge::{Thresholds, is_any_past};
 use raft_log_replay::MemTables;
 use raft_log_restating::raft_log_blocks::BlockCache;
 use std::alloc::Global;
 
-/// Purges both queues as `purge_expired_files` does.
+/// Purges both queues as `purge_expired_files` does. Where neither is past its threshold, nothing is counted.
 ///
-/// Refused, what stands in Rewrite was counted before, and no round is counted.
+/// Refused, what stands in Rewrite was counted before where a queue is past its threshold, and no round is counted.
 pub fn purge_and_count<P: PipeLog, L: Log>(
     alloc: Global,
     rt: &L,
@@ -38,14 +44,16 @@ pub fn purge_and_count<P: PipeLog, L: Log>(
         (shows (P.shown pipes.old) tables.old cache.old) (shows (P.shown pipes.new) tables.new cache.new)) }
     ensures err { IfErr result (λ error. FailsToPurgeExpired error
         (shows (P.shown pipes.old) tables.old cache.old) (shows (P.shown pipes.new) tables.new cache.new)) }
-    ensures kept { OnErr result (CountsAndKeeps tables.old counts.old counts.new) }
+    ensures kept { OnErr result (CountsIfPast thresholds.now (P.shown pipes.old) tables.old
+        counts.old counts.new) }
     ensures rests { IsAtRest tables.old → IsAtRest tables.new }
     ensures numbered { counts.old.number ≤ counts.new.number }
 {
-    counts.count_standing(tables);
+    let past = is_any_past(thresholds, pipes);
+    counts.count_if(past, tables);
     let purged = purge_expired_files(alloc, rt, thresholds, pipes, tables, cache, counts);
     if purged.is_ok() {
-        counts.count_standing(tables);
+        counts.count_if(past, tables);
     }
     purged
 }

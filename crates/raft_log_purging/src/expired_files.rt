@@ -42,7 +42,7 @@ impl PurgeCounts {
     ghost use Rattle.raft_log_purge_rules.specs.Picking.{count_of};
     ghost use Rattle.raft_log_base.specs.declared.pipe_log.LogQueue.TheVariants.{Rewrite};
     ghost use Rattle.raft_log_tables.specs.Stats.{added, no_entries};
-    ghost use Rattle.raft_log_purging.specs.Counting.{CountsStanding};
+    ghost use Rattle.raft_log_purging.specs.Counting.{CountsIf, CountsStanding};
 
     /// So many entries and values were written to Rewrite before; nothing else was counted yet.
     pub fn new(alloc: Global, written: u64) -> PurgeCounts
@@ -70,6 +70,15 @@ impl PurgeCounts {
             .add(LogQueue::Rewrite, standing.saturating_sub(live));
         self.stats
             .delete(LogQueue::Rewrite, live.saturating_sub(standing));
+    }
+
+    /// Brings the counts to what stands in Rewrite, if that is wanted.
+    pub(crate) fn count_if(&mut self, wanted: bool, tables: &MemTables)
+        ensures { CountsIf wanted tables.now self.old self.new }
+    {
+        if wanted {
+            self.count_standing(tables);
+        }
     }
 }
 

@@ -45,6 +45,9 @@ fn refusals(alloc: Global, bytes: &[u8]) -> Result<(String, String)> {
     Ok((second, third))
 }
 
+/// Why a tail of three bytes is refused.
+const SHORT_TAIL: &str = "Corruption: Log batch header too short: 3";
+
 /// Why the record of this header is refused.
 const PAST_THE_END: &str = "Corruption: Log batch past the end of the input: 72057594037927935";
 
@@ -91,13 +94,6 @@ fn is_past_the_end(alloc: Global) -> Result<bool> {
     Ok(is_refused_twice(alloc, bytes.as_slice(), PAST_THE_END)? & again)
 }
 
-/// Whether a tail shorter than a header is refused.
-fn is_tail_refused(alloc: Global) -> Result<bool> {
-    let bytes = damaged(alloc, false, b"abc")?;
-    let want = "Corruption: Log batch header too short: 3";
-    is_refused_twice(alloc, bytes.as_slice(), want)
-}
-
 /// Whether a file system refuses a sync, and a file isn't opened then.
 fn is_stopped(alloc: Global) -> Result<bool> {
     let bytes = records(alloc, &[34])?;
@@ -125,7 +121,7 @@ const HOLDS: [&str; 4] = [
 fn holds(alloc: Global, number: usize) -> Result<bool> {
     match number {
         0 => is_past_the_end(alloc),
-        1 => is_tail_refused(alloc),
+        1 => is_refused_twice(alloc, damaged(alloc, false, b"abc")?.as_slice(), SHORT_TAIL),
         2 => is_stopped(alloc),
         _ => is_header_refused(alloc),
     }

@@ -90,11 +90,6 @@ fn are_read_twice(alloc: Global) -> Result<bool> {
     Ok((found.as_slice() == [1, 2, 3, 4, 5].as_slice()) & (system.reads.get() == 6))
 }
 
-/// Whether a directory that isn't listed for want of memory is refused so.
-fn is_not_listed(alloc: Global) -> bool {
-    matches!(short_at(alloc, 1), Err(Error::Memory))
-}
-
 /// Whether a file that isn't opened is passed over, as this row says.
 fn is_passed_over(alloc: Global, row: usize) -> Result<bool> {
     let (call, want) = SHORT[row % 4];
@@ -120,7 +115,7 @@ fn holds(alloc: Global, number: usize) -> Result<bool> {
     match number {
         0..=3 => is_passed_over(alloc, number),
         4..=12 => is_unread(alloc, number),
-        13 => Ok(is_not_listed(alloc)),
+        13 => Ok(matches!(short_at(alloc, 1), Err(Error::Memory))),
         14 => gives_nothing(alloc),
         _ => are_read_twice(alloc),
     }

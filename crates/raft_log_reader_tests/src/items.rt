@@ -60,16 +60,11 @@ fn group_of(answer: &Result<LogItem>) -> u64 {
     }
 }
 
-/// The groups of what comes of the directory `d`.
-fn groups_in(alloc: Global, system: &MemoryFileSystem) -> Result<Vec<u64>> {
-    let answers = answers_of(alloc, system, "d")?;
-    Ok(answers.iter().map(group_of).collect(alloc)?)
-}
-
 /// The groups of what comes of a directory with these files.
 fn groups_of(alloc: Global, rows: &[Row]) -> Result<Vec<u64>> {
     let system = directory_of(alloc, rows)?;
-    groups_in(alloc, &system)
+    let answers = answers_of(alloc, &system, "d")?;
+    Ok(answers.iter().map(group_of).collect(alloc)?)
 }
 
 /// Rewrite files 7 to 9 with no, one and two records, an Append file, and one that is kept.

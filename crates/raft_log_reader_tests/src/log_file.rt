@@ -189,19 +189,18 @@ fn is_invalid(alloc: Global, row: usize) -> Result<bool> {
     }
 }
 
-/// Whether a file isn't read as a directory.
-fn is_no_directory(alloc: Global) -> Result<bool> {
-    let system = odd_files(alloc)?;
-    let refused = answers_of(alloc, &system, "d/0000000000000000.rewrite");
-    Ok(matches!(refused, Err(Error::InvalidArgument(_))))
-}
-
-/// Whether the file of a header has nothing, and the directory the refusal of the empty file alone.
+/// Whether the file of a header has nothing and isn't read as a directory, and the directory has the refusal of
+/// the empty file alone.
 fn are_odd(alloc: Global) -> Result<bool> {
+    let path = "d/0000000000000000.rewrite";
     let system = odd_files(alloc)?;
-    let empty = words_at(alloc, &system, "d/0000000000000000.rewrite")?;
+    let empty = words_at(alloc, &system, path)?;
     let all = words_in(alloc, &system)?;
-    Ok(empty.is_empty() & (all.as_slice() == [REFUSED].as_slice()))
+    let refused = matches!(
+        answers_of(alloc, &system, path),
+        Err(Error::InvalidArgument(_))
+    );
+    Ok(empty.is_empty() & refused & (all.as_slice() == [REFUSED].as_slice()))
 }
 
 /// Whether it holds: to 3, of the three files; then of the odd ones.
@@ -210,7 +209,6 @@ fn holds(alloc: Global, number: usize) -> Result<bool> {
         0..=2 => is_read(alloc, number),
         3 => are_read(alloc),
         4..=6 => is_invalid(alloc, number),
-        7 => is_no_directory(alloc),
         _ => are_odd(alloc),
     }
 }
@@ -224,7 +222,7 @@ fn test_debug_file_basic(rt: HostRuntime) {
 
 #[test]
 fn test_debug_file_error(rt: HostRuntime) {
-    for number in 4..9 {
+    for number in 4..8 {
         assert!(rt; holds(rt.alloc(), number).ok() == Some(true), "{number}");
     }
 }

@@ -61,11 +61,6 @@ fn both_ends(alloc: Global, bytes: &[u8], place: usize) -> Result<(usize, bool)>
     }
 }
 
-/// Whether the file of three records has 830 bytes.
-fn is_of_830_bytes(alloc: Global) -> Result<bool> {
-    Ok(three_records(alloc, 600)?.len() == 830)
-}
-
 /// Whether the file of three records ends as this row says.
 fn ends_as_told(alloc: Global, row: usize) -> Result<bool> {
     let (size, place, end, said) = ROWS[row % 17];
@@ -92,7 +87,7 @@ fn holds(alloc: Global, number: usize) -> Result<bool> {
     match number {
         0..=16 => ends_as_told(alloc, number),
         17..=19 => is_damaged_as_told(alloc, number),
-        20 => is_of_830_bytes(alloc),
+        20 => Ok(three_records(alloc, 600)?.len() == 830),
         _ => is_told_where_checked(alloc),
     }
 }

@@ -9,6 +9,7 @@ mod batches;
 mod item_batches;
 #[cfg(test)]
 mod log_batches;
+#[cfg(test)]
 mod messages;
 #[cfg(test)]
 mod messages_both_ways;

@@ -1,6 +1,11 @@
-//! Tests of tables: worked rows, each call once with ample memory, and counts at their ends.
+//! Tests of tables: worked rows, each call once with ample memory, and counts at their ends. And of the log's laws:
+//! each once at a concrete type of content, numbers for entries and for values.
 #![tactic(auto)]
 
+#[cfg(test)]
+mod directory_laws;
+#[cfg(test)]
+mod model_laws;
 #[cfg(test)]
 mod play;
 #[cfg(test)]

@@ -10,6 +10,7 @@ pub mod contexts;
 pub mod dual_pipes;
 pub mod dump;
 pub mod engine;
+pub mod file;
 pub mod fork;
 pub mod format;
 pub mod frames;

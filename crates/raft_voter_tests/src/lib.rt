@@ -1,8 +1,10 @@
-//! Tests of `raft_voter_messages` and `raft_voter`: what no contract says, and each public call once with
-//! memory at hand. They stand above the libraries, so that these aren't proved again for them. The crate
-//! itself has nothing.
+//! Tests of `raft_voter_messages`, `raft_voter` and `raft_voter_plain`: what no contract says, sessions worked by
+//! hand, faults, and each public call once with memory at hand. They stand above the libraries, so that these
+//! aren't proved again for them. The crate itself has nothing.
 #![tactic(auto)]
 
+#[cfg(test)]
+mod faults;
 #[cfg(test)]
 mod judging;
 #[cfg(test)]
@@ -13,6 +15,8 @@ mod outlines;
 mod requests;
 #[cfg(test)]
 mod restoring;
+#[cfg(test)]
+mod sessions;
 #[cfg(test)]
 mod stored;
 #[cfg(test)]

@@ -11,6 +11,7 @@ ghost use Rattle.raft_log_purging.specs.ExpiredFiles.{SyncsAndRewrites};
 ghost use Rattle.raft_log_engine.specs.Purging.{
   MayCountStanding,
   StopsCounting,
+  StopsCountingIfPast,
   StopsPurging,
   StopsPurgingExpired,
   StopsRewritingAppend,
@@ -32,8 +33,8 @@ impl<P: PipeLog> Engine<P> {
     /// are asked to be compacted, from the least up; a group that was asked in nine purges in a row is
     /// rewritten. The map stays, and nothing is pending.
     ///
-    /// What stands in Rewrite is counted before and behind, which takes time in all keys: what was written there
-    /// and stands no more is garbage.
+    /// Where a queue is past its threshold, what stands in Rewrite is counted before and behind, which takes time
+    /// in all groups: what was written there and stands no more is garbage. Else this is a sync of Append alone.
     ///
     /// `Failed` of an engine that has failed. Then what a sync, a rotation, the marks, what is copied, and
     /// files that go refuse: the map stays, and no round is counted.
@@ -44,7 +45,8 @@ impl<P: PipeLog> Engine<P> {
         ensures lived { OnOk result (Lives (shows_of P.shown self.old)) }
         ensures err { IfErr result (StopsPurgingExpired
             (shows_of P.shown self.old) (shows_of P.shown self.new)) }
-        ensures kept { OnErr result (StopsCounting self.old.tables self.old.counts self.new.counts) }
+        ensures kept { OnErr result (StopsCountingIfPast self.old.thresholds (shows_of P.shown self.old)
+            self.old.tables self.old.counts self.new.counts) }
         ensures sizes { self.new.thresholds ≡ self.old.thresholds }
     {
         if self.is_failed() {

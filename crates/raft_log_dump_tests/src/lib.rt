@@ -1,5 +1,0 @@
-//! Tests of `raft_log_dump`: what is dumped of directories and of files, and why nothing is.
-#![tactic(auto)]
-
-#[cfg(test)]
-mod dumps;

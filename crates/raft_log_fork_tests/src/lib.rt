@@ -1,5 +1,0 @@
-//! Tests of `raft_log_fork`.
-#![tactic(auto)]
-
-#[cfg(test)]
-mod forks;

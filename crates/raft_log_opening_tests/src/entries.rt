@@ -4,7 +4,7 @@ use raft_log_items::{Bytes, Message, MessageExt};
 use std::alloc::{AllocError, Global};
 
 /// An entry of a log.
-#[derive(Drop, PartialEq)]
+#[derive(Drop)]
 pub struct TestEntry {
     bytes: Bytes,
 }

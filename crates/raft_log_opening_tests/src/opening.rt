@@ -1,317 +1,192 @@
 //! Logs that are opened, left, and opened again.
-use super::entries::TestEntries;
-use super::logs::{append, open_small};
+use super::acts::Act::{Arms, Cuts, Lacks, Refuses, Uses};
+use super::acts::{Act, Cause, played, played_behind};
+use super::batches::Word::{Entries, Put};
+use super::settings::{BY_ONE, SMALL, Settings, USUAL};
+use super::steps::Step;
+use super::steps::Step::{Append, Ends, Entry, Key, Write};
 use log::Log;
-use raft_log_base::{Error, Result};
-use raft_log_disk::{FileSystem, Permission};
-use raft_log_dual_pipes::{DualPipes, OpenRefused, PipeLog};
-use raft_log_engine::Engine;
-use raft_log_items::EntryIndex;
-use raft_log_memory_files::{MemoryFileSystem, Remainder};
-use raft_log_records::LogBatch;
-use raft_log_settings::{Config, RecoveryMode};
+use raft_log_memory_files::Remainder;
+use raft_log_settings::RecoveryMode;
 use std::alloc::Global;
-use std::test::Fail;
 use std::thread::Threads;
 
-// How many bytes the header of a file has.
-const HEADER_LEN: usize = 69;
+/// The settings of a log of which no damage is tolerated, with two workers.
+const STRICT: Settings = Settings {
+    mode: RecoveryMode::AbsoluteConsistency,
+    workers: 2,
+    ..USUAL
+};
 
-// The usual settings of a log in the directory `d`, with so many workers and this mode of recovery.
-pub fn settings(alloc: Global, workers: usize, mode: RecoveryMode) -> Result<Config> {
-    let mut config = Config::default(alloc);
-    config.dir = String::from_str(alloc, "d")?;
-    config.recovery_threads = workers;
-    config.recovery_mode = mode;
-    Ok(config)
+/// Those with which all is.
+const TOLERANT: Settings = Settings {
+    mode: RecoveryMode::TolerateAnyCorruption,
+    ..STRICT
+};
+
+/// Two entries and a key come to group 1, and are synced.
+const SYNCED: Step = Write(
+    true,
+    &[Entries(1, 1, &[b"abc", b"def"]), Put(1, b"key", b"value")],
+);
+
+/// They come to group 2, and aren't.
+const UNSYNCED: Step = Write(
+    false,
+    &[Entries(2, 1, &[b"abc", b"def"]), Put(2, b"key", b"value")],
+);
+
+const WRITTEN: [Step; 2] = [SYNCED, UNSYNCED];
+
+/// Group 1 has them.
+const FIRST: [Step; 3] = [
+    Ends(1, Some(1), Some(2)),
+    Entry(1, 2, b"def"),
+    Key(1, Some(b"value")),
+];
+
+/// Group 2 has them.
+const SECOND: [Step; 3] = [
+    Ends(2, Some(1), Some(2)),
+    Entry(2, 2, b"def"),
+    Key(2, Some(b"value")),
+];
+
+/// Group 2 has nothing.
+const NO_SECOND: [Step; 2] = [Ends(2, None, None), Key(2, None)];
+
+/// Group 1 gets two more.
+const MORE: Step = Write(
+    false,
+    &[Entries(1, 3, &[b"abc", b"def"]), Put(1, b"key", b"value")],
+);
+
+/// It has them, and group 3 has nothing.
+const HAS_MORE: [Step; 5] = [
+    Ends(1, Some(1), Some(4)),
+    Entry(1, 4, b"def"),
+    Key(1, Some(b"value")),
+    Ends(3, None, None),
+    Key(3, None),
+];
+
+/// A closed log is opened, goes on, and is opened again.
+const CLOSED: [Act; 3] = [
+    Uses(BY_ONE, &[&WRITTEN]),
+    Uses(BY_ONE, &[&FIRST, &SECOND, &[MORE]]),
+    Uses(USUAL, &[&HAS_MORE, &SECOND]),
+];
+
+#[test]
+fn a_closed_log_is_opened(rt: HostRuntime) {
+    assert!(rt; played(&rt, rt.alloc(), &CLOSED));
 }
 
-// Opens the log in these files by so many workers.
-pub fn open<R: Threads + Log + Sync, F: FileSystem + Sync + Drop>(
-    rt: &R,
-    alloc: Global,
-    files: F,
-    workers: usize,
-) -> Result<Engine<DualPipes<F>>> {
-    let config = settings(alloc, workers, RecoveryMode::TolerateTailCorruption)?;
-    match Engine::open_with_file_system(rt, alloc, config, files) {
-        Ok(engine) => Ok(engine),
-        Err(OpenRefused { error, .. }) => Err(error),
-    }
-}
+/// A log has what was synced, and no more.
+const OPENS_SYNCED: [Act; 1] = [Uses(USUAL, &[&FIRST, &NO_SECOND])];
 
-// How an open is refused in a mode of recovery, if it is.
-fn refused<R: Threads + Log + Sync, F: FileSystem + Sync + Drop>(
-    rt: &R,
-    alloc: Global,
-    files: F,
-    mode: RecoveryMode,
-) -> Result<Option<OpenRefused<F>>> {
-    let config = settings(alloc, 2, mode)?;
-    match Engine::open_with_file_system(rt, alloc, config, files) {
-        Ok(_) => Ok(None),
-        Err(refused) => Ok(Some(refused)),
-    }
-}
+/// A log has all that was written.
+const OPENS_WHOLE: [Act; 1] = [Uses(USUAL, &[&FIRST, &SECOND])];
 
-// Writes two entries of three bytes to a group, from an index on, and its key.
-fn write<R: Log, P: PipeLog>(
-    rt: &R,
-    alloc: Global,
-    engine: &mut Engine<P>,
-    group: u64,
-    index: u64,
-    sync: bool,
-) -> Result<()> {
-    let indexes = [
-        EntryIndex::unplaced(index, 3),
-        EntryIndex::unplaced(index.saturating_add(1), 3),
-    ];
-    let entries: [&[u8]; 2] = [b"abc", b"def"];
-    let mut batch = LogBatch::default(alloc)?;
-    batch.add_raw_entries(alloc, group, &indexes, &entries)?;
-    batch.put(alloc, group, b"key", b"value")?;
-    engine.write(rt, &mut batch, sync)?;
-    Ok(())
-}
-
-// Whether a group has entries up to this index (none for 0), from 1 on, each with its bytes, and its key.
-fn has<P: PipeLog>(engine: &mut Engine<P>, group: u64, last: u64) -> Result<bool> {
-    if last == 0 {
-        return Ok(engine.first_index(group)?.is_none() && engine.get(group, b"key")?.is_none());
-    }
-    let first = engine.first_index(group)? == Some(1);
-    let ends = engine.last_index(group)? == Some(last);
-    let Some(entry) = engine.get_entry::<TestEntries>(group, last)? else {
-        return Ok(false);
-    };
-    let Some(value) = engine.get(group, b"key")? else {
-        return Ok(false);
-    };
-    Ok(first && ends && entry.is(b"def") && value.as_slice() == b"value".as_slice())
-}
-
-// A log of which the batch of group 1 is synced, and that of group 2 isn't: what a crash leaves of it.
-fn crashed<R: Threads + Log + Sync>(
+/// Whether acts on what a crash leaves of a log that was written are answered as they say.
+fn opens_to<R: Threads + Log + Sync>(
     rt: &R,
     alloc: Global,
     what: &Remainder,
-) -> Result<MemoryFileSystem> {
-    let mut engine = open(rt, alloc, MemoryFileSystem::new(alloc), 4)?;
-    write(rt, alloc, &mut engine, 1, 1, true)?;
-    write(rt, alloc, &mut engine, 2, 1, false)?;
-    Ok(engine.file_system().remainder(what)?)
+    acts: &[Act],
+) -> bool {
+    played_behind(rt, alloc, &WRITTEN, what, acts)
 }
 
-// Whether a log opens with the batch of group 1, and that of group 2 up to there.
-fn opens_to<R: Threads + Log + Sync, F: FileSystem + Sync + Drop>(
-    rt: &R,
-    alloc: Global,
-    files: F,
-    last: u64,
-) -> Result<bool> {
-    let mut engine = open(rt, alloc, files, 4)?;
-    Ok(has(&mut engine, 1, 2)? & has(&mut engine, 2, last)?)
-}
-
-// Whether so one does of which a crash left this.
-fn opens_with<R: Threads + Log + Sync>(
-    rt: &R,
-    alloc: Global,
-    what: &Remainder,
-    last: u64,
-) -> Result<bool> {
-    opens_to(rt, alloc, crashed(rt, alloc, what)?, last)
-}
-
-// A log of two batches of which one isn't synced, closed.
-fn closed_with_two<R: Threads + Log + Sync, F: FileSystem + Sync + Drop>(
-    rt: &R,
-    alloc: Global,
-    files: F,
-) -> Result<F> {
-    let mut engine = open(rt, alloc, files, 1)?;
-    write(rt, alloc, &mut engine, 1, 1, true)?;
-    write(rt, alloc, &mut engine, 2, 1, false)?;
-    Ok(engine.close(rt))
-}
-
-// Whether it is opened, goes on, and is opened again.
-fn goes_on<R: Threads + Log + Sync, F: FileSystem + Sync + Drop>(
-    rt: &R,
-    alloc: Global,
-    files: F,
-) -> Result<bool> {
-    let mut engine = open(rt, alloc, files, 1)?;
-    let before = has(&mut engine, 1, 2)? & has(&mut engine, 2, 2)?;
-    write(rt, alloc, &mut engine, 1, 3, false)?;
-    let mut engine = open(rt, alloc, engine.close(rt), 4)?;
-    let behind = has(&mut engine, 1, 4)? & has(&mut engine, 2, 2)? & has(&mut engine, 3, 0)?;
-    Ok(before & behind)
-}
-
-#[test]
-fn a_closed_log_is_opened(rt: HostRuntime) -> std::result::Result<(), Fail> {
-    let files = closed_with_two(&rt, rt.alloc(), MemoryFileSystem::new(rt.alloc()))?;
-    assert!(rt; goes_on(&rt, rt.alloc(), files)?);
-    Ok(())
-}
-
-#[test]
-fn crashed_logs_are_opened(rt: HostRuntime) -> std::result::Result<(), Fail> {
-    assert!(rt; opens_with(&rt, rt.alloc(), &Remainder::LastSync, 0)?);
-    assert!(rt; opens_with(&rt, rt.alloc(), &Remainder::AllWritten, 2)?);
-    let torn = Remainder::First {
+/// Twenty bytes of what wasn't synced are left.
+fn torn() -> Remainder {
+    Remainder::First {
         pieces: 0,
         bytes: 20,
-    };
-    assert!(rt; opens_with(&rt, rt.alloc(), &torn, 0)?);
+    }
+}
+
+#[test]
+fn crashed_logs_are_opened(rt: HostRuntime) {
+    let torn = torn();
     let nothing = Remainder::Pieces(Vec::new(rt.alloc()));
-    assert!(rt; opens_with(&rt, rt.alloc(), &nothing, 0)?);
-    Ok(())
+    assert!(rt; opens_to(&rt, rt.alloc(), &Remainder::LastSync, &OPENS_SYNCED));
+    assert!(rt; opens_to(&rt, rt.alloc(), &Remainder::AllWritten, &OPENS_WHOLE));
+    assert!(rt; opens_to(&rt, rt.alloc(), &torn, &OPENS_SYNCED));
+    assert!(rt; opens_to(&rt, rt.alloc(), &nothing, &OPENS_SYNCED));
 }
+
+/// Damage is refused, and the files that are handed back are opened where it is tolerated.
+const DAMAGED: [Act; 2] = [
+    Refuses(STRICT, Cause::Corruption),
+    Uses(USUAL, &[&FIRST, &NO_SECOND]),
+];
 
 #[test]
-fn damage_is_refused_and_the_files_are_handed_back(
-    rt: HostRuntime,
-) -> std::result::Result<(), Fail> {
-    let torn = Remainder::First {
-        pieces: 0,
-        bytes: 20,
-    };
-    let files = crashed(&rt, rt.alloc(), &torn)?;
-    let Some(refused) = refused(&rt, rt.alloc(), files, RecoveryMode::AbsoluteConsistency)? else {
-        return Ok(assert!(rt; false));
-    };
-    assert!(rt; matches!(refused.error, Error::Corruption(_)));
-    assert!(rt; opens_to(&rt, rt.alloc(), refused.file_system, 0)?);
-    Ok(())
+fn damage_is_refused_and_the_files_are_handed_back(rt: HostRuntime) {
+    assert!(rt; opens_to(&rt, rt.alloc(), &torn(), &DAMAGED));
 }
 
-// Whether records of a log are found to be damaged where no damage is tolerated.
-fn is_damaged<R: Threads + Log + Sync, F: FileSystem + Sync + Drop>(
-    rt: &R,
-    alloc: Global,
-    files: F,
-) -> Result<bool> {
-    match refused(rt, alloc, files, RecoveryMode::AbsoluteConsistency)? {
-        Some(OpenRefused { error, .. }) => Ok(matches!(error, Error::Corruption(_))),
-        None => Ok(false),
-    }
-}
+/// Where none is tolerated a log with zeros behind its records isn't opened.
+const WITH_ZEROS: [Act; 1] = [Refuses(STRICT, Cause::Corruption)];
 
-// A log with a batch, closed.
-fn closed<R: Threads + Log + Sync, F: FileSystem + Sync + Drop>(
-    rt: &R,
-    alloc: Global,
-    files: F,
-) -> Result<F> {
-    let mut engine = open(rt, alloc, files, 1)?;
-    write(rt, alloc, &mut engine, 1, 1, true)?;
-    Ok(engine.close(rt))
-}
+/// One that was closed is.
+const WITHOUT_ZEROS: [Act; 2] = [Uses(BY_ONE, &[&[SYNCED]]), Uses(STRICT, &[])];
 
 #[test]
-fn zeros_behind_records_are_damage_where_none_is_tolerated(
-    rt: HostRuntime,
-) -> std::result::Result<(), Fail> {
-    assert!(rt;
-        is_damaged(
-            &rt,
-            rt.alloc(),
-            crashed(&rt, rt.alloc(), &Remainder::LastSync)?
-        )?
-    );
-    let files = closed(&rt, rt.alloc(), MemoryFileSystem::new(rt.alloc()))?;
-    assert!(rt; !is_damaged(&rt, rt.alloc(), files)?);
-    Ok(())
+fn zeros_behind_records_are_damage_where_none_is_tolerated(rt: HostRuntime) {
+    assert!(rt; opens_to(&rt, rt.alloc(), &Remainder::LastSync, &WITH_ZEROS));
+    assert!(rt; played(&rt, rt.alloc(), &WITHOUT_ZEROS));
 }
 
-// Whether an open is refused by the file system and hands the files back, and they open.
-fn opens_again<R: Threads + Log + Sync, F: FileSystem + Sync + Drop>(
-    rt: &R,
-    alloc: Global,
-    files: F,
-) -> Result<bool> {
-    match refused(rt, alloc, files, RecoveryMode::TolerateTailCorruption)? {
-        Some(OpenRefused { error, file_system }) => {
-            Ok(matches!(error, Error::Io(_)) & opens_to(rt, alloc, file_system, 2)?)
-        }
-        None => Ok(false),
-    }
-}
-
-// Whether so it is of one at which the changing call of this number is refused.
-fn opens_behind<R: Threads + Log + Sync>(rt: &R, alloc: Global, call: u64) -> Result<bool> {
-    let mut files = crashed(rt, alloc, &Remainder::AllWritten)?;
-    files.refuse_call(call)?;
-    opens_again(rt, alloc, files)
-}
-
-// Three runs of a group's entries were written, each to a file of its own behind the first one.
-fn in_three_files<R: Threads + Log + Sync, F: FileSystem + Sync + Drop>(
-    rt: &R,
-    alloc: Global,
-    files: F,
-) -> Result<F> {
-    let mut engine = open_small(rt, alloc, files)?;
-    for begin in [1u64, 3, 5] {
-        append(
-            rt,
-            alloc,
-            &mut engine,
-            1,
-            (begin, begin.saturating_add(2)),
-            b"abc",
-        )?;
-    }
-    Ok(engine.close(rt))
-}
-
-// The second run's file has lost its records.
-fn with_a_hole<R: Threads + Log + Sync>(rt: &R, alloc: Global) -> Result<MemoryFileSystem> {
-    let mut files = in_three_files(rt, alloc, MemoryFileSystem::new(alloc))?;
-    let Ok(handle) = files.open("d/0000000000000003.raftlog", Permission::ReadWrite) else {
-        return Err(Error::Full);
-    };
-    match files.truncate(handle, HEADER_LEN) {
-        Ok(()) => Ok(files),
-        Err(kind) => Err(Error::Io(kind)),
-    }
-}
-
-// Whether it is refused for the hole.
-fn is_refused_for_its_hole<R: Threads + Log + Sync>(rt: &R, alloc: Global) -> Result<bool> {
-    let files = with_a_hole(rt, alloc)?;
-    match refused(rt, alloc, files, RecoveryMode::TolerateAnyCorruption)? {
-        Some(OpenRefused { error, .. }) => Ok(matches!(error, Error::Hole)),
-        None => Ok(false),
-    }
-}
+/// Three runs of a group's entries are written, each to a file of its own behind the first one, and the second run's
+/// file loses all behind its header: the log isn't opened, whatever is tolerated.
+const WITH_A_HOLE: [Act; 3] = [
+    Uses(
+        SMALL,
+        &[&[Append(1, 1, 3), Append(1, 3, 5), Append(1, 5, 7)]],
+    ),
+    Cuts("d/0000000000000003.raftlog", 69),
+    Refuses(TOLERANT, Cause::Hole),
+];
 
 #[test]
-fn a_hole_between_files_is_refused(rt: HostRuntime) -> std::result::Result<(), Fail> {
-    assert!(rt; is_refused_for_its_hole(&rt, rt.alloc())?);
-    Ok(())
+fn a_hole_between_files_is_refused(rt: HostRuntime) {
+    assert!(rt; played(&rt, rt.alloc(), &WITH_A_HOLE));
 }
 
-#[test]
-fn a_refused_open_may_be_tried_again(rt: HostRuntime) -> std::result::Result<(), Fail> {
-    assert!(rt; opens_behind(&rt, rt.alloc(), 1)? & opens_behind(&rt, rt.alloc(), 2)?);
-    Ok(())
-}
+/// An open is refused by the file system at its first changing call, and may be tried again.
+const FIRST_CALL: [Act; 3] = [
+    Arms(1),
+    Refuses(USUAL, Cause::Io),
+    Uses(USUAL, &[&FIRST, &SECOND]),
+];
+
+/// So is one at its second.
+const SECOND_CALL: [Act; 3] = [
+    Arms(2),
+    Refuses(USUAL, Cause::Io),
+    Uses(USUAL, &[&FIRST, &SECOND]),
+];
 
 #[test]
-fn settings_are_checked_first(rt: HostRuntime) -> std::result::Result<(), Fail> {
-    let mut config = settings(rt.alloc(), 1, RecoveryMode::TolerateTailCorruption)?;
-    config.spill_dir = Some(String::from_str(rt.alloc(), "d")?);
-    let files = MemoryFileSystem::new(rt.alloc());
-    match Engine::open_with_file_system(&rt, rt.alloc(), config, files) {
-        Ok(_) => assert!(rt; false),
-        Err(refused) => {
-            assert!(rt; matches!(refused.error, Error::Other(_)));
-            assert!(rt; refused.file_system.list("d").is_err());
-        }
-    }
-    Ok(())
+fn a_refused_open_may_be_tried_again(rt: HostRuntime) {
+    let all = Remainder::AllWritten;
+    assert!(rt; opens_to(&rt, rt.alloc(), &all, &FIRST_CALL));
+    assert!(rt; opens_to(&rt, rt.alloc(), &all, &SECOND_CALL));
+}
+
+/// Settings in which both directories are one.
+const SPILLING: Settings = Settings {
+    workers: 1,
+    spill_directory: Some("d"),
+    ..USUAL
+};
+
+/// With them nothing is done.
+const CHECKED: [Act; 2] = [Refuses(SPILLING, Cause::Other), Lacks("d")];
+
+#[test]
+fn settings_are_checked_first(rt: HostRuntime) {
+    assert!(rt; played(&rt, rt.alloc(), &CHECKED));
 }

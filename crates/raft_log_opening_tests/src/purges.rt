@@ -1,269 +1,164 @@
 //! Tests of the Rust crate's purges, under their names: what stands behind a purge, whole or cut short, and an
 //! open.
-ghost use Rattle.std.specs.Prelude.{◌≡◌};
-ghost use Rattle.raft_log_records.specs.declared.log_batch.BatchState.TheVariants.{Filling};
-
-use super::logs::{append, has, open_small};
+use super::acts::uses;
+use super::batches::Word::{Delete, Put, Say};
+use super::settings::SMALL;
+use super::steps::Step;
+use super::steps::Step::{Append, Ends, Has, IsEmpty, Key, Rewrite, Write};
 use log::Log;
 use raft_log_base::Result;
 use raft_log_disk::FileSystem;
-use raft_log_dual_pipes::PipeLog;
-use raft_log_engine::Engine;
 use raft_log_items::Command;
 use raft_log_memory_files::MemoryFileSystem;
-use raft_log_records::LogBatch;
 use std::alloc::Global;
-use std::test::Fail;
 use std::thread::Threads;
 
-// A step on group 1 of a log.
-#[derive(Clone, Copy)]
-enum Step {
-    // Entries come, from an index on, below another one.
-    Append(u64, u64),
-    // Those below an index go.
-    Compact(u64),
-    // The group goes.
-    Clean,
-    // The key gets a value.
-    Put(&'static [u8]),
-    // It goes.
-    Delete,
-    // Append is rewritten, and that ends behind a step.
-    Purge(Option<u64>),
+/// Whether these steps on a log end so behind an open, and again behind a whole rewrite and another open.
+fn stands<R: Threads + Log + Sync, F: FileSystem + Sync + Drop>(
+    rt: &R,
+    alloc: Global,
+    files: F,
+    steps: &[&[Step]],
+    end: Step,
+) -> Result<bool> {
+    let (made, files) = uses(rt, alloc, &SMALL, files, steps)?;
+    let (first, files) = uses(rt, alloc, &SMALL, files, &[&[end, Rewrite(None)]])?;
+    let (second, _) = uses(rt, alloc, &SMALL, files, &[&[end]])?;
+    Ok(made & first & second)
 }
 
-const RUNS: [Step; 6] = [
-    Step::Append(1, 5),
-    Step::Clean,
-    Step::Append(2, 6),
-    Step::Clean,
-    Step::Append(3, 7),
-    Step::Clean,
+/// Whether they do on a log that begins.
+fn stands_behind<R: Threads + Log + Sync>(
+    rt: &R,
+    alloc: Global,
+    steps: &[&[Step]],
+    end: Step,
+) -> bool {
+    let files = MemoryFileSystem::new(alloc);
+    matches!(stands(rt, alloc, files, steps, end), Ok(true))
+}
+
+/// Whether they do with Append rewritten between two of the steps or behind the last, wherever and however far.
+fn stands_wherever_cut<R: Threads + Log + Sync>(
+    rt: &R,
+    alloc: Global,
+    steps: &[Step],
+    end: Step,
+) -> bool {
+    let mut all = true;
+    for number in 0..steps.len().saturating_mul(3) {
+        let (first, rest) = steps.split_at((number / 3 + 1).min(steps.len()));
+        let exit = match number % 3 {
+            0 => None,
+            step => Some(step as u64),
+        };
+        all = all & stands_behind(rt, alloc, &[first, &[Rewrite(exit)], rest], end);
+    }
+    all
+}
+
+/// Group 1 goes.
+const CLEAN: Step = Write(true, &[Say(1, Command::Clean)]);
+
+/// Runs of its entries.
+const FIRST: Step = Append(1, 1, 5);
+
+const SECOND: Step = Append(1, 2, 6);
+
+const THIRD: Step = Append(1, 3, 7);
+
+/// Of several runs the last stands, or none if it was cleaned.
+const RUNS: [(&[Step], Step); 5] = [
+    (&[FIRST, CLEAN], IsEmpty),
+    (&[FIRST, CLEAN, SECOND], Has(1, 2, 6)),
+    (&[FIRST, CLEAN, SECOND, CLEAN], IsEmpty),
+    (&[FIRST, CLEAN, SECOND, CLEAN, THIRD], Has(1, 3, 7)),
+    (&[FIRST, CLEAN, SECOND, CLEAN, THIRD, CLEAN], IsEmpty),
 ];
 
-const KEYS: [Step; 3] = [Step::Put(b"v1"), Step::Delete, Step::Put(b"v2")];
+#[test]
+fn test_clean_raft_group(rt: HostRuntime) {
+    for (steps, end) in RUNS.iter() {
+        assert!(rt; stands_wherever_cut(&rt, rt.alloc(), steps, *end));
+    }
+}
 
-const COMPACTED: [Step; 3] = [Step::Append(1, 10), Step::Purge(Some(2)), Step::Compact(5)];
+/// Its key gets a value, and another one, and goes.
+const PUT: Step = Write(true, &[Put(1, b"key", b"v1")]);
 
-const TWICE: [Step; 6] = [
-    Step::Append(5, 15),
-    Step::Compact(10),
-    Step::Purge(None),
-    Step::Append(15, 25),
-    Step::Purge(Some(2)),
-    Step::Compact(20),
+const AGAIN: Step = Write(true, &[Put(1, b"key", b"v2")]);
+
+const DELETE: Step = Write(true, &[Delete(1, b"key")]);
+
+/// The last word on the key stands.
+const WORDS: [(&[Step], Step); 2] = [
+    (&[PUT, DELETE], Key(1, None)),
+    (&[PUT, DELETE, AGAIN], Key(1, Some(b"v2"))),
 ];
 
-const BEFORE: [Step; 5] = [
-    Step::Append(1, 5),
-    Step::Purge(None),
-    Step::Append(5, 15),
-    Step::Compact(10),
-    Step::Purge(Some(2)),
+/// Append is rewritten behind the put and behind the delete.
+const DELETED: [Step; 4] = [PUT, Rewrite(None), DELETE, Rewrite(None)];
+
+#[test]
+fn test_delete_key_value(rt: HostRuntime) {
+    for (steps, end) in WORDS.iter() {
+        assert!(rt; stands_wherever_cut(&rt, rt.alloc(), steps, *end));
+    }
+    assert!(rt; stands_behind(&rt, rt.alloc(), &[&DELETED], Key(1, None)));
+}
+
+/// Entries of group 1 below an index go.
+const TO_5: Step = Write(true, &[Say(1, Command::Compact { index: 5 })]);
+
+const TO_10: Step = Write(true, &[Say(1, Command::Compact { index: 10 })]);
+
+const TO_17: Step = Write(true, &[Say(1, Command::Compact { index: 17 })]);
+
+const TO_20: Step = Write(true, &[Say(1, Command::Compact { index: 20 })]);
+
+/// Entries are compacted between and behind rewrites: in Append, in both queues, and in Rewrite.
+const COMPACTED: [(&[Step], Step); 3] = [
+    (&[Append(1, 1, 10), Rewrite(Some(2)), TO_5], Has(1, 5, 10)),
+    (
+        &[
+            Append(1, 5, 15),
+            TO_10,
+            Rewrite(None),
+            Append(1, 15, 25),
+            Rewrite(Some(2)),
+            TO_20,
+        ],
+        Has(1, 20, 25),
+    ),
+    (
+        &[
+            Append(1, 1, 5),
+            Rewrite(None),
+            Append(1, 5, 15),
+            TO_10,
+            Rewrite(Some(2)),
+        ],
+        Has(1, 10, 15),
+    ),
 ];
 
+#[test]
+fn test_compact_raft_group(rt: HostRuntime) {
+    for (steps, end) in COMPACTED.iter() {
+        assert!(rt; stands_behind(&rt, rt.alloc(), &[steps], *end));
+    }
+}
+
+/// All entries that were rewritten are replaced or compacted.
 const REPLACED: [Step; 5] = [
-    Step::Append(1, 21),
-    Step::Purge(None),
-    Step::Append(15, 17),
-    Step::Compact(17),
-    Step::Purge(None),
+    Append(1, 1, 21),
+    Rewrite(None),
+    Append(1, 15, 17),
+    TO_17,
+    Rewrite(None),
 ];
 
-// Adds what a step writes to a batch.
-fn add(alloc: Global, batch: &mut LogBatch, step: &Step) -> Result<()>
-    requires { batch.old.state ≡ Filling }
-{
-    match step {
-        Step::Compact(index) => batch.add_command(1, Command::Compact { index: *index })?,
-        Step::Clean => batch.add_command(1, Command::Clean)?,
-        Step::Put(value) => batch.put(alloc, 1, b"key", value)?,
-        Step::Delete => batch.delete(alloc, 1, b"key")?,
-        _ => {}
-    }
-    Ok(())
-}
-
-// Makes a step.
-fn make<R: Log, P: PipeLog>(
-    rt: &R,
-    alloc: Global,
-    engine: &mut Engine<P>,
-    step: &Step,
-) -> Result<()> {
-    match step {
-        Step::Append(begin, end) => append(rt, alloc, engine, 1, (*begin, *end), b"xxx"),
-        Step::Purge(exit) => engine.must_rewrite_append_queue(rt, None, *exit),
-        _ => {
-            let mut batch = LogBatch::default(alloc)?;
-            add(alloc, &mut batch, step)?;
-            engine.write(rt, &mut batch, true)?;
-            Ok(())
-        }
-    }
-}
-
-// Opens a log, makes steps, with a purge behind the one of this number, and closes it.
-fn left<R: Threads + Log + Sync, F: FileSystem + Sync + Drop>(
-    rt: &R,
-    alloc: Global,
-    files: F,
-    steps: &[Step],
-    (at, exit): (usize, Option<u64>),
-) -> Result<F> {
-    let mut engine = open_small(rt, alloc, files)?;
-    for (number, step) in steps.iter().enumerate() {
-        make(rt, alloc, &mut engine, step)?;
-        if number == at {
-            engine.must_rewrite_append_queue(rt, None, exit)?;
-        }
-    }
-    Ok(engine.close(rt))
-}
-
-// Whether a group has just the entries below an index, from another one on; or, for none, is no group.
-fn stands<P: PipeLog>(
-    alloc: Global,
-    engine: &mut Engine<P>,
-    ends: Option<(u64, u64)>,
-) -> Result<bool> {
-    match ends {
-        Some(ends) => has(alloc, engine, 1, ends, b"xxx"),
-        None => engine.is_empty(),
-    }
-}
-
-// Whether a log to which steps were made, with a purge behind the one of this number, holds such entries, also
-// behind a whole purge and another open.
-fn ends_as<R: Threads + Log + Sync, F: FileSystem + Sync + Drop>(
-    rt: &R,
-    alloc: Global,
-    files: F,
-    steps: &[Step],
-    cut: (usize, Option<u64>),
-    ends: Option<(u64, u64)>,
-) -> Result<bool> {
-    let files = left(rt, alloc, files, steps, cut)?;
-    let mut engine = open_small(rt, alloc, files)?;
-    let first = stands(alloc, &mut engine, ends)?;
-    engine.must_rewrite_append_queue(rt, None, None)?;
-    let mut engine = open_small(rt, alloc, engine.close(rt))?;
-    Ok(first & stands(alloc, &mut engine, ends)?)
-}
-
-// Whether the key has this value behind steps with a purge behind the one of this number, and an open.
-fn key_ends_as<R: Threads + Log + Sync, F: FileSystem + Sync + Drop>(
-    rt: &R,
-    alloc: Global,
-    files: F,
-    steps: &[Step],
-    cut: (usize, Option<u64>),
-    value: &[u8],
-) -> Result<bool> {
-    let files = left(rt, alloc, files, steps, cut)?;
-    let engine = open_small(rt, alloc, files)?;
-    match engine.get(1, b"key")? {
-        Some(found) => Ok(found.as_slice() == value),
-        None => Ok(value.is_empty()),
-    }
-}
-
-// Whether the last of so many runs stands, or none if it was cleaned, wherever a purge of each kind comes.
-fn last_run_stands<R: Threads + Log + Sync>(rt: &R, alloc: Global, count: usize) -> Result<bool> {
-    let steps = RUNS.get(..count).unwrap_or(&[]);
-    let ends = match steps.last() {
-        Some(Step::Append(begin, end)) => Some((*begin, *end)),
-        _ => None,
-    };
-    let mut all = true;
-    for at in 0..count {
-        for exit in [None, Some(1), Some(2)] {
-            let files = MemoryFileSystem::new(alloc);
-            all = all & ends_as(rt, alloc, files, steps, (at, exit), ends)?;
-        }
-    }
-    Ok(all)
-}
-
-// Whether the last word on the key stands, wherever a purge of each kind comes.
-fn last_word_stands<R: Threads + Log + Sync>(
-    rt: &R,
-    alloc: Global,
-    count: usize,
-    value: &[u8],
-) -> Result<bool> {
-    let steps = KEYS.get(..count).unwrap_or(&[]);
-    let mut all = true;
-    for at in 0..count {
-        for exit in [None, Some(2)] {
-            let files = MemoryFileSystem::new(alloc);
-            all = all & key_ends_as(rt, alloc, files, steps, (at, exit), value)?;
-        }
-    }
-    Ok(all)
-}
-
-// Whether the key is gone, where Append is rewritten behind the put and behind the delete.
-fn deleted_key_is_gone<R: Threads + Log + Sync>(rt: &R, alloc: Global) -> Result<bool> {
-    let steps = [Step::Put(b"v1"), Step::Purge(None), Step::Delete];
-    let files = MemoryFileSystem::new(alloc);
-    key_ends_as(rt, alloc, files, &steps, (2, None), b"")
-}
-
-// Whether a log to which steps were made holds such entries behind them.
-fn are_left<R: Threads + Log + Sync>(
-    rt: &R,
-    alloc: Global,
-    steps: &[Step],
-    ends: (u64, u64),
-) -> Result<bool> {
-    let files = MemoryFileSystem::new(alloc);
-    ends_as(rt, alloc, files, steps, (9, None), Some(ends))
-}
-
-// Whether no entry stands where steps were made.
-fn are_gone<R: Threads + Log + Sync, F: FileSystem + Sync + Drop>(
-    rt: &R,
-    alloc: Global,
-    files: F,
-    steps: &[Step],
-) -> Result<bool> {
-    let files = left(rt, alloc, files, steps, (9, None))?;
-    let engine = open_small(rt, alloc, files)?;
-    Ok(engine.first_index(1)?.is_none())
-}
-
 #[test]
-fn test_clean_raft_group(rt: HostRuntime) -> std::result::Result<(), Fail> {
-    let mut all = true;
-    for count in 2..7usize {
-        all = all & last_run_stands(&rt, rt.alloc(), count)?;
-    }
-    assert!(rt; all);
-    Ok(())
-}
-
-#[test]
-fn test_delete_key_value(rt: HostRuntime) -> std::result::Result<(), Fail> {
-    let alloc = rt.alloc();
-    assert!(rt; last_word_stands(&rt, alloc, 2, b"")? & last_word_stands(&rt, alloc, 3, b"v2")?);
-    assert!(rt; deleted_key_is_gone(&rt, alloc)?);
-    Ok(())
-}
-
-#[test]
-fn test_compact_raft_group(rt: HostRuntime) -> std::result::Result<(), Fail> {
-    let alloc = rt.alloc();
-    assert!(rt; are_left(&rt, alloc, &COMPACTED, (5, 10))?);
-    assert!(rt; are_left(&rt, alloc, &TWICE, (20, 25))?);
-    assert!(rt; are_left(&rt, alloc, &BEFORE, (10, 15))?);
-    Ok(())
-}
-
-#[test]
-fn replaced_and_compacted_entries_stay_gone(rt: HostRuntime) -> std::result::Result<(), Fail> {
-    let files = MemoryFileSystem::new(rt.alloc());
-    assert!(rt; are_gone(&rt, rt.alloc(), files, &REPLACED)?);
-    Ok(())
+fn replaced_and_compacted_entries_stay_gone(rt: HostRuntime) {
+    assert!(rt; stands_behind(&rt, rt.alloc(), &[&REPLACED], Ends(1, None, None)));
 }

@@ -27,10 +27,11 @@ recovery_of config queue workers = record {
   read_block_size = (settings_of config).recovery_read_block_size;
 }
 
--- the files of both queues that were found
+-- the files of Append that were found
 abbrev pub append_files : DualPipesBuilder → List File
 append_files b = b.append.files.items
 
+-- those of Rewrite
 abbrev pub rewrite_files : DualPipesBuilder → List File
 rewrite_files b = b.rewrite.files.items
 
@@ -39,11 +40,12 @@ abbrev pub all_workers : DualPipesBuilder → ℕ
 all_workers b = min (settings_of b.config).recovery_threads
     (length (append_files b) + length (rewrite_files b))
 
--- how each is read, by its share of them
+-- how those of Append are read, by their share of the workers
 abbrev pub append_config : DualPipesBuilder → RecoveryConfig
 append_config b = recovery_of b.config Append
     (append_share (all_workers b) (length (append_files b)) (length (rewrite_files b)))
 
+-- and those of Rewrite
 abbrev pub rewrite_config : DualPipesBuilder → RecoveryConfig
 rewrite_config b = recovery_of b.config Rewrite
     (rewrite_share (all_workers b) (length (append_files b)) (length (rewrite_files b)))

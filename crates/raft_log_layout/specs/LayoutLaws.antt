@@ -31,9 +31,11 @@ use Rattle.raft_log_layout.specs.PathLaws.{one_name, one_number, numbered_is, nu
 drop_front : (a b : List ℕ) → drop (length a) (a ++ b) ≡ b
 drop_front a b = drop_at a b (length a) refl
 
+-- what is taken from within the front is the front's
 take_front : (k : ℕ) (a b : List ℕ) → k ≤ length a → take k (a ++ b) ≡ take k a
 take_front k a b fits = take-append-le k a b fits
 
+-- zeros that are taken from zeros
 take_zeros : (k n : ℕ) → k ≤ n → take k (zeros n) ≡ replicate k 0
 take_zeros zero n fits = refl
 take_zeros (suc k) zero fits = absurd (omega (arith, fits))
@@ -41,6 +43,7 @@ take_zeros (suc k) (suc n) fits = ap (λ (b : List ℕ). 0 ∷ b) (take_zeros k 
 
 -- Headers.
 
+-- bytes begin with one header at most, which says one format
 one_header : (a b x y : List ℕ) (f g : LogFileFormat) → IsHeader a f → IsHeader b g → a ++ x ≡ b ++ y
     → (a ≡ b) × (f ≡ g)
 one_header = prefix_free is_header
@@ -65,6 +68,7 @@ second_header alignment = (
   refl,
 )
 
+-- the header of the first version
 first_header : IsHeader (header_bytes (record { version = V1; alignment = 0 }))
     (record { version = V1; alignment = 0 })
 unfolding header_bytes u64_bytes
@@ -77,6 +81,7 @@ first_header = (
   refl,
 )
 
+-- what is written as a header is one
 headed : (format : LogFileFormat) → IsWritable format → IsAHeader (header_bytes format)
 headed format has = of_version format.version format.alignment has
   where
@@ -127,11 +132,13 @@ whole_told bytes = elim (front_told bytes) [
 
 -- Records.
 
+-- a record has at least 21 bytes: a frame's head, a count and a checksum
 record_filled : (signature : Option ℕ) (bytes : List ℕ) (said : LogRecord)
     → IsRecord signature bytes said.items said.entries → 21 ≤ length bytes
 record_filled signature bytes said is = (let long = frames_take_bytes signature bytes is.block said.items
     is.frame in omega (arith, long))
 
+-- a record says by itself where it ends
 self_delimiting : (n : ℕ) (header : List ℕ) → IsSelfDelimiting (IsRecordIn n header)
 self_delimiting n header = record {
   apart = λ a b x y r s first next same.
@@ -150,6 +157,7 @@ in_format n header bytes format said says is =
     let same : is.format ≡ format = (one_header header header [] [] is.format format is.says says refl).1 in
     subst (λ (f : LogFileFormat). IsRecord (signature f.version n) bytes said.items said.entries) same is.is
 
+-- whether bytes begin with a record can be told
 records_told : (n : ℕ) (header : List ℕ) → CanTell (IsRecordIn n header)
 records_told n header bytes = elim (whole_told header) [
   | inr none ↦ inr (λ w rest is splits. none (is.format, is.says))
@@ -172,6 +180,7 @@ records_told n header bytes = elim (whole_told header) [
   ]
 ]
 
+-- whether a log's bytes begin with a header or a record can be told
 pub files_are_told : LogFilesAreTold
 files_are_told queue directories = record {
   headers = λ bytes. elim (front_told bytes) [
@@ -186,6 +195,7 @@ files_are_told queue directories = record {
 
 -- Zeros.
 
+-- there is no record within zeros
 pub zeros_hold_none : ZerosHoldNoRecord
 zeros_hold_none n size header ahead inside behind said splits is =
     let long = record_filled (signature is.format.version n) inside said is.is in
@@ -207,6 +217,7 @@ zeros_hold_none n size header ahead inside behind said splits is =
 
 -- The layout.
 
+-- a queue's headers, records and paths are a format of files
 log_is_format : (queue : LogQueue) (directories : List (List ℕ)) → IsFormat (log_format queue directories)
 log_is_format queue directories = record {
   free = self_delimiting;
@@ -231,6 +242,7 @@ reserved_apart Rewrite directories m n path at kept =
     (λ e. omega (arith, e)) (subst (λ (b : List ℕ). EndsWith (codes ".rewrite") b) same at.named.1)
     kept.named.1
 
+-- and with its directories they are a layout of files
 pub is_layout : (queue : LogQueue) (directories : List (List ℕ)) → 0 < length directories
     → IsLayout (log_format queue directories) (IsOwnPath queue directories) (log_paths queue directories)
 is_layout queue directories some = record {
@@ -255,6 +267,7 @@ ends_apart s t ds es i k j m n path here there differ a b =
     let same = one_name a.directory b.directory a.name b.name a.plain b.plain (sym a.joined ∙ b.joined) in
     other_end s t b.name i k j here there differ (subst (EndsWith s) same a.named.1) b.named.1
 
+-- no path is a file of both queues
 pub queues_are_apart : QueuesAreApart
 queues_are_apart append rewrite path (m, inl a) (n, inl b) =
     ends_apart (codes ".raftlog") (codes ".rewrite") append rewrite 7 7 0 m n path refl refl

@@ -33,6 +33,7 @@ no_longer d e x y plain same longer =
     let inside : get_or x k 0 ≡ 47 = sym (get_or-append-add d (47 ∷ x) (suc k) 0) ∙ slash in
     plain k (omega (arith, at, ap length same, length-append d (47 ∷ x), length-append e (47 ∷ y))) inside
 
+-- two names without a slash that end one path are one
 pub one_name : (d e x y : List ℕ) → IsPlain x → IsPlain y → d ++ 47 ∷ x ≡ e ++ 47 ∷ y → x ≡ y
 one_name d e x y plain also same = elim (cases_lt (length d) (length e)) [
   | inl shorter ↦ absurd (no_longer d e x y plain same shorter)
@@ -46,6 +47,7 @@ one_name d e x y plain also same = elim (cases_lt (length d) (length e)) [
   ]
 ]
 
+-- a path has one number
 pub one_number : (suffix : List ℕ) (directories : List (List ℕ)) (m n : ℕ) (path : List ℕ)
     → IsPathWith suffix directories m path → IsPathWith suffix directories n path → m ≡ n
 one_number suffix directories m n path a b =
@@ -74,6 +76,7 @@ no_slash (b ∷ bs) none (suc k) less is = elim (cases_Bool (nat_eq b 47)) [
       (omega (arith, less)) is
 ]
 
+-- names without a slash have none when joined
 plain_append : (a b : List ℕ) → IsPlain a → IsPlain b → IsPlain (a ++ b)
 plain_append a b first next k less is = elim (cases_lt k (length a)) [
   | inl here ↦ first k here (sym (get_or_append_left a b 0 k here) ∙ is)
@@ -86,12 +89,14 @@ padded_digits : (k n : ℕ) → n < 2 ^ 64 → AllDigits 10 (replicate k 48 ++ d
 padded_digits zero n fit = (decimal_is_IsNumeral n fit).0.1
 padded_digits (suc k) n fit = (omega arith, padded_digits k n fit)
 
+-- a file's number is written without a slash
 digits_plain : (n : ℕ) → n < 10 ^ 16 → IsPlain (sixteen_digits n)
 digits_plain n fit k less is = (let digit = digit_at (sixteen_digits n) k
     (padded_digits (16 - length (decimal n)) n (omega (arith, fit))) less in omega (arith, digit, is))
 
 -- The paths that are built.
 
+-- a number's digits and a suffix behind a directory are that number's path
 written_path : (suffix : List ℕ) (directories : List (List ℕ)) (place n : ℕ) → 0 < length directories
     → n < 10 ^ 16 → 0 < length suffix → has_no_slash suffix ≡ true
     → IsPathWith suffix directories n (directory_at directories place ++ 47 ∷ (sixteen_digits n ++ suffix))
@@ -111,6 +116,7 @@ written_path suffix directories place n some fit ended slashless = record {
           (get_or directories 0 []) beyond)) (Contains-get_or directories 0 [] some)
     ]
 
+-- the path that is built for a queue's file is that file's
 pub numbered_is : (queue : LogQueue) (directories : List (List ℕ)) (place n : ℕ) → 0 < length directories
     → n < 10 ^ 16 → IsPathWith (suffix_of queue) directories n (numbered_path queue directories place n)
 unfolding has_no_slash
@@ -137,6 +143,7 @@ numbered_lies Rewrite directories place n some inside fit = record {
   plain = (numbered_is Rewrite directories place n some fit).plain;
 }
 
+-- a reserved file's path is that of a file with the reserved suffix
 reserved_written : (queue : LogQueue) (directories : List (List ℕ)) (place n : ℕ) → 0 < length directories
     → n < 10 ^ 16 → 0 < length (reserved_suffix_of queue) → has_no_slash (reserved_suffix_of queue) ≡ true
     → IsPathWith (reserved_suffix_of queue) directories n (numbered_path queue directories place n
@@ -151,6 +158,7 @@ reserved_written queue directories place n some fit ended slashless =
     subst (IsPathWith (reserved_suffix_of queue) directories n) (sym joined)
     (written_path (reserved_suffix_of queue) directories place n some fit ended slashless)
 
+-- and so is each queue's, whose number is the greatest one where it has over sixteen digits
 pub reserved_is : (queue : LogQueue) (directories : List (List ℕ)) (place n : ℕ) → 0 < length directories
     → IsPathWith (reserved_suffix_of queue) directories (min n (10 ^ 16 - 1))
     (reserved_path queue directories place n)

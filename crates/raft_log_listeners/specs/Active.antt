@@ -54,10 +54,11 @@ with_count by (Some place) h =
 abbrev pub counted : (ℕ → ℕ) → LogQueue → ℕ → ActiveFiles → ActiveFiles
 counted by queue seq h = with_count by (place_of queue seq h) h
 
--- one more, up to the greatest number that there is, and one less
+-- one more, up to the greatest number that there is
 abbrev pub one_more : ℕ → ℕ
 one_more n = min (n + 1) (2 ^ 64 - 1)
 
+-- one less, down to none
 abbrev pub one_less : ℕ → ℕ
 one_less n = n - 1
 

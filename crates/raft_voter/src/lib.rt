@@ -6,8 +6,8 @@
 //! answers and what it becomes are the rules of `raft_voter_outline`, case by case, and its outline
 //! decides by them. A `Transcript` tells which requests came in which rounds and what was answered;
 //! `judge` says whether voters that never fail explain it. A `RoundService` serves such rounds and keeps
-//! the voters where a crash leaves them, and `StoreFiles` keep them while it isn't open. Requests, replies, rounds and their stored bytes are those of
-//! `raft_voter_messages`.
+//! the voters where a crash leaves them, and `StoreFiles` keep them while it isn't open. Requests, replies,
+//! rounds and their stored bytes are those of `raft_voter_messages`.
 #![tactic(auto)]
 
 mod judging;

@@ -34,6 +34,9 @@ const ONE_MISSING: [Row; 1] = [(
     &[(1, 1, 2), (2, 4, 1), (1, 4, 1)],
 )];
 
+/// The path of the last file with holes before it.
+const LAST: &str = "d/0000000000000003.raftlog";
+
 /// Holes between the files, of two groups: the first one of each counts, and a lower run after it changes
 /// nothing.
 const ACROSS: [Row; 3] = [
@@ -49,12 +52,7 @@ const ACROSS: [Row; 3] = [
         2,
         &[(9, 5, 1), (3, 2, 1), (9, 9, 1)],
     ),
-    (
-        "d/0000000000000003.raftlog",
-        LogQueue::Append,
-        3,
-        &[(3, 9, 1), (9, 2, 3)],
-    ),
+    (LAST, LogQueue::Append, 3, &[(3, 9, 1), (9, 2, 3)]),
 ];
 
 /// Group 1 has a hole in both queues, group 2 in Append alone; between the queues there is none.
@@ -143,16 +141,32 @@ fn rewrite_goes_before_append(rt: HostRuntime) -> std::result::Result<(), Fail> 
     Ok(())
 }
 
+// A log with holes, and damage of six bytes behind the last file.
+fn damaged(alloc: Global) -> Result<MemoryFileSystem> {
+    let mut files = log_of(alloc, &ACROSS)?;
+    let size = size_of(&files, LAST)?;
+    let handle = files.open(LAST, Permission::ReadWrite)?;
+    files.write_at(handle, size, b"damage")?;
+    Ok(files)
+}
+
+// Whether a check of the directory finds this.
+fn tells<R: Threads + Log + Sync>(
+    rt: &R,
+    alloc: Global,
+    files: &mut MemoryFileSystem,
+    want: &[(u64, u64)],
+) -> Result<bool> {
+    let findings = consistency_check_with_file_system(rt, alloc, "d", files)?;
+    Ok(findings.as_slice() == want)
+}
+
 #[test]
 fn a_directory_is_checked(rt: HostRuntime) -> std::result::Result<(), Fail> {
-    let mut files = log_of(rt.alloc(), &ACROSS)?;
-    let path = "d/0000000000000003.raftlog";
-    let size = size_of(&files, path)?;
-    let handle = files.open(path, Permission::ReadWrite)?;
-    files.write_at(handle, size, b"damage")?;
-    let findings = consistency_check_with_file_system(&rt, rt.alloc(), "d", &mut files)?;
-    assert!(rt; findings.as_slice() == [(3, 2), (9, 3)].as_slice());
-    assert!(rt; size_of(&files, path)? == size);
+    let mut files = damaged(rt.alloc())?;
+    let size = size_of(&files, LAST)?;
+    assert!(rt; tells(&rt, rt.alloc(), &mut files, &[(3, 2), (9, 3)])?);
+    assert!(rt; size_of(&files, LAST)?.wrapping_add(6) == size);
     Ok(())
 }
 

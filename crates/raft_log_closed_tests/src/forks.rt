@@ -63,6 +63,22 @@ fn refuses(rt: &HostRuntime, config: &Config, target: &str, text: &str) -> Resul
     }
 }
 
+// The paths of what is copied into `t`.
+fn copied(rt: &HostRuntime, system: &mut MemoryFileSystem) -> Result<Vec<String>> {
+    let config = settings(rt.alloc())?;
+    let details = fork(rt, rt.alloc(), &config, system, "t")?;
+    Ok(details.copied)
+}
+
+// Whether these are the paths.
+fn are(paths: &[String], wanted: &[&str]) -> bool {
+    paths.len() == wanted.len()
+        && paths
+            .iter()
+            .zip(wanted.iter())
+            .all(|(path, want)| path.as_str() == *want)
+}
+
 #[test]
 fn files_of_both_queues_are_copied(rt: HostRuntime) -> Result<(), Fail> {
     let files = [
@@ -73,13 +89,13 @@ fn files_of_both_queues_are_copied(rt: HostRuntime) -> Result<(), Fail> {
         "d/notes.txt",
     ];
     let mut system = holding(rt.alloc(), &files)?;
-    let config = settings(rt.alloc())?;
-    let details = fork(&rt, rt.alloc(), &config, &mut system, "t")?;
-    let copied = details.copied.as_slice();
-    assert!(rt; copied.len() == 3 && system.list("t")?.len() == 3);
-    assert!(rt; copied[0].as_str() == "t/0000000000000007.rewrite");
-    assert!(rt; copied[1].as_str() == "t/0000000000000001.raftlog");
-    assert!(rt; copied[2].as_str() == "t/0000000000000002.raftlog");
+    let wanted = [
+        "t/0000000000000007.rewrite",
+        "t/0000000000000001.raftlog",
+        "t/0000000000000002.raftlog",
+    ];
+    assert!(rt; are(copied(&rt, &mut system)?.as_slice(), &wanted));
+    assert!(rt; system.list("t")?.len() == 3);
     assert!(rt; byte_of(&system, "t/0000000000000002.raftlog")? == 1);
     Ok(())
 }
@@ -88,9 +104,7 @@ fn files_of_both_queues_are_copied(rt: HostRuntime) -> Result<(), Fail> {
 fn of_a_doubled_number_the_spill_directory_has_the_file(rt: HostRuntime) -> Result<(), Fail> {
     let files = ["d/0000000000000002.raftlog", "s/0000000000000002.raftlog"];
     let mut system = holding(rt.alloc(), &files)?;
-    let config = settings(rt.alloc())?;
-    let details = fork(&rt, rt.alloc(), &config, &mut system, "t")?;
-    assert!(rt; details.copied.len() == 1);
+    assert!(rt; copied(&rt, &mut system)?.len() == 1);
     assert!(rt; byte_of(&system, "t/0000000000000002.raftlog")? == 1);
     Ok(())
 }

@@ -130,24 +130,21 @@ pub fn played(
     Ok(count(rt, &mut fresh(rt, refused)?, steps))
 }
 
-/// How many steps end so behind others, where all of these do.
-fn count_behind<L: Log, P: PipeLog>(
+/// Whether some steps end so, and others behind them.
+fn end_both<L: Log, P: PipeLog>(
     rt: &L,
     store: &mut Store<P>,
     first: &[(Step, End)],
     steps: &[(Step, End)],
-) -> usize {
-    if count(rt, store, first) < first.len() {
-        return 0;
-    }
-    count(rt, store, steps)
+) -> bool {
+    count(rt, store, first) == first.len() && count(rt, store, steps) == steps.len()
 }
 
-/// How many do on a log that begins.
-pub fn played_behind(
+/// Whether they do on a log that begins.
+pub fn ends_behind(
     rt: &HostRuntime,
     first: &[(Step, End)],
     steps: &[(Step, End)],
-) -> std::result::Result<usize, Fail> {
-    Ok(count_behind(rt, &mut fresh(rt, 0)?, first, steps))
+) -> std::result::Result<bool, Fail> {
+    Ok(end_both(rt, &mut fresh(rt, 0)?, first, steps))
 }

@@ -19,25 +19,33 @@ fn with_changes(rt: &HostRuntime) -> Result<(MemoryFileSystem, Handle), Fail> {
     Ok((system, file))
 }
 
+// Writes a record and syncs it, many times.
+fn sync_each(system: &mut MemoryFileSystem, file: Handle) -> Result<(), Fail> {
+    for turn in 0..SYNCS {
+        system.write_at(file, turn.wrapping_mul(16), b"a record, 16 B.\n")?;
+        system.sync(file)?;
+    }
+    Ok(())
+}
+
+// The sizes of both files behind a crash that keeps ten changes of all that weren't synced.
+fn kept(system: &MemoryFileSystem) -> Result<(usize, usize), Fail> {
+    let after = system.remainder(&Remainder::First {
+        pieces: 10,
+        bytes: 0,
+    })?;
+    let file = after.open("d/file", Permission::ReadOnly)?;
+    let other = after.open("d/other", Permission::ReadOnly)?;
+    Ok((after.file_size(file)?, after.file_size(other)?))
+}
+
 // Were a sync to walk over the changes of all files, or to copy its file, this would be ten thousand
 // million steps.
 #[test]
 fn a_sync_costs_what_its_file_has_unsynced(rt: HostRuntime) -> Result<(), Fail> {
     let (mut system, file) = with_changes(&rt)?;
-    for turn in 0..SYNCS {
-        system.write_at(file, turn.wrapping_mul(16), b"a record, 16 B.\n")?;
-        system.sync(file)?;
-    }
+    sync_each(&mut system, file)?;
     assert!(rt; system.file_size(file)? == 1_600_000);
-    let after = system.remainder(&Remainder::First {
-        pieces: 10,
-        bytes: 0,
-    })?;
-    let kept = (
-        after.open("d/file", Permission::ReadOnly)?,
-        after.open("d/other", Permission::ReadOnly)?,
-    );
-    assert!(rt; after.file_size(kept.0)? == 1_600_000);
-    assert!(rt; after.file_size(kept.1)? == 10);
+    assert!(rt; kept(&system)? == (1_600_000, 10));
     Ok(())
 }

@@ -1,6 +1,6 @@
 //! What stands in a file that is written, and what is read of it.
 use log::sink::Memory;
-use log::{Level, Logged};
+use log::{Level, Log, Logged};
 use raft_log_base::{FileBlockHandle, FileId, LogQueue, Version};
 use raft_log_disk::FileSystem;
 use raft_log_file::{LogFileReader, LogFileWriter, build_file_reader, build_file_writer};
@@ -43,16 +43,36 @@ fn block(offset: u64, len: usize) -> FileBlockHandle {
     FileBlockHandle { id, offset, len }
 }
 
+// Writes a record, for which room is made up to a size.
+fn save<R: Log>(
+    rt: &R,
+    system: &mut MemoryFileSystem,
+    writer: &mut LogFileWriter,
+    target: usize,
+) -> Result<(), Fail> {
+    writer.write(rt, system, &RECORD, target)?;
+    Ok(())
+}
+
+// Where the records end, and how large the file is.
+fn ends(
+    system: &MemoryFileSystem,
+    writer: &LogFileWriter,
+    reader: &LogFileReader,
+) -> Result<(usize, usize), Fail> {
+    Ok((writer.offset(), reader.file_size(system)?))
+}
+
 #[test]
 fn record_is_written_ahead_and_cut(rt: HostRuntime) -> Result<(), Fail> {
     let mut system = prepared(rt.alloc())?;
     let (mut writer, reader) = begun(&rt, &mut system)?;
-    assert!(rt; (writer.offset(), reader.file_size(&system)?) == (69, 69));
-    writer.write(&rt, &mut system, &RECORD, 1024)?;
+    assert!(rt; ends(&system, &writer, &reader)? == (69, 69));
+    save(&rt, &mut system, &mut writer, 1024)?;
     writer.sync(&mut system)?;
-    assert!(rt; (writer.offset(), reader.file_size(&system)?) == (134, 1024));
+    assert!(rt; ends(&system, &writer, &reader)? == (134, 1024));
     writer.close(&mut system)?;
-    assert!(rt; (writer.offset(), reader.file_size(&system)?) == (134, 134));
+    assert!(rt; ends(&system, &writer, &reader)? == (134, 134));
     Ok(())
 }
 
@@ -60,12 +80,12 @@ fn record_is_written_ahead_and_cut(rt: HostRuntime) -> Result<(), Fail> {
 fn two_mebibytes_are_allocated_ahead_at_most(rt: HostRuntime) -> Result<(), Fail> {
     let mut system = prepared(rt.alloc())?;
     let (mut writer, reader) = begun(&rt, &mut system)?;
-    writer.write(&rt, &mut system, &RECORD, 134_217_728)?;
-    assert!(rt; reader.file_size(&system)? == 69 + 2_097_152);
-    writer.write(&rt, &mut system, &RECORD, 134_217_728)?;
-    assert!(rt; reader.file_size(&system)? == 69 + 2_097_152);
+    save(&rt, &mut system, &mut writer, 134_217_728)?;
+    assert!(rt; ends(&system, &writer, &reader)? == (134, 69 + 2_097_152));
+    save(&rt, &mut system, &mut writer, 134_217_728)?;
+    assert!(rt; ends(&system, &writer, &reader)? == (199, 69 + 2_097_152));
     writer.truncate(&mut system)?;
-    assert!(rt; reader.file_size(&system)? == 199);
+    assert!(rt; ends(&system, &writer, &reader)? == (199, 199));
     Ok(())
 }
 
@@ -74,7 +94,7 @@ fn records_are_read_back(rt: HostRuntime) -> Result<(), Fail> {
     let alloc = rt.alloc();
     let mut system = prepared(alloc)?;
     let (mut writer, reader) = begun(&rt, &mut system)?;
-    writer.write(&rt, &mut system, &RECORD, 0)?;
+    save(&rt, &mut system, &mut writer, 0)?;
     assert!(rt; reader.parse_format(alloc, &system)? == second());
     assert!(rt; reader.read(alloc, &system, block(69, 65))?.as_slice() == RECORD.as_slice());
     assert!(rt; reader.read(alloc, &system, block(130, 65))?.as_slice() == &RECORD[..4]);
@@ -83,21 +103,20 @@ fn records_are_read_back(rt: HostRuntime) -> Result<(), Fail> {
     Ok(())
 }
 
+// Whether what was logged is that no room was allocated.
+fn is_told(lines: &[String]) -> bool {
+    lines.len() == 1 && lines[0].contains("log file allocation failed: ")
+}
+
 #[test]
 fn refused_allocation_is_logged(rt: HostRuntime) -> Result<(), Fail> {
     let mut system = prepared(rt.alloc())?;
     let (mut writer, reader) = begun(&rt, &mut system)?;
     let sink = Memory::new(rt.alloc());
     system.refuse_call(1)?;
-    writer.write(
-        &Logged::new(&rt, Level::Warn, &sink),
-        &mut system,
-        &RECORD,
-        1024,
-    )?;
-    assert!(rt; (writer.offset(), reader.file_size(&system)?) == (134, 134));
-    let lines = sink.into_lines();
-    assert!(rt; lines.len() == 1);
-    assert!(rt; lines.as_slice()[0].contains("log file allocation failed: "));
+    let logged = Logged::new(&rt, Level::Warn, &sink);
+    save(&logged, &mut system, &mut writer, 1024)?;
+    assert!(rt; ends(&system, &writer, &reader)? == (134, 134));
+    assert!(rt; is_told(sink.into_lines().as_slice()));
     Ok(())
 }

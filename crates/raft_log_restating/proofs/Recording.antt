@@ -1,12 +1,13 @@
 -- Records that are written to Rewrite, or refused there.
-use Rattle.std.proofs.Common.{◌≡◌, List, inr, subst}
+use Rattle.std.proofs.Common.{◌≡◌, ◌+◌, ◌-◌, ◌^◌, ℕ, List, cond, inl, inr, min, ap, arith, subst, sym, ◌∙◌}
 use Rattle.std.specs.Prelude.{Err, Ok}
+use Rattle.std.proofs.lemmas.Bool.Decides.{nat_tests}
 use Rattle.raft_log_disk.specs.Causes.{IsLater}
 use Rattle.raft_log_base.specs.declared.errors.Error.{Error}
 use Rattle.raft_log_base.specs.declared.pipe_log.FileBlockHandle.{FileBlockHandle}
 use Rattle.raft_log_items.specs.declared.item.LogItem.{LogItem}
 use Rattle.raft_log_items.specs.Placed.{written}
-use Rattle.raft_log_records.specs.Batch.{Batch, block_place}
+use Rattle.raft_log_records.specs.Batch.{Batch, block_place, IsReadyForEach}
 use Rattle.raft_log_signed_batch.specs.Signing.{signed_for}
 use Rattle.raft_log_directory.specs.Calls.Which.{InRewrite}
 use Rattle.raft_log_dual_pipes.specs.Pipes.{LogPipes}
@@ -14,7 +15,7 @@ use Rattle.raft_log_dual_pipes.specs.Calls.{AppendsTo, FailsToAppendTo, TellsFai
 use Rattle.raft_log_dual_pipes.specs.Numbers.{EndsNumbersAt}
 use Rattle.raft_log_rewriting.specs.Parts.{IsRecordMade}
 use Rattle.raft_log_rewriting.proofs.Parts.{alive_ok, later_on, same_record, tells_err}
-use Rattle.raft_log_rewriting.specs.Syncing.{MaySync}
+use Rattle.raft_log_rewriting.specs.Syncing.{left_unsynced, CountsRecord, MaySync, SyncsIfDue}
 use Rattle.raft_log_restating.specs.Records.{FailsToWrite, WritesRecord}
 
 module _ (b made : Batch) (v mid w : LogPipes) (syncs : MaySync v mid) (is : IsRecordMade b made) (before : IsLater v.disk mid.disk) (later : IsLater mid.disk w.disk) where
@@ -44,3 +45,14 @@ module _ (b made : Batch) (v mid w : LogPipes) (syncs : MaySync v mid) (is : IsR
     tells = λ lived. tells_err {A = A} error w tells;
     later = later_on v.disk mid.disk w.disk before later;
   }
+
+-- what is left unsynced behind a sync that is made where it is due
+left_is : (old now : ℕ) (v w : LogPipes) → SyncsIfDue old now v w → now ≡ left_unsynced old
+left_is old now v w (inl p) = grind (arith, nat_tests, p.0, p.1)
+left_is old now v w (inr p) = grind (arith, nat_tests, p.0, p.1)
+
+-- a record that is written behind it counts
+pub counts_record : (b : Batch) (old now new len : ℕ) (v w : LogPipes) → SyncsIfDue old now v w
+    → IsReadyForEach len b.items b.entries → new ≡ min (now + len) (2 ^ 64 - 1) → CountsRecord b old new
+counts_record b old now new len v w due ready is =
+    (len, ready, is ∙ ap (λ n. min (n + len) (2 ^ 64 - 1)) (left_is old now v w due))

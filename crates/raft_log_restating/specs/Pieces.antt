@@ -1,5 +1,5 @@
 -- What a batch says that restates a part of a group: entries one behind another, and keys with their values.
-use Rattle.std.specs.Prelude.{◌≡◌, ◌⊎◌, ℕ, List, [], ◌∷◌, ◌++◌, length, map}
+use Rattle.std.specs.Prelude.{◌≡◌, ◌⊎◌, ℕ, List, [], ◌∷◌, ◌++◌, length, map, sum_by, ◌≤◌}
 use Rattle.raft_log_model.specs.Item.{Item, Tagged}
 use Rattle.raft_log_model.specs.Item.Item.{Put, Run}
 use Rattle.raft_log_base.specs.declared.pipe_log.FileBlockHandle.{FileBlockHandle}
@@ -68,3 +68,11 @@ abbrev pub FailsToBuild : List EntryIndex → List (List ℕ × List ℕ) → Lo
 FailsToBuild es pairs v old new error = AreUnread as_bytes v es old new error
     ⊎ ((read : List EntryBytes) × ReadsEntries as_bytes v es old new read
     × (IsEntriesRefusal error 0 (indexes_of es) (map (λ e. e.bytes) read) ⊎ AreUnput pairs error))
+
+-- how many bytes of entries a record has that restates a part of a group, but for an entry that has more
+abbrev pub max_piece : ℕ
+max_piece = 131072
+
+-- these entries make one such record: together they have no more, or there is but one
+abbrev pub MakeOnePiece : List EntryIndex → Type 0
+MakeOnePiece es = (length es ≤ 1) ⊎ (sum_by (λ e. e.entry_len) es ≤ max_piece)

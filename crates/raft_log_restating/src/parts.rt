@@ -1,8 +1,9 @@
 //! A group is restated by an atomic group: a record that begins it, those between, and a batch that ends it.
 
-ghost use Rattle.std.specs.Prelude.{◌≡◌, ◌+◌, ◌≤◌, ◌<◌, ◌++◌, List, [], ◌∷◌, None, length, IfErr, IfOk, OnOk};
+ghost use Rattle.std.specs.Prelude.{◌≡◌, ◌+◌, ◌≤◌, ◌<◌, ◌++◌, List, [], ◌∷◌, None, drop, length, IfErr, IfOk, OnOk};
 ghost use Rattle.raft_log_records.specs.AtomicGroup.{IsOpen};
 ghost use Rattle.raft_log_records.specs.declared.log_batch.BatchState.TheVariants.{Filling};
+ghost use Rattle.raft_log_restating.specs.Pieces.{MakeOnePiece};
 ghost use Rattle.raft_log_restating.specs.Records.{FailsToWrite, WritesRecord};
 ghost use Rattle.raft_log_restating.specs.declared.parts.RestatedPart.{RestatedPart};
 ghost use Rattle.raft_log_restating.specs.Steps.{BeginsParts, FailsToBegin, GivesUp, GivesUpLast};
@@ -65,7 +66,7 @@ pub fn begin_parts<P: PipeLog, L: Log>(
 }
 
 /// Goes on with an atomic group by parts that have the entries from there on, but for those that the last part
-/// is to have: the answer is where these begin.
+/// is to have, which make one record: the answer is where these begin.
 ///
 /// Refused as `write_middle`: the group is given up.
 pub fn write_middles<P: PipeLog, L: Log>(
@@ -87,6 +88,7 @@ pub fn write_middles<P: PipeLog, L: Log>(
     ensures err { IfErr result (λ error. GivesUp group builder.old.id entries.now begin parts.old.items error
         (P.shown pipes.old) cache.old (P.shown pipes.new) cache.new) }
     ensures left { IfOk result (λ done. done < length entries.now) }
+    ensures last { IfOk result (λ done. MakeOnePiece (drop done entries.now)) }
     ensures open { OnOk result (IsOpen builder.new.status) }
     ensures same { OnOk result (builder.new.id ≡ builder.old.id) }
 {

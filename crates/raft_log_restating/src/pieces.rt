@@ -1,12 +1,12 @@
 //! What stands of a group in Rewrite, and batches that say it again.
 
-ghost use Rattle.std.specs.Prelude.{◌≡◌, ◌≤◌, ◌<◌, [], length, map, IfErr, IfOk, OnOk};
+ghost use Rattle.std.specs.Prelude.{◌≡◌, ◌≤◌, ◌<◌, [], length, map, take, IfErr, IfOk, OnOk};
 ghost use Rattle.raft_log_held.specs.Listing.{ListsAll, rewritten_values};
 ghost use Rattle.raft_log_records.specs.declared.log_batch.BatchState.TheVariants.{Filling};
 ghost use Rattle.raft_log_replay.specs.Tables.{shown_of};
 ghost use Rattle.raft_log_tables.specs.Reads.{rewritten_entries};
 ghost use Rattle.raft_log_rewriting.specs.Refusals.{AreUnput};
-ghost use Rattle.raft_log_restating.specs.Pieces.{AddsKeys, BuildsPiece, FailsToBuild};
+ghost use Rattle.raft_log_restating.specs.Pieces.{AddsKeys, BuildsPiece, FailsToBuild, MakeOnePiece};
 
 use raft_log_base::Result;
 use raft_log_dual_pipes::PipeLog;
@@ -50,9 +50,11 @@ pub fn rewritten_keys(
     Ok(pairs)
 }
 
-/// How many of the entries, from the first on, are written as one record: one at least, where there is one.
+/// How many of the entries, from the first on, are written as one record: one at least, where there is one, and
+/// more as long as all of them have at most 128 KiB.
 pub fn piece_len(entries: &[EntryIndex]) -> usize
     ensures few { result ≤ length entries.now }
+    ensures piece { MakeOnePiece (take result entries.now) }
     ensures some { 0 < length entries.now → 0 < result }
 {
     let mut left = MAX_PIECE_LEN;

@@ -1,8 +1,9 @@
 //! A record is written to Rewrite.
 
-ghost use Rattle.std.specs.Prelude.{◌≡◌, IfErr, IfOk};
+ghost use Rattle.std.specs.Prelude.{◌≡◌, IfErr, IfOk, OnOk};
 ghost use Rattle.raft_log_records.specs.declared.log_batch.BatchState.TheVariants.{Filling};
 ghost use Rattle.raft_log_restating.specs.Records.{FailsToWrite, WritesRecord};
+ghost use Rattle.raft_log_rewriting.specs.Syncing.{CountsRecord};
 
 use log::Log;
 use raft_log_base::{FileBlockHandle, LogQueue, Result};
@@ -36,6 +37,7 @@ pub fn write_record<P: PipeLog, L: Log>(
     ensures ok { IfOk result (λ r. WritesRecord batch r.block r.batch.items
         (P.shown pipes.old) (P.shown pipes.new)) }
     ensures err { IfErr result (λ error. FailsToWrite batch error (P.shown pipes.old) (P.shown pipes.new)) }
+    ensures counted { OnOk result (CountsRecord batch unsynced.old unsynced.new) }
 {
     let mut batch = batch;
     let len = batch.finish_populate()?;

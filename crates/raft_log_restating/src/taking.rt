@@ -12,6 +12,7 @@ ghost use Rattle.raft_log_restating.specs.Taking.{
   WritesLast,
   first_file_of,
 };
+ghost use Rattle.raft_log_rewriting.specs.Syncing.{CountsRecord};
 
 use crate::parts::RestatedPart;
 use log::Log;
@@ -43,6 +44,7 @@ pub fn write_last<P: PipeLog, L: Log>(
         (P.shown pipes.old) tables.old (P.shown pipes.new) tables.new) }
     ensures err { IfErr result (λ error. FailsToWriteLast batch error
         (P.shown pipes.old) tables.old (P.shown pipes.new) tables.new) }
+    ensures counted { OnOk result (CountsRecord batch unsynced.old unsynced.new) }
     ensures rests { IsAtRest tables.old → IsAtRest tables.new }
 {
     let mut batch = batch;

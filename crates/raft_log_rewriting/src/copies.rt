@@ -1,14 +1,15 @@
 //! Copies are written to Rewrite, and what they are of lies there from then on.
 
-ghost use Rattle.std.specs.Prelude.{◌≡◌, [], Some, IfErr, IfOk};
+ghost use Rattle.std.specs.Prelude.{◌≡◌, ◌+◌, ◌-◌, ◌^◌, ℕ, [], Some, min, IfErr, IfOk, OnOk};
 ghost use Rattle.raft_log_atomic_groups.specs.Meaning.{tagged_items};
 ghost use Rattle.raft_log_purge_state.specs.raft_log_blocks.specs.declared.block_cache.BlockCache.{BlockCache};
 ghost use Rattle.raft_log_purge_state.specs.raft_log_engine_state.specs.Shows.{shows};
 ghost use Rattle.raft_log_records.specs.declared.log_batch.BatchState.TheVariants.{Filling, Populated};
-ghost use Rattle.raft_log_records.specs.Batch.{emptied, IsButBuffer};
+ghost use Rattle.raft_log_records.specs.Batch.{emptied, IsButBuffer, IsReadyForEach};
 ghost use Rattle.raft_log_replay.specs.Rewriting.{MayMove};
 ghost use Rattle.raft_log_replay.specs.Tables.{IsAtRest};
 ghost use Rattle.raft_log_rewriting.specs.Copies.{FailsToCopy, MovesCopies, WritesCopies};
+ghost use Rattle.raft_log_rewriting.specs.Syncing.{CountsCopies};
 
 use crate::syncing::sync_if_due;
 use log::Log;
@@ -40,6 +41,7 @@ pub fn write_copies<P: PipeLog, L: Log>(
     ensures err { IfErr result (λ error. (cache : BlockCache) → FailsToCopy (Some gate) batch error
         (shows (P.shown pipes.old) tables.old cache) (shows (P.shown pipes.new) tables.new cache)) }
     ensures emptied { IfOk result (IsButBuffer (emptied batch)) }
+    ensures counted { OnOk result (CountsCopies batch unsynced.old unsynced.new) }
     ensures rests { IsAtRest tables.old → IsAtRest tables.new }
 {
     if batch.is_empty() {
@@ -66,6 +68,8 @@ fn write_batch<P: PipeLog, L: Log>(
     ensures err { IfErr result (λ error. (cache : BlockCache) → FailsToCopy (Some gate) batch error
         (shows (P.shown pipes.old) tables.old cache) (shows (P.shown pipes.new) tables.new cache)) }
     ensures emptied { IfOk result (IsButBuffer (emptied batch)) }
+    ensures counted { OnOk result ((len : ℕ) × IsReadyForEach len batch.items batch.entries
+        × (unsynced.new ≡ min (unsynced.old + len) (2 ^ 64 - 1))) }
     ensures rests { IsAtRest tables.old → IsAtRest tables.new }
 {
     let mut batch = batch;

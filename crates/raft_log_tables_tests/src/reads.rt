@@ -1,5 +1,5 @@
 //! What is read of a table to be written again, marks that are owed, and scans.
-use super::play::Step::{Append, Clean, Compact, Delete, Move, Put, Rewrite};
+use super::play::Step::{Append, Clean, Clear, Compact, Delete, Move, Put, Rewrite};
 use super::play::{Step, played, run};
 use raft_log_base::{FileId, LogQueue};
 use raft_log_tables::MemTable;
@@ -71,10 +71,15 @@ fn counts(alloc: Global, table: &MemTable) -> Result<String, AllocError> {
     format!(in alloc; "{counts:?}")
 }
 
+/// Whether so many stand there.
+fn has_counts(alloc: Global, table: &MemTable, want: &str) -> Result<bool, AllocError> {
+    Ok(counts(alloc, table)?.as_str() == want)
+}
+
 #[test]
 fn entries_and_values_up_to_a_file_are_fetched(rt: HostRuntime) -> Result<(), Fail> {
     let (table, _) = played(rt.alloc(), &STEPS);
-    assert!(rt; counts(rt.alloc(), &table)?.as_str() == "(15, 15, 25, 1, 2)");
+    assert!(rt; has_counts(rt.alloc(), &table, "(15, 15, 25, 1, 2)")?);
     Ok(())
 }
 
@@ -142,37 +147,55 @@ fn marks(alloc: Global, table: &MemTable) -> Result<String, AllocError> {
     )
 }
 
+/// Whether these marks are owed.
+fn owes(alloc: Global, table: &MemTable, want: &str) -> Result<bool, AllocError> {
+    Ok(marks(alloc, table)?.as_str() == want)
+}
+
+/// Whether these marks are owed behind steps.
+fn owes_behind(alloc: Global, steps: &[Step], want: &str) -> Result<bool, AllocError> {
+    let (table, _) = played(alloc, steps);
+    owes(alloc, &table, want)
+}
+
+/// A Compact that nothing stood for, and keys that are deleted.
+const DELETED: [Step; 4] = [Compact(1), Put(b"b", 1), Delete(b"z"), Delete(b"b")];
+
+/// A Clean, and a key that is deleted behind it; and the marks carried.
+const CLEANED: [Step; 5] = [
+    Append(1, 10, 10),
+    Rewrite(50, 10, 5, Some(1)),
+    Clean,
+    Delete(b"a"),
+    Clear,
+];
+
 #[test]
 fn marks_are_owed_until_they_are_cleared(rt: HostRuntime) -> Result<(), Fail> {
-    let (table, _) = played(
-        rt.alloc(),
-        &[Compact(1), Put(b"b", 1), Delete(b"z"), Delete(b"b")],
-    );
-    assert!(rt; marks(rt.alloc(), &table)?.as_str() == "false Some(18446744073709551615) 627a");
-    let steps = [
-        Append(1, 10, 10),
-        Rewrite(50, 10, 5, Some(1)),
-        Clean,
-        Delete(b"a"),
-    ];
-    let (mut table, _) = played(rt.alloc(), &steps);
-    assert!(rt; marks(rt.alloc(), &table)?.as_str() == "true None 61");
-    table.clear_marks();
-    assert!(rt; marks(rt.alloc(), &table)?.as_str() == "false None 0");
+    let alloc = rt.alloc();
+    assert!(rt; owes_behind(alloc, &DELETED, "false Some(18446744073709551615) 627a")?);
+    assert!(rt; owes_behind(alloc, &CLEANED[..4], "true None 61")?);
+    assert!(rt; owes_behind(alloc, &CLEANED, "false None 0")?);
     Ok(())
 }
 
-#[test]
-fn what_is_prepared_shows_nothing(rt: HostRuntime) -> Result<(), Fail> {
-    let mut table = MemTable::new(rt.alloc());
-    let entries = run(rt.alloc(), FileId::new(LogQueue::Append, 1), 1, 10)?;
+/// A table for which entries, a key and marks were prepared, and all of it was taken back.
+fn taken_back(alloc: Global) -> Result<MemTable, Fail> {
+    let mut table = MemTable::new(alloc);
+    let entries = run(alloc, FileId::new(LogQueue::Append, 1), 1, 10)?;
     table.prepare_append(entries.as_slice())?;
     table.prepare_key(b"k")?;
     table.prepare_compact(5);
     table.prepare_clean();
     table.take_back();
-    assert!(rt; counts(rt.alloc(), &table)?.as_str() == "(0, 0, 0, 0, 0)");
-    assert!(rt; marks(rt.alloc(), &table)?.as_str() == "false None 0");
+    Ok(table)
+}
+
+#[test]
+fn what_is_prepared_shows_nothing(rt: HostRuntime) -> Result<(), Fail> {
+    let table = taken_back(rt.alloc())?;
+    assert!(rt; has_counts(rt.alloc(), &table, "(0, 0, 0, 0, 0)")?);
+    assert!(rt; owes(rt.alloc(), &table, "false None 0")?);
     assert!(rt; table.get(b"k").is_none() && table.get_entry(1).is_none());
     Ok(())
 }

@@ -1,10 +1,11 @@
-use Rattle.std.proofs.Common.{◌+◌, ◌-◌, ◌∙◌, ◌<◌, ℕ, List, [], ◌∷◌, ◌++◌, length, take, drop, refl, sym, subst, arith, length-drop}
-use Rattle.std.proofs.lemmas.List.{length-take}
+use Rattle.std.proofs.Common.{◌≡◌, ◌+◌, ◌-◌, ◌∙◌, ◌<◌, ◌≤◌, ℕ, List, [], ◌∷◌, ◌++◌, length, take, drop, refl, sym, subst, arith, length-drop}
+use Rattle.std.proofs.lemmas.List.{length-take, take_all}
 use Rattle.std.proofs.lemmas.Result.{err_from_is_err_and}
 use Rattle.raft_log_items.specs.declared.entry.EntryIndex.{EntryIndex}
 use Rattle.raft_log_rewriting.specs.raft_log_engine_state.specs.Shows.{shows}
 use Rattle.raft_log_restating.specs.declared.parts.RestatedPart.{RestatedPart}
 use Rattle.raft_log_restating.specs.Parts.{HasParts}
+use Rattle.raft_log_restating.specs.Pieces.{MakeOnePiece}
 use Rattle.raft_log_restating.proofs.Opening.{given_up}
 use Rattle.raft_log_restating.proofs.parts.write_middles.Goals as goal
 
@@ -12,11 +13,20 @@ use Rattle.raft_log_restating.proofs.parts.write_middles.Goals as goal
 left : (done : ℕ) (all : List EntryIndex) → done < length all → 0 < length (take (length all - done) (drop done all))
 left done all within = (let cut = length-take (length all - done) (drop done all) in let rest = length-drop done all in omega (arith, cut, rest, within))
 
+-- all that is left is handed on
+rest_is : (done : ℕ) (all : List EntryIndex) → take (length all - done) (drop done all) ≡ drop done all
+rest_is done all = take_all (length all - done) (drop done all) (omega (arith, length-drop done all))
+
+-- of what is handed on so many make one piece
+piece_is : (done count : ℕ) (all : List EntryIndex) → MakeOnePiece (take count (take (length all - done) (drop done all))) → MakeOnePiece (take count (drop done all))
+piece_is done count all is = subst (λ (es : List EntryIndex). MakeOnePiece (take count es)) (rest_is done all) is
+
 pub loop-count-init : goal.loop-count-init
 loop-count-init g c = record {
   goes = λ m s is has. has;
   within = c.requires.within;
   some = c.piece_len-count.ensures.some (left c.args.begin c.args.entries.now c.requires.within);
+  piece = piece_is c.args.begin c.piece_len-count.result c.args.entries.now c.piece_len-count.ensures.piece;
   begun = c.requires.open;
   same = refl;
 }
@@ -38,6 +48,7 @@ loop-count-preserved g c =
           (subst (λ (k : ℕ). HasParts c.args.group k (l.done + l.count) (l.parts.items ++ part ∷ []) s (shows w m c.write_middle.new.cache)) l.invariant.same more));
       within = within;
       some = c.piece_len-count-in-loop-count.ensures.some (left (l.done + l.count) all within);
+      piece = piece_is (l.done + l.count) c.piece_len-count-in-loop-count.result all c.piece_len-count-in-loop-count.ensures.piece;
       begun = c.in_ok-part.ensures.begun;
       same = c.in_ok-part.ensures.same ∙ l.invariant.same;
     }
@@ -64,3 +75,9 @@ returns-in_err-push-clause-err g c =
 
 pub returns-clause-ok : goal.returns-clause-ok
 returns-clause-ok g c = c.loop-count.invariant.goes
+
+pub returns-clause-last : goal.returns-clause-last
+returns-clause-last g c =
+    let l = c.loop-count in
+    let long : length (drop l.done c.args.entries.now) ≤ l.count = omega (arith, c.loop-count-test.false, length-drop l.done c.args.entries.now) in
+    subst MakeOnePiece (take_all l.count (drop l.done c.args.entries.now) long) l.invariant.piece

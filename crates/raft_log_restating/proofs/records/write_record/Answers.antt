@@ -4,7 +4,7 @@ use Rattle.raft_log_base.specs.declared.pipe_log.FileBlockHandle.{FileBlockHandl
 use Rattle.raft_log_records.specs.Batch.{Batch}
 use Rattle.raft_log_rewriting.proofs.Parts.{record_is_made}
 use Rattle.raft_log_rewriting.proofs.Copying.{written_there}
-use Rattle.raft_log_restating.proofs.Recording.{record_refused, record_written}
+use Rattle.raft_log_restating.proofs.Recording.{counts_record, record_refused, record_written}
 use Rattle.raft_log_restating.proofs.records.write_record.Goals as goal
 
 pub returns-in_err-block-clause-err : goal.returns-in_err-block-clause-err
@@ -37,3 +37,8 @@ returns-clause-ok g c =
     let there = written_there b back c.finish_write.new.self c.in_ok-block.block c.finish_write.new.self.items same bytes c.finish_write.ensures.written refl in
     record_written b c.new-signed.result.batch (g.P.PipeLog.shown c.args.pipes.now) (g.P.PipeLog.shown c.sync_if_due.new.pipes) (g.P.PipeLog.shown c.append.new.self) c.in_ok-sync_if_due.ensures.ok is c.in_ok-sync_if_due.ensures.later e.later
     c.in_ok-block.block c.finish_write.new.self.items e.fails e.ok there
+
+pub returns-clause-counted : goal.returns-clause-counted
+returns-clause-counted g c =
+    counts_record c.args.batch c.args.unsynced.now c.sync_if_due.new.unsynced c.saturating_add.result c.in_ok-len.len (g.P.PipeLog.shown c.args.pipes.now) (g.P.PipeLog.shown c.sync_if_due.new.pipes)
+    c.in_ok-sync_if_due.ensures.due c.in_ok-len.ensures.ready c.saturating_add.ensures

@@ -3,4 +3,4 @@
 # Usage: bench/codec/run.sh [ROUNDS]; RT names the toolchain's command.
 set -euo pipefail
 here="$(dirname "$0")"
-exec "$here/../common/run.sh" "$here" "${1:-3}" raft_log_base raft_log_checksum
+exec "$here/../common/run.sh" "$here" "${1:-3}" raft_log_record_base raft_log_record_checksum

@@ -3,4 +3,4 @@
 # Usage: bench/records/run.sh [ROUNDS]; RT names the toolchain's command.
 set -euo pipefail
 here="$(dirname "$0")"
-exec "$here/../common/run.sh" "$here" "${1:-3}" raft_log_records anyhow
+exec "$here/../common/run.sh" "$here" "${1:-3}" raft_log_record_batches anyhow

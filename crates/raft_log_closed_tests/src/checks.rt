@@ -1,11 +1,11 @@
 //! Logs with holes, and without.
 use crate::logs::{Row, log_of};
 use log::Log;
-use raft_log_base::{Error, LogQueue, Result};
-use raft_log_consistency::{check_log, consistency_check_with_file_system};
+use raft_log_closed::{check_log, consistency_check_with_file_system};
 use raft_log_disk::{FileSystem, Permission};
-use raft_log_memory_files::MemoryFileSystem;
-use raft_log_settings::Config;
+use raft_log_disk_memory::MemoryFileSystem;
+use raft_log_file_settings::Config;
+use raft_log_record_base::{Error, LogQueue, Result};
 use std::alloc::Global;
 use std::test::Fail;
 use std::thread::Threads;

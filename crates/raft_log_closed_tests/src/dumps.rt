@@ -1,9 +1,9 @@
 //! Items of a directory and of a file; paths that have nothing to dump; and want of memory.
-use raft_log_base::{Error, Result};
+use raft_log_closed::dump_with_file_system;
 use raft_log_disk::FileSystem;
-use raft_log_dump::dump_with_file_system;
-use raft_log_items::LogItem;
-use raft_log_memory_files::MemoryFileSystem;
+use raft_log_disk_memory::MemoryFileSystem;
+use raft_log_record_base::{Error, Result};
+use raft_log_record_items::LogItem;
 use std::alloc::Global;
 
 /// A file of the first version with one record: `Clean` of group 1.

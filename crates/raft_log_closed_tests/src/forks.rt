@@ -1,9 +1,9 @@
 //! Logs that are copied, and copies that are refused.
-use raft_log_base::{Error, Result};
+use raft_log_closed::fork;
 use raft_log_disk::{FileSystem, Permission};
-use raft_log_fork::fork;
-use raft_log_memory_files::MemoryFileSystem;
-use raft_log_settings::Config;
+use raft_log_disk_memory::MemoryFileSystem;
+use raft_log_file_settings::Config;
+use raft_log_record_base::{Error, Result};
 use std::alloc::Global;
 use std::test::Fail;
 

@@ -1,10 +1,10 @@
 //! Logs made by hand, record by record: an engine refuses holes.
-use raft_log_base::{FileId, LogFileContext, LogQueue, Result, Version};
 use raft_log_disk::FileSystem;
-use raft_log_format::LogFileFormat;
-use raft_log_items::EntryIndex;
-use raft_log_memory_files::MemoryFileSystem;
-use raft_log_records::LogBatch;
+use raft_log_disk_memory::MemoryFileSystem;
+use raft_log_file_format::LogFileFormat;
+use raft_log_record_base::{FileId, LogFileContext, LogQueue, Result, Version};
+use raft_log_record_batches::LogBatch;
+use raft_log_record_items::EntryIndex;
 use std::alloc::Global;
 
 /// A record: entries of a group, from an index on, so many.

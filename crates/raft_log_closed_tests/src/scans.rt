@@ -1,11 +1,11 @@
 //! Directories with gaps, doubles and foreign names.
 use super::forks::holding;
-use raft_log_base::{Error, Result};
 use raft_log_disk::{FileSystem, Permission};
-use raft_log_files::File;
-use raft_log_memory_files::MemoryFileSystem;
-use raft_log_recovery::scanning::{ScannedFiles, scan};
-use raft_log_settings::RecoveryMode;
+use raft_log_disk_memory::MemoryFileSystem;
+use raft_log_file_queue::File;
+use raft_log_file_settings::RecoveryMode;
+use raft_log_open_scan::scanning::{ScannedFiles, scan};
+use raft_log_record_base::{Error, Result};
 use std::alloc::Global;
 use std::test::Fail;
 

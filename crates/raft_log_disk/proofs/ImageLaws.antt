@@ -11,8 +11,8 @@ use Rattle.std.proofs.lemmas.Bool.{cases_lt}
 use std.Path.{fun_ext}
 use Rattle.raft_log_disk.specs.Disk.{Change, File, Disk, at_rest, file_limit}
 use Rattle.raft_log_disk.specs.Laws.{SyncedFileHasOneImage, NamedIsUsed, ImagesStay}
-use Rattle.raft_log_disk.specs.Calls.{with_marks, counted, at_stop}
-use Rattle.raft_log_disk.specs.Image.{Touches, Spares, end_of, IsLeft, IsFileImage, IsImage, IsSoundFile, IsSound, settled, as_it_stands, IsAllSynced}
+use Rattle.raft_log_disk.specs.Calls.{with_marks, counted, at_stop, flushed}
+use Rattle.raft_log_disk.specs.Image.{Touches, Spares, end_of, IsLeft, IsFileImage, IsImage, IsSoundFile, IsSound, as_it_stands, IsAllSynced}
 
 -- bytes at rest are what is left of them
 pub left_at_rest : (bytes : List ℕ) → IsLeft (at_rest bytes) bytes
@@ -34,12 +34,12 @@ only_at_rest file bytes none left =
 pub content_is_synced : (file : File) → IsSoundFile file → file.changes ≡ [] → file.content ≡ file.synced
 content_is_synced file sound none = only_at_rest file file.content none sound.stands
 
-file_stands : (o : Option File) → ((file : File) → o ≡ Some file → IsSoundFile file) → IsFileImage o (option_map settled o)
+file_stands : (o : Option File) → ((file : File) → o ≡ Some file → IsSoundFile file) → IsFileImage o (option_map flushed o)
 file_stands None sound = tt
 file_stands (Some file) sound = (file.content, refl, (sound file refl).stands)
 
 file_only : (o image : Option File) → ((file : File) → o ≡ Some file → IsSoundFile file) → ((file : File) → o ≡ Some file → file.changes ≡ [])
-    → IsFileImage o image → image ≡ option_map settled o
+    → IsFileImage o image → image ≡ option_map flushed o
 file_only None None sound none is = refl
 file_only None (Some after) sound none is = absurd is
 file_only (Some before) None sound none is = absurd is
@@ -96,7 +96,7 @@ synced_is_only_image d image sound synced is =
 pub synced_file_has_one_image : SyncedFileHasOneImage
 synced_file_has_one_image d image id file sound at none is =
     let all_none : (f : File) → d.files id ≡ Some f → f.changes ≡ [] = λ f there. (let same : file ≡ f = cc in subst (λ (g : File). g.changes ≡ []) same none) in
-    file_only (d.files id) (image.files id) (sound.files id) all_none (is.files id) ∙ ap (option_map settled) at
+    file_only (d.files id) (image.files id) (sound.files id) all_none (is.files id) ∙ ap (option_map flushed) at
 
 -- an image of an image is an image
 pub image_of_image : (d image later : Disk) → IsImage d image → IsImage image later → IsImage d later

@@ -5,11 +5,5 @@ pub mod SoundLaws
 pub mod KeptLaws
 pub mod CauseLaws
 pub mod Props
-pub mod ChainLaws
-pub mod KeepsSyncedLaws
-pub mod CrashExampleLaws
 pub mod NamesLaws
-pub mod ChainContentLaws
 pub mod TouchingLaws
-pub mod ShorteningLaws
-pub mod LogQueueLaws

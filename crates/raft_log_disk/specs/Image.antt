@@ -3,6 +3,7 @@ use Rattle.std.specs.Prelude.{◌≡◌, ℕ, ◌+◌, ◌<◌, ◌≤◌, false
 use Rattle.std.specs.List.{All}
 use Rattle.std.specs.Option.{option_map}
 use Rattle.raft_log_disk.specs.Disk.{Change, Wrote, ShortenedTo, GrewTo, File, Disk, at_rest, file_limit}
+use Rattle.raft_log_disk.specs.Calls.{flushed}
 
 -- a change touches each place of a written range, and each one from the size on to which it shortens
 abbrev pub Touches : Change → ℕ → Type 0
@@ -63,14 +64,10 @@ pub record IsSound (d : Disk) : Type 0 where
   pub fresh : (id : ℕ) → d.unused ≤ id → d.files id ≡ None
   pub files : (id : ℕ) (file : File) → d.files id ≡ Some file → IsSoundFile file
 
--- the file as a restart finds it where all of it was kept
-abbrev pub settled : File → File
-settled file = at_rest file.content
-
 -- the disk as a restart finds it where everything was kept
 abbrev pub as_it_stands : Disk → Disk
 as_it_stands d = record d {
-  files = λ id. option_map settled (d.files id);
+  files = λ id. option_map flushed (d.files id);
   unreadable = λ id place. false;
   stopped = false;
   failures = 0;

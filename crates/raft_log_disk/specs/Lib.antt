@@ -3,14 +3,8 @@ pub mod Image
 pub mod Calls
 pub mod Causes
 pub mod Laws
-pub mod Chains
-pub mod KeepsSynced
-pub mod CrashExamples
 pub mod Names
 pub mod Arguments
 pub mod Reading
 pub mod Exits
 pub mod Touching
-pub mod Shortening
-pub mod LogFormat
-pub mod LogQueue

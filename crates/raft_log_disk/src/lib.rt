@@ -5,11 +5,9 @@
 
 pub mod calls;
 pub mod causes;
-pub mod chains;
 pub mod file_system;
 pub mod handle;
 pub mod images;
-pub mod logs;
 pub mod names;
 
 pub use file_system::FileSystem;

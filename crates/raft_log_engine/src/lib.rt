@@ -1,13 +1,26 @@
-//! The log store: batches are written and synced, and what they say is read back.
+//! The log store, in one name: a program that keeps a log names this crate and no other of the log's.
 //!
-//! [`Engine`] is generic in the pipes that its log is kept in ([`PipeLog`]), so its contracts speak of
-//! whatever log these run over: each clause is told of any map and any pending batches that were true of the
-//! engine before the call (`Holds`), and asks nothing of the caller.
-//!
-//! [`PipeLog`]: raft_log_dual_pipes::PipeLog
+//! [`Engine`] is opened over a file system with settings, written by batches, read, compacted, purged and closed;
+//! a log that no engine has open is forked, dumped and checked. This crate only hands on; the page of each part
+//! says what its calls promise.
 #![tactic(auto)]
 
-pub mod engine;
-mod writing;
-
-pub use engine::Engine;
+pub use raft_log_closed::{
+    ConsistencyChecker, CopyDetails, consistency_check_with_file_system, dump_with_file_system,
+    fork,
+};
+pub use raft_log_disk::{Fault, FileSystem, Handle, Permission};
+pub use raft_log_disk_memory::{MemoryFileSystem, Piece, Remainder};
+pub use raft_log_engine_core::{Engine, EnginePipes, LogEngine};
+pub use raft_log_file_listeners::{EventListener, PurgeHook};
+pub use raft_log_file_pair::{OpenRefused, PipeLog};
+pub use raft_log_file_reader::LogItemReader;
+pub use raft_log_file_settings::{Config, RecoveryMode};
+pub use raft_log_open_builder::{DualPipesBuilder, DualPipesBuilder as FilePipeLogBuilder};
+pub use raft_log_record_base::{
+    Error, FileBlockHandle, FileId, FileSeq, LogQueue, ReadableSize, Result, Version,
+};
+pub use raft_log_record_batches::LogBatch;
+pub use raft_log_record_items::{
+    Command, EntryIndex, LogItem, LogItemContent, Message, MessageExt,
+};

@@ -1,10 +1,10 @@
 //! Batches that are signed for the files that they go into.
 use super::pair::pair;
 use log::Log;
-use raft_log_base::{LogQueue, Result};
-use raft_log_dual_pipes::PipeLog;
-use raft_log_records::LogBatch;
-use raft_log_signed_batch::SignedBatch;
+use raft_log_file_blocks::SignedBatch;
+use raft_log_file_pair::PipeLog;
+use raft_log_record_base::{LogQueue, Result};
+use raft_log_record_batches::LogBatch;
 use std::alloc::Global;
 use std::test::Fail;
 

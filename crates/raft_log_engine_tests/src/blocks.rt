@@ -1,44 +1,14 @@
 //! Entries are read through the entry block that is kept.
+use super::counts::Count;
 use super::pair::pair;
 use log::Log;
-use raft_log_base::{Error, FileBlockHandle, LogQueue, Result, codec};
-use raft_log_blocks::BlockCache;
-use raft_log_dual_pipes::PipeLog;
-use raft_log_items::{EntryIndex, Message};
-use raft_log_records::LogBatch;
-use raft_log_signed_batch::SignedBatch;
-use std::alloc::{AllocError, Global};
+use raft_log_file_blocks::{BlockCache, SignedBatch};
+use raft_log_file_pair::PipeLog;
+use raft_log_record_base::{Error, FileBlockHandle, LogQueue, Result};
+use raft_log_record_batches::LogBatch;
+use raft_log_record_items::EntryIndex;
+use std::alloc::Global;
 use std::test::Fail;
-
-/// A number of 32 bits.
-#[derive(Clone, Copy, Debug, PartialEq, Eq)]
-struct Count {
-    count: u32,
-}
-
-impl Message for Count {
-    ghost use Rattle.std.specs.Prelude.{None, Some, length, nat_eq, if◌then◌else◌};
-    ghost use Rattle.std.specs.Int.{w32, from_le_bytes};
-    ghost use Rattle.raft_log_base.specs.Number.{u32_le_bytes};
-
-    ghost spelling = { λ c. u32_le_bytes c.count };
-
-    ghost reading = { λ bytes.
-        if nat_eq (length bytes) 4 then Some (record { count = from_le_bytes w32 bytes }) else None };
-
-    fn write(&self, out: &mut Vec<u8>) -> std::result::Result<(), AllocError> {
-        codec::append_u32_le(out, self.count)
-    }
-
-    fn parse(alloc: Global, bytes: &[u8]) -> Result<Count> {
-        match bytes.as_array::<4>() {
-            Some(bytes) => Ok(Count {
-                count: u32::from_le_bytes(*bytes),
-            }),
-            None => Err(Error::Message(format!(in alloc; "a count has four bytes")?)),
-        }
-    }
-}
 
 /// Two pipes, of whose Append an entry block is known, and the block that is kept of them.
 #[derive(Drop)]

@@ -1,6 +1,6 @@
 //! A small message: a number of four bytes.
-use raft_log_base::{Error, Result, codec};
-use raft_log_items::{Message, MessageExt};
+use raft_log_record_base::{Error, Result, codec};
+use raft_log_record_items::{Message, MessageExt};
 use std::alloc::{AllocError, Global};
 
 /// A number of 32 bits.
@@ -12,7 +12,7 @@ pub struct Count {
 impl Message for Count {
     ghost use Rattle.std.specs.Prelude.{None, Some, length, nat_eq, if◌then◌else◌};
     ghost use Rattle.std.specs.Int.{w32, from_le_bytes};
-    ghost use Rattle.raft_log_base.specs.Number.{u32_le_bytes};
+    ghost use Rattle.raft_log_record_base.specs.Number.{u32_le_bytes};
 
     ghost spelling = { λ c. u32_le_bytes c.count };
 

@@ -1,6 +1,6 @@
 //! Listeners are told in their order, none is left out, and the hook is the last.
-use raft_log_base::{FileBlockHandle, FileId, FileSeq, LogQueue};
-use raft_log_listeners::{EventListener, Listeners};
+use raft_log_file_listeners::{EventListener, Listeners};
+use raft_log_record_base::{FileBlockHandle, FileId, FileSeq, LogQueue};
 use std::sync::Arc;
 use std::sync::atomic::AtomicU64;
 use std::sync::atomic::Ordering::SeqCst;

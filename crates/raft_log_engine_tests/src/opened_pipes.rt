@@ -1,12 +1,12 @@
 //! A log's pipes are opened over what was found of its queues, and hand the file system back where that is
 //! refused.
 use super::pair::{found, system};
-use raft_log_base::{Error, LogQueue, Version};
 use raft_log_disk::{FileSystem, Permission};
-use raft_log_dual_pipes::{DualPipes, FoundPipe, OpenRefused, PipeLog};
-use raft_log_files::File;
-use raft_log_format::LogFileFormat;
-use raft_log_memory_files::MemoryFileSystem;
+use raft_log_disk_memory::MemoryFileSystem;
+use raft_log_file_format::LogFileFormat;
+use raft_log_file_pair::{DualPipes, FoundPipe, OpenRefused, PipeLog};
+use raft_log_file_queue::File;
+use raft_log_record_base::{Error, LogQueue, Version};
 use std::collections::VecDeque;
 use std::test::Fail;
 
@@ -33,7 +33,7 @@ fn opened(
     system: MemoryFileSystem,
     append: FoundPipe,
     rewrite: FoundPipe,
-) -> raft_log_base::Result<DualPipes<MemoryFileSystem>> {
+) -> raft_log_record_base::Result<DualPipes<MemoryFileSystem>> {
     match DualPipes::open(rt.alloc(), rt, system, append, rewrite) {
         Ok(pipes) => Ok(pipes),
         Err(refused) => {

@@ -1,13 +1,13 @@
 //! Both pipes of a log, over one file system.
 use log::Log;
-use raft_log_base::{Error, FileBlockHandle, FileId, LogFileContext, LogQueue, Version};
 use raft_log_disk::{FileSystem, Permission};
-use raft_log_dual_pipes::{DualPipes, FoundPipe, PipeLog};
-use raft_log_files::File;
-use raft_log_format::LogFileFormat;
-use raft_log_layout::LogLayout;
-use raft_log_memory_files::MemoryFileSystem;
-use raft_log_pipes::{FoundFiles, NewFiles, PipeSettings, ReactiveBytes, SinglePipe};
+use raft_log_disk_memory::MemoryFileSystem;
+use raft_log_file_format::LogFileFormat;
+use raft_log_file_layout::LogLayout;
+use raft_log_file_pair::{DualPipes, FoundPipe, PipeLog};
+use raft_log_file_pipe::{FoundFiles, NewFiles, PipeSettings, ReactiveBytes, SinglePipe};
+use raft_log_file_queue::File;
+use raft_log_record_base::{Error, FileBlockHandle, FileId, LogFileContext, LogQueue, Version};
 use std::alloc::Global;
 use std::collections::VecDeque;
 use std::test::Fail;
@@ -100,7 +100,7 @@ pub fn append<R: Log, P: PipeLog>(
     pipes: &mut P,
     queue: LogQueue,
     (value, len): (u8, usize),
-) -> raft_log_base::Result<FileBlockHandle> {
+) -> raft_log_record_base::Result<FileBlockHandle> {
     let mut plain = Plain {
         bytes: vec![in alloc; value; len]?,
     };
@@ -114,7 +114,7 @@ fn is_written_first<R: Log, P: PipeLog>(
     pipes: &mut P,
     queue: LogQueue,
     (value, len): (u8, usize),
-) -> raft_log_base::Result<bool> {
+) -> raft_log_record_base::Result<bool> {
     let place = append(rt, alloc, pipes, queue, (value, len))?;
     let lies = (place.id, place.offset, place.len) == (FileId::new(queue, 1), 69, len);
     let bytes = pipes.read_bytes(alloc, place)?;
@@ -136,7 +136,7 @@ fn goes_on_alone<R: Log, P: PipeLog>(
     rt: &R,
     alloc: Global,
     pipes: &mut P,
-) -> raft_log_base::Result<bool> {
+) -> raft_log_record_base::Result<bool> {
     for _i in 0..3 {
         pipes.rotate(alloc, rt, LogQueue::Append)?;
     }
@@ -152,10 +152,10 @@ fn is_purged_alone<R: Log, P: PipeLog>(
     rt: &R,
     alloc: Global,
     pipes: &mut P,
-) -> raft_log_base::Result<bool> {
+) -> raft_log_record_base::Result<bool> {
     let count = pipes.purge_to(alloc, rt, FileId::new(LogQueue::Append, 3))?;
     let outside = pipes.purge_to(alloc, rt, FileId::new(LogQueue::Rewrite, 2));
-    let refused = matches!(outside, Err(Error::InvalidArgument(_)));
+    let refused = matches!(outside, Err(Error::Other(_)));
     Ok((count == 2) & refused & (pipes.file_span(LogQueue::Append) == (3, 4)))
 }
 
@@ -173,7 +173,7 @@ fn fail_together<R: Log, P: PipeLog>(
     rt: &R,
     alloc: Global,
     pipes: &mut P,
-) -> raft_log_base::Result<bool> {
+) -> raft_log_record_base::Result<bool> {
     let _written = append(rt, alloc, pipes, LogQueue::Append, (1, 13))?;
     let failed = matches!(pipes.sync(rt, LogQueue::Append), Err(Error::Failed));
     let other = append(rt, alloc, pipes, LogQueue::Rewrite, (2, 13));
@@ -194,7 +194,7 @@ fn closed<R: Log, P: PipeLog + Drop>(
     rt: &R,
     alloc: Global,
     pipes: P,
-) -> raft_log_base::Result<P::Files> {
+) -> raft_log_record_base::Result<P::Files> {
     let mut pipes = pipes;
     let _written = append(rt, alloc, &mut pipes, LogQueue::Append, (1, 13))?;
     Ok(pipes.close(alloc, rt))

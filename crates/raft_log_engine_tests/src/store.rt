@@ -1,19 +1,19 @@
 //! An engine over a fresh log in memory, behind calls without contracts.
 ghost use Rattle.std.specs.Prelude.{◌≡◌};
-ghost use Rattle.raft_log_records.specs.declared.log_batch.BatchState.TheVariants.{Filling};
+ghost use Rattle.raft_log_record_batches.specs.declared.log_batch.BatchState.TheVariants.{Filling};
 
 use super::counts::{Count, Counts};
 use super::pair::pair;
 use log::Log;
-use raft_log_base::{Error, LogQueue, Result, Version};
 use raft_log_disk::FileSystem;
-use raft_log_dual_pipes::{DualPipes, PipeLog};
-use raft_log_engine::Engine;
-use raft_log_items::EntryIndex;
-use raft_log_memory_files::MemoryFileSystem;
-use raft_log_purge::Thresholds;
-use raft_log_records::{BatchState, LogBatch};
-use raft_log_replay::MemTables;
+use raft_log_disk_memory::MemoryFileSystem;
+use raft_log_engine_core::LogEngine;
+use raft_log_file_pair::{DualPipes, PipeLog};
+use raft_log_purge_rules::Thresholds;
+use raft_log_record_base::{Error, LogQueue, Result, Version};
+use raft_log_record_batches::{BatchState, LogBatch};
+use raft_log_record_items::EntryIndex;
+use raft_log_table_all::MemTables;
 use std::alloc::Global;
 use std::test::Fail;
 
@@ -28,7 +28,7 @@ const THRESHOLDS: Thresholds = Thresholds {
 #[derive(Drop)]
 pub struct Store<P> {
     alloc: Global,
-    engine: Engine<P>,
+    engine: LogEngine<P>,
     batch: LogBatch,
 }
 
@@ -40,7 +40,7 @@ pub fn fresh(
     let pipes = pair(rt, refused)?;
     Ok(Store {
         alloc: rt.alloc(),
-        engine: Engine::new(rt.alloc(), THRESHOLDS, pipes, MemTables::new(rt.alloc()), 0),
+        engine: LogEngine::new(rt.alloc(), THRESHOLDS, pipes, MemTables::new(rt.alloc()), 0),
         batch: LogBatch::default(rt.alloc())?,
     })
 }

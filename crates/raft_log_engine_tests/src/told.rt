@@ -2,12 +2,11 @@
 //! back the files of which a record waits for the tables.
 use super::pair::{append, pair};
 use log::Log;
-use raft_log_base::{FileBlockHandle, FileId, FileSeq, LogQueue};
 use raft_log_disk::FileSystem;
-use raft_log_dual_pipes::{DualPipes, PipeLog};
-use raft_log_listeners::{EventListener, Listeners, PurgeHook};
-use raft_log_memory_files::MemoryFileSystem;
-use raft_log_told_pipes::ToldPipes;
+use raft_log_disk_memory::MemoryFileSystem;
+use raft_log_file_listeners::{EventListener, Listeners, PurgeHook, ToldPipes};
+use raft_log_file_pair::{DualPipes, PipeLog};
+use raft_log_record_base::{FileBlockHandle, FileId, FileSeq, LogQueue};
 use std::alloc::Global;
 use std::sync::Arc;
 use std::sync::atomic::AtomicU64;
@@ -85,7 +84,7 @@ fn records_are_heard<R: Log, P: PipeLog>(
     alloc: Global,
     pipes: &mut P,
     events: &Arc<AtomicU64>,
-) -> raft_log_base::Result<bool> {
+) -> raft_log_record_base::Result<bool> {
     let begun = heard(events) == 1151;
     pipes.rotate(alloc, rt, LogQueue::Append)?;
     let rotated = heard(events) == 12;
@@ -106,7 +105,7 @@ fn purges_are_heard<R: Log, P: PipeLog>(
     alloc: Global,
     pipes: &mut P,
     events: &Arc<AtomicU64>,
-) -> raft_log_base::Result<bool> {
+) -> raft_log_record_base::Result<bool> {
     let third = FileId::new(LogQueue::Append, 3);
     pipes.rotate(alloc, rt, LogQueue::Append)?;
     pipes.rotate(alloc, rt, LogQueue::Append)?;
@@ -160,7 +159,7 @@ fn is_held_back<R: Log, P: PipeLog>(
     rt: &R,
     alloc: Global,
     pipes: &mut P,
-) -> raft_log_base::Result<bool> {
+) -> raft_log_record_base::Result<bool> {
     let one = append(rt, alloc, pipes, LogQueue::Append, (1, 13))?.id.seq == 1;
     pipes.rotate(alloc, rt, LogQueue::Append)?;
     let two = append(rt, alloc, pipes, LogQueue::Append, (1, 13))?.id.seq == 2;

@@ -2,12 +2,12 @@
 use Rattle.std.specs.Map.{update}
 use Rattle.std.specs.Str.{bytes_eq}
 use Rattle.std.proofs.Common.{◌≡◌, ℕ, ◌<◌, Some, List, [], refl, sym, ◌∙◌, ap, subst, inl, inr, arith}
-use Rattle.raft_log_model.specs.Item.{Record}
+use Rattle.raft_log_model_laws.specs.Item.{Record}
 use Rattle.raft_log_disk.specs.Disk.{Disk, at_rest}
 use Rattle.raft_log_disk.specs.Image.{IsSound}
 use Rattle.raft_log_disk.specs.Calls.{created, counted, at_stop}
-use Rattle.raft_log_disk.specs.LogFormat.{Format, IsFormat}
-use Rattle.raft_log_disk.specs.LogQueue.{Past, IsAbsent}
+use Rattle.raft_log_file_laws.specs.LogFormat.{Format, IsFormat}
+use Rattle.raft_log_file_laws.specs.LogQueue.{Past, IsAbsent}
 use Rattle.raft_log_disk.proofs.Updates.{name_case, name_here, name_apart, file_apart}
 use Rattle.raft_log_disk.proofs.ImageLaws.{named_is_used}
 use Rattle.raft_log_disk.proofs.NamesLaws.{creation_leaves}

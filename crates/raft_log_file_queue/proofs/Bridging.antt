@@ -3,16 +3,16 @@ use Rattle.std.proofs.Common.{◌≡◌, ℕ, ◌+◌, ◌-◌, ◌<◌, ◌≤�
 use Rattle.std.proofs.lemmas.List.{append-nil, append_assoc, map-append, take-append-drop}
 use Rattle.std.proofs.lemmas.Bool.{cases_Bool, cases_lt}
 use Rattle.std.proofs.lemmas.Bool.Decides.{Decides-eqb}
-use Rattle.raft_log_model.specs.Item.{Record}
-use Rattle.raft_log_machine.specs.Files.{LogFile, FileQueue, NumberedFrom, first_file, all_files}
-use Rattle.raft_log_machine.specs.Files.FileEvent.{Grow, Sync, Rotate, Raise, Read}
+use Rattle.raft_log_model_laws.specs.Item.{Record}
+use Rattle.raft_log_machine_laws.specs.Files.{LogFile, FileQueue, NumberedFrom, first_file, all_files}
+use Rattle.raft_log_machine_laws.specs.Files.FileEvent.{Grow, Sync, Rotate, Raise, Read}
 use Rattle.raft_log_disk.specs.Disk.{Disk}
 use Rattle.raft_log_disk.specs.Image.{IsImage}
-use Rattle.raft_log_disk.specs.Chains.{Written}
-use Rattle.raft_log_disk.specs.KeepsSynced.{kept_records}
-use Rattle.raft_log_disk.specs.LogFormat.{Format, IsFormat}
-use Rattle.raft_log_disk.specs.LogQueue.{Past, LogFiles, Found, IsThere, IsAbsent, ReadsFiles, HoldsLast, IsLeftover, EndsInOnePlace, past_from, found_from, recent, rotated}
-use Rattle.raft_log_disk.proofs.LogQueueLaws.{queue_is_kept}
+use Rattle.raft_log_file_laws.specs.Chains.{Written}
+use Rattle.raft_log_file_laws.specs.KeepsSynced.{kept_records}
+use Rattle.raft_log_file_laws.specs.LogFormat.{Format, IsFormat}
+use Rattle.raft_log_file_laws.specs.LogQueue.{Past, LogFiles, Found, IsThere, IsAbsent, ReadsFiles, HoldsLast, IsLeftover, EndsInOnePlace, past_from, found_from, recent, rotated}
+use Rattle.raft_log_file_laws.proofs.LogQueueLaws.{queue_is_kept}
 use Rattle.raft_log_file_queue.specs.Queue.{with_more, synced}
 use Rattle.raft_log_file_queue.specs.Bridge.{said, filed, logged, IsFileQueue, ReadsAsFiles, StepsTo, GapsStay}
 use Rattle.raft_log_file_queue.specs.NumberedLaws.{ReadsAsNumbered, TakesNumberedSteps}

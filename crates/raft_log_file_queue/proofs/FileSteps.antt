@@ -8,13 +8,13 @@ use Rattle.std.proofs.lemmas.Bool.{cases_lt}
 use Rattle.raft_log_disk.specs.Disk.{Change, Wrote, ShortenedTo, GrewTo, File, at_rest, zeros, grown, overwritten}
 use Rattle.raft_log_disk.specs.Image.{Spares}
 use Rattle.raft_log_disk.specs.Calls.{with_change, after_change, flushed, InPart, IsTorn}
-use Rattle.raft_log_disk.specs.Chains.{Written, AreFrames, spelled, HoldsNoFrame}
-use Rattle.raft_log_disk.specs.KeepsSynced.{HoldsChain, HoldsAtLeast, IsStale, StandsBehind, kept_records}
-use Rattle.raft_log_disk.specs.LogFormat.{Format, IsFormat}
-use Rattle.raft_log_disk.specs.LogQueue.{LogFiles, recent, HeaderStands, HoldsLast, IsPast}
-use Rattle.raft_log_disk.proofs.ChainLaws.{spelled-append, frame_filled, frames_front}
-use Rattle.raft_log_disk.proofs.KeepsSyncedLaws.{holds_at_least, holds_written, holds_more, holds_shortened, holds_grown, holds_in_front, holds_used_again, holds_prefilled, holds_read, holds_synced, all_at_least}
-use Rattle.raft_log_disk.proofs.ShorteningLaws.{reads_whole, settled_at_least}
+use Rattle.raft_log_file_laws.specs.Chains.{Written, AreFrames, spelled, HoldsNoFrame}
+use Rattle.raft_log_file_laws.specs.KeepsSynced.{HoldsChain, HoldsAtLeast, IsStale, StandsBehind, kept_records}
+use Rattle.raft_log_file_laws.specs.LogFormat.{Format, IsFormat}
+use Rattle.raft_log_file_laws.specs.LogQueue.{LogFiles, recent, HeaderStands, HoldsLast, IsPast}
+use Rattle.raft_log_file_laws.proofs.ChainLaws.{spelled-append, frame_filled, frames_front}
+use Rattle.raft_log_file_laws.proofs.KeepsSyncedLaws.{holds_at_least, holds_written, holds_more, holds_shortened, holds_grown, holds_in_front, holds_used_again, holds_prefilled, holds_read, holds_synced, all_at_least}
+use Rattle.raft_log_file_laws.proofs.ShorteningLaws.{reads_whole, settled_at_least}
 use Rattle.raft_log_file_queue.specs.Queue.{whole, finished, with_more, synced, settled, with_room, begun}
 use Rattle.raft_log_file_queue.specs.States.{HoldsMore, IsActive, IsFront, IsCut, IsNew, IsHeaded}
 

@@ -2,10 +2,10 @@
 use Rattle.std.proofs.Common.{◌≡◌, ℕ, ◌<◌, ◌≤◌, Option, Some, List, length, refl, sym, ◌∙◌, ap, subst}
 use Rattle.raft_log_disk.specs.Disk.{File, Disk}
 use Rattle.raft_log_disk.specs.Image.{IsImage}
-use Rattle.raft_log_disk.specs.LogFormat.{Format, IsFormat, CanTellFormat}
-use Rattle.raft_log_disk.specs.LogQueue.{LogFiles, HasLogFiles, HoldsLast, IsLeftover, kept_to, NoChanceInLast, Anything}
+use Rattle.raft_log_file_laws.specs.LogFormat.{Format, IsFormat, CanTellFormat}
+use Rattle.raft_log_file_laws.specs.LogQueue.{LogFiles, HasLogFiles, HoldsLast, IsLeftover, kept_to, NoChanceInLast, Anything}
 use Rattle.raft_log_disk.specs.Touching.{HasFile}
-use Rattle.raft_log_disk.proofs.LogQueueLaws.{queue_is_kept, queue_is_readable, queue_restarts}
+use Rattle.raft_log_file_laws.proofs.LogQueueLaws.{queue_is_kept, queue_is_readable, queue_restarts}
 use Rattle.raft_log_disk.proofs.TouchingLaws.{names_same}
 use Rattle.raft_log_file_queue.specs.Standing.{Names, Stands}
 use Rattle.raft_log_file_queue.specs.Laws.{FilesAreKept, FilesAreReadable, FilesRestart}

@@ -5,3 +5,8 @@ pub mod Bridging
 pub mod Beginning
 pub mod Reopening
 pub mod SettingAside
+pub mod Writing
+pub mod Calls
+pub mod Rotating
+mod BegunFiles
+pub mod TakenUp

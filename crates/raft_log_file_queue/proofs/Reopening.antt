@@ -6,12 +6,12 @@ use Rattle.std.proofs.lemmas.List.Elements.{All-nil}
 use Rattle.raft_log_disk.specs.Disk.{ShortenedTo, File, Disk, at_rest}
 use Rattle.raft_log_disk.specs.Image.{Spares}
 use Rattle.raft_log_disk.specs.Calls.{with_change}
-use Rattle.raft_log_disk.specs.Chains.{Written, Refuses, Reads, spelled}
-use Rattle.raft_log_disk.specs.LogFormat.{Format, IsFormat, HasHeader, ReadsFile}
-use Rattle.raft_log_disk.specs.LogQueue.{Past, LogFiles, recent, HoldsLast, IsPast, IsLeftover}
+use Rattle.raft_log_file_laws.specs.Chains.{Written, Refuses, Reads, spelled}
+use Rattle.raft_log_file_laws.specs.LogFormat.{Format, IsFormat, HasHeader, ReadsFile}
+use Rattle.raft_log_file_laws.specs.LogQueue.{Past, LogFiles, recent, HoldsLast, IsPast, IsLeftover}
 use Rattle.raft_log_disk.specs.Touching.{HasFile}
-use Rattle.raft_log_disk.proofs.ChainLaws.{reads_unique, nothing_refuses}
-use Rattle.raft_log_disk.proofs.KeepsSyncedLaws.{holds_at_least, holds_changed, holds_read}
+use Rattle.raft_log_file_laws.proofs.ChainLaws.{reads_unique, nothing_refuses}
+use Rattle.raft_log_file_laws.proofs.KeepsSyncedLaws.{holds_at_least, holds_changed, holds_read}
 use Rattle.raft_log_file_queue.specs.Queue.{whole, begun}
 use Rattle.raft_log_file_queue.specs.States.{IsFront, IsNew}
 use Rattle.raft_log_file_queue.specs.Standing.{Names, Stands}

@@ -5,8 +5,8 @@ use Rattle.std.proofs.Common.{◌≡◌, ℕ, ◌<◌, ◌≤◌, Option, Some, 
 use Rattle.raft_log_disk.specs.Disk.{File, Disk}
 use Rattle.raft_log_disk.specs.Image.{IsSound}
 use Rattle.raft_log_disk.specs.Calls.{renamed}
-use Rattle.raft_log_disk.specs.LogFormat.{Format}
-use Rattle.raft_log_disk.specs.LogQueue.{LogFiles}
+use Rattle.raft_log_file_laws.specs.LogFormat.{Format}
+use Rattle.raft_log_file_laws.specs.LogQueue.{LogFiles}
 use Rattle.raft_log_disk.proofs.Updates.{name_case, name_apart}
 use Rattle.raft_log_disk.proofs.NamesLaws.{renaming_leaves}
 use Rattle.raft_log_disk.proofs.TouchingLaws.{names_then}

@@ -10,8 +10,8 @@ use Rattle.std.proofs.lemmas.Bool.Decides.{Decides-eqb}
 use Rattle.raft_log_disk.specs.Disk.{Change, File, Disk, HasDirectory, at_rest, with_file}
 use Rattle.raft_log_disk.specs.Image.{IsSound}
 use Rattle.raft_log_disk.specs.Calls.{with_change, after_change, flushed, created, deleted, renamed, counted, at_stop, InPart, Changes, RefusedChange, RefusedWhole}
-use Rattle.raft_log_disk.specs.LogFormat.{Format, IsFormat}
-use Rattle.raft_log_disk.specs.LogQueue.{Past, LogFiles, IsPast, rotated, recent}
+use Rattle.raft_log_file_laws.specs.LogFormat.{Format, IsFormat}
+use Rattle.raft_log_file_laws.specs.LogQueue.{Past, LogFiles, IsPast, rotated, recent}
 use Rattle.raft_log_disk.specs.Touching.{HasFile, TouchesOnly, TouchesOnlyNames}
 use Rattle.raft_log_disk.proofs.Updates.{name_case, name_here, name_apart, file_here, file_apart}
 use Rattle.raft_log_disk.proofs.ImageLaws.{named_is_used}

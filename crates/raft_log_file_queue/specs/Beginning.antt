@@ -1,10 +1,10 @@
 -- How a queue of files begins: on a disk on which it has none.
 use Rattle.std.specs.Prelude.{ℕ, ◌<◌, List, []}
-use Rattle.raft_log_model.specs.Item.{Record}
-use Rattle.raft_log_machine.specs.Files.{fresh_files}
+use Rattle.raft_log_model_laws.specs.Item.{Record}
+use Rattle.raft_log_machine_laws.specs.Files.{fresh_files}
 use Rattle.raft_log_disk.specs.Disk.{Disk}
-use Rattle.raft_log_disk.specs.LogFormat.{Format}
-use Rattle.raft_log_disk.specs.LogQueue.{Past, LogFiles, IsAbsent}
+use Rattle.raft_log_file_laws.specs.LogFormat.{Format}
+use Rattle.raft_log_file_laws.specs.LogQueue.{Past, LogFiles, IsAbsent}
 use Rattle.raft_log_disk.specs.Touching.{TouchesOnlyNames}
 use Rattle.raft_log_file_queue.specs.Queue.{with_room}
 use Rattle.raft_log_file_queue.specs.Standing.{IsPlace}

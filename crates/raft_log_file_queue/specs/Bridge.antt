@@ -1,12 +1,12 @@
 -- Which numbered files of the log's machine the files on a disk are, and what is read of their images.
 use Rattle.std.specs.Prelude.{◌≡◌, ℕ, ◌+◌, ◌<◌, ◌≤◌, List, [], ◌∷◌, ◌++◌, map, suc, zero}
-use Rattle.raft_log_model.specs.Item.{Record}
-use Rattle.raft_log_machine.specs.Files.{LogFile, FileQueue, FileEvent, FileStep, IsRead, AllBehind}
+use Rattle.raft_log_model_laws.specs.Item.{Record}
+use Rattle.raft_log_machine_laws.specs.Files.{LogFile, FileQueue, FileEvent, FileStep, IsRead, AllBehind}
 use Rattle.raft_log_disk.specs.Disk.{Disk}
 use Rattle.raft_log_disk.specs.Image.{IsImage}
-use Rattle.raft_log_disk.specs.Chains.{Written}
-use Rattle.raft_log_disk.specs.LogFormat.{Format}
-use Rattle.raft_log_disk.specs.LogQueue.{Past, LogFiles, Found, IsAbsent, NoChanceInLast, ReadsFrom}
+use Rattle.raft_log_file_laws.specs.Chains.{Written}
+use Rattle.raft_log_file_laws.specs.LogFormat.{Format}
+use Rattle.raft_log_file_laws.specs.LogQueue.{Past, LogFiles, Found, IsAbsent, NoChanceInLast, ReadsFrom}
 
 -- what written records say
 abbrev pub said : {R E V : Type 0} → (R → Record E V) → List (Written R) → List (Record E V)

@@ -2,8 +2,8 @@
 use Rattle.std.specs.Prelude.{◌≡◌, ℕ, ◌≤◌, List, length}
 use Rattle.raft_log_disk.specs.Disk.{Disk}
 use Rattle.raft_log_disk.specs.Image.{IsImage, IsSound}
-use Rattle.raft_log_disk.specs.LogFormat.{Format, CanTellFormat}
-use Rattle.raft_log_disk.specs.LogQueue.{LogFiles, HoldsLast, IsLeftover, kept_to, NoChanceInLast, KeepsQueue, IsReadable, Anything}
+use Rattle.raft_log_file_laws.specs.LogFormat.{Format, CanTellFormat}
+use Rattle.raft_log_file_laws.specs.LogQueue.{LogFiles, HoldsLast, IsLeftover, kept_to, NoChanceInLast, KeepsQueue, IsReadable, Anything}
 use Rattle.raft_log_disk.specs.Touching.{TouchesOnlyNames}
 use Rattle.raft_log_file_queue.specs.Standing.{Names, OwnsPaths, Stands}
 

@@ -1,14 +1,14 @@
 -- What follows of a queue's files for the machine's numbered files.
 use Rattle.std.specs.Prelude.{◌≡◌, ℕ, ◌-◌, ◌≤◌, ◌⊎◌, List, [], ◌++◌}
-use Rattle.raft_log_model.specs.Item.{Record}
-use Rattle.raft_log_machine.specs.Files.{LogFile, FileQueue}
-use Rattle.raft_log_machine.specs.Files.FileEvent.{Grow, Sync, Rotate, Raise, Read}
+use Rattle.raft_log_model_laws.specs.Item.{Record}
+use Rattle.raft_log_machine_laws.specs.Files.{LogFile, FileQueue}
+use Rattle.raft_log_machine_laws.specs.Files.FileEvent.{Grow, Sync, Rotate, Raise, Read}
 use Rattle.raft_log_disk.specs.Disk.{Disk}
 use Rattle.raft_log_disk.specs.Image.{IsSound}
-use Rattle.raft_log_disk.specs.Chains.{Written}
-use Rattle.raft_log_disk.specs.KeepsSynced.{kept_records}
-use Rattle.raft_log_disk.specs.LogFormat.{Format, CanTellFormat}
-use Rattle.raft_log_disk.specs.LogQueue.{LogFiles, HoldsLast, IsLeftover, rotated}
+use Rattle.raft_log_file_laws.specs.Chains.{Written}
+use Rattle.raft_log_file_laws.specs.KeepsSynced.{kept_records}
+use Rattle.raft_log_file_laws.specs.LogFormat.{Format, CanTellFormat}
+use Rattle.raft_log_file_laws.specs.LogQueue.{LogFiles, HoldsLast, IsLeftover, rotated}
 use Rattle.raft_log_file_queue.specs.Queue.{with_more, synced}
 use Rattle.raft_log_file_queue.specs.Standing.{Names, Stands}
 use Rattle.raft_log_file_queue.specs.Bridge.{said, filed, IsFileQueue, ReadsAsFiles, StepsTo, GapsStay}

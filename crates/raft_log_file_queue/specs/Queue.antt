@@ -2,8 +2,8 @@
 -- said of its last file alone; the earlier ones are finished.
 use Rattle.std.specs.Prelude.{◌≡◌, ℕ, ◌<◌, ◌⊎◌, List, [], ◌++◌}
 use Rattle.raft_log_disk.specs.Disk.{grown}
-use Rattle.raft_log_disk.specs.Chains.{Written, spelled}
-use Rattle.raft_log_disk.specs.LogQueue.{Past, LogFiles, recent}
+use Rattle.raft_log_file_laws.specs.Chains.{Written, spelled}
+use Rattle.raft_log_file_laws.specs.LogQueue.{Past, LogFiles, recent}
 
 -- all that was written to the last file: its header and its records
 abbrev pub whole : {R : Type 0} → LogFiles R → List ℕ
@@ -36,7 +36,3 @@ with_room size q = record q { stale = grown size q.stale }
 -- the last file as one without records, with the header that it is to get, over these bytes
 abbrev pub begun : {R : Type 0} → List ℕ → List ℕ → LogFiles R → LogFiles R
 begun header stale q = record q { header = header; stale = stale; durable = []; pending = [] }
-
--- what a file may hold that gets the next number: nothing, or what an earlier file of the queue held
-abbrev pub IsStaleOf : {R : Type 0} → LogFiles R → List ℕ → Type 0
-IsStaleOf q stale = (stale ≡ []) ⊎ ((m : ℕ) × (m < q.last) × (stale ≡ past_bytes (q.older m)))

@@ -1,9 +1,9 @@
 -- The last file of a queue as a stop left it: how far it was read, and how the queue goes on with it.
 use Rattle.std.specs.Prelude.{◌≡◌, ℕ, ◌+◌, Option, Some, None, List, [], length}
 use Rattle.raft_log_disk.specs.Disk.{File}
-use Rattle.raft_log_disk.specs.Chains.{Written, Reads, spelled}
-use Rattle.raft_log_disk.specs.LogFormat.{Format, HasHeader}
-use Rattle.raft_log_disk.specs.LogQueue.{LogFiles, recent}
+use Rattle.raft_log_file_laws.specs.Chains.{Written, Reads, spelled}
+use Rattle.raft_log_file_laws.specs.LogFormat.{Format, HasHeader}
+use Rattle.raft_log_file_laws.specs.LogQueue.{LogFiles, recent}
 
 -- how far a file was read: its header and its whole records end at this place; or it has no header
 abbrev pub IsReadTo : {R : Type 0} → Format R → ℕ → Option ℕ → File → Type 0

@@ -2,8 +2,8 @@
 -- of the last file as its parameter.
 use Rattle.std.specs.Prelude.{◌≡◌, ℕ, ◌<◌, ◌≤◌, ◌⊎◌, false, Option, Some, None, List}
 use Rattle.raft_log_disk.specs.Disk.{File, Disk, HasDirectory}
-use Rattle.raft_log_disk.specs.LogFormat.{Format}
-use Rattle.raft_log_disk.specs.LogQueue.{LogFiles, IsPast}
+use Rattle.raft_log_file_laws.specs.LogFormat.{Format}
+use Rattle.raft_log_file_laws.specs.LogQueue.{LogFiles, IsPast}
 use Rattle.raft_log_disk.specs.Touching.{HasFile, TouchesOnlyNames}
 
 -- which file has which path

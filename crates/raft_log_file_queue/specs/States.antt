@@ -2,10 +2,10 @@
 -- known in each of these states, as each of them is `HoldsLast`.
 use Rattle.std.specs.Prelude.{◌≡◌, ℕ, ◌++◌, List, [], length, take, drop}
 use Rattle.raft_log_disk.specs.Disk.{File}
-use Rattle.raft_log_disk.specs.Chains.{Written}
-use Rattle.raft_log_disk.specs.KeepsSynced.{HoldsChain}
-use Rattle.raft_log_disk.specs.LogFormat.{Format}
-use Rattle.raft_log_disk.specs.LogQueue.{LogFiles, HeaderStands}
+use Rattle.raft_log_file_laws.specs.Chains.{Written}
+use Rattle.raft_log_file_laws.specs.KeepsSynced.{HoldsChain}
+use Rattle.raft_log_file_laws.specs.LogFormat.{Format}
+use Rattle.raft_log_file_laws.specs.LogQueue.{LogFiles, HeaderStands}
 use Rattle.raft_log_file_queue.specs.Queue.{whole}
 
 -- the last file holds the queue's records, and is to get these more

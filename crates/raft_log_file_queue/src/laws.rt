@@ -1,7 +1,7 @@
 //! What is promised of the files of a queue, at any point inside any call on them.
 
 ghost use Rattle.std.specs.Prelude.{ℕ, List};
-ghost use Rattle.raft_log_disk.specs.LogFormat.{Format, IsFormat};
+ghost use Rattle.raft_log_file_laws.specs.LogFormat.{Format, IsFormat};
 ghost use Rattle.raft_log_file_queue.specs.Laws.{FilesAreKept, FilesAreReadable, FilesRestart};
 
 /// Says how the files of a queue are written, and which paths are its own.

@@ -2,8 +2,8 @@
 //! files.
 
 ghost use Rattle.std.specs.Prelude.{ℕ, List};
-ghost use Rattle.raft_log_model.specs.Item.{Record};
-ghost use Rattle.raft_log_disk.specs.LogFormat.{Format, IsFormat};
+ghost use Rattle.raft_log_model_laws.specs.Item.{Record};
+ghost use Rattle.raft_log_file_laws.specs.LogFormat.{Format, IsFormat};
 ghost use Rattle.raft_log_file_queue.specs.NumberedLaws.{ReadsAsNumbered, TakesNumberedSteps};
 ghost use Rattle.raft_log_file_queue.specs.Beginning.{BeginsNumbered};
 

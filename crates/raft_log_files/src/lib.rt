@@ -1,18 +1,21 @@
-//! Queues of log files that are written, synced, rotated and purged, and keep what was synced at every
-//! exit.
+//! The files of a log, in one name: file systems, names, headers and settings, one file written and read, the pipe
+//! of a queue, both pipes of a log, and who listens to them.
 //!
-//! So far the calls that a pipe is made of, each with what stands when it was answered and when it was
-//! refused, over any file system and any format of files: on the last file of a queue (`last_file`), and
-//! on the names of its files (`rotation`). From each of these exits `raft_log_file_queue` says what a stop
-//! leaves.
+//! This crate only hands on; the page of each part says what its calls promise.
 #![tactic(auto)]
 
-pub mod format;
-pub mod last_file;
-pub mod opening;
-pub mod rotation;
-
-pub use format::{DEFAULT_FIRST_FILE_SEQ, DEFAULT_PATH_ID, File, PathId, Paths, PipeFormat};
-pub use last_file::{WriteFault, append_record, begin_file, finish_file, sync_records};
-pub use opening::{begin_queue, reopen_file, trim_leftover};
-pub use rotation::{drop_file, rotate_over, rotate_to_new};
+pub use raft_log_disk::{Fault, FileSystem, Handle, Permission};
+pub use raft_log_disk_memory::{MemoryFileSystem, Piece, Remainder};
+pub use raft_log_file_format::{
+    FileNameExt, LogFileFormat, build_reserved_file_name, parse_reserved_file_name,
+};
+pub use raft_log_file_layout::LogLayout;
+pub use raft_log_file_listeners::{EventListener, Listeners, PurgeHook, ToldPipes};
+pub use raft_log_file_pair::{DualPipes, DualPipes as FilePipeLog, OpenRefused, PipeLog};
+pub use raft_log_file_pipe::{ReactiveBytes, SinglePipe};
+pub use raft_log_file_queue::{DEFAULT_FIRST_FILE_SEQ, DEFAULT_PATH_ID, File, PathId, Paths};
+pub use raft_log_file_reader::{LogItemBatchFileReader, LogItemReader};
+pub use raft_log_file_settings::{Config, RecoveryMode};
+pub use raft_log_file_writer::{
+    LogFileReader, LogFileWriter, build_file_reader, build_file_writer,
+};

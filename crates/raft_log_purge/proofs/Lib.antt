@@ -1,0 +1,7 @@
+pub mod OneFile
+pub mod Expiring
+pub mod Free
+pub mod Past
+pub mod Picked
+pub mod Whole
+pub mod Turning

@@ -1,8 +1,19 @@
-//! Which parts of a log a purge takes up.
+//! Whole purges, put together of their parts. The map stays at every exit.
+//!
+//! Each is over a log's pipes and the tables of its groups, and its contract speaks of whatever map was the
+//! log's, with whatever batches were pending (`Holds`): it asks nothing of the caller.
 #![tactic(auto)]
 
-pub mod thresholds;
-pub mod watermarks;
+pub mod append;
+pub mod counted;
+pub mod expired;
+pub mod expired_files;
+pub mod laws;
+pub mod rewrite_queue;
 
-pub use thresholds::Thresholds;
-pub use watermarks::{Watermarks, append_watermarks, is_any_past, takes_append, takes_rewrite};
+pub use counted::{purge_and_count, rewrite_and_count, rewrite_append_and_count};
+pub use expired::purge_append;
+pub use expired_files::PurgeCounts;
+pub use raft_log_purge_parts;
+pub use raft_log_purge_parts::raft_log_file_blocks;
+pub use rewrite_queue::rewrite_rewrite_queue;

@@ -10,13 +10,13 @@ use Rattle.std.proofs.lemmas.List.Elements.{filter_more}
 use Rattle.std.proofs.lemmas.List.Folds.{list_any_more}
 use Rattle.std.proofs.lemmas.List.Kept.{IsStrictlySortedBy-filter}
 use Rattle.std.proofs.lemmas.Map.Views.{any-filter_same}
-use Rattle.raft_log_model.proofs.Cases.{at_bool}
-use Rattle.raft_log_replay.specs.declared.group_table.GroupTable.{GroupTable}
-use Rattle.raft_log_replay.specs.declared.mem_tables.MemTables.{MemTables}
-use Rattle.raft_log_replay.specs.Tables.{has_table, raw_of}
-use Rattle.raft_log_tables.specs.Table.{Raw}
-use Rattle.raft_log_replay.specs.Walking.{ListsGroups}
-use Rattle.raft_log_purge.specs.declared.watermarks.Watermarks.{Watermarks}
+use Rattle.raft_log_model_laws.proofs.Cases.{at_bool}
+use Rattle.raft_log_table_all.specs.declared.group_table.GroupTable.{GroupTable}
+use Rattle.raft_log_table_all.specs.declared.mem_tables.MemTables.{MemTables}
+use Rattle.raft_log_table_all.specs.Tables.{has_table, raw_of}
+use Rattle.raft_log_table_one.specs.Table.{Raw}
+use Rattle.raft_log_table_all.specs.Walking.{ListsGroups}
+use Rattle.raft_log_purge_rules.specs.declared.watermarks.Watermarks.{Watermarks}
 use Rattle.raft_log_purge_rules.specs.Behind.{round_behind}
 use Rattle.raft_log_purge_rules.specs.Picking.{answers_at, answers_in, asks_at, asks_in, rewrites_at, rewrites_in}
 

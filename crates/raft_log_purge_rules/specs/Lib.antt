@@ -1,3 +1,5 @@
+pub mod Thresholds
+pub mod Watermarks
 pub mod Behind
 pub mod Rules
 pub mod Picking

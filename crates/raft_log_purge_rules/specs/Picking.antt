@@ -2,10 +2,10 @@
 use Rattle.std.specs.Prelude.{ℕ, Bool, false, ◌&&◌, ◌||◌, nat_lt, Option, Some, None, unwrap_or}
 use Rattle.std.specs.BTreeMap.{get}
 use Rattle.std.specs.Ordering.{nat_cmp}
-use Rattle.raft_log_replay.specs.declared.mem_tables.MemTables.{MemTables}
-use Rattle.raft_log_replay.specs.Tables.{raw_of}
-use Rattle.raft_log_tables.specs.Table.{Raw, shown}
-use Rattle.raft_log_purge.specs.declared.watermarks.Watermarks.{Watermarks}
+use Rattle.raft_log_table_all.specs.declared.mem_tables.MemTables.{MemTables}
+use Rattle.raft_log_table_all.specs.Tables.{raw_of}
+use Rattle.raft_log_table_one.specs.Table.{Raw, shown}
+use Rattle.raft_log_purge_rules.specs.declared.watermarks.Watermarks.{Watermarks}
 use Rattle.raft_log_purge_rules.specs.declared.rounds.Rounds.{Rounds}
 use Rattle.raft_log_purge_rules.specs.Rules.{asks, rewrites}
 

@@ -1,10 +1,10 @@
 -- Which groups a purge of Append asks to be compacted, and which it rewrites itself.
 use Rattle.std.specs.Prelude.{ℕ, ◌+◌, ◌-◌, ◌^◌, min, Bool, false, not, ◌&&◌, ◌||◌, nat_lt, nat_le, Option, None, Some, if◌then◌else◌}
-use Rattle.raft_log_base.specs.declared.pipe_log.LogQueue.TheVariants.{Append}
-use Rattle.raft_log_tables.specs.Files.{min_file}
-use Rattle.raft_log_tables.specs.Reads.{has_before}
-use Rattle.raft_log_tables.specs.Table.{Raw, shown}
-use Rattle.raft_log_purge.specs.declared.watermarks.Watermarks.{Watermarks}
+use Rattle.raft_log_record_base.specs.declared.pipe_log.LogQueue.TheVariants.{Append}
+use Rattle.raft_log_table_one.specs.Files.{min_file}
+use Rattle.raft_log_table_one.specs.Reads.{has_before}
+use Rattle.raft_log_table_one.specs.Table.{Raw, shown}
+use Rattle.raft_log_purge_rules.specs.declared.watermarks.Watermarks.{Watermarks}
 
 -- the least file of Append in which a group has something is below this one
 abbrev pub is_below : ℕ → Option ℕ → Bool

@@ -1,10 +1,14 @@
-//! Which groups a purge of Append asks to be compacted, and which it rewrites itself: first of one group, by
-//! its table, then of all.
+//! Which parts of a log a purge takes up, and how far; which groups a purge of Append asks to be compacted, and
+//! which it rewrites itself: first of one group, by its table, then of all.
 #![tactic(auto)]
 
 pub mod picking;
 pub mod rounds;
 pub mod rules;
+pub mod thresholds;
+pub mod watermarks;
 
 pub use picking::{answered_groups, asked_groups, rewritten_groups};
 pub use rounds::Rounds;
+pub use thresholds::Thresholds;
+pub use watermarks::{Watermarks, append_watermarks, is_any_past, takes_append, takes_rewrite};

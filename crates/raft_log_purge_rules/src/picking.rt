@@ -2,8 +2,8 @@
 
 ghost use Rattle.std.specs.Prelude.{◌≡◌, [], ◌∷◌, ◌++◌, IfOk, OnOk, if◌then◌else◌};
 ghost use Rattle.std.specs.List.{filter};
-ghost use Rattle.raft_log_replay.specs.Tables.{raw_of};
-ghost use Rattle.raft_log_replay.specs.Walking.{ListsGroups};
+ghost use Rattle.raft_log_table_all.specs.Tables.{raw_of};
+ghost use Rattle.raft_log_table_all.specs.Walking.{ListsGroups};
 ghost use Rattle.raft_log_purge_rules.specs.Picking.{
   answers_at,
   asks_at,
@@ -14,11 +14,11 @@ ghost use Rattle.raft_log_purge_rules.specs.Picking.{
   rewrites_in,
 };
 
+use crate::Watermarks;
 use crate::rounds::Rounds;
 use crate::rules::{asks, rewrites};
-use raft_log_purge::Watermarks;
-use raft_log_replay::MemTables;
-use raft_log_tables::MemTable;
+use raft_log_table_all::MemTables;
+use raft_log_table_one::MemTable;
 use std::alloc::{AllocError, Global};
 
 /// Of so many entries in Rewrite, or fewer, a group isn't answered for those.

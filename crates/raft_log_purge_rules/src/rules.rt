@@ -1,8 +1,8 @@
 //! Which groups a purge of Append asks to be compacted, and which it rewrites itself.
 
 ghost use Rattle.std.specs.Prelude.{◌≡◌};
-ghost use Rattle.raft_log_base.specs.declared.pipe_log.LogQueue.TheVariants.{Append};
-ghost use Rattle.raft_log_tables.specs.Files.{min_file};
+ghost use Rattle.raft_log_record_base.specs.declared.pipe_log.LogQueue.TheVariants.{Append};
+ghost use Rattle.raft_log_table_one.specs.Files.{min_file};
 ghost use Rattle.raft_log_purge_rules.specs.Rules.{
   asks,
   has_to_rewrite,
@@ -13,10 +13,10 @@ ghost use Rattle.raft_log_purge_rules.specs.Rules.{
   rewrites,
 };
 
+use crate::Watermarks;
 use crate::rounds::ROUNDS_OF_ASKING;
-use raft_log_base::{FileId, FileSeq, LogQueue};
-use raft_log_purge::Watermarks;
-use raft_log_tables::MemTable;
+use raft_log_record_base::{FileId, FileSeq, LogQueue};
+use raft_log_table_one::MemTable;
 
 /// So many entries make a group heavy.
 const HEAVY_ENTRIES: usize = 32;

@@ -1,6 +1,7 @@
-pub mod ItemBatch
-pub mod Batch
-pub mod Entries
-pub mod Key
-pub mod AtomicGroup
-pub mod Places
+-- libraries below, passed on to who stands on this one
+pub use Rattle.raft_log_record_checksum
+pub use Rattle.raft_log_record_base
+pub use Rattle.raft_log_record_items
+pub use Rattle.raft_log_record_frames
+pub use Rattle.raft_log_record_marks
+pub use Rattle.raft_log_record_batches

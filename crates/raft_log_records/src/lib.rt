@@ -1,20 +1,21 @@
-//! Log records: items and entries in signed batches, which may be parts of atomic groups.
+//! The records of a log, in one name: numbers, sizes, items, batches and their bytes, and why a call is refused.
+//!
+//! This crate only hands on; the page of each part says what its calls promise.
 #![tactic(auto)]
 
-pub mod atomic_group;
-pub mod laws;
-pub mod log_batch;
-pub mod log_item_batch;
-
-pub use atomic_group::AtomicGroupBuilder;
-pub use log_batch::{BatchState, LogBatch};
-pub use log_item_batch::LogItemBatch;
-pub use raft_log_atomic_groups::{AtomicGroupStatus, Marking};
-pub use raft_log_frames::{
+pub use raft_log_record_base::codec::BytesSlice;
+pub use raft_log_record_base::size::{B, GIB, KIB, MIB, PIB, TIB};
+pub use raft_log_record_base::{
+    Error, FileBlockHandle, FileId, FileSeq, LogFileContext, LogQueue, ParseSizeError,
+    ReadableSize, Result, Version, codec, round_down, round_up,
+};
+pub use raft_log_record_batches::{AtomicGroupBuilder, BatchState, LogBatch, LogItemBatch};
+pub use raft_log_record_checksum::{crc32, hash_u64, unhash_u64};
+pub use raft_log_record_frames::{
     LOG_BATCH_HEADER_LEN, decode_entries_block, decode_footer, decode_header,
 };
-pub use raft_log_items::{
-    Bytes, Command, CompressionType, EntryIndex, EntryIndexes, Error, FileBlockHandle, FileId,
-    FileSeq, KeyValue, LogFileContext, LogItem, LogItemContent, LogQueue, Message, MessageExt,
-    OpType, Result, Version,
+pub use raft_log_record_items::{
+    Bytes, Command, CompressionType, EntryIndex, EntryIndexes, KeyValue, LogItem, LogItemContent,
+    Message, MessageExt, OpType,
 };
+pub use raft_log_record_marks::{AtomicGroupStatus, Marking};

@@ -1,7 +1,6 @@
-pub mod Stats
-pub mod Room
-pub mod Table
-pub mod Reads
-pub mod Files
-pub mod Moves
-pub mod Replays
+-- libraries below, passed on to who stands on this one
+pub use Rattle.raft_log_table_lists
+pub use Rattle.raft_log_table_one
+pub use Rattle.raft_log_table_all
+pub use Rattle.raft_log_table_segments
+pub use Rattle.raft_log_table_contexts

@@ -1,15 +1,13 @@
-//! What an engine keeps in memory of each group: where its entries and keys stand.
+//! The tables of a log, in one name: where each group's entries and values stand, the tables of all groups, and
+//! their rebuilding from segments that workers read.
 //!
-//! Whatever a call may want memory for happens before a batch is written, in `prepare_..`; what is done
-//! after the write can't be refused.
+//! This crate only hands on; the page of each part says what its calls promise.
 #![tactic(auto)]
 
-pub mod ends;
-pub mod global_stats;
-pub mod laws;
-pub mod mem_table;
-
-pub use ends::Ends;
-pub use global_stats::GlobalStats;
-pub use mem_table::MemTable;
-pub use raft_log_held::{HeldValue, KeyMap};
+pub use raft_log_table_all::{MemTables, MemTables as MemTableAccessor};
+pub use raft_log_table_contexts::{MemTableRecoverContext, MemTableRecoverContextFactory};
+pub use raft_log_table_lists::{GroupFiles, HeldValue, KeyMap, Place, Places};
+pub use raft_log_table_one::{GlobalStats, MemTable};
+pub use raft_log_table_segments::{
+    Factory, ReadSegments, ReplayMachine, ReplaySource, replay_segments,
+};

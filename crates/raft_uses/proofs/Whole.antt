@@ -1,7 +1,7 @@
 -- A log of which nothing was found has no group with a hole.
 use Rattle.std.proofs.Common.{◌≡◌, ℕ, suc, ◌==◌, true, List, [], ◌∷◌, length, Option, None, Some, refl, arith}
 use Rattle.std.specs.Prelude.{IsTrue, ◌↔◌, Contains}
-use Rattle.raft_log_consistency.specs.Findings.{Lists}
+use Rattle.raft_log_closed.specs.Findings.{Lists}
 
 in_none : {X : Type 0} (y : X) → Contains [] y → ⊥
 in_none y (k, lt, is) = omega (arith, lt)

@@ -1,15 +1,15 @@
 -- A table that made room for entries can take them once they are written.
 use Rattle.std.proofs.Common.{◌≡◌, List, [], ◌∷◌, map, Option, Some, None, refl, sym, ap, ap₂, subst}
-use Rattle.raft_log_base.specs.declared.pipe_log.FileBlockHandle.{FileBlockHandle}
-use Rattle.raft_log_items.specs.declared.entry.EntryIndex.{EntryIndex}
-use Rattle.raft_log_items.specs.Placed.{written_entry}
-use Rattle.raft_log_model.specs.Item.Item.{Run}
-use Rattle.raft_log_model.specs.Renamed.{renamed}
-use Rattle.raft_log_places.specs.declared.place.Place.{Place}
-use Rattle.raft_log_places.specs.Shown.{span, MayFollow, Shown}
-use Rattle.raft_log_held.specs.Entries.{place_in, place_of, run_of}
-use Rattle.raft_log_tables.specs.Room.{promised, CanTake, IsReady, Promise}
-use Rattle.raft_log_tables.proofs.Ready.{ready_can, ready_more, ready_none, ready_renamed}
+use Rattle.raft_log_record_base.specs.declared.pipe_log.FileBlockHandle.{FileBlockHandle}
+use Rattle.raft_log_record_items.specs.declared.entry.EntryIndex.{EntryIndex}
+use Rattle.raft_log_record_items.specs.Placed.{written_entry}
+use Rattle.raft_log_model_laws.specs.Item.Item.{Run}
+use Rattle.raft_log_model_laws.specs.Renamed.{renamed}
+use Rattle.raft_log_table_lists.specs.declared.place.Place.{Place}
+use Rattle.raft_log_table_lists.specs.Shown.{span, MayFollow, Shown}
+use Rattle.raft_log_table_lists.specs.Entries.{place_in, place_of, run_of}
+use Rattle.raft_log_table_one.specs.Room.{promised, CanTake, IsReady, Promise}
+use Rattle.raft_log_table_one.proofs.Ready.{ready_can, ready_more, ready_none, ready_renamed}
 
 -- the place in this block
 in_block : FileBlockHandle → Place → Place

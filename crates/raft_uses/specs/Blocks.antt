@@ -1,9 +1,9 @@
 -- What a caller of a block cache reads.
 use Rattle.std.specs.Prelude.{◌≡◌, ℕ, None, List, Option}
-use Rattle.raft_log_items.specs.declared.entry.EntryIndex.{EntryIndex}
-use Rattle.raft_log_dual_pipes.specs.Pipes.{LogPipes}
-use Rattle.raft_log_blocks.specs.Blocks.{ReadsEntry}
-use Rattle.raft_log_blocks.specs.declared.block_cache.BlockCache.{BlockCache}
+use Rattle.raft_log_record_items.specs.declared.entry.EntryIndex.{EntryIndex}
+use Rattle.raft_log_file_pair.specs.Pipes.{LogPipes}
+use Rattle.raft_log_file_blocks.specs.Blocks.{ReadsEntry}
+use Rattle.raft_log_file_blocks.specs.declared.block_cache.BlockCache.{BlockCache}
 
 -- both entries were read, the second one over the block that was kept of the first
 pub record ReadsEnds {M : Type 0} (reading : List ℕ → Option M) (v : LogPipes) (first last : EntryIndex)

@@ -1,12 +1,12 @@
 -- What a caller of a builder has read.
 use Rattle.std.specs.Prelude.{◌≡◌, List}
-use Rattle.raft_log_base.specs.declared.pipe_log.LogQueue.{LogQueue}
+use Rattle.raft_log_record_base.specs.declared.pipe_log.LogQueue.{LogQueue}
 use Rattle.raft_log_disk.specs.Disk.{Disk}
-use Rattle.raft_log_settings.specs.declared.config.Config.{Config}
-use Rattle.raft_log_segments.specs.Machines.{Batch}
-use Rattle.raft_log_builder.specs.Recovering.{RecoversLog}
-use Rattle.raft_log_builder.specs.Scanning.{ScansLog}
-use Rattle.raft_log_builder.specs.declared.builder.DualPipesBuilder.{DualPipesBuilder}
+use Rattle.raft_log_file_settings.specs.declared.config.Config.{Config}
+use Rattle.raft_log_table_segments.specs.Machines.{Batch}
+use Rattle.raft_log_open_builder.specs.Recovering.{RecoversLog}
+use Rattle.raft_log_open_builder.specs.Scanning.{ScansLog}
+use Rattle.raft_log_open_builder.specs.declared.builder.DualPipesBuilder.{DualPipesBuilder}
 
 -- the log of these settings was found, and both its queues were read into these machines
 pub record ReadsInto {M : Type 0} (reads : LogQueue → List Batch → M → Type 0) (config : Config)

@@ -1,7 +1,7 @@
 -- Records that stand one behind the other.
 use Rattle.std.specs.Prelude.{◌≡◌, ℕ, List, ◌++◌, Option}
-use Rattle.raft_log_items.specs.declared.item.LogItem.{LogItem}
-use Rattle.raft_log_frames.specs.Record.{IsRecord}
+use Rattle.raft_log_record_items.specs.declared.item.LogItem.{LogItem}
+use Rattle.raft_log_record_frames.specs.Record.{IsRecord}
 
 -- the bytes are a record of a file with this signature, and what stands behind it
 abbrev pub RecordBefore : Option ℕ → List ℕ → List ℕ → Type 0

@@ -1,11 +1,11 @@
 -- What a caller of a check learns.
 use Rattle.std.specs.Prelude.{◌≡◌, ◌↔◌, ℕ, Bool, IsTrue, List, None}
 use Rattle.raft_log_disk.specs.Disk.{Disk}
-use Rattle.raft_log_consistency.specs.Directory.{ChecksDirectory}
-use Rattle.raft_log_consistency.specs.Findings.{finding_of}
+use Rattle.raft_log_closed.specs.Directory.{ChecksDirectory}
+use Rattle.raft_log_closed.specs.Findings.{finding_of}
 
 -- the log in the directory was checked, and no group has a hole in it just where it is said to be whole
-pub record TellsWhole (path : List ℕ) (whole : Bool) (old new : Disk) : Type 0 where
+pub record FindsNoHole (path : List ℕ) (whole : Bool) (old new : Disk) : Type 0 where
   pub findings : List (ℕ × ℕ)
   pub checks : ChecksDirectory path findings old new
   pub tells : IsTrue whole ↔ ((group : ℕ) → finding_of checks.checks.append checks.checks.rewrite group ≡ None)

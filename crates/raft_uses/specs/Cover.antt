@@ -1,7 +1,7 @@
 -- What a snapshot covers: a term and an index, each a number of variable length.
 use Rattle.std.specs.Prelude.{ℕ, List, ◌++◌, Ok}
-use Rattle.raft_log_base.specs.Grammar.{◌>>=◌}
-use Rattle.raft_log_base.specs.Number.{NumberReader, var_u64_at, var_u64_bytes}
+use Rattle.raft_log_record_base.specs.Grammar.{◌>>=◌}
+use Rattle.raft_log_record_base.specs.Number.{NumberReader, var_u64_at, var_u64_bytes}
 
 -- the bytes that are written
 abbrev pub cover_bytes : ℕ → ℕ → List ℕ

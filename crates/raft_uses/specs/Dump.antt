@@ -1,10 +1,10 @@
 -- What a caller of a dump learns.
 use Rattle.std.specs.Prelude.{ℕ, List, Option}
 use Rattle.raft_log_disk.specs.Disk.{Disk}
-use Rattle.raft_log_item_reader.specs.Answers.{Answer}
-use Rattle.raft_log_item_reader.specs.Reader.{GivesFirst}
-use Rattle.raft_log_item_reader.specs.declared.reader.LogItemReader.{LogItemReader}
-use Rattle.raft_log_dump.specs.Dump.{Dumps}
+use Rattle.raft_log_file_reader.specs.Answers.{Answer}
+use Rattle.raft_log_file_reader.specs.ItemReader.{GivesFirst}
+use Rattle.raft_log_file_reader.specs.declared.item_reader.LogItemReader.{LogItemReader}
+use Rattle.raft_log_closed.specs.Dump.{Dumps}
 
 -- this is the first of what comes of the log files of the directory with this path, or of the log file with it
 pub record BeginsDump {F : Type 0} (disk : F → Disk) (file_system : F) (path : List ℕ) (first : Option Answer)

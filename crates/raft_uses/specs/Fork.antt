@@ -1,8 +1,8 @@
 -- What a caller of a fork learns.
 use Rattle.std.specs.Prelude.{◌≡◌, ℕ, List, length}
 use Rattle.raft_log_disk.specs.Disk.{Disk}
-use Rattle.raft_log_settings.specs.Settings.{Settings}
-use Rattle.raft_log_fork.specs.Forks.{Forks}
+use Rattle.raft_log_file_settings.specs.Settings.{Settings}
+use Rattle.raft_log_closed.specs.Forks.{Forks}
 
 -- the log was copied into the directory, and has so many files
 pub record BacksUp (s : Settings) (target : List ℕ) (count : ℕ) (old new : Disk) : Type 0 where

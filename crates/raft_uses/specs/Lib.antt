@@ -5,7 +5,6 @@ pub mod Chain
 pub mod Sessions
 pub mod Pipes
 pub mod DualPipes
-pub mod Engine
 pub mod Blocks
 pub mod Dump
 pub mod Fork

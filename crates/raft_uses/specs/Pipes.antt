@@ -1,16 +1,16 @@
 -- What a caller of a pipe does with it.
 use Rattle.std.specs.Prelude.{ℕ, List}
-use Rattle.raft_log_base.specs.declared.pipe_log.FileBlockHandle.{FileBlockHandle}
-use Rattle.raft_log_base.specs.declared.pipe_log.LogFileContext.{LogFileContext}
+use Rattle.raft_log_record_base.specs.declared.pipe_log.FileBlockHandle.{FileBlockHandle}
+use Rattle.raft_log_record_base.specs.declared.pipe_log.LogFileContext.{LogFileContext}
 use Rattle.raft_log_disk.specs.Disk.{Disk}
-use Rattle.raft_log_disk.specs.LogFormat.{Format}
-use Rattle.raft_log_files.specs.Layout.{FilePaths}
-use Rattle.raft_log_format.specs.Header.{header_bytes}
-use Rattle.raft_log_pipes.specs.Appending.{AppendsAt}
-use Rattle.raft_log_pipes.specs.Exits.{Rotates, SyncsPipe}
-use Rattle.raft_log_pipes.specs.Purging.{Purges}
-use Rattle.raft_log_pipes.specs.declared.pipe_files.PipeFiles.{PipeFiles}
-use Rattle.raft_log_pipes.specs.declared.single_pipe.PipeSettings.{PipeSettings}
+use Rattle.raft_log_file_laws.specs.LogFormat.{Format}
+use Rattle.raft_log_file_queue.specs.Layout.{FilePaths}
+use Rattle.raft_log_file_format.specs.Header.{header_bytes}
+use Rattle.raft_log_file_pipe.specs.Appending.{AppendsAt}
+use Rattle.raft_log_file_pipe.specs.Exits.{Rotates, SyncsPipe}
+use Rattle.raft_log_file_pipe.specs.Purging.{Purges}
+use Rattle.raft_log_file_pipe.specs.declared.pipe_files.PipeFiles.{PipeFiles}
+use Rattle.raft_log_file_pipe.specs.declared.single_pipe.PipeSettings.{PipeSettings}
 
 -- the record was written behind the others, signed for its file, and then all were synced
 pub record Saves {R : Type 0} (F : Format R) (own : List ℕ → Type 0) (paths : FilePaths)
@@ -21,7 +21,7 @@ pub record Saves {R : Type 0} (F : Format R) (own : List ℕ → Type 0) (paths 
   pub synced : SyncsPipe F own paths after between new
 
 -- the pipe went on in the next file, and then all files below the last one left it
-pub record KeepsLast {R : Type 0} (F : Format R) (own : List ℕ → Type 0) (paths : FilePaths)
+pub record KeepsLastAlone {R : Type 0} (F : Format R) (own : List ℕ → Type 0) (paths : FilePaths)
     (settings : PipeSettings) (before after : PipeFiles) (old new : Disk) : Type 0 where
   pub middle : PipeFiles
   pub between : Disk

@@ -1,9 +1,9 @@
 -- What a caller of a scan learns.
 use Rattle.std.specs.Prelude.{◌≡◌, ℕ, List, length}
 use Rattle.raft_log_disk.specs.Disk.{Disk}
-use Rattle.raft_log_settings.specs.declared.recovery_mode.RecoveryMode.{RecoveryMode}
-use Rattle.raft_log_recovery.specs.Scanned.{Scans}
-use Rattle.raft_log_recovery.specs.declared.scanning.ScannedFiles.{ScannedFiles}
+use Rattle.raft_log_file_settings.specs.declared.recovery_mode.RecoveryMode.{RecoveryMode}
+use Rattle.raft_log_open_scan.specs.Scanned.{Scans}
+use Rattle.raft_log_open_scan.specs.declared.scanning.ScannedFiles.{ScannedFiles}
 
 -- the directories were scanned, and of each queue so many files were found that are kept
 pub record FindsFiles (directories : List (List ℕ)) (mode : RecoveryMode) (append rewrite : ℕ)

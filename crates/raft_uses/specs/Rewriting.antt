@@ -1,11 +1,11 @@
 -- What a caller of the parts of a purge does with a group.
 use Rattle.std.specs.Prelude.{ℕ}
-use Rattle.raft_log_directory.specs.Calls.Which.{InAppend, InRewrite}
-use Rattle.raft_log_dual_pipes.specs.Calls.{SyncsQueue}
-use Rattle.raft_log_dual_pipes.specs.Pipes.{LogPipes}
-use Rattle.raft_log_engine.specs.raft_log_engine_state.specs.Shows.{Shows}
-use Rattle.raft_log_rewriting.specs.Groups.{RewritesGroup}
-use Rattle.raft_log_rewriting.specs.Marks.{CarriesMarks}
+use Rattle.raft_log_directory_laws.specs.Calls.Which.{InAppend, InRewrite}
+use Rattle.raft_log_file_pair.specs.Calls.{SyncsQueue}
+use Rattle.raft_log_file_pair.specs.Pipes.{LogPipes}
+use Rattle.raft_log_engine_core.specs.raft_log_engine_laws.specs.Shows.{Shows}
+use Rattle.raft_log_purge_parts.specs.Groups.{RewritesGroup}
+use Rattle.raft_log_purge_parts.specs.Marks.{CarriesMarks}
 
 -- Append was synced and the marks carried; then what the group has in Append up to the gate was rewritten, and
 -- Rewrite synced

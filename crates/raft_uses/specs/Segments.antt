@@ -1,8 +1,8 @@
 -- What a caller counts of the segments of a queue.
 use Rattle.std.specs.Prelude.{◌≡◌, ℕ, ◌-◌, ◌^◌, List, length, min}
-use Rattle.raft_log_segments.specs.Machines.{Batch}
-use Rattle.raft_log_segments.specs.Segments.{all_batches}
-use Rattle.raft_log_segments.specs.Sources.{HoldEach}
+use Rattle.raft_log_table_segments.specs.Machines.{Batch}
+use Rattle.raft_log_table_segments.specs.Segments.{all_batches}
+use Rattle.raft_log_table_segments.specs.Sources.{HoldEach}
 
 -- so many batches were read, at most the greatest number that there is
 abbrev pub IsCountOf : List Batch → ℕ → Type 0

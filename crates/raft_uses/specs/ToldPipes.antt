@@ -1,9 +1,9 @@
 -- What a purge leaves that heeds whoever listens.
 use Rattle.std.specs.Prelude.{ℕ, min, Option, Some, None}
-use Rattle.raft_log_directory.specs.Calls.{Which}
-use Rattle.raft_log_dual_pipes.specs.Calls.{PurgesQueue}
-use Rattle.raft_log_dual_pipes.specs.Pipes.{LogPipes}
-use Rattle.raft_log_listeners.specs.Least.{BothHoldBack}
+use Rattle.raft_log_directory_laws.specs.Calls.{Which}
+use Rattle.raft_log_file_pair.specs.Calls.{PurgesQueue}
+use Rattle.raft_log_file_pair.specs.Pipes.{LogPipes}
+use Rattle.raft_log_file_listeners.specs.Least.{BothHoldBack}
 
 -- up to where files may go: a number, or the one from which on they are held back
 abbrev pub up_to : Option ℕ → ℕ → ℕ

@@ -1,10 +1,10 @@
-//! A caller of `raft_log_atomic_groups`: what a reader asks of the items of a record.
+//! A caller of `raft_log_record_marks`: what a reader asks of the items of a record.
 ghost use Rattle.std.specs.Prelude.{◌≡◌, ◌↔◌, Some, IsTrue};
-ghost use Rattle.raft_log_model.specs.Item.Record.{Plain};
-ghost use Rattle.raft_log_atomic_groups.specs.Meaning.{record_of, tagged_items};
+ghost use Rattle.raft_log_model_laws.specs.Item.Record.{Plain};
+ghost use Rattle.raft_log_record_marks.specs.Meaning.{record_of, tagged_items};
 
-use raft_log_atomic_groups::Marking;
-use raft_log_items::LogItem;
+use raft_log_record_items::LogItem;
+use raft_log_record_marks::Marking;
 
 /// Whether what the items of a record say counts at once. A part of an atomic group waits for the other
 /// parts, and a broken record says nothing.

@@ -1,10 +1,10 @@
-//! A caller of `raft_log_base`: the term and the index that a snapshot covers, as bytes both ways.
+//! A caller of `raft_log_record_base`: the term and the index that a snapshot covers, as bytes both ways.
 ghost use Rattle.std.specs.Prelude.{◌≡◌, ◌++◌, OnOk, OnErr};
-ghost use Rattle.raft_log_base.specs.Grammar.{ReadsAs};
+ghost use Rattle.raft_log_record_base.specs.Grammar.{ReadsAs};
 ghost use Rattle.raft_uses.specs.Cover.{cover_bytes, cover_at};
 
-use raft_log_base::codec;
-use raft_log_base::codec::{BytesSlice, append_var_u64, decode_var_u64, or_cut_back};
+use raft_log_record_base::codec;
+use raft_log_record_base::codec::{BytesSlice, append_var_u64, decode_var_u64, or_cut_back};
 use std::alloc::AllocError;
 
 /// Appends the term and the index. A refusal leaves the buffer as it was.

@@ -1,12 +1,12 @@
-//! A caller of `raft_log_blocks`: entries are read, and their block once.
+//! A caller of `raft_log_file_blocks`: entries are read, and their block once.
 
 ghost use Rattle.std.specs.Prelude.{IfOk};
 ghost use Rattle.raft_uses.specs.Blocks.{ReadsEnds};
 
-use raft_log_base::Result;
-use raft_log_blocks::BlockCache;
-use raft_log_dual_pipes::PipeLog;
-use raft_log_items::{EntryIndex, Message};
+use raft_log_file_blocks::BlockCache;
+use raft_log_file_pair::PipeLog;
+use raft_log_record_base::Result;
+use raft_log_record_items::{EntryIndex, Message};
 use std::alloc::Global;
 
 /// Reads two entries, as the first and the last one of a log. Where they lie in one block, it is read once.

@@ -1,14 +1,14 @@
-//! A caller of `raft_log_builder`: what a log's files say is read, and no pipe is opened.
+//! A caller of `raft_log_open_builder`: what a log's files say is read, and no pipe is opened.
 
 ghost use Rattle.std.specs.Prelude.{IfOk};
 ghost use Rattle.raft_uses.specs.Builder.{ReadsInto};
 
 use log::Log;
-use raft_log_base::Result;
-use raft_log_builder::DualPipesBuilder;
 use raft_log_disk::FileSystem;
-use raft_log_segments::{Factory, ReplayMachine};
-use raft_log_settings::Config;
+use raft_log_file_settings::Config;
+use raft_log_open_builder::DualPipesBuilder;
+use raft_log_record_base::Result;
+use raft_log_table_segments::{Factory, ReplayMachine};
 use std::alloc::Global;
 use std::thread::Threads;
 

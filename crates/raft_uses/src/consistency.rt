@@ -1,13 +1,13 @@
-//! A caller of `raft_log_consistency`: whether a log has no hole.
+//! A caller of `raft_log_closed`: whether a log has no hole.
 
 ghost use Rattle.std.specs.Prelude.{IfErr, IfOk};
-ghost use Rattle.raft_log_consistency.specs.Directory.{FailsToCheckDirectory};
-ghost use Rattle.raft_uses.specs.Consistency.{TellsWhole};
+ghost use Rattle.raft_log_closed.specs.Directory.{FailsToCheckDirectory};
+ghost use Rattle.raft_uses.specs.Consistency.{FindsNoHole};
 
 use log::Log;
-use raft_log_base::Result;
-use raft_log_consistency::consistency_check_with_file_system;
+use raft_log_closed::consistency_check_with_file_system;
 use raft_log_disk::FileSystem;
+use raft_log_record_base::Result;
 use std::alloc::Global;
 use std::thread::Threads;
 
@@ -18,7 +18,7 @@ pub fn is_whole<R: Threads + Log + Sync, F: FileSystem + Sync>(
     path: &str,
     file_system: &mut F,
 ) -> Result<bool>
-    ensures ok { IfOk result (λ whole. TellsWhole path.now whole
+    ensures ok { IfOk result (λ whole. FindsNoHole path.now whole
         (F.disk file_system.old) (F.disk file_system.new)) }
     ensures err { IfErr result (λ error. FailsToCheckDirectory path.now error
         (F.disk file_system.old) (F.disk file_system.new)) }

@@ -1,15 +1,15 @@
-//! A caller of `raft_log_contexts`: the tables of a log whose queues were read.
+//! A caller of `raft_log_table_contexts`: the tables of a log whose queues were read.
 
 ghost use Rattle.std.specs.Prelude.{IfErr, IfOk, List, ◌≡◌};
-ghost use Rattle.raft_log_base.specs.declared.errors.Error.TheVariants.{Memory};
-ghost use Rattle.raft_log_base.specs.declared.pipe_log.LogQueue.TheVariants.{Append, Rewrite};
-ghost use Rattle.raft_log_contexts.specs.Context.{ComesOver, HasRead};
-ghost use Rattle.raft_log_contexts.specs.Records.{ReadRecord};
-ghost use Rattle.raft_log_replay.specs.Tables.{IsAtRest};
+ghost use Rattle.raft_log_record_base.specs.declared.errors.Error.TheVariants.{Memory};
+ghost use Rattle.raft_log_record_base.specs.declared.pipe_log.LogQueue.TheVariants.{Append, Rewrite};
+ghost use Rattle.raft_log_table_contexts.specs.Context.{ComesOver, HasRead};
+ghost use Rattle.raft_log_table_contexts.specs.Records.{ReadRecord};
+ghost use Rattle.raft_log_table_all.specs.Tables.{IsAtRest};
 
-use raft_log_base::Result;
-use raft_log_contexts::MemTableRecoverContext;
-use raft_log_replay::MemTables;
+use raft_log_record_base::Result;
+use raft_log_table_all::MemTables;
+use raft_log_table_contexts::MemTableRecoverContext;
 
 /// What shows of all groups, once Append was read into one context and Rewrite into another.
 pub fn tables_of_log(

@@ -1,17 +1,17 @@
-//! A caller of `raft_log_dual_pipes` and of `raft_log_signed_batch`: a batch that is written to Append, signed
+//! A caller of `raft_log_file_pair` and of `raft_log_file_blocks`: a batch that is written to Append, signed
 //! for the file that it goes into, and made durable.
 
 ghost use Rattle.std.specs.Prelude.{◌≡◌, IfOk};
 ghost use Rattle.raft_log_disk.specs.Causes.{IsLater};
-ghost use Rattle.raft_log_records.specs.declared.log_batch.BatchState.TheVariants.{Populated};
-ghost use Rattle.raft_log_signed_batch.specs.Signing.{signed_for};
+ghost use Rattle.raft_log_record_batches.specs.declared.log_batch.BatchState.TheVariants.{Populated};
+ghost use Rattle.raft_log_file_blocks.specs.Signing.{signed_for};
 ghost use Rattle.raft_uses.specs.DualPipes.{SavesBatch};
 
 use log::Log;
-use raft_log_base::{FileBlockHandle, LogQueue, Result};
-use raft_log_dual_pipes::PipeLog;
-use raft_log_records::LogBatch;
-use raft_log_signed_batch::SignedBatch;
+use raft_log_file_blocks::SignedBatch;
+use raft_log_file_pair::PipeLog;
+use raft_log_record_base::{FileBlockHandle, LogQueue, Result};
+use raft_log_record_batches::LogBatch;
 use std::alloc::Global;
 
 /// Writes a batch whose record is made to Append, and makes it durable. Answers its place.

@@ -1,13 +1,13 @@
-//! A caller of `raft_log_dump`: where a log's files begin.
+//! A caller of `raft_log_closed`: where a log's files begin.
 
 ghost use Rattle.std.specs.Prelude.{IfErr, IfOk};
-ghost use Rattle.raft_log_dump.specs.Dump.{IsNoDump};
+ghost use Rattle.raft_log_closed.specs.Dump.{IsNoDump};
 ghost use Rattle.raft_uses.specs.Dump.{BeginsDump};
 
-use raft_log_base::Result;
+use raft_log_closed::dump_with_file_system;
 use raft_log_disk::FileSystem;
-use raft_log_dump::dump_with_file_system;
-use raft_log_items::LogItem;
+use raft_log_record_base::Result;
+use raft_log_record_items::LogItem;
 use std::alloc::Global;
 
 /// What comes first of the log files of a directory, or of the log file with this path: an item, or why the

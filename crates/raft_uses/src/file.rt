@@ -1,11 +1,11 @@
-//! The caller that `raft_log_file/CALLING.md` shows.
+//! The caller that `raft_log_file_writer/CALLING.md` shows.
 ghost use Rattle.std.specs.Prelude.{List, ℕ, ◌++◌, OnOk, OnErr};
 ghost use Rattle.raft_log_disk.specs.Causes.{Fails, IsLater};
-ghost use Rattle.raft_log_file.specs.Writer.{IsSynced, IsWritten};
+ghost use Rattle.raft_log_file_writer.specs.Writer.{IsSynced, IsWritten};
 
 use log::Log;
 use raft_log_disk::FileSystem;
-use raft_log_file::LogFileWriter;
+use raft_log_file_writer::LogFileWriter;
 use std::io::ErrorKind;
 
 /// Writes a record behind the others, and makes it durable.

@@ -1,15 +1,15 @@
-//! A caller of `raft_log_fork`: a log is backed up.
+//! A caller of `raft_log_closed`: a log is backed up.
 
 ghost use Rattle.std.specs.Prelude.{IfErr, IfOk};
-ghost use Rattle.raft_log_settings.specs.Settings.{settings_of};
-ghost use Rattle.raft_log_fork.specs.Forks.{FailsToFork};
+ghost use Rattle.raft_log_file_settings.specs.Settings.{settings_of};
+ghost use Rattle.raft_log_closed.specs.Forks.{FailsToFork};
 ghost use Rattle.raft_uses.specs.Fork.{BacksUp};
 
 use log::Log;
-use raft_log_base::Result;
+use raft_log_closed::fork;
 use raft_log_disk::FileSystem;
-use raft_log_fork::fork;
-use raft_log_settings::Config;
+use raft_log_file_settings::Config;
+use raft_log_record_base::Result;
 use std::alloc::Global;
 
 /// Copies the log of these settings, which nobody has open, into a directory; answers how many files it has.

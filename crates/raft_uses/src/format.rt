@@ -1,10 +1,10 @@
-//! A caller of `raft_log_format`: what a log file's name and first bytes tell.
+//! A caller of `raft_log_file_format`: what a log file's name and first bytes tell.
 ghost use Rattle.std.specs.Prelude.{◌≡◌, ℕ, List, Ok, IfOk, IfSome};
-ghost use Rattle.raft_log_format.specs.Header.{header_at};
-ghost use Rattle.raft_log_format.specs.Name.{IsNamed, suffix_of};
+ghost use Rattle.raft_log_file_format.specs.Header.{header_at};
+ghost use Rattle.raft_log_file_format.specs.Name.{IsNamed, suffix_of};
 
-use raft_log_base::{FileId, Result};
-use raft_log_format::{FileNameExt, LogFileFormat};
+use raft_log_file_format::{FileNameExt, LogFileFormat};
+use raft_log_record_base::{FileId, Result};
 use std::alloc::Global;
 
 /// The file that a name says and the format that its first bytes say; nothing where the name is no log

@@ -1,9 +1,9 @@
-//! A caller of `raft_log_frames`: from record to record of a file's bytes.
+//! A caller of `raft_log_record_frames`: from record to record of a file's bytes.
 ghost use Rattle.std.specs.Prelude.{IfOk};
 ghost use Rattle.raft_uses.specs.Chain.{RecordBefore};
 
-use raft_log_frames::decode_record;
-use raft_log_items::Result;
+use raft_log_record_frames::decode_record;
+use raft_log_record_items::Result;
 use std::alloc::Global;
 
 /// What stands behind the record at the front of these bytes.

@@ -1,11 +1,11 @@
-//! A caller of `raft_log_items`: counters, which a user keeps in the log, and the item that says one.
+//! A caller of `raft_log_record_items`: counters, which a user keeps in the log, and the item that says one.
 ghost use Rattle.std.specs.Prelude.{◌≡◌, IfOk};
-ghost use Rattle.raft_log_items.specs.Items.{IsItem};
-ghost use Rattle.raft_log_items.specs.Writing.{item_bytes};
+ghost use Rattle.raft_log_record_items.specs.Items.{IsItem};
+ghost use Rattle.raft_log_record_items.specs.Writing.{item_bytes};
 ghost use Rattle.raft_uses.specs.Counter.{counter_put};
 
-use raft_log_base::codec;
-use raft_log_items::{Bytes, Error, LogItem, Message, OpType, Result};
+use raft_log_record_base::codec;
+use raft_log_record_items::{Bytes, Error, LogItem, Message, OpType, Result};
 use std::alloc::{AllocError, Global};
 
 /// A counter of 32 bits: not every number is one, and yet each counter is read back.
@@ -17,7 +17,7 @@ pub struct Counter {
 impl Message for Counter {
     ghost use Rattle.std.specs.Prelude.{None, Some, length, nat_eq, if◌then◌else◌};
     ghost use Rattle.std.specs.Int.{w32, from_le_bytes};
-    ghost use Rattle.raft_log_base.specs.Number.{u32_le_bytes};
+    ghost use Rattle.raft_log_record_base.specs.Number.{u32_le_bytes};
 
     ghost spelling = { λ c. u32_le_bytes c.count };
 

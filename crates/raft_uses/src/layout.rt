@@ -1,11 +1,11 @@
-//! A caller of `raft_log_layout`: how a queue's files are written that lie in one directory.
+//! A caller of `raft_log_file_layout`: how a queue's files are written that lie in one directory.
 
 ghost use Rattle.std.specs.Prelude.{◌≡◌, [], ◌∷◌, IfOk};
-ghost use Rattle.raft_log_layout.specs.Layout.{log_paths};
+ghost use Rattle.raft_log_file_layout.specs.Layout.{log_paths};
 
-use raft_log_base::LogQueue;
-use raft_log_files::PipeFormat;
-use raft_log_layout::LogLayout;
+use raft_log_file_layout::LogLayout;
+use raft_log_file_queue::PipeFormat;
+use raft_log_record_base::LogQueue;
 use std::alloc::{AllocError, Global};
 
 /// The layout of a queue whose files all lie in this directory, for its pipe.

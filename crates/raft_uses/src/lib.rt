@@ -9,7 +9,6 @@ pub mod consistency;
 pub mod contexts;
 pub mod dual_pipes;
 pub mod dump;
-pub mod engine;
 pub mod file;
 pub mod fork;
 pub mod format;

@@ -1,9 +1,9 @@
-//! A caller of `raft_log_listeners`: up to where a queue may be purged.
+//! A caller of `raft_log_file_listeners`: up to where a queue may be purged.
 
 ghost use Rattle.std.specs.Prelude.{◌≤◌};
 
-use raft_log_base::{FileSeq, LogQueue};
-use raft_log_listeners::{EventListener, Listeners};
+use raft_log_file_listeners::{EventListener, Listeners};
+use raft_log_record_base::{FileSeq, LogQueue};
 
 /// The number up to which the files of a queue may be purged: this one, or the one that a listener holds back.
 pub fn purge_end<H: EventListener>(

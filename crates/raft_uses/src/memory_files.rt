@@ -3,10 +3,10 @@
 ghost use Rattle.std.specs.Prelude.{◌≡◌, [], ◌∷◌, ◌++◌, OnOk, IfOk};
 ghost use Rattle.raft_log_disk.specs.Disk.{Wrote};
 ghost use Rattle.raft_log_disk.specs.Image.{IsImage};
-ghost use Rattle.raft_log_memory_files.specs.Memory.{disk_of, unsynced};
+ghost use Rattle.raft_log_disk_memory.specs.Memory.{disk_of, unsynced};
 
 use raft_log_disk::{FileSystem, Handle};
-use raft_log_memory_files::{MemoryFileSystem, Remainder};
+use raft_log_disk_memory::{MemoryFileSystem, Remainder};
 use std::alloc::AllocError;
 use std::io::ErrorKind;
 

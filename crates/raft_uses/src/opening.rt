@@ -1,14 +1,14 @@
-//! A caller of `raft_log_opening`: how much a log has read of its Rewrite files when it is opened.
+//! A caller of `raft_log_open_directory`: how much a log has read of its Rewrite files when it is opened.
 
 ghost use Rattle.std.specs.Prelude.{IfErr, IfOk};
-ghost use Rattle.raft_log_opening.specs.Opening.{FailsToOpenDirectory};
-ghost use Rattle.raft_log_opening.specs.Reading.{BringsInRewrite};
+ghost use Rattle.raft_log_open_directory.specs.Opening.{FailsToOpenDirectory};
+ghost use Rattle.raft_log_open_directory.specs.Reading.{BringsInRewrite};
 
 use log::Log;
 use raft_log_disk::FileSystem;
-use raft_log_dual_pipes::OpenRefused;
-use raft_log_opening::open_directory;
-use raft_log_settings::Config;
+use raft_log_file_pair::OpenRefused;
+use raft_log_file_settings::Config;
+use raft_log_open_directory::open_directory;
 use std::alloc::Global;
 use std::thread::Threads;
 

@@ -1,15 +1,15 @@
 //! A caller of `raft_voter_outline`.
 ghost use Rattle.std.specs.Prelude.{◌≡◌, IfOk, OnErr, OnOk};
-ghost use Rattle.raft_voter_outline.specs.Decisions.{Becomes};
-ghost use Rattle.raft_voter_outline.specs.Outlines.{Answers};
+ghost use Rattle.raft_voter_outline.specs.Decisions.{OutlineBecomes};
+ghost use Rattle.raft_voter_outline.specs.Outlines.{IsReplyOfEach};
 
 use raft_voter_outline::{Answer, Decision, Memory, Outline, Request};
 
 /// Takes a request, and tells what is answered. A store writes the change where room is made for it and
 /// nothing is changed yet. Where memory is refused the outline is as it was.
 pub fn take(outline: &mut Outline, request: &Request) -> Result<Answer, Memory>
-    ensures answers { IfOk result (Answers outline.old.voter request.now) }
-    ensures ok { OnOk result (Becomes outline.old.voter request.now outline.new.voter) }
+    ensures answers { IfOk result (IsReplyOfEach outline.old.voter request.now) }
+    ensures ok { OnOk result (OutlineBecomes outline.old.voter request.now outline.new.voter) }
     ensures err { OnErr result (outline.new.voter ≡ outline.old.voter) }
 {
     let Decision { answer, change } = outline.decide(request);

@@ -2,13 +2,13 @@
 
 ghost use Rattle.std.specs.Prelude.{◌≡◌, ◌-◌, IfOk, OnOk};
 ghost use Rattle.raft_log_disk.specs.Causes.{IsLater};
-ghost use Rattle.raft_uses.specs.Pipes.{KeepsLast, Saves};
+ghost use Rattle.raft_uses.specs.Pipes.{KeepsLastAlone, Saves};
 
 use log::Log;
-use raft_log_base::{FileBlockHandle, Result};
 use raft_log_disk::FileSystem;
-use raft_log_files::PipeFormat;
-use raft_log_pipes::{ReactiveBytes, SinglePipe};
+use raft_log_file_pipe::{ReactiveBytes, SinglePipe};
+use raft_log_file_queue::PipeFormat;
+use raft_log_record_base::{FileBlockHandle, Result};
 use std::alloc::Global;
 
 /// Writes a record that no crash takes back once this has answered, and answers its place.
@@ -37,7 +37,7 @@ pub fn keep_last_file<G: PipeFormat, F: FileSystem, L: Log>(
     file_system: &mut F,
     pipe: &mut SinglePipe<G>,
 ) -> Result<usize>
-    ensures ok { OnOk result (KeepsLast (G.format pipe.old.layout) (G.own pipe.old.layout)
+    ensures ok { OnOk result (KeepsLastAlone (G.format pipe.old.layout) (G.own pipe.old.layout)
         (G.file_paths pipe.old.layout) pipe.old.settings pipe.old.files pipe.new.files
         (F.disk file_system.old) (F.disk file_system.new)) }
     ensures later { IsLater (F.disk file_system.old) (F.disk file_system.new) }

@@ -1,9 +1,9 @@
-//! Callers of `raft_log_records`: a batch that is made, written by whoever has the file, or taken back; and
+//! Callers of `raft_log_record_batches`: a batch that is made, written by whoever has the file, or taken back; and
 //! room that is made in a batch first, so that what comes later isn't refused.
 ghost use Rattle.std.specs.Prelude.{◌≡◌, ◌+◌, ◌<◌, ◌^◌, length, IsOk, IfOk, OnOk, OnErr};
-ghost use Rattle.raft_log_base.specs.Files.{signature_of};
-ghost use Rattle.raft_log_records.specs.declared.log_batch.BatchState.TheVariants.{Filling, Signed};
-ghost use Rattle.raft_log_records.specs.Batch.{
+ghost use Rattle.raft_log_record_base.specs.Files.{signature_of};
+ghost use Rattle.raft_log_record_batches.specs.declared.log_batch.BatchState.TheVariants.{Filling, Signed};
+ghost use Rattle.raft_log_record_batches.specs.Batch.{
   HasRoomFor,
   IsButBuffer,
   IsReadyForEach,
@@ -14,8 +14,8 @@ ghost use Rattle.raft_log_records.specs.Batch.{
   written_at,
 };
 
-use raft_log_items::{FileBlockHandle, LogFileContext, Result};
-use raft_log_records::LogBatch;
+use raft_log_record_batches::LogBatch;
+use raft_log_record_items::{FileBlockHandle, LogFileContext, Result};
 
 /// Makes the record of a batch and signs it for a file, and answers how many bytes it has in whatever file.
 pub fn make_record(batch: &mut LogBatch, context: &LogFileContext) -> Result<usize>

@@ -1,14 +1,14 @@
-//! A caller of `raft_log_recovery`: how many files a log has that nobody has open.
+//! A caller of `raft_log_open_scan`: how many files a log has that nobody has open.
 
 ghost use Rattle.std.specs.Prelude.{IfErr, IfOk, map};
 ghost use Rattle.std.specs.String.{string_bytes};
-ghost use Rattle.raft_log_recovery.specs.Scanned.{FailsToScan};
+ghost use Rattle.raft_log_open_scan.specs.Scanned.{FailsToScan};
 ghost use Rattle.raft_uses.specs.Recovery.{FindsFiles};
 
-use raft_log_base::Result;
 use raft_log_disk::FileSystem;
-use raft_log_recovery::scanning::scan;
-use raft_log_settings::RecoveryMode;
+use raft_log_file_settings::RecoveryMode;
+use raft_log_open_scan::scanning::scan;
+use raft_log_record_base::Result;
 use std::alloc::Global;
 
 /// How many files of Append and how many of Rewrite an open would read in these directories. No file is changed.

@@ -1,11 +1,11 @@
-//! A caller of `raft_log_replay`: where a group's log ends.
+//! A caller of `raft_log_table_all`: where a group's log ends.
 
 ghost use Rattle.std.specs.Prelude.{◌≡◌, option_and_then};
-ghost use Rattle.raft_log_replay.specs.Tables.{table_of};
-ghost use Rattle.raft_log_tables.specs.Reads.{last_of};
-ghost use Rattle.raft_log_tables.specs.Table.{shown};
+ghost use Rattle.raft_log_table_all.specs.Tables.{table_of};
+ghost use Rattle.raft_log_table_one.specs.Reads.{last_of};
+ghost use Rattle.raft_log_table_one.specs.Table.{shown};
 
-use raft_log_replay::MemTables;
+use raft_log_table_all::MemTables;
 
 /// The last index of a group's entries: none where the group has taken nothing since it was cleaned, or has no
 /// entries.

@@ -1,15 +1,15 @@
-//! A caller of `raft_log_rewriting`: a group's entries and values move from Append to Rewrite.
+//! A caller of `raft_log_purge_parts`: a group's entries and values move from Append to Rewrite.
 
 ghost use Rattle.std.specs.Prelude.{OnOk};
-ghost use Rattle.raft_log_engine.specs.raft_log_engine_state.specs.Shows.{shows};
+ghost use Rattle.raft_log_engine_core.specs.raft_log_engine_laws.specs.Shows.{shows};
 ghost use Rattle.raft_uses.specs.Rewriting.{MovesGroup};
 
 use log::Log;
-use raft_log_base::{FileSeq, LogQueue, Result};
-use raft_log_blocks::BlockCache;
-use raft_log_dual_pipes::PipeLog;
-use raft_log_replay::MemTables;
-use raft_log_rewriting::{rewrite_group, rewrite_marks};
+use raft_log_file_blocks::BlockCache;
+use raft_log_file_pair::PipeLog;
+use raft_log_purge_parts::{rewrite_group, rewrite_marks};
+use raft_log_record_base::{FileSeq, LogQueue, Result};
+use raft_log_table_all::MemTables;
 use std::alloc::Global;
 
 /// Rewrites what a group has in Append in files up to the gate, and syncs it; the marks are carried before.

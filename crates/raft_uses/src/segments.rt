@@ -1,12 +1,12 @@
-//! A caller of `raft_log_segments`: how many records a queue has, counted by a machine of one's own.
+//! A caller of `raft_log_table_segments`: how many records a queue has, counted by a machine of one's own.
 
 ghost use Rattle.std.specs.Prelude.{IfOk};
-ghost use Rattle.raft_log_segments.specs.Segments.{read_by};
+ghost use Rattle.raft_log_table_segments.specs.Segments.{read_by};
 ghost use Rattle.raft_uses.specs.Segments.{CountsRecords};
 
-use raft_log_base::{FileId, LogQueue, Result};
-use raft_log_items::LogItem;
-use raft_log_segments::{Factory, ReplayMachine, ReplaySource, replay_segments};
+use raft_log_record_base::{FileId, LogQueue, Result};
+use raft_log_record_items::LogItem;
+use raft_log_table_segments::{Factory, ReplayMachine, ReplaySource, replay_segments};
 use std::alloc::Global;
 use std::thread::Threads;
 

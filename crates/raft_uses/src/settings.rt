@@ -1,21 +1,21 @@
-//! A caller of `raft_log_settings`: settings from a text, made whole.
+//! A caller of `raft_log_file_settings`: settings from a text, made whole.
 ghost use Rattle.std.specs.Prelude.{◌≡◌, Some, Ok, IfOk};
 ghost use Rattle.toml.specs.Data.{Members};
 ghost use Rattle.toml.specs.Parse.{parse_document};
-ghost use Rattle.raft_log_settings.specs.Reading.{settings_in};
-ghost use Rattle.raft_log_settings.specs.Sanitized.{IsSound, sanitized};
-ghost use Rattle.raft_log_settings.specs.Settings.{Settings, settings_of};
+ghost use Rattle.raft_log_file_settings.specs.Reading.{settings_in};
+ghost use Rattle.raft_log_file_settings.specs.Sanitized.{HasNoFault, sanitized};
+ghost use Rattle.raft_log_file_settings.specs.Settings.{Settings, settings_of};
 
 use log::Log;
-use raft_log_base::Result;
-use raft_log_settings::Config;
+use raft_log_file_settings::Config;
+use raft_log_record_base::Result;
 use std::alloc::Global;
 
 /// The settings that a text says, if they are sound, made whole.
 pub fn settings_from<L: Log>(rt: &L, alloc: Global, text: &str) -> Result<Config>
     ensures { IfOk result (λ config. (table : Members) × (s : Settings)
         × (parse_document text.now ≡ Some table) × (settings_in table ≡ Ok s)
-        × IsSound s × (settings_of config ≡ sanitized s)) }
+        × HasNoFault s × (settings_of config ≡ sanitized s)) }
 {
     let mut config = Config::from_toml(alloc, text)?;
     config.sanitize(rt, alloc)?;

@@ -2,15 +2,15 @@
 
 ghost use Rattle.std.specs.Prelude.{◌≡◌, ℕ, map, OnOk, OnErr, IfOk};
 ghost use Rattle.std.specs.Fn.{FnOnceReturnsAt};
-ghost use Rattle.raft_log_base.specs.declared.pipe_log.FileBlockHandle.{FileBlockHandle};
+ghost use Rattle.raft_log_record_base.specs.declared.pipe_log.FileBlockHandle.{FileBlockHandle};
 ghost use Rattle.std.specs.declared.result.Result.TheVariants.{Ok};
-ghost use Rattle.raft_log_items.specs.Placed.{written_entry};
-ghost use Rattle.raft_log_places.specs.Shown.{stepped};
-ghost use Rattle.raft_log_held.specs.Entries.{run_of};
-ghost use Rattle.raft_log_tables.specs.Table.{shown};
+ghost use Rattle.raft_log_record_items.specs.Placed.{written_entry};
+ghost use Rattle.raft_log_table_lists.specs.Shown.{stepped};
+ghost use Rattle.raft_log_table_lists.specs.Entries.{run_of};
+ghost use Rattle.raft_log_table_one.specs.Table.{shown};
 
-use raft_log_items::{EntryIndex, EntryIndexes, FileBlockHandle, Result};
-use raft_log_tables::MemTable;
+use raft_log_record_items::{EntryIndex, EntryIndexes, FileBlockHandle, Result};
+use raft_log_table_one::MemTable;
 
 /// Writes entries of a group, and has them stand in its table. Room for them is made before the write, so
 /// that nothing can be refused once it is done; where anything is refused the table shows what it showed.

@@ -1,14 +1,13 @@
-//! A caller of `raft_log_told_pipes`: a purge that heeds whoever listens.
+//! A caller of `raft_log_file_listeners`: a purge that heeds whoever listens.
 
 ghost use Rattle.std.specs.Prelude.{◌≡◌, OnOk};
-ghost use Rattle.raft_log_dual_pipes.specs.Pipes.{which_of};
+ghost use Rattle.raft_log_file_pair.specs.Pipes.{which_of};
 ghost use Rattle.raft_uses.specs.ToldPipes.{PurgesFree, up_to};
 
 use log::Log;
-use raft_log_base::{FileId, FileSeq, LogQueue, Result};
-use raft_log_dual_pipes::PipeLog;
-use raft_log_listeners::EventListener;
-use raft_log_told_pipes::ToldPipes;
+use raft_log_file_listeners::{EventListener, ToldPipes};
+use raft_log_file_pair::PipeLog;
+use raft_log_record_base::{FileId, FileSeq, LogQueue, Result};
 use std::alloc::Global;
 
 /// Lets the files of a queue below this one go, but for those that the pipes or the listener hold back. Answers

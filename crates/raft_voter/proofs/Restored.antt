@@ -12,7 +12,7 @@ use Rattle.raft_voter_outline.specs.Restoring.{restored}
 use Rattle.raft_voter_outline.specs.Rules.{numbered}
 use Rattle.raft_voter_outline.specs.State.{State, state_of}
 use Rattle.raft_voter_outline.proofs.Ordered.{restored_ok}
-use Rattle.raft_voter.specs.Laws.{AreReadAs, IsReadOf, StoredVotersAreRestored, log_entries}
+use Rattle.raft_voter.specs.Laws.{AreReadAs, IsReadOfWritten, StoredVotersAreRestored, log_entries}
 use Rattle.raft_voter.proofs.Numbering.{entries_in_range, numbered_in_order, state_in_range, unnumbered}
 
 -- entries in range that stand one behind the other are read of what is written of them
@@ -35,7 +35,7 @@ same_entries i (bytes ∷ texts) (e ∷ es) (f ∷ fs) h k =
     let others = same_entries (i + 1) texts es fs h.1 k.1 in
     cc
 
-read_of : (v : State) → IsStorable v → IsReadOf v (bare (state_of v)) (log_entries v)
+read_of : (v : State) → IsStorable v → IsReadOfWritten v (bare (state_of v)) (log_entries v)
 read_of v h = record {
   state = states_are_read_back (state_of v) (state_in_range v h.in_range);
   entries = entries_read (v.base_index + 1) v.log (entries_in_range v h);

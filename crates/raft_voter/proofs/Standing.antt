@@ -10,7 +10,7 @@ use Rattle.raft_voter_outline.specs.State.{State, adopt_term, entry_at, fresh, t
 use Rattle.raft_voter_outline.specs.Rules.{agrees_at, can_compact, matching, next, next_in_range, reply}
 use Rattle.raft_voter_messages.specs.Ranges.{in_range}
 use Rattle.raft_voter.specs.Accounts.{voter_after, voter_from}
-use Rattle.raft_voter.specs.Laws.{AllSpare, BringsOther, MatchedEntriesStand, MatchedIsAcknowledged, sent_at, Spares}
+use Rattle.raft_voter.specs.Laws.{AllSpare, BringsOther, MatchedEntriesStand, MatchedIsAcknowledged, sent_at, SparesEntry}
 use Rattle.raft_voter_outline.proofs.Steps.{base-adopt_term, log-adopt_term, reaches, agrees_above}
 use Rattle.raft_voter.proofs.Appends.{base-next_matched, brings_first, entry_in, entry_kept, entry_own, log_kept, Matches, matches_of, matched_there}
 use Rattle.raft_voter.proofs.Following.{group_runs, runs_append, voter_from-append}
@@ -39,7 +39,7 @@ matched_spares v t p u commit last i sent m none = elim (cases_lt (matching (dro
 ]
 
 append_spares :
-    (v : State) (t p u commit i : ℕ) (sent : List Pair) → Spares v i (Append t p u commit sent)
+    (v : State) (t p u commit i : ℕ) (sent : List Pair) → SparesEntry v i (Append t p u commit sent)
     → entry_at (next v (Append t p u commit sent)) i ≡ entry_at v i
 append_spares v t p u commit i sent spares = elim (cases_Bool (in_range (Append t p u commit sent))) [
   | inr out ↦ rw out refl
@@ -62,7 +62,7 @@ entry_behind_base b c i log above behind =
     rw inside (sym (entry_own b c i log above behind))
 
 compact_spares :
-    (v : State) (c i : ℕ) → Spares v i (Compact c) → entry_at (next v (Compact c)) i ≡ entry_at v i
+    (v : State) (c i : ℕ) → SparesEntry v i (Compact c) → entry_at (next v (Compact c)) i ≡ entry_at v i
 compact_spares v c i spares = elim (cases_Bool (in_range (Compact c))) [
   | inr out ↦ rw out refl
   | inl fit ↦ elim (cases_Bool (can_compact v c)) [
@@ -75,7 +75,7 @@ compact_spares v c i spares = elim (cases_Bool (in_range (Compact c))) [
 ]
 
 install_spares :
-    (v : State) (t c u i : ℕ) → Spares v i (Install t c u) → entry_at (next v (Install t c u)) i ≡ entry_at v i
+    (v : State) (t c u i : ℕ) → SparesEntry v i (Install t c u) → entry_at (next v (Install t c u)) i ≡ entry_at v i
 install_spares v t c u i spares = elim (cases_Bool (in_range (Install t c u))) [
   | inr out ↦ rw out refl
   | inl fit ↦ elim (cases_Bool (nat_lt t v.term)) [
@@ -100,7 +100,7 @@ install_spares v t c u i spares = elim (cases_Bool (in_range (Install t c u))) [
 ]
 
 pub entry_spared :
-    (q : Request) (v : State) (i : ℕ) → Spares v i q → entry_at (next v q) i ≡ entry_at v i
+    (q : Request) (v : State) (i : ℕ) → SparesEntry v i q → entry_at (next v q) i ≡ entry_at v i
 entry_spared (Vote t c x y) v i spares =
     by_test (λ (w : State). entry_at w i ≡ entry_at v i) (in_range (Vote t c x y)) (next_in_range v (Vote t c x y)) v
     (λ h. vote_next (λ (w : State). entry_at w i ≡ entry_at v i) v t c x y (λ k. entry-adopt_term v t i) (entry-adopt_term v t i))

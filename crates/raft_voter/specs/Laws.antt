@@ -97,23 +97,23 @@ MatchedAppend =
 -- A request that voter v takes leaves the entry at index i: a matched Append brings no other term at or
 -- below i; the base stays below i; an Install whose snapshot goes up to an entry below i holds the very
 -- entry that the log has there; and it isn't a request to retire.
-abbrev pub Spares : State → ℕ → Request → Type 0
-Spares v i (Append term prev prev_term commit sent) =
+abbrev pub SparesEntry : State → ℕ → Request → Type 0
+SparesEntry v i (Append term prev prev_term commit sent) =
     (last : ℕ) → reply v (Append term prev prev_term commit sent) ≡ Matched last
     → (j : ℕ) → j ≤ i → ¬ BringsOther v prev sent j
-Spares v i (Compact index) = (next v (Compact index)).base_index < i
-Spares v i (Install term index entry_term) =
+SparesEntry v i (Compact index) = (next v (Compact index)).base_index < i
+SparesEntry v i (Install term index entry_term) =
     ((next v (Install term index entry_term)).base_index < i)
     × ((next v (Install term index entry_term)).base_index ≢ v.base_index → term_at v index ≡ Some entry_term)
-Spares v i Retire = ⊥
-Spares v i (Vote term candidate index last) = Unit {0}
-Spares v i (Read from to) = Unit {0}
-Spares v i Status = Unit {0}
+SparesEntry v i Retire = ⊥
+SparesEntry v i (Vote term candidate index last) = Unit {0}
+SparesEntry v i (Read from to) = Unit {0}
+SparesEntry v i Status = Unit {0}
 
 -- each of these requests, taken in order from voter v on, does
 abbrev pub AllSpare : State → ℕ → List (Request × Option Reply) → Type 0
 AllSpare v i [] = Unit {0}
-AllSpare v i (t ∷ ts) = Spares v i t.0 × AllSpare (next v t.0) i ts
+AllSpare v i (t ∷ ts) = SparesEntry v i t.0 × AllSpare (next v t.0) i ts
 
 -- an Append that was taken, and answered to have matched up to an index
 abbrev pub matched_up_to : ℕ → ℕ → ℕ → ℕ → List (ℕ × List ℕ) → ℕ → Request × Option Reply
@@ -218,7 +218,7 @@ AreReadAs index (bytes ∷ others) (e ∷ es) = IsEntry bytes index e × AreRead
 AreReadAs index others es = ⊥
 
 -- A state and entries are read of what is written of a voter: of its state's bytes, and of each entry's.
-pub record IsReadOf (v : State) (s : VoterState) (es : List Entry) : Type 0 where
+pub record IsReadOfWritten (v : State) (s : VoterState) (es : List Entry) : Type 0 where
   pub state : IsState (state_text (state_of v)) s
   pub entries : AreReadAs (v.base_index + 1) (map entry_text (log_entries v)) es
 
@@ -226,5 +226,5 @@ pub record IsReadOf (v : State) (s : VoterState) (es : List Entry) : Type 0 wher
 abbrev pub StoredVotersAreRestored : Type 0
 StoredVotersAreRestored =
     (v : State) → IsStorable v
-    → IsReadOf v (bare (state_of v)) (log_entries v)
-    × ((s : VoterState) (es : List Entry) → IsReadOf v s es → restored s es ≡ Ok v)
+    → IsReadOfWritten v (bare (state_of v)) (log_entries v)
+    × ((s : VoterState) (es : List Entry) → IsReadOfWritten v s es → restored s es ≡ Ok v)

@@ -1,7 +1,7 @@
 //! One Raft voter.
 ghost use Rattle.std.specs.Prelude.{◌≡◌, ◌+◌, ◌-◌, ◌^◌, ◌<◌, ◌≤◌, length, IfOk, OnOk, OnErr};
 ghost use Rattle.raft_voter_messages.specs.declared.reply.Reply.TheVariants.{Entries};
-ghost use Rattle.raft_voter_outline.specs.Outlines.{Changes, Copies, without_bytes};
+ghost use Rattle.raft_voter_outline.specs.Outlines.{ChangesEach, Copies, without_bytes};
 ghost use Rattle.raft_voter_outline.specs.Rules.{entries_between, next, reply};
 ghost use Rattle.raft_voter_outline.specs.State.{fresh, last_index, state_of};
 
@@ -82,7 +82,7 @@ impl Voter {
 
     /// Makes the change that was decided for a request.
     fn make(&mut self, change: &Change, request: &Request) -> Result<(), Memory>
-        requires { Changes (without_bytes self.old) request.now change.now }
+        requires { ChangesEach (without_bytes self.old) request.now change.now }
         ensures ok { OnOk result (self.new ≡ next self.old request.now) }
         ensures err { OnErr result (self.new ≡ self.old) }
         ensures errors { OnErr result (Copies self.old request.now) }

@@ -6,7 +6,7 @@ use Rattle.raft_voter_messages.specs.declared.reply.VoterState.{VoterState}
 use Rattle.raft_voter_messages.specs.declared.stored.StoredFault.{StoredFault}
 use Rattle.raft_voter_messages.specs.declared.stored.StoredFault.TheVariants.{Length, Form, Range, Index, Order, Memory}
 use Rattle.raft_voter_messages.specs.Laws.{EntriesAreReadBack, OneEntry, OneEntryFault, OneState, OneStateFault, StatesAreReadBack, bare}
-use Rattle.raft_voter_messages.specs.StoredForms.{EntryForm1Fault, IsBare, IsEntry, IsEntryForm1, IsState, IsStateForm1, StateFault, StateForm1Fault, StateForm2Fault, entry_form_1, head_text, state_fits, state_form_2, stored_entry_fits, vote_text}
+use Rattle.raft_voter_messages.specs.StoredForms.{EntryForm1Fault, IsBareState, IsEntry, IsEntryForm1, IsState, IsStateForm1, StateFault, StateForm1Fault, StateForm2Fault, entry_form_1, head_text, state_fits, state_form_2, stored_entry_fits, vote_text}
 use Rattle.raft_voter_messages.proofs.Bytes.{entry_numbers, head_first, length-entry, length-state_text, length-head_text, length-vote_text, state_form_2-same, state_numbers_small, vote_fits-below, vote_in_range, vote_text-same}
 use Rattle.raft_voter_messages.proofs.Equality.{entry_built, state_built}
 
@@ -101,7 +101,7 @@ heads_same s r x y fit own same =
 
 -- bare states with the same numbers are the same
 bare_same :
-    (s r : VoterState) → IsBare s → IsBare r
+    (s r : VoterState) → IsBareState s → IsBareState r
     → (s.term ≡ r.term) × (s.vote ≡ r.vote) × (s.base_index ≡ r.base_index) × (s.base_term ≡ r.base_term) → s.commit ≡ r.commit → s ≡ r
 bare_same s r a b same commit =
     state_built s r same.0 same.1 same.2 same.3 (a.last_index ∙ same.2 ∙ sym b.last_index) (a.last_term ∙ same.3 ∙ sym b.last_term) commit

@@ -40,7 +40,7 @@ abbrev pub stored_entry_fits : Entry → Bool
 stored_entry_fits e = fits e.index && fits e.term && nat_le (length e.bytes) 65535
 
 -- the state is in range, and nothing but its base is known of its log
-pub record IsBare (s : VoterState) : Type 0 where
+pub record IsBareState (s : VoterState) : Type 0 where
   pub in_range : IsTrue (state_fits s)
   pub last_index : s.last_index ≡ s.base_index
   pub last_term : s.last_term ≡ s.base_term
@@ -85,7 +85,7 @@ SpellsState (form ∷ body) s = ((form ≡ 1) × IsStateForm1 body s) ⊎ ((form
 
 -- these are the bytes of such a state
 abbrev pub IsState : List ℕ → VoterState → Type 0
-IsState bytes s = SpellsState bytes s × IsBare s
+IsState bytes s = SpellsState bytes s × IsBareState s
 
 -- the first fault of what should be a state: no bytes, another form byte, or a fault of its form
 abbrev pub StateFault : StoredFault → List ℕ → Type 0

@@ -21,8 +21,8 @@ use Rattle.raft_voter_outline.specs.Rules.{agrees_at, appended, can_compact, ent
 use Rattle.raft_voter_outline.specs.Runs.{bare}
 use Rattle.raft_voter_outline.specs.Plans.{Plans}
 use Rattle.std.specs.Prelude.{MatchOption}
-use Rattle.raft_voter_outline.specs.Decisions.{HasRoom, read_answer, Settles, Stays}
-use Rattle.raft_voter_outline.specs.Outlines.{all_gone, append_write, answered, AreThere, brought, CanWrite, changed, Changes, Copies, CopiesEntries, Decides, IsChangeOf, Leaves, RestsOn, log_written, sent_of, stored_state, without_bytes, write_of}
+use Rattle.raft_voter_outline.specs.Decisions.{HasRunRoom, read_answer, SettlesPlan, Stays}
+use Rattle.raft_voter_outline.specs.Outlines.{all_gone, append_write, answered, EntriesAreThere, brought, CanWrite, changed, ChangesEach, Copies, WantsCopies, Decides, IsChangeOf, LeavesEach, RestsOn, log_written, sent_of, stored_state, without_bytes, write_of}
 use Rattle.raft_voter_outline.proofs.Indexes.{matching-le}
 use Rattle.raft_voter_outline.proofs.Steps.{base_small-next, base-adopt_term, log-adopt_term, reaches}
 use Rattle.raft_voter_outline.proofs.Bareness.{adopt_term-bare, agrees_at-bare, bare-drop, can_compact-bare, grants-bare, last_index-bare, last_term-bare, length-bare, matching-bare, term_at-bare}
@@ -390,7 +390,7 @@ settled_change v o q p (Some c) own log fit became state write does h = rw h.0 (
 -- what is decided is one voter's reply, with the entries there, and one voter's change
 pub record IsDecided (v : State) (q : Request) (d : Decision) : Type 0 where
   pub reply_is : reply v q ≡ answered d.answer v
-  pub there : AreThere d.answer q v
+  pub there : EntriesAreThere d.answer q v
   pub change : MatchOption d.change (next v q ≡ v) (IsChangeOf v q)
 
 -- where this holds of each voter with an outline, it is decided for the outline
@@ -400,14 +400,14 @@ decides_of o q d each = record {
   change = by_change d.change (λ v e. (each v e).change);
 }
   where
-    by_change : (c : Option Change) → ((v : State) → without_bytes v ≡ o → MatchOption c (next v q ≡ v) (IsChangeOf v q)) → MatchOption c (Leaves o q) (Changes o q)
+    by_change : (c : Option Change) → ((v : State) → without_bytes v ≡ o → MatchOption c (next v q ≡ v) (IsChangeOf v q)) → MatchOption c (LeavesEach o q) (ChangesEach o q)
     by_change None each = each
     by_change (Some c) each = each
 
 -- a plan that is settled is decided
 pub settled :
     (v o : State) (q : Request) (p : Plan) (d : Decision) → in_range q ≡ true → without_bytes v ≡ o → Plans v q p
-    → Does v q p.write → Settles o p d → IsDecided v q d
+    → Does v q p.write → SettlesPlan o p d → IsDecided v q d
 settled v o q p d fit outline plans does settles =
     let own : stored_state o ≡ stored_state v = ap stored_state (sym outline) in
     let log : bare v.log ≡ o.log = ap (λ (x : State). x.log) outline in
@@ -423,7 +423,7 @@ pub refused : (v : State) (q : Request) (d : Decision) → in_range q ≡ false 
 refused v q d out told none = record { reply_is = rw (out, told) refl; there = rw told tt; change = rw none (rw out refl) }
 
 -- a request that only asks
-pub only_asks : (v : State) (q : Request) (d : Decision) → in_range q ≡ true → next_in_range v q ≡ v → reply_in_range v q ≡ answered d.answer v → AreThere d.answer q v → d.change ≡ None → IsDecided v q d
+pub only_asks : (v : State) (q : Request) (d : Decision) → in_range q ≡ true → next_in_range v q ≡ v → reply_in_range v q ≡ answered d.answer v → EntriesAreThere d.answer q v → d.change ≡ None → IsDecided v q d
 only_asks v q d fit stays told there none = record { reply_is = rw fit told; there = there; change = rw none (rw fit stays) }
 
 -- which entries a read gets
@@ -443,7 +443,7 @@ read-bare v from to = elim (cases_Bool (nat_le from v.base_index)) [
   ]
 ]
 
-pub read-there : (v : State) (from to : ℕ) → AreThere (read_answer (without_bytes v) from to) (Read from to) v
+pub read-there : (v : State) (from to : ℕ) → EntriesAreThere (read_answer (without_bytes v) from to) (Read from to) v
 read-there v from to = elim (cases_Bool (nat_le from v.base_index)) [
   | inl gone ↦ rw gone tt
   | inr there ↦ elim (cases_Bool (nat_le to from)) [
@@ -499,7 +499,7 @@ append_brings v t p u sent n i is = elim (cases_Bool (nat_lt t v.term)) [
   ]
 ]
 
-write_brings : (q : Request) (v : State) (n i : ℕ) → write_of v q ≡ Entries n i → CopiesEntries v q
+write_brings : (q : Request) (v : State) (n i : ℕ) → write_of v q ≡ Entries n i → WantsCopies v q
 write_brings (Vote t c i u) v n j is = absurd (cc)
 write_brings (Append t p u c sent) v n j is = append_brings v t p u sent n j is
 write_brings (Compact i) v n j is = elim (cases_Bool (can_compact v i)) [
@@ -530,14 +530,14 @@ change_copies v q c n i change is = (moves_in_range v q change.moves, write_brin
 -- an answer of entries is a request's for which entries are copied
 pub answer_copies :
     (v : State) (q : Request) (from to : ℕ) → reply v q ≡ EntriesReply (entries_between v from to)
-    → AreThere (EntriesAnswer from to) q v → Copies v q
+    → EntriesAreThere (EntriesAnswer from to) q v → Copies v q
 answer_copies v q from to told there = elim (cases_Bool (in_range q)) [
   | inl fit ↦ (fit, rw there.0 (there.1, there.2, there.3))
   | inr out ↦ let refused : Refused ≡ EntriesReply (entries_between v from to) = rw out at told in absurd (cc)
 ]
 
 -- a change for which there is no room brings entries
-pub room_copies : (v : State) (q : Request) (c : Change) (room : ℕ) → IsChangeOf v q c → ¬ HasRoom c.write q room → Copies v q
+pub room_copies : (v : State) (q : Request) (c : Change) (room : ℕ) → IsChangeOf v q c → ¬ HasRunRoom c.write q room → Copies v q
 room_copies v q c room change none = by_write c.write refl
   where
     by_write : (w : Write) → c.write ≡ w → Copies v q

@@ -30,7 +30,7 @@ Stays o p (CompactTo index) = ⊥
 Stays o p Clean = (p.state ≡ stored_state o) × (o.log ≡ [])
 
 -- a decision is the plan's, with no change where all stays
-pub record Settles (o : State) (p : Plan) (d : Decision) : Type 0 where
+pub record SettlesPlan (o : State) (p : Plan) (d : Decision) : Type 0 where
   pub answer : d.answer ≡ Told p.reply
   pub change :
       MatchOption d.change (Stays o p p.write)
@@ -48,8 +48,8 @@ abbrev pub runs_needed : Write → Request → ℕ
 runs_needed w q = runs_behind None (entries_in w q)
 
 -- there is room for the runs of the entries that go in
-abbrev pub HasRoom : Write → Request → ℕ → Type 0
-HasRoom w q room = runs_needed w q ≤ room
+abbrev pub HasRunRoom : Write → Request → ℕ → Type 0
+HasRunRoom w q room = runs_needed w q ≤ room
 
 -- of the room no more is used up than the entries that go in need
 abbrev pub UsesRoom : Write → Request → ℕ → ℕ → Type 0
@@ -75,5 +75,5 @@ ChangesTerms old q c new =
     × ((v : State) → AreTermsOf v old → new.log ≡ bare (log_written c.write (sent_of q) v))
 
 -- the outline that a request leaves of each voter with this outline
-abbrev pub Becomes : State → Request → State → Type 0
-Becomes o q new = (v : State) → without_bytes v ≡ o → without_bytes (next v q) ≡ new
+abbrev pub OutlineBecomes : State → Request → State → Type 0
+OutlineBecomes o q new = (v : State) → without_bytes v ≡ o → without_bytes (next v q) ≡ new

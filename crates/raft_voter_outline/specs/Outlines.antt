@@ -132,41 +132,41 @@ pub record IsChangeOf (v : State) (q : Request) (c : Change) : Type 0 where
   pub moves : next v q ≢ v
 
 -- the entries that an answer still has to get are those that a Read asks for, and are there
-abbrev pub AreThere : Answer → Request → State → Type 0
-AreThere (Told told) q v = Unit {0}
-AreThere (EntriesAnswer from to) q v =
+abbrev pub EntriesAreThere : Answer → Request → State → Type 0
+EntriesAreThere (Told told) q v = Unit {0}
+EntriesAreThere (EntriesAnswer from to) q v =
     (q ≡ Read from to) × (v.base_index < from) × (from < to) × (to ≤ last_index v + 1)
 
 -- an answer is the reply of every voter with this outline, and the entries that it still has to get are there
-abbrev pub Answers : State → Request → Answer → Type 0
-Answers o q a = (v : State) → without_bytes v ≡ o → (reply v q ≡ answered a v) × AreThere a q v
+abbrev pub IsReplyOfEach : State → Request → Answer → Type 0
+IsReplyOfEach o q a = (v : State) → without_bytes v ≡ o → (reply v q ≡ answered a v) × EntriesAreThere a q v
 
 -- a request leaves every voter with this outline as it is
-abbrev pub Leaves : State → Request → Type 0
-Leaves o q = (v : State) → without_bytes v ≡ o → next v q ≡ v
+abbrev pub LeavesEach : State → Request → Type 0
+LeavesEach o q = (v : State) → without_bytes v ≡ o → next v q ≡ v
 
 -- a change is that of every voter with this outline
-abbrev pub Changes : State → Request → Change → Type 0
-Changes o q c = (v : State) → without_bytes v ≡ o → IsChangeOf v q c
+abbrev pub ChangesEach : State → Request → Change → Type 0
+ChangesEach o q c = (v : State) → without_bytes v ≡ o → IsChangeOf v q c
 
 -- A decision is that of every voter with this outline: the answer is its reply, and a change is none
 -- exactly where it stays as it was.
 pub record Decides (o : State) (q : Request) (d : Decision) : Type 0 where
-  pub answer : Answers o q d.answer
-  pub change : MatchOption d.change (Leaves o q) (Changes o q)
+  pub answer : IsReplyOfEach o q d.answer
+  pub change : MatchOption d.change (LeavesEach o q) (ChangesEach o q)
 
 -- entries are copied for a request in range: an Append that brings some that aren't there, or a Read of
 -- some that are
-abbrev pub CopiesEntries : State → Request → Type 0
-CopiesEntries v (Append term prev prev_term commit sent) =
+abbrev pub WantsCopies : State → Request → Type 0
+WantsCopies v (Append term prev prev_term commit sent) =
     (v.term ≤ term) × (agrees_at v prev prev_term ≡ true)
     × (matching (drop (prev - v.base_index) v.log) sent < length sent)
-CopiesEntries v (Read from to) = (v.base_index < from) × (from < to) × (to ≤ last_index v + 1)
-CopiesEntries v _ = ⊥
+WantsCopies v (Read from to) = (v.base_index < from) × (from < to) × (to ≤ last_index v + 1)
+WantsCopies v _ = ⊥
 
 -- entries are copied for a request
 abbrev pub Copies : State → Request → Type 0
-Copies v q = (in_range q ≡ true) × CopiesEntries v q
+Copies v q = (in_range q ≡ true) × WantsCopies v q
 
 -- what a call sees of an outline's fields
 abbrev pub outlined : ℕ → Option ℕ → ℕ → ℕ → Terms → Outlined

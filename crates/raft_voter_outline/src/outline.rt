@@ -1,6 +1,6 @@
 //! What of a voter its decisions need: its state, and the terms of its log.
 ghost use Rattle.std.specs.Prelude.{◌≡◌, ◌+◌, ◌-◌, ◌^◌, ◌<◌, ◌≤◌, ◌&&◌, [], ◌∷◌, None, nat_le, is_some, IsTrue, length, drop, OnOk, OnErr};
-ghost use Rattle.raft_voter_outline.specs.Outlines.{Changes, Decides, sent_of, stored_state, without_bytes};
+ghost use Rattle.raft_voter_outline.specs.Outlines.{ChangesEach, Decides, sent_of, stored_state, without_bytes};
 ghost use Rattle.raft_voter_outline.specs.Rules.{agrees_at, next};
 ghost use Rattle.raft_voter_outline.specs.Runs.{runs_behind};
 ghost use Rattle.raft_voter_outline.specs.State.{fresh, last_index, last_term, state_of, term_at};

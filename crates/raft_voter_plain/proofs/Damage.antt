@@ -15,9 +15,9 @@ use Rattle.raft_voter.specs.Restoring.{are_in_order}
 use Rattle.raft_voter_messages.specs.StoredForms.{EntryFault, IsState, StateFault, entry_text, number_text, state_text, stored_entry_fits}
 use Rattle.raft_voter_plain.specs.declared.record.OpenFault.{OpenFault}
 use Rattle.raft_voter_plain.specs.declared.record.OpenFault.TheVariants.{Damaged, Memory as OutOfMemory}
-use Rattle.raft_voter_plain.specs.Content.{Content, whole}
+use Rattle.raft_voter_plain.specs.Content.{PlainContent, whole}
 use Rattle.raft_voter_plain.specs.Beginnings.{BeginsWithEntries, BeginsWithRecord}
-use Rattle.raft_voter_plain.specs.Damage.{HasNoEntries, HasNoEntry, HasNoVoterRecord, StandsForNothing, TellsDamage, open_fault}
+use Rattle.raft_voter_plain.specs.Damage.{LacksEntries, HasNoEntry, HasNoVoterRecord, StandsForNothing, TellsDamage, open_fault}
 use Rattle.raft_voter_plain.specs.Records.{AreEntries, AreStorable, StandsFor, IsStorableRecord, voter_record, stored_entry, voter_bytes}
 use Rattle.raft_voter.proofs.Numbering.{entries_in_range, length-numbered, numbered_in_order, state_in_range}
 use Rattle.raft_voter_plain.proofs.Records.{entry_same, length-record, record_same}
@@ -115,7 +115,7 @@ next_entry i (e ∷ es) (f ∷ fs) left rest he hf order size same =
     (more.0, more.1, omega (arith, more.2), more.3, more.4)
 
 pub no_entries : (bytes left : List ℕ) (base count i : ℕ) (es : List Entry) → BeginsWithEntries bytes (base + 1) i es left → i < count
-    → HasNoEntry (base + 1 + i) left → HasNoEntries (base + 1) count bytes
+    → HasNoEntry (base + 1 + i) left → LacksEntries (base + 1) count bytes
 no_entries bytes left base count i es read more none = λ fs rest is.
     let are = is.entries in
     let next = next_entry (base + 1) es fs left rest read.entries.fit are.fit are.ordered (omega (arith, read.size, is.size)) (sym read.text ∙ is.text) in
@@ -180,7 +180,7 @@ no_count bytes one state two group a small b long short = λ r x begins.
 
 pub no_entries_read : (bytes one state two three : List ℕ) (group count : ℕ) (s : VoterState) → bytes ≡ number_text group ++ one → group < 2 ^ 64
     → one ≡ state ++ two → length state ≡ 42 → IsState state s → two ≡ number_text count ++ three → count < 2 ^ 64
-    → HasNoEntries (s.base_index + 1) count three → HasNoVoterRecord bytes
+    → LacksEntries (s.base_index + 1) count three → HasNoVoterRecord bytes
 no_entries_read bytes one state two three group count s a small b long is c few none = λ r x begins.
     let h = begins.storable in
     let same = begins.text in
@@ -221,5 +221,5 @@ pub nothing_held : (bytes left : List ℕ) → AreLeft bytes left → 0 < length
 nothing_held bytes left so_far more none = λ W h. let there = so_far W h in none_behind there.0 left there.1 there.2 more none
 
 -- what is stored isn't damaged
-pub not_damaged : (file : Content) (W : World) → StandsFor file.synced W → file.unsynced ≡ [] → StandsForNothing (whole file) → ⊥
+pub not_damaged : (file : PlainContent) (W : World) → StandsFor file.synced W → file.unsynced ≡ [] → StandsForNothing (whole file) → ⊥
 not_damaged file W h settled none = let P : List ℕ → Type 0 = λ bs. StandsFor bs W in none W (subst P (sym (rw settled (append-nil file.synced))) h)

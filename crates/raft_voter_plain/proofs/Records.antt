@@ -16,7 +16,7 @@ use Rattle.raft_voter.specs.InRange.{IsStorable}
 use Rattle.raft_voter.specs.State.{State, state_of}
 use Rattle.raft_voter.specs.Restoring.{are_in_order, restored}
 use Rattle.raft_voter_messages.specs.StoredForms.{IsEntry, IsState, entry_form_1, entry_text, number_text, state_fits, state_text, stored_entry_fits, vote_text}
-use Rattle.raft_voter_plain.specs.Beginnings.{BeginsWith, BeginsWithEntries, BeginsWithEntry, BeginsWithNumber, BeginsWithRecord}
+use Rattle.raft_voter_plain.specs.Beginnings.{StartsWith, BeginsWithEntries, BeginsWithEntry, BeginsWithNumber, BeginsWithRecord}
 use Rattle.raft_voter_plain.specs.Records.{AreEntries, AreStorable, IsStorableRecord, voter_record, stored_entry, voter_bytes}
 
 -- Entries.
@@ -150,7 +150,7 @@ one_more bytes left rest first count es e h k = record {
   text = more_text bytes left rest es e h.text k.text;
 }
 
-pub one_entry : (bytes behind own rest : List ℕ) (size index : ℕ) (e : Entry) → BeginsWithNumber bytes size behind → BeginsWith behind size own rest → IsEntry own index e
+pub one_entry : (bytes behind own rest : List ℕ) (size index : ℕ) (e : Entry) → BeginsWithNumber bytes size behind → StartsWith behind size own rest → IsEntry own index e
     → BeginsWithEntry bytes index e rest
 unfolding stored_entry
 one_entry bytes behind own rest size index e number split is =
@@ -172,7 +172,7 @@ regroup : (g s n e r : List ℕ) → g ++ (s ++ (n ++ (e ++ r))) ≡ (g ++ (s ++
 regroup g s n e r = simp append_assoc
 
 pub record_read : (bytes one state two three rest : List ℕ) (group count : ℕ) (s : VoterState) (es : List Entry) (v : State)
-    → BeginsWithNumber bytes group one → BeginsWith one 42 state two → IsState state s → BeginsWithNumber two count three → BeginsWithEntries three (s.base_index + 1) count es rest
+    → BeginsWithNumber bytes group one → StartsWith one 42 state two → IsState state s → BeginsWithNumber two count three → BeginsWithEntries three (s.base_index + 1) count es rest
     → restored s es ≡ Ok v → BeginsWithRecord bytes (group, v) rest
 unfolding voter_record voter_bytes
 record_read bytes one state two three rest group count s es v a b is c d made =

@@ -7,7 +7,7 @@ use Rattle.std.proofs.lemmas.Bool.Decides.{nat_tests}
 use Rattle.raft_voter_plain.specs.declared.store.PlainVoters.{PlainVoters}
 use Rattle.raft_voter_plain.specs.Records.{StandsFor}
 use Rattle.raft_voter.specs.Service.{TookSome}
-use Rattle.raft_voter_plain.specs.Store.{HoldsVoters, IsRefused, IsStopped, Stopped, world_of}
+use Rattle.raft_voter_plain.specs.Store.{HoldsVoters, OneIsRefused, AnswersNone, Stopped, world_of}
 
 pub on_err : {T E : Type 0} (r : Result T E) (P : Type 0) → P → OnErr r P
 on_err (Ok v) P h = tt
@@ -26,7 +26,7 @@ took_more W X Y asked i d q few here before took =
 
 -- a request isn't answered
 pub refused_here : (old now next : PlainVoters) (asked : List (ℕ × Request)) (i : ℕ) (d q : ℕ × Request) → i < length asked → get_or asked i d ≡ q
-    → world_of now ≡ after (world_of old) (take i asked) → now.file.synced ≡ old.file.synced → IsRefused now q next → IsStopped old asked next
+    → world_of now ≡ after (world_of old) (take i asked) → now.file.synced ≡ old.file.synced → OneIsRefused now q next → AnswersNone old asked next
 refused_here old now next asked i d q few here before synced told = record {
   taken = ⊎_elim (λ same. record { count = i; few = omega arith; taken = same ∙ before })
       (λ took. record { count = i + 1; few = omega arith; taken = took_more (world_of old) (world_of now) (world_of next) asked i d q few here before took }) told.taken;
@@ -62,7 +62,7 @@ took_nothing : (W : World) (asked : List (ℕ × Request)) → TakesFirst W aske
 took_nothing W asked = took_front W W asked (none_taken W asked)
 
 -- the file in memory couldn't grow: some of the first requests were taken in memory, and what was synced is as before
-pub took_some : (old new : PlainVoters) (asked : List (ℕ × Request)) → IsStopped old asked new
+pub took_some : (old new : PlainVoters) (asked : List (ℕ × Request)) → AnswersNone old asked new
     → TookSome [] asked (world_of old) (HoldsVoters old) (world_of new) (HoldsVoters new)
 took_some old new asked s = record {
   rising = refl;

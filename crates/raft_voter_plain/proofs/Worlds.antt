@@ -9,10 +9,10 @@ use Rattle.raft_voter.specs.InRange.{AllInRange, IsInRange}
 use Rattle.raft_voter.specs.State.{State}
 use Rattle.raft_voter_plain.specs.declared.store.PlainVoters.{PlainVoters}
 use Rattle.raft_voter_plain.specs.Beginnings.{BeginsWithRecord}
-use Rattle.raft_voter_plain.specs.Content.{Content, after_crash, empty_file, whole}
+use Rattle.raft_voter_plain.specs.Content.{PlainContent, after_crash, empty_file, whole}
 use Rattle.raft_voter_plain.specs.Records.{AreStorable, StandsFor, IsStorableRecord, LeadTo, may_change, voter_record, with_records}
 use Rattle.raft_voter.specs.Service.{IsClosedAt, IsOpenAt, LeavesAlone}
-use Rattle.raft_voter_plain.specs.Store.{HoldsVoters, IsAmidst, IsStored, KeepsVoters, Takes, TakesAll, plain_files, plain_voters, replies_in_turn, world_of}
+use Rattle.raft_voter_plain.specs.Store.{HoldsVoters, IsAmidst, StandsForVoters, KeepsVoters, Takes, TakesAll, plain_files, plain_voters, replies_in_turn, world_of}
 use Rattle.raft_voter_plain.proofs.Ranges.{fresh_in_range, put_in_range, put_there, stays, taken_in_range}
 use Rattle.raft_voter_plain.proofs.Records.{records_same}
 
@@ -69,7 +69,7 @@ one_world bytes V W v w =
     v.world ∙ ap (with_records fresh_world) same ∙ sym w.world
 
 -- where all is stored a crash leaves the voters that are served
-pub stored_alone : (store : PlainVoters) → IsStored store → LeavesAlone (HoldsVoters store) (world_of store)
+pub stored_alone : (store : PlainVoters) → StandsForVoters store → LeavesAlone (HoldsVoters store) (world_of store)
 stored_alone store stored = record { left = stored.synced; alone = λ X other. one_world store.file.synced X (world_of store) other stored.synced }
 
 -- Requests that are taken.
@@ -80,9 +80,9 @@ pub nothing_written : (old new : PlainVoters) (asked : ℕ × Request) (told : R
 nothing_written old new asked told e taken file same = record {
   told_is = e;
   taken = taken;
-  synced = ap (λ (f : Content). f.synced) file;
+  synced = ap (λ (f : PlainContent). f.synced) file;
   written = λ W all here.
-      let P : Content → Type 0 = λ f. LeadTo W f.unsynced (world_of new) in
+      let P : PlainContent → Type 0 = λ f. LeadTo W f.unsynced (world_of new) in
       subst P (sym file) (same_end W (world_of old) (world_of new) old.file.unsynced (taken ∙ stays (world_of old) asked same) here);
 }
 
@@ -121,7 +121,7 @@ amidst_all old now asked left told so_far e = record {
 
 -- what was written and then synced is stored
 pub all_stored : (old taken new : PlainVoters) (asked : List (ℕ × Request)) (told : List Reply) → TakesAll old asked told taken → world_of new ≡ world_of taken
-    → new.file.synced ≡ whole taken.file → new.file.unsynced ≡ [] → IsStored old → IsStored new
+    → new.file.synced ≡ whole taken.file → new.file.unsynced ≡ [] → StandsForVoters old → StandsForVoters new
 all_stored old taken new asked told took same synced settled stored =
     let W = world_of old in
     let P : List ℕ → Type 0 = λ bs. LeadTo W bs W in
@@ -151,12 +151,12 @@ read_all bytes (b ∷ left) W so_far e = absurd (omega arith)
 -- Files.
 
 -- where all is synced, a read gives what is synced
-pub whole_synced : (file : Content) → file.unsynced ≡ [] → whole file ≡ file.synced
+pub whole_synced : (file : PlainContent) → file.unsynced ≡ [] → whole file ≡ file.synced
 whole_synced file e = rw e (append-nil file.synced)
 
 -- an open finds the voters that are stored
-pub found : (file : Content) (store : PlainVoters) → store.file ≡ file → StandsFor (whole file) (world_of store)
-    → (W : World) → StandsFor file.synced W → file.unsynced ≡ [] → IsStored store × (world_of store ≡ W)
+pub found : (file : PlainContent) (store : PlainVoters) → store.file ≡ file → StandsFor (whole file) (world_of store)
+    → (W : World) → StandsFor file.synced W → file.unsynced ≡ [] → StandsForVoters store × (world_of store ≡ W)
 found file store same held W stored settled =
     let P : List ℕ → Type 0 = λ bytes. StandsFor bytes (world_of store) in
     let all : StandsFor file.synced (world_of store) = subst P (whole_synced file settled) held in
@@ -165,11 +165,11 @@ found file store same held W stored settled =
 -- Opens, closes and crashes.
 
 -- files that keep voters leave them alone
-kept_alone : (file : Content) (W : World) → KeepsVoters file W → IsClosedAt plain_files file W
+kept_alone : (file : PlainContent) (W : World) → KeepsVoters file W → IsClosedAt plain_files file W
 kept_alone file W kept = record { kept = kept; left = record { left = kept.synced; alone = λ X other. one_world file.synced X W other kept.synced } }
 
 -- an open finds the voters that its file keeps
-pub opened_at : (file : Content) (store : PlainVoters) → store.file ≡ file → StandsFor (whole file) (world_of store) → store.failed ≡ false
+pub opened_at : (file : PlainContent) (store : PlainVoters) → store.file ≡ file → StandsFor (whole file) (world_of store) → store.failed ≡ false
     → (W : World) → IsClosedAt plain_files file W → IsOpenAt plain_voters store W
 opened_at file store same held alive W at =
     let there = found file store same held W at.kept.synced at.kept.settled in
@@ -177,20 +177,20 @@ opened_at file store same held alive W at =
     record { alive = alive; stored = there.0; serves = there.1; left = subst P there.1 (stored_alone store there.0) }
 
 -- a close leaves the voters in the file
-pub closed_at : (store : PlainVoters) (file : Content) → file ≡ store.file → (W : World) → IsOpenAt plain_voters store W → IsClosedAt plain_files file W
+pub closed_at : (store : PlainVoters) (file : PlainContent) → file ≡ store.file → (W : World) → IsOpenAt plain_voters store W → IsClosedAt plain_files file W
 closed_at store file same W at =
     let P : World → Type 0 = λ X. StandsFor store.file.synced X in
-    let Q : Content → Type 0 = λ given. KeepsVoters given W in
+    let Q : PlainContent → Type 0 = λ given. KeepsVoters given W in
     kept_alone file W (subst Q (sym same) (record { synced = subst P at.serves at.stored.synced; settled = at.stored.settled }))
 
 -- a crash leaves the voters that the file keeps
-pub crashed_at : (file left : Content) → left ≡ after_crash file → (W : World) → IsClosedAt plain_files file W → IsClosedAt plain_files left W
+pub crashed_at : (file left : PlainContent) → left ≡ after_crash file → (W : World) → IsClosedAt plain_files file W → IsClosedAt plain_files left W
 crashed_at file left same W at =
-    let Q : Content → Type 0 = λ given. KeepsVoters given W in
+    let Q : PlainContent → Type 0 = λ given. KeepsVoters given W in
     kept_alone left W (subst Q (sym same) (record { synced = at.kept.synced; settled = refl }))
 
 -- an empty file keeps fresh voters
-pub none_written : (file : Content) → file ≡ empty_file → IsClosedAt plain_files file fresh_world
+pub none_written : (file : PlainContent) → file ≡ empty_file → IsClosedAt plain_files file fresh_world
 none_written file e =
-    let Q : Content → Type 0 = λ given. KeepsVoters given fresh_world in
+    let Q : PlainContent → Type 0 = λ given. KeepsVoters given fresh_world in
     kept_alone file fresh_world (subst Q (sym e) (record { synced = no_records fresh_world; settled = refl }))

@@ -7,7 +7,7 @@ use Rattle.raft_voter.specs.State.{State}
 use Rattle.raft_voter_plain.specs.Records.{AreEntries, IsStorableRecord, stored_entry, voter_record}
 
 -- so many bytes, and what follows them
-pub record BeginsWith (bytes : List ℕ) (count : ℕ) (front rest : List ℕ) : Type 0 where
+pub record StartsWith (bytes : List ℕ) (count : ℕ) (front rest : List ℕ) : Type 0 where
   pub size : length front ≡ count
   pub text : bytes ≡ front ++ rest
 

@@ -2,18 +2,18 @@
 use Rattle.std.specs.Prelude.{ℕ, List, [], ◌++◌}
 
 -- the bytes that are on the disk for good, and those that were written since
-pub record Content : Type 0 where
+pub record PlainContent : Type 0 where
   pub synced : List ℕ
   pub unsynced : List ℕ
 
 -- nothing was written
-abbrev pub empty_file : Content
+abbrev pub empty_file : PlainContent
 empty_file = record { synced = []; unsynced = [] }
 
 -- what a crash leaves
-abbrev pub after_crash : Content → Content
+abbrev pub after_crash : PlainContent → PlainContent
 after_crash file = record { synced = file.synced; unsynced = [] }
 
 -- what a read gives
-abbrev pub whole : Content → List ℕ
+abbrev pub whole : PlainContent → List ℕ
 whole file = file.synced ++ file.unsynced

@@ -25,8 +25,8 @@ abbrev pub HasNoEntry : ℕ → List ℕ → Type 0
 HasNoEntry index bytes = (e : Entry) (rest : List ℕ) → ¬ BeginsWithEntry bytes index e rest
 
 -- nor do so many entries, of which the first stands at this index
-abbrev pub HasNoEntries : ℕ → ℕ → List ℕ → Type 0
-HasNoEntries first count bytes =
+abbrev pub LacksEntries : ℕ → ℕ → List ℕ → Type 0
+LacksEntries first count bytes =
     (es : List Entry) (rest : List ℕ) → ¬ BeginsWithEntries bytes first count es rest
 
 -- no record comes first

@@ -9,7 +9,7 @@ use Rattle.raft_voter.specs.InRange.{AllInRange}
 use Rattle.raft_voter.specs.Service.{Files, Service, out_of_range}
 use Rattle.raft_voter.specs.declared.service.Cause.{Cause}
 use Rattle.raft_voter.specs.declared.service.Cause.TheVariants.{FileSystem, Memory}
-use Rattle.raft_voter_plain.specs.Content.{Content, after_crash, whole}
+use Rattle.raft_voter_plain.specs.Content.{PlainContent, after_crash, whole}
 use Rattle.raft_voter_plain.specs.Damage.{StandsForNothing}
 use Rattle.raft_voter_plain.specs.Records.{StandsFor, LeadTo, world_in}
 
@@ -22,7 +22,7 @@ abbrev pub HoldsVoters : PlainVoters → World → Type 0
 HoldsVoters store W = StandsFor store.file.synced W
 
 -- what was synced stands for the voters, and nothing else was written
-pub record IsStored (store : PlainVoters) : Type 0 where
+pub record StandsForVoters (store : PlainVoters) : Type 0 where
   pub synced : StandsFor store.file.synced (world_of store)
   pub settled : store.file.unsynced ≡ []
 
@@ -33,29 +33,29 @@ plain_voters = record {
   world = world_of;
   is_failed = λ store. store.failed;
   may_leave = HoldsVoters;
-  is_stored = IsStored;
+  is_stored = StandsForVoters;
   may_refuse = λ old new requests refused. refused ≡ out_of_range 0 requests;
 }
 
 -- these voters are synced in a file, and nothing else was written
-pub record KeepsVoters (file : Content) (W : World) : Type 0 where
+pub record KeepsVoters (file : PlainContent) (W : World) : Type 0 where
   pub synced : StandsFor file.synced W
   pub settled : file.unsynced ≡ []
 
 -- A file is refused for want of memory, where it isn't empty, or its bytes aren't records, and then the file
 -- system is told to have failed.
-abbrev pub IsRefusedFor : Content → Cause → Type 0
-IsRefusedFor file Memory = 0 < length (whole file)
-IsRefusedFor file FileSystem = StandsForNothing (whole file)
-IsRefusedFor file cause = ⊥
+abbrev pub FileIsRefusedFor : PlainContent → Cause → Type 0
+FileIsRefusedFor file Memory = 0 < length (whole file)
+FileIsRefusedFor file FileSystem = StandsForNothing (whole file)
+FileIsRefusedFor file cause = ⊥
 
 -- Their file: opens and closes leave it as it is, and a crash leaves what was synced.
-abbrev pub plain_files : Files PlainVoters Content
+abbrev pub plain_files : Files PlainVoters PlainContent
 plain_files = record {
   keeps = KeepsVoters;
   may_leave = λ file W. StandsFor file.synced W;
   opens = λ file store. store.file ≡ file;
-  refuses = IsRefusedFor;
+  refuses = FileIsRefusedFor;
   closes = λ store file. file ≡ store.file;
   crashes = λ file left. left ≡ after_crash file;
 }
@@ -72,7 +72,7 @@ pub record Takes (old : PlainVoters) (asked : ℕ × Request) (told : Reply) (ne
   pub written : (W : World) → AllInRange (world_of old) → LeadsFrom W old → LeadsFrom W new
 
 -- one request isn't answered: it was taken or not, and what was synced stays
-pub record IsRefused (old : PlainVoters) (asked : ℕ × Request) (new : PlainVoters) : Type 0 where
+pub record OneIsRefused (old : PlainVoters) (asked : ℕ × Request) (new : PlainVoters) : Type 0 where
   pub taken : (world_of new ≡ world_of old) ⊎ (world_of new ≡ after_one (world_of old) asked)
   pub synced : new.file.synced ≡ old.file.synced
 
@@ -96,7 +96,7 @@ pub record Stopped (W : World) (requests : List (ℕ × Request)) (X : World) : 
   pub taken : X ≡ after W (take count requests)
 
 -- requests aren't answered: some of the first were taken, and what was synced stays
-pub record IsStopped (old : PlainVoters) (asked : List (ℕ × Request)) (new : PlainVoters) : Type 0 where
+pub record AnswersNone (old : PlainVoters) (asked : List (ℕ × Request)) (new : PlainVoters) : Type 0 where
   pub taken : Stopped (world_of old) asked (world_of new)
   pub synced : new.file.synced ≡ old.file.synced
 

@@ -16,9 +16,9 @@ pub struct PlainFile {
 
 impl Model for PlainFile {
     ghost use Rattle.std.specs.Prelude.{◌≤◌, length, take, drop};
-    ghost use Rattle.raft_voter_plain.specs.Content.{Content};
+    ghost use Rattle.raft_voter_plain.specs.Content.{PlainContent};
 
-    ghost Value = { Content };
+    ghost Value = { PlainContent };
 
     ghost view = { λ f. record {
       synced = take f.synced f.bytes.items;

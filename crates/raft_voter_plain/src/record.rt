@@ -2,9 +2,9 @@
 ghost use Rattle.std.specs.Prelude.{◌≡◌, ◌+◌, ◌^◌, ◌<◌, ◌++◌, length, IfOk, IfErr, OnOk};
 ghost use Rattle.raft_voter_messages.specs.StoredForms.{number_text};
 ghost use Rattle.raft_voter_plain.specs.declared.record.OpenFault.TheVariants.{Damaged};
-ghost use Rattle.raft_voter_plain.specs.Damage.{HasNoEntries, HasNoEntry, HasNoVoterRecord, TellsDamage};
+ghost use Rattle.raft_voter_plain.specs.Damage.{LacksEntries, HasNoEntry, HasNoVoterRecord, TellsDamage};
 ghost use Rattle.raft_voter_plain.specs.Records.{log_bytes, stored_at, voter_record};
-ghost use Rattle.raft_voter_plain.specs.Beginnings.{BeginsWith, BeginsWithEntries, BeginsWithEntry, BeginsWithNumber, BeginsWithRecord};
+ghost use Rattle.raft_voter_plain.specs.Beginnings.{StartsWith, BeginsWithEntries, BeginsWithEntry, BeginsWithNumber, BeginsWithRecord};
 
 use raft_voter::{Entry, Items, Memory, StoredFault, Voter, read_entry, read_state};
 use raft_voter_messages::{ENTRY_HEAD_BYTES, STATE_BYTES, append_entry, append_state};
@@ -126,7 +126,7 @@ fn read_entries(
 ) -> Result<(Items<Entry>, &[u8]), OpenFault>
     requires { base < 2 ^ 63 }
     ensures ok { IfOk result (λ found. BeginsWithEntries bytes.now (base + 1) count found.0 found.1.now) }
-    ensures err { IfErr result (TellsDamage (HasNoEntries (base + 1) count bytes.now)) }
+    ensures err { IfErr result (TellsDamage (LacksEntries (base + 1) count bytes.now)) }
 {
     let mut entries = Items::new(alloc);
     let mut left = bytes;
@@ -167,7 +167,7 @@ fn split_number(bytes: &[u8]) -> Result<(u64, &[u8]), OpenFault>
 
 /// So many bytes, and what follows them.
 fn split(bytes: &[u8], count: usize) -> Result<(&[u8], &[u8]), OpenFault>
-    ensures ok { IfOk result (λ found. BeginsWith bytes.now count found.0.now found.1.now) }
+    ensures ok { IfOk result (λ found. StartsWith bytes.now count found.0.now found.1.now) }
     ensures err { IfErr result (λ fault. (fault ≡ Damaged) × (length bytes.now < count)) }
 {
     if bytes.len() < count {

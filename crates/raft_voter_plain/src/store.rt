@@ -6,7 +6,7 @@ ghost use Rattle.raft_voter.specs.Rules.{reply};
 ghost use Rattle.raft_voter_plain.specs.Damage.{StandsForNothing, TellsDamage};
 ghost use Rattle.raft_voter_plain.specs.Records.{may_change, StandsFor, voter_record, world_in};
 ghost use Rattle.raft_voter.specs.Service.{Answers, CutsOff, FailsAs, IsAlive, IsClosedAt, IsFromOutside, IsLeftAlone, IsOpenAt, out_of_range, refused_from, TakesNothing};
-ghost use Rattle.raft_voter_plain.specs.Store.{HoldsVoters, IsRefused, IsRefusedFor, IsStopped, IsStored, plain_files, plain_voters, Takes, TakesAll, world_of};
+ghost use Rattle.raft_voter_plain.specs.Store.{HoldsVoters, OneIsRefused, FileIsRefusedFor, AnswersNone, StandsForVoters, plain_files, plain_voters, Takes, TakesAll, world_of};
 
 use crate::file::PlainFile;
 use crate::record::{OpenFault, read_voter_record, voter_record};
@@ -58,7 +58,7 @@ impl PlainVoters {
         requires empty { replies.items ≡ [] }
         requires room { vec_len replies + length requests.now ≤ vec_capacity replies }
         ensures ok { IfOk result (λ replies. TakesAll self.old requests.now replies self.new) }
-        ensures err { OnErr result (IsStopped self.old requests.now self.new) }
+        ensures err { OnErr result (AnswersNone self.old requests.now self.new) }
         ensures errors { OnErr result (0 < length requests.now) }
         ensures failed { self.new.failed ≡ self.old.failed }
     {
@@ -73,7 +73,7 @@ impl PlainVoters {
     /// taken it in memory alone.
     fn take(&mut self, group: u64, request: &Request) -> Result<Reply, Memory>
         ensures ok { IfOk result (λ told. Takes self.old (group, request.now) told self.new) }
-        ensures err { OnErr result (IsRefused self.old (group, request.now) self.new) }
+        ensures err { OnErr result (OneIsRefused self.old (group, request.now) self.new) }
         ensures failed { self.new.failed ≡ self.old.failed }
     {
         let reply = step(self.alloc, &mut self.voters, group, request)?;
@@ -108,12 +108,12 @@ impl RoundService for PlainVoters {
         // Just the requests out of range are refused.
         ensures refused { IfOk result (λ told. refused_from 0 told ≡ out_of_range 0 requests.now) }
         ensures alone { IsLeftAlone plain_voters self.old × IsLeftAlone plain_voters self.new }
-        ensures stored { OnOk result (IsStored self.old → IsStored self.new) }
+        ensures stored { OnOk result (StandsForVoters self.old → StandsForVoters self.new) }
         ensures lives { OnOk result (IsAlive self.old.failed self.new.failed) }
         ensures err { IfErr result (λ fault. CutsOff fault.cause fault.refused requests.now
             (world_of self.old) (HoldsVoters self.old) (world_of self.new) (HoldsVoters self.new)) }
         ensures kept { IfErr result (λ fault.
-            TakesNothing fault.cause → IsStored self.old → IsStored self.new) }
+            TakesNothing fault.cause → StandsForVoters self.old → StandsForVoters self.new) }
         ensures errors { IfErr result (λ fault. FailsAs fault.cause (length requests.now) self.old.failed
             self.new.failed) }
 
@@ -146,7 +146,7 @@ impl StoreFiles<PlainVoters> for PlainFile {
         ensures keeps { IfOk result (λ store.
             (W : World) → IsClosedAt plain_files self W → IsOpenAt plain_voters store W) }
         ensures alive { IfOk result (λ store. store.failed ≡ false) }
-        ensures err { IfErr result (IsRefusedFor self) }
+        ensures err { IfErr result (FileIsRefusedFor self) }
         ensures errors { IfErr result IsFromOutside }
 
         // What a store wrote can always be read, and of an empty file nothing can be refused.

@@ -14,7 +14,7 @@ use Rattle.raft_voter_session.specs.declared.event.Event.{Event}
 use Rattle.raft_voter_session.specs.declared.event.Event.TheVariants.{Open as OpenEvent, Close, CrashLast, Round}
 use Rattle.raft_voter_run.specs.declared.storage.Storage.{Storage}
 use Rattle.raft_voter_run.specs.declared.storage.Storage.TheVariants.{Closed, Open}
-use Rattle.raft_voter_run.specs.Storage.{Closes, CrashLeaves, Crashes, IsAt, Keeps, Opens, Serves, Served, cuts_of, is_open}
+use Rattle.raft_voter_run.specs.Storage.{ClosesStore, CrashLeaves, Crashes, ServesAt, Keeps, OpensStore, Serves, Served, cuts_of, is_open}
 use Rattle.raft_voter_run.specs.Play.{AreRoundsOf, Happens, Stops, StopsFrom, StopsHere, Sure, IsUnderWay, IsPlayed, cuts_in}
 
 -- Rounds.
@@ -98,7 +98,7 @@ one_more_cut rounds cuts round e =
     ap (λ cs. cs ++ cuts_of round.outcome) e ∙ ap (λ cs. cuts_in rounds ++ cs) (sym (append-nil (cuts_of round.outcome))) ∙ sym (flat_map-append own rounds (round ∷ []))
 
 -- a crash leaves the voters that are stored
-left_by_crash : {S F : Type 0} (v : Service S) (f : Files S F) (storage : Storage S F) (W : World) → IsAt v f storage W → CrashLeaves v f storage W
+left_by_crash : {S F : Type 0} (v : Service S) (f : Files S F) (storage : Storage S F) (W : World) → ServesAt v f storage W → CrashLeaves v f storage W
 left_by_crash v f (Closed files) W at = at.left
 left_by_crash v f (Open store) W at = at.left
 
@@ -127,7 +127,7 @@ goes_on {S} {F} v f files events left now old new rounds rounds_now cuts cuts_no
 
 -- an event that isn't a round
 pub opens_on : {S F : Type 0} (v : Service S) (f : Files S F) (files : F) (workers : ℕ) (events left now : List Event) (old new : Storage S F) (rounds : List RoundRecord) (cuts : List ℕ)
-    → IsUnderWay v f files events left old rounds cuts → left ≡ OpenEvent workers ∷ now → Opens f old new → Keeps v f old new → IsUnderWay v f files events now new rounds cuts
+    → IsUnderWay v f files events left old rounds cuts → left ≡ OpenEvent workers ∷ now → OpensStore f old new → Keeps v f old new → IsUnderWay v f files events now new rounds cuts
 opens_on {S} {F} v f files workers events left now old new rounds cuts s next moves keeps =
     let W = s.sure.world in
     let at = keeps W s.sure.stored in
@@ -147,7 +147,7 @@ opens_on {S} {F} v f files workers events left now old new rounds cuts s next mo
     }
 
 pub closes_on : {S F : Type 0} (v : Service S) (f : Files S F) (files : F) (events left now : List Event) (old new : Storage S F) (rounds : List RoundRecord) (cuts : List ℕ)
-    → IsUnderWay v f files events left old rounds cuts → left ≡ Close ∷ now → Closes f old new → Keeps v f old new → IsUnderWay v f files events now new rounds cuts
+    → IsUnderWay v f files events left old rounds cuts → left ≡ Close ∷ now → ClosesStore f old new → Keeps v f old new → IsUnderWay v f files events now new rounds cuts
 closes_on {S} {F} v f files events left now old new rounds cuts s next moves keeps =
     let W = s.sure.world in
     let at = keeps W s.sure.stored in

@@ -10,7 +10,7 @@ use Rattle.raft_voter_session.specs.declared.event.Event.{Event}
 use Rattle.raft_voter_session.specs.declared.event.Event.TheVariants.{Open, Close, CrashLast, Round}
 use Rattle.raft_voter_run.specs.declared.storage.Storage.{Storage}
 use Rattle.raft_voter_run.specs.declared.storage.Storage.TheVariants.{Closed}
-use Rattle.raft_voter_run.specs.Storage.{Closes, CrashLeaves, Crashes, HasCause, IsAt, Opens, RefusesToOpen, Served, Serves, Untold, cuts_of, is_open}
+use Rattle.raft_voter_run.specs.Storage.{ClosesStore, CrashLeaves, Crashes, HasStoreCause, ServesAt, OpensStore, RefusesToOpen, Served, Serves, Untold, cuts_of, is_open}
 
 -- Each round of a session is in the transcript, with its requests, in order. One is cut off only where no
 -- store is open, or where it is too long, and only what the service may refuse is refused. `begun` says
@@ -23,14 +23,14 @@ AreRoundsOf v (Close ∷ events) begun rounds = AreRoundsOf v events false round
 AreRoundsOf v (CrashLast ∷ events) begun rounds = AreRoundsOf v events false rounds
 AreRoundsOf v (Round requests ∷ events) begun [] = ⊥
 AreRoundsOf v (Round requests ∷ events) begun (round ∷ rounds) =
-    (round.requests ≡ requests) × HasCause v begun round round.outcome × AreRoundsOf v events begun rounds
+    (round.requests ≡ requests) × HasStoreCause v begun round round.outcome × AreRoundsOf v events begun rounds
 
 -- what an event other than a round makes of the storage
-abbrev pub Moves : {S F : Type 0} → Files S F → Event → Storage S F → Storage S F → Type 0
-Moves f (Open workers) old new = Opens f old new
-Moves f Close old new = Closes f old new
-Moves f CrashLast old new = Crashes f old new
-Moves f (Round requests) old new = ⊥
+abbrev pub MovesStorage : {S F : Type 0} → Files S F → Event → Storage S F → Storage S F → Type 0
+MovesStorage f (Open workers) old new = OpensStore f old new
+MovesStorage f Close old new = ClosesStore f old new
+MovesStorage f CrashLast old new = Crashes f old new
+MovesStorage f (Round requests) old new = ⊥
 
 -- These events, one after another, lead a storage with these voters through these rounds. Whatever event it
 -- comes after, a crash leaves just the voters that the rounds so far have made.
@@ -42,12 +42,12 @@ Happens {S} {F} v f (Round requests ∷ events) old W rounds =
     × (rounds ≡ round ∷ later) × Served v f old new requests round × Serves W round X
     × CrashLeaves v f new X × Happens v f events new X later
 Happens {S} {F} v f (event ∷ events) old W rounds =
-    (new : Storage S F) × Moves f event old new × CrashLeaves v f new W × Happens v f events new W rounds
+    (new : Storage S F) × MovesStorage f event old new × CrashLeaves v f new W × Happens v f events new W rounds
 
 -- what an event makes of the storage
 abbrev pub Turns : {S F : Type 0} → Service S → Files S F → Event → Storage S F → Storage S F → Type 0
 Turns v f (Round requests) old new = (round : RoundRecord) × Served v f old new requests round
-Turns v f event old new = Moves f event old new
+Turns v f event old new = MovesStorage f event old new
 
 -- A session stops at this event, for this cause: the open is refused for it; or the round isn't told for it, or
 -- no memory is left to add it to the transcript.
@@ -85,7 +85,7 @@ pub record IsPlayed {S F : Type 0} (v : Service S) (f : Files S F) (files : F) (
 pub record Sure {S F : Type 0} (v : Service S) (f : Files S F) (storage : Storage S F)
     (rounds : List RoundRecord) (cuts : List ℕ) : Type 0 where
   pub world : World
-  pub stored : IsAt v f storage world
+  pub stored : ServesAt v f storage world
   pub explained :
       (rs : List RoundRecord) (cs : List ℕ) → ExplainsFrom world rs cs → Explains (rounds ++ rs) (cuts ++ cs)
 

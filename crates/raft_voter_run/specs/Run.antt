@@ -22,7 +22,7 @@ pub record IsJudged (rounds : List Round) (cuts text : List ℕ) (status : ℕ) 
 
 -- Of a session this is written: a transcript of it, by what is said of how it is played, that is explained,
 -- and the verdict that it is.
-pub record Shows (Played : List Event → List Round → List ℕ → Type 0) (events : List Event) (text : List ℕ)
+pub record WritesTranscript (Played : List Event → List Round → List ℕ → Type 0) (events : List Event) (text : List ℕ)
     (status : ℕ) : Type 0 where
   pub rounds : List Round
   pub cuts : List ℕ
@@ -32,14 +32,14 @@ pub record Shows (Played : List Event → List Round → List ℕ → Type 0) (e
   pub told : status ≡ 0
 
 -- of lines that are a session, or of which one is the first that is unreadable
-abbrev pub Tells :
+abbrev pub TellsLines :
     (List Event → List Round → List ℕ → Type 0) → Result (List Event) ℕ → List ℕ → ℕ → Type 0
-Tells Played (Ok events) text status = Shows Played events text status
-Tells Played (Err line) text status = (text ≡ unreadable_text line) × (status ≡ 2)
+TellsLines Played (Ok events) text status = WritesTranscript Played events text status
+TellsLines Played (Err line) text status = (text ≡ unreadable_text line) × (status ≡ 2)
 
 -- for a session of these bytes this may be written, and the program ends with this status
 abbrev pub MayWrite : (List Event → List Round → List ℕ → Type 0) → List ℕ → List ℕ → ℕ → Type 0
-MayWrite Played input text status = Tells Played (session_of input) text status
+MayWrite Played input text status = TellsLines Played (session_of input) text status
 
 -- events stop for this cause as they are played, or memory is refused
 abbrev pub MayStop : (List Event → Cause → Type 0) → List Event → Cause → Type 0
@@ -68,9 +68,9 @@ refused_text = codes "arguments refused\n"
 
 -- what the program may write: with arguments that they are refused, and nothing is read; else what its
 -- session says
-abbrev pub MayEnd : (List Event → List Round → List ℕ → Type 0) → Bool → List ℕ → List ℕ → ℕ → Type 0
-MayEnd Played true input text status = (text ≡ refused_text) × (status ≡ 2)
-MayEnd Played false input text status = MayWrite Played input text status
+abbrev pub ProgramMayWrite : (List Event → List Round → List ℕ → Type 0) → Bool → List ℕ → List ℕ → ℕ → Type 0
+ProgramMayWrite Played true input text status = (text ≡ refused_text) × (status ≡ 2)
+ProgramMayWrite Played false input text status = MayWrite Played input text status
 
 -- The program stopped before its end, and claims no verdict: it wrote nothing, or the front of what it may
 -- write, and not all of it.
@@ -79,7 +79,7 @@ abbrev pub EndsEarly :
     → Bool → List ℕ → Option (List ℕ) → Option (List ℕ) → Type 0
 EndsEarly Played given input old new =
     Keeps old new
-    ⊎ ((text : List ℕ) × (status : ℕ) × MayEnd Played given input text status × StopsWithin old new text)
+    ⊎ ((text : List ℕ) × (status : ℕ) × ProgramMayWrite Played given input text status × StopsWithin old new text)
 
 -- The bytes of a session aren't told: it stopped, nothing was written, and the fault tells for which cause; or
 -- the writer took the front of what may be written, and not all of it.
@@ -96,4 +96,4 @@ abbrev pub Ends :
     (List Event → List Round → List ℕ → Type 0)
     → Bool → List ℕ → Option (List ℕ) → Option (List ℕ) → ℕ → Type 0
 Ends Played given input old new status =
-    (text : List ℕ) × MayEnd Played given input text status × Appends old new text
+    (text : List ℕ) × ProgramMayWrite Played given input text status × Appends old new text

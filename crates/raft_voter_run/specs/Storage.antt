@@ -18,9 +18,9 @@ is_open (Closed files) = false
 is_open (Open store) = true
 
 -- these are the voters that an open finds, or that an open store serves, and all of them are stored
-abbrev pub IsAt : {S F : Type 0} → Service S → Files S F → Storage S F → World → Type 0
-IsAt v f (Closed files) W = IsClosedAt f files W
-IsAt v f (Open store) W = IsOpenAt v store W
+abbrev pub ServesAt : {S F : Type 0} → Service S → Files S F → Storage S F → World → Type 0
+ServesAt v f (Closed files) W = IsClosedAt f files W
+ServesAt v f (Open store) W = IsOpenAt v store W
 
 -- a crash leaves these voters, and no others
 abbrev pub CrashLeaves : {S F : Type 0} → Service S → Files S F → Storage S F → World → Type 0
@@ -32,16 +32,12 @@ abbrev pub IsOver : {S F : Type 0} → Files S F → Storage S F → F → Type 
 IsOver f (Closed files) given = given ≡ files
 IsOver f (Open store) given = f.closes store given
 
--- some voters are stored
-abbrev pub IsSound : {S F : Type 0} → Service S → Files S F → Storage S F → Type 0
-IsSound v f storage = (W : World) × IsAt v f storage W
-
 -- what is stored stays
 abbrev pub Keeps : {S F : Type 0} → Service S → Files S F → Storage S F → Storage S F → Type 0
-Keeps v f old new = (W : World) → IsAt v f old W → IsAt v f new W
+Keeps v f old new = (W : World) → ServesAt v f old W → ServesAt v f new W
 
 -- a store was opened over the files
-pub record Opens {S F : Type 0} (f : Files S F) (old new : Storage S F) : Type 0 where
+pub record OpensStore {S F : Type 0} (f : Files S F) (old new : Storage S F) : Type 0 where
   pub files : F
   pub over : IsOver f old files
   pub store : S
@@ -53,7 +49,7 @@ abbrev pub RefusesToOpen : {S F : Type 0} → Files S F → Storage S F → Caus
 RefusesToOpen {S} {F} f old cause = (files : F) × IsOver f old files × f.refuses files cause
 
 -- the files are as a close gives them, and no store is open
-pub record Closes {S F : Type 0} (f : Files S F) (old new : Storage S F) : Type 0 where
+pub record ClosesStore {S F : Type 0} (f : Files S F) (old new : Storage S F) : Type 0 where
   pub files : F
   pub over : IsOver f old files
   pub now : new ≡ Closed files
@@ -76,17 +72,17 @@ MayBeRefused {S} v requests refused = (old : S) × (new : S) × v.may_refuse old
 
 -- A round is answered where a store is open and it isn't too long, and else it is cut off. Of a round that is
 -- answered only what the service may refuse is refused.
-abbrev pub HasCause : {S : Type 0} → Service S → Bool → Round → Outcome → Type 0
-HasCause v begun round (Answered replies) =
+abbrev pub HasStoreCause : {S : Type 0} → Service S → Bool → Round → Outcome → Type 0
+HasStoreCause v begun round (Answered replies) =
     (begun ≡ true) × (length round.requests ≤ 4096) × MayBeRefused v round.requests round.refused
-HasCause v begun round Cut =
+HasStoreCause v begun round Cut =
     ((begun ≡ false) ⊎ (4096 < length round.requests)) × (round.refused ≡ [])
 
 -- what an answered round refused is what its very store may refuse, by what it was before and is after
-abbrev pub Refuses : {S F : Type 0} → Service S → Storage S F → Storage S F → Round → Outcome → Type 0
-Refuses v (Open old) (Open new) round (Answered replies) = v.may_refuse old new round.requests round.refused
-Refuses v old new round (Answered replies) = ⊥
-Refuses v old new round Cut = Unit {0}
+abbrev pub StoreRefused : {S F : Type 0} → Service S → Storage S F → Storage S F → Round → Outcome → Type 0
+StoreRefused v (Open old) (Open new) round (Answered replies) = v.may_refuse old new round.requests round.refused
+StoreRefused v old new round (Answered replies) = ⊥
+StoreRefused v old new round Cut = Unit {0}
 
 -- the place up to which a round that is cut off here was taken: none of it was
 abbrev pub cuts_of : Outcome → List ℕ
@@ -103,16 +99,16 @@ pub record Serves (W : World) (round : Round) (X : World) : Type 0 where
 pub record Served {S F : Type 0} (v : Service S) (f : Files S F) (old new : Storage S F)
     (requests : List (ℕ × Request)) (round : Round) : Type 0 where
   pub same : round.requests ≡ requests
-  pub cause : HasCause v (is_open old) round round.outcome
-  pub refuses : Refuses v old new round round.outcome
+  pub cause : HasStoreCause v (is_open old) round round.outcome
+  pub refuses : StoreRefused v old new round round.outcome
   pub still : is_open new ≡ is_open old
   pub world : World → World
-  pub serves : (W : World) → IsAt v f old W → Serves W round (world W) × IsAt v f new (world W)
+  pub serves : (W : World) → ServesAt v f old W → Serves W round (world W) × ServesAt v f new (world W)
 
 -- A round isn't told, for this cause: its store cut it off for it, or answered it where no memory was left to
 -- tell so.
-abbrev pub IsUntold : {S : Type 0} → Service S → S → S → List (ℕ × Request) → Cause → Type 0
-IsUntold v old new requests cause =
+abbrev pub IsRoundUntold : {S : Type 0} → Service S → S → S → List (ℕ × Request) → Cause → Type 0
+IsRoundUntold v old new requests cause =
     ((refused : List ℕ)
     × CutsOff cause refused requests (v.world old) (v.may_leave old) (v.world new) (v.may_leave new)
     × FailsAs cause (length requests) (v.is_failed old) (v.is_failed new))
@@ -120,5 +116,5 @@ IsUntold v old new requests cause =
 
 -- a round isn't told, for this cause, and its store is still open
 abbrev pub Untold : {S F : Type 0} → Service S → Storage S F → Storage S F → List (ℕ × Request) → Cause → Type 0
-Untold v (Open old) (Open new) requests cause = IsUntold v old new requests cause
+Untold v (Open old) (Open new) requests cause = IsRoundUntold v old new requests cause
 Untold v old new requests cause = ⊥

@@ -5,7 +5,7 @@ ghost use Rattle.raft_voter.specs.Rounds.{fresh_world};
 ghost use Rattle.raft_voter.specs.Service.{IsClosedAt, IsFromOutside};
 ghost use Rattle.raft_voter_run.specs.Play.{IsPlayed, Stops};
 ghost use Rattle.raft_voter_session.specs.Text.{unreadable_text};
-ghost use Rattle.raft_voter_run.specs.Run.{Ends, EndsEarly, IsJudged, IsUntoldFor, kind_of, MayEnd, MayStop, MayStopReading, MayWrite, refused_text, Shows};
+ghost use Rattle.raft_voter_run.specs.Run.{Ends, EndsEarly, IsJudged, IsUntoldFor, kind_of, ProgramMayWrite, MayStop, MayStopReading, MayWrite, refused_text, WritesTranscript};
 
 use crate::playing::play;
 use crate::writing::write_whole;
@@ -167,7 +167,7 @@ fn shown<S: RoundService + Drop, F: StoreFiles<S> + Drop>(
 ) -> Result<(String, u8), Cause>
     requires { IsClosedAt F.files files fresh_world }
     ensures ok { IfOk result (λ told.
-        Shows (IsPlayed S.service F.files files) events.items (string_bytes told.0) told.1) }
+        WritesTranscript (IsPlayed S.service F.files files) events.items (string_bytes told.0) told.1) }
     ensures err { IfErr result (MayStop (Stops S.service F.files files) events.items) }
     ensures errors { IfErr result IsFromOutside }
 {

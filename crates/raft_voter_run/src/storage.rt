@@ -1,7 +1,7 @@
 //! A store that is open, or the files of one that isn't.
 ghost use Rattle.std.specs.Prelude.{◌≡◌, [], true, IfErr, IfOk, OnErr};
 ghost use Rattle.raft_voter.specs.Service.{IsFromOutside, is_refused, refused_from};
-ghost use Rattle.raft_voter_run.specs.Storage.{Closes, Crashes, IsOver, Keeps, MayAnswer, Opens, RefusesToOpen, Served, Untold};
+ghost use Rattle.raft_voter_run.specs.Storage.{ClosesStore, Crashes, IsOver, Keeps, MayAnswer, OpensStore, RefusesToOpen, Served, Untold};
 
 use raft_voter::{Cause, Items, Memory, Outcome, Reply, Request, Round, RoundService, StoreFiles};
 use std::alloc::Global;
@@ -27,9 +27,9 @@ impl<S: RoundService + Drop, F: StoreFiles<S> + Drop> Storage<S, F> {
         }
     }
 
-    /// Opens the store; one that is open is closed first. It is refused for the cause for which the files are.
+    /// OpensStore the store; one that is open is closed first. It is refused for the cause for which the files are.
     pub fn opened(self, alloc: Global) -> Result<Storage<S, F>, Cause>
-        ensures opens { IfOk result (Opens F.files self) }
+        ensures opens { IfOk result (OpensStore F.files self) }
         ensures keeps { IfOk result (Keeps S.service F.files self) }
         ensures err { IfErr result (RefusesToOpen F.files self) }
         ensures errors { IfErr result IsFromOutside }
@@ -38,9 +38,9 @@ impl<S: RoundService + Drop, F: StoreFiles<S> + Drop> Storage<S, F> {
         Ok(Storage::Open(store))
     }
 
-    /// Closes the store, if one is open.
+    /// ClosesStore the store, if one is open.
     pub fn closed(self) -> Storage<S, F>
-        ensures closes { Closes F.files self result }
+        ensures closes { ClosesStore F.files self result }
         ensures keeps { Keeps S.service F.files self result }
     {
         Storage::Closed(self.into_files())

@@ -5,6 +5,6 @@ use Rattle.raft_voter_session.specs.declared.session.SessionFault.{SessionFault}
 use Rattle.raft_voter_session.specs.declared.session.SessionFault.TheVariants.{Unreadable, Memory}
 
 -- a line that is told as unreadable is the first such line; nothing is said of want of memory
-abbrev pub TellsFault : Result (List Event) ℕ → SessionFault → Type 0
-TellsFault said (Unreadable number) = said ≡ Err number
-TellsFault said Memory = Unit {0}
+abbrev pub TellsLineFault : Result (List Event) ℕ → SessionFault → Type 0
+TellsLineFault said (Unreadable number) = said ≡ Err number
+TellsLineFault said Memory = Unit {0}

@@ -1,7 +1,7 @@
 //! The events of a whole session.
 ghost use Rattle.std.specs.Prelude.{◌≡◌, Ok, IfOk, IfErr, take};
 ghost use Rattle.raft_voter_session.specs.Session.{after_line, after_text, finish, no_progress, session_of};
-ghost use Rattle.raft_voter_session.specs.Fault.{TellsFault};
+ghost use Rattle.raft_voter_session.specs.Fault.{TellsLineFault};
 
 use crate::Event;
 use crate::line::{Line, read_line};
@@ -115,7 +115,7 @@ impl Reading {
         number: usize,
     ) -> Result<VecDeque<Event>, SessionFault>
         ensures ok { IfOk result (λ events. finish number is_whole rest.now self ≡ Ok events.items) }
-        ensures err { IfErr result (TellsFault (finish number is_whole rest.now self)) }
+        ensures err { IfErr result (TellsLineFault (finish number is_whole rest.now self)) }
     {
         let Reading { events, begun } = self;
         if !rest.is_empty() || !is_whole || begun.is_some() {
@@ -139,7 +139,7 @@ fn front(bytes: &[u8], most: usize) -> &[u8]
 #[tactic(auto, unfolding(crate::specs::Session::session_of))]
 pub fn read_session(alloc: Global, input: &[u8]) -> Result<VecDeque<Event>, SessionFault>
     ensures ok { IfOk result (λ events. session_of input.now ≡ Ok events.items) }
-    ensures err { IfErr result (TellsFault (session_of input.now)) }
+    ensures err { IfErr result (TellsLineFault (session_of input.now)) }
 {
     let is_whole = input.len() <= MOST_SESSION_BYTES;
     let mut left = front(input, MOST_SESSION_BYTES);

@@ -12,8 +12,9 @@ fn outcome(alloc: Global, session: &[u8]) -> io::Result<(Vec<u8>, u8)> {
     Ok((output, status))
 }
 
-/// Sessions, and what is written for them. In the first a vote stands after a crash.
-const SESSIONS: [(&str, &str); 12] = [
+/// Sessions, and what is written for them. In the first a vote stands after a crash. In the third and the fourth a later
+/// leader's entries do; only in the fourth they are known as committed, so that the log may be compacted.
+const SESSIONS: [(&str, &str); 13] = [
     (
         "open 1\nround\nvote 1 5 2 0 0\nend\ncrash last\nopen 1\nround\nvote 1 5 3 0 0\nend\n",
         "round 0 answered\n0 1 Granted 5\nround 1 answered\n0 1 Denied 5\ncuts\nverdict yes\n",
@@ -61,6 +62,9 @@ round
 read 1 1 4
 end
 round
+compact 1 2
+end
+round
 vote 1 3 9 5 1
 end
 round
@@ -74,9 +78,60 @@ round 1 answered
 round 2 answered
 0 1 Entries 1:1: 2:2: 3:2:
 round 3 answered
-0 1 Denied 3
+0 1 Base 0
 round 4 answered
+0 1 Denied 3
+round 5 answered
 0 1 Stale 3
+cuts
+verdict yes
+",
+    ),
+    (
+        "open 1
+round
+append 1 1 0 0 1: 1:
+end
+round
+append 1 2 1 1 3 2: 2:
+end
+crash last
+open 4
+round
+read 1 1 4
+status 1
+end
+round
+compact 1 2
+end
+close
+open 1
+round
+read 1 2 4
+read 1 3 4
+status 1
+end
+round
+vote 1 3 9 5 1
+append 1 2 3 2
+end
+",
+        "round 0 answered
+0 1 Matched 2
+round 1 answered
+0 1 Matched 3
+round 2 answered
+0 1 Entries 1:1: 2:2: 3:2:
+1 1 Status 2 - 0 0 3 2 3
+round 3 answered
+0 1 Base 2
+round 4 answered
+0 1 Gone 2
+1 1 Entries 3:2:
+2 1 Status 2 - 2 2 3 2 3
+round 5 answered
+0 1 Denied 3
+1 1 Stale 3
 cuts
 verdict yes
 ",

@@ -1,8 +1,8 @@
 //! Settings that are refused, made whole, and counted with.
 use log::sink::Memory;
 use log::{Level, Logged};
-use raft_log_base::{Error, ReadableSize, Version};
-use raft_log_settings::Config;
+use raft_log_file_settings::Config;
+use raft_log_record_base::{Error, ReadableSize, Version};
 use std::alloc::Global;
 use std::test::Fail;
 

@@ -1,6 +1,6 @@
 //! Headers of log files.
-use raft_log_base::{Error, Result, Version};
-use raft_log_format::LogFileFormat;
+use raft_log_file_format::LogFileFormat;
+use raft_log_record_base::{Error, Result, Version};
 use std::alloc::Global;
 use std::test::Fail;
 

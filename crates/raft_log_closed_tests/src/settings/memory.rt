@@ -1,8 +1,8 @@
 //! Want of memory: one allocation is refused, whichever it is (`rt try --test --fail-alloc N`). The call tells
 //! it as such and changes nothing, and answers as ever when it is made again.
-use raft_log_base::{Error, FileId, LogQueue, ReadableSize, Result, Version};
-use raft_log_format::{FileNameExt, LogFileFormat, build_reserved_file_name};
-use raft_log_settings::Config;
+use raft_log_file_format::{FileNameExt, LogFileFormat, build_reserved_file_name};
+use raft_log_file_settings::Config;
+use raft_log_record_base::{Error, FileId, LogQueue, ReadableSize, Result, Version};
 use std::alloc::Global;
 use std::test::Fail;
 

@@ -1,6 +1,6 @@
 //! Names of log files.
-use raft_log_base::{Error, FileId, LogFileContext, LogQueue, Version};
-use raft_log_format::{FileNameExt, build_reserved_file_name, parse_reserved_file_name};
+use raft_log_file_format::{FileNameExt, build_reserved_file_name, parse_reserved_file_name};
+use raft_log_record_base::{Error, FileId, LogFileContext, LogQueue, Version};
 use std::test::Fail;
 
 const APPEND: [(&str, u64); 4] = [

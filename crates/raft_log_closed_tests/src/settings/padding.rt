@@ -1,5 +1,5 @@
 //! Bytes that count as padding.
-use raft_log_format::is_zero_padded;
+use raft_log_file_format::is_zero_padded;
 
 #[test]
 fn test_check_paddings_is_valid(rt: HostRuntime) {

@@ -1,6 +1,6 @@
 //! Settings read from TOML.
-use raft_log_base::{ReadableSize, Version};
-use raft_log_settings::{Config, RecoveryMode};
+use raft_log_file_settings::{Config, RecoveryMode};
+use raft_log_record_base::{ReadableSize, Version};
 use std::alloc::Global;
 use std::test::Fail;
 

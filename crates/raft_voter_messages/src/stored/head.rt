@@ -1,6 +1,6 @@
 //! The numbers that every form of a stored state begins with.
 ghost use Rattle.std.specs.Prelude.{◌≡◌, ◌+◌, ◌^◌, ◌<◌, ◌≤◌, ◌++◌, length, IfSome, IfNone};
-ghost use Rattle.raft_voter_messages.specs.StoredForms.{IsBare, vote_text};
+ghost use Rattle.raft_voter_messages.specs.StoredForms.{IsBareState, vote_text};
 
 use super::split_number;
 use super::state::state_fits;
@@ -50,7 +50,7 @@ impl StateHead {
 
     /// The state in range with these numbers and this commit, if there is one.
     pub fn state(self, commit: u64) -> Option<VoterState>
-        ensures some { IfSome result (λ state. HasHead state self × (state.commit ≡ commit) × IsBare state) }
+        ensures some { IfSome result (λ state. HasHead state self × (state.commit ≡ commit) × IsBareState state) }
         ensures none { IfNone result (IsNoState self commit) }
     {
         let vote = self.vote()?;

@@ -1,7 +1,7 @@
 //! The bytes of a voter's state: the form, the term, whether there is a vote, the candidate, the base's index
 //! and term, and in form 2 the commit. What is known of the last entry isn't written.
 ghost use Rattle.std.specs.Prelude.{◌≡◌, ◌+◌, ◌<◌, ◌++◌, vec_capacity, vec_len, IfOk, IfErr, OnOk, OnErr};
-ghost use Rattle.raft_voter_messages.specs.StoredForms.{IsBare, IsState, IsStateForm1, state_fits, state_form_2, state_text, StateFault, StateForm1Fault, StateForm2Fault};
+ghost use Rattle.raft_voter_messages.specs.StoredForms.{IsBareState, IsState, IsStateForm1, state_fits, state_form_2, state_text, StateFault, StateForm1Fault, StateForm2Fault};
 
 use super::head::StateHead;
 use super::{NUMBER_BYTES, StoredFault, push_number, split_number};
@@ -81,7 +81,7 @@ pub fn state_fits(state: &VoterState) -> bool
 
 /// The state that the bytes behind form byte 1 are, or their first fault.
 fn read_form_1(body: &[u8]) -> Result<VoterState, StoredFault>
-    ensures ok { IfOk result (λ state. IsStateForm1 body.now state × IsBare state) }
+    ensures ok { IfOk result (λ state. IsStateForm1 body.now state × IsBareState state) }
     ensures err { IfErr result (λ fault. StateForm1Fault fault body.now) }
 {
     if body.len() != FORM_1_BYTES {
@@ -97,7 +97,7 @@ fn read_form_1(body: &[u8]) -> Result<VoterState, StoredFault>
 
 /// The state that the bytes behind form byte 2 are, or their first fault.
 fn read_form_2(body: &[u8]) -> Result<VoterState, StoredFault>
-    ensures ok { IfOk result (λ state. (body.now ≡ state_form_2 state) × IsBare state) }
+    ensures ok { IfOk result (λ state. (body.now ≡ state_form_2 state) × IsBareState state) }
     ensures err { IfErr result (λ fault. StateForm2Fault fault body.now) }
 {
     if body.len() != FORM_2_BYTES {

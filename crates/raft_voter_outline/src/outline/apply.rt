@@ -1,7 +1,7 @@
-//! Changes that are made, once they are written.
+//! ChangesEach that are made, once they are written.
 ghost use Rattle.std.specs.Prelude.{◌≡◌, ◌≤◌, length, OnErr, OnOk};
-ghost use Rattle.raft_voter_outline.specs.Decisions.{Becomes, CanChange, ChangesTerms, HasRoom, UsesRoom};
-ghost use Rattle.raft_voter_outline.specs.Outlines.{Changes};
+ghost use Rattle.raft_voter_outline.specs.Decisions.{OutlineBecomes, CanChange, ChangesTerms, HasRunRoom, UsesRoom};
+ghost use Rattle.raft_voter_outline.specs.Outlines.{ChangesEach};
 
 use super::term_runs::{TermRuns, runs_in};
 use super::{Change, Outline, Write};
@@ -12,8 +12,8 @@ impl Outline {
     /// voter is as it was; no change needs room but one that brings entries.
     pub fn reserve(&mut self, change: &Change, request: &Request) -> Result<(), Memory>
         ensures voter { self.new.voter ≡ self.old.voter }
-        ensures ok { OnOk result (HasRoom change.now.write request.now self.new.room) }
-        ensures err { OnErr result (¬ HasRoom change.now.write request.now self.old.room) }
+        ensures ok { OnOk result (HasRunRoom change.now.write request.now self.new.room) }
+        ensures err { OnErr result (¬ HasRunRoom change.now.write request.now self.old.room) }
     {
         self.terms.reserve(runs_in(change.write.brought(request)))
     }
@@ -21,9 +21,9 @@ impl Outline {
     /// Makes the change that was decided for a request, for which there is room. It asks for no memory, and
     /// uses up no more room than was needed.
     pub fn apply(&mut self, change: &Change, request: &Request)
-        requires decided { Changes self.old.voter request.now change.now }
-        requires room { HasRoom change.now.write request.now self.old.room }
-        ensures voter { Becomes self.old.voter request.now self.new.voter }
+        requires decided { ChangesEach self.old.voter request.now change.now }
+        requires room { HasRunRoom change.now.write request.now self.old.room }
+        ensures voter { OutlineBecomes self.old.voter request.now self.new.voter }
         ensures room { UsesRoom change.now.write request.now self.old.room self.new.room }
     {
         self.terms.change(change, request);
@@ -38,7 +38,7 @@ impl TermRuns {
     /// Does to the terms of a log what a change does to the log.
     fn change(&mut self, change: &Change, request: &Request)
         requires can { CanChange self.old request.now change.now }
-        requires room { HasRoom change.now.write request.now self.old.room }
+        requires room { HasRunRoom change.now.write request.now self.old.room }
         ensures terms { ChangesTerms self.old request.now change.now self.new }
         ensures room { UsesRoom change.now.write request.now self.old.room self.new.room }
     {

@@ -1,6 +1,6 @@
 //! Decisions: what requests come to, in range or not.
 ghost use Rattle.std.specs.Prelude.{◌≡◌, ◌↔◌, IsTrue, None};
-ghost use Rattle.raft_voter_outline.specs.Decisions.{read_answer, Settles, Stays};
+ghost use Rattle.raft_voter_outline.specs.Decisions.{read_answer, SettlesPlan, Stays};
 ghost use Rattle.raft_voter_outline.specs.Outlines.{Decides};
 
 use super::plans::Plan;
@@ -59,7 +59,7 @@ impl Outline {
     /// The decision of a plan. Inlined, so that no plan is put together in memory and read back.
     #[inline(always)]
     fn settle(&self, plan: Plan) -> Decision
-        ensures { Settles self.now.voter plan result }
+        ensures { SettlesPlan self.now.voter plan result }
     {
         let stays = self.stays(&plan);
         let Plan {

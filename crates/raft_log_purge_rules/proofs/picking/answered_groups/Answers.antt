@@ -1,5 +1,5 @@
 use Rattle.std.proofs.Common.{not, ap, ◌∙◌}
-use Rattle.raft_log_replay.specs.Tables.{has_table}
+use Rattle.raft_log_table_all.specs.Tables.{has_table}
 use Rattle.raft_log_purge_rules.specs.Picking.{answers_at}
 use Rattle.raft_log_purge_rules.proofs.Listing.{all_picked, answered_known, nobody_answered}
 use Rattle.raft_log_purge_rules.proofs.picking.answered_groups.Goals as goal

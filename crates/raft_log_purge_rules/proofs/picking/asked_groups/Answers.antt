@@ -1,4 +1,4 @@
-use Rattle.raft_log_replay.specs.Tables.{has_table}
+use Rattle.raft_log_table_all.specs.Tables.{has_table}
 use Rattle.raft_log_purge_rules.specs.Picking.{asks_at}
 use Rattle.raft_log_purge_rules.proofs.Listing.{all_picked, asked_known}
 use Rattle.raft_log_purge_rules.proofs.picking.asked_groups.Goals as goal

@@ -1,5 +1,5 @@
 use Rattle.std.proofs.Common.{◌≡◌, ◌∙◌, ℕ, ap, get_or, refl, arith}
-use Rattle.raft_log_replay.specs.Tables.{raw_of}
+use Rattle.raft_log_table_all.specs.Tables.{raw_of}
 use Rattle.raft_log_purge_rules.specs.Picking.{count_of, rewrites_at, rewrites_in}
 use Rattle.raft_log_purge_rules.proofs.Listing.{picked_more}
 use Rattle.raft_log_purge_rules.proofs.picking.rewritten_of.Goals as goal

@@ -1,9 +1,9 @@
 use Rattle.std.proofs.Common.{◌≡◌, ◌+◌, ◌-◌, ◌^◌, ◌∙◌, ℕ, min, not, ap, ap₂}
-use Rattle.raft_log_base.specs.declared.pipe_log.FileId.{FileId}
-use Rattle.raft_log_base.specs.declared.pipe_log.LogQueue.{LogQueue}
-use Rattle.raft_log_base.specs.declared.pipe_log.LogQueue.TheVariants.{Append}
-use Rattle.raft_log_tables.specs.Reads.{has_before}
-use Rattle.raft_log_tables.specs.Table.{shown}
+use Rattle.raft_log_record_base.specs.declared.pipe_log.FileId.{FileId}
+use Rattle.raft_log_record_base.specs.declared.pipe_log.LogQueue.{LogQueue}
+use Rattle.raft_log_record_base.specs.declared.pipe_log.LogQueue.TheVariants.{Append}
+use Rattle.raft_log_table_one.specs.Reads.{has_before}
+use Rattle.raft_log_table_one.specs.Table.{shown}
 use Rattle.raft_log_purge_rules.proofs.rules.is_light.Goals as goal
 
 abbrev file_of : LogQueue → ℕ → FileId

@@ -1,5 +1,5 @@
 use Rattle.std.proofs.Common.{◌≡◌, ℕ, ◌==◌, Bool, None, sym, subst, ap, ◌∙◌, IsTrue, ◌↔◌}
-use Rattle.raft_log_consistency.specs.Findings.{finding_of}
+use Rattle.raft_log_closed.specs.Findings.{finding_of}
 use Rattle.raft_uses.proofs.Whole.{empty_tells}
 use Rattle.raft_uses.proofs.consistency.is_whole.Goals as goal
 

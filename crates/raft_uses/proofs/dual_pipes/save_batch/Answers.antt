@@ -1,7 +1,7 @@
 use Rattle.std.proofs.Common.{subst}
-use Rattle.raft_log_directory.specs.Calls.Which.{InAppend}
-use Rattle.raft_log_dual_pipes.specs.Calls.{AppendsTo}
-use Rattle.raft_log_signed_batch.specs.Signing.{signed_for}
+use Rattle.raft_log_directory_laws.specs.Calls.Which.{InAppend}
+use Rattle.raft_log_file_pair.specs.Calls.{AppendsTo}
+use Rattle.raft_log_file_blocks.specs.Signing.{signed_for}
 use Rattle.raft_uses.proofs.dual_pipes.save_batch.Goals as goal
 
 pub returns-clause-ok : goal.returns-clause-ok

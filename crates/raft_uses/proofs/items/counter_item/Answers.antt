@@ -1,7 +1,7 @@
 use Rattle.std.proofs.Common.{◌≡◌, refl, subst}
-use Rattle.raft_log_items.specs.declared.item.LogItem.{LogItem}
-use Rattle.raft_log_items.specs.Items.{IsItem}
-use Rattle.raft_log_items.specs.Writing.{item_bytes, plain_item}
+use Rattle.raft_log_record_items.specs.declared.item.LogItem.{LogItem}
+use Rattle.raft_log_record_items.specs.Items.{IsItem}
+use Rattle.raft_log_record_items.specs.Writing.{item_bytes, plain_item}
 use Rattle.raft_uses.specs.Counter.{counter_put}
 use Rattle.raft_uses.proofs.items.counter_item.Goals as goal
 

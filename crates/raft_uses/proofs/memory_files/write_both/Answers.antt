@@ -1,7 +1,7 @@
 use Rattle.std.proofs.Common.{ap, ◌∙◌, ◌++◌, ◌∷◌, [], ℕ, List}
 use Rattle.std.proofs.lemmas.List.{append_assoc}
 use Rattle.raft_log_disk.specs.Disk.{Change, Wrote}
-use Rattle.raft_log_memory_files.specs.Memory.{unsynced}
+use Rattle.raft_log_disk_memory.specs.Memory.{unsynced}
 use Rattle.raft_uses.proofs.memory_files.write_both.Goals as goal
 
 pub returns : goal.returns

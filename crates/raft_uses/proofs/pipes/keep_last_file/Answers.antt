@@ -1,5 +1,5 @@
 use Rattle.std.proofs.Common.{subst}
-use Rattle.raft_log_pipes.specs.Purging.{Purges}
+use Rattle.raft_log_file_pipe.specs.Purging.{Purges}
 use Rattle.raft_uses.proofs.pipes.keep_last_file.Goals as goal
 
 pub returns-clause-ok : goal.returns-clause-ok

@@ -1,6 +1,6 @@
 use Rattle.std.proofs.Common.{subst, sym}
-use Rattle.raft_log_pipes.specs.Appending.{AppendsAt}
-use Rattle.raft_log_pipes.specs.Exits.{SyncsPipe}
+use Rattle.raft_log_file_pipe.specs.Appending.{AppendsAt}
+use Rattle.raft_log_file_pipe.specs.Exits.{SyncsPipe}
 use Rattle.raft_uses.proofs.pipes.save_record.Goals as goal
 
 pub returns-clause-ok : goal.returns-clause-ok

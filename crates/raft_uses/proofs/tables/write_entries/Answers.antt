@@ -1,8 +1,8 @@
 use Rattle.std.proofs.Common.{◌≡◌, ap, map, subst, sym, ◌∙◌}
-use Rattle.raft_log_items.specs.Placed.{written_entry}
-use Rattle.raft_log_held.specs.Entries.{run_of}
-use Rattle.raft_log_tables.specs.Room.{CanTake}
-use Rattle.raft_log_tables.specs.Table.{promise, shown}
+use Rattle.raft_log_record_items.specs.Placed.{written_entry}
+use Rattle.raft_log_table_lists.specs.Entries.{run_of}
+use Rattle.raft_log_table_one.specs.Room.{CanTake}
+use Rattle.raft_log_table_one.specs.Table.{promise, shown}
 use Rattle.raft_uses.proofs.Written.{takes_written}
 use Rattle.raft_uses.proofs.tables.write_entries.Goals as goal
 

@@ -1,6 +1,6 @@
 use Rattle.std.proofs.Common.{subst, ◌∙◌}
-use Rattle.raft_log_dual_pipes.specs.Calls.{PurgesQueue}
-use Rattle.raft_log_dual_pipes.specs.Pipes.{which_of}
+use Rattle.raft_log_file_pair.specs.Calls.{PurgesQueue}
+use Rattle.raft_log_file_pair.specs.Pipes.{which_of}
 use Rattle.raft_uses.proofs.told_pipes.purge_free.Goals as goal
 
 pub returns : goal.returns

@@ -1,6 +1,6 @@
 use Rattle.std.proofs.Common.{◌≡◌, ◌<◌, ◌^◌, ◌∙◌, ap, sym, refl}
 use Rattle.raft_voter_outline.proofs.Deciding.{change_small, room_copies}
-use Rattle.raft_voter_outline.specs.Outlines.{Changes, IsChangeOf, log_written, sent_of, without_bytes}
+use Rattle.raft_voter_outline.specs.Outlines.{ChangesEach, IsChangeOf, log_written, sent_of, without_bytes}
 use Rattle.raft_voter_outline.specs.Rules.{next}
 use Rattle.raft_voter_outline.specs.Runs.{bare}
 use Rattle.raft_voter_outline.specs.State.{State, last_index}
@@ -20,7 +20,7 @@ invariant_of-self-2 c =
     let q = c.args.request.now in
     let w = c.args.change.now.write in
     let v : State = with_entries o log in
-    let changes : Changes (without_bytes v) q c.args.change.now = rw (← c.self.view_is) at c.requires in
+    let changes : ChangesEach (without_bytes v) q c.args.change.now = rw (← c.self.view_is) at c.requires in
     let is : IsChangeOf v q c.args.change.now = changes v refl in
     let own : without_bytes v ≡ c.reserve.new.self.voter = outline_is o log c.self.invariant ∙ sym c.reserve.ensures.voter in
     let became : without_bytes (next v q) ≡ c.apply.new.self.voter = c.apply.ensures.voter v own in

@@ -1,5 +1,5 @@
 use Rattle.std.proofs.Common.{◌≡◌, ◌∙◌, List, ap, sym, refl}
-use Rattle.raft_voter_outline.specs.Outlines.{Changes, log_written, outlined, sent_of, without_bytes}
+use Rattle.raft_voter_outline.specs.Outlines.{ChangesEach, log_written, outlined, sent_of, without_bytes}
 use Rattle.raft_voter_outline.specs.Rules.{next}
 use Rattle.raft_voter_outline.specs.Runs.{bare}
 use Rattle.raft_voter_outline.specs.State.{State}
@@ -14,7 +14,7 @@ change-requires-clause-can c =
     let i = c.self.inside in
     let o : State = (outlined i.term i.vote i.base_term i.commit i.terms).voter in
     let bared : without_bytes o ≡ o = ap (λ (l : List Pair). let w : State = record o { log = l } in w) c.self.invariant.bared in
-    let decided : Changes o c.args.request.now c.args.change.now = rw (← c.self.view_is) at c.requires.decided in
+    let decided : ChangesEach o c.args.request.now c.args.change.now = rw (← c.self.view_is) at c.requires.decided in
     let is = decided o bared in
     record {
       voter = o;
@@ -29,7 +29,7 @@ invariant_of-self c =
     let i = c.self.inside in
     let o : State = (outlined i.term i.vote i.base_term i.commit i.terms).voter in
     let bared : without_bytes o ≡ o = ap (λ (l : List Pair). let w : State = record o { log = l } in w) c.self.invariant.bared in
-    let decided : Changes o c.args.request.now c.args.change.now = rw (← c.self.view_is) at c.requires.decided in
+    let decided : ChangesEach o c.args.request.now c.args.change.now = rw (← c.self.view_is) at c.requires.decided in
     let is = decided o bared in
     let base : c.change.new.self.base ≡ c.args.change.now.state.base_index = c.change.ensures.terms.0 in
     let log = c.change.ensures.terms.1 o (record { base_is = refl; log_is = sym c.self.invariant.bared }) in

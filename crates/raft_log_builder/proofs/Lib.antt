@@ -1,6 +1,0 @@
-pub mod Cuts
-pub mod Endings
-pub mod Syncs
-mod Formats
-mod Small
-mod Opened

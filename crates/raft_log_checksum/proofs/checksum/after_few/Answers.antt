@@ -1,6 +1,0 @@
-use Rattle.std.proofs.Common.{arith}
-use Rattle.raft_log_checksum.proofs.CrcTables.{few_at}
-use Rattle.raft_log_checksum.proofs.checksum.after_few.Goals as goal
-
-pub returns : goal.returns
-returns c = few_at c.args.zeros c.args.byte _ _ (omega arith) (omega arith)

@@ -1,0 +1,15 @@
+mod Holes
+mod Ends
+mod Keeping
+mod Groups
+mod Telling
+mod Whole
+mod Strict
+pub mod Adds
+pub mod Making
+pub mod CopyingLemmas
+pub mod Lasts
+pub mod Names
+pub mod CopyingAll
+pub mod Permitting
+pub mod Finding

@@ -1,0 +1,11 @@
+pub mod Runs
+pub mod Kept
+pub mod Findings
+pub mod Checking
+pub mod Directory
+pub mod Dump
+pub mod Copies
+pub mod Steps
+pub mod Sources
+pub mod Forks
+pub mod Telling

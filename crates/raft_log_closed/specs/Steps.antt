@@ -1,0 +1,56 @@
+-- One file is read whole, and one is made.
+use Rattle.std.specs.Prelude.{◌≡◌, ℕ, ◌⊎◌, Some, List, [], ◌∷◌}
+use Rattle.raft_log_record_base.specs.declared.errors.Error.{Error}
+use Rattle.raft_log_record_base.specs.declared.errors.Error.TheVariants as errors
+use Rattle.raft_log_disk.specs.Disk.{File, Disk, Wrote, at_rest}
+use Rattle.raft_log_disk.specs.Arguments.{WrongCreate}
+use Rattle.raft_log_disk.specs.Calls.{Changes, after_change}
+use Rattle.raft_log_disk.specs.Causes.{Fails}
+use Rattle.raft_log_disk.specs.Reading.{IsNotMeasured, IsUnread}
+use Rattle.raft_log_disk.specs.declared.handle.Handle.{Handle}
+use Rattle.raft_log_closed.specs.Copies.{AddsOnly, HasCopy, IsCopyRefusal, copy_path}
+use Rattle.raft_log_closed.specs.declared.source_file.SourceFile.{SourceFile}
+
+-- these are all bytes of the file
+pub record AreAllBytes (id : ℕ) (bytes : List ℕ) (d : Disk) : Type 0 where
+  pub file : File
+  pub is : d.files id ≡ Some file
+  pub all : bytes ≡ file.content
+
+-- why a file wasn't read: its size wasn't told, or some place couldn't be read, or memory ran out
+abbrev pub FailsToReadWhole : Handle → Disk → Error → Type 0
+FailsToReadWhole handle d (errors.Io kind) =
+    IsNotMeasured handle d kind ⊎ ((count : ℕ) × IsUnread handle 0 count d kind)
+FailsToReadWhole handle d errors.Memory = Unit {0}
+FailsToReadWhole handle d _ = ⊥
+
+-- these bytes were written into an empty file, or there are none
+abbrev pub Fills : ℕ → List ℕ → Disk → Disk → Type 0
+Fills id bytes old new =
+    ((bytes ≡ []) × (new ≡ old)) ⊎ Changes id (after_change (Wrote 0 bytes)) old new
+
+-- under a new name stands a file of these bytes, all synced, and nothing else changed
+pub record MakesFile (path bytes : List ℕ) (old new : Disk) : Type 0 where
+  pub adds : (target : List ℕ) → AddsOnly target (λ other. other ≡ path) old new
+  pub copy : ℕ
+  pub named : new.names path ≡ Some copy
+  pub stands : new.files copy ≡ Some (at_rest bytes)
+
+-- why a file wasn't made, which may have been begun: a failure or a stop, or the path can't be a
+-- new file's
+abbrev pub FailsToMake : List ℕ → Error → Disk → Disk → Type 0
+FailsToMake path (errors.Io kind) old new =
+    ((target : List ℕ) → AddsOnly target (λ other. other ≡ path) old new)
+    × (Fails old new ⊎ WrongCreate path old kind)
+FailsToMake path _ old new = ⊥
+
+-- a file has a copy, and nothing else changed
+pub record CopiesOne (target : List ℕ) (file : SourceFile) (old new : Disk) : Type 0 where
+  pub adds : AddsOnly target (λ other. other ≡ copy_path target file) old new
+  pub copy : HasCopy file.handle.file (copy_path target file) old new
+
+-- why a file wasn't copied, whose copy may have been begun
+abbrev pub FailsToCopyOne : List ℕ → SourceFile → Error → Disk → Disk → Type 0
+FailsToCopyOne target file error old new =
+    AddsOnly target (λ other. other ≡ copy_path target file) old new
+    × IsCopyRefusal target (file ∷ []) error old new

@@ -1,0 +1,17 @@
+-- What is told of a target that is looked at, and in which words.
+use Rattle.std.specs.Prelude.{◌≡◌, ℕ, true, List, Contains}
+use Rattle.std.specs.String.{string_bytes}
+use Rattle.raft_log_record_base.specs.declared.errors.Error.{Error}
+use Rattle.raft_log_record_base.specs.declared.errors.Error.TheVariants as errors
+use Rattle.raft_log_disk.specs.Disk.{Disk}
+use Rattle.raft_log_file_settings.specs.Sanitized.{IsFileName}
+
+-- one of these is the name of a log file, or of one that is kept to be used
+abbrev pub HasFileName : List (List ℕ) → Type 0
+HasFileName names = (name : List ℕ) × Contains names name × IsFileName name
+
+-- these words as an invalid argument, or memory ran out for them
+abbrev pub TellsWords : List ℕ → Error → Type 0
+TellsWords words (errors.InvalidArgument text) = string_bytes text ≡ words
+TellsWords words errors.Memory = Unit {0}
+TellsWords words _ = ⊥

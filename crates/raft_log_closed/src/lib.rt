@@ -1,0 +1,25 @@
+//! A log that no engine has open: copied file by file, whole and synced (`fork`), checked for holes in its
+//! entries (`consistency_check_with_file_system`), and its items listed (`dump_with_file_system`). Nothing that
+//! was there changes.
+#![tactic(auto)]
+
+pub mod checker;
+pub mod checking;
+pub mod choosing;
+pub mod copying;
+pub mod directory;
+pub mod dump;
+pub mod forking;
+pub mod group_runs;
+pub mod laws;
+pub mod permission;
+pub mod source_file;
+
+pub use checker::{ConsistencyChecker, ConsistencyCheckerFactory, Finding};
+pub use checking::check_log;
+pub use copying::copy_file;
+pub use directory::consistency_check_with_file_system;
+pub use dump::dump_with_file_system;
+pub use forking::{CopyDetails, fork};
+pub use group_runs::GroupRuns;
+pub use source_file::SourceFile;

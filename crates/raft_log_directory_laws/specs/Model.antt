@@ -1,0 +1,61 @@
+-- The model of a whole directory: the numbered files of both queues, what they mean, and where each thing
+-- stands.
+use Rattle.std.specs.Prelude.{ℕ, Bool, false}
+use Rattle.raft_log_model_laws.specs.Groups.{Map}
+use Rattle.raft_log_machine_laws.specs.Whereabouts.{Whereabouts}
+use Rattle.raft_log_machine_laws.specs.Files.{FileQueue, IsNumbered, fresh_files, store_of}
+use Rattle.raft_log_machine_laws.specs.Machine.{IsKept, Machine}
+use Rattle.raft_log_machine_laws.specs.Replay.{IsReplayable}
+use Rattle.raft_log_machine_laws.specs.Images.{HasRuns}
+use Rattle.raft_log_machine_laws.specs.Fresh.{nothing_stands, nowhere}
+
+-- the numbered files of both queues: those that are not behind a gap are numbered from these on
+pub record Files (E V : Type 0) : Type 0 where
+  pub rewrite : FileQueue E V
+  pub rewrite_from : ℕ
+  pub append : FileQueue E V
+  pub append_from : ℕ
+
+-- the files, the map that is synced of them, and where each thing of it and of the pending batches stands
+pub record Model (E V : Type 0) : Type 0 where
+  pub files : Files E V
+  pub map : Map E V
+  pub whereabouts : ℕ → Whereabouts
+  pub failed : Bool
+
+-- the model of files that an engine has open
+abbrev pub running : {E V : Type 0} → Files E V → Map E V → (ℕ → Whereabouts) → Model E V
+running f m whereabouts = record { files = f; map = m; whereabouts = whereabouts; failed = false }
+
+-- the machine of a model: its queues are those of the files
+abbrev pub machine_of : {E V : Type 0} → Model E V → Machine E V
+machine_of d = record {
+  store = store_of d.files.rewrite d.files.append;
+  map = d.map;
+  whereabouts = d.whereabouts;
+  failed = d.failed;
+}
+
+-- all that the laws of the machine ask, and each queue's files are numbered without a gap
+pub record IsModelSound {E V : Type 0} (d : Model E V) : Type 0 where
+  pub kept : IsKept (machine_of d)
+  pub replay : IsReplayable (machine_of d)
+  pub runs : HasRuns (machine_of d)
+  pub rewrite_numbers : IsNumbered d.files.rewrite_from d.files.rewrite
+  pub append_numbers : IsNumbered d.files.append_from d.files.append
+
+-- the same files, but for Append's
+abbrev pub with_append : {E V : Type 0} → Files E V → ℕ → FileQueue E V → Files E V
+with_append f from q = record f { append = q; append_from = from }
+
+-- the same files, but for Rewrite's
+abbrev pub with_rewrite : {E V : Type 0} → Files E V → ℕ → FileQueue E V → Files E V
+with_rewrite f from q = record f { rewrite = q; rewrite_from = from }
+
+-- a directory in which nothing was ever written: two queues whose file 1 is empty
+abbrev pub no_files : {E V : Type 0} → Files E V
+no_files = record { rewrite = fresh_files; rewrite_from = 1; append = fresh_files; append_from = 1 }
+
+-- its model: nothing stands
+abbrev pub fresh_model : {E V : Type 0} → Model E V
+fresh_model = record { files = no_files; map = nothing_stands; whereabouts = λ g. nowhere; failed = false }

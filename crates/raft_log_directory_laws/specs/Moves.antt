@@ -1,0 +1,49 @@
+-- What may happen to a queue's files while nothing is written: syncs, rotations, files that are lost.
+use Rattle.std.specs.Prelude.{◌≡◌, ℕ, ◌+◌, List, [], ◌∷◌, ◌++◌}
+use Rattle.raft_log_model_laws.specs.Item.{Record}
+use Rattle.raft_log_machine_laws.specs.Files.{LogFile, FileQueue, FileEvent, FileStep, numbered_from}
+use Rattle.raft_log_machine_laws.specs.Files.FileEvent.{Grow, Sync, Rotate, Raise, Lose, Read}
+
+-- a quiet event: no record comes, and the span begins where it began
+abbrev pub IsQuiet : {E V : Type 0} → FileEvent E V → Type 0
+IsQuiet (Grow ys) = ⊥
+IsQuiet Sync = Unit {0}
+IsQuiet Rotate = Unit {0}
+IsQuiet (Raise out stay) = ⊥
+IsQuiet (Lose before file rest) = Unit {0}
+IsQuiet (Read below again kept) = ⊥
+
+-- the files q, numbered from n on, come to p, numbered from k on, by these quiet events
+abbrev pub Moves : {E V : Type 0} → ℕ → FileQueue E V → List (FileEvent E V) → ℕ → FileQueue E V → Type 0
+Moves n q [] k p = (k ≡ n) × (p ≡ q)
+Moves {E} {V} n q (e ∷ es) k p =
+    (next : FileQueue E V) × IsQuiet e × FileStep e q next × Moves (numbered_from n e) next es k p
+
+-- what some quiet events made of a queue's files
+pub record Moved {E V : Type 0} (n : ℕ) (q : FileQueue E V) : Type 0 where
+  pub events : List (FileEvent E V)
+  pub from : ℕ
+  pub queue : FileQueue E V
+  pub moves : Moves n q events from queue
+
+-- the last file takes a record
+abbrev pub grown : {E V : Type 0} → FileQueue E V → Record E V → FileQueue E V
+grown q y = record q { pending = q.pending ++ y ∷ [] }
+
+-- all of the last file is synced
+abbrev pub settled_files : {E V : Type 0} → FileQueue E V → FileQueue E V
+settled_files q = record q { synced = q.synced ++ q.pending; pending = [] }
+
+-- the last file is synced, and an empty one of the next number comes behind it
+abbrev pub rotated : {E V : Type 0} → FileQueue E V → FileQueue E V
+rotated q = record q {
+  full = q.full ++ record { number = q.last; records = q.synced ++ q.pending } ∷ [];
+  last = q.last + 1;
+  synced = [];
+  pending = [];
+}
+
+-- the span begins later: its first files leave it, the others stay
+abbrev pub raised_files : {E V : Type 0} → FileQueue E V → List (LogFile E V) → List (LogFile E V)
+    → FileQueue E V
+raised_files q out stay = record q { gone = q.gone ++ out; full = stay }

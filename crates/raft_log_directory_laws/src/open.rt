@@ -1,0 +1,19 @@
+//! An open: the map after some first pending batches, whatever image it found.
+
+ghost use Rattle.std.specs.Prelude.{ℕ, ◌≤◌, List, [], length, take};
+ghost use Rattle.raft_log_model_laws.specs.Groups.{taken, Map};
+ghost use Rattle.raft_log_model_laws.specs.Item.{Record};
+ghost use Rattle.raft_log_directory_laws.specs.Calls.{Replays};
+ghost use Rattle.raft_log_directory_laws.specs.Log.{IsAt, IsLog, View};
+
+use crate::pipes::TiedFiles;
+
+/// Of whatever log a file system was, an open that is answered shows the map after some first pending
+/// batches, and has none pending. That what it reads can be made into tables is no premise: the entries of
+/// each group are one run in every image.
+pub fn open_shows_what_was_kept<P: TiedFiles>()
+    ensures { (s t : P) (v : View P.Entry P.Value) (m : Map P.Entry P.Value)
+        (pending : List (Record P.Entry P.Value))
+        → Replays P.allows P.ties v s t → IsLog (P.allows s) m pending
+        → (k : ℕ) × (k ≤ length pending) × IsAt (P.ties t) v (taken m (take k pending)) [] }
+{}

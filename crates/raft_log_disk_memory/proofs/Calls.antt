@@ -1,0 +1,118 @@
+-- The exits of the calls of the file system in memory.
+use Rattle.std.specs.Prelude.{◌≡◌, ℕ, ◌⊎◌, Bool, false, Option, Some, None, List, Result, Ok, Err}
+use Rattle.std.specs.Result.{IfErr, OnOk, OnErr, MatchResult}
+use Rattle.std.specs.declared.io.ErrorKind.{ErrorKind}
+use Rattle.std.proofs.Common.{refl, sym, ◌∙◌, ap, inl, inr}
+use Rattle.std.proofs.lemmas.Bool.{false≢true}
+use Rattle.raft_log_disk.specs.Disk.{Change, File, Disk, with_file, HasDirectory}
+use Rattle.raft_log_disk.specs.Calls.{IsRight, after_change, counted, at_stop, Changes, failed, stops, none, RefusedChange, RefusedWhole}
+use Rattle.raft_log_disk.proofs.ImageLaws.{some_file}
+use Rattle.raft_log_disk.specs.declared.handle.Handle.{Handle}
+use Rattle.raft_log_disk.specs.declared.handle.Permission.TheVariants.{ReadWrite}
+use Rattle.raft_log_disk_memory.specs.declared.memory.MemoryFileSystem.{MemoryFileSystem}
+use Rattle.raft_log_disk_memory.specs.declared.storage.Storage.{Storage}
+use Rattle.raft_log_disk.specs.Arguments.{WrongCreate, WrongName, WrongRename, WrongDirectory, WrongHandle, WrongWriter}
+use Rattle.std.specs.Option.{option_map}
+use Rattle.raft_log_disk_memory.specs.Held.{Held, file_of}
+use Rattle.raft_log_disk_memory.specs.Storage.{contents_of}
+use Rattle.raft_log_disk_memory.specs.Steps.{IsSame, Makes}
+use Rattle.raft_log_disk_memory.specs.Memory.{disk_of}
+use Rattle.raft_log_disk_memory.specs.Turns.{IsEnded, at_the_stop, not_made}
+use Rattle.raft_log_disk_memory.proofs.Turns.{counted_or_stop}
+
+-- what holds of every error holds of this one
+pub any_err : {T E : Type 0} (r : Result T E) (P : E → Type 0) → ((e : E) → P e) → IfErr r P
+any_err (Ok v) P all = tt
+any_err (Err e) P all = all e
+
+-- the contents as the file system's disk has them
+abbrev pub over : MemoryFileSystem → Disk → Disk
+over system d = record d { stopped = system.stopped; failures = system.failures }
+
+-- a refused call that did nothing
+pub refused_whole : {done : Disk → Type 0} {wrong : ErrorKind → Type 0} {error : ErrorKind} (old mid new : Disk) → old.stopped ≡ false → IsRight wrong → mid ≡ old
+    → (new ≡ counted mid) ⊎ (new ≡ at_stop mid) → RefusedWhole done wrong error old new
+refused_whole old mid new runs right same (inl is) = failed runs right old refl (is ∙ ap counted same)
+refused_whole old mid new runs right same (inr is) = stops runs old (inl refl) (is ∙ ap at_stop same)
+
+pub refused_piece : {id : ℕ} {piece : Change} {wrong : ErrorKind → Type 0} {error : ErrorKind} (old new : Disk) → old.stopped ≡ false → IsRight wrong
+    → (new ≡ counted old) ⊎ (new ≡ at_stop old) → RefusedChange id piece wrong error old new
+refused_piece old new runs right (inl is) = failed runs right old (none refl) is
+refused_piece old new runs right (inr is) = stops runs old (inl refl) is
+
+-- what stands after the storage made a change, or didn't
+pub changed_or_not : (id : ℕ) (next : File → File) (done : Result (Unit {0}) ErrorKind) (begun : MemoryFileSystem) (after : Storage) (old : Disk) → disk_of begun ≡ old
+    → OnOk done ((file : File) → (contents_of begun.storage).files id ≡ Some file → contents_of after ≡ with_file id (Some (next file)) (contents_of begun.storage))
+    → OnErr done (contents_of after ≡ contents_of begun.storage)
+    → old.stopped ≡ false → (old.files id ≡ None → ⊥)
+    → MatchResult done (λ v. Changes id next old (over begun (contents_of after))) (λ e. over begun (contents_of after) ≡ old)
+changed_or_not id next (Ok v) begun after old same ok err runs there =
+    let got = some_file (old.files id) there in
+    record {
+      runs = runs;
+      file = got.0;
+      is = got.1;
+      done = ap (over begun) (ok got.0 (ap (λ (d : Disk). d.files id) same ∙ got.1)) ∙ ap (with_file id (Some (next got.0))) same;
+    }
+changed_or_not id next (Err e) begun after old same ok err runs there = ap (over begun) err ∙ same
+
+-- the same from what the storage says of a change
+pub made_or_not : (id : ℕ) (change : Change) (done : Result (Unit {0}) ErrorKind) (begun : MemoryFileSystem) (after : Storage) (old : Disk) → disk_of begun ≡ old
+    → OnOk done (Makes id change begun.storage after) → OnErr done (IsSame begun.storage after)
+    → old.stopped ≡ false → (old.files id ≡ None → ⊥)
+    → MatchResult done (λ v. Changes id (after_change change) old (over begun (contents_of after))) (λ e. over begun (contents_of after) ≡ old)
+made_or_not id change (Ok v) begun after old same ok err runs there = changed_or_not id (after_change change) (Ok v) begun after old same ok.contents err runs there
+made_or_not id change (Err e) begun after old same ok err runs there = changed_or_not id (after_change change) (Err e) begun after old same ok err.contents runs there
+
+pub change_ok : {T : Type 0} (id : ℕ) (next : File → File) (done : Result (Unit {0}) ErrorKind) (ends : Bool) (old mid new : Disk) (result : Result T ErrorKind)
+    → MatchResult done (λ v. Changes id next old mid) (λ e. mid ≡ old)
+    → OnOk result ((ends ≡ false) × OnErr done ⊥ × (new ≡ mid)) → OnOk result (Changes id next old new)
+change_ok id next (Ok v) ends old mid new (Ok w) is ok = record { runs = is.runs; file = is.file; is = is.is; done = ok.2 ∙ is.done }
+change_ok id next (Err e) ends old mid new (Ok w) is ok = absurd (ok.1)
+change_ok id next done ends old mid new (Err e) is ok = tt
+
+pub change_err : {T : Type 0} (id : ℕ) (change : Change) (wrong : ErrorKind → Type 0) (done : Result (Unit {0}) ErrorKind) (ends : Bool) (old mid new : Disk) (result : Result T ErrorKind)
+    → old.stopped ≡ false → IsRight wrong
+    → MatchResult done (λ v. Changes id (after_change change) old mid) (λ e. mid ≡ old)
+    → IfErr result (λ error. IsEnded ends done error mid new) → IfErr result (λ error. RefusedChange id change wrong error old new)
+change_err id change wrong done ends old mid new (Ok w) runs right is ended = tt
+change_err id change wrong (Ok v) ends old mid new (Err e) runs right is (at_the_stop falls kind stop) = stops runs mid (inr (right, inr is)) stop
+change_err id change wrong (Err k) ends old mid new (Err e) runs right is (at_the_stop falls kind stop) = stops runs mid (inl is) stop
+change_err id change wrong (Ok v) ends old mid new (Err e) runs right is (not_made past same fail) = absurd (ok_not same)
+  where
+    ok_not : Ok v ≡ Err e → ⊥
+    ok_not p = cc
+change_err id change wrong (Err k) ends old mid new (Err e) runs right is (not_made past same fail) = elim (counted_or_stop mid new fail) [
+  | inl one ↦ failed runs right mid (none is) one
+  | inr stop ↦ stops runs mid (inl is) stop
+]
+
+-- arguments that are right
+pub right_name : (path : List ℕ) (d : Disk) (id : ℕ) → d.names path ≡ Some id → (e : ErrorKind) → WrongName path d e → ⊥
+right_name path d id is e wrong = let none : d.names path ≡ None = wrong.1 in cc (is, none)
+
+pub right_create : (path : List ℕ) (d : Disk) → d.names path ≡ None → d.directories path ≡ false → HasDirectory path d → (e : ErrorKind) → WrongCreate path d e → ⊥
+right_create path d free apart home e (inl (at, inl taken)) = taken free
+right_create path d free apart home e (inl (at, inr taken)) = false≢true (sym apart ∙ taken)
+right_create path d free apart home e (inr (at, absent)) = absent home
+
+pub right_rename : (from to : List ℕ) (d : Disk) (id : ℕ) → d.names from ≡ Some id → d.directories to ≡ false → HasDirectory to d → (e : ErrorKind) → WrongRename from to d e → ⊥
+right_rename from to d id is apart home e (inl wrong) = right_name from d id is e wrong
+right_rename from to d id is apart home e (inr (inl (at, taken))) = false≢true (sym apart ∙ taken)
+right_rename from to d id is apart home e (inr (inr (at, absent))) = absent home
+
+pub right_directory : (path : List ℕ) (d : Disk) → d.names path ≡ None → d.directories path ≡ false → (e : ErrorKind) → WrongDirectory path d e → ⊥
+right_directory path d free apart e (at, inl taken) = taken free
+right_directory path d free apart e (at, inr taken) = false≢true (sym apart ∙ taken)
+
+pub right_handle : (handle : Handle) (d : Disk) → (d.files handle.file ≡ None → ⊥) → (e : ErrorKind) → WrongHandle handle d e → ⊥
+right_handle handle d there e wrong = there wrong.1
+
+pub right_writer : (handle : Handle) (d : Disk) → (d.files handle.file ≡ None → ⊥) → handle.permission ≡ ReadWrite → (e : ErrorKind) → WrongWriter handle d e → ⊥
+right_writer handle d there writes e (inl wrong) = there wrong.1
+right_writer handle d there writes e (inr (at, reads)) = cc (writes, reads)
+
+-- what is kept of a file that is there
+pub held_there : (o : Option Held) → (option_map file_of o ≡ None → ⊥) → (file : Held) × (o ≡ Some file)
+held_there None there = absurd (there refl)
+held_there (Some file) there = (file, refl)

@@ -1,0 +1,82 @@
+-- What the calls of a file system in memory answer, beside what every file system does.
+use Rattle.std.specs.Prelude.{◌≡◌, ◌⊎◌, ◌++◌, ℕ, true, false, None, List, [], ◌∷◌, Result}
+use Rattle.std.specs.Result.{IfErr}
+use Rattle.std.specs.declared.io.ErrorKind.{ErrorKind}
+use Rattle.std.specs.declared.io.ErrorKind.TheVariants.{OutOfMemory}
+use Rattle.raft_log_disk.specs.Disk.{Change, Disk}
+use Rattle.raft_log_disk.specs.Arguments.{WrongHandle, WrongWriter, WrongListing}
+use Rattle.raft_log_disk.specs.declared.handle.Handle.{Handle}
+use Rattle.raft_log_disk.specs.declared.handle.Permission.TheVariants.{ReadWrite}
+use Rattle.raft_log_disk_memory.specs.declared.remainder.Remainder.{Remainder}
+use Rattle.raft_log_disk_memory.specs.Left.{left_disk}
+use Rattle.raft_log_disk_memory.specs.declared.memory.MemoryFileSystem.{MemoryFileSystem}
+use Rattle.raft_log_disk_memory.specs.Memory.{disk_of, unsynced, without_named, with_moved}
+use Rattle.raft_log_disk_memory.specs.Turns.{ArmedRefusalFell, ArmedStopFell, IsRefusedWhole, IsRefusedChange}
+
+-- Why a call was refused.
+
+-- a refused call that is done whole or not at all, of which this may be wrong
+abbrev pub RefusesWhole : {A : Type 0} → (Disk → ErrorKind → Type 0) → Result A ErrorKind
+    → MemoryFileSystem → MemoryFileSystem → Type 0
+RefusesWhole wrong result old new = IfErr result (λ error. IsRefusedWhole (wrong (disk_of old)) error old new)
+
+-- a refused change of a handle's file
+abbrev pub RefusesChange : {A : Type 0} → Handle → Change → Result A ErrorKind
+    → MemoryFileSystem → MemoryFileSystem → Type 0
+RefusesChange handle change result old new =
+    IfErr result (λ error.
+    IsRefusedChange handle.file change (WrongWriter handle (disk_of old)) error old new)
+
+-- no fault is armed after a stop, nor without memory
+abbrev pub ArmsNothing : MemoryFileSystem → ErrorKind → Type 0
+ArmsNothing system error = ((disk_of system).stopped ≡ true) ⊎ (error ≡ OutOfMemory)
+
+-- an armed refusal or the armed stop fell
+abbrev pub HasFallen : ErrorKind → MemoryFileSystem → MemoryFileSystem → Type 0
+HasFallen error old new = ArmedRefusalFell error old new ⊎ ArmedStopFell error old new
+
+-- The order of the changes of all files.
+
+-- the change is the last one of all
+abbrev pub AddsLast : Handle → Change → MemoryFileSystem → MemoryFileSystem → Type 0
+AddsLast handle change old new = unsynced new ≡ unsynced old ++ (handle.file, change) ∷ []
+
+-- the changes of the file with a name went
+abbrev pub ForgetsNamed : List ℕ → MemoryFileSystem → MemoryFileSystem → Type 0
+ForgetsNamed path old new = unsynced new ≡ without_named ((disk_of old).names path) (unsynced old)
+
+-- the changes of the file that is replaced went
+abbrev pub ForgetsReplaced : List ℕ → List ℕ → MemoryFileSystem → MemoryFileSystem → Type 0
+ForgetsReplaced from to old new =
+    unsynced new ≡ with_moved ((disk_of old).names from) ((disk_of old).names to) (unsynced old)
+
+-- What is asked before a call.
+
+-- the file system runs, and the path is a directory's
+abbrev pub RunsWithDirectory : List ℕ → Disk → Type 0
+RunsWithDirectory path d = (d.stopped ≡ false) × (d.directories path ≡ true)
+
+-- it has stopped, or the path isn't a directory's
+abbrev pub LacksDirectory : List ℕ → Disk → ErrorKind → Type 0
+LacksDirectory path d error = (d.stopped ≡ true) ⊎ WrongListing path d error
+
+-- the file system runs, and the handle's file is there
+abbrev pub RunsWithFile : Handle → Disk → Type 0
+RunsWithFile handle d = (d.stopped ≡ false) × (d.files handle.file ≡ None → ⊥)
+
+-- it has stopped, or it runs and the handle's file is gone
+abbrev pub LacksFile : Handle → Disk → ErrorKind → Type 0
+LacksFile handle d error = (d.stopped ≡ true) ⊎ ((d.stopped ≡ false) × WrongHandle handle d error)
+
+-- the file system runs, the handle's file is there, and the handle may write
+abbrev pub RunsWithWriter : Handle → Disk → Type 0
+RunsWithWriter handle d =
+    (d.stopped ≡ false) × (d.files handle.file ≡ None → ⊥) × (handle.permission ≡ ReadWrite)
+
+-- it has stopped, or it runs and the handle's file is gone or the handle may only read
+abbrev pub LacksWriter : Handle → Disk → ErrorKind → Type 0
+LacksWriter handle d error = (d.stopped ≡ true) ⊎ ((d.stopped ≡ false) × WrongWriter handle d error)
+
+-- this is what a crash leaves of a file system
+abbrev pub IsLeftOf : Remainder → MemoryFileSystem → MemoryFileSystem → Type 0
+IsLeftOf what system after = disk_of after ≡ left_disk what (unsynced system) (disk_of system)

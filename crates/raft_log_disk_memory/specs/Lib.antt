@@ -1,0 +1,11 @@
+pub mod Changes
+pub mod Held
+pub mod Order
+pub mod Storage
+pub mod Listing
+pub mod Left
+pub mod Stamps
+pub mod Steps
+pub mod Answers
+pub mod Memory
+pub mod Turns

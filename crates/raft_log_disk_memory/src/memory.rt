@@ -1,0 +1,72 @@
+//! A file system in memory: its parts, how it is made, and what a crash leaves of it.
+
+mod calls;
+mod turns;
+
+ghost use Rattle.raft_log_disk_memory.specs.Storage.{IsStorageSound, IsWhole-prop};
+
+use crate::{Remainder, Storage};
+use std::alloc::{AllocError, Global};
+
+/// A file system in memory, for tests and for simulated crashes. It has no directory at first.
+#[derive(Drop)]
+pub struct MemoryFileSystem {
+    storage: Storage,
+    failures: u64,
+    stopped: bool,
+    // How many changing calls there are up to each one that is refused, and up to the one at which it stops,
+    // or 0.
+    refusals: Vec<u64>,
+    stop: u64,
+    ghost whole: { IsStorageSound storage } by { IsWhole-prop storage },
+}
+
+impl MemoryFileSystem {
+    ghost use Rattle.std.specs.Prelude.{◌≡◌, [], IfOk};
+    ghost use Rattle.raft_log_disk.specs.Image.{IsImage};
+    ghost use Rattle.raft_log_disk_memory.specs.Answers.{IsLeftOf};
+    ghost use Rattle.raft_log_disk.specs.Disk.{empty_disk};
+    ghost use Rattle.raft_log_disk_memory.specs.Memory.{disk_of, unsynced};
+    ghost use Rattle.raft_log_disk_memory.specs.Turns.{armed, nothing_armed};
+
+    /// A file system with no directory and no file.
+    pub fn new(alloc: Global) -> MemoryFileSystem
+        ensures empty { disk_of result ≡ empty_disk }
+        ensures synced { unsynced result ≡ [] }
+        ensures unarmed { armed result ≡ nothing_armed }
+    {
+        MemoryFileSystem {
+            storage: Storage::new(alloc),
+            failures: 0,
+            stopped: false,
+            refusals: Vec::new(alloc),
+            stop: 0,
+        }
+    }
+
+    /// How many failures were counted: refused changing calls, but for an argument that was wrong.
+    pub fn failures(&self) -> u64
+        ensures { result ≡ (disk_of self.now).failures }
+    {
+        self.failures
+    }
+
+    /// The file system that a restart finds after a crash at this moment, which leaves of the changes that
+    /// weren't synced what is said. The names are as they stand, a gap before what is left of a write is
+    /// zeros, no fault is armed and no failure is counted. It is refused for want of memory alone.
+    pub fn remainder(&self, what: &Remainder) -> Result<MemoryFileSystem, AllocError>
+        ensures exact { IfOk result (IsLeftOf what.now self.now) }
+        ensures synced { IfOk result (λ after. unsynced after ≡ []) }
+        ensures image { IfOk result (λ after. IsImage (disk_of self.now) (disk_of after)) }
+        ensures unarmed { IfOk result (λ after. armed after ≡ nothing_armed) }
+    {
+        let storage = self.storage.left(what)?;
+        Ok(MemoryFileSystem {
+            storage,
+            failures: 0,
+            stopped: false,
+            refusals: Vec::new(self.storage.alloc),
+            stop: 0,
+        })
+    }
+}

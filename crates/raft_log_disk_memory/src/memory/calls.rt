@@ -1,0 +1,249 @@
+//! The calls.
+use super::MemoryFileSystem;
+use crate::Node;
+use raft_log_disk::{Fault, FileSystem, Handle, Permission};
+use std::io::ErrorKind;
+
+impl FileSystem for MemoryFileSystem {
+    ghost use Rattle.std.specs.Prelude.{◌≡◌, ◌+◌, ◌++◌, ◌∷◌, [], ◌⊎◌, true, OnOk, OnErr, IfOk, IfErr};
+    ghost use Rattle.raft_log_disk.specs.Disk.{Wrote, ShortenedTo, GrewTo};
+    ghost use Rattle.raft_log_disk.specs.Calls.{Creates, Deletes, Renames, MakesDirectory};
+    ghost use Rattle.raft_log_disk.specs.Exits.{FailsToCreate, FailsToDelete, FailsToRename, FailsToMakeDirectory, Writes, FailsToWrite, Shortens, FailsToShorten, Grows, FailsToGrow, Syncs, FailsToSync, Arms};
+    ghost use Rattle.raft_log_disk.specs.Arguments.{WrongCreate, WrongName, WrongRename, WrongDirectory, WrongHandle, WrongWriter};
+    ghost use Rattle.raft_log_disk_memory.specs.Memory.{disk_of, unsynced};
+    ghost use Rattle.raft_log_disk_memory.specs.Order.{without_file};
+    ghost use Rattle.raft_log_disk.specs.Reading.{IsNotListed};
+    ghost use Rattle.raft_log_disk_memory.specs.Turns.{armed, armed_with, IsAnswered};
+    ghost use Rattle.raft_log_disk_memory.specs.Answers.{RefusesWhole, RefusesChange, ArmsNothing, AddsLast, ForgetsNamed, ForgetsReplaced};
+
+    ghost disk = { disk_of };
+
+    ghost tells_space = { λ system directory space. space ≡ 18446744073709551615 };
+
+    fn create(&mut self, path: &str) -> Result<Handle, ErrorKind>
+        ensures ok { IfOk result (λ handle.
+            Creates path.now handle.file (disk_of self.old) (disk_of self.new)) }
+        ensures permission { IfOk result (λ handle. handle.permission ≡ Permission.ReadWrite) }
+        ensures err { IfErr result (λ error.
+            FailsToCreate path.now error (disk_of self.old) (disk_of self.new)) }
+        ensures order { OnOk result (unsynced self.new ≡ unsynced self.old) }
+        ensures turn { OnOk result (IsAnswered self.old self.new) }
+        ensures cause { RefusesWhole (WrongCreate path.now) result self.old self.new }
+    {
+        self.check_runs()?;
+        if self.storage.node(path).is_some() {
+            return Err(ErrorKind::AlreadyExists);
+        }
+        if !self.storage.has_directory(path) {
+            return Err(ErrorKind::NotFound);
+        }
+        self.begin()?;
+        match self.storage.add_file(path) {
+            Ok(file) => Ok(Handle {
+                file,
+                permission: Permission::ReadWrite,
+            }),
+            Err(_) => Err(self.fail(ErrorKind::OutOfMemory)),
+        }
+    }
+
+    fn delete(&mut self, path: &str) -> Result<(), ErrorKind>
+        ensures ok { OnOk result (Deletes path.now (disk_of self.old) (disk_of self.new)) }
+        ensures err { IfErr result (λ error.
+            FailsToDelete path.now error (disk_of self.old) (disk_of self.new)) }
+        ensures order { OnOk result (ForgetsNamed path.now self.old self.new) }
+        ensures turn { OnOk result (IsAnswered self.old self.new) }
+        ensures cause { RefusesWhole (WrongName path.now) result self.old self.new }
+    {
+        self.check_runs()?;
+        let Some(Node::File(id)) = self.storage.node(path) else {
+            return Err(ErrorKind::NotFound);
+        };
+        self.begin()?;
+        self.storage.remove_file(path, id);
+        Ok(())
+    }
+
+    fn rename(&mut self, from: &str, to: &str) -> Result<(), ErrorKind>
+        ensures ok { OnOk result (Renames from.now to.now (disk_of self.old) (disk_of self.new)) }
+        ensures err { IfErr result (λ error.
+            FailsToRename from.now to.now error (disk_of self.old) (disk_of self.new)) }
+        ensures order { OnOk result (ForgetsReplaced from.now to.now self.old self.new) }
+        ensures turn { OnOk result (IsAnswered self.old self.new) }
+        ensures cause { RefusesWhole (WrongRename from.now to.now) result self.old self.new }
+    {
+        self.check_runs()?;
+        let Some(Node::File(id)) = self.storage.node(from) else {
+            return Err(ErrorKind::NotFound);
+        };
+        if self.storage.is_directory(to) {
+            return Err(ErrorKind::IsADirectory);
+        }
+        if !self.storage.has_directory(to) {
+            return Err(ErrorKind::NotFound);
+        }
+        self.begin()?;
+        match self.storage.rename_file(from, to, id) {
+            Ok(()) => Ok(()),
+            Err(_) => Err(self.fail(ErrorKind::OutOfMemory)),
+        }
+    }
+
+    fn reuse(&mut self, from: &str, to: &str) -> Result<(), ErrorKind>
+        ensures ok { OnOk result (Renames from.now to.now (disk_of self.old) (disk_of self.new)) }
+        ensures err { IfErr result (λ error.
+            FailsToRename from.now to.now error (disk_of self.old) (disk_of self.new)) }
+        ensures order { OnOk result (ForgetsReplaced from.now to.now self.old self.new) }
+        ensures turn { OnOk result (IsAnswered self.old self.new) }
+        ensures cause { RefusesWhole (WrongRename from.now to.now) result self.old self.new }
+    {
+        self.rename(from, to)
+    }
+
+    fn create_dir(&mut self, path: &str) -> Result<(), ErrorKind>
+        ensures ok { OnOk result (MakesDirectory path.now (disk_of self.old) (disk_of self.new)) }
+        ensures err { IfErr result (λ error.
+            FailsToMakeDirectory path.now error (disk_of self.old) (disk_of self.new)) }
+        ensures order { OnOk result (unsynced self.new ≡ unsynced self.old) }
+        ensures turn { OnOk result (IsAnswered self.old self.new) }
+        ensures cause { RefusesWhole (WrongDirectory path.now) result self.old self.new }
+    {
+        self.check_runs()?;
+        if self.storage.node(path).is_some() {
+            return Err(ErrorKind::AlreadyExists);
+        }
+        self.begin()?;
+        match self.storage.add_directory(path) {
+            Ok(()) => Ok(()),
+            Err(_) => Err(self.fail(ErrorKind::OutOfMemory)),
+        }
+    }
+
+    fn write_at(&mut self, handle: Handle, offset: usize, bytes: &[u8]) -> Result<(), ErrorKind>
+        ensures ok { OnOk result (Writes handle offset bytes.now (disk_of self.old) (disk_of self.new)) }
+        ensures permitted { OnOk result (handle.permission ≡ Permission.ReadWrite) }
+        ensures err { IfErr result (λ error.
+            FailsToWrite handle offset bytes.now error (disk_of self.old) (disk_of self.new)) }
+        ensures order { OnOk result (AddsLast handle (Wrote offset bytes.now) self.old self.new) }
+        ensures turn { OnOk result (IsAnswered self.old self.new) }
+        ensures cause { RefusesChange handle (Wrote offset bytes.now) result self.old self.new }
+    {
+        self.check_writer(handle)?;
+        let stops = self.begin_change()?;
+        let done = self.storage.write(handle.file, offset, bytes);
+        self.end_change(stops, done)
+    }
+
+    fn truncate(&mut self, handle: Handle, size: usize) -> Result<(), ErrorKind>
+        ensures ok { OnOk result (Shortens handle size (disk_of self.old) (disk_of self.new)) }
+        ensures permitted { OnOk result (handle.permission ≡ Permission.ReadWrite) }
+        ensures err { IfErr result (λ error.
+            FailsToShorten handle size error (disk_of self.old) (disk_of self.new)) }
+        ensures order { OnOk result (AddsLast handle (ShortenedTo size) self.old self.new) }
+        ensures turn { OnOk result (IsAnswered self.old self.new) }
+        ensures cause { RefusesChange handle (ShortenedTo size) result self.old self.new }
+    {
+        self.check_writer(handle)?;
+        let stops = self.begin_change()?;
+        let done = self.storage.shorten(handle.file, size);
+        self.end_change(stops, done)
+    }
+
+    fn allocate(&mut self, handle: Handle, offset: usize, size: usize) -> Result<(), ErrorKind>
+        ensures ok { OnOk result (Grows handle (offset + size) (disk_of self.old) (disk_of self.new)) }
+        ensures permitted { OnOk result (handle.permission ≡ Permission.ReadWrite) }
+        ensures err { IfErr result (λ error.
+            FailsToGrow handle (offset + size) error (disk_of self.old) (disk_of self.new)) }
+        ensures order { OnOk result (AddsLast handle (GrewTo (offset + size)) self.old self.new) }
+        ensures turn { OnOk result (IsAnswered self.old self.new) }
+        ensures cause { RefusesChange handle (GrewTo (offset + size)) result self.old self.new }
+    {
+        self.check_writer(handle)?;
+        let stops = self.begin_change()?;
+        let done = self.storage.grow(handle.file, offset, size);
+        self.end_change(stops, done)
+    }
+
+    fn sync(&mut self, handle: Handle) -> Result<(), ErrorKind>
+        ensures ok { OnOk result (Syncs handle (disk_of self.old) (disk_of self.new)) }
+        ensures err { IfErr result (λ error. FailsToSync handle error (disk_of self.old) (disk_of self.new)) }
+        ensures order { OnOk result (unsynced self.new ≡ without_file handle.file (unsynced self.old)) }
+        ensures turn { OnOk result (IsAnswered self.old self.new) }
+        ensures cause { RefusesWhole (WrongHandle handle) result self.old self.new }
+    {
+        self.check_handle(handle)?;
+        self.begin()?;
+        match self.storage.flush(handle.file) {
+            Ok(()) => Ok(()),
+            Err(_) => Err(self.fail(ErrorKind::OutOfMemory)),
+        }
+    }
+
+    fn open(&self, path: &str, permission: Permission) -> Result<Handle, ErrorKind> {
+        self.check_runs()?;
+        match self.storage.file(path) {
+            Some(file) => Ok(Handle { file, permission }),
+            None => Err(ErrorKind::NotFound),
+        }
+    }
+
+    fn list(&self, directory: &str) -> Result<Vec<String>, ErrorKind> {
+        self.check_directory(directory)?;
+        match self.storage.list(directory) {
+            Ok(names) => Ok(names),
+            Err(_) => Err(ErrorKind::OutOfMemory),
+        }
+    }
+
+    // No limit is set: 2^64 - 1 bytes are free.
+    fn free_space(&self, directory: &str) -> Result<u64, ErrorKind>
+        ensures ok { OnOk result ((disk_of self.now).directories directory.now ≡ true) }
+        ensures err { IfErr result (λ error. IsNotListed directory.now (disk_of self.now) error) }
+        ensures told { IfOk result (λ free. free ≡ 18446744073709551615) }
+    {
+        self.check_directory(directory)?;
+        Ok(u64::MAX)
+    }
+
+    fn read_at(&self, handle: Handle, offset: usize, room: &mut [u8]) -> Result<usize, ErrorKind> {
+        self.check_handle(handle)?;
+        Ok(self.storage.read(handle.file, offset, room))
+    }
+
+    fn file_size(&self, handle: Handle) -> Result<usize, ErrorKind> {
+        self.check_handle(handle)?;
+        Ok(self.storage.size(handle.file))
+    }
+
+    fn has_stopped(&self) -> bool {
+        self.stopped
+    }
+
+    fn arm(&mut self, fault: &Fault) -> Result<(), ErrorKind>
+        ensures ok { OnOk result (Arms fault.now (disk_of self.old) (disk_of self.new)) }
+        ensures err { OnErr result (disk_of self.new ≡ disk_of self.old) }
+        ensures armed { OnOk result (armed self.new ≡ armed_with fault.now (armed self.old)) }
+        ensures cause { IfErr result (ArmsNothing self.old) }
+    {
+        self.check_runs()?;
+        match fault {
+            Fault::Refuse(n) => match self.refuse_call(*n) {
+                Ok(()) => Ok(()),
+                Err(_) => Err(ErrorKind::OutOfMemory),
+            },
+            Fault::StopAt(n) => {
+                self.stop_at(*n);
+                Ok(())
+            }
+        }
+    }
+
+    ghost sound = { λ system. let storage = system.whole.sound in
+        record {
+          named = storage.named;
+          one_name = storage.one_name;
+          apart = storage.apart;
+          fresh = storage.fresh;
+          files = storage.files;
+        } };
+}

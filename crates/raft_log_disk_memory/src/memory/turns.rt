@@ -1,0 +1,196 @@
+//! Which changing calls are refused, and at which one the file system stops.
+ghost use Rattle.std.specs.Prelude.{◌≡◌, ◌-◌, ◌↔◌, IsTrue, map};
+ghost use Rattle.std.specs.List.{Contains};
+ghost use Rattle.raft_log_disk_memory.specs.Turns.{nearer};
+
+use super::MemoryFileSystem;
+use crate::Node;
+use raft_log_disk::{Fault, Handle, Permission};
+use std::alloc::AllocError;
+use std::io::ErrorKind;
+
+impl MemoryFileSystem {
+    ghost use Rattle.std.specs.Prelude.{◌≡◌, ◌↔◌, true, false, OnOk, OnErr, IfErr, IfOk, IsTrue};
+    ghost use Rattle.raft_log_disk_memory.specs.Memory.{disk_of, failed_once};
+    ghost use Rattle.raft_log_disk_memory.specs.Turns.{armed, armed_with, call_later, IsSpared, ArmedRefusalFell, IsEnded};
+    ghost use Rattle.raft_log_disk_memory.specs.Answers.{HasFallen, RunsWithDirectory, LacksDirectory, RunsWithFile, LacksFile, RunsWithWriter, LacksWriter};
+
+    /// Lets the n-th changing call from now be refused; it changes nothing. Refusals that are armed already
+    /// stay. 0 arms none. It is refused for want of memory alone.
+    pub fn refuse_call(&mut self, n: u64) -> Result<(), AllocError>
+        ensures same { disk_of self.new ≡ disk_of self.old }
+        ensures ok { OnOk result (armed self.new ≡ armed_with (Fault.Refuse n) (armed self.old)) }
+        ensures err { OnErr result (armed self.new ≡ armed self.old) }
+    {
+        if n != 0 {
+            self.refusals.push(n)?;
+        }
+        Ok(())
+    }
+
+    /// Lets the file system stop at the n-th changing call from now, in place of a stop that was armed: a
+    /// write, a cut or an allocation there counts as not synced, any other call hasn't happened. 0 leaves
+    /// what was armed.
+    pub fn stop_at(&mut self, n: u64)
+        ensures same { disk_of self.new ≡ disk_of self.old }
+        ensures armed { armed self.new ≡ armed_with (Fault.StopAt n) (armed self.old) }
+    {
+        if n != 0 {
+            self.stop = n;
+        }
+    }
+
+    // Lets a changing call begin, or refuses it; answers whether the file system stops at this call.
+    pub(super) fn begin_change(&mut self) -> Result<bool, ErrorKind>
+        ensures storage { self.new.storage ≡ self.old.storage }
+        ensures next { armed self.new ≡ call_later (armed self.old) }
+        ensures ok { OnOk result (disk_of self.new ≡ disk_of self.old) }
+        ensures stops { IfOk result (λ stops. IsTrue stops ↔ ((armed self.old).stop ≡ 1)) }
+        ensures spared { IfOk result (λ stops. stops ≡ false → IsSpared (armed self.old)) }
+        ensures err { IfErr result (λ error. ArmedRefusalFell error self.old self.new) }
+    {
+        let stops = stop_falls(&mut self.stop);
+        let refused = refusal_falls(&mut self.refusals);
+        if refused && !stops {
+            return Err(self.fail(ErrorKind::Other));
+        }
+        Ok(stops)
+    }
+
+    // Lets a call begin that is done whole or not at all, or refuses it.
+    pub(super) fn begin(&mut self) -> Result<(), ErrorKind>
+        ensures storage { self.new.storage ≡ self.old.storage }
+        ensures next { armed self.new ≡ call_later (armed self.old) }
+        ensures ok { OnOk result (disk_of self.new ≡ disk_of self.old) }
+        ensures spared { OnOk result (IsSpared (armed self.old)) }
+        ensures err { IfErr result (λ error. HasFallen error self.old self.new) }
+    {
+        if self.begin_change()? {
+            self.stopped = true;
+            return Err(ErrorKind::Other);
+        }
+        Ok(())
+    }
+
+    // Ends a change, which was made or wasn't. At a stop the error is that of the change, where it wasn't
+    // made.
+    pub(super) fn end_change(
+        &mut self,
+        stops: bool,
+        done: Result<(), ErrorKind>,
+    ) -> Result<(), ErrorKind>
+        ensures storage { self.new.storage ≡ self.old.storage }
+        ensures same { armed self.new ≡ armed self.old }
+        ensures ok { OnOk result ((stops ≡ false) × OnErr done ⊥ × (disk_of self.new ≡ disk_of self.old)) }
+        ensures err { IfErr result (λ error. IsEnded stops done error (disk_of self.old) (disk_of self.new)) }
+    {
+        if stops {
+            self.stopped = true;
+            return match done {
+                Ok(()) => Err(ErrorKind::Other),
+                Err(kind) => Err(kind),
+            };
+        }
+        match done {
+            Ok(()) => Ok(()),
+            Err(kind) => Err(self.fail(kind)),
+        }
+    }
+
+    // Counts a failure; the one that would make 2^64 - 1 stops the file system.
+    pub(super) fn fail(&mut self, kind: ErrorKind) -> ErrorKind
+        ensures storage { self.new.storage ≡ self.old.storage }
+        ensures failed { disk_of self.new ≡ failed_once (disk_of self.old) }
+        ensures same { armed self.new ≡ armed self.old }
+        ensures kind { result ≡ kind }
+    {
+        if self.failures < u64::MAX - 1 {
+            self.failures += 1;
+        } else {
+            self.stopped = true;
+        }
+        kind
+    }
+
+    // Whether the file system runs.
+    pub(super) fn check_runs(&self) -> Result<(), ErrorKind>
+        ensures ok { OnOk result ((disk_of self.now).stopped ≡ false) }
+        ensures err { OnErr result ((disk_of self.now).stopped ≡ true) }
+    {
+        if self.stopped {
+            Err(ErrorKind::Other)
+        } else {
+            Ok(())
+        }
+    }
+
+    // Whether it runs, and a path is a directory's.
+    pub(super) fn check_directory(&self, path: &str) -> Result<(), ErrorKind>
+        ensures ok { OnOk result (RunsWithDirectory path.now (disk_of self.now)) }
+        ensures err { IfErr result (LacksDirectory path.now (disk_of self.now)) }
+    {
+        self.check_runs()?;
+        match self.storage.node(path) {
+            Some(Node::Directory) => Ok(()),
+            Some(Node::File(_)) => Err(ErrorKind::InvalidInput),
+            None => Err(ErrorKind::NotFound),
+        }
+    }
+
+    // Whether it runs, and a handle's file is there.
+    pub(super) fn check_handle(&self, handle: Handle) -> Result<(), ErrorKind>
+        ensures ok { OnOk result (RunsWithFile handle (disk_of self.now)) }
+        ensures err { IfErr result (LacksFile handle (disk_of self.now)) }
+    {
+        self.check_runs()?;
+        if self.storage.has(handle.file) {
+            Ok(())
+        } else {
+            Err(ErrorKind::NotFound)
+        }
+    }
+
+    // Whether a handle may write, too.
+    pub(super) fn check_writer(&self, handle: Handle) -> Result<(), ErrorKind>
+        ensures ok { OnOk result (RunsWithWriter handle (disk_of self.now)) }
+        ensures err { IfErr result (LacksWriter handle (disk_of self.now)) }
+    {
+        self.check_handle(handle)?;
+        match handle.permission {
+            Permission::ReadWrite => Ok(()),
+            Permission::ReadOnly => Err(ErrorKind::PermissionDenied),
+        }
+    }
+}
+
+// Counts a call, and says whether the stop falls at it.
+fn stop_falls(stop: &mut u64) -> bool
+    ensures later { stop.new ≡ stop.old - 1 }
+    ensures falls { IsTrue result ↔ (stop.old ≡ 1) }
+{
+    if *stop == 0 {
+        return false;
+    }
+    *stop -= 1;
+    *stop == 0
+}
+
+// Counts a call, and says whether a refusal falls at it.
+fn refusal_falls(refusals: &mut Vec<u64>) -> bool
+    ensures later { refusals.new.items ≡ nearer refusals.old.items }
+    ensures falls { IsTrue result ↔ Contains refusals.old.items 1 }
+{
+    let falls = refusals.contains(&1);
+    refusals.retain(|n| 1 < *n);
+    count_down(refusals);
+    falls
+}
+
+// Takes one from each number.
+fn count_down(refusals: &mut [u64])
+    ensures { refusals.new ≡ map (λ n. n - 1) refusals.old }
+{
+    for n in refusals.iter_mut() {
+        *n = n.saturating_sub(1);
+    }
+}

@@ -1,0 +1,174 @@
+-- What a write was told by its pipes and its tables, put together.
+use Rattle.std.proofs.Common.{◌≡◌, ◌↔◌, ℕ, true, false, None, List, [], inl, inr, refl, sym, ap, ap₂, subst, ◌∙◌}
+use Rattle.std.specs.Prelude.{Bool, IsTrue, IsOk, IfErr, IfOk, OnOk, Result, Ok, Err, is_err}
+use Rattle.std.proofs.lemmas.Bool.{cases_Bool, false≢true}
+use std.Path.{fun_ext}
+use Rattle.raft_log_model_laws.specs.Groups.{of_group}
+use Rattle.raft_log_disk.specs.Causes.{IsLater}
+use Rattle.raft_log_record_base.specs.declared.errors.Error.{Error}
+use Rattle.raft_log_record_base.specs.declared.errors.Error.TheVariants as errors
+use Rattle.raft_log_record_base.specs.declared.pipe_log.FileBlockHandle.{FileBlockHandle}
+use Rattle.raft_log_record_items.specs.declared.item.LogItem.{LogItem}
+use Rattle.raft_log_record_marks.specs.Meaning.{tagged_items}
+use Rattle.raft_log_record_batches.specs.Batch.{Batch, IsButBuffer, IsReadyForEach, emptied}
+use Rattle.raft_log_file_blocks.specs.Signing.{SaysItself, signed_for}
+use Rattle.raft_log_directory_laws.specs.Calls.Which.{InAppend}
+use Rattle.raft_log_table_lists.specs.Shown.{Shown}
+use Rattle.raft_log_table_all.specs.declared.mem_tables.MemTables.{MemTables}
+use Rattle.raft_log_table_all.specs.Batch.{BatchRefused, IsReadyFor, all_shown, counts_at_end}
+use Rattle.raft_log_table_all.specs.Tables.{ShowsSame, counts, shown_of}
+use Rattle.raft_log_file_blocks.specs.Written.{placed_items}
+use Rattle.raft_log_file_pair.specs.Pipes.{LogPipes, is_failed}
+use Rattle.raft_log_file_pair.specs.Calls.{AppendsTo, FailsToAppendTo, FailsToSyncQueue, SyncsQueue, TellsFailure}
+use Rattle.raft_log_record_base.specs.declared.pipe_log.LogFileContext.{LogFileContext}
+use Rattle.raft_log_file_blocks.specs.declared.block_cache.BlockCache.{BlockCache}
+use Rattle.raft_log_purge.specs.raft_log_engine_laws.specs.Shows.{IsLaidOut, IsWellMarked, Shows, shows}
+use Rattle.raft_log_purge.specs.raft_log_engine_laws.specs.Trying.{RefusesAt, WritesAt}
+use Rattle.raft_log_file_blocks.specs.raft_log_file_pipe.specs.Appending.{SaysTryAgain}
+use Rattle.raft_log_purge.specs.raft_log_engine_laws.specs.Writing.{IsBatchKept, IsUnfit, NotWritten, PipesRefused, Writes, WritesBytes, items_at}
+use Rattle.raft_log_purge.specs.raft_log_engine_laws.specs.Syncing.{NotSynced, SyncsAppend}
+use Rattle.raft_log_purge.specs.raft_log_engine_laws.specs.Laws.{MayBeWritten}
+use Rattle.raft_log_purge.specs.raft_log_engine_laws.proofs.Exits.{empty_unsynced, refuses, write_unsynced, writes, writes_synced}
+use Rattle.raft_log_engine_core.specs.Room.{PutFails}
+use Rattle.raft_log_engine_core.specs.Touching.{LeavesFiles, LeavesRecord, WritesFiles, WritesRecord}
+
+pub on_ok : {A E : Type 0} {P : Type 0} (r : Result A E) → IsOk r → OnOk r P → P
+on_ok (Ok x) ok p = p
+on_ok (Err e) ok p = absurd (false≢true ok)
+
+pub alive_ok : {A : Type 0} (x : A) (w : LogPipes) → TellsFailure (Ok x) w → is_failed w ≡ false
+alive_ok {A} x w tells = elim (cases_Bool (is_failed w)) [
+  | inl hit ↦ absurd (false≢true (ap is_err (tells.0 hit)))
+  | inr miss ↦ miss
+]
+
+abbrev err_of : {A : Type 0} → Result A Error → Error → Error
+err_of (Ok x) d = d
+err_of (Err e) d = e
+
+pub tells_err : {A : Type 0} (error : Error) (w : LogPipes) → TellsFailure {A = A} (Err error) w → IsTrue (is_failed w) ↔ (error ≡ errors.Failed)
+tells_err {A} error w tells = (λ hit. ap (λ (r : Result A Error). err_of r error) (tells.0 hit), λ is. tells.1 (ap Err is))
+
+-- why the tables refuse a batch is why it isn't taken
+pub unfit_of : (b : Batch) (v : ℕ → Shown) (xs : List LogItem) (error : Error) → xs ≡ b.items → BatchRefused v (tagged_items (λ e. e) xs) error → IsUnfit b v error
+unfit_of b v xs error is refused = elim refused [
+  | inl hole ↦ subst (λ e. IsUnfit b v e) (sym hole.0) (subst (λ l. IsUnfit (record b { items = l }) v errors.Hole) is hole.1)
+  | inr memory ↦ subst (λ e. IsUnfit b v e) (sym memory) tt
+]
+
+-- what is known of a batch that room was made for
+pub ready_of : (b : Batch) (v : LogPipes) (m : MemTables) (cache : BlockCache) → (b.items ≡ [] → ⊥) → IsWellMarked b → IsReadyFor m (tagged_items (λ e. e) b.items) → SaysItself (signed_for b) b → IsLaidOut b → MayBeWritten (shows v m cache) b
+ready_of b v m cache some marked ready says laid = record { some = some; marked = marked; follows = λ g. (ready.groups g).follows; says = says; laid = laid }
+
+module _ (b : Batch) (v w : LogPipes) (old new : MemTables) (cache forgotten : BlockCache) (lived : is_failed v ≡ false) (later : IsLater v.disk w.disk) (ready : MayBeWritten (shows v old cache) b) where
+  pub writes_at : (block : FileBlockHandle) (after : Batch) → after.items ≡ b.items → after.entries ≡ b.entries → TellsFailure (Ok block) w → WritesAt (signed_for b) block v w
+      → ((g : ℕ) → shown_of new g ≡ all_shown block.id.seq (shown_of old) (items_at block after) g)
+      → ((g : ℕ) → counts new g ≡ counts_at_end (counts old g) (of_group g (items_at block after))) → Writes b false (shows v old cache) (shows w new cache)
+  writes_at block after items entries tells call shown counted =
+      let same : items_at block after ≡ items_at block b = ap (λ l. placed_items block l after.entries) items ∙ ap (λ l. placed_items block b.items l) entries in
+      writes b block (shows v old cache) (shows w new cache) lived (alive_ok block w tells) (fun_ext shown ∙ ap (λ l. all_shown block.id.seq (shown_of old) l) same)
+      (λ g. counted g ∙ ap (λ l. counts_at_end (counts old g) (of_group g l)) same) (inl refl) later ready call
+
+  pub refuses_with : {A : Type 0} (error : Error) → TellsFailure {A = A} (Err error) w → ShowsSame old new → forgotten.place ≡ None → RefusesAt (signed_for b) error v w → PipesRefused b error (shows v old cache) (shows w new forgotten)
+  refuses_with {A} error tells same none call =
+      refuses b error (shows v old cache) (shows w new forgotten) lived (tells_err {A = A} error w tells) (fun_ext same.shown) (fun_ext same.counts) none later ready call
+
+same_shows : (v : LogPipes) (old new : MemTables) (cache : BlockCache) → ShowsSame old new → shows v new cache ≡ shows v old cache
+same_shows v old new cache same = ap₂ (λ t c. record { tables = t; counts = c; pipes = v; cache = cache }) (fun_ext same.shown) (fun_ext same.counts)
+
+-- what is said of a batch whose record was made is said of the batch, and of tables that show what they showed
+written_kept : (b kept : Batch) (s t : Shows) → IsBatchKept b kept → Writes kept false s t → Writes b false s t
+written_kept b kept s t is w =
+    let k = subst (λ x. Writes x false s t) is w in record {
+      block = k.block;
+      some = k.some;
+      lived = k.lived;
+      alive = k.alive;
+      tables = k.tables;
+      counts = k.counts;
+      cache = k.cache;
+      later = k.later;
+      log = k.log;
+      holds = k.holds;
+      synced = k.synced;
+    }
+
+refused_kept : (b kept : Batch) (error : Error) (s t : Shows) → IsBatchKept b kept → PipesRefused kept error s t → PipesRefused b error s t
+refused_kept b kept error s t is r =
+    let k = subst (λ x. PipesRefused x error s t) is r in record { lived = k.lived; tells = k.tells; same = k.same; forgets = k.forgets; tries = k.tries; later = k.later; leaves = k.leaves }
+
+pub put_answers : (b kept : Batch) (v w : LogPipes) (old mid new : MemTables) (cache later : BlockCache) (r : Result ℕ Error) → IsBatchKept b kept → ShowsSame old mid
+    → IfOk r (λ len. IsReadyForEach len kept.items kept.entries × Writes kept false (shows v mid cache) (shows w new later))
+    → IfOk r (λ len. IsReadyForEach len b.items b.entries × Writes b false (shows v old cache) (shows w new later))
+put_answers b kept v w old mid new cache later (Ok len) is same (ready, wrote) = (
+  subst (λ (x : Batch). IsReadyForEach len x.items x.entries) is ready,
+  subst (λ s. Writes b false s (shows w new later)) (same_shows v old mid cache same) (written_kept b kept (shows v mid cache) (shows w new later) is wrote),
+)
+put_answers b kept v w old mid new cache later (Err e) is same h = tt
+
+pub put_refuses : (b kept : Batch) (v w : LogPipes) (old mid new : MemTables) (cache later : BlockCache) (r : Result ℕ Error) → IsBatchKept b kept → ShowsSame old mid
+    → IfErr r (λ error. PipesRefused kept error (shows v mid cache) (shows w new later)) → IfErr r (λ error. PutFails b error (shows v old cache) (shows w new later))
+put_refuses b kept v w old mid new cache later (Ok len) is same h = tt
+put_refuses b kept v w old mid new cache later (Err e) is same h =
+    inr (subst (λ s. PipesRefused b e s (shows w new later)) (same_shows v old mid cache same) (refused_kept b kept e (shows v mid cache) (shows w new later) is h))
+
+pub put_unfit : (b : Batch) (error : Error) (v : LogPipes) (old mid : MemTables) (cache : BlockCache) → ShowsSame old mid → IsUnfit b (shown_of old) error → PutFails b error (shows v old cache) (shows v mid cache)
+put_unfit b error v old mid cache same why = inl (why, same_shows v old mid cache same)
+
+pub kept_on : (b mid new : Batch) → IsBatchKept b mid → new ≡ mid → IsBatchKept b new
+kept_on b mid new is e = subst (λ x. IsBatchKept b x) (sym e) is
+
+pub emptied_on : (b mid new : Batch) → IsBatchKept b mid → new ≡ emptied mid → IsButBuffer (emptied b) new
+emptied_on b mid new is e = subst (λ x. IsButBuffer (emptied b) x) (sym (e ∙ ap emptied is)) refl
+
+-- a write, of what was put and synced
+pub not_written : (b : Batch) (error : Error) (s t : Shows) → PutFails b error s t → NotWritten b error s t
+not_written b error s t why = elim why [ inl unfit ↦ inl unfit | inr refused ↦ inr (inr refused) ]
+
+pub put_unsynced : (b : Batch) (error : Error) (s mid t : Shows) → Writes b false s mid → NotSynced error mid t → NotWritten b error s t
+put_unsynced b error s mid t w (is, why) = elim why [
+  | inl before ↦ absurd (false≢true (sym w.alive ∙ before.0))
+  | inr now ↦ inr (inr (subst (λ e. PipesRefused b e s t) (sym is) (write_unsynced b s mid t w now)))
+]
+
+pub none_unsynced : (b : Batch) (error : Error) (s t : Shows) → NotSynced error s t → NotWritten b error s t
+none_unsynced b error s t (is, why) = elim why [
+  | inl before ↦ inr (inl (is, before.0, before.1))
+  | inr now ↦ inr (inr (subst (λ e. PipesRefused b e s t) (sym is) (empty_unsynced b s t now)))
+]
+
+pub put_synced : (b : Batch) (len : ℕ) (s mid t : Shows) → IsReadyForEach len b.items b.entries × Writes b false s mid → SyncsAppend mid t → WritesBytes b true len s t
+put_synced b len s mid t (ready, wrote) synced = inr (ready, writes_synced b s mid t wrote synced)
+
+-- a record that is tried once more
+pub written_again : (signed other : LogFileContext → List ℕ) (error : Error) (v mid w : LogPipes) (r : Result FileBlockHandle Error) → other ≡ signed → SaysTryAgain error → IsLater v.disk mid.disk
+    → FailsToAppendTo InAppend signed error v mid → IfOk r (λ block. AppendsTo InAppend other block mid w) → IfOk r (λ block. WritesAt signed block v w)
+written_again signed other error v mid w (Ok block) same none later failed call = inr (mid, (error, none, later, failed), subst (λ s. AppendsTo InAppend s block mid w) same call)
+written_again signed other error v mid w (Err e) same none later failed call = tt
+
+pub refused_again : (signed other : LogFileContext → List ℕ) (error : Error) (v mid w : LogPipes) (r : Result FileBlockHandle Error) → other ≡ signed → SaysTryAgain error → IsLater v.disk mid.disk → IsLater mid.disk w.disk
+    → FailsToAppendTo InAppend signed error v mid → IfErr r (λ e. FailsToAppendTo InAppend other e mid w) → IfErr r (λ e. RefusesAt signed e v w)
+refused_again signed other error v mid w (Ok block) same none later next failed call = tt
+refused_again signed other error v mid w (Err e) same none later next failed call = inr (mid, (error, none, later, failed), next, subst (λ s. FailsToAppendTo InAppend s e mid w) same call)
+
+-- what was done to the files, of a batch whose record was made
+pub kept_record : {A : Type 0} (b kept : Batch) (v w : LogPipes) (r : Result A Error) → IsBatchKept b kept → OnOk r (WritesRecord kept v w) → OnOk r (WritesRecord b v w)
+kept_record b kept v w (Ok x) is h = subst (λ k. WritesRecord k v w) is h
+kept_record b kept v w (Err e) is h = tt
+
+pub kept_unrecorded : {A : Type 0} (b kept : Batch) (v w : LogPipes) (r : Result A Error) → IsBatchKept b kept → IfErr r (λ e. RefusesAt (signed_for kept) e v w) → IfErr r (λ e. LeavesRecord b e v w)
+kept_unrecorded b kept v w (Ok x) is h = tt
+kept_unrecorded b kept v w (Err e) is h = inr (subst (λ k. RefusesAt (signed_for k) e v w) is h)
+
+-- what a write did to the files
+pub none_synced_files : (b : Batch) (v w : LogPipes) → b.items ≡ [] → SyncsQueue InAppend v w → WritesFiles b true v w
+none_synced_files b v w none call = inl (none, call)
+
+pub none_unsynced_files : (b : Batch) (sync : Bool) (error : Error) (v w : LogPipes) → b.items ≡ [] → sync ≡ true → FailsToSyncQueue InAppend v w → LeavesFiles b sync error v w
+none_unsynced_files b sync error v w none asked call = inr (asked, (v, inl (none, refl), call))
+
+pub put_synced_files : (b : Batch) (v mid w : LogPipes) → WritesRecord b v mid → SyncsQueue InAppend mid w → WritesFiles b true v w
+put_synced_files b v mid w wrote call = inr (mid, wrote, call)
+
+pub put_unsynced_files : (b : Batch) (sync : Bool) (error : Error) (v mid w : LogPipes) → sync ≡ true → WritesRecord b v mid → FailsToSyncQueue InAppend mid w → LeavesFiles b sync error v w
+put_unsynced_files b sync error v mid w asked wrote call = inr (asked, (mid, inr wrote, call))

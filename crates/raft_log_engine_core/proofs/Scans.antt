@@ -1,0 +1,64 @@
+-- What is told of a group's keys, and of the groups.
+use Rattle.std.proofs.Common.{◌≡◌, ◌↔◌, ◌==◌, ◌||◌, ◌&&◌, ◌++◌, ℕ, suc, Bool, true, false, List, [], ◌∷◌, length, Option, None, refl, sym, ap, subst, ◌∙◌, arith, if◌then◌else◌}
+use Rattle.std.specs.List.{list_any}
+use Rattle.std.specs.List.Sorted.{IsStrictlySortedBy}
+use Rattle.std.proofs.lemmas.Bool.{false≢true}
+use Rattle.raft_log_table_lists.specs.Listing.{AddsAll, ListsAll, Visits, in_direction, is_below, is_from, values_within}
+use Rattle.raft_log_table_lists.specs.Bridge.{bytes_held}
+use Rattle.raft_log_table_lists.specs.Shown.{Shown, nothing_shown}
+use Rattle.raft_log_table_all.specs.Walking.{ListsGroups}
+use Rattle.raft_log_purge.specs.raft_log_engine_laws.specs.Shows.{Shows}
+use Rattle.raft_log_purge.specs.raft_log_engine_laws.specs.Reading.{ReadsKeys}
+use Rattle.raft_log_purge.specs.raft_log_engine_laws.proofs.Reading.{tables_tell}
+use Rattle.raft_log_engine_core.specs.Reads.{NoneCounts, ScansKeys}
+
+itself : (n : ℕ) → (n == n) ≡ true
+itself n = grind (arith)
+
+some_left : (n : ℕ) → (suc n == 0 ≡ true) → ⊥
+some_left n is = grind (arith, is)
+
+-- no group is listed exactly where none counts
+pub none_listed : (test : ℕ → Bool) (gs : List ℕ) → ListsGroups test gs → (length gs == 0 ≡ true) ↔ NoneCounts test
+none_listed test [] lists = (λ zero g. sym (lists.exact g), λ none. refl)
+none_listed test (x ∷ xs) lists = (
+  λ zero. absurd (some_left (length xs) zero),
+  λ none. absurd (false≢true (sym (none x) ∙ sym (lists.exact x) ∙ ap (λ (t : Bool). t || list_any (λ k. k == x) xs) (itself x))),
+)
+
+-- of a group of which nothing shows there are no keys
+none_within : (start end : Option (List ℕ)) (k : List ℕ) → ◌≡◌ {A = Option (List ℕ)} None (values_within start end nothing_shown k)
+none_within start end k = by (is_from start k) (is_below end k)
+  where
+    by : (a b : Bool) → ◌≡◌ {A = Option (List ℕ)} None (if a && b then bytes_held None else None)
+    by true true = refl
+    by true false = refl
+    by false b = refl
+
+none_keys : (start end : Option (List ℕ)) → ListsAll (values_within start end nothing_shown) []
+unfolding IsStrictlySortedBy
+none_keys start end = record { rising = tt; exact = λ k. none_within start end k }
+
+-- keys that were added to none are the map's
+pub keys_added : (e : Shows) (g : ℕ) (start end : Option (List ℕ)) (v : Shown) (old new : List (List ℕ × List ℕ)) → e.tables g ≡ v → old ≡ [] → AddsAll (values_within start end v) old new
+    → ReadsKeys e g start end new
+keys_added e g start end v old new same none (es, listed, adds) =
+    let is : new ≡ es = adds ∙ ap (λ (l : List (List ℕ × List ℕ)). l ++ es) none in
+    subst (ReadsKeys e g start end) (sym is) (tables_tell.keys e g start end es (subst (λ (u : Shown). ListsAll (values_within start end u) es) (sym same) listed))
+
+pub none_added : (e : Shows) (g : ℕ) (start end : Option (List ℕ)) (new : List (List ℕ × List ℕ)) → e.tables g ≡ nothing_shown → new ≡ [] → ReadsKeys e g start end new
+none_added e g start end new same none = keys_added e g start end nothing_shown [] new same refl ([], none_keys start end, none)
+
+module _ {F : Type 0} (called : F → List ℕ → List ℕ → Bool → F → Type 0) (f : F) (e : Shows) (g : ℕ) (start end : Option (List ℕ)) (backwards : Bool) where
+  -- what the group's table calls back with is the map's
+  pub scanned : (v : Shown) → e.tables g ≡ v → ((es : List (List ℕ × List ℕ)) × ListsAll (values_within start end v) es × Visits called f (in_direction backwards es))
+      → ScansKeys called f e g start end backwards
+  scanned v same (es, listed, calls) =
+      (es, tables_tell.keys e g start end es (subst (λ (u : Shown). ListsAll (values_within start end u) es) (sym same) listed), calls)
+
+  pub none_scanned : e.tables g ≡ nothing_shown → ScansKeys called f e g start end backwards
+  none_scanned same = scanned nothing_shown same ([], none_keys start end, quiet backwards)
+    where
+      quiet : (b : Bool) → Visits called f (in_direction b [])
+      quiet true = tt
+      quiet false = tt

@@ -1,0 +1,12 @@
+use Rattle.std.proofs.Common.{None, refl}
+use Rattle.raft_log_table_lists.specs.Shown.{nothing_shown}
+use Rattle.raft_log_engine_core.proofs.Tables.{if_ok_then, none_shown, raw_shown, value_read}
+use Rattle.raft_log_engine_core.proofs.engine.LogEngine.get.Goals as goal
+
+pub returns-in-Some-clause-ok : goal.returns-in-Some-clause-ok
+returns-in-Some-clause-ok g c =
+    if_ok_then c.copy_value.result _ _ (λ value is. value_read _ _ _ _ _ (raw_shown c.args.self.now.tables c.args.raft_group_id _ c.in-Some.ensures) is) c.copy_value.ensures.ok
+
+pub returns-in-None-clause-ok : goal.returns-in-None-clause-ok
+returns-in-None-clause-ok g c =
+    value_read _ c.args.raft_group_id c.args.key.now nothing_shown None (none_shown c.args.self.now.tables c.args.raft_group_id c.in-None.ensures) refl

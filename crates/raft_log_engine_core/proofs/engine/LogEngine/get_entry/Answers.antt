@@ -1,0 +1,39 @@
+use Rattle.std.proofs.Common.{◌≡◌, None, Some, false, inr, refl, sym, ◌∙◌}
+use Rattle.raft_log_table_one.specs.Reads.{entry_at}
+use Rattle.raft_log_table_all.specs.Tables.{shown_of}
+use Rattle.raft_log_file_pair.specs.Pipes.{is_failed}
+use Rattle.raft_log_purge.specs.raft_log_engine_laws.specs.Shows.{shows}
+use Rattle.raft_log_engine_core.proofs.Entries.{fails_to_tell, tells_none, tells_one}
+use Rattle.raft_log_engine_core.proofs.engine.LogEngine.get_entry.Goals as goal
+
+pub returns-in-None-clause-ok : goal.returns-in-None-clause-ok
+returns-in-None-clause-ok g c =
+    let v = g.P.PipeLog.shown c.args.self.now.pipes in
+    let s = shows v c.args.self.now.tables c.args.self.now.cache in
+    let lived : is_failed v ≡ false = sym c.is_failed.ensures ∙ c.if-is_failed.false in
+    let i = c.in-None.is in
+    let e = c.entry_at.ensures in
+    let there : entry_at (shown_of c.args.self.now.tables c.args.raft_group_id) c.args.log_idx ≡ None = cc in
+    tells_none g.M.Entry.Message.reading s c.args.raft_group_id c.args.log_idx lived there
+
+pub returns-in-Ok-clause-ok : goal.returns-in-Ok-clause-ok
+returns-in-Ok-clause-ok g c =
+    let v = g.P.PipeLog.shown c.args.self.now.pipes in
+    let s = shows v c.args.self.now.tables c.args.self.now.cache in
+    let t = shows v c.args.self.now.tables c.read_entry.new.self in
+    let lived : is_failed v ≡ false = sym c.is_failed.ensures ∙ c.if-is_failed.false in
+    let i = c.in-Some.is in
+    let e = c.entry_at.ensures in
+    let there : entry_at (shown_of c.args.self.now.tables c.args.raft_group_id) c.args.log_idx ≡ Some c.in-Some.entry = cc in
+    tells_one g.M.Entry.Message.reading s t c.args.raft_group_id lived refl c.args.log_idx c.in-Some.entry c.in-Ok.message there c.in-Ok.ensures.ok
+
+pub returns-in-Err-clause-err : goal.returns-in-Err-clause-err
+returns-in-Err-clause-err g c =
+    let v = g.P.PipeLog.shown c.args.self.now.pipes in
+    let s = shows v c.args.self.now.tables c.args.self.now.cache in
+    let t = shows v c.args.self.now.tables c.read_entry.new.self in
+    let lived : is_failed v ≡ false = sym c.is_failed.ensures ∙ c.if-is_failed.false in
+    let i = c.in-Some.is in
+    let e = c.entry_at.ensures in
+    let there : entry_at (shown_of c.args.self.now.tables c.args.raft_group_id) c.args.log_idx ≡ Some c.in-Some.entry = cc in
+    inr (fails_to_tell g.M.Entry.Message.reading s t c.args.raft_group_id lived refl c.args.log_idx c.in-Some.entry c.in-Err.error there c.in-Err.ensures.err)

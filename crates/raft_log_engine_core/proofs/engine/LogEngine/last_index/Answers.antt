@@ -1,0 +1,6 @@
+use Rattle.raft_log_engine_core.proofs.Tables.{last_read, raw_shown}
+use Rattle.raft_log_engine_core.proofs.engine.LogEngine.last_index.Goals as goal
+
+pub returns-in-Some-clause-ok : goal.returns-in-Some-clause-ok
+returns-in-Some-clause-ok g c =
+    last_read _ _ _ c.last_index.result (raw_shown c.args.self.now.tables c.args.raft_group_id _ c.in-Some.ensures) c.last_index.ensures

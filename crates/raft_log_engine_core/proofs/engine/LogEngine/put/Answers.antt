@@ -1,0 +1,18 @@
+use Rattle.raft_log_engine_core.proofs.Put.{kept_record, kept_unrecorded, put_answers, put_refuses}
+use Rattle.raft_log_engine_core.proofs.engine.LogEngine.put.Goals as goal
+
+pub returns-in-Ok-clause-ok : goal.returns-in-Ok-clause-ok
+returns-in-Ok-clause-ok g c =
+    put_answers c.args.batch.now c.make_room.new.batch (g.P.PipeLog.shown c.args.self.now.pipes) (g.P.PipeLog.shown c.append.new.pipes) c.args.self.now.tables c.make_room.new.tables c.append.new.tables c.args.self.now.cache c.append.new.cache c.append.result c.make_room.ensures.kept c.make_room.ensures.shows c.append.ensures.ok
+
+pub returns-in-Ok-clause-err : goal.returns-in-Ok-clause-err
+returns-in-Ok-clause-err g c =
+    put_refuses c.args.batch.now c.make_room.new.batch (g.P.PipeLog.shown c.args.self.now.pipes) (g.P.PipeLog.shown c.append.new.pipes) c.args.self.now.tables c.make_room.new.tables c.append.new.tables c.args.self.now.cache c.append.new.cache c.append.result c.make_room.ensures.kept c.make_room.ensures.shows c.append.ensures.err
+
+pub returns-in-Ok-clause-files : goal.returns-in-Ok-clause-files
+returns-in-Ok-clause-files g c =
+    kept_record c.args.batch.now c.make_room.new.batch (g.P.PipeLog.shown c.args.self.now.pipes) (g.P.PipeLog.shown c.append.new.pipes) c.append.result c.make_room.ensures.kept c.append.ensures.files
+
+pub returns-in-Ok-clause-left : goal.returns-in-Ok-clause-left
+returns-in-Ok-clause-left g c =
+    kept_unrecorded c.args.batch.now c.make_room.new.batch (g.P.PipeLog.shown c.args.self.now.pipes) (g.P.PipeLog.shown c.append.new.pipes) c.append.result c.make_room.ensures.kept c.append.ensures.left

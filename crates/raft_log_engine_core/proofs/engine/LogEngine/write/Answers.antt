@@ -1,0 +1,59 @@
+use Rattle.std.proofs.Common.{◌≡◌, true, inl, inr, refl, sym, subst, arith}
+use Rattle.raft_log_purge.specs.raft_log_engine_laws.specs.Shows.{shows}
+use Rattle.raft_log_purge.specs.raft_log_engine_laws.specs.Writing.{WritesBytes}
+use Rattle.raft_log_engine_core.specs.Touching.{WritesFiles}
+use Rattle.raft_log_engine_core.proofs.Put.{none_unsynced, none_unsynced_files, put_synced, put_synced_files, put_unsynced, put_unsynced_files}
+use Rattle.raft_log_engine_core.proofs.engine.LogEngine.write.Goals as goal
+
+pub returns-in-Err-clause-err : goal.returns-in-Err-clause-err
+returns-in-Err-clause-err g c =
+    let s = shows (g.P.PipeLog.shown c.args.self.now.pipes) c.args.self.now.tables c.args.self.now.cache in
+    let t = shows (g.P.PipeLog.shown c.sync.new.self.pipes) c.sync.new.self.tables c.sync.new.self.cache in
+    none_unsynced c.args.batch.now c.in-Err.error s t c.in-Err.ensures.err
+
+pub returns-in-Ok-sync-clause-ok : goal.returns-in-Ok-sync-clause-ok
+returns-in-Ok-sync-clause-ok g c =
+    let s = shows (g.P.PipeLog.shown c.args.self.now.pipes) c.args.self.now.tables c.args.self.now.cache in
+    let mid = shows (g.P.PipeLog.shown c.put.new.self.pipes) c.put.new.self.tables c.put.new.self.cache in
+    let t = shows (g.P.PipeLog.shown c.sync-in-Ok-put.new.self.pipes) c.sync-in-Ok-put.new.self.tables c.sync-in-Ok-put.new.self.cache in
+    let asked : c.args.sync ≡ true = grind (arith, c.if-not-sync-2.false) in
+    subst (λ k. WritesBytes c.args.batch.now k c.in-Ok-put.len s t) (sym asked)
+    (put_synced c.args.batch.now c.in-Ok-put.len s mid t c.in-Ok-put.ensures.ok c.in-Ok-sync.ensures.ok)
+
+pub returns-in-Err-sync-clause-err : goal.returns-in-Err-sync-clause-err
+returns-in-Err-sync-clause-err g c =
+    let s = shows (g.P.PipeLog.shown c.args.self.now.pipes) c.args.self.now.tables c.args.self.now.cache in
+    let mid = shows (g.P.PipeLog.shown c.put.new.self.pipes) c.put.new.self.tables c.put.new.self.cache in
+    let t = shows (g.P.PipeLog.shown c.sync-in-Ok-put.new.self.pipes) c.sync-in-Ok-put.new.self.tables c.sync-in-Ok-put.new.self.cache in
+    put_unsynced c.args.batch.now c.in-Err-sync.error s mid t c.in-Ok-put.ensures.ok.1 c.in-Err-sync.ensures.err
+
+pub returns-in-Ok-sync-clause-files : goal.returns-in-Ok-sync-clause-files
+returns-in-Ok-sync-clause-files g c =
+    let v = g.P.PipeLog.shown c.args.self.now.pipes in
+    let mid = g.P.PipeLog.shown c.put.new.self.pipes in
+    let w = g.P.PipeLog.shown c.sync-in-Ok-put.new.self.pipes in
+    let asked : c.args.sync ≡ true = grind (arith, c.if-not-sync-2.false) in
+    subst (λ k. WritesFiles c.args.batch.now k v w) (sym asked) (put_synced_files c.args.batch.now v mid w c.in-Ok-put.ensures.files c.in-Ok-sync.ensures.files)
+
+pub returns-in-Err-sync-clause-left : goal.returns-in-Err-sync-clause-left
+returns-in-Err-sync-clause-left g c =
+    let v = g.P.PipeLog.shown c.args.self.now.pipes in
+    let mid = g.P.PipeLog.shown c.put.new.self.pipes in
+    let w = g.P.PipeLog.shown c.sync-in-Ok-put.new.self.pipes in
+    let asked : c.args.sync ≡ true = grind (arith, c.if-not-sync-2.false) in
+    put_unsynced_files c.args.batch.now c.args.sync c.in-Err-sync.error v mid w asked c.in-Ok-put.ensures.files c.in-Err-sync.ensures.left
+
+pub returns-in-Err-clause-left : goal.returns-in-Err-clause-left
+returns-in-Err-clause-left g c =
+    let v = g.P.PipeLog.shown c.args.self.now.pipes in
+    let w = g.P.PipeLog.shown c.sync.new.self.pipes in
+    none_unsynced_files c.args.batch.now c.args.sync c.in-Err.error v w (c.if-is_empty.ensures.0 refl) c.if-not-sync.false c.in-Err.ensures.left
+
+pub returns-then-not-sync-2-clause-files : goal.returns-then-not-sync-2-clause-files
+returns-then-not-sync-2-clause-files g c =
+    let v = g.P.PipeLog.shown c.args.self.now.pipes in
+    let w = g.P.PipeLog.shown c.put.new.self.pipes in
+    subst (λ k. WritesFiles c.args.batch.now k v w) (sym c.if-not-sync-2.true) (inr (w, c.in-Ok-put.ensures.files, refl))
+
+pub returns-in-Err-put-clause-left : goal.returns-in-Err-put-clause-left
+returns-in-Err-put-clause-left g c = inl c.in-Err-put.ensures.left

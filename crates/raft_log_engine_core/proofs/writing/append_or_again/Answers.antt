@@ -1,0 +1,13 @@
+use Rattle.raft_log_file_blocks.specs.Signing.{signed_for}
+use Rattle.raft_log_engine_core.proofs.Put.{refused_again, written_again}
+use Rattle.raft_log_engine_core.proofs.writing.append_or_again.Goals as goal
+
+pub returns-then-is_no_space-clause-ok : goal.returns-then-is_no_space-clause-ok
+returns-then-is_no_space-clause-ok g c =
+    written_again (signed_for c.args.signed.now.batch) _ c.in-Err.error (g.P.PipeLog.shown c.args.pipes.now) (g.P.PipeLog.shown c.append.new.self) (g.P.PipeLog.shown c.append-then-is_no_space.new.self)
+    c.append-then-is_no_space.result c.append.ensures.signed (c.is_no_space.ensures.0 c.if-is_no_space.true) c.append.ensures.later c.in-Err.ensures.err c.append-then-is_no_space.ensures.ok
+
+pub returns-then-is_no_space-clause-err : goal.returns-then-is_no_space-clause-err
+returns-then-is_no_space-clause-err g c =
+    refused_again (signed_for c.args.signed.now.batch) _ c.in-Err.error (g.P.PipeLog.shown c.args.pipes.now) (g.P.PipeLog.shown c.append.new.self) (g.P.PipeLog.shown c.append-then-is_no_space.new.self)
+    c.append-then-is_no_space.result c.append.ensures.signed (c.is_no_space.ensures.0 c.if-is_no_space.true) c.append.ensures.later c.append-then-is_no_space.ensures.later c.in-Err.ensures.err c.append-then-is_no_space.ensures.err

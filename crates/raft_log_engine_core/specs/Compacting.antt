@@ -1,0 +1,45 @@
+-- The entries of a group below an index go.
+use Rattle.std.specs.Prelude.{◌≡◌, ◌⊎◌, ◌-◌, ℕ, false, min, [], ◌∷◌, length, Option, None, Some, if◌then◌else◌, nat_lt}
+use Rattle.raft_log_record_base.specs.declared.errors.Error.{Error}
+use Rattle.raft_log_record_base.specs.declared.errors.Error.TheVariants as errors
+use Rattle.raft_log_record_items.specs.declared.command.Command.TheVariants as commands
+use Rattle.raft_log_table_lists.specs.Shown.{Shown}
+use Rattle.raft_log_record_batches.specs.Batch.{Batch}
+use Rattle.raft_log_record_batches.specs.declared.log_batch.BatchState.TheVariants.{Filling}
+use Rattle.raft_log_record_batches.specs.ItemBatch.{command_item}
+use Rattle.raft_log_purge.specs.raft_log_engine_laws.specs.Fetching.{HadFailed}
+use Rattle.raft_log_purge.specs.raft_log_engine_laws.specs.Shows.{Shows, has_failed}
+use Rattle.raft_log_purge.specs.raft_log_engine_laws.specs.Writing.{NotWritten, Writes}
+
+-- how many of a group's entries stand below an index, if it has entries
+abbrev pub entries_below : Shown → ℕ → Option ℕ
+entries_below v index =
+    if nat_lt 0 (length v.places) then Some (min (index - v.first) (length v.places)) else None
+
+-- the batch says that a group's entries below an index go, and nothing else, and its record isn't made yet
+pub record SaysCompact (g index : ℕ) (b : Batch) : Type 0 where
+  pub items : b.items ≡ command_item g (commands.Compact index) ∷ []
+  pub entries : b.entries ≡ []
+  pub fills : b.state ≡ Filling
+
+-- such a batch was written
+abbrev pub WritesCompact : ℕ → ℕ → Shows → Shows → Type 0
+WritesCompact g index s t = (b : Batch) × SaysCompact g index b × Writes b false s t
+
+-- so many entries of a group go: those below the index, by a batch that says so. Of a group without entries
+-- none do, and nothing is written.
+abbrev pub CompactsTo : ℕ → ℕ → ℕ → Shows → Shows → Type 0
+CompactsTo g index count s t =
+    ((entries_below (s.tables g) index ≡ None) × (count ≡ 0) × (has_failed s ≡ false) × (t ≡ s))
+    ⊎ ((entries_below (s.tables g) index ≡ Some count) × WritesCompact g index s t)
+
+-- such a batch wasn't written: memory ran out before the write; or the write was refused
+abbrev pub FailsToWriteCompact : ℕ → ℕ → Error → Shows → Shows → Type 0
+FailsToWriteCompact g index error s t =
+    ((error ≡ errors.Memory) × (has_failed s ≡ false) × (t ≡ s))
+    ⊎ ((b : Batch) × SaysCompact g index b × NotWritten b error s t)
+
+-- why none go: the engine had failed; or the group has entries, and the batch that says so wasn't written
+abbrev pub FailsToCompact : ℕ → ℕ → Error → Shows → Shows → Type 0
+FailsToCompact g index error s t = HadFailed s t error
+    ⊎ ((entries_below (s.tables g) index ≡ None → ⊥) × FailsToWriteCompact g index error s t)

@@ -1,0 +1,10 @@
+pub mod Compacting
+pub mod Messages
+pub mod Purging
+pub mod Reads
+pub mod Room
+pub mod Touching
+pub mod Whole
+-- libraries below, passed on to who stands on this one
+pub use Rattle.raft_log_purge.specs.raft_log_engine_laws
+pub use Rattle.raft_log_open_directory

@@ -1,0 +1,36 @@
+-- What an engine tells of its tables, and that a failed one tells nothing.
+use Rattle.std.specs.Prelude.{◌≡◌, ◌⊎◌, ℕ, Bool, false, true, List, Option}
+use Rattle.raft_log_record_base.specs.declared.errors.Error.{Error}
+use Rattle.raft_log_record_base.specs.declared.errors.Error.TheVariants as errors
+use Rattle.raft_log_table_lists.specs.Listing.{Visits, in_direction}
+use Rattle.raft_log_file_pair.specs.Pipes.{LogPipes}
+use Rattle.raft_log_purge.specs.raft_log_engine_laws.specs.Reading.{ReadsKeys}
+use Rattle.raft_log_purge.specs.raft_log_engine_laws.specs.Shows.{Shows, has_failed, shows}
+use Rattle.raft_log_engine_core.specs.declared.engine.LogEngine.{LogEngine}
+
+-- what an engine shows, of which its pipes show this
+abbrev pub shows_of : {P : Type 0} → (P → LogPipes) → LogEngine P → Shows
+shows_of shown e = shows (shown e.pipes) e.tables e.cache
+
+-- the engine hasn't failed: only then a read is answered
+abbrev pub Lives : Shows → Type 0
+Lives s = has_failed s ≡ false
+
+-- the engine has failed: a read is refused as `Failed` then, and only then
+abbrev pub IsFailed : Shows → Error → Type 0
+IsFailed s error = (error ≡ errors.Failed) × (has_failed s ≡ true)
+
+-- why nothing is copied: the engine has failed; or memory ran out of one that hasn't
+abbrev pub IsUncopied : Shows → Error → Type 0
+IsUncopied s error = IsFailed s error ⊎ ((error ≡ errors.Memory) × Lives s)
+
+-- no group counts: each took nothing since it was cleaned
+abbrev pub NoneCounts : (ℕ → Bool) → Type 0
+NoneCounts counts = (g : ℕ) → counts g ≡ false
+
+-- calls at all keys of a group that are asked for, in the order of their bytes or backwards, up to the first
+-- that answers false
+abbrev pub ScansKeys : {F : Type 0} → (F → List ℕ → List ℕ → Bool → F → Type 0) → F → Shows → ℕ
+    → Option (List ℕ) → Option (List ℕ) → Bool → Type 0
+ScansKeys called callback s g start end backwards = (es : List (List ℕ × List ℕ))
+    × ReadsKeys s g start end es × Visits called callback (in_direction backwards es)

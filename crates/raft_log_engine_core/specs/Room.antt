@@ -1,0 +1,32 @@
+-- What is wanted of memory before a batch is written.
+use Rattle.std.specs.Prelude.{◌≡◌, ◌⊎◌, ◌≤◌, ◌+◌, [], length, vec_capacity, vec_len}
+use Rattle.raft_log_record_base.specs.declared.errors.Error.{Error}
+use Rattle.raft_log_record_base.specs.declared.errors.Error.TheVariants as errors
+use Rattle.raft_log_record_batches.specs.Batch.{Batch, max_kept_len}
+use Rattle.raft_log_purge.specs.raft_log_engine_laws.specs.Shows.{IsWellMarked, IsWritable, Shows}
+use Rattle.raft_log_purge.specs.raft_log_engine_laws.specs.Writing.{IsUnfit, PipesRefused}
+use Rattle.raft_log_engine_core.specs.declared.writing.Room.{Room}
+
+-- there is a list for the batch's items, which has none yet
+pub record HasListFor (b : Batch) (room : Room) : Type 0 where
+  pub none : room.items.items ≡ []
+  pub fits : vec_len room.items + length b.items ≤ vec_capacity room.items
+
+-- why a batch isn't taken by any tables: it was written already, or its marks are broken; or memory was short
+-- for saying so
+abbrev pub IsUnfitItself : Batch → Error → Type 0
+IsUnfitItself b (errors.InvalidArgument text) = IsWritable b.state → IsWellMarked b → ⊥
+IsUnfitItself b errors.Memory = Unit {0}
+IsUnfitItself b _ = ⊥
+
+-- why a batch wasn't put, and what is so then: it isn't taken, and nothing was done; or the pipes refused
+abbrev pub PutFails : Batch → Error → Shows → Shows → Type 0
+PutFails b error s t = (IsUnfit b s.tables error × (t ≡ s)) ⊎ PipesRefused b error s t
+
+-- a batch that was written keeps at most so much of its buffer; an empty one stays
+abbrev pub KeepsLittle : Batch → Batch → Type 0
+KeepsLittle old new = (old.items ≡ []) ⊎ (new.buffer ≤ max_kept_len)
+
+-- a batch that may be written may be so afterwards: its record isn't signed for a file
+abbrev pub StaysWritable : Batch → Batch → Type 0
+StaysWritable old new = IsWritable old.state → IsWritable new.state

@@ -1,0 +1,39 @@
+-- What is told of an engine as a whole, and of a key as a message.
+use Rattle.std.specs.Prelude.{◌≡◌, ◌⊎◌, ◌+◌, ◌-◌, ◌^◌, min, ℕ, List, Option, Some, None, Err}
+use Rattle.raft_log_record_base.specs.declared.errors.Error.{Error}
+use Rattle.raft_log_record_base.specs.declared.pipe_log.LogQueue.{LogQueue}
+use Rattle.raft_log_record_items.specs.Message.{Parses}
+use Rattle.raft_log_directory_laws.specs.Calls.Which.{InAppend, InRewrite}
+use Rattle.raft_log_file_pair.specs.State.{pipe_at}
+use Rattle.raft_log_file_pair.specs.Pipes.{LogPipes, files_of, which_of}
+use Rattle.raft_log_file_pair.specs.Calls.{IsSpanOf, size_at}
+use Rattle.raft_log_purge.specs.raft_log_engine_laws.specs.Shows.{Shows}
+use Rattle.raft_log_purge.specs.raft_log_engine_laws.specs.Reading.{ReadsValue}
+use Rattle.raft_log_engine_core.specs.Reads.{IsUncopied, Lives}
+
+-- the numbers of the first and the last file of a queue
+pub record TellsSpan (queue : LogQueue) (v : LogPipes) (first last : ℕ) : Type 0 where
+  pub first_is : first ≡ (pipe_at (which_of queue) (files_of v)).first_seq
+  pub last_is : last ≡ (pipe_at (which_of queue) (files_of v)).active.seq
+  pub exact : IsSpanOf (which_of queue) v first last
+
+-- the size of all files of both queues, each counted as long as it is to be; at most the greatest number
+abbrev pub used_size : LogPipes → ℕ
+used_size v = min (size_at InAppend v + size_at InRewrite v) (2 ^ 64 - 1)
+
+-- the message is read of these bytes; there is none where there are none
+abbrev pub IsMessageOf : {M : Type 0} → (List ℕ → Option M) → Option (List ℕ) → Option M → Type 0
+IsMessageOf reading None None = Unit {0}
+IsMessageOf reading (Some bytes) (Some message) = reading bytes ≡ Some message
+IsMessageOf reading _ _ = ⊥
+
+-- the value of a key is told as a message, if it has one
+abbrev pub TellsMessage : {M : Type 0} → (List ℕ → Option M) → Shows → ℕ → List ℕ → Option M → Type 0
+TellsMessage reading s g key message =
+    (value : Option (List ℕ)) × ReadsValue s g key value × IsMessageOf reading value message
+
+-- why it isn't: the engine has failed; or it hasn't, and memory ran out, or the value is no message
+abbrev pub IsMessageUntold : {M : Type 0} → (List ℕ → Option M) → Shows → ℕ → List ℕ → Error → Type 0
+IsMessageUntold {M} reading s g key error = IsUncopied s error
+    ⊎ (Lives s × ((value : List ℕ) × ReadsValue s g key (Some value)
+    × Parses {M = M} (Err error) (reading value)))

@@ -1,0 +1,64 @@
+//! A group's entries below an index go.
+
+ghost use Rattle.std.specs.Prelude.{◌≡◌, IfErr, IfOk};
+ghost use Rattle.raft_log_record_base.specs.declared.errors.Error.TheVariants as errors;
+ghost use Rattle.raft_log_record_batches.specs.declared.log_batch.BatchState.TheVariants.{Filling};
+ghost use Rattle.raft_log_table_all.specs.Tables.{shown_of};
+ghost use Rattle.raft_log_engine_core.specs.Compacting.{entries_below, CompactsTo, FailsToCompact, SaysCompact};
+ghost use Rattle.raft_log_engine_core.specs.Reads.{shows_of};
+ghost use Rattle.raft_log_engine_core.specs.Touching.{StaysPurged};
+
+use super::LogEngine;
+use log::Log;
+use raft_log_file_pair::PipeLog;
+use raft_log_record_base::{Error, Result};
+use raft_log_record_batches::LogBatch;
+use raft_log_record_items::Command;
+use std::alloc::Global;
+
+impl<P: PipeLog> LogEngine<P> {
+    /// Writes that a group's entries below an index go, and answers how many do; nothing is written for a
+    /// group without entries. It isn't synced.
+    ///
+    /// `Failed` of an engine that has failed. `Memory` before anything is done. Then what `write` refuses.
+    pub fn compact_to<L: Log>(&mut self, rt: &L, raft_group_id: u64, index: u64) -> Result<u64>
+        ensures ok { IfOk result (λ count. CompactsTo raft_group_id index count
+            (shows_of P.shown self.old) (shows_of P.shown self.new)) }
+        ensures err { IfErr result (λ error. FailsToCompact raft_group_id index error
+            (shows_of P.shown self.old) (shows_of P.shown self.new)) }
+        ensures purges { StaysPurged self.old self.new }
+    {
+        if self.is_failed() {
+            return Err(Error::Failed);
+        }
+        let Some(count) = self.entries_below(raft_group_id, index) else {
+            return Ok(0);
+        };
+        let mut batch = compact_batch(self.alloc, raft_group_id, index)?;
+        match self.write(rt, &mut batch, false) {
+            Ok(_) => Ok(count),
+            Err(error) => Err(error),
+        }
+    }
+
+    /// How many of a group's entries stand below an index, if it has entries.
+    fn entries_below(&self, raft_group_id: u64, index: u64) -> Option<u64>
+        ensures { result ≡ entries_below (shown_of self.now.tables raft_group_id) index }
+    {
+        let span = self.tables.known_table(raft_group_id)?.span();
+        if span.first == span.end {
+            return None;
+        }
+        Some(index.min(span.end).saturating_sub(span.first))
+    }
+}
+
+/// The batch that says that a group's entries below an index go. Memory may run out.
+fn compact_batch(alloc: Global, raft_group_id: u64, index: u64) -> Result<LogBatch>
+    ensures ok { IfOk result (SaysCompact raft_group_id index) }
+    ensures err { IfErr result (λ error. error ≡ errors.Memory) }
+{
+    let mut batch = LogBatch::with_capacity(alloc, 1)?;
+    batch.add_command(raft_group_id, Command::Compact { index })?;
+    Ok(batch)
+}

@@ -1,0 +1,30 @@
+//! Values of keys, as messages.
+
+ghost use Rattle.std.specs.Prelude.{IfErr, IfOk, OnOk};
+ghost use Rattle.raft_log_engine_core.specs.Reads.{shows_of, Lives};
+ghost use Rattle.raft_log_engine_core.specs.Whole.{IsMessageUntold, TellsMessage};
+
+use super::LogEngine;
+use raft_log_file_pair::PipeLog;
+use raft_log_record_base::Result;
+use raft_log_record_items::Message;
+
+impl<P: PipeLog> LogEngine<P> {
+    /// The value of a group's key as a message, if it has one. `Failed` of an engine that has failed,
+    /// `Message` where the value is none, or `Memory`.
+    pub fn get_message<S: Message>(&self, raft_group_id: u64, key: &[u8]) -> Result<Option<S>>
+        ensures ok { IfOk result (TellsMessage S.reading (shows_of P.shown self.now) raft_group_id key.now) }
+        ensures lived { OnOk result (Lives (shows_of P.shown self.now)) }
+        ensures err { IfErr result (IsMessageUntold S.reading (shows_of P.shown self.now)
+            raft_group_id key.now) }
+    {
+        match self.get(raft_group_id, key) {
+            Ok(Some(value)) => match S::parse(self.alloc, value.as_slice()) {
+                Ok(message) => Ok(Some(message)),
+                Err(error) => Err(error),
+            },
+            Ok(None) => Ok(None),
+            Err(error) => Err(error),
+        }
+    }
+}

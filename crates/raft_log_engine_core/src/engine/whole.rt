@@ -1,0 +1,59 @@
+//! What is told of the log as a whole.
+
+ghost use Rattle.std.specs.Prelude.{◌≡◌, IfErr, IfOk, OnOk};
+ghost use Rattle.raft_log_file_pair.specs.Calls.{IsIo};
+ghost use Rattle.raft_log_engine_core.specs.Reads.{shows_of, IsFailed, Lives};
+ghost use Rattle.raft_log_engine_core.specs.Touching.{StaysPurged};
+ghost use Rattle.raft_log_engine_core.specs.Whole.{used_size, TellsSpan};
+
+use super::LogEngine;
+use raft_log_disk::Fault;
+use raft_log_file_pair::PipeLog;
+use raft_log_record_base::{Error, FileSeq, LogQueue, Result};
+
+impl<P: PipeLog> LogEngine<P> {
+    /// The file system.
+    pub fn file_system(&self) -> &P::Files
+        ensures { result.now ≡ P.files self.now.pipes }
+    {
+        self.pipes.file_system()
+    }
+
+    /// Arms a fault of the file system: it alters which later calls are refused, and nothing else.
+    ///
+    /// `Io` where it isn't armed.
+    pub fn arm(&mut self, fault: &Fault) -> Result<()>
+        ensures shown { shows_of P.shown self.new ≡ shows_of P.shown self.old }
+        ensures purges { StaysPurged self.old self.new }
+        ensures errors { IfErr result IsIo }
+    {
+        self.pipes.arm(fault)
+    }
+
+    /// The numbers of the first and the last file of a queue. `Failed` of an engine that has failed.
+    pub fn file_span(&self, queue: LogQueue) -> Result<(FileSeq, FileSeq)>
+        ensures ok { IfOk result (λ span. TellsSpan queue (P.shown self.now.pipes) span.0 span.1) }
+        ensures lived { OnOk result (Lives (shows_of P.shown self.now)) }
+        ensures err { IfErr result (IsFailed (shows_of P.shown self.now)) }
+    {
+        if self.is_failed() {
+            return Err(Error::Failed);
+        }
+        Ok(self.pipes.file_span(queue))
+    }
+
+    /// The size of all files of both queues in bytes, where each counts as long as it is to be; at most the
+    /// greatest number that there is. `Failed` of an engine that has failed.
+    pub fn get_used_size(&self) -> Result<usize>
+        ensures ok { IfOk result (λ size. size ≡ used_size (P.shown self.now.pipes)) }
+        ensures lived { OnOk result (Lives (shows_of P.shown self.now)) }
+        ensures err { IfErr result (IsFailed (shows_of P.shown self.now)) }
+    {
+        if self.is_failed() {
+            return Err(Error::Failed);
+        }
+        let append = self.pipes.total_size(LogQueue::Append);
+        let rewrite = self.pipes.total_size(LogQueue::Rewrite);
+        Ok(append.saturating_add(rewrite))
+    }
+}

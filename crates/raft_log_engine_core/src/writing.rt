@@ -1,0 +1,235 @@
+//! How a batch is written: room for it is made before, in memory, so that what comes after the write can't be
+//! refused.
+
+ghost use Rattle.std.specs.Prelude.{◌≡◌, ◌+◌, ◌≤◌, ◌<◌, ◌^◌, ◌↔◌, ℕ, [], length, vec_capacity, vec_len, false, IfErr, IfOk, OnErr, OnOk, IsTrue};
+ghost use Rattle.raft_log_record_marks.specs.declared.marking.Marking.TheVariants.{Broken};
+ghost use Rattle.raft_log_record_marks.specs.Marking.{marking_of_items};
+ghost use Rattle.raft_log_record_marks.specs.Meaning.{tagged_items};
+ghost use Rattle.raft_log_record_frames.specs.Made.{IsMemoryOrFull};
+ghost use Rattle.raft_log_record_frames.specs.Record.{record_len};
+ghost use Rattle.raft_log_model_laws.specs.Groups.{of_group};
+ghost use Rattle.raft_log_record_batches.specs.declared.log_batch.BatchState.TheVariants.{Filling, Populated};
+ghost use Rattle.raft_log_record_batches.specs.Batch.{emptied, max_kept_len, IsReadyForEach, IsSigned};
+ghost use Rattle.raft_log_table_all.specs.Batch.{all_shown, counts_at_end, IsReadyFor};
+ghost use Rattle.raft_log_table_all.specs.Tables.{counts, shown_of, IsAtRest, ShowsSame};
+ghost use Rattle.raft_log_file_pair.specs.Calls.{TellsFailure};
+ghost use Rattle.raft_log_file_pair.specs.Pipes.{is_failed};
+ghost use Rattle.raft_log_disk.specs.Causes.{IsLater};
+ghost use Rattle.raft_log_file_blocks.specs.Signing.{signed_for};
+ghost use Rattle.raft_log_purge.specs.raft_log_engine_laws.specs.Trying.{RefusesAt, WritesAt};
+ghost use Rattle.raft_log_file_blocks.specs.raft_log_file_pipe.specs.Appending.{SaysTryAgain};
+ghost use Rattle.raft_log_purge.specs.raft_log_engine_laws.specs.Shows.{shows, IsWellMarked, IsWritable};
+ghost use Rattle.raft_log_purge.specs.raft_log_engine_laws.specs.Writing.{items_at, IsBatchKept, IsUnfit, PipesRefused, Writes};
+ghost use Rattle.raft_log_engine_core.specs.Room.{HasListFor, IsUnfitItself, StaysWritable};
+ghost use Rattle.raft_log_engine_core.specs.Touching.{WritesRecord};
+
+use log::Log;
+use raft_log_file_blocks::{BlockCache, SignedBatch};
+use raft_log_file_pair::PipeLog;
+use raft_log_record_base::{Error, FileBlockHandle, LogQueue, Result};
+use raft_log_record_batches::{BatchState, LogBatch};
+use raft_log_record_items::LogItem;
+use raft_log_record_marks::Marking;
+use raft_log_table_all::MemTables;
+use std::alloc::Global;
+use std::mem;
+
+/// What is wanted of memory to write a batch: one that stands for it on its way, and a list for its items.
+#[derive(Drop)]
+pub struct Room {
+    stand_in: LogBatch,
+    items: Vec<LogItem>,
+}
+
+/// Makes all that a batch may want memory for: its record, room in the tables, and the rest. A refusal
+/// changes nothing, but that the batch's record may be made.
+pub fn make_room(alloc: Global, tables: &mut MemTables, batch: &mut LogBatch) -> Result<Room>
+    requires { IsAtRest tables.old }
+    ensures shows { ShowsSame tables.old tables.new }
+    ensures ok { OnOk result (IsReadyFor tables.new (tagged_items (λ e. e) batch.old.items)) }
+    ensures kept { IsBatchKept batch.old batch.new }
+    ensures again { StaysWritable batch.old batch.new }
+    ensures made { OnOk result (batch.new.state ≡ Populated) }
+    ensures marked { OnOk result (IsWellMarked batch.old) }
+    ensures room { IfOk result (HasListFor batch.old) }
+    ensures err { OnErr result (IsAtRest tables.new) }
+    ensures errors { IfErr result (IsUnfit batch.old (shown_of tables.old)) }
+{
+    check(alloc, batch)?;
+    populate(batch)?;
+    let stand_in = LogBatch::default(alloc)?;
+    let items = Vec::with_capacity(alloc, batch.len())?;
+    match tables.prepare(batch.items()) {
+        Ok(()) => Ok(Room { stand_in, items }),
+        Err(error) => Err(error),
+    }
+}
+
+/// Makes the record of a batch, unless it is made already. A refusal leaves the batch.
+fn populate(batch: &mut LogBatch) -> Result<()>
+    requires { IsWritable batch.old.state }
+    ensures kept { IsBatchKept batch.old batch.new }
+    ensures again { IsWritable batch.new.state }
+    ensures made { OnOk result (batch.new.state ≡ Populated) }
+    ensures errors { IfErr result (λ e. IsMemoryOrFull e (record_len batch.old.items batch.old.entries)) }
+{
+    if is_filling(batch) {
+        batch.finish_populate()?;
+    }
+    Ok(())
+}
+
+/// Writes a batch that room was made for, and answers how many bytes its record has: what it says stands in
+/// the tables then, and it is emptied. Refused by the pipes, it is kept, and the room is taken back.
+pub fn append<P: PipeLog, L: Log>(
+    alloc: Global,
+    rt: &L,
+    pipes: &mut P,
+    tables: &mut MemTables,
+    cache: &mut BlockCache,
+    batch: &mut LogBatch,
+    room: Room,
+) -> Result<usize>
+    requires lives { is_failed (P.shown pipes.old) ≡ false }
+    requires some { batch.old.items ≡ [] → ⊥ }
+    requires made { batch.old.state ≡ Populated }
+    requires marked { IsWellMarked batch.old }
+    requires ready { IsReadyFor tables.old (tagged_items (λ e. e) batch.old.items) }
+    requires room { HasListFor batch.old room }
+    ensures ok { IfOk result (λ len. IsReadyForEach len batch.old.items batch.old.entries
+        × Writes batch.old false (shows (P.shown pipes.old) tables.old cache.old)
+        (shows (P.shown pipes.new) tables.new cache.new)) }
+    ensures err { IfErr result (λ error. PipesRefused batch.old error
+        (shows (P.shown pipes.old) tables.old cache.old) (shows (P.shown pipes.new) tables.new cache.new)) }
+    ensures files { OnOk result (WritesRecord batch.old (P.shown pipes.old) (P.shown pipes.new)) }
+    ensures left { IfErr result (λ error. RefusesAt (signed_for batch.old) error
+        (P.shown pipes.old) (P.shown pipes.new)) }
+    ensures rests { IsAtRest tables.new }
+    ensures emptied { OnOk result (batch.new ≡ emptied batch.old) }
+    ensures bounded { OnOk result (batch.new.buffer ≤ max_kept_len) }
+    ensures kept { OnErr result (batch.new ≡ batch.old) }
+{
+    let len = batch.encoded_len();
+    let Room { stand_in, items } = room;
+    let mut signed = SignedBatch::new(mem::replace(batch, stand_in));
+    signed.encoded_len();
+    let appended = append_or_again(alloc, rt, pipes, &mut signed);
+    *batch = signed.into_batch();
+    match appended {
+        Ok(block) => {
+            commit(tables, batch, block, items);
+            pipes.post_apply_memtables(block.id);
+            Ok(len)
+        }
+        Err(error) => {
+            cache.clear();
+            batch.unsign();
+            tables.take_back(batch.items());
+            Err(error)
+        }
+    }
+}
+
+/// Writes the record of a batch to Append. Where there is no space for it, Append has gone on in its next
+/// file, and it is tried there once more.
+fn append_or_again<P: PipeLog, L: Log>(
+    alloc: Global,
+    rt: &L,
+    pipes: &mut P,
+    signed: &mut SignedBatch,
+) -> Result<FileBlockHandle>
+    ensures ok { IfOk result (λ block. WritesAt (signed_for signed.old.batch) block
+        (P.shown pipes.old) (P.shown pipes.new)) }
+    ensures place { IfOk result (λ block. block.offset < 2 ^ 63) }
+    ensures err { IfErr result (λ error. RefusesAt (signed_for signed.old.batch) error
+        (P.shown pipes.old) (P.shown pipes.new)) }
+    ensures said { record signed.new.batch { state = Populated }
+        ≡ record signed.old.batch { state = Populated } }
+    ensures fails { TellsFailure result (P.shown pipes.new) }
+    ensures later { IsLater (P.shown pipes.old).disk (P.shown pipes.new).disk }
+{
+    let error = match pipes.append(alloc, rt, LogQueue::Append, signed) {
+        Ok(block) => return Ok(block),
+        Err(error) => error,
+    };
+    if is_no_space(&error) {
+        return pipes.append(alloc, rt, LogQueue::Append, signed);
+    }
+    Err(error)
+}
+
+/// Whether there was no space for a record.
+fn is_no_space(error: &Error) -> bool
+    ensures { IsTrue result ↔ SaysTryAgain error.now }
+{
+    match error {
+        Error::TryAgain(_) => true,
+        _ => false,
+    }
+}
+
+/// A batch was written at this place: what it says stands in the tables, and it is emptied.
+fn commit(tables: &mut MemTables, batch: &mut LogBatch, block: FileBlockHandle, items: Vec<LogItem>)
+    requires place { block.offset < 2 ^ 63 }
+    requires signed { IsSigned batch.old.state }
+    requires ready { IsReadyFor tables.old (tagged_items (λ e. e) batch.old.items) }
+    requires none { items.items ≡ [] }
+    requires room { vec_len items + length batch.old.items ≤ vec_capacity items }
+    ensures shows { (g : ℕ) → shown_of tables.new g
+        ≡ all_shown block.id.seq (shown_of tables.old) (items_at block batch.old) g }
+    ensures counts { (g : ℕ) → counts tables.new g
+        ≡ counts_at_end (counts tables.old g) (of_group g (items_at block batch.old)) }
+    ensures rests { IsAtRest tables.new }
+    ensures emptied { batch.new ≡ emptied batch.old }
+    ensures bounded { batch.new.buffer ≤ max_kept_len }
+{
+    let mut items = items;
+    batch.finish_write(block);
+    let _ = batch.drain(&mut items);
+    tables.apply_append_writes(items, block.id.seq);
+}
+
+/// PipesRefused a batch that was signed or written already, or whose marks are broken.
+fn check(alloc: Global, batch: &LogBatch) -> Result<()>
+    ensures writable { OnOk result (IsWritable batch.now.state) }
+    ensures marked { OnOk result (IsWellMarked batch.now) }
+    ensures errors { IfErr result (IsUnfitItself batch.now) }
+{
+    if !is_writable(batch) || is_broken(batch) {
+        return Err(Error::InvalidArgument(format!(in alloc;
+            "a batch that was written, or whose marks are broken"
+        )?));
+    }
+    Ok(())
+}
+
+/// Whether items may be added to a batch.
+fn is_filling(batch: &LogBatch) -> bool
+    ensures { IsTrue result ↔ (batch.now.state ≡ Filling) }
+{
+    match batch.state() {
+        BatchState::Filling => true,
+        _ => false,
+    }
+}
+
+/// Whether a batch may be written.
+fn is_writable(batch: &LogBatch) -> bool
+    ensures { IsTrue result ↔ IsWritable batch.now.state }
+{
+    match batch.state() {
+        BatchState::Filling => true,
+        BatchState::Populated => true,
+        _ => false,
+    }
+}
+
+/// Whether a batch has two marks of atomic groups, or one that is none.
+fn is_broken(batch: &LogBatch) -> bool
+    ensures { IsTrue result ↔ (marking_of_items batch.now.items ≡ Broken) }
+{
+    match batch.marking() {
+        Marking::Broken => true,
+        _ => false,
+    }
+}

@@ -1,0 +1,5 @@
+use Rattle.raft_log_engine_laws.proofs.Rewriting.{marks_refused}
+use Rattle.raft_log_engine_laws.proofs.purges.refused_marks_keep_the_map.Goals as goal
+
+pub returns : goal.returns
+returns c = marks_refused

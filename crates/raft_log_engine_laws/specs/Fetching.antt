@@ -1,0 +1,111 @@
+-- What is read of entries through their blocks is the map's, an entry's bytes included.
+use Rattle.std.specs.Prelude.{◌≡◌, ◌⊎◌, ◌+◌, ◌-◌, ◌≤◌, ◌<◌, ℕ, true, false, List, [], ◌∷◌, ◌++◌, length, Option, Some, None, Err, if◌then◌else◌}
+use Rattle.raft_log_model_laws.specs.Groups.{taken}
+use Rattle.raft_log_model_laws.specs.Meaning.Slot.{Index}
+use Rattle.raft_log_model_laws.specs.Meaning.Content.{Entry}
+use Rattle.raft_log_record_base.specs.declared.errors.Error.{Error}
+use Rattle.raft_log_record_base.specs.declared.errors.Error.TheVariants as errors
+use Rattle.raft_log_record_base.specs.declared.pipe_log.FileBlockHandle.{FileBlockHandle}
+use Rattle.raft_log_record_items.specs.declared.entry.EntryIndex.{EntryIndex}
+use Rattle.raft_log_record_items.specs.Message.{Parses}
+use Rattle.raft_log_table_lists.specs.Counts.{sized}
+use Rattle.raft_log_table_lists.specs.Shown.{Shown}
+use Rattle.raft_log_table_one.specs.Reads.{AreIn, FetchRefused, entry_at, fetched, places_between}
+use Rattle.raft_log_file_blocks.specs.raft_log_file_pair.specs.Pipes.{Said, State}
+use Rattle.raft_log_file_blocks.specs.Blocks.{IsBlockUnread, written_block}
+use Rattle.raft_log_engine_laws.specs.Shows.{Home, LogMap, Shows, has_failed}
+use Rattle.raft_log_engine_laws.specs.Holding.{Holds}
+
+-- a read changes the kept block alone, and what was true of the engine stays true
+pub record StaysButBlock (s t : Shows) : Type 0 where
+  pub same : t ≡ record s { cache = t.cache }
+  pub holds : (home : Home) (m : LogMap) (pending : List Said) → Holds home s m pending
+      → Holds home t m pending
+
+-- the message is read of the bytes of a group's entry at an index
+abbrev pub IsEntryOf : {M : Type 0} → (List ℕ → Option M) → LogMap → ℕ → ℕ → M → Type 0
+IsEntryOf reading m g i message =
+    (bytes : List ℕ) × (m g (Index i) ≡ Some (Entry bytes)) × (reading bytes ≡ Some message)
+
+-- so is the one that is told, if there is an entry
+abbrev pub IsEntryTold : {M : Type 0} → (List ℕ → Option M) → LogMap → ℕ → ℕ → Option M → Type 0
+IsEntryTold reading m g i None = m g (Index i) ≡ None
+IsEntryTold reading m g i (Some message) = IsEntryOf reading m g i message
+
+-- and so are those of the entries from an index on
+abbrev pub AreEntriesOf : {M : Type 0} → (List ℕ → Option M) → LogMap → ℕ → ℕ → List M → Type 0
+AreEntriesOf reading m g i [] = Unit {0}
+AreEntriesOf reading m g i (x ∷ xs) = IsEntryOf reading m g i x × AreEntriesOf reading m g (i + 1) xs
+
+-- An entry is told: the map's, once the pending batches are taken.
+pub record TellsEntry {M : Type 0} (reading : List ℕ → Option M) (g i : ℕ) (s t : Shows) (message : Option M)
+    : Type 0 where
+  pub lived : has_failed s ≡ false
+  pub stays : StaysButBlock s t
+  pub exact : (home : Home) (m : LogMap) (pending : List Said) → Holds home s m pending
+      → IsEntryTold reading (taken m pending) g i message
+
+-- an entry doesn't lie in its block, in front of the checksum; or memory ran out for saying so
+abbrev pub LiesOutside : EntryIndex → List ℕ → Error → Type 0
+LiesOutside e block errors.Memory = Unit {0}
+LiesOutside e block (errors.Corruption text) = e.entry_offset + e.entry_len ≤ length block - 4 → ⊥
+LiesOutside e block _ = ⊥
+
+-- Why a group's entry isn't told, though it stands in the map: its block isn't read, or isn't whole; or it
+-- doesn't lie in the block that was written there; or its bytes in the map are no message.
+pub record IsUntold {M : Type 0} (reading : List ℕ → Option M) (g i : ℕ) (s : Shows) (log : State) (m : LogMap)
+    (error : Error) : Type 0 where
+  pub entry : EntryIndex
+  pub block : FileBlockHandle
+  pub bytes : List ℕ
+  pub stands : entry_at (s.tables g) i ≡ Some entry
+  pub placed : entry.entries ≡ Some block
+  pub maps : m g (Index i) ≡ Some (Entry bytes)
+  pub why : IsBlockUnread s.pipes block error
+      ⊎ (LiesOutside entry (written_block log block) error ⊎ Parses {M = M} (Err error) (reading bytes))
+
+-- the engine had failed before, and nothing was done
+abbrev pub HadFailed : Shows → Shows → Error → Type 0
+HadFailed s t error = (error ≡ errors.Failed) × (has_failed s ≡ true) × (t ≡ s)
+
+-- why no entry is told, and what is so then
+pub record FailsToTell {M : Type 0} (reading : List ℕ → Option M) (g i : ℕ) (s t : Shows) (error : Error)
+    : Type 0 where
+  pub lived : has_failed s ≡ false
+  pub stays : StaysButBlock s t
+  pub why : (home : Home) (m : LogMap) (pending : List Said) → (h : Holds home s m pending)
+      → IsUntold reading g i s h.state (taken m pending) error
+
+-- the entries that a fetch reads: none of a group that doesn't count
+abbrev pub AreToRead : Shows → ℕ → ℕ → ℕ → Option ℕ → List EntryIndex → Type 0
+AreToRead s g begin end max es = ((s.counts g ≡ false) × (es ≡ []))
+    ⊎ ((s.counts g ≡ true) × AreIn (s.tables g) begin end × (es ≡ fetched (s.tables g) begin end max))
+
+-- Entries are fetched: they are the map's from begin on, once the pending batches are taken, as many as the
+-- greatest size lets come, and stand behind the old ones.
+pub record FetchesTo {M : Type 0} (reading : List ℕ → Option M) (g begin end : ℕ) (max : Option ℕ) (s t : Shows)
+    (old new : List M) (count : ℕ) : Type 0 where
+  pub lived : has_failed s ≡ false
+  pub stays : StaysButBlock s t
+  pub entries : List EntryIndex
+  pub read : AreToRead s g begin end max entries
+  pub messages : List M
+  pub adds : new ≡ old ++ messages
+  pub counts : (count ≡ length messages) × (count ≡ length entries)
+  pub exact : (home : Home) (m : LogMap) (pending : List Said) → Holds home s m pending
+      → AreEntriesOf reading (taken m pending) g begin messages
+
+-- why entries aren't fetched, though all are there: memory ran out, or one of them isn't told
+abbrev pub IsOneUntold : {M : Type 0} → (List ℕ → Option M) → ℕ → ℕ → ℕ → Shows → State → LogMap → Error → Type 0
+IsOneUntold reading g begin end s log m error = (error ≡ errors.Memory)
+    ⊎ ((i : ℕ) × (begin ≤ i) × (i < end) × IsUntold reading g i s log m error)
+
+-- why no entries are fetched, and what is so then: the table of a group that counts hasn't got them all, or
+-- one isn't told
+pub record FailsToFetch {M : Type 0} (reading : List ℕ → Option M) (g begin end : ℕ) (s t : Shows) (error : Error)
+    : Type 0 where
+  pub lived : has_failed s ≡ false
+  pub stays : StaysButBlock s t
+  pub why : ((s.counts g ≡ true) × FetchRefused (s.tables g) begin end error)
+      ⊎ ((home : Home) (m : LogMap) (pending : List Said) → (h : Holds home s m pending)
+      → IsOneUntold reading g begin end s h.state (taken m pending) error)

@@ -1,0 +1,52 @@
+-- A part of an atomic group that doesn't end it is written to Rewrite, or refused there. The map stays at
+-- every exit.
+use Rattle.std.specs.Prelude.{ℕ, []}
+use Rattle.raft_log_record_base.specs.declared.errors.Error.{Error}
+use Rattle.raft_log_record_base.specs.declared.errors.Error.TheVariants as errors
+use Rattle.raft_log_record_base.specs.declared.pipe_log.FileBlockHandle.{FileBlockHandle}
+use Rattle.raft_log_record_marks.specs.declared.status.AtomicGroupStatus.TheVariants.{Begin, Middle}
+use Rattle.raft_log_record_batches.specs.Batch.{Batch}
+use Rattle.raft_log_file_blocks.specs.Signing.{signed_for}
+use Rattle.raft_log_directory_laws.specs.Calls.Which.{InRewrite}
+use Rattle.raft_log_file_blocks.specs.raft_log_file_pair.specs.Calls.{AppendsTo, FailsToAppendTo, SyncsQueue}
+use Rattle.raft_log_engine_laws.specs.Shows.{Home, LogMap, Shows}
+use Rattle.raft_log_engine_laws.specs.Holding.{Holds}
+use Rattle.raft_log_engine_laws.specs.Rewriting.{RewriteLeaves}
+use Rattle.raft_log_engine_laws.specs.Settled.{SameTables}
+use Rattle.raft_log_engine_laws.specs.Parts.{HoldsInGroup, IsGroupPart, UnendedGroup, begun_by, gone_on_by}
+
+-- The record that begins a group was written, or one that goes on with it: the group stands open with that
+-- part. What the tables show stays.
+pub record WrittenPartsKeepTheMap : Type 0 where
+  pub begins : (home : Home) (e t : Shows) (number : ℕ) (b : Batch) (block : FileBlockHandle) (m : LogMap)
+      → Holds home e m [] → IsGroupPart number Begin b
+      → AppendsTo InRewrite (signed_for b) block e.pipes t.pipes
+      → SameTables e t → HoldsInGroup home t m (begun_by number (record { block = block; batch = b }))
+  pub goes_on : (home : Home) (e t : Shows) (o : UnendedGroup) (b : Batch) (block : FileBlockHandle)
+      (m : LogMap) → HoldsInGroup home e m o → IsGroupPart o.number Middle b
+      → AppendsTo InRewrite (signed_for b) block e.pipes t.pipes → SameTables e t
+      → HoldsInGroup home t m (gone_on_by o (record { block = block; batch = b }))
+
+-- the errors behind which nothing was done to the records of the queue
+abbrev pub LeavesRecords : Error → Type 0
+LeavesRecords errors.NumberRange = Unit {0}
+LeavesRecords errors.Memory = Unit {0}
+LeavesRecords _ = ⊥
+
+-- It was refused. The group may be given up: then the log is left as any record that Rewrite refuses leaves
+-- it. Where nothing was done to its records it may go on as well.
+pub record RefusedPartsKeepTheMap : Type 0 where
+  pub begins : (home : Home) (e t : Shows) (number : ℕ) (b : Batch) (m : LogMap) (error : Error)
+      → Holds home e m [] → IsGroupPart number Begin b → SameTables e t
+      → FailsToAppendTo InRewrite (signed_for b) error e.pipes t.pipes → RewriteLeaves home m t error
+  pub given_up : (home : Home) (e t : Shows) (o : UnendedGroup) (b : Batch) (m : LogMap) (error : Error)
+      → HoldsInGroup home e m o → IsGroupPart o.number Middle b → SameTables e t
+      → FailsToAppendTo InRewrite (signed_for b) error e.pipes t.pipes → RewriteLeaves home m t error
+  pub goes_on : (home : Home) (e t : Shows) (o : UnendedGroup) (b : Batch) (m : LogMap) (error : Error)
+      → HoldsInGroup home e m o → IsGroupPart o.number Middle b → SameTables e t → LeavesRecords error
+      → FailsToAppendTo InRewrite (signed_for b) error e.pipes t.pipes → HoldsInGroup home t m o
+
+-- a sync of Rewrite leaves a group open
+abbrev pub SyncsLeaveGroupsOpen : Type 0
+SyncsLeaveGroupsOpen = (home : Home) (e t : Shows) (o : UnendedGroup) (m : LogMap) → HoldsInGroup home e m o
+    → SameTables e t → SyncsQueue InRewrite e.pipes t.pipes → HoldsInGroup home t m o

@@ -1,0 +1,68 @@
+-- What is true of an engine: which map its log is, and which batches are pending behind it. No code holds
+-- either: each clause on a call is told of whatever map and batches were true of the engine before.
+use Rattle.std.specs.Prelude.{◌≡◌, ◌≤◌, ℕ, List, ◌++◌, Some}
+use Rattle.raft_log_model_laws.specs.Groups.{taken}
+use Rattle.raft_log_disk.specs.Disk.{Disk}
+use Rattle.raft_log_directory_laws.specs.Log.{IsAt, View}
+use Rattle.raft_log_file_blocks.specs.raft_log_file_pair.specs.State.{Ties}
+use Rattle.raft_log_file_blocks.specs.raft_log_file_pair.specs.Lying.{OpenPipes}
+use Rattle.raft_log_file_blocks.specs.raft_log_file_pair.specs.Failing.{LogEndsLying}
+use Rattle.raft_log_table_lists.specs.declared.group_files.GroupFiles.{GroupFiles}
+use Rattle.raft_log_table_lists.specs.Shown.{Shown}
+use Rattle.raft_log_table_lists.specs.Noted.{FilesRise}
+use Rattle.raft_log_file_blocks.specs.raft_log_table_all.specs.Views.{AreMeant, view_of}
+use Rattle.raft_log_file_blocks.specs.Stored.{AreStored, entries_at}
+use Rattle.raft_log_file_blocks.specs.raft_log_file_pair.specs.Pipes.{LogPipes, RunsOn, Said, State}
+use Rattle.raft_log_file_blocks.specs.Blocks.{IsOfLog}
+use Rattle.raft_log_engine_laws.specs.Shows.{Home, LogMap, Shows, log_in, sense}
+
+-- along each group's entries in either queue the files don't fall, up to the last file of the queue
+abbrev pub FilesRiseIn : State → (ℕ → Shown) → Type 0
+FilesRiseIn s v = (g : ℕ) → FilesRise s.append.files.last s.rewrite.files.last (v g)
+
+-- what is noted of atomic groups ends no later than in the last file of Rewrite
+abbrev pub NotesEndIn : State → (ℕ → Shown) → Type 0
+NotesEndIn s v =
+    (g : ℕ) (files : GroupFiles) → (v g).noted ≡ Some files → files.to ≤ s.rewrite.files.last
+
+-- The engine's log, in these directories, is the map m with the batches pending behind it: its pipes run over
+-- a log that is so, each place that its tables show lies there, along a group's entries in files that don't
+-- fall, no file is noted past the last one, what is read at these places is the map after the batches, and
+-- the block that is kept is what was written at its place.
+pub record Holds (home : Home) (e : Shows) (m : LogMap) (pending : List Said) : Type 0 where
+  pub state : State
+  pub map : LogMap
+  pub runs : RunsOn (sense home) e.pipes state
+  pub stored : AreStored state e.tables
+  pub rises : FilesRiseIn state e.tables
+  pub noted : NotesEndIn state e.tables
+  pub meant : AreMeant (entries_at state) e.tables map
+  pub cached : IsOfLog state e.cache
+  pub at : IsAt (Ties (log_in home) state) (view_of e.tables map) m pending
+
+-- the pipes run over a log in these directories that is the map m with the batches pending behind it,
+-- whatever an engine's tables show of it
+pub record RunsAs (home : Home) (v : LogPipes) (m : LogMap) (pending : List Said) : Type 0 where
+  pub state : State
+  pub view : View (List ℕ) (List ℕ)
+  pub runs : RunsOn (sense home) v state
+  pub at : IsAt (Ties (log_in home) state) view m pending
+
+-- of the batches some first ones are synced, the others pending
+pub record RunsEnding (home : Home) (v : LogPipes) (m : LogMap) (pending : List Said) : Type 0 where
+  pub done : List Said
+  pub rest : List Said
+  pub splits : done ++ rest ≡ pending
+  pub runs : RunsAs home v (taken m done) rest
+
+-- so it is of an engine
+pub record EndsAt (home : Home) (e : Shows) (m : LogMap) (pending : List Said) : Type 0 where
+  pub done : List Said
+  pub rest : List Said
+  pub splits : done ++ rest ≡ pending
+  pub holds : Holds home e (taken m done) rest
+
+-- what a failed engine leaves on its disk: its log lies there, from which it may be opened, of the batches
+-- some first ones are synced, the others pending
+abbrev pub IsLeftAt : Home → Disk → LogMap → List Said → Type 0
+IsLeftAt home d m pending = (open_ones : OpenPipes) × LogEndsLying (log_in home) open_ones d m pending

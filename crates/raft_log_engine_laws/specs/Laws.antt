@@ -1,0 +1,57 @@
+-- Each call on an engine's pipes and tables, as a step of its log.
+use Rattle.std.specs.Prelude.{◌≡◌, ℕ, List, [], ◌∷◌, ◌++◌}
+use Rattle.raft_log_model_laws.specs.Groups.{taken}
+use Rattle.raft_log_disk.specs.Causes.{Fails}
+use Rattle.raft_log_record_base.specs.declared.errors.Error.{Error}
+use Rattle.raft_log_record_base.specs.declared.pipe_log.FileBlockHandle.{FileBlockHandle}
+use Rattle.raft_log_record_marks.specs.Meaning.{tagged_items}
+use Rattle.raft_log_record_batches.specs.Batch.{Batch}
+use Rattle.raft_log_file_blocks.specs.Signing.{SaysItself, signed_for}
+use Rattle.raft_log_directory_laws.specs.Calls.Which.{InAppend}
+use Rattle.raft_log_file_blocks.specs.raft_log_table_all.specs.Batch.{MayFollowAll, all_shown}
+use Rattle.raft_log_file_blocks.specs.raft_log_file_pair.specs.Lying.{both_open}
+use Rattle.raft_log_file_blocks.specs.raft_log_file_pair.specs.OnDisk.{LogLiesOn}
+use Rattle.raft_log_file_blocks.specs.raft_log_file_pair.specs.Pipes.{LogPipes, Said, files_of}
+use Rattle.raft_log_file_blocks.specs.raft_log_file_pair.specs.Calls.{AppendsTo, FailsToAppendTo, FailsToSyncQueue, SyncsQueue}
+use Rattle.raft_log_engine_laws.specs.Shows.{Home, IsLaidOut, IsWellMarked, KeepsOrForgets, LogMap, Shows, log_in, said_of}
+use Rattle.raft_log_engine_laws.specs.Holding.{EndsAt, Holds, IsLeftAt, RunsAs}
+use Rattle.raft_log_engine_laws.specs.Writing.{Leaves, items_at}
+
+-- what is known of a batch once it may be written
+pub record MayBeWritten (e : Shows) (b : Batch) : Type 0 where
+  pub some : b.items ≡ [] → ⊥
+  pub marked : IsWellMarked b
+  pub follows : MayFollowAll e.tables (tagged_items (λ e. e) b.items)
+  pub says : SaysItself (signed_for b) b
+  pub laid : IsLaidOut b
+
+-- a batch that the pipes wrote, and that the tables took in the file of its place
+abbrev pub BatchesAreWritten : Type 0
+BatchesAreWritten = (home : Home) (e t : Shows) (b : Batch) (block : FileBlockHandle) (m : LogMap)
+    (pending : List Said) → Holds home e m pending → MayBeWritten e b
+    → AppendsTo InAppend (signed_for b) block e.pipes t.pipes
+    → t.tables ≡ all_shown block.id.seq e.tables (items_at block b) → KeepsOrForgets e t
+    → EndsAt home t m (pending ++ said_of b ∷ [])
+
+-- one that the pipes refused
+abbrev pub RefusalsLeaveNoTrace : Type 0
+RefusalsLeaveNoTrace = (home : Home) (e t : Shows) (b : Batch) (m : LogMap) (pending : List Said)
+    (error : Error) → Holds home e m pending → MayBeWritten e b → t.tables ≡ e.tables → KeepsOrForgets e t
+    → FailsToAppendTo InAppend (signed_for b) error e.pipes t.pipes → Leaves home b m pending e t error
+
+-- a sync
+abbrev pub SyncsAreHeld : Type 0
+SyncsAreHeld = (home : Home) (e t : Shows) (m : LogMap) (pending : List Said) → Holds home e m pending
+    → t.tables ≡ e.tables → KeepsOrForgets e t → SyncsQueue InAppend e.pipes t.pipes
+    → Holds home t (taken m pending) []
+
+-- one that failed
+abbrev pub FailuresLeaveLogs : Type 0
+FailuresLeaveLogs = (home : Home) (v w : LogPipes) (m : LogMap) (pending : List Said)
+    → RunsAs home v m pending → FailsToSyncQueue InAppend v w
+    → Fails v.disk w.disk × IsLeftAt home w.disk m pending
+
+-- the log of an engine lies on its disk, while both pipes run
+abbrev pub EnginesLieOnDisks : Type 0
+EnginesLieOnDisks = (home : Home) (e : Shows) (m : LogMap) (pending : List Said) → Holds home e m pending
+    → LogLiesOn (log_in home) (both_open (files_of e.pipes)) e.pipes.disk m pending

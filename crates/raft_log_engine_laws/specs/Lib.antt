@@ -1,0 +1,25 @@
+pub mod Shows
+pub mod Holding
+pub mod Syncing
+pub mod Trying
+pub mod Writing
+pub mod Reading
+pub mod Fetching
+pub mod Laws
+pub mod Parts
+pub mod GroupWriting
+pub mod Whole
+pub mod Restating
+pub mod Ending
+pub mod Taking
+pub mod LeftOpen
+pub mod Settled
+pub mod Quiet
+pub mod Raising
+pub mod Rewriting
+-- libraries below, passed on to who stands on this one
+pub use Rattle.raft_log_table_one
+pub use Rattle.raft_log_file_blocks.specs.raft_log_table_all
+pub use Rattle.raft_log_file_layout
+pub use Rattle.raft_log_file_blocks.specs.raft_log_file_pair
+pub use Rattle.raft_log_file_blocks

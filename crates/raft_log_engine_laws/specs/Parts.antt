@@ -1,0 +1,93 @@
+-- An engine's log while an atomic group of copies stands open in Rewrite.
+use Rattle.std.specs.Prelude.{◌≡◌, ℕ, ◌≤◌, List, [], ◌∷◌, ◌++◌, map}
+use Rattle.raft_log_model_laws.specs.Item.{Item, Tagged}
+use Rattle.raft_log_model_laws.specs.Item.Item.{Run}
+use Rattle.raft_log_model_laws.specs.Groups.{of_group}
+use Rattle.raft_log_machine_laws.specs.Machine.{AllFit}
+use Rattle.raft_log_record_base.specs.declared.pipe_log.FileBlockHandle.{FileBlockHandle}
+use Rattle.raft_log_record_marks.specs.declared.marking.Marking.TheVariants.{Part}
+use Rattle.raft_log_record_marks.specs.declared.status.AtomicGroupStatus.{AtomicGroupStatus}
+use Rattle.raft_log_record_marks.specs.Marking.{marking_of_items}
+use Rattle.raft_log_record_marks.specs.Meaning.{tagged_items}
+use Rattle.raft_log_record_batches.specs.Batch.{Batch}
+use Rattle.raft_log_record_batches.specs.Places.{entry_bytes}
+use Rattle.raft_log_file_blocks.specs.Signing.{SaysItself, signed_for}
+use Rattle.raft_log_directory_laws.specs.Notes.{GoesOnFrom}
+use Rattle.raft_log_table_lists.specs.declared.place.Place.{Place}
+use Rattle.raft_log_table_lists.specs.Bridge.{Located}
+use Rattle.raft_log_table_lists.specs.Noted.{FilesRise}
+use Rattle.raft_log_file_blocks.specs.raft_log_table_all.specs.Rewriting.{copied_items}
+use Rattle.raft_log_file_blocks.specs.Stored.{Each, EntryLiesIn, entries_at}
+use Rattle.raft_log_file_blocks.specs.raft_log_file_pair.specs.Pipes.{State}
+use Rattle.raft_log_engine_laws.specs.Shows.{Home, IsLaidOut, LogMap, Shows}
+use Rattle.raft_log_engine_laws.specs.Holding.{Holds}
+use Rattle.raft_log_engine_laws.specs.Writing.{items_at}
+
+-- a part of an atomic group that was written: the place of its record, and its batch
+pub record WrittenPart : Type 0 where
+  pub block : FileBlockHandle
+  pub batch : Batch
+
+-- an atomic group that has begun and not ended: its number, the part that began it, and those behind it
+pub record UnendedGroup : Type 0 where
+  pub number : ℕ
+  pub first : WrittenPart
+  pub more : List WrittenPart
+
+-- all its parts
+abbrev pub parts_of : UnendedGroup → List WrittenPart
+parts_of o = o.first ∷ o.more
+
+-- the group that begins with this part
+abbrev pub begun_by : ℕ → WrittenPart → UnendedGroup
+begun_by number p = record { number = number; first = p; more = [] }
+
+-- the group with one more part
+abbrev pub gone_on_by : UnendedGroup → WrittenPart → UnendedGroup
+gone_on_by o p = record { number = o.number; first = o.first; more = o.more ++ p ∷ [] }
+
+-- what a batch says, each entry told by its bytes
+abbrev pub said_items : Batch → List (Tagged (List ℕ) (List ℕ))
+said_items b = tagged_items (entry_bytes b.entries) b.items
+
+-- the batch is this part of the atomic group of that number, its record says it, and no run of it ends at an
+-- index that is too great
+pub record IsGroupPart (number : ℕ) (status : AtomicGroupStatus) (b : Batch) : Type 0 where
+  pub some : b.items ≡ [] → ⊥
+  pub part : marking_of_items b.items ≡ Part number status
+  pub says : SaysItself (signed_for b) b
+  pub laid : IsLaidOut b
+  pub fits : AllFit (said_items b)
+
+-- it holds of the place of each entry of the item
+abbrev pub OfEntries : (Place → Type 0) → Item Place (List ℕ) → Type 0
+OfEntries P (Run f ps) = Each P ps
+OfEntries P x = Unit {0}
+
+-- what stands at the places of the part's entries in Rewrite is what its batch says, group by group
+abbrev pub SaysPart : (Located → List ℕ) → WrittenPart → Type 0
+SaysPart at p =
+    (g : ℕ) → copied_items at (of_group g (items_at p.block p.batch)) ≡ of_group g (said_items p.batch)
+
+-- the part's entries lie in Rewrite, and what stands there is what its batch says
+pub record LiesInRewrite (s : State) (p : WrittenPart) : Type 0 where
+  pub entries : (g : ℕ) → Each (OfEntries (EntryLiesIn s.rewrite)) (of_group g (items_at p.block p.batch))
+  pub says : SaysPart (entries_at s) p
+
+-- the files of the parts don't fall, and lie from the one number to the other
+abbrev pub FilesGoUp : ℕ → ℕ → List WrittenPart → Type 0
+FilesGoUp low high [] = low ≤ high
+FilesGoUp low high (p ∷ ps) = (low ≤ p.block.id.seq) × FilesGoUp p.block.id.seq high ps
+
+-- An engine's log while an atomic group of copies stands open in Rewrite: it is the map, and the tables show
+-- it, as if nothing of the group were there. The records of the group are the last ones of Rewrite, from the
+-- file of its begin on, and its parts lie in these files; no entry that the tables show in Rewrite lies in a
+-- later file than the one with the begin.
+pub record HoldsInGroup (home : Home) (e : Shows) (m : LogMap) (o : UnendedGroup) : Type 0 where
+  pub holds : Holds home e m []
+  pub unended : GoesOnFrom holds.at.files.rewrite o.first.block.id.seq o.number (said_items o.first.batch)
+      (map (λ p. said_items p.batch) o.more)
+  pub parts : Each (LiesInRewrite holds.state) (parts_of o)
+  pub files : FilesGoUp o.first.block.id.seq holds.state.rewrite.files.last (parts_of o)
+  pub rises : (g : ℕ)
+      → FilesRise holds.state.append.files.last o.first.block.id.seq (e.tables g)

@@ -1,0 +1,50 @@
+-- Files that are no longer needed leave a queue's span: where nothing that the tables show lies in them, and,
+-- of Append, no mark is owed to Rewrite, the map stays.
+use Rattle.std.specs.Prelude.{◌≡◌, ℕ, ◌≤◌, None, List, []}
+use Rattle.raft_log_record_base.specs.declared.errors.Error.{Error}
+use Rattle.raft_log_record_base.specs.declared.errors.Error.TheVariants as errors
+use Rattle.raft_log_machine_laws.specs.Whereabouts.{OwesNothing}
+use Rattle.raft_log_directory_laws.specs.Calls.{Which}
+use Rattle.raft_log_directory_laws.specs.Calls.Which.{InAppend, InRewrite}
+use Rattle.raft_log_table_lists.specs.Shown.{Shown, whereabouts}
+use Rattle.raft_log_table_lists.specs.Noted.{IsLeastInRewrite, start_of}
+use Rattle.raft_log_table_one.specs.Files.{IsLeastInAppend}
+use Rattle.raft_log_file_blocks.specs.raft_log_file_pair.specs.Calls.{FailsToPurgeQueue, PurgesQueue}
+use Rattle.raft_log_engine_laws.specs.Shows.{Home, LogMap, Shows}
+use Rattle.raft_log_engine_laws.specs.Holding.{IsLeftAt}
+use Rattle.raft_log_engine_laws.specs.Settled.{HoldsSettled}
+
+-- Append may begin at this file: no group owes a mark, and nothing of Append lies in a file below
+abbrev pub AppendMayBegin : ℕ → (ℕ → Shown) → Type 0
+AppendMayBegin n v = (g : ℕ) → OwesNothing (whereabouts (v g)) × IsLeastInAppend (v g) n
+
+-- Rewrite may begin at this file: of each group nothing of Rewrite lies in a file below, where the files of
+-- atomic groups count from the first of them on
+abbrev pub RewriteMayBegin : ℕ → (ℕ → Shown) → Type 0
+RewriteMayBegin n v =
+    (g : ℕ) → (least : ℕ) × IsLeastInRewrite (v g) least × (n ≤ start_of least (v g).noted)
+
+-- the queue may begin at this file
+abbrev pub MayBegin : Which → ℕ → (ℕ → Shown) → Type 0
+MayBegin InAppend n v = AppendMayBegin n v
+MayBegin InRewrite n v = RewriteMayBegin n v
+
+-- A purge of files below one at which the queue may begin keeps the map. No block is kept behind it.
+abbrev pub PurgesKeepTheMap : Type 0
+PurgesKeepTheMap = (which : Which) (home : Home) (e t : Shows) (m : LogMap) (n : ℕ) → HoldsSettled home e m
+    → MayBegin which n e.tables → t.tables ≡ e.tables → t.cache.place ≡ None → PurgesQueue which n e.pipes t.pipes
+    → HoldsSettled home t m
+
+-- what is true where it was refused: nothing was done; or the engine has failed, and its log is held
+abbrev pub PurgeLeavesHeld : Home → LogMap → Shows → Error → Type 0
+PurgeLeavesHeld home m t errors.Memory = HoldsSettled home t m
+PurgeLeavesHeld home m t (errors.Other fault) = HoldsSettled home t m
+PurgeLeavesHeld home m t errors.NumberRange = HoldsSettled home t m
+PurgeLeavesHeld home m t errors.Failed = IsLeftAt home t.pipes.disk m []
+PurgeLeavesHeld home m t _ = ⊥
+
+-- so it is of either queue
+abbrev pub RefusedPurgesKeepTheMap : Type 0
+RefusedPurgesKeepTheMap = (which : Which) (home : Home) (e t : Shows) (m : LogMap) (n : ℕ) (error : Error)
+    → HoldsSettled home e m → MayBegin which n e.tables → t.tables ≡ e.tables → t.cache.place ≡ None
+    → FailsToPurgeQueue which n error e.pipes t.pipes → PurgeLeavesHeld home m t error

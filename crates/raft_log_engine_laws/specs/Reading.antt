@@ -1,0 +1,76 @@
+-- What is read of an engine's tables alone is the map's.
+use Rattle.std.specs.Prelude.{◌≡◌, ◌<◌, ◌&&◌, ℕ, Bool, true, false, List, Option, None, Some, option_map, bytes_eq}
+use Rattle.std.specs.Cmp.Lexicographic.{slice_cmp}
+use Rattle.std.specs.List.Sorted.{IsStrictlySortedBy}
+use Rattle.std.specs.Map.{keys_of, lookup}
+use Rattle.std.specs.Ordering.{nat_cmp}
+use Rattle.raft_log_model_laws.specs.Groups.{taken}
+use Rattle.raft_log_model_laws.specs.Meaning.Slot.{Index, Key}
+use Rattle.raft_log_model_laws.specs.Meaning.Content.{Value}
+use Rattle.raft_log_table_lists.specs.Shown.{KeyValue, Shown}
+use Rattle.raft_log_table_lists.specs.Bridge.{bytes_held}
+use Rattle.raft_log_table_lists.specs.Listing.{ListsAll, is_below, is_from, values_within}
+use Rattle.raft_log_table_one.specs.Reads.{first_of, last_of}
+use Rattle.raft_log_file_blocks.specs.raft_log_file_pair.specs.Pipes.{Said}
+use Rattle.raft_log_engine_laws.specs.Shows.{Home, LogMap, Shows}
+use Rattle.raft_log_engine_laws.specs.Holding.{Holds}
+
+-- the first index of a group at which an entry stands, if there is one
+abbrev pub IsFirstIn : LogMap → ℕ → Option ℕ → Type 0
+IsFirstIn m g None = (i : ℕ) → m g (Index i) ≡ None
+IsFirstIn m g (Some i) = (m g (Index i) ≡ None → ⊥) × ((j : ℕ) → j < i → m g (Index j) ≡ None)
+
+-- the last one
+abbrev pub IsLastIn : LogMap → ℕ → Option ℕ → Type 0
+IsLastIn m g None = (i : ℕ) → m g (Index i) ≡ None
+IsLastIn m g (Some i) = (m g (Index i) ≡ None → ⊥) × ((j : ℕ) → i < j → m g (Index j) ≡ None)
+
+-- the value that stands under a key, if there is one
+abbrev pub StandsUnder : LogMap → ℕ → List ℕ → Option (List ℕ) → Type 0
+StandsUnder m g k value = m g (Key k) ≡ option_map Value value
+
+-- A group's first index is told: what the tables show, which is the map's, once the pending batches are
+-- taken.
+pub record ReadsFirst (e : Shows) (g : ℕ) (index : Option ℕ) : Type 0 where
+  pub shown : index ≡ first_of (e.tables g)
+  pub exact : (home : Home) (m : LogMap) (pending : List Said) → Holds home e m pending
+      → IsFirstIn (taken m pending) g index
+
+-- so is its last one
+pub record ReadsLast (e : Shows) (g : ℕ) (index : Option ℕ) : Type 0 where
+  pub shown : index ≡ last_of (e.tables g)
+  pub exact : (home : Home) (m : LogMap) (pending : List Said) → Holds home e m pending
+      → IsLastIn (taken m pending) g index
+
+-- and the value of a key
+pub record ReadsValue (e : Shows) (g : ℕ) (key : List ℕ) (value : Option (List ℕ)) : Type 0 where
+  pub shown : value ≡ bytes_held ((e.tables g).held key)
+  pub exact : (home : Home) (m : LogMap) (pending : List Said) → Holds home e m pending
+      → StandsUnder (taken m pending) g key value
+
+-- whether a key is asked for: it isn't below the start, and is below the end
+abbrev pub is_within : Option (List ℕ) → Option (List ℕ) → List ℕ → Bool
+is_within start end k = is_from start k && is_below end k
+
+-- the pairs are the keys of a group that are asked for, each once, in the order of their bytes, with their
+-- values
+pub record AreKeysOf (m : LogMap) (g : ℕ) (start end : Option (List ℕ)) (es : List (List ℕ × List ℕ))
+    : Type 0 where
+  pub rising : IsStrictlySortedBy (slice_cmp nat_cmp) (keys_of es)
+  pub inside : (k : List ℕ) → is_within start end k ≡ true → StandsUnder m g k (lookup (bytes_eq k) es)
+  pub outside : (k : List ℕ) → is_within start end k ≡ false → lookup (bytes_eq k) es ≡ None
+
+-- so are all that are told
+pub record ReadsKeys (e : Shows) (g : ℕ) (start end : Option (List ℕ)) (es : List (List ℕ × List ℕ))
+    : Type 0 where
+  pub shown : ListsAll (values_within start end (e.tables g)) es
+  pub exact : (home : Home) (m : LogMap) (pending : List Said) → Holds home e m pending
+      → AreKeysOf (taken m pending) g start end es
+
+-- what tables show may be told of an engine
+pub record TablesTell : Type 0 where
+  pub first : (e : Shows) (g : ℕ) → ReadsFirst e g (first_of (e.tables g))
+  pub last : (e : Shows) (g : ℕ) → ReadsLast e g (last_of (e.tables g))
+  pub value : (e : Shows) (g : ℕ) (key : List ℕ) → ReadsValue e g key (bytes_held ((e.tables g).held key))
+  pub keys : (e : Shows) (g : ℕ) (start end : Option (List ℕ)) (es : List (List ℕ × List ℕ))
+      → ListsAll (values_within start end (e.tables g)) es → ReadsKeys e g start end es

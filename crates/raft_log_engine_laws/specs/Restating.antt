@@ -1,0 +1,64 @@
+-- What a purge writes of a group to rewrite it: its rewritten entries, from an index on, in pieces, and
+-- rewritten keys with their values.
+use Rattle.std.specs.Prelude.{◌≡◌, ℕ, ◌+◌, ◌≤◌, false, List, [], ◌∷◌, ◌++◌, length, Option, Some}
+use Rattle.raft_log_model_laws.specs.Item.{Item}
+use Rattle.raft_log_model_laws.specs.Item.Item.{Put, Run}
+use Rattle.raft_log_model_laws.specs.Meaning.{Content, Slot}
+use Rattle.raft_log_model_laws.specs.Groups.{of_group}
+use Rattle.raft_log_machine_laws.specs.Whereabouts.{RunStands}
+use Rattle.raft_log_record_batches.specs.Batch.{Batch}
+use Rattle.raft_log_table_lists.specs.Shown.{KeyValue, Shown}
+use Rattle.raft_log_file_blocks.specs.Stored.{Each}
+use Rattle.raft_log_engine_laws.specs.Shows.{LogMap}
+use Rattle.raft_log_engine_laws.specs.Parts.{said_items}
+use Rattle.raft_log_engine_laws.specs.Whole.{HasWhole}
+
+-- what batches say of a group, one after another
+abbrev pub said_of_group : ℕ → List Batch → List (Item (List ℕ) (List ℕ))
+said_of_group g [] = []
+said_of_group g (b ∷ bs) = of_group g (said_items b) ++ said_of_group g bs
+
+-- entries in pieces, as runs from an index on
+abbrev pub runs_in : ℕ → List (List (List ℕ)) → List (Item (List ℕ) (List ℕ))
+runs_in f [] = []
+runs_in f (es ∷ more) = Run f es ∷ runs_in (f + length es) more
+
+-- the entries of all pieces
+abbrev pub entries_of_pieces : List (List (List ℕ)) → List (List ℕ)
+entries_of_pieces [] = []
+entries_of_pieces (es ∷ more) = es ++ entries_of_pieces more
+
+-- a key and its value
+pub record KeyBytes : Type 0 where
+  pub key : List ℕ
+  pub value : List ℕ
+
+-- the keys are put with their values
+abbrev pub puts : List KeyBytes → List (Item (List ℕ) (List ℕ))
+puts [] = []
+puts (k ∷ ks) = Put k.key k.value ∷ puts ks
+
+-- the key has the value, and stands in Rewrite
+pub record HoldsRewritten (v : Shown) (k : KeyBytes) : Type 0 where
+  pub held : KeyValue
+  pub is : v.held k.key ≡ Some held
+  pub bytes : held.bytes ≡ k.value
+  pub rewritten : held.appended ≡ false
+
+-- The batches say of a group what stands of it in Rewrite: the entries from an index on, up to the last
+-- rewritten one, with their bytes, and rewritten keys with their values.
+pub record RestatesGroup (g : ℕ) (bs : List Batch) (v : Shown) (m : Slot → Option (Content (List ℕ) (List ℕ)))
+    : Type 0 where
+  pub first : ℕ
+  pub pieces : List (List (List ℕ))
+  pub keys : List KeyBytes
+  pub said : said_of_group g bs ≡ runs_in first pieces ++ puts keys
+  pub from : v.first ≤ first
+  pub to : first + length (entries_of_pieces pieces) ≡ v.first + v.rewritten
+  pub entries : RunStands m first (entries_of_pieces pieces)
+  pub held : Each (HoldsRewritten v) keys
+
+-- Batches that say so of each group have a whole group of copies, whatever the gate.
+abbrev pub RestatedGroupsAreWhole : Type 0
+RestatedGroupsAreWhole = (gate : Option ℕ) (bs : List Batch) (v : ℕ → Shown) (m : LogMap)
+    → ((g : ℕ) → RestatesGroup g bs (v g) (m g)) → HasWhole gate bs v m

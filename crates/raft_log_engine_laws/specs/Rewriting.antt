@@ -1,0 +1,92 @@
+-- Records that are written to Rewrite: the marks that are owed, and copies. The map stays at every exit.
+use Rattle.std.specs.Prelude.{◌≡◌, ℕ, false, Option, List, [], map}
+use Rattle.raft_log_model_laws.specs.Item.{Tagged}
+use Rattle.raft_log_model_laws.specs.Groups.{of_group}
+use Rattle.raft_log_model_laws.specs.Renamed.{renamed_tagged}
+use Rattle.raft_log_record_base.specs.declared.errors.Error.{Error}
+use Rattle.raft_log_record_base.specs.declared.errors.Error.TheVariants as errors
+use Rattle.raft_log_record_base.specs.declared.pipe_log.FileBlockHandle.{FileBlockHandle}
+use Rattle.raft_log_record_marks.specs.declared.marking.Marking.TheVariants.{Unmarked}
+use Rattle.raft_log_record_marks.specs.Marking.{marking_of_items}
+use Rattle.raft_log_record_marks.specs.Meaning.{tagged_items}
+use Rattle.raft_log_record_batches.specs.Batch.{Batch}
+use Rattle.raft_log_file_blocks.specs.Signing.{SaysItself, signed_for}
+use Rattle.raft_log_directory_laws.specs.Calls.Which.{InRewrite}
+use Rattle.raft_log_table_lists.specs.Shown.{Shown}
+use Rattle.raft_log_table_lists.specs.Bridge.{Located, in_queue, unmarked}
+use Rattle.raft_log_file_blocks.specs.raft_log_table_all.specs.Owing.{AreOwedAt}
+use Rattle.raft_log_file_blocks.specs.raft_log_table_all.specs.Rewriting.{AreCopies, all_rewritten}
+use Rattle.raft_log_record_batches.specs.Places.{entry_bytes}
+use Rattle.raft_log_file_blocks.specs.raft_log_table_all.specs.Views.{AreMeant}
+use Rattle.raft_log_engine_laws.specs.Writing.{items_at}
+use Rattle.raft_log_file_blocks.specs.raft_log_file_pair.specs.Calls.{AppendsTo, FailsToAppendTo}
+use Rattle.raft_log_engine_laws.specs.Shows.{Home, IsLaidOut, KeepsOrForgets, LogMap, Shows}
+use Rattle.raft_log_engine_laws.specs.Holding.{Holds, IsLeftAt}
+use Rattle.raft_log_engine_laws.specs.Settled.{HoldsSettled, SameTables}
+
+-- what is known of a batch that counts by itself once it is in Rewrite: it is no part of an atomic group
+pub record CountsAlone (b : Batch) : Type 0 where
+  pub some : b.items ≡ [] → ⊥
+  pub plain : marking_of_items b.items ≡ Unmarked
+  pub says : SaysItself (signed_for b) b
+  pub laid : IsLaidOut b
+
+-- What is true where Rewrite refused a record, by the error: cut back, all that was written there before is
+-- synced; left out, the log is as it was; and where the engine has failed, its log is held, and the record
+-- may be there.
+abbrev pub RewriteLeaves : Home → LogMap → Shows → Error → Type 0
+RewriteLeaves home m t (errors.Io kind) = HoldsSettled home t m
+RewriteLeaves home m t (errors.TryAgain text) = HoldsSettled home t m
+RewriteLeaves home m t errors.NumberRange = Holds home t m []
+RewriteLeaves home m t errors.Memory = Holds home t m []
+RewriteLeaves home m t errors.Failed = IsLeftAt home t.pipes.disk m []
+RewriteLeaves home m t _ = ⊥
+
+-- Marks.
+
+-- the batch says the marks that the groups owe, each of them once and none left out
+pub record SaysOwed (b : Batch) (v : ℕ → Shown) : Type 0 where
+  pub alone : CountsAlone b
+  pub owed : (g : ℕ) → AreOwedAt (v g) (of_group g (tagged_items (λ e. e) b.items))
+
+-- The marks that are owed were written to Rewrite: the log is so with tables that owe none.
+abbrev pub WrittenMarksKeepTheMap : Type 0
+WrittenMarksKeepTheMap = (home : Home) (e t : Shows) (b : Batch) (block : FileBlockHandle) (m : LogMap)
+    → Holds home e m [] → SaysOwed b e.tables → AppendsTo InRewrite (signed_for b) block e.pipes t.pipes
+    → t.tables ≡ (λ g. unmarked (e.tables g)) → KeepsOrForgets e t → Holds home t m []
+
+-- They were refused: the tables owe them still.
+abbrev pub RefusedMarksKeepTheMap : Type 0
+RefusedMarksKeepTheMap = (home : Home) (e t : Shows) (b : Batch) (m : LogMap) (error : Error)
+    → Holds home e m [] → SaysOwed b e.tables → SameTables e t
+    → FailsToAppendTo InRewrite (signed_for b) error e.pipes t.pipes → RewriteLeaves home m t error
+
+-- Copies.
+
+-- what stands at the places of the batch's entries in Rewrite is what the batch says
+abbrev pub SaysAt : (Located → List ℕ) → FileBlockHandle → Batch → Type 0
+SaysAt at block b = map (renamed_tagged (λ p. at (in_queue false p))) (items_at block b)
+    ≡ tagged_items (entry_bytes b.entries) b.items
+
+-- The batch has copies that the gate lets move, of what the tables show of the map: so they are wherever it
+-- is written and whatever else stands anywhere.
+abbrev pub HasCopies : Option ℕ → Batch → (ℕ → Shown) → LogMap → Type 0
+HasCopies gate b v m = (block : FileBlockHandle) (at : Located → List ℕ) → AreMeant at v m → SaysAt at block b
+    → (g : ℕ) → AreCopies at gate block.id.seq (v g) (of_group g (items_at block b))
+
+-- what the tables show once the copies were written at this place
+abbrev pub moved_to : Option ℕ → FileBlockHandle → Batch → (ℕ → Shown) → ℕ → Shown
+moved_to gate block b v g = all_rewritten gate block.id.seq (v g) (of_group g (items_at block b))
+
+-- Copies were written to Rewrite, and the tables took them in the file of their place.
+abbrev pub WrittenCopiesKeepTheMap : Type 0
+WrittenCopiesKeepTheMap = (home : Home) (e t : Shows) (gate : Option ℕ) (b : Batch) (block : FileBlockHandle)
+    (m : LogMap) → Holds home e m [] → CountsAlone b → HasCopies gate b e.tables m
+    → AppendsTo InRewrite (signed_for b) block e.pipes t.pipes → t.tables ≡ moved_to gate block b e.tables
+    → KeepsOrForgets e t → Holds home t m []
+
+-- They were refused: all stands where it stood.
+abbrev pub RefusedCopiesKeepTheMap : Type 0
+RefusedCopiesKeepTheMap = (home : Home) (e t : Shows) (gate : Option ℕ) (b : Batch) (m : LogMap)
+    (error : Error) → Holds home e m [] → CountsAlone b → HasCopies gate b e.tables m → SameTables e t
+    → FailsToAppendTo InRewrite (signed_for b) error e.pipes t.pipes → RewriteLeaves home m t error

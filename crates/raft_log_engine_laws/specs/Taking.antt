@@ -1,0 +1,66 @@
+-- The tables of all groups take a whole atomic group of copies of one of them.
+use Rattle.std.specs.Prelude.{◌≡◌, ◌==◌, ℕ, true, false, List, [], ◌∷◌, ◌++◌, Option}
+use Rattle.raft_log_record_base.specs.declared.pipe_log.FileBlockHandle.{FileBlockHandle}
+use Rattle.raft_log_record_marks.specs.declared.status.AtomicGroupStatus.TheVariants.{End}
+use Rattle.raft_log_record_batches.specs.Batch.{Batch}
+use Rattle.raft_log_file_blocks.specs.Signing.{signed_for}
+use Rattle.raft_log_directory_laws.specs.Calls.Which.{InRewrite}
+use Rattle.raft_log_table_lists.specs.declared.group_files.GroupFiles.{GroupFiles}
+use Rattle.raft_log_table_lists.specs.Shown.{IsOrderly}
+use Rattle.raft_log_table_lists.specs.Bridge.{Located}
+use Rattle.raft_log_table_lists.specs.Noted.{FilesRise}
+use Rattle.raft_log_file_blocks.specs.raft_log_table_all.specs.declared.mem_tables.MemTables.{MemTables}
+use Rattle.raft_log_file_blocks.specs.raft_log_table_all.specs.Joining.{noted_in}
+use Rattle.raft_log_file_blocks.specs.raft_log_table_all.specs.Rewriting.{TakesRewritten}
+use Rattle.raft_log_file_blocks.specs.raft_log_table_all.specs.Tables.{has_table, raw_of, replayed_of, shown_of}
+use Rattle.raft_log_file_blocks.specs.raft_log_file_pair.specs.Calls.{AppendsTo}
+use Rattle.raft_log_file_blocks.specs.raft_log_file_pair.specs.Pipes.{LogPipes}
+use Rattle.raft_log_file_blocks.specs.declared.block_cache.BlockCache.{BlockCache}
+use Rattle.raft_log_engine_laws.specs.Shows.{Home, KeepsOrForgets, LogMap, shows}
+use Rattle.raft_log_engine_laws.specs.Holding.{Holds}
+use Rattle.raft_log_engine_laws.specs.Writing.{items_at}
+use Rattle.raft_log_engine_laws.specs.Parts.{FilesGoUp, HoldsInGroup, IsGroupPart, UnendedGroup, WrittenPart, parts_of}
+use Rattle.raft_log_engine_laws.specs.Whole.{IsWholeCopy, batches_of, filed_items, parts_moved}
+use Rattle.raft_log_engine_laws.specs.Restating.{RestatesGroup, said_of_group}
+use Rattle.raft_log_engine_laws.specs.Ending.{ShowsWhole, files_of_group}
+
+-- the tables show what they showed before these parts, but that the parts moved
+abbrev pub MovedParts : Option ℕ → List WrittenPart → MemTables → MemTables → Type 0
+MovedParts gate ps old new = (g : ℕ) → shown_of new g ≡ parts_moved gate g ps (shown_of old g)
+
+-- one more part moved
+abbrev pub MovesOnePart : Type 0
+MovesOnePart = (gate : Option ℕ) (ps : List WrittenPart) (block : FileBlockHandle) (b : Batch)
+    (old m new : MemTables) → MovedParts gate ps old m
+    → TakesRewritten gate block.id.seq m new (items_at block b)
+    → MovedParts gate (ps ++ record { block = block; batch = b } ∷ []) old new
+
+-- the files of the atomic group are noted in the table of one group
+pub record NotesFiles (group : ℕ) (files : GroupFiles) (old new : MemTables) : Type 0 where
+  pub noted : replayed_of new group ≡ noted_in files (raw_of old group)
+  pub others : (g : ℕ) → (group == g) ≡ false → replayed_of new g ≡ replayed_of old g
+
+-- All parts moved, which have items of one group alone, and that has a table; and then the group's files were
+-- noted there: the tables show the whole group.
+abbrev pub TablesTakeWholeGroups : Type 0 → Type 0
+TablesTakeWholeGroups E = (at : Located → E) (gate : Option ℕ) (a : ℕ) (ps : List WrittenPart)
+    (files : GroupFiles) (group : ℕ) (old m new : MemTables) → ((g : ℕ) → IsOrderly (shown_of old g))
+    → ((g : ℕ) → FilesRise a files.from (shown_of old g)) → FilesGoUp files.from files.to ps
+    → ((g : ℕ) → IsWholeCopy at gate (shown_of old g) (filed_items g ps))
+    → ((g : ℕ) → (group == g) ≡ false → filed_items g ps ≡ []) → has_table m group ≡ true
+    → MovedParts gate ps old m → NotesFiles group files m new
+    → ShowsWhole gate ps files (shown_of old) (shown_of new)
+
+-- A purge ends the group in which it rewrites one raft group: the record with the end was written, the tables
+-- took all parts, and noted the files there; and the batches say what stands of it in Rewrite, and of no
+-- other. So the engine's log is what it was.
+abbrev pub EndsOverTables : Type 0
+EndsOverTables = (home : Home) (v w : LogPipes) (old m new : MemTables) (cache after : BlockCache)
+    (gate : Option ℕ) (o : UnendedGroup) (b : Batch) (block : FileBlockHandle) (map : LogMap) (group : ℕ)
+    → HoldsInGroup home (shows v old cache) map o → IsGroupPart o.number End b
+    → ((g : ℕ) → RestatesGroup g (batches_of (parts_of o) ++ b ∷ []) (shown_of old g) (map g))
+    → ((g : ℕ) → (group == g) ≡ false → said_of_group g (batches_of (parts_of o) ++ b ∷ []) ≡ [])
+    → AppendsTo InRewrite (signed_for b) block v w → has_table m group ≡ true
+    → MovedParts gate (parts_of o ++ record { block = block; batch = b } ∷ []) old m
+    → NotesFiles group (files_of_group o block) m new
+    → KeepsOrForgets (shows v old cache) (shows w new after) → Holds home (shows w new after) map []

@@ -1,0 +1,32 @@
+-- The two tries that a write has: where there was no space for a record at the first one, Append has gone on
+-- in its next file, and the record is tried there.
+use Rattle.std.specs.Prelude.{◌≡◌, ◌⊎◌, ℕ, List}
+use Rattle.raft_log_record_base.specs.declared.errors.Error.{Error}
+use Rattle.raft_log_record_base.specs.declared.errors.Error.TheVariants as errors
+use Rattle.raft_log_record_base.specs.declared.pipe_log.FileBlockHandle.{FileBlockHandle}
+use Rattle.raft_log_record_base.specs.declared.pipe_log.LogFileContext.{LogFileContext}
+use Rattle.raft_log_disk.specs.Causes.{IsLater}
+use Rattle.raft_log_directory_laws.specs.Calls.Which.{InAppend}
+use Rattle.raft_log_file_blocks.specs.raft_log_file_pair.specs.Pipes.{LogPipes}
+use Rattle.raft_log_file_blocks.specs.raft_log_file_pair.specs.Calls.{AppendsTo, FailsToAppendTo}
+use Rattle.raft_log_file_blocks.specs.raft_log_file_pipe.specs.Appending.{SaysTryAgain}
+
+-- a record was tried, and there was no space for it
+abbrev pub TriesInVain : (LogFileContext → List ℕ) → LogPipes → LogPipes → Type 0
+TriesInVain signed v w =
+    (error : Error) × SaysTryAgain error × IsLater v.disk w.disk × FailsToAppendTo InAppend signed error v w
+
+-- a record is written: at the first try, or at the second
+abbrev pub WritesAt : (LogFileContext → List ℕ) → FileBlockHandle → LogPipes → LogPipes → Type 0
+WritesAt signed block v w = AppendsTo InAppend signed block v w
+    ⊎ ((mid : LogPipes) × TriesInVain signed v mid × AppendsTo InAppend signed block mid w)
+
+-- it is refused: at the first try, and not for want of space; or at the second
+abbrev pub RefusesAt : (LogFileContext → List ℕ) → Error → LogPipes → LogPipes → Type 0
+RefusesAt signed error v w = ((SaysTryAgain error → ⊥) × FailsToAppendTo InAppend signed error v w)
+    ⊎ ((mid : LogPipes) × TriesInVain signed v mid × IsLater mid.disk w.disk
+    × FailsToAppendTo InAppend signed error mid w)
+
+-- it was tried twice, and there was no space either time
+abbrev pub TriesTwiceInVain : (LogFileContext → List ℕ) → LogPipes → LogPipes → Type 0
+TriesTwiceInVain signed v w = (mid : LogPipes) × TriesInVain signed v mid × TriesInVain signed mid w

@@ -1,0 +1,108 @@
+-- A batch is written: what an engine shows then, and what is true of it, answered and refused.
+use Rattle.std.specs.Prelude.{◌≡◌, ◌⊎◌, ◌^◌, ◌≤◌, ◌↔◌, IsTrue, ℕ, Bool, true, false, None, List, [], ◌∷◌, ◌++◌}
+use Rattle.raft_log_model_laws.specs.Item.{Tagged}
+use Rattle.raft_log_model_laws.specs.Groups.{of_group, taken}
+use Rattle.raft_log_disk.specs.Causes.{Fails, IsLater}
+use Rattle.raft_log_record_base.specs.declared.errors.Error.{Error}
+use Rattle.raft_log_record_base.specs.declared.errors.Error.TheVariants as errors
+use Rattle.raft_log_record_base.specs.declared.pipe_log.FileBlockHandle.{FileBlockHandle}
+use Rattle.raft_log_record_marks.specs.Meaning.{tagged_items}
+use Rattle.raft_log_record_frames.specs.Record.{record_len}
+use Rattle.raft_log_record_batches.specs.Batch.{Batch, IsButBuffer, IsReadyForEach, emptied}
+use Rattle.raft_log_file_blocks.specs.Signing.{signed_for}
+use Rattle.raft_log_table_lists.specs.declared.place.Place.{Place}
+use Rattle.raft_log_table_lists.specs.Shown.{Shown}
+use Rattle.raft_log_file_blocks.specs.raft_log_table_all.specs.Batch.{MayFollowAll, all_shown, counts_at_end}
+use Rattle.raft_log_file_blocks.specs.Written.{placed_items}
+use Rattle.raft_log_file_blocks.specs.raft_log_file_pair.specs.Pipes.{Said}
+use Rattle.raft_log_engine_laws.specs.Shows.{IsWellMarked, IsWritable, KeepsOrForgets, Home, LogMap, Shows, has_failed, said_of}
+use Rattle.raft_log_engine_laws.specs.Syncing.{RunsOnSame, SyncsAppend}
+use Rattle.raft_log_engine_laws.specs.Trying.{TriesTwiceInVain}
+use Rattle.raft_log_file_blocks.specs.raft_log_file_pipe.specs.Appending.{SaysTryAgain}
+use Rattle.raft_log_engine_laws.specs.Holding.{EndsAt, Holds, IsLeftAt, RunsEnding}
+
+-- the items of a batch that was written at this place, with the places of their entries
+abbrev pub items_at : FileBlockHandle → Batch → List (Tagged Place (List ℕ))
+items_at block b = placed_items block b.items b.entries
+
+-- A batch that isn't empty was written at this place: the tables took it in the file of its place, and it is
+-- pending behind the others, of which a rotation may have synced some first ones. With a sync none is
+-- pending.
+pub record Writes (b : Batch) (sync : Bool) (s t : Shows) : Type 0 where
+  pub block : FileBlockHandle
+  pub some : b.items ≡ [] → ⊥
+  pub lived : has_failed s ≡ false
+  pub alive : has_failed t ≡ false
+  pub tables : t.tables ≡ all_shown block.id.seq s.tables (items_at block b)
+  pub counts : (g : ℕ) → t.counts g ≡ counts_at_end (s.counts g) (of_group g (items_at block b))
+  pub cache : KeepsOrForgets s t
+  pub later : IsLater s.pipes.disk t.pipes.disk
+  pub log : (home : Home) (m : LogMap) (pending : List Said) → Holds home s m pending
+      → RunsEnding home t.pipes m (pending ++ said_of b ∷ [])
+  pub holds : (home : Home) (m : LogMap) (pending : List Said) → Holds home s m pending
+      → EndsAt home t m (pending ++ said_of b ∷ [])
+  pub synced : sync ≡ true → (home : Home) (m : LogMap) (pending : List Said) → Holds home s m pending
+      → Holds home t (taken m (pending ++ said_of b ∷ [])) []
+
+-- An empty batch: nothing is written, and Append is synced if it was asked for.
+abbrev pub WritesNothing : Bool → Shows → Shows → Type 0
+WritesNothing true s t = SyncsAppend s t
+WritesNothing false s t = (t ≡ s) × (has_failed s ≡ false)
+
+-- A batch was written, and its record has so many bytes; an empty one has none.
+abbrev pub WritesBytes : Batch → Bool → ℕ → Shows → Shows → Type 0
+WritesBytes b sync len s t = ((b.items ≡ []) × (len ≡ 0) × WritesNothing sync s t)
+    ⊎ (IsReadyForEach len b.items b.entries × Writes b sync s t)
+
+-- why a batch isn't taken by tables that show this, before anything is done
+abbrev pub IsUnfit : Batch → (ℕ → Shown) → Error → Type 0
+IsUnfit b v errors.Hole = MayFollowAll v (tagged_items (λ e. e) b.items) → ⊥
+IsUnfit b v errors.Full = 2 ^ 56 ≤ record_len b.items b.entries
+IsUnfit b v (errors.InvalidArgument text) = IsWritable b.state → IsWellMarked b → ⊥
+IsUnfit b v errors.Memory = Unit {0}
+IsUnfit b v _ = ⊥
+
+-- What is true where the pipes refused, by the error: cut back, all batches before are synced; left out, some
+-- first ones may be; and where the engine has failed, its log is held, with the batch or without it. Behind
+-- `Io`, `TryAgain` and `Failed` a file call has failed.
+abbrev pub Leaves : Home → Batch → LogMap → List Said → Shows → Shows → Error → Type 0
+Leaves home b m pending s t (errors.Io kind) =
+    Fails s.pipes.disk t.pipes.disk × Holds home t (taken m pending) []
+Leaves home b m pending s t (errors.TryAgain text) =
+    Fails s.pipes.disk t.pipes.disk × Holds home t (taken m pending) []
+Leaves home b m pending s t errors.NumberRange = EndsAt home t m pending
+Leaves home b m pending s t errors.Memory = EndsAt home t m pending
+Leaves home b m pending s t errors.Failed = Fails s.pipes.disk t.pipes.disk
+    × (IsLeftAt home t.pipes.disk m pending ⊎ IsLeftAt home t.pipes.disk m (pending ++ said_of b ∷ []))
+Leaves home b m pending s t _ = ⊥
+
+-- The pipes refused: an engine that hasn't failed shows what it showed, and keeps no block. That there is no
+-- space is told after two tries.
+pub record PipesRefused (b : Batch) (error : Error) (s t : Shows) : Type 0 where
+  pub lived : has_failed s ≡ false
+  pub tells : IsTrue (has_failed t) ↔ (error ≡ errors.Failed)
+  pub same : has_failed t ≡ false → RunsOnSame s t
+  pub forgets : has_failed t ≡ false → t.cache.place ≡ None
+  pub tries : SaysTryAgain error → TriesTwiceInVain (signed_for b) s.pipes t.pipes
+  pub later : IsLater s.pipes.disk t.pipes.disk
+  pub leaves : (home : Home) (m : LogMap) (pending : List Said) → Holds home s m pending
+      → Leaves home b m pending s t error
+
+-- A batch wasn't written: it isn't taken, or the engine had failed before, and nothing was done; or the pipes
+-- refused.
+abbrev pub NotWritten : Batch → Error → Shows → Shows → Type 0
+NotWritten b error s t = (IsUnfit b s.tables error × (t ≡ s))
+    ⊎ ((error ≡ errors.Failed) × (has_failed s ≡ true) × (t ≡ s))
+    ⊎ PipesRefused b error s t
+
+-- What becomes of a batch that is written: an empty one stays, another one is emptied.
+abbrev pub IsEmptied : Batch → Batch → Type 0
+IsEmptied old new = ((old.items ≡ []) × (new ≡ old)) ⊎ IsButBuffer (emptied old) new
+
+-- a batch that wasn't written is as it was, but that its record may have been made
+abbrev pub IsBatchKept : Batch → Batch → Type 0
+IsBatchKept old new = new ≡ record old { state = new.state; buffer = new.buffer }
+
+-- of a batch that was refused: it is kept, unless the engine failed behind it
+abbrev pub IsKeptUnlessFailed : Error → Batch → Batch → Type 0
+IsKeptUnlessFailed error old new = IsBatchKept old new ⊎ ((error ≡ errors.Failed) × IsButBuffer (emptied old) new)

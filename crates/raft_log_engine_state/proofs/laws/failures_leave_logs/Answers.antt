@@ -1,5 +1,0 @@
-use Rattle.raft_log_engine_state.proofs.Refusing.{unsynced_left}
-use Rattle.raft_log_engine_state.proofs.laws.failures_leave_logs.Goals as goal
-
-pub returns : goal.returns
-returns c = unsynced_left

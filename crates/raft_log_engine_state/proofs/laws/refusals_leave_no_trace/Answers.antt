@@ -1,5 +1,0 @@
-use Rattle.raft_log_engine_state.proofs.Refusing.{refused_leaves}
-use Rattle.raft_log_engine_state.proofs.laws.refusals_leave_no_trace.Goals as goal
-
-pub returns : goal.returns
-returns c = refused_leaves

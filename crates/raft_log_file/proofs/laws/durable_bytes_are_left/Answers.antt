@@ -1,5 +1,0 @@
-use Rattle.raft_log_file.proofs.ChainLaws.{durable_is_left}
-use Rattle.raft_log_file.proofs.laws.durable_bytes_are_left.Goals as goal
-
-pub returns : goal.returns
-returns c = durable_is_left

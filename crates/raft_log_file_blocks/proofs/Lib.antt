@@ -1,0 +1,11 @@
+pub mod KeptBlocks
+mod Entries
+mod Signed
+mod Parts
+pub mod Keeping
+pub mod Staying
+pub mod Reading
+pub mod Taking
+mod Laid
+pub mod Lasting
+mod Anywhere

@@ -1,0 +1,118 @@
+-- The entry block that is kept, and what is read of it.
+use Rattle.std.specs.Prelude.{◌≡◌, ℕ, ◌+◌, ◌-◌, ◌≤◌, ◌⊎◌, None, Option, Some, List, [], ◌∷◌, length, IsOk, Err}
+use Rattle.raft_log_record_base.specs.declared.errors.Error.{Error}
+use Rattle.raft_log_record_base.specs.declared.errors.Error.TheVariants as errors
+use Rattle.raft_log_record_base.specs.declared.pipe_log.FileBlockHandle.{FileBlockHandle}
+use Rattle.raft_log_record_base.specs.Fault.{FailsOrMemory}
+use Rattle.raft_log_record_items.specs.declared.entry.EntryIndex.{EntryIndex}
+use Rattle.raft_log_record_items.specs.Message.{Parses}
+use Rattle.raft_log_record_frames.specs.Record.{block_of}
+use Rattle.raft_log_file_pipe.specs.Reading.{IsReadAt, IsReadRefused}
+use Rattle.raft_log_file_layout.specs.declared.record.LogRecord.{LogRecord}
+use Rattle.raft_log_file_pair.specs.State.{Spanned, pipe_at, spanned_at}
+use Rattle.raft_log_file_pair.specs.Pipes.{LogPipes, LogSense, RunsOn, State, files_of, which_of}
+use Rattle.raft_log_file_blocks.specs.Stored.{BlockLiesIn, KeepsLog, block_at, part}
+use Rattle.raft_log_file_blocks.specs.declared.block_cache.BlockCache.{BlockCache}
+
+-- these are the bytes at a place of the pipes' files
+abbrev pub StandsAt : LogPipes → FileBlockHandle → List ℕ → Type 0
+StandsAt v block bytes = IsReadAt (pipe_at (which_of block.id.queue) (files_of v)) block bytes v.disk
+
+-- another block than this one was kept, or none
+abbrev pub IsNotKept : FileBlockHandle → BlockCache → Type 0
+IsNotKept block cache = cache.place ≡ Some block → ⊥
+
+-- the block is kept: it was, and all stays; or it wasn't, was read, and its checksum is right
+abbrev pub KeepsBlock : LogPipes → FileBlockHandle → BlockCache → BlockCache → Type 0
+KeepsBlock v block old new = (new.place ≡ Some block)
+    × (((old.place ≡ Some block) × (new ≡ old))
+    ⊎ (IsNotKept block old × StandsAt v block new.bytes.items × IsOk (block_of new.bytes.items)))
+
+-- why it isn't: the pipes don't read it, or these are the bytes there, and their first fault
+abbrev pub IsBlockUnread : LogPipes → FileBlockHandle → Error → Type 0
+IsBlockUnread v block error =
+    IsReadRefused (pipe_at (which_of block.id.queue) (files_of v)) block v.disk error
+    ⊎ ((bytes : List ℕ) × StandsAt v block bytes × FailsOrMemory error (block_of bytes))
+
+-- the entry is in no file
+abbrev pub IsUnplaced : EntryIndex → Error → Type 0
+IsUnplaced entry errors.Memory = entry.entries ≡ None
+IsUnplaced entry (errors.InvalidArgument text) = entry.entries ≡ None
+IsUnplaced entry _ = ⊥
+
+-- it isn't, and wasn't before: no block is kept any longer
+abbrev pub LosesBlock : LogPipes → FileBlockHandle → BlockCache → BlockCache → Error → Type 0
+LosesBlock v block old new error =
+    IsBlockUnread v block error × (new.place ≡ None) × IsNotKept block old
+
+-- how many bytes of entries the kept block has
+abbrev pub entries_in : BlockCache → ℕ
+entries_in cache = length cache.bytes.items - 4
+
+-- why no entry is answered: it doesn't lie in the block; or memory ran out for saying so
+abbrev pub IsNoEntry : ℕ → ℕ → BlockCache → Error → Type 0
+IsNoEntry offset len cache errors.Memory = Unit {0}
+IsNoEntry offset len cache (errors.Corruption text) = offset + len ≤ entries_in cache → ⊥
+IsNoEntry offset len cache _ = ⊥
+
+-- why an entry isn't read: it is in no file; or its block isn't read, which wasn't kept, and none is now; or it
+-- doesn't lie in that; or its bytes are no message
+abbrev pub IsEntryUnread : {M : Type 0} → (List ℕ → Option M) → LogPipes → EntryIndex → BlockCache → BlockCache
+    → Error → Type 0
+IsEntryUnread {M} reading v entry old new error = (IsUnplaced entry error × (new ≡ old))
+    ⊎ ((block : FileBlockHandle) × (entry.entries ≡ Some block)
+    × (LosesBlock v block old new error
+    ⊎ (KeepsBlock v block old new × (IsNoEntry entry.entry_offset entry.entry_len new error
+    ⊎ Parses {M = M} (Err error) (reading (part entry.entry_offset entry.entry_len new.bytes.items))))))
+
+-- the entry was read: its block is kept, it lies in that, and its bytes are this message
+pub record ReadsEntry {M : Type 0} (reading : List ℕ → Option M) (v : LogPipes) (entry : EntryIndex)
+    (old new : BlockCache) (message : M) : Type 0 where
+  pub block : FileBlockHandle
+  pub placed : entry.entries ≡ Some block
+  pub kept : KeepsBlock v block old new
+  pub inside : entry.entry_offset + entry.entry_len ≤ entries_in new
+  pub is : reading (part entry.entry_offset entry.entry_len new.bytes.items) ≡ Some message
+
+-- the entries were read one after another: these are their messages
+abbrev pub ReadsEntries : {M : Type 0} → (List ℕ → Option M) → LogPipes → List EntryIndex → BlockCache → BlockCache
+    → List M → Type 0
+ReadsEntries reading v [] old new messages = (new ≡ old) × (messages ≡ [])
+ReadsEntries reading v (e ∷ es) old new [] = ⊥
+ReadsEntries reading v (e ∷ es) old new (m ∷ ms) =
+    (next : BlockCache) × ReadsEntry reading v e old next m × ReadsEntries reading v es next new ms
+
+-- why they aren't: memory ran out behind some of them; or one isn't read, and those before it were
+abbrev pub AreUnread : {M : Type 0} → (List ℕ → Option M) → LogPipes → List EntryIndex → BlockCache → BlockCache
+    → Error → Type 0
+AreUnread reading v [] old new error = (error ≡ errors.Memory) × (new ≡ old)
+AreUnread {M} reading v (e ∷ es) old new error = ((error ≡ errors.Memory) × (new ≡ old))
+    ⊎ (IsEntryUnread reading v e old new error
+    ⊎ ((next : BlockCache) × (m : M) × ReadsEntry reading v e old next m × AreUnread reading v es next new error))
+
+-- the queue that a block is in
+abbrev pub queue_at : State → FileBlockHandle → Spanned LogRecord
+queue_at s block = spanned_at (which_of block.id.queue) s
+
+-- the block lies in the log
+abbrev pub BlockIsStored : State → FileBlockHandle → Type 0
+BlockIsStored s block = BlockLiesIn (queue_at s block) block.id.seq block.offset block.len
+
+-- the bytes that were written there
+abbrev pub written_block : State → FileBlockHandle → List ℕ
+written_block s block = block_at (queue_at s block).files block.id.seq block.offset block.len
+
+-- the block that is kept, where one is, lies in the log, with the bytes that were written there
+abbrev pub IsOfLog : State → BlockCache → Type 0
+IsOfLog s cache = (block : FileBlockHandle) → cache.place ≡ Some block
+    → BlockIsStored s block × (cache.bytes.items ≡ written_block s block)
+
+-- Whichever log the pipes run over: of a block that lies in it, what is kept is what was written there.
+abbrev pub KeptBlocksAreWritten : Type 0
+KeptBlocksAreWritten = (log : LogSense) (v : LogPipes) (s : State) → RunsOn log v s
+    → (old new : BlockCache) → IsOfLog s old → (block : FileBlockHandle) → BlockIsStored s block
+    → KeepsBlock v block old new → IsOfLog s new × (new.bytes.items ≡ written_block s block)
+
+-- and it goes on to be so through calls that keep the log's bytes
+abbrev pub KeptBlocksStay : Type 0
+KeptBlocksStay = (s t : State) → KeepsLog s t → (cache : BlockCache) → IsOfLog s cache → IsOfLog t cache

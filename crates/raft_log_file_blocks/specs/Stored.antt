@@ -1,0 +1,112 @@
+-- What bytes stand at each place of a log on a disk, told by the records of its files.
+use Rattle.std.specs.Prelude.{◌≡◌, ℕ, ◌+◌, ◌≤◌, Bool, true, false, cond, List, [], ◌∷◌, ◌++◌, length, take, drop}
+use Rattle.std.proofs.Common.{nat_eq}
+use Rattle.raft_log_model_laws.specs.Groups.{Map}
+use Rattle.raft_log_disk.specs.Disk.{Disk}
+use Rattle.raft_log_file_laws.specs.LogQueue.{LogFiles}
+use Rattle.raft_log_record_base.specs.declared.pipe_log.FileBlockHandle.{FileBlockHandle}
+use Rattle.raft_log_file_queue.specs.Queue.{past_bytes, settled, synced, whole}
+use Rattle.raft_log_file_pipe.specs.Files.{Listed}
+use Rattle.raft_log_file_pipe.specs.Reading.{IsReadAt}
+use Rattle.raft_log_file_pipe.specs.declared.pipe_files.PipeFiles.{PipeFiles}
+use Rattle.raft_log_directory_laws.specs.Calls.{Which}
+use Rattle.raft_log_file_pair.specs.Queues.{QueueLayout, IsQueueLayout}
+use Rattle.raft_log_file_pair.specs.State.{LogOnDisk, RunsQueue, Spanned, spanned_at}
+use Rattle.raft_log_file_pair.specs.Steps.{next_log}
+use Rattle.raft_log_file_pair.specs.Turning.{HasTaken, IsCutBack, IsOrGoesOn}
+use Rattle.raft_log_table_lists.specs.declared.place.Place.{Place}
+use Rattle.raft_log_table_lists.specs.Shown.{Shown}
+use Rattle.raft_log_table_lists.specs.Bridge.{Located, located}
+use Rattle.raft_log_table_all.specs.Views.{AreMeant}
+
+-- it holds of each element
+abbrev pub Each : {A : Type 0} → (A → Type 0) → List A → Type 0
+Each P [] = Unit {0}
+Each P (x ∷ xs) = P x × Each P xs
+
+-- all that was written to a queue's file of this number: its header and its records
+abbrev pub file_bytes : {R : Type 0} → LogFiles R → ℕ → List ℕ
+file_bytes q n = cond (nat_eq n q.last) (whole q) (past_bytes (q.older n))
+
+-- the bytes from one place on, so many of them
+abbrev pub part : ℕ → ℕ → List ℕ → List ℕ
+part offset len bytes = take len (drop offset bytes)
+
+-- a block lies in what was written to a file of the queue's span
+pub record BlockLiesIn {R : Type 0} (q : Spanned R) (n offset len : ℕ) : Type 0 where
+  pub first : q.first ≤ n
+  pub last : n ≤ q.files.last
+  pub inside : offset + len ≤ length (file_bytes q.files n)
+
+-- the bytes of the block
+abbrev pub block_at : {R : Type 0} → LogFiles R → ℕ → ℕ → ℕ → List ℕ
+block_at q n offset len = part offset len (file_bytes q n)
+
+-- the bytes of an entry: those of its place in its block
+abbrev pub entry_at : {R : Type 0} → LogFiles R → Place → List ℕ
+entry_at q p = part p.entry_offset p.entry_len (block_at q p.file p.offset p.len)
+
+-- the entry lies in its block, and that in what was written to a file of the queue's span
+pub record EntryLiesIn {R : Type 0} (q : Spanned R) (p : Place) : Type 0 where
+  pub block : BlockLiesIn q p.file p.offset p.len
+  pub entry : p.entry_offset + p.entry_len ≤ p.len
+
+-- the queue that a place is in
+abbrev pub queue_in : {R : Type 0} → LogOnDisk R → Bool → Spanned R
+queue_in s true = s.append
+queue_in s false = s.rewrite
+
+-- the bytes of each entry of a log
+abbrev pub entries_at : {R : Type 0} → LogOnDisk R → Located → List ℕ
+entries_at s l = entry_at (queue_in s l.appended).files l.place
+
+-- the entry lies in the log
+abbrev pub IsStored : {R : Type 0} → LogOnDisk R → Located → Type 0
+IsStored s l = EntryLiesIn (queue_in s l.appended) l.place
+
+-- each entry of which a place shows lies in the log
+abbrev pub AreStored : {R : Type 0} → LogOnDisk R → (ℕ → Shown) → Type 0
+AreStored s v = (g : ℕ) → Each (IsStored s) (located (v g).rewritten (v g).places)
+
+-- What was written to the one queue's files stands in the other's, and more may stand behind it.
+pub record KeepsBytes {R : Type 0} (q p : LogFiles R) : Type 0 where
+  pub last : q.last ≤ p.last
+  pub files : (n : ℕ) → n ≤ q.last → (more : List ℕ) × (file_bytes p n ≡ file_bytes q n ++ more)
+
+-- So does every call of a pipe, answered or refused, but for what it hands out of the span: a record that is
+-- taken, one that is cut back, a rotation, a sync.
+pub record CallsKeepBytes (R : Type 0) : Type 0 where
+  pub same : (q : LogFiles R) → KeepsBytes q q
+  pub later : (q p r : LogFiles R) → KeepsBytes q p → KeepsBytes p r → KeepsBytes q r
+  pub turned : (header : List ℕ) (kept : List Listed) (d : Disk) (q p : LogFiles R)
+      → IsOrGoesOn header kept d q p → KeepsBytes q p
+  pub taken : (header : List ℕ) (kept : List Listed) (d : Disk) (q p : LogFiles R)
+      → HasTaken header kept d q p → KeepsBytes q p
+  pub cut_back : (header : List ℕ) (kept : List Listed) (d : Disk) (q p : LogFiles R)
+      → IsCutBack header kept d q p → KeepsBytes q p
+  pub synced : (q : LogFiles R) → KeepsBytes q (synced q)
+  pub settled : (q : LogFiles R) → KeepsBytes q (settled q)
+
+-- the log's files keep their bytes, and neither span begins later
+pub record KeepsLog {R : Type 0} (s t : LogOnDisk R) : Type 0 where
+  pub append : KeepsBytes s.append.files t.append.files
+  pub rewrite : KeepsBytes s.rewrite.files t.rewrite.files
+  pub append_first : t.append.first ≤ s.append.first
+  pub rewrite_first : t.rewrite.first ≤ s.rewrite.first
+
+-- So does a call on one queue that keeps its bytes.
+abbrev pub CallsKeepLog : Type 0 → Type 0
+CallsKeepLog R = (which : Which) (s : LogOnDisk R) (files : LogFiles R) (d : Disk)
+    → KeepsBytes (spanned_at which s).files files → KeepsLog s (next_log which s files d)
+
+-- Where it does, entries that lie in the log still do, and what the tables show means the same.
+abbrev pub StoredEntriesStay : Type 0 → Type 0
+StoredEntriesStay R = (s t : LogOnDisk R) → KeepsLog s t → (v : ℕ → Shown) → AreStored s v
+    → AreStored t v × ((m : Map (List ℕ) (List ℕ)) → AreMeant (entries_at s) v m → AreMeant (entries_at t) v m)
+
+-- What a running pipe reads of a block that lies in its queue is what was written there.
+abbrev pub StoredBlockIsRead : {R : Type 0} → QueueLayout R → Type 0
+StoredBlockIsRead {R} layout = IsQueueLayout layout → (files : PipeFiles) (q : Spanned R) (d : Disk)
+    → RunsQueue layout files q d → (block : FileBlockHandle)
+    → BlockLiesIn q block.id.seq block.offset block.len → (bytes : List ℕ) → IsReadAt files block bytes d
+    → bytes ≡ block_at q.files block.id.seq block.offset block.len

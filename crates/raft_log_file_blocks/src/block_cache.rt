@@ -1,0 +1,127 @@
+//! The entry block that was read last.
+
+ghost use Rattle.std.specs.Prelude.{◌≡◌, ◌+◌, ◌≤◌, None, IfErr, IfOk, OnOk};
+
+use raft_log_file_pair::PipeLog;
+use raft_log_record_base::{Error, FileBlockHandle, Result};
+use raft_log_record_frames::decode_entries_block;
+use raft_log_record_items::{CompressionType, EntryIndex, Message};
+use std::alloc::Global;
+
+/// The entry block that was read last, with its checksum, and its place; or none.
+///
+/// It is emptied where what stands at a place may no longer be what was read there: where a write was cut
+/// back, and where a file left the span.
+#[derive(Drop)]
+pub struct BlockCache {
+    place: Option<FileBlockHandle>,
+    bytes: Vec<u8>,
+}
+
+impl BlockCache {
+    ghost use Rattle.raft_log_file_blocks.specs.Stored.{part};
+    ghost use Rattle.raft_log_file_blocks.specs.Blocks.{AreUnread, IsEntryUnread, IsNoEntry, KeepsBlock, LosesBlock, ReadsEntries, ReadsEntry, entries_in};
+
+    /// A cache without a block. It takes no memory.
+    pub fn new(alloc: Global) -> BlockCache
+        ensures { result.place ≡ None }
+    {
+        BlockCache {
+            place: None,
+            bytes: Vec::new(alloc),
+        }
+    }
+
+    /// Forgets the block.
+    pub fn clear(&mut self)
+        ensures { self.new.place ≡ None }
+    {
+        self.place = None;
+    }
+
+    /// Keeps the block at a place: where it is the one that is kept, nothing is read, and nothing refused.
+    ///
+    /// Refuses what the pipes refuse to read, and as a corruption a block whose checksum is wrong; no block is
+    /// kept then.
+    pub fn read<P: PipeLog>(
+        &mut self,
+        alloc: Global,
+        pipes: &P,
+        block: FileBlockHandle,
+    ) -> Result<()>
+        ensures ok { OnOk result (KeepsBlock (P.shown pipes.now) block self.old self.new) }
+        ensures err { IfErr result (LosesBlock (P.shown pipes.now) block self.old self.new) }
+    {
+        if self.place == Some(block) {
+            return Ok(());
+        }
+        self.place = None;
+        self.bytes = pipes.read_bytes(alloc, block)?;
+        decode_entries_block(alloc, self.bytes.as_slice(), CompressionType::None)?;
+        self.place = Some(block);
+        Ok(())
+    }
+
+    /// The bytes of an entry of the block that is kept, by its place in the block: nothing is copied.
+    ///
+    /// Refuses as a corruption an entry that doesn't lie in the block, in front of its checksum.
+    pub fn entry(&self, alloc: Global, offset: u32, len: u32) -> Result<&[u8]>
+        ensures ok { IfOk result (λ bytes. (offset + len ≤ entries_in self.now)
+            × (bytes.now ≡ part offset len self.now.bytes.items)) }
+        ensures err { IfErr result (IsNoEntry offset len self.now) }
+    {
+        let end = offset as usize + len as usize;
+        if end > self.bytes.len().saturating_sub(LOG_BATCH_CHECKSUM_LEN) {
+            return Err(Error::Corruption(format!(in alloc;
+                "Entry past the end of its block: {end}"
+            )?));
+        }
+        Ok(&self.bytes[offset as usize..end])
+    }
+
+    /// The entry that lies at a place, as a message. Its block is kept then.
+    ///
+    /// Refuses what `read` and `entry` refuse, an entry that is in no file, and bytes that are no message.
+    pub fn read_entry<M: Message, P: PipeLog>(
+        &mut self,
+        alloc: Global,
+        pipes: &P,
+        entry: &EntryIndex,
+    ) -> Result<M>
+        ensures ok { IfOk result (ReadsEntry M.reading (P.shown pipes.now) entry.now self.old self.new) }
+        ensures err { IfErr result (IsEntryUnread M.reading (P.shown pipes.now) entry.now self.old self.new) }
+    {
+        let Some(block) = entry.entries else {
+            return Err(Error::InvalidArgument(format!(in alloc; "The entry is in no file")?));
+        };
+        self.read(alloc, pipes, block)?;
+        let bytes = self.entry(alloc, entry.entry_offset, entry.entry_len)?;
+        M::parse(alloc, bytes)
+    }
+
+    /// The entries that lie at these places, as messages: a block is read once for all that lie in it, one
+    /// behind another.
+    ///
+    /// Refuses what `read_entry` refuses of the first entry that isn't read, or `Memory`.
+    pub fn read_entries<M: Message, P: PipeLog>(
+        &mut self,
+        alloc: Global,
+        pipes: &P,
+        entries: &[EntryIndex],
+    ) -> Result<Vec<M>>
+        ensures ok { IfOk result (λ messages.
+            ReadsEntries M.reading (P.shown pipes.now) entries.now self.old self.new messages.items) }
+        ensures err { IfErr result
+            (AreUnread M.reading (P.shown pipes.now) entries.now self.old self.new) }
+    {
+        let mut messages = Vec::with_capacity(alloc, entries.len())?;
+        for entry in entries {
+            let message = self.read_entry(alloc, pipes, entry)?;
+            messages.push(message)?;
+        }
+        Ok(messages)
+    }
+}
+
+/// How many bytes the checksum behind the entries has.
+const LOG_BATCH_CHECKSUM_LEN: usize = 4;

@@ -1,0 +1,116 @@
+-- The header of a log file: its magic bytes, the version of its format, and for the second version the
+-- alignment.
+use Rattle.std.specs.Prelude.{◌≡◌, ◌≢◌, ℕ, List, [], ◌++◌, length, take, drop, Result, Ok, Err, nat_eq, nat_lt, ◌==◌, if◌then◌else◌, codes}
+use Rattle.std.specs.List.{starts_with}
+use Rattle.std.specs.String.{string_bytes}
+use Rattle.std.specs.Fmt.{decimal}
+use Rattle.std.specs.Int.{w64, from_be_bytes}
+use Rattle.raft_log_record_base.specs.Grammar.{Reader, Then, Mapped, IsKnown, ◌>>=◌}
+use Rattle.raft_log_record_base.specs.Number.{IsU64, high_first_at, u64_bytes}
+use Rattle.raft_log_record_base.specs.Fault.{Fault, lifted}
+use Rattle.raft_log_record_base.specs.Fault.Fault.{corrupt}
+use Rattle.raft_log_record_base.specs.Files.{version_number}
+use Rattle.raft_log_record_base.specs.declared.errors.Error.{Error}
+use Rattle.raft_log_record_base.specs.declared.errors.Error.TheVariants as errors
+use Rattle.raft_log_record_base.specs.declared.pipe_log.Version.{Version}
+use Rattle.raft_log_record_base.specs.declared.pipe_log.Version.TheVariants.{V1, V2}
+use Rattle.raft_log_file_format.specs.declared.header.LogFileFormat.{LogFileFormat}
+
+-- the bytes at the front of every log file
+unfoldable pub magic : List ℕ
+magic = codes "RAFT-LOG-FILE-HEADER-9986AB3E47F320B394C8E84916EB0ED5"
+
+-- these bytes and no others
+abbrev pub IsMagic : List ℕ → Unit {0} → Type 0
+IsMagic bytes _ = bytes ≡ magic
+
+-- the number of a version
+pub record IsVersion (bytes : List ℕ) (version : Version) : Type 0 where
+  pub spelled : IsU64 bytes (version_number version)
+
+-- a format of the first version has no alignment, one of the second has it in eight bytes
+abbrev pub IsPayload : Version → List ℕ → LogFileFormat → Type 0
+IsPayload V1 = IsKnown (record { version = V1; alignment = 0 })
+IsPayload V2 = Mapped (λ n. record { version = V2; alignment = n }) IsU64
+
+-- the magic bytes, a version, and what a format of that version has behind it
+abbrev pub IsFileHeader : List ℕ → LogFileFormat → Type 0
+IsFileHeader = Then IsMagic (λ _. Then IsVersion IsPayload)
+
+-- Reading, fault by fault.
+
+-- the text for other bytes in front
+abbrev pub magic_mismatch : List ℕ
+magic_mismatch = codes "log file magic header mismatch"
+
+-- the text for a number that no version has
+abbrev pub unknown_version : ℕ → List ℕ
+unknown_version n = codes "unrecognized log file version: " ++ decimal n
+
+-- the text for an alignment that is cut short
+abbrev pub missing_payload : List ℕ
+missing_payload = codes "missing header payload"
+
+-- the magic bytes are taken off
+unfoldable pub magic_at : Reader (Unit {0}) Fault
+magic_at bytes = if starts_with nat_eq bytes magic then Ok (tt, drop (length magic) bytes)
+    else Err (corrupt magic_mismatch)
+
+-- the version that has this number
+abbrev pub version_of : ℕ → Result Version Fault
+version_of n = if n == 1 then Ok V1 else (if n == 2 then Ok V2 else Err (corrupt (unknown_version n)))
+
+-- a number that is cut short is a number's fault, one that is no version's is a corruption
+unfoldable pub version_at : Reader Version Fault
+version_at bytes = do
+  number ← lifted (high_first_at w64 bytes)
+  version ← version_of number.0
+  Ok (version, number.1)
+
+-- for the second version eight bytes
+unfoldable pub payload_at : Version → Reader LogFileFormat Fault
+payload_at V1 bytes = Ok (record { version = V1; alignment = 0 }, bytes)
+payload_at V2 bytes =
+    if nat_lt (length bytes) 8 then Err (corrupt missing_payload)
+    else Ok (record { version = V2; alignment = from_be_bytes w64 (take 8 bytes) }, drop 8 bytes)
+
+-- the magic bytes, the version and the rest, in this order; the first fault is told
+unfoldable pub header_at : Reader LogFileFormat Fault
+header_at bytes = magic_at bytes >>= λ x. version_at x.1 >>= λ y. payload_at y.0 y.1
+
+-- Writing.
+
+-- what stands behind the version: for the second one the alignment
+abbrev pub payload_bytes : Version → ℕ → List ℕ
+payload_bytes V1 alignment = []
+payload_bytes V2 alignment = u64_bytes alignment
+
+-- the bytes of a header, where the format has one
+unfoldable pub header_bytes : LogFileFormat → List ℕ
+header_bytes format =
+    magic ++ (u64_bytes (version_number format.version) ++ payload_bytes format.version format.alignment)
+
+-- the text for an alignment in a file of the first version
+abbrev pub no_alignment : List ℕ
+no_alignment = codes "a log file of the first version has no alignment"
+
+-- the refusal of an alignment in a file of the first version
+abbrev pub SaysNoAlignment : Error → Type 0
+SaysNoAlignment (errors.InvalidArgument text) = string_bytes text ≡ no_alignment
+SaysNoAlignment errors.Memory = Unit {0}
+SaysNoAlignment _ = ⊥
+
+-- a format of the first version with an alignment has no header
+abbrev pub HasWrittenHeader : LogFileFormat → Type 0
+HasWrittenHeader format = format.version ≡ V1 → format.alignment ≡ 0
+
+-- why no header is written: there is none, and this is the text, or memory ran out
+abbrev pub IsHeaderRefusal : LogFileFormat → Error → Type 0
+IsHeaderRefusal format (errors.InvalidArgument text) =
+    (format.version ≡ V1) × (format.alignment ≢ 0) × (string_bytes text ≡ no_alignment)
+IsHeaderRefusal format errors.Memory = Unit {0}
+IsHeaderRefusal format _ = ⊥
+
+-- the format of a file that has no header
+abbrev pub first_format : LogFileFormat
+first_format = record { version = V1; alignment = 0 }

@@ -1,0 +1,60 @@
+-- Names of log files: sixteen digits, and an end that says what the file is.
+use Rattle.std.specs.Prelude.{◌≡◌, ℕ, ◌<◌, ◌≤◌, ◌-◌, ◌^◌, List, ◌∷◌, ◌++◌, length, take, codes, replicate}
+use Rattle.std.specs.Str.Parse.{IsNumeral, digits_value, without_leading_plus}
+use Rattle.std.specs.Fmt.{decimal}
+use Rattle.raft_log_record_base.specs.declared.errors.Error.{Error}
+use Rattle.raft_log_record_base.specs.declared.errors.Error.TheVariants as errors
+use Rattle.raft_log_record_base.specs.declared.pipe_log.FileId.{FileId}
+use Rattle.raft_log_record_base.specs.declared.pipe_log.LogQueue.{LogQueue}
+use Rattle.raft_log_record_base.specs.declared.pipe_log.LogQueue.TheVariants.{Append, Rewrite}
+
+-- the bytes end so
+abbrev pub EndsWith : List ℕ → List ℕ → Type 0
+EndsWith suffix bytes = (front : List ℕ) × (bytes ≡ front ++ suffix)
+
+-- The name is longer than sixteen bytes, and these are a number in digits, one of which may be a leading
+-- plus.
+pub record IsNumberText (name : List ℕ) (n : ℕ) : Type 0 where
+  pub longer : 16 < length name
+  pub digits : IsNumeral 10 (without_leading_plus (take 16 name))
+  pub value : n ≡ digits_value 10 (without_leading_plus (take 16 name))
+
+-- a name with this number and this end
+abbrev pub IsNamed : List ℕ → List ℕ → ℕ → Type 0
+IsNamed suffix name n = IsNumberText name n × EndsWith suffix name
+
+-- the end of the names of a queue's files
+abbrev pub suffix_of : LogQueue → List ℕ
+suffix_of Append = codes ".raftlog"
+suffix_of Rewrite = codes ".rewrite"
+
+-- the end of the names of files that are kept to be used
+abbrev pub reserved_suffix : List ℕ
+reserved_suffix = codes ".raftlog.reserved"
+
+-- the number in sixteen digits, with zeros in front
+abbrev pub sixteen_digits : ℕ → List ℕ
+sixteen_digits n = replicate (16 - length (decimal n)) 48 ++ decimal n
+
+-- the name that is built for a file
+abbrev pub file_name : FileId → List ℕ
+file_name id = sixteen_digits id.seq ++ suffix_of id.queue
+
+-- why a name is not made: the number has none, or memory ran out
+abbrev pub IsNameRefusal : ℕ → Error → Type 0
+IsNameRefusal n errors.NumberRange = 10 ^ 16 ≤ n
+IsNameRefusal n errors.Memory = Unit {0}
+IsNameRefusal _ _ = ⊥
+
+-- the path of a file with such a name in this directory
+abbrev pub IsPathTo : (List ℕ → Type 0) → List ℕ → List ℕ → Type 0
+IsPathTo named dir path = (name : List ℕ) × named name × (path ≡ dir ++ 47 ∷ name)
+
+-- the path of a queue's file
+abbrev pub IsFilePath : FileId → List ℕ → List ℕ → Type 0
+IsFilePath id dir path = IsPathTo (λ name. IsNamed (suffix_of id.queue) name id.seq) dir path
+
+-- no name is in two queues
+abbrev pub OneQueueAName : Type 0
+OneQueueAName =
+    (name : List ℕ) (p q : LogQueue) → EndsWith (suffix_of p) name → EndsWith (suffix_of q) name → p ≡ q

@@ -1,0 +1,67 @@
+-- Shortening a file behind some of its records: what holds of it before, between and after the two calls that
+-- do it, the shortening and the sync. Each may be refused, and the file may have been shortened though it
+-- was.
+use Rattle.std.specs.Prelude.{◌≡◌, ℕ, ◌+◌, ◌≤◌, List, ◌++◌, length, take, drop}
+use Rattle.raft_log_disk.specs.Disk.{ShortenedTo, File}
+use Rattle.raft_log_disk.specs.Calls.{after_change, with_change, flushed}
+use Rattle.raft_log_file_laws.specs.Chains.{Written, IsSelfDelimiting, AreFrames, spelled}
+use Rattle.raft_log_file_laws.specs.KeepsSynced.{HoldsChain, HoldsAtLeast, kept_records}
+
+-- The file holds these records, and up to `size` it has the durable ones and the first `count` pending ones.
+pub record CanShorten {R : Type 0} (IsFrame : List ℕ → R → Type 0)
+    (start : ℕ) (stale : List ℕ) (size count : ℕ)
+    (durable pending : List (Written R)) (file : File) : Type 0 where
+  pub holds : HoldsChain IsFrame start stale durable pending file
+  pub within : count ≤ length pending
+  pub front : drop start (take size file.content) ≡ spelled (kept_records durable pending count)
+  pub end : size ≡ start + length (spelled (kept_records durable pending count))
+
+-- It holds these records still, and has just those that it was shortened behind.
+pub record IsShortened {R : Type 0} (IsFrame : List ℕ → R → Type 0) (start : ℕ) (stale : List ℕ) (count : ℕ)
+    (durable pending : List (Written R)) (file : File) : Type 0 where
+  pub holds : HoldsChain IsFrame start stale durable pending file
+  pub all : drop start file.content ≡ spelled (kept_records durable pending count)
+
+-- The file holds these records, and up to `size` it has those that are read of it, of which the durable ones
+-- are the first.
+pub record CanShortenRead {R : Type 0} (IsFrame : List ℕ → R → Type 0) (start : ℕ) (stale : List ℕ) (size : ℕ)
+    (durable pending ws : List (Written R)) (file : File) : Type 0 where
+  pub holds : HoldsChain IsFrame start stale durable pending file
+  pub more : List (Written R)
+  pub splits : ws ≡ durable ++ more
+  pub frames : AreFrames IsFrame ws
+  pub front : drop start (take size file.content) ≡ spelled ws
+  pub end : size ≡ start + length (spelled ws)
+
+-- It holds these records still, and has just those that are read.
+pub record IsShortenedRead {R : Type 0} (IsFrame : List ℕ → R → Type 0) (start : ℕ) (stale : List ℕ)
+    (durable pending ws : List (Written R)) (file : File) : Type 0 where
+  pub holds : HoldsChain IsFrame start stale durable pending file
+  pub more : List (Written R)
+  pub splits : ws ≡ durable ++ more
+  pub frames : AreFrames IsFrame ws
+  pub all : drop start file.content ≡ spelled ws
+
+-- the file holds at least the durable records, and others behind them
+abbrev pub KeepsDurable : {R : Type 0} → (List ℕ → R → Type 0) → ℕ → List ℕ → List (Written R) → File → Type 0
+KeepsDurable {R} IsFrame start stale durable file =
+    (later : List (Written R)) × HoldsAtLeast IsFrame start stale durable later file
+
+-- Before, between and after the two calls the file holds at least these records: by the shortening, made or
+-- not, and by the sync behind it, after which what is left is durable.
+pub record ShorteningKeeps {R : Type 0} (IsFrame : List ℕ → R → Type 0)
+    (start : ℕ) (stale : List ℕ) (size count : ℕ)
+    (durable pending : List (Written R)) (file : File) : Type 0 where
+  pub before : HoldsAtLeast IsFrame start stale durable pending file
+  pub tried : (content : List ℕ)
+      → HoldsAtLeast IsFrame start stale durable pending (with_change (ShortenedTo size) content file)
+  pub done : IsShortened IsFrame start stale count durable pending (after_change (ShortenedTo size) file)
+  pub synced : HoldsAtLeast IsFrame start stale durable pending
+      (flushed (after_change (ShortenedTo size) file))
+
+-- of a file that can be shortened so
+abbrev pub ShortenedIsKept : {R : Type 0} → (List ℕ → R → Type 0) → Type 0
+ShortenedIsKept {R} IsFrame = IsSelfDelimiting IsFrame
+    → (start : ℕ) (stale : List ℕ) (size count : ℕ) (durable pending : List (Written R)) (file : File)
+    → CanShorten IsFrame start stale size count durable pending file
+    → ShorteningKeeps IsFrame start stale size count durable pending file

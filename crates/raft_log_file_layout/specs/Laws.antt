@@ -1,0 +1,39 @@
+-- What holds of the log's own files.
+use Rattle.std.specs.Prelude.{◌≡◌, ℕ, true, false, None, List, Contains}
+use Rattle.raft_log_record_base.specs.declared.pipe_log.LogQueue.{LogQueue}
+use Rattle.raft_log_record_base.specs.declared.pipe_log.LogQueue.TheVariants.{Append, Rewrite}
+use Rattle.raft_log_disk.specs.Disk.{Disk, zeros}
+use Rattle.raft_log_file_laws.specs.Chains.{HoldsNoFrame}
+use Rattle.raft_log_file_laws.specs.LogFormat.{CanTellFormat}
+use Rattle.raft_log_disk.specs.Touching.{TouchesOnlyNames}
+use Rattle.raft_log_file_queue.specs.Beginning.{IsFresh}
+use Rattle.raft_log_file_format.specs.Name.{reserved_suffix, suffix_of}
+use Rattle.raft_log_file_layout.specs.Paths.{IsPathWith, IsOwnPath, reserved_suffix_of}
+use Rattle.raft_log_file_layout.specs.Layout.{IsRecordIn, log_format}
+
+-- it can be told of any bytes whether they begin with a header, or with a record
+abbrev pub LogFilesAreTold : Type 0
+LogFilesAreTold = (queue : LogQueue) (directories : List (List ℕ))
+    → CanTellFormat (log_format queue directories)
+
+-- no path is own to both queues, whatever their directories
+abbrev pub QueuesAreApart : Type 0
+QueuesAreApart = (append rewrite : List (List ℕ)) (path : List ℕ) → IsOwnPath Append append path
+    → IsOwnPath Rewrite rewrite path → ⊥
+
+-- no record lies in zeros
+abbrev pub ZerosHoldNoRecord : Type 0
+ZerosHoldNoRecord = (n size : ℕ) (header : List ℕ) → HoldsNoFrame (IsRecordIn n header) (zeros size)
+
+-- the names of the files that Append keeps to use them are those that the log's reader of names takes for it
+abbrev pub ReservedNamesAreTheLogs : Type 0
+ReservedNamesAreTheLogs = reserved_suffix_of Append ≡ reserved_suffix
+
+-- where the directories are there, and no file and no directory has the path of a number, a queue may begin
+abbrev pub PlacesAreFresh : Type 0
+PlacesAreFresh = (queue : LogQueue) (directories : List (List ℕ)) (base d : Disk)
+    → ((directory : List ℕ) → Contains directories directory → d.directories directory ≡ true)
+    → ((n : ℕ) (path : List ℕ) → IsPathWith (suffix_of queue) directories n path
+    → (d.names path ≡ None) × (d.directories path ≡ false))
+    → TouchesOnlyNames (IsOwnPath queue directories) base d
+    → IsFresh (log_format queue directories) (IsOwnPath queue directories) base d

@@ -1,0 +1,40 @@
+-- How the files of a queue of the log are written, and where they lie.
+use Rattle.std.specs.Prelude.{ℕ, ◌^◌, List}
+use Rattle.raft_log_record_base.specs.Files.{signature}
+use Rattle.raft_log_record_base.specs.declared.pipe_log.LogQueue.{LogQueue}
+use Rattle.raft_log_file_laws.specs.LogFormat.{Format}
+use Rattle.raft_log_file_format.specs.Header.{IsFileHeader}
+use Rattle.raft_log_file_format.specs.Name.{suffix_of}
+use Rattle.raft_log_file_format.specs.declared.header.LogFileFormat.{LogFileFormat}
+use Rattle.raft_log_record_frames.specs.Record.{IsRecord}
+use Rattle.raft_log_file_queue.specs.Layout.{FilePaths}
+use Rattle.raft_log_file_layout.specs.Paths.{IsPathWith, numbered_path, reserved_path}
+use Rattle.raft_log_file_layout.specs.declared.record.LogRecord.{LogRecord}
+
+-- The bytes are a record of this in the file with a number and a header: its entry block is whole, and it is
+-- signed for the file, where the header's version has signatures.
+pub record IsRecordIn (n : ℕ) (header bytes : List ℕ) (said : LogRecord) : Type 0 where
+  pub format : LogFileFormat
+  pub says : IsFileHeader header format
+  pub is : IsRecord (signature format.version n) bytes said.items said.entries
+
+-- the header of some format
+abbrev pub IsAHeader : List ℕ → Type 0
+IsAHeader bytes = (format : LogFileFormat) × IsFileHeader bytes format
+
+-- how the files of a queue are written, and lie in these directories
+abbrev pub log_format : LogQueue → List (List ℕ) → Format LogRecord
+log_format queue directories = record {
+  IsFrame = IsRecordIn;
+  IsHeader = IsAHeader;
+  IsPath = IsPathWith (suffix_of queue) directories;
+  limit = 10 ^ 16;
+}
+
+-- and the path of each file
+abbrev pub log_paths : LogQueue → List (List ℕ) → FilePaths
+log_paths queue directories = record {
+  directories = directories;
+  numbered = numbered_path queue directories;
+  reserved = reserved_path queue directories;
+}

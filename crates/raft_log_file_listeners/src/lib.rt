@@ -1,0 +1,13 @@
+//! Who is told what happens to a log's files, and pipes that tell them.
+#![tactic(auto)]
+
+pub mod event_listener;
+pub mod laws;
+pub mod listeners;
+pub mod purge_hook;
+pub mod told_pipes;
+
+pub use event_listener::EventListener;
+pub use listeners::{Listeners, lesser};
+pub use purge_hook::PurgeHook;
+pub use told_pipes::ToldPipes;

@@ -1,0 +1,41 @@
+use Rattle.std.proofs.Common.{map, ◌∙◌, ap}
+use Rattle.std.specs.String.{string_bytes}
+use Rattle.raft_log_file_pair.proofs.Ends.{closes, names_same, stays_same}
+use Rattle.raft_log_file_pair.proofs.Pairing.{either_false}
+use Rattle.raft_log_file_pair.proofs.dual_pipes.DualPipesPipeLog.close.Goals as goal
+
+pub returns-clause-held : goal.returns-clause-held
+returns-clause-held g c alive =
+    let D = g.F.FileSystem.disk in
+    let (append, rewrite) = either_false c.args.self.append.failed c.args.self.rewrite.failed alive in
+    let a = c.finish.ensures.same in
+    let r = c.finish-2.ensures.same in
+    let second = D c.finish-2.new.file_system in
+    let third = D c.reserve_names.new.file_system in
+    let last = D c.reserve_names-2.new.file_system in
+    closes _ (D c.finish.new.file_system) second third last (c.finish.ensures.held append) (c.finish-2.ensures.held rewrite)
+    (stays_same c.args.self.append.layout.queue c.finish.new.self.layout.queue (map string_bytes c.args.self.append.layout.paths.items) (map string_bytes c.finish.new.self.layout.paths.items) c.args.self.append.files.recycled.items c.finish.new.self.files.recycled.items second third
+    (ap (λ l. l.queue) a.0) (ap (λ l. map string_bytes l.paths.items) a.0) (ap (λ kept. kept.items) a.3) (c.reserve_names.ensures.held (a.2 ∙ append)))
+    (stays_same c.args.self.rewrite.layout.queue c.finish-2.new.self.layout.queue (map string_bytes c.args.self.rewrite.layout.paths.items) (map string_bytes c.finish-2.new.self.layout.paths.items) c.args.self.rewrite.files.recycled.items c.finish-2.new.self.files.recycled.items third last
+    (ap (λ l. l.queue) r.0) (ap (λ l. map string_bytes l.paths.items) r.0) (ap (λ kept. kept.items) r.3) (c.reserve_names-2.ensures.held (r.2 ∙ rewrite)))
+
+pub returns-clause-calls : goal.returns-clause-calls
+returns-clause-calls g c alive =
+    let D = g.F.FileSystem.disk in
+    let (append, rewrite) = either_false c.args.self.append.failed c.args.self.rewrite.failed alive in
+    let a = c.finish.ensures.same in
+    let r = c.finish-2.ensures.same in
+    let second = D c.finish-2.new.file_system in
+    let third = D c.reserve_names.new.file_system in
+    let last = D c.reserve_names-2.new.file_system in
+    record {
+      one = D c.finish.new.file_system;
+      two = second;
+      three = third;
+      append = c.finish.ensures.calls append;
+      rewrite = c.finish-2.ensures.calls rewrite;
+      append_names = names_same c.args.self.append.layout.queue c.finish.new.self.layout.queue (map string_bytes c.args.self.append.layout.paths.items) (map string_bytes c.finish.new.self.layout.paths.items) c.args.self.append.files.recycled.items c.finish.new.self.files.recycled.items second third
+          (ap (λ l. l.queue) a.0) (ap (λ l. map string_bytes l.paths.items) a.0) (ap (λ kept. kept.items) a.3) (c.reserve_names.ensures.calls (a.2 ∙ append));
+      rewrite_names = names_same c.args.self.rewrite.layout.queue c.finish-2.new.self.layout.queue (map string_bytes c.args.self.rewrite.layout.paths.items) (map string_bytes c.finish-2.new.self.layout.paths.items) c.args.self.rewrite.files.recycled.items c.finish-2.new.self.files.recycled.items third last
+          (ap (λ l. l.queue) r.0) (ap (λ l. map string_bytes l.paths.items) r.0) (ap (λ kept. kept.items) r.3) (c.reserve_names-2.ensures.calls (r.2 ∙ rewrite));
+    }

@@ -1,0 +1,158 @@
+-- Each call of a pipe that runs, answered or refused, whatever stands of the other queue: whether its pipe
+-- runs too, has failed, or isn't opened.
+use Rattle.std.specs.Prelude.{◌≡◌, ℕ, ◌⊎◌, Option, Some, None, List}
+use Rattle.raft_log_model_laws.specs.Item.{Record}
+use Rattle.raft_log_disk.specs.Disk.{Disk}
+use Rattle.raft_log_record_base.specs.declared.errors.Error.{Error}
+use Rattle.raft_log_record_base.specs.declared.errors.Error.TheVariants as errors
+use Rattle.raft_log_record_base.specs.declared.pipe_log.LogQueue.{LogQueue}
+use Rattle.raft_log_record_base.specs.declared.pipe_log.FileBlockHandle.{FileBlockHandle}
+use Rattle.raft_log_record_base.specs.declared.pipe_log.LogFileContext.{LogFileContext}
+use Rattle.raft_log_file_format.specs.Header.{header_bytes}
+use Rattle.raft_log_file_format.specs.declared.header.LogFileFormat.{LogFileFormat}
+use Rattle.raft_log_file_queue.specs.Queue.{synced}
+use Rattle.raft_log_file_pipe.specs.Appending.{AppendsAt, AppendFails}
+use Rattle.raft_log_file_pipe.specs.Exits.{IsTurned, Rotates, RotationLeaves, SyncsPipe, FailsToSyncPipe}
+use Rattle.raft_log_file_pipe.specs.Purging.{IsRaised, Purges, PurgeLeaves}
+use Rattle.raft_log_file_pipe.specs.declared.pipe_files.PipeFiles.{PipeFiles}
+use Rattle.raft_log_file_pipe.specs.declared.new_files.NewFiles.{NewFiles}
+use Rattle.raft_log_directory_laws.specs.Calls.{Which, Appends, CutsBack, LeavesOut, MayAppend, Syncs, Settles, FailsWhole, Raises}
+use Rattle.raft_log_file_pair.specs.Queues.{TwoQueues, AreTwoQueues, layout_at, SaysRecord}
+use Rattle.raft_log_file_pair.specs.State.{LogOnDisk, spanned_at, Ties}
+use Rattle.raft_log_file_pair.specs.Turning.{GoesOnInNext, IsOrGoesOn, HasTaken, IsCutBack}
+use Rattle.raft_log_file_pair.specs.Syncing.{FailsMoved, raised_log}
+use Rattle.raft_log_file_pair.specs.Lying.{OpenPipes, with_open, RunOrLie, LeavesQueue}
+
+-- A record that is written: its pipe runs on, and the numbered files take it, in the file of its place.
+abbrev pub AppendsBeside : {R E V : Type 0} → TwoQueues R E V → Type 0
+AppendsBeside {R} {E} {V} log = AreTwoQueues log → (which : Which) (o : OpenPipes) (before : PipeFiles)
+    (s : LogOnDisk R) → RunOrLie log (with_open which o (Some before)) s
+    → (begin : NewFiles) (queue : LogQueue) (signed : LogFileContext → List ℕ) (y : Record E V)
+    → SaysRecord log.says (layout_at which log) queue signed y
+    → (after : PipeFiles) (block : FileBlockHandle) (new : Disk)
+    → AppendsAt (layout_at which log).format (layout_at which log).own (layout_at which log).paths begin
+    queue signed before after block s.disk new
+    → after.first_seq ≡ before.first_seq
+    → LeavesQueue log which o (Some after) s new
+    (HasTaken (header_bytes begin.format) before.recycled.items s.disk (spanned_at which s).files)
+    (Appends (Ties log) which y block.id.seq)
+
+-- What a refused record leaves, by its error: cut back, all that was written before is synced; left out, no
+-- record was added; and where the pipe has failed, the new one may be there or not.
+abbrev pub LeavesRefused : {R E V : Type 0} → TwoQueues R E V → Which → OpenPipes → PipeFiles → LogOnDisk R
+    → List ℕ → Record E V → PipeFiles → Error → Disk → Type 0
+LeavesRefused log which o before s header y after (errors.Io kind) new =
+    LeavesQueue log which o (Some after) s new
+    (IsCutBack header before.recycled.items s.disk (spanned_at which s).files) (CutsBack (Ties log) which)
+LeavesRefused log which o before s header y after (errors.TryAgain text) new =
+    LeavesQueue log which o (Some after) s new
+    (IsCutBack header before.recycled.items s.disk (spanned_at which s).files) (CutsBack (Ties log) which)
+LeavesRefused log which o before s header y after errors.NumberRange new =
+    LeavesQueue log which o (Some after) s new
+    (λ files. (files ≡ (spanned_at which s).files)
+    ⊎ IsCutBack header before.recycled.items s.disk (spanned_at which s).files files)
+    (LeavesOut (Ties log) which)
+LeavesRefused log which o before s header y after errors.Memory new =
+    LeavesQueue log which o (Some after) s new
+    (λ files. (files ≡ (spanned_at which s).files)
+    ⊎ IsCutBack header before.recycled.items s.disk (spanned_at which s).files files)
+    (LeavesOut (Ties log) which)
+LeavesRefused log which o before s header y after errors.Failed new =
+    LeavesQueue log which o None s new
+    (λ files. IsOrGoesOn header before.recycled.items s.disk (spanned_at which s).files files
+    ⊎ (IsCutBack header before.recycled.items s.disk (spanned_at which s).files files
+    ⊎ HasTaken header before.recycled.items s.disk (spanned_at which s).files files))
+    (MayAppend (Ties log) (Ties log) which y)
+LeavesRefused log which o before s header y after _ new = ⊥
+
+-- and so it is, whatever the pipe answered
+abbrev pub FailsToAppendBeside : {R E V : Type 0} → TwoQueues R E V → Type 0
+FailsToAppendBeside {R} {E} {V} log = AreTwoQueues log → (which : Which) (o : OpenPipes) (before : PipeFiles)
+    (s : LogOnDisk R) → RunOrLie log (with_open which o (Some before)) s
+    → (begin : NewFiles) (queue : LogQueue) (signed : LogFileContext → List ℕ) (y : Record E V)
+    → SaysRecord log.says (layout_at which log) queue signed y
+    → (after : PipeFiles) (error : Error) (new : Disk)
+    → AppendFails (layout_at which log).format (layout_at which log).own (layout_at which log).paths begin
+    queue signed before after error s.disk new
+    → after.first_seq ≡ before.first_seq
+    → LeavesRefused log which o before s (header_bytes begin.format) y after error new
+
+-- A sync that is answered, and one that is refused: then the pipe has failed, and what was there may be there.
+pub record SyncsBeside {R E V : Type 0} (log : TwoQueues R E V) (which : Which) (o : OpenPipes)
+    (files : PipeFiles) (s : LogOnDisk R) : Type 0 where
+  pub answered : (new : Disk)
+      → SyncsPipe (layout_at which log).format (layout_at which log).own (layout_at which log).paths files
+      s.disk new
+      → LeavesQueue log which o (Some files) s new (λ next. next ≡ synced (spanned_at which s).files)
+      (Syncs (Ties log) which)
+  pub refused : (new : Disk)
+      → FailsToSyncPipe (layout_at which log).format (layout_at which log).own (layout_at which log).paths
+      files s.disk new
+      → LeavesQueue log which o None s new (λ next. next ≡ (spanned_at which s).files)
+      (FailsWhole (Ties log) (Ties log))
+
+-- what a refused rotation leaves, by its error: the same log on the same disk; or the pipe has failed, and
+-- the queue may have gone on or not
+abbrev pub LeavesUnrotated : {R E V : Type 0} → TwoQueues R E V → Which → OpenPipes → PipeFiles → LogOnDisk R
+    → List ℕ → PipeFiles → Error → Disk → Type 0
+LeavesUnrotated log which o before s header after errors.Memory new =
+    (new ≡ s.disk) × RunOrLie log (with_open which o (Some after)) s
+LeavesUnrotated log which o before s header after errors.NumberRange new =
+    (new ≡ s.disk) × RunOrLie log (with_open which o (Some after)) s
+LeavesUnrotated log which o before s header after errors.Failed new =
+    LeavesQueue log which o None s new
+    (IsOrGoesOn header before.recycled.items s.disk (spanned_at which s).files)
+    (FailsMoved (Ties log) (Ties log) which)
+LeavesUnrotated log which o before s header after _ new = ⊥
+
+-- A rotation that is answered: all that was written to the queue is synced. And one that is refused.
+pub record RotatesBeside {R E V : Type 0} (log : TwoQueues R E V) (which : Which) (o : OpenPipes)
+    (before : PipeFiles) (s : LogOnDisk R) : Type 0 where
+  pub answered : (header : List ℕ) (format : LogFileFormat) (after : PipeFiles) (new : Disk)
+      → Rotates (layout_at which log).format (layout_at which log).own (layout_at which log).paths header
+      before after s.disk new
+      → IsTurned format before after
+      → LeavesQueue log which o (Some after) s new
+      (GoesOnInNext header before.recycled.items s.disk (spanned_at which s).files)
+      (Settles (Ties log) which)
+  pub refused : (header : List ℕ) (after : PipeFiles) (error : Error) (new : Disk)
+      → RotationLeaves (layout_at which log).format (layout_at which log).own (layout_at which log).paths
+      header before after error s.disk new
+      → LeavesUnrotated log which o before s header after error new
+
+-- the span of one queue begins at a number, its pipe runs so, and the numbered files are raised
+abbrev pub LeavesRaised : {R E V : Type 0} → TwoQueues R E V → Which → OpenPipes → Option PipeFiles
+    → LogOnDisk R → ℕ → Disk → Type 0
+LeavesRaised log which o now s seq new = RunOrLie log (with_open which o now) (raised_log which s seq new)
+    × Raises (Ties log) (Ties log) which seq s (raised_log which s seq new)
+
+-- what a refused purge leaves, by its error: the same log on the same disk; or the pipe has failed, and the
+-- files have left the span all the same
+abbrev pub LeavesUnpurged : {R E V : Type 0} → TwoQueues R E V → Which → OpenPipes → LogOnDisk R → ℕ
+    → PipeFiles → Error → Disk → Type 0
+LeavesUnpurged log which o s seq after errors.Memory new =
+    (new ≡ s.disk) × RunOrLie log (with_open which o (Some after)) s
+LeavesUnpurged log which o s seq after (errors.Other fault) new =
+    (new ≡ s.disk) × RunOrLie log (with_open which o (Some after)) s
+LeavesUnpurged log which o s seq after errors.NumberRange new =
+    (new ≡ s.disk) × RunOrLie log (with_open which o (Some after)) s
+LeavesUnpurged log which o s seq after errors.Failed new = LeavesRaised log which o None s seq new
+LeavesUnpurged log which o s seq after _ new = ⊥
+
+-- A purge that is answered, and one that is refused.
+pub record PurgesBeside {R E V : Type 0} (log : TwoQueues R E V) (which : Which) (o : OpenPipes)
+    (before : PipeFiles) (s : LogOnDisk R) : Type 0 where
+  pub answered : (capacity seq : ℕ) (after : PipeFiles) (new : Disk)
+      → Purges (layout_at which log).format (layout_at which log).own (layout_at which log).paths capacity seq
+      before after s.disk new
+      → IsRaised capacity seq before after → LeavesRaised log which o (Some after) s seq new
+  pub refused : (capacity seq : ℕ) (after : PipeFiles) (error : Error) (new : Disk)
+      → PurgeLeaves (layout_at which log).format (layout_at which log).own (layout_at which log).paths
+      capacity seq before after error s.disk new
+      → LeavesUnpurged log which o s seq after error new
+
+-- so it is of syncs, of rotations and of purges
+abbrev pub QuietCallsBeside : {R E V : Type 0} → TwoQueues R E V → Type 0
+QuietCallsBeside {R} log = AreTwoQueues log → (which : Which) (o : OpenPipes) (files : PipeFiles)
+    (s : LogOnDisk R) → RunOrLie log (with_open which o (Some files)) s
+    → SyncsBeside log which o files s × RotatesBeside log which o files s × PurgesBeside log which o files s

@@ -1,0 +1,97 @@
+-- The pipes of a log are closed: each last file is finished, then the files kept for use get reserved names.
+use Rattle.std.specs.Prelude.{◌≡◌, ◌⊎◌, Some, None, List}
+use Rattle.raft_log_model_laws.specs.Item.{Record}
+use Rattle.raft_log_model_laws.specs.Groups.{Map}
+use Rattle.raft_log_disk.specs.Disk.{Disk}
+use Rattle.raft_log_file_laws.specs.LogQueue.{LogFiles}
+use Rattle.raft_log_file_queue.specs.Queue.{settled}
+use Rattle.raft_log_file_queue.specs.Rotation.{StandsWithRecords}
+use Rattle.raft_log_file_pipe.specs.Files.{Listed}
+use Rattle.raft_log_file_pipe.specs.Closing.{AreBelow, IsSettledBy, LeavesClosed, StaysLeft}
+use Rattle.raft_log_file_pipe.specs.declared.pipe_files.PipeFiles.{PipeFiles}
+use Rattle.raft_log_directory_laws.specs.Model.{Files}
+use Rattle.raft_log_directory_laws.specs.Moves.{Moved}
+use Rattle.raft_log_directory_laws.specs.Calls.{Which, LeavesOut, Settles, FailsWhole}
+use Rattle.raft_log_directory_laws.specs.Log.{View, IsAt, ViewEndsAt}
+use Rattle.raft_log_file_pair.specs.Queues.{TwoQueues, AreTwoQueues, layout_at}
+use Rattle.raft_log_file_pair.specs.State.{LogOnDisk, spanned_at, Pipes, Run, Ties}
+use Rattle.raft_log_file_pair.specs.Turning.{in_span}
+use Rattle.raft_log_file_pair.specs.Steps.{next_log}
+use Rattle.raft_log_file_pair.specs.Lying.{OpenPipes, none_open, with_open, RunOrLie, LeavesQueue}
+
+-- the last file's records are held
+abbrev pub LeftAt : {R E V : Type 0} → TwoQueues R E V → Which → Disk → LogFiles R → Type 0
+LeftAt log which d files = StandsWithRecords (layout_at which log).format (layout_at which log).own d files d
+
+-- the queue as it was, or with all of it synced
+abbrev pub IsOrIsSettled : {R : Type 0} → LogFiles R → LogFiles R → Type 0
+IsOrIsSettled q files = (files ≡ q) ⊎ (files ≡ settled q)
+
+-- One pipe is closed, whatever stands of the other queue: what was there is held, and maybe all of it synced;
+-- where its last file was finished, it is. That the files kept for use get reserved names changes nothing.
+pub record ClosesBeside {R E V : Type 0} (log : TwoQueues R E V) (which : Which) (o : OpenPipes)
+    (files : PipeFiles) (s : LogOnDisk R) : Type 0 where
+  pub closes : (new : Disk)
+      → LeavesClosed (layout_at which log).format (layout_at which log).own (layout_at which log).paths files
+      s.disk new
+      → LeavesQueue log which o None s new
+      (λ next. IsOrIsSettled (spanned_at which s).files next × LeftAt log which new next)
+      (LeavesOut (Ties log) which)
+  pub settles : (new : Disk)
+      → IsSettledBy (layout_at which log).format (layout_at which log).own (layout_at which log).paths files
+      s.disk new
+      → LeavesQueue log which o None s new
+      (λ next. (next ≡ settled (spanned_at which s).files) × LeftAt log which new next)
+      (Settles (Ties log) which)
+  pub below : AreBelow (spanned_at which s).files.last files.recycled.items
+  pub below_first : AreBelow (spanned_at which s).first files.recycled.items
+
+-- and so it is; behind it, reserved names take nothing away
+abbrev pub CloseIsAStep : {R E V : Type 0} → TwoQueues R E V → Type 0
+CloseIsAStep {R} log = AreTwoQueues log → (which : Which) (o : OpenPipes) (files : PipeFiles)
+    (s : LogOnDisk R) → RunOrLie log (with_open which o (Some files)) s → ClosesBeside log which o files s
+
+-- files that are kept for use get reserved names
+abbrev pub NamesAreReserved : {R E V : Type 0} → TwoQueues R E V → Type 0
+NamesAreReserved {R} log = AreTwoQueues log → (which : Which) (o : OpenPipes) (kept : List Listed)
+    (s : LogOnDisk R) (new : Disk) → RunOrLie log (with_open which o None) s
+    → LeftAt log which s.disk (spanned_at which s).files → AreBelow (spanned_at which s).files.last kept
+    → AreBelow (spanned_at which s).first kept
+    → StaysLeft (layout_at which log).format (layout_at which log).own kept s.disk new
+    → LeftAt log which new (spanned_at which s).files
+    × RunOrLie log (with_open which o None) (next_log which s (spanned_at which s).files new)
+    × FailsWhole (Ties log) (Ties log) s (next_log which s (spanned_at which s).files new)
+
+-- the disks that a close of both pipes goes through: both last files are finished first
+pub record ClosesBoth {R E V : Type 0} (log : TwoQueues R E V) (p : Pipes) (old new : Disk) : Type 0 where
+  pub one : Disk
+  pub two : Disk
+  pub three : Disk
+  pub append : LeavesClosed log.append.format log.append.own log.append.paths p.append old one
+  pub rewrite : LeavesClosed log.rewrite.format log.rewrite.own log.rewrite.paths p.rewrite one two
+  pub append_names : StaysLeft log.append.format log.append.own p.append.recycled.items two three
+  pub rewrite_names : StaysLeft log.rewrite.format log.rewrite.own p.rewrite.recycled.items three new
+
+-- the log with these files of either queue, on this disk
+abbrev pub closed_log : {R : Type 0} → LogOnDisk R → LogFiles R → LogFiles R → Disk → LogOnDisk R
+closed_log s append rewrite d =
+    record { append = in_span s.append append; rewrite = in_span s.rewrite rewrite; disk = d }
+
+-- A log lies closed: the files of both queues are what they were, maybe all synced; the numbered files were
+-- taken along; and what an engine said of it is true still, of the batches some first ones being synced now.
+pub record LiesClosed {R E V : Type 0} (log : TwoQueues R E V) (s : LogOnDisk R) (new : Disk) : Type 0 where
+  pub append : LogFiles R
+  pub rewrite : LogFiles R
+  pub append_is : IsOrIsSettled s.append.files append
+  pub rewrite_is : IsOrIsSettled s.rewrite.files rewrite
+  pub lies : RunOrLie log none_open (closed_log s append rewrite new)
+  pub moves : (f : Files E V) → Ties log s f → (a : Moved f.append_from f.append)
+      × (r : Moved f.rewrite_from f.rewrite) × Ties log (closed_log s append rewrite new)
+      (record { append = a.queue; append_from = a.from; rewrite = r.queue; rewrite_from = r.from })
+  pub ends : (v : View E V) (m : Map E V) (pending : List (Record E V)) → IsAt (Ties log s) v m pending
+      → ViewEndsAt (Ties log (closed_log s append rewrite new)) v m pending
+
+-- so it is, whatever was refused meanwhile
+abbrev pub ClosedLogIsALog : {R E V : Type 0} → TwoQueues R E V → Type 0
+ClosedLogIsALog {R} log = AreTwoQueues log → (p : Pipes) (s : LogOnDisk R) (new : Disk) → Run log p s
+    → ClosesBoth log p s.disk new → LiesClosed log s new

@@ -1,0 +1,81 @@
+-- What a call says of the pipe of its queue, as that tells it: by which file calls it was made, in their order,
+-- and which of them was refused; and by which rules both pipes go on.
+use Rattle.std.specs.Prelude.{◌≡◌, ℕ, false, List}
+use Rattle.raft_log_disk.specs.Disk.{Disk}
+use Rattle.raft_log_record_base.specs.declared.errors.Error.{Error}
+use Rattle.raft_log_record_base.specs.declared.pipe_log.FileBlockHandle.{FileBlockHandle}
+use Rattle.raft_log_record_base.specs.declared.pipe_log.LogFileContext.{LogFileContext}
+use Rattle.raft_log_file_format.specs.Header.{header_bytes}
+use Rattle.raft_log_file_layout.specs.declared.record.LogRecord.{LogRecord}
+use Rattle.raft_log_file_pipe.specs.Appending.{AppendFails, AppendsAt}
+use Rattle.raft_log_file_pipe.specs.Exits.{FailsToSyncPipe, RotationLeaves, Rotates, SyncsPipe}
+use Rattle.raft_log_file_pipe.specs.Purging.{PurgeLeaves, Purges}
+use Rattle.raft_log_file_pipe.specs.declared.pipe_files.PipeFiles.{PipeFiles}
+use Rattle.raft_log_file_pipe.specs.declared.single_pipe.PipeSettings.{PipeSettings}
+use Rattle.raft_log_directory_laws.specs.Calls.{Which}
+use Rattle.raft_log_file_pair.specs.Queues.{QueueLayout}
+use Rattle.raft_log_file_pair.specs.Pipes.{LogPipes, OnePipe, is_failed, layout_of, one_at}
+
+-- what a call does to the files of a pipe and to the disk, by how the files are written and the pipe's rules
+abbrev pub PipeCall : Type 1
+PipeCall = QueueLayout LogRecord → PipeSettings → PipeFiles → PipeFiles → Disk → Disk → Type 0
+
+-- the call did so to the pipe of this queue
+abbrev pub DoesToPipe : Which → PipeCall → LogPipes → LogPipes → Type 0
+DoesToPipe which call v w = call (layout_of (one_at which v)) (one_at which v).settings
+    (one_at which v).files (one_at which w).files v.disk w.disk
+
+-- a refused call did so, if the pipes hadn't failed before
+abbrev pub LeavesPipe : Which → PipeCall → LogPipes → LogPipes → Type 0
+LeavesPipe which call v w = is_failed v ≡ false → DoesToPipe which call v w
+
+-- the pipe goes by the rules that it went by, in the same directories
+pub record SameRules (before after : OnePipe) : Type 0 where
+  pub queue : after.queue ≡ before.queue
+  pub directories : after.directories ≡ before.directories
+  pub settings : after.settings ≡ before.settings
+
+-- so do both, whatever was called
+abbrev pub KeepRules : LogPipes → LogPipes → Type 0
+KeepRules v w = SameRules v.append w.append × SameRules v.rewrite w.rewrite
+
+-- the pipe wrote a record, at this place
+abbrev pub PipeAppends : Which → (LogFileContext → List ℕ) → FileBlockHandle → LogPipes → LogPipes → Type 0
+PipeAppends which signed block = DoesToPipe which (λ layout rules before after.
+    AppendsAt layout.format layout.own layout.paths rules.new_files rules.queue signed before after block)
+
+-- it didn't, and why: an `Io` is of the kind that the file system answered the write with
+abbrev pub PipeFailsToAppend : Which → (LogFileContext → List ℕ) → Error → LogPipes → LogPipes → Type 0
+PipeFailsToAppend which signed error = LeavesPipe which (λ layout rules before after.
+    AppendFails layout.format layout.own layout.paths rules.new_files rules.queue signed before after error)
+
+-- it synced its records
+abbrev pub PipeSyncs : Which → LogPipes → LogPipes → Type 0
+PipeSyncs which = DoesToPipe which (λ layout rules before after.
+    SyncsPipe layout.format layout.own layout.paths before)
+
+-- it didn't
+abbrev pub PipeFailsToSync : Which → LogPipes → LogPipes → Type 0
+PipeFailsToSync which = LeavesPipe which (λ layout rules before after.
+    FailsToSyncPipe layout.format layout.own layout.paths before)
+
+-- it went on in its next file
+abbrev pub PipeRotates : Which → LogPipes → LogPipes → Type 0
+PipeRotates which = DoesToPipe which (λ layout rules before after.
+    Rotates layout.format layout.own layout.paths (header_bytes rules.new_files.format) before after)
+
+-- it didn't, and why
+abbrev pub PipeFailsToRotate : Which → Error → LogPipes → LogPipes → Type 0
+PipeFailsToRotate which error = LeavesPipe which (λ layout rules before after.
+    RotationLeaves layout.format layout.own layout.paths (header_bytes rules.new_files.format) before after
+    error)
+
+-- its files below a number went, but for those that stay for use
+abbrev pub PipePurges : Which → ℕ → LogPipes → LogPipes → Type 0
+PipePurges which seq = DoesToPipe which (λ layout rules before after.
+    Purges layout.format layout.own layout.paths rules.capacity seq before after)
+
+-- they didn't, or some of them, and why
+abbrev pub PipeFailsToPurge : Which → ℕ → Error → LogPipes → LogPipes → Type 0
+PipeFailsToPurge which seq error = LeavesPipe which (λ layout rules before after.
+    PurgeLeaves layout.format layout.own layout.paths rules.capacity seq before after error)

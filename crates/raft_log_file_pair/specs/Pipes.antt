@@ -1,0 +1,104 @@
+-- The two pipes of a log as an engine sees them, and the log that they run over.
+use Rattle.std.specs.Prelude.{◌≡◌, ℕ, ◌<◌, Bool, false, ◌||◌, List, length}
+use Rattle.raft_log_model_laws.specs.Item.{Record}
+use Rattle.raft_log_disk.specs.Disk.{Disk}
+use Rattle.raft_log_record_base.specs.declared.pipe_log.LogQueue.{LogQueue}
+use Rattle.raft_log_record_base.specs.declared.pipe_log.LogQueue.TheVariants.{Append, Rewrite}
+use Rattle.raft_log_file_format.specs.Header.{header_bytes}
+use Rattle.raft_log_file_layout.specs.declared.record.LogRecord.{LogRecord}
+use Rattle.raft_log_file_layout.specs.Paths.{directory_at}
+use Rattle.raft_log_file_pipe.specs.declared.pipe_files.PipeFiles.{PipeFiles}
+use Rattle.raft_log_file_pipe.specs.declared.single_pipe.PipeSettings.{PipeSettings}
+use Rattle.raft_log_file_pipe.specs.Files.{Listed}
+use Rattle.raft_log_directory_laws.specs.Calls.{Which}
+use Rattle.raft_log_directory_laws.specs.Calls.Which.{InAppend, InRewrite}
+use Rattle.raft_log_file_pair.specs.Queues.{QueueLayout, TwoQueues}
+use Rattle.raft_log_file_pair.specs.State.{LogOnDisk, Pipes, pipe_at, Run}
+use Rattle.raft_log_file_pair.specs.Own.{log_layout, log_queues}
+
+-- one of a log's pipes: of which queue its files are and in which directories they lie, by which rules it
+-- goes on, its files, and whether it has failed
+pub record OnePipe : Type 0 where
+  pub queue : LogQueue
+  pub directories : List (List ℕ)
+  pub settings : PipeSettings
+  pub files : PipeFiles
+  pub failed : Bool
+
+-- how its files are written, and where they lie
+abbrev pub layout_of : OnePipe → QueueLayout LogRecord
+layout_of pipe = log_layout pipe.queue pipe.directories
+
+-- both pipes, and the disk that they are on
+pub record LogPipes : Type 0 where
+  pub append : OnePipe
+  pub rewrite : OnePipe
+  pub disk : Disk
+
+-- one of them
+abbrev pub one_at : Which → LogPipes → OnePipe
+one_at InAppend v = v.append
+one_at InRewrite v = v.rewrite
+
+-- the directory that holds the log: the main one of Append's files
+abbrev pub main_directory : LogPipes → List ℕ
+main_directory v = directory_at v.append.directories 0
+
+-- the queue that a name says
+abbrev pub which_of : LogQueue → Which
+which_of Append = InAppend
+which_of Rewrite = InRewrite
+
+-- its name
+abbrev pub queue_of : Which → LogQueue
+queue_of InAppend = Append
+queue_of InRewrite = Rewrite
+
+-- the files that both have open
+abbrev pub files_of : LogPipes → Pipes
+files_of v = record { append = v.append.files; rewrite = v.rewrite.files }
+
+-- the header of the next files of a queue
+abbrev pub header_at : Which → LogPipes → List ℕ
+header_at which v = header_bytes (one_at which v).settings.new_files.format
+
+-- the files of a queue that are kept for use
+abbrev pub spares_at : Which → LogPipes → List Listed
+spares_at which v = (pipe_at which (files_of v)).recycled.items
+
+-- whether a call was refused that couldn't be mended
+abbrev pub is_failed : LogPipes → Bool
+is_failed v = v.append.failed || v.rewrite.failed
+
+-- what a record says, where an entry stands for its bytes and a key's value for its own
+abbrev pub Said : Type 0
+Said = Record (List ℕ) (List ℕ)
+
+-- how a log is read: what its records say, and in which directories the files of either queue lie
+pub record LogSense : Type 0 where
+  pub says : LogRecord → Said
+  pub append : List (List ℕ)
+  pub rewrite : List (List ℕ)
+
+-- its queues
+abbrev pub queues : LogSense → TwoQueues LogRecord (List ℕ) (List ℕ)
+queues log = log_queues log.says log.append log.rewrite
+
+-- a log on a disk, with the records of its files
+abbrev pub State : Type 0
+State = LogOnDisk LogRecord
+
+-- the pipe is that of the queue, in these directories (one at least), and it hasn't failed
+pub record IsPipeOf (queue : LogQueue) (directories : List (List ℕ)) (pipe : OnePipe) : Type 0 where
+  pub named : pipe.queue ≡ queue
+  pub told : pipe.settings.queue ≡ queue
+  pub lies : pipe.directories ≡ directories
+  pub some : 0 < length directories
+  pub alive : pipe.failed ≡ false
+
+-- both pipes run over this log
+pub record RunsOn (log : LogSense) (v : LogPipes) (s : State) : Type 0 where
+  pub append : IsPipeOf Append log.append v.append
+  pub rewrite : IsPipeOf Rewrite log.rewrite v.rewrite
+  pub disk : s.disk ≡ v.disk
+  pub run : Run (queues log) (files_of v) s

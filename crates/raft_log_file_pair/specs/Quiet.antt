@@ -1,0 +1,16 @@
+-- What quiet events make of the numbered files of one queue.
+use Rattle.std.specs.Prelude.{ℕ}
+use Rattle.raft_log_model_laws.specs.Item.{Record}
+use Rattle.raft_log_machine_laws.specs.Files.{FileQueue}
+use Rattle.raft_log_disk.specs.Disk.{Disk}
+use Rattle.raft_log_file_laws.specs.LogFormat.{Format}
+use Rattle.raft_log_file_laws.specs.LogQueue.{LogFiles}
+use Rattle.raft_log_file_queue.specs.Bridge.{IsFileQueue}
+use Rattle.raft_log_directory_laws.specs.Moves.{Moved}
+
+-- whichever numbered files the queue's were, quiet events made those of it that the other's are
+abbrev pub QuietTo : {R E V : Type 0} → (R → Record E V) → Format R → ℕ → LogFiles R → Disk → LogFiles R
+    → Disk → Type 0
+QuietTo {R} {E} {V} says F first q old p new =
+    (from : ℕ) (f : FileQueue E V) → IsFileQueue says F q from first old f
+    → (a : Moved from f) × IsFileQueue says F p a.from first new a.queue

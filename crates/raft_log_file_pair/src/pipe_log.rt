@@ -1,0 +1,199 @@
+//! A log's two queues of files, as an engine uses them.
+
+ghost use Rattle.std.specs.Prelude.{◌≡◌, ◌-◌, ◌≤◌, ◌<◌, ◌^◌, ℕ, Option, false, true, IfErr, IfOk, OnErr, OnOk};
+ghost use Rattle.raft_log_record_base.specs.declared.errors.Error.TheVariants as errors;
+ghost use Rattle.raft_log_disk.specs.Causes.{IsLater};
+
+use log::Log;
+use raft_log_disk::Fault;
+use raft_log_file_pipe::ReactiveBytes;
+use raft_log_record_base::{FileBlockHandle, FileId, FileSeq, LogQueue, Result};
+use std::alloc::Global;
+
+/// A log's two queues of files. Each clause speaks of whatever log the pipes run over.
+///
+/// Once a call was refused as `Failed`, every later call that would change something is, and changes nothing,
+/// whichever queue it is on.
+pub trait PipeLog {
+    ghost use Rattle.raft_log_file_pair.specs.State.{pipe_at};
+    ghost use Rattle.raft_log_file_pipe.specs.Reading.{IsReadAt, IsReadRefused};
+    ghost use Rattle.raft_log_file_pipe.specs.Purging.{IsInSpan};
+    ghost use Rattle.raft_log_file_pair.specs.Pipes.{LogPipes, files_of, is_failed, which_of};
+    ghost use Rattle.raft_log_disk.specs.Disk.{Disk};
+    ghost use Rattle.raft_log_record_base.specs.declared.pipe_log.LogQueue.{LogQueue};
+    ghost use Rattle.raft_log_file_pair.specs.ClosingCalls.{ClosesInOrder, ClosesLog};
+    ghost use Rattle.raft_log_file_pair.specs.Numbers.{EndsNumbers, EndsNumbersAt, EndsNumbersBelow};
+    ghost use Rattle.raft_log_file_pair.specs.LastFile.{IsNextIfFull, RaisesPipe, TurnsBehind, last_of};
+    ghost use Rattle.raft_log_file_pair.specs.Calls.{AppendsTo, FailsToAppendTo, FailsToPurgeQueue, FailsToRotateQueue, FailsToSyncQueue, IsIo, IsSpanOf, PurgesQueue, RotatesQueue, StaysFailed, SyncsQueue, TellsFailure, seq_at, size_at};
+    ghost use Rattle.raft_log_file_pair.specs.PipeCalls.{KeepRules, PipeAppends, PipeFailsToAppend, PipeFailsToPurge, PipeFailsToRotate, PipeFailsToSync, PipePurges, PipeRotates, PipeSyncs};
+
+    /// The file system that the files are in, which a close gives back.
+    type Files;
+
+    /// The pipes, and their disk.
+    ghost shown: { Self → LogPipes };
+
+    /// The file system.
+    ghost files: { Self → Self.Files };
+
+    /// Its disk.
+    ghost disk_of: { Self.Files → Disk };
+
+    /// What whoever listens holds back of a queue: nothing, or the files from a number on.
+    ghost holds_back: { Self → LogQueue → Option ℕ → Type 0 };
+
+    /// Whether a call was refused that couldn't be mended.
+    fn is_failed(&self) -> bool
+        ensures { result ≡ is_failed (shown self.now) };
+
+    /// The file system.
+    fn file_system(&self) -> &Self::Files
+        ensures { result.now ≡ files self.now };
+
+    /// Arms a fault of the file system: it alters which later calls are refused, and nothing else.
+    ///
+    /// `Io` where it isn't armed.
+    fn arm(&mut self, fault: &Fault) -> Result<()>
+        ensures shown { shown self.new ≡ shown self.old }
+        ensures errors { IfErr result IsIo };
+
+    /// The numbers of the first and the last file of a queue.
+    fn file_span(&self, queue: LogQueue) -> (FileSeq, FileSeq)
+        ensures first { result.0 ≡ (pipe_at (which_of queue) (files_of (shown self.now))).first_seq }
+        ensures last { result.1 ≡ (pipe_at (which_of queue) (files_of (shown self.now))).active.seq }
+        ensures span { IsSpanOf (which_of queue) (shown self.now) result.0 result.1 };
+
+    /// The number of the file at a fraction of a queue's span, counted from its first file on and rounded
+    /// down: the one behind the last for the whole.
+    fn file_at(&self, queue: LogQueue, num: u32, den: u32) -> FileSeq
+        requires fraction { num ≤ den }
+        requires whole { 0 < den }
+        ensures { result ≡ seq_at (which_of queue) (shown self.now) num den };
+
+    /// The size of all files of a queue's span in bytes, where each counts as long as it is to be; at most
+    /// the greatest number that there is.
+    fn total_size(&self, queue: LogQueue) -> usize
+        ensures { result ≡ size_at (which_of queue) (shown self.now) };
+
+    /// The bytes at a place, fewer where its file ends before. `Corruption` where its file isn't of the
+    /// queue's span.
+    fn read_bytes(&self, alloc: Global, block: FileBlockHandle) -> Result<Vec<u8>>
+        ensures ok { IfOk result (λ bytes. IsReadAt (pipe_at (which_of block.id.queue)
+            (files_of (shown self.now))) block bytes.items (shown self.now).disk) }
+        ensures err { IfErr result (IsReadRefused (pipe_at (which_of block.id.queue)
+            (files_of (shown self.now))) block (shown self.now).disk) };
+
+    /// Writes a record behind the others of a queue, and answers its place. It is signed for the file that it
+    /// goes into, which is the next one where the last one is as long as it is to be.
+    ///
+    /// `Io`: the write was refused and cut off, and all before it is durable. `TryAgain`: the same for want
+    /// of space, and the queue went on in its next file. `Memory`, `NumberRange`: there is no next file, and
+    /// nothing is lost; the numbers that a file's name can have have run out. `Failed`: the pipes have failed.
+    fn append<L: Log, B: ReactiveBytes>(
+        &mut self,
+        alloc: Global,
+        rt: &L,
+        queue: LogQueue,
+        bytes: &mut B,
+    ) -> Result<FileBlockHandle>
+        ensures ok { IfOk result (λ block. AppendsTo (which_of queue) (B.signed bytes.old) block
+            (shown self.old) (shown self.new)) }
+        ensures place { IfOk result (λ block. block.offset < 2 ^ 63) }
+        ensures err { IfErr result (λ error. FailsToAppendTo (which_of queue) (B.signed bytes.old) error
+            (shown self.old) (shown self.new)) }
+        ensures range { IfErr result (λ error. EndsNumbersAt (which_of queue) (B.signed bytes.old) error
+            (shown self.old) (shown self.new)) }
+        ensures goes_into { OnOk result (IsNextIfFull (which_of queue) (shown self.old)
+            (last_of (which_of queue) (shown self.new))) }
+        ensures behind { IfErr result (λ error. TurnsBehind (which_of queue) error
+            (shown self.old) (shown self.new)) }
+        ensures calls { IfOk result (λ block. PipeAppends (which_of queue) (B.signed bytes.old) block
+            (shown self.old) (shown self.new)) }
+        ensures refusal { IfErr result (λ error. PipeFailsToAppend (which_of queue) (B.signed bytes.old) error
+            (shown self.old) (shown self.new)) }
+        ensures signed { B.signed bytes.new ≡ B.signed bytes.old }
+        ensures said { B.said bytes.new ≡ B.said bytes.old }
+        ensures rules { KeepRules (shown self.old) (shown self.new) }
+        ensures failed { StaysFailed result (shown self.old) (shown self.new) }
+        ensures fails { TellsFailure result (shown self.new) }
+        ensures later { IsLater (shown self.old).disk (shown self.new).disk };
+
+    /// Makes all records of a queue durable. Refused, it is `Failed`.
+    fn sync<L: Log>(&mut self, rt: &L, queue: LogQueue) -> Result<()>
+        ensures ok { OnOk result (SyncsQueue (which_of queue) (shown self.old) (shown self.new)) }
+        ensures err { OnErr result (FailsToSyncQueue (which_of queue) (shown self.old) (shown self.new)) }
+        ensures error { IfErr result (λ error. error ≡ errors.Failed) }
+        ensures calls { OnOk result (PipeSyncs (which_of queue) (shown self.old) (shown self.new)) }
+        ensures refusal { OnErr result (PipeFailsToSync (which_of queue) (shown self.old) (shown self.new)) }
+        ensures rules { KeepRules (shown self.old) (shown self.new) }
+        ensures failed { StaysFailed result (shown self.old) (shown self.new) }
+        ensures fails { TellsFailure result (shown self.new) }
+        ensures later { IsLater (shown self.old).disk (shown self.new).disk };
+
+    /// A queue goes on in its next file: the oldest of those that are kept for use, or a new one where there
+    /// is none.
+    ///
+    /// Refused for want of memory, or of a number (`NumberRange`: the last file has the last one), nothing is
+    /// done. `Failed` where a file call was refused.
+    fn rotate<L: Log>(&mut self, alloc: Global, rt: &L, queue: LogQueue) -> Result<()>
+        ensures ok { OnOk result (RotatesQueue (which_of queue) (shown self.old) (shown self.new)) }
+        ensures err { IfErr result (λ error. FailsToRotateQueue (which_of queue) error
+            (shown self.old) (shown self.new)) }
+        ensures range { IfErr result (λ error. EndsNumbers (which_of queue) error (shown self.old)) }
+        ensures calls { OnOk result (PipeRotates (which_of queue) (shown self.old) (shown self.new)) }
+        ensures refusal { IfErr result (λ error. PipeFailsToRotate (which_of queue) error
+            (shown self.old) (shown self.new)) }
+        ensures rules { KeepRules (shown self.old) (shown self.new) }
+        ensures failed { StaysFailed result (shown self.old) (shown self.new) }
+        ensures fails { TellsFailure result (shown self.new) }
+        ensures later { IsLater (shown self.old).disk (shown self.new).disk };
+
+    /// The files of a queue below this one leave its span; the answer is how many.
+    ///
+    /// `Other` where the number is none of the span's, `Memory`: nothing is done. `NumberRange`: the
+    /// same, where a file has a number that no name has, which none of a log's has. `Failed`: a file wasn't
+    /// deleted.
+    fn purge_to<L: Log>(&mut self, alloc: Global, rt: &L, file_id: FileId) -> Result<usize>
+        ensures ok { OnOk result (PurgesQueue (which_of file_id.queue) file_id.seq
+            (shown self.old) (shown self.new)) }
+        ensures raised { OnOk result (RaisesPipe (which_of file_id.queue) file_id.seq
+            (shown self.old) (shown self.new)) }
+        ensures count { IfOk result (λ count.
+            IsInSpan file_id.seq (pipe_at (which_of file_id.queue) (files_of (shown self.old)))
+            × (count ≡ file_id.seq
+            - (pipe_at (which_of file_id.queue) (files_of (shown self.old))).first_seq)) }
+        ensures err { IfErr result (λ error. FailsToPurgeQueue (which_of file_id.queue) file_id.seq error
+            (shown self.old) (shown self.new)) }
+        ensures range { IfErr result (λ error. EndsNumbersBelow (which_of file_id.queue) error
+            (shown self.old)) }
+        ensures calls { OnOk result (PipePurges (which_of file_id.queue) file_id.seq
+            (shown self.old) (shown self.new)) }
+        ensures refusal { IfErr result (λ error. PipeFailsToPurge (which_of file_id.queue) file_id.seq error
+            (shown self.old) (shown self.new)) }
+        ensures rules { KeepRules (shown self.old) (shown self.new) }
+        ensures failed { StaysFailed result (shown self.old) (shown self.new) }
+        ensures fails { TellsFailure result (shown self.new) }
+        ensures later { IsLater (shown self.old).disk (shown self.new).disk };
+
+    /// What the last record of this file says is in the tables: whoever listens is told, and nothing changes.
+    fn post_apply_memtables(&mut self, _file_id: FileId)
+        ensures shown { shown self.new ≡ shown self.old }
+        ensures files { files self.new ≡ files self.old }
+    {}
+
+    /// The number of the first file of a queue that must not be purged yet, if there is one, as whoever listens
+    /// has it.
+    fn first_file_not_ready_for_purge(&self, queue: LogQueue) -> Option<FileSeq>
+        ensures { holds_back self.now queue result };
+
+    /// Closes both pipes, and gives the file system back: both last files are cut behind their records and
+    /// synced, Append's first, and then the files that are kept for use get reserved names. Refusals are
+    /// logged, and nothing that was written is lost by them. Of pipes that have failed nothing is touched.
+    fn close<L: Log>(self, alloc: Global, rt: &L) -> Self::Files
+        ensures held { is_failed (shown self) ≡ false → ClosesLog (shown self) (disk_of result) }
+        ensures calls { is_failed (shown self) ≡ false → ClosesInOrder (shown self) (disk_of result) }
+        ensures failed { is_failed (shown self) ≡ true → result ≡ files self }
+        ensures later { IsLater (shown self).disk (disk_of result) };
+
+    ghost same: { (pipes : Self) → (shown pipes).disk ≡ disk_of (files pipes) };
+}

@@ -1,0 +1,22 @@
+use Rattle.std.proofs.Common.{refl}
+use Rattle.raft_log_file_format.specs.Header.{header_bytes}
+use Rattle.raft_log_file_pipe.specs.declared.pipe_files.PipeFiles.{PipeFiles}
+use Rattle.raft_log_file_pipe.specs.Exits.{SameFiles}
+use Rattle.raft_log_file_pipe.proofs.Turning.{leaves_either}
+use Rattle.raft_log_file_pipe.proofs.rotating.rotate.Goals as goal
+
+pub returns-in-Some-copied-clause-err : goal.returns-in-Some-copied-clause-err
+returns-in-Some-copied-clause-err g c =
+    let D = g.F.FileSystem.disk in
+    let like : PipeFiles = record c.args.files.now { earlier = c.reserve.new.self } in
+    let same : SameFiles c.args.files.now like = record { first = refl; earlier = c.reserve.ensures.items; active = refl; writer = refl; recycled = refl } in
+    leaves_either (g.G.PipeFormat.format c.args.layout.now) (g.G.PipeFormat.own c.args.layout.now) (g.G.PipeFormat.file_paths c.args.layout.now) c.go_over.result (header_bytes c.args.new_files.now.format) c.args.files.now like c.go_over.new.files
+    (D c.args.file_system.now) (D c.go_over.new.file_system) same c.go_over.ensures.err
+
+pub returns-in-None-clause-err : goal.returns-in-None-clause-err
+returns-in-None-clause-err g c =
+    let D = g.F.FileSystem.disk in
+    let like : PipeFiles = record c.args.files.now { earlier = c.reserve.new.self } in
+    let same : SameFiles c.args.files.now like = record { first = refl; earlier = c.reserve.ensures.items; active = refl; writer = refl; recycled = refl } in
+    leaves_either (g.G.PipeFormat.format c.args.layout.now) (g.G.PipeFormat.own c.args.layout.now) (g.G.PipeFormat.file_paths c.args.layout.now) c.go_into_new.result (header_bytes c.args.new_files.now.format) c.args.files.now like c.go_into_new.new.files
+    (D c.args.file_system.now) (D c.go_into_new.new.file_system) same c.go_into_new.ensures.err

@@ -1,0 +1,123 @@
+-- A record is written to a pipe: what was done, and what stands.
+use Rattle.std.specs.Prelude.{◌≡◌, ◌≢◌, ◌⊎◌, ℕ, ◌+◌, ◌<◌, ◌≤◌, List, length}
+use Rattle.std.specs.declared.io.ErrorKind.TheVariants.{StorageFull}
+use Rattle.raft_log_disk.specs.Disk.{Disk}
+use Rattle.raft_log_disk.specs.Causes.{IsLater}
+use Rattle.raft_log_file_laws.specs.LogFormat.{Format}
+use Rattle.raft_log_record_base.specs.declared.errors.Error.{Error}
+use Rattle.raft_log_record_base.specs.declared.errors.Error.TheVariants as errors
+use Rattle.raft_log_record_base.specs.declared.pipe_log.LogQueue.{LogQueue}
+use Rattle.raft_log_record_base.specs.declared.pipe_log.FileBlockHandle.{FileBlockHandle}
+use Rattle.raft_log_record_base.specs.declared.pipe_log.LogFileContext.{LogFileContext}
+use Rattle.raft_log_file_format.specs.Header.{header_bytes}
+use Rattle.raft_log_file_writer.specs.Writer.{WritesNext}
+use Rattle.raft_log_file_queue.specs.Layout.{FilePaths}
+use Rattle.raft_log_file_queue.specs.Exits.{AppendMakes}
+use Rattle.raft_log_file_queue.specs.declared.last_file.WriteFault.{WriteFault}
+use Rattle.raft_log_file_queue.specs.declared.last_file.WriteFault.TheVariants.{CutBack, Failed}
+use Rattle.raft_log_file_pipe.specs.Placing.{IsPlaced}
+use Rattle.raft_log_file_pipe.specs.Exits.{IsTurned, Rotates, RotationLeaves, Adds, FailsToAdd, SameLists}
+use Rattle.raft_log_file_pipe.specs.declared.pipe_files.PipeFiles.{PipeFiles}
+use Rattle.raft_log_file_pipe.specs.declared.new_files.NewFiles.{NewFiles}
+
+-- what records of the last file are signed for
+abbrev pub context_of : LogQueue → PipeFiles → LogFileContext
+context_of queue files =
+    record { id = record { queue = queue; seq = files.active.seq }; version = files.active.format.version }
+
+-- Before a record is written the pipe goes on in the next file where the last one is as long as it is to
+-- be, or longer; else nothing is done.
+pub data TurnsFirst {R : Type 0} (F : Format R) (own : List ℕ → Type 0) (paths : FilePaths)
+    (begin : NewFiles) (before after : PipeFiles) (old new : Disk) : Type 0 where
+  stays : before.writer.written < begin.target_size → after ≡ before → new ≡ old
+      → TurnsFirst F own paths begin before after old new
+  turns : begin.target_size ≤ before.writer.written
+      → Rotates F own paths (header_bytes begin.format) before after old new
+      → IsTurned begin.format before after → TurnsFirst F own paths begin before after old new
+
+-- The record was written behind the others of the last file, which may be the next one, signed for that
+-- file, and by one write, for which room was made up to the target size; this is its place.
+pub record AppendsAt {R : Type 0} (F : Format R) (own : List ℕ → Type 0) (paths : FilePaths)
+    (begin : NewFiles) (queue : LogQueue) (signed : LogFileContext → List ℕ)
+    (before after : PipeFiles) (block : FileBlockHandle) (old new : Disk) : Type 0 where
+  pub middle : PipeFiles
+  pub between : Disk
+  pub first : TurnsFirst F own paths begin before middle old between
+  pub adds : Adds F own paths (signed (context_of queue middle)) block.offset middle after between new
+  pub lists : SameLists middle after
+  pub calls : WritesNext middle.writer after.writer (signed (context_of queue middle)) begin.target_size
+      between new
+  pub id : block.id ≡ record { queue = queue; seq = middle.active.seq }
+  pub len : block.len ≡ length (signed (context_of queue middle))
+
+-- try again: the same record may be written to the file that the pipe went on in
+abbrev pub SaysTryAgain : Error → Type 0
+SaysTryAgain (errors.TryAgain text) = Unit {0}
+SaysTryAgain _ = ⊥
+
+-- The pipe went on in the next file for want of space in the last one, and the record is to be tried again;
+-- or that was refused.
+pub data TurnsElsewhere {R : Type 0} (F : Format R) (own : List ℕ → Type 0) (paths : FilePaths)
+    (begin : NewFiles) (before after : PipeFiles) (error : Error) (old new : Disk) : Type 0 where
+  elsewhere : Rotates F own paths (header_bytes begin.format) before after old new
+      → IsTurned begin.format before after → SaysTryAgain error
+      → TurnsElsewhere F own paths begin before after error old new
+  nowhere : RotationLeaves F own paths (header_bytes begin.format) before after error old new
+      → TurnsElsewhere F own paths begin before after error old new
+
+-- The pipe went on in the next file, in the directory that this state of the file system says. It is an own
+-- relation, as no disk says what may be told of a directory's space.
+pub record GoesInto {R F : Type 0} (disk : F → Disk) (tells : F → List ℕ → ℕ → Type 0)
+    (format : Format R) (own : List ℕ → Type 0) (paths : FilePaths) (begin : NewFiles)
+    (before after : PipeFiles) (old new : F) : Type 0 where
+  pub rotates : Rotates format own paths (header_bytes begin.format) before after (disk old) (disk new)
+  pub turned : IsTurned begin.format before after
+  pub placed : IsPlaced (tells old) (disk old) begin.target_size paths.directories
+      before.recycled.items after.active.path_id
+
+-- The record was cut off again for want of space in the last file, which may be the next one already; from
+-- that state of the file system, with the files that were kept for use, the pipe went on in the next one.
+pub record GoesElsewhere {R F : Type 0} (disk : F → Disk) (tells : F → List ℕ → ℕ → Type 0)
+    (format : Format R) (own : List ℕ → Type 0) (paths : FilePaths) (begin : NewFiles) (queue : LogQueue)
+    (signed : LogFileContext → List ℕ) (before after : PipeFiles) (old new : F) : Type 0 where
+  pub middle : PipeFiles
+  pub cut : PipeFiles
+  pub between : Disk
+  pub short : F
+  pub first : TurnsFirst format own paths begin before middle (disk old) between
+  pub fails : FailsToAdd format own paths (signed (context_of queue middle)) (CutBack StorageFull)
+      middle cut between (disk short)
+  pub lists : SameLists middle cut
+  pub goes : GoesInto disk tells format own paths begin cut after short new
+
+-- the pipe's last file is the one that it was, or one of so many behind it
+abbrev pub GoesOnBy : ℕ → PipeFiles → PipeFiles → Type 0
+GoesOnBy count before after =
+    (before.active.seq ≤ after.active.seq) × (after.active.seq ≤ before.active.seq + count)
+
+-- What is told of a refused write, and what was done then: where there was no space, the pipe went on in
+-- the next file, or that was refused too; what couldn't be cut off leaves the pipe not to be used any more.
+abbrev pub Tells : {R : Type 0} → Format R → (List ℕ → Type 0) → FilePaths → NewFiles → WriteFault → PipeFiles
+    → PipeFiles → Error → Disk → Disk → Type 0
+Tells F own paths begin (CutBack kind) before after error old new =
+    ((kind ≡ StorageFull) × TurnsElsewhere F own paths begin before after error old new)
+    ⊎ ((kind ≢ StorageFull) × (error ≡ errors.Io kind) × (after ≡ before) × (new ≡ old))
+Tells F own paths begin (Failed kind) before after error old new =
+    (error ≡ errors.Failed) × (after ≡ before) × (new ≡ old)
+
+-- Why a record wasn't written, and what stands then: the pipe was to go on in the next file, and that was
+-- refused; or the write was, and its refusal is told, or that of the call that was to cut it off.
+pub data AppendFails {R : Type 0} (F : Format R) (own : List ℕ → Type 0) (paths : FilePaths)
+    (begin : NewFiles) (queue : LogQueue) (signed : LogFileContext → List ℕ)
+    (before after : PipeFiles) (error : Error) (old new : Disk) : Type 0 where
+  not_turned : begin.target_size ≤ before.writer.written
+      → RotationLeaves F own paths (header_bytes begin.format) before after error old new
+      → AppendFails F own paths begin queue signed before after error old new
+  not_written : (middle cut : PipeFiles) (between short : Disk) (fault : WriteFault)
+      → TurnsFirst F own paths begin before middle old between → IsLater old between
+      → FailsToAdd F own paths (signed (context_of queue middle)) fault middle cut between short
+      → SameLists middle cut
+      → AppendMakes fault middle.writer cut.writer (signed (context_of queue middle)) begin.target_size
+      between short
+      → Tells F own paths begin fault cut after error short new → IsLater short new
+      → AppendFails F own paths begin queue signed before after error old new

@@ -1,0 +1,43 @@
+-- Which file calls a call of a pipe made, in their order: no others, and nothing but what they change.
+use Rattle.std.specs.Prelude.{◌≡◌, ◌⊎◌, ℕ, List, [], ◌∷◌}
+use Rattle.std.specs.declared.io.ErrorKind.{ErrorKind}
+use Rattle.raft_log_disk.specs.Disk.{Disk}
+use Rattle.raft_log_disk.specs.Calls.{Creates, Deletes, Renames}
+use Rattle.raft_log_disk.specs.Exits.{FailsToCreate, FailsToDelete, FailsToRename}
+use Rattle.raft_log_disk.specs.Reading.{IsOpened}
+use Rattle.raft_log_disk.specs.declared.handle.Permission.TheVariants.{ReadWrite}
+use Rattle.raft_log_file_writer.specs.declared.writer.LogFileWriter.{LogFileWriter}
+use Rattle.raft_log_file_queue.specs.Layout.{FilePaths, path_of}
+use Rattle.raft_log_file_queue.specs.Rotation.{RotatesBy, RotationMakes}
+use Rattle.raft_log_file_pipe.specs.Files.{Listed}
+
+-- A rotation: the last file is finished; where no file is kept for use, a next one is made, else the oldest
+-- of them gets its name, which was opened to be written before; and that one is begun.
+abbrev pub TurnsBy : FilePaths → List ℕ → List Listed → LogFileWriter → Listed → LogFileWriter → Disk → Disk
+    → Type 0
+TurnsBy paths header [] writer next after old new = RotatesBy writer header
+    (λ handle. Creates (path_of paths next) handle.file) next.handle after old new
+TurnsBy paths header (f ∷ fs) writer next after old new = IsOpened (path_of paths f) ReadWrite next.handle old
+    × RotatesBy writer header (λ handle. Renames (path_of paths f) (path_of paths next)) next.handle after
+    old new
+
+-- One that was refused: one of these calls was, and none was made behind it; or no call was made, as the
+-- oldest of the files kept for use wasn't opened.
+abbrev pub TurnsNot : FilePaths → List ℕ → List Listed → LogFileWriter → ℕ → Disk → Disk → Type 0
+TurnsNot paths header [] writer number old new = (directory : ℕ) × (error : ErrorKind)
+    × RotationMakes writer header (FailsToCreate (paths.numbered directory number))
+    (λ handle. Creates (paths.numbered directory number) handle.file) error old new
+TurnsNot paths header (f ∷ fs) writer number old new = (new ≡ old) ⊎ ((error : ErrorKind)
+    × RotationMakes writer header (FailsToRename (path_of paths f) (paths.numbered f.path_id number))
+    (λ handle. Renames (path_of paths f) (paths.numbered f.path_id number)) error old new)
+
+-- the files with these paths are deleted, in their order
+abbrev pub DropsBy : List (List ℕ) → Disk → Disk → Type 0
+DropsBy [] old new = new ≡ old
+DropsBy (path ∷ paths) old new = (between : Disk) × Deletes path old between × DropsBy paths between new
+
+-- up to one whose deletion was refused
+abbrev pub DropsUntil : List (List ℕ) → Disk → Disk → Type 0
+DropsUntil [] old new = ⊥
+DropsUntil (path ∷ paths) old new = ((error : ErrorKind) × FailsToDelete path error old new)
+    ⊎ ((between : Disk) × Deletes path old between × DropsUntil paths between new)

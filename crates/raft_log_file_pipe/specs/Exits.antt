@@ -1,0 +1,132 @@
+-- What stands of a pipe after each of its calls, answered and refused.
+use Rattle.std.specs.Prelude.{◌≡◌, ◌⊎◌, true, None, ℕ, ◌≤◌, ◌^◌, List, [], ◌∷◌, ◌++◌, length, drop, suc}
+use Rattle.std.specs.declared.io.ErrorKind.{ErrorKind}
+use Rattle.raft_log_disk.specs.Disk.{Disk}
+use Rattle.raft_log_disk.specs.Causes.{Fails}
+use Rattle.raft_log_disk.specs.Exits.{FailsToSync, Syncs}
+use Rattle.raft_log_file_laws.specs.Chains.{Written}
+use Rattle.raft_log_file_laws.specs.LogFormat.{Format}
+use Rattle.raft_log_file_laws.specs.LogQueue.{LogFiles, rotated}
+use Rattle.raft_log_disk.specs.Touching.{HasFile}
+use Rattle.raft_log_record_base.specs.declared.errors.Error.{Error}
+use Rattle.raft_log_record_base.specs.declared.errors.Error.TheVariants as errors
+use Rattle.raft_log_file_format.specs.declared.header.LogFileFormat.{LogFileFormat}
+use Rattle.raft_log_file_queue.specs.Queue.{whole, with_more, with_room, settled, synced}
+use Rattle.raft_log_file_queue.specs.Bridge.{GapsStay}
+use Rattle.raft_log_file_queue.specs.Layout.{FilePaths}
+use Rattle.raft_log_file_queue.specs.Rotation.{StandsWithRecords, StaysBehind}
+use Rattle.raft_log_file_queue.specs.declared.last_file.WriteFault.{WriteFault}
+use Rattle.raft_log_file_queue.specs.declared.last_file.WriteFault.TheVariants.{CutBack, Failed}
+use Rattle.raft_log_file_pipe.specs.Files.{Listed, IsSpan, IsPipe}
+use Rattle.raft_log_file_pipe.specs.Calls.{TurnsBy, TurnsNot}
+use Rattle.raft_log_file_pipe.specs.declared.pipe_files.PipeFiles.{PipeFiles}
+
+-- the same files, listed alike
+pub record SameFiles (before after : PipeFiles) : Type 0 where
+  pub first : after.first_seq ≡ before.first_seq
+  pub earlier : after.earlier.items ≡ before.earlier.items
+  pub active : after.active ≡ before.active
+  pub writer : after.writer ≡ before.writer
+  pub recycled : after.recycled.items ≡ before.recycled.items
+
+-- what the next file holds when it gets its number: what the oldest of the files kept for use does, or
+-- nothing where there is none
+abbrev pub IsStaleOfNext : List Listed → Disk → List ℕ → Type 0
+IsStaleOfNext [] d stale = stale ≡ []
+IsStaleOfNext (f ∷ fs) d stale = HasFile f.handle.file (λ file. file.content ≡ stale) d
+
+-- The last file is one before the last now. The next one is written in this format; it was the oldest of
+-- the files kept for use, where there was one.
+pub record IsTurned (format : LogFileFormat) (before after : PipeFiles) : Type 0 where
+  pub first : after.first_seq ≡ before.first_seq
+  pub earlier : after.earlier.items ≡ before.earlier.items ++ before.active ∷ []
+  pub number : after.active.seq ≡ suc before.active.seq
+  pub format_is : after.active.format ≡ format
+  pub recycled : after.recycled.items ≡ drop 1 before.recycled.items
+
+-- a rotation: the queue goes on in the next file, and no gap is filled; and by which calls
+abbrev pub Rotates : {R : Type 0} → Format R → (List ℕ → Type 0) → FilePaths → List ℕ → PipeFiles → PipeFiles
+    → Disk → Disk → Type 0
+Rotates {R} F own paths header before after old new = (base : Disk) (q : LogFiles R)
+    → IsPipe F own paths base before q old
+    → (room : ℕ) × (stale : List ℕ) × IsStaleOfNext before.recycled.items old stale
+    × IsPipe F own paths base after (with_room room (rotated header stale q)) new × GapsStay F q old new
+    × TurnsBy paths header before.recycled.items before.writer after.active after.writer old new
+
+-- A rotation that a file call refused: what there was is held, and maybe a next file without records; and the
+-- files of the span are there, the last one too. And by which calls.
+abbrev pub FailsToRotate : {R : Type 0} → Format R → (List ℕ → Type 0) → FilePaths → List ℕ → PipeFiles
+    → Disk → Disk → Type 0
+FailsToRotate {R} F own paths header before old new = (base : Disk) (q : LogFiles R)
+    → IsPipe F own paths base before q old
+    → (stale : List ℕ) × IsStaleOfNext before.recycled.items old stale × StaysBehind F own base q header stale
+    old new
+    × IsSpan paths new.names before.first_seq (before.earlier.items ++ before.active ∷ []) (suc q.last)
+    × TurnsNot paths header before.recycled.items before.writer (suc before.active.seq) old new
+
+-- why a file that is kept for use wasn't opened: for want of memory; or the file system has stopped, or no
+-- file has the path
+abbrev pub StaysClosed : List ℕ → Disk → Error → Type 0
+StaysClosed path d errors.Memory = Unit {0}
+StaysClosed path d errors.Failed = (d.stopped ≡ true) ⊎ (d.names path ≡ None)
+StaysClosed path d _ = ⊥
+
+-- Why a rotation was refused, and what stands then: for want of memory, or as the numbers of files have run
+-- out, nothing was done; else a file call failed.
+abbrev pub RotationLeaves : {R : Type 0} → Format R → (List ℕ → Type 0) → FilePaths → List ℕ → PipeFiles
+    → PipeFiles → Error → Disk → Disk → Type 0
+RotationLeaves F own paths header before after errors.Memory old new = SameFiles before after × (new ≡ old)
+RotationLeaves {R} F own paths header before after errors.NumberRange old new =
+    ((base : Disk) (q : LogFiles R) → IsPipe F own paths base before q old → 10 ^ 16 ≤ suc before.active.seq)
+    × SameFiles before after × (new ≡ old)
+RotationLeaves F own paths header before after errors.Failed old new =
+    FailsToRotate F own paths header before old new
+RotationLeaves F own paths header before after _ old new = ⊥
+
+-- a record of these bytes was written at this place of the last file, behind the others (and maybe room was
+-- made)
+abbrev pub Adds : {R : Type 0} → Format R → (List ℕ → Type 0) → FilePaths → List ℕ → ℕ → PipeFiles → PipeFiles
+    → Disk → Disk → Type 0
+Adds {R} F own paths bytes at before after old new = (base : Disk) (q : LogFiles R) (w : Written R)
+    → F.IsFrame q.last q.header w.bytes w.value → w.bytes ≡ bytes → IsPipe F own paths base before q old
+    → (at ≡ length (whole q))
+    × ((room : ℕ) × IsPipe F own paths base after (with_more (w ∷ []) (with_room room q)) new)
+
+-- What stands where it was refused: it was cut off again, and all records before it are durable. Or that
+-- was refused too: then it may be there, and counts as the last one that isn't synced; the files of the span
+-- are there.
+abbrev pub AddLeaves : {R : Type 0} → Format R → (List ℕ → Type 0) → FilePaths → WriteFault → Disk → Written R
+    → LogFiles R → PipeFiles → Disk → Type 0
+AddLeaves F own paths (CutBack kind) base w q after new = IsPipe F own paths base after (settled q) new
+AddLeaves F own paths (Failed kind) base w q after new = (room : ℕ)
+    × StandsWithRecords F own base (with_more (w ∷ []) (with_room room q)) new
+    × IsSpan paths new.names after.first_seq after.earlier.items q.last
+
+-- either way a file call failed
+abbrev pub FailsToAdd : {R : Type 0} → Format R → (List ℕ → Type 0) → FilePaths → List ℕ → WriteFault →
+    PipeFiles
+    → PipeFiles → Disk → Disk → Type 0
+FailsToAdd {R} F own paths bytes fault before after old new = (base : Disk) (q : LogFiles R) (w : Written R)
+    → F.IsFrame q.last q.header w.bytes w.value → w.bytes ≡ bytes → IsPipe F own paths base before q old
+    → Fails old new × AddLeaves F own paths fault base w q after new
+
+-- the same files, listed alike, but for what the writer of the last one counts
+pub record SameLists (before after : PipeFiles) : Type 0 where
+  pub first : after.first_seq ≡ before.first_seq
+  pub earlier : after.earlier.items ≡ before.earlier.items
+  pub active : after.active ≡ before.active
+  pub recycled : after.recycled.items ≡ before.recycled.items
+
+-- all records were synced, by one call
+abbrev pub SyncsPipe : {R : Type 0} → Format R → (List ℕ → Type 0) → FilePaths → PipeFiles → Disk → Disk
+    → Type 0
+SyncsPipe {R} F own paths files old new = (base : Disk) (q : LogFiles R) → IsPipe F own paths base files q old
+    → IsPipe F own paths base files (synced q) new × Syncs files.writer.handle old new
+
+-- they weren't: that file call failed, the records are held, and the files of the span are there
+abbrev pub FailsToSyncPipe : {R : Type 0} → Format R → (List ℕ → Type 0) → FilePaths → PipeFiles → Disk → Disk
+    → Type 0
+FailsToSyncPipe {R} F own paths files old new = (base : Disk) (q : LogFiles R)
+    → IsPipe F own paths base files q old → Fails old new × StandsWithRecords F own base q new
+    × IsSpan paths new.names files.first_seq files.earlier.items q.last
+    × ((error : ErrorKind) × FailsToSync files.writer.handle error old new)

@@ -1,0 +1,61 @@
+-- The files of a pipe, and how they stand on a disk.
+use Rattle.std.specs.Prelude.{◌≡◌, ℕ, ◌<◌, ◌^◌, false, Some, List, [], ◌∷◌, suc}
+use Rattle.raft_log_disk.specs.Disk.{File, Disk}
+use Rattle.raft_log_file_laws.specs.LogFormat.{Format}
+use Rattle.raft_log_file_laws.specs.LogQueue.{LogFiles}
+use Rattle.raft_log_disk.specs.Touching.{HasFile}
+use Rattle.raft_log_file_format.specs.Header.{header_bytes}
+use Rattle.raft_log_file_queue.specs.Queue.{begun}
+use Rattle.raft_log_file_queue.specs.States.{IsNew}
+use Rattle.raft_log_file_queue.specs.Standing.{Names}
+use Rattle.raft_log_file_queue.specs.declared.format.File as listed
+use Rattle.raft_log_file_queue.specs.Layout.{FilePaths, path_of}
+use Rattle.raft_log_file_queue.specs.Exits.{IsOpen}
+use Rattle.raft_log_file_pipe.specs.declared.pipe_files.PipeFiles.{PipeFiles}
+
+-- a file as a pipe lists it
+abbrev pub Listed : Type 0
+Listed = listed.File
+
+-- these are the files of the numbers from `first` on, up to the last one's, each under its path
+abbrev pub IsSpan : FilePaths → Names → ℕ → List Listed → ℕ → Type 0
+IsSpan paths N first [] last = first ≡ last
+IsSpan paths N first (f ∷ fs) last = (f.seq ≡ first) × (f.reserved ≡ false)
+    × (N (path_of paths f) ≡ Some f.handle.file) × IsSpan paths N (suc first) fs last
+
+-- whatever number and header the file gets, it holds no record of it
+abbrev pub CanBeUsed : {R : Type 0} → Format R → File → Type 0
+CanBeUsed {R} F file = (q : LogFiles R) (header : List ℕ) → F.IsHeader header
+    → IsNew F (begun header file.content q) file
+
+-- A file that is kept for use lies under its path, which is a reserved one or that of a number below the
+-- span, and can be used.
+pub record IsKeptForUse {R : Type 0} (F : Format R) (paths : FilePaths) (first : ℕ) (d : Disk)
+    (f : Listed) : Type 0 where
+  pub named : d.names (path_of paths f) ≡ Some f.handle.file
+  pub below : f.reserved ≡ false → f.seq < first
+  pub small : f.seq < 10 ^ 16
+  pub usable : HasFile f.handle.file (CanBeUsed F) d
+
+-- none of these files has the path
+abbrev pub NoneHas : FilePaths → List ℕ → List Listed → Type 0
+NoneHas paths path [] = Unit {0}
+NoneHas paths path (f ∷ fs) = (path_of paths f ≡ path → ⊥) × NoneHas paths path fs
+
+-- so are all of these, and no two of them are one
+abbrev pub AllKept : {R : Type 0} → Format R → FilePaths → ℕ → Disk → List Listed → Type 0
+AllKept F paths first d [] = Unit {0}
+AllKept F paths first d (f ∷ fs) = IsKeptForUse F paths first d f
+    × NoneHas paths (path_of paths f) fs × AllKept F paths first d fs
+
+-- The files of a pipe are those of a queue on a disk: its last file is written to, those before it are
+-- there from the span's first number on, and those that are kept for use are there.
+pub record IsPipe {R : Type 0} (F : Format R) (own : List ℕ → Type 0) (paths : FilePaths) (base : Disk)
+    (files : PipeFiles) (q : LogFiles R) (d : Disk) : Type 0 where
+  pub active : IsOpen F own base files.writer q (path_of paths files.active) d.names d
+  pub number : files.active.seq ≡ q.last
+  pub listed : files.active.reserved ≡ false
+  pub header : q.header ≡ header_bytes files.active.format
+  pub handle : files.active.handle.file ≡ files.writer.handle.file
+  pub span : IsSpan paths d.names files.first_seq files.earlier.items q.last
+  pub kept : AllKept F paths files.first_seq d files.recycled.items

@@ -1,0 +1,152 @@
+-- A pipe is opened: over the files that were found of its queue, or over none.
+use Rattle.std.specs.Prelude.{◌≡◌, ℕ, false, Option, Some, None, List, [], ◌∷◌, ◌++◌}
+use Rattle.raft_log_disk.specs.Disk.{Disk}
+use Rattle.raft_log_disk.specs.Causes.{Fails}
+use Rattle.raft_log_file_laws.specs.LogFormat.{Format}
+use Rattle.raft_log_file_laws.specs.LogQueue.{Past, LogFiles, IsAbsent}
+use Rattle.raft_log_record_base.specs.declared.errors.Error.{Error}
+use Rattle.raft_log_record_base.specs.declared.errors.Error.TheVariants as errors
+use Rattle.raft_log_record_base.specs.declared.pipe_log.Version.TheVariants.{V1}
+use Rattle.raft_log_file_format.specs.Header.{header_bytes, IsHeaderRefusal, first_format}
+use Rattle.raft_log_file_format.specs.declared.header.LogFileFormat.{LogFileFormat}
+use Rattle.raft_log_file_queue.specs.Queue.{with_room}
+use Rattle.raft_log_file_queue.specs.Beginning.{IsFresh, fresh_queue}
+use Rattle.raft_log_file_queue.specs.Bridge.{GapsStay}
+use Rattle.raft_log_file_queue.specs.Reopening.{reread}
+use Rattle.raft_log_file_queue.specs.Layout.{FilePaths, path_of}
+use Rattle.raft_log_file_queue.specs.Opening.{BeginQueueMakes, BeginsQueueBy, IsHalfBegun}
+use Rattle.raft_log_file_queue.specs.TakingUp.{IsLeftBehind, HandleBeginsWith, IsHalfOpen, ReopenMakes, ReopensBy}
+use Rattle.raft_log_file_pipe.specs.Files.{Listed, IsSpan, AllKept, IsPipe}
+use Rattle.raft_log_file_pipe.specs.declared.found_files.FoundFiles.{FoundFiles}
+use Rattle.raft_log_file_pipe.specs.declared.new_files.NewFiles.{NewFiles}
+use Rattle.raft_log_file_pipe.specs.declared.pipe_files.PipeFiles.{PipeFiles}
+
+-- the last file as the pipe has it: one without a header gets one of the first version
+abbrev pub taken_up : Option ℕ → Listed → Listed
+taken_up (Some end) last = last
+taken_up None last = record last { format = first_format }
+
+-- the number of the first of these files
+abbrev pub first_number : List Listed → Listed → ℕ
+first_number [] last = last.seq
+first_number (f ∷ fs) last = f.seq
+
+-- a file with a header has that of its format
+abbrev pub HasOwnHeader : {R : Type 0} → Format R → Option ℕ → Listed → Disk → Type 0
+HasOwnHeader F (Some end) last d = HandleBeginsWith F last.handle (header_bytes last.format) d
+HasOwnHeader F None last d = Unit {0}
+
+-- The files of a queue as a stop left them, which were found so: the last one was read up to this end, those
+-- before it are there, and so are those that are kept for use.
+pub record IsFound {R : Type 0} (F : Format R) (own : List ℕ → Type 0) (paths : FilePaths) (base : Disk)
+    (earlier : List Listed) (last : Listed) (end : Option ℕ) (kept : List Listed) (q : LogFiles R) (d : Disk)
+    : Type 0 where
+  pub left : IsLeftBehind F own base last.handle end q (path_of paths last) d.names d
+  pub number : last.seq ≡ q.last
+  pub listed : last.reserved ≡ false
+  pub headed : HasOwnHeader F end last d
+  pub span : IsSpan paths d.names (first_number earlier last) earlier q.last
+  pub spares : AllKept F paths (first_number earlier last) d kept
+
+-- the pipe's lists once it took these files up
+pub record IsListedAs (earlier : List Listed) (last : Listed) (kept : List Listed) (files : PipeFiles)
+    : Type 0 where
+  pub first : files.first_seq ≡ first_number earlier last
+  pub before : files.earlier.items ≡ earlier
+  pub active : files.active ≡ last
+  pub spares : files.recycled.items ≡ kept
+
+-- the queue goes on behind what was read of its last file, all of which is durable (and maybe room was made);
+-- and by which calls
+abbrev pub TakesUpFound : {R : Type 0} → Format R → (List ℕ → Type 0) → FilePaths → List Listed → Listed
+    → Option ℕ → List Listed → PipeFiles → Disk → Disk → Type 0
+TakesUpFound {R} F own paths earlier last end kept files old new = (base : Disk) (q : LogFiles R)
+    → IsFound F own paths base earlier last end kept q old
+    → (room : ℕ)
+    × IsPipe F own paths base files (with_room room (reread (header_bytes files.active.format) [] q)) new
+    × GapsStay F q old new
+    × ReopensBy last.handle end (header_bytes (taken_up end last).format) files.writer old new
+
+-- it doesn't: a file call failed, all that was read is held, and the files that were found are there
+abbrev pub FailsToTakeUpFound : {R : Type 0} → Format R → (List ℕ → Type 0) → FilePaths → List Listed → Listed
+    → Option ℕ → List Listed → Disk → Disk → Type 0
+FailsToTakeUpFound {R} F own paths earlier last end kept old new = (base : Disk) (q : LogFiles R)
+    → IsFound F own paths base earlier last end kept q old
+    → Fails old new × GapsStay F q old new × IsSpan paths new.names (first_number earlier last) earlier q.last
+    × IsHalfOpen F own base last.handle end (header_bytes (taken_up end last).format) q old new
+
+-- a place for the queue, whose files kept for use have reserved names
+pub record CanBeginWith {R : Type 0} (F : Format R) (own : List ℕ → Type 0) (paths : FilePaths) (base : Disk)
+    (kept : List Listed) (d : Disk) : Type 0 where
+  pub fresh : IsFresh F own base d
+  pub spares : AllKept F paths 1 d kept
+
+-- the queue began in its file 1, without a record; it has no file 0; and by which calls
+abbrev pub BeginsPipe : {R : Type 0} → Format R → (List ℕ → Type 0) → FilePaths → LogFileFormat → List Listed
+    → PipeFiles → Disk → Disk → Type 0
+BeginsPipe {R} F own paths format kept files old new = (base : Disk) (older : ℕ → Past R)
+    → CanBeginWith F own paths base kept old
+    → (room : ℕ) × IsPipe F own paths base files
+    (with_room room (fresh_queue older (header_bytes format))) new × IsAbsent F 0 new
+    × BeginsQueueBy (path_of paths files.active) (header_bytes format) files.active.handle files.writer
+    old new
+
+-- it didn't: a file call failed, and there is a place for it still, or its file 1 is there, without a record
+abbrev pub FailsToBeginPipe : {R : Type 0} → Format R → (List ℕ → Type 0) → FilePaths → LogFileFormat
+    → List Listed → Disk → Disk → Type 0
+FailsToBeginPipe {R} F own paths format kept old new = (base : Disk) (older : ℕ → Past R)
+    → CanBeginWith F own paths base kept old
+    → Fails old new × IsHalfBegun F own base (fresh_queue older (header_bytes format)) new × IsAbsent F 0 new
+
+-- the lists of a pipe that began: its file 1 is the last, and none is before it
+pub record IsListedFirst (format : LogFileFormat) (kept : List Listed) (files : PipeFiles) : Type 0 where
+  pub first : files.first_seq ≡ 1
+  pub number : files.active.seq ≡ 1
+  pub earlier : files.earlier.items ≡ []
+  pub format_is : files.active.format ≡ format
+  pub spares : files.recycled.items ≡ kept
+
+-- A pipe was opened over what was found: where there was no file, the queue began; else its last file was
+-- taken up.
+pub data OpensPipe {R : Type 0} (F : Format R) (own : List ℕ → Type 0) (paths : FilePaths) (begin : NewFiles)
+    (found : FoundFiles) (files : PipeFiles) (old new : Disk) : Type 0 where
+  begins : found.files.items ≡ []
+      → BeginsPipe F own paths begin.format found.recycled.items files old new
+      → IsListedFirst begin.format found.recycled.items files
+      → OpensPipe F own paths begin found files old new
+  takes_up : (earlier : List Listed) (last : Listed) → found.files.items ≡ earlier ++ last ∷ []
+      → TakesUpFound F own paths earlier last found.end found.recycled.items files old new
+      → IsListedAs earlier (taken_up found.end last) found.recycled.items files
+      → OpensPipe F own paths begin found files old new
+
+-- Why a queue didn't begin: for want of memory, and nothing was done; or a file call was refused, the one
+-- that is told.
+abbrev pub BeginLeaves : {R : Type 0} → Format R → (List ℕ → Type 0) → FilePaths → LogFileFormat → List Listed
+    → Error → Disk → Disk → Type 0
+BeginLeaves F own paths format kept errors.Memory old new = new ≡ old
+BeginLeaves F own paths format kept (errors.Io kind) old new =
+    ((directory : ℕ) × BeginQueueMakes (paths.numbered directory 1) (header_bytes format) kind old new)
+    × FailsToBeginPipe F own paths format kept old new
+BeginLeaves F own paths format kept _ old new = ⊥
+
+-- Why a last file wasn't taken up: for want of memory, or as its format has no header, and nothing was done;
+-- or a file call was refused, the one that is told.
+abbrev pub TakeUpLeaves : {R : Type 0} → Format R → (List ℕ → Type 0) → FilePaths → List Listed → Listed
+    → Option ℕ → List Listed → Error → Disk → Disk → Type 0
+TakeUpLeaves F own paths earlier last end kept errors.Memory old new = new ≡ old
+TakeUpLeaves F own paths earlier last end kept (errors.InvalidArgument text) old new =
+    IsHeaderRefusal (taken_up end last).format (errors.InvalidArgument text) × (new ≡ old)
+TakeUpLeaves F own paths earlier last end kept (errors.Io kind) old new =
+    ReopenMakes last.handle end (header_bytes (taken_up end last).format) kind old new
+    × FailsToTakeUpFound F own paths earlier last end kept old new
+TakeUpLeaves F own paths earlier last end kept _ old new = ⊥
+
+-- why no pipe was opened over what was found, and what stands then
+pub data OpenLeaves {R : Type 0} (F : Format R) (own : List ℕ → Type 0) (paths : FilePaths) (begin : NewFiles)
+    (found : FoundFiles) (error : Error) (old new : Disk) : Type 0 where
+  not_begun : found.files.items ≡ []
+      → BeginLeaves F own paths begin.format found.recycled.items error old new
+      → OpenLeaves F own paths begin found error old new
+  not_taken_up : (earlier : List Listed) (last : Listed) → found.files.items ≡ earlier ++ last ∷ []
+      → TakeUpLeaves F own paths earlier last found.end found.recycled.items error old new
+      → OpenLeaves F own paths begin found error old new

@@ -1,0 +1,42 @@
+-- Which directory a new file comes into.
+use Rattle.std.specs.Prelude.{◌≡◌, ◌⊎◌, ℕ, ◌<◌, ◌≤◌, Bool, true, false, List, [], ◌∷◌, ◌++◌, length}
+use Rattle.raft_log_disk.specs.Disk.{Disk}
+use Rattle.raft_log_disk.specs.Arguments.{WrongListing}
+use Rattle.std.specs.declared.io.ErrorKind.{ErrorKind}
+use Rattle.raft_log_file_pipe.specs.Files.{Listed}
+
+-- a directory has room for so many bytes: so much space was told of it
+abbrev pub HasSpace : (List ℕ → ℕ → Type 0) → ℕ → List ℕ → Type 0
+HasSpace tells size directory = (space : ℕ) × tells directory space × (size ≤ space)
+
+-- It lacks room: less space was told of it; or none, as the file system has stopped or the directory isn't
+-- there.
+abbrev pub LacksRoom : (List ℕ → ℕ → Type 0) → Disk → ℕ → List ℕ → Type 0
+LacksRoom tells d size directory = ((space : ℕ) × tells directory space × (space < size))
+    ⊎ ((d.stopped ≡ true) ⊎ ((error : ErrorKind) × WrongListing directory d error))
+
+-- whether it has room
+abbrev pub TellsRoom : (List ℕ → ℕ → Type 0) → Disk → ℕ → List ℕ → Bool → Type 0
+TellsRoom tells d size directory true = HasSpace tells size directory
+TellsRoom tells d size directory false = LacksRoom tells d size directory
+
+-- these directories all lack room
+abbrev pub AllLackRoom : (List ℕ → ℕ → Type 0) → Disk → ℕ → List (List ℕ) → Type 0
+AllLackRoom tells d size [] = Unit {0}
+AllLackRoom tells d size (x ∷ xs) = LacksRoom tells d size x × AllLackRoom tells d size xs
+
+-- The place of the directory for a new file of so many bytes: that of the first that has room for it; the
+-- main one's where none has, and where there is no other, of which nothing is asked.
+pub data IsChosen (tells : List ℕ → ℕ → Type 0) (d : Disk) (size : ℕ) (directories : List (List ℕ))
+    (place : ℕ) : Type 0 where
+  alone : length directories ≤ 1 → place ≡ 0 → IsChosen tells d size directories place
+  first : (before : List (List ℕ)) (directory : List ℕ) (behind : List (List ℕ))
+      → directories ≡ before ++ directory ∷ behind → place ≡ length before
+      → AllLackRoom tells d size before → HasSpace tells size directory
+      → IsChosen tells d size directories place
+  none : AllLackRoom tells d size directories → place ≡ 0 → IsChosen tells d size directories place
+
+-- The place of the next file's directory: a file that was kept for use stays where it is.
+abbrev pub IsPlaced : (List ℕ → ℕ → Type 0) → Disk → ℕ → List (List ℕ) → List Listed → ℕ → Type 0
+IsPlaced tells d size directories [] place = IsChosen tells d size directories place
+IsPlaced tells d size directories (f ∷ fs) place = place ≡ f.path_id

@@ -1,0 +1,146 @@
+-- The files below a number leave the span of a pipe: some stay for use, the others are dropped.
+use Rattle.std.specs.Prelude.{◌≡◌, ℕ, ◌-◌, ◌<◌, ◌≤◌, ◌^◌, Bool, true, false, nat_lt, ◌&&◌, if◌then◌else◌, Some, None, List, [], ◌∷◌, ◌++◌, length, map, take, drop, slice_index_or, suc}
+use Rattle.std.specs.Map.{update}
+use Rattle.std.specs.Str.{bytes_eq}
+use Rattle.raft_log_disk.specs.Disk.{Disk}
+use Rattle.raft_log_disk.specs.Causes.{Fails}
+use Rattle.raft_log_file_laws.specs.LogFormat.{Format}
+use Rattle.raft_log_file_laws.specs.LogQueue.{LogFiles}
+use Rattle.raft_log_record_base.specs.declared.errors.Error.{Error}
+use Rattle.raft_log_record_base.specs.declared.errors.Error.TheVariants as errors
+use Rattle.raft_log_record_base.specs.declared.pipe_log.Version.{Version}
+use Rattle.raft_log_record_base.specs.declared.pipe_log.Version.TheVariants.{V1, V2}
+use Rattle.raft_log_file_queue.specs.Standing.{Names}
+use Rattle.raft_log_file_queue.specs.Bridge.{GapsStay}
+use Rattle.raft_log_file_queue.specs.Layout.{FilePaths, path_of}
+use Rattle.raft_log_file_queue.specs.Rotation.{StandsWithRecords}
+use Rattle.raft_log_file_pipe.specs.Files.{Listed, NoneHas, IsSpan, IsPipe}
+use Rattle.raft_log_file_pipe.specs.Calls.{DropsBy, DropsUntil}
+use Rattle.raft_log_file_pipe.specs.Exits.{SameFiles}
+use Rattle.raft_log_file_pipe.specs.declared.pipe_files.PipeFiles.{PipeFiles}
+use Rattle.raft_log_record_base.specs.Files.{is_signed}
+
+-- of files that leave the span those that stay for use: the first of them that may be used again, while
+-- there is room for one more
+abbrev pub staying : ℕ → List Listed → List Listed
+staying room [] = []
+staying room (f ∷ fs) = if is_signed f.format.version && nat_lt 0 room then f ∷ staying (room - 1) fs
+    else staying room fs
+
+-- and those that go
+abbrev pub going : ℕ → List Listed → List Listed
+going room [] = []
+going room (f ∷ fs) = if is_signed f.format.version && nat_lt 0 room then going (room - 1) fs
+    else f ∷ going room fs
+
+-- for how many more files there is room, once the span begins at this number
+abbrev pub room_from : ℕ → ℕ → PipeFiles → ℕ
+room_from capacity seq files = capacity - suc (files.active.seq - seq) - length files.recycled.items
+
+-- a number of the span
+abbrev pub IsInSpan : ℕ → PipeFiles → Type 0
+IsInSpan seq files = (files.first_seq ≤ seq) × (seq - files.first_seq ≤ length files.earlier.items)
+
+-- the names without these
+abbrev pub without : List (List ℕ) → Names → Names
+without [] N = N
+without (path ∷ paths) N = without paths (update bytes_eq N path None)
+
+-- These files lie under their paths, below the span's first number, and none of them is kept for use, nor
+-- one of them another.
+abbrev pub AreGone : FilePaths → Names → ℕ → List Listed → List Listed → Type 0
+AreGone paths N first kept [] = Unit {0}
+AreGone paths N first kept (f ∷ fs) = (f.seq < first) × (f.reserved ≡ false)
+    × ((id : ℕ) × (N (path_of paths f) ≡ Some id)) × NoneHas paths (path_of paths f) kept
+    × NoneHas paths (path_of paths f) fs × AreGone paths N first kept fs
+
+-- the first so many of these paths were dropped, one after the other, and the others are there
+abbrev pub DropsTo : {R : Type 0} → Format R → (List ℕ → Type 0) → FilePaths → List (List ℕ) → ℕ → Disk → Disk
+    → Type 0
+DropsTo {R} F own paths gone count old new = (base : Disk) (files : PipeFiles) (q : LogFiles R)
+    (gs : List Listed) → gone ≡ map (path_of paths) gs → IsPipe F own paths base files q old
+    → AreGone paths old.names files.first_seq files.recycled.items gs → IsPipe F own paths base files q new
+    × GapsStay F q old new
+    × AreGone paths new.names files.first_seq files.recycled.items (drop count gs) × (new.names ≡ without
+    (take count gone) old.names) × DropsBy (take count gone) old new
+
+-- some first ones of these paths lost their names, and no other name changed
+abbrev pub LosesFirst : List (List ℕ) → Disk → Disk → Type 0
+LosesFirst gone old new = (count : ℕ) × (new.names ≡ without (take count gone) old.names)
+
+-- one of them wasn't: a file call failed, the records are held, and the span is there, as are those behind it
+abbrev pub FailsToDropAll : {R : Type 0} → Format R → (List ℕ → Type 0) → FilePaths → List (List ℕ) → Disk
+    → Disk → Type 0
+FailsToDropAll {R} F own paths gone old new = (base : Disk) (files : PipeFiles) (q : LogFiles R)
+    (gs : List Listed) → gone ≡ map (path_of paths) gs → IsPipe F own paths base files q old
+    → AreGone paths old.names files.first_seq files.recycled.items gs → Fails old new × StandsWithRecords F own base q
+    new × GapsStay F q old new
+    × IsSpan paths new.names files.first_seq files.earlier.items q.last × LosesFirst gone old new
+    × DropsUntil gone old new
+
+-- the files that are listed once those below a number have left the span
+pub record IsRaised (capacity seq : ℕ) (before after : PipeFiles) : Type 0 where
+  pub first : after.first_seq ≡ seq
+  pub earlier : after.earlier.items ≡ drop (seq - before.first_seq) before.earlier.items
+  pub active : after.active ≡ before.active
+  pub writer : after.writer ≡ before.writer
+  pub recycled : after.recycled.items ≡ before.recycled.items
+      ++ staying (room_from capacity seq before) (take (seq - before.first_seq) before.earlier.items)
+
+-- the paths of those that go
+abbrev pub paths_going : FilePaths → ℕ → ℕ → PipeFiles → List (List ℕ)
+paths_going paths capacity seq files = map (path_of paths)
+    (going (room_from capacity seq files) (take (seq - files.first_seq) files.earlier.items))
+
+-- they went, one after the other, and no other name changed
+abbrev pub Purges : {R : Type 0} → Format R → (List ℕ → Type 0) → FilePaths → ℕ → ℕ → PipeFiles → PipeFiles
+    → Disk → Disk → Type 0
+Purges {R} F own paths capacity seq before after old new = (base : Disk) (q : LogFiles R)
+    → IsPipe F own paths base before q old → IsPipe F own paths base after q new × GapsStay F q old new
+    × (new.names ≡ without (paths_going paths capacity seq before) old.names)
+    × DropsBy (paths_going paths capacity seq before) old new
+
+-- one of them didn't: a file call failed, the records are held, the span is there, and of the files that were
+-- to go only some first ones went
+abbrev pub FailsToPurge : {R : Type 0} → Format R → (List ℕ → Type 0) → FilePaths → ℕ → ℕ → PipeFiles
+    → PipeFiles → Disk → Disk → Type 0
+FailsToPurge {R} F own paths capacity seq before after old new = (base : Disk) (q : LogFiles R)
+    → IsPipe F own paths base before q old → Fails old new × StandsWithRecords F own base q new × GapsStay F q old new
+    × IsSpan paths new.names after.first_seq after.earlier.items q.last
+    × LosesFirst (paths_going paths capacity seq before) old new
+    × DropsUntil (paths_going paths capacity seq before) old new
+
+-- an error of another kind, with a text of its own, or want of memory for that
+abbrev pub IsOtherOrMemory : Error → Type 0
+IsOtherOrMemory (errors.Other fault) = Unit {0}
+IsOtherOrMemory errors.Memory = Unit {0}
+IsOtherOrMemory _ = ⊥
+
+-- why a number's place in the span isn't told: it is none of the span's, or memory was short for saying so
+abbrev pub CountFails : ℕ → PipeFiles → Error → Type 0
+CountFails seq files error = (IsInSpan seq files → ⊥) × IsOtherOrMemory error
+
+-- one of these files has a number that no name has
+abbrev pub HasFarFile : List Listed → Type 0
+HasFarFile fs = (f : Listed) × (i : ℕ) × (i < length fs) × (f ≡ slice_index_or fs i f) × (10 ^ 16 ≤ f.seq)
+
+-- why files weren't parted: for want of memory, or a number has no name
+abbrev pub PartFails : List Listed → Error → Type 0
+PartFails fs errors.Memory = Unit {0}
+PartFails fs errors.NumberRange = HasFarFile fs
+PartFails fs _ = ⊥
+
+-- Why a purge was refused, and what stands then: for want of memory, or as the number is none of the span's
+-- (or a file's has no name), nothing was done; else a file call failed, and the files below the number have
+-- left the span all the same.
+abbrev pub PurgeLeaves : {R : Type 0} → Format R → (List ℕ → Type 0) → FilePaths → ℕ → ℕ → PipeFiles →
+    PipeFiles
+    → Error → Disk → Disk → Type 0
+PurgeLeaves F own paths capacity seq before after errors.Memory old new = SameFiles before after × (new ≡ old)
+PurgeLeaves F own paths capacity seq before after (errors.Other fault) old new =
+    (IsInSpan seq before → ⊥) × SameFiles before after × (new ≡ old)
+PurgeLeaves F own paths capacity seq before after errors.NumberRange old new =
+    HasFarFile before.earlier.items × SameFiles before after × (new ≡ old)
+PurgeLeaves F own paths capacity seq before after errors.Failed old new =
+    IsRaised capacity seq before after × FailsToPurge F own paths capacity seq before after old new
+PurgeLeaves F own paths capacity seq before after _ old new = ⊥

@@ -1,0 +1,35 @@
+-- What is read of the files of a pipe.
+use Rattle.std.specs.Prelude.{◌≡◌, ℕ, ◌-◌, ◌<◌, ◌≤◌, ◌⊎◌, List, length, slice_index_or}
+use Rattle.raft_log_disk.specs.Disk.{Disk}
+use Rattle.raft_log_disk.specs.Touching.{HasFile}
+use Rattle.raft_log_disk.specs.declared.handle.Handle.{Handle}
+use Rattle.raft_log_record_base.specs.declared.errors.Error.{Error}
+use Rattle.raft_log_record_base.specs.declared.errors.Error.TheVariants as errors
+use Rattle.raft_log_record_base.specs.declared.pipe_log.FileBlockHandle.{FileBlockHandle}
+use Rattle.raft_log_file_writer.specs.Reader.{AreBytesAt, IsBlockRefusal}
+use Rattle.raft_log_file_pipe.specs.Files.{Listed}
+use Rattle.raft_log_file_pipe.specs.declared.pipe_files.PipeFiles.{PipeFiles}
+
+-- the file with a number is that one: the last, or one before it
+abbrev pub IsListed : ℕ → PipeFiles → ℕ → Type 0
+IsListed seq files id = ((seq ≡ files.active.seq) × (id ≡ files.active.handle.file))
+    ⊎ ((f : Listed) × (files.first_seq ≤ seq) × (seq - files.first_seq < length files.earlier.items)
+    × (f ≡ slice_index_or files.earlier.items (seq - files.first_seq) f) × (id ≡ f.handle.file))
+
+-- why no file is told: none has the number, or memory was short for saying so
+abbrev pub IsNotTold : ℕ → PipeFiles → Error → Type 0
+IsNotTold seq files errors.Memory = Unit {0}
+IsNotTold seq files (errors.Corruption text) = (seq ≡ files.active.seq → ⊥)
+    × (files.first_seq ≤ seq → seq - files.first_seq < length files.earlier.items → ⊥)
+IsNotTold seq files _ = ⊥
+
+-- these are the bytes at a place
+abbrev pub IsReadAt : PipeFiles → FileBlockHandle → List ℕ → Disk → Type 0
+IsReadAt files block bytes d = (id : ℕ) × IsListed block.id.seq files id
+    × HasFile id (AreBytesAt block.offset block.len bytes) d
+
+-- why they weren't read: no file has the number, or the file system refused, or memory ran out
+abbrev pub IsReadRefused : PipeFiles → FileBlockHandle → Disk → Error → Type 0
+IsReadRefused files block d error = IsNotTold block.id.seq files error
+    ⊎ ((handle : Handle) × IsListed block.id.seq files handle.file
+    × IsBlockRefusal handle block.offset block.len d error)

@@ -1,0 +1,162 @@
+//! Appending to a pipe: the last file is rotated where it is long enough, and a refused write is cut back.
+
+ghost use Rattle.std.specs.Prelude.{◌≡◌, ◌<◌, ◌≤◌, ◌^◌, IfErr, IfOk, OnErr, OnOk};
+ghost use Rattle.raft_log_disk.specs.Causes.{IsLater};
+ghost use Rattle.raft_log_file_queue.specs.declared.last_file.WriteFault.TheVariants.{CutBack};
+ghost use Rattle.std.specs.declared.io.ErrorKind.TheVariants.{StorageFull};
+ghost use Rattle.raft_log_file_format.specs.Header.{header_bytes};
+ghost use Rattle.raft_log_file_pipe.specs.Appending.{AppendFails, AppendsAt, GoesElsewhere, GoesInto, GoesOnBy, SaysTryAgain, Tells, TurnsElsewhere, TurnsFirst};
+ghost use Rattle.raft_log_file_pipe.specs.Exits.{IsTurned, Rotates, RotationLeaves};
+ghost use Rattle.raft_log_file_pipe.specs.Placing.{IsPlaced};
+
+use crate::new_files::NewFiles;
+use crate::pipe_files::PipeFiles;
+use crate::reactive_bytes::ReactiveBytes;
+use crate::rotating::rotate;
+use crate::writing::add;
+use log::{Log, error};
+use raft_log_disk::FileSystem;
+use raft_log_file_queue::{PipeFormat, WriteFault};
+use raft_log_record_base::{Error, FileBlockHandle, FileId, LogFileContext, LogQueue, Result};
+use std::alloc::Global;
+use std::io::ErrorKind;
+
+/// Goes on in the next file where the last one is as long as it is to be.
+fn turn_first<G: PipeFormat, F: FileSystem, L: Log>(
+    alloc: Global,
+    layout: &G,
+    rt: &L,
+    file_system: &mut F,
+    files: &mut PipeFiles,
+    new_files: &NewFiles,
+) -> Result<()>
+    ensures ok { OnOk result (TurnsFirst (G.format layout.now) (G.own layout.now) (G.file_paths layout.now)
+        new_files.now files.old files.new (F.disk file_system.old) (F.disk file_system.new)) }
+    ensures placed { new_files.now.target_size ≤ files.old.writer.written → OnOk result (IsPlaced
+        (F.tells_space file_system.old) (F.disk file_system.old) new_files.now.target_size
+        (G.file_paths layout.now).directories files.old.recycled.items files.new.active.path_id) }
+    ensures long { OnErr result (new_files.now.target_size ≤ files.old.writer.written) }
+    ensures err { IfErr result (λ error. RotationLeaves (G.format layout.now) (G.own layout.now)
+        (G.file_paths layout.now) (header_bytes new_files.now.format) files.old files.new error
+        (F.disk file_system.old) (F.disk file_system.new)) }
+    ensures near { GoesOnBy 1 files.old files.new }
+    ensures first { files.new.first_seq ≡ files.old.first_seq }
+    ensures later { IsLater (F.disk file_system.old) (F.disk file_system.new) }
+{
+    if files.writer.offset() >= new_files.target_size {
+        return rotate(alloc, layout, rt, file_system, files, new_files);
+    }
+    Ok(())
+}
+
+/// Goes on in the next file where there is no space for a record in the last one, and answers why the record
+/// isn't written: it is to be tried again, or there is no next file.
+fn turn_elsewhere<G: PipeFormat, F: FileSystem, L: Log>(
+    alloc: Global,
+    layout: &G,
+    rt: &L,
+    file_system: &mut F,
+    files: &mut PipeFiles,
+    new_files: &NewFiles,
+) -> Error
+    ensures left { TurnsElsewhere (G.format layout.now) (G.own layout.now) (G.file_paths layout.now)
+        new_files.now files.old files.new result (F.disk file_system.old) (F.disk file_system.new) }
+    ensures elsewhere { SaysTryAgain result → GoesInto F.disk F.tells_space (G.format layout.now)
+        (G.own layout.now) (G.file_paths layout.now) new_files.now files.old files.new
+        file_system.old file_system.new }
+    ensures near { GoesOnBy 1 files.old files.new }
+    ensures first { files.new.first_seq ≡ files.old.first_seq }
+    ensures later { IsLater (F.disk file_system.old) (F.disk file_system.new) }
+{
+    match rotate(alloc, layout, rt, file_system, files, new_files) {
+        Ok(()) => {
+            let text = format!(in alloc; "no space for a record");
+            Error::TryAgain(text.unwrap_or(String::new(alloc)))
+        }
+        Err(error) => error,
+    }
+}
+
+/// Answers why a record isn't written, where its write was refused. Where that was for want of space, the
+/// pipe goes on in the next file.
+fn tell_fault<G: PipeFormat, F: FileSystem, L: Log>(
+    alloc: Global,
+    layout: &G,
+    rt: &L,
+    file_system: &mut F,
+    files: &mut PipeFiles,
+    new_files: &NewFiles,
+    fault: WriteFault,
+) -> Error
+    ensures left { Tells (G.format layout.now) (G.own layout.now) (G.file_paths layout.now) new_files.now
+        fault files.old files.new result (F.disk file_system.old) (F.disk file_system.new) }
+    ensures elsewhere { SaysTryAgain result → (fault ≡ CutBack StorageFull)
+        × GoesInto F.disk F.tells_space (G.format layout.now) (G.own layout.now) (G.file_paths layout.now)
+        new_files.now files.old files.new file_system.old file_system.new }
+    ensures near { GoesOnBy 1 files.old files.new }
+    ensures first { files.new.first_seq ≡ files.old.first_seq }
+    ensures later { IsLater (F.disk file_system.old) (F.disk file_system.new) }
+{
+    match fault {
+        WriteFault::CutBack(kind) => {
+            if kind == ErrorKind::StorageFull {
+                return turn_elsewhere(alloc, layout, rt, file_system, files, new_files);
+            }
+            Error::Io(kind)
+        }
+        WriteFault::Failed(kind) => {
+            error!(rt; "a refused write wasn't cut off: {kind}");
+            Error::Failed
+        }
+    }
+}
+
+/// Writes a record behind the others, and answers its place. The pipe goes on in the next file first where
+/// the last one is as long as it is to be, or longer.
+///
+/// `Io`: the write was refused, what it left was cut off, and everything before it is durable. `TryAgain`:
+/// the same for want of space, and the pipe went on in the next file. `Memory`, `NumberRange`: there is no
+/// next file, and nothing is lost. `Failed`: the pipe isn't to be used any more.
+pub fn append<G: PipeFormat, F: FileSystem, L: Log, B: ReactiveBytes>(
+    alloc: Global,
+    layout: &G,
+    rt: &L,
+    file_system: &mut F,
+    files: &mut PipeFiles,
+    new_files: &NewFiles,
+    queue: LogQueue,
+    bytes: &mut B,
+) -> Result<FileBlockHandle>
+    ensures ok { IfOk result (λ block. AppendsAt (G.format layout.now) (G.own layout.now)
+        (G.file_paths layout.now) new_files.now queue (B.signed bytes.old) files.old files.new block
+        (F.disk file_system.old) (F.disk file_system.new)) }
+    ensures place { IfOk result (λ block. block.offset < 2 ^ 63) }
+    ensures placed { new_files.now.target_size ≤ files.old.writer.written → OnOk result (IsPlaced
+        (F.tells_space file_system.old) (F.disk file_system.old) new_files.now.target_size
+        (G.file_paths layout.now).directories files.old.recycled.items files.new.active.path_id) }
+    ensures err { IfErr result (λ error. AppendFails (G.format layout.now) (G.own layout.now)
+        (G.file_paths layout.now) new_files.now queue (B.signed bytes.old) files.old files.new error
+        (F.disk file_system.old) (F.disk file_system.new)) }
+    ensures elsewhere { IfErr result (λ error. SaysTryAgain error → GoesElsewhere F.disk F.tells_space
+        (G.format layout.now) (G.own layout.now) (G.file_paths layout.now) new_files.now queue
+        (B.signed bytes.old) files.old files.new file_system.old file_system.new) }
+    ensures near { OnErr result (GoesOnBy 2 files.old files.new) }
+    ensures signed { B.signed bytes.new ≡ B.signed bytes.old }
+    ensures said { B.said bytes.new ≡ B.said bytes.old }
+    ensures first { files.new.first_seq ≡ files.old.first_seq }
+    ensures later { IsLater (F.disk file_system.old) (F.disk file_system.new) }
+{
+    turn_first(alloc, layout, rt, file_system, files, new_files)?;
+    let id = FileId::new(queue, files.active.seq);
+    bytes.sign(&LogFileContext::new(id, files.active.format.version));
+    let record = bytes.as_bytes();
+    let size = new_files.target_size;
+    match add(layout, rt, file_system, files, record, size) {
+        Ok(at) => Ok(FileBlockHandle {
+            id,
+            offset: at as u64,
+            len: record.len(),
+        }),
+        Err(fault) => Err(tell_fault(alloc, layout, rt, file_system, files, new_files, fault)),
+    }
+}

@@ -1,0 +1,15 @@
+//! The files of a queue that no pipe has open.
+
+use raft_log_file_queue::File;
+use std::collections::VecDeque;
+
+/// The files of a queue, as they were found where no pipe has it open, and how far the last one was read.
+#[derive(Drop, Debug)]
+pub struct FoundFiles {
+    /// The files of the queue in the order of their numbers, without a gap; none where it is to begin.
+    pub files: VecDeque<File>,
+    /// Where the whole records of the last file end, in bytes; `None` where it has no header.
+    pub end: Option<usize>,
+    /// The files that are kept for use, the oldest first.
+    pub recycled: VecDeque<File>,
+}

@@ -1,0 +1,86 @@
+//! How a pipe begins its files.
+
+ghost use Rattle.std.specs.Prelude.{◌≡◌, IfOk, IfErr};
+ghost use Rattle.raft_log_file_pipe.specs.Placing.{IsChosen, TellsRoom};
+ghost use Rattle.raft_log_record_base.specs.declared.errors.Error.TheVariants.{Memory};
+ghost use Rattle.raft_log_file_format.specs.Header.{header_bytes, HasWrittenHeader, IsHeaderRefusal};
+
+use raft_log_disk::FileSystem;
+use raft_log_file_format::LogFileFormat;
+use raft_log_file_queue::{DEFAULT_PATH_ID, PathId, PipeFormat};
+use raft_log_record_base::{Error, Result};
+use std::alloc::Global;
+use std::io::ErrorKind;
+
+/// How files are begun: in which format, with which header, and up to which size they are written.
+#[derive(Drop, Debug)]
+pub struct NewFiles {
+    /// The format.
+    pub format: LogFileFormat,
+    header: Vec<u8>,
+    /// A file that is as long as this, in bytes, or longer gets no more records.
+    pub target_size: usize,
+    ghost has_header: { HasWrittenHeader format },
+    ghost spelled: { header.items ≡ header_bytes format },
+}
+
+impl NewFiles {
+    /// Files of this format, up to this size in bytes. Refused where the format has no header, or for want
+    /// of memory.
+    pub fn new(alloc: Global, format: LogFileFormat, target_size: usize) -> Result<NewFiles>
+        ensures format { IfOk result (λ files. files.format ≡ format) }
+        ensures size { IfOk result (λ files. files.target_size ≡ target_size) }
+        ensures err { IfErr result (λ error. IsHeaderRefusal format error) }
+    {
+        let mut header = Vec::new(alloc);
+        format.encode(alloc, &mut header)?;
+        Ok(NewFiles {
+            format,
+            header,
+            target_size,
+        })
+    }
+
+    /// The header.
+    pub fn header(&self) -> &[u8]
+        ensures bytes { result.now ≡ header_bytes self.now.format }
+        ensures has { HasWrittenHeader self.now.format }
+    {
+        &self.header
+    }
+}
+
+/// Whether a directory has room for so many bytes. One of which no space is told has none.
+fn has_room<F: FileSystem>(file_system: &F, directory: &str, size: usize) -> Result<bool>
+    ensures ok { IfOk result (TellsRoom (F.tells_space file_system.now) (F.disk file_system.now) size
+        directory.now) }
+    ensures err { IfErr result (λ error. error ≡ Memory) }
+{
+    match file_system.free_space(directory) {
+        Ok(space) => Ok(space >= size as u64),
+        Err(ErrorKind::OutOfMemory) => Err(Error::Memory),
+        Err(_) => Ok(false),
+    }
+}
+
+/// The directory for a new file: where there are several, the first that has room for so many bytes, and
+/// the main one where none has.
+pub fn choose_directory<G: PipeFormat, F: FileSystem>(
+    layout: &G,
+    file_system: &F,
+    size: usize,
+) -> Result<PathId>
+    ensures ok { IfOk result (λ place. IsChosen (F.tells_space file_system.now) (F.disk file_system.now) size
+        (G.file_paths layout.now).directories place) }
+    ensures err { IfErr result (λ error. error ≡ Memory) }
+{
+    let paths = layout.paths();
+    if paths.len() > 1 {
+        for (path_id, path) in paths.iter().enumerate() {
+            if has_room(file_system, path, size)? {
+                return Ok(path_id);
+            }
+        }
+    }
+    Ok(DEFAULT_PATH_ID)
+}

@@ -1,0 +1,170 @@
+//! Files that leave the span of a pipe.
+
+ghost use Rattle.std.specs.Prelude.{◌≡◌, ℕ, ◌≤◌, ◌-◌, List, ◌∷◌, ◌++◌, nat_lt, ◌&&◌, length, map, take, IfErr, IfOk, OnErr, OnOk};
+ghost use Rattle.std.specs.String.{string_bytes};
+ghost use Rattle.raft_log_record_base.specs.declared.errors.Error.TheVariants.{Memory};
+ghost use Rattle.raft_log_disk.specs.Causes.{IsLater};
+ghost use Rattle.raft_log_file_queue.specs.Layout.{path_of};
+ghost use Rattle.raft_log_file_format.specs.Name.{IsNameRefusal};
+ghost use Rattle.raft_log_file_pipe.specs.Files.{Listed};
+ghost use Rattle.raft_log_file_pipe.specs.Purging.{CountFails, DropsTo, FailsToDropAll, IsOtherOrMemory, IsInSpan, IsRaised, PartFails, PurgeLeaves, Purges, going, room_from, staying};
+ghost use Rattle.raft_log_record_base.specs.Files.{is_signed};
+
+use crate::pipe_files::PipeFiles;
+use log::{Log, error};
+use raft_log_disk::FileSystem;
+use raft_log_file_queue::{File, PipeFormat, drop_file};
+use raft_log_record_base::{Error, FileSeq, Result};
+use std::alloc::Global;
+use std::collections::VecDeque;
+use std::io::ErrorKind;
+
+/// Drops the files with these paths, in their order.
+fn drop_files<G: PipeFormat, F: FileSystem>(
+    layout: &G,
+    file_system: &mut F,
+    gone: &[String],
+) -> Result<(), ErrorKind>
+    ensures ok { OnOk result (DropsTo (G.format layout.now) (G.own layout.now) (G.file_paths layout.now)
+        (map string_bytes gone.now) (length gone.now) (F.disk file_system.old) (F.disk file_system.new)) }
+    ensures err { OnErr result (FailsToDropAll (G.format layout.now) (G.own layout.now)
+        (G.file_paths layout.now) (map string_bytes gone.now)
+        (F.disk file_system.old) (F.disk file_system.new)) }
+    ensures later { IsLater (F.disk file_system.old) (F.disk file_system.new) }
+{
+    for path in gone {
+        drop_file(layout, file_system, path)?;
+    }
+    Ok(())
+}
+
+/// Files that leave the span: those that stay for use, and the paths of the others.
+#[derive(Drop)]
+struct Parted {
+    kept: VecDeque<File>,
+    gone: Vec<String>,
+}
+
+/// Whether a file stays for use, where there is room for so many.
+fn can_stay(file: &File, room: usize) -> bool
+    ensures { result ≡ (is_signed file.now.format.version && nat_lt 0 room) }
+{
+    file.format.version.has_log_signing() && room > 0
+}
+
+impl Parted {
+    /// Takes one more file: it stays where it can and there is room for so many, and the answer is for how
+    /// many there is room then.
+    fn take<G: PipeFormat>(
+        &mut self,
+        alloc: Global,
+        layout: &G,
+        file: File,
+        room: usize,
+    ) -> Result<usize>
+        ensures kept { IfOk result (λ left. (rest : List Listed)
+            → self.old.kept.items ++ staying room (file ∷ rest) ≡ self.new.kept.items ++ staying left rest) }
+        ensures gone { IfOk result (λ left. (rest : List Listed)
+            → map string_bytes self.old.gone.items
+            ++ map (path_of (G.file_paths layout.now)) (going room (file ∷ rest))
+            ≡ map string_bytes self.new.gone.items
+            ++ map (path_of (G.file_paths layout.now)) (going left rest)) }
+        ensures err { IfErr result (IsNameRefusal file.seq) }
+    {
+        if can_stay(&file, room) {
+            self.kept.push_back(file)?;
+            return Ok(room - 1);
+        }
+        let path = layout.file_path(alloc, &file)?;
+        self.gone.push(path)?;
+        Ok(room)
+    }
+}
+
+/// Parts the first files of the span, so many of them: the oldest that can be used again stay, while there
+/// is room for one more.
+fn part_files<G: PipeFormat>(
+    alloc: Global,
+    layout: &G,
+    files: &VecDeque<File>,
+    count: usize,
+    room: usize,
+) -> Result<Parted>
+    requires { count ≤ length files.now.items }
+    ensures kept { IfOk result (λ parted. parted.kept.items ≡ staying room (take count files.now.items)) }
+    ensures gone { IfOk result (λ parted. map string_bytes parted.gone.items
+        ≡ map (path_of (G.file_paths layout.now)) (going room (take count files.now.items))) }
+    ensures err { IfErr result (PartFails files.now.items) }
+{
+    let mut parted = Parted {
+        kept: VecDeque::new(alloc),
+        gone: Vec::new(alloc),
+    };
+    let mut left = room;
+    for i in 0..count {
+        left = parted.take(alloc, layout, files[i], left)?;
+    }
+    Ok(parted)
+}
+
+/// How many files lie below a number of the span; another number is refused as `Other`.
+fn count_below(alloc: Global, files: &PipeFiles, seq: FileSeq) -> Result<usize>
+    ensures ok { IfOk result (λ count. IsInSpan seq files.now × (count ≡ seq - files.now.first_seq)) }
+    ensures err { IfErr result (CountFails seq files.now) }
+{
+    match seq.checked_sub(files.first_seq) {
+        Some(count) if count as usize <= files.earlier.len() => Ok(count as usize),
+        _ => Err(not_in_span(alloc, files, seq)),
+    }
+}
+
+/// A number that is none of the span's, as `Other`, or `Memory` where there is no room to say so.
+fn not_in_span(alloc: Global, files: &PipeFiles, seq: FileSeq) -> Error
+    ensures { IsOtherOrMemory result }
+{
+    let (first, last) = (files.first_seq, files.active.seq);
+    match format!(in alloc; "file {seq} is not in the span from {first} to {last}") {
+        Ok(text) => Error::other(alloc, anyhow::Error::msg(text)),
+        Err(_) => Error::Memory,
+    }
+}
+
+/// The files below a number leave the span, before any file call. From the oldest on, those whose records
+/// are signed stay for use, while the pipe has fewer files than its capacity with them; the others are
+/// deleted. The answer is how many left the span.
+///
+/// `Other` where the number is none of the span's, `Memory`: nothing is done. `Failed`: a file
+/// wasn't deleted, and the pipe isn't to be used any more.
+pub fn purge<G: PipeFormat, F: FileSystem, L: Log>(
+    alloc: Global,
+    layout: &G,
+    rt: &L,
+    file_system: &mut F,
+    files: &mut PipeFiles,
+    capacity: usize,
+    seq: FileSeq,
+) -> Result<usize>
+    ensures ok { OnOk result (Purges (G.format layout.now) (G.own layout.now) (G.file_paths layout.now)
+        capacity seq files.old files.new (F.disk file_system.old) (F.disk file_system.new)) }
+    ensures raised { OnOk result (IsRaised capacity seq files.old files.new) }
+    ensures count { IfOk result (λ count. IsInSpan seq files.old × (count ≡ seq - files.old.first_seq)) }
+    ensures err { IfErr result (λ error. PurgeLeaves (G.format layout.now) (G.own layout.now)
+        (G.file_paths layout.now) capacity seq files.old files.new error
+        (F.disk file_system.old) (F.disk file_system.new)) }
+    ensures later { IsLater (F.disk file_system.old) (F.disk file_system.new) }
+{
+    let count = count_below(alloc, files, seq)?;
+    let remaining = (files.active.seq.saturating_sub(seq) as usize).saturating_add(1);
+    let room = capacity
+        .saturating_sub(remaining)
+        .saturating_sub(files.recycled.len());
+    let mut parted = part_files(alloc, layout, &files.earlier, count, room)?;
+    files.recycled.append(&mut parted.kept)?;
+    files.earlier.drain(..count);
+    files.first_seq = seq;
+    if let Err(kind) = drop_files(layout, file_system, &parted.gone) {
+        error!(rt; "a file below {seq} wasn't deleted: {kind}");
+        return Err(Error::Failed);
+    }
+    Ok(count)
+}

@@ -1,0 +1,171 @@
+//! Rotations of a pipe: over the oldest of the files that are kept for use, or into a new one.
+
+ghost use Rattle.std.specs.Prelude.{◌≡◌, ◌<◌, ◌∷◌, [], drop, suc, IfOk, IfErr, OnErr, OnOk};
+ghost use Rattle.std.specs.VecDeque.{deque_len, deque_capacity};
+ghost use Rattle.raft_log_disk.specs.Causes.{IsLater};
+ghost use Rattle.raft_log_disk.specs.Reading.{IsOpened};
+ghost use Rattle.raft_log_disk.specs.declared.handle.Permission.TheVariants as permissions;
+ghost use Rattle.raft_log_file_format.specs.Header.{header_bytes};
+ghost use Rattle.raft_log_file_pipe.specs.Placing.{IsChosen, IsPlaced};
+ghost use Rattle.raft_log_file_pipe.specs.Exits.{IsTurned, Rotates, RotationLeaves, SameLists, StaysClosed};
+
+use crate::new_files::{NewFiles, choose_directory};
+use crate::pipe_files::PipeFiles;
+use log::{Log, error};
+use raft_log_disk::{FileSystem, Handle, Permission};
+use raft_log_file_queue::{File, PipeFormat, rotate_over, rotate_to_new};
+use raft_log_record_base::{Error, FileSeq, Result};
+use std::alloc::Global;
+use std::io::ErrorKind;
+
+/// Opens a file that is kept for use, to write it under its next number. It changes nothing.
+fn open_kept<F: FileSystem>(file_system: &F, path: &str) -> Result<Handle>
+    ensures ok { IfOk result (λ handle.
+        IsOpened path.now permissions.ReadWrite handle (F.disk file_system.now)) }
+    ensures err { IfErr result (StaysClosed path.now (F.disk file_system.now)) }
+{
+    match file_system.open(path, Permission::ReadWrite) {
+        Ok(handle) => Ok(handle),
+        Err(ErrorKind::OutOfMemory) => Err(Error::Memory),
+        Err(_) => Err(Error::Failed),
+    }
+}
+
+/// Goes on in the oldest of the files that are kept for use, under the next number.
+fn go_over<G: PipeFormat, F: FileSystem, L: Log>(
+    alloc: Global,
+    layout: &G,
+    rt: &L,
+    file_system: &mut F,
+    files: &mut PipeFiles,
+    new_files: &NewFiles,
+    kept: File,
+    seq: FileSeq,
+) -> Result<()>
+    requires room { deque_len files.old.earlier < deque_capacity files.old.earlier }
+    requires oldest { files.old.recycled.items ≡ kept ∷ drop 1 files.old.recycled.items }
+    requires number { seq ≡ suc files.old.active.seq }
+    ensures ok { OnOk result (Rotates (G.format layout.now) (G.own layout.now) (G.file_paths layout.now)
+        (header_bytes new_files.now.format) files.old files.new
+        (F.disk file_system.old) (F.disk file_system.new)) }
+    ensures turned { OnOk result (IsTurned new_files.now.format files.old files.new) }
+    ensures placed { OnOk result (files.new.active.path_id ≡ kept.path_id) }
+    ensures err { IfErr result (λ error. RotationLeaves (G.format layout.now) (G.own layout.now)
+        (G.file_paths layout.now) (header_bytes new_files.now.format) files.old files.new error
+        (F.disk file_system.old) (F.disk file_system.new)) }
+    ensures stays { OnErr result (SameLists files.old files.new) }
+    ensures first { files.new.first_seq ≡ files.old.first_seq }
+    ensures later { IsLater (F.disk file_system.old) (F.disk file_system.new) }
+{
+    let header = new_files.header();
+    let next = File {
+        seq,
+        format: new_files.format,
+        reserved: false,
+        ..kept
+    };
+    let to = layout.file_path(alloc, &next)?;
+    let from = layout.file_path(alloc, &kept)?;
+    let handle = open_kept(file_system, &from)?;
+    if let Err(kind) = rotate_over(
+        layout,
+        rt,
+        file_system,
+        &mut files.writer,
+        handle,
+        &from,
+        &to,
+        header,
+    ) {
+        error!(rt; "log file {seq} wasn't begun over {from}: {kind}");
+        return Err(Error::Failed);
+    }
+    files.recycled.pop_front();
+    files.turn_to(File { handle, ..next });
+    Ok(())
+}
+
+/// Goes on in a file that is made for the next number.
+fn go_into_new<G: PipeFormat, F: FileSystem, L: Log>(
+    alloc: Global,
+    layout: &G,
+    rt: &L,
+    file_system: &mut F,
+    files: &mut PipeFiles,
+    new_files: &NewFiles,
+    seq: FileSeq,
+) -> Result<()>
+    requires room { deque_len files.old.earlier < deque_capacity files.old.earlier }
+    requires none { files.old.recycled.items ≡ [] }
+    requires number { seq ≡ suc files.old.active.seq }
+    ensures ok { OnOk result (Rotates (G.format layout.now) (G.own layout.now) (G.file_paths layout.now)
+        (header_bytes new_files.now.format) files.old files.new
+        (F.disk file_system.old) (F.disk file_system.new)) }
+    ensures turned { OnOk result (IsTurned new_files.now.format files.old files.new) }
+    ensures placed { OnOk result (IsChosen (F.tells_space file_system.old) (F.disk file_system.old)
+        new_files.now.target_size (G.file_paths layout.now).directories files.new.active.path_id) }
+    ensures err { IfErr result (λ error. RotationLeaves (G.format layout.now) (G.own layout.now)
+        (G.file_paths layout.now) (header_bytes new_files.now.format) files.old files.new error
+        (F.disk file_system.old) (F.disk file_system.new)) }
+    ensures stays { OnErr result (SameLists files.old files.new) }
+    ensures first { files.new.first_seq ≡ files.old.first_seq }
+    ensures later { IsLater (F.disk file_system.old) (F.disk file_system.new) }
+{
+    let header = new_files.header();
+    let path_id = choose_directory(layout, file_system, new_files.target_size)?;
+    let place = File {
+        seq,
+        handle: files.active.handle,
+        format: new_files.format,
+        path_id,
+        reserved: false,
+    };
+    let path = layout.file_path(alloc, &place)?;
+    match rotate_to_new(layout, rt, file_system, &mut files.writer, &path, header) {
+        Ok(handle) => {
+            files.turn_to(File { handle, ..place });
+            Ok(())
+        }
+        Err(kind) => {
+            error!(rt; "log file {seq} wasn't begun: {kind}");
+            Err(Error::Failed)
+        }
+    }
+}
+
+/// Goes on in the next file: the oldest of those that are kept for use, or a new one where there is none.
+/// The last file is finished first.
+///
+/// Refused for want of memory or of a number, nothing is done. `Failed` where a file call was refused: the
+/// pipe isn't to be used any more.
+pub fn rotate<G: PipeFormat, F: FileSystem, L: Log>(
+    alloc: Global,
+    layout: &G,
+    rt: &L,
+    file_system: &mut F,
+    files: &mut PipeFiles,
+    new_files: &NewFiles,
+) -> Result<()>
+    ensures ok { OnOk result (Rotates (G.format layout.now) (G.own layout.now) (G.file_paths layout.now)
+        (header_bytes new_files.now.format) files.old files.new
+        (F.disk file_system.old) (F.disk file_system.new)) }
+    ensures turned { OnOk result (IsTurned new_files.now.format files.old files.new) }
+    ensures placed { OnOk result (IsPlaced (F.tells_space file_system.old) (F.disk file_system.old)
+        new_files.now.target_size (G.file_paths layout.now).directories files.old.recycled.items
+        files.new.active.path_id) }
+    ensures err { IfErr result (λ error. RotationLeaves (G.format layout.now) (G.own layout.now)
+        (G.file_paths layout.now) (header_bytes new_files.now.format) files.old files.new error
+        (F.disk file_system.old) (F.disk file_system.new)) }
+    ensures stays { OnErr result (SameLists files.old files.new) }
+    ensures first { files.new.first_seq ≡ files.old.first_seq }
+    ensures later { IsLater (F.disk file_system.old) (F.disk file_system.new) }
+{
+    let Some(seq) = files.active.seq.checked_add(1) else {
+        return Err(Error::NumberRange);
+    };
+    files.earlier.reserve(1)?;
+    match files.recycled.front().copied() {
+        Some(kept) => go_over(alloc, layout, rt, file_system, files, new_files, kept, seq),
+        None => go_into_new(alloc, layout, rt, file_system, files, new_files, seq),
+    }
+}

@@ -1,0 +1,406 @@
+//! One queue of log files.
+
+ghost use Rattle.std.specs.Prelude.{◌≡◌, ◌↔◌, ◌+◌, ◌-◌, ◌*◌, ◌/◌, ◌^◌, ◌<◌, ◌≤◌, length, min, suc, ℕ, true, false, Ok, Err, IfErr, IfOk, IsErr, IsTrue, OnErr, OnOk};
+ghost use Rattle.raft_log_record_base.specs.declared.errors.Error.TheVariants as errors;
+ghost use Rattle.raft_log_disk.specs.Causes.{IsLater};
+
+use crate::appending::append;
+use crate::closing::{finish, reserve_files};
+use crate::found_files::FoundFiles;
+use crate::new_files::NewFiles;
+use crate::opening::open;
+use crate::pipe_files::PipeFiles;
+use crate::purging::purge;
+use crate::reactive_bytes::ReactiveBytes;
+use crate::rotating::rotate;
+use crate::writing::sync;
+use log::{Log, error};
+use raft_log_disk::FileSystem;
+use raft_log_file_queue::PipeFormat;
+use raft_log_file_writer::LogFileReader;
+use raft_log_record_base::{Error, FileBlockHandle, FileSeq, LogQueue, Result};
+use std::alloc::Global;
+
+/// One queue of log files. Its calls are lent the file system.
+///
+/// Once a call was refused that couldn't be mended, the pipe has failed: every later call that would change
+/// something is refused as `Failed`, and changes nothing.
+#[derive(Drop)]
+pub struct SinglePipe<G> {
+    layout: G,
+    settings: PipeSettings,
+    files: PipeFiles,
+    failed: bool,
+}
+
+/// How a pipe writes its files.
+#[derive(Drop, Debug)]
+pub struct PipeSettings {
+    /// Which queue it is.
+    pub queue: LogQueue,
+    /// How its files are begun.
+    pub new_files: NewFiles,
+    /// How many files it may have, those of its span and those kept for use, before a purge deletes some.
+    pub capacity: usize,
+}
+
+impl<G: PipeFormat> SinglePipe<G> {
+    ghost use Rattle.raft_log_file_format.specs.Header.{header_bytes};
+    ghost use Rattle.raft_log_file_pipe.specs.Appending.{AppendFails, AppendsAt, GoesElsewhere, GoesOnBy, SaysTryAgain};
+    ghost use Rattle.raft_log_file_pipe.specs.Purging.{IsInSpan, IsRaised, PurgeLeaves, Purges};
+    ghost use Rattle.raft_log_file_pipe.specs.Placing.{IsPlaced};
+    ghost use Rattle.raft_log_file_pipe.specs.Reading.{IsReadAt, IsReadRefused};
+    ghost use Rattle.raft_log_file_pipe.specs.Exits.{FailsToSyncPipe, IsTurned, Rotates, RotationLeaves, SameLists, SyncsPipe};
+
+    /// A pipe over these files, which writes them so.
+    pub fn new(layout: G, settings: PipeSettings, files: PipeFiles) -> SinglePipe<G>
+        ensures layout { result.layout ≡ layout }
+        ensures settings { result.settings ≡ settings }
+        ensures files { result.files ≡ files }
+        ensures failed { result.failed ≡ false }
+    {
+        SinglePipe {
+            layout,
+            settings,
+            files,
+            failed: false,
+        }
+    }
+
+    /// Where its files lie, and how they are written.
+    pub fn layout(&self) -> &G
+        ensures { result.now ≡ self.now.layout }
+    {
+        &self.layout
+    }
+
+    /// Whether a call was refused that couldn't be mended.
+    pub fn is_failed(&self) -> bool
+        ensures { result ≡ self.now.failed }
+    {
+        self.failed
+    }
+
+    /// The numbers of the first and the last file.
+    pub fn file_span(&self) -> (FileSeq, FileSeq)
+        ensures first { result.0 ≡ self.now.files.first_seq }
+        ensures last { result.1 ≡ self.now.files.active.seq }
+    {
+        (self.files.first_seq, self.files.active.seq)
+    }
+
+    /// How many files the span has.
+    fn count(&self) -> usize
+        ensures { result ≡ suc (length self.now.files.earlier.items) }
+    {
+        self.files.earlier.len() + 1
+    }
+
+    /// The number of the file at a fraction of the span, counted from its first file on and rounded down: the
+    /// one behind the last for the whole.
+    pub fn file_at(&self, num: u32, den: u32) -> FileSeq
+        requires fraction { num ≤ den }
+        requires whole { 0 < den }
+        ensures { result ≡ min (self.now.files.first_seq
+            + suc (length self.now.files.earlier.items) * num / den) (2 ^ 64 - 1) }
+    {
+        let count = self.count() as u64;
+        let (num, den) = (num as u64, den as u64);
+        let at = count / den * num + count % den * num / den;
+        self.files.first_seq.saturating_add(at)
+    }
+
+    /// The size of all files of the span in bytes, where each counts as long as it is to be; at most the
+    /// greatest number that there is.
+    pub fn total_size(&self) -> usize
+        ensures { result ≡ min (suc (length self.now.files.earlier.items)
+            * self.now.settings.new_files.target_size) (2 ^ 64 - 1) }
+    {
+        self.count()
+            .saturating_mul(self.settings.new_files.target_size)
+    }
+
+    /// Writes a record behind the others, and answers its place. The pipe goes on in the next file first
+    /// where the last one is as long as it is to be, or longer.
+    ///
+    /// `Io`: the write was refused, what it left was cut off, and everything before it is durable.
+    /// `TryAgain`: the same for want of space, and the pipe went on in the next file. `Memory`,
+    /// `NumberRange`: there is no next file, and nothing is lost. `Failed`: the pipe has failed.
+    pub fn append<F: FileSystem, L: Log, B: ReactiveBytes>(
+        &mut self,
+        alloc: Global,
+        rt: &L,
+        file_system: &mut F,
+        bytes: &mut B,
+    ) -> Result<FileBlockHandle>
+        ensures ok { IfOk result (λ block. AppendsAt (G.format self.old.layout) (G.own self.old.layout)
+            (G.file_paths self.old.layout) self.old.settings.new_files self.old.settings.queue
+            (B.signed bytes.old) self.old.files self.new.files block
+            (F.disk file_system.old) (F.disk file_system.new)) }
+        ensures place { IfOk result (λ block. block.offset < 2 ^ 63) }
+        ensures placed { self.old.settings.new_files.target_size ≤ self.old.files.writer.written
+            → OnOk result (IsPlaced (F.tells_space file_system.old) (F.disk file_system.old)
+            self.old.settings.new_files.target_size (G.file_paths self.old.layout).directories
+            self.old.files.recycled.items self.new.files.active.path_id) }
+        ensures err { self.old.failed ≡ false → IfErr result (λ error.
+            AppendFails (G.format self.old.layout) (G.own self.old.layout) (G.file_paths self.old.layout)
+            self.old.settings.new_files self.old.settings.queue (B.signed bytes.old)
+            self.old.files self.new.files error (F.disk file_system.old) (F.disk file_system.new)) }
+        ensures elsewhere { IfErr result (λ error. SaysTryAgain error → GoesElsewhere F.disk F.tells_space
+            (G.format self.old.layout) (G.own self.old.layout) (G.file_paths self.old.layout)
+            self.old.settings.new_files self.old.settings.queue (B.signed bytes.old)
+            self.old.files self.new.files file_system.old file_system.new) }
+        ensures near { OnErr result (GoesOnBy 2 self.old.files self.new.files) }
+        ensures signed { B.signed bytes.new ≡ B.signed bytes.old }
+        ensures said { B.said bytes.new ≡ B.said bytes.old }
+        ensures failed { self.old.failed ≡ true → (result ≡ Err errors.Failed) × (self.new ≡ self.old)
+            × (F.disk file_system.new ≡ F.disk file_system.old) }
+        ensures fails { IsTrue self.new.failed ↔ (result ≡ Err errors.Failed) }
+        ensures first { self.new.files.first_seq ≡ self.old.files.first_seq }
+        ensures same { (self.new.layout ≡ self.old.layout) × (self.new.settings ≡ self.old.settings) }
+        ensures later { IsLater (F.disk file_system.old) (F.disk file_system.new) }
+    {
+        if self.failed {
+            return Err(Error::Failed);
+        }
+        let answer = append(
+            alloc,
+            &self.layout,
+            rt,
+            file_system,
+            &mut self.files,
+            &self.settings.new_files,
+            self.settings.queue,
+            bytes,
+        );
+        self.failed = matches!(answer, Err(Error::Failed));
+        answer
+    }
+
+    /// Makes all records durable. Refused, it is `Failed`, and the pipe has failed.
+    pub fn sync<F: FileSystem, L: Log>(&mut self, rt: &L, file_system: &mut F) -> Result<()>
+        ensures ok { OnOk result (SyncsPipe (G.format self.old.layout) (G.own self.old.layout)
+            (G.file_paths self.old.layout) self.old.files (F.disk file_system.old) (F.disk file_system.new)) }
+        ensures err { self.old.failed ≡ false → OnErr result (FailsToSyncPipe (G.format self.old.layout)
+            (G.own self.old.layout) (G.file_paths self.old.layout) self.old.files
+            (F.disk file_system.old) (F.disk file_system.new)) }
+        ensures error { IfErr result (λ error. error ≡ errors.Failed) }
+        ensures failed { self.old.failed ≡ true → (result ≡ Err errors.Failed) × (self.new ≡ self.old)
+            × (F.disk file_system.new ≡ F.disk file_system.old) }
+        ensures fails { IsTrue self.new.failed ↔ IsErr result }
+        ensures same { (self.new.layout ≡ self.old.layout) × (self.new.settings ≡ self.old.settings)
+            × (self.new.files ≡ self.old.files) }
+        ensures later { IsLater (F.disk file_system.old) (F.disk file_system.new) }
+    {
+        if self.failed {
+            return Err(Error::Failed);
+        }
+        if let Err(kind) = sync(&self.layout, file_system, &self.files) {
+            error!(rt; "log file {} wasn't synced: {kind}", self.files.active.seq);
+            self.failed = true;
+            return Err(Error::Failed);
+        }
+        Ok(())
+    }
+
+    /// Goes on in the next file: the oldest of those that are kept for use, or a new one where there is none.
+    ///
+    /// Refused for want of memory or of a number, nothing is done. `Failed` where a file call was refused.
+    pub fn rotate<F: FileSystem, L: Log>(
+        &mut self,
+        alloc: Global,
+        rt: &L,
+        file_system: &mut F,
+    ) -> Result<()>
+        ensures ok { OnOk result (Rotates (G.format self.old.layout) (G.own self.old.layout)
+            (G.file_paths self.old.layout) (header_bytes self.old.settings.new_files.format)
+            self.old.files self.new.files (F.disk file_system.old) (F.disk file_system.new)) }
+        ensures turned { OnOk result
+            (IsTurned self.old.settings.new_files.format self.old.files self.new.files) }
+        ensures placed { OnOk result (IsPlaced (F.tells_space file_system.old) (F.disk file_system.old)
+            self.old.settings.new_files.target_size (G.file_paths self.old.layout).directories
+            self.old.files.recycled.items self.new.files.active.path_id) }
+        ensures err { self.old.failed ≡ false → IfErr result (λ error.
+            RotationLeaves (G.format self.old.layout) (G.own self.old.layout) (G.file_paths self.old.layout)
+            (header_bytes self.old.settings.new_files.format) self.old.files self.new.files error
+            (F.disk file_system.old) (F.disk file_system.new)) }
+        ensures failed { self.old.failed ≡ true → (result ≡ Err errors.Failed) × (self.new ≡ self.old)
+            × (F.disk file_system.new ≡ F.disk file_system.old) }
+        ensures stays { OnErr result (SameLists self.old.files self.new.files) }
+        ensures fails { IsTrue self.new.failed ↔ (result ≡ Err errors.Failed) }
+        ensures first { self.new.files.first_seq ≡ self.old.files.first_seq }
+        ensures same { (self.new.layout ≡ self.old.layout) × (self.new.settings ≡ self.old.settings) }
+        ensures later { IsLater (F.disk file_system.old) (F.disk file_system.new) }
+    {
+        if self.failed {
+            return Err(Error::Failed);
+        }
+        let answer = rotate(
+            alloc,
+            &self.layout,
+            rt,
+            file_system,
+            &mut self.files,
+            &self.settings.new_files,
+        );
+        self.failed = matches!(answer, Err(Error::Failed));
+        answer
+    }
+
+    /// The files below a number leave the span; the answer is how many. From the oldest on, those whose
+    /// records are signed stay for use, while the pipe has fewer files than its capacity with them; the
+    /// others are deleted.
+    ///
+    /// `Other` where the number is none of the span's, `Memory`: nothing is done. `Failed`: a
+    /// file wasn't deleted, and the pipe has failed.
+    pub fn purge_to<F: FileSystem, L: Log>(
+        &mut self,
+        alloc: Global,
+        rt: &L,
+        file_system: &mut F,
+        seq: FileSeq,
+    ) -> Result<usize>
+        ensures ok { OnOk result (Purges (G.format self.old.layout) (G.own self.old.layout)
+            (G.file_paths self.old.layout) self.old.settings.capacity seq self.old.files self.new.files
+            (F.disk file_system.old) (F.disk file_system.new)) }
+        ensures raised { OnOk result (IsRaised self.old.settings.capacity seq self.old.files self.new.files) }
+        ensures count { IfOk result (λ count.
+            IsInSpan seq self.old.files × (count ≡ seq - self.old.files.first_seq)) }
+        ensures err { self.old.failed ≡ false → IfErr result (λ error.
+            PurgeLeaves (G.format self.old.layout) (G.own self.old.layout) (G.file_paths self.old.layout)
+            self.old.settings.capacity seq self.old.files self.new.files error
+            (F.disk file_system.old) (F.disk file_system.new)) }
+        ensures failed { self.old.failed ≡ true → (result ≡ Err errors.Failed) × (self.new ≡ self.old)
+            × (F.disk file_system.new ≡ F.disk file_system.old) }
+        ensures fails { IsTrue self.new.failed ↔ (result ≡ Err errors.Failed) }
+        ensures same { (self.new.layout ≡ self.old.layout) × (self.new.settings ≡ self.old.settings) }
+        ensures later { IsLater (F.disk file_system.old) (F.disk file_system.new) }
+    {
+        if self.failed {
+            return Err(Error::Failed);
+        }
+        let answer = purge(
+            alloc,
+            &self.layout,
+            rt,
+            file_system,
+            &mut self.files,
+            self.settings.capacity,
+            seq,
+        );
+        self.failed = matches!(answer, Err(Error::Failed));
+        answer
+    }
+
+    /// The bytes at a place, fewer where the file ends before. `Corruption` where its file isn't listed.
+    pub fn read_bytes<F: FileSystem>(
+        &self,
+        alloc: Global,
+        file_system: &F,
+        block: FileBlockHandle,
+    ) -> Result<Vec<u8>>
+        ensures ok { IfOk result (λ bytes. IsReadAt self.now.files block bytes.items
+            (F.disk file_system.now)) }
+        ensures err { IfErr result (IsReadRefused self.now.files block (F.disk file_system.now)) }
+    {
+        let handle = self.files.handle_of(alloc, block.id.seq)?;
+        LogFileReader::open(handle).read(alloc, file_system, block)
+    }
+}
+
+impl<G: PipeFormat + Drop> SinglePipe<G> {
+    ghost use Rattle.std.specs.Prelude.{[], reverse};
+    ghost use Rattle.raft_log_file_pipe.specs.Placing.{IsChosen};
+    ghost use Rattle.raft_log_file_pipe.specs.Closing.{ClosesFiles, FinishesOrNot, LeavesClosed, ReservesAll, StaysLeft, greatest_reserved};
+    ghost use Rattle.raft_log_file_pipe.specs.Exits.{SameLists};
+    ghost use Rattle.raft_log_file_pipe.specs.Opening.{OpenLeaves, OpensPipe};
+
+    /// OpensPipe a pipe over what was found of its queue: where there is no file, the queue begins in a file 1;
+    /// else it goes on behind what was read of its last file, which is cut there, synced, and gets a header
+    /// of the first version where it has none.
+    ///
+    /// `Memory`: nothing was done. `InvalidArgument`: no header has the last file's format. `Io`: a file call
+    /// was refused; all that was read is there still.
+    pub fn open<F: FileSystem, L: Log>(
+        alloc: Global,
+        layout: G,
+        settings: PipeSettings,
+        rt: &L,
+        file_system: &mut F,
+        found: FoundFiles,
+    ) -> Result<SinglePipe<G>>
+        ensures ok { IfOk result (λ pipe. OpensPipe (G.format layout) (G.own layout) (G.file_paths layout)
+            settings.new_files found pipe.files (F.disk file_system.old) (F.disk file_system.new)) }
+        ensures placed { found.files.items ≡ [] → IfOk result (λ pipe.
+            IsChosen (F.tells_space file_system.old) (F.disk file_system.old)
+            settings.new_files.target_size (G.file_paths layout).directories pipe.files.active.path_id) }
+        ensures fields { IfOk result (λ pipe. (pipe.layout ≡ layout) × (pipe.settings ≡ settings)
+            × (pipe.failed ≡ false)) }
+        ensures err { IfErr result (λ error. OpenLeaves (G.format layout) (G.own layout)
+            (G.file_paths layout) settings.new_files found error
+            (F.disk file_system.old) (F.disk file_system.new)) }
+        ensures later { IsLater (F.disk file_system.old) (F.disk file_system.new) }
+    {
+        let files = open(alloc, &layout, rt, file_system, &settings.new_files, found)?;
+        Ok(SinglePipe::new(layout, settings, files))
+    }
+
+    /// Closes the pipe: its last file is cut behind its records and synced, and the files that are kept for
+    /// use get reserved names in the main directory, from the newest down until one has such a name, with
+    /// numbers from the greatest reserved one on. Refusals are logged: nothing that was written is lost by
+    /// them. Of a pipe that has failed nothing is touched.
+    pub fn close<F: FileSystem, L: Log>(self, alloc: Global, rt: &L, file_system: &mut F)
+        ensures held { self.failed ≡ false → LeavesClosed (G.format self.layout) (G.own self.layout)
+            (G.file_paths self.layout) self.files (F.disk file_system.old) (F.disk file_system.new) }
+        ensures calls { self.failed ≡ false → ClosesFiles (G.file_paths self.layout) self.files
+            (F.disk file_system.old) (F.disk file_system.new) }
+        ensures failed { self.failed ≡ true → F.disk file_system.new ≡ F.disk file_system.old }
+        ensures later { IsLater (F.disk file_system.old) (F.disk file_system.new) }
+    {
+        if self.failed {
+            return;
+        }
+        let SinglePipe { layout, files, .. } = self;
+        let mut files = files;
+        finish(&layout, rt, file_system, &mut files);
+        reserve_files(alloc, &layout, rt, file_system, files.recycled);
+    }
+
+    /// The first half of a close: the last file is cut behind its records and synced. A refusal is logged. Of
+    /// a pipe that has failed nothing is touched.
+    pub fn finish<F: FileSystem, L: Log>(&mut self, rt: &L, file_system: &mut F)
+        ensures held { self.old.failed ≡ false → LeavesClosed (G.format self.old.layout)
+            (G.own self.old.layout) (G.file_paths self.old.layout) self.old.files
+            (F.disk file_system.old) (F.disk file_system.new) }
+        ensures calls { self.old.failed ≡ false → FinishesOrNot self.old.files.writer
+            (F.disk file_system.old) (F.disk file_system.new) }
+        ensures failed { self.old.failed ≡ true → F.disk file_system.new ≡ F.disk file_system.old }
+        ensures same { (self.new.layout ≡ self.old.layout) × (self.new.settings ≡ self.old.settings)
+            × (self.new.failed ≡ self.old.failed) × (self.new.files.recycled ≡ self.old.files.recycled) }
+        ensures lists { SameLists self.old.files self.new.files }
+        ensures later { IsLater (F.disk file_system.old) (F.disk file_system.new) }
+    {
+        if self.failed {
+            return;
+        }
+        finish(&self.layout, rt, file_system, &mut self.files);
+    }
+
+    /// The second half: the files that are kept for use get reserved names, as `close` has it. Refusals are
+    /// logged. Of a pipe that has failed nothing is touched.
+    pub fn reserve_names<F: FileSystem, L: Log>(self, alloc: Global, rt: &L, file_system: &mut F)
+        ensures held { self.failed ≡ false → StaysLeft (G.format self.layout) (G.own self.layout)
+            self.files.recycled.items (F.disk file_system.old) (F.disk file_system.new) }
+        ensures calls { self.failed ≡ false → ReservesAll (G.file_paths self.layout)
+            (reverse self.files.recycled.items) (greatest_reserved self.files.recycled.items)
+            (F.disk file_system.old) (F.disk file_system.new) }
+        ensures failed { self.failed ≡ true → F.disk file_system.new ≡ F.disk file_system.old }
+        ensures later { IsLater (F.disk file_system.old) (F.disk file_system.new) }
+    {
+        if self.failed {
+            return;
+        }
+        let SinglePipe { layout, files, .. } = self;
+        reserve_files(alloc, &layout, rt, file_system, files.recycled);
+    }
+}

@@ -1,0 +1,64 @@
+//! Records that are written to the last file of a pipe.
+
+ghost use Rattle.std.specs.Prelude.{◌≡◌, ◌<◌, ◌^◌, length, IfErr, OnErr, OnOk, IfOk};
+ghost use Rattle.raft_log_disk.specs.Causes.{IsLater};
+ghost use Rattle.raft_log_disk.specs.Exits.{FailsToSync, Syncs};
+ghost use Rattle.raft_log_file_writer.specs.Writer.{WritesNext};
+ghost use Rattle.raft_log_file_queue.specs.Exits.{AppendMakes};
+ghost use Rattle.raft_log_file_pipe.specs.Exits.{Adds, FailsToAdd, FailsToSyncPipe, SameLists, SyncsPipe};
+
+use crate::pipe_files::PipeFiles;
+use log::Log;
+use raft_log_disk::FileSystem;
+use raft_log_file_queue::{PipeFormat, WriteFault, append_record, sync_records};
+use std::io::ErrorKind;
+
+/// Writes a record behind the others of the last file, and answers its place, in bytes from the file's
+/// front on. Where the write is refused, the file is cut back to what was written before, and synced.
+pub fn add<G: PipeFormat, F: FileSystem, L: Log>(
+    layout: &G,
+    rt: &L,
+    file_system: &mut F,
+    files: &mut PipeFiles,
+    bytes: &[u8],
+    size: usize,
+) -> Result<usize, WriteFault>
+    ensures ok { IfOk result (λ at. Adds (G.format layout.now) (G.own layout.now) (G.file_paths layout.now)
+        bytes.now at files.old files.new (F.disk file_system.old) (F.disk file_system.new)) }
+    ensures err { IfErr result (λ fault. FailsToAdd (G.format layout.now) (G.own layout.now)
+        (G.file_paths layout.now) bytes.now fault files.old files.new
+        (F.disk file_system.old) (F.disk file_system.new)) }
+    ensures at { IfOk result (λ at. at ≡ files.old.writer.written) }
+    ensures short { IfOk result (λ at. at < 2 ^ 63) }
+    ensures lists { SameLists files.old files.new }
+
+    // Which calls were made, and whose refusal is told.
+    ensures calls { OnOk result (WritesNext files.old.writer files.new.writer bytes.now size
+        (F.disk file_system.old) (F.disk file_system.new)) }
+    ensures refusal { IfErr result (λ fault. AppendMakes fault files.old.writer files.new.writer bytes.now
+        size (F.disk file_system.old) (F.disk file_system.new)) }
+    ensures later { IsLater (F.disk file_system.old) (F.disk file_system.new) }
+{
+    let at = files.writer.offset();
+    append_record(layout, rt, file_system, &mut files.writer, bytes, size)?;
+    Ok(at)
+}
+
+/// Makes all records durable.
+pub fn sync<G: PipeFormat, F: FileSystem>(
+    layout: &G,
+    file_system: &mut F,
+    files: &PipeFiles,
+) -> Result<(), ErrorKind>
+    ensures ok { OnOk result (SyncsPipe (G.format layout.now) (G.own layout.now) (G.file_paths layout.now)
+        files.now (F.disk file_system.old) (F.disk file_system.new)) }
+    ensures err { OnErr result (FailsToSyncPipe (G.format layout.now) (G.own layout.now)
+        (G.file_paths layout.now) files.now (F.disk file_system.old) (F.disk file_system.new)) }
+    ensures calls { OnOk result
+        (Syncs files.now.writer.handle (F.disk file_system.old) (F.disk file_system.new)) }
+    ensures refusal { IfErr result (λ error. FailsToSync files.now.writer.handle error
+        (F.disk file_system.old) (F.disk file_system.new)) }
+    ensures later { IsLater (F.disk file_system.old) (F.disk file_system.new) }
+{
+    sync_records(layout, file_system, &files.writer)
+}

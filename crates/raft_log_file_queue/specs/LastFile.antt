@@ -1,0 +1,46 @@
+-- The last file of a queue, with how far its writer counts on it to reach.
+use Rattle.std.specs.Prelude.{ℕ, ◌≤◌, List, length}
+use Rattle.raft_log_disk.specs.Disk.{File}
+use Rattle.raft_log_file_laws.specs.Chains.{Written}
+use Rattle.raft_log_file_laws.specs.LogFormat.{Format}
+use Rattle.raft_log_file_laws.specs.LogQueue.{LogFiles, IsPast}
+use Rattle.raft_log_file_queue.specs.Queue.{finished, with_room}
+use Rattle.raft_log_file_queue.specs.States.{IsActive, IsFront, IsCut, IsNew, IsHeaded}
+
+-- between calls: it reads as its records, and ends there at the latest
+pub record IsActiveTo {R : Type 0} (F : Format R) (capacity : ℕ) (q : LogFiles R)
+    (file : File) : Type 0 where
+  pub active : IsActive F q file
+  pub ends : length file.content ≤ capacity
+
+-- after a refused write: its records stand, and it ends there at the latest
+pub record IsFrontTo {R : Type 0} (F : Format R) (capacity : ℕ) (q : LogFiles R) (more : List (Written R))
+    (file : File) : Type 0 where
+  pub front : IsFront F q more file
+  pub ends : length file.content ≤ capacity
+
+-- once it is cut behind them
+pub record IsCutTo {R : Type 0} (F : Format R) (capacity : ℕ) (q : LogFiles R) (more : List (Written R))
+    (file : File) : Type 0 where
+  pub cut : IsCut F q more file
+  pub ends : length file.content ≤ capacity
+
+-- and once that is synced: it is finished
+pub record IsPastTo {R : Type 0} (F : Format R) (capacity : ℕ) (q : LogFiles R) (file : File) : Type 0 where
+  pub past : IsPast F q.last (finished q) file
+  pub ends : length file.content ≤ capacity
+
+-- a file that has the number and not its header yet, and ends there at the latest
+pub record IsNewTo {R : Type 0} (F : Format R) (capacity : ℕ) (q : LogFiles R) (file : File) : Type 0 where
+  pub new : IsNew F q file
+  pub ends : length file.content ≤ capacity
+
+-- and once its header is written
+pub record IsHeadedTo {R : Type 0} (F : Format R) (capacity : ℕ) (q : LogFiles R)
+    (file : File) : Type 0 where
+  pub headed : IsHeaded F q file
+  pub ends : length file.content ≤ capacity
+
+-- the same once some room was made ahead
+abbrev pub HasRoom : {R : Type 0} → (LogFiles R → File → Type 0) → LogFiles R → File → Type 0
+HasRoom P q file = (room : ℕ) × P (with_room room q) file

@@ -1,0 +1,33 @@
+-- Under which paths the files of a queue lie.
+use Rattle.std.specs.Prelude.{◌≡◌, ℕ, ◌<◌, ◌^◌, cond, List, [], length, slice_index_or}
+use Rattle.raft_log_disk.specs.Disk.{IsPathIn}
+use Rattle.raft_log_file_laws.specs.LogFormat.{Format, IsFormat}
+use Rattle.raft_log_file_format.specs.Header.{header_bytes, HasWrittenHeader}
+use Rattle.raft_log_file_format.specs.declared.header.LogFileFormat.{LogFileFormat}
+use Rattle.raft_log_file_queue.specs.Standing.{OwnsPaths}
+use Rattle.raft_log_file_queue.specs.declared.format.File.{File}
+
+-- The directories that a queue's files lie in, the main one first; and the path of a file by its directory's
+-- place among them and its number: of a file in its queue, or of one that is kept under a reserved name.
+pub record FilePaths : Type 0 where
+  pub directories : List (List ℕ)
+  pub numbered : ℕ → ℕ → List ℕ
+  pub reserved : ℕ → ℕ → List ℕ
+
+-- the path of a file
+abbrev pub path_of : FilePaths → File → List ℕ
+path_of paths file = cond file.reserved (paths.reserved file.path_id file.seq)
+    (paths.numbered file.path_id file.seq)
+
+-- Each number that is in range has its path in each directory, and lies there; a reserved name is the queue's
+-- own, and no number's; and each format that has a header has one here.
+pub record IsLayout {R : Type 0} (F : Format R) (own : List ℕ → Type 0) (paths : FilePaths) : Type 0 where
+  pub format : IsFormat F
+  pub owns : OwnsPaths F own
+  pub limit : F.limit ≡ 10 ^ 16
+  pub numbered : (directory n : ℕ) → n < F.limit → F.IsPath n (paths.numbered directory n)
+  pub lies : (directory n : ℕ) → directory < length paths.directories → n < F.limit
+      → IsPathIn (slice_index_or paths.directories directory []) (paths.numbered directory n)
+  pub kept : (directory n : ℕ) → own (paths.reserved directory n)
+  pub apart : (directory n m : ℕ) → m < F.limit → F.IsPath m (paths.reserved directory n) → ⊥
+  pub headed : (format : LogFileFormat) → HasWrittenHeader format → F.IsHeader (header_bytes format)

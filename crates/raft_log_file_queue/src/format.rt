@@ -1,0 +1,63 @@
+//! How the files of a queue are written, and under which paths they lie.
+
+ghost use Rattle.std.specs.Prelude.{◌≡◌, ℕ, ◌<◌, ◌^◌, List, OnOk, IfOk, IfErr, map};
+ghost use Rattle.std.specs.String.{string_bytes};
+ghost use Rattle.raft_log_file_format.specs.Name.{IsNameRefusal};
+ghost use Rattle.raft_log_file_laws.specs.LogFormat.{Format};
+ghost use Rattle.raft_log_file_queue.specs.Layout.{FilePaths, IsLayout, path_of};
+
+use raft_log_disk::Handle;
+use raft_log_file_format::LogFileFormat;
+use raft_log_record_base::{FileSeq, Result};
+use std::alloc::Global;
+
+/// The place of a directory in the list of those that a log's files lie in.
+pub type PathId = usize;
+
+/// The directories that a log's files lie in, the main one first.
+pub type Paths = Vec<String>;
+
+/// The main directory's place.
+pub const DEFAULT_PATH_ID: PathId = 0;
+
+/// The number of a queue's first file.
+pub const DEFAULT_FIRST_FILE_SEQ: FileSeq = 1;
+
+/// A file of a queue.
+#[derive(Clone, Copy, Debug)]
+pub struct File {
+    /// Its number; of a reserved file the number in its name.
+    pub seq: FileSeq,
+    /// It.
+    pub handle: Handle,
+    /// How it is written.
+    pub format: LogFileFormat,
+    /// The directory that it lies in.
+    pub path_id: PathId,
+    /// Whether it has a reserved name.
+    pub reserved: bool,
+}
+
+/// Says how the files of a queue are written, and under which paths they lie.
+pub trait PipeFormat {
+    /// What a record says.
+    type Record;
+
+    ghost format: { Self → Format Self.Record };
+
+    ghost own: { Self → List ℕ → Type 0 };
+
+    ghost file_paths: { Self → FilePaths };
+
+    /// The path of a file. Refused as its name is.
+    fn file_path(&self, alloc: Global, file: &File) -> Result<String>
+        ensures ok { IfOk result (λ path. string_bytes path ≡ path_of (file_paths self.now) file.now) }
+        ensures named { OnOk result (file.now.seq < 10 ^ 16) }
+        ensures err { IfErr result (λ error. IsNameRefusal file.now.seq error) };
+
+    /// The directories, the main one first.
+    fn paths(&self) -> &[String]
+        ensures { map string_bytes result.now ≡ (file_paths self.now).directories };
+
+    ghost lawful: { (layout : Self) → IsLayout (format layout) (own layout) (file_paths layout) };
+}

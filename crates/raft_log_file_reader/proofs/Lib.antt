@@ -1,0 +1,16 @@
+pub mod Steps
+pub mod OpenFiles
+pub mod Openings
+pub mod Paths
+pub mod Found
+pub mod Items
+pub mod Telling
+pub mod Parts
+pub mod Refusals
+pub mod Headers
+pub mod Extents
+pub mod WrittenHeaders
+pub mod Opened
+pub mod Readings
+pub mod FrameReadings
+pub mod Weights

@@ -1,0 +1,71 @@
+-- What comes of log files that are read: their items, and why the reading of a file ends before the file
+-- does.
+use Rattle.std.specs.Prelude.{◌≡◌, ℕ, ◌⊎◌, true, List, [], ◌∷◌, ◌++◌, map, Result, Ok, Err, length}
+use Rattle.std.specs.String.{string_bytes}
+use Rattle.raft_log_record_base.specs.declared.errors.Error.{Error}
+use Rattle.raft_log_record_base.specs.declared.errors.Error.TheVariants as errors
+use Rattle.raft_log_record_items.specs.declared.item.LogItem.{LogItem}
+use Rattle.raft_log_disk.specs.Disk.{Disk}
+use Rattle.raft_log_disk.specs.Arguments.{WrongName}
+use Rattle.raft_log_disk.specs.Reading.{IsOpened}
+use Rattle.raft_log_disk.specs.declared.handle.Handle.{Handle}
+use Rattle.raft_log_disk.specs.declared.handle.Permission.TheVariants.{ReadOnly}
+use Rattle.raft_log_file_reader.specs.Source.{bytes_of}
+use Rattle.raft_log_file_reader.specs.Opening.{SaysFormat, FailsToOpen}
+use Rattle.raft_log_file_reader.specs.Batches.{HasBatches, HasNoMore}
+use Rattle.raft_log_file_reader.specs.Refused.{FailsBehind}
+use Rattle.raft_log_file_reader.specs.declared.open_file.OpenFile.{OpenFile}
+use Rattle.raft_log_file_reader.specs.declared.log_file.LogFile.{LogFile}
+
+-- an item, or why no more of a file's items come
+abbrev pub Answer : Type 0
+Answer = Result LogItem Error
+
+-- each of these items, in order
+abbrev pub given : List LogItem → List Answer
+given items = map Ok items
+
+-- each item of these batches, in order
+abbrev pub given_all : List (List LogItem) → List Answer
+given_all [] = []
+given_all (items ∷ batches) = given items ++ given_all batches
+
+-- What comes of an open file from an offset on: the items of its batches, up to its end; or up to a batch
+-- that is refused, and then why.
+pub data GivesFrom (d : Disk) (file : OpenFile) (offset : ℕ) (answers : List Answer) : Type 0 where
+  whole : (batches : List (List LogItem)) (end : ℕ)
+      → HasBatches file (bytes_of file.source d) offset batches end
+      → HasNoMore file (bytes_of file.source d) end
+      → answers ≡ given_all batches → GivesFrom d file offset answers
+  cut_short : (batches : List (List LogItem)) (end : ℕ) (error : Error)
+      → HasBatches file (bytes_of file.source d) offset batches end → FailsBehind file d end error
+      → answers ≡ given_all batches ++ Err error ∷ [] → GivesFrom d file offset answers
+
+-- why the file with a path wasn't opened to be read: the file system has stopped, no file has the path, or
+-- memory ran out
+abbrev pub IsReadOpenRefusal : List ℕ → Disk → Error → Type 0
+IsReadOpenRefusal path d (errors.Io kind) = (d.stopped ≡ true) ⊎ WrongName path d kind
+IsReadOpenRefusal path d errors.Memory = Unit {0}
+IsReadOpenRefusal path d _ = ⊥
+
+-- this is the log file that is open, at its header's end
+pub record IsLogFileOpen (d : Disk) (file : LogFile) (current : OpenFile) (start : ℕ) : Type 0 where
+  pub is : current.id ≡ file.id
+  pub found : IsOpened (string_bytes file.path) ReadOnly current.source.handle d
+  pub size : current.source.size ≡ length (bytes_of current.source d)
+  pub header : SaysFormat (bytes_of current.source d) current.format start
+
+-- What comes of a log file: why it wasn't found or opened, or what stands behind its header.
+pub data GivesFile (d : Disk) (file : LogFile) (answers : List Answer) : Type 0 where
+  unfound : (error : Error) → IsReadOpenRefusal (string_bytes file.path) d error → answers ≡ Err error ∷ []
+      → GivesFile d file answers
+  unopened : (handle : Handle) (error : Error) → IsOpened (string_bytes file.path) ReadOnly handle d
+      → FailsToOpen handle d error → answers ≡ Err error ∷ [] → GivesFile d file answers
+  opened : (current : OpenFile) (start : ℕ) → IsLogFileOpen d file current start
+      → GivesFrom d current start answers → GivesFile d file answers
+
+-- What comes of log files: what comes of each, one after the other.
+abbrev pub GivesFiles : Disk → List LogFile → List Answer → Type 0
+GivesFiles d [] answers = answers ≡ []
+GivesFiles d (file ∷ files) answers = (first : List Answer) × (more : List Answer)
+    × GivesFile d file first × GivesFiles d files more × (answers ≡ first ++ more)

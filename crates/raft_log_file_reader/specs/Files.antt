@@ -1,0 +1,85 @@
+-- Which files are read, and why there are none to read.
+use Rattle.std.specs.Prelude.{◌≡◌, ℕ, ◌⊎◌, List, [], ◌∷◌, ◌++◌, None, codes, true, false}
+use Rattle.std.specs.List.Sorted.{IsPermutation, IsSortedByKey}
+use Rattle.std.specs.String.{string_bytes}
+use Rattle.raft_log_record_base.specs.Files.{file_cmp}
+use Rattle.raft_log_record_base.specs.declared.errors.Error.{Error}
+use Rattle.raft_log_record_base.specs.declared.errors.Error.TheVariants as errors
+use Rattle.raft_log_record_base.specs.declared.pipe_log.FileId.{FileId}
+use Rattle.raft_log_disk.specs.Disk.{Disk, IsPathIn}
+use Rattle.raft_log_disk.specs.Reading.{IsListing}
+use Rattle.raft_log_file_format.specs.Name.{IsNamed, suffix_of}
+use Rattle.raft_log_file_reader.specs.declared.log_file.LogFile.{LogFile}
+
+-- One file.
+
+-- a name of this log file
+abbrev pub IsNameOf : FileId → List ℕ → Type 0
+IsNameOf id name = IsNamed (suffix_of id.queue) name id.seq
+
+-- what stands behind the path's last slash is a name of this log file
+pub record IsLogPath (id : FileId) (path : List ℕ) : Type 0 where
+  pub directory : List ℕ
+  pub inside : IsPathIn directory path
+  pub named : IsNameOf id inside.name
+
+-- a file has the path, and it is read alone, as the log file that its name says
+pub record IsFileAt (path : List ℕ) (d : Disk) (files : List LogFile) : Type 0 where
+  pub there : d.names path ≡ None → ⊥
+  pub file : LogFile
+  pub alone : files ≡ file ∷ []
+  pub says : IsLogPath file.id path
+  pub by : string_bytes file.path ≡ path
+
+-- these words and the path
+abbrev pub told : List ℕ → List ℕ → List ℕ
+told words path = words ++ (codes ": " ++ path)
+
+-- no file has the path, and that is told
+abbrev pub HasNoFileAt : List ℕ → Disk → List ℕ → Type 0
+HasNoFileAt path d text = (text ≡ told (codes "Not a file") path) × (d.names path ≡ None)
+
+-- a file has the path, but not a log file's name, and that is told
+pub record IsOtherFile (path : List ℕ) (d : Disk) (text : List ℕ) : Type 0 where
+  pub tells : text ≡ told (codes "Invalid log file name") path
+  pub there : d.names path ≡ None → ⊥
+  pub other : (id : FileId) → IsLogPath id path → ⊥
+
+-- Why there is no file to read: none has the path or it has another name, the file system has stopped, or
+-- memory ran out.
+abbrev pub IsNoFile : List ℕ → Disk → Error → Type 0
+IsNoFile path d (errors.InvalidArgument text) =
+    (d.stopped ≡ false) × (HasNoFileAt path d (string_bytes text) ⊎ IsOtherFile path d (string_bytes text))
+IsNoFile path d (errors.Io kind) = d.stopped ≡ true
+IsNoFile path d errors.Memory = Unit {0}
+IsNoFile path d _ = ⊥
+
+-- The files of a directory.
+
+-- The log files among those with these names in a directory, in the order of the names.
+abbrev pub AreFoundAmong : List ℕ → List (List ℕ) → List LogFile → Type 0
+AreFoundAmong directory [] files = files ≡ []
+AreFoundAmong directory (name ∷ names) files =
+    (((id : FileId) → IsNameOf id name → ⊥) × AreFoundAmong directory names files)
+    ⊎ ((file : LogFile) × (more : List LogFile) × IsNameOf file.id name
+    × (string_bytes file.path ≡ directory ++ 47 ∷ name) × (files ≡ file ∷ more)
+    × AreFoundAmong directory names more)
+
+-- The log files of a directory: those of Rewrite before those of Append, and each queue's by their numbers.
+pub record AreFilesOf (directory : List ℕ) (d : Disk) (files : List LogFile) : Type 0 where
+  pub names : List (List ℕ)
+  pub listing : IsListing directory d names
+  pub found : List LogFile
+  pub finds : AreFoundAmong directory names found
+  pub same : IsPermutation found files
+  pub ordered : IsSortedByKey (λ file. file.id) file_cmp files
+
+-- Why there is no directory to read: a file or nothing has the path, the file system has stopped, or memory
+-- ran out.
+abbrev pub IsNoDirectory : List ℕ → Disk → Error → Type 0
+IsNoDirectory path d (errors.InvalidArgument text) = (d.stopped ≡ false)
+    × (string_bytes text ≡ told (codes "Not a directory") path)
+    × ((d.names path ≡ None → ⊥) ⊎ (d.directories path ≡ false))
+IsNoDirectory path d (errors.Io kind) = d.stopped ≡ true
+IsNoDirectory path d errors.Memory = Unit {0}
+IsNoDirectory path d _ = ⊥

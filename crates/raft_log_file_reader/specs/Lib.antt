@@ -1,0 +1,15 @@
+pub mod Files
+pub mod Telling
+pub mod Answers
+pub mod ItemBatches
+pub mod Steps
+pub mod ItemReader
+pub mod ItemLaws
+pub mod Window
+pub mod Source
+pub mod Holding
+pub mod Batches
+pub mod Refused
+pub mod Opening
+pub mod Reader
+pub mod Laws

@@ -1,0 +1,32 @@
+-- The front of a log file: the header that it begins with, and why it wasn't read.
+use Rattle.std.specs.Prelude.{◌≡◌, ℕ, ◌⊎◌, List, ◌++◌, length, take}
+use Rattle.std.specs.declared.io.ErrorKind.{ErrorKind}
+use Rattle.raft_log_record_base.specs.Fault.{FailsOrMemory}
+use Rattle.raft_log_record_base.specs.declared.errors.Error.{Error}
+use Rattle.raft_log_record_base.specs.declared.errors.Error.TheVariants as errors
+use Rattle.raft_log_disk.specs.Disk.{Disk}
+use Rattle.raft_log_disk.specs.Reading.{IsNotMeasured, IsUnread}
+use Rattle.raft_log_disk.specs.declared.handle.Handle.{Handle}
+use Rattle.raft_log_file_format.specs.Header.{IsFileHeader, header_at, header_bytes}
+use Rattle.raft_log_file_format.specs.declared.header.LogFileFormat.{LogFileFormat}
+use Rattle.raft_log_file_reader.specs.Source.{bytes_in}
+
+-- The bytes begin with a header that says this format, and it ends there: the one that the format is written
+-- with.
+pub record SaysFormat (content : List ℕ) (format : LogFileFormat) (end : ℕ) : Type 0 where
+  pub header : List ℕ
+  pub rest : List ℕ
+  pub says : IsFileHeader header format
+  pub written : header ≡ header_bytes format
+  pub splits : content ≡ header ++ rest
+  pub ends : end ≡ length header
+
+-- some of the first 69 bytes of the file couldn't be read: no unreadable place behind them refuses an open
+abbrev pub IsUnreadInFront : Handle → Disk → ErrorKind → Type 0
+IsUnreadInFront handle d kind = IsUnread handle 0 69 d kind
+
+-- Why a file wasn't opened: its size wasn't told or its first bytes couldn't be read, memory ran out, or this
+-- is the first fault of a header in its first 69 bytes.
+abbrev pub FailsToOpen : Handle → Disk → Error → Type 0
+FailsToOpen handle d (errors.Io kind) = IsNotMeasured handle d kind ⊎ IsUnreadInFront handle d kind
+FailsToOpen handle d e = FailsOrMemory e (header_at (take 69 (bytes_in (d.files handle.file))))

@@ -1,0 +1,30 @@
+//! Laws of the batches that a file's bytes hold, each the contract of an empty function.
+ghost use Rattle.raft_log_file_reader.specs.Laws.{OneReading, OneFault, BatchesGoOn, PaddingAligns, BatchesAreFrames, WholeBlockMakesRecord, BatchesOutweighItems};
+
+/// From an offset on a file's bytes are read in one way, up to one fault or the end.
+pub fn one_reading()
+    ensures batches { OneReading }
+    ensures faults { OneFault }
+{}
+
+/// A batch behind others makes one more.
+pub fn batches_go_on()
+    ensures { BatchesGoOn }
+{}
+
+/// Padding leads to the next multiple of the alignment.
+pub fn padding_aligns()
+    ensures { PaddingAligns }
+{}
+
+/// Without an alignment the batches of a file are the frames that stand one behind the other, and a batch
+/// whose entry block is whole is a record.
+pub fn batches_are_frames()
+    ensures frames { BatchesAreFrames }
+    ensures records { WholeBlockMakesRecord }
+{}
+
+/// A batch has more bytes than items.
+pub fn batches_outweigh_items()
+    ensures { BatchesOutweighItems }
+{}

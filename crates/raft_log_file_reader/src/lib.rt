@@ -1,0 +1,22 @@
+//! Reading a log file: its batches one after another, by blocks; and its items, of one file or of all that a
+//! directory holds.
+#![tactic(auto)]
+
+mod batch;
+mod batches;
+mod files;
+mod header;
+pub mod item_laws;
+pub mod item_reader;
+pub mod laws;
+pub mod log_file;
+pub mod open_file;
+pub mod reader;
+pub mod source;
+mod window;
+
+pub use item_reader::LogItemReader;
+pub use log_file::LogFile;
+pub use open_file::OpenFile;
+pub use reader::LogItemBatchFileReader;
+pub use source::Source;

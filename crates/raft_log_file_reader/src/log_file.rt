@@ -1,0 +1,12 @@
+//! A log file that is to be read.
+
+use raft_log_record_base::FileId;
+
+/// A log file that is to be read.
+#[derive(Debug, Drop)]
+pub struct LogFile {
+    /// Which file it is.
+    pub id: FileId,
+    /// Its path.
+    pub path: String,
+}

@@ -1,0 +1,16 @@
+//! A log file that is open to be read.
+
+use crate::source::Source;
+use raft_log_file_format::LogFileFormat;
+use raft_log_record_base::FileId;
+
+/// A log file that is open to be read.
+#[derive(Clone, Copy, Debug, PartialEq, Eq)]
+pub struct OpenFile {
+    /// Which file it is.
+    pub id: FileId,
+    /// Where its bytes are read from.
+    pub source: Source,
+    /// What its header says.
+    pub format: LogFileFormat,
+}

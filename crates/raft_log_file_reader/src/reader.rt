@@ -1,0 +1,193 @@
+//! A reader of the batches of a log file.
+ghost use Rattle.std.specs.Prelude.{◌≡◌, ◌≤◌, length, None, Some, Ok, ◌<◌, IsOk, OnOk, OnSome, IfOk, IfErr, OnErr};
+ghost use Rattle.raft_log_record_frames.specs.Record.{block_of};
+ghost use Rattle.raft_log_record_base.specs.Files.{no_block};
+
+use crate::batch::{find_record, read_batch};
+use crate::header::read_format;
+use crate::open_file::OpenFile;
+use crate::source::Source;
+use crate::window::Window;
+use raft_log_disk::{FileSystem, Handle};
+use raft_log_file_format::LogFileFormat;
+use raft_log_record_base::{FileBlockHandle, FileId, LogQueue, Result};
+use raft_log_record_batches::LogItemBatch;
+use raft_log_record_frames::decode_entries_block;
+use raft_log_record_items::CompressionType;
+use std::alloc::Global;
+
+/// A reader of the batches of a log file, one file after another. It reads blocks into one buffer that is
+/// kept; which batches come doesn't depend on the size of a block.
+///
+/// While a file is open the reader has to be lent the file system as it was when the file was opened.
+#[derive(Drop, Debug)]
+pub struct LogItemBatchFileReader {
+    window: Window,
+    file: Option<OpenFile>,
+    valid_offset: usize,
+    last_block: FileBlockHandle,
+}
+
+/// The place of a block without bytes.
+fn no_block() -> FileBlockHandle
+    ensures { result ≡ no_block }
+{
+    FileBlockHandle {
+        id: FileId::new(LogQueue::Append, 0),
+        offset: 0,
+        len: 0,
+    }
+}
+
+impl LogItemBatchFileReader {
+    ghost use Rattle.raft_log_disk.specs.Disk.{Disk};
+    ghost use Rattle.raft_log_file_reader.specs.Reader.{IsReading, HasNoneOpen, IsUnmoved, Opens, AnswersBatch, IsInsideFile, file_of, end_of, last_block};
+    ghost use Rattle.raft_log_file_reader.specs.Source.{bytes_of};
+    ghost use Rattle.raft_log_file_reader.specs.Batches.{HasBlock};
+    ghost use Rattle.raft_log_file_reader.specs.Opening.{FailsToOpen};
+    ghost use Rattle.raft_log_file_reader.specs.Refused.{FailsBehind, FailsToCheckBlock, bytes_at};
+
+    /// A reader without a file, which reads so many bytes at once, if fewer are asked for.
+    pub fn new(alloc: Global, read_block_size: usize) -> Self
+        ensures closed { HasNoneOpen result }
+        ensures reading { (d : Disk) → IsReading d result }
+        ensures none { last_block result ≡ no_block }
+    {
+        LogItemBatchFileReader {
+            window: Window::new(alloc, read_block_size),
+            file: None,
+            valid_offset: 0,
+            last_block: no_block(),
+        }
+    }
+
+    /// Closes the file, if one is open.
+    pub fn reset(&mut self)
+        ensures closed { HasNoneOpen self.new }
+        ensures reading { (d : Disk) → IsReading d self.new }
+        ensures last { last_block self.new ≡ last_block self.old }
+    {
+        self.window.begin(0);
+        self.file = None;
+        self.valid_offset = 0;
+    }
+
+    /// Opens a file and answers what its header says: its first 69 bytes are read, and nothing of them is
+    /// held. A refusal leaves no file open.
+    pub fn open<F: FileSystem>(
+        &mut self,
+        alloc: Global,
+        file_system: &F,
+        id: FileId,
+        handle: Handle,
+    ) -> Result<LogFileFormat>
+        ensures ok { IfOk result (λ format. Opens id handle (F.disk file_system.now) format self.new) }
+        ensures reading { IsReading (F.disk file_system.now) self.new }
+        ensures err { IfErr result (FailsToOpen handle (F.disk file_system.now)) }
+        ensures closed { OnErr result (HasNoneOpen self.new) }
+        ensures last { last_block self.new ≡ last_block self.old }
+    {
+        self.reset();
+        let size = file_system.file_size(handle)?;
+        let source = Source { handle, size };
+        match read_format(alloc, file_system, source, &mut self.window) {
+            Ok((format, end)) => {
+                self.window.begin(0);
+                self.file = Some(OpenFile { id, source, format });
+                self.valid_offset = end;
+                Ok(format)
+            }
+            Err(error) => Err(error),
+        }
+    }
+
+    /// The next batch, with the places of its entries; none where the file holds no more, or none is open.
+    /// The entries' bytes aren't looked at.
+    ///
+    /// Where it is refused the reader stays where it is, so that the same call is refused again.
+    pub fn next<F: FileSystem>(
+        &mut self,
+        alloc: Global,
+        file_system: &F,
+    ) -> Result<Option<LogItemBatch>>
+        requires { IsReading (F.disk file_system.now) self.old }
+        ensures reading { IsReading (F.disk file_system.now) self.new }
+        ensures file { file_of self.new ≡ file_of self.old }
+        ensures ok { (file : OpenFile) → file_of self.old ≡ Some file
+            → IfOk result (AnswersBatch (F.disk file_system.now) file self.old self.new) }
+        ensures err { (file : OpenFile) → file_of self.old ≡ Some file
+            → IfErr result (FailsBehind file (F.disk file_system.now) (end_of self.old)) }
+        ensures stays { OnErr result (IsUnmoved self.old self.new) }
+        ensures further { IfOk result (λ found. OnSome found (end_of self.old < end_of self.new)) }
+        ensures closed { file_of self.old ≡ None → (result ≡ Ok None) × (self.new ≡ self.old) }
+        ensures block { (file : OpenFile) → file_of self.old ≡ Some file
+            → IfOk result (λ found. OnSome found (HasBlock file (bytes_of file.source (F.disk file_system.now))
+            (end_of self.old) (last_block self.new))) }
+        ensures inside { IfOk result (λ found. OnSome found (IsInsideFile (last_block self.new) self.new)) }
+    {
+        let Some(file) = self.file else {
+            return Ok(None);
+        };
+        let at = find_record(
+            alloc,
+            file_system,
+            &file,
+            &mut self.window,
+            self.valid_offset,
+        )?;
+        if at == file.source.size {
+            return Ok(None);
+        }
+        let (len, block, batch) = read_batch(alloc, file_system, &file, &mut self.window, at)?;
+        self.valid_offset = at + len;
+        self.last_block = block;
+        Ok(Some(batch))
+    }
+
+    /// Checks the entry block at a place of the open file, which a batch that was read has told: so the
+    /// batch's record is whole. The block is held whole. Where no file is open nothing is checked.
+    ///
+    /// Refuses as a corruption a block whose checksum isn't that of its entries.
+    pub fn check_entry_block<F: FileSystem>(
+        &mut self,
+        alloc: Global,
+        file_system: &F,
+        block: FileBlockHandle,
+    ) -> Result<()>
+        requires reading { IsReading (F.disk file_system.now) self.old }
+        requires inside { IsInsideFile block self.old }
+        ensures reading { IsReading (F.disk file_system.now) self.new }
+        ensures same { IsUnmoved self.old self.new }
+        ensures closed { file_of self.old ≡ None → IsOk result × (self.new ≡ self.old) }
+        ensures ok { (file : OpenFile) → file_of self.old ≡ Some file
+            → OnOk result (IsOk (block_of (bytes_at block file (F.disk file_system.now)))) }
+        ensures err { (file : OpenFile) → file_of self.old ≡ Some file
+            → IfErr result (FailsToCheckBlock block file (F.disk file_system.now)) }
+    {
+        let Some(file) = self.file else {
+            return Ok(());
+        };
+        let offset = block.offset as usize;
+        self.window
+            .peek(file_system, file.source, offset, block.len, 0)?;
+        let bytes = self.window.held(offset, block.len);
+        let _entries = decode_entries_block(alloc, bytes, CompressionType::None)?;
+        Ok(())
+    }
+
+    /// Where the entry block of the batch lies that came last, of whatever file; it has no bytes where none
+    /// came.
+    pub fn last_block(&self) -> FileBlockHandle
+        ensures { result ≡ last_block self.now }
+    {
+        self.last_block
+    }
+
+    /// Where the last good record that was read ends, or the header, where none was read; 0 where no file is
+    /// open.
+    pub fn valid_offset(&self) -> usize
+        ensures { result ≡ end_of self.now }
+    {
+        self.valid_offset
+    }
+}

@@ -1,0 +1,36 @@
+-- Where the good records of a log file end.
+use Rattle.std.specs.Prelude.{◌≡◌, ℕ, ◌-◌, List, Option, None, Some}
+use Rattle.raft_log_record_base.specs.declared.pipe_log.FileId.{FileId}
+use Rattle.raft_log_record_items.specs.declared.item.LogItem.{LogItem}
+use Rattle.raft_log_disk.specs.Disk.{Disk}
+use Rattle.raft_log_disk.specs.declared.handle.Handle.{Handle}
+use Rattle.raft_log_file_reader.specs.Source.{bytes_of}
+use Rattle.raft_log_file_reader.specs.Opening.{SaysFormat}
+use Rattle.raft_log_file_reader.specs.Batches.{HasBatches}
+use Rattle.raft_log_file_reader.specs.Laws.{EndsBehind}
+use Rattle.raft_log_file_reader.specs.Reader.{IsReading, file_of, end_of, size_in}
+use Rattle.raft_log_file_reader.specs.declared.open_file.OpenFile.{OpenFile}
+use Rattle.raft_log_file_reader.specs.declared.reader.LogItemBatchFileReader.{LogItemBatchFileReader}
+
+-- the batches of the file by this handle are read from behind its header up to an offset
+pub record HasReadTo (id : FileId) (handle : Handle) (d : Disk) (file : OpenFile) (end : ℕ) : Type 0 where
+  pub is : file.id ≡ id
+  pub reads_by : file.source.handle ≡ handle
+  pub start : ℕ
+  pub header : SaysFormat (bytes_of file.source d) file.format start
+  pub batches : List (List LogItem)
+  pub has : HasBatches file (bytes_of file.source d) start batches end
+
+-- they are, and behind the offset no batch comes any more
+pub record EndsItsBatches (id : FileId) (handle : Handle) (d : Disk) (end : ℕ) : Type 0 where
+  pub file : OpenFile
+  pub read : HasReadTo id handle d file end
+  pub ends : EndsBehind file (bytes_of file.source d) end
+
+-- the reader has read so far
+pub record HasReadSoFar (id : FileId) (handle : Handle) (d : Disk)
+    (reader : LogItemBatchFileReader) : Type 0 where
+  pub reading : IsReading d reader
+  pub file : OpenFile
+  pub opened : file_of reader ≡ Some file
+  pub read : HasReadTo id handle d file (end_of reader)

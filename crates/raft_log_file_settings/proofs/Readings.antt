@@ -1,0 +1,34 @@
+-- What the keys of a table say together.
+use Rattle.std.proofs.Common.{◌≡◌, ℕ, Bool, List, Option, Ok, refl}
+use Rattle.std.specs.Prelude.{codes}
+use Rattle.toml.specs.Data.{Members, as_str}
+use Rattle.raft_log_record_base.specs.declared.pipe_log.Version.{Version}
+use Rattle.raft_log_file_settings.specs.declared.recovery_mode.RecoveryMode.{RecoveryMode}
+use Rattle.raft_log_file_settings.specs.Settings.{Settings}
+use Rattle.raft_log_file_settings.specs.Reading.{at, maybe, size_of, files_in, recovery_in, purging_in, recycling_in, settings_over}
+
+-- the settings of which all keys were read
+pub all_read : (u : Settings) (t : Members) (dir : List ℕ) (spill : Option (List ℕ)) (recovery : RecoveryMode × ℕ × ℕ) (files : Option ℕ × Version × ℕ)
+    (purging : ℕ × Option ℕ × ℕ) (memory : Option ℕ) (recycling : Bool × Bool × Option ℕ)
+    → at (codes "dir") as_str u.dir t ≡ Ok dir → at (codes "spill-dir") (maybe as_str) u.spill_dir t ≡ Ok spill
+    → recovery_in u t ≡ Ok recovery → files_in u t ≡ Ok files
+    → purging_in u t ≡ Ok purging → at (codes "memory-limit") (maybe size_of) u.memory_limit t ≡ Ok memory → recycling_in u t ≡ Ok recycling
+    → settings_over u t ≡ Ok (record {
+      dir = dir;
+      spill_dir = spill;
+      recovery_mode = recovery.0;
+      recovery_read_block_size = recovery.1;
+      recovery_threads = recovery.2;
+      bytes_per_sync = files.0;
+      format_version = files.1;
+      target_file_size = files.2;
+      purge_threshold = purging.0;
+      purge_rewrite_threshold = purging.1;
+      purge_rewrite_garbage_ratio = purging.2;
+      memory_limit = memory;
+      enable_log_recycle = recycling.0;
+      prefill_for_recycle = recycling.1;
+      prefill_limit = recycling.2;
+    })
+unfolding settings_over
+all_read u t dir spill recovery files purging memory recycling e1 e2 e3 e4 e5 e6 e7 = rw (e1, e2, e3, e4, e5, e6, e7) refl

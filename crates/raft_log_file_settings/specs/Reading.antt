@@ -1,0 +1,217 @@
+-- How settings are read from TOML: each key with the type of its value, and what stands where it is absent.
+use Rattle.std.specs.Prelude.{◌≡◌, ℕ, ℤ, pos, negsuc, ◌++◌, Bool, List, Option, Some, None, Result, Ok, Err, ◌⊎◌, if◌then◌else◌, ◌==◌, codes}
+use Rattle.std.specs.Str.{bytes_eq, trim}
+use Rattle.std.specs.Option.{option_map, option_and_then}
+use Rattle.std.specs.Result.{result_ok}
+use Rattle.std.specs.Borrow.{Bor}
+use Rattle.std.specs.String.{string_bytes}
+use Rattle.toml.specs.Data.{Data, Members, get_member, as_str, as_integer, as_bool}
+use Rattle.toml.specs.Data.Data.{string}
+use Rattle.toml.specs.Parse.{parse_document}
+use Rattle.raft_log_record_base.specs.Grammar.{◌>>=◌}
+use Rattle.raft_log_record_base.specs.Size.{size_in}
+use Rattle.raft_log_record_base.specs.declared.errors.Error.{Error}
+use Rattle.raft_log_record_base.specs.declared.errors.Error.TheVariants as errors
+use Rattle.raft_log_record_base.specs.declared.pipe_log.Version.{Version}
+use Rattle.raft_log_record_base.specs.declared.pipe_log.Version.TheVariants.{V1, V2}
+use Rattle.raft_log_file_settings.specs.declared.config.Config.{Config}
+use Rattle.raft_log_file_settings.specs.declared.recovery_mode.RecoveryMode.{RecoveryMode}
+use Rattle.raft_log_file_settings.specs.declared.recovery_mode.RecoveryMode.TheVariants.{AbsoluteConsistency, TolerateTailCorruption, TolerateAnyCorruption}
+use Rattle.raft_log_file_settings.specs.Settings.{Settings, settings_of, default_settings}
+
+-- Values.
+
+-- a whole number that isn't negative
+abbrev pub natural : ℤ → Option ℕ
+natural (pos n) = Some n
+natural (negsuc n) = None
+
+-- a number
+abbrev pub number_of : Data → Option ℕ
+number_of d = option_and_then natural (as_integer d)
+
+-- the size that a text spells
+abbrev pub size_of_text : List ℕ → Option ℕ
+size_of_text text = result_ok (size_in (trim text))
+
+-- a size: a number of bytes, or a text
+abbrev pub size_of : Data → Option ℕ
+size_of (string text) = size_of_text text
+size_of d = number_of d
+
+-- the version with this number, 1 or 2
+abbrev pub version_numbered : ℕ → Option Version
+version_numbered n = if n == 1 then Some V1 else (if n == 2 then Some V2 else None)
+
+-- a version, by its number
+abbrev pub version_of : Data → Option Version
+version_of d = option_and_then version_numbered (number_of d)
+
+-- the word of a recovery mode; tail tolerance has an older word too
+abbrev pub mode_word : List ℕ → Option RecoveryMode
+mode_word word =
+    if bytes_eq word (codes "absolute-consistency") then Some AbsoluteConsistency
+    else (if bytes_eq word (codes "tolerate-tail-corruption") then Some TolerateTailCorruption
+    else (if bytes_eq word (codes "tolerate-corrupted-tail-records") then Some TolerateTailCorruption
+    else (if bytes_eq word (codes "tolerate-any-corruption") then Some TolerateAnyCorruption
+    else None)))
+
+-- a recovery mode
+abbrev pub mode_of : Data → Option RecoveryMode
+mode_of d = option_and_then mode_word (as_str d)
+
+-- Keys.
+
+-- a value that is there, or this fault
+abbrev pub ok_or : {X : Type 0} → Option X → List ℕ → Result X (List ℕ)
+ok_or (Some x) key = Ok x
+ok_or None key = Err key
+
+-- a value that can't be read makes its key wrong
+abbrev pub at_value : {X : Type 0} → List ℕ → (Data → Option X) → X → Option Data → Result X (List ℕ)
+at_value key read absent None = Ok absent
+at_value key read absent (Some d) = ok_or (read d) key
+
+-- the value of a key, or what stands where the key is absent; a value of another kind makes the key wrong
+abbrev pub at : {X : Type 0} → List ℕ → (Data → Option X) → X → Members → Result X (List ℕ)
+at key read absent t = at_value key read absent (get_member key t)
+
+-- the same of a key that may be absent for good
+abbrev pub maybe : {X : Type 0} → (Data → Option X) → Data → Option (Option X)
+maybe read d = option_map (λ x. Some x) (read d)
+
+-- What a table says of files that are used again, over the usual settings: whether they are, whether they are
+-- prefilled, and how many bytes of these there are.
+unfoldable pub recycling_in : Settings → Members → Result (Bool × Bool × Option ℕ) (List ℕ)
+recycling_in usual t = do
+  enable_log_recycle ← at (codes "enable-log-recycle") as_bool usual.enable_log_recycle t
+  prefill_for_recycle ← at (codes "prefill-for-recycle") as_bool usual.prefill_for_recycle t
+  prefill_limit ← at (codes "prefill-limit") (maybe size_of) usual.prefill_limit t
+  Ok (enable_log_recycle, prefill_for_recycle, prefill_limit)
+
+-- what a table says of purges: from which sizes of Append and of Rewrite on, and from which share of garbage
+unfoldable pub purging_in : Settings → Members → Result (ℕ × Option ℕ × ℕ) (List ℕ)
+purging_in usual t = do
+  threshold ← at (codes "purge-threshold") size_of usual.purge_threshold t
+  rewrite ← at (codes "purge-rewrite-threshold") (maybe size_of) usual.purge_rewrite_threshold t
+  garbage_ratio ← at (codes "purge-rewrite-garbage-ratio") number_of usual.purge_rewrite_garbage_ratio t
+  Ok (threshold, rewrite, garbage_ratio)
+
+-- what a table says of a recovery: what it does about damage, its block and its workers
+unfoldable pub recovery_in : Settings → Members → Result (RecoveryMode × ℕ × ℕ) (List ℕ)
+recovery_in usual t = do
+  recovery_mode ← at (codes "recovery-mode") mode_of usual.recovery_mode t
+  block ← at (codes "recovery-read-block-size") size_of usual.recovery_read_block_size t
+  recovery_threads ← at (codes "recovery-threads") number_of usual.recovery_threads t
+  Ok (recovery_mode, block, recovery_threads)
+
+-- what a table says of new files: what is without effect, their format, and the size from which they are full
+unfoldable pub files_in : Settings → Members → Result (Option ℕ × Version × ℕ) (List ℕ)
+files_in usual t = do
+  bytes_per_sync ← at (codes "bytes-per-sync") (maybe size_of) usual.bytes_per_sync t
+  format_version ← at (codes "format-version") version_of usual.format_version t
+  target_file_size ← at (codes "target-file-size") size_of usual.target_file_size t
+  Ok (bytes_per_sync, format_version, target_file_size)
+
+-- the settings that a table says over the usual ones, or its first wrong key in this order; other keys are
+-- left out
+unfoldable pub settings_over : Settings → Members → Result Settings (List ℕ)
+settings_over usual t = do
+  dir ← at (codes "dir") as_str usual.dir t
+  spill_dir ← at (codes "spill-dir") (maybe as_str) usual.spill_dir t
+  recovery ← recovery_in usual t
+  files ← files_in usual t
+  purging ← purging_in usual t
+  memory_limit ← at (codes "memory-limit") (maybe size_of) usual.memory_limit t
+  recycling ← recycling_in usual t
+  Ok (record {
+    dir = dir;
+    spill_dir = spill_dir;
+    recovery_mode = recovery.0;
+    recovery_read_block_size = recovery.1;
+    recovery_threads = recovery.2;
+    bytes_per_sync = files.0;
+    format_version = files.1;
+    target_file_size = files.2;
+    purge_threshold = purging.0;
+    purge_rewrite_threshold = purging.1;
+    purge_rewrite_garbage_ratio = purging.2;
+    memory_limit = memory_limit;
+    enable_log_recycle = recycling.0;
+    prefill_for_recycle = recycling.1;
+    prefill_limit = recycling.2;
+  })
+
+-- the settings that a table says; what it leaves out is as usual
+abbrev pub settings_in : Members → Result Settings (List ℕ)
+settings_in = settings_over default_settings
+
+-- What a reading answers.
+
+-- the text that names a wrong key
+abbrev pub wrong_value : List ℕ → List ℕ
+wrong_value key = codes "wrong value of " ++ key
+
+-- the text for what TOML refuses
+abbrev pub no_toml : List ℕ
+no_toml = codes "settings are no TOML"
+
+-- a refusal for what TOML refuses, or want of memory
+abbrev pub SaysNoToml : Error → Type 0
+SaysNoToml (errors.InvalidArgument text) = string_bytes text ≡ no_toml
+SaysNoToml errors.Memory = Unit {0}
+SaysNoToml _ = ⊥
+
+-- a refusal that names this key, or want of memory
+abbrev pub NamesKey : Error → List ℕ → Type 0
+NamesKey (errors.InvalidArgument text) key = string_bytes text ≡ wrong_value key
+NamesKey errors.Memory key = Unit {0}
+NamesKey _ key = ⊥
+
+-- a value of a key was read, or the key is wrong, or memory ran out
+abbrev pub GivesAt : {X : Type 0} → Result X Error → List ℕ → Result X (List ℕ) → Type 0
+GivesAt (Ok x) key reading = reading ≡ Ok x
+GivesAt (Err errors.Memory) key reading = Unit {0}
+GivesAt (Err e) key reading = (reading ≡ Err key) × NamesKey e key
+
+-- the same of several keys, the first wrong one of which is told
+abbrev pub GivesKeys : {X : Type 0} → Result X Error → Result X (List ℕ) → Type 0
+GivesKeys (Ok x) reading = reading ≡ Ok x
+GivesKeys (Err errors.Memory) reading = Unit {0}
+GivesKeys (Err e) reading = (key : List ℕ) × (reading ≡ Err key) × NamesKey e key
+
+-- the same of a text that is lent
+abbrev pub GivesText : Result (Bor (List ℕ)) Error → List ℕ → Result (List ℕ) (List ℕ) → Type 0
+GivesText (Ok x) key reading = reading ≡ Ok x.now
+GivesText (Err errors.Memory) key reading = Unit {0}
+GivesText (Err e) key reading = (reading ≡ Err key) × NamesKey e key
+
+-- the same of one that may be absent for good
+abbrev pub GivesTextIfAny : Result (Option (Bor (List ℕ))) Error → List ℕ
+    → Result (Option (List ℕ)) (List ℕ) → Type 0
+GivesTextIfAny (Ok x) key reading = reading ≡ Ok (option_map (λ text. text.now) x)
+GivesTextIfAny (Err errors.Memory) key reading = Unit {0}
+GivesTextIfAny (Err e) key reading = (reading ≡ Err key) × NamesKey e key
+
+-- Settings that a table says were read, or its first wrong key is told, or memory ran out.
+abbrev pub GivesSettings : Result Config Error → Result Settings (List ℕ) → Type 0
+GivesSettings (Ok config) reading = reading ≡ Ok (settings_of config)
+GivesSettings (Err errors.Memory) reading = Unit {0}
+GivesSettings (Err e) reading = (key : List ℕ) × (reading ≡ Err key) × NamesKey e key
+
+-- a text is TOML, and its table says these settings
+abbrev pub SaysSettings : List ℕ → Settings → Type 0
+SaysSettings text s = (table : Members) × (parse_document text ≡ Some table) × (settings_in table ≡ Ok s)
+
+-- a text is TOML, and this is the first wrong key of its table
+abbrev pub HasWrongKey : List ℕ → List ℕ → Type 0
+HasWrongKey text key = (table : Members) × (parse_document text ≡ Some table) × (settings_in table ≡ Err key)
+
+-- What a text answers: the settings of its table, or its first wrong key, or that it is no TOML.
+abbrev pub GivesSettingsOf : Result Config Error → List ℕ → Type 0
+GivesSettingsOf (Err errors.Memory) text = Unit {0}
+GivesSettingsOf (Err (errors.InvalidArgument why)) text =
+    ((parse_document text ≡ None) × (string_bytes why ≡ no_toml))
+    ⊎ ((key : List ℕ) × HasWrongKey text key × (string_bytes why ≡ wrong_value key))
+GivesSettingsOf (Err _) text = ⊥
+GivesSettingsOf (Ok config) text = SaysSettings text (settings_of config)

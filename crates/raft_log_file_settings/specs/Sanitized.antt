@@ -1,0 +1,96 @@
+-- Which settings are refused, what the others become, and the capacities that they give.
+use Rattle.std.specs.Prelude.{◌≡◌, ℕ, ◌<◌, ◌*◌, ◌/◌, ◌^◌, ◌-◌, ◌⊎◌, max, min, nat_le, ◌&&◌, Bool, true, false, if◌then◌else◌, List, ◌∷◌, ◌++◌, Option, Some, None, IsSomeAnd, unwrap_or}
+use Rattle.anyhow.specs.Error.{HasMessage}
+use Rattle.raft_log_record_base.specs.declared.errors.Error.{Error}
+use Rattle.raft_log_record_base.specs.declared.errors.Error.TheVariants as errors
+use Rattle.raft_log_record_base.specs.declared.pipe_log.LogQueue.{LogQueue}
+use Rattle.raft_log_record_base.specs.declared.pipe_log.Version.{Version}
+use Rattle.raft_log_record_base.specs.declared.pipe_log.Version.TheVariants.{V1, V2}
+use Rattle.raft_log_file_format.specs.Name.{IsNamed, suffix_of, reserved_suffix}
+use Rattle.raft_log_file_settings.specs.declared.fault.ConfigFault.{ConfigFault}
+use Rattle.raft_log_file_settings.specs.declared.fault.ConfigFault.TheVariants as faults
+use Rattle.raft_log_file_settings.specs.Settings.{Settings}
+use Rattle.raft_log_file_settings.specs.Text.{fault_text}
+use Rattle.raft_log_record_base.specs.Files.{is_signed}
+
+-- the name of a log file, or of a file that is kept to be used
+abbrev pub IsFileName : List ℕ → Type 0
+IsFileName name =
+    (n : ℕ) × (((queue : LogQueue) × IsNamed (suffix_of queue) name n) ⊎ IsNamed reserved_suffix name n)
+
+-- a path that a file of the log in this directory may have
+abbrev pub IsFileIn : List ℕ → List ℕ → Type 0
+IsFileIn directory path = (name : List ℕ) × IsFileName name × (path ≡ directory ++ 47 ∷ name)
+
+-- the two directories are one, or one has the path of a file in the other
+abbrev pub Clash : List ℕ → List ℕ → Type 0
+Clash dir spill = (dir ≡ spill) ⊎ (IsFileIn dir spill ⊎ IsFileIn spill dir)
+
+-- what is wrong with settings
+abbrev pub HasFault : Settings → ConfigFault → Type 0
+HasFault s faults.PurgeBelowTarget = s.purge_threshold < s.target_file_size
+HasFault s faults.NoTargetSize = s.target_file_size ≡ 0
+HasFault s faults.DirectoriesClash = IsSomeAnd s.spill_dir (Clash s.dir)
+HasFault s faults.RecycleUnsigned = (s.enable_log_recycle ≡ true) × (s.format_version ≡ V1)
+HasFault s faults.PrefillWithoutRecycle = (s.prefill_for_recycle ≡ true) × (s.enable_log_recycle ≡ false)
+
+-- in which order faults are told
+abbrev pub place : ConfigFault → ℕ
+place faults.PurgeBelowTarget = 0
+place faults.NoTargetSize = 1
+place faults.DirectoriesClash = 2
+place faults.RecycleUnsigned = 3
+place faults.PrefillWithoutRecycle = 4
+
+-- the settings have this fault and none before it
+pub record IsFirstFault (s : Settings) (fault : ConfigFault) : Type 0 where
+  pub has : HasFault s fault
+  pub first : (other : ConfigFault) → place other < place fault → HasFault s other → ⊥
+
+-- the settings have no fault
+abbrev pub HasNoFault : Settings → Type 0
+HasNoFault s = (fault : ConfigFault) → HasFault s fault → ⊥
+
+-- why settings are refused: their first fault, in its words, or memory ran out for saying so
+abbrev pub IsRefusedFor : Settings → Error → Type 0
+IsRefusedFor s (errors.Other why) =
+    (fault : ConfigFault) × IsFirstFault s fault × HasMessage (Some (fault_text fault)) why.value
+IsRefusedFor s errors.Memory = (fault : ConfigFault) × IsFirstFault s fault
+IsRefusedFor s _ = ⊥
+
+-- the first value, or this one where there is none
+abbrev pub or_else : Option ℕ → ℕ → Option ℕ
+or_else (Some n) default = Some n
+or_else None default = Some default
+
+-- Sound settings, made whole: a rewrite threshold, a block of 512 bytes and one worker at least, and a limit
+-- of prefilled files exactly where files are prefilled.
+abbrev pub sanitized : Settings → Settings
+sanitized s = record s {
+  purge_rewrite_threshold =
+      or_else s.purge_rewrite_threshold (max (s.purge_threshold / 10) s.target_file_size);
+  recovery_read_block_size = max s.recovery_read_block_size 512;
+  recovery_threads = max s.recovery_threads 1;
+  prefill_limit = if s.prefill_for_recycle then or_else s.prefill_limit s.purge_threshold else None;
+}
+
+-- half as many files again as fit so many bytes, at most 2^32 - 1
+abbrev pub files_within : ℕ → ℕ → ℕ
+files_within limit target = min (limit / target * 3 / 2) (2 ^ 32 - 1)
+
+-- records are signed and files are recycled
+abbrev pub can_recycle : Settings → Bool
+can_recycle s = s.enable_log_recycle && is_signed s.format_version
+
+-- how many files are kept to be used again
+abbrev pub recycle_capacity : Settings → ℕ
+recycle_capacity s =
+    if can_recycle s && nat_le s.target_file_size s.purge_threshold
+    then files_within s.purge_threshold s.target_file_size else 0
+
+-- how many files are filled with zeros at an open
+abbrev pub prefill_capacity : Settings → ℕ
+prefill_capacity s =
+    let limit = unwrap_or s.prefill_limit 0 in
+    if can_recycle s && s.prefill_for_recycle && nat_le s.target_file_size limit
+    then files_within limit s.target_file_size else 0

@@ -1,0 +1,52 @@
+//! What may be wrong with settings.
+ghost use Rattle.std.specs.Prelude.{◌≡◌, Some};
+
+use std::fmt;
+
+/// What may be wrong with settings, in the order in which it is told.
+#[derive(Clone, Copy, Debug, PartialEq, Eq)]
+pub enum ConfigFault {
+    /// A purge would begin before a file is full.
+    PurgeBelowTarget,
+    /// Files would have no size.
+    NoTargetSize,
+    /// The spill directory is the directory, or one of the two has the path of a log file in the other.
+    DirectoriesClash,
+    /// Files of a format without signatures can't be used again.
+    RecycleUnsigned,
+    /// Files are filled to be used again, and none is.
+    PrefillWithoutRecycle,
+}
+
+impl ConfigFault {
+    ghost use Rattle.raft_log_file_settings.specs.Text.{fault_text};
+
+    /// What is wrong, in words.
+    pub fn text(self) -> &'static str
+        ensures { result.now ≡ fault_text self }
+    {
+        match self {
+            ConfigFault::PurgeBelowTarget => "purge-threshold < target-file-size",
+            ConfigFault::NoTargetSize => "target-file-size is 0",
+            ConfigFault::DirectoriesClash => {
+                "spill-dir is dir, or one of the two is a log file of the other"
+            }
+            ConfigFault::RecycleUnsigned => {
+                "format version 1 doesn't support log recycle, use 2 or above"
+            }
+            ConfigFault::PrefillWithoutRecycle => {
+                "prefill is not allowed when log recycle is disabled"
+            }
+        }
+    }
+}
+
+impl fmt::Display for ConfigFault {
+    ghost use Rattle.raft_log_file_settings.specs.Text.{fault_text};
+
+    ghost output = { λ fault. Some (fault_text fault) };
+
+    fn fmt<W: fmt::Write>(&self, f: &mut fmt::Formatter<W>) -> fmt::Result {
+        f.write_str(self.text())
+    }
+}

@@ -1,0 +1,108 @@
+-- A chain of records in a file that a writer writes: what each of its calls makes of it.
+use Rattle.std.specs.Prelude.{◌≡◌, ℕ, ◌≤◌, Bool, true, Some, List, [], ◌∷◌, ◌++◌, length, take, drop}
+use Rattle.std.specs.declared.io.ErrorKind.{ErrorKind}
+use Rattle.raft_log_disk.specs.Disk.{File, Disk, at_rest, zeros}
+use Rattle.raft_log_disk.specs.Image.{IsLeft}
+use Rattle.raft_log_file_laws.specs.Chains.{Written, IsSelfDelimiting, spelled}
+use Rattle.raft_log_file_laws.specs.KeepsSynced.{HoldsChain, HoldsAtLeast, StandsBehind}
+use Rattle.raft_log_disk.specs.Exits.{Syncs, FailsToSync}
+use Rattle.raft_log_disk.specs.declared.handle.Handle.{Handle}
+use Rattle.raft_log_disk.specs.declared.handle.Permission.TheVariants.{ReadWrite}
+use Rattle.raft_log_disk.specs.Touching.{HasFile}
+use Rattle.raft_log_file_writer.specs.declared.writer.LogFileWriter.{LogFileWriter}
+use Rattle.raft_log_file_writer.specs.Writer.{IsWritten, IsDurable, WritesNext, FailsToWriteNext, Closes, FailsToClose, TakesUp, FailsToTakeUp, needs_header}
+
+-- what is durable of a file is there, whatever a stop leaves of it
+abbrev pub DurableIsLeft : Type 0
+DurableIsLeft = (bytes left : List ℕ) (file : File) → IsDurable bytes file → IsLeft file left
+    → take (length bytes) left ≡ bytes
+
+-- Up to the writer's offset its file has a chain of records, and holds it; `more` are records whose write was
+-- refused, of which anything may stand behind the offset.
+pub record IsAtEnd {R : Type 0} (IsFrame : List ℕ → R → Type 0) (start : ℕ) (stale : List ℕ)
+    (durable pending more : List (Written R))
+    (writer : LogFileWriter) (d : Disk) : Type 0 where
+  pub bytes : List ℕ
+  pub written : IsWritten writer bytes d
+  pub starts : start ≤ length bytes
+  pub chain : drop start bytes ≡ spelled (durable ++ pending)
+  pub holds : HasFile writer.handle.file (HoldsChain IsFrame start stale durable (pending ++ more)) d
+
+-- from a place on the file has stale bytes alone, and it is no shorter than these
+pub record HasStaleFrom (from : ℕ) (stale : List ℕ) (file : File) : Type 0 where
+  pub stands : StandsBehind from stale file.content
+  pub covers : length stale ≤ length file.content
+
+-- So it is, and no write was refused since the file was closed: behind the offset stand stale bytes alone.
+abbrev pub IsReady : {R : Type 0} → (List ℕ → R → Type 0) → ℕ → List ℕ → List (Written R) → List (Written R)
+    → LogFileWriter → Disk → Type 0
+IsReady IsFrame start stale durable pending writer d = IsAtEnd IsFrame start stale durable pending [] writer d
+    × HasFile writer.handle.file (HasStaleFrom writer.written stale) d
+
+-- What the calls of a writer make of a chain. A record that is written is the last pending one; the zeros
+-- that were allocated count as stale. A sync makes all durable; where it is refused, the durable ones are so
+-- still. A record that is refused counts as the last pending one, and the writer stands where it stood; once
+-- the file is closed, it has the others alone, all durable. Where that is refused, the durable ones are so
+-- still, and the refused one counts.
+pub record ChainIsWritten {R : Type 0} (IsFrame : List ℕ → R → Type 0) (start : ℕ) (stale : List ℕ)
+    (durable pending : List (Written R))
+    (before after : LogFileWriter) (old new : Disk) : Type 0 where
+  pub written : (w : Written R) (target : ℕ) → IsFrame w.bytes w.value
+      → IsReady IsFrame start stale durable pending before old
+      → WritesNext before after w.bytes target old new
+      → (count : ℕ) × IsReady IsFrame start (stale ++ zeros count) durable (pending ++ w ∷ []) after new
+  pub refused : (w : Written R) (target : ℕ) (error : ErrorKind) → IsFrame w.bytes w.value
+      → IsReady IsFrame start stale durable pending before old
+      → FailsToWriteNext before after w.bytes target error old new
+      → IsAtEnd IsFrame start stale durable pending (w ∷ []) after new
+  pub synced : IsReady IsFrame start stale durable pending before old → Syncs before.handle old new
+      → IsReady IsFrame start stale (durable ++ pending) [] before new
+  pub not_synced : (error : ErrorKind) → IsReady IsFrame start stale durable pending before old
+      → FailsToSync before.handle error old new
+      → HasFile before.handle.file (HoldsAtLeast IsFrame start stale durable pending) new
+  pub closed : (more : List (Written R)) → IsAtEnd IsFrame start stale durable pending more before old
+      → Closes before after old new
+      → IsReady IsFrame start [] (durable ++ pending) [] after new
+  pub not_closed : (more : List (Written R)) (error : ErrorKind)
+      → IsAtEnd IsFrame start stale durable pending more before old
+      → FailsToClose before after error old new
+      → HasFile before.handle.file (HoldsAtLeast IsFrame start stale durable (pending ++ more)) new
+
+-- so it is in each state and with each call
+abbrev pub WriterKeepsChain : {R : Type 0} → (List ℕ → R → Type 0) → Type 0
+WriterKeepsChain {R} IsFrame = IsSelfDelimiting IsFrame
+    → (start : ℕ) (stale : List ℕ) (durable pending : List (Written R))
+    (before after : LogFileWriter) (old new : Disk)
+    → ChainIsWritten IsFrame start stale durable pending before after old new
+
+-- a file without records: it holds the empty chain, and all its bytes are stale
+pub record HoldsNothing {R : Type 0} (IsFrame : List ℕ → R → Type 0) (start : ℕ) (stale : List ℕ) (file : File)
+    : Type 0 where
+  pub chain : HoldsChain IsFrame start stale [] [] file
+  pub only : HasStaleFrom 0 stale file
+
+-- so it is with each file at rest, new or used before
+abbrev pub RestHoldsNothing : {R : Type 0} → (List ℕ → R → Type 0) → Type 0
+RestHoldsNothing IsFrame = (start : ℕ) (content : List ℕ)
+    → HoldsNothing IsFrame start content (at_rest content)
+
+-- How a chain begins: a file without records that gets a header is ready for its first record. Where the
+-- header is refused, it is without records still.
+pub record ChainBegins {R : Type 0} (IsFrame : List ℕ → R → Type 0) (handle : Handle)
+    (header stale : List ℕ) (reset : Bool) (old new : Disk) : Type 0 where
+  pub begun : (writer : LogFileWriter) → handle.permission ≡ ReadWrite
+      → TakesUp handle header reset writer old new
+      → (count : ℕ) × IsReady IsFrame (length header) (stale ++ zeros count) [] [] writer new
+  pub refused : (error : ErrorKind) → FailsToTakeUp handle header reset error old new
+      → HasFile handle.file (HoldsChain IsFrame (length header) stale [] []) new
+
+-- the handle's file gets a header
+abbrev pub GetsHeader : Handle → List ℕ → Bool → Disk → Type 0
+GetsHeader handle header reset d = (file : File) → d.files handle.file ≡ Some file
+    → needs_header header reset file.content ≡ true
+
+-- so it is with each such file
+abbrev pub WriterBeginsChain : {R : Type 0} → (List ℕ → R → Type 0) → Type 0
+WriterBeginsChain {R} IsFrame = (handle : Handle) (header stale : List ℕ) (reset : Bool) (old new : Disk)
+    → HasFile handle.file (HoldsNothing IsFrame (length header) stale) old → GetsHeader handle header reset old
+    → ChainBegins IsFrame handle header stale reset old new

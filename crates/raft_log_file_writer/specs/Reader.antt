@@ -1,0 +1,59 @@
+-- What is read of one log file, and why a read is refused.
+use Rattle.std.specs.Prelude.{◌≡◌, ℕ, ◌⊎◌, ◌++◌, true, List, take, drop, Result, Ok}
+use Rattle.raft_log_record_base.specs.declared.errors.Error.{Error}
+use Rattle.raft_log_record_base.specs.declared.errors.Error.TheVariants as errors
+use Rattle.raft_log_record_base.specs.Fault.{Fault, FailsOrMemory}
+use Rattle.raft_log_file_format.specs.declared.header.LogFileFormat.{LogFileFormat}
+use Rattle.raft_log_file_format.specs.Header.{IsFileHeader, header_at}
+use Rattle.raft_log_disk.specs.Disk.{File, Disk}
+use Rattle.raft_log_disk.specs.Arguments.{WrongName}
+use Rattle.raft_log_disk.specs.Reading.{IsUnread, IsNotMeasured}
+use Rattle.raft_log_disk.specs.Touching.{HasFile}
+use Rattle.raft_log_disk.specs.declared.handle.Handle.{Handle}
+
+-- why a file wasn't opened: for want of memory; or the file system has stopped, or no file has the path
+abbrev pub IsOpenRefusal : List ℕ → Disk → Error → Type 0
+IsOpenRefusal path d errors.Memory = Unit {0}
+IsOpenRefusal path d (errors.Io kind) = (d.stopped ≡ true) ⊎ WrongName path d kind
+IsOpenRefusal path d _ = ⊥
+
+-- why so many bytes from a place on weren't read: the file system refused
+abbrev pub IsReadRefusal : Handle → ℕ → ℕ → Disk → Error → Type 0
+IsReadRefusal handle at count d (errors.Io kind) = IsUnread handle at count d kind
+IsReadRefusal handle at count d _ = ⊥
+
+-- why they weren't read into a buffer of their own: for want of memory too
+abbrev pub IsBlockRefusal : Handle → ℕ → ℕ → Disk → Error → Type 0
+IsBlockRefusal handle at count d errors.Memory = Unit {0}
+IsBlockRefusal handle at count d error = IsReadRefusal handle at count d error
+
+-- why a size wasn't told: the file system refused
+abbrev pub IsSizeRefusal : Handle → Disk → Error → Type 0
+IsSizeRefusal handle d (errors.Io kind) = IsNotMeasured handle d kind
+IsSizeRefusal handle d _ = ⊥
+
+-- these are the bytes of a file from a place on, so many of them, or fewer where the file ends before
+abbrev pub AreBytesAt : ℕ → ℕ → List ℕ → File → Type 0
+AreBytesAt at count bytes file = bytes ≡ take count (drop at file.content)
+
+-- what reading the header of a file gives: no more bytes are looked at than the longest header has
+abbrev pub header_of : File → Result (LogFileFormat × List ℕ) Fault
+header_of file = header_at (take 69 file.content)
+
+-- a file begins with a header of this format
+pub record BeginsWithHeader (format : LogFileFormat) (file : File) : Type 0 where
+  pub header : List ℕ
+  pub rest : List ℕ
+  pub is : IsFileHeader header format
+  pub splits : file.content ≡ header ++ rest
+
+-- reading the header of a file gives this format
+abbrev pub GivesFormat : LogFileFormat → File → Type 0
+GivesFormat format file = (rest : List ℕ) × (header_of file ≡ Ok (format, rest))
+
+-- why no format was read: the file system refused; or memory ran out; or this is the first fault of the
+-- header
+abbrev pub IsFormatRefusal : Handle → Disk → Error → Type 0
+IsFormatRefusal handle d errors.Memory = Unit {0}
+IsFormatRefusal handle d (errors.Io kind) = IsUnread handle 0 69 d kind
+IsFormatRefusal handle d error = HasFile handle.file (λ file. FailsOrMemory error (header_of file)) d

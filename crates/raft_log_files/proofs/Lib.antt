@@ -1,5 +1,0 @@
-pub mod Writing
-pub mod Calls
-pub mod Rotating
-mod Beginning
-pub mod Reopening

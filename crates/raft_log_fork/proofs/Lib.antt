@@ -1,8 +1,0 @@
-pub mod Adds
-pub mod Making
-pub mod CopyingLemmas
-pub mod Lasts
-pub mod Names
-pub mod CopyingAll
-pub mod Permitting
-pub mod Finding

@@ -1,5 +1,0 @@
-use Rattle.raft_log_forked.proofs.Leaving.{forks_leave_the_source}
-use Rattle.raft_log_forked.proofs.laws.forks_leave_the_source.Goals as goal
-
-pub returns : goal.returns
-returns c = forks_leave_the_source

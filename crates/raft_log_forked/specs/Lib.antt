@@ -1,4 +1,0 @@
-pub mod Leaving
-pub mod Resting
-pub mod Opening
-pub mod Left

@@ -1,6 +1,0 @@
-use Rattle.raft_log_base.proofs.Grammar.{prefix_free}
-use Rattle.raft_log_format.proofs.Headers.{is_header}
-use Rattle.raft_log_format.proofs.laws.no_header_begins_another.Goals as goal
-
-pub returns : goal.returns
-returns c = prefix_free is_header

@@ -1,5 +1,0 @@
-use Rattle.raft_log_format.proofs.Names.{same_queue}
-use Rattle.raft_log_format.proofs.laws.no_name_is_in_two_queues.Goals as goal
-
-pub returns : goal.returns
-returns c = same_queue

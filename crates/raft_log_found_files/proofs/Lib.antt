@@ -1,4 +1,0 @@
-pub mod FaultLemmas
-pub mod BlockLemmas
-pub mod WorkLemmas
-pub mod ResultLemmas

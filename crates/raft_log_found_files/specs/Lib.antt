@@ -1,6 +1,0 @@
-pub mod Faults
-pub mod Records
-pub mod Steps
-pub mod Behind
-pub mod Reading
-pub mod Tolerance

@@ -1,5 +1,0 @@
-pub mod Records
-pub mod Reading
-pub mod Scanned
-pub mod Beginning
-pub mod AllFiles

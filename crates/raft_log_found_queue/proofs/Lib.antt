@@ -1,4 +1,0 @@
-pub mod Elsewhere
-pub mod HeldOnce
-pub mod OneReading
-pub mod Taking

@@ -1,5 +1,0 @@
-use Rattle.raft_log_group_state.proofs.LeftOpen.{left_open_count_not}
-use Rattle.raft_log_group_state.proofs.laws.groups_stay_open.Goals as goal
-
-pub returns : goal.returns
-returns g c = record { engine = λ home e m o h. h.holds; records = left_open_count_not }

@@ -1,5 +1,0 @@
-use Rattle.raft_log_group_state.proofs.Taking.{end_over_tables}
-use Rattle.raft_log_group_state.proofs.laws.rewritten_groups_keep_the_map.Goals as goal
-
-pub returns : goal.returns
-returns c = end_over_tables

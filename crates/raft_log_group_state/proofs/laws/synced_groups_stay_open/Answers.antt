@@ -1,5 +1,0 @@
-use Rattle.raft_log_group_state.proofs.Writing.{sync_leaves_open}
-use Rattle.raft_log_group_state.proofs.laws.synced_groups_stay_open.Goals as goal
-
-pub returns : goal.returns
-returns c = sync_leaves_open

@@ -1,5 +1,0 @@
-use Rattle.raft_log_group_state.proofs.Ending.{whole_may_end, whole_noted}
-use Rattle.raft_log_group_state.proofs.laws.whole_groups_may_end.Goals as goal
-
-pub returns : goal.returns
-returns g c = record { ends = whole_may_end; noted = whole_noted }

@@ -1,5 +1,0 @@
-use Rattle.raft_log_group_state.proofs.Writing.{part_begins, part_goes_on}
-use Rattle.raft_log_group_state.proofs.laws.written_parts_keep_the_map.Goals as goal
-
-pub returns : goal.returns
-returns c = record { begins = part_begins; goes_on = part_goes_on }

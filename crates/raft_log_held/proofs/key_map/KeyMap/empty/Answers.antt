@@ -1,9 +1,0 @@
-use Rattle.std.proofs.Common.{rules}
-use Rattle.std.proofs.lemmas.Map.Made.{map_same_pairs}
-use Rattle.raft_log_held.proofs.ByteKeys.{empty_keys, emptied_slot}
-use Rattle.raft_log_held.proofs.key_map.KeyMap.empty.Goals as goal
-
-pub returns : goal.returns
-returns c =
-    empty_keys (λ k. k.items) c.self.inside.slots.entries c.retain.new.self.entries c.args.self.now c.self.view_is
-    (map_same_pairs _ emptied_slot _ (λ k v b w f' t. search rules) c.self.inside.slots.entries c.retain.new.self.entries c.retain.ensures.filtered)

@@ -1,8 +1,0 @@
-use Rattle.std.proofs.Common.{map, take}
-use Rattle.std.specs.String.{string_bytes}
-use Rattle.raft_log_item_reader.specs.Files.{AreFound}
-use Rattle.raft_log_item_reader.proofs.files.log_files.Given as goal
-
--- those among the names so far are found
-abbrev pub invariant-loop-name : goal.invariant-loop-name
-invariant-loop-name l = AreFound l.directory (map string_bytes (take l.name-index l.names)) l.files.items

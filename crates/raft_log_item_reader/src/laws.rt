@@ -1,9 +1,0 @@
-//! Laws of a reader of items.
-ghost use Rattle.raft_log_item_reader.specs.Laws.{CallsGiveAll};
-
-use raft_log_disk::FileSystem;
-
-/// Whoever calls a reader of items until nothing comes gets what comes of its files.
-pub fn calls_give_all<F: FileSystem>()
-    ensures { CallsGiveAll F.disk }
-{}

@@ -1,5 +1,0 @@
-use Rattle.raft_log_machine.proofs.DirectoryLaws.{lost_queue}
-use Rattle.raft_log_machine.proofs.files.loss_of_files.Goals as goal
-
-pub returns : goal.returns
-returns g c = lost_queue

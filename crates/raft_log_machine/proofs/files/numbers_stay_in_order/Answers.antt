@@ -1,5 +1,0 @@
-use Rattle.raft_log_machine.proofs.FileLaws.{file_step_numbers}
-use Rattle.raft_log_machine.proofs.files.numbers_stay_in_order.Goals as goal
-
-pub returns : goal.returns
-returns g c = file_step_numbers

@@ -1,5 +1,0 @@
-use Rattle.raft_log_machine.proofs.DirectoryLaws.{schedule_opens_in_files}
-use Rattle.raft_log_machine.proofs.files.opens_in_files_always.Goals as goal
-
-pub returns : goal.returns
-returns g c = schedule_opens_in_files

@@ -1,5 +1,0 @@
-use Rattle.raft_log_machine.proofs.DirectoryLaws.{read_queue}
-use Rattle.raft_log_machine.proofs.files.reading_of_files.Goals as goal
-
-pub returns : goal.returns
-returns g c = read_queue

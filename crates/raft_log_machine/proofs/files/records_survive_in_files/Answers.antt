@@ -1,5 +1,0 @@
-use Rattle.raft_log_machine.proofs.FileLaws.{survives_in_files}
-use Rattle.raft_log_machine.proofs.files.records_survive_in_files.Goals as goal
-
-pub returns : goal.returns
-returns g c = survives_in_files

@@ -1,5 +1,0 @@
-use Rattle.raft_log_machine.proofs.DirectoryLaws.{rotated_queue}
-use Rattle.raft_log_machine.proofs.files.rotation_of_files.Goals as goal
-
-pub returns : goal.returns
-returns g c = rotated_queue

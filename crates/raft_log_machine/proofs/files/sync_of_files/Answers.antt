@@ -1,5 +1,0 @@
-use Rattle.raft_log_machine.proofs.DirectoryLaws.{synced_queue}
-use Rattle.raft_log_machine.proofs.files.sync_of_files.Goals as goal
-
-pub returns : goal.returns
-returns g c = synced_queue

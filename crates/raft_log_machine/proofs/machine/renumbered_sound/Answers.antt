@@ -1,9 +1,0 @@
-use Rattle.raft_log_machine.proofs.RenumberLaws.{renumbered_kept, renumbered_replays}
-use Rattle.raft_log_machine.proofs.machine.renumbered_sound.Goals as goal
-
-pub returns : goal.returns
-returns g c = record {
-  kept = renumbered_kept;
-  replay = renumbered_replays;
-  runs = λ w next h. record { runs = h.runs };
-}

@@ -1,5 +1,0 @@
-use Rattle.raft_log_machine.proofs.PurgeLaws.{invisible}
-use Rattle.raft_log_machine.proofs.purge.purge_is_invisible.Goals as goal
-
-pub returns : goal.returns
-returns g c = invisible

@@ -1,5 +1,0 @@
-use Rattle.raft_log_machine.proofs.ReplayLaws.{step_replays}
-use Rattle.raft_log_machine.proofs.replay.each_step_replays.Goals as goal
-
-pub returns : goal.returns
-returns g c = step_replays

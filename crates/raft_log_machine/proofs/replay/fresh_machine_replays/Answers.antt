@@ -1,5 +1,0 @@
-use Rattle.raft_log_machine.proofs.ReplayLaws.{fresh_replays}
-use Rattle.raft_log_machine.proofs.replay.fresh_machine_replays.Goals as goal
-
-pub returns : goal.returns
-returns g c = fresh_replays

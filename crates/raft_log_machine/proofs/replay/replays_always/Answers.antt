@@ -1,5 +1,0 @@
-use Rattle.raft_log_machine.proofs.ReplayLaws.{schedule_replays}
-use Rattle.raft_log_machine.proofs.replay.replays_always.Goals as goal
-
-pub returns : goal.returns
-returns g c = schedule_replays

@@ -1,4 +1,0 @@
-use Rattle.raft_log_machine.proofs.survival.append_takes.Goals as goal
-
-pub returns : goal.returns
-returns g c = λ q m y h. h

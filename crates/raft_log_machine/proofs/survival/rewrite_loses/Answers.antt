@@ -1,5 +1,0 @@
-use Rattle.raft_log_machine.proofs.SurvivalSteps.{holds_rewrite_left}
-use Rattle.raft_log_machine.proofs.survival.rewrite_loses.Goals as goal
-
-pub returns : goal.returns
-returns g c = holds_rewrite_left

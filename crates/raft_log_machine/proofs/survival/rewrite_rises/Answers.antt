@@ -1,5 +1,0 @@
-use Rattle.raft_log_machine.proofs.SurvivalSteps.{holds_rewrite_raised}
-use Rattle.raft_log_machine.proofs.survival.rewrite_rises.Goals as goal
-
-pub returns : goal.returns
-returns g c = holds_rewrite_raised

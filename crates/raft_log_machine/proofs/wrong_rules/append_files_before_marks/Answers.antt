@@ -1,5 +1,0 @@
-use Rattle.raft_log_machine.proofs.WrongRuleLaws.{no_marks}
-use Rattle.raft_log_machine.proofs.wrong_rules.append_files_before_marks.Goals as goal
-
-pub returns : goal.returns
-returns c = no_marks

@@ -1,5 +1,0 @@
-use Rattle.raft_log_machine.proofs.WrongRuleLaws.{late_marks}
-use Rattle.raft_log_machine.proofs.wrong_rules.marks_after_copies.Goals as goal
-
-pub returns : goal.returns
-returns c = late_marks

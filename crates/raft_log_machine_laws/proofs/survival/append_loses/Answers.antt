@@ -1,0 +1,5 @@
+use Rattle.raft_log_machine_laws.proofs.SurvivalSteps.{holds_append_left}
+use Rattle.raft_log_machine_laws.proofs.survival.append_loses.Goals as goal
+
+pub returns : goal.returns
+returns g c = holds_append_left

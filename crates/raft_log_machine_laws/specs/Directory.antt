@@ -1,0 +1,104 @@
+-- The machine on numbered files.
+use Rattle.std.specs.Prelude.{◌≡◌, ℕ, ◌<◌, List, [], ◌∷◌, ◌++◌}
+use Rattle.raft_log_model_laws.specs.Item.{Record}
+use Rattle.raft_log_model_laws.specs.Groups.{appended, rewritten}
+use Rattle.raft_log_model_laws.specs.Holes.{nothing, NoHole}
+use Rattle.raft_log_machine_laws.specs.Unbroken.{IsUnbroken}
+use Rattle.raft_log_machine_laws.specs.Machine.{Machine, Event, Step}
+use Rattle.raft_log_machine_laws.specs.Machine.Event.{Reopen}
+use Rattle.raft_log_machine_laws.specs.Fresh.{fresh_machine}
+use Rattle.raft_log_machine_laws.specs.Files.{LogFile, FileQueue, FileEvent, FileStep, IsRead, records_of, span, numbered_from, store_of, fresh_files}
+use Rattle.raft_log_machine_laws.specs.Files.FileEvent.{Read}
+
+-- a machine, and the files of Rewrite and of Append, those that are not behind a gap numbered from these on
+pub record Directory (E V : Type 0) : Type 0 where
+  pub machine : Machine E V
+  pub rewrite : FileQueue E V
+  pub rewrite_from : ℕ
+  pub append : FileQueue E V
+  pub append_from : ℕ
+
+-- an event, and what happens at it to each queue's files
+pub record DirectoryEvent (E V : Type 0) : Type 0 where
+  pub event : Event E V
+  pub rewrite : FileEvent E V
+  pub append : FileEvent E V
+
+-- the event happens, the files change, and hold what the machine says
+pub record DirectoryStep {E V : Type 0} (e : DirectoryEvent E V) (d n : Directory E V) : Type 0 where
+  pub step : Step e.event d.machine n.machine
+  pub rewrite : FileStep e.rewrite d.rewrite n.rewrite
+  pub append : FileStep e.append d.append n.append
+  pub store : store_of n.rewrite n.append ≡ n.machine.store
+  pub rewrite_from : n.rewrite_from ≡ numbered_from d.rewrite_from e.rewrite
+  pub append_from : n.append_from ≡ numbered_from d.append_from e.append
+
+-- a whole schedule
+abbrev pub DirectorySteps : {E V : Type 0} → Directory E V → List (DirectoryEvent E V) → Directory E V
+    → Type 0
+DirectorySteps d [] n = n ≡ d
+DirectorySteps {E} {V} d (e ∷ es) n =
+    (next : Directory E V) × DirectoryStep e d next × DirectorySteps next es n
+
+-- a directory without records: of each queue an empty file 1
+abbrev pub fresh_directory : {E V : Type 0} → Directory E V
+fresh_directory = record {
+  machine = fresh_machine;
+  rewrite = fresh_files;
+  rewrite_from = 1;
+  append = fresh_files;
+  append_from = 1;
+}
+
+-- the files' numbers rise
+abbrev pub IsRising : {E V : Type 0} → List (LogFile E V) → Type 0
+IsRising [] = Unit {0}
+IsRising (f ∷ []) = Unit {0}
+IsRising (f ∷ g ∷ fs) = (f.number < g.number) × IsRising (g ∷ fs)
+
+-- from every file from which a recovery may read, whatever the image kept of the unsynced records, the
+-- reading gets through: numbers rise, no run leaves a hole, and Rewrite's atomic groups are unbroken
+pub record ReplaysInFiles {E V : Type 0} (n : ℕ) (r : FileQueue E V) (k : ℕ) (a : FileQueue E V)
+    : Type 0 where
+  pub append : (kept lost : List (Record E V)) → kept ++ lost ≡ a.pending
+      → (s : ℕ) (files : List (LogFile E V)) → IsRead k a kept s files
+      → IsRising files × ((g : ℕ) → NoHole nothing (appended g (records_of files)))
+  pub rewrite : (kept lost : List (Record E V)) → kept ++ lost ≡ r.pending
+      → (s : ℕ) (files : List (LogFile E V)) → IsRead n r kept s files
+      → IsRising files × IsUnbroken (records_of files)
+      × ((g : ℕ) → NoHole nothing (rewritten g (records_of files)))
+
+-- a crash that kept these of the unsynced records, and an open that reads these of the gone files again: of
+-- each queue those below stay gone
+abbrev pub opening : {E V : Type 0} → (r_kept r_lost a_kept a_lost : List (Record E V))
+    → (r_below r_again a_below a_again : List (LogFile E V)) → DirectoryEvent E V
+opening r_kept r_lost a_kept a_lost r_below r_again a_below a_again = record {
+  event =
+      Reopen r_kept r_lost (records_of r_below) (records_of r_again)
+      a_kept a_lost (records_of a_below) (records_of a_again);
+  rewrite = Read r_below r_again r_kept;
+  append = Read a_below a_again a_kept;
+}
+
+-- these files can be opened after such a crash: there is an open after which they are the spans of both
+-- queues
+pub record CanBeOpened {E V : Type 0} (d : Directory E V) (r_kept r_lost a_kept a_lost : List (Record E V))
+    (r_files a_files : List (LogFile E V)) : Type 0 where
+  pub r_below : List (LogFile E V)
+  pub r_again : List (LogFile E V)
+  pub a_below : List (LogFile E V)
+  pub a_again : List (LogFile E V)
+  pub opened : Directory E V
+  pub step : DirectoryStep (opening r_kept r_lost a_kept a_lost r_below r_again a_below a_again) d opened
+  pub rewrite : span opened.rewrite [] ≡ r_files
+  pub append : span opened.append [] ≡ a_files
+
+-- from every file from which a recovery may read, whatever the image kept of the unsynced records, what is
+-- read can be opened
+abbrev pub OpensInFiles : {E V : Type 0} → Directory E V → Type 0
+OpensInFiles {E} {V} d =
+    (r_kept r_lost a_kept a_lost : List (Record E V)) → r_kept ++ r_lost ≡ d.rewrite.pending
+    → a_kept ++ a_lost ≡ d.append.pending
+    → (s t : ℕ) (r_files a_files : List (LogFile E V)) → IsRead d.rewrite_from d.rewrite r_kept s r_files
+    → IsRead d.append_from d.append a_kept t a_files
+    → CanBeOpened d r_kept r_lost a_kept a_lost r_files a_files

@@ -1,4 +1,0 @@
-pub mod Calls
-pub mod Turns
-pub mod CountDown
-pub mod Listings

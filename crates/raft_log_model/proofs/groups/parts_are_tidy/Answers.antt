@@ -1,5 +1,0 @@
-use Rattle.raft_log_model.proofs.TidyLaws.{tidy_front, tidy_back}
-use Rattle.raft_log_model.proofs.groups.parts_are_tidy.Goals as goal
-
-pub returns : goal.returns
-returns g c = record { front = tidy_front; back = tidy_back }

@@ -1,5 +1,0 @@
-use Rattle.raft_log_model.proofs.Records.{settle_append}
-use Rattle.raft_log_model.proofs.groups.settled_of_two.Goals as goal
-
-pub returns : goal.returns
-returns g c = settle_append

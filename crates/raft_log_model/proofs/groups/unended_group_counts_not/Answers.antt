@@ -1,5 +1,0 @@
-use Rattle.raft_log_model.proofs.TidyLaws.{part_counts}
-use Rattle.raft_log_model.proofs.groups.unended_group_counts_not.Goals as goal
-
-pub returns : goal.returns
-returns g c = part_counts

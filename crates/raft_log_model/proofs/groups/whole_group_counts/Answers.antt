@@ -1,5 +1,0 @@
-use Rattle.raft_log_model.proofs.TidyLaws.{whole_counts}
-use Rattle.raft_log_model.proofs.groups.whole_group_counts.Goals as goal
-
-pub returns : goal.returns
-returns g c = whole_counts

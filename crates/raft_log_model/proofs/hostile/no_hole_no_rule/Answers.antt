@@ -1,5 +1,0 @@
-use Rattle.raft_log_model.proofs.Holes.{no_hole}
-use Rattle.raft_log_model.proofs.hostile.no_hole_no_rule.Goals as goal
-
-pub returns : goal.returns
-returns g c = no_hole

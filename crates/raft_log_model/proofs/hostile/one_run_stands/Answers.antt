@@ -1,5 +1,0 @@
-use Rattle.raft_log_model.proofs.Windows.{one_run, one_run_fits}
-use Rattle.raft_log_model.proofs.hostile.one_run_stands.Goals as goal
-
-pub returns : goal.returns
-returns g c = record { any = one_run; without_holes = one_run_fits }

@@ -1,5 +1,0 @@
-use Rattle.raft_log_model.proofs.Intervals.{by_intervals_solid}
-use Rattle.raft_log_model.proofs.hostile.solid_directory_is_by_intervals.Goals as goal
-
-pub returns : goal.returns
-returns g c = by_intervals_solid

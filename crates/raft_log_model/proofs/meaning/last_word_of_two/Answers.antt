@@ -1,5 +1,0 @@
-use Rattle.raft_log_model.proofs.Words.{says_append}
-use Rattle.raft_log_model.proofs.meaning.last_word_of_two.Goals as goal
-
-pub returns : goal.returns
-returns g c = says_append

@@ -1,5 +1,0 @@
-use Rattle.raft_log_model.proofs.Steps.{taken_append}
-use Rattle.raft_log_model.proofs.meaning.taken_in_turn.Goals as goal
-
-pub returns : goal.returns
-returns g c = taken_append

@@ -1,5 +1,0 @@
-use Rattle.raft_log_model.proofs.AnySummary.{directory_of_any}
-use Rattle.raft_log_model.proofs.segments.any_summary_makes_the_directory.Goals as goal
-
-pub returns : goal.returns
-returns g c = directory_of_any

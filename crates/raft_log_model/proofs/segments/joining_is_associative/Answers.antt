@@ -1,5 +1,0 @@
-use Rattle.raft_log_model.proofs.Joins.{bracketings_agree}
-use Rattle.raft_log_model.proofs.segments.joining_is_associative.Goals as goal
-
-pub returns : goal.returns
-returns g c = bracketings_agree

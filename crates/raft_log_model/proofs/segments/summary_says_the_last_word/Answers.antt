@@ -1,5 +1,0 @@
-use Rattle.raft_log_model.proofs.Summaries.{summary_says}
-use Rattle.raft_log_model.proofs.segments.summary_says_the_last_word.Goals as goal
-
-pub returns : goal.returns
-returns g c s xs = summary_says xs s

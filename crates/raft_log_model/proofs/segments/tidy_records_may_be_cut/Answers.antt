@@ -1,5 +1,0 @@
-use Rattle.raft_log_model.proofs.Chunks.{cut_anywhere}
-use Rattle.raft_log_model.proofs.segments.tidy_records_may_be_cut.Goals as goal
-
-pub returns : goal.returns
-returns g c = cut_anywhere

@@ -1,5 +1,0 @@
-use Rattle.raft_log_model.proofs.TableLaws.{table_takes}
-use Rattle.raft_log_model.proofs.tables.table_takes_an_item.Goals as goal
-
-pub returns : goal.returns
-returns g c = table_takes

@@ -1,0 +1,128 @@
+-- A segment of a queue, read by itself: what counts in it, and the pieces of atomic groups that its borders
+-- cut.
+use Rattle.std.specs.Prelude.{ℕ, ◌≡◌, ◌==◌, List, [], ◌∷◌, ◌++◌, if◌then◌else◌}
+use Rattle.raft_log_model_laws.specs.Item.{Tagged, Record}
+use Rattle.raft_log_model_laws.specs.Item.Record.{Plain, Part}
+use Rattle.raft_log_model_laws.specs.Item.Mark.{Begin, Middle, End}
+use Rattle.raft_log_model_laws.specs.Groups.{of_group, settled}
+
+-- what a segment does with the group of a number that may be open before it
+pub data Head (E V : Type 0) : Type 0 where
+  -- it goes on with these items, and neither ends nor begins anew
+  GoesOn : List (Tagged E V) → Head E V
+  -- it ends, with these items up to its end
+  Ends : List (Tagged E V) → Head E V
+  -- a group of its number begins first: what was open is cut short
+  BeginsAnew : Head E V
+
+-- where it has these items so far
+abbrev pub head : {E V : Type 0} → ℕ → List (Tagged E V) → List (Record E V) → Head E V
+head n xs [] = GoesOn xs
+head n xs (Plain ys ∷ rs) = head n xs rs
+head n xs (Part (Begin k) ys ∷ rs) = if k == n then BeginsAnew else head n xs rs
+head n xs (Part (Middle k) ys ∷ rs) = if k == n then head n (xs ++ ys) rs else head n xs rs
+head n xs (Part (End k) ys ∷ rs) = if k == n then Ends (xs ++ ys) else head n xs rs
+
+-- the heads of two segments, one after the other
+abbrev pub then_head : {E V : Type 0} → Head E V → Head E V → Head E V
+then_head (GoesOn xs) (GoesOn ys) = GoesOn (xs ++ ys)
+then_head (GoesOn xs) (Ends ys) = Ends (xs ++ ys)
+then_head (GoesOn xs) BeginsAnew = BeginsAnew
+then_head (Ends xs) h = Ends xs
+then_head BeginsAnew h = BeginsAnew
+
+-- an atomic group that has begun and not ended, with what it has so far
+pub record Unfinished (E V : Type 0) : Type 0 where
+  pub number : ℕ
+  pub items : List (Tagged E V)
+
+-- without the group of that number
+abbrev pub without : {E V : Type 0} → ℕ → List (Unfinished E V) → List (Unfinished E V)
+without n [] = []
+without n (u ∷ us) = if u.number == n then without n us else u ∷ without n us
+
+-- the group of that number has more items
+abbrev pub more : {E V : Type 0} → ℕ → List (Tagged E V) → List (Unfinished E V) → List (Unfinished E V)
+more n ys [] = []
+more n ys (u ∷ us) =
+    record { number = u.number; items = if u.number == n then u.items ++ ys else u.items } ∷ more n ys us
+
+-- the unfinished groups, in the order of their begins, after one more record
+abbrev pub next_unfinished : {E V : Type 0} → List (Unfinished E V) → Record E V → List (Unfinished E V)
+next_unfinished us (Plain xs) = us
+next_unfinished us (Part (Begin n) xs) = without n us ++ (record { number = n; items = xs } ∷ [])
+next_unfinished us (Part (Middle n) xs) = more n xs us
+next_unfinished us (Part (End n) xs) = without n us
+
+-- the unfinished groups after more records
+abbrev pub unfinished_after : {E V : Type 0} → List (Unfinished E V) → List (Record E V)
+    → List (Unfinished E V)
+unfinished_after us [] = us
+unfinished_after us (r ∷ rs) = unfinished_after (next_unfinished us r) rs
+
+-- the groups that the records leave unfinished
+abbrev pub unfinished : {E V : Type 0} → List (Record E V) → List (Unfinished E V)
+unfinished rs = unfinished_after [] rs
+
+-- what the unfinished group with these items brings in the next segment
+abbrev pub finish : {E V : Type 0} → List (Tagged E V) → Head E V → List (Tagged E V)
+finish xs (GoesOn ys) = []
+finish xs (Ends ys) = xs ++ ys
+finish xs BeginsAnew = []
+
+-- what goes on of that group past the next segment
+abbrev pub go_on : {E V : Type 0} → ℕ → List (Tagged E V) → Head E V → List (Unfinished E V)
+go_on n xs (GoesOn ys) = record { number = n; items = xs ++ ys } ∷ []
+go_on n xs (Ends ys) = []
+go_on n xs BeginsAnew = []
+
+-- the items of all groups that one segment leaves unfinished and the next ends
+abbrev pub completed : {E V : Type 0} → List (Unfinished E V) → (ℕ → Head E V) → List (Tagged E V)
+completed [] heads = []
+completed (u ∷ us) heads = finish u.items (heads u.number) ++ completed us heads
+
+-- what goes on past the next segment of all groups that one leaves unfinished
+abbrev pub carried_on : {E V : Type 0} → List (Unfinished E V) → (ℕ → Head E V) → List (Unfinished E V)
+carried_on [] heads = []
+carried_on (u ∷ us) heads = go_on u.number u.items (heads u.number) ++ carried_on us heads
+
+-- what a segment comes to: what counts in it, what it does with groups that are open before it, what it
+-- leaves unfinished
+pub record Segment (E V : Type 0) : Type 0 where
+  pub counted : List (Tagged E V)
+  pub heads : ℕ → Head E V
+  pub left_open : List (Unfinished E V)
+
+-- the segment of these records
+abbrev pub segment : {E V : Type 0} → List (Record E V) → Segment E V
+segment rs = record { counted = settled rs; heads = λ n. head n [] rs; left_open = unfinished rs }
+
+-- two consecutive segments as one: what the later one completes comes after all of the earlier, before all of
+-- its own
+abbrev pub merge : {E V : Type 0} → Segment E V → Segment E V → Segment E V
+merge a b = record {
+  counted = a.counted ++ (completed a.left_open b.heads ++ b.counted);
+  heads = λ n. then_head (a.heads n) (b.heads n);
+  left_open = carried_on a.left_open b.heads ++ b.left_open;
+}
+
+-- the two say the same of each group, and have the same pieces at their borders
+pub record IsSameSegment {E V : Type 0} (a b : Segment E V) : Type 0 where
+  pub counted : (g : ℕ) → of_group g a.counted ≡ of_group g b.counted
+  pub heads : (n : ℕ) → a.heads n ≡ b.heads n
+  pub left_open : a.left_open ≡ b.left_open
+
+-- consecutive segments, and in which order they are merged
+pub data Bracketing (A : Type 0) : Type 0 where
+  One : List A → Bracketing A
+  Both : Bracketing A → Bracketing A → Bracketing A
+
+-- all of their records
+abbrev pub all_of : {A : Type 0} → Bracketing A → List A
+all_of (One rs) = rs
+all_of (Both s t) = all_of s ++ all_of t
+
+-- each read by itself, then merged
+abbrev pub merge_all : {E V : Type 0} → Bracketing (Record E V) → Segment E V
+merge_all (One rs) = segment rs
+merge_all (Both s t) = merge (merge_all s) (merge_all t)

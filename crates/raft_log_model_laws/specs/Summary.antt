@@ -1,0 +1,118 @@
+-- A segment's items of one group in short: a table of what stands, and what the items do to what stood before
+-- them.
+use Rattle.std.specs.Prelude.{ℕ, ◌≡◌, ◌<◌, max, Bool, true, false, ◌&&◌, ◌||◌, not, List, [], ◌∷◌, Option, Some, None, option_map, if◌then◌else◌, nat_le, nat_lt, bytes_eq, length}
+use Rattle.std.specs.Option.{option_or}
+use Rattle.raft_log_model_laws.specs.Item.{Item}
+use Rattle.raft_log_model_laws.specs.Item.Item.{Run, Clean, Compact, Put, Del}
+use Rattle.raft_log_model_laws.specs.Meaning.{Slot, Content, says}
+use Rattle.raft_log_model_laws.specs.Meaning.Slot.{Index, Key}
+use Rattle.raft_log_model_laws.specs.Meaning.Content.{Value}
+use Rattle.raft_log_model_laws.specs.Holes.{least, is_below, is_past}
+use Rattle.raft_log_model_laws.specs.Table.{Table, content, span_of, no_table, compacted, cut_from, run_onto, put, delete}
+use Rattle.raft_log_model_laws.specs.Fragments.{Bracketing}
+use Rattle.raft_log_model_laws.specs.Fragments.Bracketing.{One, Both}
+
+-- the table; whether the items had a Clean; their greatest Compact index, least start of a run, and deleted
+-- keys
+pub record Summary (E V : Type 0) : Type 0 where
+  pub table : Table E V
+  pub cleaned : Bool
+  pub low : ℕ
+  pub high : Option ℕ
+  pub deleted : List ℕ → Bool
+
+-- the summary of no items
+abbrev pub no_summary : {E V : Type 0} → Summary E V
+no_summary = record { table = no_table; cleaned = false; low = 0; high = None; deleted = λ k. false }
+
+-- the summary after one more item
+abbrev pub step : {E V : Type 0} → Summary E V → Item E V → Summary E V
+step z (Run f []) = z
+step z (Run f (e ∷ es)) = record z { table = run_onto z.table f (e ∷ es); high = Some (least f z.high) }
+step z Clean = record z { table = no_table; cleaned = true }
+step z (Compact c) = record z { table = compacted z.table c; low = max c z.low }
+step z (Put k v) = record z { table = put z.table k v }
+step z (Del k) = record z { table = delete z.table k; deleted = λ j. bytes_eq k j || z.deleted j }
+
+-- the summary after more items
+abbrev pub summary_after : {E V : Type 0} → Summary E V → List (Item E V) → Summary E V
+summary_after z [] = z
+summary_after z (x ∷ xs) = summary_after (step z x) xs
+
+-- the summary of a list of items
+abbrev pub summary : {E V : Type 0} → List (Item E V) → Summary E V
+summary xs = summary_after no_summary xs
+
+-- an index that the items say nothing of
+abbrev pub is_left : {E V : Type 0} → Summary E V → ℕ → Bool
+is_left z i = not z.cleaned && (nat_le z.low i && is_below i z.high)
+
+-- the summary's word on a slot
+abbrev pub word : {E V : Type 0} → Summary E V → Slot → Option (Option (Content E V))
+word z (Index i) = if is_left z i then None else Some (content z.table (Index i))
+word z (Key k) =
+    option_or (option_map (λ v. Some (Value v)) (z.table.values k))
+    (if z.cleaned || z.deleted k then Some None else None)
+
+-- the values of a later summary over those of an earlier table
+abbrev pub values_over : {E V : Type 0} → Table E V → Summary E V → List ℕ → Option V
+values_over t z k = option_or (z.table.values k) (if z.cleaned || z.deleted k then None else t.values k)
+
+-- the table of two summaries: what the later one leaves of the earlier table, and the later run behind it
+abbrev pub entries_over : {E V : Type 0} → Table E V → Summary E V → Table E V
+entries_over t z =
+    if z.cleaned then z.table
+    else (if nat_lt 0 (length z.table.entries)
+    then run_onto (cut_from (compacted t z.low) z.high) z.table.first z.table.entries
+    else cut_from (compacted t z.low) z.high)
+
+-- the lesser of two bounds
+abbrev pub lesser : Option ℕ → Option ℕ → Option ℕ
+lesser None b = b
+lesser (Some h) b = Some (least h b)
+
+-- two consecutive summaries as one
+abbrev pub join : {E V : Type 0} → Summary E V → Summary E V → Summary E V
+join a z = record {
+  table = record {
+    first = (entries_over a.table z).first;
+    entries = (entries_over a.table z).entries;
+    values = values_over a.table z;
+  };
+  cleaned = a.cleaned || z.cleaned;
+  low = max z.low a.low;
+  high = lesser z.high a.high;
+  deleted = λ k. z.deleted k || a.deleted k;
+}
+
+-- consecutive segments, each summed up by itself, then joined in that order
+abbrev pub join_all : {E V : Type 0} → Bracketing (Item E V) → Summary E V
+join_all (One xs) = summary xs
+join_all (Both s t) = join (join_all s) (join_all t)
+
+-- a table with entries begins at or above the least start of a run
+abbrev pub IsSummarySound : {E V : Type 0} → Summary E V → Type 0
+IsSummarySound z = 0 < length z.table.entries → is_below z.table.first z.high ≡ false
+
+-- the summary of a segment, however it was made: its word is the segment's
+pub record IsSummary {E V : Type 0} (z : Summary E V) (xs : List (Item E V)) : Type 0 where
+  pub sound : IsSummarySound z
+  pub says : (s : Slot) → word z s ≡ says s xs
+
+-- the entries of a directory: Append's over Rewrite's, of which none are kept below a gap
+abbrev pub directory_entries : {E V : Type 0} → Table E V → Summary E V → Table E V
+directory_entries t z =
+    if z.cleaned then z.table
+    else (if nat_lt 0 (length z.table.entries)
+    then (if is_past (span_of (cut_from (compacted t z.low) z.high)) z.table.first
+    then z.table
+    else run_onto (cut_from (compacted t z.low) z.high) z.table.first z.table.entries)
+    else cut_from (compacted t z.low) z.high)
+
+-- the table of a directory: the summary of Append's items over Rewrite's table
+abbrev pub directory_table : {E V : Type 0} → Table E V → Summary E V → Table E V
+directory_table t z = record {
+  first = (directory_entries t z).first;
+  entries = (directory_entries t z).entries;
+  values = values_over t z;
+}

@@ -1,0 +1,62 @@
+-- Atomic groups that nothing disturbs: what counts between a group's begin and its end touches no raft group
+-- that it touches.
+use Rattle.std.specs.Prelude.{ℕ, List, [], ◌∷◌, ◌++◌, ◌≡◌, ◌⊎◌, ◌==◌, MatchBool, ⊤}
+use Rattle.raft_log_model_laws.specs.Item.{Tagged, Record}
+use Rattle.raft_log_model_laws.specs.Item.Record.{Plain, Part}
+use Rattle.raft_log_model_laws.specs.Item.Mark.{Begin, Middle, End}
+use Rattle.raft_log_model_laws.specs.Groups.{of_group, Open, none_open, counts, opens}
+
+-- no raft group has items in both
+abbrev pub Apart : {E V : Type 0} → List (Tagged E V) → List (Tagged E V) → Type 0
+Apart xs ys = (g : ℕ) → (of_group g xs ≡ []) ⊎ (of_group g ys ≡ [])
+
+-- atomic group n has xs so far, `said` counted since its begin, and the groups o have begun since: if it
+-- ends, the two are apart. A group that never ends asks nothing.
+abbrev pub Undisturbed : {E V : Type 0} → ℕ → List (Tagged E V) → List (Tagged E V) → Open E V
+    → List (Record E V) → Type 0
+Undisturbed n xs said o [] = ⊤
+Undisturbed n xs said o (Plain ys ∷ rs) = Undisturbed n xs (said ++ ys) o rs
+Undisturbed n xs said o (Part (Begin k) ys ∷ rs) =
+    MatchBool (k == n) ⊤ (Undisturbed n xs said (opens o (Part (Begin k) ys)) rs)
+Undisturbed n xs said o (Part (Middle k) ys ∷ rs) =
+    MatchBool (k == n) (Undisturbed n (xs ++ ys) said o rs)
+    (Undisturbed n xs said (opens o (Part (Middle k) ys)) rs)
+Undisturbed n xs said o (Part (End k) ys ∷ rs) =
+    MatchBool (k == n) (Apart (xs ++ ys) said)
+    (Undisturbed n xs (said ++ counts o (Part (End k) ys)) (opens o (Part (End k) ys)) rs)
+
+-- no atomic group that begins in the records is disturbed
+abbrev pub Tidy : {E V : Type 0} → List (Record E V) → Type 0
+Tidy [] = ⊤
+Tidy (Plain xs ∷ rs) = Tidy rs
+Tidy (Part (Begin n) xs ∷ rs) = Undisturbed n xs [] none_open rs × Tidy rs
+Tidy (Part (Middle n) xs ∷ rs) = Tidy rs
+Tidy (Part (End n) xs ∷ rs) = Tidy rs
+
+-- records that end no group
+abbrev pub EndsNone : {E V : Type 0} → List (Record E V) → Type 0
+EndsNone [] = ⊤
+EndsNone (Plain xs ∷ rs) = EndsNone rs
+EndsNone (Part (Begin n) xs ∷ rs) = EndsNone rs
+EndsNone (Part (Middle n) xs ∷ rs) = EndsNone rs
+EndsNone (Part (End n) xs ∷ rs) = ⊥
+
+-- the records between the first and the last of an atomic group
+abbrev pub middles : {E V : Type 0} → ℕ → List (List (Tagged E V)) → List (Record E V)
+middles n [] = []
+middles n (xs ∷ xss) = Part (Middle n) xs ∷ middles n xss
+
+-- an atomic group as it is written: its records stand with none between
+abbrev pub whole_group : {E V : Type 0} → ℕ → List (Tagged E V) → List (List (Tagged E V)) → List (Tagged E V)
+    → List (Record E V)
+whole_group n first between last = Part (Begin n) first ∷ (middles n between ++ (Part (End n) last ∷ []))
+
+-- the items of such a group
+abbrev pub joined : {E V : Type 0} → List (List (Tagged E V)) → List (Tagged E V)
+joined [] = []
+joined (xs ∷ xss) = xs ++ joined xss
+
+-- all items of a group, from its first record to its last
+abbrev pub group_items : {E V : Type 0} → List (Tagged E V) → List (List (Tagged E V)) → List (Tagged E V)
+    → List (Tagged E V)
+group_items first between last = first ++ (joined between ++ last)

@@ -1,0 +1,34 @@
+//! Meaning doesn't care what stands for an entry: a table holds the places of entries, a writer their bytes.
+
+ghost use Rattle.std.specs.Prelude.{◌≡◌, ℕ, List, map, option_map};
+ghost use Rattle.raft_log_model_laws.specs.Item.{Item, Record};
+ghost use Rattle.raft_log_model_laws.specs.Meaning.{Slot, says, directory};
+ghost use Rattle.raft_log_model_laws.specs.Groups.{Map, appended, rewritten, directory_meaning, taken};
+ghost use Rattle.raft_log_model_laws.specs.Renamed.{renamed, renamed_record, renamed_content, renamed_word, renamed_map};
+
+/// Reading each entry otherwise and then asking what a log says, or asking first and then reading: it is the
+/// same, for a list of items, for what either queue says of a group, for a directory, and for what Append
+/// puts on a map.
+pub fn meaning_of_renamed<E, F, V>()
+    ensures word { (f : E → F) (s : Slot) (xs : List (Item E V))
+        → says s (map (renamed f) xs) ≡ renamed_word f (says s xs) }
+    ensures append { (f : E → F) (g : ℕ) (rs : List (Record E V))
+        → appended g (map (renamed_record f) rs) ≡ map (renamed f) (appended g rs) }
+    ensures rewrite { (f : E → F) (g : ℕ) (rs : List (Record E V))
+        → rewritten g (map (renamed_record f) rs) ≡ map (renamed f) (rewritten g rs) }
+    ensures items { (f : E → F) (s : Slot) (rewrite append : List (Item E V))
+        → directory s (map (renamed f) rewrite) (map (renamed f) append)
+        ≡ option_map (renamed_content f) (directory s rewrite append) }
+    ensures directory { (f : E → F) (rewrite append : List (Record E V)) (g : ℕ) (s : Slot)
+        → directory_meaning (map (renamed_record f) rewrite) (map (renamed_record f) append) g s
+        ≡ renamed_map f (directory_meaning rewrite append) g s }
+    ensures takes { (f : E → F) (m : Map E V) (rs : List (Record E V)) (g : ℕ) (s : Slot)
+        → taken (renamed_map f m) (map (renamed_record f) rs) g s ≡ renamed_map f (taken m rs) g s }
+{}
+
+/// Entries read otherwise twice are read by the one reading after the other: so what is said of places is
+/// said of bytes wherever a record of places and a record of bytes come from the same entries.
+pub fn renamed_twice<E, F, H, V>()
+    ensures { (f : E → F) (h : F → H) (r : Record E V)
+        → renamed_record h (renamed_record f r) ≡ renamed_record (λ e. h (f e)) r }
+{}

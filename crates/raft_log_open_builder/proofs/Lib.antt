@@ -1,0 +1,10 @@
+pub mod Cuts
+pub mod Endings
+pub mod Syncs
+mod Formats
+mod Small
+mod Opened
+mod Pieces
+mod Made
+mod Dropped
+mod Last

@@ -1,0 +1,37 @@
+-- A file is filled with zeros, piece by piece.
+use Rattle.std.specs.Prelude.{◌≡◌, ◌<◌, ◌*◌, ◌↔◌, ◌⊎◌, ℕ, zero, suc, Bool, IsTrue, false, List, length}
+use Rattle.std.specs.Int.{div_ceil}
+use Rattle.std.specs.declared.io.ErrorKind.{ErrorKind}
+use Rattle.std.specs.declared.io.ErrorKind.TheVariants.{StorageFull}
+use Rattle.raft_log_disk.specs.Disk.{Disk}
+use Rattle.raft_log_disk.specs.Exits.{FailsToWrite, Writes}
+use Rattle.raft_log_disk.specs.declared.handle.Handle.{Handle}
+
+-- so many times these bytes were written, one behind the other from the file's front on
+abbrev pub WritesPieces : Handle → List ℕ → ℕ → Disk → Disk → Type 0
+WritesPieces handle bytes zero old new = new ≡ old
+WritesPieces handle bytes (suc count) old new = (mid : Disk) × WritesPieces handle bytes count old mid
+    × Writes handle (count * length bytes) bytes mid new
+
+-- they were written until the file reached a size
+abbrev pub FillsFile : Handle → List ℕ → ℕ → Disk → Disk → Type 0
+FillsFile handle bytes size old new = WritesPieces handle bytes (div_ceil size (length bytes)) old new
+
+-- one of these writes was refused; those before it are done
+pub record FailsToFill (handle : Handle) (bytes : List ℕ) (size : ℕ) (kind : ErrorKind) (old new : Disk)
+    : Type 0 where
+  pub count : ℕ
+  pub short : count < div_ceil size (length bytes)
+  pub between : Disk
+  pub written : WritesPieces handle bytes count old between
+  pub fails : FailsToWrite handle (count * length bytes) bytes kind between new
+
+-- there was no space for it
+abbrev pub HasNoSpace : ErrorKind → Type 0
+HasNoSpace StorageFull = Unit {0}
+HasNoSpace _ = ⊥
+
+-- the file was filled, or as far as space or the file system let it be; and whether there was no space
+abbrev pub FillsOrNot : Handle → List ℕ → ℕ → Bool → Disk → Disk → Type 0
+FillsOrNot handle bytes size full old new = (FillsFile handle bytes size old new × (full ≡ false))
+    ⊎ ((kind : ErrorKind) × FailsToFill handle bytes size kind old new × (IsTrue full ↔ HasNoSpace kind))

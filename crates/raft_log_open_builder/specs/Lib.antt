@@ -1,0 +1,15 @@
+pub mod Reading
+pub mod Cutting
+pub mod Recovering
+pub mod Directories
+pub mod Scanning
+pub mod Syncing
+pub mod Endings
+pub mod Finishing
+pub mod Reserving
+pub mod RecoveringQueue
+pub mod Unaligned
+pub mod Filling
+pub mod Making
+pub mod Dropping
+pub mod Readying

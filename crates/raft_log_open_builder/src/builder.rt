@@ -1,0 +1,277 @@
+//! From a log's directories to what its files say.
+
+ghost use Rattle.std.specs.Prelude.{◌≡◌, ◌↔◌, IfErr, IfOk, IsTrue, OnErr, OnOk, []};
+
+use crate::clearing::clear_old;
+use crate::cutting::cut_files;
+use crate::finishing::{recovered_pipe, unread, wanted_pipe};
+use crate::paths::paths;
+use crate::reading::recover_both;
+use crate::ready_reserved;
+use crate::recovered_queue::RecoveredQueue;
+use crate::syncing::sync_files;
+use crate::unaligned::{aligned, are_unaligned};
+use log::Log;
+use raft_log_disk::FileSystem;
+use raft_log_file_layout::LogLayout;
+use raft_log_file_pair::{DualPipes, FoundPipe, OpenRefused, PipeLog};
+use raft_log_file_queue::File;
+use raft_log_file_settings::Config;
+use raft_log_open_scan::scanning::{ScannedFiles, scan};
+use raft_log_open_scan::{RecoveryConfig, share_workers};
+use raft_log_record_base::{Error, LogQueue, Result};
+use raft_log_table_segments::{Factory, ReplayMachine};
+use std::alloc::Global;
+use std::io::ErrorKind;
+use std::mem;
+use std::thread::Threads;
+
+/// Scans the directories of a log, and recovers what its files say, in this order. The file system is lent to
+/// each call.
+#[derive(Drop)]
+pub struct DualPipesBuilder {
+    config: Config,
+    append: RecoveredQueue,
+    rewrite: RecoveredQueue,
+    reserved: Vec<File>,
+}
+
+impl DualPipesBuilder {
+    ghost use Rattle.raft_log_record_base.specs.declared.pipe_log.LogQueue.TheVariants.{Append, Rewrite};
+    ghost use Rattle.raft_log_open_builder.specs.Finishing.{FailsToOpenRecovered, FailsToSyncLog, IsAllRead, IsUnready, IsWantedAs, OpensRecovered, SyncsLog};
+    ghost use Rattle.raft_log_open_builder.specs.Recovering.{FailsToRecoverLog, RecoversLog};
+    ghost use Rattle.raft_log_open_builder.specs.RecoveringQueue.{FailsToRecoverFiles, OtherQueueIsKept, RecoversFiles, queue_files};
+    ghost use Rattle.raft_log_open_builder.specs.Reserving.{FailsToReadyLog, ReadiesLog};
+    ghost use Rattle.raft_log_open_builder.specs.Scanning.{FailsToScanLog, ScansLog};
+
+    /// A builder that has scanned nothing: its log has no file.
+    pub fn new(alloc: Global, config: Config) -> DualPipesBuilder
+        ensures config { result.config ≡ config }
+        ensures append { (result.append.files.items ≡ []) × (result.append.endings.items ≡ []) }
+        ensures rewrite { (result.rewrite.files.items ≡ []) × (result.rewrite.endings.items ≡ []) }
+        ensures reserved { result.reserved.items ≡ [] }
+    {
+        DualPipesBuilder {
+            config,
+            append: RecoveredQueue::new(alloc, Vec::new(alloc)),
+            rewrite: RecoveredQueue::new(alloc, Vec::new(alloc)),
+            reserved: Vec::new(alloc),
+        }
+    }
+
+    /// Finds and opens the log's files; a directory that isn't there is made, and no file is changed. What the
+    /// file system keeps beside files below the first ones is deleted; a refusal of that is logged.
+    ///
+    /// `Other` where a file has the path of a directory, `Corruption` where a name says a number and isn't
+    /// the one that is built for it, `Io` where a directory isn't made or the file system has stopped,
+    /// `Memory`: the builder is as it was.
+    pub fn scan<F: FileSystem, L: Log>(
+        &mut self,
+        alloc: Global,
+        rt: &L,
+        file_system: &mut F,
+    ) -> Result<()>
+        ensures ok { OnOk result
+            (ScansLog self.old self.new (F.disk file_system.old) (F.disk file_system.new)) }
+        ensures err { IfErr result (λ error.
+            FailsToScanLog self.old error (F.disk file_system.old) (F.disk file_system.new)) }
+        ensures same { OnErr result (self.new ≡ self.old) }
+    {
+        let paths = paths(alloc, &self.config)?;
+        let mode = self.config.recovery_mode;
+        let found = scan(alloc, file_system, paths.as_slice(), mode)?;
+        clear_old(alloc, rt, file_system, paths.as_slice(), &found)?;
+        let ScannedFiles {
+            append,
+            rewrite,
+            reserved,
+        } = found;
+        self.append = RecoveredQueue::new(alloc, append);
+        self.rewrite = RecoveredQueue::new(alloc, rewrite);
+        self.reserved = reserved;
+        Ok(())
+    }
+
+    /// Reads both queues at once, each by its share of the workers, into machines, that of Append and that of
+    /// Rewrite; then cuts the files that are damaged, Append's first, each behind its last good record, and
+    /// syncs them.
+    ///
+    /// Nothing is cut unless all files of both queues could be read and none has an alignment. `Io` where a
+    /// read is refused, which is never taken for damage; `Corruption` or `Codec` for damage that isn't
+    /// tolerated; why a machine declines a record; `InvalidArgument` for an alignment; `Memory`. `Io` where a
+    /// file isn't cut or synced: those before it are.
+    pub fn recover<R: Threads + Log + Sync, F: FileSystem + Sync, M: ReplayMachine, FA: Factory<M>>(
+        &mut self,
+        rt: &R,
+        alloc: Global,
+        file_system: &mut F,
+        factory: &FA,
+    ) -> Result<(M, M)>
+        ensures ok { IfOk result (λ both. RecoversLog M.reads both.0 both.1 self.old self.new
+            (F.disk file_system.old) (F.disk file_system.new)) }
+        ensures err { IfErr result (λ error. FailsToRecoverLog M.reads M.declines self.old error
+            (F.disk file_system.old) (F.disk file_system.new)) }
+        ensures same { OnErr result (self.new ≡ self.old) }
+    {
+        let (count, others) = (self.append.files.len(), self.rewrite.files.len());
+        let workers = share_workers(self.config.recovery_threads, count, others);
+        let append = RecoveryConfig::new(&self.config, LogQueue::Append, workers.append);
+        let rewrite = RecoveryConfig::new(&self.config, LogQueue::Rewrite, workers.rewrite);
+        let (append, rewrite) = recover_both(
+            rt,
+            alloc,
+            file_system,
+            append,
+            &self.append.files,
+            rewrite,
+            &self.rewrite.files,
+            factory,
+        );
+        let append = append?;
+        let rewrite = rewrite?;
+        if !are_unaligned(&append.endings) || !are_unaligned(&rewrite.endings) {
+            return Err(aligned(alloc));
+        }
+        cut_files(rt, file_system, &self.append.files, &append.endings)?;
+        cut_files(rt, file_system, &self.rewrite.files, &rewrite.endings)?;
+        self.append.endings = append.endings;
+        self.rewrite.endings = rewrite.endings;
+        Ok((append.machine, rewrite.machine))
+    }
+
+    /// Reads one queue by workers into a machine, as this says; then cuts its files that are damaged, each
+    /// behind its last good record, and syncs them. Refused as `recover` is.
+    pub fn recover_queue<
+        R: Threads + Log + Sync,
+        F: FileSystem + Sync,
+        M: ReplayMachine,
+        FA: Factory<M>,
+    >(
+        &mut self,
+        rt: &R,
+        alloc: Global,
+        file_system: &mut F,
+        config: RecoveryConfig,
+        factory: &FA,
+    ) -> Result<M>
+        ensures ok { IfOk result (λ machine. RecoversFiles M.reads config machine
+            (queue_files config.queue self.old) (queue_files config.queue self.new)
+            (F.disk file_system.old) (F.disk file_system.new)) }
+        ensures err { IfErr result (λ error. FailsToRecoverFiles M.reads M.declines config
+            (queue_files config.queue self.old) error (F.disk file_system.old) (F.disk file_system.new)) }
+        ensures same { OnErr result (self.new ≡ self.old) }
+        ensures others { OtherQueueIsKept config.queue self.old self.new }
+    {
+        match config.queue {
+            LogQueue::Append => self.append.recover(rt, alloc, file_system, config, factory),
+            LogQueue::Rewrite => self
+                .rewrite
+                .recover(rt, alloc, file_system, config, factory),
+        }
+    }
+
+    /// Readies the files that are kept for use under reserved names: with `prefill_for_recycle` there are made
+    /// as many as the settings want beside the files of Append, filled with zeros; those past that are deleted,
+    /// from the newest on. To be called before `finish`, behind `scan`.
+    ///
+    /// `Io` where a file isn't made, `NumberRange` where there is no name for one that is to be made or deleted,
+    /// `Memory`: those before it were made or deleted, and the builder knows of none.
+    pub fn initialize_files<F: FileSystem, L: Log>(
+        &mut self,
+        alloc: Global,
+        rt: &L,
+        file_system: &mut F,
+    ) -> Result<()>
+        ensures ok { OnOk result
+            (ReadiesLog F.disk F.tells_space self.old self.new file_system.old file_system.new) }
+        ensures err { IfErr result (λ error.
+            FailsToReadyLog F.disk F.tells_space self.old error file_system.old file_system.new) }
+        ensures same { (self.new.config ≡ self.old.config) × (self.new.append ≡ self.old.append)
+            × (self.new.rewrite ≡ self.old.rewrite) }
+    {
+        let layout = LogLayout::new(LogQueue::Append, paths(alloc, &self.config)?);
+        let size = self.config.target_file_size.0 as usize;
+        let room = self
+            .config
+            .recycle_capacity()
+            .saturating_sub(self.append.files.len());
+        let wanted = self.config.prefill_capacity().min(room);
+        let reserved = mem::replace(&mut self.reserved, Vec::new(alloc));
+        self.reserved = ready_reserved(alloc, &layout, rt, file_system, size, wanted, reserved)?;
+        Ok(())
+    }
+
+    /// Opens the pipes of the log over its files as they were recovered, that of Append first; before that all
+    /// files are synced, so that nothing that was recovered is lost behind a stop, and those that are kept for
+    /// use, so that no record that one may hold counts under its next number. The file system is the pipes'
+    /// from then on.
+    ///
+    /// Refused, it is handed back. `InvalidArgument` where not all files were recovered, `Memory`: nothing was
+    /// done. `Io` where a file isn't synced, or as either pipe is refused: all that was recovered is there
+    /// still, and may be scanned again.
+    pub fn finish<F: FileSystem, L: Log>(
+        self,
+        alloc: Global,
+        rt: &L,
+        file_system: F,
+    ) -> Result<DualPipes<F>, OpenRefused<F>>
+        ensures ok { IfOk result (λ pipes. OpensRecovered self (F.disk file_system)
+            (⟦<DualPipes<F> as PipeLog>⟧.shown pipes)) }
+        ensures err { IfErr result (λ refused. FailsToOpenRecovered self refused.error
+            (F.disk file_system) (F.disk refused.file_system)) }
+    {
+        let mut file_system = file_system;
+        let (append, rewrite) = match self.wanted_pipes(alloc) {
+            Ok(pipes) => pipes,
+            Err(error) => return Err(OpenRefused { error, file_system }),
+        };
+        if let Err(kind) = self.sync_all(&mut file_system) {
+            let error = Error::Io(kind);
+            return Err(OpenRefused { error, file_system });
+        }
+        let DualPipesBuilder {
+            append: append_files,
+            rewrite: rewrite_files,
+            reserved,
+            ..
+        } = self;
+        let append = recovered_pipe(append, append_files, reserved);
+        let rewrite = recovered_pipe(rewrite, rewrite_files, Vec::new(alloc));
+        DualPipes::open(alloc, rt, file_system, append, rewrite)
+    }
+
+    /// Whether all files were recovered.
+    fn is_read(&self) -> bool
+        ensures { IsTrue result ↔ IsAllRead self.now }
+    {
+        self.append.is_read() && self.rewrite.is_read()
+    }
+
+    /// The pipes that the settings want, where all files were recovered. `InvalidArgument` where some weren't;
+    /// `Memory`.
+    fn wanted_pipes(&self, alloc: Global) -> Result<(FoundPipe, FoundPipe)>
+        ensures ok { IfOk result (λ pipes. IsAllRead self.now × IsWantedAs Append self.now.config pipes.0
+            × IsWantedAs Rewrite self.now.config pipes.1) }
+        ensures err { IfErr result (IsUnready self.now) }
+    {
+        if !self.is_read() {
+            return Err(unread(alloc));
+        }
+        let append = wanted_pipe(alloc, &self.config, LogQueue::Append)?;
+        let rewrite = wanted_pipe(alloc, &self.config, LogQueue::Rewrite)?;
+        Ok((append, rewrite))
+    }
+
+    /// Syncs the files of both queues, Append's first, and behind them those that are kept for use. Refused,
+    /// those before one are synced.
+    fn sync_all<F: FileSystem>(&self, file_system: &mut F) -> Result<(), ErrorKind>
+        ensures ok { OnOk result
+            (SyncsLog self.now (F.disk file_system.old) (F.disk file_system.new)) }
+        ensures err { IfErr result (λ kind.
+            FailsToSyncLog self.now kind (F.disk file_system.old) (F.disk file_system.new)) }
+    {
+        sync_files(file_system, &self.append.files)?;
+        sync_files(file_system, &self.rewrite.files)?;
+        sync_files(file_system, &self.reserved)
+    }
+}

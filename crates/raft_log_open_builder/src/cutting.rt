@@ -1,0 +1,51 @@
+//! Files are cut behind what was read of them.
+
+ghost use Rattle.std.specs.Prelude.{◌≡◌, ◌≤◌, length, IfErr, OnOk};
+ghost use Rattle.raft_log_open_builder.specs.Cutting.{CutsEach, CutsOne, FailsToCutEach, FailsToCutOne};
+
+use log::{Log, warn};
+use raft_log_disk::FileSystem;
+use raft_log_file_queue::File;
+use raft_log_open_found::FileEnding;
+use std::io::ErrorKind;
+
+/// Cuts each of these files that is damaged behind its last good record, or to nothing where it has no
+/// header, and syncs it, in order. Refused, those before one are cut.
+pub fn cut_files<F: FileSystem, L: Log>(
+    rt: &L,
+    file_system: &mut F,
+    files: &[File],
+    endings: &[FileEnding],
+) -> Result<(), ErrorKind>
+    requires { length endings.now ≤ length files.now }
+    ensures ok { OnOk result (CutsEach files.now endings.now
+        (F.disk file_system.old) (F.disk file_system.new)) }
+    ensures err { IfErr result (λ kind. FailsToCutEach files.now endings.now kind
+        (F.disk file_system.old) (F.disk file_system.new)) }
+{
+    for index in 0..endings.len() {
+        cut_file(rt, file_system, files[index], endings[index])?;
+    }
+    Ok(())
+}
+
+/// Cuts a file that is damaged, and syncs it.
+fn cut_file<F: FileSystem, L: Log>(
+    rt: &L,
+    file_system: &mut F,
+    file: File,
+    ending: FileEnding,
+) -> Result<(), ErrorKind>
+    ensures ok { OnOk result
+        (CutsOne file ending (F.disk file_system.old) (F.disk file_system.new)) }
+    ensures err { IfErr result (λ kind.
+        FailsToCutOne file ending kind (F.disk file_system.old) (F.disk file_system.new)) }
+{
+    if !ending.is_damaged {
+        return Ok(());
+    }
+    let end = ending.end.unwrap_or(0);
+    warn!(rt; "log file {} is damaged, and is cut behind {end} bytes", file.seq);
+    file_system.truncate(file.handle, end)?;
+    file_system.sync(file.handle)
+}

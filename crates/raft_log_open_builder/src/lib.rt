@@ -1,0 +1,23 @@
+//! A directory that no engine has open is scanned and recovered: both queues are read by workers, nothing is cut
+//! before all could be read, and the files that the settings ask for are made ready for later records.
+#![tactic(auto)]
+
+pub mod builder;
+mod clearing;
+pub mod cutting;
+mod dropping;
+mod filling;
+mod finishing;
+mod making;
+pub mod paths;
+pub mod reading;
+pub mod readying;
+pub mod recovered_queue;
+pub mod syncing;
+mod unaligned;
+
+pub use builder::DualPipesBuilder;
+pub use reading::recover_files;
+pub use readying::ready_reserved;
+pub use recovered_queue::RecoveredQueue;
+pub use syncing::sync_files;

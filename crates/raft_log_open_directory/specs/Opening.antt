@@ -1,0 +1,52 @@
+-- What opening a log leaves, answered and refused.
+use Rattle.std.specs.Prelude.{◌≡◌, ℕ, List}
+use Rattle.raft_log_record_base.specs.declared.errors.Error.{Error}
+use Rattle.raft_log_record_base.specs.declared.errors.Error.TheVariants as errors
+use Rattle.raft_log_disk.specs.Disk.{Disk}
+use Rattle.raft_log_file_settings.specs.Sanitized.{IsRefusedFor}
+use Rattle.raft_log_file_settings.specs.Settings.{settings_of}
+use Rattle.raft_log_file_settings.specs.declared.config.Config.{Config}
+use Rattle.raft_log_file_pair.specs.Pipes.{LogPipes}
+use Rattle.raft_log_table_all.specs.declared.mem_tables.MemTables.{MemTables}
+use Rattle.raft_log_table_contexts.specs.Batches.{Declines, HasReadBatches}
+use Rattle.raft_log_table_contexts.specs.declared.context.MemTableRecoverContext.{MemTableRecoverContext}
+use Rattle.raft_log_open_builder.specs.Finishing.{FailsToOpenRecovered, OpensRecovered}
+use Rattle.raft_log_open_builder.specs.Recovering.{FailsToRecoverLog}
+use Rattle.raft_log_open_builder.specs.Reserving.{FailsToReadyLog}
+use Rattle.raft_log_open_builder.specs.Scanning.{FailsToScanLog}
+use Rattle.raft_log_open_builder.specs.declared.builder.DualPipesBuilder.{DualPipesBuilder}
+use Rattle.raft_log_open_directory.specs.Finding.{FindsLog, IsBegun}
+use Rattle.raft_log_open_directory.specs.Reading.{ReadsLog, ReadsQueues}
+
+-- The log of these settings was opened: its queues were read into these tables, and then its pipes opened
+-- over its files as they were recovered, all of them synced before. A file system's states are told by what is
+-- on its disk, and by what it may tell of a directory's space.
+pub record OpensDirectory {F : Type 0} (disk : F → Disk) (tells : F → List ℕ → ℕ → Type 0) (config : Config)
+    (old : F) (v : LogPipes) (tables : MemTables) : Type 0 where
+  pub builder : DualPipesBuilder
+  pub ready : F
+  pub reads : ReadsLog disk tells config tables builder old ready
+  pub opens : OpensRecovered builder (disk ready) v
+
+-- Why a log wasn't opened, and what stands on the disk then: its settings have a fault; or its files weren't
+-- found; or a queue wasn't read, or not cut; or memory ran out for the tables; or the files that are kept for
+-- use weren't readied; or not all files were synced, or a pipe not opened.
+pub data FailsToOpenDirectory {F : Type 0} (disk : F → Disk) (tells : F → List ℕ → ℕ → Type 0)
+    (config : Config) (error : Error) (old new : F) : Type 0 where
+  unsound : IsRefusedFor (settings_of config) error → disk new ≡ disk old
+      → FailsToOpenDirectory disk tells config error old new
+  unfound : (begun : DualPipesBuilder) → IsBegun config begun
+      → FailsToScanLog begun error (disk old) (disk new) → FailsToOpenDirectory disk tells config error old new
+  unread : (found : DualPipesBuilder) (scanned : Disk) → FindsLog config found (disk old) scanned
+      → FailsToRecoverLog HasReadBatches Declines found error scanned (disk new)
+      → FailsToOpenDirectory disk tells config error old new
+  unmerged : (append rewrite : MemTableRecoverContext) (b : DualPipesBuilder)
+      → ReadsQueues config append rewrite b (disk old) (disk new) → error ≡ errors.Memory
+      → FailsToOpenDirectory disk tells config error old new
+  unreadied : (append rewrite : MemTableRecoverContext) (b : DualPipesBuilder) (between : F)
+      → ReadsQueues config append rewrite b (disk old) (disk between)
+      → FailsToReadyLog disk tells b error between new → FailsToOpenDirectory disk tells config error old new
+  unfinished : (tables : MemTables) (b : DualPipesBuilder) (ready : F)
+      → ReadsLog disk tells config tables b old ready
+      → FailsToOpenRecovered b error (disk ready) (disk new)
+      → FailsToOpenDirectory disk tells config error old new

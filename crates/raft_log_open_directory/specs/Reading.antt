@@ -1,0 +1,80 @@
+-- The queues of a log are read into contexts, and its tables are made of both.
+use Rattle.std.specs.Prelude.{◌≡◌, ◌-◌, ◌^◌, ℕ, min, List, length}
+use Rattle.raft_log_record_base.specs.declared.pipe_log.LogQueue.{LogQueue}
+use Rattle.raft_log_record_base.specs.declared.pipe_log.LogQueue.TheVariants.{Append, Rewrite}
+use Rattle.raft_log_disk.specs.Disk.{Disk}
+use Rattle.raft_log_file_settings.specs.declared.config.Config.{Config}
+use Rattle.raft_log_file_settings.specs.declared.recovery_mode.RecoveryMode.{RecoveryMode}
+use Rattle.raft_log_file_queue.specs.declared.format.File.{File}
+use Rattle.raft_log_table_all.specs.Tables.{IsAtRest}
+use Rattle.raft_log_table_all.specs.declared.mem_tables.MemTables.{MemTables}
+use Rattle.raft_log_table_segments.specs.Machines.{Batch}
+use Rattle.raft_log_table_segments.specs.Segments.{all_batches}
+use Rattle.raft_log_table_segments.specs.Sources.{HoldEach}
+use Rattle.raft_log_open_found.specs.Segments.{HoldsFile}
+use Rattle.raft_log_open_found.specs.declared.file_ending.FileEnding.{FileEnding}
+use Rattle.raft_log_table_contexts.specs.Batches.{HasReadBatches}
+use Rattle.raft_log_table_contexts.specs.Context.{ComesOver, HasRead}
+use Rattle.raft_log_table_contexts.specs.Records.{ReadRecord}
+use Rattle.raft_log_table_contexts.specs.Written.{written_by}
+use Rattle.raft_log_table_contexts.specs.declared.context.MemTableRecoverContext.{MemTableRecoverContext}
+use Rattle.raft_log_open_builder.specs.Finishing.{IsAllRead}
+use Rattle.raft_log_open_builder.specs.Recovering.{append_files, rewrite_files, RecoversLog}
+use Rattle.raft_log_open_builder.specs.Reserving.{ReadiesLog}
+use Rattle.raft_log_open_builder.specs.declared.builder.DualPipesBuilder.{DualPipesBuilder}
+use Rattle.raft_log_open_directory.specs.Finding.{FindsLog}
+
+-- The context has read all files of a queue as they stood on the disk, in order: the batches of each, of
+-- which this is told.
+pub record HasReadAll (queue : LogQueue) (mode : RecoveryMode) (files : List File) (d : Disk)
+    (context : MemTableRecoverContext) (endings : List FileEnding) : Type 0 where
+  pub segments : List (List Batch)
+  pub held : HoldEach (HoldsFile mode queue files d) 0 segments endings
+  pub all : length segments ≡ length files
+  pub read : HasReadBatches queue (all_batches segments) context
+
+-- The log's files were found; then a context read all files of Append and one all of Rewrite, and after that
+-- the damaged files were cut.
+pub record ReadsQueues (config : Config) (append rewrite : MemTableRecoverContext) (b : DualPipesBuilder)
+    (old new : Disk) : Type 0 where
+  pub found : DualPipesBuilder
+  pub scanned : Disk
+  pub finds : FindsLog config found old scanned
+  pub recovers : RecoversLog HasReadBatches append rewrite found b scanned new
+  pub append_all : HasReadAll Append found.config.recovery_mode (append_files found) scanned append
+      b.append.endings.items
+  pub rewrite_all : HasReadAll Rewrite found.config.recovery_mode (rewrite_files found) scanned rewrite
+      b.rewrite.endings.items
+
+-- So many entries and values the files of Rewrite bring, as they stood on the disk when the log was found, or
+-- the greatest number of 64 bits where these are more: all that is read of them, whether it stands still or not.
+pub record BringsInRewrite (config : Config) (d : Disk) (n : ℕ) : Type 0 where
+  pub found : DualPipesBuilder
+  pub scanned : Disk
+  pub finds : FindsLog config found d scanned
+  pub segments : List (List Batch)
+  pub endings : List FileEnding
+  pub held : HoldEach (HoldsFile found.config.recovery_mode Rewrite (rewrite_files found) scanned) 0 segments
+      endings
+  pub all : length segments ≡ length (rewrite_files found)
+  pub count : n ≡ min (written_by (all_batches segments)) (2 ^ 64 - 1)
+
+-- the tables are what the context of Append came to over that of Rewrite, and nothing is prepared in them
+pub record AreMergedOf (append rewrite : MemTableRecoverContext) (tables : MemTables) : Type 0 where
+  pub over : (first behind : List ReadRecord) → HasRead Rewrite first rewrite → HasRead Append behind append
+      → ComesOver first behind tables
+  pub rest : IsAtRest tables
+
+-- Both queues were read and these tables made of them; then the files that are kept for use were readied, as
+-- the settings have it. The builder has all that an opening of the pipes wants. A file system's states are told
+-- by what is on its disk, and by what it may tell of a directory's space.
+pub record ReadsLog {F : Type 0} (disk : F → Disk) (tells : F → List ℕ → ℕ → Type 0) (config : Config)
+    (tables : MemTables) (b : DualPipesBuilder) (old new : F) : Type 0 where
+  pub append : MemTableRecoverContext
+  pub rewrite : MemTableRecoverContext
+  pub recovered : DualPipesBuilder
+  pub between : F
+  pub reads : ReadsQueues config append rewrite recovered (disk old) (disk between)
+  pub merged : AreMergedOf append rewrite tables
+  pub readies : ReadiesLog disk tells recovered b between new
+  pub all : IsAllRead b

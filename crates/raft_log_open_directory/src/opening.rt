@@ -1,0 +1,67 @@
+//! A log is opened.
+
+ghost use Rattle.std.specs.Prelude.{IfErr, IfOk};
+ghost use Rattle.raft_log_table_all.specs.Tables.{IsAtRest};
+ghost use Rattle.raft_log_open_directory.specs.Opening.{FailsToOpenDirectory, OpensDirectory};
+ghost use Rattle.raft_log_open_directory.specs.Reading.{BringsInRewrite};
+
+use crate::reading::{ReadLog, read_log};
+use log::Log;
+use raft_log_disk::FileSystem;
+use raft_log_file_pair::{DualPipes, OpenRefused, PipeLog};
+use raft_log_file_settings::Config;
+use raft_log_table_all::MemTables;
+use std::alloc::Global;
+use std::thread::Threads;
+
+/// A log that was opened: its pipes, and the tables of all groups, in which nothing is prepared.
+#[derive(Drop)]
+pub struct OpenedLog<F> {
+    /// Its pipes, which own its file system.
+    pub pipes: DualPipes<F>,
+    /// The tables of all groups.
+    pub tables: MemTables,
+    /// How many entries and values were read of Rewrite, at most 2^64 - 1: with what stands no more.
+    pub written: u64,
+    pub ghost rests: { IsAtRest tables },
+}
+
+/// Opens the log of these settings: they are checked and made whole, its directories scanned, both queues
+/// read by workers, damaged files cut, the files that are kept for use readied; all files are synced, and its
+/// pipes opened.
+///
+/// Refused, the file system is handed back, and the log may be opened again. `Other` where the settings have
+/// a fault; then what `DualPipesBuilder` refuses: `Other`, `Corruption`, `Io` of the directories, and of the
+/// files `Io` where one can't be read, `Corruption` or `Codec` for damage that isn't tolerated, `Hole` or
+/// `Corruption` where records can't be. Nothing is cut unless all files of both queues could be read. `Io`
+/// where a file isn't cut, made or synced, `NumberRange` where there is no name for one, `Memory`.
+pub fn open_directory<R: Threads + Log + Sync, F: FileSystem + Sync>(
+    rt: &R,
+    alloc: Global,
+    config: Config,
+    file_system: F,
+) -> Result<OpenedLog<F>, OpenRefused<F>>
+    ensures ok { IfOk result (λ log. OpensDirectory F.disk F.tells_space config file_system
+        (⟦<DualPipes<F> as PipeLog>⟧.shown log.pipes) log.tables) }
+    ensures brought { IfOk result (λ log. BringsInRewrite config (F.disk file_system) log.written) }
+    ensures err { IfErr result (λ refused. FailsToOpenDirectory F.disk F.tells_space config refused.error
+        file_system refused.file_system) }
+{
+    let mut file_system = file_system;
+    let ReadLog {
+        builder,
+        tables,
+        written,
+    } = match read_log(rt, alloc, config, &mut file_system) {
+        Ok(read) => read,
+        Err(error) => return Err(OpenRefused { error, file_system }),
+    };
+    match builder.finish(alloc, rt, file_system) {
+        Ok(pipes) => Ok(OpenedLog {
+            pipes,
+            tables,
+            written,
+        }),
+        Err(refused) => Err(refused),
+    }
+}

@@ -1,0 +1,127 @@
+-- A file of a queue holds one list of batches, and one thing is to be done with it.
+use Rattle.std.proofs.Common.{◌≡◌, ℕ, ◌+◌, ◌-◌, ◌≤◌, Bool, Option, Some, None, is_some, List, [], ◌∷◌, ◌++◌, length, take, map, Ok, Err, slice_index_or, refl, sym, ap, subst, ◌∙◌, arith}
+use Rattle.std.proofs.lemmas.List.{length-append}
+use Rattle.std.proofs.Math.Seq.{take-append-add}
+use Rattle.std.specs.Global.{Vec}
+use Rattle.raft_log_record_base.specs.Fault.{Fault}
+use Rattle.raft_log_record_base.specs.declared.errors.Error.{Error}
+use Rattle.raft_log_record_base.specs.declared.pipe_log.FileId.{FileId}
+use Rattle.raft_log_record_base.specs.declared.pipe_log.LogQueue.{LogQueue}
+use Rattle.raft_log_record_base.specs.declared.pipe_log.Version.{Version}
+use Rattle.raft_log_record_base.specs.declared.pipe_log.Version.TheVariants.{V1, V2}
+use Rattle.raft_log_record_base.proofs.Grammar.{prefix_free}
+use Rattle.raft_log_record_items.specs.declared.item.LogItem.{LogItem}
+use Rattle.raft_log_disk.specs.Disk.{Disk}
+use Rattle.raft_log_file_settings.specs.declared.recovery_mode.RecoveryMode.{RecoveryMode}
+use Rattle.raft_log_file_format.specs.Header.{magic, header_at, IsFileHeader, IsPayload}
+use Rattle.raft_log_file_format.specs.declared.header.LogFileFormat.{LogFileFormat}
+use Rattle.raft_log_file_format.proofs.Headers.{is_header}
+use Rattle.raft_log_file_queue.specs.declared.format.File.{File}
+use Rattle.raft_log_file_reader.specs.Opening.{SaysFormat}
+use Rattle.raft_log_file_reader.specs.declared.open_file.OpenFile.{OpenFile}
+use Rattle.raft_log_table_segments.specs.Machines.{Batch, batch_in}
+use Rattle.raft_log_table_segments.specs.Segments.{HoldsOne}
+use Rattle.raft_log_open_found.specs.Behind.{items_of}
+use Rattle.raft_log_open_found.specs.Faults.{TellsIfAny}
+use Rattle.raft_log_open_found.specs.Reading.{ReadsBytes, ReadsFileAs}
+use Rattle.raft_log_open_found.specs.Records.{ReadsBehind}
+use Rattle.raft_log_open_found.specs.Reading.ReadsBytes.{headless, headed}
+use Rattle.raft_log_open_found.specs.declared.file_records.FileRecords.{FileRecords}
+use Rattle.raft_log_open_found.specs.Batches.{said}
+use Rattle.raft_log_open_found.specs.Segments.{id_of, is_at_end, HoldsFile}
+use Rattle.raft_log_open_found.specs.declared.file_ending.FileEnding.{FileEnding}
+use Rattle.raft_log_open_found.proofs.OneReading.{one_behind}
+use Rattle.raft_log_open_found.proofs.Elsewhere.{same_behind}
+
+-- ---- headers
+
+magic_length : length magic ≡ 53
+unfolding magic
+magic_length = refl
+
+payload_short : (v : Version) (bytes : List ℕ) (format : LogFileFormat) → IsPayload v bytes format → length bytes ≤ 8
+payload_short V1 bytes format h = omega (arith, ap length h.0)
+payload_short V2 bytes format h = omega (arith, h.1.size)
+
+-- a header has no more than 69 bytes
+header_short : (header : List ℕ) (format : LogFileFormat) → IsFileHeader header format → length header ≤ 69
+header_short header format (u, front, back, is_magic, (v, number, payload, is_version, is_payload, second), first) =
+    let one : length header ≡ length front + length back = ap length first ∙ length-append front back in
+    let two : length back ≡ length number + length payload = ap length second ∙ length-append number payload in
+    let size : length front ≡ 53 = ap length is_magic ∙ magic_length in
+    omega (arith, one, two, size, is_version.spelled.size, payload_short v payload format is_payload)
+
+-- where bytes begin with a header, their first 69 do
+header_found : (content : List ℕ) (format : LogFileFormat) (start : ℕ) (fault : Fault) → SaysFormat content format start → header_at (take 69 content) ≡ Err fault → ⊥
+header_found content format start fault h e =
+    let short = header_short h.header format h.says in
+    let size : 69 ≡ length h.header + (69 - length h.header) = omega (arith, short) in
+    let front : take 69 content ≡ h.header ++ take (69 - length h.header) h.rest =
+    ap (λ (l : List ℕ). take 69 l) h.splits ∙ ap (λ (n : ℕ). take n (h.header ++ h.rest)) size ∙ take-append-add h.header h.rest (69 - length h.header) in
+    let found = is_header.again h.header (take (69 - length h.header) h.rest) format h.says in
+    let both = sym e ∙ ap header_at front ∙ found in
+    absurd cc
+
+-- bytes begin with one header
+one_header : (content : List ℕ) (f g : LogFileFormat) (m n : ℕ) → SaysFormat content f m → SaysFormat content g n → (f ≡ g) × (m ≡ n)
+one_header content f g m n a b =
+    let same = prefix_free is_header a.header b.header a.rest b.rest f g a.says b.says (sym a.splits ∙ b.splits) in
+    (same.1, a.ends ∙ ap length same.0 ∙ sym b.ends)
+
+-- ---- what a file reads as
+
+-- what two readings of a file have in common
+record AreSame (a b : FileRecords) : Type 0 where
+  batches : items_of a.batches.items ≡ items_of b.batches.items
+  format : a.format ≡ b.format
+  end : a.end ≡ b.end
+  damaged : is_some a.fault ≡ is_some b.fault
+
+told_some : (told : Option Error) (fault : Option Fault) → TellsIfAny told fault → is_some told ≡ is_some fault
+told_some None fault h = sym (ap is_some h)
+told_some (Some e) fault h = sym (ap is_some h.1)
+
+same_bytes : (last : Bool) (id : FileId) (content : List ℕ) (a b : FileRecords) → ReadsBytes last id content a → ReadsBytes last id content b → AreSame a b
+same_bytes last id content a b (headless e wrong tells none end first) (headless f bad told nothing at format) = record {
+  batches = ap items_of none ∙ sym (ap items_of nothing);
+  format = first ∙ sym format;
+  end = end ∙ sym at;
+  damaged = told_some a.fault (Some e) tells ∙ sym (told_some b.fault (Some f) told);
+}
+same_bytes last id content a b (headless e wrong tells none end first) (headed file start n f is header behind told at format) =
+    absurd (header_found content file.format start e header wrong)
+same_bytes last id content a b (headed file start n f is header behind told at format) (headless e wrong tells none end first) =
+    absurd (header_found content file.format start e header wrong)
+same_bytes last id content a b (headed file start m e is header behind tells end first) (headed other from n f also front after told at format) =
+    let one = one_header content file.format other.format start from header front in
+    let there = subst (λ (k : ℕ). ReadsBehind last other content k (items_of b.batches.items) n f) (sym one.1) after in
+    let here = same_behind last file other content start n (items_of b.batches.items) f (is ∙ sym also) one.0 there in
+    let both = one_behind last file content start m n (items_of a.batches.items) (items_of b.batches.items) e f behind here in
+    record {
+      batches = both.0;
+      format = first ∙ one.0 ∙ sym format;
+      end = end ∙ ap (λ (k : ℕ). Some k) both.1 ∙ sym at;
+      damaged = told_some a.fault e tells ∙ both.2 ∙ sym (told_some b.fault f told);
+    }
+
+-- ---- what a queue holds
+
+said_items : (id : FileId) (xs : List (Vec LogItem)) → said id xs ≡ map (batch_in id) (items_of xs)
+said_items id [] = refl
+said_items id (x ∷ xs) = ap (λ (l : List Batch). batch_in id x.items ∷ l) (said_items id xs)
+
+same_ending : (e f : FileEnding) → e.format ≡ f.format → e.end ≡ f.end → e.is_damaged ≡ f.is_damaged → e ≡ f
+same_ending e f format end damaged = ap (λ (m : LogFileFormat). record { format = m; end = e.end; is_damaged = e.is_damaged }) format
+    ∙ ap (λ (n : Option ℕ). record { format = f.format; end = n; is_damaged = e.is_damaged }) end
+    ∙ ap (λ (b : Bool). record { format = f.format; end = f.end; is_damaged = b }) damaged
+
+pub holds_one : (mode : RecoveryMode) (queue : LogQueue) (files : List File) (d : Disk) → HoldsOne (HoldsFile mode queue files d)
+holds_one mode queue files d k xs ys e f a b =
+    let file : b.file ≡ a.file = b.reads.is a.file ∙ sym (a.reads.is a.file) in
+    let there = subst (λ (o : File). ReadsFileAs (is_at_end files k) (id_of queue o) o.handle d b.read) file b.reads.reads.reads in
+    let same = same_bytes (is_at_end files k) (id_of queue a.file) _ a.read b.read a.reads.reads.reads there in
+    let batches : xs ≡ ys = a.holds ∙ said_items (id_of queue a.file) a.read.batches.items ∙ ap (λ (l : List (List LogItem)). map (batch_in (id_of queue a.file)) l) same.batches
+    ∙ sym (said_items (id_of queue a.file) b.read.batches.items) ∙ ap (λ (o : File). said (id_of queue o) b.read.batches.items) (sym file) ∙ sym b.holds in (
+      batches,
+      same_ending e f (a.ends.format ∙ same.format ∙ sym b.ends.format) (a.ends.end ∙ same.end ∙ sym b.ends.end) (a.ends.damaged ∙ same.damaged ∙ sym b.ends.damaged),
+    )

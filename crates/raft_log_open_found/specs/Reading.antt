@@ -1,0 +1,43 @@
+-- What a log file that was found reads as.
+use Rattle.std.specs.Prelude.{◌≡◌, ℕ, ◌⊎◌, Bool, Option, Some, None, List, [], length, take, Result, Err}
+use Rattle.raft_log_record_base.specs.Fault.{Fault}
+use Rattle.raft_log_record_base.specs.declared.errors.Error.{Error}
+use Rattle.raft_log_record_base.specs.declared.errors.Error.TheVariants as errors
+use Rattle.raft_log_record_base.specs.declared.pipe_log.FileId.{FileId}
+use Rattle.raft_log_record_base.specs.declared.pipe_log.Version.TheVariants.{V1}
+use Rattle.raft_log_disk.specs.Disk.{Disk}
+use Rattle.raft_log_disk.specs.Reading.{IsNotMeasured, IsUnread}
+use Rattle.raft_log_disk.specs.declared.handle.Handle.{Handle}
+use Rattle.raft_log_file_format.specs.Header.{header_at, first_format}
+use Rattle.raft_log_file_format.specs.declared.header.LogFileFormat.{LogFileFormat}
+use Rattle.raft_log_file_reader.specs.Opening.{SaysFormat}
+use Rattle.raft_log_file_reader.specs.Source.{bytes_in}
+use Rattle.raft_log_file_reader.specs.declared.open_file.OpenFile.{OpenFile}
+use Rattle.raft_log_open_found.specs.Behind.{items_of}
+use Rattle.raft_log_open_found.specs.Faults.{TellsIfAny}
+use Rattle.raft_log_open_found.specs.Records.{ReadsBehind}
+use Rattle.raft_log_open_found.specs.declared.file_records.FileRecords.{FileRecords}
+
+-- What the bytes of a file read as, which is the last one of its queue or not: where they don't begin with a
+-- header, nothing, and what is wrong with that; else what stands behind the header.
+pub data ReadsBytes (last : Bool) (id : FileId) (content : List ℕ) (read : FileRecords) : Type 0 where
+  headless : (fault : Fault) → header_at (take 69 content) ≡ Err fault
+      → TellsIfAny read.fault (Some fault) → read.batches.items ≡ [] → read.end ≡ None
+      → read.format ≡ first_format → ReadsBytes last id content read
+  headed : (file : OpenFile) (start end : ℕ) (fault : Option Fault) → file.id ≡ id
+      → SaysFormat content file.format start
+      → ReadsBehind last file content start (items_of read.batches.items) end fault
+      → TellsIfAny read.fault fault → read.end ≡ Some end → read.format ≡ file.format
+      → ReadsBytes last id content read
+
+-- and so do the bytes of the file by this handle, as they stand on the disk
+abbrev pub ReadsFileAs : Bool → FileId → Handle → Disk → FileRecords → Type 0
+ReadsFileAs last id handle d read = ReadsBytes last id (bytes_in (d.files handle.file)) read
+
+-- why a file isn't read: its size isn't told, or some of its bytes can't be read; or memory ran out. No fault
+-- of the bytes is among these.
+abbrev pub FailsToRead : Handle → Disk → Error → Type 0
+FailsToRead handle d (errors.Io kind) = IsNotMeasured handle d kind
+    ⊎ IsUnread handle 0 (length (bytes_in (d.files handle.file))) d kind
+FailsToRead handle d errors.Memory = Unit {0}
+FailsToRead handle d _ = ⊥

@@ -1,0 +1,80 @@
+-- The records that a log file's bytes hold, their entry blocks with them; and of files before a queue's last
+-- one, whose records were durable before the next file began, frames alone and one record at the end.
+use Rattle.std.specs.Prelude.{◌≡◌, ℕ, ◌<◌, ◌⊎◌, Bool, true, false, Option, Some, None, List, [], ◌∷◌, ◌++◌, length, drop, Result, Err, IsOk}
+use Rattle.raft_log_record_base.specs.Files.{signature_of}
+use Rattle.raft_log_record_base.specs.Fault.{Fault}
+use Rattle.raft_log_record_items.specs.declared.item.LogItem.{LogItem}
+use Rattle.raft_log_record_frames.specs.Record.{record_at}
+use Rattle.raft_log_file_reader.specs.Batches.{GoesOnAt, HasBatch, HasBatches, HasNoMore, IsBroken, context_of}
+use Rattle.raft_log_file_reader.specs.Laws.{EndsBehind}
+use Rattle.raft_log_file_reader.specs.declared.open_file.OpenFile.{OpenFile}
+
+-- behind an offset stands a whole record: a frame, and its entry block
+pub record IsWhole (file : OpenFile) (content : List ℕ) (offset : ℕ) : Type 0 where
+  pub at : ℕ
+  pub goes_on : GoesOnAt file.format.alignment content offset at
+  pub record_there : IsOk (record_at (signature_of (context_of file)) (drop at content))
+
+-- behind an offset there are bytes, and this is what is wrong with the record there: with its frame, or with
+-- its entry block
+pub record IsRecordTorn (file : OpenFile) (content : List ℕ) (offset : ℕ) (fault : Fault) : Type 0 where
+  pub at : ℕ
+  pub goes_on : GoesOnAt file.format.alignment content offset at
+  pub inside : at < length content
+  pub wrong : record_at (signature_of (context_of file)) (drop at content) ≡ Err fault
+
+-- behind an offset the next batch has these items and ends at the other offset, and its record is whole
+pub record HasRecord (file : OpenFile) (content : List ℕ) (offset : ℕ) (items : List LogItem) (end : ℕ)
+    : Type 0 where
+  pub batch : HasBatch file content offset items end
+  pub whole : IsWhole file content offset
+
+-- behind an offset these records follow one another, and the last one ends at the other offset
+abbrev pub HasRecords : OpenFile → List ℕ → ℕ → List (List LogItem) → ℕ → Type 0
+HasRecords file content offset [] end = end ≡ offset
+HasRecords file content offset (items ∷ more) end =
+    (next : ℕ) × HasRecord file content offset items next × HasRecords file content next more end
+
+-- The last file of a queue: each of its records is whole, and behind them it holds no more, or this is what
+-- is wrong with the next one.
+abbrev pub StopsWhole : OpenFile → List ℕ → ℕ → Option Fault → Type 0
+StopsWhole file content end None = HasNoMore file content end
+StopsWhole file content end (Some fault) = IsRecordTorn file content end fault
+
+-- behind an offset the file holds no more batches, or this is what is wrong with the next one
+abbrev pub StopsGood : OpenFile → List ℕ → ℕ → Option Fault → Type 0
+StopsGood file content end None = HasNoMore file content end
+StopsGood file content end (Some fault) = IsBroken file content end fault
+
+-- these batches follow one another, and the last one's record is whole
+pub record EndsWhole (file : OpenFile) (content : List ℕ) (offset : ℕ) (batches : List (List LogItem))
+    (end : ℕ) : Type 0 where
+  pub before : List (List LogItem)
+  pub last : List LogItem
+  pub between : ℕ
+  pub split : batches ≡ before ++ last ∷ []
+  pub first : HasBatches file content offset before between
+  pub record_last : HasRecord file content between last end
+
+-- What is read behind an offset of a file before the last: its batches, the last of which has a whole record,
+-- up to the end or to a broken frame; or, where the last one's record is torn, those before it.
+pub data ReadsEarlier (file : OpenFile) (content : List ℕ) (offset : ℕ) (batches : List (List LogItem))
+    (end : ℕ) (fault : Option Fault) : Type 0 where
+  none : batches ≡ [] → end ≡ offset → StopsGood file content end fault
+      → ReadsEarlier file content offset batches end fault
+  good : EndsWhole file content offset batches end → StopsGood file content end fault
+      → ReadsEarlier file content offset batches end fault
+  torn : (items : List LogItem) (next : ℕ) (f : Fault) → HasBatches file content offset batches end
+      → HasBatch file content end items next → EndsBehind file content next
+      → IsRecordTorn file content end f → fault ≡ Some f → ReadsEarlier file content offset batches end fault
+
+-- what is read behind an offset of the last file: its records, up to the end or to a torn one
+abbrev pub ReadsLastFile : OpenFile → List ℕ → ℕ → List (List LogItem) → ℕ → Option Fault → Type 0
+ReadsLastFile file content offset batches end fault =
+    HasRecords file content offset batches end × StopsWhole file content end fault
+
+-- what is read behind an offset of a file, which is the last one of its queue, or not
+abbrev pub ReadsBehind :
+    Bool → OpenFile → List ℕ → ℕ → List (List LogItem) → ℕ → Option Fault → Type 0
+ReadsBehind true = ReadsLastFile
+ReadsBehind false = ReadsEarlier

@@ -1,0 +1,71 @@
+-- The files of a queue that were found, as segments: what each holds, and why it isn't read.
+use Rattle.std.specs.Prelude.{◌≡◌, ℕ, ◌-◌, ◌<◌, Bool, List, ◌++◌, length, slice_index_or, ◌==◌, is_some}
+use Rattle.raft_log_record_base.specs.declared.errors.Error.{Error}
+use Rattle.raft_log_record_base.specs.declared.pipe_log.FileId.{FileId}
+use Rattle.raft_log_record_base.specs.declared.pipe_log.LogQueue.{LogQueue}
+use Rattle.raft_log_disk.specs.Disk.{Disk}
+use Rattle.raft_log_file_settings.specs.declared.recovery_mode.RecoveryMode.{RecoveryMode}
+use Rattle.raft_log_file_queue.specs.declared.format.File.{File}
+use Rattle.raft_log_open_found.specs.Tolerance.{FailsToReadFound, ReadsFound}
+use Rattle.raft_log_open_found.specs.declared.file_records.FileRecords.{FileRecords}
+use Rattle.raft_log_table_segments.specs.Machines.{Batch}
+use Rattle.raft_log_open_found.specs.Batches.{said}
+use Rattle.raft_log_open_found.specs.declared.queue_segments.FoundSegment.{FoundSegment}
+use Rattle.raft_log_open_found.specs.declared.file_ending.FileEnding.{FileEnding}
+
+-- whether the file in this place is the last one
+abbrev pub is_at_end : List File → ℕ → Bool
+is_at_end files index = length files - index == 1
+
+-- which file of the log it is
+abbrev pub id_of : LogQueue → File → FileId
+id_of queue file = record { queue = queue; seq = file.seq }
+
+-- the file is the one in this place of its queue, and reads as this
+pub record ReadsAt (mode : RecoveryMode) (queue : LogQueue) (files : List File) (d : Disk) (index : ℕ)
+    (file : File) (read : FileRecords) : Type 0 where
+  pub inside : index < length files
+  pub is : (other : File) → file ≡ slice_index_or files index other
+  pub reads : ReadsFound mode (is_at_end files index) (id_of queue file) file.handle d read
+
+-- what a recovery does with a file that reads as this
+pub record EndsAs (read : FileRecords) (ending : FileEnding) : Type 0 where
+  pub format : ending.format ≡ read.format
+  pub end : ending.end ≡ read.end
+  pub damaged : ending.is_damaged ≡ is_some read.fault
+
+-- the file in this place holds these batches, and this is to be done with it
+pub record HoldsFile (mode : RecoveryMode) (queue : LogQueue) (files : List File) (d : Disk) (index : ℕ)
+    (batches : List Batch) (ending : FileEnding) : Type 0 where
+  pub file : File
+  pub read : FileRecords
+  pub reads : ReadsAt mode queue files d index file read
+  pub holds : batches ≡ said (id_of queue file) read.batches.items
+  pub ends : EndsAs read ending
+
+-- the file in this place begins with these batches
+pub record BeginsFile (mode : RecoveryMode) (queue : LogQueue) (files : List File) (d : Disk) (index : ℕ)
+    (batches : List Batch) : Type 0 where
+  pub file : File
+  pub read : FileRecords
+  pub reads : ReadsAt mode queue files d index file read
+  pub rest : List Batch
+  pub begins : said (id_of queue file) read.batches.items ≡ batches ++ rest
+
+-- why the file in this place isn't read: it can't be, or its damage isn't tolerated
+pub record RefusesFile (mode : RecoveryMode) (queue : LogQueue) (files : List File) (d : Disk) (index : ℕ)
+    (error : Error) : Type 0 where
+  pub file : File
+  pub inside : index < length files
+  pub is : (other : File) → file ≡ slice_index_or files index other
+  pub refused : FailsToReadFound mode (is_at_end files index) (id_of queue file) file.handle d error
+
+-- what was read of the file in this place
+pub record IsSegment (mode : RecoveryMode) (queue : LogQueue) (files : List File) (d : Disk) (index : ℕ)
+    (segment : FoundSegment) : Type 0 where
+  pub file : File
+  pub read : FileRecords
+  pub reads : ReadsAt mode queue files d index file read
+  pub id : segment.id ≡ id_of queue file
+  pub batches : segment.batches ≡ read.batches
+  pub ends : EndsAs read segment.ending

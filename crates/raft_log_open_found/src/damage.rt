@@ -1,0 +1,24 @@
+//! Damage is told apart from what says nothing of the bytes: a refused read, or want of memory.
+
+ghost use Rattle.std.specs.Prelude.{◌≡◌, ◌↔◌, IsTrue, IfOk, IfErr};
+ghost use Rattle.raft_log_open_found.specs.Faults.{IsDamage};
+
+use raft_log_record_base::{Error, Result};
+
+/// Whether a refusal is of the bytes that were read.
+fn is_damage(error: &Error) -> bool
+    ensures { IsTrue result ↔ IsDamage error.now }
+{
+    matches!(error, Error::Corruption(_) | Error::Codec(_))
+}
+
+/// A refusal that is of the bytes that were read; any other one is refused with.
+pub(crate) fn damage(error: Error) -> Result<Error>
+    ensures ok { IfOk result (λ same. (same ≡ error) × IsDamage error) }
+    ensures err { IfErr result (λ e. (e ≡ error) × (IsDamage error → ⊥)) }
+{
+    if is_damage(&error) {
+        return Ok(error);
+    }
+    Err(error)
+}

@@ -1,0 +1,20 @@
+//! Reading the log files that were found where no engine has them open: the records of each, where the last
+//! good one ends, and what is wrong behind it; and the files of a queue as segments that workers read side by
+//! side.
+#![tactic(auto)]
+
+mod behind;
+mod damage;
+pub mod file_ending;
+pub mod file_records;
+pub mod laws;
+pub mod queue_segments;
+pub mod reading;
+mod steps;
+pub mod tolerance;
+
+pub use file_ending::FileEnding;
+pub use file_records::FileRecords;
+pub use queue_segments::QueueSegments;
+pub use reading::read_file;
+pub use tolerance::{read_found, tolerates};

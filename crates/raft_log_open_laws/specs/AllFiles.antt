@@ -1,0 +1,43 @@
+-- That a scan of a log's directories finds all files of a queue that lies there.
+use Rattle.std.specs.Prelude.{◌≡◌, ℕ, ◌<◌, suc, List, [], ◌∷◌, ◌++◌}
+use Rattle.raft_log_record_base.specs.declared.pipe_log.LogQueue.{LogQueue}
+use Rattle.raft_log_disk.specs.Disk.{Disk}
+use Rattle.raft_log_disk.specs.Image.{IsSound}
+use Rattle.raft_log_file_laws.specs.LogQueue.{LogFiles, IsAbsent, IsLeftover}
+use Rattle.raft_log_file_queue.specs.Standing.{Names, Stands}
+use Rattle.raft_log_engine_laws.specs.raft_log_file_layout.specs.Layout.{log_format}
+use Rattle.raft_log_engine_laws.specs.raft_log_file_layout.specs.Paths.{IsOwnPath}
+use Rattle.raft_log_engine_laws.specs.raft_log_file_layout.specs.declared.record.LogRecord.{LogRecord}
+use Rattle.raft_log_file_settings.specs.declared.recovery_mode.RecoveryMode.{RecoveryMode}
+use Rattle.raft_log_file_pipe.specs.Files.{Listed}
+use Rattle.raft_log_file_pipe.specs.Opening.{first_number}
+use Rattle.raft_log_open_scan.specs.Found.{AreDistinct}
+use Rattle.raft_log_open_scan.specs.Scanned.{IsQueueIn}
+use Rattle.raft_log_open_laws.specs.Scanned.{AreSpanned, kind_of}
+
+-- These are all files of a queue up to its last one, which has this number, that no gap parts from it.
+pub record AreAllFound (queue : LogQueue) (directories : List (List ℕ)) (number : ℕ) (d : Disk)
+    (files : List Listed) : Type 0 where
+  pub earlier : List Listed
+  pub last : Listed
+  pub split : files ≡ earlier ++ last ∷ []
+  pub number_is : last.seq ≡ number
+  pub spanned : AreSpanned queue directories earlier last d
+  pub begins : (m : ℕ) → suc m ≡ first_number earlier last → IsAbsent (log_format queue directories) m d
+
+-- Where a queue lies as a stop left it, in directories none of which comes twice, a scan of these answers all
+-- of its files.
+abbrev pub ScannedFilesAreAll : Type 0
+ScannedFilesAreAll = (queue : LogQueue) (directories : List (List ℕ)) → AreDistinct directories
+    → (mode : RecoveryMode) (d : Disk) → IsSound d
+    → (q : LogFiles LogRecord) (path : List ℕ) (id : ℕ) (N : Names)
+    → Stands (log_format queue directories) (IsOwnPath queue directories) d q path id
+    (IsLeftover (log_format queue directories) q) N d
+    → (files : List Listed) → IsQueueIn (kind_of queue) directories d mode files
+    → AreAllFound queue directories q.last d files
+
+-- And where no number has a file, it answers none.
+abbrev pub NoFilesAreScanned : Type 0
+NoFilesAreScanned = (queue : LogQueue) (directories : List (List ℕ)) (mode : RecoveryMode) (d : Disk)
+    → ((m : ℕ) → m < (log_format queue directories).limit → IsAbsent (log_format queue directories) m d)
+    → (files : List Listed) → IsQueueIn (kind_of queue) directories d mode files → files ≡ []

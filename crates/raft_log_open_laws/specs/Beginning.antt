@@ -1,0 +1,39 @@
+-- Where the files of a queue that a scan answered begin.
+use Rattle.std.specs.Prelude.{◌≡◌, ℕ, ◌<◌, ◌⊎◌, suc, List, [], ◌∷◌, ◌++◌}
+use Rattle.raft_log_record_base.specs.declared.pipe_log.LogQueue.{LogQueue}
+use Rattle.raft_log_disk.specs.Disk.{Disk}
+use Rattle.raft_log_file_laws.specs.LogQueue.{IsAbsent}
+use Rattle.raft_log_engine_laws.specs.raft_log_file_layout.specs.Layout.{log_format}
+use Rattle.raft_log_file_settings.specs.declared.recovery_mode.RecoveryMode.{RecoveryMode}
+use Rattle.raft_log_file_pipe.specs.Files.{Listed}
+use Rattle.raft_log_file_pipe.specs.Opening.{first_number}
+use Rattle.raft_log_open_scan.specs.Found.{FileLiesIn}
+use Rattle.raft_log_open_scan.specs.Scanned.{IsQueueIn}
+use Rattle.raft_log_open_scan.specs.declared.file_kind.FileKind.{FileKind}
+use Rattle.raft_log_open_scan.specs.declared.scanning.found.FoundFile.{FoundFile}
+use Rattle.raft_log_open_laws.specs.Scanned.{kind_of}
+
+-- two of the directories have a file of this number
+pub record IsTwice (kind : FileKind) (directories : List (List ℕ)) (d : Disk) (n : ℕ) : Type 0 where
+  pub here : FoundFile
+  pub there : FoundFile
+  pub here_lies : FileLiesIn kind directories d here
+  pub there_lies : FileLiesIn kind directories d there
+  pub here_number : here.seq ≡ n
+  pub there_number : there.seq ≡ n
+  pub apart : here.path_id < there.path_id
+
+-- files that begin with this number begin behind a gap: no file has the number below it; or two directories
+-- have a file of this number
+abbrev pub BeginsBehindGap : LogQueue → List (List ℕ) → Disk → ℕ → Type 0
+BeginsBehindGap queue directories d first =
+    ((m : ℕ) → suc m ≡ first → IsAbsent (log_format queue directories) m d)
+    ⊎ IsTwice (kind_of queue) directories d first
+
+-- So do the files of a queue that a scan answered. (Of a number that two directories have, the file of the
+-- later one is kept with those behind it, also where the number below is there.)
+abbrev pub ScannedFilesBegin : Type 0
+ScannedFilesBegin = (queue : LogQueue) (directories : List (List ℕ)) (mode : RecoveryMode) (d : Disk)
+    (earlier : List Listed) (last : Listed)
+    → IsQueueIn (kind_of queue) directories d mode (earlier ++ last ∷ [])
+    → BeginsBehindGap queue directories d (first_number earlier last)

@@ -1,0 +1,41 @@
+-- A log's directories are opened by the call that does all of it, over a log at rest.
+use Rattle.std.specs.Prelude.{ℕ, ◌≤◌, List, [], length, take}
+use Rattle.raft_log_model_laws.specs.Groups.{taken}
+use Rattle.raft_log_record_base.specs.declared.errors.Error.{Error}
+use Rattle.raft_log_disk.specs.Disk.{Disk}
+use Rattle.raft_log_disk.specs.Image.{IsSound}
+use Rattle.raft_log_file_settings.specs.declared.config.Config.{Config}
+use Rattle.raft_log_engine_laws.specs.raft_log_table_all.specs.declared.mem_tables.MemTables.{MemTables}
+use Rattle.raft_log_file_pair.specs.OnDisk.{LogRestsOn}
+use Rattle.raft_log_file_pair.specs.Pipes.{LogPipes, Said}
+use Rattle.raft_log_engine_laws.specs.Shows.{log_in, LogMap}
+use Rattle.raft_log_engine_laws.specs.Holding.{IsLeftAt}
+use Rattle.raft_log_open_directory.specs.Opening.{FailsToOpenDirectory, OpensDirectory}
+use Rattle.raft_log_open_laws.specs.Left.{IsCrashOf}
+use Rattle.raft_log_open_laws.specs.Opened.{HoldsFresh}
+use Rattle.raft_log_open_laws.specs.ByCalls.{home_of}
+
+-- Where the directories are opened that these settings name, an engine of them holds this map, and nothing is
+-- pending, whatever the number of workers was; and where they aren't, whyever, the log is left there with the
+-- map, and nothing is pending.
+pub record OpensAs {F : Type 0} (disk : F → Disk) (tells : F → List ℕ → ℕ → Type 0) (config : Config)
+    (old : F) (m : LogMap) : Type 0 where
+  pub answered : (v : LogPipes) (tables : MemTables) → OpensDirectory disk tells config old v tables
+      → HoldsFresh (home_of config) v tables m
+  pub refused : (error : Error) (new : F) → FailsToOpenDirectory disk tells config error old new
+      → IsLeftAt (home_of config) (disk new) m []
+
+-- So are those of a log that rests there.
+abbrev pub RestingDirectoriesOpen : {F : Type 0} → (F → Disk) → (F → List ℕ → ℕ → Type 0) → Type 0
+RestingDirectoriesOpen {F} disk tells = (config : Config) (old : F) (m : LogMap) → IsSound (disk old)
+    → LogRestsOn (log_in (home_of config)) (disk old) m → OpensAs disk tells config old m
+
+-- And so are those of whatever a crash leaves of what an engine left, which rests there: as the map after
+-- some first pending batches.
+abbrev pub CrashedDirectoriesOpen : {F : Type 0} → (F → Disk) → (F → List ℕ → ℕ → Type 0) → Type 0
+CrashedDirectoriesOpen {F} disk tells = (config : Config) (d : Disk) (old : F) (m : LogMap)
+    (pending : List Said) → IsSound (disk old) → (left : IsLeftAt (home_of config) d m pending)
+    → IsCrashOf (home_of config) left.1.lies.state d (disk old)
+    → (k : ℕ) × (k ≤ length pending)
+    × LogRestsOn (log_in (home_of config)) (disk old) (taken m (take k pending))
+    × OpensAs disk tells config old (taken m (take k pending))

@@ -1,0 +1,50 @@
+-- The files of a queue at rest, as a scan finds them, and once they were read and cut.
+use Rattle.std.specs.Prelude.{◌≡◌, ℕ, false, Some, List, [], ◌∷◌, ◌++◌, length, suc}
+use Rattle.raft_log_disk.specs.Disk.{Disk}
+use Rattle.raft_log_file_laws.specs.LogQueue.{IsAbsent}
+use Rattle.raft_log_disk.specs.Touching.{HasFile}
+use Rattle.raft_log_disk.specs.declared.handle.Permission.TheVariants.{ReadWrite}
+use Rattle.raft_log_file_format.specs.Header.{header_bytes}
+use Rattle.raft_log_file_queue.specs.Reopening.{IsReadTo}
+use Rattle.raft_log_file_queue.specs.TakingUp.{HandleBeginsWith}
+use Rattle.raft_log_file_queue.specs.declared.format.File.{File}
+use Rattle.raft_log_engine_laws.specs.raft_log_file_layout.specs.declared.record.LogRecord.{LogRecord}
+use Rattle.raft_log_file_pipe.specs.Opening.{first_number}
+use Rattle.raft_log_open_found.specs.declared.file_ending.FileEnding.{FileEnding}
+use Rattle.raft_log_file_pair.specs.Queues.{QueueLayout}
+use Rattle.raft_log_file_pair.specs.State.{IsStopped, Spanned}
+use Rattle.raft_log_file_pair.specs.Lying.{IsUnbegun}
+use Rattle.raft_log_engine_laws.specs.raft_log_file_blocks.specs.Stored.{Each}
+use Rattle.raft_log_open_laws.specs.Found.{AreListed}
+
+-- The files of a queue, as a stop left them: up to its last one, which may be written, each under its path,
+-- and none is there below them.
+pub record AreAll (layout : QueueLayout LogRecord) (q : Spanned LogRecord) (d : Disk) (earlier : List File)
+    (last : File) : Type 0 where
+  pub stops : IsStopped layout q.files d
+  pub listed : AreListed layout earlier last q.files.last d
+  pub permitted : last.handle.permission ≡ ReadWrite
+  pub begins : (m : ℕ) → suc m ≡ first_number earlier last → IsAbsent layout.format m d
+
+-- these are all files of a queue at rest; or it has none, as none was made yet
+pub data AreQueueFiles (layout : QueueLayout LogRecord) (q : Spanned LogRecord) (d : Disk) (files : List File)
+    : Type 0 where
+  some_made : (earlier : List File) (last : File) → files ≡ earlier ++ last ∷ []
+      → AreAll layout q d earlier last → AreQueueFiles layout q d files
+  none_made : files ≡ [] → IsUnbegun layout q d → AreQueueFiles layout q d files
+
+-- The last file reads as was told of it: up to this end, behind the header of this format, if it has one.
+pub record ReadsAsTold (layout : QueueLayout LogRecord) (q : Spanned LogRecord) (d : Disk) (last : File)
+    (ending : FileEnding) : Type 0 where
+  pub read : HasFile last.handle.file (IsReadTo layout.format q.files.last ending.end) d
+  pub headed : (end : ℕ) → ending.end ≡ Some end
+      → HandleBeginsWith layout.format last.handle (header_bytes ending.format) d
+
+-- All files of a queue at rest, with what was told of each: those before the last one aren't damaged.
+pub data AreToldOf (layout : QueueLayout LogRecord) (q : Spanned LogRecord) (d : Disk) (files : List File)
+    (endings : List FileEnding) : Type 0 where
+  some_told : (earlier : List File) (last : File) (front : List FileEnding) (ending : FileEnding)
+      → files ≡ earlier ++ last ∷ [] → endings ≡ front ++ ending ∷ [] → length front ≡ length earlier
+      → Each (λ (e : FileEnding). e.is_damaged ≡ false) front → AreAll layout q d earlier last
+      → ReadsAsTold layout q d last ending → AreToldOf layout q d files endings
+  none_told : files ≡ [] → endings ≡ [] → IsUnbegun layout q d → AreToldOf layout q d files endings

@@ -1,0 +1,34 @@
+-- What a fork leaves of the log that it copies.
+use Rattle.std.specs.Prelude.{List, ℕ}
+use Rattle.raft_log_record_base.specs.declared.errors.Error.{Error}
+use Rattle.raft_log_disk.specs.Disk.{Disk}
+use Rattle.raft_log_disk.specs.Image.{IsSound}
+use Rattle.raft_log_file_settings.specs.Settings.{settings_of}
+use Rattle.raft_log_file_settings.specs.declared.config.Config.{Config}
+use Rattle.raft_log_file_pair.specs.OnDisk.{LogRestsOn}
+use Rattle.raft_log_file_pair.specs.Pipes.{Said}
+use Rattle.raft_log_engine_laws.specs.Shows.{log_in, LogMap}
+use Rattle.raft_log_engine_laws.specs.Holding.{IsLeftAt}
+use Rattle.raft_log_open_laws.specs.Keeping.{RestsStill}
+use Rattle.raft_log_open_laws.specs.ByCalls.{home_of}
+use Rattle.raft_log_closed.specs.Forks.{FailsToFork, Forks}
+
+-- a fork of the log of these settings ended, with an answer or without
+pub data EndsFork (config : Config) (target : List ℕ) (old new : Disk) : Type 0 where
+  answered : (copied : List (List ℕ)) → Forks (settings_of config) target copied old new
+      → EndsFork config target old new
+  refused : (error : Error) → FailsToFork (settings_of config) target error old new
+      → EndsFork config target old new
+
+-- What rested in the directories of these settings rests there still, with the same files and records; and
+-- what an engine left there is there still, with the same map and the same batches pending.
+pub record LeavesSource (config : Config) (old new : Disk) : Type 0 where
+  pub rests : (m : LogMap) (h : LogRestsOn (log_in (home_of config)) old m)
+      → RestsStill (log_in (home_of config)) old m h new
+  pub left : (m : LogMap) (pending : List Said) → IsLeftAt (home_of config) old m pending
+      → IsLeftAt (home_of config) new m pending
+
+-- so it is wherever a fork ends
+abbrev pub ForksLeaveTheSource : Type 0
+ForksLeaveTheSource = (config : Config) (target : List ℕ) (old new : Disk) → IsSound old
+    → EndsFork config target old new → LeavesSource config old new

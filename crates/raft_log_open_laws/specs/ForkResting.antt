@@ -1,0 +1,34 @@
+-- The log that a fork leaves in its target.
+use Rattle.std.specs.Prelude.{◌≡◌, ℕ, false, None, List, [], ◌∷◌, ◌++◌}
+use Rattle.raft_log_disk.specs.Disk.{Disk, IsPlain}
+use Rattle.raft_log_file_settings.specs.Sanitized.{IsFileName}
+use Rattle.raft_log_file_settings.specs.Settings.{settings_of}
+use Rattle.raft_log_file_settings.specs.declared.config.Config.{Config}
+use Rattle.raft_log_file_pair.specs.OnDisk.{LogRestsOn}
+use Rattle.raft_log_engine_laws.specs.Shows.{log_in, LogMap}
+use Rattle.raft_log_open_builder.specs.Directories.{paths_of}
+use Rattle.raft_log_open_laws.specs.ByCalls.{home_of}
+use Rattle.raft_log_closed.specs.Forks.{Forks}
+
+-- Where the target isn't there, no log file lies in it (of one that is there a fork looks for itself), and no
+-- directory has the path of a log file in it. So it is of a directory that is empty, or not there.
+pub record IsClear (target : List ℕ) (d : Disk) : Type 0 where
+  pub absent : d.directories target ≡ false → (name : List ℕ) → IsPlain name → IsFileName name
+      → d.names (target ++ 47 ∷ name) ≡ None
+  pub apart : (name : List ℕ) → IsPlain name → IsFileName name → d.directories (target ++ 47 ∷ name) ≡ false
+
+-- the settings name this directory, and no other
+abbrev pub NamesOnly : Config → List ℕ → Type 0
+NamesOnly config directory = paths_of config ≡ directory ∷ []
+
+-- the log of the other settings rests on another disk with the same files and records, and is the same map
+abbrev pub RestsThere : (config to : Config) (old : Disk) (m : LogMap)
+    → LogRestsOn (log_in (home_of config)) old m → Disk → Type 0
+RestsThere config to old m h new =
+    (t : LogRestsOn (log_in (home_of to)) new m) × (t.state ≡ record h.state { disk = new })
+
+-- A log that rests is forked: what the fork made rests in the target, for settings that name this alone.
+abbrev pub ForkedLogsRest : Type 0
+ForkedLogsRest = (config to : Config) (target : List ℕ) (copied : List (List ℕ)) (old new : Disk) (m : LogMap)
+    → NamesOnly to target → IsClear target old → (h : LogRestsOn (log_in (home_of config)) old m)
+    → Forks (settings_of config) target copied old new → RestsThere config to old m h new

@@ -1,0 +1,74 @@
+-- What recovery read of a queue's files, where they rest on a disk, and the queue that goes on behind it.
+use Rattle.std.specs.Prelude.{◌≡◌, ℕ, ◌<◌, Some, false, List, [], ◌∷◌, ◌++◌, length}
+use Rattle.raft_log_record_base.specs.declared.pipe_log.LogQueue.{LogQueue}
+use Rattle.raft_log_disk.specs.Disk.{Disk}
+use Rattle.raft_log_file_laws.specs.LogQueue.{LogFiles, recent}
+use Rattle.raft_log_file_format.specs.Header.{header_bytes}
+use Rattle.raft_log_file_format.specs.declared.header.LogFileFormat.{LogFileFormat}
+use Rattle.raft_log_file_settings.specs.declared.recovery_mode.RecoveryMode.{RecoveryMode}
+use Rattle.raft_log_file_queue.specs.Layout.{path_of}
+use Rattle.raft_log_file_queue.specs.declared.format.File.{File}
+use Rattle.raft_log_engine_laws.specs.raft_log_file_layout.specs.declared.record.LogRecord.{LogRecord}
+use Rattle.raft_log_file_pipe.specs.Files.{IsSpan}
+use Rattle.raft_log_file_pipe.specs.Opening.{first_number}
+use Rattle.raft_log_table_segments.specs.Machines.{Batch}
+use Rattle.raft_log_table_segments.specs.Segments.{all_batches}
+use Rattle.raft_log_table_segments.specs.Sources.{HoldEach}
+use Rattle.raft_log_open_found.specs.Segments.{HoldsFile}
+use Rattle.raft_log_open_found.specs.declared.file_ending.FileEnding.{FileEnding}
+use Rattle.raft_log_file_pair.specs.Queues.{QueueLayout}
+use Rattle.raft_log_file_pair.specs.State.{IsStopped, Spanned}
+use Rattle.raft_log_file_pair.specs.Own.{log_layout}
+use Rattle.raft_log_engine_laws.specs.raft_log_file_blocks.specs.Stored.{Each}
+use Rattle.raft_log_open_laws.specs.Reading.{AreOfQueue}
+
+-- These batches were read of the files of a queue, and this is to be done with each. None of the files has an
+-- alignment, of which the log's pipes know nothing.
+pub record ReadsQueue (mode : RecoveryMode) (queue : LogQueue) (files : List File) (d : Disk)
+    (batches : List Batch) (endings : List FileEnding) : Type 0 where
+  pub segments : List (List Batch)
+  pub held : HoldEach (HoldsFile mode queue files d) 0 segments endings
+  pub all : length segments ≡ length files
+  pub is : batches ≡ all_batches segments
+  pub unaligned : Each (λ (e : FileEnding). e.format.alignment ≡ 0) endings
+
+-- The files have the numbers of a span up to this one, each under its path.
+pub record AreListed (layout : QueueLayout LogRecord) (earlier : List File) (last : File) (number : ℕ)
+    (d : Disk) : Type 0 where
+  pub number_is : last.seq ≡ number
+  pub listed : last.reserved ≡ false
+  pub named : d.names (path_of layout.paths last) ≡ Some last.handle.file
+  pub span : IsSpan layout.paths d.names (first_number earlier last) earlier number
+
+-- The queue is that one, whose span begins with this number: its finished files, and behind a header of this
+-- format the records of its last one, all synced.
+pub record QueueGoesOnWith (first : ℕ) (format : LogFileFormat) (was : LogFiles LogRecord)
+    (now : Spanned LogRecord) : Type 0 where
+  pub begins : now.first ≡ first
+  pub older : now.files.older ≡ was.older
+  pub last : now.files.last ≡ was.last
+  pub header : now.files.header ≡ header_bytes format
+  pub records : recent now.files ≡ recent was
+
+-- the last file has this format, if it has a header
+abbrev pub TellsLast : List FileEnding → LogFileFormat → Type 0
+TellsLast endings format =
+    (front : List FileEnding) (ending : FileEnding) → endings ≡ front ++ ending ∷ []
+    → (end : ℕ) → ending.end ≡ Some end → ending.format ≡ format
+
+-- What is read of the files of a queue that rests on a disk are the batches of the queue.
+abbrev pub ReadFilesAreTheQueue : Type 0
+ReadFilesAreTheQueue = (queue : LogQueue) (directories : List (List ℕ)) → 0 < length directories
+    → (mode : RecoveryMode) (d : Disk) (was : LogFiles LogRecord)
+    → IsStopped (log_layout queue directories) was d → (earlier : List File) (last : File)
+    → AreListed (log_layout queue directories) earlier last was.last d
+    → (batches : List Batch) (endings : List FileEnding)
+    → ReadsQueue mode queue (earlier ++ last ∷ []) d batches endings
+    → (format : LogFileFormat) → TellsLast endings format → (now : Spanned LogRecord)
+    → QueueGoesOnWith (first_number earlier last) format was now → AreOfQueue queue now batches
+
+-- Of a queue without files no batch is read, and so it is where it has begun.
+abbrev pub NoFilesAreTheQueue : Type 0
+NoFilesAreTheQueue = (queue : LogQueue) (mode : RecoveryMode) (d : Disk) (batches : List Batch)
+    (endings : List FileEnding) → ReadsQueue mode queue [] d batches endings → (now : Spanned LogRecord)
+    → now.first ≡ now.files.last → recent now.files ≡ [] → AreOfQueue queue now batches

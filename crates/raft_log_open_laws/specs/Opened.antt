@@ -1,0 +1,48 @@
+-- An engine that is made of what was read of a log's files.
+use Rattle.std.specs.Prelude.{◌≡◌, List, [], None}
+use Rattle.raft_log_record_base.specs.declared.pipe_log.LogQueue.TheVariants.{Append, Rewrite}
+use Rattle.raft_log_engine_laws.specs.raft_log_table_all.specs.declared.mem_tables.MemTables.{MemTables}
+use Rattle.raft_log_table_segments.specs.Machines.{Batch}
+use Rattle.raft_log_table_contexts.specs.Records.{ReadRecord}
+use Rattle.raft_log_table_contexts.specs.Context.{ComesOver, HasRead}
+use Rattle.raft_log_table_contexts.specs.Batches.{HasReadBatches}
+use Rattle.raft_log_table_contexts.specs.declared.context.MemTableRecoverContext.{MemTableRecoverContext}
+use Rattle.raft_log_directory_laws.specs.Log.{IsLog}
+use Rattle.raft_log_file_pair.specs.State.{Ties}
+use Rattle.raft_log_file_pair.specs.Reopening.{ReadsBothAgain}
+use Rattle.raft_log_file_pair.specs.Pipes.{LogPipes, RunsOn, State}
+use Rattle.raft_log_engine_laws.specs.raft_log_file_blocks.specs.declared.block_cache.BlockCache.{BlockCache}
+use Rattle.raft_log_engine_laws.specs.Shows.{Home, LogMap, log_in, sense, shows}
+use Rattle.raft_log_engine_laws.specs.Holding.{Holds}
+use Rattle.raft_log_open_laws.specs.Reading.{AreOfQueue}
+
+-- The tables are what a context that had read these batches of Append came to over one that had read those of
+-- Rewrite.
+pub record AreMerged (append_batches rewrite_batches : List Batch) (tables : MemTables) : Type 0 where
+  pub append : MemTableRecoverContext
+  pub rewrite : MemTableRecoverContext
+  pub append_read : HasReadBatches Append append_batches append
+  pub rewrite_read : HasReadBatches Rewrite rewrite_batches rewrite
+  pub over : (first behind : List ReadRecord) → HasRead Rewrite first rewrite → HasRead Append behind append
+      → ComesOver first behind tables
+
+-- The pipes run over a log that was found again, and the tables are merged of all batches of its files.
+pub record IsOpenedOver (home : Home) (was : State) (v : LogPipes) (tables : MemTables) : Type 0 where
+  pub state : State
+  pub runs : RunsOn (sense home) v state
+  pub again : ReadsBothAgain (Ties (log_in home)) was state
+  pub append_batches : List Batch
+  pub rewrite_batches : List Batch
+  pub of_append : AreOfQueue Append state.append append_batches
+  pub of_rewrite : AreOfQueue Rewrite state.rewrite rewrite_batches
+  pub merged : AreMerged append_batches rewrite_batches tables
+
+-- An engine of these pipes and tables that keeps no block yet holds the map, and nothing is pending.
+abbrev pub HoldsFresh : Home → LogPipes → MemTables → LogMap → Type 0
+HoldsFresh home v tables m =
+    (cache : BlockCache) → cache.place ≡ None → Holds home (shows v tables cache) m []
+
+-- So an engine of them holds the map that the log was.
+abbrev pub OpenedEnginesHold : Type 0
+OpenedEnginesHold = (home : Home) (was : State) (m : LogMap) (v : LogPipes) (tables : MemTables)
+    → IsLog (Ties (log_in home) was) m [] → IsOpenedOver home was v tables → HoldsFresh home v tables m

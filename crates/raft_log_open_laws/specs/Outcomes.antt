@@ -1,0 +1,38 @@
+-- What an engine has that is opened over a log at rest, call by call, and what is left where it isn't.
+use Rattle.std.specs.Prelude.{ℕ, ◌≤◌, List, [], length, take}
+use Rattle.raft_log_model_laws.specs.Groups.{taken}
+use Rattle.raft_log_disk.specs.Disk.{Disk}
+use Rattle.raft_log_disk.specs.Image.{IsSound}
+use Rattle.raft_log_file_settings.specs.declared.config.Config.{Config}
+use Rattle.raft_log_engine_laws.specs.raft_log_table_all.specs.declared.mem_tables.MemTables.{MemTables}
+use Rattle.raft_log_file_pair.specs.OnDisk.{LogRestsOn}
+use Rattle.raft_log_file_pair.specs.Pipes.{LogPipes, Said}
+use Rattle.raft_log_engine_laws.specs.Shows.{log_in, LogMap}
+use Rattle.raft_log_engine_laws.specs.Holding.{IsLeftAt}
+use Rattle.raft_log_open_laws.specs.Left.{IsCrashOf}
+use Rattle.raft_log_open_laws.specs.Opened.{HoldsFresh}
+use Rattle.raft_log_open_laws.specs.ByCalls.{home_of, OpensByCalls}
+use Rattle.raft_log_open_laws.specs.RefusedByCalls.{FailsToOpenByCalls}
+
+-- An engine that is opened over what is on the disk holds this map, and nothing is pending, whatever the
+-- number of workers was; and wherever an open is refused, or given up, the log is left there with the map,
+-- and nothing is pending.
+pub record OpensByCallsAs {F : Type 0} (disk : F → Disk) (tells : F → List ℕ → ℕ → Type 0) (config : Config)
+    (d : Disk) (m : LogMap) : Type 0 where
+  pub answered : (v : LogPipes) (tables : MemTables) → OpensByCalls disk tells config d v tables
+      → HoldsFresh (home_of config) v tables m
+  pub refused : (new : Disk) → FailsToOpenByCalls disk tells config d new → IsLeftAt (home_of config) new m []
+
+-- So does a log that rests there, where its settings name it.
+abbrev pub RestingLogsOpenByCalls : {F : Type 0} → (F → Disk) → (F → List ℕ → ℕ → Type 0) → Type 0
+RestingLogsOpenByCalls disk tells = (config : Config) (d : Disk) (m : LogMap) → IsSound d
+    → LogRestsOn (log_in (home_of config)) d m → OpensByCallsAs disk tells config d m
+
+-- And so does whatever a crash leaves of what an engine left, which rests there: as the map after some first
+-- pending batches.
+abbrev pub CrashedLogsOpenByCalls : {F : Type 0} → (F → Disk) → (F → List ℕ → ℕ → Type 0) → Type 0
+CrashedLogsOpenByCalls disk tells = (config : Config) (d image : Disk) (m : LogMap) (pending : List Said)
+    → IsSound image → (left : IsLeftAt (home_of config) d m pending)
+    → IsCrashOf (home_of config) left.1.lies.state d image
+    → (k : ℕ) × (k ≤ length pending) × LogRestsOn (log_in (home_of config)) image (taken m (take k pending))
+    × OpensByCallsAs disk tells config image (taken m (take k pending))

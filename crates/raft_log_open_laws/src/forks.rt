@@ -1,0 +1,36 @@
+//! The way from a log at rest to an engine that is opened over its fork.
+
+ghost use Rattle.raft_log_open_laws.specs.ForkLeaving.{ForksLeaveTheSource};
+ghost use Rattle.raft_log_open_laws.specs.ForkLeft.{ClosedEnginesAreLeft, LeftLogsAreForked};
+ghost use Rattle.raft_log_open_laws.specs.ForkOpening.{ForksOpenAsTheirSource};
+ghost use Rattle.raft_log_open_laws.specs.ForkResting.{ForkedLogsRest};
+
+use raft_log_disk::FileSystem;
+
+/// Wherever a fork ends, answered or refused, the log that was to be copied rests, or is left, where it did.
+pub fn forks_leave_the_source()
+    ensures { ForksLeaveTheSource }
+{}
+
+/// A fork of a log at rest leaves one in the target that rests there, with the same files and records, and is
+/// the same map, for settings that name the target alone.
+pub fn forked_logs_rest()
+    ensures { ForkedLogsRest }
+{}
+
+/// So an engine that is opened over the fork holds the map that one holds that is opened over its source,
+/// whether before the fork or after it; and where either isn't opened, the log is left with its map.
+pub fn forks_open_as_their_source<F: FileSystem>()
+    ensures { ForksOpenAsTheirSource F.disk F.tells_space }
+{}
+
+/// A fork of what an engine left, with no crash and no open between, is the map after some first pending
+/// batches, as the source is at a restart that loses nothing; and so it is opened.
+pub fn left_logs_are_forked<F: FileSystem>()
+    ensures { LeftLogsAreForked F.disk F.tells_space }
+{}
+
+/// A close of an engine leaves its log so, whatever was refused meanwhile.
+pub fn closed_engines_are_left()
+    ensures { ClosedEnginesAreLeft }
+{}

@@ -1,0 +1,9 @@
+//! Lists of what is done with a log's files, and of steps on an engine of them, and how these are played and
+//! judged: what the tests of opened engines are made of.
+#![tactic(auto)]
+
+pub mod acts;
+pub mod batches;
+pub mod settings;
+pub mod steps;
+pub mod store;

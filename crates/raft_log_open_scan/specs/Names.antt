@@ -1,0 +1,49 @@
+-- Which names the log's files have, and which of them are built.
+use Rattle.std.specs.Prelude.{◌≡◌, ℕ, ◌^◌, ◌<◌, List, ◌++◌, codes}
+use Rattle.std.specs.String.{string_bytes}
+use Rattle.raft_log_record_base.specs.declared.errors.Error.{Error}
+use Rattle.raft_log_record_base.specs.declared.errors.Error.TheVariants as errors
+use Rattle.raft_log_record_base.specs.declared.pipe_log.LogQueue.TheVariants as queues
+use Rattle.raft_log_file_format.specs.Name.{IsNamed, suffix_of, reserved_suffix, sixteen_digits}
+use Rattle.raft_log_open_scan.specs.declared.file_kind.FileKind.{FileKind}
+use Rattle.raft_log_open_scan.specs.declared.file_kind.FileKind.TheVariants.{Append, Rewrite, Reserved}
+
+-- the end of the names of such files
+abbrev pub end_of : FileKind → List ℕ
+end_of Append = suffix_of queues.Append
+end_of Rewrite = suffix_of queues.Rewrite
+end_of Reserved = reserved_suffix
+
+-- the name that is built for a number
+abbrev pub built_name : FileKind → ℕ → List ℕ
+built_name kind n = sixteen_digits n ++ end_of kind
+
+-- the number has a name, and it is this one
+abbrev pub IsBuilt : FileKind → ℕ → List ℕ → Type 0
+IsBuilt kind n name = (n < 10 ^ 16) × (name ≡ built_name kind n)
+
+-- the name is that of no such file
+abbrev pub IsOther : FileKind → List ℕ → Type 0
+IsOther kind name = (n : ℕ) → IsNamed (end_of kind) name n → ⊥
+
+-- the name says a number, and isn't the one that is built for it
+abbrev pub IsMisnamed : FileKind → List ℕ → Type 0
+IsMisnamed kind name = (n : ℕ) × IsNamed (end_of kind) name n × (IsBuilt kind n name → ⊥)
+
+-- how such a name is told
+abbrev pub told_misnamed : List ℕ → List ℕ
+told_misnamed name = codes "misnamed log file: " ++ name
+
+-- why it isn't known which file has the name: the name is a misnamed one's, and that is told, or memory ran
+-- out
+abbrev pub FailsToName : FileKind → List ℕ → Error → Type 0
+FailsToName kind name (errors.Corruption text) =
+    IsMisnamed kind name × (string_bytes text ≡ told_misnamed name)
+FailsToName kind name errors.Memory = Unit {0}
+FailsToName kind name _ = ⊥
+
+-- a damage that tells the name, or memory ran out
+abbrev pub TellsMisnamed : List ℕ → Error → Type 0
+TellsMisnamed name (errors.Corruption text) = string_bytes text ≡ told_misnamed name
+TellsMisnamed name errors.Memory = Unit {0}
+TellsMisnamed name _ = ⊥

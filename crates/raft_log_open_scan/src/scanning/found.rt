@@ -1,0 +1,55 @@
+//! The files of a kind are found among the names of the log's directories.
+
+ghost use Rattle.std.specs.Prelude.{◌≡◌, IfOk, IfErr, map};
+ghost use Rattle.std.specs.String.{string_bytes};
+ghost use Rattle.raft_log_open_scan.specs.Found.{AreAmong, AreAmongAll, FailsAmong, FailsAmongAll};
+
+use crate::file_kind::FileKind;
+use raft_log_file_queue::PathId;
+use raft_log_record_base::{FileSeq, Result};
+use std::alloc::Global;
+
+/// A file that was found: it has the name that is built for its number.
+#[derive(Clone, Copy, Debug, PartialEq, Eq)]
+pub struct FoundFile {
+    /// Its number.
+    pub seq: FileSeq,
+    /// The directory that it lies in.
+    pub path_id: PathId,
+}
+
+/// The files of a kind among those with these names, directory by directory, in the order of the names.
+/// `Corruption` where a name says a number and isn't the one that is built for it.
+pub fn find_files(alloc: Global, kind: FileKind, listings: &[Vec<String>]) -> Result<Vec<FoundFile>>
+    ensures ok { IfOk result (λ files.
+        AreAmongAll kind 0 (map (λ names. map string_bytes names.items) listings.now) files.items) }
+    ensures err { IfErr result
+        (FailsAmongAll kind (map (λ names. map string_bytes names.items) listings.now)) }
+{
+    let mut files = Vec::new(alloc);
+    for (path_id, names) in listings.iter().enumerate() {
+        let mut more = find_in_directory(alloc, kind, path_id, names.as_slice())?;
+        files.append(&mut more)?;
+    }
+    Ok(files)
+}
+
+/// The files of a kind among those with these names in a directory.
+fn find_in_directory(
+    alloc: Global,
+    kind: FileKind,
+    path_id: PathId,
+    names: &[String],
+) -> Result<Vec<FoundFile>>
+    ensures ok { IfOk result (λ files. AreAmong kind path_id (map string_bytes names.now) files.items) }
+    ensures err { IfErr result (FailsAmong kind (map string_bytes names.now)) }
+{
+    let mut files = Vec::new(alloc);
+    for name in names {
+        let found = kind.seq_of(alloc, name.as_str())?;
+        if let Some(seq) = found {
+            files.push(FoundFile { seq, path_id })?;
+        }
+    }
+    Ok(files)
+}

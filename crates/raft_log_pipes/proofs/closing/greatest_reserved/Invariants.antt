@@ -1,6 +1,0 @@
-use Rattle.std.proofs.Common.{◌≡◌, map}
-use Rattle.raft_log_pipes.specs.Closing.{greatest_reserved}
-use Rattle.raft_log_pipes.proofs.closing.greatest_reserved.Given as goal
-
-abbrev pub invariant-loop-file : goal.invariant-loop-file
-invariant-loop-file l = l.greatest ≡ greatest_reserved (map (λ lent. lent.now) l.yielded)

@@ -1,4 +1,0 @@
-pub mod Shown
-pub mod Bridge
-pub mod Noted
-pub mod Replayed

@@ -1,4 +1,0 @@
-mod Pieces
-mod Made
-mod Dropped
-mod Last

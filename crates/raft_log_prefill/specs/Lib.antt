@@ -1,4 +1,0 @@
-pub mod Filling
-pub mod Making
-pub mod Dropping
-pub mod Readying

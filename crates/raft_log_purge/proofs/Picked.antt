@@ -1,0 +1,205 @@
+-- Append is purged by the rules: its exits, put together of what each part told.
+use Rattle.std.proofs.Common.{◌≡◌, ◌<◌, ◌≤◌, ℕ, max, Bool, List, [], Option, None, inl, refl, sym, subst, ◌∙◌, arith}
+use Rattle.std.specs.Prelude.{Result, Ok, Err, IfErr, OnOk}
+use Rattle.raft_log_disk.specs.Causes.{IsLater}
+use Rattle.raft_log_record_base.specs.declared.errors.Error.{Error}
+use Rattle.raft_log_record_base.specs.declared.errors.Error.TheVariants as errors
+use Rattle.raft_log_record_base.specs.declared.pipe_log.LogQueue.TheVariants.{Append}
+use Rattle.raft_log_directory_laws.specs.Calls.Which.{InAppend}
+use Rattle.raft_log_table_lists.specs.Shown.{Shown}
+use Rattle.raft_log_table_one.proofs.Leasts.{front_is_least}
+use Rattle.raft_log_table_all.specs.declared.mem_tables.MemTables.{MemTables}
+use Rattle.raft_log_table_all.specs.Tables.{shown_of}
+use Rattle.raft_log_table_all.specs.Walking.{ListsGroups}
+use Rattle.raft_log_file_pair.specs.Pipes.{LogPipes}
+use Rattle.raft_log_file_pair.specs.Calls.{FailsToPurgeQueue, PurgesQueue, TellsFailure}
+use Rattle.raft_log_file_pair.specs.Numbers.{EndsNumbersBelow}
+use Rattle.raft_log_purge_parts.specs.raft_log_file_blocks.specs.declared.block_cache.BlockCache.{BlockCache}
+use Rattle.raft_log_purge_parts.specs.raft_log_engine_laws.specs.Shows.{Home, LogMap, Shows, sense, shows}
+use Rattle.raft_log_purge_parts.specs.raft_log_engine_laws.specs.Holding.{Holds}
+use Rattle.raft_log_purge_parts.specs.raft_log_engine_laws.specs.Settled.{HoldsSettled}
+use Rattle.raft_log_purge_parts.specs.raft_log_engine_laws.specs.Raising.{AppendMayBegin}
+use Rattle.raft_log_purge_parts.specs.raft_log_engine_laws.proofs.Settling.{settled_held}
+use Rattle.raft_log_purge_parts.specs.raft_log_engine_laws.proofs.Raising.{raise_refused, raised}
+use Rattle.raft_log_purge_rules.specs.Watermarks.{first_at}
+use Rattle.raft_log_file_pair.specs.LastFile.{last_of}
+use Rattle.raft_log_purge_parts.specs.Files.{IsLeastOf}
+use Rattle.raft_log_purge_parts.specs.Groups.{StopsRewriting}
+use Rattle.raft_log_purge_parts.specs.Marks.{CarriesMarks}
+use Rattle.raft_log_purge_parts.specs.Moving.{IsRewrittenTo}
+use Rattle.raft_log_purge_parts.specs.Parts.{PartIsRefused}
+use Rattle.raft_log_purge_parts.specs.Rewriting.{OweNothing}
+use Rattle.raft_log_purge_parts.specs.Reasons.{HasFileReason}
+use Rattle.raft_log_purge_parts.proofs.Grouping.{among, part_wider}
+use Rattle.raft_log_purge_parts.proofs.Leasts.{queue_may_begin}
+use Rattle.raft_log_purge_parts.proofs.PartExits.{alive_ok, later_on, same_later, tells_err}
+use Rattle.raft_log_purge_parts.proofs.Spanned.{within_span}
+use Rattle.raft_log_purge_parts.proofs.Reasons.{memory_is_none, memory_reason, purge_reason, reason_after, reason_of_files, tells_nothing}
+use Rattle.raft_log_purge.specs.Append.{RewritesSynced, up_to}
+use Rattle.raft_log_purge.specs.Expired.{FailsToLoseBelow, FailsToPurgeAppend, LosesBelow, RewritesPicked}
+use Rattle.raft_log_purge.proofs.Past.{left_or_held}
+use Rattle.raft_log_purge.proofs.Whole.{after_sync, at_most_last, held_or_left, synced_owe_nothing}
+
+-- Files go.
+
+-- none went, for want of memory
+pub none_gone : (error : Error) (s : Shows) → error ≡ errors.Memory → FailsToLoseBelow error s s
+none_gone error s memory = record {
+  tells = λ lived. tells_nothing error s.pipes lived (memory_is_none error memory);
+  later = same_later s.pipes.disk;
+  remains = λ owes home m h. inl (settled_held home s m h);
+  cause = λ home log h. subst (λ (e : Error). HasFileReason e s s) (sym memory) tt;
+}
+
+module _ (held : Option ℕ) (least : ℕ) (m : MemTables) (v : LogPipes) (old : BlockCache) (is : IsLeastOf Append (up_to held (last_of InAppend v)) m least) where
+  abbrev before : Shows
+  before = shows v m old
+
+  -- Append may begin there
+  may_begin : OweNothing before.tables → (home : Home) (log : LogMap) → HoldsSettled home before log → AppendMayBegin least (shown_of m)
+  may_begin owes home log h =
+      let front = λ (k : ℕ). front_is_least h.state.append.files.last h.state.rewrite.files.last (shown_of m k) (h.rises k) in
+      queue_may_begin Append (up_to held (last_of InAppend v)) least m is h.meant.orderly front owes
+
+  -- nothing is to go
+  pub none_below : least ≤ first_at InAppend v → LosesBelow held m before before
+  none_below low = record {
+    least = least;
+    is = is;
+    same = refl;
+    counts = refl;
+    alive = λ lived. lived;
+    later = same_later v.disk;
+    begins = λ home log h. omega (arith, low);
+    keeps = λ owes home log h. h;
+  }
+
+  module _ (w : LogPipes) (new : BlockCache) (none : new.place ≡ None) (later : IsLater v.disk w.disk) where
+    begins_there : first_at InAppend v < least → PurgesQueue InAppend least v w → (home : Home) (log : LogMap) → HoldsSettled home before log → first_at InAppend w ≡ max (first_at InAppend v) least
+    begins_there low call home log h =
+        let (runs, step) = call (sense home) h.state h.runs in
+        let first : first_at InAppend w ≡ least = runs.run.append.first in
+        omega (arith, first, low)
+
+    pub lost_below : {A : Type 0} (x : A) → TellsFailure (Ok x) w → first_at InAppend v < least → PurgesQueue InAppend least v w → LosesBelow held m before (shows w m new)
+    lost_below {A} x tells low call = record {
+      least = least;
+      is = is;
+      same = refl;
+      counts = refl;
+      alive = λ lived. alive_ok x w tells;
+      later = later;
+      begins = begins_there low call;
+      keeps = λ owes home log h. raised InAppend home before (shows w m new) log least h (may_begin owes home log h) refl none call;
+    }
+
+    pub not_lost_below : {A : Type 0} (error : Error) → TellsFailure {A = A} (Err error) w → first_at InAppend v < least → FailsToPurgeQueue InAppend least error v w → EndsNumbersBelow InAppend error v
+        → FailsToLoseBelow error before (shows w m new)
+    not_lost_below {A} error tells above call ends = record {
+      tells = λ lived. tells_err {A = A} error w tells;
+      later = later;
+      remains = λ owes home log h.
+          left_or_held home log (shows w m new) error (raise_refused InAppend home before (shows w m new) log least error h (may_begin owes home log h) refl none call);
+      cause = λ home log h.
+          (let most = is.limited in
+          let last = at_most_last held (last_of InAppend v) in
+          purge_reason InAppend least home error before (shows w m new) h.state h.runs (within_span InAppend least home v h.state h.runs (omega (arith, above)) (omega (arith, most, last))) call ends);
+    }
+
+-- Groups are rewritten, and then files go.
+
+-- nothing was done, for want of memory
+pub nothing_purged : (error : Error) (s : Shows) → error ≡ errors.Memory → FailsToPurgeAppend error s s
+nothing_purged error s memory = record {
+  tells = λ lived. tells_nothing error s.pipes lived (memory_is_none error memory);
+  later = same_later s.pipes.disk;
+  remains = λ home m h. inl h;
+  cause = λ home m h. memory_reason home m error s s memory;
+}
+
+pub marks_refused : (error : Error) (s t : Shows) → PartIsRefused error s t → FailsToPurgeAppend error s t
+marks_refused error s t refused = record {
+  tells = refused.tells;
+  later = refused.later;
+  remains = λ home m h. held_or_left home m t error (refused.remains home m h);
+  cause = refused.cause;
+}
+
+-- so it is of the groups that pass another test, which is the same of each
+pub synced_alike : (few many : ℕ → Bool) (gate : ℕ) (s t : Shows) → ((g : ℕ) → few g ≡ many g) → RewritesSynced few gate s t → RewritesSynced many gate s t
+synced_alike few many gate s t same r = record {
+  copied = r.copied;
+  copies = record {
+    part = part_wider few many gate s r.copied (λ g here. sym (same g) ∙ here) r.copies.part;
+    whole = λ g here. r.copies.whole g (same g ∙ here);
+    alive = r.copies.alive;
+    stays = r.copies.stays;
+    holds = r.copies.holds;
+  };
+  syncs = r.syncs;
+  same = r.same;
+  alive = r.alive;
+  later = r.later;
+  stays = r.stays;
+  settles = r.settles;
+}
+
+module _ (s carried : Shows) (carries : CarriesMarks s carried) where
+  -- marks that are carried are owed no more
+  none_owed : OweNothing carried.tables
+  none_owed = subst OweNothing (sym carries.tables) (λ g. (refl, refl, λ k. refl))
+
+  -- the groups weren't rewritten, not all of them
+  pub not_rewritten : (test : ℕ → Bool) (gate : ℕ) (error : Error) (t : Shows) → StopsRewriting test gate error carried t → FailsToPurgeAppend error s t
+  not_rewritten test gate error t stops = record {
+    tells = λ lived. stops.tells carries.alive;
+    later = later_on s.pipes.disk carried.pipes.disk t.pipes.disk carries.later stops.part.later;
+    remains = λ home log h. stops.remains none_owed home log (settled_held home carried log (carries.settles home log h));
+    cause = λ home log h. reason_after home log error s carried t carries.later (stops.cause none_owed home log (settled_held home carried log (carries.settles home log h)));
+  }
+
+  module _ (test : ℕ → Bool) (gate : ℕ) (copied : Shows) (copies : RewritesSynced test gate carried copied) where
+    owe_none : OweNothing copied.tables
+    owe_none = synced_owe_nothing test gate carried copied copies none_owed
+
+    settled_there : (home : Home) (log : LogMap) → Holds home s log [] → HoldsSettled home copied log
+    settled_there home log h = copies.settles none_owed home log (settled_held home carried log (carries.settles home log h))
+
+    to_copied : IsLater s.pipes.disk copied.pipes.disk
+    to_copied = later_on s.pipes.disk carried.pipes.disk copied.pipes.disk carries.later copies.later
+
+    -- files didn't go
+    stopped_there : (error : Error) (t : Shows) → FailsToLoseBelow error copied t → FailsToPurgeAppend error s t
+    stopped_there error t stops = record {
+      tells = λ lived. stops.tells copies.alive;
+      later = later_on s.pipes.disk copied.pipes.disk t.pipes.disk to_copied stops.later;
+      remains = λ home log h. stops.remains owe_none home log (settled_there home log h);
+      cause = λ home log h. reason_after home log error s copied t to_copied (reason_of_files home log error copied t (stops.cause home log (settled_there home log h)));
+    }
+
+    picked_rewritten : (held : Option ℕ) (m : MemTables) (t : Shows) → LosesBelow held m copied t → RewritesPicked test gate held m s t
+    picked_rewritten held m t loses = record {
+      carried = carried;
+      carries = carries;
+      copied = copied;
+      copies = copies;
+      loses = loses;
+      alive = loses.alive copies.alive;
+      later = later_on s.pipes.disk copied.pipes.disk t.pipes.disk to_copied loses.later;
+      past = λ g here. subst (λ (v : ℕ → Shown). IsRewrittenTo gate (v g)) (sym (loses.same ∙ after_sync test gate carried copied copies)) (copies.copies.whole g here);
+      unowed = subst OweNothing (sym loses.same) owe_none;
+      settles = λ home log h. loses.keeps owe_none home log (settled_there home log h);
+    }
+
+    pub whole_picked : (held : Option ℕ) (m : MemTables) (t : Shows) (q : Result (Unit {0}) Error) → OnOk q (LosesBelow held m copied t) → OnOk q (RewritesPicked test gate held m s t)
+    whole_picked held m t (Ok x) loses = picked_rewritten held m t loses
+    whole_picked held m t (Err e) loses = tt
+
+    pub whole_unpicked : (t : Shows) (q : Result (Unit {0}) Error) → IfErr q (λ error. FailsToLoseBelow error copied t) → IfErr q (λ error. FailsToPurgeAppend error s t)
+    whole_unpicked t (Ok x) stops = tt
+    whole_unpicked t (Err e) stops = stopped_there e t stops
+
+-- so it is of the groups that are listed
+pub listed_picked : (groups : List ℕ) (test : ℕ → Bool) (gate : ℕ) (held : Option ℕ) (m : MemTables) (s t : Shows) → ListsGroups test groups → RewritesPicked (among groups) gate held m s t → RewritesPicked test gate held m s t
+listed_picked groups test gate held m s t lists r =
+    picked_rewritten s r.carried r.carries test gate r.copied (synced_alike (among groups) test gate r.carried r.copied lists.exact r.copies) held m t r.loses

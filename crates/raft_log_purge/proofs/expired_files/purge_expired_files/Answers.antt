@@ -1,0 +1,48 @@
+use Rattle.std.proofs.Common.{refl}
+use Rattle.std.proofs.lemmas.Result.{err_from_is_err_and}
+use Rattle.raft_log_record_base.specs.declared.pipe_log.LogQueue.TheVariants.{Append}
+use Rattle.raft_log_file_pair.specs.HoldingBack.{PipesHoldBack}
+use Rattle.raft_log_purge_parts.specs.raft_log_engine_laws.specs.Shows.{shows}
+use Rattle.raft_log_purge_parts.proofs.PartExits.{alive_ok}
+use Rattle.raft_log_purge.proofs.Expiring.{not_restated, whole_purged, whole_unpurged}
+use Rattle.raft_log_purge.proofs.Whole.{append_unsynced}
+use Rattle.raft_log_purge.proofs.expired_files.purge_expired_files.Goals as goal
+
+pub returns-in_err-sync-clause-err : goal.returns-in_err-sync-clause-err
+returns-in_err-sync-clause-err g c =
+    let e = c.in_err-sync.ensures in
+    let s = shows (g.P.PipeLog.shown c.args.pipes.now) c.args.tables.now c.args.cache.now in
+    let p = err_from_is_err_and c.from_residual.result c.from_residual.ensures.1 in
+    rw (p.1, p.2) (append_unsynced c.in_err-sync.field-0.0 s (g.P.PipeLog.shown c.sync.new.self) e.fails e.error e.later e.err)
+
+pub returns-in_err-restated-clause-err : goal.returns-in_err-restated-clause-err
+returns-in_err-restated-clause-err g c =
+    let e = c.in_ok-sync.ensures in
+    let s = shows (g.P.PipeLog.shown c.args.pipes.now) c.args.tables.now c.args.cache.now in
+    let synced = g.P.PipeLog.shown c.sync.new.self in
+    let t = shows (g.P.PipeLog.shown c.purge_rewrite.new.pipes) c.purge_rewrite.new.tables c.purge_rewrite.new.cache in
+    let p = err_from_is_err_and c.from_residual-in_err-restated.result c.from_residual-in_err-restated.ensures.1 in
+    rw (p.1, p.2) (not_restated s synced e.ok e.later (alive_ok c.in_ok-sync.field-0 synced e.fails) c.in_err-restated.field-0.0 t c.in_err-restated.ensures.err)
+
+pub returns-clause-ok : goal.returns-clause-ok
+returns-clause-ok g c =
+    let e = c.in_ok-sync.ensures in
+    let s = shows (g.P.PipeLog.shown c.args.pipes.now) c.args.tables.now c.args.cache.now in
+    let synced = g.P.PipeLog.shown c.sync.new.self in
+    let v = g.P.PipeLog.shown c.purge_rewrite.new.pipes in
+    let between = c.purge_rewrite.new.tables in
+    let after = c.purge_append.new.tables in
+    let t = shows (g.P.PipeLog.shown c.purge_append.new.pipes) after c.purge_append.new.cache in
+    whole_purged s synced e.ok e.later (alive_ok c.in_ok-sync.field-0 synced e.fails) c.args.thresholds.now c.args.counts.now.stats c.purge_rewrite.new.stats c.args.tables.now between c.in_ok-restated.restated v c.purge_rewrite.new.cache c.in_ok-restated.ensures.ok
+    c.purge_append.result (λ groups. groups.items) (PipesHoldBack g.P.PipeLog.shown g.P.PipeLog.holds_back Append) c.first_file_not_ready_for_purge-held.result (c.purge_rewrite.new.pipes, refl, c.first_file_not_ready_for_purge-held.ensures) after c.args.counts.now (record { rounds = c.purge_append.new.rounds; stats = c.purge_rewrite.new.stats; number = c.purge_rewrite.new.number }) t refl refl c.purge_append.ensures.ok
+
+pub returns-clause-err : goal.returns-clause-err
+returns-clause-err g c =
+    let e = c.in_ok-sync.ensures in
+    let s = shows (g.P.PipeLog.shown c.args.pipes.now) c.args.tables.now c.args.cache.now in
+    let synced = g.P.PipeLog.shown c.sync.new.self in
+    let v = g.P.PipeLog.shown c.purge_rewrite.new.pipes in
+    let between = c.purge_rewrite.new.tables in
+    let t = shows (g.P.PipeLog.shown c.purge_append.new.pipes) c.purge_append.new.tables c.purge_append.new.cache in
+    whole_unpurged s synced e.ok e.later (alive_ok c.in_ok-sync.field-0 synced e.fails) c.args.thresholds.now c.args.counts.now.stats c.purge_rewrite.new.stats c.args.tables.now between c.in_ok-restated.restated v c.purge_rewrite.new.cache c.in_ok-restated.ensures.ok
+    t c.purge_append.result c.purge_append.ensures.err

@@ -1,0 +1,172 @@
+-- Append is rewritten up to a file, and the files up to it go.
+use Rattle.std.specs.Prelude.{◌≡◌, ◌⊎◌, ◌↔◌, ◌<◌, ◌==◌, IsTrue, ℕ, suc, min, max, Bool, true, false, List, [], Option, Some, None, MatchBool}
+use Rattle.std.specs.List.{list_any}
+use Rattle.raft_log_model_laws.specs.Groups.{taken}
+use Rattle.raft_log_disk.specs.Causes.{IsLater}
+use Rattle.raft_log_record_base.specs.declared.errors.Error.{Error}
+use Rattle.raft_log_record_base.specs.declared.errors.Error.TheVariants as errors
+use Rattle.raft_log_record_base.specs.declared.pipe_log.LogQueue.TheVariants.{Append}
+use Rattle.raft_log_directory_laws.specs.Calls.Which.{InAppend, InRewrite}
+use Rattle.raft_log_table_all.specs.declared.mem_tables.MemTables.{MemTables}
+use Rattle.raft_log_file_pair.specs.Pipes.{LogPipes, Said, is_failed}
+use Rattle.raft_log_file_pair.specs.Calls.{RotatesQueue, SyncsQueue}
+use Rattle.raft_log_purge_parts.specs.raft_log_engine_laws.specs.Shows.{Home, LogMap, Shows, has_failed}
+use Rattle.raft_log_purge_parts.specs.raft_log_engine_laws.specs.Holding.{Holds, IsLeftAt}
+use Rattle.raft_log_purge_parts.specs.raft_log_engine_laws.specs.Settled.{HoldsSettled}
+use Rattle.raft_log_purge_rules.specs.Watermarks.{first_at}
+use Rattle.raft_log_file_pair.specs.LastFile.{last_of}
+use Rattle.raft_log_purge_parts.specs.Parts.{StaysInFile}
+use Rattle.raft_log_purge_parts.specs.Marks.{CarriesMarks}
+use Rattle.raft_log_purge_parts.specs.Files.{IsLeastOf}
+use Rattle.raft_log_purge_parts.specs.Groups.{Rewrites}
+use Rattle.raft_log_purge_parts.specs.Moving.{IsRewrittenTo}
+use Rattle.raft_log_purge_parts.specs.Reasons.{HasFileReason, HasReason}
+use Rattle.raft_log_purge_parts.specs.Rewriting.{OweNothing}
+
+-- The gate.
+
+-- the file that was asked for, but none after the last; the last one where none was
+abbrev pub up_to : Option ℕ → ℕ → ℕ
+up_to None last = last
+up_to (Some w) last = min w last
+
+-- up to which file Append is rewritten
+abbrev pub gate_of : Option ℕ → LogPipes → ℕ
+gate_of watermark v = up_to watermark (last_of InAppend v)
+
+-- Append goes on past the gate: in its next file, where the gate is the file that was being written; else
+-- nothing is done
+abbrev pub GoesOnPast : ℕ → LogPipes → LogPipes → Type 0
+GoesOnPast gate v w = ((gate ≡ last_of InAppend v) × RotatesQueue InAppend v w)
+    ⊎ ((gate < last_of InAppend v) × (w ≡ v))
+
+-- the gate was settled, and Append goes on past it
+pub record PassesGate (watermark : Option ℕ) (gate : ℕ) (v w : LogPipes) : Type 0 where
+  pub is : gate ≡ gate_of watermark v
+  pub goes : GoesOnPast gate v w
+  pub alive : is_failed v ≡ false → is_failed w ≡ false
+  pub later : IsLater v.disk w.disk
+
+-- All groups.
+
+-- the tables show nothing in Append up to the gate
+abbrev pub AreRewrittenTo : ℕ → Shows → Type 0
+AreRewrittenTo gate s = (g : ℕ) → IsRewrittenTo gate (s.tables g)
+
+-- Each group that passes the test was rewritten up to the gate, and Rewrite was synced: whatever the log was,
+-- with nothing pending, it is so, if no mark is owed.
+pub record RewritesSynced (test : ℕ → Bool) (gate : ℕ) (s t : Shows) : Type 0 where
+  pub copied : Shows
+  pub copies : Rewrites test gate s copied
+  pub syncs : SyncsQueue InRewrite copied.pipes t.pipes
+  pub same : t ≡ record copied { pipes = t.pipes }
+  pub alive : has_failed t ≡ false
+  pub later : IsLater s.pipes.disk t.pipes.disk
+  pub stays : StaysInFile s.pipes t.pipes
+  pub settles : OweNothing s.tables → (home : Home) (m : LogMap) → Holds home s m [] → HoldsSettled home t m
+
+-- so it is of each of these groups
+abbrev pub RewritesThese : List ℕ → ℕ → Shows → Shows → Type 0
+RewritesThese groups gate s t = RewritesSynced (λ g. list_any (λ k. k == g) groups) gate s t
+
+-- and of all groups
+abbrev pub RewritesAll : ℕ → Shows → Shows → Type 0
+RewritesAll gate s t = RewritesSynced (λ g. true) gate s t
+
+-- Append's files.
+
+-- where Append begins once the files up to the gate are gone, and those that nothing is in: never earlier than
+-- before
+abbrev pub beginning : ℕ → ℕ → LogPipes → ℕ
+beginning gate least v = max (first_at InAppend v) (max (suc gate) least)
+
+-- Append lost its files up to the gate, and all others below the least that is in use: where nothing was in
+-- the files up to the gate and no mark is owed, whatever the log was, with nothing pending, it is so.
+pub record LosesTo (gate : ℕ) (m : MemTables) (s t : Shows) : Type 0 where
+  pub least : ℕ
+  pub is : IsLeastOf Append (last_of InAppend s.pipes) m least
+  pub same : t.tables ≡ s.tables
+  pub counts : t.counts ≡ s.counts
+  pub alive : has_failed s ≡ false → has_failed t ≡ false
+  pub later : IsLater s.pipes.disk t.pipes.disk
+  pub stays : StaysInFile s.pipes t.pipes
+  pub begins : (home : Home) (log : LogMap) → HoldsSettled home s log
+      → first_at InAppend t.pipes ≡ beginning gate least s.pipes
+  pub keeps : AreRewrittenTo gate s → OweNothing s.tables → (home : Home) (log : LogMap)
+      → HoldsSettled home s log → HoldsSettled home t log
+
+-- The whole.
+
+-- Append's span has one file
+abbrev pub HasOneFile : LogPipes → Type 0
+HasOneFile v = first_at InAppend v ≡ last_of InAppend v
+
+-- a call is to end behind this step
+abbrev pub ends_after : ℕ → Option ℕ → Bool
+ends_after step None = false
+ends_after step (Some n) = n == step
+
+-- all groups were rewritten, and then files went
+abbrev pub RewritesAndLoses : ℕ → MemTables → Shows → Shows → Type 0
+RewritesAndLoses gate m s t = (mid : Shows) × RewritesAll gate s mid × LosesTo gate m mid t
+
+-- what is done behind the marks: nothing, where the call is to end with them; all groups are rewritten; and
+-- unless it is to end with these, files go
+abbrev pub GoesOnBehindMarks : Option ℕ → ℕ → MemTables → Shows → Shows → Type 0
+GoesOnBehindMarks exit gate m s t = MatchBool (ends_after 1 exit) (t ≡ s)
+    (MatchBool (ends_after 2 exit) (RewritesAll gate s t) (RewritesAndLoses gate m s t))
+
+-- Append was rewritten: it was synced, went on past the gate, and the marks were carried; then all groups were
+-- rewritten and files went, as far as the call was to go. The map stays, nothing is pending, and no mark is
+-- owed. Without a watermark and a step to end with, one file is left in Append's span.
+pub record RewritesAppend (watermark exit : Option ℕ) (m : MemTables) (s t : Shows) : Type 0 where
+  pub synced : LogPipes
+  pub syncs : SyncsQueue InAppend s.pipes synced
+  pub gate : ℕ
+  pub past : LogPipes
+  pub passes : PassesGate watermark gate synced past
+  pub carried : Shows
+  pub carries : CarriesMarks (record s { pipes = past }) carried
+  pub goes_on : GoesOnBehindMarks exit gate m carried t
+  pub alive : has_failed t ≡ false
+  pub later : IsLater s.pipes.disk t.pipes.disk
+  pub unowed : OweNothing t.tables
+  pub settles : (home : Home) (log : LogMap) (pending : List Said) → Holds home s log pending
+      → HoldsSettled home t (taken log pending)
+  pub one : watermark ≡ None → exit ≡ None → (home : Home) (log : LogMap) (pending : List Said)
+      → Holds home s log pending → HasOneFile t.pipes
+
+-- Refusals.
+
+-- a purge is refused: the map stays, with nothing pending; or the engine has failed, and its log is held
+abbrev pub StaysOrIsLeftSettled : Error → Shows → Shows → Type 0
+StaysOrIsLeftSettled error s t = OweNothing s.tables → (home : Home) (m : LogMap) → HoldsSettled home s m
+    → Holds home t m [] ⊎ ((error ≡ errors.Failed) × IsLeftAt home t.pipes.disk m [])
+
+-- so it is of files that don't go; and why, where the gate lies below Append's last file
+pub record FailsToLoseTo (gate : ℕ) (error : Error) (s t : Shows) : Type 0 where
+  pub tells : has_failed s ≡ false → IsTrue (has_failed t) ↔ (error ≡ errors.Failed)
+  pub later : IsLater s.pipes.disk t.pipes.disk
+  pub remains : AreRewrittenTo gate s → StaysOrIsLeftSettled error s t
+  pub cause : gate < last_of InAppend s.pipes → (home : Home) (log : LogMap) → HoldsSettled home s log
+      → HasFileReason error s t
+
+-- so it is of what is done behind the marks
+pub record StopsGoingOn (gate : ℕ) (error : Error) (s t : Shows) : Type 0 where
+  pub tells : has_failed s ≡ false → IsTrue (has_failed t) ↔ (error ≡ errors.Failed)
+  pub later : IsLater s.pipes.disk t.pipes.disk
+  pub remains : StaysOrIsLeftSettled error s t
+  pub cause : gate < last_of InAppend s.pipes → OweNothing s.tables → (home : Home) (log : LogMap)
+      → HoldsSettled home s log → HasReason home log error s t
+
+-- The whole was refused, and why: the map stays, with nothing pending; or the engine has failed, and its log is
+-- held, with the batches on the map, or pending as they were.
+pub record FailsToRewriteAppend (error : Error) (s t : Shows) : Type 0 where
+  pub tells : has_failed s ≡ false → IsTrue (has_failed t) ↔ (error ≡ errors.Failed)
+  pub later : IsLater s.pipes.disk t.pipes.disk
+  pub remains : (home : Home) (log : LogMap) (pending : List Said) → Holds home s log pending
+      → Holds home t (taken log pending) []
+      ⊎ ((error ≡ errors.Failed) × (IsLeftAt home t.pipes.disk (taken log pending) []
+      ⊎ IsLeftAt home t.pipes.disk log pending))
+  pub cause : (home : Home) (log : LogMap) (pending : List Said) → Holds home s log pending
+      → HasReason home (taken log pending) error s t

@@ -1,0 +1,46 @@
+-- Purges with what stands in Rewrite counted before, and behind.
+use Rattle.std.specs.Prelude.{◌≡◌, ◌↔◌, IsTrue, ℕ, Bool, List, Option}
+use Rattle.raft_log_table_all.specs.declared.mem_tables.MemTables.{MemTables}
+use Rattle.raft_log_file_pair.specs.Pipes.{LogPipes}
+use Rattle.raft_log_purge.specs.RewriteQueue.{reset_counts}
+use Rattle.raft_log_purge_parts.specs.raft_log_engine_laws.specs.Shows.{Shows}
+use Rattle.raft_log_purge_rules.specs.declared.thresholds.Thresholds.{Thresholds}
+use Rattle.raft_log_purge_rules.specs.Watermarks.{IsAnyPast}
+use Rattle.raft_log_purge.specs.Counting.{CountsIf, CountsStanding}
+use Rattle.raft_log_purge.specs.ExpiredFiles.{KeepsCounts, PurgesExpired}
+use Rattle.raft_log_purge.specs.declared.expired_files.PurgeCounts.{PurgeCounts}
+
+-- Expired files were purged, and just these groups are answered: where a queue is past its threshold, what stands
+-- in Rewrite was counted before, so that the rules know what of it is garbage, and behind; else nothing was.
+pub record PurgesAndCounts (hold_back : LogPipes → Option ℕ → Type 0) (thresholds : Thresholds)
+    (before after : MemTables) (old new : PurgeCounts) (groups : List ℕ) (s t : Shows) : Type 0 where
+  pub past : Bool
+  pub tells : IsTrue past ↔ IsAnyPast thresholds s.pipes
+  pub counted : PurgeCounts
+  pub first : CountsIf past before old counted
+  pub purged : PurgeCounts
+  pub purges : PurgesExpired hold_back thresholds before after counted purged groups s t
+  pub second : CountsIf past after purged new
+
+-- what is counted where that was refused
+pub record CountsIfPast (thresholds : Thresholds) (v : LogPipes) (before : MemTables) (old new : PurgeCounts)
+    : Type 0 where
+  pub past : Bool
+  pub tells : IsTrue past ↔ IsAnyPast thresholds v
+  pub counted : PurgeCounts
+  pub first : CountsIf past before old counted
+  pub kept : KeepsCounts counted new
+
+-- Where Rewrite was rewritten: what stood there was counted before, and then what stands no more was counted no
+-- more.
+pub record CountsAndResets (before : MemTables) (old new : PurgeCounts) : Type 0 where
+  pub counted : PurgeCounts
+  pub first : CountsStanding before old counted
+  pub stats : new.stats ≡ reset_counts counted.stats
+  pub rounds : new.rounds ≡ old.rounds
+
+-- what is counted where Rewrite wasn't
+pub record CountsAndKeeps (before : MemTables) (old new : PurgeCounts) : Type 0 where
+  pub counted : PurgeCounts
+  pub first : CountsStanding before old counted
+  pub kept : KeepsCounts counted new

@@ -1,0 +1,32 @@
+-- What is counted of Rewrite from one purge to the next.
+use Rattle.std.specs.Prelude.{◌≡◌, ◌-◌, ℕ, Bool, true, false}
+use Rattle.raft_log_record_base.specs.declared.pipe_log.LogQueue.TheVariants.{Rewrite}
+use Rattle.raft_log_table_one.specs.declared.global_stats.GlobalStats.{GlobalStats}
+use Rattle.raft_log_table_one.specs.Stats.{added, deleted, live}
+use Rattle.raft_log_table_all.specs.Walking.{Stand}
+use Rattle.raft_log_table_all.specs.declared.mem_tables.MemTables.{MemTables}
+use Rattle.raft_log_purge.specs.declared.expired_files.PurgeCounts.{PurgeCounts}
+
+-- the counts where so much stands in Rewrite: what stands there and wasn't counted was written, and what was
+-- counted and doesn't stand is garbage
+abbrev pub counted : ℕ → GlobalStats → GlobalStats
+counted n s = deleted Rewrite (live Rewrite s - n) (added Rewrite (n - live Rewrite s) s)
+
+-- the counts were brought to what stands in Rewrite
+pub record CountsStanding (m : MemTables) (old new : PurgeCounts) : Type 0 where
+  pub standing : ℕ
+  pub stands : Stand m standing
+  pub stats : new.stats ≡ counted standing old.stats
+  pub rounds : new.rounds ≡ old.rounds
+  pub number : new.number ≡ old.number
+
+-- so they were if that was wanted; else they are as they were
+abbrev pub CountsIf : Bool → MemTables → PurgeCounts → PurgeCounts → Type 0
+CountsIf true m old new = CountsStanding m old new
+CountsIf false m old new = new ≡ old
+
+-- so they were before something was written, and behind it
+pub record CountsTwice (before after : MemTables) (old new : PurgeCounts) : Type 0 where
+  pub between : PurgeCounts
+  pub first : CountsStanding before old between
+  pub second : CountsStanding after between new

@@ -1,0 +1,116 @@
+-- What a purge does of Append once its files are past their threshold.
+use Rattle.std.specs.Prelude.{◌≡◌, ◌⊎◌, ◌↔◌, IsTrue, ℕ, max, Bool, true, false, List, [], Option, Some, None}
+use Rattle.raft_log_disk.specs.Causes.{IsLater}
+use Rattle.raft_log_record_base.specs.declared.errors.Error.{Error}
+use Rattle.raft_log_record_base.specs.declared.errors.Error.TheVariants as errors
+use Rattle.raft_log_record_base.specs.declared.pipe_log.LogQueue.TheVariants.{Append}
+use Rattle.raft_log_directory_laws.specs.Calls.Which.{InAppend}
+use Rattle.raft_log_table_all.specs.declared.mem_tables.MemTables.{MemTables}
+use Rattle.raft_log_table_all.specs.Walking.{ListsGroups}
+use Rattle.raft_log_purge_parts.specs.raft_log_engine_laws.specs.Shows.{Home, LogMap, Shows, has_failed}
+use Rattle.raft_log_purge_parts.specs.raft_log_engine_laws.specs.Holding.{Holds, IsLeftAt}
+use Rattle.raft_log_purge_parts.specs.raft_log_engine_laws.specs.Settled.{HoldsSettled}
+use Rattle.raft_log_purge_rules.specs.declared.thresholds.Thresholds.{Thresholds}
+use Rattle.raft_log_purge_rules.specs.declared.watermarks.Watermarks.{Watermarks}
+use Rattle.raft_log_purge_rules.specs.Watermarks.{TakesAppend, first_at, watermarks_of}
+use Rattle.raft_log_file_pair.specs.LastFile.{last_of}
+use Rattle.raft_log_purge_rules.specs.declared.rounds.Rounds.{Rounds}
+use Rattle.raft_log_purge_rules.specs.Behind.{round_behind}
+use Rattle.raft_log_purge_rules.specs.Picking.{answers_at, asks_at, count_of, rewrites_at}
+use Rattle.raft_log_purge_parts.specs.Files.{IsLeastOf}
+use Rattle.raft_log_purge_parts.specs.Marks.{CarriesMarks}
+use Rattle.raft_log_purge_parts.specs.Moving.{IsRewrittenTo}
+use Rattle.raft_log_purge_parts.specs.Reasons.{GivesReason, HasFileReason}
+use Rattle.raft_log_purge_parts.specs.Rewriting.{OweNothing}
+use Rattle.raft_log_purge.specs.declared.expired.PickedGroups.{PickedGroups}
+use Rattle.raft_log_purge.specs.Append.{RewritesSynced, StaysOrIsLeftSettled, up_to}
+
+-- The groups.
+
+-- one round more was counted: of each group whether it was asked again
+abbrev pub CountsRound : Watermarks → MemTables → Rounds → Rounds → Type 0
+CountsRound marks m old new =
+    (g : ℕ) → count_of new g ≡ round_behind (asks_at marks m g) (count_of old g)
+
+-- the groups were picked by the rules, of what the tables had, with so many rounds before
+pub record PicksGroups (marks : Watermarks) (restated : Bool) (m : MemTables) (old : Rounds)
+    (picked : PickedGroups) : Type 0 where
+  pub answered : ListsGroups (answers_at (Some marks) restated m) picked.answered.items
+  pub rewritten : ListsGroups (rewrites_at marks (count_of old) m) picked.rewritten.items
+  pub rounds : CountsRound marks m old picked.rounds
+
+-- Append's files.
+
+-- Append lost its files below the least of what is held back, its last file, and the least in use, and begins
+-- there, but never earlier than before: where no mark is owed, whatever the log was, with nothing pending, it
+-- is so.
+pub record LosesBelow (held : Option ℕ) (m : MemTables) (s t : Shows) : Type 0 where
+  pub least : ℕ
+  pub is : IsLeastOf Append (up_to held (last_of InAppend s.pipes)) m least
+  pub same : t.tables ≡ s.tables
+  pub counts : t.counts ≡ s.counts
+  pub alive : has_failed s ≡ false → has_failed t ≡ false
+  pub later : IsLater s.pipes.disk t.pipes.disk
+  pub begins : (home : Home) (log : LogMap) → HoldsSettled home s log
+      → first_at InAppend t.pipes ≡ max (first_at InAppend s.pipes) least
+  pub keeps : OweNothing s.tables → (home : Home) (log : LogMap) → HoldsSettled home s log
+      → HoldsSettled home t log
+
+-- they didn't go, and why: where no mark is owed, whatever the log was, with nothing pending, it is so; or the
+-- engine has failed, and its log is held
+pub record FailsToLoseBelow (error : Error) (s t : Shows) : Type 0 where
+  pub tells : has_failed s ≡ false → IsTrue (has_failed t) ↔ (error ≡ errors.Failed)
+  pub later : IsLater s.pipes.disk t.pipes.disk
+  pub remains : StaysOrIsLeftSettled error s t
+  pub cause : (home : Home) (log : LogMap) → HoldsSettled home s log → HasFileReason error s t
+
+-- The groups that pass the test were rewritten, and then files went: the marks were carried before, and
+-- Rewrite synced between. Nothing of these groups is left in Append up to the gate, no mark is owed, and
+-- whatever the log was, with nothing pending, it is so.
+pub record RewritesPicked (test : ℕ → Bool) (gate : ℕ) (held : Option ℕ) (m : MemTables) (s t : Shows)
+    : Type 0 where
+  pub carried : Shows
+  pub carries : CarriesMarks s carried
+  pub copied : Shows
+  pub copies : RewritesSynced test gate carried copied
+  pub loses : LosesBelow held m copied t
+  pub alive : has_failed t ≡ false
+  pub later : IsLater s.pipes.disk t.pipes.disk
+  pub past : (g : ℕ) → test g ≡ true → IsRewrittenTo gate (t.tables g)
+  pub unowed : OweNothing t.tables
+  pub settles : (home : Home) (log : LogMap) → Holds home s log [] → HoldsSettled home t log
+
+-- The whole.
+
+-- Append was purged: just these groups are answered, one round more was counted of those that are asked to be
+-- compacted, and the groups that the rules have were rewritten before files went. The rules speak of the
+-- tables as they were.
+pub record PurgesAppend (held : Option ℕ) (restated : Bool) (before after : MemTables) (old new : Rounds)
+    (groups : List ℕ) (s t : Shows) : Type 0 where
+  pub answered : ListsGroups (answers_at (Some (watermarks_of s.pipes)) restated before) groups
+  pub rounds : CountsRound (watermarks_of s.pipes) before old new
+  pub rewrites : RewritesPicked (rewrites_at (watermarks_of s.pipes) (count_of old) before)
+      (watermarks_of s.pipes).rewrite held after s t
+
+-- Append was let be: no group is asked to be compacted, and no round counted
+pub record LeavesAppend (restated : Bool) (before : MemTables) (old new : Rounds) (groups : List ℕ)
+    (s t : Shows) : Type 0 where
+  pub answered : ListsGroups (answers_at None restated before) groups
+  pub rounds : new ≡ old
+  pub same : t ≡ s
+
+-- Append was purged exactly where it is past its threshold
+abbrev pub PurgesIfPast : Thresholds → Option ℕ → Bool → MemTables → MemTables → Rounds → Rounds → List ℕ
+    → Shows → Shows → Type 0
+PurgesIfPast thresholds held restated before after old new groups s t =
+    (TakesAppend thresholds s.pipes × PurgesAppend held restated before after old new groups s t)
+    ⊎ ((TakesAppend thresholds s.pipes → ⊥) × LeavesAppend restated before old new groups s t)
+
+-- Append's purge was refused, and why: whatever the log was, with nothing pending, it is so; or the engine has
+-- failed, and its log is held
+pub record FailsToPurgeAppend (error : Error) (s t : Shows) : Type 0 where
+  pub tells : has_failed s ≡ false → IsTrue (has_failed t) ↔ (error ≡ errors.Failed)
+  pub later : IsLater s.pipes.disk t.pipes.disk
+  pub remains : (home : Home) (log : LogMap) → Holds home s log []
+      → Holds home t log [] ⊎ ((error ≡ errors.Failed) × IsLeftAt home t.pipes.disk log [])
+  pub cause : GivesReason error s t

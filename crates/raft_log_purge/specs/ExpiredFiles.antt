@@ -1,0 +1,76 @@
+-- What a purge does of both queues once their files are past their thresholds.
+use Rattle.std.specs.Prelude.{◌≡◌, ◌⊎◌, ℕ, Bool, true, false, List, [], Option}
+use Rattle.raft_log_model_laws.specs.Groups.{taken}
+use Rattle.raft_log_disk.specs.Causes.{IsLater}
+use Rattle.raft_log_record_base.specs.declared.errors.Error.{Error}
+use Rattle.raft_log_directory_laws.specs.Calls.Which.{InAppend}
+use Rattle.raft_log_table_one.specs.declared.global_stats.GlobalStats.{GlobalStats}
+use Rattle.raft_log_table_all.specs.declared.mem_tables.MemTables.{MemTables}
+use Rattle.raft_log_file_pair.specs.Pipes.{LogPipes, Said}
+use Rattle.raft_log_file_pair.specs.Calls.{SyncsQueue}
+use Rattle.raft_log_purge_parts.specs.raft_log_file_blocks.specs.declared.block_cache.BlockCache.{BlockCache}
+use Rattle.raft_log_purge_parts.specs.raft_log_engine_laws.specs.Shows.{Home, LogMap, Shows, has_failed, shows}
+use Rattle.raft_log_purge_parts.specs.raft_log_engine_laws.specs.Holding.{Holds}
+use Rattle.raft_log_purge_parts.specs.raft_log_engine_laws.specs.Settled.{HoldsSettled}
+use Rattle.raft_log_purge_rules.specs.declared.thresholds.Thresholds.{Thresholds}
+use Rattle.raft_log_purge_rules.specs.Watermarks.{TakesRewrite}
+use Rattle.raft_log_purge.specs.RewriteQueue.{RewritesRewrite, reset_counts}
+use Rattle.raft_log_purge.specs.declared.expired_files.PurgeCounts.{PurgeCounts}
+use Rattle.raft_log_purge.specs.Append.{FailsToRewriteAppend}
+use Rattle.raft_log_purge.specs.Expired.{PurgesIfPast}
+
+-- Rewrite was rewritten exactly where it is past its threshold and enough of it is garbage; else nothing is
+-- done. The tables are those before and after.
+abbrev pub RewritesIfPast : Thresholds → GlobalStats → GlobalStats → MemTables → MemTables → Bool → Shows
+    → Shows → Type 0
+RewritesIfPast thresholds old new before after true s t =
+    TakesRewrite thresholds old s.pipes × RewritesRewrite after s t × (new ≡ reset_counts old)
+RewritesIfPast thresholds old new before after false s t =
+    (TakesRewrite thresholds old s.pipes → ⊥) × (after ≡ before) × (t ≡ s) × (new ≡ old)
+
+-- Append was synced, and Rewrite rewritten, whatever its size is: the map stays, and nothing is pending in
+-- either queue.
+pub record SyncsAndRewrites (m : MemTables) (s t : Shows) : Type 0 where
+  pub synced : LogPipes
+  pub syncs : SyncsQueue InAppend s.pipes synced
+  pub rewrites : RewritesRewrite m (record s { pipes = synced }) t
+  pub alive : has_failed t ≡ false
+  pub later : IsLater s.pipes.disk t.pipes.disk
+  pub settles : (home : Home) (log : LogMap) (pending : List Said) → Holds home s log pending
+      → HoldsSettled home t (taken log pending)
+
+-- Expired files were purged, and just these groups are answered: Append was synced; Rewrite was rewritten
+-- where it is to be; then Append was purged where it is to be, but for what the pipes held back then. The map
+-- stays, and nothing is pending.
+pub record PurgesExpired (hold_back : LogPipes → Option ℕ → Type 0) (thresholds : Thresholds)
+    (before after : MemTables) (old new : PurgeCounts) (groups : List ℕ) (s t : Shows) : Type 0 where
+  pub synced : LogPipes
+  pub syncs : SyncsQueue InAppend s.pipes synced
+  pub restated : Bool
+  pub between : MemTables
+  pub pipes : LogPipes
+  pub cache : BlockCache
+  pub rewrites : RewritesIfPast thresholds old.stats new.stats before between restated
+      (record s { pipes = synced }) (shows pipes between cache)
+  pub held : Option ℕ
+  pub told : hold_back pipes held
+  pub purges : PurgesIfPast thresholds held restated between after old.rounds new.rounds groups
+      (shows pipes between cache) t
+  pub alive : has_failed t ≡ false
+  pub later : IsLater s.pipes.disk t.pipes.disk
+  pub holds : (home : Home) (log : LogMap) (pending : List Said) → Holds home s log pending
+      → Holds home t (taken log pending) []
+
+-- Either was refused, and why: the map stays, with nothing pending; or the engine has failed, and its log is
+-- held, with the batches on the map, or pending as they were.
+abbrev pub FailsToPurgeExpired : Error → Shows → Shows → Type 0
+FailsToPurgeExpired error s t = FailsToRewriteAppend error s t
+
+-- what stands no more in Rewrite is counted as it was, or no more
+abbrev pub KeepsOrResets : GlobalStats → GlobalStats → Type 0
+KeepsOrResets old new = (new ≡ old) ⊎ (new ≡ reset_counts old)
+
+-- what is counted where a purge was refused: no round; and of Rewrite as it was, or behind it was rewritten
+pub record KeepsCounts (old new : PurgeCounts) : Type 0 where
+  pub rounds : new.rounds ≡ old.rounds
+  pub stats : KeepsOrResets old.stats new.stats

@@ -1,0 +1,19 @@
+-- Files that nobody holds back.
+use Rattle.std.specs.Prelude.{ℕ, List, Option, None}
+use Rattle.raft_log_table_all.specs.declared.mem_tables.MemTables.{MemTables}
+use Rattle.raft_log_file_pair.specs.HoldingBack.{NothingIsHeldBack}
+use Rattle.raft_log_file_pair.specs.Pipes.{LogPipes}
+use Rattle.raft_log_purge_parts.specs.raft_log_engine_laws.specs.Shows.{Shows}
+use Rattle.raft_log_purge_rules.specs.Watermarks.{TakesAppend}
+use Rattle.raft_log_purge_rules.specs.declared.thresholds.Thresholds.{Thresholds}
+use Rattle.raft_log_purge.specs.declared.expired_files.PurgeCounts.{PurgeCounts}
+use Rattle.raft_log_purge.specs.Expired.{LosesBelow}
+use Rattle.raft_log_purge.specs.ExpiredFiles.{PurgesExpired}
+
+-- where nothing is held back, an Append that is past its threshold loses all files below the least of its last
+-- file and the least in use
+abbrev pub FreeFilesGo : (LogPipes → Option ℕ → Type 0) → Type 0
+FreeFilesGo hold_back = NothingIsHeldBack hold_back → (thresholds : Thresholds) (before after : MemTables)
+    (old new : PurgeCounts) (groups : List ℕ) (s t : Shows)
+    → (purged : PurgesExpired hold_back thresholds before after old new groups s t)
+    → TakesAppend thresholds purged.pipes → (copied : Shows) × LosesBelow None after copied t

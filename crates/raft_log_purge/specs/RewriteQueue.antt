@@ -1,0 +1,74 @@
+-- Rewrite is rewritten: what stands there is written again, and its old files go.
+use Rattle.std.specs.Prelude.{◌≡◌, ◌↔◌, ◌+◌, ◌-◌, ◌<◌, IsTrue, ℕ, Bool, true, false, []}
+use Rattle.raft_log_disk.specs.Causes.{IsLater}
+use Rattle.raft_log_record_base.specs.declared.errors.Error.{Error}
+use Rattle.raft_log_record_base.specs.declared.errors.Error.TheVariants as errors
+use Rattle.raft_log_record_base.specs.declared.pipe_log.LogQueue.TheVariants.{Rewrite}
+use Rattle.raft_log_directory_laws.specs.Calls.Which.{InRewrite}
+use Rattle.raft_log_table_one.specs.declared.global_stats.GlobalStats.{GlobalStats}
+use Rattle.raft_log_table_all.specs.declared.mem_tables.MemTables.{MemTables}
+use Rattle.raft_log_file_pair.specs.State.{pipe_at}
+use Rattle.raft_log_file_pair.specs.Pipes.{LogPipes, files_of}
+use Rattle.raft_log_file_pair.specs.Calls.{RotatesQueue, SyncsQueue}
+use Rattle.raft_log_purge_parts.specs.raft_log_engine_laws.specs.Shows.{Home, LogMap, Shows, has_failed}
+use Rattle.raft_log_purge_parts.specs.raft_log_engine_laws.specs.Holding.{Holds}
+use Rattle.raft_log_purge_parts.specs.raft_log_engine_laws.specs.Settled.{HoldsSettled}
+use Rattle.raft_log_purge_parts.specs.Files.{LosesFiles}
+use Rattle.raft_log_purge_parts.specs.Reasons.{GivesReason}
+use Rattle.raft_log_purge_parts.specs.Stale.{written_file}
+use Rattle.raft_log_purge_parts.specs.Restated.{IsRestatedFrom, Restates, StaysOrIsLeft, last_file}
+
+-- every group
+abbrev pub every : ℕ → Bool
+every g = true
+
+-- All groups were restated, and Rewrite was synced: whatever the log was, with nothing pending, it is so, and
+-- nothing of Rewrite is pending either.
+pub record RestatesAll (s t : Shows) : Type 0 where
+  pub restated : Shows
+  pub restates : Restates every s restated
+  pub syncs : SyncsQueue InRewrite restated.pipes t.pipes
+  pub same : t ≡ record restated { pipes = t.pipes }
+  pub alive : has_failed t ≡ false
+  pub later : IsLater s.pipes.disk t.pipes.disk
+  pub settles : (home : Home) (m : LogMap) → Holds home s m [] → HoldsSettled home t m
+
+-- the file with which Rewrite's span begins
+abbrev pub first_file : Shows → ℕ
+first_file s = (pipe_at InRewrite (files_of s.pipes)).first_seq
+
+-- Rewrite was rewritten: it went on in its next file; all groups were restated, and it was synced; then the
+-- files below the least that is in use left its span, which begins there, past the former last file. All that
+-- each group has in Rewrite lies behind that one. The map stays, and nothing is pending in either queue.
+pub record RewritesRewrite (m : MemTables) (s t : Shows) : Type 0 where
+  pub turned : LogPipes
+  pub turns : RotatesQueue InRewrite s.pipes turned
+  pub restated : Shows
+  pub restates : RestatesAll (record s { pipes = turned }) restated
+  pub count : ℕ
+  pub loses : LosesFiles Rewrite (written_file Rewrite restated.pipes) m count restated t
+  pub tables : t.tables ≡ restated.tables
+  pub counts : t.counts ≡ s.counts
+  pub alive : has_failed t ≡ false
+  pub later : IsLater s.pipes.disk t.pipes.disk
+  pub begins : (home : Home) (log : LogMap) → Holds home s log [] → first_file t ≡ loses.least
+  pub past : (home : Home) (log : LogMap) → Holds home s log [] → last_file s < first_file t
+  pub from : (home : Home) (log : LogMap) → Holds home s log [] → (g : ℕ)
+      → IsRestatedFrom (last_file s + 1) (s.tables g) (t.tables g)
+  pub settles : (home : Home) (log : LogMap) → Holds home s log [] → HoldsSettled home t log
+
+-- That was refused, and why: the map stays, with nothing pending; or the engine has failed, and its log is
+-- held.
+pub record FailsToRewriteRewrite (error : Error) (s t : Shows) : Type 0 where
+  pub counts : t.counts ≡ s.counts
+  pub tells : has_failed s ≡ false → IsTrue (has_failed t) ↔ (error ≡ errors.Failed)
+  pub later : IsLater s.pipes.disk t.pipes.disk
+  pub remains : StaysOrIsLeft error s t
+  pub cause : GivesReason error s t
+
+-- what stands no more in Rewrite is counted no more
+abbrev pub reset_counts : GlobalStats → GlobalStats
+reset_counts s = record s {
+  rewrite_entries = s.rewrite_entries - s.deleted_rewrite_entries;
+  deleted_rewrite_entries = 0;
+}

@@ -1,0 +1,201 @@
+//! Append is rewritten up to a file, and the files up to it go.
+
+ghost use Rattle.std.specs.Prelude.{◌≡◌, true, IfErr, IfOk, OnErr, OnOk};
+ghost use Rattle.raft_log_directory_laws.specs.Calls.Which.{InAppend};
+ghost use Rattle.raft_log_disk.specs.Causes.{IsLater};
+ghost use Rattle.raft_log_file_pair.specs.Calls.{FailsToRotateQueue, TellsFailure};
+ghost use Rattle.raft_log_file_pair.specs.Numbers.{EndsNumbers};
+ghost use Rattle.raft_log_purge_parts.specs.raft_log_engine_laws.specs.Shows.{shows};
+ghost use Rattle.raft_log_table_all.specs.Tables.{IsAtRest};
+ghost use Rattle.raft_log_purge_parts.specs.Groups.{StopsAtGroups, StopsRewriting};
+ghost use Rattle.raft_log_purge.specs.Append.{
+  FailsToLoseTo,
+  FailsToRewriteAppend,
+  GoesOnBehindMarks,
+  LosesTo,
+  PassesGate,
+  RewritesAll,
+  RewritesAppend,
+  RewritesThese,
+  StopsGoingOn,
+  ends_after,
+  up_to,
+};
+
+use log::Log;
+use raft_log_file_pair::PipeLog;
+use raft_log_purge_parts::raft_log_file_blocks::BlockCache;
+use raft_log_purge_parts::{least_file, rewrite_groups, rewrite_marks};
+use raft_log_record_base::{Error, FileId, FileSeq, LogQueue, Result};
+use raft_log_table_all::MemTables;
+use std::alloc::Global;
+
+/// Rewrites Append up to a file, the watermark: none after the last, and the last where there is none. Append
+/// is synced, goes on in its next file where the last one is to be rewritten, and marks are carried; then all
+/// groups are rewritten, and Rewrite is synced; then the files up to the watermark leave Append's span, and
+/// all others below the least in use. It ends behind the first or the second of these steps if asked.
+///
+/// Refused, the map stays: what a sync, a rotation, `rewrite_marks`, `rewrite_groups` and files that go refuse.
+pub fn rewrite_append_queue<P: PipeLog, L: Log>(
+    alloc: Global,
+    rt: &L,
+    pipes: &mut P,
+    tables: &mut MemTables,
+    cache: &mut BlockCache,
+    watermark: Option<FileSeq>,
+    exit_after_step: Option<u64>,
+) -> Result<()>
+    ensures ok { OnOk result (RewritesAppend watermark exit_after_step tables.new
+        (shows (P.shown pipes.old) tables.old cache.old) (shows (P.shown pipes.new) tables.new cache.new)) }
+    ensures err { IfErr result (λ error. FailsToRewriteAppend error
+        (shows (P.shown pipes.old) tables.old cache.old) (shows (P.shown pipes.new) tables.new cache.new)) }
+    ensures rests { IsAtRest tables.old → IsAtRest tables.new }
+{
+    pipes.sync(rt, LogQueue::Append)?;
+    let gate = pass_gate(alloc, rt, pipes, watermark)?;
+    rewrite_marks(alloc, rt, pipes, tables)?;
+    go_on(alloc, rt, pipes, tables, cache, gate, exit_after_step)
+}
+
+/// Up to which file Append is rewritten; it goes on in its next file where that is the last one.
+fn pass_gate<P: PipeLog, L: Log>(
+    alloc: Global,
+    rt: &L,
+    pipes: &mut P,
+    watermark: Option<FileSeq>,
+) -> Result<FileSeq>
+    ensures ok { IfOk result (λ gate. PassesGate watermark gate (P.shown pipes.old) (P.shown pipes.new)) }
+    ensures err { IfErr result (λ error.
+        FailsToRotateQueue InAppend error (P.shown pipes.old) (P.shown pipes.new)) }
+    ensures range { IfErr result (λ error. EndsNumbers InAppend error (P.shown pipes.old)) }
+    ensures fails { OnErr result (TellsFailure result (P.shown pipes.new)) }
+    ensures later { IsLater (P.shown pipes.old).disk (P.shown pipes.new).disk }
+{
+    let (_first, last) = pipes.file_span(LogQueue::Append);
+    let gate = up_to(watermark, last);
+    if gate < last {
+        return Ok(gate);
+    }
+    match pipes.rotate(alloc, rt, LogQueue::Append) {
+        Ok(()) => Ok(gate),
+        Err(error) => Err(error),
+    }
+}
+
+/// The file that was asked for, but none after the last; the last one where none was.
+pub(crate) fn up_to(watermark: Option<FileSeq>, last: FileSeq) -> FileSeq
+    ensures { result ≡ up_to watermark last }
+{
+    match watermark {
+        Some(seq) => seq.min(last),
+        None => last,
+    }
+}
+
+/// Whether a call is to end behind a step.
+fn ends_after(step: u64, exit_after_step: Option<u64>) -> bool
+    ensures { result ≡ ends_after step exit_after_step }
+{
+    match exit_after_step {
+        Some(last) => last == step,
+        None => false,
+    }
+}
+
+/// What is done behind the marks, as far as the call is to go.
+fn go_on<P: PipeLog, L: Log>(
+    alloc: Global,
+    rt: &L,
+    pipes: &mut P,
+    tables: &mut MemTables,
+    cache: &mut BlockCache,
+    gate: FileSeq,
+    exit_after_step: Option<u64>,
+) -> Result<()>
+    ensures ok { OnOk result (GoesOnBehindMarks exit_after_step gate tables.new
+        (shows (P.shown pipes.old) tables.old cache.old) (shows (P.shown pipes.new) tables.new cache.new)) }
+    ensures err { IfErr result (λ error. StopsGoingOn gate error
+        (shows (P.shown pipes.old) tables.old cache.old) (shows (P.shown pipes.new) tables.new cache.new)) }
+    ensures rests { IsAtRest tables.old → IsAtRest tables.new }
+{
+    if ends_after(1, exit_after_step) {
+        return Ok(());
+    }
+    rewrite_all(alloc, rt, pipes, tables, cache, gate)?;
+    if ends_after(2, exit_after_step) {
+        return Ok(());
+    }
+    purge_past(alloc, rt, pipes, tables, cache, gate)
+}
+
+/// Rewrites all groups up to a file, and syncs Rewrite.
+fn rewrite_all<P: PipeLog, L: Log>(
+    alloc: Global,
+    rt: &L,
+    pipes: &mut P,
+    tables: &mut MemTables,
+    cache: &mut BlockCache,
+    gate: FileSeq,
+) -> Result<()>
+    ensures ok { OnOk result (RewritesAll gate
+        (shows (P.shown pipes.old) tables.old cache.old) (shows (P.shown pipes.new) tables.new cache.new)) }
+    ensures err { IfErr result (λ error. StopsRewriting (λ g. true) gate error
+        (shows (P.shown pipes.old) tables.old cache.old) (shows (P.shown pipes.new) tables.new cache.new)) }
+    ensures rests { IsAtRest tables.old → IsAtRest tables.new }
+{
+    let groups = tables.known_groups()?;
+    rewrite_synced(alloc, rt, pipes, tables, cache, groups.as_slice(), gate)
+}
+
+/// Rewrites these groups up to a file, and syncs Rewrite.
+pub(crate) fn rewrite_synced<P: PipeLog, L: Log>(
+    alloc: Global,
+    rt: &L,
+    pipes: &mut P,
+    tables: &mut MemTables,
+    cache: &mut BlockCache,
+    groups: &[u64],
+    gate: FileSeq,
+) -> Result<()>
+    ensures ok { OnOk result (RewritesThese groups.now gate
+        (shows (P.shown pipes.old) tables.old cache.old) (shows (P.shown pipes.new) tables.new cache.new)) }
+    ensures err { IfErr result (λ error. StopsAtGroups groups.now gate error
+        (shows (P.shown pipes.old) tables.old cache.old) (shows (P.shown pipes.new) tables.new cache.new)) }
+    ensures rests { IsAtRest tables.old → IsAtRest tables.new }
+{
+    rewrite_groups(alloc, rt, pipes, tables, cache, groups, gate)?;
+    pipes.sync(rt, LogQueue::Rewrite)
+}
+
+/// Takes the files up to the gate out of Append's span, and all others below the least that is in use.
+///
+/// `Memory`, or `Other` where the file behind the gate is none of the span's: nothing is done.
+/// `NumberRange`: there is none. `Failed`: a file wasn't deleted.
+fn purge_past<P: PipeLog, L: Log>(
+    alloc: Global,
+    rt: &L,
+    pipes: &mut P,
+    tables: &MemTables,
+    cache: &mut BlockCache,
+    gate: FileSeq,
+) -> Result<()>
+    ensures ok { OnOk result (LosesTo gate tables.now
+        (shows (P.shown pipes.old) tables.now cache.old) (shows (P.shown pipes.new) tables.now cache.new)) }
+    ensures err { IfErr result (λ error. FailsToLoseTo gate error
+        (shows (P.shown pipes.old) tables.now cache.old) (shows (P.shown pipes.new) tables.now cache.new)) }
+{
+    let Some(past) = gate.checked_add(1) else {
+        return Err(Error::NumberRange);
+    };
+    let (first, last) = pipes.file_span(LogQueue::Append);
+    let least = least_file(tables, LogQueue::Append, last)?;
+    let seq = past.max(least);
+    if seq <= first {
+        return Ok(());
+    }
+    cache.clear();
+    match pipes.purge_to(alloc, rt, FileId::new(LogQueue::Append, seq)) {
+        Ok(_) => Ok(()),
+        Err(error) => Err(error),
+    }
+}

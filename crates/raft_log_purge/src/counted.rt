@@ -1,0 +1,121 @@
+//! Purges with what stands in Rewrite counted before them, and behind where they are answered: what of Rewrite
+//! is garbage is known by no other way. A purge that has nothing to do counts nothing: nothing is written to Rewrite
+//! between two that have, so that the next one finds the same.
+
+ghost use Rattle.std.specs.Prelude.{◌≤◌, IfErr, IfOk, OnErr, OnOk};
+ghost use Rattle.raft_log_record_base.specs.declared.pipe_log.LogQueue.TheVariants.{Append};
+ghost use Rattle.raft_log_file_pair.specs.HoldingBack.{PipesHoldBack};
+ghost use Rattle.raft_log_purge_parts.specs.raft_log_engine_laws.specs.Shows.{shows};
+ghost use Rattle.raft_log_table_all.specs.Tables.{IsAtRest};
+ghost use Rattle.raft_log_purge.specs.Append.{FailsToRewriteAppend, RewritesAppend};
+ghost use Rattle.raft_log_purge.specs.Counted.{
+  CountsAndKeeps,
+  CountsAndResets,
+  CountsIfPast,
+  PurgesAndCounts,
+};
+ghost use Rattle.raft_log_purge.specs.Counting.{CountsStanding, CountsTwice};
+ghost use Rattle.raft_log_purge.specs.ExpiredFiles.{FailsToPurgeExpired, SyncsAndRewrites};
+
+use crate::append::rewrite_append_queue;
+use crate::expired_files::{PurgeCounts, purge_expired_files, sync_and_rewrite};
+use log::Log;
+use raft_log_file_pair::PipeLog;
+use raft_log_purge_parts::raft_log_file_blocks::BlockCache;
+use raft_log_purge_rules::{Thresholds, is_any_past};
+use raft_log_record_base::{FileSeq, Result};
+use raft_log_table_all::MemTables;
+use std::alloc::Global;
+
+/// Purges both queues as `purge_expired_files` does. Where neither is past its threshold, nothing is counted.
+///
+/// Refused, what stands in Rewrite was counted before where a queue is past its threshold, and no round is counted.
+pub fn purge_and_count<P: PipeLog, L: Log>(
+    alloc: Global,
+    rt: &L,
+    thresholds: &Thresholds,
+    pipes: &mut P,
+    tables: &mut MemTables,
+    cache: &mut BlockCache,
+    counts: &mut PurgeCounts,
+) -> Result<Vec<u64>>
+    ensures ok { IfOk result (λ groups. PurgesAndCounts (PipesHoldBack P.shown P.holds_back Append)
+        thresholds.now tables.old tables.new counts.old counts.new groups.items
+        (shows (P.shown pipes.old) tables.old cache.old) (shows (P.shown pipes.new) tables.new cache.new)) }
+    ensures err { IfErr result (λ error. FailsToPurgeExpired error
+        (shows (P.shown pipes.old) tables.old cache.old) (shows (P.shown pipes.new) tables.new cache.new)) }
+    ensures kept { OnErr result (CountsIfPast thresholds.now (P.shown pipes.old) tables.old
+        counts.old counts.new) }
+    ensures rests { IsAtRest tables.old → IsAtRest tables.new }
+    ensures numbered { counts.old.number ≤ counts.new.number }
+{
+    let past = is_any_past(thresholds, pipes);
+    counts.count_if(past, tables);
+    let purged = purge_expired_files(alloc, rt, thresholds, pipes, tables, cache, counts);
+    if purged.is_ok() {
+        counts.count_if(past, tables);
+    }
+    purged
+}
+
+/// Syncs Append and rewrites Rewrite as `sync_and_rewrite` does.
+///
+/// Refused, what stands in Rewrite was counted before.
+pub fn rewrite_and_count<P: PipeLog, L: Log>(
+    alloc: Global,
+    rt: &L,
+    pipes: &mut P,
+    tables: &mut MemTables,
+    cache: &mut BlockCache,
+    counts: &mut PurgeCounts,
+) -> Result<()>
+    ensures ok { OnOk result (SyncsAndRewrites tables.new
+        (shows (P.shown pipes.old) tables.old cache.old) (shows (P.shown pipes.new) tables.new cache.new)) }
+    ensures err { IfErr result (λ error. FailsToPurgeExpired error
+        (shows (P.shown pipes.old) tables.old cache.old) (shows (P.shown pipes.new) tables.new cache.new)) }
+    ensures reset { OnOk result (CountsAndResets tables.old counts.old counts.new) }
+    ensures kept { OnErr result (CountsAndKeeps tables.old counts.old counts.new) }
+    ensures rests { IsAtRest tables.old → IsAtRest tables.new }
+    ensures numbered { counts.old.number ≤ counts.new.number }
+{
+    counts.count_standing(tables);
+    let PurgeCounts { stats, number, .. } = counts;
+    sync_and_rewrite(alloc, rt, pipes, tables, cache, stats, number)
+}
+
+/// Rewrites Append as `rewrite_append_queue` does.
+///
+/// Refused, what stands in Rewrite was counted before.
+pub fn rewrite_append_and_count<P: PipeLog, L: Log>(
+    alloc: Global,
+    rt: &L,
+    pipes: &mut P,
+    tables: &mut MemTables,
+    cache: &mut BlockCache,
+    counts: &mut PurgeCounts,
+    watermark: Option<FileSeq>,
+    exit_after_step: Option<u64>,
+) -> Result<()>
+    ensures ok { OnOk result (RewritesAppend watermark exit_after_step tables.new
+        (shows (P.shown pipes.old) tables.old cache.old) (shows (P.shown pipes.new) tables.new cache.new)) }
+    ensures err { IfErr result (λ error. FailsToRewriteAppend error
+        (shows (P.shown pipes.old) tables.old cache.old) (shows (P.shown pipes.new) tables.new cache.new)) }
+    ensures counted { OnOk result (CountsTwice tables.old tables.new counts.old counts.new) }
+    ensures kept { OnErr result (CountsStanding tables.old counts.old counts.new) }
+    ensures rests { IsAtRest tables.old → IsAtRest tables.new }
+{
+    counts.count_standing(tables);
+    let rewritten = rewrite_append_queue(
+        alloc,
+        rt,
+        pipes,
+        tables,
+        cache,
+        watermark,
+        exit_after_step,
+    );
+    if rewritten.is_ok() {
+        counts.count_standing(tables);
+    }
+    rewritten
+}

@@ -1,0 +1,171 @@
+//! Both queues are purged once their files are past their thresholds.
+
+ghost use Rattle.std.specs.Prelude.{◌≡◌, ◌≤◌, ℕ, IfErr, IfOk, OnErr, OnOk};
+ghost use Rattle.raft_log_record_base.specs.declared.pipe_log.LogQueue.TheVariants.{Append};
+ghost use Rattle.raft_log_file_pair.specs.HoldingBack.{PipesHoldBack};
+ghost use Rattle.raft_log_purge_parts.specs.raft_log_engine_laws.specs.Shows.{shows};
+ghost use Rattle.raft_log_table_all.specs.Tables.{IsAtRest};
+ghost use Rattle.raft_log_purge.specs.RewriteQueue.{FailsToRewriteRewrite, reset_counts};
+ghost use Rattle.raft_log_purge.specs.ExpiredFiles.{
+  FailsToPurgeExpired,
+  KeepsCounts,
+  KeepsOrResets,
+  PurgesExpired,
+  RewritesIfPast,
+  SyncsAndRewrites,
+};
+
+use crate::expired::purge_append;
+use crate::rewrite_queue::rewrite_rewrite_queue;
+use log::Log;
+use raft_log_file_pair::PipeLog;
+use raft_log_purge_parts::raft_log_file_blocks::BlockCache;
+use raft_log_purge_rules::{Rounds, Thresholds, takes_rewrite};
+use raft_log_record_base::{LogQueue, Result};
+use raft_log_table_all::MemTables;
+use raft_log_table_one::GlobalStats;
+use std::alloc::Global;
+
+/// What is counted from one purge of a log to the next.
+#[derive(Drop)]
+pub struct PurgeCounts {
+    /// In how many purges in a row each group was asked to be compacted.
+    pub rounds: Rounds,
+    /// What was written to Rewrite, and how much of that stands no more.
+    pub stats: GlobalStats,
+    /// The number of the next atomic group in Rewrite.
+    pub number: u64,
+}
+
+impl PurgeCounts {
+    ghost use Rattle.raft_log_purge_rules.specs.Picking.{count_of};
+    ghost use Rattle.raft_log_record_base.specs.declared.pipe_log.LogQueue.TheVariants.{Rewrite};
+    ghost use Rattle.raft_log_table_one.specs.Stats.{added, no_entries};
+    ghost use Rattle.raft_log_purge.specs.Counting.{CountsIf, CountsStanding};
+
+    /// So many entries and values were written to Rewrite before; nothing else was counted yet.
+    pub fn new(alloc: Global, written: u64) -> PurgeCounts
+        ensures rounds { (g : ℕ) → count_of result.rounds g ≡ 0 }
+        ensures stats { result.stats ≡ added Rewrite written no_entries }
+        ensures number { result.number ≡ 1 }
+    {
+        let mut stats = GlobalStats::new();
+        stats.add(LogQueue::Rewrite, written);
+        PurgeCounts {
+            rounds: Rounds::new(alloc),
+            stats,
+            number: 1,
+        }
+    }
+
+    /// Brings the counts to what stands in Rewrite: what stands there and wasn't counted was written, and what
+    /// was counted and doesn't stand is garbage.
+    pub fn count_standing(&mut self, tables: &MemTables)
+        ensures { CountsStanding tables.now self.old self.new }
+    {
+        let standing = tables.standing_count();
+        let live = self.stats.live_entries(LogQueue::Rewrite);
+        self.stats
+            .add(LogQueue::Rewrite, standing.saturating_sub(live));
+        self.stats
+            .delete(LogQueue::Rewrite, live.saturating_sub(standing));
+    }
+
+    /// Brings the counts to what stands in Rewrite, if that is wanted.
+    pub(crate) fn count_if(&mut self, wanted: bool, tables: &MemTables)
+        ensures { CountsIf wanted tables.now self.old self.new }
+    {
+        if wanted {
+            self.count_standing(tables);
+        }
+    }
+}
+
+/// Purges both queues where they are past their thresholds: Append is synced; Rewrite is rewritten where enough
+/// of it is garbage; then Append's marks are carried, the groups that the rules have are rewritten, and files
+/// go, none that whoever listens holds back. The answer is the groups that are asked to be compacted, from the
+/// least up; where Rewrite was rewritten, those that have many entries there too. The map stays, and nothing is
+/// pending.
+///
+/// Refused is what a sync, a rotation, the marks, what is copied, and files that go refuse: the map stays, and
+/// no round is counted.
+pub fn purge_expired_files<P: PipeLog, L: Log>(
+    alloc: Global,
+    rt: &L,
+    thresholds: &Thresholds,
+    pipes: &mut P,
+    tables: &mut MemTables,
+    cache: &mut BlockCache,
+    counts: &mut PurgeCounts,
+) -> Result<Vec<u64>>
+    ensures ok { IfOk result (λ groups. PurgesExpired (PipesHoldBack P.shown P.holds_back Append)
+        thresholds.now tables.old tables.new counts.old counts.new groups.items
+        (shows (P.shown pipes.old) tables.old cache.old) (shows (P.shown pipes.new) tables.new cache.new)) }
+    ensures err { IfErr result (λ error. FailsToPurgeExpired error
+        (shows (P.shown pipes.old) tables.old cache.old) (shows (P.shown pipes.new) tables.new cache.new)) }
+    ensures kept { OnErr result (KeepsCounts counts.old counts.new) }
+    ensures rests { IsAtRest tables.old → IsAtRest tables.new }
+    ensures numbered { counts.old.number ≤ counts.new.number }
+{
+    pipes.sync(rt, LogQueue::Append)?;
+    let PurgeCounts { stats, number, .. } = &mut *counts;
+    let restated = purge_rewrite(alloc, rt, thresholds, pipes, tables, cache, stats, number)?;
+    let held = pipes.first_file_not_ready_for_purge(LogQueue::Append);
+    let rounds = &mut counts.rounds;
+    purge_append(
+        alloc, rt, thresholds, pipes, tables, cache, rounds, held, restated,
+    )
+}
+
+/// Rewrites Rewrite where it is past its threshold and enough of it is garbage, and answers whether it was.
+fn purge_rewrite<P: PipeLog, L: Log>(
+    alloc: Global,
+    rt: &L,
+    thresholds: &Thresholds,
+    pipes: &mut P,
+    tables: &mut MemTables,
+    cache: &mut BlockCache,
+    stats: &mut GlobalStats,
+    number: &mut u64,
+) -> Result<bool>
+    ensures ok { IfOk result (λ restated. RewritesIfPast thresholds.now stats.old stats.new
+        tables.old tables.new restated
+        (shows (P.shown pipes.old) tables.old cache.old) (shows (P.shown pipes.new) tables.new cache.new)) }
+    ensures err { IfErr result (λ error. FailsToRewriteRewrite error
+        (shows (P.shown pipes.old) tables.old cache.old) (shows (P.shown pipes.new) tables.new cache.new)) }
+    ensures kept { OnErr result (KeepsOrResets stats.old stats.new) }
+    ensures rests { IsAtRest tables.old → IsAtRest tables.new }
+    ensures numbered { number.old ≤ number.new }
+{
+    if !takes_rewrite(thresholds, stats, pipes) {
+        return Ok(false);
+    }
+    rewrite_rewrite_queue(alloc, rt, pipes, tables, cache, stats, number)?;
+    Ok(true)
+}
+
+/// Syncs Append, and rewrites Rewrite, whatever its size is: what stands there is written again, and its old
+/// files go.
+///
+/// Refused is what a sync, a rotation, what is written again, and files that go refuse: the map stays.
+pub fn sync_and_rewrite<P: PipeLog, L: Log>(
+    alloc: Global,
+    rt: &L,
+    pipes: &mut P,
+    tables: &mut MemTables,
+    cache: &mut BlockCache,
+    stats: &mut GlobalStats,
+    number: &mut u64,
+) -> Result<()>
+    ensures ok { OnOk result (SyncsAndRewrites tables.new
+        (shows (P.shown pipes.old) tables.old cache.old) (shows (P.shown pipes.new) tables.new cache.new)) }
+    ensures err { IfErr result (λ error. FailsToPurgeExpired error
+        (shows (P.shown pipes.old) tables.old cache.old) (shows (P.shown pipes.new) tables.new cache.new)) }
+    ensures reset { OnOk result (stats.new ≡ reset_counts stats.old) }
+    ensures kept { OnErr result (KeepsOrResets stats.old stats.new) }
+    ensures rests { IsAtRest tables.old → IsAtRest tables.new }
+    ensures numbered { number.old ≤ number.new }
+{
+    pipes.sync(rt, LogQueue::Append)?;
+    rewrite_rewrite_queue(alloc, rt, pipes, tables, cache, stats, number)
+}

@@ -1,0 +1,70 @@
+//! Rewrite is rewritten: what stands there is written again, and its old files go.
+
+ghost use Rattle.std.specs.Prelude.{◌≡◌, ◌≤◌, ◌⊎◌, IfErr, OnErr, OnOk};
+ghost use Rattle.raft_log_purge_parts.specs.raft_log_engine_laws.specs.Shows.{shows};
+ghost use Rattle.raft_log_table_all.specs.Tables.{IsAtRest};
+ghost use Rattle.raft_log_purge.specs.RewriteQueue.{FailsToRewriteRewrite, RestatesAll, RewritesRewrite, reset_counts};
+
+use log::Log;
+use raft_log_file_pair::PipeLog;
+use raft_log_purge_parts::purge_stale;
+use raft_log_purge_parts::raft_log_file_blocks::BlockCache;
+use raft_log_purge_parts::restating::restate_groups;
+use raft_log_record_base::{LogQueue, Result};
+use raft_log_table_all::MemTables;
+use raft_log_table_one::GlobalStats;
+use std::alloc::Global;
+
+/// Rewrites Rewrite: it goes on in its next file; all groups are restated, and it is synced; the counts of
+/// what was written there and stands no more are reset; then its files below the least that is in use go. The
+/// number is the one that the next atomic group gets, and is counted on.
+///
+/// Nothing of Append may be pending, for the map to stay: its caller has synced it. Refused, the map stays
+/// too: what a rotation, `restate_groups`, a sync and `purge_stale` refuse. The counts are reset once all is
+/// synced.
+pub fn rewrite_rewrite_queue<P: PipeLog, L: Log>(
+    alloc: Global,
+    rt: &L,
+    pipes: &mut P,
+    tables: &mut MemTables,
+    cache: &mut BlockCache,
+    stats: &mut GlobalStats,
+    number: &mut u64,
+) -> Result<()>
+    ensures ok { OnOk result (RewritesRewrite tables.new
+        (shows (P.shown pipes.old) tables.old cache.old) (shows (P.shown pipes.new) tables.new cache.new)) }
+    ensures err { IfErr result (λ error. FailsToRewriteRewrite error
+        (shows (P.shown pipes.old) tables.old cache.old) (shows (P.shown pipes.new) tables.new cache.new)) }
+    ensures rests { IsAtRest tables.old → IsAtRest tables.new }
+    ensures reset { OnOk result (stats.new ≡ reset_counts stats.old) }
+    ensures kept { OnErr result ((stats.new ≡ stats.old) ⊎ (stats.new ≡ reset_counts stats.old)) }
+    ensures counted { number.old ≤ number.new }
+{
+    pipes.rotate(alloc, rt, LogQueue::Rewrite)?;
+    restate_all(alloc, rt, pipes, tables, cache, number)?;
+    stats.reset_rewrite_counters();
+    let (_first, last) = pipes.file_span(LogQueue::Rewrite);
+    purge_stale(alloc, rt, pipes, tables, cache, LogQueue::Rewrite, last)?;
+    Ok(())
+}
+
+/// Restates all groups, and syncs Rewrite.
+fn restate_all<P: PipeLog, L: Log>(
+    alloc: Global,
+    rt: &L,
+    pipes: &mut P,
+    tables: &mut MemTables,
+    cache: &mut BlockCache,
+    number: &mut u64,
+) -> Result<()>
+    ensures ok { OnOk result (RestatesAll
+        (shows (P.shown pipes.old) tables.old cache.old) (shows (P.shown pipes.new) tables.new cache.new)) }
+    ensures err { IfErr result (λ error. FailsToRewriteRewrite error
+        (shows (P.shown pipes.old) tables.old cache.old) (shows (P.shown pipes.new) tables.new cache.new)) }
+    ensures rests { IsAtRest tables.old → IsAtRest tables.new }
+    ensures counted { number.old ≤ number.new }
+{
+    let groups = tables.known_groups()?;
+    restate_groups(alloc, rt, pipes, tables, cache, groups.as_slice(), number)?;
+    pipes.sync(rt, LogQueue::Rewrite)
+}

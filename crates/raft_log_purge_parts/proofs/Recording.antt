@@ -1,0 +1,58 @@
+-- Records that are written to Rewrite, or refused there.
+use Rattle.std.proofs.Common.{◌≡◌, ◌+◌, ◌-◌, ◌^◌, ℕ, List, cond, inl, inr, min, ap, arith, subst, sym, ◌∙◌}
+use Rattle.std.specs.Prelude.{Err, Ok}
+use Rattle.std.proofs.lemmas.Bool.Decides.{nat_tests}
+use Rattle.raft_log_disk.specs.Causes.{IsLater}
+use Rattle.raft_log_record_base.specs.declared.errors.Error.{Error}
+use Rattle.raft_log_record_base.specs.declared.pipe_log.FileBlockHandle.{FileBlockHandle}
+use Rattle.raft_log_record_items.specs.declared.item.LogItem.{LogItem}
+use Rattle.raft_log_record_items.specs.Placed.{written}
+use Rattle.raft_log_record_batches.specs.Batch.{Batch, block_place, IsReadyForEach}
+use Rattle.raft_log_file_blocks.specs.Signing.{signed_for}
+use Rattle.raft_log_directory_laws.specs.Calls.Which.{InRewrite}
+use Rattle.raft_log_file_pair.specs.Pipes.{LogPipes}
+use Rattle.raft_log_file_pair.specs.Calls.{AppendsTo, FailsToAppendTo, TellsFailure}
+use Rattle.raft_log_file_pair.specs.Numbers.{EndsNumbersAt}
+use Rattle.raft_log_purge_parts.specs.Parts.{IsRecordMade}
+use Rattle.raft_log_purge_parts.proofs.PartExits.{alive_ok, later_on, same_record, tells_err}
+use Rattle.raft_log_purge_parts.specs.Syncing.{left_unsynced, CountsRecord, MaySync, SyncsIfDue}
+use Rattle.raft_log_purge_parts.specs.Records.{FailsToWriteRecord, WritesToRewrite}
+
+module _ (b made : Batch) (v mid w : LogPipes) (syncs : MaySync v mid) (is : IsRecordMade b made) (before : IsLater v.disk mid.disk) (later : IsLater mid.disk w.disk) where
+  pub record_written : (block : FileBlockHandle) (items : List LogItem) → TellsFailure (Ok block) w → AppendsTo InRewrite (signed_for made) block mid w → items ≡ written (block_place block b.entries) b.items → WritesToRewrite b block items v w
+  record_written block items tells call there = record {
+    synced = mid;
+    syncs = syncs;
+    says = is.says;
+    laid = is.laid;
+    call = subst (λ s. AppendsTo InRewrite s block mid w) (same_record b made is) call;
+    there = there;
+    alive = alive_ok block w tells;
+    later = later_on v.disk mid.disk w.disk before later;
+  }
+
+  pub record_refused : {A : Type 0} (error : Error) → TellsFailure {A = A} (Err error) w → FailsToAppendTo InRewrite (signed_for made) error mid w → EndsNumbersAt InRewrite (signed_for made) error mid w → FailsToWriteRecord b error v w
+  record_refused {A} error tells call ends = record {
+    why = inr (inr (record {
+      synced = mid;
+      syncs = syncs;
+      says = is.says;
+      laid = is.laid;
+      call = subst (λ s. FailsToAppendTo InRewrite s error mid w) (same_record b made is) call;
+      range = subst (λ s. EndsNumbersAt InRewrite s error mid w) (same_record b made is) ends;
+      before = before;
+    }));
+    tells = λ lived. tells_err {A = A} error w tells;
+    later = later_on v.disk mid.disk w.disk before later;
+  }
+
+-- what is left unsynced behind a sync that is made where it is due
+left_is : (old now : ℕ) (v w : LogPipes) → SyncsIfDue old now v w → now ≡ left_unsynced old
+left_is old now v w (inl p) = grind (arith, nat_tests, p.0, p.1)
+left_is old now v w (inr p) = grind (arith, nat_tests, p.0, p.1)
+
+-- a record that is written behind it counts
+pub counts_record : (b : Batch) (old now new len : ℕ) (v w : LogPipes) → SyncsIfDue old now v w
+    → IsReadyForEach len b.items b.entries → new ≡ min (now + len) (2 ^ 64 - 1) → CountsRecord b old new
+counts_record b old now new len v w due ready is =
+    (len, ready, is ∙ ap (λ n. min (n + len) (2 ^ 64 - 1)) (left_is old now v w due))

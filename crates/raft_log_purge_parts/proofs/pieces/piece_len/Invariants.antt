@@ -1,0 +1,7 @@
+use Rattle.std.proofs.Common.{◌≡◌, ◌+◌, sum_by, take}
+use Rattle.raft_log_purge_parts.specs.Entries.{max_piece}
+use Rattle.raft_log_purge_parts.proofs.pieces.piece_len.Given as goal
+
+-- what the entries so far have and what is left make up the greatest size
+abbrev pub invariant-loop-i : goal.invariant-loop-i
+invariant-loop-i l = l.left + sum_by (λ e. e.entry_len) (take l.i l.entries) ≡ max_piece

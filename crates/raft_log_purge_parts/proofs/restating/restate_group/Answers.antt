@@ -1,0 +1,24 @@
+use Rattle.std.proofs.Common.{List, ℕ, sym, subst, ◌∙◌}
+use Rattle.std.proofs.lemmas.Result.{err_from_is_err_and}
+use Rattle.raft_log_table_lists.specs.Listing.{ListsAll, rewritten_values}
+use Rattle.raft_log_table_all.specs.Tables.{shown_of}
+use Rattle.raft_log_engine_laws.specs.Shows.{shows}
+use Rattle.raft_log_purge_parts.proofs.Closing.{nothing_done, these_restated}
+use Rattle.raft_log_purge_parts.proofs.restating.restate_group.Goals as goal
+
+pub returns-in_err-entries-clause-err : goal.returns-in_err-entries-clause-err
+returns-in_err-entries-clause-err g c =
+    let p = err_from_is_err_and c.from_residual.result c.from_residual.ensures.1 in
+    rw p.1 (nothing_done p.0 (shows (g.P.PipeLog.shown c.args.pipes.now) c.args.tables.now c.args.cache.now) p.2)
+
+pub returns-in_err-pairs-clause-err : goal.returns-in_err-pairs-clause-err
+returns-in_err-pairs-clause-err g c =
+    let p = err_from_is_err_and c.from_residual-in_err-pairs.result c.from_residual-in_err-pairs.ensures.1 in
+    rw p.1 (nothing_done p.0 (shows (g.P.PipeLog.shown c.args.pipes.now) c.args.tables.now c.args.cache.now) p.2)
+
+pub returns-clause-ok : goal.returns-clause-ok
+returns-clause-ok g c =
+    let s = shows (g.P.PipeLog.shown c.args.pipes.now) c.args.tables.now c.args.cache.now in
+    let t = shows (g.P.PipeLog.shown c.restate_in_parts.new.pipes) c.restate_in_parts.new.tables c.restate_in_parts.new.cache in
+    let keys = subst (λ (l : List (List ℕ × List ℕ)). ListsAll (rewritten_values (shown_of c.args.tables.now c.args.group)) l) (sym c.as_slice-keys.ensures.value) c.in_ok-pairs.ensures in
+    these_restated c.restate_in_parts.result c.args.group c.as_slice-es.result.now c.as_slice-keys.result.now s t (record { entries = c.as_slice-es.ensures.value ∙ c.in_ok-entries.ensures; keys = keys }) c.restate_in_parts.ensures.ok

@@ -1,0 +1,93 @@
+use Rattle.std.proofs.Common.{◌≡◌, ℕ, List, [], ◌∷◌, ◌++◌, sym, ap, subst, ◌∙◌}
+use Rattle.std.proofs.lemmas.Result.{err_from_is_err_and}
+use Rattle.raft_log_engine_laws.specs.Shows.{shows}
+use Rattle.raft_log_purge_parts.specs.declared.parts.RestatedPart.{RestatedPart}
+use Rattle.raft_log_purge_parts.specs.GroupParts.{HasParts}
+use Rattle.raft_log_purge_parts.proofs.Closing.{ended_then, not_ended_then, not_restated_then, restated_then}
+use Rattle.raft_log_purge_parts.proofs.Opening.{given_up}
+use Rattle.raft_log_purge_parts.proofs.restating.restate_in_parts.Goals as goal
+
+pub returns-in_err-first-clause-err : goal.returns-in_err-first-clause-err
+returns-in_err-first-clause-err g c =
+    let p = err_from_is_err_and c.from_residual.result c.from_residual.ensures.1 in
+    rw (p.1, p.2) (λ stands. c.in_err-first.ensures.err c.args.tables.now stands.entries)
+
+pub returns-in_err-push-clause-err : goal.returns-in_err-push-clause-err
+returns-in_err-push-clause-err g c =
+    let p = err_from_is_err_and c.from_residual-in_err-push.result c.from_residual-in_err-push.ensures.1 in
+    let m = c.args.tables.now in
+    let s = shows (g.P.PipeLog.shown c.args.pipes.now) m c.args.cache.now in
+    rw p.1
+    (λ stands.
+    given_up c.args.group c.args.builder.now.id c.args.count (c.in_ok-first.first ∷ []) s (shows (g.P.PipeLog.shown c.begin_parts.new.pipes) m c.begin_parts.new.cache) (c.in_ok-first.ensures.ok m stands.entries) p.0 p.2)
+
+pub returns-in_err-done-clause-err : goal.returns-in_err-done-clause-err
+returns-in_err-done-clause-err g c =
+    let p = err_from_is_err_and c.from_residual-in_err-done.result c.from_residual-in_err-done.ensures.1 in
+    let m = c.args.tables.now in
+    let s = shows (g.P.PipeLog.shown c.args.pipes.now) m c.args.cache.now in
+    let one = shows (g.P.PipeLog.shown c.begin_parts.new.pipes) m c.begin_parts.new.cache in
+    let pushed : c.push.new.self.items ≡ c.in_ok-first.first ∷ [] = c.in_ok-push.ensures.items ∙ ap (λ (l : List RestatedPart). l ++ c.in_ok-first.first ∷ []) c.new-parts.ensures.items in
+    rw (p.1, p.2)
+    (λ stands.
+    c.in_err-done.ensures.err m s stands.entries
+    (subst (λ (l : List RestatedPart). HasParts c.args.group c.begin_parts.new.builder.id c.args.count l s one) (sym pushed)
+    (subst (λ (n : ℕ). HasParts c.args.group n c.args.count (c.in_ok-first.first ∷ []) s one) (sym c.in_ok-first.ensures.same) (c.in_ok-first.ensures.ok m stands.entries))))
+
+pub returns-in_err-batch-clause-err : goal.returns-in_err-batch-clause-err
+returns-in_err-batch-clause-err g c =
+    let p = err_from_is_err_and c.from_residual-in_err-batch.result c.from_residual-in_err-batch.ensures.1 in
+    let m = c.args.tables.now in
+    let s = shows (g.P.PipeLog.shown c.args.pipes.now) m c.args.cache.now in
+    let one = shows (g.P.PipeLog.shown c.begin_parts.new.pipes) m c.begin_parts.new.cache in
+    let two = shows (g.P.PipeLog.shown c.write_middles.new.pipes) m c.write_middles.new.cache in
+    let pushed : c.push.new.self.items ≡ c.in_ok-first.first ∷ [] = c.in_ok-push.ensures.items ∙ ap (λ (l : List RestatedPart). l ++ c.in_ok-first.first ∷ []) c.new-parts.ensures.items in
+    rw (p.1, p.2)
+    (λ stands.
+    c.in_err-batch.ensures.err c.write_middles.new.parts.items m s stands.entries stands.keys
+    (subst (λ (n : ℕ). HasParts c.args.group n c.in_ok-done.done c.write_middles.new.parts.items s two) (sym c.in_ok-done.ensures.same)
+    (c.in_ok-done.ensures.ok m s stands.entries
+    (subst (λ (l : List RestatedPart). HasParts c.args.group c.begin_parts.new.builder.id c.args.count l s one) (sym pushed)
+    (subst (λ (n : ℕ). HasParts c.args.group n c.args.count (c.in_ok-first.first ∷ []) s one) (sym c.in_ok-first.ensures.same) (c.in_ok-first.ensures.ok m stands.entries))))))
+
+pub returns-clause-ok : goal.returns-clause-ok
+returns-clause-ok g c =
+    let m = c.args.tables.now in
+    let s = shows (g.P.PipeLog.shown c.args.pipes.now) m c.args.cache.now in
+    let one = shows (g.P.PipeLog.shown c.begin_parts.new.pipes) m c.begin_parts.new.cache in
+    let v = g.P.PipeLog.shown c.write_middles.new.pipes in
+    let two = shows v m c.write_middles.new.cache in
+    let w = g.P.PipeLog.shown c.end_parts.new.pipes in
+    let parts = c.write_middles.new.parts.items in
+    let pushed : c.push.new.self.items ≡ c.in_ok-first.first ∷ [] = c.in_ok-push.ensures.items ∙ ap (λ (l : List RestatedPart). l ++ c.in_ok-first.first ∷ []) c.new-parts.ensures.items in
+    restated_then c.end_parts.result c.args.group c.args.entries.now c.args.pairs.now s (shows w c.end_parts.new.tables c.last_batch.new.cache)
+    (λ stands.
+    let made =
+    c.in_ok-batch.ensures.ok parts m s stands.entries
+    (subst (λ (n : ℕ). HasParts c.args.group n c.in_ok-done.done parts s two) (sym c.in_ok-done.ensures.same)
+    (c.in_ok-done.ensures.ok m s stands.entries
+    (subst (λ (l : List RestatedPart). HasParts c.args.group c.begin_parts.new.builder.id c.args.count l s one) (sym pushed)
+    (subst (λ (n : ℕ). HasParts c.args.group n c.args.count (c.in_ok-first.first ∷ []) s one) (sym c.in_ok-first.ensures.same) (c.in_ok-first.ensures.ok m stands.entries))))) in
+    ended_then c.end_parts.result c.args.group c.write_middles.new.builder.id c.in_ok-done.done c.as_slice.result.now c.args.pairs.now c.in_ok-batch.batch s v w m c.end_parts.new.tables c.last_batch.new.cache
+    (subst (λ (l : List RestatedPart). HasParts c.args.group c.write_middles.new.builder.id c.in_ok-done.done l s (shows v m c.last_batch.new.cache)) (sym c.as_slice.ensures.value) made.0) made.1 stands.keys c.end_parts.ensures.ok)
+
+pub returns-clause-err : goal.returns-clause-err
+returns-clause-err g c =
+    let m = c.args.tables.now in
+    let s = shows (g.P.PipeLog.shown c.args.pipes.now) m c.args.cache.now in
+    let one = shows (g.P.PipeLog.shown c.begin_parts.new.pipes) m c.begin_parts.new.cache in
+    let v = g.P.PipeLog.shown c.write_middles.new.pipes in
+    let two = shows v m c.write_middles.new.cache in
+    let w = g.P.PipeLog.shown c.end_parts.new.pipes in
+    let parts = c.write_middles.new.parts.items in
+    let pushed : c.push.new.self.items ≡ c.in_ok-first.first ∷ [] = c.in_ok-push.ensures.items ∙ ap (λ (l : List RestatedPart). l ++ c.in_ok-first.first ∷ []) c.new-parts.ensures.items in
+    not_restated_then c.end_parts.result c.args.group c.args.entries.now c.args.pairs.now s (shows w c.end_parts.new.tables c.last_batch.new.cache)
+    (λ stands.
+    let made =
+    c.in_ok-batch.ensures.ok parts m s stands.entries
+    (subst (λ (n : ℕ). HasParts c.args.group n c.in_ok-done.done parts s two) (sym c.in_ok-done.ensures.same)
+    (c.in_ok-done.ensures.ok m s stands.entries
+    (subst (λ (l : List RestatedPart). HasParts c.args.group c.begin_parts.new.builder.id c.args.count l s one) (sym pushed)
+    (subst (λ (n : ℕ). HasParts c.args.group n c.args.count (c.in_ok-first.first ∷ []) s one) (sym c.in_ok-first.ensures.same) (c.in_ok-first.ensures.ok m stands.entries))))) in
+    not_ended_then c.end_parts.result c.args.group c.write_middles.new.builder.id c.in_ok-done.done c.as_slice.result.now c.args.pairs.now c.in_ok-batch.batch s v w m c.end_parts.new.tables c.last_batch.new.cache
+    (subst (λ (l : List RestatedPart). HasParts c.args.group c.write_middles.new.builder.id c.in_ok-done.done l s (shows v m c.last_batch.new.cache)) (sym c.as_slice.ensures.value) made.0) made.1 stands.keys c.end_parts.ensures.err)

@@ -1,0 +1,15 @@
+use Rattle.std.proofs.Common.{drop, take}
+use Rattle.raft_log_table_all.specs.Rewriting.{GroupsStay}
+use Rattle.raft_log_table_all.specs.Tables.{IsAtRest}
+use Rattle.raft_log_purge_parts.specs.Taking.{HaveRoom}
+use Rattle.raft_log_purge_parts.proofs.Room.{TakesParts}
+use Rattle.raft_log_purge_parts.proofs.taking.take_items.Given as goal
+
+-- the parts so far moved, and there is room for the others
+abbrev pub invariant-loop-part : goal.invariant-loop-part
+invariant-loop-part l = record {
+  took : TakesParts (take l.part-index l.parts) l.fn.tables l.tables;
+  stay : GroupsStay l.fn.tables l.tables;
+  room : HaveRoom l.tables (drop l.part-index l.parts) l.items;
+  rests : IsAtRest l.fn.tables → IsAtRest l.tables;
+}

@@ -1,0 +1,60 @@
+use Rattle.std.proofs.Common.{◌≡◌, List, sym, refl, ap, subst, ◌∙◌}
+use Rattle.raft_log_record_base.specs.declared.pipe_log.FileBlockHandle.{FileBlockHandle}
+use Rattle.raft_log_record_items.specs.declared.item.LogItem.{LogItem}
+use Rattle.raft_log_record_items.specs.Placed.{written}
+use Rattle.raft_log_record_batches.specs.Batch.{Batch, block_place}
+use Rattle.raft_log_purge_parts.proofs.PartExits.{record_is_made}
+use Rattle.raft_log_purge_parts.proofs.Copying.{written_there}
+use Rattle.raft_log_purge_parts.specs.Taking.{HaveRoom}
+use Rattle.raft_log_purge_parts.proofs.Recording.{record_refused, record_written}
+use Rattle.raft_log_purge_parts.proofs.Room.{last_written, room_written, same_twice}
+use Rattle.raft_log_purge_parts.proofs.taking.write_last.Goals as goal
+
+pub take_items-requires : goal.take_items-requires
+take_items-requires g c =
+    let b = c.args.batch in
+    let pop = c.in_ok-len.ensures.ok in
+    let made = c.new-signed.ensures in
+    let back = c.into_batch-batch.result in
+    let is_back = c.into_batch-batch.ensures.batch in
+    let said = c.append-appended.ensures.said in
+    let same : back.items ≡ b.items = ap (λ (x : Batch). x.items) is_back ∙ ap (λ (x : Batch). x.items) said ∙ ap (λ (x : Batch). x.items) made ∙ ap (λ (x : Batch). x.items) pop in
+    let bytes : back.entries ≡ b.entries = ap (λ (x : Batch). x.entries) is_back ∙ ap (λ (x : Batch). x.entries) said ∙ ap (λ (x : Batch). x.entries) made ∙ ap (λ (x : Batch). x.entries) pop in
+    let there = written_there b back c.finish_write.new.self c.in-Ok.block c.items-in-Ok.result.now same bytes c.finish_write.ensures.written c.items-in-Ok.ensures in
+    let here : c.items.result.now ≡ b.items = c.items.ensures ∙ ap (λ (x : Batch). x.items) pop in
+    let room = subst (λ (l : List LogItem). HaveRoom c.make_room.new.tables c.args.parts.now l) here c.in_ok-make_room.ensures.ok in
+    subst (λ (l : List LogItem). HaveRoom c.make_room.new.tables c.args.parts.now l) (sym there) (room_written c.make_room.new.tables c.args.parts.now b.items room (block_place c.in-Ok.block b.entries))
+
+pub returns-in-Ok-clause-ok : goal.returns-in-Ok-clause-ok
+returns-in-Ok-clause-ok g c =
+    let b = c.args.batch in
+    let pop = c.in_ok-len.ensures.ok in
+    let made = c.new-signed.ensures in
+    let back = c.into_batch-batch.result in
+    let is_back = c.into_batch-batch.ensures.batch in
+    let e = c.in-Ok.ensures in
+    let n = c.encoded_len.ensures in
+    let items_made : c.new-signed.result.batch.items ≡ b.items = ap (λ (x : Batch). x.items) made ∙ ap (λ (x : Batch). x.items) pop in
+    let bytes_made : c.new-signed.result.batch.entries ≡ b.entries = ap (λ (x : Batch). x.entries) made ∙ ap (λ (x : Batch). x.entries) pop in
+    let is = record_is_made b c.new-signed.result.batch items_made bytes_made n.says n.laid n.adds in
+    let same : back.items ≡ b.items = ap (λ (x : Batch). x.items) is_back ∙ ap (λ (x : Batch). x.items) e.said ∙ items_made in
+    let bytes : back.entries ≡ b.entries = ap (λ (x : Batch). x.entries) is_back ∙ ap (λ (x : Batch). x.entries) e.said ∙ bytes_made in
+    let there = written_there b back c.finish_write.new.self c.in-Ok.block c.items-in-Ok.result.now same bytes c.finish_write.ensures.written c.items-in-Ok.ensures in
+    last_written c.args.parts.now b c.in-Ok.block c.items-in-Ok.result.now (g.P.PipeLog.shown c.args.pipes.now) (g.P.PipeLog.shown c.append-appended.new.self) c.args.tables.now c.make_room.new.tables c.take_items.new.tables
+    (record_written b c.new-signed.result.batch (g.P.PipeLog.shown c.args.pipes.now) (g.P.PipeLog.shown c.sync_if_due.new.pipes) (g.P.PipeLog.shown c.append-appended.new.self) c.in_ok-sync_if_due.ensures.ok is c.in_ok-sync_if_due.ensures.later e.later
+    c.in-Ok.block (written (block_place c.in-Ok.block b.entries) b.items) e.fails e.ok refl)
+    c.make_room.ensures.shows c.in_ok-make_room.ensures.stay there c.take_items.ensures.took
+
+pub returns-clause-err : goal.returns-clause-err
+returns-clause-err g c =
+    let b = c.args.batch in
+    let pop = c.in_ok-len.ensures.ok in
+    let made = c.new-signed.ensures in
+    let e = c.in-Err.ensures in
+    let n = c.encoded_len.ensures in
+    let is = record_is_made b c.new-signed.result.batch (ap (λ (x : Batch). x.items) made ∙ ap (λ (x : Batch). x.items) pop) (ap (λ (x : Batch). x.entries) made ∙ ap (λ (x : Batch). x.entries) pop) n.says n.laid n.adds in record {
+      fails =
+          record_refused b c.new-signed.result.batch (g.P.PipeLog.shown c.args.pipes.now) (g.P.PipeLog.shown c.sync_if_due.new.pipes) (g.P.PipeLog.shown c.append-appended.new.self) c.in_ok-sync_if_due.ensures.ok is c.in_ok-sync_if_due.ensures.later e.later
+          {A = FileBlockHandle} c.in-Err.error e.fails e.err e.range;
+      same = same_twice c.args.tables.now c.make_room.new.tables c.take_back.new.self c.make_room.ensures.shows c.take_back.ensures.shows;
+    }

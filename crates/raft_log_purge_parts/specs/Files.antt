@@ -1,0 +1,75 @@
+-- Files that are no longer needed go.
+use Rattle.std.specs.Prelude.{◌≡◌, ◌↔◌, ◌⊎◌, ◌≤◌, ◌-◌, IsTrue, ℕ, None, Option, Some, false, []}
+use Rattle.raft_log_disk.specs.Causes.{IsLater}
+use Rattle.raft_log_record_base.specs.declared.errors.Error.{Error}
+use Rattle.raft_log_record_base.specs.declared.errors.Error.TheVariants as errors
+use Rattle.raft_log_record_base.specs.declared.pipe_log.LogQueue.{LogQueue}
+use Rattle.raft_log_machine_laws.specs.Whereabouts.{OwesNothing}
+use Rattle.raft_log_directory_laws.specs.Calls.{Which}
+use Rattle.raft_log_directory_laws.specs.Calls.Which.{InAppend, InRewrite}
+use Rattle.raft_log_file_pipe.specs.Purging.{IsInSpan}
+use Rattle.raft_log_table_lists.specs.Shown.{Shown, whereabouts}
+use Rattle.raft_log_engine_laws.specs.raft_log_table_one.specs.Files.{IsMinFile, min_file}
+use Rattle.raft_log_engine_laws.specs.raft_log_table_one.specs.Table.{Raw}
+use Rattle.raft_log_table_all.specs.declared.mem_tables.MemTables.{MemTables}
+use Rattle.raft_log_table_all.specs.Tables.{raw_of, shown_of}
+use Rattle.raft_log_file_pair.specs.State.{pipe_at}
+use Rattle.raft_log_file_pair.specs.Pipes.{files_of, which_of}
+use Rattle.raft_log_engine_laws.specs.Shows.{Home, LogMap, Shows, has_failed}
+use Rattle.raft_log_engine_laws.specs.Holding.{IsLeftAt}
+use Rattle.raft_log_engine_laws.specs.Settled.{HoldsSettled}
+use Rattle.raft_log_purge_parts.specs.Reasons.{HasFileReason}
+
+-- the least file of a queue in which a group has something, if it has a table, and there is one
+abbrev pub least_in : LogQueue → Option Raw → Option ℕ
+least_in queue None = None
+least_in queue (Some t) = min_file queue t
+
+-- it is the least file of a queue in which a group has something, as its table answers it and by what shows
+abbrev pub IsLeastIn : LogQueue → MemTables → ℕ → ℕ → Type 0
+IsLeastIn queue m g n = (least_in queue (raw_of m g) ≡ Some n) × IsMinFile queue (shown_of m g) (Some n)
+
+-- the least file of a queue in which any group has something, where that is below the limit, else the limit
+pub record IsLeastOf (queue : LogQueue) (limit : ℕ) (m : MemTables) (least : ℕ) : Type 0 where
+  pub limited : least ≤ limit
+  pub below : (g n : ℕ) → least_in queue (raw_of m g) ≡ Some n → least ≤ n
+  pub exact : (least ≡ limit) ⊎ ((g : ℕ) × IsLeastIn queue m g least)
+
+-- what is asked of the tables before files of a queue go: of Append, that no mark is owed
+abbrev pub MayLoseFiles : Which → (ℕ → Shown) → Type 0
+MayLoseFiles InAppend v = (g : ℕ) → OwesNothing (whereabouts (v g))
+MayLoseFiles InRewrite v = Unit {0}
+
+-- The files of a queue below the least one that is in use, and below the limit, have left its span, which
+-- begins at that one: whatever the log was, with nothing pending, it is so. No block is kept.
+pub record LosesFiles (queue : LogQueue) (limit : ℕ) (m : MemTables) (count : ℕ) (s t : Shows) : Type 0 where
+  pub least : ℕ
+  pub is : IsLeastOf queue limit m least
+  pub counted : count ≡ least - (pipe_at (which_of queue) (files_of s.pipes)).first_seq
+  pub alive : has_failed t ≡ false
+  pub none : t.cache.place ≡ None
+  pub later : IsLater s.pipes.disk t.pipes.disk
+  pub begins : (home : Home) (log : LogMap) → HoldsSettled home s log
+      → (pipe_at (which_of queue) (files_of t.pipes)).first_seq ≡ least
+  pub keeps : (home : Home) (log : LogMap) → HoldsSettled home s log
+      → MayLoseFiles (which_of queue) s.tables → HoldsSettled home t log
+
+-- what is true where that was refused: nothing was done; or the engine has failed, and its log is held
+abbrev pub RemainsSettled : Home → LogMap → Shows → Error → Type 0
+RemainsSettled home m t errors.Failed = IsLeftAt home t.pipes.disk m []
+RemainsSettled home m t _ = HoldsSettled home t m
+
+-- the limit is none of the queue's files: for nothing else is the error of another kind
+abbrev pub IsNoLimit : LogQueue → ℕ → Error → Shows → Type 0
+IsNoLimit queue limit (errors.Other fault) s =
+    IsInSpan limit (pipe_at (which_of queue) (files_of s.pipes)) → ⊥
+IsNoLimit queue limit _ s = ⊥
+
+-- So it is of whatever log it was; and why.
+pub record FailsToLoseFiles (queue : LogQueue) (limit : ℕ) (error : Error) (s t : Shows) : Type 0 where
+  pub tells : has_failed s ≡ false → IsTrue (has_failed t) ↔ (error ≡ errors.Failed)
+  pub later : IsLater s.pipes.disk t.pipes.disk
+  pub remains : (home : Home) (log : LogMap) → HoldsSettled home s log
+      → MayLoseFiles (which_of queue) s.tables → RemainsSettled home log t error
+  pub cause : (home : Home) (log : LogMap) → HoldsSettled home s log
+      → HasFileReason error s t ⊎ IsNoLimit queue limit error s

@@ -1,0 +1,69 @@
+-- Groups are rewritten: all that they have in Append in files up to the gate is copied to Rewrite.
+use Rattle.std.specs.Prelude.{◌≡◌, ◌↔◌, ◌+◌, ◌==◌, IsTrue, ℕ, Bool, true, false, List, drop}
+use Rattle.std.specs.List.{list_any}
+use Rattle.raft_log_disk.specs.Causes.{IsLater}
+use Rattle.raft_log_record_base.specs.declared.errors.Error.{Error}
+use Rattle.raft_log_record_base.specs.declared.errors.Error.TheVariants as errors
+use Rattle.raft_log_table_lists.specs.Shown.{Shown}
+use Rattle.raft_log_table_lists.specs.Counts.{passing}
+use Rattle.raft_log_engine_laws.specs.raft_log_table_one.specs.Files.{FrontIsLeast, IsLeastInAppend}
+use Rattle.raft_log_engine_laws.specs.Shows.{Shows, has_failed}
+use Rattle.raft_log_engine_laws.specs.Raising.{AppendMayBegin}
+use Rattle.raft_log_purge_parts.specs.Parts.{StaysInFile}
+use Rattle.raft_log_purge_parts.specs.Moving.{IsPartlyRewritten, IsRewrittenTo}
+use Rattle.raft_log_purge_parts.specs.Reasons.{GivesReason}
+use Rattle.raft_log_purge_parts.specs.Rewriting.{OweNothing, StaysHeld, StaysOrIsLeft}
+
+-- Of each group that passes the test a part of what it had in Append, in files up to the gate, is in Rewrite
+-- now. Other groups show as they did.
+pub record RewritesPart (test : ℕ → Bool) (gate : ℕ) (s t : Shows) : Type 0 where
+  pub parts : (g : ℕ) → IsPartlyRewritten gate (s.tables g) (t.tables g)
+  pub others : (g : ℕ) → test g ≡ false → t.tables g ≡ s.tables g
+  pub counts : t.counts ≡ s.counts
+  pub later : IsLater s.pipes.disk t.pipes.disk
+
+-- each group that passes the test was rewritten, whole: nothing of it is left in Append up to the gate
+pub record Rewrites (test : ℕ → Bool) (gate : ℕ) (s t : Shows) : Type 0 where
+  pub part : RewritesPart test gate s t
+  pub whole : (g : ℕ) → test g ≡ true → IsRewrittenTo gate (t.tables g)
+  pub alive : has_failed s ≡ false → has_failed t ≡ false
+  pub stays : StaysInFile s.pipes t.pipes
+  pub holds : StaysHeld s t
+
+-- rewriting was refused, with a part done; and why, where no mark is owed
+pub record StopsRewriting (test : ℕ → Bool) (gate : ℕ) (error : Error) (s t : Shows) : Type 0 where
+  pub part : RewritesPart test gate s t
+  pub tells : has_failed s ≡ false → IsTrue (has_failed t) ↔ (error ≡ errors.Failed)
+  pub remains : StaysOrIsLeft error s t
+  pub cause : OweNothing s.tables → GivesReason error s t
+
+-- all entries of a group in Append, in files up to the gate, were copied
+pub record RewritesEntries (group gate : ℕ) (s t : Shows) : Type 0 where
+  pub part : RewritesPart (λ g. group == g) gate s t
+  pub none : passing gate (drop (t.tables group).rewritten (t.tables group).places) ≡ 0
+  pub alive : has_failed s ≡ false → has_failed t ≡ false
+  pub stays : StaysInFile s.pipes t.pipes
+  pub holds : StaysHeld s t
+
+-- one group was rewritten
+abbrev pub RewritesGroup : ℕ → ℕ → Shows → Shows → Type 0
+RewritesGroup group gate s t = Rewrites (λ g. group == g) gate s t
+
+-- or not to the end
+abbrev pub StopsAtGroup : ℕ → ℕ → Error → Shows → Shows → Type 0
+StopsAtGroup group gate error s t = StopsRewriting (λ g. group == g) gate error s t
+
+-- each of these groups was rewritten
+abbrev pub RewritesGroups : List ℕ → ℕ → Shows → Shows → Type 0
+RewritesGroups groups gate s t = Rewrites (λ g. list_any (λ k. k == g) groups) gate s t
+
+-- or not all of them
+abbrev pub StopsAtGroups : List ℕ → ℕ → Error → Shows → Shows → Type 0
+StopsAtGroups groups gate error s t = StopsRewriting (λ g. list_any (λ k. k == g) groups) gate error s t
+
+-- Where all groups were rewritten up to a file and no mark is owed, and files don't fall along entries,
+-- Append may begin behind that file: no entry and no value that is in use lies up to it.
+abbrev pub RewrittenGroupsArePast : Type 0
+RewrittenGroupsArePast = (gate : ℕ) (v : ℕ → Shown) → ((g : ℕ) → IsRewrittenTo gate (v g))
+    → ((g : ℕ) → FrontIsLeast (v g)) → OweNothing v
+    → AppendMayBegin (gate + 1) v × ((g : ℕ) → IsLeastInAppend (v g) (gate + 1))

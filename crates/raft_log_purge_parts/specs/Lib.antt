@@ -1,0 +1,26 @@
+pub mod Pieces
+pub mod Records
+pub mod Restated
+pub mod GroupParts
+pub mod Steps
+pub mod Taking
+pub mod Owed
+pub mod Lengths
+pub mod Refusals
+pub mod Reasons
+pub mod Parts
+pub mod Syncing
+pub mod Marks
+pub mod Files
+pub mod Stale
+pub mod Copies
+pub mod Entries
+pub mod Moving
+pub mod Rewriting
+pub mod Keys
+pub mod Groups
+-- libraries below, passed on to who stands on this one
+pub use Rattle.raft_log_engine_laws.specs.raft_log_file_pair
+pub use Rattle.raft_log_engine_laws.specs.raft_log_file_blocks
+pub use Rattle.raft_log_engine_laws
+pub use Rattle.raft_log_engine_laws.specs.raft_log_file_layout

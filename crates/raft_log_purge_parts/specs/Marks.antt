@@ -1,0 +1,35 @@
+-- Marks that are owed to Rewrite are carried there.
+use Rattle.std.specs.Prelude.{◌≡◌, ℕ, Bool, false, []}
+use Rattle.raft_log_disk.specs.Causes.{IsLater}
+use Rattle.raft_log_table_lists.specs.Shown.{Shown}
+use Rattle.raft_log_table_lists.specs.Bridge.{unmarked}
+use Rattle.raft_log_file_pair.specs.Pipes.{LogPipes, is_failed}
+use Rattle.raft_log_file_blocks.specs.declared.block_cache.BlockCache.{BlockCache}
+use Rattle.raft_log_engine_laws.specs.Shows.{Home, LogMap, Shows, has_failed}
+use Rattle.raft_log_engine_laws.specs.Holding.{Holds}
+use Rattle.raft_log_engine_laws.specs.Settled.{HoldsSettled}
+use Rattle.raft_log_purge_parts.specs.Parts.{StaysInFile}
+
+-- an engine with these pipes, tables that show this, these groups that count, and this block
+abbrev pub showing : LogPipes → (ℕ → Shown) → (ℕ → Bool) → BlockCache → Shows
+showing v tables counts cache = record { tables = tables; counts = counts; pipes = v; cache = cache }
+
+-- The marks stand in Rewrite: whatever the log was, it is so with tables that owe none.
+pub record WritesMarks (tables : ℕ → Shown) (v w : LogPipes) : Type 0 where
+  pub alive : is_failed v ≡ false → is_failed w ≡ false
+  pub later : IsLater v.disk w.disk
+  pub stays : StaysInFile v w
+  pub holds : (counts : ℕ → Bool) (cache : BlockCache) (home : Home) (m : LogMap)
+      → Holds home (showing v tables counts cache) m []
+      → Holds home (showing w (λ g. unmarked (tables g)) counts cache) m []
+
+-- The marks are carried: they stand in Rewrite, synced, and no group owes one any more. The map stays, and
+-- nothing of the log is pending.
+pub record CarriesMarks (s t : Shows) : Type 0 where
+  pub alive : has_failed t ≡ false
+  pub tables : t.tables ≡ (λ g. unmarked (s.tables g))
+  pub counts : t.counts ≡ s.counts
+  pub cache : t.cache ≡ s.cache
+  pub later : IsLater s.pipes.disk t.pipes.disk
+  pub stays : StaysInFile s.pipes t.pipes
+  pub settles : (home : Home) (m : LogMap) → Holds home s m [] → HoldsSettled home t m

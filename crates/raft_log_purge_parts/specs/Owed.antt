@@ -1,0 +1,40 @@
+-- The marks that are owed, as a batch.
+use Rattle.std.specs.Prelude.{◌≡◌, ℕ, false, List, [], ◌∷◌, ◌++◌}
+use Rattle.raft_log_record_items.specs.declared.entry.EntryIndex.{EntryIndex}
+use Rattle.raft_log_record_items.specs.declared.item.LogItem.{LogItem}
+use Rattle.raft_log_model_laws.specs.Groups.{of_group}
+use Rattle.raft_log_record_marks.specs.Marking.{has_mark_key}
+use Rattle.raft_log_record_marks.specs.Meaning.{tagged, tagged_items}
+use Rattle.raft_log_record_batches.specs.declared.log_batch.BatchState.TheVariants.{Filling}
+use Rattle.raft_log_record_batches.specs.Batch.{Batch}
+use Rattle.raft_log_table_lists.specs.Shown.{Shown}
+use Rattle.raft_log_table_all.specs.Owing.{AreOwedAt}
+
+-- none of the items is a mark of an atomic group
+abbrev pub AreNoMarks : List LogItem → Type 0
+AreNoMarks [] = Unit {0}
+AreNoMarks (x ∷ xs) = (has_mark_key x ≡ false) × AreNoMarks xs
+
+-- the batch is being filled, and says what these items say
+pub record SaysSame (items : List LogItem) (b : Batch) : Type 0 where
+  pub state : b.state ≡ Filling
+  pub plain : AreNoMarks b.items
+  pub said : tagged_items {E = EntryIndex} (λ e. e) b.items ≡ tagged_items (λ e. e) items
+
+-- one item was added that says what this one says
+pub record AddsSame (old new : Batch) (x : LogItem) : Type 0 where
+  pub added : LogItem
+  pub items : new.items ≡ old.items ++ added ∷ []
+  pub entries : new.entries ≡ old.entries
+  pub state : new.state ≡ Filling
+  pub plain : has_mark_key added ≡ false
+  pub none : has_mark_key x ≡ false
+  pub same : tagged {E = EntryIndex} (λ e. e) added ≡ tagged (λ e. e) x
+
+-- the batch is being filled, has no entries, is no part of an atomic group, and says the marks that the groups
+-- owe
+pub record SaysMarks (v : ℕ → Shown) (b : Batch) : Type 0 where
+  pub state : b.state ≡ Filling
+  pub none : b.entries ≡ []
+  pub plain : AreNoMarks b.items
+  pub owed : (g : ℕ) → AreOwedAt (v g) (of_group g (tagged_items (λ e. e) b.items))

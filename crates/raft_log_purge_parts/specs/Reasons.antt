@@ -1,0 +1,75 @@
+-- Why a part of a purge is refused, by its error.
+use Rattle.std.specs.Prelude.{◌≡◌, ◌⊎◌, IsTrue, ℕ, true, List, [], Some}
+use Rattle.raft_log_model_laws.specs.Meaning.Slot.{Key}
+use Rattle.raft_log_model_laws.specs.Meaning.Content.{Value}
+use Rattle.raft_log_disk.specs.Causes.{Fails, IsLater}
+use Rattle.raft_log_record_base.specs.declared.errors.Error.{Error}
+use Rattle.raft_log_record_base.specs.declared.errors.Error.TheVariants as errors
+use Rattle.raft_log_record_base.specs.declared.pipe_log.LogQueue.TheVariants.{Rewrite}
+use Rattle.raft_log_record_marks.specs.Key.{is_internal}
+use Rattle.raft_log_directory_laws.specs.Calls.{Which}
+use Rattle.raft_log_directory_laws.specs.Calls.Which.{InRewrite}
+use Rattle.raft_log_file_pipe.specs.Purging.{IsInSpan}
+use Rattle.raft_log_table_lists.specs.Shown.{Shown}
+use Rattle.raft_log_engine_laws.specs.raft_log_table_one.specs.Files.{IsMinFile}
+use Rattle.raft_log_file_pair.specs.State.{pipe_at}
+use Rattle.raft_log_file_pair.specs.Pipes.{LogPipes, files_of}
+use Rattle.raft_log_file_pair.specs.Numbers.{HasLastNumber}
+use Rattle.raft_log_engine_laws.specs.Shows.{Home, LogMap, Shows}
+use Rattle.raft_log_engine_laws.specs.Holding.{Holds}
+use Rattle.raft_log_engine_laws.specs.Fetching.{IsUntold}
+use Rattle.raft_log_purge_parts.specs.Entries.{as_bytes}
+use Rattle.raft_log_purge_parts.specs.Lengths.{HasTooMuch}
+
+-- one of the queues stands at the last number that a file's name can have
+abbrev pub EndsItsNumbers : LogPipes → Type 0
+EndsItsNumbers v = (which : Which) × HasLastNumber which v
+
+-- the engine's log is this map, and of an entry that its tables show the bytes aren't read
+abbrev pub IsOneUnread : Home → LogMap → Shows → Error → Type 0
+IsOneUnread home m t error =
+    (h : Holds home t m []) × (g : ℕ) × (i : ℕ) × IsUntold as_bytes g i t h.state m error
+
+-- one of the log's own keys is a group's: it has a value in the map, or its deletion is owed
+abbrev pub HasOwnKey : LogMap → (ℕ → Shown) → Type 0
+HasOwnKey m v = (g : ℕ) × (k : List ℕ) × IsTrue (is_internal k)
+    × (((value : List ℕ) × (m g (Key k) ≡ Some (Value value))) ⊎ ((v g).deleted k ≡ true))
+
+-- the least file of Rewrite that is in use for a group, as its table shows it, is none of the span's
+abbrev pub HasStray : Shows → Type 0
+HasStray t = (g : ℕ) × (n : ℕ) × IsMinFile Rewrite (t.tables g) (Some n)
+    × (IsInSpan n (pipe_at InRewrite (files_of t.pipes)) → ⊥)
+
+-- Why a part was refused, of an engine whose log is this map: a file call has failed during it, an entry isn't
+-- read, a queue stands at its last number, a record would be too long, one of the log's own keys is a group's,
+-- a file of Rewrite in use is none of the span's, or memory ran out. Nothing else comes.
+abbrev pub HasReason : Home → LogMap → Error → Shows → Shows → Type 0
+HasReason home m (errors.Io kind) s t =
+    Fails s.pipes.disk t.pipes.disk ⊎ IsOneUnread home m t (errors.Io kind)
+HasReason home m (errors.TryAgain text) s t = Fails s.pipes.disk t.pipes.disk
+HasReason home m errors.Failed s t = Fails s.pipes.disk t.pipes.disk
+HasReason home m (errors.Corruption text) s t = IsOneUnread home m t (errors.Corruption text)
+HasReason home m errors.NumberRange s t = EndsItsNumbers t.pipes
+HasReason home m errors.Full s t = HasTooMuch m t.tables
+HasReason home m (errors.InvalidArgument text) s t = HasOwnKey m t.tables
+HasReason home m (errors.Other fault) s t = HasStray t
+HasReason home m errors.Memory s t = Unit {0}
+HasReason home m _ s t = ⊥
+
+-- so it is whatever the engine's log was, with nothing pending
+abbrev pub GivesReason : Error → Shows → Shows → Type 0
+GivesReason error s t = (home : Home) (m : LogMap) → Holds home s m [] → HasReason home m error s t
+
+-- Why a queue doesn't go on, or files don't go: a file call has failed, there is no next number, a file of
+-- Rewrite in use is none of the span's, or memory ran out. No record is made for it, and none read.
+abbrev pub HasFileReason : Error → Shows → Shows → Type 0
+HasFileReason errors.Failed s t = Fails s.pipes.disk t.pipes.disk
+HasFileReason errors.NumberRange s t = EndsItsNumbers t.pipes
+HasFileReason (errors.Other fault) s t = HasStray t
+HasFileReason errors.Memory s t = Unit {0}
+HasFileReason _ s t = ⊥
+
+-- What a later part is refused for, the whole is: what came before takes no cause away.
+abbrev pub LaterReasonsAreReasons : Type 0
+LaterReasonsAreReasons = (home : Home) (m : LogMap) (error : Error) (s t u : Shows)
+    → IsLater s.pipes.disk t.pipes.disk → HasReason home m error t u → HasReason home m error s u

@@ -1,0 +1,84 @@
+-- Groups are restated: all that they have in Rewrite is written there again.
+use Rattle.std.specs.Prelude.{◌≡◌, ◌⊎◌, ◌↔◌, ◌<◌, ◌≤◌, ◌==◌, IsTrue, ℕ, Bool, true, false, List, [], ◌∷◌, Option, Some, None, take}
+use Rattle.std.specs.List.{list_any}
+use Rattle.raft_log_disk.specs.Causes.{IsLater}
+use Rattle.raft_log_record_base.specs.declared.errors.Error.{Error}
+use Rattle.raft_log_record_base.specs.declared.errors.Error.TheVariants as errors
+use Rattle.raft_log_record_base.specs.declared.pipe_log.LogQueue.TheVariants.{Rewrite}
+use Rattle.raft_log_table_lists.specs.declared.place.Place.{Place}
+use Rattle.raft_log_table_lists.specs.declared.group_files.GroupFiles.{GroupFiles}
+use Rattle.raft_log_table_lists.specs.Shown.{KeyValue, Shown}
+use Rattle.raft_log_engine_laws.specs.raft_log_table_one.specs.Files.{ArePast}
+use Rattle.raft_log_engine_laws.specs.Shows.{Home, LogMap, Shows, has_failed}
+use Rattle.raft_log_engine_laws.specs.Holding.{Holds, IsLeftAt}
+use Rattle.raft_log_purge_parts.specs.Reasons.{GivesReason}
+use Rattle.raft_log_purge_parts.specs.Stale.{written_file}
+
+-- the places lie in files from that one on
+abbrev pub LieFrom : ℕ → List Place → Type 0
+LieFrom n [] = Unit {0}
+LieFrom n (p ∷ ps) = (n ≤ p.file) × LieFrom n ps
+
+-- what is noted of atomic groups begins no earlier than in that file
+abbrev pub IsNotedFrom : ℕ → Option GroupFiles → Type 0
+IsNotedFrom n None = Unit {0}
+IsNotedFrom n (Some files) = n ≤ files.from
+
+-- All that the group has in Rewrite lies in files from that one on: its entries and its values there; what
+-- is noted begins no earlier than it began before, or there; and where it began past an earlier file, or
+-- ended at or before that, it does so still.
+pub record IsRestatedFrom (n : ℕ) (v w : Shown) : Type 0 where
+  pub entries : LieFrom n (take w.rewritten w.places)
+  pub values : (k : List ℕ) (h : KeyValue) → w.held k ≡ Some h → h.appended ≡ false → n ≤ h.file
+  pub noted : (k : ℕ) → k ≤ n → IsNotedFrom k v.noted → IsNotedFrom k w.noted
+  pub past : (k : ℕ) → k < n → ArePast k v.noted → ArePast k w.noted
+
+-- the file of Rewrite that is written
+abbrev pub last_file : Shows → ℕ
+last_file s = written_file Rewrite s.pipes
+
+-- whatever the log was, with nothing pending, it is so
+abbrev pub StaysHeld : Shows → Shows → Type 0
+StaysHeld s t = (home : Home) (m : LogMap) → Holds home s m [] → Holds home t m []
+
+-- so it is; or the engine has failed, and its log is held
+abbrev pub StaysOrIsLeft : Error → Shows → Shows → Type 0
+StaysOrIsLeft error s t = (home : Home) (m : LogMap) → Holds home s m []
+    → Holds home t m [] ⊎ ((error ≡ errors.Failed) × IsLeftAt home t.pipes.disk m [])
+
+-- Each group that passes the test was restated: all that it has in Rewrite lies from the file on that was
+-- written when that began. Other groups show as they did.
+pub record Restates (test : ℕ → Bool) (s t : Shows) : Type 0 where
+  pub others : (g : ℕ) → test g ≡ false → t.tables g ≡ s.tables g
+  pub counts : t.counts ≡ s.counts
+  pub alive : has_failed s ≡ false → has_failed t ≡ false
+  pub later : IsLater s.pipes.disk t.pipes.disk
+  pub holds : StaysHeld s t
+  pub rises : (home : Home) (m : LogMap) → Holds home s m [] → last_file s ≤ last_file t
+  pub from : (home : Home) (m : LogMap) → Holds home s m [] → (g : ℕ) → test g ≡ true
+      → IsRestatedFrom (last_file s) (s.tables g) (t.tables g)
+
+-- one group was restated
+abbrev pub RestatesOne : ℕ → Shows → Shows → Type 0
+RestatesOne group s t = Restates (λ g. group == g) s t
+
+-- It wasn't, and why: all that shows of the tables shows as it did.
+pub record FailsToRestate (error : Error) (s t : Shows) : Type 0 where
+  pub same : t ≡ record s { pipes = t.pipes; cache = t.cache }
+  pub tells : has_failed s ≡ false → IsTrue (has_failed t) ↔ (error ≡ errors.Failed)
+  pub later : IsLater s.pipes.disk t.pipes.disk
+  pub remains : StaysOrIsLeft error s t
+  pub cause : GivesReason error s t
+
+-- each of these groups was restated
+abbrev pub RestatesEach : List ℕ → Shows → Shows → Type 0
+RestatesEach groups s t = Restates (λ g. list_any (λ k. k == g) groups) s t
+
+-- or not all of them, and why
+pub record StopsRestating (groups : List ℕ) (error : Error) (s t : Shows) : Type 0 where
+  pub others : (g : ℕ) → list_any (λ k. k == g) groups ≡ false → t.tables g ≡ s.tables g
+  pub counts : t.counts ≡ s.counts
+  pub tells : has_failed s ≡ false → IsTrue (has_failed t) ↔ (error ≡ errors.Failed)
+  pub later : IsLater s.pipes.disk t.pipes.disk
+  pub remains : StaysOrIsLeft error s t
+  pub cause : GivesReason error s t

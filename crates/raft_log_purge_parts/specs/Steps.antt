@@ -1,0 +1,67 @@
+-- What each call makes of the parts of an atomic group.
+use Rattle.std.specs.Prelude.{◌≡◌, ◌+◌, ℕ, List, [], ◌∷◌, length}
+use Rattle.raft_log_record_base.specs.declared.errors.Error.{Error}
+use Rattle.raft_log_record_items.specs.declared.entry.EntryIndex.{EntryIndex}
+use Rattle.raft_log_record_marks.specs.declared.status.AtomicGroupStatus.TheVariants.{End}
+use Rattle.raft_log_record_batches.specs.Batch.{Batch}
+use Rattle.raft_log_file_blocks.specs.declared.block_cache.BlockCache.{BlockCache}
+use Rattle.raft_log_table_lists.specs.Listing.{ListsAll, rewritten_values}
+use Rattle.raft_log_engine_laws.specs.raft_log_table_one.specs.Reads.{rewritten_entries}
+use Rattle.raft_log_table_all.specs.declared.mem_tables.MemTables.{MemTables}
+use Rattle.raft_log_file_pair.specs.Pipes.{LogPipes}
+use Rattle.raft_log_engine_laws.specs.Shows.{Home, LogMap, Shows, shows}
+use Rattle.raft_log_engine_laws.specs.Holding.{Holds}
+use Rattle.raft_log_purge_parts.specs.Entries.{AreEntryBytes}
+use Rattle.raft_log_purge_parts.specs.declared.parts.RestatedPart.{RestatedPart}
+use Rattle.raft_log_purge_parts.specs.GroupParts.{HasParts, IsMarkedPiece}
+use Rattle.raft_log_purge_parts.specs.Restated.{FailsToRestate}
+
+-- An atomic group was begun by a part that says a group's first rewritten entries, so many, whatever the
+-- tables.
+abbrev pub BeginsParts : ℕ → ℕ → List EntryIndex → ℕ → RestatedPart → LogPipes → BlockCache → LogPipes
+    → BlockCache → Type 0
+BeginsParts g number es count part v old w new = (m : MemTables)
+    → es ≡ rewritten_entries ((shows v m old).tables g)
+    → HasParts g number count (part ∷ []) (shows v m old) (shows w m new)
+
+-- it wasn't
+abbrev pub FailsToBeginGroup : ℕ → List EntryIndex → Error → LogPipes → BlockCache → LogPipes → BlockCache → Type 0
+FailsToBeginGroup g es error v old w new = (m : MemTables)
+    → es ≡ rewritten_entries ((shows v m old).tables g) → FailsToRestate error (shows v m old) (shows w m new)
+
+-- where an atomic group stood open with parts that say so many entries, it does with these, which say so many
+abbrev pub GoesOnInGroup : ℕ → ℕ → List EntryIndex → ℕ → ℕ → List RestatedPart → List RestatedPart → LogPipes
+    → BlockCache → LogPipes → BlockCache → Type 0
+GoesOnInGroup g number es before after old_parts new_parts v old w new = (m : MemTables) (s : Shows)
+    → es ≡ rewritten_entries (s.tables g) → HasParts g number before old_parts s (shows v m old)
+    → HasParts g number after new_parts s (shows w m new)
+
+-- it doesn't, and is given up
+abbrev pub GivesUp : ℕ → ℕ → List EntryIndex → ℕ → List RestatedPart → Error → LogPipes → BlockCache → LogPipes
+    → BlockCache → Type 0
+GivesUp g number es before parts error v old w new = (m : MemTables) (s : Shows)
+    → es ≡ rewritten_entries (s.tables g) → HasParts g number before parts s (shows v m old)
+    → FailsToRestate error s (shows w m new)
+
+-- it doesn't end, and is given up, where these are the keys that the group has in Rewrite
+abbrev pub GivesUpLast : ℕ → ℕ → List EntryIndex → ℕ → List RestatedPart → List (List ℕ × List ℕ) → Error
+    → LogPipes → BlockCache → BlockCache → Type 0
+GivesUpLast g number es done parts pairs error v old new = (m : MemTables) (s : Shows)
+    → es ≡ rewritten_entries (s.tables g) → ListsAll (rewritten_values (s.tables g)) pairs
+    → HasParts g number done parts s (shows v m old) → FailsToRestate error s (shows v m new)
+
+-- The batch ends an atomic group: it says the rewritten entries of a group from there on, and all its
+-- rewritten keys with their values.
+pub record IsLastPart (g number done : ℕ) (pairs : List (List ℕ × List ℕ)) (b : Batch) (s : Shows) : Type 0 where
+  pub bytes : List (List ℕ)
+  pub is : IsMarkedPiece g ((s.tables g).first + done) number End bytes pairs b
+  pub all : (home : Home) (m : LogMap) → Holds home s m [] → done + length bytes ≡ (s.tables g).rewritten
+  pub says : (home : Home) (m : LogMap) → Holds home s m []
+      → AreEntryBytes m g ((s.tables g).first + done) bytes
+
+-- such a batch was made
+abbrev pub MakesLast : ℕ → ℕ → List EntryIndex → ℕ → List RestatedPart → List (List ℕ × List ℕ) → Batch
+    → LogPipes → BlockCache → BlockCache → Type 0
+MakesLast g number es done parts pairs b v old new = (m : MemTables) (s : Shows)
+    → es ≡ rewritten_entries (s.tables g) → HasParts g number done parts s (shows v m old)
+    → HasParts g number done parts s (shows v m new) × IsLastPart g number done pairs b s

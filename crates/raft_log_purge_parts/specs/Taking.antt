@@ -1,0 +1,84 @@
+-- The last record of those that restate a group is written, and the tables take all of them.
+use Rattle.std.specs.Prelude.{◌≡◌, ℕ, List, [], ◌∷◌, ◌++◌, None}
+use Rattle.raft_log_record_base.specs.declared.errors.Error.{Error}
+use Rattle.raft_log_record_base.specs.declared.pipe_log.FileBlockHandle.{FileBlockHandle}
+use Rattle.raft_log_record_items.specs.declared.entry.EntryIndex.{EntryIndex}
+use Rattle.raft_log_record_items.specs.declared.item.LogItem.{LogItem}
+use Rattle.raft_log_record_items.specs.Placed.{written}
+use Rattle.raft_log_record_marks.specs.Meaning.{tagged_items}
+use Rattle.raft_log_record_batches.specs.Batch.{Batch, block_place}
+use Rattle.raft_log_table_lists.specs.Listing.{ListsAll, rewritten_values}
+use Rattle.raft_log_table_all.specs.declared.mem_tables.MemTables.{MemTables}
+use Rattle.raft_log_table_all.specs.Rewriting.{GroupsStay, MayMove}
+use Rattle.raft_log_table_all.specs.Tables.{ShowsSame}
+use Rattle.raft_log_engine_laws.specs.raft_log_table_one.specs.Reads.{rewritten_entries}
+use Rattle.raft_log_file_pair.specs.Pipes.{LogPipes}
+use Rattle.raft_log_file_blocks.specs.declared.block_cache.BlockCache.{BlockCache}
+use Rattle.raft_log_engine_laws.specs.Shows.{Shows, shows}
+use Rattle.raft_log_engine_laws.specs.Parts.{WrittenPart}
+use Rattle.raft_log_engine_laws.specs.Taking.{MovedParts}
+use Rattle.raft_log_purge_parts.specs.declared.parts.RestatedPart.{RestatedPart}
+use Rattle.raft_log_purge_parts.specs.GroupParts.{ArePartsKept, HasParts, items_of_all}
+use Rattle.raft_log_purge_parts.specs.Records.{FailsToWriteRecord, WritesToRewrite}
+use Rattle.raft_log_purge_parts.specs.Restated.{FailsToRestate, RestatesOne}
+use Rattle.raft_log_purge_parts.specs.Steps.{IsLastPart}
+
+-- there is room in the tables for what the parts have to move, and these items behind them
+abbrev pub HaveRoom : MemTables → List RestatedPart → List LogItem → Type 0
+HaveRoom m parts items = MayMove m (tagged_items {E = EntryIndex} (λ e. e) (items_of_all parts ++ items))
+
+-- the parts moved, and behind them items that stand at this place
+pub record TakesPartsAndItems (parts : List RestatedPart) (items : List LogItem) (block : FileBlockHandle)
+    (old new : MemTables) : Type 0 where
+  pub took : (ps : List WrittenPart) (b : Batch) → ArePartsKept parts ps
+      → items ≡ written (block_place block b.entries) b.items
+      → MovedParts None (ps ++ record { block = block; batch = b } ∷ []) old new
+  pub stay : GroupsStay old new
+
+-- The last record was written, maybe behind a sync, and the tables took all parts, and then this one.
+pub record WritesLast (parts : List RestatedPart) (b : Batch) (block : FileBlockHandle) (v : LogPipes)
+    (old : MemTables) (w : LogPipes) (new : MemTables) : Type 0 where
+  pub wrote : WritesToRewrite b block (written (block_place block b.entries) b.items) v w
+  pub took : (ps : List WrittenPart) → ArePartsKept parts ps
+      → MovedParts None (ps ++ record { block = block; batch = b } ∷ []) old new
+  pub stay : GroupsStay old new
+
+-- it wasn't: all that shows of the tables shows as it did
+pub record FailsToWriteLast (b : Batch) (error : Error) (v : LogPipes) (old : MemTables) (w : LogPipes)
+    (new : MemTables) : Type 0 where
+  pub fails : FailsToWriteRecord b error v w
+  pub same : ShowsSame old new
+
+-- the file of the first of these parts, and that one without any
+abbrev pub first_file_of : List RestatedPart → ℕ → ℕ
+first_file_of [] last = last
+first_file_of (x ∷ xs) last = x.block.id.seq
+
+-- An atomic group ended: where it stood open with these parts, and the batch has the rest, the group is
+-- restated.
+abbrev pub EndsParts : ℕ → List RestatedPart → Batch → LogPipes → MemTables → LogPipes → MemTables → Type 0
+EndsParts g parts b v old w new = (cache : BlockCache) (s : Shows) (number done : ℕ)
+    (pairs : List (List ℕ × List ℕ)) → HasParts g number done parts s (shows v old cache)
+    → IsLastPart g number done pairs b s → ListsAll (rewritten_values (s.tables g)) pairs
+    → RestatesOne g s (shows w new cache)
+
+-- it doesn't end, and is given up
+abbrev pub FailsToEnd : ℕ → List RestatedPart → Batch → Error → LogPipes → MemTables → LogPipes → MemTables
+    → Type 0
+FailsToEnd g parts b error v old w new = (cache : BlockCache) (s : Shows) (number done : ℕ)
+    (pairs : List (List ℕ × List ℕ)) → HasParts g number done parts s (shows v old cache)
+    → IsLastPart g number done pairs b s → ListsAll (rewritten_values (s.tables g)) pairs
+    → FailsToRestate error s (shows w new cache)
+
+-- these are the entries and the keys that a group has in Rewrite
+pub record StandsInRewrite (g : ℕ) (es : List EntryIndex) (pairs : List (List ℕ × List ℕ)) (s : Shows) : Type 0 where
+  pub entries : es ≡ rewritten_entries (s.tables g)
+  pub keys : ListsAll (rewritten_values (s.tables g)) pairs
+
+-- a group was restated that has these entries and keys in Rewrite
+abbrev pub RestatesThese : ℕ → List EntryIndex → List (List ℕ × List ℕ) → Shows → Shows → Type 0
+RestatesThese g es pairs s t = StandsInRewrite g es pairs s → RestatesOne g s t
+
+-- it wasn't
+abbrev pub FailsToRestateThese : ℕ → List EntryIndex → List (List ℕ × List ℕ) → Error → Shows → Shows → Type 0
+FailsToRestateThese g es pairs error s t = StandsInRewrite g es pairs s → FailsToRestate error s t

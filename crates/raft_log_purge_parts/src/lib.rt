@@ -1,0 +1,33 @@
+//! The parts of a purge: what is written to Rewrite, of Append or of Rewrite itself (`restating`), and files
+//! that go. The map stays at every exit.
+//!
+//! Each part is over a log's pipes and the tables of its groups, and its contract speaks of whatever map was
+//! the log's (`Holds`), with nothing pending: it asks nothing of the caller.
+#![tactic(auto)]
+
+pub mod copies;
+pub mod entries;
+pub mod files;
+pub mod groups;
+pub mod keys;
+pub mod laws;
+pub mod marks;
+pub mod parts;
+pub mod pieces;
+mod record;
+pub mod records;
+pub mod restating;
+pub mod rewriting;
+pub mod stale;
+pub mod syncing;
+pub mod taking;
+
+pub use copies::write_copies;
+pub use files::{least_file, purge_stale};
+pub use groups::{rewrite_group, rewrite_groups};
+pub use keys::copy_keys;
+pub use marks::rewrite_marks;
+pub use raft_log_file_blocks;
+pub use rewriting::copy_entries;
+pub use stale::purge_all_stale;
+pub use syncing::sync_if_due;

@@ -1,0 +1,115 @@
+//! Marks that are owed to Rewrite are carried there: read from the tables, written, synced, and only then
+//! owed no more.
+
+ghost use Rattle.std.specs.Prelude.{◌≡◌, ◌∷◌, [], IfErr, IfOk, OnErr, OnOk};
+ghost use Rattle.raft_log_record_marks.specs.Meaning.{tagged_items};
+ghost use Rattle.raft_log_engine_laws.specs.Shows.{shows};
+ghost use Rattle.raft_log_file_blocks.specs.declared.block_cache.BlockCache.{BlockCache};
+ghost use Rattle.raft_log_record_batches.specs.declared.log_batch.BatchState.TheVariants.{Filling};
+ghost use Rattle.raft_log_table_all.specs.Tables.{shown_of, IsAtRest};
+ghost use Rattle.raft_log_purge_parts.specs.Marks.{CarriesMarks, WritesMarks};
+ghost use Rattle.raft_log_purge_parts.specs.Owed.{AddsSame, SaysMarks, SaysSame};
+ghost use Rattle.raft_log_purge_parts.specs.Parts.{PartIsRefused};
+ghost use Rattle.raft_log_purge_parts.specs.Refusals.{AreMarksUnmade, AreUnmarked};
+
+use crate::record::record_of;
+use log::Log;
+use raft_log_file_pair::PipeLog;
+use raft_log_record_base::{Error, LogQueue, Result};
+use raft_log_record_batches::LogBatch;
+use raft_log_record_items::{LogItem, LogItemContent, OpType};
+use raft_log_table_all::MemTables;
+use std::alloc::Global;
+
+/// Carries the marks that are owed to Rewrite: they are written there as one record and synced, and then owed
+/// no more. Where none is owed, Rewrite is synced alone.
+///
+/// `Memory`, `Full`, or `InvalidArgument` for a deletion of one of the log's own keys: nothing is done. `Io`,
+/// `TryAgain`, `NumberRange`, `Memory`: the record was refused. In each of these cases the marks are owed
+/// still. `Failed`: nothing is taken any more.
+pub fn rewrite_marks<P: PipeLog, L: Log>(
+    alloc: Global,
+    rt: &L,
+    pipes: &mut P,
+    tables: &mut MemTables,
+) -> Result<()>
+    ensures ok { OnOk result ((cache : BlockCache) → CarriesMarks
+        (shows (P.shown pipes.old) tables.old cache) (shows (P.shown pipes.new) tables.new cache)) }
+    ensures err { IfErr result (λ error. (cache : BlockCache) → PartIsRefused error
+        (shows (P.shown pipes.old) tables.old cache) (shows (P.shown pipes.new) tables.new cache)) }
+    ensures owed { OnErr result (tables.new ≡ tables.old) }
+    ensures rests { IsAtRest tables.old → IsAtRest tables.new }
+{
+    write_marks(alloc, rt, pipes, tables)?;
+    pipes.sync(rt, LogQueue::Rewrite)?;
+    tables.clear_marks();
+    Ok(())
+}
+
+/// Writes the marks that are owed, if there are any.
+fn write_marks<P: PipeLog, L: Log>(
+    alloc: Global,
+    rt: &L,
+    pipes: &mut P,
+    tables: &MemTables,
+) -> Result<()>
+    ensures ok { OnOk result (WritesMarks (shown_of tables.now) (P.shown pipes.old) (P.shown pipes.new)) }
+    ensures err { IfErr result (λ error. (cache : BlockCache) → PartIsRefused error
+        (shows (P.shown pipes.old) tables.now cache) (shows (P.shown pipes.new) tables.now cache)) }
+{
+    let batch = marks_batch(alloc, tables)?;
+    if batch.is_empty() {
+        return Ok(());
+    }
+    let mut signed = record_of(batch)?;
+    pipes.append(alloc, rt, LogQueue::Rewrite, &mut signed)?;
+    Ok(())
+}
+
+/// A batch of the marks that are owed.
+fn marks_batch(alloc: Global, tables: &MemTables) -> Result<LogBatch>
+    ensures ok { IfOk result (SaysMarks (shown_of tables.now)) }
+    ensures errors { IfErr result (λ error. AreMarksUnmade (shown_of tables.now) error) }
+{
+    let marks = tables.owed_marks()?;
+    let mut batch = LogBatch::with_capacity(alloc, marks.len())?;
+    add_marks(alloc, &mut batch, marks.as_slice())?;
+    Ok(batch)
+}
+
+/// Adds marks to a batch that has nothing yet.
+fn add_marks(alloc: Global, batch: &mut LogBatch, items: &[LogItem]) -> Result<()>
+    requires state { batch.old.state ≡ Filling }
+    requires none { batch.old.items ≡ [] }
+    ensures ok { OnOk result (SaysSame items.now batch.new) }
+    ensures bare { OnOk result (batch.new.entries ≡ batch.old.entries) }
+    ensures errors { IfErr result (λ error. AreUnmarked items.now error) }
+{
+    for item in items {
+        add_mark(alloc, batch, item)?;
+    }
+    Ok(())
+}
+
+/// Adds a mark to a batch: a command, or the deletion of a key.
+fn add_mark(alloc: Global, batch: &mut LogBatch, item: &LogItem) -> Result<()>
+    requires { batch.old.state ≡ Filling }
+    ensures ok { OnOk result (AddsSame batch.old batch.new item.now) }
+    ensures errors { IfErr result (λ error. AreUnmarked (item.now ∷ []) error) }
+{
+    match &item.content {
+        LogItemContent::Command(command) => {
+            batch.add_command(item.raft_group_id, *command)?;
+            Ok(())
+        }
+        LogItemContent::Kv(pair) => match pair.op_type {
+            OpType::Del => batch.delete(alloc, item.raft_group_id, pair.key.as_slice()),
+            OpType::Put => {
+                Err(Error::InvalidArgument(format!(in alloc; "a key that is put is no mark")?))
+            }
+        },
+        LogItemContent::EntryIndexes(_) => {
+            Err(Error::InvalidArgument(format!(in alloc; "entries are no mark")?))
+        }
+    }
+}

@@ -1,0 +1,104 @@
+//! What stands of a group in Rewrite, and batches that say it again.
+
+ghost use Rattle.std.specs.Prelude.{◌≡◌, ◌≤◌, ◌<◌, [], length, map, take, IfErr, IfOk, OnOk};
+ghost use Rattle.raft_log_table_lists.specs.Listing.{ListsAll, rewritten_values};
+ghost use Rattle.raft_log_record_batches.specs.declared.log_batch.BatchState.TheVariants.{Filling};
+ghost use Rattle.raft_log_table_all.specs.Tables.{shown_of};
+ghost use Rattle.raft_log_engine_laws.specs.raft_log_table_one.specs.Reads.{rewritten_entries};
+ghost use Rattle.raft_log_purge_parts.specs.Refusals.{AreUnput};
+ghost use Rattle.raft_log_purge_parts.specs.Pieces.{AddsKeys, BuildsPiece, FailsToBuildPiece, MakeOnePiece};
+
+use crate::entries::run_batch;
+use raft_log_file_blocks::BlockCache;
+use raft_log_file_pair::PipeLog;
+use raft_log_record_base::Result;
+use raft_log_record_batches::LogBatch;
+use raft_log_record_items::{Bytes, EntryIndex, RawMessage};
+use raft_log_table_all::MemTables;
+use std::alloc::{AllocError, Global};
+
+/// How many bytes of entries are written at once, but for an entry that has more.
+const MAX_PIECE_LEN: u64 = 131_072;
+
+/// The entries that a group has in Rewrite.
+pub fn rewritten_entries(
+    alloc: Global,
+    tables: &MemTables,
+    group: u64,
+) -> Result<Vec<EntryIndex>, AllocError>
+    ensures { IfOk result (λ entries. entries.items ≡ rewritten_entries (shown_of tables.now group)) }
+{
+    let mut entries = Vec::new(alloc);
+    if let Some(table) = tables.known_table(group) {
+        table.fetch_rewritten_entry_indexes(&mut entries)?;
+    }
+    Ok(entries)
+}
+
+/// The keys that a group has in Rewrite, with their values.
+pub fn rewritten_keys(
+    alloc: Global,
+    tables: &MemTables,
+    group: u64,
+) -> Result<Vec<(Bytes, Bytes)>, AllocError>
+    ensures { IfOk result (λ pairs. ListsAll (rewritten_values (shown_of tables.now group)) pairs.items) }
+{
+    let mut pairs = Vec::new(alloc);
+    if let Some(table) = tables.known_table(group) {
+        table.fetch_rewritten_kvs(&mut pairs)?;
+    }
+    Ok(pairs)
+}
+
+/// How many of the entries, from the first on, are written as one record: one at least, where there is one, and
+/// more as long as all of them have at most 128 KiB.
+pub fn piece_len(entries: &[EntryIndex]) -> usize
+    ensures few { result ≤ length entries.now }
+    ensures piece { MakeOnePiece (take result entries.now) }
+    ensures some { 0 < length entries.now → 0 < result }
+{
+    let mut left = MAX_PIECE_LEN;
+    for i in 0..entries.len() {
+        let len = entries[i].entry_len as u64;
+        if len > left {
+            return if i == 0 { 1 } else { i };
+        }
+        left -= len;
+    }
+    entries.len()
+}
+
+/// A batch of entries that lie at these places, which are read through their blocks, and of keys of their
+/// group.
+///
+/// Refused is what isn't read, `Full`, `Memory`, and `InvalidArgument`.
+pub fn piece_of<P: PipeLog>(
+    alloc: Global,
+    pipes: &P,
+    cache: &mut BlockCache,
+    group: u64,
+    entries: &[EntryIndex],
+    pairs: &[(Bytes, Bytes)],
+) -> Result<LogBatch>
+    ensures ok { IfOk result (λ b. BuildsPiece group entries.now pairs.now
+        (P.shown pipes.now) cache.old cache.new b) }
+    ensures err { IfErr result (λ error. FailsToBuildPiece entries.now pairs.now
+        (P.shown pipes.now) cache.old cache.new error) }
+{
+    let read: Vec<RawMessage> = cache.read_entries(alloc, pipes, entries)?;
+    let mut batch = run_batch(alloc, group, entries, read.as_slice())?;
+    add_keys(alloc, &mut batch, group, pairs)?;
+    Ok(batch)
+}
+
+/// Adds keys of a group, with their values.
+fn add_keys(alloc: Global, batch: &mut LogBatch, group: u64, pairs: &[(Bytes, Bytes)]) -> Result<()>
+    requires { batch.old.state ≡ Filling }
+    ensures ok { OnOk result (AddsKeys group pairs.now batch.old batch.new) }
+    ensures errors { IfErr result (λ error. AreUnput pairs.now error) }
+{
+    for pair in pairs {
+        batch.put(alloc, group, pair.0.as_slice(), pair.1.as_slice())?;
+    }
+    Ok(())
+}

@@ -1,0 +1,210 @@
+//! Groups are restated: what stands of each in Rewrite is written there again, as one record, or as an atomic
+//! group where it is more than one record may have.
+
+ghost use Rattle.std.specs.Prelude.{◌≡◌, ◌≤◌, ◌<◌, IfErr, IfOk, None, OnOk, length};
+ghost use Rattle.raft_log_engine_laws.specs.Shows.{shows};
+ghost use Rattle.raft_log_record_batches.specs.declared.log_batch.BatchState.TheVariants.{Filling};
+ghost use Rattle.raft_log_table_all.specs.Tables.{IsAtRest};
+ghost use Rattle.raft_log_purge_parts.specs.Restated.{FailsToRestate, RestatesEach, RestatesOne, StopsRestating};
+ghost use Rattle.raft_log_purge_parts.specs.Taking.{
+  EndsParts,
+  FailsToEnd,
+  FailsToRestateThese,
+  RestatesThese,
+};
+
+use crate::parts::{RestatedPart, begin_parts, last_batch, write_middles};
+use crate::pieces::{piece_len, piece_of, rewritten_entries, rewritten_keys};
+use crate::taking::{first_file, write_last};
+use log::Log;
+use raft_log_file_blocks::BlockCache;
+use raft_log_file_pair::PipeLog;
+use raft_log_record_base::Result;
+use raft_log_record_batches::{AtomicGroupBuilder, LogBatch};
+use raft_log_record_items::{Bytes, EntryIndex};
+use raft_log_table_all::MemTables;
+use raft_log_table_lists::GroupFiles;
+use std::alloc::Global;
+
+/// Restates groups, one after another: all that each has in Rewrite lies from the file on that was written
+/// when that began. The number is the one that the next atomic group gets, and is counted on.
+///
+/// Refused is what `restate_group` refuses: the groups before are restated, and of that one nothing changed.
+pub fn restate_groups<P: PipeLog, L: Log>(
+    alloc: Global,
+    rt: &L,
+    pipes: &mut P,
+    tables: &mut MemTables,
+    cache: &mut BlockCache,
+    groups: &[u64],
+    number: &mut u64,
+) -> Result<()>
+    ensures ok { OnOk result (RestatesEach groups.now
+        (shows (P.shown pipes.old) tables.old cache.old) (shows (P.shown pipes.new) tables.new cache.new)) }
+    ensures err { IfErr result (λ error. StopsRestating groups.now error
+        (shows (P.shown pipes.old) tables.old cache.old) (shows (P.shown pipes.new) tables.new cache.new)) }
+    ensures rests { IsAtRest tables.old → IsAtRest tables.new }
+    ensures counted { number.old ≤ number.new }
+{
+    let mut unsynced = 0;
+    for group in groups {
+        restate_group(
+            alloc,
+            rt,
+            pipes,
+            tables,
+            cache,
+            *group,
+            number,
+            &mut unsynced,
+        )?;
+    }
+    Ok(())
+}
+
+/// Restates a group: all that it has in Rewrite is written there again, as one record or as an atomic group
+/// of this number, and lies there then. The number is counted on where it was used. A group that has nothing
+/// there writes nothing.
+///
+/// Refused is what isn't read, `Full`, `Memory`, and what Rewrite refuses: nothing that shows of the tables
+/// is changed.
+pub fn restate_group<P: PipeLog, L: Log>(
+    alloc: Global,
+    rt: &L,
+    pipes: &mut P,
+    tables: &mut MemTables,
+    cache: &mut BlockCache,
+    group: u64,
+    number: &mut u64,
+    unsynced: &mut u64,
+) -> Result<()>
+    ensures ok { OnOk result (RestatesOne group
+        (shows (P.shown pipes.old) tables.old cache.old) (shows (P.shown pipes.new) tables.new cache.new)) }
+    ensures err { IfErr result (λ error. FailsToRestate error
+        (shows (P.shown pipes.old) tables.old cache.old) (shows (P.shown pipes.new) tables.new cache.new)) }
+    ensures rests { IsAtRest tables.old → IsAtRest tables.new }
+    ensures counted { number.old ≤ number.new }
+{
+    let entries = rewritten_entries(alloc, tables, group)?;
+    let pairs = rewritten_keys(alloc, tables, group)?;
+    let es = entries.as_slice();
+    let keys = pairs.as_slice();
+    let count = piece_len(es);
+    if count == es.len() {
+        return restate_at_once(alloc, rt, pipes, tables, cache, group, es, keys, unsynced);
+    }
+    let mut builder = AtomicGroupBuilder::with_id(*number);
+    *number = number.saturating_add(1);
+    restate_in_parts(
+        alloc,
+        rt,
+        pipes,
+        tables,
+        cache,
+        &mut builder,
+        group,
+        es,
+        keys,
+        count,
+        unsynced,
+    )
+}
+
+/// Restates a group that has these entries and keys in Rewrite by one record, if there are any.
+fn restate_at_once<P: PipeLog, L: Log>(
+    alloc: Global,
+    rt: &L,
+    pipes: &mut P,
+    tables: &mut MemTables,
+    cache: &mut BlockCache,
+    group: u64,
+    entries: &[EntryIndex],
+    pairs: &[(Bytes, Bytes)],
+    unsynced: &mut u64,
+) -> Result<()>
+    ensures ok { OnOk result (RestatesThese group entries.now pairs.now
+        (shows (P.shown pipes.old) tables.old cache.old) (shows (P.shown pipes.new) tables.new cache.new)) }
+    ensures err { IfErr result (λ error. FailsToRestateThese group entries.now pairs.now error
+        (shows (P.shown pipes.old) tables.old cache.old) (shows (P.shown pipes.new) tables.new cache.new)) }
+    ensures rests { IsAtRest tables.old → IsAtRest tables.new }
+{
+    let batch = piece_of(alloc, pipes, cache, group, entries, pairs)?;
+    if batch.is_empty() {
+        return Ok(());
+    }
+    let none: Vec<RestatedPart> = Vec::new(alloc);
+    write_last(alloc, rt, pipes, tables, none.as_slice(), batch, unsynced)?;
+    Ok(())
+}
+
+/// Restates a group that has these entries and keys in Rewrite by an atomic group, whose first part has so
+/// many of the entries.
+fn restate_in_parts<P: PipeLog, L: Log>(
+    alloc: Global,
+    rt: &L,
+    pipes: &mut P,
+    tables: &mut MemTables,
+    cache: &mut BlockCache,
+    builder: &mut AtomicGroupBuilder,
+    group: u64,
+    entries: &[EntryIndex],
+    pairs: &[(Bytes, Bytes)],
+    count: usize,
+    unsynced: &mut u64,
+) -> Result<()>
+    requires some { 0 < count }
+    requires few { count < length entries.now }
+    requires unbegun { builder.old.status ≡ None }
+    ensures ok { OnOk result (RestatesThese group entries.now pairs.now
+        (shows (P.shown pipes.old) tables.old cache.old) (shows (P.shown pipes.new) tables.new cache.new)) }
+    ensures err { IfErr result (λ error. FailsToRestateThese group entries.now pairs.now error
+        (shows (P.shown pipes.old) tables.old cache.old) (shows (P.shown pipes.new) tables.new cache.new)) }
+    ensures rests { IsAtRest tables.old → IsAtRest tables.new }
+{
+    let mut parts = Vec::new(alloc);
+    let first = begin_parts(
+        alloc, rt, pipes, cache, builder, group, entries, count, unsynced,
+    )?;
+    parts.push(first)?;
+    let done = write_middles(
+        alloc, rt, pipes, cache, builder, group, entries, count, &mut parts, unsynced,
+    )?;
+    let batch = last_batch(alloc, pipes, cache, builder, group, entries, done, pairs)?;
+    end_parts(
+        alloc,
+        rt,
+        pipes,
+        tables,
+        group,
+        parts.as_slice(),
+        batch,
+        unsynced,
+    )
+}
+
+/// Ends an atomic group by its last record: the tables take its parts, one after another, and note its files.
+///
+/// Refused as `write_last`: the group is given up.
+fn end_parts<P: PipeLog, L: Log>(
+    alloc: Global,
+    rt: &L,
+    pipes: &mut P,
+    tables: &mut MemTables,
+    group: u64,
+    parts: &[RestatedPart],
+    batch: LogBatch,
+    unsynced: &mut u64,
+) -> Result<()>
+    requires { batch.state ≡ Filling }
+    ensures ok { OnOk result (EndsParts group parts.now batch
+        (P.shown pipes.old) tables.old (P.shown pipes.new) tables.new) }
+    ensures err { IfErr result (λ error. FailsToEnd group parts.now batch error
+        (P.shown pipes.old) tables.old (P.shown pipes.new) tables.new) }
+    ensures rests { IsAtRest tables.old → IsAtRest tables.new }
+{
+    let block = write_last(alloc, rt, pipes, tables, parts, batch, unsynced)?;
+    let from = first_file(parts, block.id.seq);
+    let to = block.id.seq;
+    tables.note_group(group, GroupFiles { from, to });
+    Ok(())
+}

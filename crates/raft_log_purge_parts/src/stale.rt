@@ -1,0 +1,59 @@
+//! All files of both queues go that nothing is in that is in use.
+
+ghost use Rattle.std.specs.Prelude.{◌≡◌, IfErr, IfOk, OnOk};
+ghost use Rattle.raft_log_engine_laws.specs.Shows.{shows};
+ghost use Rattle.raft_log_table_all.specs.Tables.{IsAtRest};
+ghost use Rattle.raft_log_purge_parts.specs.Stale.{FailsToPurgeAll, FailsToTurn, PurgesAllStale, TurnsAndLoses};
+
+use crate::files::purge_stale;
+use crate::marks::rewrite_marks;
+use log::Log;
+use raft_log_file_blocks::BlockCache;
+use raft_log_file_pair::PipeLog;
+use raft_log_record_base::{LogQueue, Result};
+use raft_log_table_all::MemTables;
+use std::alloc::Global;
+
+/// Takes all files out of both queues that nothing is in that is in use: Append is synced, marks are carried,
+/// and then each queue goes on in its next file and loses those before, Rewrite first.
+///
+/// Refused, the map stays: what a sync, `rewrite_marks`, a rotation and `purge_stale` refuse.
+pub fn purge_all_stale<P: PipeLog, L: Log>(
+    alloc: Global,
+    rt: &L,
+    pipes: &mut P,
+    tables: &mut MemTables,
+    cache: &mut BlockCache,
+) -> Result<()>
+    ensures ok { OnOk result (PurgesAllStale tables.new
+        (shows (P.shown pipes.old) tables.old cache.old) (shows (P.shown pipes.new) tables.new cache.new)) }
+    ensures err { IfErr result (λ error. FailsToPurgeAll error
+        (shows (P.shown pipes.old) tables.old cache.old) (shows (P.shown pipes.new) tables.new cache.new)) }
+    ensures rests { IsAtRest tables.old → IsAtRest tables.new }
+{
+    pipes.sync(rt, LogQueue::Append)?;
+    rewrite_marks(alloc, rt, pipes, tables)?;
+    turn_and_purge(alloc, rt, pipes, tables, cache, LogQueue::Rewrite)?;
+    turn_and_purge(alloc, rt, pipes, tables, cache, LogQueue::Append)?;
+    Ok(())
+}
+
+/// A queue goes on in its next file, and those before that aren't in use leave its span: the answer is how
+/// many.
+fn turn_and_purge<P: PipeLog, L: Log>(
+    alloc: Global,
+    rt: &L,
+    pipes: &mut P,
+    tables: &MemTables,
+    cache: &mut BlockCache,
+    queue: LogQueue,
+) -> Result<usize>
+    ensures ok { IfOk result (λ count. TurnsAndLoses queue tables.now count
+        (shows (P.shown pipes.old) tables.now cache.old) (shows (P.shown pipes.new) tables.now cache.new)) }
+    ensures err { IfErr result (λ error. FailsToTurn queue error
+        (shows (P.shown pipes.old) tables.now cache.old) (shows (P.shown pipes.new) tables.now cache.new)) }
+{
+    pipes.rotate(alloc, rt, queue)?;
+    let (_first, last) = pipes.file_span(queue);
+    purge_stale(alloc, rt, pipes, tables, cache, queue, last)
+}

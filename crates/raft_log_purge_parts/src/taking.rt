@@ -1,0 +1,116 @@
+//! The last record of those that restate a group is written, and the tables take all of them: room is made
+//! before it, and behind it nothing can be refused.
+
+ghost use Rattle.std.specs.Prelude.{◌≡◌, IfErr, IfOk, OnOk};
+ghost use Rattle.raft_log_record_batches.specs.declared.log_batch.BatchState.TheVariants.{Filling};
+ghost use Rattle.raft_log_table_all.specs.Rewriting.{GroupsStay};
+ghost use Rattle.raft_log_table_all.specs.Tables.{IsAtRest, ShowsSame};
+ghost use Rattle.raft_log_purge_parts.specs.Taking.{
+  FailsToWriteLast,
+  HaveRoom,
+  TakesPartsAndItems,
+  WritesLast,
+  first_file_of,
+};
+ghost use Rattle.raft_log_purge_parts.specs.Syncing.{CountsRecord};
+
+use crate::parts::RestatedPart;
+use crate::sync_if_due;
+use log::Log;
+use raft_log_file_blocks::SignedBatch;
+use raft_log_file_pair::PipeLog;
+use raft_log_record_base::{FileBlockHandle, FileSeq, LogQueue, Result};
+use raft_log_record_batches::LogBatch;
+use raft_log_record_items::LogItem;
+use raft_log_table_all::MemTables;
+use std::alloc::{AllocError, Global};
+
+/// Writes the record of a batch to Rewrite, the last one of those that restate a group, and moves what all of
+/// them have to where they were written, part after part. The answer is the place of that record.
+///
+/// `Full`, `Memory`: nothing is done. `Failed`, and what Rewrite refuses. In each case nothing that shows of
+/// the tables is changed.
+pub fn write_last<P: PipeLog, L: Log>(
+    alloc: Global,
+    rt: &L,
+    pipes: &mut P,
+    tables: &mut MemTables,
+    parts: &[RestatedPart],
+    batch: LogBatch,
+    unsynced: &mut u64,
+) -> Result<FileBlockHandle>
+    requires { batch.state ≡ Filling }
+    ensures ok { IfOk result (λ block. WritesLast parts.now batch block
+        (P.shown pipes.old) tables.old (P.shown pipes.new) tables.new) }
+    ensures err { IfErr result (λ error. FailsToWriteLast batch error
+        (P.shown pipes.old) tables.old (P.shown pipes.new) tables.new) }
+    ensures counted { OnOk result (CountsRecord batch unsynced.old unsynced.new) }
+    ensures rests { IsAtRest tables.old → IsAtRest tables.new }
+{
+    let mut batch = batch;
+    let len = batch.finish_populate()?;
+    make_room(tables, parts, batch.items())?;
+    sync_if_due(rt, pipes, unsynced)?;
+    let mut signed = SignedBatch::new(batch);
+    signed.encoded_len();
+    let appended = pipes.append(alloc, rt, LogQueue::Rewrite, &mut signed);
+    let mut batch = signed.into_batch();
+    match appended {
+        Ok(block) => {
+            batch.finish_write(block);
+            take_items(tables, parts, batch.items(), block);
+            *unsynced = unsynced.saturating_add(len as u64);
+            Ok(block)
+        }
+        Err(error) => {
+            tables.take_back(batch.items());
+            Err(error)
+        }
+    }
+}
+
+/// The file of the first of the parts, and that one where there is none.
+pub fn first_file(parts: &[RestatedPart], last: FileSeq) -> FileSeq
+    ensures { result ≡ first_file_of parts.now last }
+{
+    if parts.is_empty() {
+        last
+    } else {
+        parts[0].block.id.seq
+    }
+}
+
+/// Makes room for what the parts have to move, and these items behind them. Nothing shows.
+fn make_room(
+    tables: &mut MemTables,
+    parts: &[RestatedPart],
+    items: &[LogItem],
+) -> Result<(), AllocError>
+    ensures shows { ShowsSame tables.old tables.new }
+    ensures ok { OnOk result (HaveRoom tables.new parts.now items.now) }
+    ensures stay { OnOk result (GroupsStay tables.old tables.new) }
+    ensures rests { IsAtRest tables.old → IsAtRest tables.new }
+{
+    for part in parts {
+        tables.prepare_rewrite(part.items.as_slice())?;
+    }
+    tables.prepare_rewrite(items)
+}
+
+/// Moves what the parts have to where they were written, part after part, and then the items of the batch
+/// that stands at this place.
+fn take_items(
+    tables: &mut MemTables,
+    parts: &[RestatedPart],
+    items: &[LogItem],
+    block: FileBlockHandle,
+)
+    requires { HaveRoom tables.old parts.now items.now }
+    ensures took { TakesPartsAndItems parts.now items.now block tables.old tables.new }
+    ensures rests { IsAtRest tables.old → IsAtRest tables.new }
+{
+    for part in parts {
+        tables.apply_rewrite_writes(part.items.as_slice(), None, part.block.id.seq);
+    }
+    tables.apply_rewrite_writes(items, None, block.id.seq);
+}

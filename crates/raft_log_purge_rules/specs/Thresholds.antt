@@ -1,0 +1,11 @@
+-- From which sizes on a purge takes up a queue.
+use Rattle.raft_log_file_settings.specs.Settings.{Settings}
+use Rattle.raft_log_purge_rules.specs.declared.thresholds.Thresholds.{Thresholds}
+
+-- as these settings have it
+abbrev pub thresholds_of : Settings → Thresholds
+thresholds_of s = record {
+  append = s.purge_threshold;
+  rewrite = s.purge_rewrite_threshold;
+  garbage_ratio = s.purge_rewrite_garbage_ratio;
+}

@@ -1,0 +1,32 @@
+//! What the settings of a log say of its purges.
+
+ghost use Rattle.std.specs.Prelude.{◌≡◌};
+ghost use Rattle.raft_log_file_settings.specs.Sanitized.{sanitized};
+ghost use Rattle.raft_log_file_settings.specs.Settings.{settings_of};
+ghost use Rattle.raft_log_purge_rules.specs.Thresholds.{thresholds_of};
+
+use raft_log_file_settings::Config;
+
+/// From which sizes on a purge takes up the queues of a log.
+#[derive(Clone, Copy, Debug, PartialEq, Eq)]
+pub struct Thresholds {
+    /// Append is purged where it is larger than this, in bytes.
+    pub append: u64,
+    /// Rewrite is written again where it is larger than this; without it, never.
+    pub rewrite: Option<u64>,
+    /// And where more than so many thousandths of what was written to Rewrite stand no more.
+    pub garbage_ratio: u64,
+}
+
+impl Thresholds {
+    /// As settings have it, once they are made whole: `sanitize` may be still to come.
+    pub fn of(config: &Config) -> Thresholds
+        ensures { result ≡ thresholds_of (sanitized (settings_of config.now)) }
+    {
+        Thresholds {
+            append: config.purge_threshold.0,
+            rewrite: Some(config.rewrite_threshold()),
+            garbage_ratio: config.purge_rewrite_garbage_ratio,
+        }
+    }
+}

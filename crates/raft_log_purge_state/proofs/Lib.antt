@@ -1,4 +1,0 @@
-pub mod Settling
-pub mod Raising
-pub mod Rewriting
-pub mod Copying

@@ -1,5 +1,0 @@
-use Rattle.raft_log_purge_state.proofs.Copying.{copies_refused}
-use Rattle.raft_log_purge_state.proofs.laws.refused_copies_keep_the_map.Goals as goal
-
-pub returns : goal.returns
-returns c = copies_refused

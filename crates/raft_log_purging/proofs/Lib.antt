@@ -1,6 +1,0 @@
-pub mod OneFile
-pub mod Expiring
-pub mod Free
-pub mod Past
-pub mod Picked
-pub mod Whole

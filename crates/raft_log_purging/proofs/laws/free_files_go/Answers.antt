@@ -1,5 +1,0 @@
-use Rattle.raft_log_purging.proofs.Free.{free_files_go}
-use Rattle.raft_log_purging.proofs.laws.free_files_go.Goals as goal
-
-pub returns : goal.returns
-returns g c = free_files_go _

@@ -1,0 +1,56 @@
+-- Queues and files in their order.
+use Rattle.std.specs.Prelude.{◌≡◌, ◌↔◌, ℕ, ◌%◌, ◌^◌, Bool, true, false, Option, Some, None}
+use Rattle.std.specs.declared.cmp.Ordering.{Ordering}
+use Rattle.std.specs.declared.cmp.Ordering.TheVariants.{Equal, Greater}
+use Rattle.std.specs.Ordering.{nat_cmp, on, then_cmp, flip_args}
+use Rattle.raft_log_record_base.specs.declared.pipe_log.LogQueue.{LogQueue}
+use Rattle.raft_log_record_base.specs.declared.pipe_log.LogQueue.TheVariants.{Append, Rewrite}
+use Rattle.raft_log_record_base.specs.declared.pipe_log.FileId.{FileId}
+use Rattle.raft_log_record_base.specs.declared.pipe_log.Version.{Version}
+use Rattle.raft_log_record_base.specs.declared.pipe_log.Version.TheVariants.{V1, V2}
+use Rattle.raft_log_record_base.specs.declared.pipe_log.LogFileContext.{LogFileContext}
+use Rattle.raft_log_record_base.specs.declared.pipe_log.FileBlockHandle.{FileBlockHandle}
+
+-- the number of a queue
+abbrev pub queue_number : LogQueue → ℕ
+queue_number Append = 0
+queue_number Rewrite = 1
+
+-- the greater queue number first, then the file number
+abbrev pub file_cmp : FileId → FileId → Ordering
+file_cmp = then_cmp (flip_args (on (λ f. queue_number f.queue) nat_cmp)) (on (λ f. f.seq) nat_cmp)
+
+-- each append file is above each rewrite file
+abbrev pub AppendAboveRewrite : Type 0
+AppendAboveRewrite = (a b : FileId) → a.queue ≡ Append → b.queue ≡ Rewrite → file_cmp a b ≡ Greater
+
+-- files of one queue are ordered by their numbers
+abbrev pub NumberedInQueue : Type 0
+NumberedInQueue = (a b : FileId) → a.queue ≡ b.queue → file_cmp a b ≡ nat_cmp a.seq b.seq
+
+-- neither file is above the other one only where they are one file
+abbrev pub OrderAgreesWithEquality : Type 0
+OrderAgreesWithEquality = (a b : FileId) → (file_cmp a b ≡ Equal) ↔ (a ≡ b)
+
+-- the number of a format's version
+abbrev pub version_number : Version → ℕ
+version_number V1 = 1
+version_number V2 = 2
+
+-- what records are signed with in a file of this version and number: the low 32 bits of the number
+abbrev pub signature : Version → ℕ → Option ℕ
+signature V1 number = None
+signature V2 number = Some (number % 2 ^ 32)
+
+-- what records are signed with in this file
+abbrev pub signature_of : LogFileContext → Option ℕ
+signature_of context = signature context.version context.id.seq
+
+-- the records of a file of the second version are signed
+abbrev pub is_signed : Version → Bool
+is_signed V1 = false
+is_signed V2 = true
+
+-- the place of a block without bytes
+abbrev pub no_block : FileBlockHandle
+no_block = record { id = record { queue = Append; seq = 0 }; offset = 0; len = 0 }

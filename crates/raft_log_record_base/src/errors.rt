@@ -1,0 +1,116 @@
+//! Why a call on the log is refused.
+ghost use Rattle.std.specs.Prelude.{◌≡◌};
+ghost use Rattle.raft_log_record_base.specs.declared.errors.Error.TheVariants as errors;
+
+use crate::codec;
+use crate::size::ParseSizeError;
+use std::alloc::{AllocError, AllocFailed, Global};
+use std::io::ErrorKind;
+use thiserror::Error;
+
+/// Why a call on the log is refused.
+#[derive(Debug, Drop, Error)]
+pub enum Error {
+    /// An argument that the call doesn't take.
+    #[error("Invalid Argument: {0}")]
+    InvalidArgument(String),
+    /// Bytes that no log has.
+    #[error("Corruption: {0}")]
+    Corruption(String),
+    /// The file system refused.
+    #[error("IO Error: {0}")]
+    Io(ErrorKind),
+    /// A number's bytes end too early, or the number doesn't fit.
+    #[error("Codec Error: {0}")]
+    Codec(codec::Error),
+    /// A message's `parse` refused the bytes.
+    #[error("Message Error: {0}")]
+    Message(String),
+    /// Nothing was changed, and the same call may succeed.
+    #[error("Try again error: {0}")]
+    TryAgain(String),
+    /// The entry was dropped by a compaction.
+    #[error("Entry Compacted")]
+    EntryCompacted,
+    /// There is no such entry.
+    #[error("Entry not found")]
+    EntryNotFound,
+    /// A batch has no room for the entries' bytes.
+    #[error("Full")]
+    Full,
+    /// Anything else.
+    #[error("Other Error: {0}")]
+    Other(Box<anyhow::Error>),
+    /// Memory ran out.
+    #[error("Memory")]
+    Memory,
+    /// A failure that could not be mended came before: nothing more is taken.
+    #[error("Failed")]
+    Failed,
+    /// Entries past the end of those that are there.
+    #[error("Hole")]
+    Hole,
+    /// The numbers of files have run out.
+    #[error("Number out of range")]
+    NumberRange,
+}
+
+/// What a call on the log answers.
+pub type Result<T, E = Error> = std::result::Result<T, E>;
+
+impl Error {
+    ghost use Rattle.raft_log_record_base.specs.Fault.{IsOtherOf, IsInvalidSize};
+
+    /// Anything else that went wrong, or `Memory` where there is no room to keep it.
+    pub fn other(alloc: Global, error: anyhow::Error) -> Error
+        ensures { IsOtherOf error result }
+    {
+        match Box::new(alloc, error) {
+            Ok(error) => Error::Other(error),
+            Err(_) => Error::Memory,
+        }
+    }
+
+    /// A text that is no size, as an invalid argument, or `Memory` where there is no room for what is
+    /// wrong with it.
+    pub fn invalid_size(alloc: Global, fault: ParseSizeError) -> Error
+        ensures { IsInvalidSize fault result }
+    {
+        match fault.to_string(alloc) {
+            Ok(text) => Error::InvalidArgument(text),
+            Err(_) => Error::Memory,
+        }
+    }
+}
+
+impl From<AllocError> for Error {
+    ghost from_gives = { λ _ e. e ≡ errors.Memory };
+
+    fn from(_e: AllocError) -> Error {
+        Error::Memory
+    }
+}
+
+impl<T: Drop> From<AllocFailed<T>> for Error {
+    ghost from_gives = { λ _ e. e ≡ errors.Memory };
+
+    fn from(_e: AllocFailed<T>) -> Error {
+        Error::Memory
+    }
+}
+
+impl From<ErrorKind> for Error {
+    ghost from_gives = { λ kind e. e ≡ errors.Io kind };
+
+    fn from(kind: ErrorKind) -> Error {
+        Error::Io(kind)
+    }
+}
+
+impl From<codec::Error> for Error {
+    ghost from_gives = { λ c e. e ≡ errors.Codec c };
+
+    fn from(e: codec::Error) -> Error {
+        Error::Codec(e)
+    }
+}

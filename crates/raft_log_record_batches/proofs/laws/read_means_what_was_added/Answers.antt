@@ -1,0 +1,5 @@
+use Rattle.raft_log_record_batches.proofs.PlacedMeanings.{read_means_what_was_added}
+use Rattle.raft_log_record_batches.proofs.laws.read_means_what_was_added.Goals as goal
+
+pub returns : goal.returns
+returns c = read_means_what_was_added

@@ -1,0 +1,6 @@
+pub mod ItemBatch
+pub mod Batch
+pub mod Entries
+pub mod Key
+pub mod AtomicGroup
+pub mod Places

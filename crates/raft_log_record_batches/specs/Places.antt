@@ -1,0 +1,57 @@
+-- Where the entries of a batch lie in their block, and the bytes that stand there.
+use Rattle.std.specs.Prelude.{◌≡◌, ℕ, ◌+◌, ◌-◌, ◌≤◌, List, ◌++◌, length, take, drop, map, Some, All}
+use Rattle.raft_log_record_base.specs.declared.pipe_log.FileBlockHandle.{FileBlockHandle}
+use Rattle.raft_log_record_items.specs.declared.entry.EntryIndex.{EntryIndex}
+use Rattle.raft_log_record_items.specs.declared.item.LogItem.{LogItem}
+use Rattle.raft_log_record_items.specs.Placed.{entries_len, laid_out, placed}
+use Rattle.raft_log_record_items.specs.Writing.{plain_item}
+use Rattle.raft_log_record_frames.specs.Record.{block_bytes}
+use Rattle.raft_log_record_batches.specs.ItemBatch.{all_entries}
+use Rattle.raft_log_record_batches.specs.Batch.{Batch}
+use Rattle.raft_log_record_marks.specs.Meaning.{record_of}
+
+-- the bytes of an entry, where these are the bytes of its block
+abbrev pub entry_bytes : List ℕ → EntryIndex → List ℕ
+entry_bytes block e = take e.entry_len (drop e.entry_offset block)
+
+-- the bytes of each entry of these items, where these are the bytes of their block
+abbrev pub bytes_of_each : List LogItem → List ℕ → List (List ℕ)
+bytes_of_each items block = map (entry_bytes block) (all_entries items)
+
+-- the entry lies in this block, in front of its checksum
+abbrev pub IsEntryInBlock : FileBlockHandle → EntryIndex → Type 0
+IsEntryInBlock block e = (e.entries ≡ Some block) × (e.entry_offset + e.entry_len ≤ block.len - 4)
+
+-- each entry of these items lies in this block
+abbrev pub AllLieIn : FileBlockHandle → List LogItem → Type 0
+AllLieIn block items = All (IsEntryInBlock block) (all_entries items)
+
+-- the bytes of each entry of a batch
+abbrev pub bytes_in : Batch → List (List ℕ)
+bytes_in b = bytes_of_each b.items b.entries
+
+-- the batch has the bytes of each entry that it had, and these behind them
+abbrev pub AddsBytes : Batch → Batch → List (List ℕ) → Type 0
+AddsBytes old new entries = bytes_in new ≡ bytes_in old ++ entries
+
+-- the block of the written batch has at the places of its entries the bytes that it had before
+abbrev pub HasBytesInBlock : Batch → Batch → Type 0
+HasBytesInBlock old new =
+    bytes_of_each new.items (block_bytes new.entries) ≡ bytes_of_each old.items old.entries
+
+-- What is read of a written batch has at its places, in the block that was written, the bytes of each entry
+-- that was added.
+abbrev pub ReadHasWhatWasAdded : Type 0
+ReadHasWhatWasAdded =
+    (items : List LogItem) (entries : List ℕ) (handle : FileBlockHandle) → laid_out 0 items ≡ items
+    → entries_len items ≡ length entries
+    → bytes_of_each (placed handle (map plain_item items)) (block_bytes entries) ≡ bytes_of_each items entries
+
+-- What is read of a written batch means what was added to it, where the bytes of an entry stand for it: those
+-- at its place in the block that was written, and those that were added.
+abbrev pub ReadMeansWhatWasAdded : Type 0
+ReadMeansWhatWasAdded =
+    (items : List LogItem) (entries : List ℕ) (handle : FileBlockHandle) → laid_out 0 items ≡ items
+    → entries_len items ≡ length entries
+    → record_of (entry_bytes (block_bytes entries)) (placed handle (map plain_item items))
+    ≡ record_of (entry_bytes entries) items

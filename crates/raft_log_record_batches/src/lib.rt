@@ -1,0 +1,20 @@
+//! Log records: items and entries in signed batches, which may be parts of atomic groups.
+#![tactic(auto)]
+
+pub mod atomic_group;
+pub mod laws;
+pub mod log_batch;
+pub mod log_item_batch;
+
+pub use atomic_group::AtomicGroupBuilder;
+pub use log_batch::{BatchState, LogBatch};
+pub use log_item_batch::LogItemBatch;
+pub use raft_log_record_frames::{
+    LOG_BATCH_HEADER_LEN, decode_entries_block, decode_footer, decode_header,
+};
+pub use raft_log_record_items::{
+    Bytes, Command, CompressionType, EntryIndex, EntryIndexes, Error, FileBlockHandle, FileId,
+    FileSeq, KeyValue, LogFileContext, LogItem, LogItemContent, LogQueue, Message, MessageExt,
+    OpType, Result, Version,
+};
+pub use raft_log_record_marks::{AtomicGroupStatus, Marking};

@@ -1,0 +1,98 @@
+//! The header of a record, and its entry block.
+ghost use Rattle.std.specs.Prelude.{◌≡◌, drop, IsOk, IfOk, OnOk};
+ghost use Rattle.raft_log_record_base.specs.Fault.{GivesOrMemory, ReadsOrMemory};
+ghost use Rattle.raft_log_record_frames.specs.Record.{IsInside, header_of, header_at, block_of, GivesSlice};
+
+use raft_log_record_base::codec;
+use raft_log_record_base::codec::BytesSlice;
+use raft_log_record_checksum::crc32;
+use raft_log_record_items::{CompressionType, Error, Result};
+use std::alloc::Global;
+
+/// How many bytes a header has.
+pub const LOG_BATCH_HEADER_LEN: usize = 16;
+
+/// How many bytes a checksum has.
+pub(crate) const LOG_BATCH_CHECKSUM_LEN: usize = 4;
+
+/// What the two words of a header say.
+#[tactic(auto, unfolding(crate::specs::Record::header_of))]
+fn read_words(alloc: Global, word: u64, offset: u64) -> Result<(usize, CompressionType, usize)>
+    ensures exact { GivesOrMemory result (header_of word offset) }
+    ensures sure { IsOk (header_of word offset) → IsOk result }
+    ensures inside { IfOk result (λ header. IsInside header) }
+{
+    let kind = (word % 256) as u8;
+    if kind != 0 {
+        return Err(Error::Corruption(format!(in alloc; "Unsupported compression type: {kind}")?));
+    }
+    if offset < LOG_BATCH_HEADER_LEN as u64 {
+        return Err(Error::Corruption(format!(in alloc;
+            "Log batch footer inside the header: {offset}"
+        )?));
+    }
+    let len = word / 256;
+    if offset > len {
+        return Err(Error::Corruption(format!(in alloc;
+            "Log batch footer past the end: {offset}"
+        )?));
+    }
+    Ok((offset as usize, CompressionType::None, len as usize))
+}
+
+/// Reads the header of a record: where its footer begins, how its entry block is compressed, and its length,
+/// the first and the last counted from the start of the record. Takes sixteen bytes, or none where it
+/// refuses.
+///
+/// Refuses as a corruption, in this order: fewer than 16 bytes, a compression, a footer that begins inside
+/// the header, and one that begins past the record's end. Only the text of a refusal takes memory: a good
+/// header is always answered.
+#[tactic(auto, unfolding(crate::specs::Record::header_at))]
+pub fn decode_header(
+    alloc: Global,
+    source: &mut BytesSlice<'_>,
+) -> Result<(usize, CompressionType, usize)>
+    ensures exact { ReadsOrMemory result source.old.now source.new.now (header_at source.old.now) }
+    ensures sure { IsOk (header_at source.old.now) → IsOk result }
+    ensures inside { IfOk result (λ header. IsInside header) }
+    ensures taken { OnOk result (source.new.now ≡ drop 16 source.old.now) }
+{
+    let mut rest: &[u8] = *source;
+    if rest.len() < LOG_BATCH_HEADER_LEN {
+        let len = rest.len();
+        return Err(Error::Corruption(format!(in alloc; "Log batch header too short: {len}")?));
+    }
+    let word = codec::decode_u64(&mut rest)?;
+    let offset = codec::decode_u64(&mut rest)?;
+    let header = read_words(alloc, word, offset)?;
+    *source = rest;
+    Ok(header)
+}
+
+/// The entries' bytes of a whole entry block, which is not copied. No bytes are a block without entries.
+///
+/// Refuses as a corruption one to three bytes, and a wrong checksum. A checksum alone is a block too, which
+/// is never written. Only the text of a refusal takes memory: a good block is always answered.
+#[tactic(auto, unfolding(crate::specs::Record::block_of))]
+pub fn decode_entries_block<'a>(
+    alloc: Global,
+    block: &'a [u8],
+    compression: CompressionType,
+) -> Result<&'a [u8]>
+    ensures exact { GivesSlice result (block_of block.now) }
+    ensures sure { IsOk (block_of block.now) → IsOk result }
+{
+    let CompressionType::None = compression;
+    let len = block.len();
+    if len == 0 {
+        return Ok(block);
+    }
+    if len < LOG_BATCH_CHECKSUM_LEN {
+        return Err(Error::Corruption(format!(in alloc; "Entry block too short: {len}")?));
+    }
+    let (entries, mut checksum) = block.split_at(len - LOG_BATCH_CHECKSUM_LEN);
+    if codec::decode_u32_le(&mut checksum)? != crc32(entries) {
+        return Err(Error::Corruption(format!(in alloc; "Entry block checksum mismatch")?));
+    }
+    Ok(entries)
+}

@@ -1,8 +1,0 @@
-mod Parts
-pub mod Keeping
-pub mod Staying
-pub mod Reading
-pub mod Taking
-mod Laid
-pub mod Lasting
-mod Anywhere

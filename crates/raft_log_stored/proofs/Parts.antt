@@ -1,9 +1,0 @@
--- Parts of bytes, behind which more may stand.
-use Rattle.std.proofs.Common.{◌≡◌, ℕ, ◌+◌, ◌≤◌, List, ◌++◌, length, take, drop, ap, ◌∙◌, arith}
-use Rattle.std.proofs.lemmas.List.{take-append-le, drop-append-le, length-drop}
-use Rattle.raft_log_stored.specs.Stored.{part}
-
-pub part_front : (offset len : ℕ) (bytes more : List ℕ) → offset + len ≤ length bytes → part offset len (bytes ++ more) ≡ part offset len bytes
-part_front offset len bytes more inside =
-    ap (λ (l : List ℕ). take len l) (drop-append-le offset bytes more (omega (arith, inside)))
-    ∙ take-append-le len (drop offset bytes) more (omega (arith, inside, length-drop offset bytes))

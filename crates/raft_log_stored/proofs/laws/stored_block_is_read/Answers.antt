@@ -1,6 +1,0 @@
-use Rattle.raft_log_stored.proofs.Reading.{stored_block_is_read}
-use Rattle.raft_log_steps.specs.Queues.{layout_at}
-use Rattle.raft_log_stored.proofs.laws.stored_block_is_read.Goals as goal
-
-pub returns : goal.returns
-returns g c = λ log which. stored_block_is_read (layout_at which (g.G.LogQueues.queues log))

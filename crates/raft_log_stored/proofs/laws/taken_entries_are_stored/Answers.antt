@@ -1,5 +1,0 @@
-use Rattle.raft_log_stored.proofs.Taking.{taken_entries_are_stored}
-use Rattle.raft_log_stored.proofs.laws.taken_entries_are_stored.Goals as goal
-
-pub returns : goal.returns
-returns g c = taken_entries_are_stored

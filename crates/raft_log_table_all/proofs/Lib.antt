@@ -1,0 +1,19 @@
+pub mod Bare
+pub mod Items
+pub mod Ready
+pub mod Promised
+pub mod Applied
+pub mod Rereading
+pub mod Clearing
+pub mod Segments
+pub mod Groups
+pub mod Rewritten
+pub mod Moved
+pub mod Copies
+pub mod Owed
+pub mod Counting
+pub mod Carrying
+pub mod Ending
+mod Fitting
+pub mod Growing
+pub mod Lying

@@ -1,0 +1,80 @@
+-- The tables of all groups: what shows of each, what each promised, and which groups count.
+use Rattle.std.specs.Prelude.{◌≡◌, ℕ, Bool, false, Option, Some, None, is_some, option_map, if◌then◌else◌}
+use Rattle.std.specs.BTreeMap.{get}
+use Rattle.std.specs.Ordering.{nat_cmp}
+use Rattle.raft_log_table_lists.specs.Shown.{Shown, nothing_shown, span}
+use Rattle.raft_log_table_one.specs.Room.{Promise, no_promise}
+use Rattle.raft_log_table_lists.specs.Replayed.{Replayed, nothing_replayed}
+use Rattle.raft_log_table_one.specs.Table.{Raw, promise, replay_of, shown}
+use Rattle.raft_log_table_all.specs.declared.group_table.GroupTable.{GroupTable}
+use Rattle.raft_log_table_all.specs.declared.mem_tables.MemTables.{MemTables}
+
+-- what shows of a group with this table, if it has one
+abbrev pub shown_in : Option GroupTable → Shown
+shown_in None = nothing_shown
+shown_in (Some t) = shown t.table
+
+-- what its table promised
+abbrev pub promise_in : Option GroupTable → Promise
+promise_in None = no_promise
+promise_in (Some t) = promise t.table
+
+-- what was read of a group with this table, if it has one
+abbrev pub replayed_in : Option GroupTable → Replayed
+replayed_in None = nothing_replayed
+replayed_in (Some t) = replay_of t.table
+
+-- whether the group counts
+abbrev pub counts_in : Option GroupTable → Bool
+counts_in None = false
+counts_in (Some t) = t.counts
+
+-- the table of a group that counts
+abbrev pub counting : Option GroupTable → Option Raw
+counting None = None
+counting (Some t) = if t.counts then Some t.table else None
+
+-- what shows of each group: nothing, where it has no table
+abbrev pub shown_of : MemTables → ℕ → Shown
+shown_of m g = shown_in (get nat_cmp m.groups g)
+
+-- what the table of each group promised: nothing, where it has none
+abbrev pub promise_of : MemTables → ℕ → Promise
+promise_of m g = promise_in (get nat_cmp m.groups g)
+
+-- what was read of each group: nothing, where it has no table
+abbrev pub replayed_of : MemTables → ℕ → Replayed
+replayed_of m g = replayed_in (get nat_cmp m.groups g)
+
+-- whether a group counts: it took something since it was cleaned last
+abbrev pub counts : MemTables → ℕ → Bool
+counts m g = counts_in (get nat_cmp m.groups g)
+
+-- whether a group has a table, of which nothing may show
+abbrev pub has_table : MemTables → ℕ → Bool
+has_table m g = is_some (get nat_cmp m.groups g)
+
+-- the table of a group, if the group counts
+abbrev pub table_of : MemTables → ℕ → Option Raw
+table_of m g = counting (get nat_cmp m.groups g)
+
+-- the table of a group, whether the group counts or not
+abbrev pub raw_of : MemTables → ℕ → Option Raw
+raw_of m g = option_map (λ t. t.table) (get nat_cmp m.groups g)
+
+-- what shows of all groups stays, and which of them count
+pub record ShowsSame (old new : MemTables) : Type 0 where
+  pub shown : (g : ℕ) → shown_of new g ≡ shown_of old g
+  pub counts : (g : ℕ) → counts new g ≡ counts old g
+
+-- nothing is prepared: the ends that are promised are those of the entries
+abbrev pub IsAtRest : MemTables → Type 0
+IsAtRest m = (g : ℕ) → (promise_of m g).ends ≡ span (shown_of m g)
+
+-- what is promised stays
+abbrev pub PromisesSame : MemTables → MemTables → Type 0
+PromisesSame old new = (g : ℕ) → promise_of new g ≡ promise_of old g
+
+-- the groups that have a table stay
+abbrev pub TablesSame : MemTables → MemTables → Type 0
+TablesSame old new = (g : ℕ) → has_table new g ≡ has_table old g

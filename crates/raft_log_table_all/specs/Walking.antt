@@ -1,0 +1,36 @@
+-- Lists of groups, and what is counted of all of them.
+use Rattle.std.specs.Prelude.{◌≡◌, ◌-◌, ◌^◌, ℕ, ◌==◌, min, Bool, false, ◌||◌, List, [], ◌∷◌, Option, Some, None, sum_by}
+use Rattle.std.specs.BTreeMap.{get}
+use Rattle.std.specs.List.{list_any}
+use Rattle.std.specs.List.Sorted.{IsStrictlySortedBy}
+use Rattle.std.specs.Ordering.{nat_cmp}
+use Rattle.raft_log_table_lists.specs.Shown.{Shown}
+use Rattle.raft_log_table_one.specs.Reads.{StandIn}
+use Rattle.raft_log_table_all.specs.declared.group_table.GroupTable.{GroupTable}
+use Rattle.raft_log_table_all.specs.declared.mem_tables.MemTables.{MemTables}
+use Rattle.raft_log_table_all.specs.Tables.{has_table, shown_of}
+
+-- the numbers are those of all groups that pass the test: each of them once, from the least up
+pub record ListsGroups (test : ℕ → Bool) (gs : List ℕ) : Type 0 where
+  pub rising : IsStrictlySortedBy nat_cmp gs
+  pub exact : (g : ℕ) → list_any (λ k. k == g) gs ≡ test g
+
+-- whether a group with this table is listed: where all are, or it counts
+abbrev pub listed_in : Bool → Option GroupTable → Bool
+listed_in all None = false
+listed_in all (Some t) = all || t.counts
+
+-- whether a group is listed
+abbrev pub is_listed : Bool → MemTables → ℕ → Bool
+is_listed all m g = listed_in all (get nat_cmp m.groups g)
+
+-- so many entries and values of each of these groups stand in Rewrite
+abbrev pub StandInEach : (ℕ → Shown) → List ℕ → List ℕ → Type 0
+StandInEach v [] [] = Unit {0}
+StandInEach v (g ∷ gs) (n ∷ ns) = StandIn (v g) n × StandInEach v gs ns
+StandInEach v gs ns = ⊥
+
+-- so many of all groups stand there, or the greatest number of 64 bits where these are more
+abbrev pub Stand : MemTables → ℕ → Type 0
+Stand m n = (gs : List ℕ) × ListsGroups (has_table m) gs
+    × ((ns : List ℕ) × StandInEach (shown_of m) gs ns × (n ≡ min (sum_by (λ k. k) ns) (2 ^ 64 - 1)))

@@ -1,0 +1,107 @@
+//! What a batch does to the tables of all groups is what the machine may do: each law is a function without
+//! a body.
+
+ghost use Rattle.std.specs.Prelude.{◌≡◌, ℕ, ◌++◌, [], false, map, List, Option};
+ghost use Rattle.raft_log_model_laws.specs.Item.{Item, Tagged};
+ghost use Rattle.raft_log_model_laws.specs.Groups.{of_group, Map};
+ghost use Rattle.raft_log_model_laws.specs.Meaning.{after, Content, Slot};
+ghost use Rattle.raft_log_model_laws.specs.Renamed.{renamed};
+ghost use Rattle.raft_log_machine_laws.specs.Whereabouts.{CarriesAll, GrowsBy};
+ghost use Rattle.raft_log_record_base.specs.declared.pipe_log.FileBlockHandle.{FileBlockHandle};
+ghost use Rattle.raft_log_record_items.specs.declared.entry.EntryIndex.{EntryIndex};
+ghost use Rattle.raft_log_record_items.specs.declared.item.LogItem.{LogItem};
+ghost use Rattle.raft_log_record_items.specs.Placed.{written};
+ghost use Rattle.raft_log_record_marks.specs.Meaning.{tagged_items};
+ghost use Rattle.raft_log_table_lists.specs.declared.place.Place.{Place};
+ghost use Rattle.raft_log_table_lists.specs.Shown.{whereabouts, IsOrderly, Shown};
+ghost use Rattle.raft_log_table_lists.specs.Bridge.{
+  all_moved,
+  items_of,
+  unmarked,
+  CanAllMove,
+  IsMeant,
+  Located,
+};
+ghost use Rattle.raft_log_table_all.specs.declared.mem_tables.MemTables.{MemTables};
+ghost use Rattle.raft_log_table_all.specs.Bare.{HasNothing};
+ghost use Rattle.raft_log_table_all.specs.Batch.{all_shown, all_written, IsReadyFor, MayFollowAll};
+ghost use Rattle.raft_log_table_all.specs.Owing.{AreOwedAt};
+ghost use Rattle.raft_log_table_all.specs.Rewriting.{
+  all_rewritten,
+  copied_items,
+  moves_of,
+  AreCopies,
+  MayMove,
+  PromisesMoves,
+  TakesRewritten,
+};
+ghost use Rattle.raft_log_table_all.specs.Tables.{counts, shown_of};
+
+/// A batch in a file of Append, none of whose runs leaves a hole or ends past 2^64 - 1, is taken in each
+/// group: where things stand follows its items, and what the places mean is the map with the batch on it.
+pub fn batch_grows_everywhere<E>()
+    ensures grows { (at : Located → E) (n : ℕ) (v : ℕ → Shown) (xs : List (Tagged Place (List ℕ)))
+        → ((g : ℕ) → IsOrderly (v g)) → MayFollowAll v xs
+        → (g : ℕ) → GrowsBy (whereabouts (v g)) (of_group g (all_written at xs)) (whereabouts (all_shown n v xs g)) }
+    ensures orderly { (n : ℕ) (v : ℕ → Shown) (xs : List (Tagged Place (List ℕ)))
+        → ((g : ℕ) → IsOrderly (v g)) → MayFollowAll v xs → (g : ℕ) → IsOrderly (all_shown n v xs g) }
+    ensures means { (at : Located → E) (n : ℕ) (v : ℕ → Shown) (xs : List (Tagged Place (List ℕ)))
+        → ((g : ℕ) → IsOrderly (v g)) → MayFollowAll v xs
+        → (m : Map E (List ℕ)) → ((g : ℕ) → IsMeant at (v g) (m g))
+        → (g : ℕ) → IsMeant at (all_shown n v xs g) (after (m g) (of_group g (all_written at xs))) }
+{}
+
+/// Tables that are ready for a batch before it is written are so once it is, wherever that was; and a batch
+/// that they are ready for may come.
+pub fn ready_wherever_written()
+    ensures written { (m : MemTables) (handle : FileBlockHandle) (items : List LogItem)
+        → IsReadyFor m (tagged_items (λ e. e) items)
+        → IsReadyFor m (tagged_items (λ e. e) (written handle items)) }
+    ensures follows { (m : MemTables) (items : List LogItem) → IsReadyFor m (tagged_items (λ e. e) items)
+        → MayFollowAll (shown_of m) (tagged_items (λ e. e) items) }
+{}
+
+/// Tables that are prepared for one rewritten batch after another have room for all of them, wherever they
+/// are written; and when the first of them moved, for the others. For no items there is always room.
+pub fn copies_have_room<E, V>()
+    ensures none { (m : MemTables) → MayMove {E = E} {V = V} m [] }
+    ensures more { (m n : MemTables) (xs ys : List (Tagged E V)) → MayMove m xs → PromisesMoves m n ys
+        → MayMove n (xs ++ ys) }
+    ensures moved { (gate : Option ℕ) (file : ℕ) (m n : MemTables) (xs ys : List (Tagged Place (List ℕ)))
+        → MayMove m (xs ++ ys) → TakesRewritten gate file m n xs → MayMove n ys }
+    ensures written { (m : MemTables) (handle : FileBlockHandle) (items : List LogItem)
+        → MayMove m (tagged_items (λ e. e) items)
+        → MayMove m (tagged_items (λ e. e) (written handle items)) }
+{}
+
+/// Copies that the gate lets move are moves of the machine: what shows after them is what shows after these,
+/// and Rewrite may take what they say; they change nothing of what the table means.
+pub fn gated_copies_carry<E>()
+    ensures moves { (at : Located → E) (gate : Option ℕ) (n : ℕ) (v : Shown)
+        (xs : List (Item Place (List ℕ))) → IsOrderly v → AreCopies at gate n v xs
+        → (all_rewritten gate n v xs ≡ all_moved v (moves_of n xs)) × CanAllMove at v (moves_of n xs)
+        × (items_of at v (moves_of n xs) ≡ copied_items at xs) }
+    ensures carries { (at : Located → E) (gate : Option ℕ) (n : ℕ) (v : Shown)
+        (xs : List (Item Place (List ℕ))) (m : Slot → Option (Content E (List ℕ))) → IsOrderly v
+        → AreCopies at gate n v xs → IsMeant at v m
+        → CarriesAll m (whereabouts v) (copied_items at xs) (whereabouts (all_rewritten gate n v xs)) }
+    ensures orderly { (at : Located → E) (gate : Option ℕ) (n : ℕ) (v : Shown)
+        (xs : List (Item Place (List ℕ))) → IsOrderly v → AreCopies at gate n v xs
+        → IsOrderly (all_rewritten gate n v xs) }
+    ensures means { (at : Located → E) (gate : Option ℕ) (n : ℕ) (v : Shown)
+        (xs : List (Item Place (List ℕ))) (m : Slot → Option (Content E (List ℕ))) → IsOrderly v
+        → AreCopies at gate n v xs → IsMeant at v m
+        → IsMeant at (all_rewritten gate n v xs) m }
+{}
+
+/// Rewrite may take the marks that a group owes, wherever its places are, and then no mark is owed.
+pub fn owed_marks_carry<E>()
+    ensures { (f : EntryIndex → E) (m : Slot → Option (Content E (List ℕ))) (v : Shown)
+        (xs : List (Item EntryIndex (List ℕ))) → AreOwedAt v xs
+        → CarriesAll m (whereabouts v) (map (renamed f) xs) (whereabouts (unmarked v)) }
+{}
+
+/// Of a group that doesn't count no entry stands, and no value: it took nothing since it was cleaned last.
+pub fn nothing_stands_uncounted()
+    ensures { (m : MemTables) (g : ℕ) → counts m g ≡ false → HasNothing (shown_of m g) }
+{}

@@ -1,0 +1,117 @@
+//! Records that are read again: each item is done in its group's table, as it is read.
+ghost use Rattle.std.specs.Prelude.{◌≡◌, ◌==◌, true, false, ℕ, OnOk, OnErr, IfErr};
+ghost use Rattle.raft_log_table_lists.specs.Shown.{span};
+ghost use Rattle.raft_log_record_marks.specs.Marking.{has_mark_key};
+ghost use Rattle.raft_log_record_marks.specs.Meaning.{meaning, tagged, tagged_items};
+ghost use Rattle.raft_log_table_lists.specs.Entries.{place_of};
+ghost use Rattle.raft_log_table_one.specs.Files.{NotesGroup};
+ghost use Rattle.raft_log_table_one.specs.Replays.{in_append};
+ghost use Rattle.raft_log_table_all.specs.Joining.{noted_in, read_noted_in};
+ghost use Rattle.raft_log_table_all.specs.Replaying.{
+  ReadRefused,
+  ReadsAll,
+  ReadsOne,
+  ReadsUpTo,
+  RestsAt,
+  StaysAt,
+};
+ghost use Rattle.raft_log_table_all.specs.Tables.{counts, has_table, promise_of, raw_of, replayed_of, shown_of, IsAtRest, PromisesSame};
+
+use super::{MemTables, is_mark};
+use crate::group_table::GroupTable;
+use raft_log_record_base::{FileSeq, LogQueue, Result};
+use raft_log_record_items::LogItem;
+use raft_log_table_lists::GroupFiles;
+
+impl MemTables {
+    /// The items of a record that was read in this file of Append stand there; a mark says nothing.
+    ///
+    /// `Hole` where a run starts past the index after the last of its group; `Memory`. Refused, some first
+    /// items are done, and the others aren't.
+    pub fn replay_append_writes(&mut self, items: Vec<LogItem>, file: FileSeq) -> Result<()>
+        ensures ok { OnOk result (ReadsAll true file self.old self.new (tagged_items place_of items.items)) }
+        ensures err { IfErr result
+            (λ e. ReadsUpTo true file self.old self.new (tagged_items place_of items.items) e) }
+        ensures rest { IsAtRest self.old → IsAtRest self.new }
+    {
+        self.replay_writes(LogQueue::Append, items, file)
+    }
+
+    /// The items of a record that was read in this file of Rewrite stand there; a mark says nothing. Where a
+    /// run starts past the index after the last, what stood goes.
+    ///
+    /// `Memory`. Refused, some first items are done, and the others aren't.
+    pub fn replay_rewrite_writes(&mut self, items: Vec<LogItem>, file: FileSeq) -> Result<()>
+        ensures ok { OnOk result (ReadsAll false file self.old self.new (tagged_items place_of items.items)) }
+        ensures err { IfErr result
+            (λ e. ReadsUpTo false file self.old self.new (tagged_items place_of items.items) e) }
+        ensures rest { IsAtRest self.old → IsAtRest self.new }
+    {
+        self.replay_writes(LogQueue::Rewrite, items, file)
+    }
+
+    /// The items of a record that was read in this file of a queue stand there.
+    fn replay_writes(&mut self, queue: LogQueue, items: Vec<LogItem>, file: FileSeq) -> Result<()>
+        ensures ok { OnOk result
+            (ReadsAll (in_append queue) file self.old self.new (tagged_items place_of items.items)) }
+        ensures err { IfErr result
+            (λ e. ReadsUpTo (in_append queue) file self.old self.new (tagged_items place_of items.items) e) }
+        ensures rest { IsAtRest self.old → IsAtRest self.new }
+    {
+        for item in items {
+            if !is_mark(&item) {
+                self.replay_item(queue, item, file)?;
+            }
+        }
+        Ok(())
+    }
+
+    /// An item that was read in this file of a queue stands there. Refused, nothing changes but that nothing
+    /// is promised any more to its group.
+    fn replay_item(&mut self, queue: LogQueue, item: LogItem, file: FileSeq) -> Result<()>
+        ensures ok { OnOk result (ReadsOne (in_append queue) file self.old self.new (tagged place_of item)) }
+        ensures err { OnErr result ((g : ℕ) → StaysAt self.old self.new g) }
+        ensures errors { IfErr result (λ e. ReadRefused (in_append queue)
+            (span (shown_of self.old item.raft_group_id)) (meaning place_of item.content) e) }
+        ensures rest { OnOk result (RestsAt self.new item.raft_group_id) }
+        ensures rested { IsAtRest self.old → IsAtRest self.new }
+    {
+        if let Some(found) = self.groups.get_mut(&item.raft_group_id) {
+            return found.replay(self.alloc, queue, item.content, file);
+        }
+        let mut fresh = GroupTable::new(self.alloc);
+        fresh.replay(self.alloc, queue, item.content, file)?;
+        self.groups.insert(item.raft_group_id, fresh)?;
+        Ok(())
+    }
+
+    /// An atomic group of Rewrite ended, in these files, whose items of a group are done: its files are
+    /// noted there, and while something of the group lies at or below the last file noted before, also those.
+    pub fn note_group(&mut self, group: u64, files: GroupFiles)
+        ensures exact { has_table self.old group ≡ true
+            → NotesGroup files (shown_of self.old group) (shown_of self.new group) }
+        ensures noted { replayed_of self.new group ≡ noted_in files (raw_of self.old group) }
+        ensures others { (g : ℕ) → (group == g) ≡ false → replayed_of self.new g ≡ replayed_of self.old g }
+        ensures counts { (g : ℕ) → counts self.new g ≡ counts self.old g }
+        ensures promises { PromisesSame self.old self.new }
+        ensures rest { IsAtRest self.old → IsAtRest self.new }
+    {
+        if let Some(found) = self.groups.get_mut(&group) {
+            found.note(files);
+        }
+    }
+
+    /// An atomic group of Rewrite was read, in these files, whose items of a group are done: its files are noted
+    /// there, beside those that were noted before.
+    pub fn note_read_group(&mut self, group: u64, files: GroupFiles)
+        ensures noted { replayed_of self.new group ≡ read_noted_in files (raw_of self.old group) }
+        ensures others { (g : ℕ) → (group == g) ≡ false → replayed_of self.new g ≡ replayed_of self.old g }
+        ensures counts { (g : ℕ) → counts self.new g ≡ counts self.old g }
+        ensures promises { PromisesSame self.old self.new }
+        ensures rest { IsAtRest self.old → IsAtRest self.new }
+    {
+        if let Some(found) = self.groups.get_mut(&group) {
+            found.note_read(files);
+        }
+    }
+}

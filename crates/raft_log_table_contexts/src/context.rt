@@ -1,0 +1,215 @@
+//! What a worker keeps of one segment of a queue.
+ghost use Rattle.std.specs.Prelude.{◌≡◌, ◌+◌, ◌-◌, ◌^◌, min, List, [], Some, OnOk, IfErr};
+ghost use Rattle.raft_log_record_base.specs.declared.errors.Error.TheVariants.{Memory};
+ghost use Rattle.raft_log_record_base.specs.declared.pipe_log.LogQueue.{LogQueue};
+ghost use Rattle.raft_log_record_base.specs.declared.pipe_log.LogQueue.TheVariants.{Append, Rewrite};
+ghost use Rattle.raft_log_model_laws.specs.Item.Mark.{End};
+ghost use Rattle.raft_log_record_marks.specs.Meaning.{part_of};
+ghost use Rattle.raft_log_table_all.specs.Tables.{IsAtRest};
+ghost use Rattle.raft_log_table_contexts.specs.Records.{record_read, ReadRecord};
+ghost use Rattle.raft_log_table_contexts.specs.Pieces.{part_read, IsBrokenMark};
+
+use crate::part::GroupPart;
+use crate::pieces::GroupPieces;
+use crate::settle::{settle_all, settle_whole};
+use crate::written::written_count;
+use raft_log_record_base::{Error, FileId, FileSeq, LogQueue, Result};
+use raft_log_record_items::LogItem;
+use raft_log_record_marks::{AtomicGroupStatus, Marking};
+use raft_log_table_all::MemTables;
+use std::alloc::Global;
+
+/// What a worker keeps of one segment of a queue: the tables of all groups, and the pieces of atomic groups
+/// that the segment's two ends cut. Where a call is refused the recovery is given up: the context may then
+/// only be dropped, and nothing is said of it.
+#[derive(Drop)]
+pub struct MemTableRecoverContext {
+    alloc: Global,
+    tables: MemTables,
+    pieces: GroupPieces,
+    /// How many entries and values were read.
+    written: u64,
+    ghost rests: { IsAtRest tables },
+}
+
+impl MemTableRecoverContext {
+    ghost use Rattle.raft_log_table_contexts.specs.Batches.{RewriteIsUnread, MergeDeclined, ReplayDeclined};
+    ghost use Rattle.raft_log_table_contexts.specs.Written.{written_in};
+    ghost use Rattle.raft_log_table_contexts.specs.Context.{
+      tables_of,
+      written_to,
+      AppendRefused,
+      ComesOver,
+      HasRead,
+      JoinsOn,
+      LeavesNoHole,
+      MergesInto,
+      ContextReadsOn,
+      ContextReadsOne,
+    };
+
+    /// The context of a segment without records.
+    pub fn new(alloc: Global) -> MemTableRecoverContext
+        ensures read { (queue : LogQueue) → HasRead queue [] result }
+        ensures written { written_to result ≡ 0 }
+    {
+        MemTableRecoverContext {
+            alloc,
+            tables: MemTables::new(alloc),
+            pieces: GroupPieces::new(alloc),
+            written: 0,
+        }
+    }
+
+    /// The items of a batch that was read in a file. In Append all count at once; in Rewrite those of an
+    /// atomic group count at its end.
+    ///
+    /// `Hole` where a run in Append starts past the index after the last of its group; `Corruption` where a
+    /// mark in Rewrite is broken, or there are two; `Memory`.
+    pub fn replay(&mut self, items: Vec<LogItem>, file: FileId) -> Result<()>
+        ensures ok { OnOk result (ContextReadsOn file items.items self.old self.new) }
+        ensures fits { OnOk result (LeavesNoHole file items.items self.old) }
+        ensures errors { IfErr result (ReplayDeclined file items.items self.old) }
+        ensures partly { IfErr result (λ e. AppendRefused file items.items self.old self.new e) }
+        ensures written { OnOk result (written_to self.new
+            ≡ min (written_to self.old + written_in items.items) (2 ^ 64 - 1)) }
+    {
+        let written = written_count(items.as_slice());
+        self.written = self.written.saturating_add(written);
+        self.take(items, file)
+    }
+
+    /// The items of a batch go to the tables, or to the pieces of their atomic group.
+    fn take(&mut self, items: Vec<LogItem>, file: FileId) -> Result<()>
+        ensures ok { OnOk result (ContextReadsOn file items.items self.old self.new) }
+        ensures fits { OnOk result (LeavesNoHole file items.items self.old) }
+        ensures errors { IfErr result (ReplayDeclined file items.items self.old) }
+        ensures partly { IfErr result (λ e. AppendRefused file items.items self.old self.new e) }
+        ensures written { written_to self.new ≡ written_to self.old }
+    {
+        match file.queue {
+            LogQueue::Append => self.tables.replay_append_writes(items, file.seq),
+            LogQueue::Rewrite => self.replay_rewrite(items, file.seq),
+        }
+    }
+
+    /// The items of a batch that was read in a file of Rewrite.
+    fn replay_rewrite(&mut self, items: Vec<LogItem>, file: FileSeq) -> Result<()>
+        ensures ok { OnOk result
+            (ContextReadsOne Rewrite (record_read Rewrite file items.items) self.old self.new) }
+        ensures errors { IfErr result (RewriteIsUnread (record_read Rewrite file items.items)) }
+        ensures written { written_to self.new ≡ written_to self.old }
+    {
+        match Marking::parse_all(items.as_slice()) {
+            Marking::Unmarked => self.tables.replay_rewrite_writes(items, file),
+            Marking::Part(number, status) => {
+                self.replay_part(number, status, GroupPart { items, file })
+            }
+            Marking::Broken => Err(broken(self.alloc)),
+        }
+    }
+
+    /// A record of an atomic group was read.
+    fn replay_part(&mut self, number: u64, status: AtomicGroupStatus, part: GroupPart) -> Result<()>
+        ensures ok { OnOk result
+            (ContextReadsOne Rewrite (Some (part_read (part_of number status) part)) self.old self.new) }
+        ensures errors { IfErr result (λ e. e ≡ Memory) }
+        ensures written { written_to self.new ≡ written_to self.old }
+    {
+        match status {
+            AtomicGroupStatus::Begin => Ok(self.pieces.begin(number, part)?),
+            AtomicGroupStatus::Middle => Ok(self.pieces.go_on(number, part)?),
+            AtomicGroupStatus::End => self.replay_end(number, part),
+        }
+    }
+
+    /// The last record of an atomic group was read: if the group began in this segment, it counts.
+    fn replay_end(&mut self, number: u64, part: GroupPart) -> Result<()>
+        ensures ok { OnOk result
+            (ContextReadsOne Rewrite (Some (part_read (End number) part)) self.old self.new) }
+        ensures errors { IfErr result (λ e. e ≡ Memory) }
+        ensures written { written_to self.new ≡ written_to self.old }
+    {
+        let whole = self.pieces.end(number, part)?;
+        settle_whole(self.alloc, &mut self.tables, whole)
+    }
+
+    /// The context of the next segment of the same queue comes behind this one: what that completes of
+    /// atomic groups comes between the two.
+    ///
+    /// `Hole` where the entries of a group, in Append, start past the end of those that it leaves; `Memory`.
+    pub fn merge(&mut self, later: MemTableRecoverContext, queue: LogQueue) -> Result<()>
+        ensures ok { OnOk result (MergesInto queue self.old later self.new) }
+        ensures fits { OnOk result (JoinsOn later self.new) }
+        ensures errors { IfErr result (MergeDeclined queue self.old later) }
+        ensures written { OnOk result (written_to self.new
+            ≡ min (written_to self.old + written_to later) (2 ^ 64 - 1)) }
+    {
+        self.written = self.written.saturating_add(later.written);
+        self.join(later, queue)
+    }
+
+    /// The tables and the pieces of the next segment come behind these.
+    fn join(&mut self, later: MemTableRecoverContext, queue: LogQueue) -> Result<()>
+        ensures ok { OnOk result (MergesInto queue self.old later self.new) }
+        ensures fits { OnOk result (JoinsOn later self.new) }
+        ensures errors { IfErr result (MergeDeclined queue self.old later) }
+        ensures written { written_to self.new ≡ written_to self.old }
+    {
+        match queue {
+            LogQueue::Append => self.tables.merge_newer_neighbor(later.tables),
+            LogQueue::Rewrite => self.merge_rewrite(later),
+        }
+    }
+
+    /// The context of the next segment of Rewrite comes behind this one.
+    fn merge_rewrite(&mut self, later: MemTableRecoverContext) -> Result<()>
+        ensures ok { OnOk result (MergesInto Rewrite self.old later self.new) }
+        ensures fits { OnOk result (JoinsOn later self.new) }
+        ensures errors { IfErr result (MergeDeclined Rewrite self.old later) }
+        ensures written { written_to self.new ≡ written_to self.old }
+    {
+        let MemTableRecoverContext { tables, pieces, .. } = later;
+        let done = self.pieces.merge(pieces)?;
+        settle_all(self.alloc, &mut self.tables, done)?;
+        self.tables.merge_newer_neighbor(tables)
+    }
+
+    /// How many entries and values were read, at most 2^64 - 1.
+    pub fn written(&self) -> u64
+        ensures { result ≡ written_to self.now }
+    {
+        self.written
+    }
+
+    /// The context of all of Append comes over this one, which is that of all of Rewrite.
+    ///
+    /// `Memory`.
+    pub fn merge_append_context(&mut self, append: MemTableRecoverContext) -> Result<()>
+        ensures ok { OnOk result ((rewrite behind : List ReadRecord)
+            → HasRead Rewrite rewrite self.old → HasRead Append behind append
+            → ComesOver rewrite behind (tables_of self.new)) }
+        ensures errors { IfErr result (λ e. e ≡ Memory) }
+        ensures written { written_to self.new ≡ written_to self.old }
+    {
+        self.tables.merge_append_table(append.tables)
+    }
+
+    /// The tables of all groups; nothing is prepared in them. Atomic groups that never ended are dropped.
+    pub fn finish(self) -> MemTables
+        ensures tables { result ≡ tables_of self }
+        ensures rest { IsAtRest result }
+    {
+        self.tables
+    }
+}
+
+/// Why a batch with a broken mark, or with two, isn't read.
+fn broken(alloc: Global) -> Error
+    ensures { IsBrokenMark result }
+{
+    match String::from_str(alloc, "Invalid atomic group mark") {
+        Ok(text) => Error::Corruption(text),
+        Err(_) => Error::Memory,
+    }
+}

@@ -1,0 +1,62 @@
+//! What comes of the segments of a directory that are put together: each law is a function without a body.
+
+ghost use Rattle.std.specs.Prelude.{◌≡◌, ℕ, List, map};
+ghost use Rattle.raft_log_record_base.specs.declared.pipe_log.LogQueue.TheVariants.{Append};
+ghost use Rattle.raft_log_model_laws.specs.Groups.{appended};
+ghost use Rattle.raft_log_machine_laws.specs.Recovery.{IsRecovered};
+ghost use Rattle.raft_log_table_lists.specs.Shown.{whereabouts};
+ghost use Rattle.raft_log_table_lists.specs.Bridge.{IsMeant, Located};
+ghost use Rattle.raft_log_table_lists.specs.Replayed.{told};
+ghost use Rattle.raft_log_table_all.specs.declared.mem_tables.MemTables.{MemTables};
+ghost use Rattle.raft_log_table_all.specs.Tables.{shown_of};
+ghost use Rattle.raft_log_table_contexts.specs.declared.context.MemTableRecoverContext.{MemTableRecoverContext};
+ghost use Rattle.raft_log_table_contexts.specs.Records.{counted, records_of, ReadRecord};
+ghost use Rattle.raft_log_table_segments.specs.Segments.{HasReadSegments, HoldsOne};
+ghost use Rattle.raft_log_directory_laws.specs.Calls.{IsMadeOf};
+ghost use Rattle.raft_log_directory_laws.specs.Model.{Files};
+ghost use Rattle.raft_log_table_all.specs.Views.{view_of};
+ghost use Rattle.raft_log_table_contexts.specs.Opened.{map_read, told_records, AreTablesOf};
+ghost use Rattle.raft_log_table_contexts.specs.Batches.{HasReadBatches, HaveReadAlike};
+ghost use Rattle.raft_log_table_contexts.specs.Context.{meant_by, ComesOver, HasRead, IsSoundFor};
+
+use raft_log_table_segments::ReplaySource;
+
+/// Tables of all of Append that came over those of all of Rewrite are the directory's: the bytes at the
+/// places of each group are what the directory means, and an open may make of them where things stand and
+/// which marks are owed.
+pub fn merged_tables_are_recovered<E>()
+    ensures means { (at : Located → E) (rewrite append : List ReadRecord) (m : MemTables)
+        → ComesOver rewrite append m → (g : ℕ) → IsSoundFor at rewrite append g
+        → IsMeant at (shown_of m g) (meant_by at rewrite append g) }
+    ensures recovered { (at : Located → E) (rewrite append : List ReadRecord) (m : MemTables)
+        → ComesOver rewrite append m → (g : ℕ) → IsSoundFor at rewrite append g
+        → IsRecovered (meant_by at rewrite append g) (map (told at) (counted g append))
+        (whereabouts (shown_of m g)) }
+{}
+
+/// What a context has read of Append counts at once: nothing waits for the end of an atomic group.
+pub fn append_counts_at_once()
+    ensures { (g : ℕ) (rs : List ReadRecord) (c : MemTableRecoverContext) → HasRead Append rs c
+        → counted g rs ≡ appended g (records_of rs) }
+{}
+
+/// Any two numbers of workers make tables that show the same: where each segment holds one list of batches,
+/// two readings of all segments are of the same records, and hold the same entries and values of each group,
+/// in the same places and files; and the same is told of each segment.
+pub fn workers_show_the_same<S: ReplaySource>()
+    ensures { (source : S) → HoldsOne (S.holds source) → (count : ℕ) (m n : MemTableRecoverContext)
+        (es fs : List S.Ending)
+        → HasReadSegments (S.holds source) (HasReadBatches (S.queue_of source)) 0 count m es
+        → HasReadSegments (S.holds source) (HasReadBatches (S.queue_of source)) 0 count n fs
+        → HaveReadAlike (S.queue_of source) m n × (es ≡ fs) }
+{}
+
+/// What an open knows by its tables is made of what it read: through them the directory's map is read, each
+/// thing stands where a recovery may say that it does, and of each the file is noted in which it lies, in
+/// Rewrite the one from which on it counts.
+pub fn opened_view_is_made_of_what_was_read<E>()
+    ensures { (at : Located → E) (rewrite append : List ReadRecord) (m : MemTables) (f : Files E (List ℕ))
+        → AreTablesOf at rewrite append m f
+        → IsMadeOf (view_of (shown_of m) (map_read at rewrite append)) (told_records at rewrite)
+        (told_records at append) f }
+{}

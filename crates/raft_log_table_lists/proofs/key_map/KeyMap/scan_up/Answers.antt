@@ -1,0 +1,31 @@
+use Rattle.std.proofs.Common.{◌≡◌, Some, false, option_copied, rules, ap, sym, ◌∙◌}
+use Rattle.std.specs.Fn.{CalledAtTwo}
+use Rattle.raft_log_table_lists.specs.Keys.{shown_value}
+use Rattle.raft_log_table_lists.specs.Listing.{bytes_within}
+use Rattle.raft_log_table_lists.proofs.Listing.{listed, lists_within, rises, up_end, up_last, within_in}
+use Rattle.raft_log_table_lists.proofs.key_map.KeyMap.scan_up.Goals as goal
+
+pub returns-then-not-callback : goal.returns-then-not-callback
+returns-then-not-callback g c =
+    let w = within_in (option_copied c.args.start) (option_copied c.args.end) in
+    let found : w c.in-Some.key.now.items c.in-Some.slot.now ≡ Some c.in-Some-within.value.now =
+    ap (λ k. bytes_within (option_copied c.args.start) (option_copied c.args.end) k (shown_value c.in-Some.slot.now.held)) (sym c.as_slice.ensures.value)
+    ∙ sym c.in-Some-within.ensures in
+    let call : CalledAtTwo g.F.FnMut c.loop-key.callback c.in-Some.key.now.items c.in-Some-within.value.now false c.callback.new.self = search rules in (
+      listed w c.args.self.now,
+      lists_within (option_copied c.args.start) (option_copied c.args.end) c.args.self.now
+          (rises (λ k. k.items) c.self.inside.slots.entries c.args.self.now c.self.view_is c.iter-key-items.ensures.ordered),
+      c.loop-key.invariant.1
+          (up_last (CalledAtTwo g.F.FnMut) w (λ k. k.items) c.loop-key.callback c.callback.new.self c.in-Some.key.now c.in-Some.slot.now
+          c.in-Some-within.value.now c.loop-key.key-iterator c.next.new.self c.in-Some.ensures.steps found call),
+    )
+
+pub returns : goal.returns
+returns g c =
+    let w = within_in (option_copied c.args.start) (option_copied c.args.end) in (
+      listed w c.args.self.now,
+      lists_within (option_copied c.args.start) (option_copied c.args.end) c.args.self.now
+          (rises (λ k. k.items) c.self.inside.slots.entries c.args.self.now c.self.view_is c.iter-key-items.ensures.ordered),
+      c.loop-key.invariant.1
+          (up_end (CalledAtTwo g.F.FnMut) w (λ k. k.items) c.loop-key.callback c.loop-key.key-iterator c.in-None.ensures.steps.0),
+    )

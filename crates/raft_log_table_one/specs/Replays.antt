@@ -1,0 +1,45 @@
+-- Runs and segments that come over what a table has.
+use Rattle.std.specs.Prelude.{◌≡◌, ℕ, ◌-◌, ◌≤◌, ◌⊎◌, min, Bool, true, false, not, ◌&&◌, [], length, take, if◌then◌else◌, nat_lt}
+use Rattle.raft_log_record_base.specs.declared.errors.Error.{Error}
+use Rattle.raft_log_record_base.specs.declared.errors.Error.TheVariants as errors
+use Rattle.raft_log_record_base.specs.declared.pipe_log.LogQueue.{LogQueue}
+use Rattle.raft_log_record_base.specs.declared.pipe_log.LogQueue.TheVariants.{Append, Rewrite}
+use Rattle.raft_log_model_laws.specs.Holes.{is_past}
+use Rattle.raft_log_table_lists.specs.Shown.{Shown, span}
+use Rattle.raft_log_table_lists.specs.Replayed.{LeavesHole, Replayed, left}
+use Rattle.raft_log_table_lists.specs.Keys.{keys_of, HasKeyRoomFor}
+use Rattle.raft_log_table_one.specs.Table.{Raw}
+
+-- whether the queue is Append
+abbrev pub in_append : LogQueue → Bool
+in_append Append = true
+in_append Rewrite = false
+
+-- what stays under a run that begins at an index: the entries below it, and where it leaves a hole none
+abbrev pub under : Shown → ℕ → Shown
+under v f =
+    if is_past (span v) f then record v { first = f; places = []; rewritten = 0 }
+    else record v {
+      first = if nat_lt v.first f && nat_lt 0 (length v.places) then v.first else f;
+      places = take (f - v.first) v.places;
+      rewritten = min v.rewritten (f - v.first);
+    }
+
+-- where the entries begin behind nothing: without entries at 0, but behind a Clean as they do
+abbrev pub begin_alone : Shown → ℕ
+begin_alone v = if v.cleaned then v.first else (if nat_lt 0 (length v.places) then v.first else 0)
+
+-- whether a later segment's run, which stands in Append, starts past the end of what it leaves
+abbrev pub leaves_hole : Shown → Replayed → Bool
+leaves_hole v z =
+    nat_lt 0 (length z.table.places)
+    && (not (nat_lt 0 z.table.rewritten) && is_past (span (left v z.low z.high)) z.table.first)
+
+-- why a later segment isn't taken: it leaves a hole, and only then as one; or memory ran out
+abbrev pub MergeRefused : Shown → Replayed → Error → Type 0
+MergeRefused v z error =
+    ((error ≡ errors.Hole) × LeavesHole v z) ⊎ ((error ≡ errors.Memory) × (LeavesHole v z → ⊥))
+
+-- there is room for what the other table has
+abbrev pub HasTableRoom : Raw → Raw → Type 0
+HasTableRoom t u = (length u.places.items ≤ t.places.wanted) × HasKeyRoomFor (keys_of t.keys) (keys_of u.keys)

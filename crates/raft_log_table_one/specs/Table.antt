@@ -1,0 +1,67 @@
+-- A table as it is kept: what shows of it, and what is promised.
+use Rattle.std.specs.Prelude.{◌≡◌, ℕ, ◌⊎◌, Bool, List, Option}
+use Rattle.raft_log_record_base.specs.declared.errors.Error.{Error}
+use Rattle.raft_log_record_base.specs.declared.errors.Error.TheVariants as errors
+use Rattle.raft_log_model_laws.specs.Item.{Item}
+use Rattle.raft_log_model_laws.specs.Holes.{Window}
+use Rattle.raft_log_table_lists.specs.declared.group_files.GroupFiles.{GroupFiles}
+use Rattle.raft_log_table_lists.specs.Shown.{Shown, MayFollow}
+use Rattle.raft_log_table_lists.specs.Replayed.{Replayed}
+use Rattle.raft_log_table_one.specs.declared.ends.Ends.{Ends}
+use Rattle.raft_log_table_lists.specs.declared.key_map.KeySlot.{KeySlot}
+use Rattle.raft_log_table_lists.specs.Keys.{keys_of}
+use Rattle.raft_log_table_lists.specs.Entries.{PlaceList}
+use Rattle.raft_log_table_one.specs.Room.{Promise}
+
+-- a table with its room
+pub record Raw : Type 0 where
+  pub first : ℕ
+  pub places : PlaceList
+  pub rewritten : ℕ
+  pub ahead : Ends
+  pub keys : List (List ℕ × KeySlot)
+  pub cleaned : Bool
+  pub compacted : Bool
+  pub noted : Option GroupFiles
+  pub low : ℕ
+  pub high : Option ℕ
+
+-- two ends as a window of the model
+abbrev pub window_of : Ends → Window
+window_of e = record { first = e.first; end = e.end }
+
+-- what shows of a table: no room
+abbrev pub shown : Raw → Shown
+shown t = record {
+  first = t.first;
+  places = t.places.items;
+  rewritten = t.rewritten;
+  held = (keys_of t.keys).values;
+  deleted = (keys_of t.keys).deleted;
+  cleaned = t.cleaned;
+  compacted = t.compacted;
+  noted = t.noted;
+}
+
+-- what a table is of the segments that were read into it
+abbrev pub replay_of : Raw → Replayed
+replay_of t = record { table = shown t; low = t.low; high = t.high }
+
+-- what was read leaves the same of what stood before
+abbrev pub IsBoundAs : Raw → Raw → Type 0
+IsBoundAs t u = (u.low ≡ t.low) × (u.high ≡ t.high)
+
+-- what a table promised
+abbrev pub promise : Raw → Promise
+promise t = record {
+  wanted = t.places.wanted;
+  moves = t.places.moves;
+  ends = window_of t.ahead;
+  has = (keys_of t.keys).has;
+}
+
+-- why a run is refused where the entries have these ends: it leaves a hole, and only then as one; or memory
+-- ran out
+abbrev pub RunRefused : {E V : Type 0} → Window → Item E V → Error → Type 0
+RunRefused w x error =
+    ((error ≡ errors.Hole) × (MayFollow w x → ⊥)) ⊎ ((error ≡ errors.Memory) × MayFollow w x)

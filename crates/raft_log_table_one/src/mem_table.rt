@@ -1,0 +1,592 @@
+//! The table of one group: where its entries and keys stand.
+ghost use Rattle.std.specs.Prelude.{◌≡◌, ◌^◌, ◌++◌, nat_lt, slice_get, take, drop, vec_len, vec_capacity, IfOk, ◌+◌, ◌-◌, ◌≤◌, ◌<◌, ℕ, List, length, min, option_copied, true, Some, OnOk, OnErr, IfErr};
+ghost use Rattle.raft_log_record_base.specs.declared.errors.Error.TheVariants as errors;
+ghost use Rattle.raft_log_record_items.specs.Run.{IsRun};
+ghost use Rattle.raft_log_model_laws.specs.Item.Item.{Clean, Compact, Del, Put};
+ghost use Rattle.raft_log_table_lists.specs.declared.place.Place.{Place};
+ghost use Rattle.raft_log_table_lists.specs.Shown.{
+  IsOrderly,
+  MayFollow,
+  nothing_shown,
+  span,
+  stepped,
+  with_clean,
+  with_compact,
+  with_del,
+  with_put,
+};
+ghost use Rattle.raft_log_table_lists.specs.Bridge.{moved_key, unmarked};
+ghost use Rattle.raft_log_table_lists.specs.Noted.{start_of};
+ghost use Rattle.raft_log_table_lists.specs.Entries.{entry_of, queue_of, run_of};
+ghost use Rattle.raft_log_table_one.specs.Files.{least_rewritten, min_file, noted_after, with_group, IsLeastRewritten, IsMinFile, NotesGroup};
+ghost use Rattle.raft_log_table_one.specs.Moves.{key_rewritten, may_move, moved_by, owed_compact, rewritten_by, RunStandsIn};
+ghost use Rattle.raft_log_table_lists.specs.Keys.{shown_value, value_of};
+ghost use Rattle.raft_log_table_one.specs.Reads.{entries_from, entry_at, first_of, last_of, AreIn, Fetches, FetchRefused};
+ghost use Rattle.raft_log_table_one.specs.Room.{
+  kept,
+  no_promise,
+  promised,
+  taken_back,
+  with_moves,
+  with_room_for,
+  without_moves,
+  CanTake,
+};
+ghost use Rattle.raft_log_table_lists.specs.Replayed.{nothing_replayed};
+ghost use Rattle.raft_log_table_one.specs.Table.{promise, replay_of, shown, window_of, IsBoundAs, RunRefused};
+
+mod merge;
+mod reads;
+mod replay;
+
+use crate::ends::Ends;
+use raft_log_record_base::{Error, FileSeq, LogQueue, Result};
+use raft_log_record_items::{Bytes, EntryIndex};
+use raft_log_table_lists::{GroupFiles, HeldValue, KeyMap, Places, entry_of, lesser};
+use std::alloc::{AllocError, Global};
+use std::marker::Model;
+
+/// Where the entries and keys of one group stand, and which marks are owed to Rewrite.
+///
+/// What shows of it (`shown`) changes only in calls that can't be refused. Whatever these may want memory
+/// for is made before, in `prepare_..`, which shows nothing.
+#[derive(Drop)]
+pub struct MemTable {
+    first: u64,
+    places: Places,
+    rewritten: usize,
+    ahead: Ends,
+    /// The greatest index of a Compact that was read.
+    low: u64,
+    /// The least start of a run that was read.
+    high: Option<u64>,
+    keys: KeyMap,
+    cleaned: bool,
+    compacted: bool,
+    noted: Option<GroupFiles>,
+}
+
+impl Model for MemTable {
+    ghost use Rattle.std.specs.Prelude.{◌+◌, ◌-◌, ◌^◌, ◌≤◌, length};
+    ghost use Rattle.raft_log_table_one.specs.Table.{Raw};
+
+    ghost Value = { Raw };
+
+    ghost view = { λ t. record {
+      first = t.first;
+      places = t.places;
+      rewritten = t.rewritten;
+      ahead = t.ahead;
+      keys = t.keys;
+      cleaned = t.cleaned;
+      compacted = t.compacted;
+      noted = t.noted;
+      low = t.low;
+      high = t.high;
+    } };
+
+    ghost invariant = { λ t. (t.rewritten ≤ length t.places.items)
+        × (t.first + length t.places.items ≤ 2 ^ 64 - 1) };
+}
+
+impl MemTable {
+    /// A table of a group of which nothing is known.
+    pub fn new(alloc: Global) -> MemTable
+        ensures shows { shown result ≡ nothing_shown }
+        ensures room { promise result ≡ no_promise }
+        ensures replay { replay_of result ≡ nothing_replayed }
+    {
+        MemTable {
+            first: 0,
+            places: Places::new(alloc),
+            rewritten: 0,
+            ahead: Ends { first: 0, end: 0 },
+            keys: KeyMap::new(alloc),
+            cleaned: false,
+            compacted: false,
+            noted: None,
+            low: 0,
+            high: None,
+        }
+    }
+
+    /// The two ends of the entries.
+    #[tactic(auto, unfolding(raft_log_machine_laws::specs::Whereabouts::top))]
+    pub fn span(&self) -> Ends
+        ensures ends { window_of result ≡ span (shown self.now) }
+        ensures orderly { IsOrderly (shown self.now) }
+    {
+        Ends {
+            first: self.first,
+            end: self.first + self.places.len() as u64,
+        }
+    }
+
+    /// How many entries there are.
+    pub fn entries_count(&self) -> usize
+        ensures { result ≡ length (shown self.now).places }
+    {
+        self.places.len()
+    }
+
+    /// How many of them stand in Rewrite: the first ones.
+    pub fn rewritten_count(&self) -> usize
+        ensures { result ≡ (shown self.now).rewritten }
+    {
+        self.rewritten
+    }
+
+    /// The first index, if there are entries.
+    pub fn first_index(&self) -> Option<u64>
+        ensures { result ≡ first_of (shown self.now) }
+    {
+        if self.places.len() == 0 {
+            return None;
+        }
+        Some(self.first)
+    }
+
+    /// The last index, if there are entries.
+    pub fn last_index(&self) -> Option<u64>
+        ensures { result ≡ last_of (shown self.now) }
+    {
+        if self.places.len() == 0 {
+            return None;
+        }
+        Some(self.first + (self.places.len() as u64 - 1))
+    }
+
+    /// The value of a key, if it has one, and where it stands.
+    pub fn get(&self, key: &[u8]) -> Option<&HeldValue>
+        ensures { shown_value (option_copied result) ≡ (shown self.now).held key.now }
+    {
+        self.keys.get(key)
+    }
+
+    /// The entry at an index, if there is one.
+    pub fn get_entry(&self, index: u64) -> Option<EntryIndex>
+        ensures { result ≡ entry_at (shown self.now) index }
+    {
+        if index < self.first {
+            return None;
+        }
+        let position = (index - self.first) as usize;
+        let place = self.places.get(position)?;
+        let queue = if position < self.rewritten {
+            LogQueue::Rewrite
+        } else {
+            LogQueue::Append
+        };
+        Some(entry_of(queue, index, place))
+    }
+
+    /// Adds the entries from `begin` on, below `end`, and answers how many: the first always comes, and the
+    /// list ends before the sum of lengths passes `max_size`. Where none are asked for, none come.
+    ///
+    /// `EntryNotFound` where the table has no entries or the last isn't there, `EntryCompacted` where
+    /// `begin` is below the first. A refusal adds nothing.
+    pub fn fetch_entries_to(
+        &self,
+        begin: u64,
+        end: u64,
+        max_size: Option<u64>,
+        entries: &mut Vec<EntryIndex>,
+    ) -> Result<usize>
+        ensures ok { IfOk result
+            (Fetches (shown self.now) begin end max_size entries.old.items entries.new.items) }
+        ensures within { OnOk result (AreIn (shown self.now) begin end) }
+        ensures err { OnErr result (entries.new.items ≡ entries.old.items) }
+        ensures errors { IfErr result (λ e. FetchRefused (shown self.now) begin end e) }
+    {
+        if begin >= end {
+            return Ok(0);
+        }
+        if self.places.len() == 0 {
+            return Err(Error::EntryNotFound);
+        }
+        if begin < self.first {
+            return Err(Error::EntryCompacted);
+        }
+        if end > self.first + self.places.len() as u64 {
+            return Err(Error::EntryNotFound);
+        }
+        let position = (begin - self.first) as usize;
+        let count = self
+            .places
+            .sized(position, (end - begin) as usize, max_size);
+        entries.reserve(count)?;
+        self.copy_entries(position, count, entries);
+        Ok(count)
+    }
+
+    /// Adds so many entries from this position on, for which there is room.
+    fn copy_entries(&self, position: usize, count: usize, entries: &mut Vec<EntryIndex>)
+        requires within { position + count ≤ length (shown self.now).places }
+        requires fits { position + count < 2 ^ 64 }
+        requires room { vec_len entries.old + count ≤ vec_capacity entries.old }
+        ensures { entries.new.items
+            ≡ entries.old.items ++ entries_from (shown self.now) position
+            (take count (drop position (shown self.now).places)) }
+    {
+        for i in 0..count {
+            entries.push_reserved(self.entry_there(position + i));
+        }
+    }
+
+    /// The entry at this position, which is there.
+    fn entry_there(&self, position: usize) -> EntryIndex
+        requires { position < length (shown self.now).places }
+        ensures { (p : Place) → slice_get (shown self.now).places position ≡ Some p → result
+            ≡ entry_of (queue_of (nat_lt position self.now.rewritten)) (self.now.first + position) p }
+    {
+        let queue = if position < self.rewritten {
+            LogQueue::Rewrite
+        } else {
+            LogQueue::Append
+        };
+        entry_of(
+            queue,
+            self.first + position as u64,
+            self.places.at(position),
+        )
+    }
+
+    /// Makes room for the entries of a batch that is to be written, behind all that is prepared already.
+    ///
+    /// `Hole` where they start past the index after the last; `Memory`. Refused or not, nothing shows.
+    pub fn prepare_append(&mut self, entries: &[EntryIndex]) -> Result<()>
+        requires { IsRun entries.now }
+        ensures shows { shown self.new ≡ shown self.old }
+        ensures ok { OnOk result (promise self.new ≡ promised (promise self.old) (run_of entries.now)) }
+        ensures follows { OnOk result (MayFollow (promise self.old).ends (run_of entries.now)) }
+        ensures err { OnErr result (promise self.new ≡ promise self.old) }
+        ensures errors { IfErr result (λ e. RunRefused (promise self.old).ends (run_of entries.now) e) }
+        ensures bounds { IsBoundAs self.old self.new }
+    {
+        let Some(ahead) = self.ahead.after_run(entries) else {
+            return Err(Error::Hole);
+        };
+        self.places.make_room(entries.len())?;
+        self.ahead = ahead;
+        Ok(())
+    }
+
+    /// Makes room for a key that is to be put or deleted. Refused or not, nothing shows.
+    pub fn prepare_key(&mut self, key: &[u8]) -> Result<(), AllocError>
+        ensures shows { shown self.new ≡ shown self.old }
+        ensures ok { OnOk result (promise self.new ≡ with_room_for (promise self.old) key.now) }
+        ensures has { OnOk result ((promise self.new).has key.now ≡ true) }
+        ensures err { OnErr result (promise self.new ≡ promise self.old) }
+        ensures bounds { IsBoundAs self.old self.new }
+    {
+        self.keys.make_room(key)
+    }
+
+    /// Makes room for these entries to move to Rewrite, beside all that is prepared already. Refused or not,
+    /// nothing shows.
+    pub fn prepare_rewrite(&mut self, entries: &[EntryIndex]) -> Result<(), AllocError>
+        ensures shows { shown self.new ≡ shown self.old }
+        ensures ok { OnOk result (promise self.new ≡ with_moves (promise self.old) (length entries.now)) }
+        ensures err { OnErr result (promise self.new ≡ promise self.old) }
+        ensures bounds { IsBoundAs self.old self.new }
+    {
+        self.places.make_room_to_move(entries.len())
+    }
+
+    /// A compaction is to come. Nothing shows.
+    pub fn prepare_compact(&mut self, index: u64)
+        ensures shows { shown self.new ≡ shown self.old }
+        ensures ok { promise self.new ≡ promised {E = Place} {V = List ℕ} (promise self.old) (Compact index) }
+        ensures bounds { IsBoundAs self.old self.new }
+    {
+        self.ahead = self.ahead.after_compact(index);
+    }
+
+    /// A Clean is to come. It frees nothing: what comes behind it in the batch has its room already.
+    /// Nothing shows.
+    pub fn prepare_clean(&mut self)
+        ensures shows { shown self.new ≡ shown self.old }
+        ensures ok { promise self.new ≡ promised {E = Place} {V = List ℕ} (promise self.old) Clean }
+        ensures bounds { IsBoundAs self.old self.new }
+    {
+        self.ahead = Ends { first: 0, end: 0 };
+    }
+
+    /// Takes back what was promised to a batch that isn't written. Nothing shows.
+    pub fn take_back(&mut self)
+        ensures shows { shown self.new ≡ shown self.old }
+        ensures room { promise self.new ≡ taken_back (promise self.old) (span (shown self.old)) }
+        ensures bounds { IsBoundAs self.old self.new }
+    {
+        self.places.forget_room();
+        self.ahead = self.span();
+    }
+
+    /// The entries stand in Append, in place of all from the first one's index on.
+    pub fn append(&mut self, entries: &[EntryIndex])
+        requires run { IsRun entries.now }
+        requires room { CanTake (shown self.old) (promise self.old) (run_of entries.now) }
+        ensures shows { (n : ℕ) → shown self.new ≡ stepped n (shown self.old) (run_of entries.now) }
+        ensures room { promise self.new ≡ kept (promise self.old) (run_of entries.now) }
+        ensures bounds { IsBoundAs self.old self.new }
+    {
+        let Some(front) = entries.first() else {
+            return;
+        };
+        let keep = front.index.saturating_sub(self.first) as usize;
+        if self.first >= front.index || self.places.len() == 0 {
+            self.first = front.index;
+        }
+        self.rewritten = self.rewritten.min(keep);
+        self.places.truncate(keep);
+        self.places.push(entries);
+    }
+
+    /// The key has this value, in this file of Append.
+    pub fn put(&mut self, key: &[u8], bytes: Bytes, file: FileSeq)
+        requires { (promise self.old).has key.now ≡ true }
+        ensures shows { shown self.new ≡ with_put file (shown self.old) key.now bytes }
+        ensures room { promise self.new ≡ promise self.old }
+        ensures bounds { IsBoundAs self.old self.new }
+    {
+        let value = HeldValue {
+            bytes,
+            appended: true,
+            file,
+        };
+        self.keys.put(key, value);
+    }
+
+    /// The key has no value, and is marked as deleted, whether it had one or not.
+    pub fn delete(&mut self, key: &[u8])
+        requires { (promise self.old).has key.now ≡ true }
+        ensures shows { shown self.new ≡ with_del (shown self.old) key.now }
+        ensures room { promise self.new ≡ promise self.old }
+        ensures bounds { IsBoundAs self.old self.new }
+    {
+        self.keys.delete(key);
+    }
+
+    /// Drops the entries below an index, and answers how many.
+    pub fn compact_to(&mut self, index: u64) -> usize
+        ensures shows { shown self.new ≡ with_compact (shown self.old) index }
+        ensures count { result ≡ min (index - (shown self.old).first) (length (shown self.old).places) }
+        ensures room { promise self.new ≡ promise self.old }
+        ensures bounds { IsBoundAs self.old self.new }
+    {
+        let count = (index.saturating_sub(self.first) as usize).min(self.places.len());
+        self.rewritten = self.rewritten.saturating_sub(count);
+        self.first += count as u64;
+        self.places.drop_front(count);
+        self.compacted = true;
+        count
+    }
+
+    /// Drops all entries and values. Keys keep their marks, and what is promised stays.
+    pub fn clean(&mut self)
+        ensures shows { shown self.new ≡ with_clean (shown self.old) }
+        ensures room { promise self.new ≡ promise self.old }
+        ensures bounds { IsBoundAs self.old self.new }
+    {
+        self.places.truncate(0);
+        self.first = 0;
+        self.rewritten = 0;
+        self.keys.empty();
+        self.cleaned = true;
+        self.compacted = false;
+        self.noted = None;
+    }
+
+    /// The least file of a queue in use, where there is one: of Append the file of the first appended entry
+    /// or of a value, of Rewrite the same, but the first file of the groups that are noted where they may
+    /// reach to it. Along the entries of a queue files don't fall.
+    pub fn min_file_seq(&self, queue: LogQueue) -> Option<FileSeq>
+        ensures exact { IsMinFile queue (shown self.now) result }
+        ensures slots { result ≡ min_file queue self.now }
+    {
+        match queue {
+            LogQueue::Append => {
+                let place = self.places.get(self.rewritten);
+                lesser(place.map(|p| p.file), self.keys.least_file(true))
+            }
+            LogQueue::Rewrite => {
+                let least = self.least_rewritten()?;
+                Some(start_of(least, self.noted))
+            }
+        }
+    }
+
+    /// The file of the first rewritten entry or of a rewritten value, the lesser of them, where there is
+    /// one.
+    fn least_rewritten(&self) -> Option<FileSeq>
+        ensures exact { IsLeastRewritten (shown self.now) result }
+        ensures slots { result ≡ least_rewritten self.now }
+    {
+        let place = if self.rewritten > 0 {
+            self.places.get(0)
+        } else {
+            None
+        };
+        lesser(place.map(|p| p.file), self.keys.least_file(false))
+    }
+
+    /// An atomic group of Rewrite ended, whose copies moved already: its files are noted, and while
+    /// something lies at or below the last file noted before, also those.
+    pub fn apply_rewrite_atomic_group(&mut self, files: GroupFiles)
+        ensures exact { NotesGroup files (shown self.old) (shown self.new) }
+        ensures shows { shown self.new ≡ with_group self.old files }
+        ensures room { promise self.new ≡ promise self.old }
+        ensures bounds { IsBoundAs self.old self.new }
+    {
+        self.noted = Some(noted_after(self.least_rewritten(), self.noted, files));
+    }
+
+    /// The value of a key, if it has one, stands in this file of Rewrite from now on: a copy was written
+    /// there.
+    pub fn move_key(&mut self, key: &[u8], file: FileSeq)
+        ensures shows { shown self.new ≡ moved_key (shown self.old) key.now file }
+        ensures room { promise self.new ≡ promise self.old }
+        ensures bounds { IsBoundAs self.old self.new }
+    {
+        self.keys.rewrite(key, file);
+    }
+
+    /// A key was written to Rewrite: its value stands there from now on, if it has one that stood there
+    /// already, or, where there is a gate, in a file of Append up to it.
+    pub fn rewrite_key(&mut self, key: &[u8], gate: Option<FileSeq>, file: FileSeq)
+        ensures shows { shown self.new ≡ key_rewritten gate (shown self.old) key.now file }
+        ensures ends { span (shown self.new) ≡ span (shown self.old) }
+        ensures room { promise self.new ≡ promise self.old }
+        ensures bounds { IsBoundAs self.old self.new }
+    {
+        let Some(held) = self.keys.get(key) else {
+            return;
+        };
+        if may_move(held, gate) {
+            self.keys.rewrite(key, file);
+        }
+    }
+
+    /// Entries from the first one's index on, and all below, stand in Rewrite: these where their copies
+    /// were written.
+    pub fn move_run(&mut self, entries: &[EntryIndex])
+        requires run { IsRun entries.now }
+        requires within { RunStandsIn (shown self.old) (run_of entries.now) }
+        requires room { length entries.now ≤ (promise self.old).moves }
+        ensures shows { shown self.new ≡ moved_by (shown self.old) (run_of entries.now) }
+        ensures room { promise self.new ≡ without_moves (promise self.old) (length entries.now) }
+        ensures bounds { IsBoundAs self.old self.new }
+    {
+        let Some(front) = entries.first() else {
+            return;
+        };
+        let position = (front.index - self.first) as usize;
+        self.places.replace(position, entries);
+        self.rewritten = position + entries.len();
+    }
+
+    /// Entries, for which that was prepared, were written to Rewrite: those that are still there lie where
+    /// they were written, up to the first that is appended and, if there is a gate, in a file past it.
+    pub fn rewrite(&mut self, entries: &[EntryIndex], gate: Option<FileSeq>)
+        requires run { IsRun entries.now }
+        requires room { length entries.now ≤ (promise self.old).moves }
+        ensures shows { shown self.new ≡ rewritten_by gate (shown self.old) (run_of entries.now) }
+        ensures ends { span (shown self.new) ≡ span (shown self.old) }
+        ensures room { promise self.new ≡ without_moves (promise self.old) (length entries.now) }
+        ensures bounds { IsBoundAs self.old self.new }
+    {
+        let Some(front) = entries.first() else {
+            return;
+        };
+        let position = front.index.saturating_sub(self.first) as usize;
+        if position > self.rewritten {
+            self.places.forget_moves(entries.len());
+            return;
+        }
+        let gone = (self.first.saturating_sub(front.index) as usize).min(entries.len());
+        let (_, kept) = entries.split_at(gone);
+        let there = kept.len().min(self.rewritten - position);
+        let more = match gate {
+            Some(gate) => self
+                .places
+                .count_up_to(self.rewritten, kept.len() - there, gate),
+            None => 0,
+        };
+        let count = there + more;
+        let (moved, _) = kept.split_at(count);
+        self.places.replace(position, moved);
+        self.places.forget_moves(entries.len() - count);
+        self.rewritten = self.rewritten.max(position + count);
+    }
+
+    /// No mark is owed any more: all of them were written to Rewrite, and synced.
+    pub fn clear_marks(&mut self)
+        ensures shows { shown self.new ≡ unmarked (shown self.old) }
+        ensures room { promise self.new ≡ promise self.old }
+        ensures bounds { IsBoundAs self.old self.new }
+    {
+        self.cleaned = false;
+        self.compacted = false;
+        self.keys.clear_marks();
+    }
+
+    /// Whether a Clean is owed to Rewrite.
+    pub fn owes_clean(&self) -> bool
+        ensures { result ≡ (shown self.now).cleaned }
+    {
+        self.cleaned
+    }
+
+    /// The index of the Compact that is owed to Rewrite, if one is: of the first entry where rewritten ones
+    /// stand, else past every index.
+    #[tactic(auto, unfolding(raft_log_machine_laws::specs::Whereabouts::top))]
+    pub fn owed_compact(&self) -> Option<u64>
+        ensures { result ≡ owed_compact (shown self.now) }
+    {
+        if !self.compacted {
+            return None;
+        }
+        Some(if self.rewritten > 0 {
+            self.first
+        } else {
+            u64::MAX
+        })
+    }
+}
+
+/// The file from which on all counts that counts with what lies in this file.
+fn start_of(file: FileSeq, noted: Option<GroupFiles>) -> FileSeq
+    ensures { result ≡ start_of file noted }
+{
+    match noted {
+        Some(files) if file <= files.to => file.min(files.from),
+        _ => file,
+    }
+}
+
+/// The files of groups to note once a new group ended, where this is the least file in which something
+/// stands.
+fn noted_after(least: Option<FileSeq>, old: Option<GroupFiles>, new: GroupFiles) -> GroupFiles
+    ensures { result ≡ noted_after least old new }
+{
+    let Some(least) = least else {
+        return new;
+    };
+    match old {
+        Some(old) if least <= old.to => GroupFiles {
+            from: old.from.min(new.from),
+            to: old.to.max(new.to),
+        },
+        _ => new,
+    }
+}
+
+/// Whether a value may move to Rewrite: it stands there, or in a file up to the gate.
+fn may_move(held: &HeldValue, gate: Option<FileSeq>) -> bool
+    ensures { result ≡ may_move gate (value_of held.now) }
+{
+    match gate {
+        Some(gate) => !held.appended || held.file <= gate,
+        None => !held.appended,
+    }
+}

@@ -1,0 +1,214 @@
+//! Tables that were read of segments, one behind the other, and of Append over Rewrite.
+ghost use Rattle.std.specs.Prelude.{◌≡◌, ◌||◌, max, OnOk, OnErr, IfErr};
+ghost use Rattle.raft_log_table_lists.specs.Shown.{span};
+ghost use Rattle.raft_log_table_lists.specs.Replayed.{
+  both_noted,
+  joined,
+  left,
+  merged,
+  nothing_replayed,
+  with_newer,
+  LeavesHole,
+};
+ghost use Rattle.raft_log_model_laws.specs.Summary.{lesser};
+ghost use Rattle.raft_log_table_one.specs.Files.{with_read_group};
+ghost use Rattle.raft_log_table_one.specs.Replays.{begin_alone, leaves_hole, HasTableRoom, MergeRefused};
+ghost use Rattle.raft_log_table_one.specs.Room.{IsForgotten};
+ghost use Rattle.raft_log_table_one.specs.Table.{promise, replay_of, shown, window_of, IsBoundAs};
+
+use super::MemTable;
+use crate::ends::Ends;
+use raft_log_record_base::{Error, Result};
+use raft_log_table_lists::{GroupFiles, lesser};
+use std::alloc::AllocError;
+
+impl MemTable {
+    /// A table that was read of the next segment of the same queue comes behind this one: of the entries
+    /// those stay that it leaves, and its own come over them, as do its keys. Behind a Clean only it counts.
+    ///
+    /// `Hole` where its entries, in Append, start past the end of those that stay; in Rewrite then none of
+    /// these stays. `Memory`. Refused or not, nothing is promised any more.
+    pub fn merge_newer_neighbor(&mut self, newer: MemTable) -> Result<()>
+        ensures ok { OnOk result (replay_of self.new ≡ joined (replay_of self.old) (replay_of newer)) }
+        ensures fits { OnOk result (LeavesHole (shown self.old) (replay_of newer) → ⊥) }
+        ensures err { OnErr result (replay_of self.new ≡ replay_of self.old) }
+        ensures errors { IfErr result (λ e. MergeRefused (shown self.old) (replay_of newer) e) }
+        ensures ends { (promise self.new).ends ≡ span (shown self.new) }
+        ensures forgotten { IsForgotten (promise self.new) }
+    {
+        self.take_back();
+        if newer.cleaned {
+            *self = newer;
+            self.take_back();
+            return Ok(());
+        }
+        if self.leaves_hole(&newer) {
+            return Err(Error::Hole);
+        }
+        self.make_room_for(&newer)?;
+        self.join(newer);
+        Ok(())
+    }
+
+    /// What becomes of this table behind one of which nothing is known: without entries it begins at 0.
+    /// Nothing is promised any more.
+    pub fn follow_nothing(&mut self)
+        ensures read { replay_of self.new ≡ joined nothing_replayed (replay_of self.old) }
+        ensures ends { (promise self.new).ends ≡ span (shown self.new) }
+        ensures forgotten { IsForgotten (promise self.new) }
+    {
+        self.first = self.begin_alone();
+        self.take_back();
+    }
+
+    /// Where the entries begin behind nothing.
+    fn begin_alone(&self) -> u64
+        ensures { result ≡ begin_alone (shown self.now) }
+    {
+        if self.cleaned || self.places.len() > 0 {
+            self.first
+        } else {
+            0
+        }
+    }
+
+    /// A table that was read of all of Append comes over this one, which was read of all of Rewrite and
+    /// whose marks are owed no more. Where its entries start past the end of those that stay, none of these
+    /// stays. Refused or not, nothing is promised any more.
+    pub fn merge_append_table(&mut self, append: MemTable) -> Result<(), AllocError>
+        ensures ok { OnOk result (shown self.new ≡ merged (shown self.old) (replay_of append)) }
+        ensures err { OnErr result (replay_of self.new ≡ replay_of self.old) }
+        ensures ends { (promise self.new).ends ≡ span (shown self.new) }
+        ensures forgotten { IsForgotten (promise self.new) }
+    {
+        self.take_back();
+        if append.cleaned {
+            *self = append;
+            self.take_back();
+            return Ok(());
+        }
+        self.make_room_for(&append)?;
+        self.clear_marks();
+        self.join(append);
+        Ok(())
+    }
+
+    /// Makes room for what another table has. Refused or not, nothing shows; refused, nothing is promised.
+    fn make_room_for(&mut self, newer: &MemTable) -> Result<(), AllocError>
+        requires { IsForgotten (promise self.old) }
+        ensures shows { shown self.new ≡ shown self.old }
+        ensures bounds { IsBoundAs self.old self.new }
+        ensures ends { (promise self.new).ends ≡ (promise self.old).ends }
+        ensures room { OnOk result (HasTableRoom self.new newer.now) }
+        ensures forgotten { OnErr result (IsForgotten (promise self.new)) }
+    {
+        self.places.make_room(newer.places.len())?;
+        let made = self.keys.make_room_for(&newer.keys);
+        if made.is_err() {
+            self.places.forget_room();
+        }
+        made
+    }
+
+    /// A later table without a Clean, for which there is room, comes over this one.
+    fn join(&mut self, newer: MemTable)
+        requires { HasTableRoom self.old newer }
+        ensures shows { shown self.new ≡ with_newer (shown self.old) (replay_of newer) }
+        ensures low { self.new.low ≡ max newer.low self.old.low }
+        ensures high { self.new.high ≡ lesser newer.high self.old.high }
+        ensures ends { (promise self.new).ends ≡ span (shown self.new) }
+        ensures forgotten { IsForgotten (promise self.new) }
+    {
+        self.join_bounds(&newer);
+        let rewritten = newer.rewritten;
+        self.narrow(newer.low, newer.high);
+        if newer.places.len() > 0 {
+            self.give_way(newer.first);
+        }
+        self.places.append(newer.places);
+        self.rewritten += rewritten;
+        self.keys.join(newer.keys);
+        self.take_back();
+    }
+
+    /// An atomic group in these files of Rewrite was read: they are noted beside those that were noted before.
+    pub fn note_read_group(&mut self, files: GroupFiles)
+        ensures read { replay_of self.new ≡ with_read_group (replay_of self.old) files }
+        ensures room { promise self.new ≡ promise self.old }
+    {
+        self.noted = both_noted(self.noted, Some(files));
+    }
+
+    /// The Compact, the files of groups and the bounds of a later table count too.
+    fn join_bounds(&mut self, newer: &MemTable)
+        ensures { self.new ≡ record self.old {
+          compacted = newer.now.compacted || self.old.compacted;
+          noted = both_noted self.old.noted newer.now.noted;
+          low = max newer.now.low self.old.low;
+          high = lesser newer.now.high self.old.high;
+        } }
+    {
+        self.compacted = newer.compacted || self.compacted;
+        self.noted = both_noted(self.noted, newer.noted);
+        self.low = newer.low.max(self.low);
+        self.high = lesser(newer.high, self.high);
+    }
+
+    /// Whether the entries of a later table, which stand in Append, start past the end of those that it
+    /// leaves.
+    fn leaves_hole(&self, newer: &MemTable) -> bool
+        ensures { result ≡ leaves_hole (shown self.now) (replay_of newer.now) }
+    {
+        let left = self.left(newer.low, newer.high);
+        newer.places.len() > 0
+            && !(newer.rewritten > 0)
+            && left.first < left.end
+            && left.end < newer.first
+    }
+
+    /// The ends of the entries from an index on, below another.
+    fn left(&self, low: u64, high: Option<u64>) -> Ends
+        ensures { window_of result ≡ span (left (shown self.now) low high) }
+    {
+        let len = self.places.len();
+        let count = (low.saturating_sub(self.first) as usize).min(len);
+        let first = self.first + count as u64;
+        let rest = (len - count) as u64;
+        let end = match high {
+            Some(high) => first + high.saturating_sub(first).min(rest),
+            None => first + rest,
+        };
+        Ends { first, end }
+    }
+
+    /// Only the entries from an index on, below another, stay.
+    fn narrow(&mut self, low: u64, high: Option<u64>)
+        ensures shows { shown self.new ≡ left (shown self.old) low high }
+        ensures room { promise self.new ≡ promise self.old }
+        ensures bounds { IsBoundAs self.old self.new }
+    {
+        let count = (low.saturating_sub(self.first) as usize).min(self.places.len());
+        self.rewritten = self.rewritten.saturating_sub(count);
+        self.first += count as u64;
+        self.places.drop_front(count);
+        if let Some(high) = high {
+            let keep = high.saturating_sub(self.first) as usize;
+            self.rewritten = self.rewritten.min(keep);
+            self.places.truncate(keep);
+        }
+    }
+}
+
+/// The files of the groups of two tables.
+fn both_noted(old: Option<GroupFiles>, new: Option<GroupFiles>) -> Option<GroupFiles>
+    ensures { result ≡ both_noted old new }
+{
+    match (old, new) {
+        (Some(old), Some(new)) => Some(GroupFiles {
+            from: old.from.min(new.from),
+            to: old.to.max(new.to),
+        }),
+        (None, new) => new,
+        (old, None) => old,
+    }
+}

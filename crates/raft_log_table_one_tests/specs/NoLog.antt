@@ -1,0 +1,16 @@
+-- A file system that never holds a log, and the files of one.
+use Rattle.std.specs.Prelude.{◌≡◌, ℕ, [], ◌∷◌}
+use Rattle.raft_log_directory_laws.specs.Images.{Readings, empty_file}
+use Rattle.raft_log_directory_laws.specs.Model.{Files, no_files}
+
+-- it is its own only image, and of each queue an empty file 1 is read
+abbrev pub no_log : {D : Type 0} → Readings D ℕ ℕ
+no_log = record {
+  leaves = λ d e. e ≡ d;
+  rewrite = λ d s files. (s ≡ 1) × (files ≡ empty_file ∷ []);
+  append = λ d s files. (s ≡ 1) × (files ≡ empty_file ∷ []);
+}
+
+-- the files are those
+abbrev pub IsEmpty : {S : Type 0} → S → Files ℕ ℕ → Type 0
+IsEmpty s f = f ≡ no_files

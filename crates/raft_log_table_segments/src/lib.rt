@@ -1,0 +1,13 @@
+//! Reading the segments of a queue side by side: machines that take batches, sources that give them, and
+//! workers that each read a part of the segments. What comes of it is one reading in order.
+#![tactic(auto)]
+
+mod chunk;
+pub mod laws;
+pub mod machine;
+pub mod segments;
+pub mod source;
+
+pub use machine::{Factory, ReplayMachine};
+pub use segments::{ReadSegments, chunk_size, replay_segments};
+pub use source::ReplaySource;

@@ -1,0 +1,85 @@
+//! The segments of a queue, read by workers side by side.
+ghost use Rattle.std.specs.Int.{div_ceil};
+ghost use Rattle.std.specs.Prelude.{◌≡◌, ◌+◌, ◌*◌, ◌<◌, ◌≤◌, max, IfOk, IfErr};
+ghost use Rattle.raft_log_table_segments.specs.Segments.{chunk_start, read_by, HasReadSegments, IsChunk, IsRefusedIn};
+
+use crate::chunk::{merge_chunks, replay_chunk};
+use crate::machine::{Factory, ReplayMachine};
+use crate::source::ReplaySource;
+use raft_log_record_base::Result;
+use rayon::prelude::*;
+use std::alloc::Global;
+use std::thread::Threads;
+
+/// What comes of segments that were read.
+#[derive(Drop)]
+pub struct ReadSegments<M, E> {
+    /// The machine that has read them, in order.
+    pub machine: M,
+    /// What is told of each of them.
+    pub endings: Vec<E>,
+}
+
+/// Reads the segments of a queue, cut into as many chunks as there are workers, each read by itself, and puts
+/// the machines together in order: what comes of it has read all segments in order. Without a worker nothing
+/// is read.
+///
+/// The error told is that of the first segment that is refused; nothing else comes of a refusal.
+pub fn replay_segments<S: ReplaySource, M: ReplayMachine, FA: Factory<M>>(
+    rt: &(impl Threads + Sync),
+    alloc: Global,
+    source: &S,
+    factory: &FA,
+    workers: usize,
+) -> Result<ReadSegments<M, S::Ending>>
+    ensures ok { IfOk result (λ done. HasReadSegments (S.holds source.now)
+        (M.reads (S.queue_of source.now)) 0 (read_by workers (S.count_of source.now)) done.machine
+        done.endings.items) }
+    ensures errors { IfErr result (IsRefusedIn (S.holds source.now) (S.begins source.now)
+        (S.refuses source.now) (M.declines (S.queue_of source.now)) 0
+        (read_by workers (S.count_of source.now))) }
+{
+    let machine = factory.new_target()?;
+    let whole = ReadSegments {
+        machine,
+        endings: Vec::new(alloc),
+    };
+    if workers == 0 {
+        return Ok(whole);
+    }
+    let size = chunk_size(source.segment_count(), workers);
+    let parts = (0..chunk_count(source.segment_count(), size))
+        .into_par_iter()
+        .with_min_len(1)
+        .map(
+            |index: usize| -> Result<ReadSegments<M, S::Ending>>
+                ensures { IsChunk (S.holds source.entry.now) (M.reads (S.queue_of source.entry.now))
+                    (S.begins source.entry.now) (S.refuses source.entry.now)
+                    (M.declines (S.queue_of source.entry.now))
+                    (chunk_start size (S.count_of source.entry.now) index)
+                    (chunk_start size (S.count_of source.entry.now) (index + 1)) result }
+            { replay_chunk(alloc, source, factory, size, index) },
+        )
+        .collect::<Vec<_>>(rt, alloc)?;
+    merge_chunks(source, whole, parts)
+}
+
+/// How many segments a worker reads, where there are so many of both: so many that there is a worker for each
+/// chunk, and one at least.
+pub fn chunk_size(segments: usize, workers: usize) -> usize
+    requires { 0 < workers }
+    ensures value { result ≡ max 1 (div_ceil segments workers) }
+    ensures some { 0 < result }
+    ensures enough { segments ≤ result * workers }
+{
+    segments.div_ceil(workers).max(1)
+}
+
+/// How many chunks there are, where each has so many segments.
+fn chunk_count(segments: usize, size: usize) -> usize
+    requires { 0 < size }
+    ensures value { result ≡ div_ceil segments size }
+    ensures enough { segments ≤ result * size }
+{
+    segments.div_ceil(size)
+}

@@ -1,0 +1,31 @@
+-- What a caller of an engine does with it.
+use Rattle.std.specs.Prelude.{◌≡◌, ℕ, List, [], ◌∷◌, Option, Some, None, true}
+use Rattle.raft_log_engine.specs.raft_log_disk.specs.Disk.{Disk}
+use Rattle.raft_log_engine.specs.raft_log_record_items.specs.Items.{put_item}
+use Rattle.raft_log_engine.specs.raft_log_record_batches.specs.Batch.{Batch}
+use Rattle.raft_log_engine.specs.raft_log_file_settings.specs.declared.config.Config.{Config}
+use Rattle.raft_log_engine.specs.raft_log_table_all.specs.declared.mem_tables.MemTables.{MemTables}
+use Rattle.raft_log_engine.specs.raft_log_file_blocks.specs.declared.block_cache.BlockCache.{BlockCache}
+use Rattle.raft_log_engine.specs.raft_log_file_pair.specs.Pipes.{LogPipes}
+use Rattle.raft_log_engine.specs.raft_log_file_pair.specs.ClosingCalls.{ClosesLog}
+use Rattle.raft_log_engine.specs.raft_log_engine_laws.specs.Shows.{Home, LogMap, Shows, shows}
+use Rattle.raft_log_engine.specs.raft_log_engine_laws.specs.Holding.{Holds}
+use Rattle.raft_log_engine.specs.raft_log_engine_laws.specs.Reading.{ReadsValue}
+use Rattle.raft_log_engine.specs.raft_log_engine_laws.specs.Writing.{Writes}
+use Rattle.raft_log_engine.specs.raft_log_open_directory.specs.Opening.{OpensDirectory}
+
+-- A log was opened; a batch that says that a group's key has this value was written and synced; the key was
+-- read; and the log was closed. Whatever map the log was when it was opened, what was read is the value.
+pub record SavesInLog {F : Type 0} (disk : F → Disk) (tells : F → List ℕ → ℕ → Type 0) (config : Config)
+    (group : ℕ) (key value : List ℕ) (old new : F) (found : Option (List ℕ)) : Type 0 where
+  pub pipes : LogPipes
+  pub tables : MemTables
+  pub cache : BlockCache
+  pub opens : OpensDirectory disk tells config old pipes tables
+  pub batch : Batch
+  pub says : batch.items ≡ put_item group key value ∷ []
+  pub written : Shows
+  pub writes : Writes batch true (shows pipes tables cache) written
+  pub reads : ReadsValue written group key found
+  pub closes : ClosesLog written.pipes (disk new)
+  pub same : (home : Home) (m : LogMap) → Holds home (shows pipes tables cache) m [] → found ≡ Some value

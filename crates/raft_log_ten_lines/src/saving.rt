@@ -1,0 +1,35 @@
+//! A key's value is saved in a log, and read back.
+
+ghost use Rattle.std.specs.Prelude.{IfOk, option_map};
+ghost use Rattle.raft_log_ten_lines.specs.Saving.{SavesInLog};
+
+use log::Log;
+use raft_log_engine::{Config, Engine, FileSystem, LogBatch, Result};
+use std::alloc::Global;
+use std::thread::Threads;
+
+/// Opens the log of these settings, saves a group's key in it, reads the key back, and closes the log.
+/// Answers the value that was read, and the file system.
+pub fn save_in_log<R: Threads + Log + Sync, F: FileSystem + Sync + Drop>(
+    rt: &R,
+    alloc: Global,
+    config: Config,
+    files: F,
+    group: u64,
+    key: &[u8],
+    value: &[u8],
+) -> Result<(Option<Vec<u8>>, F)>
+    ensures ok { IfOk result (λ saved. SavesInLog F.disk F.tells_space config group key.now value.now
+        files saved.1 (option_map (λ bytes. bytes.items) saved.0)) }
+{
+    let mut engine = match Engine::open_with_file_system(rt, alloc, config, files) {
+        Ok(engine) => engine,
+        Err(refused) => return Err(refused.error),
+    };
+    let mut batch = LogBatch::default(alloc)?;
+    batch.put(alloc, group, key, value)?;
+    engine.write(rt, &mut batch, true)?;
+    let found = engine.get(group, key)?;
+    let files = engine.close(rt);
+    Ok((found, files))
+}

@@ -28,3 +28,13 @@ pub trait EventListener: Send + Drop {
     /// The files of a queue up to this one were purged.
     fn post_purge(&mut self, _file_id: FileId) {}
 }
+
+/// Nobody listens: nothing is done, and nothing held back.
+#[derive(Drop)]
+pub struct Nobody;
+
+impl EventListener for Nobody {
+    fn first_file_not_ready_for_purge(&self, _queue: LogQueue) -> Option<FileSeq> {
+        None
+    }
+}

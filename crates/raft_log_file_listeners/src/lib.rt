@@ -7,7 +7,7 @@ pub mod listeners;
 pub mod purge_hook;
 pub mod told_pipes;
 
-pub use event_listener::EventListener;
+pub use event_listener::{EventListener, Nobody};
 pub use listeners::{Listeners, lesser};
 pub use purge_hook::PurgeHook;
 pub use told_pipes::ToldPipes;

@@ -10,7 +10,7 @@ pub use raft_log_file_format::{
     FileNameExt, LogFileFormat, build_reserved_file_name, parse_reserved_file_name,
 };
 pub use raft_log_file_layout::LogLayout;
-pub use raft_log_file_listeners::{EventListener, Listeners, PurgeHook, ToldPipes};
+pub use raft_log_file_listeners::{EventListener, Listeners, Nobody, PurgeHook, ToldPipes};
 pub use raft_log_file_pair::{DualPipes, DualPipes as FilePipeLog, OpenRefused, PipeLog};
 pub use raft_log_file_pipe::{ReactiveBytes, SinglePipe};
 pub use raft_log_file_queue::{DEFAULT_FIRST_FILE_SEQ, DEFAULT_PATH_ID, File, PathId, Paths};

@@ -36,16 +36,16 @@ pub fn open<R: Threads + Log + Sync, F: FileSystem + Sync>(
     }
 }
 
-/// Opens it, and tells these listeners of its files.
-pub fn open_with<R: Threads + Log + Sync, F: FileSystem + Sync + Drop>(
+/// Opens it, and tells a listener of its files.
+pub fn open_with<R: Threads + Log + Sync, F: FileSystem + Sync + Drop, E: EventListener>(
     rt: &R,
     alloc: Global,
     settings: &Settings,
     files: F,
-    listeners: Vec<Box<dyn EventListener>>,
-) -> Result<Store<EnginePipes<F>>> {
+    listener: E,
+) -> Result<Store<EnginePipes<F, E>>> {
     let config = settings.config(alloc)?;
-    match Engine::open_with(rt, alloc, config, files, listeners) {
+    match Engine::open_with(rt, alloc, config, files, listener) {
         Ok(engine) => Store::new(alloc, engine, settings.entry_size),
         Err(OpenRefused { error, .. }) => Err(error),
     }

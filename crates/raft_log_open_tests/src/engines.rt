@@ -2,7 +2,7 @@
 use log::Log;
 use raft_log_disk::FileSystem;
 use raft_log_disk_memory::MemoryFileSystem;
-use raft_log_file_listeners::EventListener;
+use raft_log_file_listeners::{EventListener, Listeners, Nobody};
 use raft_log_file_pair::PipeLog;
 use raft_log_open_player::settings::{Settings, USUAL};
 use raft_log_open_player::steps::Step::Append;
@@ -113,6 +113,7 @@ fn are_told<R: Threads + Log + Sync, F: FileSystem + Sync + Drop>(
         };
         listeners.push(Box::new(alloc, listener)?)?;
     }
+    let listeners = Listeners::new(listeners, Nobody);
     let mut store = open_with(rt, alloc, &USUAL, files, listeners)?;
     is_heard(rt, &mut store, heard)
 }

@@ -227,9 +227,7 @@ fn play_held_back<R: Threads + Log + Sync, F: FileSystem + Sync + Drop>(
     files: F,
     lists: &[&[Step]],
 ) -> Result<bool> {
-    let mut listeners: Vec<Box<dyn EventListener>> = Vec::new(alloc);
-    listeners.push(Box::new(alloc, HoldsBack {})?)?;
-    let mut store = open_with(rt, alloc, settings, files, listeners)?;
+    let mut store = open_with(rt, alloc, settings, files, HoldsBack {})?;
     play(rt, &mut store, lists)
 }
 

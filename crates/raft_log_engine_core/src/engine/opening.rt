@@ -7,7 +7,7 @@ ghost use Rattle.raft_log_engine_core.specs.Purging.{CountsBrought, IsPurgedBy};
 use super::LogEngine;
 use log::Log;
 use raft_log_disk::FileSystem;
-use raft_log_file_listeners::{EventListener, Listeners, PurgeHook, ToldPipes};
+use raft_log_file_listeners::{EventListener, Nobody, PurgeHook, ToldPipes};
 use raft_log_file_pair::{DualPipes, OpenRefused, PipeLog};
 use raft_log_file_settings::Config;
 use raft_log_open_directory::{OpenedLog, open_directory};
@@ -15,16 +15,14 @@ use raft_log_purge_rules::Thresholds;
 use std::alloc::Global;
 use std::thread::Threads;
 
-/// The pipes of an engine that is opened: both of its log, and who is told of their files, the engine's own hook
-/// last.
-pub type EnginePipes<F> = ToldPipes<DualPipes<F>, Listeners<PurgeHook>>;
+/// The pipes of an engine that is opened: both of its log, who is told of their files, and behind that the engine's
+/// own hook.
+pub type EnginePipes<F, E = Nobody> = ToldPipes<ToldPipes<DualPipes<F>, E>, PurgeHook>;
 
-/// An engine as it is opened over a file system: a [`LogEngine`] whose pipes tell who listens.
-pub type Engine<F> = LogEngine<EnginePipes<F>>;
+/// An engine as it is opened over a file system: a [`LogEngine`] whose pipes tell who listens, and its own hook.
+pub type Engine<F, E = Nobody> = LogEngine<EnginePipes<F, E>>;
 
-impl<F: FileSystem + Sync> LogEngine<ToldPipes<DualPipes<F>, Listeners<PurgeHook>>> {
-    ghost use Rattle.raft_log_file_pair.specs.Pipes.{main_directory};
-
+impl<F: FileSystem + Sync> LogEngine<ToldPipes<ToldPipes<DualPipes<F>, Nobody>, PurgeHook>> {
     /// Opens the log of these settings over a file system, which is the engine's from then on: what was
     /// written and synced, or stood when the log was closed, is there again. A directory that isn't there is
     /// made, and a log without files begins. Nobody listens but the engine's own hook.
@@ -42,7 +40,7 @@ impl<F: FileSystem + Sync> LogEngine<ToldPipes<DualPipes<F>, Listeners<PurgeHook
         file_system: F,
     ) -> Result<Self, OpenRefused<F>>
         ensures ok { IfOk result (λ engine. OpensDirectory F.disk F.tells_space config file_system
-            (⟦<ToldPipes<DualPipes<F>, Listeners<PurgeHook>> as PipeLog>⟧.shown engine.pipes)
+            (⟦<ToldPipes<ToldPipes<DualPipes<F>, Nobody>, PurgeHook> as PipeLog>⟧.shown engine.pipes)
             engine.tables) }
         ensures none { IfOk result (λ engine. engine.cache.place ≡ None) }
         ensures purges { IfOk result (λ engine. IsPurgedBy config engine.thresholds engine.counts.rounds) }
@@ -50,23 +48,29 @@ impl<F: FileSystem + Sync> LogEngine<ToldPipes<DualPipes<F>, Listeners<PurgeHook
         ensures err { IfErr result (λ refused. FailsToOpenDirectory F.disk F.tells_space config refused.error
             file_system refused.file_system) }
     {
-        Self::open_with(rt, alloc, config, file_system, Vec::new(alloc))
+        Self::open_with(rt, alloc, config, file_system, Nobody)
     }
+}
 
-    /// Opens the log as `open_with_file_system` does, and tells these listeners in their order, and behind
-    /// them the engine's own hook, what happens to its files: first of all of the files of both queues. A
-    /// listener may hold back a purge, and changes nothing else.
+impl<F: FileSystem + Sync, E: EventListener> LogEngine<
+    ToldPipes<ToldPipes<DualPipes<F>, E>, PurgeHook>,
+> {
+    ghost use Rattle.raft_log_file_pair.specs.Pipes.{main_directory};
+
+    /// Opens the log as `open_with_file_system` does, and tells a listener, and behind it the engine's own
+    /// hook, what happens to its files: first of all of the files of both queues. Several listen as one by
+    /// `Listeners`. A listener may hold back a purge, and changes nothing else.
     ///
-    /// Refused as `open_with_file_system` is; the listeners are let go.
+    /// Refused as `open_with_file_system` is; the listener is let go.
     pub fn open_with<R: Threads + Log + Sync>(
         rt: &R,
         alloc: Global,
         config: Config,
         file_system: F,
-        listeners: Vec<Box<dyn EventListener>>,
+        listener: E,
     ) -> Result<Self, OpenRefused<F>>
         ensures ok { IfOk result (λ engine. OpensDirectory F.disk F.tells_space config file_system
-            (⟦<ToldPipes<DualPipes<F>, Listeners<PurgeHook>> as PipeLog>⟧.shown engine.pipes)
+            (⟦<ToldPipes<ToldPipes<DualPipes<F>, E>, PurgeHook> as PipeLog>⟧.shown engine.pipes)
             engine.tables) }
         ensures none { IfOk result (λ engine. engine.cache.place ≡ None) }
         ensures purges { IfOk result (λ engine. IsPurgedBy config engine.thresholds engine.counts.rounds) }
@@ -83,9 +87,9 @@ impl<F: FileSystem + Sync> LogEngine<ToldPipes<DualPipes<F>, Listeners<PurgeHook
                     written,
                 },
             ) => {
-                let listeners = Listeners::new(listeners, PurgeHook::new(alloc));
-                let told = ToldPipes::new(pipes, listeners);
-                Ok(LogEngine::new(alloc, thresholds, told, tables, written))
+                let told = ToldPipes::new(pipes, listener);
+                let hooked = ToldPipes::new(told, PurgeHook::new(alloc));
+                Ok(LogEngine::new(alloc, thresholds, hooked, tables, written))
             }
             Err(refused) => Err(refused),
         }
@@ -94,9 +98,9 @@ impl<F: FileSystem + Sync> LogEngine<ToldPipes<DualPipes<F>, Listeners<PurgeHook
     /// The directory that holds the log: the first one of Append's files.
     pub fn path(&self) -> &str
         ensures { result.now ≡ main_directory
-            (⟦<ToldPipes<DualPipes<F>, Listeners<PurgeHook>> as PipeLog>⟧.shown self.now.pipes) }
+            (⟦<ToldPipes<ToldPipes<DualPipes<F>, E>, PurgeHook> as PipeLog>⟧.shown self.now.pipes) }
     {
-        self.pipes.pipes().path()
+        self.pipes.pipes().pipes().path()
     }
 }
 

@@ -2,10 +2,11 @@
 use log::Log;
 use raft_log_disk::FileSystem;
 use raft_log_disk_memory::MemoryFileSystem;
+use raft_log_engine_core::LogEngine;
 use raft_log_file_listeners::{EventListener, Listeners, Nobody};
-use raft_log_file_pair::PipeLog;
+use raft_log_file_pair::{OpenRefused, PipeLog};
 use raft_log_open_player::settings::{Settings, USUAL};
-use raft_log_open_player::steps::Step::Append;
+use raft_log_open_player::steps::Step::{Append, Has};
 use raft_log_open_player::steps::{Step, play};
 use raft_log_open_player::store::{Store, open, open_with};
 use raft_log_record_base::{FileBlockHandle, FileId, FileSeq, LogQueue, Result};
@@ -40,6 +41,31 @@ fn lies_in<R: Threads + Log + Sync, F: FileSystem + Sync + Drop>(
 fn the_path_is_the_main_directory(rt: HostRuntime) {
     let files = MemoryFileSystem::new(rt.alloc());
     assert!(rt; lies_in(&rt, rt.alloc(), &WITH_TWO, files, "d"));
+}
+
+/// Entries come to a group, and stand.
+const KEPT: [Step; 2] = [Append(1, 1, 3), Has(1, 1, 3)];
+
+/// Whether that is so of an engine to which nobody listens, its hook neither.
+fn is_kept_alone<R: Threads + Log + Sync, F: FileSystem + Sync + Drop>(
+    rt: &R,
+    alloc: Global,
+    files: F,
+) -> Result<bool> {
+    let config = USUAL.config(alloc)?;
+    match LogEngine::open_alone(rt, alloc, config, files) {
+        Ok(engine) => {
+            let mut store = Store::new(alloc, engine, USUAL.entry_size)?;
+            play(rt, &mut store, &[&KEPT])
+        }
+        Err(OpenRefused { error, .. }) => Err(error),
+    }
+}
+
+#[test]
+fn an_engine_alone_keeps_what_is_written(rt: HostRuntime) {
+    let kept = is_kept_alone(&rt, rt.alloc(), MemoryFileSystem::new(rt.alloc()));
+    assert!(rt; matches!(kept, Ok(true)));
 }
 
 /// Writes two digits for each event behind those of the events before: its own number, and which event it is. 1 says

@@ -20,6 +20,7 @@ use Rattle.raft_log_table_all.specs.Tables.{ShowsSame, counts, shown_of}
 use Rattle.raft_log_file_blocks.specs.Written.{placed_items}
 use Rattle.raft_log_file_pair.specs.Pipes.{LogPipes, is_failed}
 use Rattle.raft_log_file_pair.specs.Calls.{AppendsTo, FailsToAppendTo, FailsToSyncQueue, SyncsQueue, TellsFailure}
+use Rattle.raft_log_file_pair.specs.Numbers.{EndsNumbersAt}
 use Rattle.raft_log_record_base.specs.declared.pipe_log.LogFileContext.{LogFileContext}
 use Rattle.raft_log_file_blocks.specs.declared.block_cache.BlockCache.{BlockCache}
 use Rattle.raft_log_purge.specs.raft_log_engine_laws.specs.Shows.{IsLaidOut, IsWellMarked, Shows, shows}
@@ -95,7 +96,7 @@ written_kept b kept s t is w =
 
 refused_kept : (b kept : Batch) (error : Error) (s t : Shows) → IsBatchKept b kept → PipesRefused kept error s t → PipesRefused b error s t
 refused_kept b kept error s t is r =
-    let k = subst (λ x. PipesRefused x error s t) is r in record { lived = k.lived; tells = k.tells; same = k.same; forgets = k.forgets; tries = k.tries; later = k.later; leaves = k.leaves }
+    let k = subst (λ x. PipesRefused x error s t) is r in record { lived = k.lived; tells = k.tells; same = k.same; forgets = k.forgets; tries = k.tries; range = k.range; later = k.later; leaves = k.leaves }
 
 pub put_answers : (b kept : Batch) (v w : LogPipes) (old mid new : MemTables) (cache later : BlockCache) (r : Result ℕ Error) → IsBatchKept b kept → ShowsSame old mid
     → IfOk r (λ len. IsReadyForEach len kept.items kept.entries × Writes kept false (shows v mid cache) (shows w new later))
@@ -147,9 +148,10 @@ written_again signed other error v mid w (Ok block) same none later failed call 
 written_again signed other error v mid w (Err e) same none later failed call = tt
 
 pub refused_again : (signed other : LogFileContext → List ℕ) (error : Error) (v mid w : LogPipes) (r : Result FileBlockHandle Error) → other ≡ signed → SaysTryAgain error → IsLater v.disk mid.disk → IsLater mid.disk w.disk
-    → FailsToAppendTo InAppend signed error v mid → IfErr r (λ e. FailsToAppendTo InAppend other e mid w) → IfErr r (λ e. RefusesAt signed e v w)
-refused_again signed other error v mid w (Ok block) same none later next failed call = tt
-refused_again signed other error v mid w (Err e) same none later next failed call = inr (mid, (error, none, later, failed), next, subst (λ s. FailsToAppendTo InAppend s e mid w) same call)
+    → FailsToAppendTo InAppend signed error v mid → IfErr r (λ e. FailsToAppendTo InAppend other e mid w) → IfErr r (λ e. EndsNumbersAt InAppend other e mid w) → IfErr r (λ e. RefusesAt signed e v w)
+refused_again signed other error v mid w (Ok block) same none later next failed call range = tt
+refused_again signed other error v mid w (Err e) same none later next failed call range =
+    inr (mid, (error, none, later, failed), next, record { fails = subst (λ s. FailsToAppendTo InAppend s e mid w) same call; range = subst (λ s. EndsNumbersAt InAppend s e mid w) same range })
 
 -- what was done to the files, of a batch whose record was made
 pub kept_record : {A : Type 0} (b kept : Batch) (v w : LogPipes) (r : Result A Error) → IsBatchKept b kept → OnOk r (WritesRecord kept v w) → OnOk r (WritesRecord b v w)

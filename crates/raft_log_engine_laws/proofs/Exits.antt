@@ -30,7 +30,7 @@ use Rattle.raft_log_engine_laws.specs.Laws.{MayBeWritten}
 use Rattle.raft_log_engine_laws.proofs.Keeping.{holds_runs}
 use Rattle.raft_log_engine_laws.proofs.Calling.{log_synced, synced_all}
 use Rattle.raft_log_engine_laws.proofs.Refusing.{left_behind, unsynced_left}
-use Rattle.raft_log_engine_laws.proofs.Tries.{tried_leaves, tried_log, tried_written}
+use Rattle.raft_log_engine_laws.proofs.Tries.{tried_leaves, tried_log, tried_range, tried_written}
 
 later_on : (a b c : Disk) → IsLater a b → IsLater b c → IsLater a c
 later_on a b c h k = record { failures = omega (arith, h.failures, k.failures); stopped = λ s. k.stopped (h.stopped s) }
@@ -114,6 +114,7 @@ write_unsynced b s mid t w f = record {
   same = λ alive. absurd (false≢true (sym alive ∙ f.failed));
   forgets = λ alive. absurd (false≢true (sym alive ∙ f.failed));
   tries = λ none. absurd none;
+  range = λ is. absurd (let clash : errors.Failed ≡ errors.NumberRange = is in let never : ⊥ = cc in never);
   later = later_on s.pipes.disk mid.pipes.disk t.pipes.disk w.later f.later;
   leaves = λ home m pending h.
       (let e = w.log home m pending h in
@@ -129,6 +130,7 @@ empty_unsynced b s t f = record {
   same = λ alive. absurd (false≢true (sym alive ∙ f.failed));
   forgets = λ alive. absurd (false≢true (sym alive ∙ f.failed));
   tries = λ none. absurd none;
+  range = λ is. absurd (let clash : errors.Failed ≡ errors.NumberRange = is in let never : ⊥ = cc in never);
   later = f.later;
   leaves = λ home m pending h. (let (cause, left) = f.leaves home m pending (holds_runs home s m pending h) in (cause, inl left));
 }
@@ -136,7 +138,7 @@ empty_unsynced b s t f = record {
 -- that there is no space is told after two tries
 tried_twice : (signed : LogFileContext → List ℕ) (error : Error) (v w : LogPipes) → SaysTryAgain error → RefusesAt signed error v w → TriesTwiceInVain signed v w
 tried_twice signed error v w full (inl (other, call)) = absurd (other full)
-tried_twice signed error v w full (inr (mid, vain, later, call)) = (mid, vain, (error, full, later, call))
+tried_twice signed error v w full (inr (mid, vain, later, call)) = (mid, vain, (error, full, later, call.fails))
 
 -- a batch that the pipes refused
 pub refuses : (b : Batch) (error : Error) (s t : Shows) → has_failed s ≡ false → (IsTrue (has_failed t) ↔ (error ≡ errors.Failed)) → t.tables ≡ s.tables → t.counts ≡ s.counts
@@ -147,6 +149,7 @@ refuses b error s t lived tells tables counts none later ready call = record {
   same = λ alive. record { alive = alive; tables = tables; counts = counts };
   forgets = λ alive. none;
   tries = λ full. tried_twice (signed_for b) error s.pipes t.pipes full call;
+  range = λ is home m pending h. tried_range home s t b m pending h ready (inr none) error is call;
   later = later;
   leaves = λ home m pending h. tried_leaves home s t b m pending h ready (inr none) error tables call;
 }

@@ -2,6 +2,7 @@
 use Rattle.std.specs.Prelude.{◌≡◌, ℕ, List, [], ◌∷◌, ◌++◌}
 use Rattle.raft_log_model_laws.specs.Groups.{taken}
 use Rattle.raft_log_disk.specs.Causes.{Fails}
+use Rattle.raft_log_disk.specs.Disk.{Disk}
 use Rattle.raft_log_record_base.specs.declared.errors.Error.{Error}
 use Rattle.raft_log_record_base.specs.declared.pipe_log.FileBlockHandle.{FileBlockHandle}
 use Rattle.raft_log_record_marks.specs.Meaning.{tagged_items}
@@ -11,6 +12,7 @@ use Rattle.raft_log_directory_laws.specs.Calls.Which.{InAppend}
 use Rattle.raft_log_file_blocks.specs.raft_log_table_all.specs.Batch.{MayFollowAll, all_shown}
 use Rattle.raft_log_file_blocks.specs.raft_log_file_pair.specs.Lying.{both_open}
 use Rattle.raft_log_file_blocks.specs.raft_log_file_pair.specs.OnDisk.{LogLiesOn}
+use Rattle.raft_log_file_blocks.specs.raft_log_file_pair.specs.ClosingCalls.{ClosesLog}
 use Rattle.raft_log_file_blocks.specs.raft_log_file_pair.specs.Pipes.{LogPipes, Said, files_of}
 use Rattle.raft_log_file_blocks.specs.raft_log_file_pair.specs.Calls.{AppendsTo, FailsToAppendTo, FailsToSyncQueue, SyncsQueue}
 use Rattle.raft_log_engine_laws.specs.Shows.{Home, IsLaidOut, IsWellMarked, KeepsOrForgets, LogMap, Shows, log_in, said_of}
@@ -50,6 +52,12 @@ abbrev pub FailuresLeaveLogs : Type 0
 FailuresLeaveLogs = (home : Home) (v w : LogPipes) (m : LogMap) (pending : List Said)
     → RunsAs home v m pending → FailsToSyncQueue InAppend v w
     → Fails v.disk w.disk × IsLeftAt home w.disk m pending
+
+-- A close of an engine leaves its log on the disk, with its map, and its batches pending, whatever was refused
+-- meanwhile.
+abbrev pub ClosedEnginesAreLeft : Type 0
+ClosedEnginesAreLeft = (home : Home) (e : Shows) (m : LogMap) (pending : List Said) (d : Disk)
+    → Holds home e m pending → ClosesLog e.pipes d → IsLeftAt home d m pending
 
 -- the log of an engine lies on its disk, while both pipes run
 abbrev pub EnginesLieOnDisks : Type 0

@@ -9,6 +9,7 @@ use Rattle.raft_log_disk.specs.Causes.{IsLater}
 use Rattle.raft_log_directory_laws.specs.Calls.Which.{InAppend}
 use Rattle.raft_log_file_blocks.specs.raft_log_file_pair.specs.Pipes.{LogPipes}
 use Rattle.raft_log_file_blocks.specs.raft_log_file_pair.specs.Calls.{AppendsTo, FailsToAppendTo}
+use Rattle.raft_log_file_blocks.specs.raft_log_file_pair.specs.Numbers.{EndsNumbersAt}
 use Rattle.raft_log_file_blocks.specs.raft_log_file_pipe.specs.Appending.{SaysTryAgain}
 
 -- a record was tried, and there was no space for it
@@ -21,11 +22,15 @@ abbrev pub WritesAt : (LogFileContext → List ℕ) → FileBlockHandle → LogP
 WritesAt signed block v w = AppendsTo InAppend signed block v w
     ⊎ ((mid : LogPipes) × TriesInVain signed v mid × AppendsTo InAppend signed block mid w)
 
+-- the pipes refuse a record: for want of a number only behind the last one
+pub record RefusesRecord (signed : LogFileContext → List ℕ) (error : Error) (v w : LogPipes) : Type 0 where
+  pub fails : FailsToAppendTo InAppend signed error v w
+  pub range : EndsNumbersAt InAppend signed error v w
+
 -- it is refused: at the first try, and not for want of space; or at the second
 abbrev pub RefusesAt : (LogFileContext → List ℕ) → Error → LogPipes → LogPipes → Type 0
-RefusesAt signed error v w = ((SaysTryAgain error → ⊥) × FailsToAppendTo InAppend signed error v w)
-    ⊎ ((mid : LogPipes) × TriesInVain signed v mid × IsLater mid.disk w.disk
-    × FailsToAppendTo InAppend signed error mid w)
+RefusesAt signed error v w = ((SaysTryAgain error → ⊥) × RefusesRecord signed error v w)
+    ⊎ ((mid : LogPipes) × TriesInVain signed v mid × IsLater mid.disk w.disk × RefusesRecord signed error mid w)
 
 -- it was tried twice, and there was no space either time
 abbrev pub TriesTwiceInVain : (LogFileContext → List ℕ) → LogPipes → LogPipes → Type 0

@@ -15,6 +15,8 @@ use Rattle.raft_log_table_lists.specs.Shown.{Shown}
 use Rattle.raft_log_file_blocks.specs.raft_log_table_all.specs.Batch.{MayFollowAll, all_shown, counts_at_end}
 use Rattle.raft_log_file_blocks.specs.Written.{placed_items}
 use Rattle.raft_log_file_blocks.specs.raft_log_file_pair.specs.Pipes.{Said}
+use Rattle.raft_log_file_blocks.specs.raft_log_file_pair.specs.Numbers.{HasLastNumber}
+use Rattle.raft_log_directory_laws.specs.Calls.Which.{InAppend}
 use Rattle.raft_log_engine_laws.specs.Shows.{IsWellMarked, IsWritable, KeepsOrForgets, Home, LogMap, Shows, has_failed, said_of}
 use Rattle.raft_log_engine_laws.specs.Syncing.{RunsOnSame, SyncsAppend}
 use Rattle.raft_log_engine_laws.specs.Trying.{TriesTwiceInVain}
@@ -77,13 +79,15 @@ Leaves home b m pending s t errors.Failed = Fails s.pipes.disk t.pipes.disk
 Leaves home b m pending s t _ = ⊥
 
 -- The pipes refused: an engine that hasn't failed shows what it showed, and keeps no block. That there is no
--- space is told after two tries.
+-- space is told after two tries, that there is no number only where Append's last file has the last one.
 pub record PipesRefused (b : Batch) (error : Error) (s t : Shows) : Type 0 where
   pub lived : has_failed s ≡ false
   pub tells : IsTrue (has_failed t) ↔ (error ≡ errors.Failed)
   pub same : has_failed t ≡ false → RunsOnSame s t
   pub forgets : has_failed t ≡ false → t.cache.place ≡ None
   pub tries : SaysTryAgain error → TriesTwiceInVain (signed_for b) s.pipes t.pipes
+  pub range : error ≡ errors.NumberRange → (home : Home) (m : LogMap) (pending : List Said)
+      → Holds home s m pending → HasLastNumber InAppend t.pipes
   pub later : IsLater s.pipes.disk t.pipes.disk
   pub leaves : (home : Home) (m : LogMap) (pending : List Said) → Holds home s m pending
       → Leaves home b m pending s t error

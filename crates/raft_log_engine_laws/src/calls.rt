@@ -3,6 +3,7 @@
 ghost use Rattle.raft_log_engine_laws.specs.Reading.{TablesTell};
 ghost use Rattle.raft_log_engine_laws.specs.Laws.{
   BatchesAreWritten,
+  ClosedEnginesAreLeft,
   EnginesLieOnDisks,
   FailuresLeaveLogs,
   RefusalsLeaveNoTrace,
@@ -32,6 +33,12 @@ pub fn failures_leave_logs()
 /// What an engine's tables show is what its map has.
 pub fn tables_tell()
     ensures { TablesTell }
+{}
+
+/// A close of an engine leaves its log on the disk, with its map and its batches pending, whatever was refused
+/// meanwhile.
+pub fn closed_engines_are_left()
+    ensures { ClosedEnginesAreLeft }
 {}
 
 /// The log of an engine lies on its disk: what a crash leaves of it, any law on such logs says.

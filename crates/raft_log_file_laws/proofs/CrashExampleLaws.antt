@@ -5,11 +5,12 @@ use Rattle.std.proofs.lemmas.Bool.{cases_lt}
 use Rattle.raft_log_disk.specs.Disk.{Change, Wrote}
 use Rattle.raft_log_disk.specs.Image.{IsLeft}
 use Rattle.raft_log_disk.proofs.ImageLaws.{only_at_rest}
-use Rattle.raft_log_file_laws.specs.Chains.{Written, spelled, AreFrames, BeginsWith, Reads, Meets}
-use Rattle.raft_log_file_laws.specs.KeepsSynced.{IsStale, NoneIsStale, NoChanceMatch, StandsBehind}
+use Rattle.raft_log_file_laws.specs.Chains.{Written, spelled, AreFrames, BeginsWith, LiesIn, Reads, Meets}
+use Rattle.raft_log_file_laws.specs.KeepsSynced.WasWritten.{handed_in, own_record, synced_there}
+use Rattle.raft_log_file_laws.specs.KeepsSynced.{NoChanceMatch, StandsBehind}
 use Rattle.raft_log_file_laws.specs.CrashExamples.{one_unsynced, TornRecordIsLost, ForeignRecordIsChance, SyncedFileHasNoChance, ForeignRecordBehindIsRefused, RecycledFileMeetsIt}
-use Rattle.raft_log_file_laws.proofs.ChainLaws.{spelled-append, begins_front, frames_append, frame_filled, nothing_refuses, cut_off_refuses, reads_further, frames_back}
-use Rattle.raft_log_file_laws.proofs.KeepsSyncedLaws.{none_stale, holds_synced}
+use Rattle.raft_log_file_laws.proofs.ChainLaws.{spelled-append, frames_append, frame_filled, nothing_refuses, cut_off_refuses, reads_further, frames_back}
+use Rattle.raft_log_file_laws.proofs.KeepsSyncedLaws.{none_stale, holds_synced, record_lies}
 
 -- bytes behind the synced ones, no more than were written there, may be left
 tail_is_left : {R : Type 0} (synced tail : List ℕ) (w : Written R) → length tail ≤ length w.bytes → IsLeft (one_unsynced synced w) (synced ++ tail)
@@ -27,9 +28,9 @@ module _ {R : Type 0} (IsFrame : List ℕ → R → Type 0) where
   tail_splits front durable tail = ap (λ (b : List ℕ). drop (length front) b) (append_assoc front (spelled durable) tail) ∙ drop_at front (spelled durable ++ tail) (length front) refl
 
   pub synced_file_has_no_chance : SyncedFileHasNoChance IsFrame
-  synced_file_has_no_chance free start file bytes none left at w meets =
+  synced_file_has_no_chance free start file bytes none left own at w meets =
       let framed = frames_back IsFrame meets.before (w ∷ []) meets.begins.frames in
-      inl (subst (Meets IsFrame start at w) (only_at_rest file bytes none left) meets, none_stale at w.bytes (frame_filled IsFrame free w.bytes w.value framed.0))
+      synced_there (subst (Meets IsFrame start at w) (only_at_rest file bytes none left) meets) (none_stale at w.bytes (frame_filled IsFrame free w.bytes w.value framed.0))
 
   synced_begins : (front : List ℕ) (durable : List (Written R)) → AreFrames IsFrame durable → BeginsWith IsFrame (length front) durable (front ++ spelled durable)
   synced_begins front durable frames = record {
@@ -38,14 +39,14 @@ module _ {R : Type 0} (IsFrame : List ℕ → R → Type 0) where
     frames = frames;
   }
 
-  -- a durable record that isn't stale, where reading meets it
-  fresh_one : (stale : List ℕ) (start : ℕ) (durable before more : List (Written R)) (w : Written R) (at : ℕ) → NoneIsStale stale start durable → durable ≡ (before ++ w ∷ []) ++ more
-      → at ≡ start + length (spelled before) → IsStale stale at w.bytes → ⊥
-  fresh_one stale start durable before more w at none is place old =
-      none before more w (is ∙ append_assoc before (w ∷ []) more) (subst (λ (n : ℕ). IsStale stale n w.bytes) place old)
+  -- one of the durable records is one of all
+  lies_among : (start at : ℕ) (durable before more next : List (Written R)) (w : Written R) → durable ≡ (before ++ w ∷ []) ++ more → at ≡ start + length (spelled before) → LiesIn start (spelled (durable ++ next)) at w.bytes
+  lies_among start at durable before more next w is place =
+      subst (λ (n : ℕ). LiesIn start (spelled (durable ++ next)) n w.bytes) (sym place)
+      (record_lies IsFrame start (durable ++ next) before (more ++ next) w (ap (λ (vs : List (Written R)). vs ++ next) is ∙ append_assoc (before ++ w ∷ []) more next))
 
   pub torn_record_is_lost : TornRecordIsLost IsFrame
-  torn_record_is_lost free front stale durable w landed frames framed less none =
+  torn_record_is_lost free front stale durable w landed frames framed less =
       let synced = front ++ spelled durable in
       let torn = take landed w.bytes in
       let bytes = synced ++ torn in
@@ -56,13 +57,9 @@ module _ {R : Type 0} (IsFrame : List ℕ → R → Type 0) where
         frames = frames;
         ends = cut_off_refuses IsFrame free w landed framed less;
       } in
-      let chance : NoChanceMatch IsFrame start stale (one_unsynced synced w) bytes = λ at v meets.
+      let chance : NoChanceMatch IsFrame start stale (spelled (durable ++ w ∷ [])) (one_unsynced synced w) bytes = λ at v meets.
       (let more = reads_further IsFrame free start (meets.before ++ v ∷ []) durable bytes meets.begins reads in
-      let whole = subst (λ (vs : List (Written R)). BeginsWith IsFrame start vs synced) more.1 (synced_begins front durable frames) in
-      inl (
-        record { before = meets.before; begins = begins_front IsFrame start (meets.before ++ v ∷ []) more.0 synced whole; place = meets.place },
-        fresh_one stale start durable meets.before more.0 v at none more.1 meets.place,
-      )) in
+      own_record (lies_among start at durable meets.before more.0 (w ∷ []) v more.1 meets.place)) in
       (tail_is_left synced torn w (omega (arith, length-take landed w.bytes)), chance, reads)
 
   -- a record right behind the synced ones is met there
@@ -88,7 +85,7 @@ module _ {R : Type 0} (IsFrame : List ℕ → R → Type 0) where
       ]
 
   pub recycled_file_meets_it : RecycledFileMeetsIt IsFrame
-  recycled_file_meets_it front stale durable free frames none ends =
+  recycled_file_meets_it front stale durable free frames ends =
       let start = length front in
       let n = length (spelled durable) in
       let tail = drop (start + n) stale in
@@ -106,7 +103,7 @@ module _ {R : Type 0} (IsFrame : List ℕ → R → Type 0) where
         holds_synced IsFrame start free stale durable bytes begins stands,
         λ at w meets.
             (let more = reads_further IsFrame free start (meets.before ++ w ∷ []) durable bytes meets.begins reads in
-            inl (meets, fresh_one stale start durable meets.before more.0 w at none more.1 meets.place)),
+            own_record (subst (λ (vs : List (Written R)). LiesIn start (spelled vs) at w.bytes) (append-nil durable) (lies_among start at durable meets.before more.0 [] w more.1 meets.place))),
         reads,
       )
 
@@ -126,7 +123,13 @@ module _ {R : Type 0} (IsFrame : List ℕ → R → Type 0) where
       } in (
         tail_is_left synced foreign.bytes w less,
         λ chance. elim (chance at foreign meets) [
-          | inl (there, fresh) ↦
+          | own_record inside ↦
+              (let whole : spelled (durable ++ w ∷ []) ≡ spelled durable ++ w.bytes = spelled-append durable (w ∷ []) ∙ ap (λ (b : List ℕ). spelled durable ++ b) (append-nil w.bytes) in
+              let long : length inside.ahead ≡ length (spelled durable) = omega (arith, inside.place) in
+              let here : w.bytes ≡ foreign.bytes ++ inside.behind =
+              sym (drop_at (spelled durable) w.bytes (length inside.ahead) (sym long)) ∙ ap (λ (b : List ℕ). drop (length inside.ahead) b) (sym whole ∙ inside.splits) ∙ drop_at inside.ahead (foreign.bytes ++ inside.behind) (length inside.ahead) refl in
+              apart (free.apart foreign.bytes w.bytes inside.behind [] foreign.value w.value other framed (sym here ∙ sym (append-nil w.bytes))).0)
+          | synced_there there fresh ↦
               (let more = reads_further IsFrame free start (there.before ++ foreign ∷ []) durable synced there.begins synced_reads in
               let sizes = ap length (ap spelled more.1 ∙ spelled-append (there.before ++ foreign ∷ []) more.0) in
               absurd (omega (
@@ -139,7 +142,7 @@ module _ {R : Type 0} (IsFrame : List ℕ → R → Type 0) where
                 length-append (spelled there.before) (foreign.bytes ++ []),
                 length-append foreign.bytes [],
               )))
-          | inr handed ↦
+          | handed_in handed ↦
               (let inside = handed.inside in
               let is : Wrote (length synced) w.bytes ≡ Wrote handed.from handed.all = only_member (Wrote (length synced) w.bytes) (Wrote handed.from handed.all) handed.is in
               let place : length synced ≡ handed.from = cc in

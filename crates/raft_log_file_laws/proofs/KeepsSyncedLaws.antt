@@ -11,6 +11,7 @@ use Rattle.raft_log_disk.specs.Image.{IsFileImage, IsImage, IsLeft, Spares}
 use Rattle.raft_log_disk.specs.Calls.{with_change}
 use Rattle.raft_log_file_laws.specs.Chains.{Written, IsSelfDelimiting, spelled, AreFrames, BeginsWith, Reads, Meets, LiesIn, HoldsNoFrame}
 use Rattle.raft_log_file_laws.proofs.ChainLaws.{follows_chain, same_head, frame_filled, frames_append, frames_back, frames_front, lies_in_more, lies_within, reads_begin, reads_further, spelled-append}
+use Rattle.raft_log_file_laws.specs.KeepsSynced.WasWritten.{handed_in, own_record, synced_there}
 use Rattle.raft_log_file_laws.specs.KeepsSynced.{IsStale, HoldsAtLeast, NoChanceMatch, HoldsChain, KeepsSynced, StandsBehind, ChainGoesOn, ChainAtRest}
 
 -- what is left of a file, by the image of the disk
@@ -114,17 +115,18 @@ module _ {R : Type 0} (IsFrame : List ℕ → R → Type 0) (start : ℕ) where
 
   module _ (free : IsSelfDelimiting IsFrame) (stale : List ℕ) (durable pending : List (Written R)) (file : File) where
     -- what reading meets lies in the chain, if no checksum is met by chance
-    met_in_chain : (bytes : List ℕ) → HoldsChain IsFrame start stale durable pending file → NoChanceMatch IsFrame start stale file bytes
+    met_in_chain : (bytes : List ℕ) → HoldsChain IsFrame start stale durable pending file → NoChanceMatch IsFrame start stale (spelled (durable ++ pending)) file bytes
         → (at : ℕ) (w : Written R) → Meets IsFrame start at w bytes → LiesIn start (spelled (durable ++ pending)) at w.bytes
     met_in_chain bytes holds chance at w meets =
         let framed = frames_back IsFrame meets.before (w ∷ []) meets.begins.frames in
         let filled = frame_filled IsFrame free w.bytes w.value framed.0 in
         elim (chance at w meets) [
-          | inl (there, fresh) ↦ elim (holds.others at w there) [
+          | own_record inside ↦ inside
+          | synced_there there fresh ↦ elim (holds.others at w there) [
             | inl old ↦ absurd (fresh old)
             | inr inside ↦ lies_longer durable pending (durable ++ pending) at w.bytes refl inside
           ]
-          | inr handed ↦
+          | handed_in handed ↦
               (let inside = handed.inside in
               let sizes = ap length inside.splits in
               elim (holds.handed handed.from handed.all handed.is) [
@@ -146,7 +148,8 @@ module _ {R : Type 0} (IsFrame : List ℕ → R → Type 0) (start : ℕ) where
     -- and also those that are durable beyond the ones that are claimed
     pub keeps_more : (more rest : List (Written R)) → pending ≡ more ++ rest → KeepsSynced IsFrame start stale (durable ++ more) rest file → KeepsSynced IsFrame start stale durable pending file
     keeps_more more rest splits keeps bytes left chance ws reads =
-        let kept = keeps bytes left chance ws reads in
+        let all : durable ++ pending ≡ (durable ++ more) ++ rest = ap (λ (vs : List (Written R)). durable ++ vs) splits ∙ sym (append_assoc durable more rest) in
+        let kept = keeps bytes left (subst (λ (vs : List (Written R)). NoChanceMatch IsFrame start stale (spelled vs) file bytes) all chance) ws reads in
         let count = length more + kept.0 in
         let front : take count pending ≡ more ++ take kept.0 rest = ap (λ (vs : List (Written R)). take count vs) splits ∙ take_over more rest kept.0 in
         (count, omega (arith, kept.1, ap length splits, length-append more rest), kept.2 ∙ append_assoc durable more (take kept.0 rest) ∙ ap (λ (vs : List (Written R)). durable ++ vs) (sym front))

@@ -7,7 +7,7 @@ use Rattle.raft_log_file_laws.specs.Chains.{Written, spelled, Reads}
 use Rattle.raft_log_file_laws.specs.KeepsSynced.{kept_records, AreKept}
 use Rattle.raft_log_file_laws.specs.LogFormat.{Format, IsFormat, CanTellFormat, HasHeader, ReadsFile, NoChanceInFile}
 use Rattle.raft_log_file_laws.specs.LogQueue.{Past, LogFiles, recent, kept_to, HeaderStands, HoldsLast, IsPast, IsLeftover, HasNumbered, IsThere, IsAbsent, HasLogFiles, Found, ReadsNamed, ReadsFiles, past_from, NoChanceInLast, KeepsLast, KeepsQueue, EndsInOnePlace, QueueIsKept, QueueIsReadable, QueueRestarts, RotatedHoldsNothing, Anything}
-use Rattle.raft_log_disk.specs.Touching.{HasFile, HasNamed}
+use Rattle.raft_log_disk.specs.Touching.{HasFile}
 use Rattle.raft_log_disk.proofs.ImageLaws.{left_at_rest, only_at_rest, image_is_sound, some_file}
 use Rattle.raft_log_file_laws.proofs.ChainLaws.{reads_unique, reads_some}
 use Rattle.raft_log_file_laws.proofs.KeepsSyncedLaws.{left_of_image, left_keeps_part, at_least_keeps, holds_at_least, holds_used_again}
@@ -266,7 +266,7 @@ module _ {R : Type 0} (F : Format R) (lawful : IsFormat F) where
       let (bytes, same, left) = left_of_image d image id old.file after is old.is at in
       let rests : image.files id ≡ Some (at_rest bytes) = at ∙ ap Some same in
       let (ws, reads) = reads_some_file tell q.last bytes in
-      let meets = subst (NoChanceInFile F q.last q.header q.stale old.file) (ap (λ (f : File). f.content) same) (chance path id old.file after files.last.at files.last.file.named old.is at) in
+      let meets = subst (NoChanceInFile F q.last q.header q.stale (spelled (recent q)) old.file) (ap (λ (f : File). f.content) same) (chance path id old.file after files.last.at files.last.file.named old.is at) in
       let (count, within, kept) = holds_keeps q header old.file old.has bytes left meets ws reads in
       let next = kept_to count q in
       let whole : ws ≡ recent next = kept ∙ sym (append-nil (kept_records q.durable q.pending count)) in
@@ -290,11 +290,11 @@ module _ {R : Type 0} (F : Format R) (lawful : IsFormat F) where
             let rest : file ≡ at_rest bytes = same_file image id file (at_rest bytes) here_id rests in
             let again = rest_image image later id bytes is_later rests in
             let then_rest : next_file ≡ at_rest bytes = same_file later id next_file (at_rest bytes) (ap later.files (sym one) ∙ there_now) again in
-            subst (λ (f : File). NoChanceInFile F q.last q.header [] f next_file.content) (sym rest)
-            (subst (λ (f : File). NoChanceInFile F q.last q.header [] (at_rest bytes) f.content) (sym then_rest)
+            subst (λ (f : File). NoChanceInFile F q.last q.header [] (spelled (recent next)) f next_file.content) (sym rest)
+            (subst (λ (f : File). NoChanceInFile F q.last q.header [] (spelled (recent next)) (at_rest bytes) f.content) (sym then_rest)
             (record {
               headers = λ x has. meets.headers x has;
-              records = synced_file_has_no_chance (F.IsFrame q.last q.header) (lawful.free q.last q.header) (length q.header) (at_rest bytes) bytes refl (left_at_rest bytes);
+              records = synced_file_has_no_chance (F.IsFrame q.last q.header) (lawful.free q.last q.header) (length q.header) (at_rest bytes) bytes refl (left_at_rest bytes) (spelled (recent next));
             }))),
       )
 

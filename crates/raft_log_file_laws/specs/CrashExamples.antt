@@ -5,7 +5,7 @@ use Rattle.std.specs.Prelude.{◌≡◌, ℕ, ◌+◌, ◌<◌, ◌≤◌, List,
 use Rattle.raft_log_disk.specs.Disk.{Wrote, File, at_rest}
 use Rattle.raft_log_disk.specs.Image.{IsLeft}
 use Rattle.raft_log_file_laws.specs.Chains.{Written, IsSelfDelimiting, spelled, AreFrames, Refuses, Reads}
-use Rattle.raft_log_file_laws.specs.KeepsSynced.{IsStale, NoneIsStale, NoChanceMatch, HoldsChain}
+use Rattle.raft_log_file_laws.specs.KeepsSynced.{IsStale, NoChanceMatch, HoldsChain}
 
 -- a file with these bytes synced, and a record written behind them since
 abbrev pub one_unsynced : {R : Type 0} → List ℕ → Written R → File
@@ -13,17 +13,15 @@ one_unsynced synced w =
     record { content = synced ++ w.bytes; synced = synced; changes = Wrote (length synced) w.bytes ∷ [] }
 
 -- Synced records, and one that isn't: a stop may leave just a beginning of the last one. Then the premise
--- holds, and the synced ones are read and no more: the last record is lost. (None of the synced ones is what
--- stood at its place before.)
+-- holds, and the synced ones are read and no more: the last record is lost.
 abbrev pub TornRecordIsLost : {R : Type 0} → (List ℕ → R → Type 0) → Type 0
 TornRecordIsLost {R} IsFrame = IsSelfDelimiting IsFrame
     → (front stale : List ℕ) (durable : List (Written R)) (w : Written R) (landed : ℕ)
     → AreFrames IsFrame durable → IsFrame w.bytes w.value → landed < length w.bytes
-    → NoneIsStale stale (length front) durable
     → (let synced = front ++ spelled durable in
     let file = one_unsynced synced w in
     let bytes = synced ++ take landed w.bytes in
-    IsLeft file bytes × NoChanceMatch IsFrame (length front) stale file bytes
+    IsLeft file bytes × NoChanceMatch IsFrame (length front) stale (spelled (durable ++ w ∷ [])) file bytes
     × Reads IsFrame (length front) durable bytes)
 
 -- The same file, and another record than the one written, no longer than it: a stop may leave that one in its
@@ -36,7 +34,8 @@ ForeignRecordIsChance {R} IsFrame = IsSelfDelimiting IsFrame
     → (let synced = front ++ spelled durable in
     let file = one_unsynced synced w in
     let bytes = synced ++ foreign.bytes in
-    IsLeft file bytes × (NoChanceMatch IsFrame (length front) stale file bytes → ⊥))
+    IsLeft file bytes
+    × (NoChanceMatch IsFrame (length front) stale (spelled (durable ++ w ∷ [])) file bytes → ⊥))
 
 -- A record that stands synced behind the durable ones, and isn't what stood there before, is refused: such a
 -- file doesn't hold the chain.
@@ -53,11 +52,10 @@ ForeignRecordBehindIsRefused {R} IsFrame = IsSelfDelimiting IsFrame
 abbrev pub RecycledFileMeetsIt : {R : Type 0} → (List ℕ → R → Type 0) → Type 0
 RecycledFileMeetsIt {R} IsFrame = (front stale : List ℕ) (durable : List (Written R))
     → IsSelfDelimiting IsFrame → AreFrames IsFrame durable
-    → NoneIsStale stale (length front) durable
     → Refuses IsFrame (drop (length front + length (spelled durable)) stale)
     → (let bytes = front ++ (spelled durable ++ drop (length front + length (spelled durable)) stale) in
     HoldsChain IsFrame (length front) stale durable [] (at_rest bytes)
-    × NoChanceMatch IsFrame (length front) stale (at_rest bytes) bytes
+    × NoChanceMatch IsFrame (length front) stale (spelled durable) (at_rest bytes) bytes
     × Reads IsFrame (length front) durable bytes)
 
 -- Whatever a stop leaves of a file whose bytes are all synced, and that held nothing when it got its number,
@@ -65,4 +63,4 @@ RecycledFileMeetsIt {R} IsFrame = (front stale : List ℕ) (durable : List (Writ
 abbrev pub SyncedFileHasNoChance : {R : Type 0} → (List ℕ → R → Type 0) → Type 0
 SyncedFileHasNoChance IsFrame = IsSelfDelimiting IsFrame → (start : ℕ) (file : File) (bytes : List ℕ)
     → file.changes ≡ [] → IsLeft file bytes
-    → NoChanceMatch IsFrame start [] file bytes
+    → (own : List ℕ) → NoChanceMatch IsFrame start [] own file bytes

@@ -19,21 +19,23 @@ pub record IsHandedIn (changes : List Change) (at : ℕ) (bytes : List ℕ) : Ty
 abbrev pub IsStale : List ℕ → ℕ → List ℕ → Type 0
 IsStale stale at bytes = take (length bytes) (drop at stale) ≡ bytes
 
--- none of these records is what stood at its place when the file got its number
-abbrev pub NoneIsStale : {R : Type 0} → List ℕ → ℕ → List (Written R) → Type 0
-NoneIsStale {R} stale start ws = (before after : List (Written R)) (w : Written R) → ws ≡ before ++ w ∷ after
-    → IsStale stale (start + length (spelled before)) w.bytes → ⊥
+-- why a record that is met at a place is there by no chance: it is one of the file's own, which are these
+-- bytes behind its header; or a write that isn't synced yet handed it in there with all its bytes; or reading
+-- the synced bytes meets it there too, and it isn't what stood there when the file got its number
+pub data WasWritten {R : Type 0} (IsFrame : List ℕ → R → Type 0) (start : ℕ) (stale own : List ℕ) (file : File)
+    (at : ℕ) (w : Written R) : Type 0 where
+  own_record : LiesIn start own at w.bytes → WasWritten IsFrame start stale own file at w
+  handed_in : IsHandedIn file.changes at w.bytes → WasWritten IsFrame start stale own file at w
+  synced_there : Meets IsFrame start at w file.synced → (IsStale stale at w.bytes → ⊥)
+      → WasWritten IsFrame start stale own file at w
 
 -- No checksum is met by chance: each record that reading these bytes meets was written there, under the
--- file's number. Either reading the synced bytes meets it at that place too, and it isn't what stood there
--- when the file got its number; or a write that isn't synced yet handed it in there with all its bytes. (Only
--- places that reading comes to are asked about. A write may hand in several records at once, so a record is a
--- part of it. That none of the file's own records equals, at its very place, what stood there before is a
--- matter of chance as well: they carry the file's number.)
-abbrev pub NoChanceMatch : {R : Type 0} → (List ℕ → R → Type 0) → ℕ → List ℕ → File → List ℕ → Type 0
-NoChanceMatch {R} IsFrame start stale file bytes = (at : ℕ) (w : Written R) → Meets IsFrame start at w bytes
-    → (Meets IsFrame start at w file.synced × (IsStale stale at w.bytes → ⊥))
-    ⊎ IsHandedIn file.changes at w.bytes
+-- file's number. (Only places that reading comes to are asked about. A write may hand in several records at
+-- once, so a record is a part of it.)
+abbrev pub NoChanceMatch : {R : Type 0} → (List ℕ → R → Type 0) → ℕ → (stale own : List ℕ) → File → List ℕ
+    → Type 0
+NoChanceMatch {R} IsFrame start stale own file bytes = (at : ℕ) (w : Written R)
+    → Meets IsFrame start at w bytes → WasWritten IsFrame start stale own file at w
 
 -- A file with a chain of records from `start` on: its synced bytes begin with the durable ones, what else
 -- reading these meets is stale, and no change since the last sync touches the durable ones. Each write since
@@ -77,7 +79,8 @@ AreKept durable pending ws =
 abbrev pub KeepsSynced : {R : Type 0} → (List ℕ → R → Type 0) → ℕ → List ℕ → List (Written R)
     → List (Written R) → File → Type 0
 KeepsSynced {R} IsFrame start stale durable pending file =
-    (bytes : List ℕ) → IsLeft file bytes → NoChanceMatch IsFrame start stale file bytes
+    (bytes : List ℕ) → IsLeft file bytes
+    → NoChanceMatch IsFrame start stale (spelled (durable ++ pending)) file bytes
     → (ws : List (Written R)) → Reads IsFrame start ws bytes → AreKept durable pending ws
 
 -- The theorem: a file that holds a chain keeps the synced records of it.

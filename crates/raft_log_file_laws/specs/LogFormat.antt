@@ -41,7 +41,7 @@ ReadsFile F n ws bytes = ((ws ≡ []) × ((header : List ℕ) → HasHeader F he
 
 -- No checksum is met by chance in a file: no other header than its own (a torn one could be read as one of
 -- another version, of another length), and no record that wasn't written there under its number.
-pub record NoChanceInFile {R : Type 0} (F : Format R) (n : ℕ) (header stale : List ℕ)
+pub record NoChanceInFile {R : Type 0} (F : Format R) (n : ℕ) (header stale own : List ℕ)
     (file : File) (bytes : List ℕ) : Type 0 where
   pub headers : (other : List ℕ) → HasHeader F other bytes → other ≡ header
-  pub records : NoChanceMatch (F.IsFrame n header) (length header) stale file bytes
+  pub records : NoChanceMatch (F.IsFrame n header) (length header) stale own file bytes

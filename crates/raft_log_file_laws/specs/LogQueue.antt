@@ -131,13 +131,13 @@ found_from s q count = past_from q.older s (q.last - s)
 abbrev pub NoChanceInLast : {R : Type 0} → Format R → LogFiles R → Disk → Disk → Type 0
 NoChanceInLast F q d image = (path : List ℕ) (id : ℕ) (file after : File) → F.IsPath q.last path
     → d.names path ≡ Some id → d.files id ≡ Some file → image.files id ≡ Some after
-    → NoChanceInFile F q.last q.header q.stale file after.content
+    → NoChanceInFile F q.last q.header q.stale (spelled (recent q)) file after.content
 
 -- What is read of the last file, whatever a stop left of it, if no checksum is met by chance: its durable
 -- records and the first pending ones, and nothing else.
 abbrev pub KeepsLast : {R : Type 0} → Format R → LogFiles R → (File → Type 0) → Type 0
 KeepsLast {R} F q P = (file : File) → P file → (bytes : List ℕ) → IsLeft file bytes
-    → NoChanceInFile F q.last q.header q.stale file bytes
+    → NoChanceInFile F q.last q.header q.stale (spelled (recent q)) file bytes
     → (ws : List (Written R)) → ReadsFile F q.last ws bytes → AreKept q.durable q.pending ws
 
 -- Whatever a stop leaves of the disk, if no checksum is met by chance in the last file: from whatever number

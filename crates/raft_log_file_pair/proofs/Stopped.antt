@@ -72,7 +72,7 @@ module _ {R : Type 0} (layout : QueueLayout R) (told : IsQueueLayout layout) (q 
       let rests = rest_stays d image left.id bytes is was in
       let named : (p : List ℕ) (o : Option ℕ) → left.N p ≡ o → d.names p ≡ o = λ p o at. ap (λ (f : Names). f p) s.names ∙ at in
       let back : (p : List ℕ) (o : Option ℕ) → image.names p ≡ o → left.N p ≡ o = λ p o at. ap (λ (f : Names). f p) (sym (is.names ∙ s.names)) ∙ at in
-      let meets : NoChanceInFile F q.last q.header q.stale (at_rest bytes) bytes = chance left.path left.id (at_rest bytes) (at_rest bytes) s.at (named left.path (Some left.id) s.named) was rests in (
+      let meets : NoChanceInFile F q.last q.header q.stale (spelled (recent q)) (at_rest bytes) bytes = chance left.path left.id (at_rest bytes) (at_rest bytes) s.at (named left.path (Some left.id) s.named) was rests in (
         length q.pending,
         omega arith,
         record {
@@ -111,11 +111,11 @@ module _ {R : Type 0} (layout : QueueLayout R) (told : IsQueueLayout layout) (q 
             let rest : file ≡ at_rest bytes = same_file image left.id file (at_rest bytes) here_id rests in
             let again = rest_stays image later left.id bytes is_later rests in
             let then_rest : next ≡ at_rest bytes = same_file later left.id next (at_rest bytes) (ap later.files (sym one) ∙ there) again in
-            subst (λ (f : File). NoChanceInFile F q.last q.header [] f next.content) (sym rest)
-            (subst (λ (f : File). NoChanceInFile F q.last q.header [] (at_rest bytes) f.content) (sym then_rest)
+            subst (λ (f : File). NoChanceInFile F q.last q.header [] (spelled (recent (kept_to (length q.pending) q))) f next.content) (sym rest)
+            (subst (λ (f : File). NoChanceInFile F q.last q.header [] (spelled (recent (kept_to (length q.pending) q))) (at_rest bytes) f.content) (sym then_rest)
             (record {
               headers = λ x has. meets.headers x has;
-              records = synced_file_has_no_chance (F.IsFrame q.last q.header) (told.lawful.format.free q.last q.header) (length q.header) (at_rest bytes) bytes refl (left_at_rest bytes);
+              records = synced_file_has_no_chance (F.IsFrame q.last q.header) (told.lawful.format.free q.last q.header) (length q.header) (at_rest bytes) bytes refl (left_at_rest bytes) (spelled (recent (kept_to (length q.pending) q)));
             }))),
       )
 

@@ -62,6 +62,6 @@ pub resting_directories_open : {S : Type 0} (disk : S → Disk) (tells : S → L
 resting_directories_open disk tells config old m sound rests = opens_as disk tells config old m (resting_logs_open_by_calls disk tells config (disk old) m sound rests)
 
 pub crashed_directories_open : {S : Type 0} (disk : S → Disk) (tells : S → List ℕ → ℕ → Type 0) → CrashedDirectoriesOpen disk tells
-crashed_directories_open disk tells config d old m pending sound left crash =
-    let (k, within, rests, outcome) = crashed_logs_open_by_calls disk tells config d (disk old) m pending sound left crash in
-    (k, within, rests, opens_as disk tells config old (taken m (take k pending)) outcome)
+crashed_directories_open disk tells home one other d old m pending sound left crash =
+    let (k, within, rests, outcome) = crashed_logs_open_by_calls disk tells home one other d (disk old) m pending sound left crash in
+    (k, within, rests, λ config named. opens_as disk tells config old (taken m (take k pending)) (outcome config named))

@@ -10,7 +10,7 @@ use Rattle.raft_log_disk.specs.Calls.{after_change, flushed, with_change}
 use Rattle.raft_log_file_laws.specs.Chains.{AreFrames, Reads, Written, spelled}
 use Rattle.raft_log_disk.specs.Disk.{ShortenedTo, File, Disk, at_rest}
 use Rattle.raft_log_disk.specs.Image.{IsSoundFile, Spares}
-use Rattle.raft_log_file_laws.specs.KeepsSynced.{AreKept, HoldsAtLeast, HoldsChain}
+use Rattle.raft_log_file_laws.specs.KeepsSynced.{AreKept, HoldsAtLeast, HoldsChain, NoChanceMatch}
 use Rattle.raft_log_file_laws.specs.LogFormat.{Format, HasHeader, IsFormat, NoChanceInFile}
 use Rattle.raft_log_file_laws.specs.LogQueue.{HeaderStands, HoldsLast, LogFiles, recent}
 use Rattle.raft_log_disk.specs.declared.handle.Handle.{Handle}
@@ -27,7 +27,7 @@ use Rattle.raft_log_file_queue.specs.TakingUp.{TrimMakes, Trims, uncut, unsynced
 pub record IsSure {R : Type 0} (F : Format R) (q : LogFiles R) (file : File) : Type 0 where
   pub holds : HoldsLast F q file
   pub sound : IsSoundFile file
-  pub chance : NoChanceInFile F q.last q.header q.stale file file.content
+  pub chance : NoChanceInFile F q.last q.header q.stale (spelled (recent q)) file file.content
 
 pub front_nil : {X : Type 0} (xs ys : List X) → xs ++ ys ≡ [] → xs ≡ []
 front_nil [] ys none = refl
@@ -92,7 +92,8 @@ module _ {R : Type 0} (F : Format R) (lawful : IsFormat F) (q : LogFiles R) (hea
     its = subst (λ (h : List ℕ). Reads (F.IsFrame q.last h) (length h) ws file.content) own reads
 
     kept : AreKept (q.durable ++ chain.more) chain.rest ws
-    kept = at_least_keeps G n q.stale (q.durable ++ chain.more) chain.rest file (lawful.free q.last q.header) (holds_at_least G n q.stale (q.durable ++ chain.more) chain.rest file chain.holds) file.content sure.sound.stands sure.chance.records ws its
+    kept = at_least_keeps G n q.stale (q.durable ++ chain.more) chain.rest file (lawful.free q.last q.header) (holds_at_least G n q.stale (q.durable ++ chain.more) chain.rest file chain.holds) file.content sure.sound.stands
+        (subst (λ (l : List (Written R)). NoChanceMatch G n q.stale (spelled l) file file.content) (ap (λ (l : List (Written R)). q.durable ++ l) chain.splits ∙ sym (append_assoc q.durable chain.more chain.rest)) sure.chance.records) ws its
 
     behind : n + length (spelled (q.durable ++ chain.more)) ≤ size
     behind =

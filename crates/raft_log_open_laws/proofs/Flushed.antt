@@ -4,7 +4,7 @@ use Rattle.std.proofs.lemmas.List.{append_assoc, length-take, take-append-drop}
 use Rattle.std.proofs.lemmas.List.Elements.{All-nil}
 use Rattle.raft_log_disk.specs.Disk.{File, at_rest}
 use Rattle.raft_log_disk.specs.Calls.{flushed}
-use Rattle.raft_log_file_laws.specs.Chains.{AreFrames, Written}
+use Rattle.raft_log_file_laws.specs.Chains.{AreFrames, Written, spelled}
 use Rattle.raft_log_disk.specs.Image.{IsSoundFile}
 use Rattle.raft_log_file_laws.specs.KeepsSynced.{HoldsChain}
 use Rattle.raft_log_file_laws.specs.LogFormat.{CanTellFormat, Format, IsFormat, NoChanceInFile}
@@ -15,7 +15,7 @@ use Rattle.raft_log_engine_laws.specs.raft_log_file_layout.specs.Layout.{log_for
 use Rattle.raft_log_engine_laws.specs.raft_log_file_layout.specs.LayoutLaws.{files_are_told, is_layout}
 use Rattle.raft_log_open_laws.specs.InPlace.{SyncedFilesHoldStill}
 
-module _ {R : Type 0} (F : Format R) (lawful : IsFormat F) (tell : CanTellFormat F) (q : LogFiles R) (file : File) (sound : IsSoundFile file) (chance : NoChanceInFile F q.last q.header q.stale file file.content) where
+module _ {R : Type 0} (F : Format R) (lawful : IsFormat F) (tell : CanTellFormat F) (q : LogFiles R) (file : File) (sound : IsSoundFile file) (chance : NoChanceInFile F q.last q.header q.stale (spelled (recent q)) file file.content) where
   abbrev G : List ℕ → R → Type 0
   G = F.IsFrame q.last q.header
 

@@ -2,7 +2,6 @@
 use Rattle.std.proofs.Common.{◌≡◌, ℕ, ◌<◌, ◌≤◌, Bool, true, false, Some, List, [], ◌∷◌, length, take, refl, sym, ap, subst, ◌∙◌, inl, inr}
 use Rattle.std.specs.Prelude.{◌||◌, ◌⊎◌}
 use Rattle.std.proofs.lemmas.Bool.{cases_Bool}
-use Rattle.raft_log_model_laws.specs.Groups.{taken}
 use Rattle.raft_log_record_base.specs.declared.pipe_log.LogQueue.TheVariants.{Append}
 use Rattle.raft_log_disk.specs.Disk.{Disk}
 use Rattle.raft_log_disk.specs.Image.{as_it_stands, IsSound}
@@ -30,7 +29,6 @@ use Rattle.raft_log_open_builder.specs.declared.builder.DualPipesBuilder.{DualPi
 use Rattle.raft_log_open_builder.specs.declared.recovered_queue.RecoveredQueue.{RecoveredQueue}
 use Rattle.raft_log_open_directory.specs.Finding.{FindsLog}
 use Rattle.raft_log_open_laws.specs.Opened.{HoldsFresh}
-use Rattle.raft_log_open_laws.proofs.Left.{crashed_logs_rest}
 use Rattle.raft_log_open_laws.specs.Keeping.{RestsStill}
 use Rattle.raft_log_open_laws.proofs.Keeping.{kept_logs_stay}
 use Rattle.raft_log_open_laws.specs.Files.{AreQueueFiles}
@@ -40,7 +38,7 @@ use Rattle.raft_log_open_laws.specs.ByCalls.{home_of, reads, LogIsRecovered, Ope
 use Rattle.raft_log_open_laws.proofs.Finding.{scans_find_all_files, some_directory}
 use Rattle.raft_log_open_laws.proofs.Outcomes.{resting_logs_open_by_calls}
 use Rattle.raft_log_open_laws.proofs.ByCalls.{two_queues}
-use Rattle.raft_log_open_laws.specs.InPlace.{StandsWithoutChance, StopsSynced}
+use Rattle.raft_log_open_laws.specs.InPlace.{StopsSynced}
 use Rattle.raft_log_open_laws.proofs.Settling.{settled_if, settled_in}
 use Rattle.raft_log_open_laws.proofs.InPlaceScans.{settled_finds, settled_recovers, settled_syncs}
 use Rattle.raft_log_open_laws.proofs.Readies.{settled_readies, AreOld}
@@ -76,7 +74,7 @@ one_of : (a b : Bool) → (a || b) ≡ true → (a ≡ true) ⊎ (b ≡ true)
 one_of true b is = inl refl
 one_of false b is = inr is
 
-module _ (config : Config) (d : Disk) (m : LogMap) (pending : List Said) (sound : IsSound d) (left : IsLeftAt (home_of config) d m pending) (chance : StandsWithoutChance (home_of config) left.1.lies.state d) where
+module _ (config : Config) (d : Disk) (m : LogMap) (pending : List Said) (sound : IsSound d) (left : IsLeftAt (home_of config) d m pending) (map : LogMap) (rests : LogRestsOn (log_in (home_of config)) (as_it_stands d) map) where
   abbrev home : Home
   home = home_of config
 
@@ -92,15 +90,6 @@ module _ (config : Config) (d : Disk) (m : LogMap) (pending : List Said) (sound 
   abbrev s : State
   s = left.1.lies.state
 
-  pub crashed : (k : ℕ) × (k ≤ length pending) × LogRestsOn (log_in home) image (taken m (take k pending))
-  crashed = crashed_logs_rest home one one d image m pending left chance
-
-  abbrev pub map : LogMap
-  map = taken m (take crashed.0 pending)
-
-  abbrev rests : LogRestsOn (log_in home) image map
-  rests = crashed.2
-
   same_names : rests.state.disk.names ≡ d.names
   same_names = ap (λ (x : Disk). x.names) rests.disk
 
@@ -112,18 +101,18 @@ module _ (config : Config) (d : Disk) (m : LogMap) (pending : List Said) (sound 
   standing = settled_in lasts d
 
   its_last : (id : ℕ) → lasts id ≡ true → ((n : ℕ) × IsLast (log_in home).append.format n id d.names) ⊎ ((n : ℕ) × IsLast (log_in home).rewrite.format n id d.names)
-  unfolding lasts crashed
+  unfolding lasts
   its_last id hit = elim (one_of (is_last_of (log_in home).append rests.state.append rests.state.disk rests.rests.append id) (is_last_of (log_in home).rewrite rests.state.rewrite rests.state.disk rests.rests.rewrite id) hit) [
     | inl mine ↦ (let (n, last) = which_is_last (log_in home).append rests.state.append rests.state.disk rests.rests.append id mine in inl (n, subst (IsLast (log_in home).append.format n id) same_names last))
     | inr other ↦ (let (n, last) = which_is_last (log_in home).rewrite rests.state.rewrite rests.state.disk rests.rests.rewrite id other in inr (n, subst (IsLast (log_in home).rewrite.format n id) same_names last))
   ]
 
   append_last : (id : ℕ) → ((n : ℕ) × IsLast (log_in home).append.format n id d.names) → lasts id ≡ true
-  unfolding lasts crashed
+  unfolding lasts
   append_last id (n, last) = first_of _ _ (it_is_last (log_in home).append rests.state.append rests.state.disk rests.rests.append n id (subst (IsLast (log_in home).append.format n id) (sym same_names) last))
 
   rewrite_last : (id : ℕ) → ((n : ℕ) × IsLast (log_in home).rewrite.format n id d.names) → lasts id ≡ true
-  unfolding lasts crashed
+  unfolding lasts
   rewrite_last id (n, last) =
       second_of (is_last_of (log_in home).append rests.state.append rests.state.disk rests.rests.append id) _
       (it_is_last (log_in home).rewrite rests.state.rewrite rests.state.disk rests.rests.rewrite n id (subst (IsLast (log_in home).rewrite.format n id) (sym same_names) last))

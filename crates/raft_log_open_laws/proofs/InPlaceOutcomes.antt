@@ -1,30 +1,52 @@
 -- A log is opened in place, or that is refused.
-use Rattle.std.proofs.Common.{ℕ, List}
+use Rattle.std.proofs.Common.{ℕ, List, take, sym, subst}
+use Rattle.raft_log_model_laws.specs.Groups.{taken}
 use Rattle.raft_log_disk.specs.Disk.{Disk}
+use Rattle.raft_log_disk.specs.Image.{as_it_stands, IsSound}
+use Rattle.raft_log_file_settings.specs.declared.config.Config.{Config}
+use Rattle.raft_log_file_pair.specs.OnDisk.{LogRestsOn}
+use Rattle.raft_log_file_pair.specs.Pipes.{Said}
+use Rattle.raft_log_engine_laws.specs.Shows.{log_in, Home, LogMap}
+use Rattle.raft_log_engine_laws.specs.Holding.{IsLeftAt}
+use Rattle.raft_log_open_laws.specs.ByCalls.{home_of}
+use Rattle.raft_log_open_laws.specs.InPlace.{OpensStandingByCalls, StandingDirectoriesOpen, StandingLogsOpenByCalls, StandsWithoutChance}
 use Rattle.raft_log_open_laws.proofs.Directory.{call_by_call, not_opened}
-use Rattle.raft_log_open_laws.specs.InPlace.{StandingDirectoriesOpen, StandingLogsOpenByCalls}
-use Rattle.raft_log_open_laws.proofs.InPlace.{answered_in_place, crashed, synced_in_place}
+use Rattle.raft_log_open_laws.proofs.InPlace.{answered_in_place, synced_in_place}
+use Rattle.raft_log_open_laws.proofs.Left.{crashed_logs_rest}
 use Rattle.raft_log_open_laws.proofs.Refusing.{refused_in_place}
 
+-- so it is of the map as which it rests once all that stands is kept
+OpensThere : {S : Type 0} → (S → Disk) → (S → List ℕ → ℕ → Type 0) → Config → Disk → LogMap → List Said → LogMap → Home → Type 0
+OpensThere disk tells config d m pending now home = (left : IsLeftAt home d m pending) → StandsWithoutChance home left.1.lies.state d → LogRestsOn (log_in home) (as_it_stands d) now → OpensStandingByCalls disk tells config d m pending now
+
+opens_there : {S : Type 0} (disk : S → Disk) (tells : S → List ℕ → ℕ → Type 0) (config : Config) (d : Disk) (m : LogMap) (pending : List Said) (now : LogMap) → IsSound d → OpensThere disk tells config d m pending now (home_of config)
+unfolding OpensThere
+opens_there disk tells config d m pending now sound left chance rests = record {
+  answered = answered_in_place config d m pending sound left now rests disk tells;
+  synced = synced_in_place config d m pending sound left now rests disk tells;
+  refused = refused_in_place config d m pending sound left chance now rests disk tells;
+}
+
 pub standing_logs_open_by_calls : {S : Type 0} (disk : S → Disk) (tells : S → List ℕ → ℕ → Type 0) → StandingLogsOpenByCalls disk tells
-standing_logs_open_by_calls disk tells config d m pending sound left chance =
-    let c = crashed config d m pending sound left chance in (
-      c.0,
-      c.1,
-      record {
-        answered = answered_in_place config d m pending sound left chance disk tells;
-        synced = synced_in_place config d m pending sound left chance disk tells;
-        refused = refused_in_place config d m pending sound left chance disk tells;
-      },
+unfolding OpensThere
+standing_logs_open_by_calls disk tells home one other d m pending sound left chance =
+    let (k, within, rests) = crashed_logs_rest home one other d (as_it_stands d) m pending left chance in
+    let now : LogMap = taken m (take k pending) in (
+      k,
+      within,
+      rests,
+      λ config named. subst (OpensThere disk tells config d m pending now) named (opens_there disk tells config d m pending now sound) left chance rests,
     )
 
 pub standing_directories_open : {S : Type 0} (disk : S → Disk) (tells : S → List ℕ → ℕ → Type 0) → StandingDirectoriesOpen disk tells
-standing_directories_open disk tells config old m pending sound left chance =
-    let (k, within, outcome) = standing_logs_open_by_calls disk tells config (disk old) m pending sound left chance in (
+standing_directories_open disk tells home one other old m pending sound left chance =
+    let (k, within, rests, outcome) = standing_logs_open_by_calls disk tells home one other (disk old) m pending sound left chance in (
       k,
       within,
+      rests,
+      λ config named.
       record {
-        answered = λ v tables o. outcome.answered v tables (call_by_call disk tells config old v tables o);
-        refused = λ error new why. outcome.refused (disk new) (not_opened disk tells config old error new why);
+        answered = λ v tables o. (outcome config named).answered v tables (call_by_call disk tells config old v tables o);
+        refused = λ error new why. (outcome config named).refused (disk new) (not_opened disk tells config old error new why);
       },
     )

@@ -59,3 +59,4 @@ pub mod Bare
 pub mod Keeping
 pub mod Calls
 pub mod LastCut
+pub mod Running

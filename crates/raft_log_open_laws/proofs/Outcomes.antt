@@ -1,5 +1,5 @@
 -- What an engine has that is opened over a log at rest, and what is left where it isn't.
-use Rattle.std.proofs.Common.{ℕ, ◌<◌, List, [], length, take}
+use Rattle.std.proofs.Common.{ℕ, ◌<◌, List, [], length, take, sym, subst}
 use Rattle.raft_log_model_laws.specs.Groups.{taken}
 use Rattle.raft_log_disk.specs.Disk.{Disk}
 use Rattle.raft_log_disk.specs.Image.{IsSound}
@@ -77,6 +77,11 @@ pub resting_logs_open_by_calls : {S : Type 0} (disk : S → Disk) (tells : S →
 resting_logs_open_by_calls disk tells config d m sound h = reopens_as disk tells config d m sound h
 
 pub crashed_logs_open_by_calls : {S : Type 0} (disk : S → Disk) (tells : S → List ℕ → ℕ → Type 0) → CrashedLogsOpenByCalls disk tells
-crashed_logs_open_by_calls disk tells config d image m pending sound left crash =
-    let (k, within, rests) = crashed_logs_rest (home_of config) (some_directory config) (some_directory config) d image m pending left crash in
-    (k, within, rests, reopens_as disk tells config image (taken m (take k pending)) sound rests)
+crashed_logs_open_by_calls disk tells home one other d image m pending sound left crash =
+    let (k, within, rests) = crashed_logs_rest home one other d image m pending left crash in (
+      k,
+      within,
+      rests,
+      λ config named.
+      reopens_as disk tells config image (taken m (take k pending)) sound (subst (λ (h : Home). LogRestsOn (log_in h) image (taken m (take k pending))) (sym named) rests),
+    )

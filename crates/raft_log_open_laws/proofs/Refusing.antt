@@ -4,7 +4,7 @@ use Rattle.std.proofs.Common.{◌≡◌, ◌⊎◌, ℕ, ◌<◌, Bool, List, []
 use Rattle.raft_log_record_base.specs.declared.errors.Error.{Error}
 use Rattle.raft_log_record_base.specs.declared.pipe_log.LogQueue.TheVariants.{Append, Rewrite}
 use Rattle.raft_log_disk.specs.Disk.{Disk}
-use Rattle.raft_log_disk.specs.Image.{IsSound}
+use Rattle.raft_log_disk.specs.Image.{as_it_stands, IsSound}
 use Rattle.raft_log_file_laws.specs.LogFormat.{Format}
 use Rattle.raft_log_file_queue.specs.Standing.{Names}
 use Rattle.raft_log_file_queue.specs.declared.format.File.{File}
@@ -15,6 +15,7 @@ use Rattle.raft_log_open_builder.specs.Readying.{FailsToReady, Readies}
 use Rattle.raft_log_open_found.specs.declared.file_ending.FileEnding.{FileEnding}
 use Rattle.raft_log_table_contexts.specs.declared.context.MemTableRecoverContext.{MemTableRecoverContext}
 use Rattle.raft_log_file_pair.specs.Lying.{none_open, LiesQueue}
+use Rattle.raft_log_file_pair.specs.OnDisk.{LogRestsOn}
 use Rattle.raft_log_file_pair.specs.Queues.{AreTwoQueues, IsQueueLayout, QueueLayout}
 use Rattle.raft_log_file_pair.proofs.LyingQueues.{lies}
 use Rattle.raft_log_file_pair.specs.Pipes.{Said, State}
@@ -44,7 +45,7 @@ use Rattle.raft_log_open_laws.proofs.Refused.{told_or}
 use Rattle.raft_log_open_laws.proofs.Scanning.{open_reserved}
 use Rattle.raft_log_open_laws.specs.InPlace.{StandsWithoutChance}
 use Rattle.raft_log_open_laws.specs.InPlace.StopsUncut.{unread, undone as stops_undone, unscanned as stops_unscanned}
-use Rattle.raft_log_open_laws.proofs.InPlace.{lasts, map, one, standing, standing_sound, synced_in_place, there, two}
+use Rattle.raft_log_open_laws.proofs.InPlace.{lasts, one, standing, standing_sound, synced_in_place, there, two}
 use Rattle.raft_log_open_laws.proofs.LogCuts.{are_found, are_kept, cut_files, numbered_as, uncut_files, AreFound, IsCutFrom}
 use Rattle.raft_log_open_laws.proofs.QueueCuts.{lies_sure, steady_kept, steady_left, sure_kept, sure_steady, IsLeftAs, LiesSure}
 use Rattle.raft_log_open_laws.proofs.InPlaceScans.{has_read, settled_finds}
@@ -59,7 +60,7 @@ SameNumbers F old new = (m : ℕ) (path : List ℕ) → m < F.limit → F.IsPath
 small : (layout : QueueLayout LogRecord) → IsQueueLayout layout → 1 < layout.format.limit
 small layout told = (let limit = told.lawful.limit in omega (arith, limit))
 
-module _ (config : Config) (d : Disk) (m : LogMap) (pending : List Said) (sound : IsSound d) (left : IsLeftAt (home_of config) d m pending) (chance : StandsWithoutChance (home_of config) left.1.lies.state d) where
+module _ (config : Config) (d : Disk) (m : LogMap) (pending : List Said) (sound : IsSound d) (left : IsLeftAt (home_of config) d m pending) (chance : StandsWithoutChance (home_of config) left.1.lies.state d) (map : LogMap) (rests : LogRestsOn (log_in (home_of config)) (as_it_stands d) map) where
   abbrev home : Home
   home = home_of config
 
@@ -73,7 +74,7 @@ module _ (config : Config) (d : Disk) (m : LogMap) (pending : List Said) (sound 
   r = (log_in home).rewrite
 
   both_queues : AreTwoQueues (log_in home)
-  both_queues = two config d m pending sound left chance
+  both_queues = two config d m pending sound left map rests
 
   a_lies : LiesQueue a s.append d
   a_lies = subst (LiesQueue a s.append) left.1.lies.disk (lies a both_queues.append left.0.append s.append s.disk left.1.lies.stands.append)
@@ -138,7 +139,7 @@ module _ (config : Config) (d : Disk) (m : LogMap) (pending : List Said) (sound 
   -- Behind the scan.
   module _ (found : DualPipesBuilder) (scanned : Disk) (finds : FindsLog config found d scanned) where
     abbrev E : ℕ → Bool
-    E = lasts config d m pending sound left chance
+    E = lasts config d m pending sound left map rests
 
     keeps : (F : Format LogRecord) → KeepsNumbered F d scanned
     keeps = finds_keep config d m pending left found scanned finds
@@ -156,10 +157,10 @@ module _ (config : Config) (d : Disk) (m : LogMap) (pending : List Said) (sound 
     settled_found = settled_finds E config found d scanned finds
 
     set : LiesAsSet home found
-    set = found_set config (standing config d m pending sound left chance) (map config d m pending sound left chance) (standing_sound config d m pending sound left chance) (there config d m pending sound left chance) found (settled_in E scanned) settled_found
+    set = found_set config (standing config d m pending sound left map rests) map (standing_sound config d m pending sound left map rests) (there config d m pending sound left map rests) found (settled_in E scanned) settled_found
 
-    files_found : AreQueueFiles a (there config d m pending sound left chance).state.append (settled_in E scanned) (append_files found) × AreQueueFiles r (there config d m pending sound left chance).state.rewrite (settled_in E scanned) (rewrite_files found)
-    files_found = scans_find_all_files config (standing config d m pending sound left chance) (map config d m pending sound left chance) (standing_sound config d m pending sound left chance) (there config d m pending sound left chance) found (settled_in E scanned) settled_found
+    files_found : AreQueueFiles a (there config d m pending sound left map rests).state.append (settled_in E scanned) (append_files found) × AreQueueFiles r (there config d m pending sound left map rests).state.rewrite (settled_in E scanned) (rewrite_files found)
+    files_found = scans_find_all_files config (standing config d m pending sound left map rests) map (standing_sound config d m pending sound left map rests) (there config d m pending sound left map rests) found (settled_in E scanned) settled_found
 
     reserved : Each IsReserved found.reserved.items
     reserved =
@@ -169,13 +170,13 @@ module _ (config : Config) (d : Disk) (m : LogMap) (pending : List Said) (sound 
     -- Both queues were read.
     module _ (append rewrite : MemTableRecoverContext) (es fs : List FileEnding) (both : HasReadBoth reads found scanned append rewrite es fs) where
       a_found : AreFound a both_queues.append scanned (append_files found) es
-      a_found = are_found a both_queues.append E (there config d m pending sound left chance).state.append scanned (append_files found) es
-          (told_or Append (paths_of config) (one config d m pending sound left chance) (append_config found) refl (settled_in E scanned) (there config d m pending sound left chance).state.append (append_files found) es append
+      a_found = are_found a both_queues.append E (there config d m pending sound left map rests).state.append scanned (append_files found) es
+          (told_or Append (paths_of config) (one config d m pending sound left map rests) (append_config found) refl (settled_in E scanned) (there config d m pending sound left map rests).state.append (append_files found) es append
           (has_read E reads (append_config found) (append_files found) scanned append es both.append_read) both.append_unaligned files_found.0)
 
       r_found : AreFound r both_queues.rewrite scanned (rewrite_files found) fs
-      r_found = are_found r both_queues.rewrite E (there config d m pending sound left chance).state.rewrite scanned (rewrite_files found) fs
-          (told_or Rewrite (paths_of config) (one config d m pending sound left chance) (rewrite_config found) refl (settled_in E scanned) (there config d m pending sound left chance).state.rewrite (rewrite_files found) fs rewrite
+      r_found = are_found r both_queues.rewrite E (there config d m pending sound left map rests).state.rewrite scanned (rewrite_files found) fs
+          (told_or Rewrite (paths_of config) (one config d m pending sound left map rests) (rewrite_config found) refl (settled_in E scanned) (there config d m pending sound left map rests).state.rewrite (rewrite_files found) fs rewrite
           (has_read E reads (rewrite_config found) (rewrite_files found) scanned rewrite fs both.rewrite_read) both.rewrite_unaligned files_found.1)
 
       append_stays : (kind : ErrorKind) (new : Disk) → FailsToCutEach (append_files found) es kind scanned new → IsLeftAt home new m pending
@@ -282,7 +283,7 @@ module _ (config : Config) (d : Disk) (m : LogMap) (pending : List Said) (sound 
           rewrite_names = λ k path less is. ap (λ (f : Names). f path) same ∙ at.rewrite_names k path less is;
         })
 
-    pub refused_in_place : (new : Disk) → FailsToOpenByCalls disk tells config d new → IsLeftAt home new m pending ⊎ IsLeftAt home new (map config d m pending sound left chance) []
+    pub refused_in_place : (new : Disk) → FailsToOpenByCalls disk tells config d new → IsLeftAt home new m pending ⊎ IsLeftAt home new map []
     refused_in_place new (undone same) = inl (stops_uncut config d m pending left new (stops_undone same))
     refused_in_place new (unscanned b error begun fails) = inl (stops_uncut config d m pending left new (stops_unscanned b error begun fails))
     refused_in_place new (unrecovered found scanned error finds fails) = inl (not_recovered found scanned finds error new fails)
@@ -294,7 +295,7 @@ module _ (config : Config) (d : Disk) (m : LogMap) (pending : List Said) (sound 
         let at = recovered_steadies append rewrite ready readied it in
         inl (unsynced_stays ready kind readied new at.0 at.1 fails)
     refused_in_place new (unopened append rewrite ready readied error it (pipes_unopened synced one_pipe other_pipe read syncs one_is other_is fails)) =
-        inr (synced_in_place config d m pending sound left chance disk tells new (record {
+        inr (synced_in_place config d m pending sound left map rests disk tells new (record {
           append = append;
           rewrite = rewrite;
           ready = ready;

@@ -11,8 +11,9 @@ use Rattle.raft_log_disk.specs.Arguments.{WrongHandle}
 use Rattle.raft_log_disk.specs.Calls.{flushed, Changes, RefusedWhole}
 use Rattle.raft_log_disk.specs.Disk.{Disk, at_rest, File as DiskFile}
 use Rattle.raft_log_disk.specs.Image.{as_it_stands, IsSound, IsSoundFile}
+use Rattle.raft_log_file_laws.specs.Chains.{spelled}
 use Rattle.raft_log_file_laws.specs.LogFormat.{Format, NoChanceInFile}
-use Rattle.raft_log_file_laws.specs.LogQueue.{HoldsLast, LogFiles, NoChanceInLast}
+use Rattle.raft_log_file_laws.specs.LogQueue.{HoldsLast, LogFiles, NoChanceInLast, recent}
 use Rattle.raft_log_disk.specs.Touching.{TouchesOnly}
 use Rattle.raft_log_disk.proofs.KeptLaws.{kept_sync, IsCalm}
 use Rattle.raft_log_disk.proofs.TouchingLaws.{touches_sync}
@@ -47,7 +48,7 @@ module _ (layout : QueueLayout LogRecord) (told : IsQueueLayout layout) where
   -- The last file holds its records, and it is at rest, or no checksum is met by chance in it as it stands.
   pub record Steady (q : LogFiles LogRecord) (file : DiskFile) : Type 0 where
     pub holds : HoldsLast layout.format q file
-    pub rests : (file ≡ at_rest file.content) ⊎ (IsSoundFile file × NoChanceInFile layout.format q.last q.header q.stale file file.content)
+    pub rests : (file ≡ at_rest file.content) ⊎ (IsSoundFile file × NoChanceInFile layout.format q.last q.header q.stale (spelled (recent q)) file file.content)
 
   flushed_steady : (q : LogFiles LogRecord) (file : DiskFile) → Steady q file → Steady q (flushed file)
   flushed_steady q file steady = record {

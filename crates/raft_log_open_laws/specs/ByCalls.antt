@@ -28,6 +28,10 @@ use Rattle.raft_log_open_laws.specs.Files.{AreQueueFiles}
 abbrev pub home_of : Config → Home
 home_of config = record { append = paths_of config; rewrite = paths_of config }
 
+-- so it is for all settings that name these directories, whatever else they say: any number of workers, too
+abbrev pub ForAllNaming : Home → (Config → Type 0) → Type 0
+ForAllNaming home P = (config : Config) → home_of config ≡ home → P config
+
 -- what a context has read of a queue, in the words of a builder
 abbrev pub reads : LogQueue → List Batch → MemTableRecoverContext → Type 0
 reads queue batches context = HasReadBatches queue batches context

@@ -1,6 +1,5 @@
 -- A log's directories are opened by the call that does all of it, over a log at rest.
-use Rattle.std.specs.Prelude.{ℕ, ◌≤◌, List, [], length, take}
-use Rattle.raft_log_model_laws.specs.Groups.{taken}
+use Rattle.std.specs.Prelude.{ℕ, ◌<◌, List, [], length}
 use Rattle.raft_log_record_base.specs.declared.errors.Error.{Error}
 use Rattle.raft_log_disk.specs.Disk.{Disk}
 use Rattle.raft_log_disk.specs.Image.{IsSound}
@@ -8,12 +7,12 @@ use Rattle.raft_log_file_settings.specs.declared.config.Config.{Config}
 use Rattle.raft_log_engine_laws.specs.raft_log_table_all.specs.declared.mem_tables.MemTables.{MemTables}
 use Rattle.raft_log_file_pair.specs.OnDisk.{LogRestsOn}
 use Rattle.raft_log_file_pair.specs.Pipes.{LogPipes, Said}
-use Rattle.raft_log_engine_laws.specs.Shows.{log_in, LogMap}
+use Rattle.raft_log_engine_laws.specs.Shows.{log_in, Home, LogMap}
 use Rattle.raft_log_engine_laws.specs.Holding.{IsLeftAt}
 use Rattle.raft_log_open_directory.specs.Opening.{FailsToOpenDirectory, OpensDirectory}
-use Rattle.raft_log_open_laws.specs.Left.{IsCrashOf}
+use Rattle.raft_log_open_laws.specs.Left.{IsCrashOf, RestsAfterSome}
 use Rattle.raft_log_open_laws.specs.Opened.{HoldsFresh}
-use Rattle.raft_log_open_laws.specs.ByCalls.{home_of}
+use Rattle.raft_log_open_laws.specs.ByCalls.{home_of, ForAllNaming}
 
 -- Where the directories are opened that these settings name, an engine of them holds this map, and nothing is
 -- pending, whatever the number of workers was; and where they aren't, whyever, the log is left there with the
@@ -31,11 +30,10 @@ RestingDirectoriesOpen {F} disk tells = (config : Config) (old : F) (m : LogMap)
     → LogRestsOn (log_in (home_of config)) (disk old) m → OpensAs disk tells config old m
 
 -- And so are those of whatever a crash leaves of what an engine left, which rests there: as the map after
--- some first pending batches.
+-- some first pending batches, the same by all settings that name them.
 abbrev pub CrashedDirectoriesOpen : {F : Type 0} → (F → Disk) → (F → List ℕ → ℕ → Type 0) → Type 0
-CrashedDirectoriesOpen {F} disk tells = (config : Config) (d : Disk) (old : F) (m : LogMap)
-    (pending : List Said) → IsSound (disk old) → (left : IsLeftAt (home_of config) d m pending)
-    → IsCrashOf (home_of config) left.1.lies.state d (disk old)
-    → (k : ℕ) × (k ≤ length pending)
-    × LogRestsOn (log_in (home_of config)) (disk old) (taken m (take k pending))
-    × OpensAs disk tells config old (taken m (take k pending))
+CrashedDirectoriesOpen {F} disk tells = (home : Home) → 0 < length home.append → 0 < length home.rewrite
+    → (d : Disk) (old : F) (m : LogMap) (pending : List Said) → IsSound (disk old)
+    → (left : IsLeftAt home d m pending) → IsCrashOf home left.1.lies.state d (disk old)
+    → RestsAfterSome home (disk old) m pending
+    (λ now. ForAllNaming home (λ config. OpensAs disk tells config old now))

@@ -1,15 +1,15 @@
 -- A log whose engine failed is opened in place: no crash came between, so its last files may have bytes that
 -- aren't synced, which the open reads as they stand.
-use Rattle.std.specs.Prelude.{◌≡◌, ℕ, ◌<◌, ◌≤◌, ◌⊎◌, List, [], length, take}
+use Rattle.std.specs.Prelude.{◌≡◌, ℕ, ◌<◌, ◌⊎◌, List, [], length}
 use Rattle.std.specs.declared.io.ErrorKind.{ErrorKind}
-use Rattle.raft_log_model_laws.specs.Groups.{taken}
 use Rattle.raft_log_record_base.specs.declared.errors.Error.{Error}
 use Rattle.raft_log_record_base.specs.declared.pipe_log.LogQueue.TheVariants.{Append, Rewrite}
 use Rattle.raft_log_record_base.specs.declared.pipe_log.LogQueue.{LogQueue}
 use Rattle.raft_log_disk.specs.Calls.{flushed}
 use Rattle.raft_log_disk.specs.Disk.{File, Disk}
+use Rattle.raft_log_file_laws.specs.Chains.{spelled}
 use Rattle.raft_log_file_laws.specs.LogFormat.{NoChanceInFile}
-use Rattle.raft_log_file_laws.specs.LogQueue.{HoldsLast, LogFiles}
+use Rattle.raft_log_file_laws.specs.LogQueue.{HoldsLast, LogFiles, recent}
 use Rattle.raft_log_engine_laws.specs.raft_log_file_layout.specs.Layout.{log_format}
 use Rattle.raft_log_engine_laws.specs.raft_log_file_layout.specs.declared.record.LogRecord.{LogRecord}
 use Rattle.raft_log_disk.specs.Image.{as_it_stands, IsSound, IsSoundFile}
@@ -26,10 +26,10 @@ use Rattle.raft_log_open_builder.specs.Scanning.{FailsToScanLog}
 use Rattle.raft_log_open_builder.specs.declared.builder.DualPipesBuilder.{DualPipesBuilder}
 use Rattle.raft_log_open_directory.specs.Finding.{FindsLog, IsBegun}
 use Rattle.raft_log_open_directory.specs.Opening.{FailsToOpenDirectory, OpensDirectory}
-use Rattle.raft_log_open_laws.specs.Left.{IsCrashOf}
+use Rattle.raft_log_open_laws.specs.Left.{IsCrashOf, RestsAfterSome}
 use Rattle.raft_log_open_laws.specs.Opened.{HoldsFresh}
 use Rattle.raft_log_open_laws.specs.RefusedByCalls.{FailsToOpenByCalls}
-use Rattle.raft_log_open_laws.specs.ByCalls.{home_of, LogIsRecovered, OpensByCalls}
+use Rattle.raft_log_open_laws.specs.ByCalls.{home_of, ForAllNaming, LogIsRecovered, OpensByCalls}
 
 -- No checksum is met by chance in the last file of either queue, as its bytes stand: what is read there now
 -- is what a crash may leave that keeps all of them.
@@ -72,12 +72,14 @@ pub record OpensStandingByCalls {F : Type 0} (disk : F → Disk) (tells : F → 
   pub refused : (new : Disk) → FailsToOpenByCalls disk tells config d new
       → IsLeftEither (home_of config) new m pending now
 
--- So it is with a log that an engine left, and its map after some first pending batches.
+-- So it is with a log that an engine left, and its map after some first pending batches: those with which it
+-- would rest if a crash kept all that stands there, the same by all settings that name its directories.
 abbrev pub StandingLogsOpenByCalls : {F : Type 0} → (F → Disk) → (F → List ℕ → ℕ → Type 0) → Type 0
-StandingLogsOpenByCalls {F} disk tells = (config : Config) (d : Disk) (m : LogMap) (pending : List Said)
-    → IsSound d → (left : IsLeftAt (home_of config) d m pending)
-    → StandsWithoutChance (home_of config) left.1.lies.state d
-    → (k : ℕ) × (k ≤ length pending) × OpensStandingByCalls disk tells config d m pending (taken m (take k pending))
+StandingLogsOpenByCalls {F} disk tells = (home : Home) → 0 < length home.append → 0 < length home.rewrite
+    → (d : Disk) (m : LogMap) (pending : List Said) → IsSound d → (left : IsLeftAt home d m pending)
+    → StandsWithoutChance home left.1.lies.state d
+    → RestsAfterSome home (as_it_stands d) m pending
+    (λ now. ForAllNaming home (λ config. OpensStandingByCalls disk tells config d m pending now))
 
 -- So it is where its directories are opened by the call that does all of it, answered and refused.
 pub record OpensStanding {F : Type 0} (disk : F → Disk) (tells : F → List ℕ → ℕ → Type 0) (config : Config)
@@ -87,13 +89,14 @@ pub record OpensStanding {F : Type 0} (disk : F → Disk) (tells : F → List �
   pub refused : (error : Error) (new : F) → FailsToOpenDirectory disk tells config error old new
       → IsLeftEither (home_of config) (disk new) m pending now
 
--- and so it is of a log that an engine left, and its map after some first pending batches
+-- and so it is of a log that an engine left, and its map after some first pending batches, the same by all
+-- settings that name its directories
 abbrev pub StandingDirectoriesOpen : {F : Type 0} → (F → Disk) → (F → List ℕ → ℕ → Type 0) → Type 0
-StandingDirectoriesOpen {F} disk tells = (config : Config) (old : F) (m : LogMap) (pending : List Said)
-    → IsSound (disk old) → (left : IsLeftAt (home_of config) (disk old) m pending)
-    → StandsWithoutChance (home_of config) left.1.lies.state (disk old)
-    → (k : ℕ) × (k ≤ length pending)
-    × OpensStanding disk tells config old m pending (taken m (take k pending))
+StandingDirectoriesOpen {F} disk tells = (home : Home) → 0 < length home.append → 0 < length home.rewrite
+    → (old : F) (m : LogMap) (pending : List Said) → IsSound (disk old)
+    → (left : IsLeftAt home (disk old) m pending) → StandsWithoutChance home left.1.lies.state (disk old)
+    → RestsAfterSome home (as_it_stands (disk old)) m pending
+    (λ now. ForAllNaming home (λ config. OpensStanding disk tells config old m pending now))
 
 -- An open went no further than this, so that nothing of the log was cut: nothing was done; its directories
 -- weren't scanned; or they were, and no more.
@@ -114,7 +117,7 @@ UncutLogsStay = (config : Config) (d : Disk) (m : LogMap) (pending : List Said)
 abbrev pub SyncedFilesHoldStill : Type 0
 SyncedFilesHoldStill = (queue : LogQueue) (directories : List (List ℕ)) → 0 < length directories
     → (q : LogFiles LogRecord) (file : File) → IsSoundFile file
-    → NoChanceInFile (log_format queue directories) q.last q.header q.stale file file.content
+    → NoChanceInFile (log_format queue directories) q.last q.header q.stale (spelled (recent q)) file file.content
     → HoldsLast (log_format queue directories) q file
     → HoldsLast (log_format queue directories) q (flushed file)
 

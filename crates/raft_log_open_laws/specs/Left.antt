@@ -26,6 +26,12 @@ CrashedLogsRest = (home : Home) → 0 < length home.append → 0 < length home.r
     → IsCrashOf home left.1.lies.state d image
     → (k : ℕ) × (k ≤ length pending) × LogRestsOn (log_in home) image (taken m (take k pending))
 
+-- The log rests on the disk as its map after some first pending batches, and of that map this holds. How many
+-- they are, the files alone say: not the settings by which they are opened.
+abbrev pub RestsAfterSome : Home → Disk → LogMap → List Said → (LogMap → Type 0) → Type 0
+RestsAfterSome home d m pending P = (k : ℕ) × (k ≤ length pending)
+    × LogRestsOn (log_in home) d (taken m (take k pending)) × P (taken m (take k pending))
+
 -- Where a log that rests isn't opened, it is left there with its map.
 abbrev pub RefusedOpensLeaveLogs : Type 0
 RefusedOpensLeaveLogs = (home : Home) (m : LogMap) (append rewrite : FoundPipe) (error : Error)

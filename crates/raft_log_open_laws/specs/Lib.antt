@@ -14,6 +14,7 @@ pub mod Opened
 pub mod Found
 pub mod Left
 pub mod Recovered
+pub mod Running
 pub mod Files
 pub mod ByCalls
 pub mod RefusedByCalls

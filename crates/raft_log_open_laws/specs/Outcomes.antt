@@ -1,17 +1,16 @@
 -- What an engine has that is opened over a log at rest, call by call, and what is left where it isn't.
-use Rattle.std.specs.Prelude.{ℕ, ◌≤◌, List, [], length, take}
-use Rattle.raft_log_model_laws.specs.Groups.{taken}
+use Rattle.std.specs.Prelude.{ℕ, ◌<◌, List, [], length}
 use Rattle.raft_log_disk.specs.Disk.{Disk}
 use Rattle.raft_log_disk.specs.Image.{IsSound}
 use Rattle.raft_log_file_settings.specs.declared.config.Config.{Config}
 use Rattle.raft_log_engine_laws.specs.raft_log_table_all.specs.declared.mem_tables.MemTables.{MemTables}
 use Rattle.raft_log_file_pair.specs.OnDisk.{LogRestsOn}
 use Rattle.raft_log_file_pair.specs.Pipes.{LogPipes, Said}
-use Rattle.raft_log_engine_laws.specs.Shows.{log_in, LogMap}
+use Rattle.raft_log_engine_laws.specs.Shows.{log_in, Home, LogMap}
 use Rattle.raft_log_engine_laws.specs.Holding.{IsLeftAt}
-use Rattle.raft_log_open_laws.specs.Left.{IsCrashOf}
+use Rattle.raft_log_open_laws.specs.Left.{IsCrashOf, RestsAfterSome}
 use Rattle.raft_log_open_laws.specs.Opened.{HoldsFresh}
-use Rattle.raft_log_open_laws.specs.ByCalls.{home_of, OpensByCalls}
+use Rattle.raft_log_open_laws.specs.ByCalls.{home_of, ForAllNaming, OpensByCalls}
 use Rattle.raft_log_open_laws.specs.RefusedByCalls.{FailsToOpenByCalls}
 
 -- An engine that is opened over what is on the disk holds this map, and nothing is pending, whatever the
@@ -29,10 +28,10 @@ RestingLogsOpenByCalls disk tells = (config : Config) (d : Disk) (m : LogMap) �
     → LogRestsOn (log_in (home_of config)) d m → OpensByCallsAs disk tells config d m
 
 -- And so does whatever a crash leaves of what an engine left, which rests there: as the map after some first
--- pending batches.
+-- pending batches, the same by all settings that name its directories.
 abbrev pub CrashedLogsOpenByCalls : {F : Type 0} → (F → Disk) → (F → List ℕ → ℕ → Type 0) → Type 0
-CrashedLogsOpenByCalls disk tells = (config : Config) (d image : Disk) (m : LogMap) (pending : List Said)
-    → IsSound image → (left : IsLeftAt (home_of config) d m pending)
-    → IsCrashOf (home_of config) left.1.lies.state d image
-    → (k : ℕ) × (k ≤ length pending) × LogRestsOn (log_in (home_of config)) image (taken m (take k pending))
-    × OpensByCallsAs disk tells config image (taken m (take k pending))
+CrashedLogsOpenByCalls disk tells = (home : Home) → 0 < length home.append → 0 < length home.rewrite
+    → (d image : Disk) (m : LogMap) (pending : List Said) → IsSound image
+    → (left : IsLeftAt home d m pending) → IsCrashOf home left.1.lies.state d image
+    → RestsAfterSome home image m pending
+    (λ now. ForAllNaming home (λ config. OpensByCallsAs disk tells config image now))

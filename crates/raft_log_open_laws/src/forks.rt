@@ -1,7 +1,7 @@
 //! The way from a log at rest to an engine that is opened over its fork.
 
 ghost use Rattle.raft_log_open_laws.specs.ForkLeaving.{ForksLeaveTheSource};
-ghost use Rattle.raft_log_open_laws.specs.ForkLeft.{ClosedEnginesAreLeft, LeftLogsAreForked};
+ghost use Rattle.raft_log_open_laws.specs.ForkLeft.{LeftLogsShowAlike};
 ghost use Rattle.raft_log_open_laws.specs.ForkOpening.{ForksOpenAsTheirSource};
 ghost use Rattle.raft_log_open_laws.specs.ForkResting.{ForkedLogsRest};
 
@@ -24,13 +24,9 @@ pub fn forks_open_as_their_source<F: FileSystem>()
     ensures { ForksOpenAsTheirSource F.disk F.tells_space }
 {}
 
-/// A fork of what an engine left, with no crash and no open between, is the map after some first pending
-/// batches, as the source is at a restart that loses nothing; and so it is opened.
-pub fn left_logs_are_forked<F: FileSystem>()
-    ensures { LeftLogsAreForked F.disk F.tells_space }
-{}
-
-/// A close of an engine leaves its log so, whatever was refused meanwhile.
-pub fn closed_engines_are_left()
-    ensures { ClosedEnginesAreLeft }
+/// What an engine left, closed or failed, is opened in place, and forked with no crash and no open between:
+/// whichever settings name its directories, both show the map after the same first pending batches, those that a
+/// restart shows that loses nothing.
+pub fn left_logs_show_alike<F: FileSystem>()
+    ensures { LeftLogsShowAlike F.disk F.tells_space }
 {}

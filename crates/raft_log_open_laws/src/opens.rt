@@ -4,6 +4,7 @@ ghost use Rattle.raft_log_open_laws.specs.Bare.{BareDirectoriesOpen};
 ghost use Rattle.raft_log_open_laws.specs.Directory.{CrashedDirectoriesOpen, RestingDirectoriesOpen};
 ghost use Rattle.raft_log_open_laws.specs.Outcomes.{CrashedLogsOpenByCalls, RestingLogsOpenByCalls};
 ghost use Rattle.raft_log_open_laws.specs.ByCalls.{ScansFindAllFiles, SyncedSparesCanBeUsed};
+ghost use Rattle.raft_log_open_laws.specs.Running.{CrashedEnginesOpen};
 
 use raft_log_disk::FileSystem;
 
@@ -27,7 +28,7 @@ pub fn resting_logs_open_by_calls<F: FileSystem>()
 {}
 
 /// Whatever a crash leaves of what an engine left is opened so, or refused, as the map after some first
-/// pending batches, the same for any two numbers of workers.
+/// pending batches, the same by all settings that name its directories: for any two numbers of workers, too.
 pub fn crashed_logs_open_by_calls<F: FileSystem>()
     ensures { CrashedLogsOpenByCalls F.disk F.tells_space }
 {}
@@ -39,9 +40,18 @@ pub fn resting_directories_open<F: FileSystem>()
 {}
 
 /// Whatever a crash leaves of what an engine left, its directories are opened so, or refused, as the map
-/// after some first pending batches, the same for any two numbers of workers.
+/// after some first pending batches, the same by all settings that name them: for any two numbers of workers,
+/// too.
 pub fn crashed_directories_open<F: FileSystem>()
     ensures { CrashedDirectoriesOpen F.disk F.tells_space }
+{}
+
+/// Whatever a crash leaves of an engine that runs, its directories are opened so, or refused, as the map after some
+/// first pending batches, the same by all settings that name them. That no checksum is met by chance is told of
+/// its pipes and of the bytes on the disk: nothing is read but what it wrote, or what a write that isn't synced
+/// handed in.
+pub fn crashed_engines_open<F: FileSystem>()
+    ensures { CrashedEnginesOpen F.disk F.tells_space }
 {}
 
 /// Where nothing of a log is there, and maybe none of its directories, these are opened with nothing in them;

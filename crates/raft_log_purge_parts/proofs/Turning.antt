@@ -157,6 +157,7 @@ module _ (s : Shows) (synced : LogPipes) (syncs : SyncsQueue InAppend s.pipes sy
         rewrite = rewrite;
         from_append = gone;
         append = append;
+        alive = append.loses.alive;
         later = later_on s.pipes.disk mid.pipes.disk t.pipes.disk to_mid append.later;
         settles = λ home log pending h. append.keeps home (taken log pending) (settled_mid home log pending h) none_mid;
       }

@@ -53,6 +53,7 @@ pub record PurgesAllStale (m : MemTables) (s t : Shows) : Type 0 where
   pub rewrite : TurnsAndLoses Rewrite m from_rewrite carried rewritten
   pub from_append : ℕ
   pub append : TurnsAndLoses Append m from_append rewritten t
+  pub alive : has_failed t ≡ false
   pub later : IsLater s.pipes.disk t.pipes.disk
   pub settles : (home : Home) (log : LogMap) (pending : List Said) → Holds home s log pending
       → HoldsSettled home t (taken log pending)

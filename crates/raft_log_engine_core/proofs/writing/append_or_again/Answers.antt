@@ -10,4 +10,4 @@ returns-then-is_no_space-clause-ok g c =
 pub returns-then-is_no_space-clause-err : goal.returns-then-is_no_space-clause-err
 returns-then-is_no_space-clause-err g c =
     refused_again (signed_for c.args.signed.now.batch) _ c.in-Err.error (g.P.PipeLog.shown c.args.pipes.now) (g.P.PipeLog.shown c.append.new.self) (g.P.PipeLog.shown c.append-then-is_no_space.new.self)
-    c.append-then-is_no_space.result c.append.ensures.signed (c.is_no_space.ensures.0 c.if-is_no_space.true) c.append.ensures.later c.append-then-is_no_space.ensures.later c.in-Err.ensures.err c.append-then-is_no_space.ensures.err
+    c.append-then-is_no_space.result c.append.ensures.signed (c.is_no_space.ensures.0 c.if-is_no_space.true) c.append.ensures.later c.append-then-is_no_space.ensures.later c.in-Err.ensures.err c.append-then-is_no_space.ensures.err c.append-then-is_no_space.ensures.range

@@ -1,0 +1,66 @@
+-- An engine's other calls, and opens, as steps of its voters.
+use Rattle.std.proofs.Common.{◌≡◌, ◌⊎◌, ℕ, ◌≤◌, [], length, take, refl, inl, inr}
+use Rattle.raft_log_disk.specs.Disk.{Disk}
+use Rattle.raft_log_model_laws.specs.Groups.{taken}
+use Rattle.raft_log_record_base.specs.declared.errors.Error.{Error}
+use Rattle.raft_log_record_base.specs.declared.errors.Error.TheVariants as errors
+use Rattle.raft_log_engine_laws.specs.Shows.{Home, LogMap, Shows}
+use Rattle.raft_log_engine_laws.specs.Holding.{Holds, IsLeftAt}
+use Rattle.raft_voter.specs.Rounds.{TakesFirst, World}
+use Rattle.raft_voter_meaning_laws.specs.Voters.{Means}
+use Rattle.raft_voter_meaning_laws.proofs.Pending.{among_none}
+use Rattle.raft_voter_standing_laws.specs.Standing.{IsLeftAmong, Keeps}
+use Rattle.raft_voter_standing_laws.specs.Calls.{KeepsMap, KeepsOrLeaves, KeepsOrLeavesMap, LeavesLeft, OpensAmong}
+use Rattle.raft_voter_standing_laws.specs.Laws.{OpensFindVoters, PurgesKeepVoters, VotersAreLeft}
+
+-- a log that is left with the map of these voters, and nothing pending, is left with them
+pub left_alone : (home : Home) (d : Disk) (m : LogMap) (P : World → Type 0) (V : World) → IsLeftAt home d m [] → P V → Means m V → IsLeftAmong home d P
+left_alone home d m P V left passes means = record { map = m; pending = []; left = left; among = among_none P m V passes means }
+
+-- Purges.
+
+kept : (home : Home) (V : World) (s t : Shows) → Keeps home s V → KeepsMap s t → Keeps home t V
+kept home V s t k keeps = record { map = k.map; holds = keeps home k.map [] k.holds; means = k.means }
+
+refused : (home : Home) (V : World) (error : Error) (s t : Shows) → Keeps home s V → KeepsOrLeavesMap error s t → KeepsOrLeaves home error t V
+refused home V error s t k purge = by_exit (purge home k.map [] k.holds)
+  where
+    by_exit : Holds home t (taken k.map []) [] ⊎ ((error ≡ errors.Failed) × (IsLeftAt home t.pipes.disk (taken k.map []) [] ⊎ IsLeftAt home t.pipes.disk k.map []))
+        → KeepsOrLeaves home error t V
+    by_exit (inl holds) = inl (record { map = k.map; holds = holds; means = k.means })
+    by_exit (inr (is, inl left)) = inr (is, left_alone home t.pipes.disk k.map (λ X. X ≡ V) V left refl k.means)
+    by_exit (inr (is, inr left)) = inr (is, left_alone home t.pipes.disk k.map (λ X. X ≡ V) V left refl k.means)
+
+pub purges_keep_voters : PurgesKeepVoters
+purges_keep_voters = record { answered = kept; refused = refused }
+
+-- The end of an engine, and a fork.
+
+pub left_elsewhere : (home : Home) (P : World → Type 0) (d e : Disk) → IsLeftAmong home d P → LeavesLeft home d e → IsLeftAmong home e P
+left_elsewhere home P d e l leaves = record { map = l.map; pending = l.pending; left = leaves l.map l.pending l.left; among = l.among }
+
+pub voters_are_left : VotersAreLeft
+voters_are_left = record {
+  gone = λ home V s d k leaves. left_alone home d k.map (λ X. X ≡ V) V (leaves home k.map [] k.holds) refl k.means;
+  forked = λ home V qs refused d e l leaves. left_elsewhere home (TakesFirst V qs refused) d e l leaves;
+}
+
+-- Opens.
+
+pub opens_among : (home : Home) (d : Disk) (P : World → Type 0) (left : IsLeftAmong home d P) (k : ℕ) → k ≤ length left.pending → OpensAmong home d P left k
+opens_among home d P left k within =
+    let found = left.among k within in
+    record {
+      world = found.0;
+      passes = found.1;
+      answered = λ e holds. record { map = taken left.map (take k left.pending); holds = holds; means = found.2 };
+      refused = λ new l. by_left found.0 found.1 found.2 new l;
+    }
+  where
+    by_left : (X : World) → P X → Means (taken left.map (take k left.pending)) X → (new : Disk)
+        → IsLeftAt home new left.map left.pending ⊎ IsLeftAt home new (taken left.map (take k left.pending)) [] → IsLeftAmong home new P
+    by_left X passes means new (inl still) = record { map = left.map; pending = left.pending; left = still; among = left.among }
+    by_left X passes means new (inr now) = left_alone home new (taken left.map (take k left.pending)) P X now passes means
+
+pub opens_find_voters : OpensFindVoters
+opens_find_voters home d V qs refused left k within = opens_among home d (TakesFirst V qs refused) left k within

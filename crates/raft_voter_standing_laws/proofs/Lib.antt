@@ -1,0 +1,11 @@
+pub mod Refusing
+pub mod Told
+pub mod Places
+pub mod Composing
+pub mod Serving
+pub mod Turning
+pub mod Fetching
+pub mod Following
+pub mod Going
+pub mod Ending
+pub mod Keeping

@@ -1,0 +1,6 @@
+use Rattle.raft_voter_standing_laws.proofs.Fetching.{unfetched_entries_are_unread}
+use Rattle.raft_voter_standing_laws.proofs.requests.unfetched_entries_are_unread.Goals as goal
+
+pub returns : goal.returns
+returns g c = λ text reading group from to error s t os raw there f.
+    unfetched_entries_are_unread text reading raw group from to error s t os there f

@@ -1,0 +1,57 @@
+-- What an engine's other calls say of its log, and what they make of the voters.
+use Rattle.std.specs.Prelude.{◌≡◌, ◌⊎◌, ℕ, List, [], take}
+use Rattle.raft_log_disk.specs.Disk.{Disk}
+use Rattle.raft_log_model_laws.specs.Groups.{taken}
+use Rattle.raft_log_record_base.specs.declared.errors.Error.{Error}
+use Rattle.raft_log_record_base.specs.declared.errors.Error.TheVariants as errors
+use Rattle.raft_log_engine_laws.specs.Shows.{Home, LogMap, Shows}
+use Rattle.raft_log_engine_laws.specs.Holding.{Holds, IsLeftAt}
+use Rattle.raft_log_engine_laws.specs.raft_log_file_pair.specs.Pipes.{Said}
+use Rattle.raft_voter.specs.Rounds.{World}
+use Rattle.raft_voter_standing_laws.specs.Standing.{IsLeftAmong, IsLeftWith, Keeps}
+
+-- What the engine says.
+
+-- a purge was answered: the map stays, with the batches on it
+abbrev pub KeepsMap : Shows → Shows → Type 0
+KeepsMap s t = (home : Home) (m : LogMap) (pending : List Said) → Holds home s m pending
+    → Holds home t (taken m pending) []
+
+-- it was refused: so it is; or the engine has failed, and its log is left with the batches on the map, or
+-- pending as they were
+abbrev pub KeepsOrLeavesMap : Error → Shows → Shows → Type 0
+KeepsOrLeavesMap error s t = (home : Home) (m : LogMap) (pending : List Said) → Holds home s m pending
+    → Holds home t (taken m pending) []
+    ⊎ ((error ≡ errors.Failed) × (IsLeftAt home t.pipes.disk (taken m pending) []
+    ⊎ IsLeftAt home t.pipes.disk m pending))
+
+-- the engine is gone, closed or let go: its log is left on this disk as it was
+abbrev pub LeavesLog : Shows → Disk → Type 0
+LeavesLog s d = (home : Home) (m : LogMap) (pending : List Said) → Holds home s m pending
+    → IsLeftAt home d m pending
+
+-- a log that was left on one disk is left on the other, as it was
+abbrev pub LeavesLeft : Home → Disk → Disk → Type 0
+LeavesLeft home d e = (m : LogMap) (pending : List Said) → IsLeftAt home d m pending
+    → IsLeftAt home e m pending
+
+-- What comes of the voters.
+
+-- a purge was refused: the engine keeps the voters; or it has failed, and they are left alone
+abbrev pub KeepsOrLeaves : Home → Error → Shows → World → Type 0
+KeepsOrLeaves home error t V =
+    Keeps home t V ⊎ ((error ≡ errors.Failed) × IsLeftWith home t.pipes.disk V)
+
+-- the map that an open finds of a log that was left: with so many first ones of the pending batches
+abbrev pub found_map : {home : Home} {d : Disk} {P : World → Type 0} → IsLeftAmong home d P → ℕ → LogMap
+found_map left k = taken left.map (take k left.pending)
+
+-- An open that finds so many first batches finds voters that pass the test: answered, the engine keeps them;
+-- refused, a log is left of which a stop leaves voters that pass it.
+pub record OpensAmong (home : Home) (d : Disk) (P : World → Type 0) (left : IsLeftAmong home d P) (k : ℕ)
+    : Type 0 where
+  pub world : World
+  pub passes : P world
+  pub answered : (e : Shows) → Holds home e (taken left.map (take k left.pending)) [] → Keeps home e world
+  pub refused : (new : Disk) → IsLeftAt home new left.map left.pending
+      ⊎ IsLeftAt home new (taken left.map (take k left.pending)) [] → IsLeftAmong home new P

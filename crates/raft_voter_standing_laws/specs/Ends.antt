@@ -1,0 +1,56 @@
+-- A round: how far it went, and each of its ends.
+use Rattle.std.specs.Prelude.{◌≡◌, ℕ, Bool, false, List, [], ◌++◌}
+use Rattle.raft_log_disk.specs.Causes.{Fails, IsLater}
+use Rattle.raft_log_model_laws.specs.Groups.{taken}
+use Rattle.raft_log_engine_laws.specs.Shows.{Home, LogMap, Shows, has_failed}
+use Rattle.raft_log_engine_laws.specs.Holding.{EndsAt, Holds}
+use Rattle.raft_log_engine_laws.specs.raft_log_file_pair.specs.Pipes.{Said}
+use Rattle.raft_voter_messages.specs.declared.reply.Reply.{Reply}
+use Rattle.raft_voter_messages.specs.declared.request.Request.{Request}
+use Rattle.raft_voter_outline.specs.State.{State}
+use Rattle.raft_voter.specs.Rounds.{World, after}
+use Rattle.raft_voter_meaning_laws.specs.Voters.{Means}
+use Rattle.raft_voter_meaning_laws.specs.Among.{MeansAmong}
+use Rattle.raft_voter_standing_laws.specs.Standing.{AreOutlines, IsLeftAmong, Keeps}
+use Rattle.raft_voter_standing_laws.specs.Rounds.{AreTold, IsPassed, IsPassedOrOneMore, took}
+
+-- A round came so far, and told these replies: what was said since leads to the voters behind what was taken,
+-- by way of the voters behind each first part of it, and the replies are theirs. Where nothing was written
+-- nothing was said.
+pub record Went (qs : List (ℕ × Request)) (told : List Reply) (wrote : Bool) (s t : Shows) (os us : ℕ → State)
+    : Type 0 where
+  pub said : List Said
+  pub silent : wrote ≡ false → said ≡ []
+  pub alive : has_failed t ≡ false
+  pub later : IsLater s.pipes.disk t.pipes.disk
+  pub holds : (home : Home) (m : LogMap) (pending : List Said) → Holds home s m pending
+      → EndsAt home t m (pending ++ said)
+  pub leads : (m : LogMap) (W : World) → Means m W → AreOutlines os W
+      → Means (taken m said) (after W (took qs told))
+  pub among : (m : LogMap) (W : World) → Means m W → AreOutlines os W → MeansAmong (IsPassed W qs told) m said
+  pub outlines : (W : World) → AreOutlines os W → AreOutlines us (after W (took qs told))
+  pub tells : (home : Home) (m : LogMap) (W : World) → Holds home s m [] → Means m W → AreOutlines os W
+      → AreTold W qs told
+
+-- It was answered: the engine keeps the voters behind what was taken, these are their outlines, and the
+-- replies are theirs.
+pub record Answered (home : Home) (V : World) (qs : List (ℕ × Request)) (told : List Reply) (t : Shows)
+    (us : ℕ → State) : Type 0 where
+  pub keeps : Keeps home t (after V (took qs told))
+  pub outlines : AreOutlines us (after V (took qs told))
+  pub tells : AreTold V qs told
+
+-- It was given up at a request at which the engine failed: the replies so far are the voters', and what is left means
+-- voters behind some first requests, that one perhaps among them.
+pub record GaveUp (home : Home) (V : World) (qs : List (ℕ × Request)) (told : List Reply) (s t : Shows)
+    : Type 0 where
+  pub fails : Fails s.pipes.disk t.pipes.disk
+  pub tells : AreTold V qs told
+  pub left : IsLeftAmong home t.pipes.disk (IsPassedOrOneMore V qs told)
+
+-- Its sync was refused: what is left means voters behind some first requests.
+pub record Unsynced (home : Home) (V : World) (qs : List (ℕ × Request)) (told : List Reply) (s t : Shows)
+    : Type 0 where
+  pub fails : Fails s.pipes.disk t.pipes.disk
+  pub tells : AreTold V qs told
+  pub left : IsLeftAmong home t.pipes.disk (IsPassed V qs told)

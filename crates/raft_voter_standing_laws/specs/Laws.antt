@@ -1,0 +1,167 @@
+-- What follows from the definitions: each exit of an engine's calls as a step of its voters, and laws on rounds.
+use Rattle.std.specs.Prelude.{◌≡◌, ◌⊎◌, ◌≤◌, ◌<◌, ◌^◌, ◌||◌, ℕ, Bool, true, false, None, IsTrue, List, [], ◌∷◌, ◌++◌, length, map, slice_get, Option, Some}
+use Rattle.raft_log_disk.specs.Disk.{Disk}
+use Rattle.raft_log_record_base.specs.declared.errors.Error.{Error}
+use Rattle.raft_log_record_base.specs.declared.errors.Error.TheVariants as errors
+use Rattle.raft_log_record_frames.specs.Record.{record_len}
+use Rattle.raft_log_record_batches.specs.Batch.{Batch}
+use Rattle.raft_log_engine_laws.specs.Shows.{Home, Shows, has_failed}
+use Rattle.raft_log_engine_laws.specs.Fetching.{FailsToFetch, FetchesTo}
+use Rattle.raft_log_engine_laws.specs.Syncing.{NotSynced, SyncsAppend}
+use Rattle.raft_log_engine_laws.specs.Writing.{NotWritten, WritesBytes}
+use Rattle.raft_voter_messages.specs.declared.reply.Entry.{Entry as VoterEntry}
+use Rattle.raft_voter_messages.specs.declared.reply.Reply.{Reply}
+use Rattle.raft_voter_messages.specs.declared.reply.Reply.TheVariants as replies
+use Rattle.raft_voter_messages.specs.declared.request.Request.{Request}
+use Rattle.raft_voter_outline.specs.declared.outline.decision.Answer.TheVariants as answers
+use Rattle.raft_voter_outline.specs.declared.outline.decision.Change.{Change}
+use Rattle.raft_voter_outline.specs.Outlines.{ChangesEach, IsReplyOfEach, LeavesEach, without_bytes}
+use Rattle.raft_voter_outline.specs.State.{State}
+use Rattle.raft_voter.specs.Laws.{AreReadAs}
+use Rattle.raft_voter.specs.Rounds.{TakesFirst, World, are_rising, replies_from, taken_from}
+use Rattle.raft_voter.specs.Service.{refused_from}
+use Rattle.raft_voter_standing_laws.specs.Standing.{AreOutlines, IsLeftAmong, IsLeftWith, Keeps}
+use Rattle.raft_voter_standing_laws.specs.Rounds.{AreTold, IsPassedOrOneMore, took}
+use Rattle.raft_voter_standing_laws.specs.Requests.{Broke, SaysChange, Served, StepsOutlines, TurnedDown}
+use Rattle.raft_voter_standing_laws.specs.Reads.{AreThere, IsCounted, IsRaw, ReadsEntries, ReadsNone}
+use Rattle.raft_voter_standing_laws.specs.Ends.{Answered, GaveUp, Unsynced, Went}
+use Rattle.raft_voter_standing_laws.specs.Calls.{KeepsMap, KeepsOrLeaves, KeepsOrLeavesMap, LeavesLeft, LeavesLog, OpensAmong}
+
+-- One request.
+
+-- an outline is that of a voter: itself
+abbrev pub IsBare : State → Type 0
+IsBare o = without_bytes o ≡ o
+
+-- A request that leaves its voter was told by the outline: nothing was written.
+abbrev pub ToldRequestsAreServed : Type 0
+ToldRequestsAreServed = (q : ℕ × Request) (a : Reply) (s : Shows) (os : ℕ → State) → has_failed s ≡ false
+    → IsBare (os q.0) → IsReplyOfEach (os q.0) q.1 (answers.Told a) → LeavesEach (os q.0) q.1
+    → Served q a false s s os os
+
+-- A request's change was written, and the outline of its group made the step.
+abbrev pub WrittenRequestsAreServed : Type 0
+WrittenRequestsAreServed = (q : ℕ × Request) (a : Reply) (c : Change) (b : Batch) (len : ℕ) (s t : Shows)
+    (os us : ℕ → State) → IsBare (os q.0) → IsReplyOfEach (os q.0) q.1 (answers.Told a)
+    → ChangesEach (os q.0) q.1 c → SaysChange q.0 q.1 c b → StepsOutlines q os us
+    → WritesBytes b false len s t → Served q a true s t os us
+
+-- Its entries were read.
+abbrev pub ReadRequestsAreServed : Type 0
+ReadRequestsAreServed = (q : ℕ × Request) (from to : ℕ) (es : List VoterEntry) (s t : Shows) (os : ℕ → State)
+    → IsBare (os q.0) → IsReplyOfEach (os q.0) q.1 (answers.Entries from to) → LeavesEach (os q.0) q.1
+    → ReadsEntries q.0 from to s t os es → Served q (replies.Entries es) false s t os os
+
+-- Entries that were fetched are read, where an entry's messages are its bytes, and each is read as an entry at
+-- its index.
+abbrev pub FetchedEntriesAreRead : Type 0 → Type 0
+FetchedEntriesAreRead M = (text : M → List ℕ) (reading : List ℕ → Option M) (g from to count : ℕ) (s t : Shows)
+    (os : ℕ → State) (messages : List M) (es : List VoterEntry) → IsRaw text reading → IsCounted s
+    → AreThere (os g) from to → FetchesTo reading g from to None s t [] messages count
+    → AreReadAs from (map text messages) es → ReadsEntries g from to s t os es
+
+-- Those that weren't aren't, and this is why.
+abbrev pub UnfetchedEntriesAreUnread : Type 0 → Type 0
+UnfetchedEntriesAreUnread M = (text : M → List ℕ) (reading : List ℕ → Option M) (g from to : ℕ) (error : Error)
+    (s t : Shows) (os : ℕ → State) → IsRaw text reading → AreThere (os g) from to
+    → FailsToFetch reading g from to s t error → ReadsNone error s t os
+
+-- A request's record wasn't written: the request is turned down, or the engine failed at it.
+abbrev pub UnwrittenRequests : Type 0
+UnwrittenRequests = (q : ℕ × Request) (c : Change) (b : Batch) (error : Error) (s t : Shows) (os : ℕ → State)
+    → has_failed s ≡ false → IsBare (os q.0) → ChangesEach (os q.0) q.1 c → SaysChange q.0 q.1 c b
+    → record_len b.items b.entries < 2 ^ 56 → NotWritten b error s t
+    → TurnedDown error s t os ⊎ ((error ≡ errors.Failed) × Broke q s t os)
+
+-- Memory ran out before anything was done.
+abbrev pub UnmadeRequestsAreTurnedDown : Type 0
+UnmadeRequestsAreTurnedDown = (s : Shows) (os : ℕ → State) → has_failed s ≡ false
+    → TurnedDown errors.Memory s s os
+
+-- Its entries weren't read.
+abbrev pub UnreadRequestsAreTurnedDown : Type 0
+UnreadRequestsAreTurnedDown = (error : Error) (s t : Shows) (os : ℕ → State) → ReadsNone error s t os
+    → TurnedDown error s t os
+
+-- Rounds.
+
+-- A round begins, goes on by a request that was served, and by one that was turned down.
+pub record RoundsGoOn : Type 0 where
+  pub begins : (qs : List (ℕ × Request)) (s : Shows) (os : ℕ → State) → has_failed s ≡ false
+      → Went qs [] false s s os os
+  pub served : (qs : List (ℕ × Request)) (told : List Reply) (q : ℕ × Request) (a : Reply) (wrote more : Bool)
+      (s t u : Shows) (os us ws : ℕ → State) → Went qs told wrote s t os us
+      → slice_get qs (length told) ≡ Some q → Served q a more t u us ws
+      → Went qs (told ++ a ∷ []) (wrote || more) s u os ws
+  pub turned_down : (qs : List (ℕ × Request)) (told : List Reply) (q : ℕ × Request) (error : Error) (wrote : Bool)
+      (s t u : Shows) (os us : ℕ → State) → Went qs told wrote s t os us
+      → slice_get qs (length told) ≡ Some q → TurnedDown error t u us
+      → Went qs (told ++ replies.Refused ∷ []) wrote s u os us
+
+-- It ends: nothing was written, and no sync is needed; or its sync was answered; or the engine failed at a
+-- request; or its sync was refused.
+pub record RoundsEnd : Type 0 where
+  pub unwritten : (home : Home) (V : World) (qs : List (ℕ × Request)) (told : List Reply) (s t : Shows)
+      (os us : ℕ → State) → Keeps home s V → AreOutlines os V → Went qs told false s t os us
+      → Answered home V qs told t us
+  pub answered : (home : Home) (V : World) (qs : List (ℕ × Request)) (told : List Reply) (wrote : Bool)
+      (s t u : Shows) (os us : ℕ → State) → Keeps home s V → AreOutlines os V → Went qs told wrote s t os us
+      → SyncsAppend t u → Answered home V qs told u us
+  pub gave_up : (home : Home) (V : World) (qs : List (ℕ × Request)) (told : List Reply) (q : ℕ × Request)
+      (wrote : Bool) (s t u : Shows) (os us : ℕ → State) → Keeps home s V → AreOutlines os V
+      → Went qs told wrote s t os us → slice_get qs (length told) ≡ Some q → Broke q t u us
+      → GaveUp home V qs told s u
+  pub unsynced : (home : Home) (V : World) (qs : List (ℕ × Request)) (told : List Reply) (wrote : Bool)
+      (error : Error) (s t u : Shows) (os us : ℕ → State) → Keeps home s V → AreOutlines os V
+      → Went qs told wrote s t os us → NotSynced error t u → Unsynced home V qs told s u
+
+-- Replies and refused places.
+
+-- the replies of an answered round are the voters', and what was taken of it is what its refused places tell
+pub record RepliesTellPlaces (V : World) (qs : List (ℕ × Request)) (told : List Reply) : Type 0 where
+  pub rising : IsTrue (are_rising 0 (length qs) (refused_from 0 told))
+  pub told_is : told ≡ replies_from 0 (refused_from 0 told) V qs
+  pub taken_is : took qs told ≡ taken_from 0 (length qs) (refused_from 0 told) qs
+
+-- and so it is of every round that told all its replies
+abbrev pub ToldRoundsAreAnswered : Type 0
+ToldRoundsAreAnswered = (V : World) (qs : List (ℕ × Request)) (told : List Reply) → AreTold V qs told
+    → length told ≡ length qs → RepliesTellPlaces V qs told
+
+-- What a round passed that was cut off took its requests below one place, but for those at refused places.
+abbrev pub PassedVotersTookFirst : Type 0
+PassedVotersTookFirst = (V : World) (qs : List (ℕ × Request)) (told : List Reply) → AreTold V qs told
+    → (X : World) → IsPassedOrOneMore V qs told X → TakesFirst V qs (refused_from 0 told) X
+
+-- The engine's other calls.
+
+-- A purge, answered or refused, changes no voter.
+pub record PurgesKeepVoters : Type 0 where
+  pub answered : (home : Home) (V : World) (s t : Shows) → Keeps home s V → KeepsMap s t → Keeps home t V
+  pub refused : (home : Home) (V : World) (error : Error) (s t : Shows) → Keeps home s V
+      → KeepsOrLeavesMap error s t → KeepsOrLeaves home error t V
+
+-- A close, a crash and an engine that is let go leave the voters alone; a fork leaves what was left.
+pub record VotersAreLeft : Type 0 where
+  pub gone : (home : Home) (V : World) (s : Shows) (d : Disk) → Keeps home s V → LeavesLog s d
+      → IsLeftWith home d V
+  pub forked : (home : Home) (V : World) (qs : List (ℕ × Request)) (refused : List ℕ) (d e : Disk)
+      → IsLeftAmong home d (TakesFirst V qs refused) → LeavesLeft home d e
+      → IsLeftAmong home e (TakesFirst V qs refused)
+
+-- What is left behind a round that was cut off, and behind any other call, is left behind one of some places.
+pub record LeftBehindRounds : Type 0 where
+  pub gave_up : (home : Home) (V : World) (qs : List (ℕ × Request)) (told : List Reply) (s t : Shows)
+      → GaveUp home V qs told s t
+      → IsLeftAmong home t.pipes.disk (TakesFirst V qs (refused_from 0 told))
+  pub unsynced : (home : Home) (V : World) (qs : List (ℕ × Request)) (told : List Reply) (s t : Shows)
+      → Unsynced home V qs told s t
+      → IsLeftAmong home t.pipes.disk (TakesFirst V qs (refused_from 0 told))
+  pub alone : (home : Home) (V : World) (d : Disk) → IsLeftWith home d V
+      → IsLeftAmong home d (TakesFirst V [] [])
+
+-- An open, in place or behind a crash, finds voters that a stop may leave, and so do all that come behind it.
+abbrev pub OpensFindVoters : Type 0
+OpensFindVoters = (home : Home) (d : Disk) (V : World) (qs : List (ℕ × Request)) (refused : List ℕ)
+    (left : IsLeftAmong home d (TakesFirst V qs refused)) (k : ℕ) → k ≤ length left.pending
+    → OpensAmong home d (TakesFirst V qs refused) left k

@@ -1,0 +1,10 @@
+pub mod Standing
+pub mod Rounds
+pub mod Requests
+pub mod Reads
+pub mod Ends
+pub mod Calls
+pub mod Laws
+-- libraries below, passed on to who stands on this one
+pub use Rattle.raft_log_engine_laws
+pub use Rattle.raft_voter_meaning_laws

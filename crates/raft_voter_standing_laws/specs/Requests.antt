@@ -1,0 +1,90 @@
+-- A request at one place of a round, at each exit: what it makes of an engine's log, and of the outlines.
+use Rattle.std.specs.Prelude.{◌≡◌, ◌⊎◌, ◌≤◌, ℕ, Bool, true, false, ◌==◌, List, [], ◌++◌, length, Some}
+use Rattle.raft_log_disk.specs.Causes.{Fails, IsLater}
+use Rattle.raft_log_model_laws.specs.Groups.{taken}
+use Rattle.raft_log_record_base.specs.declared.errors.Error.{Error}
+use Rattle.raft_log_record_base.specs.declared.errors.Error.TheVariants as errors
+use Rattle.raft_log_record_base.specs.declared.pipe_log.FileBlockHandle.{FileBlockHandle}
+use Rattle.raft_log_record_items.specs.declared.entry.EntryIndex.{EntryIndex}
+use Rattle.raft_log_record_marks.specs.Meaning.{record_of}
+use Rattle.raft_log_record_batches.specs.Batch.{Batch}
+use Rattle.raft_log_record_batches.specs.Places.{entry_bytes}
+use Rattle.raft_log_engine_laws.specs.Shows.{Home, IsWritable, LogMap, Shows, has_failed}
+use Rattle.raft_log_engine_laws.specs.Holding.{EndsAt, Holds, IsLeftAt}
+use Rattle.raft_log_engine_laws.specs.Fetching.{LiesOutside}
+use Rattle.raft_log_engine_laws.specs.raft_log_file_pair.specs.Pipes.{Said}
+use Rattle.raft_log_engine_laws.specs.raft_log_file_blocks.specs.Blocks.{IsBlockUnread}
+use Rattle.raft_voter_messages.specs.declared.reply.Reply.{Reply}
+use Rattle.raft_voter_messages.specs.declared.request.Request.{Request}
+use Rattle.raft_voter_messages.specs.Ranges.{in_range}
+use Rattle.raft_voter_outline.specs.declared.outline.decision.Change.{Change}
+use Rattle.raft_voter_outline.specs.Decisions.{OutlineBecomes}
+use Rattle.raft_voter_outline.specs.Rules.{reply}
+use Rattle.raft_voter_outline.specs.State.{State}
+use Rattle.raft_voter.specs.Rounds.{World, after_one}
+use Rattle.raft_voter.specs.Service.{is_refused}
+use Rattle.raft_voter_meaning_laws.specs.Voters.{Means}
+use Rattle.raft_voter_meaning_laws.specs.Changes.{decided_items, record_in}
+use Rattle.raft_voter_standing_laws.specs.Standing.{AreOutlines}
+
+-- a batch says the change that was decided for a request of a group, and may be written
+pub record SaysChange (g : ℕ) (q : Request) (c : Change) (b : Batch) : Type 0 where
+  pub says : record_of (entry_bytes b.entries) b.items ≡ Some (record_in g (decided_items c q))
+  pub writable : IsWritable b.state
+
+-- the outline of the request's group is what the request makes of it, and the others are as they were
+pub record StepsOutlines (q : ℕ × Request) (os us : ℕ → State) : Type 0 where
+  pub own : OutlineBecomes (os q.0) q.1 (us q.0)
+  pub others : (g : ℕ) → (g == q.0) ≡ false → us g ≡ os g
+
+-- A request was served: its record is the one that was said, if any was; the voters behind it are those after
+-- the request, and the reply is their own. It is `Refused` for a request out of range alone.
+pub record Served (q : ℕ × Request) (a : Reply) (wrote : Bool) (s t : Shows) (os us : ℕ → State) : Type 0 where
+  pub said : List Said
+  pub short : length said ≤ 1
+  pub silent : wrote ≡ false → said ≡ []
+  pub alive : has_failed t ≡ false
+  pub later : IsLater s.pipes.disk t.pipes.disk
+  pub holds : (home : Home) (m : LogMap) (pending : List Said) → Holds home s m pending
+      → EndsAt home t m (pending ++ said)
+  pub leads : (m : LogMap) (W : World) → Means m W → AreOutlines os W → Means (taken m said) (after_one W q)
+  pub outlines : (W : World) → AreOutlines os W → AreOutlines us (after_one W q)
+  pub answers : (home : Home) (m : LogMap) (pending : List Said) (W : World) → Holds home s m pending
+      → Means (taken m pending) W → AreOutlines os W → a ≡ reply (W q.0) q.1
+  pub refuses : is_refused a ≡ true → in_range q.1 ≡ false
+
+-- Why a request's record wasn't written, though the engine lives on: a file call failed, in one file or in two;
+-- the numbers of files have run out; or memory was refused. No other error comes.
+abbrev pub IsUnwrittenFor : Error → Shows → Shows → Type 0
+IsUnwrittenFor (errors.Io kind) s t = Fails s.pipes.disk t.pipes.disk
+IsUnwrittenFor (errors.TryAgain text) s t = Fails s.pipes.disk t.pipes.disk
+IsUnwrittenFor errors.NumberRange s t = Unit {0}
+IsUnwrittenFor errors.Memory s t = Unit {0}
+IsUnwrittenFor _ s t = ⊥
+
+-- Why a request was turned down: its record wasn't written; or entries that it asks for weren't read, as
+-- their block wasn't, or they don't lie in the block that was written there; or memory was refused.
+pub data WasTurnedDown (s t : Shows) (error : Error) : Type 0 where
+  unwritten : IsUnwrittenFor error s t → WasTurnedDown s t error
+  unread : (block : FileBlockHandle) → IsBlockUnread s.pipes block error → WasTurnedDown s t error
+  displaced : (entry : EntryIndex) (block : List ℕ) → LiesOutside entry block error → WasTurnedDown s t error
+  no_memory : error ≡ errors.Memory → WasTurnedDown s t error
+
+-- A request was turned down: the voters and their outlines are as they were, and this is why.
+pub record TurnedDown (error : Error) (s t : Shows) (os : ℕ → State) : Type 0 where
+  pub alive : has_failed t ≡ false
+  pub later : IsLater s.pipes.disk t.pipes.disk
+  pub holds : (home : Home) (m : LogMap) (pending : List Said) → Holds home s m pending → EndsAt home t m pending
+  pub why : (home : Home) (m : LogMap) (pending : List Said) (W : World) → Holds home s m pending
+      → Means (taken m pending) W → AreOutlines os W → WasTurnedDown s t error
+
+-- The engine failed at a request, as a file call did: its log is left with the request's record, or without it.
+pub record Broke (q : ℕ × Request) (s t : Shows) (os : ℕ → State) : Type 0 where
+  pub said : List Said
+  pub short : length said ≤ 1
+  pub failed : has_failed t ≡ true
+  pub later : IsLater s.pipes.disk t.pipes.disk
+  pub leads : (m : LogMap) (W : World) → Means m W → AreOutlines os W → Means (taken m said) (after_one W q)
+  pub leaves : (home : Home) (m : LogMap) (pending : List Said) → Holds home s m pending
+      → Fails s.pipes.disk t.pipes.disk
+      × (IsLeftAt home t.pipes.disk m pending ⊎ IsLeftAt home t.pipes.disk m (pending ++ said))

@@ -1,0 +1,19 @@
+//! An engine's other calls.
+
+ghost use Rattle.raft_voter_standing_laws.specs.Laws.{OpensFindVoters, PurgesKeepVoters, VotersAreLeft};
+
+/// A purge, answered or refused, changes no voter; where the engine has failed, the voters are left alone.
+pub fn purges_keep_voters()
+    ensures { PurgesKeepVoters }
+{}
+
+/// An engine that is gone leaves its voters alone, and a fork leaves what was left.
+pub fn voters_are_left()
+    ensures { VotersAreLeft }
+{}
+
+/// An open of what was left finds voters that a stop may leave, one world for the engine that it answers and for
+/// whatever it leaves where it is refused.
+pub fn opens_find_voters()
+    ensures { OpensFindVoters }
+{}

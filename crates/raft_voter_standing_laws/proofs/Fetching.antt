@@ -1,5 +1,5 @@
 -- Entries that are fetched are the voter's.
-use Rattle.std.proofs.Common.{◌≡◌, ◌∙◌, ◌⊎◌, ℕ, suc, ◌+◌, ◌-◌, ◌<◌, ◌≤◌, nat_lt, true, false, List, [], ◌∷◌, length, take, drop, map, slice_get, Option, Some, None, Err, refl, sym, ap, subst, inl, inr, arith, take_all, length-drop, length-take-le}
+use Rattle.std.proofs.Common.{◌≡◌, ◌∙◌, ◌⊎◌, ℕ, suc, ◌+◌, ◌-◌, ◌<◌, ◌≤◌, nat_lt, true, List, [], ◌∷◌, length, take, drop, map, slice_get, Option, Some, None, Err, refl, sym, ap, subst, inl, inr, arith, take_all, length-drop, length-take-le}
 use Rattle.std.proofs.lemmas.Bool.{cases_lt}
 use Rattle.raft_log_model_laws.specs.Meaning.Slot.{Index}
 use Rattle.raft_log_model_laws.specs.Groups.{taken}
@@ -10,16 +10,21 @@ use Rattle.raft_log_record_items.specs.Message.{Parses}
 use Rattle.raft_log_table_lists.specs.declared.place.Place.{Place}
 use Rattle.raft_log_table_lists.specs.Shown.{Shown}
 use Rattle.raft_log_engine_laws.specs.raft_log_table_one.specs.Reads.{AreIn, FetchRefused, entries_from, fetched, first_of, last_of, places_between}
-use Rattle.raft_log_engine_laws.specs.Shows.{Home, LogMap, Shows}
+use Rattle.raft_log_engine_laws.specs.Shows.{Home, LogMap, Shows, sense}
 use Rattle.raft_log_engine_laws.specs.Holding.{Holds}
 use Rattle.raft_log_engine_laws.specs.Reading.{IsFirstIn, IsLastIn}
-use Rattle.raft_log_engine_laws.specs.Fetching.{AreEntriesOf, AreToRead, FailsToFetch, FetchesTo, IsOneUntold, IsUntold, LiesOutside}
+use Rattle.raft_log_engine_laws.specs.Fetching.{AreEntriesOf, AreToRead, FailsToFetch, FetchesTo, IsOneUntold, LiesOutside}
 use Rattle.raft_log_engine_laws.specs.raft_log_file_blocks.specs.Blocks.{IsBlockUnread, written_block}
-use Rattle.raft_log_engine_laws.specs.raft_log_file_pair.specs.Pipes.{Said, State as LogState}
+use Rattle.raft_log_engine_laws.specs.raft_log_file_pair.specs.Pipes.{RunsOn, Said, State as LogState}
+use Rattle.raft_log_engine_laws.specs.raft_log_table_all.proofs.Bare.{uncounted_bare}
 use Rattle.raft_log_engine_laws.proofs.Reading.{tables_tell}
 use Rattle.raft_voter_messages.specs.declared.reply.Entry.{Entry as VoterEntry}
 use Rattle.raft_voter_messages.proofs.ReadingBack.{one_entry}
 use Rattle.raft_voter_messages.specs.StoredForms.{IsEntry}
+use Rattle.raft_voter_messages.specs.declared.request.Request.{Request}
+use Rattle.raft_voter_messages.specs.declared.request.Request.TheVariants.{Read}
+use Rattle.raft_voter_outline.specs.declared.outline.decision.Answer.TheVariants as answers
+use Rattle.raft_voter_outline.specs.Outlines.{IsReplyOfEach}
 use Rattle.raft_voter_outline.specs.Rules.{entries_between, numbered}
 use Rattle.raft_voter_outline.specs.State.{State, last_index}
 use Rattle.raft_voter.specs.InRange.{IsStorable}
@@ -32,8 +37,9 @@ use Rattle.raft_voter_meaning_laws.proofs.Owning.{entry_of}
 use Rattle.raft_voter_meaning_laws.proofs.Reading.{ends, entry_stored, unmapped}
 use Rattle.raft_voter_standing_laws.specs.Standing.{AreOutlines}
 use Rattle.raft_voter_standing_laws.specs.Requests.{WasTurnedDown}
-use Rattle.raft_voter_standing_laws.specs.Requests.WasTurnedDown.{displaced, no_memory, unread}
-use Rattle.raft_voter_standing_laws.specs.Reads.{AreThere, IsRaw, ReadsEntries, ReadsNone}
+use Rattle.raft_voter_standing_laws.specs.Requests.WasTurnedDown.{no_memory, unread}
+use Rattle.raft_voter_standing_laws.specs.Reads.{IsCounted, IsRaw, ReadsEntries, ReadsNone}
+use Rattle.raft_voter_standing_laws.specs.Laws.{EnginesAreCounted}
 
 -- a voter has an entry at each index above its base, up to the last
 pub has_entry : (v : State) (i : ℕ) → v.base_index < i → i ≤ last_index v → entry_content v i ≡ None → ⊥
@@ -84,44 +90,44 @@ module _ {M : Type 0} (text : M → List ℕ) (reading : List ℕ → Option M) 
       ap (λ d. d ∷ es) one ∙ ap (λ l. entry_of i there.0 ∷ l) others
       ∙ ap (λ l. numbered i (take (suc (length xs)) l)) (sym rest)
 
-  pub fetched_entries_are_read : (g from to count : ℕ) (s t : Shows) (os : ℕ → State) (messages : List M) (es : List VoterEntry)
-      → ((home : Home) (m : LogMap) (pending : List Said) → Holds home s m pending → (k i : ℕ) → s.counts k ≡ false → taken m pending k (Index i) ≡ None)
-      → AreThere (os g) from to → FetchesTo reading g from to None s t [] messages count → AreReadAs from (map text messages) es
-      → ReadsEntries g from to s t os es
-  fetched_entries_are_read g from to count s t os messages es counted there f read = record {
-    alive = f.lived;
-    stays = f.stays;
-    exact = exact;
-  }
+  -- a group that shows no entry has none
+  none_shown : (t : Shown) (m : LogMap) (g : ℕ) → IsLastIn m g (last_of t) → length t.places ≡ 0 → (i : ℕ) → m g (Index i) ≡ None
+  none_shown t m g last empty =
+      let is : last_of t ≡ None = if_false (nat_lt 0 (length t.places)) (Some (t.first + (length t.places - 1))) None (ap (λ n. nat_lt 0 n) empty) in
+      subst (λ (o : Option ℕ). IsLastIn m g o) is last
+
+  pub fetched_entries_are_read : (q : ℕ × Request) (from to count : ℕ) (s t : Shows) (os : ℕ → State) (messages : List M) (es : List VoterEntry)
+      → IsCounted s → IsReplyOfEach (os q.0) q.1 (answers.Entries from to) → FetchesTo reading q.0 from to None s t [] messages count
+      → AreReadAs from (map text messages) es → ReadsEntries q.0 from to s t os es
+  fetched_entries_are_read q from to count s t os messages es counted told f read = record { alive = f.lived; stays = f.stays; exact = exact }
     where
-      size : (v : State) (m : LogMap) → v.base_index < from → from < to → to ≤ last_index v + 1
-          → (s.counts g ≡ false → m g (Index from) ≡ None) → ((j : ℕ) → m g (Index j) ≡ entry_content v j) → AreToRead s g from to None f.entries
-          → length f.entries ≡ to - from
-      size v m high some low none same (inl empty) =
-          absurd (has_entry v from high (omega (arith, some, low)) (sym (same from) ∙ none empty.0))
-      size v m high some low none same (inr all) = ap length all.2 ∙ all_fetched (s.tables g) from to some all.1
+      size : (v : State) (m : LogMap) → v.base_index < from → from < to → to ≤ last_index v + 1 → IsLastIn m q.0 (last_of (s.tables q.0))
+          → ((j : ℕ) → m q.0 (Index j) ≡ entry_content v j) → AreToRead s q.0 from to None f.entries → length f.entries ≡ to - from
+      size v m high some low last same (inl empty) =
+          absurd (has_entry v from high (omega (arith, some, low)) (sym (same from) ∙ none_shown (s.tables q.0) m q.0 last (counted q.0 empty.0) from))
+      size v m high some low last same (inr all) = ap length all.2 ∙ all_fetched (s.tables q.0) from to some all.1
 
       exact : (home : Home) (m : LogMap) (pending : List Said) (W : World) → Holds home s m pending → Means (taken m pending) W → AreOutlines os W
-          → es ≡ entries_between (W g) from to
+          → es ≡ entries_between (W q.0) from to
       exact home m pending W h means outlines =
-          let v : State = W g in
-          let known = shown (taken m pending g) (W g) (means g) in
-          let ranges = there (W g) (sym (outlines g)) in
-          let many = size (W g) (taken m pending) ranges.0 ranges.1 ranges.2 (λ none. counted home m pending h g from none) known.entries f.read in
+          let known = shown (taken m pending q.0) (W q.0) (means q.0) in
+          let there = (told (W q.0) (sym (outlines q.0))).1 in
+          let last = (tables_tell.last s q.0).exact home m pending h in
+          let many = size (W q.0) (taken m pending) there.1 there.2 there.3 last known.entries f.read in
           let same : messages ≡ f.messages = f.adds in
           let read' : AreReadAs from (map text f.messages) es = subst (λ (xs : List M). AreReadAs from (map text xs) es) same read in
-          let is = read_is (W g) known.storable (taken m pending) g known.entries from (from - (W g).base_index - 1) ranges.0 refl f.messages es (f.exact home m pending h) read' in
+          let is = read_is (W q.0) known.storable (taken m pending) q.0 known.entries from (from - (W q.0).base_index - 1) there.1 refl f.messages es (f.exact home m pending h) read' in
           let count_is : length f.messages ≡ to - from = sym f.counts.0 ∙ f.counts.1 ∙ many in
-          is ∙ ap (λ n. numbered from (take n (drop (from - (W g).base_index - 1) (W g).log))) count_is
+          is ∙ ap (λ n. numbered from (take n (drop (from - (W q.0).base_index - 1) (W q.0).log))) count_is
 
   -- Why they aren't.
 
   -- bytes are a message, unless memory runs out
-  parsed : (error : Error) (bytes : List ℕ) (s t : Shows) → Parses {M = M} (Err error) (reading bytes) → WasTurnedDown s t error
-  parsed error bytes s t h = by_error error (subst (λ (o : Option M). Parses {M = M} (Err error) o) (raw bytes).1 h)
+  parsed : (error : Error) (bytes : List ℕ) → Parses {M = M} (Err error) (reading bytes) → error ≡ errors.Memory
+  parsed error bytes h = by_error error (subst (λ (o : Option M). Parses {M = M} (Err error) o) (raw bytes).1 h)
     where
-      by_error : (e : Error) → Parses {M = M} (Err e) (Some (raw bytes).0) → WasTurnedDown s t e
-      by_error errors.Memory h = no_memory refl
+      by_error : (e : Error) → Parses {M = M} (Err e) (Some (raw bytes).0) → e ≡ errors.Memory
+      by_error errors.Memory h = refl
       by_error (errors.Message text) h = cc
       by_error errors.Hole h = absurd h
       by_error errors.Full h = absurd h
@@ -136,68 +142,80 @@ module _ {M : Type 0} (text : M → List ℕ) (reading : List ℕ → Option M) 
       by_error errors.Failed h = absurd h
       by_error errors.NumberRange h = absurd h
 
-  untold : (g i : ℕ) (s t : Shows) (log : LogState) (m : LogMap) (error : Error) → IsUntold reading g i s log m error → WasTurnedDown s t error
-  untold g i s t log m error u = by_why u.why
+  -- an entry isn't told: it wasn't read, or memory ran out
+  one_untold : (home : Home) (q : ℕ × Request) (from to : ℕ) (error : Error) (s t : Shows) (log : LogState) (m : LogMap) → q.1 ≡ Read from to
+      → RunsOn (sense home) s.pipes log → IsOneUntold reading q.0 from to s log m error → WasTurnedDown home q error s t
+  one_untold home q from to error s t log m asks runs (inl memory) = no_memory memory
+  one_untold home q from to error s t log m asks runs (inr one) = by_why one.3.why
     where
-      by_why : IsBlockUnread s.pipes u.block error ⊎ (LiesOutside u.entry (written_block log u.block) error ⊎ Parses {M = M} (Err error) (reading u.bytes)) → WasTurnedDown s t error
-      by_why (inl block) = unread u.block block
-      by_why (inr (inl outside)) = displaced u.entry (written_block log u.block) outside
-      by_why (inr (inr none)) = parsed error u.bytes s t none
+      entry_unread : IsBlockUnread s.pipes one.3.block error
+          ⊎ ((log : LogState) × RunsOn (sense home) s.pipes log × LiesOutside one.3.entry (written_block log one.3.block) error)
+          → WasTurnedDown home q error s t
+      entry_unread why =
+          unread from to asks (record { index = one.0; entry = one.3.entry; block = one.3.block; asked = (one.1, one.2); stands = one.3.stands; placed = one.3.placed; why = why })
 
-  one_untold : (g from to : ℕ) (s t : Shows) (log : LogState) (m : LogMap) (error : Error) → IsOneUntold reading g from to s log m error → WasTurnedDown s t error
-  one_untold g from to s t log m error (inl memory) = no_memory memory
-  one_untold g from to s t log m error (inr one) = untold g one.0 s t log m error one.3
+      by_why : IsBlockUnread s.pipes one.3.block error
+          ⊎ (LiesOutside one.3.entry (written_block log one.3.block) error ⊎ Parses {M = M} (Err error) (reading one.3.bytes))
+          → WasTurnedDown home q error s t
+      by_why (inl block) = entry_unread (inl block)
+      by_why (inr (inl outside)) = entry_unread (inr (log, runs, outside))
+      by_why (inr (inr none)) = no_memory (parsed error one.3.bytes none)
 
   -- the tables have all that the outline says is there
-  not_refused : (v : State) (m : LogMap) (g from to : ℕ) (s t : Shows) (error : Error) → v.base_index < from → from < to → to ≤ last_index v + 1
+  not_refused : (v : State) (m : LogMap) (g from to : ℕ) (s : Shows) (error : Error) → v.base_index < from → from < to → to ≤ last_index v + 1
       → ((j : ℕ) → m g (Index j) ≡ entry_content v j) → IsFirstIn m g (first_of (s.tables g)) → IsLastIn m g (last_of (s.tables g))
-      → FetchRefused (s.tables g) from to error → WasTurnedDown s t error
-  not_refused v m g from to s t error high some low same first last refused = by_case refused.1
+      → FetchRefused (s.tables g) from to error → error ≡ errors.Memory
+  not_refused v m g from to s error high some low same first last refused = by_case refused.1
     where
       at : (i : ℕ) → from ≤ i → i < to → m g (Index i) ≡ None → ⊥
       at i a b none = has_entry v i (omega (arith, high, a)) (omega (arith, low, b)) (sym (same i) ∙ none)
 
       empty : length (s.tables g).places ≡ 0 → ⊥
-      empty none =
-          let is : last_of (s.tables g) ≡ None = if_false (nat_lt 0 (length (s.tables g).places)) _ None (ap (λ n. nat_lt 0 n) none) in
-          let gone : IsLastIn m g None = subst (λ (o : Option ℕ). IsLastIn m g o) is last in
-          at from (omega arith) some (gone from)
+      empty none = at from (omega arith) some (none_shown (s.tables g) m g last none from)
 
       by_case : ((error ≡ errors.EntryNotFound) × (length (s.tables g).places ≡ 0))
           ⊎ (((error ≡ errors.EntryCompacted) × (0 < length (s.tables g).places) × (from < (s.tables g).first))
           ⊎ (((error ≡ errors.EntryNotFound) × ((s.tables g).first ≤ from) × ((s.tables g).first + length (s.tables g).places < to))
           ⊎ ((error ≡ errors.Memory) × ((s.tables g).first ≤ from) × (to ≤ (s.tables g).first + length (s.tables g).places))))
-          → WasTurnedDown s t error
+          → error ≡ errors.Memory
       by_case (inl one) = absurd (empty one.1)
       by_case (inr (inl two)) =
-          let is : first_of (s.tables g) ≡ Some (s.tables g).first = if_true (nat_lt 0 (length (s.tables g).places)) _ None (lt_true 0 (length (s.tables g).places) two.1) in
+          let is : first_of (s.tables g) ≡ Some (s.tables g).first =
+          if_true (nat_lt 0 (length (s.tables g).places)) (Some (s.tables g).first) None (lt_true 0 (length (s.tables g).places) two.1) in
           let known : IsFirstIn m g (Some (s.tables g).first) = subst (λ (o : Option ℕ). IsFirstIn m g o) is first in
           absurd (at from (omega arith) some (known.1 from two.2))
       by_case (inr (inr (inl three))) = elim (cases_lt 0 (length (s.tables g).places)) [
         | inr none ↦ absurd (empty (omega arith))
         | inl many ↦
             let is : last_of (s.tables g) ≡ Some ((s.tables g).first + (length (s.tables g).places - 1)) =
-            if_true (nat_lt 0 (length (s.tables g).places)) _ None (lt_true 0 (length (s.tables g).places) many) in
+            if_true (nat_lt 0 (length (s.tables g).places)) (Some ((s.tables g).first + (length (s.tables g).places - 1))) None (lt_true 0 (length (s.tables g).places) many) in
             let known : IsLastIn m g (Some ((s.tables g).first + (length (s.tables g).places - 1))) = subst (λ (o : Option ℕ). IsLastIn m g o) is last in
             absurd (at (to - 1) (omega (arith, some)) (omega (arith, some)) (known.1 (to - 1) (omega (arith, three.2, many))))
       ]
-      by_case (inr (inr (inr four))) = no_memory four.0
+      by_case (inr (inr (inr four))) = four.0
 
-  pub unfetched_entries_are_unread : (g from to : ℕ) (error : Error) (s t : Shows) (os : ℕ → State) → AreThere (os g) from to
-      → FailsToFetch reading g from to s t error → ReadsNone error s t os
-  unfetched_entries_are_unread g from to error s t os there f = record {
+  pub unfetched_entries_are_unread : (q : ℕ × Request) (from to : ℕ) (error : Error) (s t : Shows) (os : ℕ → State)
+      → IsReplyOfEach (os q.0) q.1 (answers.Entries from to) → FailsToFetch reading q.0 from to s t error → ReadsNone q error s t os
+  unfetched_entries_are_unread q from to error s t os told f = record {
     alive = f.lived;
     stays = f.stays;
     why = λ home m pending W h means outlines. by_why home m pending W h means outlines f.why;
   }
     where
       by_why : (home : Home) (m : LogMap) (pending : List Said) (W : World) → (h : Holds home s m pending) → Means (taken m pending) W → AreOutlines os W
-          → ((s.counts g ≡ true) × FetchRefused (s.tables g) from to error)
-          ⊎ ((home : Home) (m : LogMap) (pending : List Said) → (h : Holds home s m pending) → IsOneUntold reading g from to s h.state (taken m pending) error)
-          → WasTurnedDown s t error
+          → ((s.counts q.0 ≡ true) × FetchRefused (s.tables q.0) from to error)
+          ⊎ ((home : Home) (m : LogMap) (pending : List Said) → (h : Holds home s m pending) → IsOneUntold reading q.0 from to s h.state (taken m pending) error)
+          → WasTurnedDown home q error s t
       by_why home m pending W h means outlines (inl refused) =
-          let known = shown (taken m pending g) (W g) (means g) in
-          let ranges = there (W g) (sym (outlines g)) in
-          not_refused (W g) (taken m pending) g from to s t error ranges.0 ranges.1 ranges.2 known.entries
-          ((tables_tell.first s g).exact home m pending h) ((tables_tell.last s g).exact home m pending h) refused.1
-      by_why home m pending W h means outlines (inr untold) = one_untold g from to s t h.state (taken m pending) error (untold home m pending h)
+          let known = shown (taken m pending q.0) (W q.0) (means q.0) in
+          let there = (told (W q.0) (sym (outlines q.0))).1 in
+          no_memory (not_refused (W q.0) (taken m pending) q.0 from to s error there.1 there.2 there.3 known.entries
+          ((tables_tell.first s q.0).exact home m pending h) ((tables_tell.last s q.0).exact home m pending h) refused.1)
+      by_why home m pending W h means outlines (inr untold) =
+          let there = (told (W q.0) (sym (outlines q.0))).1 in
+          one_untold home q from to error s t h.state (taken m pending) there.0 h.runs (untold home m pending h)
+
+-- Groups that count.
+
+pub engines_are_counted : EnginesAreCounted
+engines_are_counted v tables cache g none = (uncounted_bare tables g none).entries

@@ -115,7 +115,7 @@ module _ (qs : Requests) (told : List Reply) (q : ℕ × Request) (a : Reply) (w
 -- One that was turned down.
 
 module _ (qs : Requests) (told : List Reply) (q : ℕ × Request) (error : Error) (wrote : Bool) (s t u : Shows) (os us : ℕ → State)
-    (w : Went qs told wrote s t os us) (at : slice_get qs (length told) ≡ Some q) (v : TurnedDown error t u us) where
+    (w : Went qs told wrote s t os us) (at : slice_get qs (length told) ≡ Some q) (v : TurnedDown q error t u us) where
   down_world : (W : World) → after W (took qs told) ≡ after W (took qs (told ++ Refused ∷ []))
   down_world W = ap (after W) (sym (took_refused qs told Refused refl))
 

@@ -6,12 +6,17 @@ use Rattle.raft_log_record_base.specs.declared.errors.Error.{Error}
 use Rattle.raft_log_record_base.specs.declared.errors.Error.TheVariants as errors
 use Rattle.raft_log_engine_laws.specs.Shows.{Home, LogMap, Shows}
 use Rattle.raft_log_engine_laws.specs.Holding.{Holds, IsLeftAt}
-use Rattle.raft_voter.specs.Rounds.{TakesFirst, World}
+use Rattle.raft_log_engine_laws.specs.raft_log_file_pair.specs.Lying.{both_open}
+use Rattle.raft_log_engine_laws.specs.raft_log_file_pair.specs.Pipes.{files_of}
+use Rattle.raft_log_engine_laws.proofs.Lying.{engines_lie_on_disks}
+use Rattle.raft_log_machine_laws.specs.Fresh.{nothing_stands}
+use Rattle.raft_voter_meaning_laws.proofs.Leading.{empty_maps_are_fresh}
+use Rattle.raft_voter.specs.Rounds.{TakesFirst, World, fresh_world}
 use Rattle.raft_voter_meaning_laws.specs.Voters.{Means}
 use Rattle.raft_voter_meaning_laws.proofs.Pending.{among_none}
 use Rattle.raft_voter_standing_laws.specs.Standing.{IsLeftAmong, Keeps}
 use Rattle.raft_voter_standing_laws.specs.Calls.{KeepsMap, KeepsOrLeaves, KeepsOrLeavesMap, LeavesLeft, OpensAmong}
-use Rattle.raft_voter_standing_laws.specs.Laws.{OpensFindVoters, PurgesKeepVoters, VotersAreLeft}
+use Rattle.raft_voter_standing_laws.specs.Laws.{EnginesLeaveLogs, FreshLogsHaveFreshVoters, OpensFindVoters, PurgesKeepVoters, VotersAreLeft}
 
 -- a log that is left with the map of these voters, and nothing pending, is left with them
 pub left_alone : (home : Home) (d : Disk) (m : LogMap) (P : World → Type 0) (V : World) → IsLeftAt home d m [] → P V → Means m V → IsLeftAmong home d P
@@ -53,14 +58,29 @@ opens_among home d P left k within =
     record {
       world = found.0;
       passes = found.1;
-      answered = λ e holds. record { map = taken left.map (take k left.pending); holds = holds; means = found.2 };
-      refused = λ new l. by_left found.0 found.1 found.2 new l;
+      answered = λ there e holds. record { map = taken left.map (take k left.pending); holds = holds; means = found.2 };
+      refused = λ there new l. by_left found.0 found.1 found.2 there new l;
     }
   where
-    by_left : (X : World) → P X → Means (taken left.map (take k left.pending)) X → (new : Disk)
-        → IsLeftAt home new left.map left.pending ⊎ IsLeftAt home new (taken left.map (take k left.pending)) [] → IsLeftAmong home new P
-    by_left X passes means new (inl still) = record { map = left.map; pending = left.pending; left = still; among = left.among }
-    by_left X passes means new (inr now) = left_alone home new (taken left.map (take k left.pending)) P X now passes means
+    by_left : (X : World) → P X → Means (taken left.map (take k left.pending)) X → (there : Home) (new : Disk)
+        → IsLeftAt there new left.map left.pending ⊎ IsLeftAt there new (taken left.map (take k left.pending)) [] → IsLeftAmong there new P
+    by_left X passes means there new (inl still) = record { map = left.map; pending = left.pending; left = still; among = left.among }
+    by_left X passes means there new (inr now) = left_alone there new (taken left.map (take k left.pending)) P X now passes means
 
 pub opens_find_voters : OpensFindVoters
 opens_find_voters home d V qs refused left k within = opens_among home d (TakesFirst V qs refused) left k within
+
+-- Logs in which nothing stands, and engines that are let go.
+
+pub fresh_logs_have_fresh_voters : FreshLogsHaveFreshVoters
+fresh_logs_have_fresh_voters = record {
+  answered = λ home e holds. record { map = nothing_stands; holds = holds; means = none };
+  refused = λ home d left. left_alone home d nothing_stands (λ X. X ≡ fresh_world) fresh_world left refl none;
+}
+  where
+    none : Means nothing_stands fresh_world
+    none = empty_maps_are_fresh nothing_stands (λ g s. refl)
+
+pub engines_leave_logs : EnginesLeaveLogs
+engines_leave_logs s home m pending h =
+    (both_open (files_of s.pipes), record { done = []; rest = pending; splits = refl; lies = engines_lie_on_disks home s m pending h })

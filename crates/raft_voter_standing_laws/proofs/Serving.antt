@@ -161,7 +161,7 @@ written_requests_are_served q a c b len s t os us own told each says steps (inl 
 written_requests_are_served q a c b len s t os us own told each says steps (inr done) = written_served q a c b s t os us own told each says steps done.1
 
 pub read_requests_are_served : ReadRequestsAreServed
-read_requests_are_served q from to es s t os own told leaves reads = record {
+read_requests_are_served q from to es s t os told leaves reads = record {
   said = [];
   short = omega arith;
   silent = λ _. refl;

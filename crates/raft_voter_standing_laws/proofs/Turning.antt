@@ -48,7 +48,7 @@ unfit_for b s t errors.NumberRange unfit follows small writable marked = absurd 
 
 unfit_turned : (q : ℕ × Request) (c : Change) (b : Batch) (error : Error) (s t : Shows) (os : ℕ → State) → has_failed s ≡ false
     → ChangesEach (os q.0) q.1 c → SaysChange q.0 q.1 c b → record_len b.items b.entries < 2 ^ 56 → IsUnfit b s.tables error → t ≡ s
-    → TurnedDown error s t os
+    → TurnedDown q error s t os
 unfit_turned q c b error s t os alive each says small unfit same = record {
   alive = ap (λ (x : Shows). has_failed x) same ∙ alive;
   later = subst (λ (x : Shows). IsLater s.pipes.disk x.pipes.disk) (sym same) (later_same s.pipes.disk);
@@ -96,8 +96,8 @@ refused_why home b m pending s t errors.EntryCompacted lives h = absurd h
 refused_why home b m pending s t errors.EntryNotFound lives h = absurd h
 refused_why home b m pending s t (errors.Other fault) lives h = absurd h
 
-refused_turned : (b : Batch) (error : Error) (s t : Shows) (os : ℕ → State) → PipesRefused b error s t → has_failed t ≡ false → TurnedDown error s t os
-refused_turned b error s t os refused alive = record {
+refused_turned : (q : ℕ × Request) (b : Batch) (error : Error) (s t : Shows) (os : ℕ → State) → PipesRefused b error s t → has_failed t ≡ false → TurnedDown q error s t os
+refused_turned q b error s t os refused alive = record {
   alive = alive;
   later = refused.later;
   holds = λ home m pending h. refused_ends home b m pending s t error lives (refused.leaves home m pending h);
@@ -124,18 +124,18 @@ refused_broke q c b error s t os each says refused failed =
     )
 
 pub unwritten_requests : UnwrittenRequests
-unwritten_requests q c b error s t os alive own each says small (inl unfit) =
+unwritten_requests q c b error s t os alive each says small (inl unfit) =
     inl (unfit_turned q c b error s t os alive each says small unfit.0 unfit.1)
-unwritten_requests q c b error s t os alive own each says small (inr (inl had)) = let failed = had.1 in absurd (cc)
-unwritten_requests q c b error s t os alive own each says small (inr (inr refused)) = elim (cases_Bool (has_failed t)) [
+unwritten_requests q c b error s t os alive each says small (inr (inl had)) = let failed = had.1 in absurd (cc)
+unwritten_requests q c b error s t os alive each says small (inr (inr refused)) = elim (cases_Bool (has_failed t)) [
   | inl failed ↦ inr (refused_broke q c b error s t os each says refused failed)
-  | inr lives ↦ inl (refused_turned b error s t os refused lives)
+  | inr lives ↦ inl (refused_turned q b error s t os refused lives)
 ]
 
 -- Without a write.
 
 pub unmade_requests_are_turned_down : UnmadeRequestsAreTurnedDown
-unmade_requests_are_turned_down s os alive = record {
+unmade_requests_are_turned_down q s os alive = record {
   alive = alive;
   later = later_same s.pipes.disk;
   holds = λ home m pending h. ends_same home s m pending h;
@@ -143,7 +143,7 @@ unmade_requests_are_turned_down s os alive = record {
 }
 
 pub unread_requests_are_turned_down : UnreadRequestsAreTurnedDown
-unread_requests_are_turned_down error s t os none = record {
+unread_requests_are_turned_down q error s t os none = record {
   alive = ap (λ (x : Shows). has_failed x) none.stays.same ∙ none.alive;
   later = subst (λ (x : Shows). IsLater s.pipes.disk x.pipes.disk) (sym none.stays.same) (later_same s.pipes.disk);
   holds = λ home m pending h. ends_same home t m pending (none.stays.holds home m pending h);

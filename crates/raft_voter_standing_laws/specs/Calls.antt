@@ -42,16 +42,14 @@ abbrev pub KeepsOrLeaves : Home → Error → Shows → World → Type 0
 KeepsOrLeaves home error t V =
     Keeps home t V ⊎ ((error ≡ errors.Failed) × IsLeftWith home t.pipes.disk V)
 
--- the map that an open finds of a log that was left: with so many first ones of the pending batches
-abbrev pub found_map : {home : Home} {d : Disk} {P : World → Type 0} → IsLeftAmong home d P → ℕ → LogMap
-found_map left k = taken left.map (take k left.pending)
-
--- An open that finds so many first batches finds voters that pass the test: answered, the engine keeps them;
--- refused, a log is left of which a stop leaves voters that pass it.
+-- An open that finds so many first batches finds voters that pass the test, in the directories where they
+-- were left, or in those of a fork: answered, the engine keeps them; refused, a log is left of which a stop
+-- leaves voters that pass it.
 pub record OpensAmong (home : Home) (d : Disk) (P : World → Type 0) (left : IsLeftAmong home d P) (k : ℕ)
     : Type 0 where
   pub world : World
   pub passes : P world
-  pub answered : (e : Shows) → Holds home e (taken left.map (take k left.pending)) [] → Keeps home e world
-  pub refused : (new : Disk) → IsLeftAt home new left.map left.pending
-      ⊎ IsLeftAt home new (taken left.map (take k left.pending)) [] → IsLeftAmong home new P
+  pub answered : (there : Home) (e : Shows) → Holds there e (taken left.map (take k left.pending)) []
+      → Keeps there e world
+  pub refused : (there : Home) (new : Disk) → IsLeftAt there new left.map left.pending
+      ⊎ IsLeftAt there new (taken left.map (take k left.pending)) [] → IsLeftAmong there new P

@@ -1,11 +1,16 @@
 -- What follows from the definitions: each exit of an engine's calls as a step of its voters, and laws on rounds.
 use Rattle.std.specs.Prelude.{◌≡◌, ◌⊎◌, ◌≤◌, ◌<◌, ◌^◌, ◌||◌, ℕ, Bool, true, false, None, IsTrue, List, [], ◌∷◌, ◌++◌, length, map, slice_get, Option, Some}
 use Rattle.raft_log_disk.specs.Disk.{Disk}
+use Rattle.raft_log_machine_laws.specs.Fresh.{nothing_stands}
 use Rattle.raft_log_record_base.specs.declared.errors.Error.{Error}
 use Rattle.raft_log_record_base.specs.declared.errors.Error.TheVariants as errors
 use Rattle.raft_log_record_frames.specs.Record.{record_len}
 use Rattle.raft_log_record_batches.specs.Batch.{Batch}
-use Rattle.raft_log_engine_laws.specs.Shows.{Home, Shows, has_failed}
+use Rattle.raft_log_engine_laws.specs.raft_log_table_all.specs.declared.mem_tables.MemTables.{MemTables}
+use Rattle.raft_log_engine_laws.specs.raft_log_file_pair.specs.Pipes.{LogPipes}
+use Rattle.raft_log_engine_laws.specs.raft_log_file_blocks.specs.declared.block_cache.BlockCache.{BlockCache}
+use Rattle.raft_log_engine_laws.specs.Shows.{Home, Shows, has_failed, shows}
+use Rattle.raft_log_engine_laws.specs.Holding.{Holds, IsLeftAt}
 use Rattle.raft_log_engine_laws.specs.Fetching.{FailsToFetch, FetchesTo}
 use Rattle.raft_log_engine_laws.specs.Syncing.{NotSynced, SyncsAppend}
 use Rattle.raft_log_engine_laws.specs.Writing.{NotWritten, WritesBytes}
@@ -18,12 +23,12 @@ use Rattle.raft_voter_outline.specs.declared.outline.decision.Change.{Change}
 use Rattle.raft_voter_outline.specs.Outlines.{ChangesEach, IsReplyOfEach, LeavesEach, without_bytes}
 use Rattle.raft_voter_outline.specs.State.{State}
 use Rattle.raft_voter.specs.Laws.{AreReadAs}
-use Rattle.raft_voter.specs.Rounds.{TakesFirst, World, are_rising, replies_from, taken_from}
+use Rattle.raft_voter.specs.Rounds.{TakesFirst, World, fresh_world, are_rising, replies_from, taken_from}
 use Rattle.raft_voter.specs.Service.{refused_from}
 use Rattle.raft_voter_standing_laws.specs.Standing.{AreOutlines, IsLeftAmong, IsLeftWith, Keeps}
 use Rattle.raft_voter_standing_laws.specs.Rounds.{AreTold, IsPassedOrOneMore, took}
 use Rattle.raft_voter_standing_laws.specs.Requests.{Broke, SaysChange, Served, StepsOutlines, TurnedDown}
-use Rattle.raft_voter_standing_laws.specs.Reads.{AreThere, IsCounted, IsRaw, ReadsEntries, ReadsNone}
+use Rattle.raft_voter_standing_laws.specs.Reads.{IsCounted, IsRaw, ReadsEntries, ReadsNone}
 use Rattle.raft_voter_standing_laws.specs.Ends.{Answered, GaveUp, Unsynced, Went}
 use Rattle.raft_voter_standing_laws.specs.Calls.{KeepsMap, KeepsOrLeaves, KeepsOrLeavesMap, LeavesLeft, LeavesLog, OpensAmong}
 
@@ -49,39 +54,45 @@ WrittenRequestsAreServed = (q : ℕ × Request) (a : Reply) (c : Change) (b : Ba
 -- Its entries were read.
 abbrev pub ReadRequestsAreServed : Type 0
 ReadRequestsAreServed = (q : ℕ × Request) (from to : ℕ) (es : List VoterEntry) (s t : Shows) (os : ℕ → State)
-    → IsBare (os q.0) → IsReplyOfEach (os q.0) q.1 (answers.Entries from to) → LeavesEach (os q.0) q.1
+    → IsReplyOfEach (os q.0) q.1 (answers.Entries from to) → LeavesEach (os q.0) q.1
     → ReadsEntries q.0 from to s t os es → Served q (replies.Entries es) false s t os os
+
+-- An engine shows no entry of a group that doesn't count.
+abbrev pub EnginesAreCounted : Type 0
+EnginesAreCounted = (v : LogPipes) (tables : MemTables) (cache : BlockCache) → IsCounted (shows v tables cache)
 
 -- Entries that were fetched are read, where an entry's messages are its bytes, and each is read as an entry at
 -- its index.
 abbrev pub FetchedEntriesAreRead : Type 0 → Type 0
-FetchedEntriesAreRead M = (text : M → List ℕ) (reading : List ℕ → Option M) (g from to count : ℕ) (s t : Shows)
-    (os : ℕ → State) (messages : List M) (es : List VoterEntry) → IsRaw text reading → IsCounted s
-    → AreThere (os g) from to → FetchesTo reading g from to None s t [] messages count
-    → AreReadAs from (map text messages) es → ReadsEntries g from to s t os es
+FetchedEntriesAreRead M = (text : M → List ℕ) (reading : List ℕ → Option M) (q : ℕ × Request)
+    (from to count : ℕ) (s t : Shows) (os : ℕ → State) (messages : List M) (es : List VoterEntry)
+    → IsRaw text reading → IsCounted s → IsReplyOfEach (os q.0) q.1 (answers.Entries from to)
+    → FetchesTo reading q.0 from to None s t [] messages count → AreReadAs from (map text messages) es
+    → ReadsEntries q.0 from to s t os es
 
 -- Those that weren't aren't, and this is why.
 abbrev pub UnfetchedEntriesAreUnread : Type 0 → Type 0
-UnfetchedEntriesAreUnread M = (text : M → List ℕ) (reading : List ℕ → Option M) (g from to : ℕ) (error : Error)
-    (s t : Shows) (os : ℕ → State) → IsRaw text reading → AreThere (os g) from to
-    → FailsToFetch reading g from to s t error → ReadsNone error s t os
+UnfetchedEntriesAreUnread M = (text : M → List ℕ) (reading : List ℕ → Option M) (q : ℕ × Request)
+    (from to : ℕ) (error : Error) (s t : Shows) (os : ℕ → State) → IsRaw text reading
+    → IsReplyOfEach (os q.0) q.1 (answers.Entries from to) → FailsToFetch reading q.0 from to s t error
+    → ReadsNone q error s t os
 
 -- A request's record wasn't written: the request is turned down, or the engine failed at it.
 abbrev pub UnwrittenRequests : Type 0
 UnwrittenRequests = (q : ℕ × Request) (c : Change) (b : Batch) (error : Error) (s t : Shows) (os : ℕ → State)
-    → has_failed s ≡ false → IsBare (os q.0) → ChangesEach (os q.0) q.1 c → SaysChange q.0 q.1 c b
+    → has_failed s ≡ false → ChangesEach (os q.0) q.1 c → SaysChange q.0 q.1 c b
     → record_len b.items b.entries < 2 ^ 56 → NotWritten b error s t
-    → TurnedDown error s t os ⊎ ((error ≡ errors.Failed) × Broke q s t os)
+    → TurnedDown q error s t os ⊎ ((error ≡ errors.Failed) × Broke q s t os)
 
 -- Memory ran out before anything was done.
 abbrev pub UnmadeRequestsAreTurnedDown : Type 0
-UnmadeRequestsAreTurnedDown = (s : Shows) (os : ℕ → State) → has_failed s ≡ false
-    → TurnedDown errors.Memory s s os
+UnmadeRequestsAreTurnedDown = (q : ℕ × Request) (s : Shows) (os : ℕ → State) → has_failed s ≡ false
+    → TurnedDown q errors.Memory s s os
 
 -- Its entries weren't read.
 abbrev pub UnreadRequestsAreTurnedDown : Type 0
-UnreadRequestsAreTurnedDown = (error : Error) (s t : Shows) (os : ℕ → State) → ReadsNone error s t os
-    → TurnedDown error s t os
+UnreadRequestsAreTurnedDown = (q : ℕ × Request) (error : Error) (s t : Shows) (os : ℕ → State)
+    → ReadsNone q error s t os → TurnedDown q error s t os
 
 -- Rounds.
 
@@ -95,7 +106,7 @@ pub record RoundsGoOn : Type 0 where
       → Went qs (told ++ a ∷ []) (wrote || more) s u os ws
   pub turned_down : (qs : List (ℕ × Request)) (told : List Reply) (q : ℕ × Request) (error : Error) (wrote : Bool)
       (s t u : Shows) (os us : ℕ → State) → Went qs told wrote s t os us
-      → slice_get qs (length told) ≡ Some q → TurnedDown error t u us
+      → slice_get qs (length told) ≡ Some q → TurnedDown q error t u us
       → Went qs (told ++ replies.Refused ∷ []) wrote s u os us
 
 -- It ends: nothing was written, and no sync is needed; or its sync was answered; or the engine failed at a
@@ -141,13 +152,23 @@ pub record PurgesKeepVoters : Type 0 where
   pub refused : (home : Home) (V : World) (error : Error) (s t : Shows) → Keeps home s V
       → KeepsOrLeavesMap error s t → KeepsOrLeaves home error t V
 
--- A close, a crash and an engine that is let go leave the voters alone; a fork leaves what was left.
+-- An engine that is let go, as by a crash, leaves its log on its disk.
+abbrev pub EnginesLeaveLogs : Type 0
+EnginesLeaveLogs = (s : Shows) → LeavesLog s s.pipes.disk
+
+-- An engine that is gone, closed or let go, leaves its voters alone; a fork leaves what was left.
 pub record VotersAreLeft : Type 0 where
   pub gone : (home : Home) (V : World) (s : Shows) (d : Disk) → Keeps home s V → LeavesLog s d
       → IsLeftWith home d V
   pub forked : (home : Home) (V : World) (qs : List (ℕ × Request)) (refused : List ℕ) (d e : Disk)
       → IsLeftAmong home d (TakesFirst V qs refused) → LeavesLeft home d e
       → IsLeftAmong home e (TakesFirst V qs refused)
+
+-- A log in which nothing stands means fresh voters: those of an engine that is opened for the first time, and
+-- what such an open leaves where it is refused.
+pub record FreshLogsHaveFreshVoters : Type 0 where
+  pub answered : (home : Home) (e : Shows) → Holds home e nothing_stands [] → Keeps home e fresh_world
+  pub refused : (home : Home) (d : Disk) → IsLeftAt home d nothing_stands [] → IsLeftWith home d fresh_world
 
 -- What is left behind a round that was cut off, and behind any other call, is left behind one of some places.
 pub record LeftBehindRounds : Type 0 where
@@ -160,7 +181,8 @@ pub record LeftBehindRounds : Type 0 where
   pub alone : (home : Home) (V : World) (d : Disk) → IsLeftWith home d V
       → IsLeftAmong home d (TakesFirst V [] [])
 
--- An open, in place or behind a crash, finds voters that a stop may leave, and so do all that come behind it.
+-- An open, in place, behind a crash or of a fork, finds voters that a stop may leave, and so do all that come
+-- behind it.
 abbrev pub OpensFindVoters : Type 0
 OpensFindVoters = (home : Home) (d : Disk) (V : World) (qs : List (ℕ × Request)) (refused : List ℕ)
     (left : IsLeftAmong home d (TakesFirst V qs refused)) (k : ℕ) → k ≤ length left.pending

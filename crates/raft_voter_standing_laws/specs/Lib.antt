@@ -5,6 +5,7 @@ pub mod Reads
 pub mod Ends
 pub mod Calls
 pub mod Laws
+pub mod Examples
 -- libraries below, passed on to who stands on this one
 pub use Rattle.raft_log_engine_laws
 pub use Rattle.raft_voter_meaning_laws

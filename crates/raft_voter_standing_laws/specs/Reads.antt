@@ -1,16 +1,15 @@
 -- Entries that a request asks for are read through an engine, or aren't.
-use Rattle.std.specs.Prelude.{◌≡◌, ◌+◌, ◌≤◌, ◌<◌, ℕ, false, List, Option, Some, None}
+use Rattle.std.specs.Prelude.{◌≡◌, ℕ, false, List, length, Option, Some}
 use Rattle.raft_log_model_laws.specs.Groups.{taken}
-use Rattle.raft_log_model_laws.specs.Meaning.Slot.{Index}
 use Rattle.raft_log_record_base.specs.declared.errors.Error.{Error}
 use Rattle.raft_log_engine_laws.specs.Shows.{Home, LogMap, Shows, has_failed}
 use Rattle.raft_log_engine_laws.specs.Holding.{Holds}
 use Rattle.raft_log_engine_laws.specs.Fetching.{StaysButBlock}
 use Rattle.raft_log_engine_laws.specs.raft_log_file_pair.specs.Pipes.{Said}
 use Rattle.raft_voter_messages.specs.declared.reply.Entry.{Entry as VoterEntry}
-use Rattle.raft_voter_outline.specs.Outlines.{without_bytes}
+use Rattle.raft_voter_messages.specs.declared.request.Request.{Request}
 use Rattle.raft_voter_outline.specs.Rules.{entries_between}
-use Rattle.raft_voter_outline.specs.State.{State, last_index}
+use Rattle.raft_voter_outline.specs.State.{State}
 use Rattle.raft_voter.specs.Rounds.{World}
 use Rattle.raft_voter_meaning_laws.specs.Voters.{Means}
 use Rattle.raft_voter_standing_laws.specs.Standing.{AreOutlines}
@@ -20,15 +19,9 @@ use Rattle.raft_voter_standing_laws.specs.Requests.{WasTurnedDown}
 abbrev pub IsRaw : {M : Type 0} → (M → List ℕ) → (List ℕ → Option M) → Type 0
 IsRaw {M} text reading = (bytes : List ℕ) → (x : M) × (reading bytes ≡ Some x) × (text x ≡ bytes)
 
--- the entries from one index on, below another, are there of each voter with this outline
-abbrev pub AreThere : State → ℕ → ℕ → Type 0
-AreThere o from to = (v : State) → without_bytes v ≡ o
-    → (v.base_index < from) × (from < to) × (to ≤ last_index v + 1)
-
--- nothing stands of a group that doesn't count
+-- tables show no entry of a group that doesn't count
 abbrev pub IsCounted : Shows → Type 0
-IsCounted s = (home : Home) (m : LogMap) (pending : List Said) → Holds home s m pending
-    → (g i : ℕ) → s.counts g ≡ false → taken m pending g (Index i) ≡ None
+IsCounted s = (g : ℕ) → s.counts g ≡ false → length (s.tables g).places ≡ 0
 
 -- Entries were read: those of the group's voter from one index on, below another. Nothing else changed but
 -- the kept block.
@@ -39,8 +32,8 @@ pub record ReadsEntries (g from to : ℕ) (s t : Shows) (os : ℕ → State) (es
       → Means (taken m pending) W → AreOutlines os W → es ≡ entries_between (W g) from to
 
 -- They weren't, and this is why: nothing changed but the kept block.
-pub record ReadsNone (error : Error) (s t : Shows) (os : ℕ → State) : Type 0 where
+pub record ReadsNone (q : ℕ × Request) (error : Error) (s t : Shows) (os : ℕ → State) : Type 0 where
   pub alive : has_failed s ≡ false
   pub stays : StaysButBlock s t
   pub why : (home : Home) (m : LogMap) (pending : List Said) (W : World) → Holds home s m pending
-      → Means (taken m pending) W → AreOutlines os W → WasTurnedDown s t error
+      → Means (taken m pending) W → AreOutlines os W → WasTurnedDown home q error s t

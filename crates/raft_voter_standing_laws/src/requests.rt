@@ -1,6 +1,6 @@
 //! One request of a round, at each exit.
 
-ghost use Rattle.raft_voter_standing_laws.specs.Laws.{FetchedEntriesAreRead, ReadRequestsAreServed, ToldRequestsAreServed, UnfetchedEntriesAreUnread, UnmadeRequestsAreTurnedDown, UnreadRequestsAreTurnedDown, UnwrittenRequests, WrittenRequestsAreServed};
+ghost use Rattle.raft_voter_standing_laws.specs.Laws.{EnginesAreCounted, FetchedEntriesAreRead, ReadRequestsAreServed, ToldRequestsAreServed, UnfetchedEntriesAreUnread, UnmadeRequestsAreTurnedDown, UnreadRequestsAreTurnedDown, UnwrittenRequests, WrittenRequestsAreServed};
 
 /// A request that leaves its voter is served by the outline alone: nothing is read, and nothing written.
 pub fn told_requests_are_served()
@@ -31,6 +31,11 @@ pub fn unmade_requests_are_turned_down()
 /// A request for entries that weren't read is turned down.
 pub fn unread_requests_are_turned_down()
     ensures { UnreadRequestsAreTurnedDown }
+{}
+
+/// An engine shows no entry of a group that doesn't count, so a fetch of entries that stand there reads them.
+pub fn engines_are_counted()
+    ensures { EnginesAreCounted }
 {}
 
 /// Entries that an engine fetched, each read as an entry at its index, are those of the group's voter.

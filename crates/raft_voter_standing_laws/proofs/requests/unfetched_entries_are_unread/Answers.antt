@@ -2,5 +2,5 @@ use Rattle.raft_voter_standing_laws.proofs.Fetching.{unfetched_entries_are_unrea
 use Rattle.raft_voter_standing_laws.proofs.requests.unfetched_entries_are_unread.Goals as goal
 
 pub returns : goal.returns
-returns g c = λ text reading group from to error s t os raw there f.
-    unfetched_entries_are_unread text reading raw group from to error s t os there f
+returns g c = λ text reading q from to error s t os raw told f.
+    unfetched_entries_are_unread text reading raw q from to error s t os told f

@@ -1,6 +1,7 @@
 -- A round ends.
 use Rattle.std.proofs.Common.{◌≡◌, ◌∙◌, ◌⊎◌, ℕ, ◌≤◌, Bool, false, List, [], ◌++◌, length, slice_get, Some, refl, sym, ap, subst, inl, inr, arith, append_assoc}
 use Rattle.raft_log_disk.specs.Disk.{Disk}
+use Rattle.raft_log_disk.specs.Causes.{IsLater}
 use Rattle.raft_log_disk.proofs.CauseLaws.{fails_after}
 use Rattle.raft_log_model_laws.specs.Groups.{taken}
 use Rattle.raft_log_record_base.specs.declared.errors.Error.{Error}
@@ -22,7 +23,7 @@ use Rattle.raft_voter_standing_laws.specs.Rounds.{IsPassed, IsPassedOrOneMore, t
 use Rattle.raft_voter_standing_laws.specs.Requests.{Broke}
 use Rattle.raft_voter_standing_laws.specs.Ends.{Answered, GaveUp, Unsynced, Went}
 use Rattle.raft_voter_standing_laws.specs.Laws.{LeftBehindRounds, RoundsEnd}
-use Rattle.raft_voter_standing_laws.proofs.Composing.{ends_empty, ends_synced}
+use Rattle.raft_voter_standing_laws.proofs.Composing.{ends_empty, ends_synced, later_twice}
 use Rattle.raft_voter_standing_laws.proofs.Places.{passed_voters_took_first}
 use Rattle.raft_voter_standing_laws.proofs.Told.{Requests}
 
@@ -32,26 +33,29 @@ left_wider home d P Q wider l = record { map = l.map; pending = l.pending; left 
 
 -- it was answered
 answered_by : (home : Home) (V : World) (qs : Requests) (told : List Reply) (wrote : Bool) (s t u : Shows) (os us : ℕ → State) → (k : Keeps home s V) → AreOutlines os V
-    → (w : Went qs told wrote s t os us) → Holds home u (taken k.map w.said) [] → Answered home V qs told u us
-answered_by home V qs told wrote s t u os us k outlines w holds = record {
+    → (w : Went qs told wrote s t os us) → has_failed u ≡ false → IsLater s.pipes.disk u.pipes.disk → Holds home u (taken k.map w.said) []
+    → Answered home V qs told s u us
+answered_by home V qs told wrote s t u os us k outlines w alive later holds = record {
+  alive = alive;
+  later = later;
   keeps = record { map = taken k.map w.said; holds = holds; means = w.leads k.map V k.means outlines };
   outlines = w.outlines V outlines;
   tells = w.tells home k.map V k.holds k.means outlines;
 }
 
 unwritten : (home : Home) (V : World) (qs : Requests) (told : List Reply) (s t : Shows) (os us : ℕ → State) → Keeps home s V → AreOutlines os V
-    → Went qs told false s t os us → Answered home V qs told t us
+    → Went qs told false s t os us → Answered home V qs told s t us
 unwritten home V qs told s t os us k outlines w =
     let e : EndsAt home t k.map w.said = w.holds home k.map [] k.holds in
     let none : w.said ≡ [] = w.silent refl in
     let empty : EndsAt home t k.map [] = subst (λ (l : List Said). EndsAt home t k.map l) none e in
     let held : Holds home t k.map [] = ends_empty home t k.map empty in
-    answered_by home V qs told false s t t os us k outlines w (subst (λ (l : List Said). Holds home t (taken k.map l) []) (sym none) held)
+    answered_by home V qs told false s t t os us k outlines w w.alive w.later (subst (λ (l : List Said). Holds home t (taken k.map l) []) (sym none) held)
 
 synced : (home : Home) (V : World) (qs : Requests) (told : List Reply) (wrote : Bool) (s t u : Shows) (os us : ℕ → State) → Keeps home s V → AreOutlines os V
-    → Went qs told wrote s t os us → SyncsAppend t u → Answered home V qs told u us
+    → Went qs told wrote s t os us → SyncsAppend t u → Answered home V qs told s u us
 synced home V qs told wrote s t u os us k outlines w sync =
-    answered_by home V qs told wrote s t u os us k outlines w
+    answered_by home V qs told wrote s t u os us k outlines w sync.same.alive (later_twice s.pipes.disk t.pipes.disk u.pipes.disk w.later sync.later)
     (ends_synced home t u k.map w.said (w.holds home k.map [] k.holds) (λ n rest h. sync.holds home n rest h))
 
 -- The engine failed.
@@ -91,6 +95,7 @@ gave_up home V qs told q wrote s t u os us k outlines w at broke =
     subst (λ (n : LogMap). Means n (after_one (after V (took qs told)) q)) (sym (taken_in_two k.map w.said broke.said))
     (broke.leads (taken k.map w.said) (after V (took qs told)) (w.leads k.map V k.means outlines) (w.outlines V outlines)) in
     record {
+      failed = broke.failed;
       fails = fails_after s.pipes.disk t.pipes.disk u.pipes.disk w.later left.0;
       tells = w.tells home k.map V k.holds k.means outlines;
       left = left_with home V qs told q t u.pipes.disk k.map w.said broke.said e (w.among k.map V k.means outlines) broke.short at means left.1;
@@ -109,6 +114,7 @@ unsynced home V qs told wrote error s t u os us k outlines w not =
     let e : EndsAt home t k.map w.said = w.holds home k.map [] k.holds in
     let left = failed.leaves home (taken k.map e.done) e.rest (holds_runs home t (taken k.map e.done) e.rest e.holds) in
     record {
+      failed = failed.failed;
       fails = fails_after s.pipes.disk t.pipes.disk u.pipes.disk w.later left.0;
       tells = w.tells home k.map V k.holds k.means outlines;
       left = record {

@@ -1,5 +1,5 @@
 -- A round: how far it went, and each of its ends.
-use Rattle.std.specs.Prelude.{◌≡◌, ℕ, Bool, false, List, [], ◌++◌}
+use Rattle.std.specs.Prelude.{◌≡◌, ℕ, Bool, false, true, List, [], ◌++◌}
 use Rattle.raft_log_disk.specs.Causes.{Fails, IsLater}
 use Rattle.raft_log_model_laws.specs.Groups.{taken}
 use Rattle.raft_log_engine_laws.specs.Shows.{Home, LogMap, Shows, has_failed}
@@ -32,10 +32,12 @@ pub record Went (qs : List (ℕ × Request)) (told : List Reply) (wrote : Bool) 
   pub tells : (home : Home) (m : LogMap) (W : World) → Holds home s m [] → Means m W → AreOutlines os W
       → AreTold W qs told
 
--- It was answered: the engine keeps the voters behind what was taken, these are their outlines, and the
--- replies are theirs.
-pub record Answered (home : Home) (V : World) (qs : List (ℕ × Request)) (told : List Reply) (t : Shows)
+-- It was answered: the engine goes on and keeps the voters behind what was taken, these are their outlines, and
+-- the replies are theirs.
+pub record Answered (home : Home) (V : World) (qs : List (ℕ × Request)) (told : List Reply) (s t : Shows)
     (us : ℕ → State) : Type 0 where
+  pub alive : has_failed t ≡ false
+  pub later : IsLater s.pipes.disk t.pipes.disk
   pub keeps : Keeps home t (after V (took qs told))
   pub outlines : AreOutlines us (after V (took qs told))
   pub tells : AreTold V qs told
@@ -44,6 +46,7 @@ pub record Answered (home : Home) (V : World) (qs : List (ℕ × Request)) (told
 -- voters behind some first requests, that one perhaps among them.
 pub record GaveUp (home : Home) (V : World) (qs : List (ℕ × Request)) (told : List Reply) (s t : Shows)
     : Type 0 where
+  pub failed : has_failed t ≡ true
   pub fails : Fails s.pipes.disk t.pipes.disk
   pub tells : AreTold V qs told
   pub left : IsLeftAmong home t.pipes.disk (IsPassedOrOneMore V qs told)
@@ -51,6 +54,7 @@ pub record GaveUp (home : Home) (V : World) (qs : List (ℕ × Request)) (told :
 -- Its sync was refused: what is left means voters behind some first requests.
 pub record Unsynced (home : Home) (V : World) (qs : List (ℕ × Request)) (told : List Reply) (s t : Shows)
     : Type 0 where
+  pub failed : has_failed t ≡ true
   pub fails : Fails s.pipes.disk t.pipes.disk
   pub tells : AreTold V qs told
   pub left : IsLeftAmong home t.pipes.disk (IsPassed V qs told)

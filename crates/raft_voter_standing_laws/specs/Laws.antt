@@ -114,10 +114,10 @@ pub record RoundsGoOn : Type 0 where
 pub record RoundsEnd : Type 0 where
   pub unwritten : (home : Home) (V : World) (qs : List (ℕ × Request)) (told : List Reply) (s t : Shows)
       (os us : ℕ → State) → Keeps home s V → AreOutlines os V → Went qs told false s t os us
-      → Answered home V qs told t us
+      → Answered home V qs told s t us
   pub answered : (home : Home) (V : World) (qs : List (ℕ × Request)) (told : List Reply) (wrote : Bool)
       (s t u : Shows) (os us : ℕ → State) → Keeps home s V → AreOutlines os V → Went qs told wrote s t os us
-      → SyncsAppend t u → Answered home V qs told u us
+      → SyncsAppend t u → Answered home V qs told s u us
   pub gave_up : (home : Home) (V : World) (qs : List (ℕ × Request)) (told : List Reply) (q : ℕ × Request)
       (wrote : Bool) (s t u : Shows) (os us : ℕ → State) → Keeps home s V → AreOutlines os V
       → Went qs told wrote s t os us → slice_get qs (length told) ≡ Some q → Broke q t u us

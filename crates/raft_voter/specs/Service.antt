@@ -10,52 +10,73 @@ use Rattle.raft_voter.specs.declared.service.Cause.TheVariants.{FileSystem, Memo
 
 -- Services and files.
 
+-- A round that was cut off, at a place that isn't known: the voters before it, its requests, and the places
+-- that were refused.
+pub record CutRound : Type 0 where
+  pub before : World
+  pub requests : List (ℕ × Request)
+  pub refused : List ℕ
+
+-- no round was cut off: just these voters
+abbrev pub uncut : World → CutRound
+uncut W = record { before = W; requests = []; refused = [] }
+
+-- these voters may stand behind it: they took its requests below one place, but for those at refused places
+abbrev pub MayFollow : CutRound → World → Type 0
+MayFollow cut X = TakesFirst cut.before cut.requests cut.refused X
+
 -- What a service says of itself:
--- the voters that it serves,
+-- which voters it serves, all that they took being stored,
 -- whether it failed (then it serves nothing until it is opened again),
--- which voters a crash may leave, as the next open finds them,
--- whether all that it served is stored: then a crash leaves its voters, and no others,
+-- behind which round, cut off or not, stand the voters that are found once it is closed, or a crash came,
 -- and which places of a round that it answers it may refuse, by what it was before the round and is after it
 pub record Service (S : Type 0) : Type 1 where
-  pub world : S → World
+  pub serves : S → World → Type 0
   pub is_failed : S → Bool
-  pub may_leave : S → World → Type 0
-  pub is_stored : S → Type 0
+  pub leaves : S → CutRound → Type 0
   pub may_refuse : S → S → List (ℕ × Request) → List ℕ → Type 0
 
 -- What files say of themselves that keep a service's voters while it isn't open:
--- whether they keep these voters for good,
--- which voters a crash may leave, as the next open finds them,
--- what an open may make of them, and for which causes it may be refused,
--- and what a close of a service may make, and a crash of them
+-- behind which round, cut off or not, stand the voters that the next open finds, be it after a crash,
+-- that nothing passes by chance for what was written, in files that a crash left of others or, where both
+-- are the same, in these as they stand,
+-- what an open may make of them, for which causes it may be refused, and what it leaves then,
+-- what a close of a service may make of it,
+-- and what a crash may leave, and whether that may be refused
 pub record Files (S F : Type 0) : Type 1 where
-  pub keeps : F → World → Type 0
-  pub may_leave : F → World → Type 0
+  pub leaves : F → CutRound → Type 0
+  pub without_chance : F → F → Type 0
   pub opens : F → S → Type 0
-  pub refuses : F → Cause → Type 0
+  pub refuses : F → Cause → F → Type 0
   pub closes : S → F → Type 0
   pub crashes : F → F → Type 0
+  pub refuses_crash : F → Type 0
 
--- a crash leaves these voters, and no others
-pub record LeavesAlone (may_leave : World → Type 0) (W : World) : Type 0 where
-  pub left : may_leave W
-  pub alone : (X : World) → may_leave X → X ≡ W
-
--- where all is stored a crash leaves the voters that are served, and no others
-abbrev pub IsLeftAlone : {S : Type 0} → Service S → S → Type 0
-IsLeftAlone v store = v.is_stored store → LeavesAlone (v.may_leave store) (v.world store)
-
--- an open service that hasn't failed serves these voters, all is stored, and a crash leaves them alone
+-- an open service that hasn't failed serves these voters, and a crash leaves them alone
 pub record IsOpenAt {S : Type 0} (v : Service S) (store : S) (W : World) : Type 0 where
   pub alive : v.is_failed store ≡ false
-  pub stored : v.is_stored store
-  pub serves : v.world store ≡ W
-  pub left : LeavesAlone (v.may_leave store) W
+  pub serves : v.serves store W
+  pub left : v.leaves store (uncut W)
 
--- files keep these voters, and a crash leaves them alone
-pub record IsClosedAt {S F : Type 0} (f : Files S F) (files : F) (W : World) : Type 0 where
-  pub kept : f.keeps files W
-  pub left : LeavesAlone (f.may_leave files) W
+-- the next open finds these voters in files, and a crash leaves them alone
+abbrev pub IsClosedAt : {S F : Type 0} → Files S F → F → World → Type 0
+IsClosedAt f files W = f.leaves files (uncut W)
+
+-- a store that was opened serves voters that may stand in the files, unless something there passed by chance
+abbrev pub FindsVoters : {S F : Type 0} → Service S → Files S F → F → S → Type 0
+FindsVoters v f files store =
+    f.without_chance files files
+    → (cut : CutRound) → f.leaves files cut → (W : World) × MayFollow cut W × IsOpenAt v store W
+
+-- of the first files a crash, or an open that was refused, left the second: what stood in those stands in
+-- these, unless something there passed by chance
+abbrev pub LeavesStanding : {S F : Type 0} → Files S F → F → F → F → Type 0
+LeavesStanding f read files left =
+    f.without_chance files read → (cut : CutRound) → f.leaves files cut → f.leaves left cut
+
+-- what stood in a service stands in its files
+abbrev pub LeavesInFiles : {S F : Type 0} → Service S → Files S F → S → F → Type 0
+LeavesInFiles v f store files = (cut : CutRound) → v.leaves store cut → f.leaves files cut
 
 -- Rounds that are answered.
 
@@ -80,34 +101,35 @@ out_of_range place (q ∷ qs) =
 -- the replies are theirs.
 pub record Answers (W : World) (requests : List (ℕ × Request)) (replies : List Reply) (X : World)
     : Type 0 where
-  pub short : length requests ≤ 4096
   pub rising : IsTrue (are_rising 0 (length requests) (refused_from 0 replies))
   pub told : replies ≡ replies_from 0 (refused_from 0 replies) W requests
   pub taken : X ≡ after W (taken_from 0 (length requests) (refused_from 0 replies) requests)
 
+-- Whichever voters a service serves, their round is answered, and what they became is served.
+abbrev pub AnswersRound : {S : Type 0} → Service S → List (ℕ × Request) → List Reply → S → S → Type 0
+AnswersRound v requests told old new =
+    (W : World) → IsOpenAt v old W → (X : World) × Answers W requests told X × IsOpenAt v new X
+
 -- Rounds that are cut off.
 
--- The file system failed: the voters took the requests below one place, and what a crash leaves took those
--- below one place too, perhaps another.
-pub record TookSome (refused : List ℕ) (requests : List (ℕ × Request)) (W : World) (left : World → Type 0)
-    (X : World) (left_now : World → Type 0) : Type 0 where
+-- The file system failed: the voters took the requests below one place, but for those at refused places, and
+-- so they are left.
+pub record TookSome {S : Type 0} (v : Service S) (refused : List ℕ) (requests : List (ℕ × Request))
+    (old new : S) : Type 0 where
   pub rising : IsTrue (are_rising 0 (length requests) refused)
-  pub taken : TakesFirst W requests refused X
-  pub kept : LeavesAlone left W → (Y : World) → left_now Y → TakesFirst W requests refused Y
+  pub left : (W : World) → IsOpenAt v old W
+      → v.leaves new (record { before = W; requests = requests; refused = refused })
 
--- nothing was taken, and a crash leaves just what it left before
-pub record TookNone (refused : List ℕ) (W : World) (left : World → Type 0) (X : World)
-    (left_now : World → Type 0) : Type 0 where
+-- nothing was taken: the same voters are served, and what is left is what was left before
+pub record TookNone {S : Type 0} (v : Service S) (refused : List ℕ) (old new : S) : Type 0 where
   pub none : refused ≡ []
-  pub same : X ≡ W
-  pub kept : (Y : World) → left_now Y → left Y
-  pub still : (Y : World) → left Y → left_now Y
+  pub served : (W : World) → IsOpenAt v old W → IsOpenAt v new W
+  pub left : (cut : CutRound) → v.leaves old cut → v.leaves new cut
 
--- what a round that is cut off for this cause makes of the voters and of what a crash leaves
-abbrev pub CutsOff :
-    Cause → List ℕ → List (ℕ × Request) → World → (World → Type 0) → World → (World → Type 0) → Type 0
-CutsOff FileSystem refused requests W left X left_now = TookSome refused requests W left X left_now
-CutsOff _ refused requests W left X left_now = TookNone refused W left X left_now
+-- what a round that is cut off for this cause makes of a service
+abbrev pub CutsOff : {S : Type 0} → Service S → Cause → List ℕ → List (ℕ × Request) → S → S → Type 0
+CutsOff v FileSystem refused requests old new = TookSome v refused requests old new
+CutsOff v _ refused requests old new = TookNone v refused old new
 
 -- causes for which nothing is taken
 abbrev pub TakesNothing : Cause → Type 0

@@ -25,6 +25,6 @@ pub use raft_voter_messages::{
 };
 pub use raft_voter_outline::{Answer, Change, Decision, Outline, Write};
 pub use service::{Cause, MAX_ROUND_REQUESTS, RoundFault, RoundService};
-pub use store_files::StoreFiles;
+pub use store_files::{FilesRefused, StoreFiles};
 pub use voter::Voter;
 pub use voters::Voters;

@@ -1,6 +1,6 @@
 //! What serves rounds of requests.
-ghost use Rattle.std.specs.Prelude.{◌≡◌, [], length, IfOk, IfErr, OnOk};
-ghost use Rattle.raft_voter.specs.Service.{Answers, CutsOff, FailsAs, IsAlive, IsLeftAlone, refused_from, TakesNothing};
+ghost use Rattle.std.specs.Prelude.{◌≡◌, ◌≤◌, [], length, IfOk, IfErr, OnOk};
+ghost use Rattle.raft_voter.specs.Service.{AnswersRound, CutsOff, FailsAs, IsAlive, refused_from};
 
 use crate::{Items, Memory, Reply, Request};
 use std::alloc::{AllocError, Global};
@@ -68,11 +68,12 @@ impl From<AllocError> for Cause {
     }
 }
 
-/// Serves rounds of requests to the voters of many groups, and keeps the voters where a crash leaves them.
-pub trait RoundService {
+/// Serves rounds of requests to the voters of many groups, and keeps the voters where a crash leaves them. Its
+/// calls are handed the runtime, of whatever type the store needs it.
+pub trait RoundService<R> {
     ghost use Rattle.raft_voter.specs.Service.{Service};
 
-    /// The voters that it serves, whether it failed, which voters a crash may leave, whether all is stored,
+    /// Which voters it serves, whether it failed, which voters are found once it is closed or a crash came,
     /// and which requests it may refuse.
     ghost service: { Service Self };
 
@@ -81,22 +82,17 @@ pub trait RoundService {
     /// them.
     ///
     /// An `Err` hands out no reply. Its cause tells whether anything was taken: where the file system failed
-    /// the requests below one place may have been, but for those at refused places, and what a crash leaves
-    /// is so too.
-    fn serve(&mut self, requests: &[(u64, Request)]) -> Result<Items<Reply>, RoundFault>
-        ensures ok { IfOk result (λ told.
-            Answers (service.world self.old) requests.now told (service.world self.new)) }
+    /// the requests below one place may have been, but for those at refused places, and so the voters are
+    /// found by the next open. Else the voters are as they were.
+    fn serve(&mut self, rt: &R, requests: &[(u64, Request)]) -> Result<Items<Reply>, RoundFault>
+        ensures ok { IfOk result (λ told. AnswersRound service requests.now told self.old self.new) }
         ensures refused { IfOk result (λ told.
             service.may_refuse self.old self.new requests.now (refused_from 0 told)) }
-        ensures alone { IsLeftAlone service self.old × IsLeftAlone service self.new }
-        ensures stored { OnOk result (service.is_stored self.old → service.is_stored self.new) }
+        ensures short { OnOk result (length requests.now ≤ 4096) }
         ensures lives { OnOk result (IsAlive (service.is_failed self.old) (service.is_failed self.new)) }
 
-        ensures err { IfErr result (λ fault. CutsOff fault.cause fault.refused requests.now
-            (service.world self.old) (service.may_leave self.old)
-            (service.world self.new) (service.may_leave self.new)) }
-        ensures kept { IfErr result (λ fault.
-            TakesNothing fault.cause → service.is_stored self.old → service.is_stored self.new) }
+        ensures err { IfErr result (λ fault.
+            CutsOff service fault.cause fault.refused requests.now self.old self.new) }
         ensures errors { IfErr result (λ fault. FailsAs fault.cause (length requests.now)
             (service.is_failed self.old) (service.is_failed self.new)) };
 }

@@ -1,37 +1,46 @@
 //! What keeps the voters of a store while it isn't open.
-ghost use Rattle.std.specs.Prelude.{◌≡◌, false, IfErr, IfOk};
-ghost use Rattle.raft_voter.specs.Rounds.{World};
-ghost use Rattle.raft_voter.specs.Service.{IsClosedAt, IsFromOutside, IsOpenAt};
+ghost use Rattle.std.specs.Prelude.{◌≡◌, false, IfErr, IfOk, OnErr};
+ghost use Rattle.raft_voter.specs.Service.{FindsVoters, IsFromOutside, LeavesInFiles, LeavesStanding};
 
-use crate::{Cause, RoundService};
+use crate::{Cause, Memory, RoundService};
 use std::alloc::Global;
+
+/// Files that weren't opened, and why.
+#[derive(Drop)]
+pub struct FilesRefused<F> {
+    /// Why.
+    pub cause: Cause,
+    /// The files, which are handed back.
+    pub files: F,
+}
 
 /// Files that keep the voters of a store while it isn't open: they can be opened, a close gives them back, and
 /// a crash of the machine leaves what was synced.
-pub trait StoreFiles<S: RoundService>: Sized {
+pub trait StoreFiles<R, S: RoundService<R>>: Sized {
     ghost use Rattle.raft_voter.specs.Service.{Files};
 
-    /// The voters that they keep, which voters a crash may leave, what opens, closes and crashes make of them,
+    /// Which voters the next open finds, when that is sure, what opens, closes and crashes make of the files,
     /// and for which causes an open may be refused.
     ghost files: { Files S Self };
 
     /// Opens the store, which hasn't failed then. It is refused for want of memory, or because the file system
-    /// failed or the files can't be read.
-    fn open(self, alloc: Global) -> Result<S, Cause>
+    /// failed or the files can't be read; the files are handed back, and may be opened again.
+    fn open(self, rt: &R, alloc: Global) -> Result<S, FilesRefused<Self>>
         ensures opens { IfOk result (λ store. files.opens self store) }
-        ensures keeps { IfOk result (λ store.
-            (W : World) → IsClosedAt files self W → IsOpenAt S.service store W) }
+        ensures finds { IfOk result (FindsVoters S.service files self) }
         ensures alive { IfOk result (λ store. S.service.is_failed store ≡ false) }
-        ensures err { IfErr result (λ cause. files.refuses self cause) }
-        ensures errors { IfErr result IsFromOutside };
+        ensures err { IfErr result (λ refused. files.refuses self refused.cause refused.files) }
+        ensures stands { IfErr result (λ refused. LeavesStanding files self self refused.files) }
+        ensures errors { IfErr result (λ refused. IsFromOutside refused.cause) };
 
-    /// Closes the store.
-    fn close(store: S) -> Self
+    /// Closes the store, whether it failed or not.
+    fn close(store: S, rt: &R) -> Self
         ensures closes { files.closes store result }
-        ensures keeps { (W : World) → IsOpenAt S.service store W → IsClosedAt files result W };
+        ensures stands { LeavesInFiles S.service files store result };
 
-    /// What a crash of the machine leaves.
-    fn after_crash(self) -> Self
-        ensures crashes { files.crashes self result }
-        ensures keeps { (W : World) → IsClosedAt files self W → IsClosedAt files result W };
+    /// What a crash of the machine leaves. It is refused for want of memory alone.
+    fn after_crash(self) -> Result<Self, Memory>
+        ensures crashes { IfOk result (files.crashes self) }
+        ensures stands { IfOk result (λ left. LeavesStanding files left self left) }
+        ensures err { OnErr result (files.refuses_crash self) };
 }

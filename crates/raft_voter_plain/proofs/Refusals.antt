@@ -148,8 +148,8 @@ length-replies : (W : World) (qs : List (ℕ × Request)) → length (replies_in
 length-replies W [] = refl
 length-replies W (q ∷ qs) = let more = length-replies (after_one W q) qs in omega arith
 
-pub answers : (W X : World) (qs : List (ℕ × Request)) (rs : List Reply) → length qs ≤ 4096 → rs ≡ replies_in_turn W qs → X ≡ after W qs → Answers W qs rs X
-answers W X qs rs short e f =
+pub answers : (W X : World) (qs : List (ℕ × Request)) (rs : List Reply) → rs ≡ replies_in_turn W qs → X ≡ after W qs → Answers W qs rs X
+answers W X qs rs e f =
     let size = length-replies W qs in
     let both = goes 0 (length qs) W qs [] (λ j h. refl) (omega arith) in
-    rw e (record { short = short; rising = rising 0 0 (length qs) (replies_in_turn W qs) (omega arith) (omega arith); told = both.0; taken = f ∙ both.1 })
+    rw e (record { rising = rising 0 0 (length qs) (replies_in_turn W qs) (omega arith) (omega arith); told = both.0; taken = f ∙ both.1 })

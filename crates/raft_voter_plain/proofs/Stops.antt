@@ -1,13 +1,16 @@
 -- Rounds that aren't answered.
 use Rattle.std.proofs.Common.{◌≡◌, ℕ, suc, zero, ◌+◌, ◌<◌, ◌≤◌, ◌∙◌, nat_lt, true, false, ⊎_elim, List, [], ◌∷◌, ◌++◌, get_or, length, take, Result, Ok, Err, OnErr, refl, sym, ap, subst, arith}
 use Rattle.std.proofs.lemmas.List.{take_more}
+use Rattle.raft_voter_messages.specs.declared.reply.Reply.{Reply}
 use Rattle.raft_voter_messages.specs.declared.request.Request.{Request}
-use Rattle.raft_voter.specs.Rounds.{TakesFirst, World, after, after_one, taken_from}
+use Rattle.raft_voter.specs.Rounds.{TakesFirst, World, after, after_one, fresh_world, taken_from}
 use Rattle.std.proofs.lemmas.Bool.Decides.{nat_tests}
 use Rattle.raft_voter_plain.specs.declared.store.PlainVoters.{PlainVoters}
-use Rattle.raft_voter_plain.specs.Records.{StandsFor}
-use Rattle.raft_voter.specs.Service.{TookSome}
-use Rattle.raft_voter_plain.specs.Store.{HoldsVoters, OneIsRefused, AnswersNone, Stopped, world_of}
+use Rattle.raft_voter_plain.specs.Content.{whole}
+use Rattle.raft_voter_plain.specs.Records.{LeadTo, StandsFor}
+use Rattle.raft_voter.specs.Service.{TookNone, TookSome}
+use Rattle.raft_voter_plain.specs.Store.{AnswersNone, FileStandsBehind, IsAmidst, OneIsRefused, Stopped, plain_voters, world_of}
+use Rattle.raft_voter_plain.proofs.Worlds.{behind, held_in_range, joins, no_records}
 
 pub on_err : {T E : Type 0} (r : Result T E) (P : Type 0) → P → OnErr r P
 on_err (Ok v) P h = tt
@@ -25,12 +28,19 @@ took_more W X Y asked i d q few here before took =
     took ∙ ap (λ (Z : World). after_one Z q) before ∙ sym (ap (after W) more ∙ after-append W (take i asked) (q ∷ []))
 
 -- a request isn't answered
-pub refused_here : (old now next : PlainVoters) (asked : List (ℕ × Request)) (i : ℕ) (d q : ℕ × Request) → i < length asked → get_or asked i d ≡ q
-    → world_of now ≡ after (world_of old) (take i asked) → now.file.synced ≡ old.file.synced → OneIsRefused now q next → AnswersNone old asked next
-refused_here old now next asked i d q few here before synced told = record {
+pub refused_here : (old now next : PlainVoters) (asked left : List (ℕ × Request)) (told : List Reply) (i : ℕ) (d q : ℕ × Request) → i < length asked → get_or asked i d ≡ q
+    → world_of now ≡ after (world_of old) (take i asked) → IsAmidst old asked left told now → OneIsRefused now q next → AnswersNone old asked next
+refused_here old now next asked left told i d q few here before so_far stopped = record {
   taken = ⊎_elim (λ same. record { count = i; few = omega arith; taken = same ∙ before })
-      (λ took. record { count = i + 1; few = omega arith; taken = took_more (world_of old) (world_of now) (world_of next) asked i d q few here before took }) told.taken;
-  synced = told.synced ∙ synced;
+      (λ took. record { count = i + 1; few = omega arith; taken = took_more (world_of old) (world_of now) (world_of next) asked i d q few here before took }) stopped.taken;
+  synced = stopped.synced ∙ so_far.synced;
+  written = λ range leads.
+      let P : List ℕ → Type 0 = λ bytes. LeadTo (world_of old) bytes (world_of now) in
+      record {
+        world = world_of now;
+        taken = record { count = i; few = omega arith; taken = before };
+        written = subst P (sym stopped.unsynced) ((so_far.written range).1 (world_of old) leads);
+      };
 }
 
 -- nothing is taken
@@ -58,17 +68,27 @@ took_front W X asked s =
     let first = subst P up (first_taken asked 0 s.count s.few) in
     record { place = s.count; within = s.few; reached = s.taken ∙ ap (after W) (sym first) }
 
-took_nothing : (W : World) (asked : List (ℕ × Request)) → TakesFirst W asked [] W
+pub took_nothing : (W : World) (asked : List (ℕ × Request)) → TakesFirst W asked [] W
 took_nothing W asked = took_front W W asked (none_taken W asked)
 
--- the file in memory couldn't grow: some of the first requests were taken in memory, and what was synced is as before
-pub took_some : (old new : PlainVoters) (asked : List (ℕ × Request)) → AnswersNone old asked new
-    → TookSome [] asked (world_of old) (HoldsVoters old) (world_of new) (HoldsVoters new)
+-- the file in memory couldn't grow: what was synced is as before, and behind it is written what some of the first requests made of the voters
+pub took_some : (old new : PlainVoters) (asked : List (ℕ × Request)) → AnswersNone old asked new → TookSome plain_voters [] asked old new
 took_some old new asked s = record {
   rising = refl;
-  taken = took_front (world_of old) (world_of new) asked s.taken;
-  kept = λ only Y here.
-      let P : List ℕ → Type 0 = λ bs. StandsFor bs Y in
-      let Q : World → Type 0 = λ V. TakesFirst (world_of old) asked [] V in
-      subst Q (sym (only.alone Y (subst P s.synced here))) (took_nothing (world_of old) asked);
+  left = λ W at.
+      let stored = at.serves.1 in
+      let P : List ℕ → Type 0 = λ bytes. LeadTo (world_of old) bytes (world_of old) in
+      let Q : List ℕ → Type 0 = λ bytes. StandsFor bytes (world_of old) in
+      let R : World → Type 0 = λ V. FileStandsBehind new.file (record { before = V; requests = asked; refused = [] }) in
+      let wrote = s.written (held_in_range old.file.synced (world_of old) stored.synced) (subst P (sym stored.settled) (no_records (world_of old))) in
+      let first : StandsFor new.file.synced (world_of old) = subst Q (sym s.synced) stored.synced in
+      let all : StandsFor (whole new.file) wrote.world = joins fresh_world (world_of old) wrote.world new.file.synced new.file.unsynced first wrote.written in
+      subst R at.serves.0 (record {
+        synced = behind new.file.synced (world_of old) _ first (took_nothing (world_of old) asked);
+        read = behind (whole new.file) wrote.world _ all (took_front (world_of old) wrote.world asked wrote.taken);
+      });
 }
+
+-- nothing is taken, and all is as it was
+pub nothing_taken : (store : PlainVoters) → TookNone plain_voters [] store store
+nothing_taken store = record { none = refl; served = λ W at. at; left = λ cut stands. stands }

@@ -9,10 +9,15 @@ use Rattle.raft_voter.specs.InRange.{AllInRange, IsInRange}
 use Rattle.raft_voter.specs.State.{State}
 use Rattle.raft_voter_plain.specs.declared.store.PlainVoters.{PlainVoters}
 use Rattle.raft_voter_plain.specs.Beginnings.{BeginsWithRecord}
-use Rattle.raft_voter_plain.specs.Content.{PlainContent, after_crash, empty_file, whole}
+use Rattle.raft_voter_plain.specs.Content.{PlainContent, after_crash, all_synced, empty_file, whole}
 use Rattle.raft_voter_plain.specs.Records.{AreStorable, StandsFor, IsStorableRecord, LeadTo, may_change, voter_record, with_records}
-use Rattle.raft_voter.specs.Service.{IsClosedAt, IsOpenAt, LeavesAlone}
-use Rattle.raft_voter_plain.specs.Store.{HoldsVoters, IsAmidst, StandsForVoters, KeepsVoters, Takes, TakesAll, plain_files, plain_voters, replies_in_turn, world_of}
+use Rattle.raft_voter.specs.Service.{Answers, AnswersRound, CutRound, FindsVoters, IsClosedAt, IsOpenAt, LeavesInFiles, LeavesStanding, MayFollow, uncut}
+use Rattle.raft_voter_run.specs.Play.{IsPlayed, IsSpared, Moment}
+use Rattle.raft_voter_run.specs.Play.Moment.{opened, closed, crashed, served}
+use Rattle.raft_voter_run.specs.Run.{WritesTranscript}
+use Rattle.raft_voter_run.proofs.Spared.{Says, spared_explained}
+use Rattle.raft_voter_plain.specs.Session.{WritesPlain}
+use Rattle.raft_voter_plain.specs.Store.{FileStandsBehind, IsAmidst, StandsBehind, StandsForVoters, Takes, TakesAll, plain_files, plain_voters, replies_in_turn, world_of}
 use Rattle.raft_voter_plain.proofs.Ranges.{fresh_in_range, put_in_range, put_there, stays, taken_in_range}
 use Rattle.raft_voter_plain.proofs.Records.{records_same}
 
@@ -68,9 +73,31 @@ one_world bytes V W v w =
     let same = records_same v.records w.records v.storable w.storable (sym v.text ∙ w.text) in
     v.world ∙ ap (with_records fresh_world) same ∙ sym w.world
 
--- where all is stored a crash leaves the voters that are served
-pub stored_alone : (store : PlainVoters) → StandsForVoters store → LeavesAlone (HoldsVoters store) (world_of store)
-stored_alone store stored = record { left = stored.synced; alone = λ X other. one_world store.file.synced X (world_of store) other stored.synced }
+-- What stands in bytes and in files.
+
+-- no round is cut off behind these voters
+follows_none : (W : World) → MayFollow (uncut W) W
+follows_none W = record { place = 0; within = omega arith; reached = refl }
+
+pub behind : (bytes : List ℕ) (W : World) (cut : CutRound) → StandsFor bytes W → MayFollow cut W → StandsBehind bytes cut
+behind bytes W cut stands follows = record { world = W; stands = stands; alone = λ X other. one_world bytes X W other stands; follows = follows }
+
+pub behind_none : (bytes : List ℕ) (W : World) → StandsFor bytes W → StandsBehind bytes (uncut W)
+behind_none bytes W stands = behind bytes W (uncut W) stands (follows_none W)
+
+-- where all is synced, a read gives what is synced
+pub whole_synced : (file : PlainContent) → file.unsynced ≡ [] → whole file ≡ file.synced
+whole_synced file e = rw e (append-nil file.synced)
+
+-- a file of which all is synced stands for the voters of that
+pub settled_stands : (file : PlainContent) (W : World) → StandsFor file.synced W → file.unsynced ≡ [] → FileStandsBehind file (uncut W)
+settled_stands file W stands settled =
+    let P : List ℕ → Type 0 = λ bytes. StandsFor bytes W in
+    record { synced = behind_none file.synced W stands; read = behind_none (whole file) W (subst P (sym (whole_synced file settled)) stands) }
+
+-- where all is stored the voters are served, and a crash leaves them alone
+pub served_at : (store : PlainVoters) → store.failed ≡ false → StandsForVoters store → IsOpenAt plain_voters store (world_of store)
+served_at store alive stored = record { alive = alive; serves = (refl, stored); left = settled_stands store.file (world_of store) stored.synced stored.settled }
 
 -- Requests that are taken.
 
@@ -148,49 +175,53 @@ pub read_all : (bytes left : List ℕ) (W : World) → IsReadTo bytes W left →
 read_all bytes [] W so_far e = so_far W (no_records W)
 read_all bytes (b ∷ left) W so_far e = absurd (omega arith)
 
+-- A round that is answered: what the voters took is stored, and they are served.
+pub all_answered : (old taken new : PlainVoters) (asked : List (ℕ × Request)) (told : List Reply) → TakesAll old asked told taken → world_of new ≡ world_of taken
+    → new.file.synced ≡ whole taken.file → new.file.unsynced ≡ [] → new.failed ≡ false → Answers (world_of old) asked told (world_of new) → AnswersRound plain_voters asked told old new
+all_answered old taken new asked told took same synced settled alive answers = λ W at.
+    let P : World → Type 0 = λ V. Answers V asked told (world_of new) in
+    (world_of new, subst P at.serves.0 answers, served_at new alive (all_stored old taken new asked told took same synced settled at.serves.1))
+
 -- Files.
 
--- where all is synced, a read gives what is synced
-pub whole_synced : (file : PlainContent) → file.unsynced ≡ [] → whole file ≡ file.synced
-whole_synced file e = rw e (append-nil file.synced)
+-- an open finds the voters that stand in the file, and syncs them
+pub opened_at : (file : PlainContent) (store : PlainVoters) → store.file ≡ all_synced file → StandsFor (whole file) (world_of store) → store.failed ≡ false → FindsVoters plain_voters plain_files file store
+opened_at file store same held alive = λ spared cut stands.
+    let read = stands.read in
+    let is : world_of store ≡ read.world = read.alone (world_of store) held in
+    let P : World → Type 0 = λ X. MayFollow cut X in
+    let stored : StandsForVoters store = record { synced = rw same held; settled = ap (λ (f : PlainContent). f.unsynced) same } in
+    (world_of store, subst P (sym is) read.follows, served_at store alive stored)
 
--- an open finds the voters that are stored
-pub found : (file : PlainContent) (store : PlainVoters) → store.file ≡ file → StandsFor (whole file) (world_of store)
-    → (W : World) → StandsFor file.synced W → file.unsynced ≡ [] → StandsForVoters store × (world_of store ≡ W)
-found file store same held W stored settled =
-    let P : List ℕ → Type 0 = λ bytes. StandsFor bytes (world_of store) in
-    let all : StandsFor file.synced (world_of store) = subst P (whole_synced file settled) held in
-    (record { synced = rw same all; settled = rw same settled }, one_world file.synced _ _ all stored)
+-- a file that wasn't opened stands as it did
+pub refused_at : (file back : PlainContent) → back ≡ file → LeavesStanding plain_files file file back
+refused_at file back same = λ spared cut stands. let P : PlainContent → Type 0 = λ given. FileStandsBehind given cut in subst P (sym same) stands
 
--- Opens, closes and crashes.
+-- a close leaves what stands in the file
+pub closed_at : (store : PlainVoters) (file : PlainContent) → file ≡ store.file → LeavesInFiles plain_voters plain_files store file
+closed_at store file same = λ cut stands. let P : PlainContent → Type 0 = λ given. FileStandsBehind given cut in subst P (sym same) stands
 
--- files that keep voters leave them alone
-kept_alone : (file : PlainContent) (W : World) → KeepsVoters file W → IsClosedAt plain_files file W
-kept_alone file W kept = record { kept = kept; left = record { left = kept.synced; alone = λ X other. one_world file.synced X W other kept.synced } }
-
--- an open finds the voters that its file keeps
-pub opened_at : (file : PlainContent) (store : PlainVoters) → store.file ≡ file → StandsFor (whole file) (world_of store) → store.failed ≡ false
-    → (W : World) → IsClosedAt plain_files file W → IsOpenAt plain_voters store W
-opened_at file store same held alive W at =
-    let there = found file store same held W at.kept.synced at.kept.settled in
-    let P : World → Type 0 = λ X. LeavesAlone (HoldsVoters store) X in
-    record { alive = alive; stored = there.0; serves = there.1; left = subst P there.1 (stored_alone store there.0) }
-
--- a close leaves the voters in the file
-pub closed_at : (store : PlainVoters) (file : PlainContent) → file ≡ store.file → (W : World) → IsOpenAt plain_voters store W → IsClosedAt plain_files file W
-closed_at store file same W at =
-    let P : World → Type 0 = λ X. StandsFor store.file.synced X in
-    let Q : PlainContent → Type 0 = λ given. KeepsVoters given W in
-    kept_alone file W (subst Q (sym same) (record { synced = subst P at.serves at.stored.synced; settled = at.stored.settled }))
-
--- a crash leaves the voters that the file keeps
-pub crashed_at : (file left : PlainContent) → left ≡ after_crash file → (W : World) → IsClosedAt plain_files file W → IsClosedAt plain_files left W
-crashed_at file left same W at =
-    let Q : PlainContent → Type 0 = λ given. KeepsVoters given W in
-    kept_alone left W (subst Q (sym same) (record { synced = at.kept.synced; settled = refl }))
+-- a crash leaves what is synced in it
+pub crashed_at : (file left : PlainContent) → left ≡ after_crash file → LeavesStanding plain_files left file left
+crashed_at file left same = λ spared cut stands.
+    let P : PlainContent → Type 0 = λ given. FileStandsBehind given cut in
+    let Q : List ℕ → Type 0 = λ bytes. StandsBehind bytes cut in
+    subst P (sym same) (record { synced = stands.synced; read = subst Q (sym (append-nil file.synced)) stands.synced })
 
 -- an empty file keeps fresh voters
 pub none_written : (file : PlainContent) → file ≡ empty_file → IsClosedAt plain_files file fresh_world
 none_written file e =
-    let Q : PlainContent → Type 0 = λ given. KeepsVoters given fresh_world in
-    kept_alone file fresh_world (subst Q (sym e) (record { synced = no_records fresh_world; settled = refl }))
+    let Q : PlainContent → Type 0 = λ given. FileStandsBehind given (uncut fresh_world) in
+    subst Q (sym e) (settled_stands empty_file fresh_world (no_records fresh_world) refl)
+
+-- nothing of a session over it passes by chance
+pub all_spared : (moments : List (Moment PlainVoters PlainContent)) → IsSpared plain_files moments
+all_spared [] = tt
+all_spared (opened file store ∷ moments) = (tt, all_spared moments)
+all_spared (closed file ∷ moments) = all_spared moments
+all_spared (crashed file left ∷ moments) = (tt, all_spared moments)
+all_spared (served round storage ∷ moments) = all_spared moments
+
+-- so what is written of a session over it is explained
+pub plain_says : Says (WritesTranscript (IsPlayed plain_voters plain_files empty_file)) WritesPlain
+plain_says = λ events text status wrote. spared_explained plain_voters plain_files empty_file events text status wrote (all_spared wrote.played.moments)

@@ -17,3 +17,7 @@ after_crash file = record { synced = file.synced; unsynced = [] }
 -- what a read gives
 abbrev pub whole : PlainContent → List ℕ
 whole file = file.synced ++ file.unsynced
+
+-- all that was written is synced
+abbrev pub all_synced : PlainContent → PlainContent
+all_synced file = record { synced = whole file; unsynced = [] }

@@ -6,10 +6,10 @@ use Rattle.raft_voter.specs.Rounds.{World, after, after_one}
 use Rattle.raft_voter.specs.Rules.{reply}
 use Rattle.raft_voter_plain.specs.declared.store.PlainVoters.{PlainVoters}
 use Rattle.raft_voter.specs.InRange.{AllInRange}
-use Rattle.raft_voter.specs.Service.{Files, Service, out_of_range}
+use Rattle.raft_voter.specs.Service.{CutRound, Files, MayFollow, Service, out_of_range}
 use Rattle.raft_voter.specs.declared.service.Cause.{Cause}
 use Rattle.raft_voter.specs.declared.service.Cause.TheVariants.{FileSystem, Memory}
-use Rattle.raft_voter_plain.specs.Content.{PlainContent, after_crash, whole}
+use Rattle.raft_voter_plain.specs.Content.{PlainContent, after_crash, all_synced, whole}
 use Rattle.raft_voter_plain.specs.Damage.{StandsForNothing}
 use Rattle.raft_voter_plain.specs.Records.{StandsFor, LeadTo, world_in}
 
@@ -17,30 +17,36 @@ use Rattle.raft_voter_plain.specs.Records.{StandsFor, LeadTo, world_in}
 abbrev pub world_of : PlainVoters → World
 world_of store = world_in store.voters
 
--- what was synced stands for these voters: a crash leaves them
-abbrev pub HoldsVoters : PlainVoters → World → Type 0
-HoldsVoters store W = StandsFor store.file.synced W
-
 -- what was synced stands for the voters, and nothing else was written
 pub record StandsForVoters (store : PlainVoters) : Type 0 where
   pub synced : StandsFor store.file.synced (world_of store)
   pub settled : store.file.unsynced ≡ []
 
+-- these are the voters in memory, and they are synced
+abbrev pub ServesVoters : PlainVoters → World → Type 0
+ServesVoters store W = (world_of store ≡ W) × StandsForVoters store
+
+-- these bytes stand for voters that may stand behind this round, and for no others
+pub record StandsBehind (bytes : List ℕ) (cut : CutRound) : Type 0 where
+  pub world : World
+  pub stands : StandsFor bytes world
+  pub alone : (X : World) → StandsFor bytes X → X ≡ world
+  pub follows : MayFollow cut world
+
+-- so do those of a file that a crash leaves, and those that a read gives
+pub record FileStandsBehind (file : PlainContent) (cut : CutRound) : Type 0 where
+  pub synced : StandsBehind file.synced cut
+  pub read : StandsBehind (whole file) cut
+
 -- The plain voters as a service: a crash leaves what was synced, and just the requests out of range are
 -- refused.
 abbrev pub plain_voters : Service PlainVoters
 plain_voters = record {
-  world = world_of;
+  serves = ServesVoters;
   is_failed = λ store. store.failed;
-  may_leave = HoldsVoters;
-  is_stored = StandsForVoters;
+  leaves = λ store cut. FileStandsBehind store.file cut;
   may_refuse = λ old new requests refused. refused ≡ out_of_range 0 requests;
 }
-
--- these voters are synced in a file, and nothing else was written
-pub record KeepsVoters (file : PlainContent) (W : World) : Type 0 where
-  pub synced : StandsFor file.synced W
-  pub settled : file.unsynced ≡ []
 
 -- A file is refused for want of memory, where it isn't empty, or its bytes aren't records, and then the file
 -- system is told to have failed.
@@ -49,15 +55,17 @@ FileIsRefusedFor file Memory = 0 < length (whole file)
 FileIsRefusedFor file FileSystem = StandsForNothing (whole file)
 FileIsRefusedFor file cause = ⊥
 
--- Their file: opens and closes leave it as it is, and a crash leaves what was synced.
+-- Their file: an open syncs it, refused it stays as it is, and so it does at a close; a crash leaves what was
+-- synced, and is never refused. Its records have no checksum, so nothing passes by chance.
 abbrev pub plain_files : Files PlainVoters PlainContent
 plain_files = record {
-  keeps = KeepsVoters;
-  may_leave = λ file W. StandsFor file.synced W;
-  opens = λ file store. store.file ≡ file;
-  refuses = FileIsRefusedFor;
+  leaves = FileStandsBehind;
+  without_chance = λ file read. Unit {0};
+  opens = λ file store. store.file ≡ all_synced file;
+  refuses = λ file cause back. FileIsRefusedFor file cause × (back ≡ file);
   closes = λ store file. file ≡ store.file;
   crashes = λ file left. left ≡ after_crash file;
+  refuses_crash = λ file. ⊥;
 }
 
 -- what wasn't synced leads from these voters to those in memory
@@ -71,10 +79,11 @@ pub record Takes (old : PlainVoters) (asked : ℕ × Request) (told : Reply) (ne
   pub synced : new.file.synced ≡ old.file.synced
   pub written : (W : World) → AllInRange (world_of old) → LeadsFrom W old → LeadsFrom W new
 
--- one request isn't answered: it was taken or not, and what was synced stays
+-- one request isn't answered: it was taken in memory or not, and nothing is written
 pub record OneIsRefused (old : PlainVoters) (asked : ℕ × Request) (new : PlainVoters) : Type 0 where
   pub taken : (world_of new ≡ world_of old) ⊎ (world_of new ≡ after_one (world_of old) asked)
   pub synced : new.file.synced ≡ old.file.synced
+  pub unsynced : new.file.unsynced ≡ old.file.unsynced
 
 -- the replies to requests that are taken one after another
 abbrev pub replies_in_turn : World → List (ℕ × Request) → List Reply
@@ -95,10 +104,18 @@ pub record Stopped (W : World) (requests : List (ℕ × Request)) (X : World) : 
   pub few : count ≤ length requests
   pub taken : X ≡ after W (take count requests)
 
--- requests aren't answered: some of the first were taken, and what was synced stays
+-- what wasn't synced leads from these voters to those that took some of the first requests
+pub record WroteSome (W : World) (asked : List (ℕ × Request)) (unsynced : List ℕ) : Type 0 where
+  pub world : World
+  pub taken : Stopped W asked world
+  pub written : LeadTo W unsynced world
+
+-- requests aren't answered: some of the first were taken in memory, and some written, and what was synced stays
 pub record AnswersNone (old : PlainVoters) (asked : List (ℕ × Request)) (new : PlainVoters) : Type 0 where
   pub taken : Stopped (world_of old) asked (world_of new)
   pub synced : new.file.synced ≡ old.file.synced
+  pub written : AllInRange (world_of old) → LeadsFrom (world_of old) old
+      → WroteSome (world_of old) asked new.file.unsynced
 
 -- some requests are taken, and these are left
 pub record IsAmidst (old : PlainVoters) (asked left : List (ℕ × Request)) (told : List Reply)

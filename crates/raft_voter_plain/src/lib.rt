@@ -16,4 +16,4 @@ pub use file::PlainFile;
 pub use raft_voter_run::{exit_status, has_arguments};
 pub use record::OpenFault;
 pub use running::{program, run, start};
-pub use store::PlainVoters;
+pub use store::{FileRefused, PlainVoters};

@@ -1,7 +1,7 @@
 //! The program over plain voters.
 ghost use Rattle.std.specs.Prelude.{◌≡◌, false, true, IfOk, IfSome, OnErr};
 ghost use Rattle.raft_voter_run.specs.Run.{Ends, EndsEarly};
-ghost use Rattle.raft_voter_plain.specs.Session.{IsPlainSession};
+ghost use Rattle.raft_voter_plain.specs.Session.{WritesPlain};
 
 use crate::file::PlainFile;
 use crate::store::PlainVoters;
@@ -33,13 +33,14 @@ pub fn program<R: Read, W: Write>(
     writer: &mut W,
 ) -> io::Result<u8>
     ensures ok { IfOk result (λ status. IfSome (R.remaining reader.old) (λ input.
-        Ends IsPlainSession has_arguments input (W.contents writer.old) (W.contents writer.new) status)) }
+        Ends WritesPlain has_arguments input (W.contents writer.old) (W.contents writer.new) status)) }
     ensures err { OnErr result (IfSome (R.remaining reader.old) (λ input.
-        EndsEarly IsPlainSession has_arguments input (W.contents writer.old) (W.contents writer.new))) }
+        EndsEarly WritesPlain has_arguments input (W.contents writer.old) (W.contents writer.new))) }
     ensures unread { has_arguments ≡ true → reader.new ≡ reader.old }
 {
     let file = PlainFile::new(alloc);
-    raft_voter_run::program::<PlainVoters, PlainFile, R, W>(
+    raft_voter_run::program::<(), PlainVoters, PlainFile, R, W>(
+        &(),
         has_arguments,
         alloc,
         file,
@@ -54,10 +55,10 @@ pub fn program<R: Read, W: Write>(
 /// the writer was refused: then nothing was written, or the front of what may be written, and no verdict.
 pub fn run<R: Read, W: Write>(alloc: Global, reader: &mut R, writer: &mut W) -> io::Result<u8>
     ensures ok { IfOk result (λ status. IfSome (R.remaining reader.old) (λ input.
-        Ends IsPlainSession false input (W.contents writer.old) (W.contents writer.new) status)) }
+        Ends WritesPlain false input (W.contents writer.old) (W.contents writer.new) status)) }
     ensures err { OnErr result (IfSome (R.remaining reader.old) (λ input.
-        EndsEarly IsPlainSession false input (W.contents writer.old) (W.contents writer.new))) }
+        EndsEarly WritesPlain false input (W.contents writer.old) (W.contents writer.new))) }
 {
     let file = PlainFile::new(alloc);
-    raft_voter_run::run::<PlainVoters, PlainFile, R, W>(alloc, file, reader, writer)
+    raft_voter_run::run::<(), PlainVoters, PlainFile, R, W>(&(), alloc, file, reader, writer)
 }

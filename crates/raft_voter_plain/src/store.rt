@@ -1,18 +1,18 @@
 //! Voters of many groups in memory, and the plain file that keeps them.
 ghost use Rattle.std.specs.Prelude.{◌≡◌, ◌+◌, ◌^◌, ◌<◌, ◌≤◌, [], false, length, vec_capacity, vec_len, IfErr, IfOk, OnErr, OnOk};
-ghost use Rattle.raft_voter.specs.Rounds.{after_one, put, World};
-ghost use Rattle.raft_voter_plain.specs.Content.{after_crash, whole};
+ghost use Rattle.raft_voter.specs.Rounds.{after_one, put, TakesFirst};
+ghost use Rattle.raft_voter_plain.specs.Content.{after_crash, all_synced, whole};
 ghost use Rattle.raft_voter.specs.Rules.{reply};
 ghost use Rattle.raft_voter_plain.specs.Damage.{StandsForNothing, TellsDamage};
 ghost use Rattle.raft_voter_plain.specs.Records.{may_change, StandsFor, voter_record, world_in};
-ghost use Rattle.raft_voter.specs.Service.{Answers, CutsOff, FailsAs, IsAlive, IsClosedAt, IsFromOutside, IsLeftAlone, IsOpenAt, out_of_range, refused_from, TakesNothing};
-ghost use Rattle.raft_voter_plain.specs.Store.{HoldsVoters, OneIsRefused, FileIsRefusedFor, AnswersNone, StandsForVoters, plain_files, plain_voters, Takes, TakesAll, world_of};
+ghost use Rattle.raft_voter.specs.Service.{AnswersRound, CutRound, CutsOff, FailsAs, FindsVoters, IsAlive, IsFromOutside, LeavesInFiles, LeavesStanding, out_of_range, refused_from, TakesNothing};
+ghost use Rattle.raft_voter_plain.specs.Store.{OneIsRefused, FileIsRefusedFor, FileStandsBehind, AnswersNone, plain_files, plain_voters, Takes, TakesAll, world_of};
 
 use crate::file::PlainFile;
 use crate::record::{OpenFault, read_voter_record, voter_record};
 use raft_voter::{
-    Cause, Items, MAX_ROUND_REQUESTS, Memory, Reply, Request, RoundFault, RoundService, StoreFiles,
-    Voter,
+    Cause, FilesRefused, Items, MAX_ROUND_REQUESTS, Memory, Reply, Request, RoundFault,
+    RoundService, StoreFiles, Voter,
 };
 use std::alloc::Global;
 use std::collections::BTreeMap;
@@ -27,24 +27,40 @@ pub struct PlainVoters {
     pub failed: bool,
 }
 
+/// A file that wasn't opened, and why.
+#[derive(Drop)]
+pub struct FileRefused {
+    /// Why.
+    pub fault: OpenFault,
+    /// The file, which is handed back.
+    pub file: PlainFile,
+}
+
 impl PlainVoters {
-    /// Opens a file: reads it whole, and the last record of each group is its voter. What it opens hasn't
-    /// failed. Damage is told only where the bytes aren't those of records, so never of what a store wrote.
-    /// Of an empty file nothing can be refused. A file that isn't opened is gone.
-    pub fn open(alloc: Global, file: PlainFile) -> Result<PlainVoters, OpenFault>
-        ensures same { IfOk result (λ store. store.file ≡ file) }
+    /// Opens a file: reads it whole, and the last record of each group is its voter; then all that was written
+    /// is synced. What it opens hasn't failed. Damage is told only where the bytes aren't those of records, so
+    /// never of what a store wrote. Of an empty file nothing can be refused.
+    pub fn open(alloc: Global, file: PlainFile) -> Result<PlainVoters, FileRefused>
+        ensures synced { IfOk result (λ store. store.file ≡ all_synced file) }
         ensures voters { IfOk result (λ store. StandsFor (whole file) (world_of store)) }
         ensures alive { IfOk result (λ store. store.failed ≡ false) }
-        ensures err { IfErr result (TellsDamage (StandsForNothing (whole file))) }
+        ensures err { IfErr result (λ refused. TellsDamage (StandsForNothing (whole file)) refused.fault) }
+        ensures same { IfErr result (λ refused. refused.file ≡ file) }
         ensures errors { OnErr result (0 < length (whole file)) }
     {
-        let voters = read_voters(alloc, file.bytes())?;
-        Ok(PlainVoters {
-            alloc,
-            file,
-            voters,
-            failed: false,
-        })
+        let mut file = file;
+        match read_voters(alloc, file.bytes()) {
+            Ok(voters) => {
+                file.sync();
+                Ok(PlainVoters {
+                    alloc,
+                    file,
+                    voters,
+                    failed: false,
+                })
+            }
+            Err(fault) => Err(FileRefused { fault, file }),
+        }
     }
 
     /// The voters take requests in order, and what they change is written; their replies are put where there
@@ -99,26 +115,26 @@ impl PlainVoters {
     }
 }
 
-impl RoundService for PlainVoters {
+impl<R> RoundService<R> for PlainVoters {
     ghost service = { plain_voters };
 
-    fn serve(&mut self, requests: &[(u64, Request)]) -> Result<Items<Reply>, RoundFault>
-        ensures ok { IfOk result (λ told. Answers (world_of self.old) requests.now told (world_of self.new)) }
+    fn serve(&mut self, _rt: &R, requests: &[(u64, Request)]) -> Result<Items<Reply>, RoundFault>
+        ensures ok { IfOk result (λ told. AnswersRound plain_voters requests.now told self.old self.new) }
 
         // Just the requests out of range are refused.
         ensures refused { IfOk result (λ told. refused_from 0 told ≡ out_of_range 0 requests.now) }
-        ensures alone { IsLeftAlone plain_voters self.old × IsLeftAlone plain_voters self.new }
-        ensures stored { OnOk result (StandsForVoters self.old → StandsForVoters self.new) }
+        ensures short { OnOk result (length requests.now ≤ 4096) }
         ensures lives { OnOk result (IsAlive self.old.failed self.new.failed) }
-        ensures err { IfErr result (λ fault. CutsOff fault.cause fault.refused requests.now
-            (world_of self.old) (HoldsVoters self.old) (world_of self.new) (HoldsVoters self.new)) }
-        ensures kept { IfErr result (λ fault.
-            TakesNothing fault.cause → StandsForVoters self.old → StandsForVoters self.new) }
+        ensures err { IfErr result (λ fault.
+            CutsOff plain_voters fault.cause fault.refused requests.now self.old self.new) }
         ensures errors { IfErr result (λ fault. FailsAs fault.cause (length requests.now) self.old.failed
             self.new.failed) }
 
-        // A fault that takes nothing leaves all as it was.
+        // A fault that takes nothing leaves all as it was, and at any fault some of the first requests were taken
+        // in memory.
         ensures same { IfErr result (λ fault. TakesNothing fault.cause → self.new ≡ self.old) }
+        ensures taken { IfErr result (λ fault.
+            TakesFirst (world_of self.old) requests.now fault.refused (world_of self.new)) }
     {
         if requests.len() > MAX_ROUND_REQUESTS {
             return Err(RoundFault::new(self.alloc, Cause::TooLong));
@@ -138,43 +154,61 @@ impl RoundService for PlainVoters {
     }
 }
 
-impl StoreFiles<PlainVoters> for PlainFile {
+impl<R> StoreFiles<R, PlainVoters> for PlainFile {
     ghost files = { plain_files };
 
-    fn open(self, alloc: Global) -> Result<PlainVoters, Cause>
-        ensures opens { IfOk result (λ store. store.file ≡ self) }
-        ensures keeps { IfOk result (λ store.
-            (W : World) → IsClosedAt plain_files self W → IsOpenAt plain_voters store W) }
+    fn open(self, _rt: &R, alloc: Global) -> Result<PlainVoters, FilesRefused<PlainFile>>
+        ensures opens { IfOk result (λ store. store.file ≡ all_synced self) }
+        ensures finds { IfOk result (FindsVoters plain_voters plain_files self) }
         ensures alive { IfOk result (λ store. store.failed ≡ false) }
-        ensures err { IfErr result (FileIsRefusedFor self) }
-        ensures errors { IfErr result IsFromOutside }
+        ensures err { IfErr result (λ refused.
+            FileIsRefusedFor self refused.cause × (refused.files ≡ self)) }
+        ensures stands { IfErr result (λ refused. LeavesStanding plain_files self self refused.files) }
+        ensures errors { IfErr result (λ refused. IsFromOutside refused.cause) }
 
         // What a store wrote can always be read, and of an empty file nothing can be refused.
-        ensures readable { IfErr result (λ cause.
-            (W : World) → IsClosedAt plain_files self W → cause ≡ Cause.Memory) }
+        ensures readable { IfErr result (λ refused.
+            (cut : CutRound) → FileStandsBehind self cut → refused.cause ≡ Cause.Memory) }
         ensures some { OnErr result (0 < length (whole self)) }
     {
         match PlainVoters::open(alloc, self) {
             Ok(store) => Ok(store),
-            Err(OpenFault::Memory) => Err(Cause::Memory),
-            Err(OpenFault::Damaged) => Err(Cause::FileSystem),
+            Err(
+                FileRefused {
+                    fault: OpenFault::Memory,
+                    file,
+                },
+            ) => Err(FilesRefused {
+                cause: Cause::Memory,
+                files: file,
+            }),
+            Err(
+                FileRefused {
+                    fault: OpenFault::Damaged,
+                    file,
+                },
+            ) => Err(FilesRefused {
+                cause: Cause::FileSystem,
+                files: file,
+            }),
         }
     }
 
-    fn close(store: PlainVoters) -> PlainFile
+    fn close(store: PlainVoters, _rt: &R) -> PlainFile
         ensures closes { result ≡ store.file }
-        ensures keeps { (W : World) → IsOpenAt plain_voters store W → IsClosedAt plain_files result W }
+        ensures stands { LeavesInFiles plain_voters plain_files store result }
     {
         store.into_file()
     }
 
-    fn after_crash(self) -> PlainFile
-        ensures crashes { result ≡ after_crash self }
-        ensures keeps { (W : World) → IsClosedAt plain_files self W → IsClosedAt plain_files result W }
+    fn after_crash(self) -> Result<PlainFile, Memory>
+        ensures crashes { IfOk result (λ left. left ≡ after_crash self) }
+        ensures stands { IfOk result (λ left. LeavesStanding plain_files left self left) }
+        ensures err { OnErr result ⊥ }
     {
         let mut file = self;
         file.crash();
-        file
+        Ok(file)
     }
 }
 

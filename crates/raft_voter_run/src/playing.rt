@@ -14,7 +14,8 @@ use std::collections::VecDeque;
 /// The transcript of a session that begins with these files, in which no voter is stored, and the place up to
 /// which each round that was cut off was taken. It stops where memory is refused or the file system fails,
 /// which can be only where there is an event, and tells for which of the two.
-pub fn play<S: RoundService + Drop, F: StoreFiles<S> + Drop>(
+pub fn play<R, S: RoundService<R> + Drop, F: StoreFiles<R, S> + Drop>(
+    rt: &R,
     alloc: Global,
     files: F,
     mut events: VecDeque<Event>,
@@ -31,11 +32,11 @@ pub fn play<S: RoundService + Drop, F: StoreFiles<S> + Drop>(
     let mut cuts = Items::new(alloc);
     while let Some(event) = events.pop_front() {
         match event {
-            Event::Open { workers: _ } => storage = storage.opened(alloc)?,
-            Event::Close => storage = storage.closed(),
-            Event::CrashLast => storage = storage.crashed(),
+            Event::Open { workers: _ } => storage = storage.opened(rt, alloc)?,
+            Event::Close => storage = storage.closed(rt),
+            Event::CrashLast => storage = storage.crashed(rt)?,
             Event::Round { requests } => {
-                let round = storage.serve(alloc, requests)?;
+                let round = storage.serve(rt, alloc, requests)?;
                 add_cuts(&mut cuts, &round.outcome)?;
                 rounds.push(round)?;
             }

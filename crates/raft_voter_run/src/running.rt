@@ -46,19 +46,20 @@ pub fn exit_status(ended: io::Result<u8>) -> u8
 
 /// The program: with arguments it refuses them and reads nothing, without it runs a session. An `Err` tells
 /// that memory, the reader or the writer was refused or the store failed, and no verdict is claimed.
-pub fn program<S: RoundService + Drop, F: StoreFiles<S> + Drop, R: Read, W: Write>(
+pub fn program<R, S: RoundService<R> + Drop, F: StoreFiles<R, S> + Drop, I: Read, W: Write>(
+    rt: &R,
     has_arguments: bool,
     alloc: Global,
     files: F,
-    reader: &mut R,
+    reader: &mut I,
     writer: &mut W,
 ) -> io::Result<u8>
     requires { IsClosedAt F.files files fresh_world }
-    ensures ok { IfOk result (λ status. IfSome (R.remaining reader.old) (λ input.
-        Ends (IsPlayed S.service F.files files) has_arguments input
+    ensures ok { IfOk result (λ status. IfSome (I.remaining reader.old) (λ input.
+        Ends (WritesTranscript (IsPlayed S.service F.files files)) has_arguments input
         (W.contents writer.old) (W.contents writer.new) status)) }
-    ensures err { OnErr result (IfSome (R.remaining reader.old) (λ input.
-        EndsEarly (IsPlayed S.service F.files files) has_arguments input
+    ensures err { OnErr result (IfSome (I.remaining reader.old) (λ input.
+        EndsEarly (WritesTranscript (IsPlayed S.service F.files files)) has_arguments input
         (W.contents writer.old) (W.contents writer.new))) }
     ensures retried { IfErr result (λ fault. error_kind fault ≢ ErrorKind.Interrupted) }
     ensures unread { has_arguments ≡ true → reader.new ≡ reader.old }
@@ -67,7 +68,7 @@ pub fn program<S: RoundService + Drop, F: StoreFiles<S> + Drop, R: Read, W: Writ
         write_whole(writer, b"arguments refused\n")?;
         return Ok(ARGUMENTS_REFUSED);
     }
-    run::<S, F, R, W>(alloc, files, reader, writer)
+    run::<R, S, F, I, W>(rt, alloc, files, reader, writer)
 }
 
 /// Reads a session, serves it by a store that begins with these files, in which no voter is stored, and
@@ -75,43 +76,45 @@ pub fn program<S: RoundService + Drop, F: StoreFiles<S> + Drop, R: Read, W: Writ
 /// where the verdict is yes, 1 where it is no, and 2 for an unreadable line. An `Err` tells that memory, the
 /// reader or the writer was refused, or that the store failed: then nothing was written, or the front of what
 /// may be written, and no verdict. Of a session that is too long no more is read than tells so.
-pub fn run<S: RoundService + Drop, F: StoreFiles<S> + Drop, R: Read, W: Write>(
+pub fn run<R, S: RoundService<R> + Drop, F: StoreFiles<R, S> + Drop, I: Read, W: Write>(
+    rt: &R,
     alloc: Global,
     files: F,
-    reader: &mut R,
+    reader: &mut I,
     writer: &mut W,
 ) -> io::Result<u8>
     requires { IsClosedAt F.files files fresh_world }
-    ensures ok { IfOk result (λ status. IfSome (R.remaining reader.old) (λ input.
-        Ends (IsPlayed S.service F.files files) false input
+    ensures ok { IfOk result (λ status. IfSome (I.remaining reader.old) (λ input.
+        Ends (WritesTranscript (IsPlayed S.service F.files files)) false input
         (W.contents writer.old) (W.contents writer.new) status)) }
-    ensures err { OnErr result (IfSome (R.remaining reader.old) (λ input.
-        EndsEarly (IsPlayed S.service F.files files) false input
+    ensures err { OnErr result (IfSome (I.remaining reader.old) (λ input.
+        EndsEarly (WritesTranscript (IsPlayed S.service F.files files)) false input
         (W.contents writer.old) (W.contents writer.new))) }
     ensures retried { IfErr result (λ fault. error_kind fault ≢ ErrorKind.Interrupted) }
 {
     let front = read_front(alloc, reader)?;
-    run_bytes::<S, F, W>(alloc, files, front.as_slice(), writer)
+    run_bytes::<R, S, F, W>(rt, alloc, files, front.as_slice(), writer)
 }
 
 /// Serves the session of these bytes, and writes what `run` writes for it. An `Err` tells that memory was
 /// refused or the store failed, then nothing was written and its kind tells for which cause; or that the
 /// writer failed, which took the front of what may be written.
-pub fn run_bytes<S: RoundService + Drop, F: StoreFiles<S> + Drop, W: Write>(
+pub fn run_bytes<R, S: RoundService<R> + Drop, F: StoreFiles<R, S> + Drop, W: Write>(
+    rt: &R,
     alloc: Global,
     files: F,
     bytes: &[u8],
     writer: &mut W,
 ) -> io::Result<u8>
     requires { IsClosedAt F.files files fresh_world }
-    ensures ok { IfOk result (λ status. Ends (IsPlayed S.service F.files files) false bytes.now
+    ensures ok { IfOk result (λ status. Ends (WritesTranscript (IsPlayed S.service F.files files)) false bytes.now
         (W.contents writer.old) (W.contents writer.new) status) }
     ensures err { IfErr result (λ fault.
-        IsUntoldFor (IsPlayed S.service F.files files) (Stops S.service F.files files) bytes.now
+        IsUntoldFor (WritesTranscript (IsPlayed S.service F.files files)) (Stops S.service F.files files) bytes.now
         (W.contents writer.old) (W.contents writer.new) (error_kind fault)) }
     ensures retried { IfErr result (λ fault. error_kind fault ≢ ErrorKind.Interrupted) }
 {
-    let (text, status) = match answer::<S, F>(alloc, files, bytes) {
+    let (text, status) = match answer::<R, S, F>(rt, alloc, files, bytes) {
         Ok(told) => told,
         Err(cause) => return Err(io::Error::from(kind_of(cause))),
     };
@@ -130,8 +133,8 @@ fn kind_of(cause: Cause) -> ErrorKind
 }
 
 /// The bytes of a session, and of one that is too long only as many as tell so.
-fn read_front<R: Read>(alloc: Global, reader: &mut R) -> io::Result<Vec<u8>>
-    ensures ok { IfOk result (λ front. IfSome (R.remaining reader.old) (λ input.
+fn read_front<I: Read>(alloc: Global, reader: &mut I) -> io::Result<Vec<u8>>
+    ensures ok { IfOk result (λ front. IfSome (I.remaining reader.old) (λ input.
         front.items ≡ take 268435457 input)) }
     ensures retried { IfErr result (λ fault. error_kind fault ≢ ErrorKind.Interrupted) }
 {
@@ -141,26 +144,28 @@ fn read_front<R: Read>(alloc: Global, reader: &mut R) -> io::Result<Vec<u8>>
 }
 
 /// What is written for a session, and the status that goes with it.
-fn answer<S: RoundService + Drop, F: StoreFiles<S> + Drop>(
+fn answer<R, S: RoundService<R> + Drop, F: StoreFiles<R, S> + Drop>(
+    rt: &R,
     alloc: Global,
     files: F,
     input: &[u8],
 ) -> Result<(String, u8), Cause>
     requires { IsClosedAt F.files files fresh_world }
     ensures ok { IfOk result (λ told.
-        MayWrite (IsPlayed S.service F.files files) input.now (string_bytes told.0) told.1) }
+        MayWrite (WritesTranscript (IsPlayed S.service F.files files)) input.now (string_bytes told.0) told.1) }
     ensures err { IfErr result (MayStopReading (Stops S.service F.files files) input.now) }
     ensures errors { IfErr result IsFromOutside }
 {
     match read_session(alloc, input) {
-        Ok(events) => shown::<S, F>(alloc, files, events),
+        Ok(events) => shown::<R, S, F>(rt, alloc, files, events),
         Err(SessionFault::Unreadable(line)) => Ok(unreadable(alloc, line)?),
         Err(SessionFault::Memory) => Err(Cause::Memory),
     }
 }
 
 /// What is written for a session's events.
-fn shown<S: RoundService + Drop, F: StoreFiles<S> + Drop>(
+fn shown<R, S: RoundService<R> + Drop, F: StoreFiles<R, S> + Drop>(
+    rt: &R,
     alloc: Global,
     files: F,
     events: VecDeque<Event>,
@@ -171,7 +176,7 @@ fn shown<S: RoundService + Drop, F: StoreFiles<S> + Drop>(
     ensures err { IfErr result (MayStop (Stops S.service F.files files) events.items) }
     ensures errors { IfErr result IsFromOutside }
 {
-    let (transcript, cuts) = play::<S, F>(alloc, files, events)?;
+    let (transcript, cuts) = play::<R, S, F>(rt, alloc, files, events)?;
     Ok(judged(alloc, &transcript, cuts.as_slice())?)
 }
 

@@ -1,7 +1,7 @@
 //! A store that is open, or the files of one that isn't.
 ghost use Rattle.std.specs.Prelude.{◌≡◌, [], true, IfErr, IfOk, OnErr};
 ghost use Rattle.raft_voter.specs.Service.{IsFromOutside, is_refused, refused_from};
-ghost use Rattle.raft_voter_run.specs.Storage.{ClosesStore, Crashes, IsOver, Keeps, MayAnswer, OpensStore, RefusesToOpen, Served, Untold};
+ghost use Rattle.raft_voter_run.specs.Storage.{ClosesStore, Crashes, IsOver, Keeps, MayAnswer, OpensStore, RefusesToCrash, RefusesToOpen, Served, Untold};
 
 use raft_voter::{Cause, Items, Memory, Outcome, Reply, Request, Round, RoundService, StoreFiles};
 use std::alloc::Global;
@@ -15,50 +15,72 @@ pub enum Storage<S, F> {
     Open(S),
 }
 
-impl<S: RoundService + Drop, F: StoreFiles<S> + Drop> Storage<S, F> {
+impl<S: Drop, F: Drop> Storage<S, F> {
     /// The files, where the store is closed if it is open.
-    fn into_files(self) -> F
+    fn into_files<R>(self, rt: &R) -> F
+    where
+        S: RoundService<R>,
+        F: StoreFiles<R, S>,
         ensures over { IsOver F.files self result }
         ensures keeps { Keeps S.service F.files self (Storage.Closed result) }
     {
         match self {
             Storage::Closed(files) => files,
-            Storage::Open(store) => F::close(store),
+            Storage::Open(store) => F::close(store, rt),
         }
     }
 
-    /// OpensStore the store; one that is open is closed first. It is refused for the cause for which the files are.
-    pub fn opened(self, alloc: Global) -> Result<Storage<S, F>, Cause>
-        ensures opens { IfOk result (OpensStore F.files self) }
-        ensures keeps { IfOk result (Keeps S.service F.files self) }
+    /// Opens the store; one that is open is closed first. It is refused for the cause for which the files are,
+    /// and then they are gone.
+    pub fn opened<R>(self, rt: &R, alloc: Global) -> Result<Storage<S, F>, Cause>
+    where
+        S: RoundService<R>,
+        F: StoreFiles<R, S>,
+        ensures opens { IfOk result (OpensStore S.service F.files self) }
         ensures err { IfErr result (RefusesToOpen F.files self) }
         ensures errors { IfErr result IsFromOutside }
     {
-        let store = self.into_files().open(alloc)?;
-        Ok(Storage::Open(store))
+        match self.into_files(rt).open(rt, alloc) {
+            Ok(store) => Ok(Storage::Open(store)),
+            Err(refused) => Err(refused.cause),
+        }
     }
 
-    /// ClosesStore the store, if one is open.
-    pub fn closed(self) -> Storage<S, F>
-        ensures closes { ClosesStore F.files self result }
-        ensures keeps { Keeps S.service F.files self result }
+    /// Closes the store, if one is open.
+    pub fn closed<R>(self, rt: &R) -> Storage<S, F>
+    where
+        S: RoundService<R>,
+        F: StoreFiles<R, S>,
+        ensures { ClosesStore S.service F.files self result }
     {
-        Storage::Closed(self.into_files())
+        Storage::Closed(self.into_files(rt))
     }
 
-    /// The machine stops: no store is open, and what a crash leaves is there.
-    pub fn crashed(self) -> Storage<S, F>
-        ensures crashes { Crashes F.files self result }
-        ensures keeps { Keeps S.service F.files self result }
+    /// The machine stops: no store is open, and what a crash leaves is there. It is refused for want of memory
+    /// alone, as the crash of the files is, and then they are gone.
+    pub fn crashed<R>(self, rt: &R) -> Result<Storage<S, F>, Memory>
+    where
+        S: RoundService<R>,
+        F: StoreFiles<R, S>,
+        ensures crashes { IfOk result (Crashes S.service F.files self) }
+        ensures err { OnErr result (RefusesToCrash F.files self) }
     {
-        let files = self.into_files();
-        Storage::Closed(files.after_crash())
+        let files = self.into_files(rt);
+        Ok(Storage::Closed(files.after_crash()?))
     }
 
     /// Serves a round, or cuts it off where no store is open or it is too long. Another fault of the store is
     /// handed on, and can come only where a store is open and the round isn't too long. The store is still
     /// open then: it took what its fault says, or, where memory was refused, perhaps the whole round.
-    pub fn serve(&mut self, alloc: Global, requests: Items<(u64, Request)>) -> Result<Round, Cause>
+    pub fn serve<R>(
+        &mut self,
+        rt: &R,
+        alloc: Global,
+        requests: Items<(u64, Request)>,
+    ) -> Result<Round, Cause>
+    where
+        S: RoundService<R>,
+        F: StoreFiles<R, S>,
         ensures ok { IfOk result (Served S.service F.files self.old self.new requests) }
         ensures err { IfErr result (Untold S.service self.old self.new requests) }
         ensures errors { OnErr result (MayAnswer self.old requests) }
@@ -66,7 +88,7 @@ impl<S: RoundService + Drop, F: StoreFiles<S> + Drop> Storage<S, F> {
         let Storage::Open(store) = self else {
             return Ok(cut_off(alloc, requests));
         };
-        match store.serve(requests.as_slice()) {
+        match store.serve(rt, requests.as_slice()) {
             Ok(replies) => Ok(answered(alloc, requests, replies)?),
             Err(fault) => match fault.cause {
                 Cause::TooLong => Ok(cut_off(alloc, requests)),

@@ -4,10 +4,10 @@ use Rattle.raft_voter_run.proofs.running.run.Goals as goal
 
 pub returns-clause-ok : goal.returns-clause-ok
 returns-clause-ok g c =
-    ends_of_front c.run_bytes.result _ (g.R.Read.remaining c.args.reader.now) _ _ c.in_ok-front.front.items c.as_slice.result.now c.in_ok-front.ensures.ok c.as_slice.ensures.value
+    ends_of_front c.run_bytes.result _ (g.I.Read.remaining c.args.reader.now) _ _ c.in_ok-front.front.items c.as_slice.result.now c.in_ok-front.ensures.ok c.as_slice.ensures.value
     c.run_bytes.ensures.ok
 
 pub returns-clause-err : goal.returns-clause-err
 returns-clause-err g c =
-    early_of_front c.run_bytes.result error_kind _ _ (g.R.Read.remaining c.args.reader.now) _ _ c.in_ok-front.front.items c.as_slice.result.now c.in_ok-front.ensures.ok c.as_slice.ensures.value
+    early_of_front c.run_bytes.result error_kind _ _ (g.I.Read.remaining c.args.reader.now) _ _ c.in_ok-front.front.items c.as_slice.result.now c.in_ok-front.ensures.ok c.as_slice.ensures.value
     c.run_bytes.ensures.err

@@ -27,4 +27,4 @@ returns-in_err-reply-clause-failed c = c.take.ensures.failed ∙ c.loop-group.in
 pub returns-in_err-reply-clause-err : goal.returns-in_err-reply-clause-err
 returns-in_err-reply-clause-err c =
     let before = c.loop-group.invariant in
-    on_err c.from_residual.result _ (refused_here _ _ _ _ c.loop-group.group-index _ _ (omega arith) (sym c.loop-group-item.is) before.1 before.0.synced c.in_err-reply.ensures.err)
+    on_err c.from_residual.result _ (refused_here _ _ _ _ _ _ c.loop-group.group-index _ _ (omega arith) (sym c.loop-group-item.is) before.1 before.0 c.in_err-reply.ensures.err)

@@ -25,7 +25,12 @@ pub struct Handle {
 pub enum Fault {
     /// The n-th changing call is refused and changes nothing.
     Refuse(u64),
+    /// The n-th changing call is refused. A write there writes so many of its first bytes, or all where it has
+    /// fewer, which count as not synced; another call changes nothing.
+    RefuseInPart(u64, usize),
     /// The file system stops at the n-th changing call: a write, a shortening or an allocation there counts
     /// as not synced, any other call hasn't happened.
     StopAt(u64),
+    /// The n-th changing call has happened and is answered as refused, and the file system has stopped.
+    StopAfter(u64),
 }

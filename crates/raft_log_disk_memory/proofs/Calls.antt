@@ -1,33 +1,31 @@
 -- The exits of the calls of the file system in memory.
-use Rattle.std.specs.Prelude.{◌≡◌, ℕ, ◌⊎◌, Bool, false, Option, Some, None, List, Result, Ok, Err}
+use Rattle.std.specs.Prelude.{◌≡◌, ℕ, ◌⊎◌, Bool, false, Option, Some, None, List, [], Result, Ok, Err}
 use Rattle.std.specs.Result.{IfErr, OnOk, OnErr, MatchResult}
+use Rattle.std.specs.declared.alloc.AllocError.{AllocError}
 use Rattle.std.specs.declared.io.ErrorKind.{ErrorKind}
-use Rattle.std.proofs.Common.{refl, sym, ◌∙◌, ap, inl, inr}
+use Rattle.std.proofs.Common.{refl, sym, ◌∙◌, ap, subst, inl, inr, take, drop}
 use Rattle.std.proofs.lemmas.Bool.{false≢true}
-use Rattle.raft_log_disk.specs.Disk.{Change, File, Disk, with_file, HasDirectory}
-use Rattle.raft_log_disk.specs.Calls.{IsRight, after_change, counted, at_stop, Changes, failed, stops, none, RefusedChange, RefusedWhole}
+use Rattle.raft_log_disk.specs.Disk.{Change, Wrote, File, Disk, overwritten, with_file, HasDirectory}
+use Rattle.raft_log_disk.specs.Calls.{IsRight, with_change, after_change, counted, at_stop, Changes, failed, stops, none, some, SomeOf, RefusedChange, RefusedWhole}
 use Rattle.raft_log_disk.proofs.ImageLaws.{some_file}
 use Rattle.raft_log_disk.specs.declared.handle.Handle.{Handle}
 use Rattle.raft_log_disk.specs.declared.handle.Permission.TheVariants.{ReadWrite}
 use Rattle.raft_log_disk_memory.specs.declared.memory.MemoryFileSystem.{MemoryFileSystem}
-use Rattle.raft_log_disk_memory.specs.declared.storage.Storage.{Storage}
+use Rattle.raft_log_disk_storage.specs.declared.storage.Storage.{Storage}
 use Rattle.raft_log_disk.specs.Arguments.{WrongCreate, WrongName, WrongRename, WrongDirectory, WrongHandle, WrongWriter}
 use Rattle.std.specs.Option.{option_map}
-use Rattle.raft_log_disk_memory.specs.Held.{Held, file_of}
-use Rattle.raft_log_disk_memory.specs.Storage.{contents_of}
-use Rattle.raft_log_disk_memory.specs.Steps.{IsSame, Makes}
-use Rattle.raft_log_disk_memory.specs.Memory.{disk_of}
-use Rattle.raft_log_disk_memory.specs.Turns.{IsEnded, at_the_stop, not_made}
-use Rattle.raft_log_disk_memory.proofs.Turns.{counted_or_stop}
+use Rattle.raft_log_disk_storage.specs.Held.{Held, file_of}
+use Rattle.raft_log_disk_storage.specs.Storage.{contents_of}
+use Rattle.raft_log_disk_storage.specs.Steps.{IsSame, Makes}
+use Rattle.raft_log_disk_memory.specs.Memory.{disk_of, failed_once}
+use Rattle.raft_log_disk_memory.specs.Turns.{IsChangeEnded, IsCallEnded, at_the_stop, not_made}
+use Rattle.raft_log_disk_storage.proofs.Fronts.{after_whole, front_change, front_torn}
+use Rattle.raft_log_disk_memory.proofs.Turns.{over, IsFrontOnDisk, counted_or_stop}
 
 -- what holds of every error holds of this one
 pub any_err : {T E : Type 0} (r : Result T E) (P : E → Type 0) → ((e : E) → P e) → IfErr r P
 any_err (Ok v) P all = tt
 any_err (Err e) P all = all e
-
--- the contents as the file system's disk has them
-abbrev pub over : MemoryFileSystem → Disk → Disk
-over system d = record d { stopped = system.stopped; failures = system.failures }
 
 -- a refused call that did nothing
 pub refused_whole : {done : Disk → Type 0} {wrong : ErrorKind → Type 0} {error : ErrorKind} (old mid new : Disk) → old.stopped ≡ false → IsRight wrong → mid ≡ old
@@ -41,7 +39,7 @@ refused_piece old new runs right (inl is) = failed runs right old (none refl) is
 refused_piece old new runs right (inr is) = stops runs old (inl refl) is
 
 -- what stands after the storage made a change, or didn't
-pub changed_or_not : (id : ℕ) (next : File → File) (done : Result (Unit {0}) ErrorKind) (begun : MemoryFileSystem) (after : Storage) (old : Disk) → disk_of begun ≡ old
+pub changed_or_not : {E : Type 0} (id : ℕ) (next : File → File) (done : Result (Unit {0}) E) (begun : MemoryFileSystem) (after : Storage) (old : Disk) → disk_of begun ≡ old
     → OnOk done ((file : File) → (contents_of begun.storage).files id ≡ Some file → contents_of after ≡ with_file id (Some (next file)) (contents_of begun.storage))
     → OnErr done (contents_of after ≡ contents_of begun.storage)
     → old.stopped ≡ false → (old.files id ≡ None → ⊥)
@@ -58,11 +56,45 @@ changed_or_not id next (Err e) begun after old same ok err runs there = ap (over
 
 -- the same from what the storage says of a change
 pub made_or_not : (id : ℕ) (change : Change) (done : Result (Unit {0}) ErrorKind) (begun : MemoryFileSystem) (after : Storage) (old : Disk) → disk_of begun ≡ old
-    → OnOk done (Makes id change begun.storage after) → OnErr done (IsSame begun.storage after)
+    → OnOk done (Makes id change [] begun.storage after) → OnErr done (IsSame begun.storage after)
     → old.stopped ≡ false → (old.files id ≡ None → ⊥)
     → MatchResult done (λ v. Changes id (after_change change) old (over begun (contents_of after))) (λ e. over begun (contents_of after) ≡ old)
-made_or_not id change (Ok v) begun after old same ok err runs there = changed_or_not id (after_change change) (Ok v) begun after old same ok.contents err runs there
-made_or_not id change (Err e) begun after old same ok err runs there = changed_or_not id (after_change change) (Err e) begun after old same ok err.contents runs there
+made_or_not id change (Ok v) begun after old same ok err runs there =
+    changed_or_not {E = ErrorKind} id (after_change change) (Ok v) begun after old same
+    (λ file is. ok.contents file is ∙ ap (λ (f : File). with_file id (Some f) (contents_of begun.storage)) (after_whole change file)) err runs there
+made_or_not id change (Err e) begun after old same ok err runs there = changed_or_not {E = ErrorKind} id (after_change change) (Err e) begun after old same ok err.contents runs there
+
+-- the same of the front of a write
+pub front_or_not : (id at : ℕ) (bytes : List ℕ) (count : ℕ) (done : Result (Unit {0}) ErrorKind) (begun : MemoryFileSystem) (after : Storage) (old : Disk) → disk_of begun ≡ old
+    → OnOk done (Makes id (Wrote at (take count bytes)) (drop count bytes) begun.storage after) → OnErr done (IsSame begun.storage after)
+    → (old.files id ≡ None → ⊥)
+    → MatchResult done (λ v. IsFrontOnDisk id at bytes count old (over begun (contents_of after))) (λ e. over begun (contents_of after) ≡ old)
+front_or_not id at bytes count (Ok v) begun after old same ok err there =
+    let got = some_file (old.files id) there in
+    record {
+      file = got.0;
+      is = got.1;
+      disk = ap (over begun) (ok.contents got.0 (ap (λ (d : Disk). d.files id) same ∙ got.1))
+          ∙ (ap (λ (f : File). with_file id (Some f) (disk_of begun)) (front_change at bytes count got.0)
+          ∙ ap (with_file id (Some (with_change (Wrote at bytes) (overwritten at (take count bytes) got.0.content) got.0))) same);
+    }
+front_or_not id at bytes count (Err e) begun after old same ok err there = ap (over begun) err.contents ∙ same
+
+-- and what the disk then has of a write that was refused in part
+pub part_err : {wrong : ErrorKind → Type 0} {error : ErrorKind} (id at : ℕ) (bytes : List ℕ) (count : ℕ) (done : Result (Unit {0}) ErrorKind) (old mid new : Disk)
+    → old.stopped ≡ false → IsRight wrong
+    → MatchResult done (λ v. IsFrontOnDisk id at bytes count old mid) (λ e. mid ≡ old)
+    → new ≡ failed_once mid → RefusedChange id (Wrote at bytes) wrong error old new
+part_err id at bytes count (Ok v) old mid new runs right made fail =
+    let part : SomeOf id (Wrote at bytes) old mid = some made.file _ made.is (front_torn at bytes count made.file.content) made.disk in
+    elim (counted_or_stop mid new fail) [
+      | inl one ↦ failed runs right mid part one
+      | inr stop ↦ stops runs mid (inr (right, inl part)) stop
+    ]
+part_err id at bytes count (Err e) old mid new runs right made fail = elim (counted_or_stop mid new fail) [
+  | inl one ↦ failed runs right mid (none made) one
+  | inr stop ↦ stops runs mid (inl made) stop
+]
 
 pub change_ok : {T : Type 0} (id : ℕ) (next : File → File) (done : Result (Unit {0}) ErrorKind) (ends : Bool) (old mid new : Disk) (result : Result T ErrorKind)
     → MatchResult done (λ v. Changes id next old mid) (λ e. mid ≡ old)
@@ -74,18 +106,41 @@ change_ok id next done ends old mid new (Err e) is ok = tt
 pub change_err : {T : Type 0} (id : ℕ) (change : Change) (wrong : ErrorKind → Type 0) (done : Result (Unit {0}) ErrorKind) (ends : Bool) (old mid new : Disk) (result : Result T ErrorKind)
     → old.stopped ≡ false → IsRight wrong
     → MatchResult done (λ v. Changes id (after_change change) old mid) (λ e. mid ≡ old)
-    → IfErr result (λ error. IsEnded ends done error mid new) → IfErr result (λ error. RefusedChange id change wrong error old new)
+    → IfErr result (λ error. IsChangeEnded ends done error mid new) → IfErr result (λ error. RefusedChange id change wrong error old new)
 change_err id change wrong done ends old mid new (Ok w) runs right is ended = tt
 change_err id change wrong (Ok v) ends old mid new (Err e) runs right is (at_the_stop falls kind stop) = stops runs mid (inr (right, inr is)) stop
 change_err id change wrong (Err k) ends old mid new (Err e) runs right is (at_the_stop falls kind stop) = stops runs mid (inl is) stop
-change_err id change wrong (Ok v) ends old mid new (Err e) runs right is (not_made past same fail) = absurd (ok_not same)
-  where
-    ok_not : Ok v ≡ Err e → ⊥
-    ok_not p = cc
+change_err id change wrong (Ok v) ends old mid new (Err e) runs right is (not_made past same fail) = absurd same
 change_err id change wrong (Err k) ends old mid new (Err e) runs right is (not_made past same fail) = elim (counted_or_stop mid new fail) [
   | inl one ↦ failed runs right mid (none is) one
   | inr stop ↦ stops runs mid (inl is) stop
 ]
+
+-- what stands after a call that is done whole or not at all
+pub call_ok : {T E : Type 0} (does : Disk → Type 0) (done : Result (Unit {0}) E) (ends : Bool) (old mid new : Disk) (result : Result T ErrorKind)
+    → MatchResult done (λ v. does mid) (λ e. mid ≡ old)
+    → OnOk result ((ends ≡ false) × OnErr done ⊥ × (new ≡ mid)) → OnOk result (does new)
+call_ok does (Ok v) ends old mid new (Ok w) is ok = subst does (sym ok.2) is
+call_ok does (Err e) ends old mid new (Ok w) is ok = absurd (ok.1)
+call_ok does done ends old mid new (Err e) is ok = tt
+
+pub call_err : {T : Type 0} (does : Disk → Type 0) (wrong : ErrorKind → Type 0) (done : Result (Unit {0}) AllocError) (ends : Bool) (old mid new : Disk) (result : Result T ErrorKind)
+    → old.stopped ≡ false → IsRight wrong
+    → MatchResult done (λ v. does mid) (λ e. mid ≡ old)
+    → IfErr result (λ error. IsCallEnded ends done error mid new) → IfErr result (λ error. RefusedWhole does wrong error old new)
+call_err does wrong done ends old mid new (Ok w) runs right is ended = tt
+call_err does wrong (Ok v) ends old mid new (Err e) runs right is (at_the_stop falls kind stop) = stops runs mid (inr (right, inr is)) stop
+call_err does wrong (Err k) ends old mid new (Err e) runs right is (at_the_stop falls kind stop) = stops runs mid (inl is) stop
+call_err does wrong (Ok v) ends old mid new (Err e) runs right is (not_made past same fail) = absurd same
+call_err does wrong (Err k) ends old mid new (Err e) runs right is (not_made past same fail) = refused_whole old mid new runs right is (counted_or_stop mid new fail)
+
+-- what stands after the storage did such a call, or didn't
+pub done_or_not : {E : Type 0} (does : Disk → Type 0) (next : Disk → Disk) (done : Result (Unit {0}) E) (begun : MemoryFileSystem) (after : Storage) (old : Disk) → disk_of begun ≡ old
+    → ((mid : Disk) → mid ≡ over begun (next (contents_of begun.storage)) → does mid)
+    → OnOk done (contents_of after ≡ next (contents_of begun.storage)) → OnErr done (contents_of after ≡ contents_of begun.storage)
+    → MatchResult done (λ v. does (over begun (contents_of after))) (λ e. over begun (contents_of after) ≡ old)
+done_or_not does next (Ok v) begun after old same step ok err = step (over begun (contents_of after)) (ap (over begun) ok)
+done_or_not does next (Err e) begun after old same step ok err = ap (over begun) err ∙ same
 
 -- arguments that are right
 pub right_name : (path : List ℕ) (d : Disk) (id : ℕ) → d.names path ≡ Some id → (e : ErrorKind) → WrongName path d e → ⊥

@@ -4,21 +4,26 @@ use Rattle.std.specs.Result.{IfErr}
 use Rattle.std.specs.declared.io.ErrorKind.{ErrorKind}
 use Rattle.std.specs.declared.io.ErrorKind.TheVariants.{OutOfMemory}
 use Rattle.raft_log_disk.specs.Disk.{Change, Disk}
+use Rattle.raft_log_disk.specs.Calls.{Changes, Creates, flushed}
 use Rattle.raft_log_disk.specs.Arguments.{WrongHandle, WrongWriter, WrongListing}
 use Rattle.raft_log_disk.specs.declared.handle.Handle.{Handle}
 use Rattle.raft_log_disk.specs.declared.handle.Permission.TheVariants.{ReadWrite}
-use Rattle.raft_log_disk_memory.specs.declared.remainder.Remainder.{Remainder}
-use Rattle.raft_log_disk_memory.specs.Left.{left_disk}
+use Rattle.raft_log_disk_storage.specs.declared.remainder.Remainder.{Remainder}
+use Rattle.raft_log_disk_storage.specs.Left.{left_disk}
 use Rattle.raft_log_disk_memory.specs.declared.memory.MemoryFileSystem.{MemoryFileSystem}
-use Rattle.raft_log_disk_memory.specs.Memory.{disk_of, unsynced, without_named, with_moved}
-use Rattle.raft_log_disk_memory.specs.Turns.{ArmedRefusalFell, ArmedStopFell, IsRefusedWhole, IsRefusedChange}
+use Rattle.raft_log_disk_storage.specs.Order.{without_file}
+use Rattle.raft_log_disk_memory.specs.Memory.{disk_of, unsynced, Kept, kept, without_named, with_moved}
+use Rattle.raft_log_disk_memory.specs.Turns.{ArmedRefusalFell, ArmedPartFell, ArmedStopFell, IsRefusedWhole, IsRefusedChange}
 
 -- Why a call was refused.
 
--- a refused call that is done whole or not at all, of which this may be wrong
-abbrev pub RefusesWhole : {A : Type 0} → (Disk → ErrorKind → Type 0) → Result A ErrorKind
-    → MemoryFileSystem → MemoryFileSystem → Type 0
-RefusesWhole wrong result old new = IfErr result (λ error. IsRefusedWhole (wrong (disk_of old)) error old new)
+-- a refused call that is done whole or not at all, of which this may be wrong; done, it changes the disk so,
+-- and leaves the changes of all files in this order
+abbrev pub RefusesWhole : {A : Type 0} → (Disk → ErrorKind → Type 0) → (Disk → Disk → Type 0)
+    → (Kept → List (ℕ × Change)) → Result A ErrorKind → MemoryFileSystem → MemoryFileSystem → Type 0
+RefusesWhole wrong done order result old new =
+    IfErr result (λ error.
+    IsRefusedWhole (done (disk_of old)) (order (kept old)) (wrong (disk_of old)) error old new)
 
 -- a refused change of a handle's file
 abbrev pub RefusesChange : {A : Type 0} → Handle → Change → Result A ErrorKind
@@ -31,9 +36,13 @@ RefusesChange handle change result old new =
 abbrev pub ArmsNothing : MemoryFileSystem → ErrorKind → Type 0
 ArmsNothing system error = ((disk_of system).stopped ≡ true) ⊎ (error ≡ OutOfMemory)
 
+-- an armed refusal fell, also one in part
+abbrev pub HasRefused : ErrorKind → MemoryFileSystem → MemoryFileSystem → Type 0
+HasRefused error old new = ArmedRefusalFell error old new ⊎ ArmedPartFell error old new
+
 -- an armed refusal or the armed stop fell
 abbrev pub HasFallen : ErrorKind → MemoryFileSystem → MemoryFileSystem → Type 0
-HasFallen error old new = ArmedRefusalFell error old new ⊎ ArmedStopFell error old new
+HasFallen error old new = HasRefused error old new ⊎ ArmedStopFell error old new
 
 -- The order of the changes of all files.
 
@@ -41,14 +50,39 @@ HasFallen error old new = ArmedRefusalFell error old new ⊎ ArmedStopFell error
 abbrev pub AddsLast : Handle → Change → MemoryFileSystem → MemoryFileSystem → Type 0
 AddsLast handle change old new = unsynced new ≡ unsynced old ++ (handle.file, change) ∷ []
 
+-- the order as it is
+abbrev pub order_of : Kept → List (ℕ × Change)
+order_of old = old.unsynced
+
+-- the order without the changes of a file
+abbrev pub order_without : ℕ → Kept → List (ℕ × Change)
+order_without id old = without_file id old.unsynced
+
+-- the order without the changes of the file with a name
+abbrev pub order_without_named : List ℕ → Kept → List (ℕ × Change)
+order_without_named path old = without_named (old.disk.names path) old.unsynced
+
+-- the order without the changes of the file that is replaced where another gets its name
+abbrev pub order_without_replaced : List ℕ → List ℕ → Kept → List (ℕ × Change)
+order_without_replaced from to old = with_moved (old.disk.names from) (old.disk.names to) old.unsynced
+
 -- the changes of the file with a name went
 abbrev pub ForgetsNamed : List ℕ → MemoryFileSystem → MemoryFileSystem → Type 0
-ForgetsNamed path old new = unsynced new ≡ without_named ((disk_of old).names path) (unsynced old)
+ForgetsNamed path old new = unsynced new ≡ order_without_named path (kept old)
 
 -- the changes of the file that is replaced went
 abbrev pub ForgetsReplaced : List ℕ → List ℕ → MemoryFileSystem → MemoryFileSystem → Type 0
-ForgetsReplaced from to old new =
-    unsynced new ≡ with_moved ((disk_of old).names from) ((disk_of old).names to) (unsynced old)
+ForgetsReplaced from to old new = unsynced new ≡ order_without_replaced from to (kept old)
+
+-- What a call does.
+
+-- an empty file got a name, and a number that none had
+abbrev pub CreatesNext : List ℕ → Disk → Disk → Type 0
+CreatesNext path old new = Creates path old.unused old new
+
+-- a file's bytes were made durable
+abbrev pub SyncsAll : ℕ → Disk → Disk → Type 0
+SyncsAll id old new = Changes id flushed old new
 
 -- What is asked before a call.
 

@@ -1,11 +1,5 @@
-pub mod Changes
-pub mod Held
-pub mod Order
-pub mod Storage
-pub mod Listing
-pub mod Left
-pub mod Stamps
-pub mod Steps
-pub mod Answers
 pub mod Memory
 pub mod Turns
+pub mod Answers
+-- a library below, passed on to who stands on this one
+pub use Rattle.raft_log_disk_storage

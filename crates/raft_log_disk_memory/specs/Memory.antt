@@ -1,16 +1,49 @@
 -- A file system in memory, as a disk, and the order of the changes of all its files.
-use Rattle.std.specs.Prelude.{ℕ, suc, cond, Option, Some, None, List}
-use Rattle.std.proofs.Common.{nat_lt}
+use Rattle.std.specs.Prelude.{◌≡◌, ℕ, ◌+◌, ◌<◌, ◌≤◌, Bool, true, false, suc, cond, Option, Some, None, List, [], ◌∷◌}
+use Rattle.std.proofs.Common.{nat_eq, nat_lt}
 use Rattle.raft_log_disk.specs.Disk.{Change, Disk}
-use Rattle.raft_log_disk.specs.Calls.{counted, at_stop}
+use Rattle.raft_log_disk.specs.Calls.{counted, at_stop, with_marks}
 use Rattle.raft_log_disk_memory.specs.declared.memory.MemoryFileSystem.{MemoryFileSystem}
-use Rattle.raft_log_disk_memory.specs.Order.{without_file}
-use Rattle.raft_log_disk_memory.specs.Steps.{without_replaced}
-use Rattle.raft_log_disk_memory.specs.Storage.{contents_of, unsynced_of}
+use Rattle.raft_log_disk_storage.specs.Order.{without_file}
+use Rattle.raft_log_disk_storage.specs.Steps.{without_replaced}
+use Rattle.raft_log_disk_storage.specs.Storage.{contents_of, unsynced_of}
+
+-- whether a place of a file is among those that can't be read
+abbrev pub is_denied : List (ℕ × ℕ) → ℕ → ℕ → Bool
+is_denied [] id place = false
+is_denied (mark ∷ marks) id place =
+    cond (nat_eq mark.0 id) (cond (nat_eq mark.1 place) true (is_denied marks id place))
+    (is_denied marks id place)
 
 -- the disk of a file system in memory
 abbrev pub disk_of : MemoryFileSystem → Disk
-disk_of system = record (contents_of system.storage) { stopped = system.stopped; failures = system.failures }
+disk_of system = record (contents_of system.storage) {
+  unreadable = is_denied system.denied.items;
+  stopped = system.stopped;
+  failures = system.failures;
+}
+
+-- the marks, and a place of the file, where there is one
+abbrev pub marked : Option ℕ → ℕ → (ℕ → ℕ → Bool) → ℕ → ℕ → Bool
+marked None place marks id at = marks id at
+marked (Some file) place marks id at =
+    cond (nat_eq file id) (cond (nat_eq place at) true (marks id at)) (marks id at)
+
+-- a place of the file that has a name can't be read from now on; where no file has it nothing changed
+abbrev pub DeniesRead : List ℕ → ℕ → Disk → Disk → Type 0
+DeniesRead name place old new = new ≡ with_marks (marked (old.names name) place old.unreadable) old
+
+-- one of so many places from a first one on can't be read
+pub record HasDenied (marks : List (ℕ × ℕ)) (id start count : ℕ) : Type 0 where
+  pub place : ℕ
+  pub from : start ≤ place
+  pub below : place < start + count
+  pub denied : is_denied marks id place ≡ true
+
+-- none of them is such
+abbrev pub HasNoDenied : List (ℕ × ℕ) → ℕ → ℕ → ℕ → Type 0
+HasNoDenied marks id start count =
+    (place : ℕ) → start ≤ place → place < start + count → is_denied marks id place ≡ false
 
 -- the changes of all files that aren't synced, in the order of the calls, each with its file's node number
 abbrev pub unsynced : MemoryFileSystem → List (ℕ × Change)

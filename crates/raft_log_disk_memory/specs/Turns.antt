@@ -1,47 +1,80 @@
 -- Which changing calls of a file system in memory fail, and how.
-use Rattle.std.specs.Prelude.{◌≡◌, ℕ, ◌-◌, ◌⊎◌, Bool, true, false, cond, List, [], ◌∷◌, ◌++◌, Result, Err}
+use Rattle.std.specs.Prelude.{◌≡◌, ℕ, ◌-◌, ◌⊎◌, Bool, true, false, cond, Option, Some, None, List, [], ◌∷◌, ◌++◌, Result}
 use Rattle.std.specs.Result.{MatchResult}
 use Rattle.std.specs.List.{Contains, filter}
-use Rattle.std.proofs.Common.{map, nat_eq, nat_lt}
+use Rattle.std.proofs.Common.{map, take, nat_eq, nat_lt}
+use Rattle.std.specs.declared.alloc.AllocError.{AllocError}
 use Rattle.std.specs.declared.io.ErrorKind.{ErrorKind}
 use Rattle.std.specs.declared.io.ErrorKind.TheVariants.{Other, OutOfMemory}
-use Rattle.raft_log_disk.specs.Disk.{Change, Disk}
-use Rattle.raft_log_disk.specs.Calls.{after_change, at_stop, Changes}
+use Rattle.raft_log_disk.specs.Disk.{Change, Wrote, ShortenedTo, GrewTo, File, Disk, overwritten, with_file}
+use Rattle.raft_log_disk.specs.Calls.{with_change, after_change, at_stop, Changes}
 use Rattle.raft_log_disk.specs.declared.handle.Fault.{Fault}
-use Rattle.raft_log_disk.specs.declared.handle.Fault.TheVariants.{Refuse, StopAt}
+use Rattle.raft_log_disk.specs.declared.handle.Fault.TheVariants.{Refuse, RefuseInPart, StopAt, StopAfter}
 use Rattle.raft_log_disk_memory.specs.declared.memory.MemoryFileSystem.{MemoryFileSystem}
 use Rattle.raft_log_disk_memory.specs.Memory.{disk_of, Kept, kept, failed_once}
-use Rattle.raft_log_disk_memory.specs.Steps.{IsRoomFault}
+use Rattle.raft_log_disk_storage.specs.Steps.{IsRoomFault}
 
--- how many changing calls there are up to each one that is refused, and up to the one at which the file
--- system stops, or 0 where no stop is armed
+-- How many changing calls there are up to each one that is refused, up to each one that is refused in part,
+-- with the number of bytes that a write there writes, and up to the one at which the file system stops, or 0
+-- where no stop is armed; and whether that call is done.
 pub record Armed : Type 0 where
   pub refusals : List ℕ
+  pub parts : List (ℕ × ℕ)
   pub stop : ℕ
+  pub after : Bool
 
 -- what is armed
 abbrev pub armed : MemoryFileSystem → Armed
-armed system = record { refusals = system.refusals.items; stop = system.stop }
+armed system = record {
+  refusals = system.refusals.items;
+  parts = system.parts.items;
+  stop = system.stop;
+  after = system.after;
+}
 
 -- no refusal and no stop
 abbrev pub nothing_armed : Armed
-nothing_armed = record { refusals = []; stop = 0 }
+nothing_armed = record { refusals = []; parts = []; stop = 0; after = false }
 
 -- one refusal more, or a stop in place of the one before; at the number 0 nothing is armed
 abbrev pub armed_with : Fault → Armed → Armed
 armed_with (Refuse n) a = record a { refusals = cond (nat_eq n 0) a.refusals (a.refusals ++ n ∷ []) }
-armed_with (StopAt n) a = record a { stop = cond (nat_eq n 0) a.stop n }
+armed_with (RefuseInPart n count) a =
+    record a { parts = cond (nat_eq n 0) a.parts (a.parts ++ (n, count) ∷ []) }
+armed_with (StopAt n) a = cond (nat_eq n 0) a (record a { stop = n; after = false })
+armed_with (StopAfter n) a = cond (nat_eq n 0) a (record a { stop = n; after = true })
 
 -- the refusals that don't fall at the next changing call, one call nearer
 abbrev pub nearer : List ℕ → List ℕ
 nearer refusals = map (λ n. n - 1) (filter (λ n. nat_lt 1 n) refusals)
 
+-- a refusal in part, one call nearer
+abbrev pub part_later : ℕ × ℕ → ℕ × ℕ
+part_later part = (part.0 - 1, part.1)
+
+-- the refusals in part that don't fall at the next changing call, one call nearer
+abbrev pub nearer_parts : List (ℕ × ℕ) → List (ℕ × ℕ)
+nearer_parts parts = map part_later (filter (λ (part : ℕ × ℕ). nat_lt 1 part.0) parts)
+
+-- how many bytes the first refusal in part writes of those that fall at the next changing call
+abbrev pub front_of : List (ℕ × ℕ) → Option ℕ
+front_of [] = None
+front_of (part ∷ parts) = cond (nat_eq part.0 1) (Some part.1) (front_of parts)
+
 -- one changing call later
 abbrev pub call_later : Armed → Armed
-call_later a = record { refusals = nearer a.refusals; stop = a.stop - 1 }
+call_later a =
+    record a { refusals = nearer a.refusals; parts = nearer_parts a.parts; stop = a.stop - 1 }
 
 -- nothing falls at the next changing call
 pub record IsSpared (a : Armed) : Type 0 where
+  pub refusal : Contains a.refusals 1 → ⊥
+  pub part : front_of a.parts ≡ None
+  pub stop : a.stop ≡ 1 → ⊥
+
+-- a refusal in part falls at the next changing call, and nothing that goes before it
+pub record PartFalls (count : ℕ) (a : Armed) : Type 0 where
+  pub front : front_of a.parts ≡ Some count
   pub refusal : Contains a.refusals 1 → ⊥
   pub stop : a.stop ≡ 1 → ⊥
 
@@ -56,6 +89,11 @@ pub record IsAnswered (old new : MemoryFileSystem) : Type 0 where
   pub spared : IsSpared (armed old)
   pub next : armed new ≡ call_later (armed old)
 
+-- the file system stops at the next changing call, and that call is done
+pub record StopsAfter (a : Armed) : Type 0 where
+  pub falls : a.stop ≡ 1
+  pub done : a.after ≡ true
+
 -- an armed refusal fell, and nothing was done
 pub record ArmedRefusalFell (error : ErrorKind) (old new : MemoryFileSystem) : Type 0 where
   pub falls : Contains (armed old).refusals 1
@@ -63,9 +101,17 @@ pub record ArmedRefusalFell (error : ErrorKind) (old new : MemoryFileSystem) : T
   pub kind : error ≡ Other
   pub left : disk_of new ≡ failed_once (disk_of old)
 
--- the armed stop fell, and nothing was done
+-- an armed refusal in part fell, and nothing was done
+pub record ArmedPartFell (error : ErrorKind) (old new : MemoryFileSystem) : Type 0 where
+  pub count : ℕ
+  pub falls : PartFalls count (armed old)
+  pub kind : error ≡ Other
+  pub left : disk_of new ≡ failed_once (disk_of old)
+
+-- a stop fell that was armed to come before the call, and nothing was done
 pub record ArmedStopFell (error : ErrorKind) (old new : MemoryFileSystem) : Type 0 where
   pub falls : (armed old).stop ≡ 1
+  pub undone : (armed old).after ≡ false
   pub kind : error ≡ Other
   pub left : disk_of new ≡ at_stop (disk_of old)
 
@@ -78,52 +124,99 @@ abbrev pub after_stop : Kept → Kept
 after_stop k = record k { disk = at_stop k.disk }
 
 -- Why a changing call was refused, and what it left. It doesn't count, as the file system has stopped or the
--- argument is wrong, and nothing changed; or the armed stop fell; or an armed refusal fell; or nothing fell,
--- and there was no room for what was asked. A failure is counted, and a stop comes in its place only where
--- the count would reach 2^64 - 1.
-pub data IsRefusedCall (left_at_stop : ErrorKind → Kept → Type 0) (wrong no_room : ErrorKind → Type 0)
-    (error : ErrorKind) (old new : MemoryFileSystem) : Type 0 where
+-- argument is wrong, and nothing changed; or the armed stop fell; or an armed refusal fell; or one in part;
+-- or nothing fell, and there was no room for what was asked. A failure is counted, and a stop comes in its
+-- place only where the count would reach 2^64 - 1.
+pub data IsRefusedCall (left_at_stop : ErrorKind → Kept → Type 0)
+    (left_in_part : ℕ → ErrorKind → Kept → Type 0) (wrong no_room : ErrorKind → Type 0) (error : ErrorKind) (old new : MemoryFileSystem) : Type 0 where
   uncounted : ((disk_of old).stopped ≡ true) ⊎ wrong error → armed new ≡ armed old → kept new ≡ kept old
-      → IsRefusedCall left_at_stop wrong no_room error old new
+      → IsRefusedCall left_at_stop left_in_part wrong no_room error old new
   stop_fell : IsCounted wrong old new → (armed old).stop ≡ 1 → (left : Kept) → left_at_stop error left
       → kept new ≡ after_stop left
-      → IsRefusedCall left_at_stop wrong no_room error old new
-  refusal_fell : IsCounted wrong old new → ArmedRefusalFell error old new → kept new ≡ after_failure (kept old)
-      → IsRefusedCall left_at_stop wrong no_room error old new
+      → IsRefusedCall left_at_stop left_in_part wrong no_room error old new
+  refusal_fell : IsCounted wrong old new → ArmedRefusalFell error old new
+      → kept new ≡ after_failure (kept old)
+      → IsRefusedCall left_at_stop left_in_part wrong no_room error old new
+  part_fell : IsCounted wrong old new → (count : ℕ) → PartFalls count (armed old) → (left : Kept)
+      → left_in_part count error left → kept new ≡ after_failure left
+      → IsRefusedCall left_at_stop left_in_part wrong no_room error old new
   room_short : IsCounted wrong old new → IsSpared (armed old) → no_room error
       → kept new ≡ after_failure (kept old)
-      → IsRefusedCall left_at_stop wrong no_room error old new
+      → IsRefusedCall left_at_stop left_in_part wrong no_room error old new
 
--- what a stop leaves of a call that is done whole or not at all: nothing was done
+-- nothing was done
 abbrev pub Untouched : Kept → ErrorKind → Kept → Type 0
 Untouched old error left = (error ≡ Other) × (left ≡ old)
+
+-- a call was done that is done whole or not at all, and the changes of all files stand in this order
+pub record IsCallDone (done : Disk → Type 0) (changes : List (ℕ × Change)) (left : Kept) : Type 0 where
+  pub disk : done left.disk
+  pub order : left.unsynced ≡ changes
+
+-- What a stop leaves of a call that is done whole or not at all. At a stop before it nothing was done. At one
+-- after it the call was done; it wasn't only where memory was short, and then the error says so.
+abbrev pub LeftAtStop : Bool → (Disk → Type 0) → List (ℕ × Change) → Kept → ErrorKind → Kept → Type 0
+LeftAtStop false done order old error left = Untouched old error left
+LeftAtStop true done order old error left =
+    ((error ≡ Other) × IsCallDone done order left) ⊎ ((error ≡ OutOfMemory) × (left ≡ old))
 
 -- a change was made, and is the last one of all
 pub record IsChangeMade (id : ℕ) (change : Change) (old left : Kept) : Type 0 where
   pub disk : Changes id (after_change change) old.disk left.disk
   pub order : left.unsynced ≡ old.unsynced ++ (id, change) ∷ []
 
--- What a stop leaves of the write, shortening or growth that it falls at: the change is made, and isn't
--- synced; it isn't made only where there is no room for it, and then the error says so.
+-- What a stop, before or after it, leaves of the write, shortening or growth that it falls at: the change is
+-- made, and isn't synced; it isn't made only where there is no room for it, and then the error says so.
 abbrev pub MadeUnlessShort : ℕ → Change → Kept → ErrorKind → Kept → Type 0
 MadeUnlessShort id change old error left =
     ((error ≡ Other) × IsChangeMade id change old left) ⊎ (IsRoomFault change error × (left ≡ old))
 
+-- the first bytes of a write were written, and are the last change of all; the file isn't synced with the
+-- whole write
+pub record IsFrontMade (id at : ℕ) (bytes : List ℕ) (count : ℕ) (old left : Kept) : Type 0 where
+  pub file : File
+  pub is : old.disk.files id ≡ Some file
+  pub disk : left.disk ≡ with_file id (Some (with_change (Wrote at bytes)
+      (overwritten at (take count bytes) file.content) file)) old.disk
+  pub order : left.unsynced ≡ old.unsynced ++ (id, Wrote at (take count bytes)) ∷ []
+
+-- What a refusal in part leaves of the change that it falls at: of a write so many of its first bytes were
+-- written; they weren't only where there was no room, and then the error says so. Of another change nothing
+-- was done.
+abbrev pub LeftInPart : ℕ → Change → Kept → ℕ → ErrorKind → Kept → Type 0
+LeftInPart id (Wrote at bytes) old count error left =
+    ((error ≡ Other) × IsFrontMade id at bytes count old left)
+    ⊎ (IsRoomFault (Wrote at bytes) error × (left ≡ old))
+LeftInPart id (ShortenedTo size) old count error left = Untouched old error left
+LeftInPart id (GrewTo size) old count error left = Untouched old error left
+
 -- a refused call that is done whole or not at all
-abbrev pub IsRefusedWhole : (ErrorKind → Type 0) → ErrorKind → MemoryFileSystem → MemoryFileSystem → Type 0
-IsRefusedWhole wrong error old new =
-    IsRefusedCall (Untouched (kept old)) wrong (λ e. e ≡ OutOfMemory) error old new
+abbrev pub IsRefusedWhole : (Disk → Type 0) → List (ℕ × Change) → (ErrorKind → Type 0) → ErrorKind
+    → MemoryFileSystem → MemoryFileSystem → Type 0
+IsRefusedWhole done order wrong error old new =
+    IsRefusedCall (LeftAtStop (armed old).after done order (kept old)) (λ count. Untouched (kept old)) wrong
+    (λ e. e ≡ OutOfMemory) error old new
 
 -- a refused write, shortening or growth
 abbrev pub IsRefusedChange : ℕ → Change → (ErrorKind → Type 0) → ErrorKind
     → MemoryFileSystem → MemoryFileSystem → Type 0
 IsRefusedChange id change wrong error old new =
-    IsRefusedCall (MadeUnlessShort id change (kept old)) wrong (IsRoomFault change) error old new
+    IsRefusedCall (MadeUnlessShort id change (kept old)) (LeftInPart id change (kept old)) wrong
+    (IsRoomFault change) error old new
 
--- How a change ended, of which it is told whether the file system stops at it and whether it was made: at a
--- stop the error says why it wasn't made, where it wasn't; else it wasn't made, and that is a failure.
-pub data IsEnded (stops : Bool) (done : Result (Unit {0}) ErrorKind) (error : ErrorKind)
-    (old new : Disk) : Type 0 where
-  at_the_stop : stops ≡ true → MatchResult done (λ v. error ≡ Other) (λ kind. error ≡ kind)
-      → new ≡ at_stop old → IsEnded stops done error old new
-  not_made : stops ≡ false → done ≡ Err error → new ≡ failed_once old → IsEnded stops done error old new
+-- How a call ended, of which it is told whether the file system stops at it and whether it was done: at a
+-- stop the error says why it wasn't done, where it wasn't; else it wasn't done, and that is a failure.
+pub data IsEnded {E : Type 0} (kind_of : E → ErrorKind) (stops : Bool) (done : Result (Unit {0}) E)
+    (error : ErrorKind) (old new : Disk) : Type 0 where
+  at_the_stop : stops ≡ true → MatchResult done (λ v. error ≡ Other) (λ e. error ≡ kind_of e)
+      → new ≡ at_stop old → IsEnded kind_of stops done error old new
+  not_made : stops ≡ false → MatchResult done (λ v. ⊥) (λ e. error ≡ kind_of e) → new ≡ failed_once old
+      → IsEnded kind_of stops done error old new
+
+-- how a change ended
+abbrev pub IsChangeEnded : Bool → Result (Unit {0}) ErrorKind → ErrorKind → Disk → Disk → Type 0
+IsChangeEnded = IsEnded (λ kind. kind)
+
+-- how a call ended that is done whole or not at all: it isn't done for want of memory alone
+abbrev pub IsCallEnded : Bool → Result (Unit {0}) AllocError → ErrorKind → Disk → Disk → Type 0
+IsCallEnded = IsEnded (λ none. OutOfMemory)

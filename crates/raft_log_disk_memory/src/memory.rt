@@ -1,11 +1,12 @@
 //! A file system in memory: its parts, how it is made, and what a crash leaves of it.
 
 mod calls;
+mod reading;
 mod turns;
 
-ghost use Rattle.raft_log_disk_memory.specs.Storage.{IsStorageSound, IsWhole-prop};
+ghost use Rattle.raft_log_disk_storage.specs.Storage.{IsStorageSound, IsWhole-prop};
 
-use crate::{Remainder, Storage};
+use raft_log_disk_storage::{Remainder, Storage};
 use std::alloc::{AllocError, Global};
 
 /// A file system in memory, for tests and for simulated crashes. It has no directory at first.
@@ -14,10 +15,15 @@ pub struct MemoryFileSystem {
     storage: Storage,
     failures: u64,
     stopped: bool,
-    // How many changing calls there are up to each one that is refused, and up to the one at which it stops,
-    // or 0.
+    // How many changing calls there are up to each one that is refused, up to each one that is refused in
+    // part, with the number of bytes that a write there writes, and up to the one at which it stops, or 0;
+    // and whether the call at which it stops is done.
     refusals: Vec<u64>,
+    parts: Vec<(u64, usize)>,
     stop: u64,
+    after: bool,
+    // The places that can't be read, each with its file's node number.
+    denied: Vec<(usize, usize)>,
     ghost whole: { IsStorageSound storage } by { IsWhole-prop storage },
 }
 
@@ -40,7 +46,10 @@ impl MemoryFileSystem {
             failures: 0,
             stopped: false,
             refusals: Vec::new(alloc),
+            parts: Vec::new(alloc),
+            denied: Vec::new(alloc),
             stop: 0,
+            after: false,
         }
     }
 
@@ -53,7 +62,8 @@ impl MemoryFileSystem {
 
     /// The file system that a restart finds after a crash at this moment, which leaves of the changes that
     /// weren't synced what is said. The names are as they stand, a gap before what is left of a write is
-    /// zeros, no fault is armed and no failure is counted. It is refused for want of memory alone.
+    /// zeros, no fault is armed, each place can be read and no failure is counted. It is refused for want of
+    /// memory alone.
     pub fn remainder(&self, what: &Remainder) -> Result<MemoryFileSystem, AllocError>
         ensures exact { IfOk result (IsLeftOf what.now self.now) }
         ensures synced { IfOk result (λ after. unsynced after ≡ []) }
@@ -66,7 +76,10 @@ impl MemoryFileSystem {
             failures: 0,
             stopped: false,
             refusals: Vec::new(self.storage.alloc),
+            parts: Vec::new(self.storage.alloc),
+            denied: Vec::new(self.storage.alloc),
             stop: 0,
+            after: false,
         })
     }
 }

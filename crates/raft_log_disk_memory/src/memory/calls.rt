@@ -1,7 +1,8 @@
 //! The calls.
 use super::MemoryFileSystem;
-use crate::Node;
+use super::reading::denies;
 use raft_log_disk::{Fault, FileSystem, Handle, Permission};
+use raft_log_disk_storage::Node;
 use std::io::ErrorKind;
 
 impl FileSystem for MemoryFileSystem {
@@ -11,10 +12,10 @@ impl FileSystem for MemoryFileSystem {
     ghost use Rattle.raft_log_disk.specs.Exits.{FailsToCreate, FailsToDelete, FailsToRename, FailsToMakeDirectory, Writes, FailsToWrite, Shortens, FailsToShorten, Grows, FailsToGrow, Syncs, FailsToSync, Arms};
     ghost use Rattle.raft_log_disk.specs.Arguments.{WrongCreate, WrongName, WrongRename, WrongDirectory, WrongHandle, WrongWriter};
     ghost use Rattle.raft_log_disk_memory.specs.Memory.{disk_of, unsynced};
-    ghost use Rattle.raft_log_disk_memory.specs.Order.{without_file};
+    ghost use Rattle.raft_log_disk_storage.specs.Order.{without_file};
     ghost use Rattle.raft_log_disk.specs.Reading.{IsNotListed};
     ghost use Rattle.raft_log_disk_memory.specs.Turns.{armed, armed_with, IsAnswered};
-    ghost use Rattle.raft_log_disk_memory.specs.Answers.{RefusesWhole, RefusesChange, ArmsNothing, AddsLast, ForgetsNamed, ForgetsReplaced};
+    ghost use Rattle.raft_log_disk_memory.specs.Answers.{RefusesWhole, RefusesChange, ArmsNothing, AddsLast, ForgetsNamed, ForgetsReplaced, CreatesNext, SyncsAll, order_of, order_without, order_without_named, order_without_replaced};
 
     ghost disk = { disk_of };
 
@@ -28,7 +29,8 @@ impl FileSystem for MemoryFileSystem {
             FailsToCreate path.now error (disk_of self.old) (disk_of self.new)) }
         ensures order { OnOk result (unsynced self.new ≡ unsynced self.old) }
         ensures turn { OnOk result (IsAnswered self.old self.new) }
-        ensures cause { RefusesWhole (WrongCreate path.now) result self.old self.new }
+        ensures cause { RefusesWhole (WrongCreate path.now) (CreatesNext path.now) order_of
+            result self.old self.new }
     {
         self.check_runs()?;
         if self.storage.node(path).is_some() {
@@ -37,14 +39,14 @@ impl FileSystem for MemoryFileSystem {
         if !self.storage.has_directory(path) {
             return Err(ErrorKind::NotFound);
         }
-        self.begin()?;
-        match self.storage.add_file(path) {
-            Ok(file) => Ok(Handle {
-                file,
-                permission: Permission::ReadWrite,
-            }),
-            Err(_) => Err(self.fail(ErrorKind::OutOfMemory)),
-        }
+        let stops = self.begin()?;
+        let file = self.storage.files.len();
+        let done = self.storage.add_file(path);
+        self.end(stops, done)?;
+        Ok(Handle {
+            file,
+            permission: Permission::ReadWrite,
+        })
     }
 
     fn delete(&mut self, path: &str) -> Result<(), ErrorKind>
@@ -53,15 +55,17 @@ impl FileSystem for MemoryFileSystem {
             FailsToDelete path.now error (disk_of self.old) (disk_of self.new)) }
         ensures order { OnOk result (ForgetsNamed path.now self.old self.new) }
         ensures turn { OnOk result (IsAnswered self.old self.new) }
-        ensures cause { RefusesWhole (WrongName path.now) result self.old self.new }
+        ensures cause { RefusesWhole (WrongName path.now) (Deletes path.now)
+            (order_without_named path.now) result
+            self.old self.new }
     {
         self.check_runs()?;
         let Some(Node::File(id)) = self.storage.node(path) else {
             return Err(ErrorKind::NotFound);
         };
-        self.begin()?;
+        let stops = self.begin()?;
         self.storage.remove_file(path, id);
-        Ok(())
+        self.end(stops, Ok(()))
     }
 
     fn rename(&mut self, from: &str, to: &str) -> Result<(), ErrorKind>
@@ -70,7 +74,8 @@ impl FileSystem for MemoryFileSystem {
             FailsToRename from.now to.now error (disk_of self.old) (disk_of self.new)) }
         ensures order { OnOk result (ForgetsReplaced from.now to.now self.old self.new) }
         ensures turn { OnOk result (IsAnswered self.old self.new) }
-        ensures cause { RefusesWhole (WrongRename from.now to.now) result self.old self.new }
+        ensures cause { RefusesWhole (WrongRename from.now to.now) (Renames from.now to.now)
+            (order_without_replaced from.now to.now) result self.old self.new }
     {
         self.check_runs()?;
         let Some(Node::File(id)) = self.storage.node(from) else {
@@ -82,11 +87,9 @@ impl FileSystem for MemoryFileSystem {
         if !self.storage.has_directory(to) {
             return Err(ErrorKind::NotFound);
         }
-        self.begin()?;
-        match self.storage.rename_file(from, to, id) {
-            Ok(()) => Ok(()),
-            Err(_) => Err(self.fail(ErrorKind::OutOfMemory)),
-        }
+        let stops = self.begin()?;
+        let done = self.storage.rename_file(from, to, id);
+        self.end(stops, done)
     }
 
     fn reuse(&mut self, from: &str, to: &str) -> Result<(), ErrorKind>
@@ -95,7 +98,8 @@ impl FileSystem for MemoryFileSystem {
             FailsToRename from.now to.now error (disk_of self.old) (disk_of self.new)) }
         ensures order { OnOk result (ForgetsReplaced from.now to.now self.old self.new) }
         ensures turn { OnOk result (IsAnswered self.old self.new) }
-        ensures cause { RefusesWhole (WrongRename from.now to.now) result self.old self.new }
+        ensures cause { RefusesWhole (WrongRename from.now to.now) (Renames from.now to.now)
+            (order_without_replaced from.now to.now) result self.old self.new }
     {
         self.rename(from, to)
     }
@@ -106,17 +110,16 @@ impl FileSystem for MemoryFileSystem {
             FailsToMakeDirectory path.now error (disk_of self.old) (disk_of self.new)) }
         ensures order { OnOk result (unsynced self.new ≡ unsynced self.old) }
         ensures turn { OnOk result (IsAnswered self.old self.new) }
-        ensures cause { RefusesWhole (WrongDirectory path.now) result self.old self.new }
+        ensures cause { RefusesWhole (WrongDirectory path.now) (MakesDirectory path.now) order_of
+            result self.old self.new }
     {
         self.check_runs()?;
         if self.storage.node(path).is_some() {
             return Err(ErrorKind::AlreadyExists);
         }
-        self.begin()?;
-        match self.storage.add_directory(path) {
-            Ok(()) => Ok(()),
-            Err(_) => Err(self.fail(ErrorKind::OutOfMemory)),
-        }
+        let stops = self.begin()?;
+        let done = self.storage.add_directory(path);
+        self.end(stops, done)
     }
 
     fn write_at(&mut self, handle: Handle, offset: usize, bytes: &[u8]) -> Result<(), ErrorKind>
@@ -129,7 +132,11 @@ impl FileSystem for MemoryFileSystem {
         ensures cause { RefusesChange handle (Wrote offset bytes.now) result self.old self.new }
     {
         self.check_writer(handle)?;
-        let stops = self.begin_change()?;
+        let (stops, front) = self.begin_write()?;
+        if let Some(count) = front {
+            let done = self.storage.write_front(handle.file, offset, bytes, count);
+            return Err(self.fail_in_part(done));
+        }
         let done = self.storage.write(handle.file, offset, bytes);
         self.end_change(stops, done)
     }
@@ -169,14 +176,14 @@ impl FileSystem for MemoryFileSystem {
         ensures err { IfErr result (λ error. FailsToSync handle error (disk_of self.old) (disk_of self.new)) }
         ensures order { OnOk result (unsynced self.new ≡ without_file handle.file (unsynced self.old)) }
         ensures turn { OnOk result (IsAnswered self.old self.new) }
-        ensures cause { RefusesWhole (WrongHandle handle) result self.old self.new }
+        ensures cause { RefusesWhole (WrongHandle handle) (SyncsAll handle.file)
+            (order_without handle.file) result
+            self.old self.new }
     {
         self.check_handle(handle)?;
-        self.begin()?;
-        match self.storage.flush(handle.file) {
-            Ok(()) => Ok(()),
-            Err(_) => Err(self.fail(ErrorKind::OutOfMemory)),
-        }
+        let stops = self.begin()?;
+        let done = self.storage.flush(handle.file);
+        self.end(stops, done)
     }
 
     fn open(&self, path: &str, permission: Permission) -> Result<Handle, ErrorKind> {
@@ -207,6 +214,11 @@ impl FileSystem for MemoryFileSystem {
 
     fn read_at(&self, handle: Handle, offset: usize, room: &mut [u8]) -> Result<usize, ErrorKind> {
         self.check_handle(handle)?;
+        let size = self.storage.size(handle.file);
+        let count = room.len().min(size.saturating_sub(offset));
+        if denies(&self.denied, handle.file, offset, count) {
+            return Err(ErrorKind::Other);
+        }
         Ok(self.storage.read(handle.file, offset, room))
     }
 
@@ -231,8 +243,16 @@ impl FileSystem for MemoryFileSystem {
                 Ok(()) => Ok(()),
                 Err(_) => Err(ErrorKind::OutOfMemory),
             },
+            Fault::RefuseInPart(n, count) => match self.refuse_in_part(*n, *count) {
+                Ok(()) => Ok(()),
+                Err(_) => Err(ErrorKind::OutOfMemory),
+            },
             Fault::StopAt(n) => {
                 self.stop_at(*n);
+                Ok(())
+            }
+            Fault::StopAfter(n) => {
+                self.stop_after(*n);
                 Ok(())
             }
         }

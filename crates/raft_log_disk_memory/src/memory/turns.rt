@@ -1,19 +1,19 @@
 //! Which changing calls are refused, and at which one the file system stops.
 ghost use Rattle.std.specs.Prelude.{◌≡◌, ◌-◌, ◌↔◌, IsTrue, map};
 ghost use Rattle.std.specs.List.{Contains};
-ghost use Rattle.raft_log_disk_memory.specs.Turns.{nearer};
+ghost use Rattle.raft_log_disk_memory.specs.Turns.{nearer, nearer_parts, part_later, front_of};
 
 use super::MemoryFileSystem;
-use crate::Node;
 use raft_log_disk::{Fault, Handle, Permission};
+use raft_log_disk_storage::Node;
 use std::alloc::AllocError;
 use std::io::ErrorKind;
 
 impl MemoryFileSystem {
-    ghost use Rattle.std.specs.Prelude.{◌≡◌, ◌↔◌, true, false, OnOk, OnErr, IfErr, IfOk, IsTrue};
+    ghost use Rattle.std.specs.Prelude.{◌≡◌, ◌↔◌, true, false, None, OnOk, OnErr, IfErr, IfOk, IfSome, IsTrue, MatchResult};
     ghost use Rattle.raft_log_disk_memory.specs.Memory.{disk_of, failed_once};
-    ghost use Rattle.raft_log_disk_memory.specs.Turns.{armed, armed_with, call_later, IsSpared, ArmedRefusalFell, IsEnded};
-    ghost use Rattle.raft_log_disk_memory.specs.Answers.{HasFallen, RunsWithDirectory, LacksDirectory, RunsWithFile, LacksFile, RunsWithWriter, LacksWriter};
+    ghost use Rattle.raft_log_disk_memory.specs.Turns.{armed, armed_with, call_later, IsSpared, PartFalls, StopsAfter, ArmedRefusalFell, IsCallEnded, IsChangeEnded};
+    ghost use Rattle.raft_log_disk_memory.specs.Answers.{HasRefused, HasFallen, RunsWithDirectory, LacksDirectory, RunsWithFile, LacksFile, RunsWithWriter, LacksWriter};
 
     /// Lets the n-th changing call from now be refused; it changes nothing. Refusals that are armed already
     /// stay. 0 arms none. It is refused for want of memory alone.
@@ -28,48 +28,131 @@ impl MemoryFileSystem {
         Ok(())
     }
 
+    /// Lets the n-th changing call from now be refused in part: a write there writes its first `count` bytes,
+    /// or all where it has fewer, which count as not synced; another call changes nothing. Refusals that are
+    /// armed already stay; where several fall at one call, one of `refuse_call` goes first, and then the one
+    /// that was armed first. 0 arms none. It is refused for want of memory alone.
+    pub fn refuse_in_part(&mut self, n: u64, count: usize) -> Result<(), AllocError>
+        ensures same { disk_of self.new ≡ disk_of self.old }
+        ensures ok { OnOk result
+            (armed self.new ≡ armed_with (Fault.RefuseInPart n count) (armed self.old)) }
+        ensures err { OnErr result (armed self.new ≡ armed self.old) }
+    {
+        if n != 0 {
+            self.parts.push((n, count))?;
+        }
+        Ok(())
+    }
+
     /// Lets the file system stop at the n-th changing call from now, in place of a stop that was armed: a
-    /// write, a cut or an allocation there counts as not synced, any other call hasn't happened. 0 leaves
-    /// what was armed.
+    /// write, a shortening or an allocation there counts as not synced, any other call hasn't happened. 0
+    /// leaves what was armed.
     pub fn stop_at(&mut self, n: u64)
         ensures same { disk_of self.new ≡ disk_of self.old }
         ensures armed { armed self.new ≡ armed_with (Fault.StopAt n) (armed self.old) }
     {
         if n != 0 {
             self.stop = n;
+            self.after = false;
         }
     }
 
-    // Lets a changing call begin, or refuses it; answers whether the file system stops at this call.
+    /// Lets the file system stop after the n-th changing call from now, in place of a stop that was armed:
+    /// that call has happened and is answered as refused. 0 leaves what was armed.
+    pub fn stop_after(&mut self, n: u64)
+        ensures same { disk_of self.new ≡ disk_of self.old }
+        ensures armed { armed self.new ≡ armed_with (Fault.StopAfter n) (armed self.old) }
+    {
+        if n != 0 {
+            self.stop = n;
+            self.after = true;
+        }
+    }
+
+    // Lets a write begin, or refuses it; answers whether the file system stops at this call, and of how many
+    // bytes a front is written, where the write is refused in part.
+    pub(super) fn begin_write(&mut self) -> Result<(bool, Option<usize>), ErrorKind>
+        ensures storage { self.new.storage ≡ self.old.storage }
+        ensures next { armed self.new ≡ call_later (armed self.old) }
+        ensures ok { OnOk result (disk_of self.new ≡ disk_of self.old) }
+        ensures stops { IfOk result (λ turn. IsTrue turn.0 ↔ ((armed self.old).stop ≡ 1)) }
+        ensures front { IfOk result (λ turn. IfSome turn.1 (λ count. PartFalls count (armed self.old))) }
+        ensures spared { IfOk result (λ turn. turn.0 ≡ false → turn.1 ≡ None → IsSpared (armed self.old)) }
+        ensures err { IfErr result (λ error. ArmedRefusalFell error self.old self.new) }
+    {
+        let stops = stop_falls(&mut self.stop);
+        let refused = refusal_falls(&mut self.refusals);
+        let front = part_falls(&mut self.parts);
+        if stops {
+            return Ok((true, None));
+        }
+        if refused {
+            return Err(self.fail(ErrorKind::Other));
+        }
+        Ok((false, front))
+    }
+
+    // Ends a write that is refused in part. The error is the front's, where it wasn't written.
+    pub(super) fn fail_in_part(&mut self, done: Result<(), ErrorKind>) -> ErrorKind
+        ensures storage { self.new.storage ≡ self.old.storage }
+        ensures failed { disk_of self.new ≡ failed_once (disk_of self.old) }
+        ensures same { armed self.new ≡ armed self.old }
+        ensures kind { MatchResult done (λ v. result ≡ ErrorKind.Other) (λ kind. result ≡ kind) }
+    {
+        match done {
+            Ok(()) => self.fail(ErrorKind::Other),
+            Err(kind) => self.fail(kind),
+        }
+    }
+
+    // Lets a changing call begin that isn't a write, or refuses it; answers whether the file system stops at
+    // this call.
     pub(super) fn begin_change(&mut self) -> Result<bool, ErrorKind>
         ensures storage { self.new.storage ≡ self.old.storage }
         ensures next { armed self.new ≡ call_later (armed self.old) }
         ensures ok { OnOk result (disk_of self.new ≡ disk_of self.old) }
         ensures stops { IfOk result (λ stops. IsTrue stops ↔ ((armed self.old).stop ≡ 1)) }
         ensures spared { IfOk result (λ stops. stops ≡ false → IsSpared (armed self.old)) }
-        ensures err { IfErr result (λ error. ArmedRefusalFell error self.old self.new) }
+        ensures err { IfErr result (λ error. HasRefused error self.old self.new) }
     {
-        let stops = stop_falls(&mut self.stop);
-        let refused = refusal_falls(&mut self.refusals);
-        if refused && !stops {
-            return Err(self.fail(ErrorKind::Other));
+        let (stops, front) = self.begin_write()?;
+        match front {
+            Some(_) => Err(self.fail(ErrorKind::Other)),
+            None => Ok(stops),
+        }
+    }
+
+    // Lets a call begin that is done whole or not at all, or refuses it; answers whether the file system
+    // stops after this call.
+    pub(super) fn begin(&mut self) -> Result<bool, ErrorKind>
+        ensures storage { self.new.storage ≡ self.old.storage }
+        ensures next { armed self.new ≡ call_later (armed self.old) }
+        ensures ok { OnOk result (disk_of self.new ≡ disk_of self.old) }
+        ensures stops { IfOk result (λ stops. stops ≡ true → StopsAfter (armed self.old)) }
+        ensures spared { IfOk result (λ stops. stops ≡ false → IsSpared (armed self.old)) }
+        ensures err { IfErr result (λ error. HasFallen error self.old self.new) }
+    {
+        let stops = self.begin_change()?;
+        if stops && !self.after {
+            self.stopped = true;
+            return Err(ErrorKind::Other);
         }
         Ok(stops)
     }
 
-    // Lets a call begin that is done whole or not at all, or refuses it.
-    pub(super) fn begin(&mut self) -> Result<(), ErrorKind>
+    // Ends a call that is done whole or not at all, and wasn't done for want of memory alone. After a stop
+    // the error says so, where it wasn't done.
+    pub(super) fn end(&mut self, stops: bool, done: Result<(), AllocError>) -> Result<(), ErrorKind>
         ensures storage { self.new.storage ≡ self.old.storage }
-        ensures next { armed self.new ≡ call_later (armed self.old) }
-        ensures ok { OnOk result (disk_of self.new ≡ disk_of self.old) }
-        ensures spared { OnOk result (IsSpared (armed self.old)) }
-        ensures err { IfErr result (λ error. HasFallen error self.old self.new) }
+        ensures same { armed self.new ≡ armed self.old }
+        ensures ok { OnOk result ((stops ≡ false) × OnErr done ⊥ × (disk_of self.new ≡ disk_of self.old)) }
+        ensures err { IfErr result (λ error.
+            IsCallEnded stops done error (disk_of self.old) (disk_of self.new)) }
     {
-        if self.begin_change()? {
-            self.stopped = true;
-            return Err(ErrorKind::Other);
+        match done {
+            Ok(()) => self.end_change(stops, Ok(())),
+            Err(_) => self.end_change(stops, Err(ErrorKind::OutOfMemory)),
         }
-        Ok(())
     }
 
     // Ends a change, which was made or wasn't. At a stop the error is that of the change, where it wasn't
@@ -82,7 +165,8 @@ impl MemoryFileSystem {
         ensures storage { self.new.storage ≡ self.old.storage }
         ensures same { armed self.new ≡ armed self.old }
         ensures ok { OnOk result ((stops ≡ false) × OnErr done ⊥ × (disk_of self.new ≡ disk_of self.old)) }
-        ensures err { IfErr result (λ error. IsEnded stops done error (disk_of self.old) (disk_of self.new)) }
+        ensures err { IfErr result (λ error.
+            IsChangeEnded stops done error (disk_of self.old) (disk_of self.new)) }
     {
         if stops {
             self.stopped = true;
@@ -186,11 +270,43 @@ fn refusal_falls(refusals: &mut Vec<u64>) -> bool
     falls
 }
 
+// Counts a call, and says of how many bytes a front is written, if a refusal in part falls at it.
+fn part_falls(parts: &mut Vec<(u64, usize)>) -> Option<usize>
+    ensures later { parts.new.items ≡ nearer_parts parts.old.items }
+    ensures falls { result ≡ front_of parts.old.items }
+{
+    let front = next_front(parts);
+    parts.retain(|part| 1 < part.0);
+    count_down_parts(parts);
+    front
+}
+
+// Of how many bytes a front is written at the next call, if a refusal in part falls at it.
+fn next_front(parts: &[(u64, usize)]) -> Option<usize>
+    ensures { result ≡ front_of parts.now }
+{
+    for part in parts {
+        if part.0 == 1 {
+            return Some(part.1);
+        }
+    }
+    None
+}
+
 // Takes one from each number.
 fn count_down(refusals: &mut [u64])
     ensures { refusals.new ≡ map (λ n. n - 1) refusals.old }
 {
     for n in refusals.iter_mut() {
         *n = n.saturating_sub(1);
+    }
+}
+
+// Takes one from the number of calls of each part.
+fn count_down_parts(parts: &mut [(u64, usize)])
+    ensures { parts.new ≡ map part_later parts.old }
+{
+    for part in parts.iter_mut() {
+        part.0 = part.0.saturating_sub(1);
     }
 }

@@ -7,4 +7,4 @@ pub loop-n-preserved : goal.loop-n-preserved
 loop-n-preserved c =
     let lt : c.loop-n.n-index < length c.args.refusals.now = omega arith in
     ap (λ (v : ℕ). set c.loop-n.refusals c.loop-n.n-index v) c.saturating_sub.ensures
-    ∙ mapped_step (λ n. n - 1) c.args.refusals.now c.loop-n.refusals c.loop-n.n-index lt c.loop-n.invariant
+    ∙ mapped_step 0 (λ n. n - 1) c.args.refusals.now c.loop-n.refusals c.loop-n.n-index lt c.loop-n.invariant

@@ -3,10 +3,10 @@ use Rattle.std.proofs.lemmas.Result.{err_from_is_err_and}
 use Rattle.raft_log_disk.specs.Disk.{GrewTo}
 use Rattle.raft_log_disk.specs.Calls.{after_change, RefusedChange}
 use Rattle.raft_log_disk.specs.Arguments.{WrongWriter}
-use Rattle.raft_log_disk_memory.specs.Storage.{contents_of}
+use Rattle.raft_log_disk_storage.specs.Storage.{contents_of}
 use Rattle.raft_log_disk_memory.specs.Memory.{disk_of}
-use Rattle.raft_log_disk_memory.proofs.Turns.{counted_or_stop, refusal, change_order, change_cause, change_turn}
-use Rattle.raft_log_disk_memory.proofs.Calls.{any_err, over, refused_piece, made_or_not, change_ok, change_err, right_writer}
+use Rattle.raft_log_disk_memory.proofs.Turns.{over, refused, any_refusal, change_order, change_cause, call_turn}
+use Rattle.raft_log_disk_memory.proofs.Calls.{any_err, refused_piece, made_or_not, change_ok, change_err, right_writer}
 use Rattle.raft_log_disk_memory.proofs.memory.calls.MemoryFileSystemFileSystem.allocate.Goals as goal
 
 pub returns-in_err-stops-clause-err : goal.returns-in_err-stops-clause-err
@@ -15,13 +15,13 @@ returns-in_err-stops-clause-err c =
     let checked = c.in_ok-check_writer.ensures.ok in
     any_err c.from_residual-in_err-stops.result (λ e. RefusedChange c.args.handle.file (GrewTo (c.args.offset + c.args.size)) (WrongWriter c.args.handle old) e old (disk_of c.begin_change.new.self))
     (λ e. refused_piece old (disk_of c.begin_change.new.self) checked.0 (right_writer c.args.handle old checked.1 checked.2)
-    (counted_or_stop old (disk_of c.begin_change.new.self) c.in_err-stops.ensures.err.left))
+    (refused c.in_err-stops.ensures.err))
 
 pub returns-in_err-stops-clause-cause : goal.returns-in_err-stops-clause-cause
 returns-in_err-stops-clause-cause c =
     let checked = c.in_ok-check_writer.ensures.ok in
     let same = err_from_is_err_and c.from_residual-in_err-stops.result c.from_residual-in_err-stops.ensures.1 in
-    rw (same.1, same.2) (refusal
+    rw (same.1, same.2) (any_refusal
     (record { runs = checked.0; right = right_writer c.args.handle (disk_of c.args.self.now) checked.1 checked.2; next = c.begin_change.ensures.next })
     c.begin_change.ensures.storage c.in_err-stops.ensures.err)
 
@@ -49,7 +49,7 @@ returns-clause-order c =
 
 pub returns-clause-turn : goal.returns-clause-turn
 returns-clause-turn c =
-    change_turn c.end_change.result c.in_ok-stops.stops c.grow-done.result (over c.begin_change.new.self (contents_of c.grow-done.new.self)) c.args.self.now c.end_change.new.self (c.end_change.ensures.same ∙ c.begin_change.ensures.next)
+    call_turn c.end_change.result c.in_ok-stops.stops c.grow-done.result (over c.begin_change.new.self (contents_of c.grow-done.new.self)) c.args.self.now c.end_change.new.self (c.end_change.ensures.same ∙ c.begin_change.ensures.next)
     c.in_ok-stops.ensures.spared c.end_change.ensures.ok
 
 pub returns-clause-cause : goal.returns-clause-cause

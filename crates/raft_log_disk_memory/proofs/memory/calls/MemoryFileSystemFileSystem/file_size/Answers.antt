@@ -1,6 +1,6 @@
 use Rattle.std.proofs.Common.{ap}
 use Rattle.std.specs.Option.{option_map}
-use Rattle.raft_log_disk_memory.specs.Held.{held_of, file_of}
+use Rattle.raft_log_disk_storage.specs.Held.{held_of, file_of}
 use Rattle.raft_log_disk_memory.proofs.Calls.{held_there}
 use Rattle.raft_log_disk_memory.proofs.memory.calls.MemoryFileSystemFileSystem.file_size.Goals as goal
 

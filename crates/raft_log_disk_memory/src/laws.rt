@@ -1,8 +1,0 @@
-//! Laws of what a file system in memory holds.
-ghost use Rattle.raft_log_disk_memory.specs.Storage.{OrderIsTheFiles};
-
-/// The changes of all files that aren't synced, which stand in the order of the calls, have of each file just
-/// its own ones, in its order.
-pub fn order_has_each_files_changes()
-    ensures { OrderIsTheFiles }
-{}

@@ -1,0 +1,15 @@
+pub mod Items
+pub mod CountLaws
+pub mod Flushed
+pub mod Names
+pub mod Paths
+pub mod RisingLaws
+pub mod OrderLaws
+pub mod LeftLaws
+pub mod OwnLaws
+pub mod StorageLaws
+pub mod Whole
+pub mod RemainsLaws
+pub mod Exits
+pub mod Fronts
+pub mod Listings

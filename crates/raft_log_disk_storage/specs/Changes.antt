@@ -1,0 +1,51 @@
+-- The changes that a file system in memory keeps, as changes of a disk.
+use Rattle.std.specs.Prelude.{◌≡◌, ℕ, ◌<◌, ◌≤◌, ◌++◌, List, []}
+use Rattle.raft_log_disk.specs.Disk.{Wrote, ShortenedTo, GrewTo, file_limit}
+use Rattle.raft_log_disk.specs.Image.{Touches}
+use Rattle.raft_log_disk.specs.Disk as disk
+use Rattle.raft_log_disk_storage.specs.declared.change.Change.{Change}
+use Rattle.raft_log_disk_storage.specs.declared.change.Change.TheVariants.{Write, Shortening, Growth}
+use Rattle.raft_log_disk_storage.specs.declared.change.Stamped.{Stamped}
+
+-- a write with more bytes behind its own; another change as it is
+abbrev pub with_rest : disk.Change → List ℕ → disk.Change
+with_rest (Wrote at bytes) rest = Wrote at (bytes ++ rest)
+with_rest (ShortenedTo size) rest = ShortenedTo size
+with_rest (GrewTo size) rest = GrewTo size
+
+-- a change as it was made, and as it was asked for: of a write that was refused the front may have landed
+abbrev pub IsLanded : disk.Change → disk.Change → Type 0
+IsLanded landed asked = (rest : List ℕ) × (asked ≡ with_rest landed rest)
+
+-- the change of a disk that was made
+abbrev pub change_of : Change → disk.Change
+change_of (Write offset bytes rest) = Wrote offset bytes.items
+change_of (Shortening size) = ShortenedTo size
+change_of (Growth size) = GrewTo size
+
+-- the bytes behind these that were asked for too, of a write that was refused
+abbrev pub rest_of : Change → List ℕ
+rest_of (Write offset bytes rest) = rest.items
+rest_of (Shortening size) = []
+rest_of (Growth size) = []
+
+-- the change of a disk that was asked for
+abbrev pub asked_of : Change → disk.Change
+asked_of change = with_rest (change_of change) (rest_of change)
+
+-- of the places of a file the change touches only those from the one number up to the other
+abbrev pub TouchesWithin : disk.Change → ℕ → ℕ → Type 0
+TouchesWithin change start end =
+    (place : ℕ) → place < file_limit → Touches change place → (start ≤ place) × (place < end)
+
+-- a change as it was made, the bytes behind it that were asked for too, and how many changes of any file were
+-- made before it
+pub record Made : Type 0 where
+  pub stamp : ℕ
+  pub change : disk.Change
+  pub rest : List ℕ
+
+-- a change with its stamp, as it is kept
+abbrev pub made_of : Stamped → Made
+made_of stamped =
+    record { stamp = stamped.stamp; change = change_of stamped.change; rest = rest_of stamped.change }

@@ -1,0 +1,111 @@
+-- What a file system in memory keeps of its files.
+use Rattle.std.specs.Prelude.{◌≡◌, ℕ, ◌-◌, ◌<◌, ◌≤◌, ◌⊎◌, min, length, take, drop, slice_index, List, [], ◌∷◌, ◌++◌, Option, Some, None}
+use Rattle.std.specs.Map.{update}
+use Rattle.std.specs.List.{All}
+use Rattle.std.specs.Bool.{nat_eq}
+use Rattle.std.specs.Option.{option_map}
+use Rattle.std.proofs.Common.{get_or, map}
+use Rattle.raft_log_disk.specs.Disk.{Change, File, changed, file_limit}
+use Rattle.raft_log_disk.specs.Image.{end_of, Spares}
+use Rattle.raft_log_disk_storage.specs.declared.files.Stored.{Stored}
+use Rattle.raft_log_disk_storage.specs.Changes.{Made, made_of, with_rest}
+
+-- a file's content, what is synced of it, and the changes since then, the oldest first
+pub record Held : Type 0 where
+  pub content : List ℕ
+  pub synced : List ℕ
+  pub changes : List Made
+
+-- what is kept of a file
+abbrev pub held : Stored → Held
+held stored = record {
+  content = stored.content.items;
+  synced = stored.synced.items;
+  changes = map made_of stored.changes.items;
+}
+
+-- a file whose bytes are all synced
+abbrev pub resting : List ℕ → Held
+resting bytes = record { content = bytes; synced = bytes; changes = [] }
+
+-- the file with a node number, where it is there
+abbrev pub held_of : List (Option Stored) → ℕ → Option Held
+held_of files id = option_map held (get_or files id None)
+
+-- the file with a node number, where it is there, is so
+abbrev pub IfHeld : List (Option Stored) → ℕ → (Held → Type 0) → Type 0
+IfHeld files id P = (file : Held) → held_of files id ≡ Some file → P file
+
+-- of each node number the one files have what the others have
+abbrev pub SameHeld : List (Option Stored) → List (Option Stored) → Type 0
+SameHeld old new = (q : ℕ) → held_of new q ≡ held_of old q
+
+-- and but for one node number, at which the file is another one, or none
+abbrev pub PutsHeld : ℕ → Option Held → List (Option Stored) → List (Option Stored) → Type 0
+PutsHeld id file old new = (q : ℕ) → held_of new q ≡ update nat_eq (held_of old) id file q
+
+-- and but for one node number, at which the file, if there is one, has become another one
+abbrev pub ChangesHeld : ℕ → (Held → Held) → List (Option Stored) → List (Option Stored) → Type 0
+ChangesHeld id becomes old new = PutsHeld id (option_map becomes (held_of old id)) old new
+
+-- of each node number the one files have what the others become
+abbrev pub AllBecome : (Held → Held) → List (Option Stored) → List (Option Stored) → Type 0
+AllBecome becomes old new = (q : ℕ) → held_of new q ≡ option_map becomes (held_of old q)
+
+-- the file with one more change, of which more may have been asked for
+abbrev pub with_made : ℕ → Change → List ℕ → Held → Held
+with_made stamp change rest file = record {
+  content = changed change file.content;
+  synced = file.synced;
+  changes = file.changes ++ record { stamp = stamp; change = change; rest = rest } ∷ [];
+}
+
+-- the file with its content synced
+abbrev pub all_synced : Held → Held
+all_synced file = resting file.content
+
+-- its changes as they were asked for, without the stamps
+abbrev pub changes_in : List Made → List Change
+changes_in made = map (λ (m : Made). with_rest m.change m.rest) made
+
+-- and as they were made
+abbrev pub landed_in : List Made → List Change
+landed_in made = map (λ (m : Made). m.change) made
+
+-- each of its changes ends below 2^63
+abbrev pub AreShort : List Made → Type 0
+AreShort made = All (λ c. end_of c < file_limit) (changes_in made)
+
+-- the file as the disk has it
+abbrev pub file_of : Held → File
+file_of file = record { content = file.content; synced = file.synced; changes = changes_in file.changes }
+
+-- Bytes.
+
+-- what is read of a file from a place on: as much as the room and the file have
+abbrev pub ReadsNumber : List (Option Stored) → ℕ → ℕ → ℕ → ℕ → Type 0
+ReadsNumber files id at room count = IfHeld files id (λ file. count ≡ min room (length file.content - at))
+
+-- and these bytes of the file stand at the front of the room
+abbrev pub ReadsFront : List (Option Stored) → ℕ → ℕ → ℕ → List ℕ → List ℕ → Type 0
+ReadsFront files id at count before after =
+    IfHeld files id (λ file. after ≡ take count (drop at file.content) ++ drop count before)
+
+-- what is synced, shortened or filled up to the size of the content
+abbrev pub fitted : List ℕ → List ℕ → List ℕ
+fitted content synced = take (length content) synced ++ drop (length synced) content
+
+-- the places from `start` up to `end` have the bytes of this file
+abbrev pub HasRangeOf : ℕ → ℕ → List ℕ → List ℕ → Type 0
+HasRangeOf start end from new = (place : ℕ) → start ≤ place → place < end → place < length from
+    → slice_index new place ≡ slice_index from place
+
+-- the other places are as they were
+abbrev pub KeepsOutside : ℕ → ℕ → List ℕ → List ℕ → Type 0
+KeepsOutside start end old new = (place : ℕ) → (place < start) ⊎ (end ≤ place)
+    → slice_index new place ≡ slice_index old place
+
+-- a place is synced as it stands, if no change touches it
+abbrev pub IsSyncedIfSpared : List Made → List ℕ → List ℕ → ℕ → Type 0
+IsSyncedIfSpared made content synced place =
+    All (Spares place) (changes_in made) → slice_index synced place ≡ slice_index content place

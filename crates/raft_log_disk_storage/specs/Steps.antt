@@ -1,0 +1,63 @@
+-- What each change of a file system in memory makes of its disk, and of the order of the changes of all
+-- files.
+use Rattle.std.specs.Prelude.{◌≡◌, ℕ, ◌⊎◌, ◌≤◌, cond, nat_eq, Option, Some, None, List, [], ◌∷◌, ◌++◌}
+use Rattle.std.specs.declared.io.ErrorKind.{ErrorKind}
+use Rattle.std.specs.declared.io.ErrorKind.TheVariants.{OutOfMemory, StorageFull}
+use Rattle.raft_log_disk.specs.Disk.{Change, File, Disk, changed, with_file, file_limit}
+use Rattle.raft_log_disk.specs.Image.{end_of}
+use Rattle.raft_log_disk.specs.Calls.{with_change, flushed, deleted, renamed}
+use Rattle.raft_log_disk_storage.specs.declared.storage.Storage.{Storage}
+use Rattle.raft_log_disk_storage.specs.Changes.{with_rest}
+use Rattle.raft_log_disk_storage.specs.Order.{without_file}
+use Rattle.raft_log_disk_storage.specs.Left.{left_disk}
+use Rattle.raft_log_disk_storage.specs.declared.remainder.Remainder.{Remainder}
+use Rattle.raft_log_disk_storage.specs.Storage.{contents_of, unsynced_of}
+
+-- nothing that is held changed
+pub record IsSame (old new : Storage) : Type 0 where
+  pub contents : contents_of new ≡ contents_of old
+  pub order : unsynced_of new ≡ unsynced_of old
+
+-- the file after a change of which more was asked for
+abbrev pub after_part : Change → List ℕ → File → File
+after_part change rest file = with_change (with_rest change rest) (changed change file.content) file
+
+-- a file was changed, and this change is the last one of all; behind a write's bytes, the rest was asked for
+pub record Makes (id : ℕ) (change : Change) (rest : List ℕ) (old new : Storage) : Type 0 where
+  pub contents : (file : File) → (contents_of old).files id ≡ Some file
+      → contents_of new ≡ with_file id (Some (after_part change rest file)) (contents_of old)
+  pub order : unsynced_of new ≡ unsynced_of old ++ (id, change) ∷ []
+
+-- a file was synced, and its changes are among the others no more
+pub record SyncsFile (id : ℕ) (old new : Storage) : Type 0 where
+  pub contents : (file : File) → (contents_of old).files id ≡ Some file
+      → contents_of new ≡ with_file id (Some (flushed file)) (contents_of old)
+  pub order : unsynced_of new ≡ without_file id (unsynced_of old)
+
+-- this is what a crash leaves, the changes being in this order
+abbrev pub IsLeftBy : Remainder → Storage → Storage → Type 0
+IsLeftBy what old after = contents_of after ≡ left_disk what (unsynced_of old) (contents_of old)
+
+-- a name was added, and no file changed
+pub record AddsName (next : Disk → Disk) (old new : Storage) : Type 0 where
+  pub contents : contents_of new ≡ next (contents_of old)
+  pub order : unsynced_of new ≡ unsynced_of old
+
+-- a name and its file went, with the file's changes
+pub record DropsName (path : List ℕ) (id : ℕ) (old new : Storage) : Type 0 where
+  pub contents : contents_of new ≡ deleted path id (contents_of old)
+  pub order : unsynced_of new ≡ without_file id (unsynced_of old)
+
+-- without the changes of the file that is replaced where this one gets its name
+abbrev pub without_replaced : ℕ → Option ℕ → List (ℕ × Change) → List (ℕ × Change)
+without_replaced id None unsynced = unsynced
+without_replaced id (Some gone) unsynced = cond (nat_eq gone id) unsynced (without_file gone unsynced)
+
+-- a file got another name, and a file that had it went with its changes
+pub record MovesName (from to : List ℕ) (id : ℕ) (old new : Storage) : Type 0 where
+  pub contents : contents_of new ≡ renamed from to id (contents_of old)
+  pub order : unsynced_of new ≡ without_replaced id ((contents_of old).names to) (unsynced_of old)
+
+-- why a change wasn't made: memory is short, or the file would get too long
+abbrev pub IsRoomFault : Change → ErrorKind → Type 0
+IsRoomFault change error = (error ≡ OutOfMemory) ⊎ ((error ≡ StorageFull) × (file_limit ≤ end_of change))

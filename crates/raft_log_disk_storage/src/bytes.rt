@@ -1,0 +1,58 @@
+//! Changes of a file's bytes in place.
+ghost use Rattle.std.specs.Prelude.{◌≡◌, ◌+◌, ◌-◌, ◌++◌, min, take, drop, ◌<◌, ◌^◌, length, is_ok, if◌then◌else◌, OnOk, OnErr, vec_len};
+ghost use Rattle.raft_log_disk.specs.Disk.{grown, overwritten};
+ghost use Rattle.raft_log_disk_storage.specs.Held.{HasRangeOf, KeepsOutside};
+
+use std::alloc::AllocError;
+
+// Fills up with zeros to a size. Without memory nothing changes.
+pub(crate) fn grow_to(bytes: &mut Vec<u8>, size: usize) -> Result<(), AllocError>
+    ensures { bytes.new.items ≡ (if is_ok result then grown size bytes.old.items else bytes.old.items) }
+{
+    if bytes.len() < size {
+        bytes.resize(size, 0)
+    } else {
+        Ok(())
+    }
+}
+
+// Puts bytes over the ones that stand from `at` on, with zeros in a gap. Without memory nothing changes.
+pub(crate) fn overwrite(bytes: &mut Vec<u8>, at: usize, over: &[u8]) -> Result<(), AllocError>
+    requires { at + length over.now < 2 ^ 63 }
+    ensures ok { OnOk result (bytes.new.items ≡ overwritten at over.now bytes.old.items) }
+    ensures err { OnErr result (bytes.new.items ≡ bytes.old.items) }
+{
+    if over.is_empty() {
+        return Ok(());
+    }
+    let end = at + over.len();
+    grow_to(bytes, end)?;
+    bytes[at..end].copy_from_slice(over);
+    Ok(())
+}
+
+// Copies the places from `start` up to `end`, where there are such, of a file to one of the same size.
+pub(crate) fn copy_range(to: &mut Vec<u8>, from: &[u8], start: usize, end: usize)
+    requires { vec_len to.old ≡ length from.now }
+    ensures len { vec_len to.new ≡ vec_len to.old }
+    ensures inside { HasRangeOf start end from.now to.new.items }
+    ensures outside { KeepsOutside start end to.old.items to.new.items }
+{
+    let end = end.min(from.len());
+    if start < end {
+        to[start..end].copy_from_slice(&from[start..end]);
+    }
+}
+
+// Copies the bytes from `offset` on until the room is full or they end, and answers how many.
+pub(crate) fn copy_out(content: &[u8], offset: usize, room: &mut [u8]) -> usize
+    ensures number { result ≡ min (length room.old) (length content.now - offset) }
+    ensures bytes { room.new ≡ take result (drop offset content.now) ++ drop result room.old }
+{
+    if content.len() <= offset {
+        return 0;
+    }
+    let count = room.len().min(content.len() - offset);
+    room[..count].copy_from_slice(&content[offset..offset + count]);
+    count
+}

@@ -1,0 +1,92 @@
+//! What a crash leaves of the files.
+ghost use Rattle.std.specs.Prelude.{◌≡◌, ℕ, ◌<◌, length, IfOk, OnOk, vec_len};
+ghost use Rattle.std.specs.List.Sorted.{IsNonDecreasing};
+ghost use Rattle.raft_log_disk.specs.Disk.{file_limit};
+ghost use Rattle.raft_log_disk.specs.Image.{end_of};
+ghost use Rattle.raft_log_disk_storage.specs.Changes.{change_of};
+ghost use Rattle.raft_log_disk_storage.specs.Held.{IfHeld, AllBecome, AreShort, held};
+ghost use Rattle.raft_log_disk_storage.specs.Left.{left_by};
+ghost use Rattle.raft_log_disk_storage.specs.Stamps.{left_of_file, left_held, place_in};
+
+use crate::change::Change;
+use crate::files::Stored;
+use crate::order::place_of;
+use crate::remainder::{Piece, Remainder};
+use std::alloc::{AllocError, Global};
+
+// Makes what is left of the change at a place in the order of the calls.
+fn carry_out(
+    what: &Remainder,
+    place: usize,
+    change: &Change,
+    content: &mut Vec<u8>,
+) -> Result<(), AllocError>
+    requires { end_of (change_of change.now) < file_limit }
+    ensures { OnOk result
+        (content.new.items ≡ left_by what.now place (change_of change.now) content.old.items) }
+{
+    match what {
+        Remainder::LastSync => Ok(()),
+        Remainder::AllWritten => change.carry_out(content),
+        Remainder::First { pieces, bytes } => {
+            if place < *pieces {
+                change.carry_out(content)
+            } else if place == *pieces {
+                change.carry_out_front(*bytes, content)
+            } else {
+                Ok(())
+            }
+        }
+        Remainder::Pieces(list) => match list.get(place) {
+            Some(Piece::Keep) => change.carry_out(content),
+            Some(Piece::Bytes(other)) => change.carry_out_as(other, content),
+            Some(Piece::Lose) | None => Ok(()),
+        },
+    }
+}
+
+// What is left of a file's bytes, where the stamps of all changes are these.
+fn left_bytes(
+    alloc: Global,
+    what: &Remainder,
+    stamps: &[u64],
+    stored: &Stored,
+) -> Result<Vec<u8>, AllocError>
+    requires sorted { IsNonDecreasing stamps.now }
+    requires short { AreShort (held stored.now).changes }
+    ensures { IfOk result (λ bytes. bytes.items ≡ left_of_file what.now stamps.now (held stored.now)) }
+{
+    let mut bytes = Vec::from_slice(alloc, &stored.synced)?;
+    for stamped in &stored.changes {
+        let place = place_of(stamps, stamped.stamp);
+        carry_out(what, place, &stamped.change, &mut bytes)?;
+    }
+    Ok(bytes)
+}
+
+// What is left of all files, where the stamps of all changes are these.
+pub(crate) fn left_files(
+    alloc: Global,
+    what: &Remainder,
+    stamps: &[u64],
+    files: &[Option<Stored>],
+) -> Result<Vec<Option<Stored>>, AllocError>
+    requires sorted { IsNonDecreasing stamps.now }
+    requires short { (id : ℕ) → IfHeld files.now id (λ file. AreShort file.changes) }
+    ensures len { IfOk result (λ after. vec_len after ≡ length files.now) }
+    ensures files { IfOk result (λ after.
+        AllBecome (left_held what.now (place_in stamps.now)) files.now after.items) }
+{
+    let mut left = Vec::with_capacity(alloc, files.len())?;
+    for slot in files {
+        let after = match slot {
+            Some(stored) => {
+                let bytes = left_bytes(alloc, what, stamps, stored)?;
+                Some(Stored::at_rest(alloc, bytes)?)
+            }
+            None => None,
+        };
+        left.push(after)?;
+    }
+    Ok(left)
+}

@@ -53,6 +53,16 @@ with_directory path d = record d { directories = λ q. cond (bytes_eq path q) tr
 abbrev pub with_marks : (ℕ → ℕ → Bool) → Disk → Disk
 with_marks marks d = record d { unreadable = marks }
 
+-- the marks, and a place of a file, where there is one
+abbrev pub marked : Option ℕ → ℕ → (ℕ → ℕ → Bool) → ℕ → ℕ → Bool
+marked None place marks id at = marks id at
+marked (Some file) place marks id at =
+    cond (nat_eq file id) (cond (nat_eq place at) true (marks id at)) (marks id at)
+
+-- the disk with a place marked as unreadable, of the file that has a name; as it is where no file has it
+abbrev pub denied : List ℕ → ℕ → Disk → Disk
+denied name place d = with_marks (marked (d.names name) place d.unreadable) d
+
 -- the disk with one more failure counted
 abbrev pub counted : Disk → Disk
 counted d = record d { failures = suc d.failures }

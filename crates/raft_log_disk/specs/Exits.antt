@@ -1,13 +1,15 @@
 -- Each changing call of a file system: what stands when it was answered, and when it was refused. The state
 -- before it comes first, then the one after it.
 use Rattle.std.specs.Prelude.{◌≡◌, ℕ, ◌⊎◌, false, List}
+use Rattle.std.specs.String.{string_bytes}
 use Rattle.std.specs.declared.io.ErrorKind.{ErrorKind}
 use Rattle.std.specs.declared.io.ErrorKind.TheVariants.{OutOfMemory}
 use Rattle.raft_log_disk.specs.Disk.{Wrote, ShortenedTo, GrewTo, Disk}
-use Rattle.raft_log_disk.specs.Calls.{Changes, Creates, Deletes, Renames, MakesDirectory, after_change, flushed, RefusedChange, RefusedWhole}
+use Rattle.raft_log_disk.specs.Calls.{Changes, Creates, Deletes, Renames, MakesDirectory, after_change, flushed, denied, RefusedChange, RefusedWhole}
 use Rattle.raft_log_disk.specs.Arguments.{WrongCreate, WrongName, WrongRename, WrongDirectory, WrongHandle, WrongWriter}
 use Rattle.raft_log_disk.specs.Reading.{IsOpened}
 use Rattle.raft_log_disk.specs.declared.handle.Fault.{Fault}
+use Rattle.raft_log_disk.specs.declared.handle.Fault.TheVariants.{DenyRead}
 use Rattle.raft_log_disk.specs.declared.handle.Handle.{Handle}
 use Rattle.raft_log_disk.specs.declared.handle.Permission.TheVariants.{ReadWrite}
 
@@ -90,7 +92,13 @@ abbrev pub FailsToSync : Handle → ErrorKind → Disk → Disk → Type 0
 FailsToSync handle error old new =
     RefusedWhole (Changes handle.file flushed old) (WrongHandle handle old) error old new
 
--- What arming a fault changes of the disk: nothing, as what will be refused doesn't stand on it. (A fault
--- that marks a place as unreadable would be a case of its own, and set that mark alone.)
-abbrev pub Arms : Fault → Disk → Disk → Type 0
-Arms fault old new = LeavesAll old new
+-- the disk with the place marked that a fault makes unreadable; any other fault marks none
+abbrev pub denied_by : Fault → Disk → Disk
+denied_by (DenyRead name place) d = denied (string_bytes name) place d
+denied_by fault d = d
+
+-- What arming a fault changes of the disk: the mark of a place that it makes unreadable, and nothing else, as
+-- what is refused otherwise doesn't stand on it. (A file system that heeds no faults marks none.)
+pub record Arms (fault : Fault) (old new : Disk) : Type 0 where
+  pub runs : old.stopped ≡ false
+  pub marks : (new ≡ old) ⊎ (new ≡ denied_by fault old)

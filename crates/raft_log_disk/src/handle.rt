@@ -21,13 +21,16 @@ pub struct Handle {
 
 /// A way to make later calls fail. Calls are counted from the one after `arm`, and only those that change
 /// something count; 0 arms nothing and leaves what was armed.
-#[derive(Clone, Copy, Debug, PartialEq, Eq)]
+#[derive(Debug, PartialEq, Eq, Drop)]
 pub enum Fault {
     /// The n-th changing call is refused and changes nothing.
     Refuse(u64),
     /// The n-th changing call is refused. A write there writes so many of its first bytes, or all where it has
     /// fewer, which count as not synced; another call changes nothing.
     RefuseInPart(u64, usize),
+    /// A place of the file that has this name now can't be read: a read that asks for it is refused, whatever
+    /// the file is called then. Where no file has the name, nothing is armed.
+    DenyRead(String, usize),
     /// The file system stops at the n-th changing call: a write, a shortening or an allocation there counts
     /// as not synced, any other call hasn't happened.
     StopAt(u64),

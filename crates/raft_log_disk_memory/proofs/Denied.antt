@@ -5,7 +5,8 @@ use Rattle.std.proofs.Math.Seq.{drop-cons}
 use Rattle.std.proofs.lemmas.Bool.{cases_eq, eq-eqb}
 use Rattle.std.proofs.lemmas.List.{drop_all}
 use std.Path.{fun_ext}
-use Rattle.raft_log_disk_memory.specs.Memory.{is_denied, marked}
+use Rattle.raft_log_disk.specs.Calls.{marked}
+use Rattle.raft_log_disk_memory.specs.Memory.{is_denied}
 use Rattle.raft_log_disk_storage.proofs.RisingLaws.{miss}
 
 swap : (a b m n x : Bool) → cond m (cond n true (cond a (cond b true x) x)) (cond a (cond b true x) x) ≡ cond a (cond b true (cond m (cond n true x) x)) (cond m (cond n true x) x)

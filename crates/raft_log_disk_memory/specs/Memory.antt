@@ -2,7 +2,7 @@
 use Rattle.std.specs.Prelude.{◌≡◌, ℕ, ◌+◌, ◌<◌, ◌≤◌, Bool, true, false, suc, cond, Option, Some, None, List, [], ◌∷◌}
 use Rattle.std.proofs.Common.{nat_eq, nat_lt}
 use Rattle.raft_log_disk.specs.Disk.{Change, Disk}
-use Rattle.raft_log_disk.specs.Calls.{counted, at_stop, with_marks}
+use Rattle.raft_log_disk.specs.Calls.{counted, at_stop}
 use Rattle.raft_log_disk_memory.specs.declared.memory.MemoryFileSystem.{MemoryFileSystem}
 use Rattle.raft_log_disk_storage.specs.Order.{without_file}
 use Rattle.raft_log_disk_storage.specs.Steps.{without_replaced}
@@ -22,16 +22,6 @@ disk_of system = record (contents_of system.storage) {
   stopped = system.stopped;
   failures = system.failures;
 }
-
--- the marks, and a place of the file, where there is one
-abbrev pub marked : Option ℕ → ℕ → (ℕ → ℕ → Bool) → ℕ → ℕ → Bool
-marked None place marks id at = marks id at
-marked (Some file) place marks id at =
-    cond (nat_eq file id) (cond (nat_eq place at) true (marks id at)) (marks id at)
-
--- a place of the file that has a name can't be read from now on; where no file has it nothing changed
-abbrev pub DeniesRead : List ℕ → ℕ → Disk → Disk → Type 0
-DeniesRead name place old new = new ≡ with_marks (marked (old.names name) place old.unreadable) old
 
 -- one of so many places from a first one on can't be read
 pub record HasDenied (marks : List (ℕ × ℕ)) (id start count : ℕ) : Type 0 where

@@ -9,7 +9,7 @@ use Rattle.std.specs.declared.io.ErrorKind.TheVariants.{Other, OutOfMemory}
 use Rattle.raft_log_disk.specs.Disk.{Change, Wrote, ShortenedTo, GrewTo, File, Disk, overwritten, with_file}
 use Rattle.raft_log_disk.specs.Calls.{with_change, after_change, at_stop, Changes}
 use Rattle.raft_log_disk.specs.declared.handle.Fault.{Fault}
-use Rattle.raft_log_disk.specs.declared.handle.Fault.TheVariants.{Refuse, RefuseInPart, StopAt, StopAfter}
+use Rattle.raft_log_disk.specs.declared.handle.Fault.TheVariants.{Refuse, RefuseInPart, DenyRead, StopAt, StopAfter}
 use Rattle.raft_log_disk_memory.specs.declared.memory.MemoryFileSystem.{MemoryFileSystem}
 use Rattle.raft_log_disk_memory.specs.Memory.{disk_of, Kept, kept, failed_once}
 use Rattle.raft_log_disk_storage.specs.Steps.{IsRoomFault}
@@ -36,11 +36,13 @@ armed system = record {
 abbrev pub nothing_armed : Armed
 nothing_armed = record { refusals = []; parts = []; stop = 0; after = false }
 
--- one refusal more, or a stop in place of the one before; at the number 0 nothing is armed
+-- one refusal more, or a stop in place of the one before; at the number 0 nothing is armed (a place that can't
+-- be read is a mark on the disk)
 abbrev pub armed_with : Fault → Armed → Armed
 armed_with (Refuse n) a = record a { refusals = cond (nat_eq n 0) a.refusals (a.refusals ++ n ∷ []) }
 armed_with (RefuseInPart n count) a =
     record a { parts = cond (nat_eq n 0) a.parts (a.parts ++ (n, count) ∷ []) }
+armed_with (DenyRead name place) a = a
 armed_with (StopAt n) a = cond (nat_eq n 0) a (record a { stop = n; after = false })
 armed_with (StopAfter n) a = cond (nat_eq n 0) a (record a { stop = n; after = true })
 

@@ -58,7 +58,10 @@ impl Player {
             )),
             "stop" => self.arm(&Fault::StopAt(number(path)? as u64)),
             "stop-after" => self.arm(&Fault::StopAfter(number(path)? as u64)),
-            "deny-read" => self.deny_read(path, number(word(words, 2))?),
+            "deny-read" => self.arm(&Fault::DenyRead(
+                told(String::from_str(alloc, path))?,
+                number(word(words, 2))?,
+            )),
             "crash" => self.crash(words),
             _ => self.play_on(words),
         }
@@ -104,14 +107,6 @@ impl Player {
     /// Arms a fault.
     fn arm(&mut self, fault: &Fault) -> Result<String, ErrorKind> {
         done(self.alloc, self.system.arm(fault))
-    }
-
-    /// Lets a place of a file be unreadable.
-    fn deny_read(&mut self, name: &str, place: usize) -> Result<String, ErrorKind> {
-        match self.system.deny_read(name, place) {
-            Ok(()) => done(self.alloc, Ok(())),
-            Err(_) => Err(ErrorKind::OutOfMemory),
-        }
     }
 
     /// Plays on with another file system.

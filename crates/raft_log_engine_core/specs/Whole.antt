@@ -5,11 +5,17 @@ use Rattle.raft_log_record_base.specs.declared.pipe_log.LogQueue.{LogQueue}
 use Rattle.raft_log_record_items.specs.Message.{Parses}
 use Rattle.raft_log_directory_laws.specs.Calls.Which.{InAppend, InRewrite}
 use Rattle.raft_log_file_pair.specs.State.{pipe_at}
-use Rattle.raft_log_file_pair.specs.Pipes.{LogPipes, files_of, which_of}
+use Rattle.raft_log_disk.specs.declared.handle.Fault.{Fault}
+use Rattle.raft_log_file_pair.specs.Pipes.{ArmsPipes, LogPipes, files_of, which_of}
 use Rattle.raft_log_file_pair.specs.Calls.{IsSpanOf, size_at}
 use Rattle.raft_log_purge.specs.raft_log_engine_laws.specs.Shows.{Shows}
 use Rattle.raft_log_purge.specs.raft_log_engine_laws.specs.Reading.{ReadsValue}
 use Rattle.raft_log_engine_core.specs.Reads.{IsUncopied, Lives}
+
+-- a fault is armed: the disk may have the place marked that it makes unreadable, and all else is as it was
+pub record ArmsEngine (fault : Fault) (s t : Shows) : Type 0 where
+  pub pipes : ArmsPipes fault s.pipes t.pipes
+  pub others : t ≡ record s { pipes = t.pipes }
 
 -- the numbers of the first and the last file of a queue
 pub record TellsSpan (queue : LogQueue) (v : LogPipes) (first last : ℕ) : Type 0 where

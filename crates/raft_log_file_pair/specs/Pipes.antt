@@ -2,6 +2,8 @@
 use Rattle.std.specs.Prelude.{◌≡◌, ℕ, ◌<◌, Bool, false, ◌||◌, List, length}
 use Rattle.raft_log_model_laws.specs.Item.{Record}
 use Rattle.raft_log_disk.specs.Disk.{Disk}
+use Rattle.raft_log_disk.specs.Exits.{Arms}
+use Rattle.raft_log_disk.specs.declared.handle.Fault.{Fault}
 use Rattle.raft_log_record_base.specs.declared.pipe_log.LogQueue.{LogQueue}
 use Rattle.raft_log_record_base.specs.declared.pipe_log.LogQueue.TheVariants.{Append, Rewrite}
 use Rattle.raft_log_file_format.specs.Header.{header_bytes}
@@ -69,6 +71,11 @@ spares_at which v = (pipe_at which (files_of v)).recycled.items
 -- whether a call was refused that couldn't be mended
 abbrev pub is_failed : LogPipes → Bool
 is_failed v = v.append.failed || v.rewrite.failed
+
+-- a fault is armed: the disk may have the place marked that it makes unreadable, and all else is as it was
+pub record ArmsPipes (fault : Fault) (v w : LogPipes) : Type 0 where
+  pub disk : Arms fault v.disk w.disk
+  pub others : w ≡ record v { disk = w.disk }
 
 -- what a record says, where an entry stands for its bytes and a key's value for its own
 abbrev pub Said : Type 0

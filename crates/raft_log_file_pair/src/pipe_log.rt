@@ -18,7 +18,7 @@ pub trait PipeLog {
     ghost use Rattle.raft_log_file_pair.specs.State.{pipe_at};
     ghost use Rattle.raft_log_file_pipe.specs.Reading.{IsReadAt, IsReadRefused};
     ghost use Rattle.raft_log_file_pipe.specs.Purging.{IsInSpan};
-    ghost use Rattle.raft_log_file_pair.specs.Pipes.{LogPipes, files_of, is_failed, which_of};
+    ghost use Rattle.raft_log_file_pair.specs.Pipes.{ArmsPipes, LogPipes, files_of, is_failed, which_of};
     ghost use Rattle.raft_log_disk.specs.Disk.{Disk};
     ghost use Rattle.raft_log_record_base.specs.declared.pipe_log.LogQueue.{LogQueue};
     ghost use Rattle.raft_log_file_pair.specs.ClosingCalls.{ClosesInOrder, ClosesLog};
@@ -50,11 +50,13 @@ pub trait PipeLog {
     fn file_system(&self) -> &Self::Files
         ensures { result.now ≡ files self.now };
 
-    /// Arms a fault of the file system: it alters which later calls are refused, and nothing else.
+    /// Arms a fault of the file system: it alters which later calls are refused, and nothing else; a place
+    /// that it makes unreadable is marked on the disk.
     ///
     /// `Io` where it isn't armed.
     fn arm(&mut self, fault: &Fault) -> Result<()>
-        ensures shown { shown self.new ≡ shown self.old }
+        ensures ok { OnOk result (ArmsPipes fault.now (shown self.old) (shown self.new)) }
+        ensures err { OnErr result (shown self.new ≡ shown self.old) }
         ensures errors { IfErr result IsIo };
 
     /// The numbers of the first and the last file of a queue.

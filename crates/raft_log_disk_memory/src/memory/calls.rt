@@ -9,7 +9,7 @@ impl FileSystem for MemoryFileSystem {
     ghost use Rattle.std.specs.Prelude.{◌≡◌, ◌+◌, ◌++◌, ◌∷◌, [], ◌⊎◌, true, OnOk, OnErr, IfOk, IfErr};
     ghost use Rattle.raft_log_disk.specs.Disk.{Wrote, ShortenedTo, GrewTo};
     ghost use Rattle.raft_log_disk.specs.Calls.{Creates, Deletes, Renames, MakesDirectory};
-    ghost use Rattle.raft_log_disk.specs.Exits.{FailsToCreate, FailsToDelete, FailsToRename, FailsToMakeDirectory, Writes, FailsToWrite, Shortens, FailsToShorten, Grows, FailsToGrow, Syncs, FailsToSync, Arms};
+    ghost use Rattle.raft_log_disk.specs.Exits.{FailsToCreate, FailsToDelete, FailsToRename, FailsToMakeDirectory, Writes, FailsToWrite, Shortens, FailsToShorten, Grows, FailsToGrow, Syncs, FailsToSync, Arms, denied_by};
     ghost use Rattle.raft_log_disk.specs.Arguments.{WrongCreate, WrongName, WrongRename, WrongDirectory, WrongHandle, WrongWriter};
     ghost use Rattle.raft_log_disk_memory.specs.Memory.{disk_of, unsynced};
     ghost use Rattle.raft_log_disk_storage.specs.Order.{without_file};
@@ -235,6 +235,8 @@ impl FileSystem for MemoryFileSystem {
         ensures ok { OnOk result (Arms fault.now (disk_of self.old) (disk_of self.new)) }
         ensures err { OnErr result (disk_of self.new ≡ disk_of self.old) }
         ensures armed { OnOk result (armed self.new ≡ armed_with fault.now (armed self.old)) }
+        ensures denied { OnOk result (disk_of self.new ≡ denied_by fault.now (disk_of self.old)) }
+        ensures order { unsynced self.new ≡ unsynced self.old }
         ensures cause { IfErr result (ArmsNothing self.old) }
     {
         self.check_runs()?;
@@ -244,6 +246,10 @@ impl FileSystem for MemoryFileSystem {
                 Err(_) => Err(ErrorKind::OutOfMemory),
             },
             Fault::RefuseInPart(n, count) => match self.refuse_in_part(*n, *count) {
+                Ok(()) => Ok(()),
+                Err(_) => Err(ErrorKind::OutOfMemory),
+            },
+            Fault::DenyRead(name, place) => match self.deny_read(name.as_str(), *place) {
                 Ok(()) => Ok(()),
                 Err(_) => Err(ErrorKind::OutOfMemory),
             },

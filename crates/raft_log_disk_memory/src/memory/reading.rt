@@ -7,7 +7,8 @@ use std::alloc::AllocError;
 
 impl MemoryFileSystem {
     ghost use Rattle.std.specs.Prelude.{◌≡◌, OnOk, OnErr};
-    ghost use Rattle.raft_log_disk_memory.specs.Memory.{disk_of, unsynced, DeniesRead};
+    ghost use Rattle.raft_log_disk.specs.Calls.{denied};
+    ghost use Rattle.raft_log_disk_memory.specs.Memory.{disk_of, unsynced};
     ghost use Rattle.raft_log_disk_memory.specs.Turns.{armed};
 
     /// Lets a place of the file that has a name now be unreadable: a read that asks for it is refused. The
@@ -16,7 +17,7 @@ impl MemoryFileSystem {
     pub fn deny_read(&mut self, name: &str, place: usize) -> Result<(), AllocError>
         ensures same { armed self.new ≡ armed self.old }
         ensures order { unsynced self.new ≡ unsynced self.old }
-        ensures ok { OnOk result (DeniesRead name.now place (disk_of self.old) (disk_of self.new)) }
+        ensures ok { OnOk result (disk_of self.new ≡ denied name.now place (disk_of self.old)) }
         ensures err { OnErr result (disk_of self.new ≡ disk_of self.old) }
     {
         if let Some(file) = self.storage.file(name) {

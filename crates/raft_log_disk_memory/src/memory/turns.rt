@@ -11,7 +11,7 @@ use std::io::ErrorKind;
 
 impl MemoryFileSystem {
     ghost use Rattle.std.specs.Prelude.{◌≡◌, ◌↔◌, true, false, None, OnOk, OnErr, IfErr, IfOk, IfSome, IsTrue, MatchResult};
-    ghost use Rattle.raft_log_disk_memory.specs.Memory.{disk_of, failed_once};
+    ghost use Rattle.raft_log_disk_memory.specs.Memory.{disk_of, failed_once, unsynced};
     ghost use Rattle.raft_log_disk_memory.specs.Turns.{armed, armed_with, call_later, IsSpared, PartFalls, StopsAfter, ArmedRefusalFell, IsCallEnded, IsChangeEnded};
     ghost use Rattle.raft_log_disk_memory.specs.Answers.{HasRefused, HasFallen, RunsWithDirectory, LacksDirectory, RunsWithFile, LacksFile, RunsWithWriter, LacksWriter};
 
@@ -19,6 +19,7 @@ impl MemoryFileSystem {
     /// stay. 0 arms none. It is refused for want of memory alone.
     pub fn refuse_call(&mut self, n: u64) -> Result<(), AllocError>
         ensures same { disk_of self.new ≡ disk_of self.old }
+        ensures order { unsynced self.new ≡ unsynced self.old }
         ensures ok { OnOk result (armed self.new ≡ armed_with (Fault.Refuse n) (armed self.old)) }
         ensures err { OnErr result (armed self.new ≡ armed self.old) }
     {
@@ -34,6 +35,7 @@ impl MemoryFileSystem {
     /// that was armed first. 0 arms none. It is refused for want of memory alone.
     pub fn refuse_in_part(&mut self, n: u64, count: usize) -> Result<(), AllocError>
         ensures same { disk_of self.new ≡ disk_of self.old }
+        ensures order { unsynced self.new ≡ unsynced self.old }
         ensures ok { OnOk result
             (armed self.new ≡ armed_with (Fault.RefuseInPart n count) (armed self.old)) }
         ensures err { OnErr result (armed self.new ≡ armed self.old) }
@@ -49,6 +51,7 @@ impl MemoryFileSystem {
     /// leaves what was armed.
     pub fn stop_at(&mut self, n: u64)
         ensures same { disk_of self.new ≡ disk_of self.old }
+        ensures order { unsynced self.new ≡ unsynced self.old }
         ensures armed { armed self.new ≡ armed_with (Fault.StopAt n) (armed self.old) }
     {
         if n != 0 {
@@ -61,6 +64,7 @@ impl MemoryFileSystem {
     /// that call has happened and is answered as refused. 0 leaves what was armed.
     pub fn stop_after(&mut self, n: u64)
         ensures same { disk_of self.new ≡ disk_of self.old }
+        ensures order { unsynced self.new ≡ unsynced self.old }
         ensures armed { armed self.new ≡ armed_with (Fault.StopAfter n) (armed self.old) }
     {
         if n != 0 {

@@ -1,10 +1,10 @@
 //! What is told of the log as a whole.
 
-ghost use Rattle.std.specs.Prelude.{◌≡◌, IfErr, IfOk, OnOk};
+ghost use Rattle.std.specs.Prelude.{◌≡◌, IfErr, IfOk, OnErr, OnOk};
 ghost use Rattle.raft_log_file_pair.specs.Calls.{IsIo};
 ghost use Rattle.raft_log_engine_core.specs.Reads.{shows_of, IsFailed, Lives};
 ghost use Rattle.raft_log_engine_core.specs.Touching.{StaysPurged};
-ghost use Rattle.raft_log_engine_core.specs.Whole.{used_size, TellsSpan};
+ghost use Rattle.raft_log_engine_core.specs.Whole.{used_size, ArmsEngine, TellsSpan};
 
 use super::LogEngine;
 use raft_log_disk::Fault;
@@ -19,11 +19,14 @@ impl<P: PipeLog> LogEngine<P> {
         self.pipes.file_system()
     }
 
-    /// Arms a fault of the file system: it alters which later calls are refused, and nothing else.
+    /// Arms a fault of the file system: it alters which later calls are refused, and nothing else; a place
+    /// that it makes unreadable is marked on the disk.
     ///
     /// `Io` where it isn't armed.
     pub fn arm(&mut self, fault: &Fault) -> Result<()>
-        ensures shown { shows_of P.shown self.new ≡ shows_of P.shown self.old }
+        ensures ok { OnOk result
+            (ArmsEngine fault.now (shows_of P.shown self.old) (shows_of P.shown self.new)) }
+        ensures err { OnErr result (shows_of P.shown self.new ≡ shows_of P.shown self.old) }
         ensures purges { StaysPurged self.old self.new }
         ensures errors { IfErr result IsIo }
     {

@@ -1,6 +1,6 @@
 use Rattle.std.proofs.Common.{rules, ap, sym, ◌∙◌, ◌≡◌, ℕ, Bool, Option, Some}
-use Rattle.raft_log_disk.specs.Calls.{with_marks}
-use Rattle.raft_log_disk_memory.specs.Memory.{disk_of, is_denied, marked}
+use Rattle.raft_log_disk.specs.Calls.{with_marks, marked}
+use Rattle.raft_log_disk_memory.specs.Memory.{disk_of, is_denied}
 use Rattle.raft_log_disk_memory.proofs.Denied.{marks_more}
 use Rattle.raft_log_disk_memory.proofs.memory.MemoryFileSystem.deny_read.Goals as goal
 

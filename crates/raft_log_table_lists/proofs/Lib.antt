@@ -18,3 +18,12 @@ pub mod Joining
 pub mod Telling
 pub mod Merging
 pub mod Alone
+pub mod RunPlaces
+pub mod RunLists
+pub mod PieceRuns
+pub mod EntryPieces
+pub mod RunSpots
+pub mod RunTurns
+pub mod RunSteps
+pub mod RunRoom
+pub mod RunReplacing

@@ -1,13 +1,13 @@
 -- The files of a group's entries don't fall as the index rises.
-use Rattle.std.proofs.Common.{◌≡◌, ℕ, ◌+◌, ◌-◌, ◌<◌, ◌≤◌, ◌⊎◌, List, [], ◌∷◌, ◌++◌, length, take, drop, refl, ap, subst, sym, ◌∙◌, inl, inr, arith, length-take, length-drop}
+use Rattle.std.proofs.Common.{◌≡◌, ℕ, ◌+◌, ◌-◌, ◌<◌, ◌≤◌, ◌⊎◌, List, [], ◌∷◌, ◌++◌, length, take, drop, ap, ◌∙◌, inl, inr, arith, length-take, length-drop}
 use Rattle.std.proofs.lemmas.Bool.{cases_lt}
 use Rattle.raft_log_model_laws.specs.Item.{Item}
 use Rattle.raft_log_model_laws.specs.Item.Item.{Run, Clean, Compact, Put, Del}
 use Rattle.raft_log_model_laws.specs.Meaning.Slot.{Index}
 use Rattle.raft_log_model_laws.proofs.TableSteps.{get_take, get_front, get_back}
 use Rattle.raft_log_table_lists.specs.declared.place.Place.{Place}
-use Rattle.raft_log_table_lists.specs.Shown.{Shown, nothing_shown, with_run, with_compact, with_put, with_del, stepped, all_stepped, span, IsOrderly, MayFollow, MayAllFollow}
-use Rattle.raft_log_table_lists.specs.Bridge.{Located, Move, moved_run, moved_key, moved, all_moved, CanMove, CanAllMove}
+use Rattle.raft_log_table_lists.specs.Shown.{Shown, nothing_shown, with_run, stepped, all_stepped, span, IsOrderly, MayFollow, MayAllFollow}
+use Rattle.raft_log_table_lists.specs.Bridge.{Located, Move, moved_run, moved, all_moved, CanMove, CanAllMove}
 use Rattle.raft_log_table_lists.specs.Bridge.Move.{MoveRun, MoveKey}
 use Rattle.raft_log_table_lists.specs.Noted.{place_file, file_at, AllIn, AreInFile, MovesIn, FilesRise}
 use Rattle.raft_log_table_lists.proofs.Spans.{run_ends, orderly_stepped}

@@ -9,10 +9,11 @@ use Rattle.raft_log_model_laws.specs.Item.{Item}
 use Rattle.raft_log_model_laws.specs.Item.Item.{Run}
 use Rattle.raft_log_table_lists.specs.declared.place.Place.{Place}
 
--- the places that a table has, and how many more it has promised room for; and for how many of those that it
--- has others may come
+-- the places that a table has, and in how many runs they are kept; how many more it has promised room for; and
+-- for how many of those that it has others may come
 pub record PlaceList : Type 0 where
   pub items : List Place
+  pub runs : ℕ
   pub wanted : ℕ
   pub moves : ℕ
 

@@ -6,3 +6,7 @@ pub mod Shown
 pub mod Bridge
 pub mod Noted
 pub mod Replayed
+pub mod Blocks
+pub mod Runs
+pub mod RunLists
+pub mod Spots

@@ -1,17 +1,14 @@
 //! The places of a group's entries, and room for more.
-ghost use Rattle.std.specs.Prelude.{◌≡◌, ◌+◌, ◌-◌, ◌≤◌, ◌++◌, [], length, map, take, drop, slice_get, ◌<◌, Some, OnOk, OnErr};
-ghost use Rattle.std.specs.VecDeque.{deque_capacity, deque_len};
+ghost use Rattle.std.specs.Prelude.{◌≡◌, ◌+◌, ◌-◌, ◌≤◌, ◌<◌, ◌++◌, [], length, map, take, drop, slice_get, Some, OnOk, OnErr};
 ghost use Rattle.raft_log_table_lists.specs.Entries.{place_of, entry_of};
-ghost use Rattle.raft_log_table_lists.specs.Counts.{passing};
-ghost use Rattle.raft_log_table_lists.specs.Counts.{sized};
+ghost use Rattle.raft_log_table_lists.specs.Blocks.{pieces};
+ghost use Rattle.raft_log_table_lists.specs.Counts.{passing, sized};
 
-use crate::Place;
+use crate::{Place, Runs};
 use raft_log_record_base::{FileBlockHandle, FileId, FileSeq, LogQueue};
 use raft_log_record_items::{CompressionType, EntryIndex};
 use std::alloc::{AllocError, Global};
-use std::collections::VecDeque;
 use std::marker::Model;
-use std::mem;
 
 /// Where a written entry lies. One that isn't written lies nowhere: its file, its block's offset and length
 /// are 0.
@@ -50,33 +47,39 @@ pub fn entry_of(queue: LogQueue, index: u64, place: Place) -> EntryIndex
 }
 
 /// The places of entries one after another, and room that is promised: for more of them, and for others in
-/// their stead.
+/// their stead. They are kept as runs of entries that lie one behind another.
 #[derive(Drop)]
 pub struct Places {
-    places: VecDeque<Place>,
+    runs: Runs,
     wanted: usize,
     moves: usize,
 }
 
 impl Model for Places {
-    ghost use Rattle.std.specs.Prelude.{◌+◌, ◌≤◌};
-    ghost use Rattle.std.specs.VecDeque.{deque_len, deque_capacity};
+    ghost use Rattle.std.specs.Prelude.{◌+◌};
+    ghost use Rattle.std.specs.VecDeque.{deque_len};
     ghost use Rattle.raft_log_table_lists.specs.Entries.{PlaceList};
+    ghost use Rattle.raft_log_table_lists.specs.RunLists.{places, HasRoom};
 
     ghost Value = { PlaceList };
 
-    ghost view = { λ p. record { items = p.places.items; wanted = p.wanted; moves = p.moves } };
+    ghost view = { λ p. record {
+      items = places p.runs;
+      runs = deque_len p.runs.runs;
+      wanted = p.wanted;
+      moves = p.moves;
+    } };
 
-    ghost invariant = { λ p. deque_len p.places + p.wanted ≤ deque_capacity p.places };
+    ghost invariant = { λ p. HasRoom p.runs (p.wanted + (p.moves + p.moves)) };
 }
 
 impl Places {
     /// No places, and no room promised.
     pub fn new(alloc: Global) -> Places
-        ensures { result ≡ record { items = []; wanted = 0; moves = 0 } }
+        ensures { result ≡ record { items = []; runs = 0; wanted = 0; moves = 0 } }
     {
         Places {
-            places: VecDeque::new(alloc),
+            runs: Runs::new(alloc),
             wanted: 0,
             moves: 0,
         }
@@ -86,14 +89,30 @@ impl Places {
     pub fn len(&self) -> usize
         ensures { result ≡ length self.now.items }
     {
-        self.places.len()
+        self.runs.len()
+    }
+
+    /// How many runs there are, which are all that is kept of the places.
+    pub fn run_count(&self) -> usize
+        ensures { result ≡ self.now.runs }
+    {
+        self.runs.run_count()
     }
 
     /// The place at this position.
     pub fn get(&self, position: usize) -> Option<Place>
         ensures { result ≡ slice_get self.now.items position }
     {
-        self.places.get(position).copied()
+        self.runs.get(position)
+    }
+
+    /// The place at this position, which is there. It is looked for in the run of the hint first, and then
+    /// the hint is its run.
+    pub fn at(&self, position: usize, hint: &mut usize) -> Place
+        requires { position < length self.now.items }
+        ensures { slice_get self.now.items position ≡ Some result }
+    {
+        self.runs.at(position, hint)
     }
 
     /// Makes room for so many more. Where memory is refused, nothing changes.
@@ -104,16 +123,13 @@ impl Places {
         let Some(wanted) = self.wanted.checked_add(count) else {
             return Err(AllocError);
         };
-        self.places.reserve(wanted)?;
-        self.wanted = wanted;
-        Ok(())
+        self.reserve(wanted, self.moves)
     }
 
     /// Makes room for others in the stead of so many more of those that are there. Where it is refused,
     /// nothing changes.
     ///
-    /// As each entry has a place of its own, the new one takes the old one's room, and the promise is kept by
-    /// counting.
+    /// An entry that gets another place may cut a run in two, and so there is room for two runs for each.
     pub fn make_room_to_move(&mut self, count: usize) -> Result<(), AllocError>
         ensures ok { OnOk result (self.new ≡ record self.old { moves = self.old.moves + count }) }
         ensures err { OnErr result (self.new ≡ self.old) }
@@ -121,6 +137,22 @@ impl Places {
         let Some(moves) = self.moves.checked_add(count) else {
             return Err(AllocError);
         };
+        self.reserve(self.wanted, moves)
+    }
+
+    /// Promises room for so many more places, and for others in the stead of so many.
+    fn reserve(&mut self, wanted: usize, moves: usize) -> Result<(), AllocError>
+        ensures ok { OnOk result (self.new ≡ record self.old { wanted = wanted; moves = moves }) }
+        ensures err { OnErr result (self.new ≡ self.old) }
+    {
+        let Some(twice) = moves.checked_add(moves) else {
+            return Err(AllocError);
+        };
+        let Some(room) = wanted.checked_add(twice) else {
+            return Err(AllocError);
+        };
+        self.runs.reserve(room)?;
+        self.wanted = wanted;
         self.moves = moves;
         Ok(())
     }
@@ -144,13 +176,11 @@ impl Places {
     pub fn push(&mut self, entries: &[EntryIndex])
         requires { length entries.now ≤ self.old.wanted }
         ensures items { self.new.items ≡ self.old.items ++ map place_of entries.now }
+        ensures runs { self.new.runs ≤ self.old.runs + pieces (map place_of entries.now) }
         ensures wanted { self.new.wanted ≡ self.old.wanted - length entries.now }
         ensures moves { self.new.moves ≡ self.old.moves }
     {
-        match entries {
-            [entry] => self.places.push_back_reserved(place_of(entry)),
-            _ => push_all(&mut self.places, entries),
-        }
+        self.runs.push(entries);
         self.wanted -= entries.len();
     }
 
@@ -158,44 +188,34 @@ impl Places {
     pub fn append(&mut self, more: Places)
         requires { length more.items ≤ self.old.wanted }
         ensures items { self.new.items ≡ self.old.items ++ more.items }
+        ensures runs { self.new.runs ≡ self.old.runs + more.runs }
         ensures wanted { self.new.wanted ≡ self.old.wanted - length more.items }
         ensures moves { self.new.moves ≡ self.old.moves }
     {
-        let Places { places, .. } = more;
-        let (front, back) = places.as_slices();
-        self.push_places(front);
-        self.push_places(back);
-    }
-
-    /// These places come to the end, in room that was promised for them.
-    fn push_places(&mut self, more: &[Place])
-        requires { length more.now ≤ self.old.wanted }
-        ensures { self.new ≡ record self.old {
-          items = self.old.items ++ more.now;
-          wanted = self.old.wanted - length more.now;
-        } }
-    {
-        let mut places = taken(&mut self.places);
-        for place in more {
-            places.push_back_reserved(*place);
-        }
-        self.places = places;
-        self.wanted -= more.len();
+        let Places { runs, .. } = more;
+        self.wanted -= runs.len();
+        self.runs.append(runs);
     }
 
     /// Only so many first places stay.
     pub fn truncate(&mut self, count: usize)
-        ensures { self.new ≡ record self.old { items = take count self.old.items } }
+        ensures items { self.new.items ≡ take count self.old.items }
+        ensures runs { self.new.runs ≤ self.old.runs }
+        ensures wanted { self.new.wanted ≡ self.old.wanted }
+        ensures moves { self.new.moves ≡ self.old.moves }
     {
-        self.places.truncate(count);
+        self.runs.truncate(count);
     }
 
     /// So many first places go.
     pub fn drop_front(&mut self, count: usize)
         requires { count ≤ length self.old.items }
-        ensures { self.new ≡ record self.old { items = drop count self.old.items } }
+        ensures items { self.new.items ≡ drop count self.old.items }
+        ensures runs { self.new.runs ≤ self.old.runs }
+        ensures wanted { self.new.wanted ≡ self.old.wanted }
+        ensures moves { self.new.moves ≡ self.old.moves }
     {
-        self.places.drain(..count);
+        self.runs.drop_front(count);
     }
 
     /// From this position on, the places of these entries come in the stead of as many, as was promised.
@@ -205,13 +225,12 @@ impl Places {
         ensures items { self.new.items
             ≡ take position self.old.items
             ++ (map place_of entries.now ++ drop (position + length entries.now) self.old.items) }
+        ensures runs { self.new.runs ≤ self.old.runs + (pieces (map place_of entries.now) + 1) }
         ensures wanted { self.new.wanted ≡ self.old.wanted }
         ensures moves { self.new.moves ≡ self.old.moves - length entries.now }
     {
+        self.runs.replace(position, entries);
         self.moves -= entries.len();
-        for (i, entry) in entries.iter().enumerate() {
-            self.places[position + i] = place_of(entry);
-        }
     }
 
     /// How many places from this position on, at most so many, lie in files up to the gate, up to the first
@@ -221,21 +240,14 @@ impl Places {
         ensures count { result ≡ passing gate (take limit (drop position self.now.items)) }
         ensures within { (result ≤ limit) × (position + result ≤ length self.now.items) }
     {
-        let limit = limit.min(self.places.len() - position);
+        let limit = limit.min(self.runs.len() - position);
+        let mut hint = 0;
         for i in 0..limit {
-            if self.places[position + i].file > gate {
+            if self.runs.at(position + i, &mut hint).file > gate {
                 return i;
             }
         }
         limit
-    }
-
-    /// The place at this position, which is there.
-    pub fn at(&self, position: usize) -> Place
-        requires { position < length self.now.items }
-        ensures { slice_get self.now.items position ≡ Some result }
-    {
-        self.places[position]
     }
 
     /// How many of so many entries from this position on come: the first always, and more as long as the
@@ -251,13 +263,14 @@ impl Places {
         if count == 0 {
             return 0;
         }
-        let first = self.places[position].entry_len as u64;
+        let mut hint = 0;
+        let first = self.runs.at(position, &mut hint).entry_len as u64;
         if first > max_size {
             return 1;
         }
         let mut left = max_size - first;
         for i in 1..count {
-            let len = self.places[position + i].entry_len as u64;
+            let len = self.runs.at(position + i, &mut hint).entry_len as u64;
             if len > left {
                 return i;
             }
@@ -265,28 +278,4 @@ impl Places {
         }
         count
     }
-}
-
-/// The places of these entries come to the end of a queue that has room for them.
-fn push_all(places: &mut VecDeque<Place>, entries: &[EntryIndex])
-    requires { deque_len places.old + length entries.now ≤ deque_capacity places.old }
-    ensures items { places.new.items ≡ places.old.items ++ map place_of entries.now }
-    ensures len { deque_len places.new ≡ deque_len places.old + length entries.now }
-    ensures capacity { deque_capacity places.new ≡ deque_capacity places.old }
-{
-    let mut queue = taken(places);
-    for entry in entries {
-        queue.push_back_reserved(place_of(entry));
-    }
-    *places = queue;
-}
-
-/// Takes a queue of places out and leaves none: a loop knows the ends of a queue of its own without looking at
-/// them each time.
-fn taken(places: &mut VecDeque<Place>) -> VecDeque<Place>
-    ensures value { result ≡ places.old }
-    ensures left { deque_len places.new ≡ 0 }
-{
-    let alloc = *places.allocator();
-    mem::replace(places, VecDeque::new(alloc))
 }

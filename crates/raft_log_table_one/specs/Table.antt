@@ -43,6 +43,10 @@ shown t = record {
   noted = t.noted;
 }
 
+-- in how many runs a table keeps the places of its entries
+abbrev pub runs_of : Raw → ℕ
+runs_of t = t.places.runs
+
 -- what a table is of the segments that were read into it
 abbrev pub replay_of : Raw → Replayed
 replay_of t = record { table = shown t; low = t.low; high = t.high }

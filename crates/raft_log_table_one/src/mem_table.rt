@@ -1,5 +1,5 @@
 //! The table of one group: where its entries and keys stand.
-ghost use Rattle.std.specs.Prelude.{◌≡◌, ◌^◌, ◌++◌, nat_lt, slice_get, take, drop, vec_len, vec_capacity, IfOk, ◌+◌, ◌-◌, ◌≤◌, ◌<◌, ℕ, List, length, min, option_copied, true, Some, OnOk, OnErr, IfErr};
+ghost use Rattle.std.specs.Prelude.{◌≡◌, ◌^◌, ◌++◌, map, nat_lt, slice_get, take, drop, vec_len, vec_capacity, IfOk, ◌+◌, ◌-◌, ◌≤◌, ◌<◌, ℕ, List, length, min, option_copied, true, Some, OnOk, OnErr, IfErr};
 ghost use Rattle.raft_log_record_base.specs.declared.errors.Error.TheVariants as errors;
 ghost use Rattle.raft_log_record_items.specs.Run.{IsRun};
 ghost use Rattle.raft_log_model_laws.specs.Item.Item.{Clean, Compact, Del, Put};
@@ -17,7 +17,8 @@ ghost use Rattle.raft_log_table_lists.specs.Shown.{
 };
 ghost use Rattle.raft_log_table_lists.specs.Bridge.{moved_key, unmarked};
 ghost use Rattle.raft_log_table_lists.specs.Noted.{start_of};
-ghost use Rattle.raft_log_table_lists.specs.Entries.{entry_of, queue_of, run_of};
+ghost use Rattle.raft_log_table_lists.specs.Blocks.{pieces};
+ghost use Rattle.raft_log_table_lists.specs.Entries.{entry_of, place_of, queue_of, run_of};
 ghost use Rattle.raft_log_table_one.specs.Files.{least_rewritten, min_file, noted_after, with_group, IsLeastRewritten, IsMinFile, NotesGroup};
 ghost use Rattle.raft_log_table_one.specs.Moves.{key_rewritten, may_move, moved_by, owed_compact, rewritten_by, RunStandsIn};
 ghost use Rattle.raft_log_table_lists.specs.Keys.{shown_value, value_of};
@@ -33,7 +34,7 @@ ghost use Rattle.raft_log_table_one.specs.Room.{
   CanTake,
 };
 ghost use Rattle.raft_log_table_lists.specs.Replayed.{nothing_replayed};
-ghost use Rattle.raft_log_table_one.specs.Table.{promise, replay_of, shown, window_of, IsBoundAs, RunRefused};
+ghost use Rattle.raft_log_table_one.specs.Table.{promise, replay_of, runs_of, shown, window_of, IsBoundAs, RunRefused};
 
 mod merge;
 mod reads;
@@ -127,6 +128,14 @@ impl MemTable {
         ensures { result ≡ length (shown self.now).places }
     {
         self.places.len()
+    }
+
+    /// In how many runs of entries that lie one behind another their places are kept, which is all that is
+    /// kept of them.
+    pub fn run_count(&self) -> usize
+        ensures { result ≡ runs_of self.now }
+    {
+        self.places.run_count()
     }
 
     /// How many of them stand in Rewrite: the first ones.
@@ -228,13 +237,15 @@ impl MemTable {
             ≡ entries.old.items ++ entries_from (shown self.now) position
             (take count (drop position (shown self.now).places)) }
     {
+        let mut hint = 0;
         for i in 0..count {
-            entries.push_reserved(self.entry_there(position + i));
+            entries.push_reserved(self.entry_there(position + i, &mut hint));
         }
     }
 
-    /// The entry at this position, which is there.
-    fn entry_there(&self, position: usize) -> EntryIndex
+    /// The entry at this position, which is there. It is looked for in the run of the hint first, and then the
+    /// hint is its run.
+    fn entry_there(&self, position: usize, hint: &mut usize) -> EntryIndex
         requires { position < length (shown self.now).places }
         ensures { (p : Place) → slice_get (shown self.now).places position ≡ Some p → result
             ≡ entry_of (queue_of (nat_lt position self.now.rewritten)) (self.now.first + position) p }
@@ -247,7 +258,7 @@ impl MemTable {
         entry_of(
             queue,
             self.first + position as u64,
-            self.places.at(position),
+            self.places.at(position, hint),
         )
     }
 
@@ -262,6 +273,7 @@ impl MemTable {
         ensures err { OnErr result (promise self.new ≡ promise self.old) }
         ensures errors { IfErr result (λ e. RunRefused (promise self.old).ends (run_of entries.now) e) }
         ensures bounds { IsBoundAs self.old self.new }
+        ensures runs { runs_of self.new ≡ runs_of self.old }
     {
         let Some(ahead) = self.ahead.after_run(entries) else {
             return Err(Error::Hole);
@@ -317,6 +329,7 @@ impl MemTable {
         ensures shows { shown self.new ≡ shown self.old }
         ensures room { promise self.new ≡ taken_back (promise self.old) (span (shown self.old)) }
         ensures bounds { IsBoundAs self.old self.new }
+        ensures runs { runs_of self.new ≡ runs_of self.old }
     {
         self.places.forget_room();
         self.ahead = self.span();
@@ -329,6 +342,7 @@ impl MemTable {
         ensures shows { (n : ℕ) → shown self.new ≡ stepped n (shown self.old) (run_of entries.now) }
         ensures room { promise self.new ≡ kept (promise self.old) (run_of entries.now) }
         ensures bounds { IsBoundAs self.old self.new }
+        ensures runs { runs_of self.new ≤ runs_of self.old + pieces (map place_of entries.now) }
     {
         let Some(front) = entries.first() else {
             return;
@@ -373,6 +387,7 @@ impl MemTable {
         ensures count { result ≡ min (index - (shown self.old).first) (length (shown self.old).places) }
         ensures room { promise self.new ≡ promise self.old }
         ensures bounds { IsBoundAs self.old self.new }
+        ensures runs { runs_of self.new ≤ runs_of self.old }
     {
         let count = (index.saturating_sub(self.first) as usize).min(self.places.len());
         self.rewritten = self.rewritten.saturating_sub(count);
@@ -476,6 +491,7 @@ impl MemTable {
         ensures shows { shown self.new ≡ moved_by (shown self.old) (run_of entries.now) }
         ensures room { promise self.new ≡ without_moves (promise self.old) (length entries.now) }
         ensures bounds { IsBoundAs self.old self.new }
+        ensures runs { runs_of self.new ≤ runs_of self.old + (pieces (map place_of entries.now) + 1) }
     {
         let Some(front) = entries.first() else {
             return;
@@ -494,6 +510,7 @@ impl MemTable {
         ensures ends { span (shown self.new) ≡ span (shown self.old) }
         ensures room { promise self.new ≡ without_moves (promise self.old) (length entries.now) }
         ensures bounds { IsBoundAs self.old self.new }
+        ensures runs { runs_of self.new ≤ runs_of self.old + (pieces (map place_of entries.now) + 1) }
     {
         let Some(front) = entries.first() else {
             return;

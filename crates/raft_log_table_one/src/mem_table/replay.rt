@@ -1,13 +1,14 @@
 //! Items of records that are read again: as each is read, room for it is made, and it is done.
-ghost use Rattle.std.specs.Prelude.{◌≡◌, ◌≤◌, ℕ, Bool, true, false, length, OnOk, OnErr, IfErr};
+ghost use Rattle.std.specs.Prelude.{◌≡◌, ◌+◌, ◌≤◌, ℕ, Bool, true, false, length, map, OnOk, OnErr, IfErr};
 ghost use Rattle.raft_log_record_items.specs.Run.{IsRun};
 ghost use Rattle.raft_log_model_laws.specs.Item.Item.{Clean, Compact, Del, Put};
 ghost use Rattle.raft_log_table_lists.specs.Shown.{span, MayFollow};
 ghost use Rattle.raft_log_table_lists.specs.Replayed.{high_with, replay_step, replayed};
-ghost use Rattle.raft_log_table_lists.specs.Entries.{run_of};
+ghost use Rattle.raft_log_table_lists.specs.Blocks.{pieces};
+ghost use Rattle.raft_log_table_lists.specs.Entries.{place_of, run_of};
 ghost use Rattle.raft_log_table_one.specs.Replays.{in_append, under};
 ghost use Rattle.raft_log_table_one.specs.Room.{IsForgotten};
-ghost use Rattle.raft_log_table_one.specs.Table.{promise, replay_of, shown, IsBoundAs, RunRefused};
+ghost use Rattle.raft_log_table_one.specs.Table.{promise, replay_of, runs_of, shown, IsBoundAs, RunRefused};
 
 use super::MemTable;
 use raft_log_record_base::{FileSeq, LogQueue, Result};
@@ -27,6 +28,7 @@ impl MemTable {
         ensures errors { IfErr result (λ e. RunRefused (span (shown self.old)) (run_of entries.now) e) }
         ensures ends { (promise self.new).ends ≡ span (shown self.new) }
         ensures forgotten { IsForgotten (promise self.new) }
+        ensures runs { runs_of self.new ≤ runs_of self.old + pieces (map place_of entries.now) }
     {
         self.take_back();
         self.prepare_append(entries)?;
@@ -44,6 +46,7 @@ impl MemTable {
         ensures err { OnErr result (replay_of self.new ≡ replay_of self.old) }
         ensures ends { (promise self.new).ends ≡ span (shown self.new) }
         ensures forgotten { IsForgotten (promise self.new) }
+        ensures runs { runs_of self.new ≤ runs_of self.old + (pieces (map place_of entries.now) + 1) }
     {
         self.take_back();
         self.places.make_room(entries.len())?;
@@ -59,6 +62,7 @@ impl MemTable {
         requires room { length entries.now ≤ self.old.places.wanted }
         ensures shows { (n : ℕ) → shown self.new ≡ replay_step false n (shown self.old) (run_of entries.now) }
         ensures bounds { IsBoundAs self.old self.new }
+        ensures runs { runs_of self.new ≤ runs_of self.old + pieces (map place_of entries.now) }
     {
         let Some(front) = entries.first() else {
             return;
@@ -146,6 +150,7 @@ impl MemTable {
         ensures shows { shown self.new ≡ under (shown self.old) index }
         ensures room { promise self.new ≡ promise self.old }
         ensures bounds { IsBoundAs self.old self.new }
+        ensures runs { runs_of self.new ≤ runs_of self.old }
     {
         let end = self.first + self.places.len() as u64;
         let past = self.first < end && end < index;

@@ -1,13 +1,11 @@
-use Rattle.std.proofs.Common.{◌+◌, ap₂, slice_set, ◌∙◌}
-use Rattle.raft_log_table_lists.specs.Entries.{place_of}
-use Rattle.raft_log_table_lists.proofs.Replacing.{replaced}
+use Rattle.std.proofs.Common.{◌+◌, ◌-◌, ap, arith, length}
+use Rattle.raft_log_table_lists.proofs.RunRoom.{room_same}
 use Rattle.raft_log_table_lists.proofs.places.Places.replace.Goals as goal
 
-pub loop-i-preserved : goal.loop-i-preserved
-loop-i-preserved c = (
-  ap₂ (λ l v. slice_set l (c.args.position + c.loop-i.i) v) c.loop-i.invariant.0 c.place_of.ensures
-      ∙ replaced place_of c.args.position c.loop-i.i c.args.self.now.items c.args.entries.now _ c.requires.within c.loop-i-test.true,
-  c.loop-i.invariant.1,
-  c.loop-i.invariant.2,
-  c.loop-i.invariant.3,
-)
+pub invariant_of-self : goal.invariant_of-self
+invariant_of-self c =
+    let p = c.self.inside in
+    let n = length c.args.entries.now in
+    let moves = ap (λ q. q.moves) c.self.view_is in
+    let left = p.wanted + ((p.moves - n) + (p.moves - n)) in
+    c.replace.ensures.room left (room_same p.runs (p.wanted + (p.moves + p.moves)) (n + n + left) (omega (arith, moves, c.requires.room)) c.self.invariant)

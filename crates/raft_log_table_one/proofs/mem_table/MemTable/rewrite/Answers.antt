@@ -1,5 +1,7 @@
-use Rattle.std.proofs.Common.{◌≡◌, ◌+◌, ◌-◌, ◌≤◌, ap, arith, drop, length, min, sym, take, ◌∙◌}
-use Rattle.raft_log_table_lists.specs.Entries.{PlaceList, run_of}
+use Rattle.std.proofs.Common.{◌≡◌, ◌+◌, ◌-◌, ◌≤◌, ap, arith, drop, length, map, min, sym, take, ◌∙◌}
+use Rattle.raft_log_table_lists.specs.Blocks.{pieces}
+use Rattle.raft_log_table_lists.specs.Entries.{PlaceList, place_of, run_of}
+use Rattle.raft_log_table_lists.proofs.EntryPieces.{pieces_within}
 use Rattle.raft_log_table_one.specs.Moves.{gated, rewritten_by}
 use Rattle.raft_log_table_one.specs.Table.{shown}
 use Rattle.raft_log_table_one.specs.contracts.mem_table.MemTable.{the_view}
@@ -25,3 +27,14 @@ returns-clause-shows c =
     c.if-position-self.false (c.min-gone.ensures ∙ ap (λ n. min n (length c.args.entries.now)) c.saturating_sub.ensures) c.split_at.ensures.back c.min-there.ensures more fits
     c.split_at-2.ensures.front c.replace.ensures.items c.max-self-inside.ensures
     ∙ ap (λ t. rewritten_by c.args.gate (shown t) (run_of c.args.entries.now)) c.self.view_is
+
+pub returns-clause-runs : goal.returns-clause-runs
+returns-clause-runs c =
+    let few = pieces_within c.args.entries.now c.min-gone.result (c.min-there.result + c.match-gate.more) in
+    let parts : pieces (map place_of c.split_at-2.result.0.now)
+    ≡ pieces (map place_of (take (c.min-there.result + c.match-gate.more) (drop c.min-gone.result c.args.entries.now))) =
+    ap (λ l. pieces (map place_of l)) (c.split_at-2.ensures.front ∙ ap (take (c.min-there.result + c.match-gate.more)) c.split_at.ensures.back) in
+    let were = ap (λ t. t.places.runs) c.self.view_is in
+    let kept = ap (λ p. p.runs) c.forget_moves-2.ensures in
+    let more = c.replace.ensures.runs in
+    omega (arith, few, parts, were, kept, more)

@@ -40,7 +40,7 @@ length-entries_of [] bs e = refl
 length-entries_of (i ∷ is) [] e = absurd (omega arith)
 length-entries_of (i ∷ is) (b ∷ bs) e = ap (λ (n : ℕ). suc n) (length-entries_of is bs (omega arith))
 
-entries_of-push : (is : List ℕ) (bs : List (List ℕ)) (i : ℕ) (b : List ℕ) → length is ≡ length bs → entries_of (is ++ i ∷ []) (bs ++ b ∷ []) ≡ entries_of is bs ++ unplaced_entry i (length b) ∷ []
+pub entries_of-push : (is : List ℕ) (bs : List (List ℕ)) (i : ℕ) (b : List ℕ) → length is ≡ length bs → entries_of (is ++ i ∷ []) (bs ++ b ∷ []) ≡ entries_of is bs ++ unplaced_entry i (length b) ∷ []
 entries_of-push [] [] i b e = refl
 entries_of-push [] (c ∷ bs) i b e = absurd (omega arith)
 entries_of-push (j ∷ is) [] i b e = absurd (omega arith)

@@ -2,6 +2,7 @@ pub mod Buffer
 pub mod Items
 pub mod Encoded
 pub mod Entries
+pub mod EntriesFrom
 pub mod AtomicGroups
 pub mod PlacedMeanings
 pub mod Moves

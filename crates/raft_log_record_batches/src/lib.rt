@@ -2,11 +2,13 @@
 #![tactic(auto)]
 
 pub mod atomic_group;
+mod entry_writer;
 pub mod laws;
 pub mod log_batch;
 pub mod log_item_batch;
 
 pub use atomic_group::AtomicGroupBuilder;
+pub use entry_writer::{EntrySlices, EntryWriter};
 pub use log_batch::{BatchState, LogBatch};
 pub use log_item_batch::LogItemBatch;
 pub use raft_log_record_frames::{

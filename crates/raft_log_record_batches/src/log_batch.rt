@@ -9,13 +9,14 @@ use crate::log_item_batch::{LogItemBatch, items_size};
 use raft_log_record_frames::LOG_BATCH_HEADER_LEN;
 use raft_log_record_frames::record::{are_bytes, fill_record, write_checksum};
 use raft_log_record_items::{
-    Command, Error, FileBlockHandle, LogFileContext, LogItem, Message, Result,
+    Bytes, Command, Error, FileBlockHandle, LogFileContext, LogItem, Message, Result,
 };
 use raft_log_record_marks::{MARK_GROUP, MARK_KEY, Marking};
 use std::alloc::{AllocError, Global};
 use std::marker::Model;
 
 mod entries;
+mod from_index;
 mod merge;
 mod messages;
 mod room;
@@ -193,6 +194,27 @@ impl LogBatch {
     {
         check_key(alloc, key)?;
         self.items.put(alloc, raft_group_id, key, value)?;
+        Ok(())
+    }
+
+    /// Adds a key that gets these bytes, which aren't copied. A key that begins with two underscores is refused
+    /// as an invalid argument. A refusal changes no item.
+    pub fn put_bytes(
+        &mut self,
+        alloc: Global,
+        raft_group_id: u64,
+        key: &[u8],
+        value: Bytes,
+    ) -> Result<()>
+        requires { self.old.state ≡ Filling }
+        ensures ok { OnOk result (Puts self.old self.new raft_group_id key.now value) }
+        ensures internal { IsTrue (is_internal key.now) → IsErr result }
+        ensures err { OnErr result (Becomes self.old self.new) }
+        ensures errors { IfErr result (λ e. IsKeyRefusal e key.now) }
+        ensures buffer { self.new.buffer ≡ self.old.buffer }
+    {
+        check_key(alloc, key)?;
+        self.items.put_bytes(alloc, raft_group_id, key, value)?;
         Ok(())
     }
 

@@ -268,6 +268,23 @@ impl LogItemBatch {
         Ok(())
     }
 
+    /// Adds a key that gets these bytes, which aren't copied. A refusal changes no item.
+    pub fn put_bytes(
+        &mut self,
+        alloc: Global,
+        raft_group_id: u64,
+        key: &[u8],
+        value: Bytes,
+    ) -> Result<(), AllocError>
+        ensures ok { OnOk result (AddsPut self.old self.new raft_group_id key.now value) }
+        ensures err { OnErr result (AddsItems self.old self.new []) }
+    {
+        self.items.reserve(1)?;
+        let key = Bytes::from_slice(alloc, key)?;
+        self.items.push_reserved(LogItem::new_kv(raft_group_id, OpType::Put, key, Some(value)));
+        Ok(())
+    }
+
     /// Adds a key that gets the bytes of a message. A refusal changes no item.
     pub fn put_message<M: Message>(
         &mut self,

@@ -151,7 +151,7 @@ pub refused_again : (signed other : LogFileContext → List ℕ) (error : Error)
     → FailsToAppendTo InAppend signed error v mid → IfErr r (λ e. FailsToAppendTo InAppend other e mid w) → IfErr r (λ e. EndsNumbersAt InAppend other e mid w) → IfErr r (λ e. RefusesAt signed e v w)
 refused_again signed other error v mid w (Ok block) same none later next failed call range = tt
 refused_again signed other error v mid w (Err e) same none later next failed call range =
-    inr (mid, (error, none, later, failed), next, record { fails = subst (λ s. FailsToAppendTo InAppend s e mid w) same call; range = subst (λ s. EndsNumbersAt InAppend s e mid w) same range })
+    inr (mid, (error, none, later, failed), next, (subst (λ s. FailsToAppendTo InAppend s e mid w) same call, subst (λ s. EndsNumbersAt InAppend s e mid w) same range))
 
 -- what was done to the files, of a batch whose record was made
 pub kept_record : {A : Type 0} (b kept : Batch) (v w : LogPipes) (r : Result A Error) → IsBatchKept b kept → OnOk r (WritesRecord kept v w) → OnOk r (WritesRecord b v w)

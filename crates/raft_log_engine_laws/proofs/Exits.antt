@@ -138,7 +138,7 @@ empty_unsynced b s t f = record {
 -- that there is no space is told after two tries
 tried_twice : (signed : LogFileContext → List ℕ) (error : Error) (v w : LogPipes) → SaysTryAgain error → RefusesAt signed error v w → TriesTwiceInVain signed v w
 tried_twice signed error v w full (inl (other, call)) = absurd (other full)
-tried_twice signed error v w full (inr (mid, vain, later, call)) = (mid, vain, (error, full, later, call.fails))
+tried_twice signed error v w full (inr (mid, vain, later, call)) = (mid, vain, (error, full, later, call.0))
 
 -- a batch that the pipes refused
 pub refuses : (b : Batch) (error : Error) (s t : Shows) → has_failed s ≡ false → (IsTrue (has_failed t) ↔ (error ≡ errors.Failed)) → t.tables ≡ s.tables → t.counts ≡ s.counts

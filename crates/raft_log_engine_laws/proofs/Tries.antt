@@ -89,13 +89,13 @@ module _ (home : Home) (s t : Shows) (b : Batch) (m : LogMap) (pending : List Sa
       (log_written home (between s mid t.cache) t.pipes b block (taken m pending) [] (held_between mid vain) (ready_between mid) call)
 
   pub tried_leaves : (error : Error) → t.tables ≡ s.tables → RefusesAt (signed_for b) error s.pipes t.pipes → Leaves home b m pending s t error
-  tried_leaves error same (inl (other, call)) = refused_leaves home s t b m pending error h ready same kept call.fails
+  tried_leaves error same (inl (other, call)) = refused_leaves home s t b m pending error h ready same kept call.0
   tried_leaves error same (inr (mid, vain, later, call)) =
       leaves_behind home b m pending s (between s mid t.cache) t error vain.2
-      (refused_leaves home (between s mid t.cache) t b (taken m pending) [] error (held_between mid vain) (ready_between mid) same (inl refl) call.fails)
+      (refused_leaves home (between s mid t.cache) t b (taken m pending) [] error (held_between mid vain) (ready_between mid) same (inl refl) call.0)
 
   pub tried_range : (error : Error) → error ≡ errors.NumberRange → RefusesAt (signed_for b) error s.pipes t.pipes → HasLastNumber InAppend t.pipes
-  tried_range error is (inl (other, call)) = (call.range is (sense home) h.state (said_of b) h.runs (says_batch home s b ready)).0
+  tried_range error is (inl (other, call)) = (call.1 is (sense home) h.state (said_of b) h.runs (says_batch home s b ready)).0
   tried_range error is (inr (mid, vain, later, call)) =
       let held = held_between mid vain in
-      (call.range is (sense home) held.state (said_of b) held.runs (says_batch home (between s mid t.cache) b (ready_between mid))).0
+      (call.1 is (sense home) held.state (said_of b) held.runs (says_batch home (between s mid t.cache) b (ready_between mid))).0

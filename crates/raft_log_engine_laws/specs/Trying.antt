@@ -23,14 +23,15 @@ WritesAt signed block v w = AppendsTo InAppend signed block v w
     ⊎ ((mid : LogPipes) × TriesInVain signed v mid × AppendsTo InAppend signed block mid w)
 
 -- the pipes refuse a record: for want of a number only behind the last one
-pub record RefusesRecord (signed : LogFileContext → List ℕ) (error : Error) (v w : LogPipes) : Type 0 where
-  pub fails : FailsToAppendTo InAppend signed error v w
-  pub range : EndsNumbersAt InAppend signed error v w
+abbrev pub RefusesRecord : (LogFileContext → List ℕ) → Error → LogPipes → LogPipes → Type 0
+RefusesRecord signed error v w =
+    FailsToAppendTo InAppend signed error v w × EndsNumbersAt InAppend signed error v w
 
 -- it is refused: at the first try, and not for want of space; or at the second
 abbrev pub RefusesAt : (LogFileContext → List ℕ) → Error → LogPipes → LogPipes → Type 0
 RefusesAt signed error v w = ((SaysTryAgain error → ⊥) × RefusesRecord signed error v w)
-    ⊎ ((mid : LogPipes) × TriesInVain signed v mid × IsLater mid.disk w.disk × RefusesRecord signed error mid w)
+    ⊎ ((mid : LogPipes) × TriesInVain signed v mid × IsLater mid.disk w.disk
+    × RefusesRecord signed error mid w)
 
 -- it was tried twice, and there was no space either time
 abbrev pub TriesTwiceInVain : (LogFileContext → List ℕ) → LogPipes → LogPipes → Type 0

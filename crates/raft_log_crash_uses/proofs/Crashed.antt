@@ -4,6 +4,8 @@ use Rattle.std.proofs.Math.Seq.{take-nil}
 use Rattle.raft_log_engine.specs.raft_log_model_laws.specs.Groups.{taken}
 use Rattle.raft_log_engine.specs.raft_log_disk.specs.Disk.{Disk, empty_disk}
 use Rattle.raft_log_engine.specs.raft_log_disk.specs.Image.{IsImage, IsSound}
+use Rattle.raft_log_engine.specs.raft_log_disk_memory.specs.declared.memory.MemoryFileSystem.{MemoryFileSystem}
+use Rattle.raft_log_engine.specs.raft_log_disk_memory.specs.Memory.{disk_of}
 use Rattle.raft_log_engine.specs.raft_log_file_settings.specs.declared.config.Config.{Config}
 use Rattle.raft_log_engine.specs.raft_log_file_pair.specs.Pipes.{Said}
 use Rattle.raft_log_engine.specs.raft_log_engine_laws.specs.Shows.{LogMap, Shows}
@@ -17,6 +19,16 @@ use Rattle.raft_log_crash_uses.specs.Saving.{Loads, Saves, put_of}
 use Rattle.raft_log_crash_uses.specs.Crashing.{SavesAcrossACrash}
 use Rattle.raft_log_crash_uses.proofs.Saved.{stands, told_value}
 use Rattle.raft_log_machine_laws.specs.Fresh.{nothing_stands}
+
+-- what stands in a file system in memory is sound
+pub memory_sound : (system : MemoryFileSystem) → IsSound (disk_of system)
+memory_sound system = let storage = system.whole.sound in record {
+  named = storage.named;
+  one_name = storage.one_name;
+  apart = storage.apart;
+  fresh = storage.fresh;
+  files = storage.files;
+}
 
 bare : (config : Config) (d : Disk) → d ≡ empty_disk → IsBare config d
 bare config d empty = subst (IsBare config) (sym empty) (record {

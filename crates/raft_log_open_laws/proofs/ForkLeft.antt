@@ -33,6 +33,6 @@ left_logs_show_alike disk tells home one other old m pending sound left chance =
       record {
         opens = opens;
         forks = λ config named.
-        forked_as disk tells config old (taken m (take k pending)) (subst (λ (h : Home). LogRestsOn (log_in h) (as_it_stands (disk old)) (taken m (take k pending))) (sym named) rests);
+            forked_as disk tells config old (taken m (take k pending)) (subst (λ (h : Home). LogRestsOn (log_in h) (as_it_stands (disk old)) (taken m (take k pending))) (sym named) rests);
       },
     )

@@ -45,8 +45,8 @@ standing_directories_open disk tells home one other old m pending sound left cha
       within,
       rests,
       λ config named.
-      record {
-        answered = λ v tables o. (outcome config named).answered v tables (call_by_call disk tells config old v tables o);
-        refused = λ error new why. (outcome config named).refused (disk new) (not_opened disk tells config old error new why);
-      },
+          record {
+            answered = λ v tables o. (outcome config named).answered v tables (call_by_call disk tells config old v tables o);
+            refused = λ error new why. (outcome config named).refused (disk new) (not_opened disk tells config old error new why);
+          },
     )

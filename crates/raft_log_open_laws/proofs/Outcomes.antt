@@ -83,5 +83,5 @@ crashed_logs_open_by_calls disk tells home one other d image m pending sound lef
       within,
       rests,
       λ config named.
-      reopens_as disk tells config image (taken m (take k pending)) sound (subst (λ (h : Home). LogRestsOn (log_in h) image (taken m (take k pending))) (sym named) rests),
+          reopens_as disk tells config image (taken m (take k pending)) sound (subst (λ (h : Home). LogRestsOn (log_in h) image (taken m (take k pending))) (sym named) rests),
     )

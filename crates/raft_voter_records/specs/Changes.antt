@@ -1,0 +1,51 @@
+-- What is written of a change of a voter: the entries that come or the command that others go, and then the new
+-- state.
+use Rattle.std.specs.Prelude.{◌≡◌, ℕ, ◌+◌, ◌≤◌, codes, List, drop}
+use Rattle.raft_log_record_items.specs.declared.command.Command.TheVariants as commands
+use Rattle.raft_log_record_items.specs.Items.{put_item}
+use Rattle.raft_log_record_batches.specs.Batch.{Batch, empty_batch, with_item}
+use Rattle.raft_log_record_batches.specs.Entries.{with_entries}
+use Rattle.raft_log_record_batches.specs.EntriesFrom.{indexes_at}
+use Rattle.raft_log_record_batches.specs.ItemBatch.{command_item}
+use Rattle.raft_voter_messages.specs.declared.reply.VoterState.{VoterState}
+use Rattle.raft_voter_messages.specs.declared.request.Request.{Request}
+use Rattle.raft_voter_messages.specs.StoredForms.{state_text}
+use Rattle.raft_voter_outline.specs.declared.outline.decision.Change.{Change}
+use Rattle.raft_voter_outline.specs.declared.outline.decision.Write.{Write}
+use Rattle.raft_voter_outline.specs.declared.outline.decision.Write.TheVariants.{StateAlone, Entries, CompactTo, Clean}
+use Rattle.raft_voter_outline.specs.Outlines.{sent_of}
+use Rattle.raft_voter_records.specs.Entries.{entry_texts}
+
+-- the one key of a group that has a voter
+abbrev pub voter_key : List ℕ
+voter_key = codes "voter"
+
+-- a batch to which these entries of a group are added, the first at this index
+abbrev pub with_stored : Batch → ℕ → ℕ → List (ℕ × List ℕ) → Batch
+with_stored b group index entries =
+    with_entries b group (indexes_at index (entry_texts index entries)) (entry_texts index entries)
+
+-- A batch to which is added what is done to a group's log, where the request brought these entries: those that
+-- go in, or that the ones up to an index go, or all of the group.
+abbrev pub with_write : Batch → ℕ → Write → List (ℕ × List ℕ) → Batch
+with_write b group StateAlone sent = b
+with_write b group (Entries skipped index) sent = with_stored b group index (drop skipped sent)
+with_write b group (CompactTo index) sent = with_item b (command_item group (commands.Compact (index + 1)))
+with_write b group Clean sent = with_item b (command_item group commands.Clean)
+
+-- and then the new state under the key, unless all of the group goes
+abbrev pub with_state : Batch → ℕ → Write → VoterState → Batch
+with_state b group Clean state = b
+with_state b group _ state = with_item b (put_item group voter_key (state_text state))
+
+-- a batch to which is added what is written of a change that was decided for a request of a group
+abbrev pub with_change : Batch → ℕ → Change → Request → Batch
+with_change b group c q = with_state (with_write b group c.write (sent_of q)) group c.write c.state
+
+-- the batch is being filled, and nothing was added yet
+abbrev pub IsFresh : Batch → Type 0
+IsFresh b = b ≡ empty_batch b.capacity b.buffer
+
+-- so it is again, with no less room for items
+abbrev pub StaysFresh : Batch → Batch → Type 0
+StaysFresh old new = IsFresh new × (old.capacity ≤ new.capacity)

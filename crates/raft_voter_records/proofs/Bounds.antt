@@ -40,7 +40,7 @@ text_at index (x ∷ xs) zero at e found is =
     rw (here, same) refl
 text_at index (x ∷ xs) (suc place) at e found is = text_at (index + 1) xs place at e found (omega arith)
 
-bytes_len-entry_texts : (index : ℕ) (es : List (ℕ × List ℕ)) → bytes_len (entry_texts index es) ≡ 17 * length es + total_bytes es
+pub bytes_len-entry_texts : (index : ℕ) (es : List (ℕ × List ℕ)) → bytes_len (entry_texts index es) ≡ 17 * length es + total_bytes es
 bytes_len-entry_texts index [] = refl
 bytes_len-entry_texts index (e ∷ es) =
     let own = length-entry_text (record { index = index; term = e.0; bytes = e.1 }) in
@@ -49,18 +49,18 @@ bytes_len-entry_texts index (e ∷ es) =
     let more = bytes_len-entry_texts (index + 1) es in
     omega (arith, own, texts, bytes, more)
 
-total_bytes-drop : (n : ℕ) (es : List (ℕ × List ℕ)) → total_bytes (drop n es) ≤ total_bytes es
+pub total_bytes-drop : (n : ℕ) (es : List (ℕ × List ℕ)) → total_bytes (drop n es) ≤ total_bytes es
 total_bytes-drop zero es = omega arith
 total_bytes-drop (suc n) [] = omega arith
 total_bytes-drop (suc n) (e ∷ es) = omega (arith, sum_by-cons (λ (x : ℕ × List ℕ). length x.1) e es, total_bytes-drop n es)
 
 -- a request that changes a voter is in range
-changes_in_range : (v : State) (q : Request) → next v q ≢ v → in_range q ≡ true
+pub changes_in_range : (v : State) (q : Request) → next v q ≢ v → in_range q ≡ true
 changes_in_range v q moves =
     elim (in_range q) as (λ b. ((if b then next_in_range v q else v) ≡ v → ⊥) → b ≡ true) [ true ↦ λ other. refl | false ↦ λ other. absurd (other refl) ] moves
 
 -- what a request in range brings isn't too much
-brought_small : (q : Request) → in_range q ≡ true → (length (sent_of q) ≤ 1024) × (total_bytes (sent_of q) ≤ 1048576)
+pub brought_small : (q : Request) → in_range q ≡ true → (length (sent_of q) ≤ 1024) × (total_bytes (sent_of q) ≤ 1048576)
 brought_small (Append term prev prev_term commit sent) fit = grind (arith, nat_tests)
 brought_small (Vote term candidate index last) fit = (omega arith, omega arith)
 brought_small (Compact index) fit = (omega arith, omega arith)

@@ -1,0 +1,6 @@
+pub mod Reading
+pub mod Taking
+pub mod Upkeep
+pub mod Filling
+pub mod Rounds
+pub mod Places

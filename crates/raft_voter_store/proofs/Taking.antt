@@ -1,0 +1,96 @@
+-- One request: each exit is a call of one law.
+use Rattle.std.proofs.Common.{◌≡◌, ℕ, ◌<◌, ◌^◌, Bool, true, false, if◌then◌else◌, List, [], map, Option, Some, None, refl, sym, subst, inl, inr, ◌∙◌, arith}
+use Rattle.std.proofs.Math.Path.{fun_ext}
+use Rattle.std.specs.Prelude.{◌⊎◌}
+use Rattle.raft_log_record_base.specs.declared.errors.Error.{Error}
+use Rattle.raft_log_record_base.specs.declared.errors.Error.TheVariants as errors
+use Rattle.raft_log_record_items.specs.declared.raw_message.RawMessage.{RawMessage}
+use Rattle.raft_log_record_frames.specs.Record.{record_len}
+use Rattle.raft_log_record_batches.specs.Batch.{Batch}
+use Rattle.raft_log_engine.specs.raft_log_engine_laws.specs.Fetching.{FailsToFetch, FetchesTo, HadFailed}
+use Rattle.raft_log_engine.specs.raft_log_engine_laws.specs.Shows.{Shows, has_failed}
+use Rattle.raft_log_engine.specs.raft_log_engine_laws.specs.Writing.{NotWritten, WritesBytes}
+use Rattle.raft_voter_messages.specs.declared.reply.Entry.{Entry}
+use Rattle.raft_voter_messages.specs.declared.reply.Reply.{Reply}
+use Rattle.raft_voter_messages.specs.declared.reply.Reply.TheVariants as replies
+use Rattle.raft_voter_messages.specs.declared.request.Request.{Request}
+use Rattle.raft_voter_messages.specs.declared.request.Request.TheVariants.{Read}
+use Rattle.raft_voter_messages.specs.Ranges.{in_range}
+use Rattle.raft_voter_outline.specs.declared.outline.decision.Answer.TheVariants as answers
+use Rattle.raft_voter_outline.specs.declared.outline.decision.Change.{Change}
+use Rattle.raft_voter_outline.specs.Outlines.{ChangesEach, IsReplyOfEach, LeavesEach}
+use Rattle.raft_voter_outline.specs.Rules.{next, next_in_range}
+use Rattle.raft_voter_outline.specs.State.{State}
+use Rattle.raft_voter.specs.Laws.{AreReadAs}
+use Rattle.raft_voter_standing_laws.specs.Laws.{IsBare}
+use Rattle.raft_voter_standing_laws.specs.Reads.{IsCounted, IsRaw, ReadsNone}
+use Rattle.raft_voter_standing_laws.specs.Requests.{SaysChange, Served, StepsOutlines, TurnedDown}
+use Rattle.raft_voter_standing_laws.specs.Requests.WasTurnedDown.{no_memory}
+use Rattle.raft_voter_standing_laws.proofs.Fetching.{fetched_entries_are_read, unfetched_entries_are_unread}
+use Rattle.raft_voter_standing_laws.proofs.Serving.{read_requests_are_served, written_requests_are_served}
+use Rattle.raft_voter_standing_laws.proofs.Turning.{unmade_requests_are_turned_down, unread_requests_are_turned_down, unwritten_requests}
+use Rattle.raft_voter_store.specs.Taking.{FailsToTake}
+
+-- Changes.
+
+pub write_served : (q : ℕ × Request) (a : Reply) (c : Change) (b : Batch) (len : ℕ) (s t : Shows) (os ws us : ℕ → State) → ((g : ℕ) → ws g ≡ os g) → IsBare (os q.0) → IsReplyOfEach (os q.0) q.1 (answers.Told a)
+    → ChangesEach (os q.0) q.1 c → SaysChange q.0 q.1 c b → StepsOutlines q ws us → WritesBytes b false len s t → Served q a true s t os us
+write_served q a c b len s t os ws us same bare told changes says steps writes =
+    written_requests_are_served q a c b len s t os us bare told changes says (subst (λ (o : ℕ → State). StepsOutlines q o us) (fun_ext same) steps) writes
+
+pub write_failed : (q : ℕ × Request) (c : Change) (b : Batch) (error : Error) (s t : Shows) (os ws : ℕ → State) → ((g : ℕ) → ws g ≡ os g) → has_failed s ≡ false → ChangesEach (os q.0) q.1 c → SaysChange q.0 q.1 c b
+    → record_len b.items b.entries < 2 ^ 56 → NotWritten b error s t → FailsToTake q error s t os ws
+write_failed q c b error s t os ws same alive changes says short refused = (fun_ext same, unwritten_requests q c b error s t os alive changes says short refused)
+
+pub unmade : (q : ℕ × Request) (error : Error) (s : Shows) (os ws : ℕ → State) → error ≡ errors.Memory → ((g : ℕ) → ws g ≡ os g) → has_failed s ≡ false → FailsToTake q error s s os ws
+unmade q error s os ws is same alive =
+    (fun_ext same, inl (subst (λ (e : Error). TurnedDown q e s s os) (sym is) (unmade_requests_are_turned_down q s os alive)))
+
+-- Entries.
+
+-- the bytes of a message, and the message of bytes
+abbrev pub text_of : RawMessage → List ℕ
+text_of m = m.bytes
+
+abbrev pub reading_of : List ℕ → Option RawMessage
+reading_of source = Some (record { bytes = source })
+
+raw : IsRaw text_of reading_of
+raw bytes = (record { bytes = bytes }, refl, refl)
+
+read_leaves : (v : State) (from to : ℕ) → next v (Read from to) ≡ v
+read_leaves v from to =
+    elim (in_range (Read from to)) as (λ b. (if b then next_in_range v (Read from to) else v) ≡ v) [ true ↦ refl | false ↦ refl ]
+
+leaves : (o : State) (q : Request) (from to : ℕ) → IsReplyOfEach o q (answers.Entries from to) → LeavesEach o q
+leaves o q from to told v is =
+    subst (λ (r : Request). next v r ≡ v) (sym (told v is).1.0) (read_leaves v from to)
+
+pub read_served : (q : ℕ × Request) (from to count : ℕ) (s t : Shows) (os : ℕ → State) (ms : List RawMessage) (es : List Entry) → IsReplyOfEach (os q.0) q.1 (answers.Entries from to) → IsCounted s
+    → FetchesTo reading_of q.0 from to None s t [] ms count → AreReadAs from (map text_of ms) es → Served q (replies.Entries es) false s t os os
+read_served q from to count s t os ms es told counted f read =
+    read_requests_are_served q from to es s t os told (leaves (os q.0) q.1 from to told) (fetched_entries_are_read text_of reading_of raw q from to count s t os ms es counted told f read)
+
+pub read_failed : (q : ℕ × Request) (from to : ℕ) (error : Error) (s t : Shows) (os : ℕ → State) → has_failed s ≡ false → IsReplyOfEach (os q.0) q.1 (answers.Entries from to)
+    → HadFailed s t error ⊎ FailsToFetch reading_of q.0 from to s t error → FailsToTake q error s t os os
+read_failed q from to error s t os alive told (inl had) = absurd cc
+read_failed q from to error s t os alive told (inr f) =
+    (refl, inl (unread_requests_are_turned_down q error s t os (unfetched_entries_are_unread text_of reading_of raw q from to error s t os told f)))
+
+pub read_unmade : (q : ℕ × Request) (from to count : ℕ) (s t : Shows) (os : ℕ → State) (ms : List RawMessage) → FetchesTo reading_of q.0 from to None s t [] ms count → FailsToTake q errors.Memory s t os os
+read_unmade q from to count s t os ms f =
+    (refl, inl (unread_requests_are_turned_down q errors.Memory s t os (record { alive = f.lived; stays = f.stays; why = λ home m pending W holds means outlines. no_memory refl })))
+
+-- By the lists that a read begins with, and hands on.
+
+pub read_done : (q : ℕ × Request) (from to count : ℕ) (s t : Shows) (os : ℕ → State) (old ms slice : List RawMessage) (es : List Entry) → old ≡ [] → slice ≡ ms
+    → IsReplyOfEach (os q.0) q.1 (answers.Entries from to) → IsCounted s → FetchesTo reading_of q.0 from to None s t old ms count → AreReadAs from (map text_of slice) es
+    → Served q (replies.Entries es) false s t os os
+read_done q from to count s t os old ms slice es none same told counted f read =
+    read_served q from to count s t os ms es told counted (subst (λ (l : List RawMessage). FetchesTo reading_of q.0 from to None s t l ms count) none f)
+    (subst (λ (l : List RawMessage). AreReadAs from (map text_of l) es) same read)
+
+pub read_refused : (q : ℕ × Request) (from to count : ℕ) (s t : Shows) (os : ℕ → State) (old ms : List RawMessage) → old ≡ [] → FetchesTo reading_of q.0 from to None s t old ms count
+    → FailsToTake q errors.Memory s t os os
+read_refused q from to count s t os old ms none f =
+    read_unmade q from to count s t os ms (subst (λ (l : List RawMessage). FetchesTo reading_of q.0 from to None s t l ms count) none f)

@@ -1,0 +1,35 @@
+-- Purges change no voter: each exit is a call of one law.
+use Rattle.std.proofs.Common.{◌≡◌, ℕ, List, inl, inr, sym, subst, Result, Ok, Err, IfOk, OnOk}
+use Rattle.std.specs.Prelude.{◌⊎◌}
+use Rattle.raft_log_record_base.specs.declared.errors.Error.{Error}
+use Rattle.raft_log_engine_core.specs.Purging.{StopsPurgingExpired, StopsRewritingAppend}
+use Rattle.raft_log_engine_laws.specs.Fetching.{HadFailed}
+use Rattle.raft_log_engine_laws.specs.Shows.{Home, LogMap, Shows}
+use Rattle.raft_log_engine_laws.specs.Holding.{Holds}
+use Rattle.raft_log_engine_laws.specs.Settled.{HoldsSettled}
+use Rattle.raft_log_engine_laws.proofs.Settling.{settled_held}
+use Rattle.raft_voter_standing_laws.specs.Calls.{KeepsMap, KeepsOrLeavesMap}
+use Rattle.raft_voter_standing_laws.specs.Standing.{Keeps}
+use Rattle.raft_voter_standing_laws.proofs.Keeping.{purges_keep_voters}
+use Rattle.raft_voter_store.specs.Upkeep.{KeepsOrLeavesVoters, KeepsVoters}
+
+pub ok_of : {X E : Type 0} (r : Result X E) (P : X → Type 0) (Q : Type 0) → ((x : X) → P x → Q) → IfOk r P → OnOk r Q
+ok_of (Ok x) P Q f p = f x p
+ok_of (Err e) P Q f p = tt
+
+pub map_kept : (s t : Shows) → KeepsMap s t → KeepsVoters s t
+map_kept s t kept home V keeps = purges_keep_voters.answered home V s t keeps kept
+
+map_left : (error : Error) (s t : Shows) → KeepsOrLeavesMap error s t → KeepsOrLeavesVoters error s t
+map_left error s t kept home V keeps = purges_keep_voters.refused home V error s t keeps kept
+
+had_failed : (error : Error) (s t : Shows) → HadFailed s t error → KeepsOrLeavesVoters error s t
+had_failed error s t had home V keeps = inl (subst (λ (u : Shows). Keeps home u V) (sym had.2) keeps)
+
+pub purge_stopped : (error : Error) (s t : Shows) → StopsPurgingExpired s t error → KeepsOrLeavesVoters error s t
+purge_stopped error s t (inl had) = had_failed error s t had
+purge_stopped error s t (inr fails) = map_left error s t fails.1.remains
+
+pub rewrite_stopped : (error : Error) (s t : Shows) → StopsRewritingAppend s t error → KeepsOrLeavesVoters error s t
+rewrite_stopped error s t (inl had) = had_failed error s t had
+rewrite_stopped error s t (inr fails) = map_left error s t fails.1.remains

@@ -1,0 +1,145 @@
+//! Voters whose log an engine keeps.
+ghost use Rattle.std.specs.Prelude.{◌≡◌, ℕ, false, IfErr, IfOk};
+ghost use Rattle.raft_log_engine_core.specs.Reads.{shows_of};
+
+mod rounds;
+mod upkeep;
+
+use crate::entries::read_entries;
+use crate::saying::say_change;
+use log::Log;
+use raft_log_engine::{Error, LogEngine, PipeLog, Result};
+use raft_log_record_items::{RawEntries, RawMessage};
+use raft_voter_messages::{Reply, Request};
+use raft_voter_outline::{Answer, Change, Decision};
+use raft_voter_outlines::Outlines;
+use std::alloc::Global;
+
+/// The voters of many groups: the engine that keeps their log, and the outline of each.
+#[derive(Drop)]
+pub struct VoterStore<P> {
+    alloc: Global,
+    engine: LogEngine<P>,
+    outlines: Outlines,
+}
+
+/// A request that was served: its reply, and whether a record was written for it.
+#[derive(Drop)]
+struct Taken {
+    /// What is answered.
+    reply: Reply,
+    /// Whether a record was written.
+    wrote: bool,
+}
+
+impl<P: PipeLog> VoterStore<P> {
+    ghost use Rattle.raft_log_engine.specs.raft_log_engine_laws.specs.Shows.{has_failed};
+    ghost use Rattle.raft_voter_outline.specs.declared.outline.decision.Answer.TheVariants as answers;
+    ghost use Rattle.raft_voter_outline.specs.Outlines.{ChangesEach, IsReplyOfEach};
+    ghost use Rattle.raft_voter_outline.specs.State.{fresh};
+    ghost use Rattle.raft_voter_standing_laws.specs.Laws.{IsBare};
+    ghost use Rattle.raft_voter_standing_laws.specs.Requests.{Served};
+    ghost use Rattle.raft_voter_outlines.specs.Kept.{outlines_in};
+    ghost use Rattle.raft_voter_store.specs.Taking.{FailsToTake};
+
+    /// A store over an engine in whose log nothing stands: each group's voter is a fresh one.
+    pub fn over_fresh(alloc: Global, engine: LogEngine<P>) -> VoterStore<P>
+        ensures engine { result.engine ≡ engine }
+        ensures outlines { (g : ℕ) → outlines_in result.outlines g ≡ fresh }
+    {
+        let outlines = Outlines::new(alloc);
+        VoterStore {
+            alloc,
+            engine,
+            outlines,
+        }
+    }
+
+    /// A group's voter takes a request: the outline decides it, and what it changes is written, or the entries
+    /// that it asks for are read. It is refused where the request is turned down, or the engine fails at it.
+    fn take<R: Log>(&mut self, rt: &R, group: u64, request: &Request) -> Result<Taken>
+        requires { has_failed (shows_of P.shown self.old.engine) ≡ false }
+        ensures ok { IfOk result (λ taken. Served (group, request.now) taken.reply taken.wrote
+            (shows_of P.shown self.old.engine) (shows_of P.shown self.new.engine)
+            (outlines_in self.old.outlines) (outlines_in self.new.outlines)) }
+        ensures err { IfErr result (λ error. FailsToTake (group, request.now) error
+            (shows_of P.shown self.old.engine) (shows_of P.shown self.new.engine)
+            (outlines_in self.old.outlines) (outlines_in self.new.outlines)) }
+    {
+        let Decision { answer, change } = self.outlines.decide(group, request);
+        match answer {
+            Answer::Entries { from, to } => self.read(group, from, to, request),
+            Answer::Told(reply) => match change {
+                Some(change) => self.write(rt, group, request, reply, &change),
+                None => Ok(Taken {
+                    reply,
+                    wrote: false,
+                }),
+            },
+        }
+    }
+
+    /// What a request changes is written, and the outline makes the change.
+    fn write<R: Log>(
+        &mut self,
+        rt: &R,
+        group: u64,
+        request: &Request,
+        reply: Reply,
+        change: &Change,
+    ) -> Result<Taken>
+        requires lives { has_failed (shows_of P.shown self.old.engine) ≡ false }
+        requires bare { IsBare (outlines_in self.old.outlines group) }
+        requires decided { ChangesEach (outlines_in self.old.outlines group) request.now change.now }
+        requires told { IsReplyOfEach (outlines_in self.old.outlines group) request.now (answers.Told reply) }
+        ensures ok { IfOk result (λ taken. Served (group, request.now) taken.reply taken.wrote
+            (shows_of P.shown self.old.engine) (shows_of P.shown self.new.engine)
+            (outlines_in self.old.outlines) (outlines_in self.new.outlines)) }
+        ensures err { IfErr result (λ error. FailsToTake (group, request.now) error
+            (shows_of P.shown self.old.engine) (shows_of P.shown self.new.engine)
+            (outlines_in self.old.outlines) (outlines_in self.new.outlines)) }
+    {
+        let mut batch = match say_change(self.alloc, &self.outlines, group, change, request) {
+            Ok(batch) => batch,
+            Err(error) => return Err(error),
+        };
+        let Ok(()) = self.outlines.reserve(group, change, request) else {
+            return Err(Error::Memory);
+        };
+        match self.engine.write(rt, &mut batch, false) {
+            Ok(_) => {
+                self.outlines.apply(group, change, request);
+                Ok(Taken { reply, wrote: true })
+            }
+            Err(error) => Err(error),
+        }
+    }
+
+    /// The entries of a group from one index on, below another, are read.
+    fn read(&mut self, group: u64, from: u64, to: u64, request: &Request) -> Result<Taken>
+        requires lives { has_failed (shows_of P.shown self.old.engine) ≡ false }
+        requires told { IsReplyOfEach (outlines_in self.old.outlines group) request.now
+            (answers.Entries from to) }
+        ensures ok { IfOk result (λ taken. Served (group, request.now) taken.reply taken.wrote
+            (shows_of P.shown self.old.engine) (shows_of P.shown self.new.engine)
+            (outlines_in self.old.outlines) (outlines_in self.new.outlines)) }
+        ensures err { IfErr result (λ error. FailsToTake (group, request.now) error
+            (shows_of P.shown self.old.engine) (shows_of P.shown self.new.engine)
+            (outlines_in self.old.outlines) (outlines_in self.new.outlines)) }
+    {
+        let mut messages: Vec<RawMessage> = Vec::new(self.alloc);
+        match self
+            .engine
+            .fetch_entries_to::<RawEntries>(group, from, to, None, &mut messages)
+        {
+            Ok(_) => match read_entries(self.alloc, from, messages.as_slice()) {
+                Ok(entries) => Ok(Taken {
+                    reply: Reply::Entries(entries),
+                    wrote: false,
+                }),
+                Err(_) => Err(Error::Memory),
+            },
+            Err(error) => Err(error),
+        }
+    }
+}

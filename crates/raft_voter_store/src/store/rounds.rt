@@ -1,0 +1,168 @@
+//! Rounds of requests.
+ghost use Rattle.std.specs.Prelude.{◌≡◌, ◌+◌, ◌<◌, ◌≤◌, ◌++◌, ◌∷◌, [], false, length, vec_capacity, vec_len, IfErr, IfOk, OnOk};
+ghost use Rattle.raft_log_engine_core.specs.Reads.{shows_of};
+ghost use Rattle.raft_voter.specs.Service.{refused_from};
+
+use super::VoterStore;
+use log::Log;
+use raft_log_engine::PipeLog;
+use raft_voter::{Cause, MAX_ROUND_REQUESTS, RoundFault};
+use raft_voter_messages::{Items, Reply, Request};
+
+impl<P: PipeLog> VoterStore<P> {
+    ghost use Rattle.std.specs.Prelude.{IfSome, OnSome};
+    ghost use Rattle.raft_log_engine.specs.raft_log_engine_laws.specs.Shows.{has_failed};
+    ghost use Rattle.raft_voter.specs.Service.{FailsAs, IsAlive, TakesNothing};
+    ghost use Rattle.raft_voter_standing_laws.specs.Ends.{Went};
+    ghost use Rattle.raft_voter_outlines.specs.Kept.{outlines_in};
+    ghost use Rattle.raft_voter_standing_laws.specs.Requests.{Broke};
+    ghost use Rattle.raft_voter_store.specs.Rounds.{RoundIsAnswered, CutsRoundOff, GoesOn, StopsAt};
+
+    /// The groups' voters take the requests in order, but for those at the places whose reply is `Refused`:
+    /// they are out of range, or were turned down. The replies are handed out once all that was written is
+    /// synced; where nothing was written no sync is asked for.
+    ///
+    /// `TooLong`, `Failed` and `Memory` are looked for in this order, before anything is taken. `FileSystem`:
+    /// the engine failed at a request, or the sync was refused; some of the first requests may be taken.
+    pub fn serve<R: Log>(
+        &mut self,
+        rt: &R,
+        requests: &[(u64, Request)],
+    ) -> Result<Items<Reply>, RoundFault>
+        ensures ok { IfOk result (λ told. RoundIsAnswered requests.now told
+            (shows_of P.shown self.old.engine) (shows_of P.shown self.new.engine)
+            (outlines_in self.old.outlines) (outlines_in self.new.outlines)) }
+        ensures short { OnOk result (length requests.now ≤ 4096) }
+        ensures lives { OnOk result (IsAlive (has_failed (shows_of P.shown self.old.engine))
+            (has_failed (shows_of P.shown self.new.engine))) }
+
+        ensures err { IfErr result (λ fault. TakesNothing fault.cause
+            → (self.new ≡ self.old) × (fault.refused ≡ [])) }
+        ensures cut { IfErr result (λ fault. fault.cause ≡ Cause.FileSystem
+            → CutsRoundOff requests.now fault.refused (shows_of P.shown self.old.engine)
+            (shows_of P.shown self.new.engine) (outlines_in self.old.outlines)) }
+        ensures errors { IfErr result (λ fault. FailsAs fault.cause (length requests.now)
+            (has_failed (shows_of P.shown self.old.engine)) (has_failed (shows_of P.shown self.new.engine))) }
+    {
+        if requests.len() > MAX_ROUND_REQUESTS {
+            return Err(RoundFault::new(self.alloc, Cause::TooLong));
+        }
+        if self.engine.is_failed() {
+            return Err(RoundFault::new(self.alloc, Cause::Failed));
+        }
+        let Ok(mut replies) = Vec::with_capacity(self.alloc, requests.len()) else {
+            return Err(RoundFault::new(self.alloc, Cause::Memory));
+        };
+        let Ok(places) = Vec::with_capacity(self.alloc, requests.len()) else {
+            return Err(RoundFault::new(self.alloc, Cause::Memory));
+        };
+        let Some(wrote) = self.take_all(rt, requests, &mut replies) else {
+            return Err(cut_off(replies.as_slice(), places));
+        };
+        if wrote {
+            let Ok(()) = self.engine.sync(rt) else {
+                return Err(cut_off(replies.as_slice(), places));
+            };
+        }
+        Ok(Items::from_vec(replies))
+    }
+
+    /// The voters take the requests in order, and their replies are put where there is room for them; a
+    /// request that is turned down is answered `Refused`. The answer is whether a record was written; none
+    /// where the engine failed at a request.
+    fn take_all<R: Log>(
+        &mut self,
+        rt: &R,
+        requests: &[(u64, Request)],
+        replies: &mut Vec<Reply>,
+    ) -> Option<bool>
+        requires lives { has_failed (shows_of P.shown self.old.engine) ≡ false }
+        requires empty { replies.old.items ≡ [] }
+        requires room { vec_len replies.old + length requests.now ≤ vec_capacity replies.old }
+        ensures went { IfSome result (λ wrote. Went requests.now replies.new.items wrote
+            (shows_of P.shown self.old.engine) (shows_of P.shown self.new.engine)
+            (outlines_in self.old.outlines) (outlines_in self.new.outlines)) }
+        ensures broke { result ≡ None → StopsAt requests.now replies.new.items
+            (shows_of P.shown self.old.engine) (shows_of P.shown self.new.engine)
+            (outlines_in self.old.outlines) }
+        ensures few { length replies.new.items ≤ length requests.now }
+    {
+        let mut wrote = false;
+        for (group, request) in requests {
+            let Some(more) = self.serve_one(rt, *group, request, wrote, replies) else {
+                return None;
+            };
+            wrote = more;
+        }
+        Some(wrote)
+    }
+
+    /// One request of a round: its reply is put where there is room for it, `Refused` where it is turned down.
+    /// The answer is whether a record was written by then; none where the engine failed at the request.
+    fn serve_one<R: Log>(
+        &mut self,
+        rt: &R,
+        group: u64,
+        request: &Request,
+        wrote: bool,
+        replies: &mut Vec<Reply>,
+    ) -> Option<bool>
+        requires lives { has_failed (shows_of P.shown self.old.engine) ≡ false }
+        requires room { vec_len replies.old < vec_capacity replies.old }
+        ensures went { IfSome result (λ more. GoesOn (group, request.now) wrote more
+            replies.old.items replies.new.items
+            (shows_of P.shown self.old.engine) (shows_of P.shown self.new.engine)
+            (outlines_in self.old.outlines) (outlines_in self.new.outlines)) }
+        ensures lives { OnSome result (has_failed (shows_of P.shown self.new.engine) ≡ false) }
+        ensures count { OnSome result (length replies.new.items ≡ length replies.old.items + 1) }
+        ensures len { OnSome result (vec_len replies.new ≡ vec_len replies.old + 1) }
+        ensures room { OnSome result (vec_capacity replies.old ≤ vec_capacity replies.new) }
+        ensures broke { result ≡ None → Broke (group, request.now)
+            (shows_of P.shown self.old.engine) (shows_of P.shown self.new.engine)
+            (outlines_in self.old.outlines) }
+        ensures untold { result ≡ None → replies.new.items ≡ replies.old.items }
+    {
+        match self.take(rt, group, request) {
+            Ok(taken) => {
+                replies.push_reserved(taken.reply);
+                Some(wrote || taken.wrote)
+            }
+            Err(_) => {
+                if self.engine.is_failed() {
+                    return None;
+                }
+                replies.push_reserved(Reply::Refused);
+                Some(wrote)
+            }
+        }
+    }
+}
+
+/// The fault of a round that told these replies before the file system failed; there is room for its places.
+fn cut_off(replies: &[Reply], places: Vec<usize>) -> RoundFault
+    requires empty { places.items ≡ [] }
+    requires room { vec_len places + length replies.now ≤ vec_capacity places }
+    ensures { result ≡ record { refused = refused_from 0 replies.now; cause = Cause.FileSystem } }
+{
+    let mut refused = places;
+    for place in 0..replies.len() {
+        note_refused(&mut refused, place, &replies[place]);
+    }
+    RoundFault {
+        refused: Items::from_vec(refused),
+        cause: Cause::FileSystem,
+    }
+}
+
+/// Puts a place where its reply is `Refused`, and there is room for it.
+fn note_refused(refused: &mut Vec<usize>, place: usize, reply: &Reply)
+    requires { vec_len refused.old < vec_capacity refused.old }
+    ensures places { refused.new.items ≡ refused.old.items ++ refused_from place (reply.now ∷ []) }
+    ensures len { vec_len refused.new ≤ vec_len refused.old + 1 }
+    ensures room { vec_capacity refused.old ≤ vec_capacity refused.new }
+{
+    match reply {
+        Reply::Refused => refused.push_reserved(place),
+        _ => {}
+    }
+}

@@ -1,0 +1,122 @@
+//! What keeps a store's files few, and what is told of them.
+ghost use Rattle.std.specs.Prelude.{◌≡◌, false, true, IfErr, IfOk, OnErr, OnOk};
+ghost use Rattle.raft_log_engine_core.specs.Reads.{shows_of, IsFailed, Lives};
+ghost use Rattle.raft_log_engine_core.specs.Whole.{ArmsEngine, TellsSpan};
+
+use super::VoterStore;
+use log::Log;
+use raft_log_engine::{Fault, FileSeq, LogQueue, PipeLog, Result};
+
+impl<P: PipeLog> VoterStore<P> {
+    ghost use Rattle.raft_log_engine.specs.raft_log_disk.specs.Causes.{IsLater};
+    ghost use Rattle.raft_log_engine.specs.raft_log_engine_laws.specs.Shows.{has_failed};
+    ghost use Rattle.raft_log_engine.specs.raft_log_file_pair.specs.Calls.{IsIo};
+    ghost use Rattle.raft_log_engine.specs.raft_log_file_pair.specs.ClosingCalls.{ClosesLog};
+    ghost use Rattle.raft_log_engine_laws.specs.Syncing.{NotSynced, SyncsAppend};
+    ghost use Rattle.raft_voter_store.specs.Upkeep.{KeepsOrLeavesVoters, KeepsVoters};
+
+    /// Whether the engine has failed: then no round is taken until the log is opened again.
+    pub fn is_failed(&self) -> bool
+        ensures { result ≡ has_failed (shows_of P.shown self.now.engine) }
+    {
+        self.engine.is_failed()
+    }
+
+    /// Makes all that was written durable. Refused, it is `Failed`, and nothing is taken any more.
+    pub fn sync<R: Log>(&mut self, rt: &R) -> Result<()>
+        ensures ok { OnOk result (SyncsAppend
+            (shows_of P.shown self.old.engine) (shows_of P.shown self.new.engine)) }
+        ensures err { IfErr result (λ error. NotSynced error
+            (shows_of P.shown self.old.engine) (shows_of P.shown self.new.engine)) }
+        ensures outlines { self.new.outlines ≡ self.old.outlines }
+    {
+        self.engine.sync(rt)
+    }
+
+    /// The file system.
+    pub fn file_system(&self) -> &P::Files
+        ensures { result.now ≡ P.files self.now.engine.pipes }
+    {
+        self.engine.file_system()
+    }
+
+    /// The numbers of the first and the last file of a queue. `Failed` of an engine that has failed.
+    pub fn file_span(&self, queue: LogQueue) -> Result<(FileSeq, FileSeq)>
+        ensures ok { IfOk result (λ span. TellsSpan queue (P.shown self.now.engine.pipes) span.0 span.1) }
+        ensures lived { OnOk result (Lives (shows_of P.shown self.now.engine)) }
+        ensures err { IfErr result (IsFailed (shows_of P.shown self.now.engine)) }
+    {
+        self.engine.file_span(queue)
+    }
+
+    /// Arms a fault of the file system: it alters which later calls are refused, and nothing else; a place
+    /// that it makes unreadable is marked on the disk. `Io` where it isn't armed.
+    pub fn arm(&mut self, fault: &Fault) -> Result<()>
+        ensures ok { OnOk result (ArmsEngine fault.now
+            (shows_of P.shown self.old.engine) (shows_of P.shown self.new.engine)) }
+        ensures err { OnErr result
+            (shows_of P.shown self.new.engine ≡ shows_of P.shown self.old.engine) }
+        ensures outlines { self.new.outlines ≡ self.old.outlines }
+        ensures errors { IfErr result IsIo }
+    {
+        self.engine.arm(fault)
+    }
+
+    /// Purges the files of both queues that are past the thresholds of the settings. The answer is the groups
+    /// that are to be compacted, sorted. No voter changes, answered or refused; where the engine has failed the
+    /// voters are left alone.
+    pub fn maintain<R: Log>(&mut self, rt: &R) -> Result<Vec<u64>>
+        ensures ok { OnOk result (KeepsVoters
+            (shows_of P.shown self.old.engine) (shows_of P.shown self.new.engine)) }
+        ensures err { IfErr result (λ error. KeepsOrLeavesVoters error
+            (shows_of P.shown self.old.engine) (shows_of P.shown self.new.engine)) }
+        ensures outlines { self.new.outlines ≡ self.old.outlines }
+    {
+        self.engine.purge_expired_files(rt)
+    }
+
+    /// Rewrites Append up to a file, the watermark, or up to its last one, and ends behind the first or the
+    /// second of its steps if asked. No voter changes.
+    pub fn must_rewrite_append_queue<R: Log>(
+        &mut self,
+        rt: &R,
+        watermark: Option<FileSeq>,
+        exit_after_step: Option<u64>,
+    ) -> Result<()>
+        ensures ok { OnOk result (KeepsVoters
+            (shows_of P.shown self.old.engine) (shows_of P.shown self.new.engine)) }
+        ensures err { IfErr result (λ error. KeepsOrLeavesVoters error
+            (shows_of P.shown self.old.engine) (shows_of P.shown self.new.engine)) }
+        ensures outlines { self.new.outlines ≡ self.old.outlines }
+    {
+        self.engine
+            .must_rewrite_append_queue(rt, watermark, exit_after_step)
+    }
+
+    /// Rewrites Rewrite, whatever its size is. No voter changes.
+    pub fn must_rewrite_rewrite_queue<R: Log>(&mut self, rt: &R) -> Result<()>
+        ensures ok { OnOk result (KeepsVoters
+            (shows_of P.shown self.old.engine) (shows_of P.shown self.new.engine)) }
+        ensures err { IfErr result (λ error. KeepsOrLeavesVoters error
+            (shows_of P.shown self.old.engine) (shows_of P.shown self.new.engine)) }
+        ensures outlines { self.new.outlines ≡ self.old.outlines }
+    {
+        self.engine.must_rewrite_rewrite_queue(rt)
+    }
+
+    /// Closes the log, and gives the file system back. Of an engine that has failed nothing is touched.
+    pub fn close<R: Log>(self, rt: &R) -> P::Files
+        ensures held { has_failed (shows_of P.shown self.engine) ≡ false
+            → ClosesLog (P.shown self.engine.pipes) (P.disk_of result) }
+        ensures failed { has_failed (shows_of P.shown self.engine) ≡ true
+            → result ≡ P.files self.engine.pipes }
+        ensures later { IsLater (P.shown self.engine.pipes).disk (P.disk_of result) }
+    {
+        let VoterStore {
+            alloc: _alloc,
+            engine,
+            outlines: _outlines,
+        } = self;
+        engine.close(rt)
+    }
+}

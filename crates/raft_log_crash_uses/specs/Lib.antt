@@ -1,2 +1,0 @@
-pub mod Saving
-pub mod Crashing

@@ -1,0 +1,54 @@
+-- What was saved is read behind a crash.
+use Rattle.std.proofs.Common.{◌≡◌, ℕ, ◌≤◌, List, [], ◌∷◌, length, take, Option, Some, refl, sym, ap, subst, ◌∙◌}
+use Rattle.std.proofs.Math.Seq.{take-nil}
+use Rattle.raft_log_engine.specs.raft_log_model_laws.specs.Groups.{taken}
+use Rattle.raft_log_engine.specs.raft_log_disk.specs.Disk.{Disk, empty_disk}
+use Rattle.raft_log_engine.specs.raft_log_disk.specs.Image.{IsImage, IsSound}
+use Rattle.raft_log_engine.specs.raft_log_disk_memory.specs.declared.memory.MemoryFileSystem.{MemoryFileSystem}
+use Rattle.raft_log_engine.specs.raft_log_disk_memory.specs.Memory.{disk_of}
+use Rattle.raft_log_engine.specs.raft_log_file_settings.specs.declared.config.Config.{Config}
+use Rattle.raft_log_engine.specs.raft_log_file_pair.specs.Pipes.{Said}
+use Rattle.raft_log_engine.specs.raft_log_engine_laws.specs.Shows.{LogMap, Shows}
+use Rattle.raft_log_open_laws.specs.Bare.{IsBare}
+use Rattle.raft_log_open_laws.specs.ByCalls.{home_of}
+use Rattle.raft_log_open_laws.specs.Running.{LeavesNoChance}
+use Rattle.raft_log_open_laws.proofs.Bare.{bare_directories_open}
+use Rattle.raft_log_open_laws.proofs.Running.{crashed_engines_open}
+use Rattle.raft_log_engine.specs.raft_log_engine_laws.specs.Reading.{StandsUnder}
+use Rattle.raft_log_crash_uses.specs.Saving.{Loads, Saves, put_of}
+use Rattle.raft_log_crash_uses.specs.Crashing.{SavesAcrossACrash}
+use Rattle.raft_log_crash_uses.proofs.Saved.{stands, told_value}
+use Rattle.raft_log_machine_laws.specs.Fresh.{nothing_stands}
+
+-- what stands in a file system in memory is sound
+pub memory_sound : (system : MemoryFileSystem) → IsSound (disk_of system)
+memory_sound system = let storage = system.whole.sound in record {
+  named = storage.named;
+  one_name = storage.one_name;
+  apart = storage.apart;
+  fresh = storage.fresh;
+  files = storage.files;
+}
+
+bare : (config : Config) (d : Disk) → d ≡ empty_disk → IsBare config d
+bare config d empty = subst (IsBare config) (sym empty) (record {
+  numbered = λ queue n path at. (refl, refl);
+  reserved = λ n path at. refl;
+  unnamed = λ path among. refl;
+})
+
+module _ {F : Type 0} (disk : F → Disk) (tells : F → List ℕ → ℕ → Type 0) (sound : (system : F) → IsSound (disk system)) (config again : Config) (g : ℕ) (k v : List ℕ) (nothing left : F) (engine : Shows) (found : Option (List ℕ))
+    (empty : disk nothing ≡ empty_disk) (saves : Saves disk tells config g k v nothing engine) (is : IsImage engine.pipes.disk (disk left)) (loads : Loads disk tells again g k left found) where
+  kept : home_of again ≡ home_of config → LeavesNoChance (home_of config) engine.pipes (disk left) → found ≡ Some v
+  kept named chance =
+      let fresh = (bare_directories_open disk tells config nothing (sound nothing) (bare config (disk nothing) empty)).answered saves.pipes saves.tables saves.opens in
+      let map : LogMap = taken nothing_stands (put_of g k v ∷ []) in
+      let holds = saves.saved (home_of config) nothing_stands fresh in
+      let (count, within, rests, opens) = crashed_engines_open disk tells (home_of config) engine map [] holds left (sound left) is chance in
+      let now = (opens again named).answered loads.pipes loads.tables loads.opens in
+      let told = loads.told (home_of again) (taken map (take count [])) now in
+      let same : taken map (take count []) ≡ map = ap (λ (l : List Said). taken map l) (take-nil count) in
+      told_value map g k v found (stands nothing_stands g k v) (subst (λ (m : LogMap). StandsUnder m g k found) same told)
+
+  pub saves_across : SavesAcrossACrash disk tells config again g k v found
+  saves_across = record { nothing = nothing; empty = empty; engine = engine; saves = saves; left = left; kept = kept }

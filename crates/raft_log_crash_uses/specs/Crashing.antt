@@ -1,0 +1,21 @@
+-- A log is begun, a key's value is saved in it, and the power goes.
+use Rattle.std.specs.Prelude.{◌≡◌, ℕ, List, Option, Some}
+use Rattle.raft_log_engine.specs.raft_log_disk.specs.Disk.{Disk, empty_disk}
+use Rattle.raft_log_engine.specs.raft_log_file_settings.specs.declared.config.Config.{Config}
+use Rattle.raft_log_engine.specs.raft_log_engine_laws.specs.Shows.{Shows}
+use Rattle.raft_log_open_laws.specs.ByCalls.{home_of}
+use Rattle.raft_log_open_laws.specs.Running.{LeavesNoChance}
+use Rattle.raft_log_crash_uses.specs.Saving.{Saves}
+
+-- A value was saved in a log over a file system without files, a crash left one of it, and the key was read of
+-- that by other settings. Where these name the same directories, and no checksum was met by chance, it is the
+-- value that was read.
+pub record SavesAcrossACrash {F : Type 0} (disk : F → Disk) (tells : F → List ℕ → ℕ → Type 0)
+    (config again : Config) (group : ℕ) (key value : List ℕ) (found : Option (List ℕ)) : Type 0 where
+  pub nothing : F
+  pub empty : disk nothing ≡ empty_disk
+  pub engine : Shows
+  pub saves : Saves disk tells config group key value nothing engine
+  pub left : F
+  pub kept : home_of again ≡ home_of config → LeavesNoChance (home_of config) engine.pipes (disk left)
+      → found ≡ Some value

@@ -1,0 +1,37 @@
+-- A key's value is saved in a log, and read of one.
+use Rattle.std.specs.Prelude.{◌≡◌, ℕ, List, [], ◌∷◌, None, Option}
+use Rattle.raft_log_engine.specs.raft_log_model_laws.specs.Groups.{taken}
+use Rattle.raft_log_engine.specs.raft_log_model_laws.specs.Item.Item.{Put}
+use Rattle.raft_log_engine.specs.raft_log_model_laws.specs.Item.Record.{Plain}
+use Rattle.raft_log_engine.specs.raft_log_disk.specs.Disk.{Disk}
+use Rattle.raft_log_engine.specs.raft_log_file_settings.specs.declared.config.Config.{Config}
+use Rattle.raft_log_engine.specs.raft_log_table_all.specs.declared.mem_tables.MemTables.{MemTables}
+use Rattle.raft_log_engine.specs.raft_log_file_pair.specs.Pipes.{LogPipes, Said}
+use Rattle.raft_log_engine.specs.raft_log_engine_laws.specs.Shows.{Home, LogMap, Shows}
+use Rattle.raft_log_engine.specs.raft_log_engine_laws.specs.Holding.{Holds}
+use Rattle.raft_log_engine.specs.raft_log_engine_laws.specs.Reading.{StandsUnder}
+use Rattle.raft_log_engine.specs.raft_log_open_directory.specs.Opening.{OpensDirectory}
+use Rattle.raft_log_open_laws.specs.Opened.{HoldsFresh}
+
+-- a batch that puts a group's key
+abbrev pub put_of : ℕ → List ℕ → List ℕ → Said
+put_of group key value = Plain (record { group = group; item = Put key value } ∷ [])
+
+-- The log of these settings was opened, and a key's value was saved in it: whatever map the log was, it is that
+-- map with the value, and nothing is pending.
+pub record Saves {F : Type 0} (disk : F → Disk) (tells : F → List ℕ → ℕ → Type 0) (config : Config) (group : ℕ)
+    (key value : List ℕ) (old : F) (engine : Shows) : Type 0 where
+  pub pipes : LogPipes
+  pub tables : MemTables
+  pub opens : OpensDirectory disk tells config old pipes tables
+  pub saved : (home : Home) (m : LogMap) → HoldsFresh home pipes tables m
+      → Holds home engine (taken m (put_of group key value ∷ [])) []
+
+-- The log of these settings was opened, and a key was read of it: whatever map the log was, the key has this
+-- value there.
+pub record Loads {F : Type 0} (disk : F → Disk) (tells : F → List ℕ → ℕ → Type 0) (config : Config) (group : ℕ)
+    (key : List ℕ) (old : F) (found : Option (List ℕ)) : Type 0 where
+  pub pipes : LogPipes
+  pub tables : MemTables
+  pub opens : OpensDirectory disk tells config old pipes tables
+  pub told : (home : Home) (m : LogMap) → HoldsFresh home pipes tables m → StandsUnder m group key found

@@ -11,6 +11,8 @@ use Rattle.raft_log_record_batches.specs.Batch.{Batch}
 use Rattle.raft_log_engine_laws.specs.Shows.{Home, IsWellMarked, IsWritable, LogMap, Shows, has_failed, said_of}
 use Rattle.raft_log_engine_laws.specs.Holding.{EndsAt}
 use Rattle.raft_log_engine_laws.specs.Writing.{IsUnfit, Leaves, PipesRefused}
+use Rattle.raft_log_directory_laws.specs.Calls.Which.{InAppend}
+use Rattle.raft_log_engine_laws.specs.raft_log_file_pair.specs.Numbers.{HasLastNumber}
 use Rattle.raft_log_engine_laws.specs.raft_log_file_pair.specs.Pipes.{Said}
 use Rattle.raft_log_engine_laws.specs.raft_log_table_all.specs.Batch.{MayFollowAll}
 use Rattle.raft_voter_messages.specs.declared.request.Request.{Request}
@@ -80,28 +82,28 @@ refused_ends home b m pending s t errors.EntryNotFound lives h = absurd h
 refused_ends home b m pending s t (errors.Other fault) lives h = absurd h
 
 refused_why : (home : Home) (b : Batch) (m : LogMap) (pending : List Said) (s t : Shows) (error : Error) → (error ≡ errors.Failed → ⊥)
-    → Leaves home b m pending s t error → IsUnwrittenFor error s t
-refused_why home b m pending s t (errors.Io kind) lives h = h.0
-refused_why home b m pending s t (errors.TryAgain text) lives h = h.0
-refused_why home b m pending s t errors.NumberRange lives h = tt
-refused_why home b m pending s t errors.Memory lives h = tt
-refused_why home b m pending s t errors.Failed lives h = absurd (lives refl)
-refused_why home b m pending s t errors.Hole lives h = absurd h
-refused_why home b m pending s t errors.Full lives h = absurd h
-refused_why home b m pending s t (errors.InvalidArgument text) lives h = absurd h
-refused_why home b m pending s t (errors.Corruption text) lives h = absurd h
-refused_why home b m pending s t (errors.Codec fault) lives h = absurd h
-refused_why home b m pending s t (errors.Message text) lives h = absurd h
-refused_why home b m pending s t errors.EntryCompacted lives h = absurd h
-refused_why home b m pending s t errors.EntryNotFound lives h = absurd h
-refused_why home b m pending s t (errors.Other fault) lives h = absurd h
+    → (error ≡ errors.NumberRange → HasLastNumber InAppend t.pipes) → Leaves home b m pending s t error → IsUnwrittenFor error s t
+refused_why home b m pending s t (errors.Io kind) lives last h = h.0
+refused_why home b m pending s t (errors.TryAgain text) lives last h = h.0
+refused_why home b m pending s t errors.NumberRange lives last h = last refl
+refused_why home b m pending s t errors.Memory lives last h = tt
+refused_why home b m pending s t errors.Failed lives last h = absurd (lives refl)
+refused_why home b m pending s t errors.Hole lives last h = absurd h
+refused_why home b m pending s t errors.Full lives last h = absurd h
+refused_why home b m pending s t (errors.InvalidArgument text) lives last h = absurd h
+refused_why home b m pending s t (errors.Corruption text) lives last h = absurd h
+refused_why home b m pending s t (errors.Codec fault) lives last h = absurd h
+refused_why home b m pending s t (errors.Message text) lives last h = absurd h
+refused_why home b m pending s t errors.EntryCompacted lives last h = absurd h
+refused_why home b m pending s t errors.EntryNotFound lives last h = absurd h
+refused_why home b m pending s t (errors.Other fault) lives last h = absurd h
 
 refused_turned : (q : ℕ × Request) (b : Batch) (error : Error) (s t : Shows) (os : ℕ → State) → PipesRefused b error s t → has_failed t ≡ false → TurnedDown q error s t os
 refused_turned q b error s t os refused alive = record {
   alive = alive;
   later = refused.later;
   holds = λ home m pending h. refused_ends home b m pending s t error lives (refused.leaves home m pending h);
-  why = λ home m pending W h means outlines. unwritten (refused_why home b m pending s t error lives (refused.leaves home m pending h));
+  why = λ home m pending W h means outlines. unwritten (refused_why home b m pending s t error lives (λ is. refused.range is home m pending h) (refused.leaves home m pending h));
 }
   where
     lives : error ≡ errors.Failed → ⊥

@@ -12,7 +12,9 @@ use Rattle.raft_log_record_batches.specs.Places.{entry_bytes}
 use Rattle.raft_log_engine_laws.specs.Shows.{Home, IsWritable, LogMap, Shows, has_failed, sense}
 use Rattle.raft_log_engine_laws.specs.Holding.{EndsAt, Holds, IsLeftAt}
 use Rattle.raft_log_engine_laws.specs.Fetching.{LiesOutside}
+use Rattle.raft_log_directory_laws.specs.Calls.Which.{InAppend}
 use Rattle.raft_log_engine_laws.specs.raft_log_table_one.specs.Reads.{entry_at}
+use Rattle.raft_log_engine_laws.specs.raft_log_file_pair.specs.Numbers.{HasLastNumber}
 use Rattle.raft_log_engine_laws.specs.raft_log_file_pair.specs.Pipes.{RunsOn, Said, State as LogState}
 use Rattle.raft_log_engine_laws.specs.raft_log_file_blocks.specs.Blocks.{IsBlockUnread, written_block}
 use Rattle.raft_voter_messages.specs.declared.reply.Reply.{Reply}
@@ -56,11 +58,11 @@ pub record Served (q : ℕ × Request) (a : Reply) (wrote : Bool) (s t : Shows) 
   pub refuses : is_refused a ≡ true → in_range q.1 ≡ false
 
 -- Why a request's record wasn't written, though the engine lives on: a file call failed, in one file or in two;
--- the numbers of files have run out; or memory was refused. No other error comes.
+-- Append's last file has the last number; or memory was refused. No other error comes.
 abbrev pub IsUnwrittenFor : Error → Shows → Shows → Type 0
 IsUnwrittenFor (errors.Io kind) s t = Fails s.pipes.disk t.pipes.disk
 IsUnwrittenFor (errors.TryAgain text) s t = Fails s.pipes.disk t.pipes.disk
-IsUnwrittenFor errors.NumberRange s t = Unit {0}
+IsUnwrittenFor errors.NumberRange s t = HasLastNumber InAppend t.pipes
 IsUnwrittenFor errors.Memory s t = Unit {0}
 IsUnwrittenFor _ s t = ⊥
 

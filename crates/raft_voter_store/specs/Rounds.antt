@@ -1,21 +1,46 @@
 -- A round of requests, as a store's loop goes through it, and its ends.
-use Rattle.std.specs.Prelude.{◌≡◌, ◌⊎◌, ℕ, Bool, List, length, slice_get, Some}
+use Rattle.std.specs.Prelude.{◌≡◌, ◌⊎◌, ℕ, Bool, false, List, length, slice_get, Some, take}
+use Rattle.raft_log_record_base.specs.declared.errors.Error.{Error}
 use Rattle.raft_log_engine.specs.raft_log_engine_laws.specs.Shows.{Home, Shows}
 use Rattle.raft_voter_messages.specs.declared.reply.Reply.{Reply}
+use Rattle.raft_voter_messages.specs.declared.reply.Reply.TheVariants.{Refused}
 use Rattle.raft_voter_messages.specs.declared.request.Request.{Request}
+use Rattle.raft_voter_messages.specs.Ranges.{in_range}
 use Rattle.raft_voter_outline.specs.State.{State}
 use Rattle.raft_voter.specs.Rounds.{World}
 use Rattle.raft_voter.specs.Service.{refused_from}
 use Rattle.raft_voter_standing_laws.specs.Standing.{AreOutlines, Keeps}
-use Rattle.raft_voter_standing_laws.specs.Requests.{Broke}
+use Rattle.raft_voter_standing_laws.specs.Requests.{Broke, TurnedDown}
 use Rattle.raft_voter_standing_laws.specs.Ends.{Answered, GaveUp, Unsynced, Went}
+
+-- A round came so far, and the next request was turned down, for this error.
+pub record TurnsDown (qs : List (ℕ × Request)) (told : List Reply) (q : ℕ × Request) (s : Shows) (os : ℕ → State)
+    : Type 0 where
+  pub wrote : Bool
+  pub mid : Shows
+  pub next : Shows
+  pub outlines : ℕ → State
+  pub error : Error
+  pub went : Went qs told wrote s mid os outlines
+  pub turned : TurnedDown q error mid next outlines
+
+-- Why each place is refused: its request is out of range, or it was turned down behind those before it.
+abbrev pub AreExcused : List (ℕ × Request) → List Reply → Shows → (ℕ → State) → Type 0
+AreExcused qs told s os = (place : ℕ) (q : ℕ × Request) → slice_get told place ≡ Some Refused
+    → slice_get qs place ≡ Some q → (in_range q.1 ≡ false) ⊎ TurnsDown qs (take place told) q s os
+
+-- a round came so far, and each place that is refused is so for a cause
+pub record Passes (qs : List (ℕ × Request)) (told : List Reply) (wrote : Bool) (s t : Shows) (os us : ℕ → State)
+    : Type 0 where
+  pub went : Went qs told wrote s t os us
+  pub excused : AreExcused qs told s os
 
 -- A round went as far as one request, at which the engine failed.
 pub record StopsAt (qs : List (ℕ × Request)) (told : List Reply) (s t : Shows) (os : ℕ → State) : Type 0 where
   pub wrote : Bool
   pub mid : Shows
   pub outlines : ℕ → State
-  pub went : Went qs told wrote s mid os outlines
+  pub passes : Passes qs told wrote s mid os outlines
   pub request : ℕ × Request
   pub at : slice_get qs (length told) ≡ Some request
   pub broke : Broke request mid t outlines
@@ -26,14 +51,15 @@ RoundIsAnswered qs told s t os us =
     (home : Home) (V : World) → Keeps home s V → AreOutlines os V → Answered home V qs told s t us
 
 -- Whichever voters the engine kept, whose outlines these were, the round was cut off: it was given up at a
--- request, or its sync was refused. The refused places are those of its replies.
+-- request, or its sync was refused. The refused places are those of its replies, each for a cause.
 pub record CutsRoundOff (qs : List (ℕ × Request)) (refused : List ℕ) (s t : Shows) (os : ℕ → State) : Type 0 where
   pub told : List Reply
   pub places : refused ≡ refused_from 0 told
+  pub excused : AreExcused qs told s os
   pub left : (home : Home) (V : World) → Keeps home s V → AreOutlines os V
       → GaveUp home V qs told s t ⊎ Unsynced home V qs told s t
 
 -- one request was served or turned down: a round that came so far goes on behind it
 abbrev pub GoesOn : ℕ × Request → Bool → Bool → List Reply → List Reply → Shows → Shows → (ℕ → State) → (ℕ → State) → Type 0
-GoesOn q wrote more told now t u us ws = (qs : List (ℕ × Request)) (s : Shows) (os : ℕ → State) → Went qs told wrote s t os us
-    → slice_get qs (length told) ≡ Some q → Went qs now more s u os ws
+GoesOn q wrote more told now t u us ws = (qs : List (ℕ × Request)) (s : Shows) (os : ℕ → State)
+    → Passes qs told wrote s t os us → slice_get qs (length told) ≡ Some q → Passes qs now more s u os ws

@@ -13,10 +13,9 @@ impl<P: PipeLog> VoterStore<P> {
     ghost use Rattle.std.specs.Prelude.{IfSome, OnSome};
     ghost use Rattle.raft_log_engine.specs.raft_log_engine_laws.specs.Shows.{has_failed};
     ghost use Rattle.raft_voter.specs.Service.{FailsAs, IsAlive, TakesNothing};
-    ghost use Rattle.raft_voter_standing_laws.specs.Ends.{Went};
     ghost use Rattle.raft_voter_outlines.specs.Kept.{outlines_in};
     ghost use Rattle.raft_voter_standing_laws.specs.Requests.{Broke};
-    ghost use Rattle.raft_voter_store.specs.Rounds.{RoundIsAnswered, CutsRoundOff, GoesOn, StopsAt};
+    ghost use Rattle.raft_voter_store.specs.Rounds.{AreExcused, CutsRoundOff, GoesOn, Passes, RoundIsAnswered, StopsAt};
 
     /// The groups' voters take the requests in order, but for those at the places whose reply is `Refused`:
     /// they are out of range, or were turned down. The replies are handed out once all that was written is
@@ -32,6 +31,9 @@ impl<P: PipeLog> VoterStore<P> {
         ensures ok { IfOk result (λ told. RoundIsAnswered requests.now told
             (shows_of P.shown self.old.engine) (shows_of P.shown self.new.engine)
             (outlines_in self.old.outlines) (outlines_in self.new.outlines)) }
+        ensures excused { IfOk result (λ told. AreExcused requests.now told
+            (shows_of P.shown self.old.engine) (outlines_in self.old.outlines)) }
+        ensures all { IfOk result (λ told. length told ≡ length requests.now) }
         ensures short { OnOk result (length requests.now ≤ 4096) }
         ensures lives { OnOk result (IsAlive (has_failed (shows_of P.shown self.old.engine))
             (has_failed (shows_of P.shown self.new.engine))) }
@@ -79,12 +81,13 @@ impl<P: PipeLog> VoterStore<P> {
         requires lives { has_failed (shows_of P.shown self.old.engine) ≡ false }
         requires empty { replies.old.items ≡ [] }
         requires room { vec_len replies.old + length requests.now ≤ vec_capacity replies.old }
-        ensures went { IfSome result (λ wrote. Went requests.now replies.new.items wrote
+        ensures went { IfSome result (λ wrote. Passes requests.now replies.new.items wrote
             (shows_of P.shown self.old.engine) (shows_of P.shown self.new.engine)
             (outlines_in self.old.outlines) (outlines_in self.new.outlines)) }
         ensures broke { result ≡ None → StopsAt requests.now replies.new.items
             (shows_of P.shown self.old.engine) (shows_of P.shown self.new.engine)
             (outlines_in self.old.outlines) }
+        ensures all { OnSome result (length replies.new.items ≡ length requests.now) }
         ensures few { length replies.new.items ≤ length requests.now }
     {
         let mut wrote = false;

@@ -1,4 +1,4 @@
-use Rattle.std.proofs.Common.{refl, ap, ◌∙◌}
+use Rattle.std.proofs.Common.{refl, ap, length, ◌∙◌}
 use Rattle.raft_log_engine_core.specs.Reads.{shows_of}
 use Rattle.raft_voter.specs.Service.{refused_from}
 use Rattle.raft_voter_outlines.specs.Kept.{outlines_in}
@@ -30,3 +30,9 @@ returns-clause-ok g c =
       | then-wrote+in-Ok-sync w ↦ rw (c.from_vec.ensures, w.self-is) (answered_synced c.args.requests.now c.take_all.new.replies.items c.in-Some.wrote s t (shows_of shown w.sync.new.self) os us c.in-Some.ensures.went w.in-Ok-sync.ensures.ok)
       | else-wrote w ↦ rw (c.from_vec.ensures, w.self-is) (answered_unwritten c.args.requests.now c.take_all.new.replies.items c.in-Some.wrote s t os us c.in-Some.ensures.went w.if-wrote.false)
     ]
+
+pub returns-clause-excused : goal.returns-clause-excused
+returns-clause-excused g c = rw c.from_vec.ensures c.in-Some.ensures.went.excused
+
+pub returns-clause-all : goal.returns-clause-all
+returns-clause-all g c = ap (λ told. length told) c.from_vec.ensures ∙ c.in-Some.ensures.all

@@ -4,3 +4,4 @@ pub mod Upkeep
 pub mod Filling
 pub mod Rounds
 pub mod Places
+pub mod Serving

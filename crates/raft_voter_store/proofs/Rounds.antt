@@ -1,5 +1,5 @@
 -- A round: each step, and each end, is a call of one law.
-use Rattle.std.proofs.Common.{◌≡◌, ℕ, zero, suc, ◌<◌, ◌||◌, Bool, true, false, List, [], ◌∷◌, ◌++◌, length, get_or, Some, refl, sym, ap, subst, inl, inr, ◌∙◌, arith}
+use Rattle.std.proofs.Common.{◌≡◌, ℕ, zero, suc, ◌<◌, ◌≤◌, ◌||◌, Bool, true, false, List, [], ◌∷◌, ◌++◌, length, get_or, Some, refl, sym, ap, subst, inl, inr, ◌∙◌, arith}
 use Rattle.std.specs.Prelude.{◌⊎◌, slice_get, take}
 use Rattle.raft_log_record_base.specs.declared.errors.Error.{Error}
 use Rattle.raft_log_record_base.specs.declared.errors.Error.TheVariants as errors
@@ -132,20 +132,22 @@ answered_unwritten qs told wrote s t os us passes none home V keeps outlines =
 pub answered_synced : (qs : List (ℕ × Request)) (told : List Reply) (wrote : Bool) (s t u : Shows) (os us : ℕ → State) → Passes qs told wrote s t os us → SyncsAppend t u → RoundIsAnswered qs told s u os us
 answered_synced qs told wrote s t u os us passes synced home V keeps outlines = rounds_end.answered home V qs told wrote s t u os us keeps outlines passes.went synced
 
-pub cut_at : (qs : List (ℕ × Request)) (told : List Reply) (refused : List ℕ) (s t : Shows) (os : ℕ → State) → StopsAt qs told s t os → refused ≡ refused_from 0 told → CutsRoundOff qs refused s t os
-cut_at qs told refused s t os stop places =
+pub cut_at : (qs : List (ℕ × Request)) (told : List Reply) (refused : List ℕ) (s t : Shows) (os : ℕ → State) → StopsAt qs told s t os → length told ≤ length qs → refused ≡ refused_from 0 told → CutsRoundOff qs refused s t os
+cut_at qs told refused s t os stop few places =
     record {
       told = told;
+      few = few;
       places = places;
       excused = stop.passes.excused;
       left = λ home V keeps outlines. inl (rounds_end.gave_up home V qs told stop.request stop.wrote s stop.mid t os stop.outlines keeps outlines stop.passes.went stop.at stop.broke);
     }
 
-pub cut_unsynced : (qs : List (ℕ × Request)) (told : List Reply) (refused : List ℕ) (wrote : Bool) (error : Error) (s t u : Shows) (os us : ℕ → State) → Passes qs told wrote s t os us → NotSynced error t u
+pub cut_unsynced : (qs : List (ℕ × Request)) (told : List Reply) (refused : List ℕ) (wrote : Bool) (error : Error) (s t u : Shows) (os us : ℕ → State) → Passes qs told wrote s t os us → NotSynced error t u → length told ≤ length qs
     → refused ≡ refused_from 0 told → CutsRoundOff qs refused s u os
-cut_unsynced qs told refused wrote error s t u os us passes unsynced places =
+cut_unsynced qs told refused wrote error s t u os us passes unsynced few places =
     record {
       told = told;
+      few = few;
       places = places;
       excused = passes.excused;
       left = λ home V keeps outlines. inr (rounds_end.unsynced home V qs told wrote error s t u os us keeps outlines passes.went unsynced);

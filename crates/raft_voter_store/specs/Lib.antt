@@ -1,3 +1,4 @@
 pub mod Taking
 pub mod Upkeep
 pub mod Rounds
+pub mod Service

@@ -1,5 +1,5 @@
 -- A round of requests, as a store's loop goes through it, and its ends.
-use Rattle.std.specs.Prelude.{◌≡◌, ◌⊎◌, ℕ, Bool, false, List, length, slice_get, Some, take}
+use Rattle.std.specs.Prelude.{◌≡◌, ◌⊎◌, ◌≤◌, ℕ, Bool, false, List, length, slice_get, Some, take}
 use Rattle.raft_log_record_base.specs.declared.errors.Error.{Error}
 use Rattle.raft_log_engine.specs.raft_log_engine_laws.specs.Shows.{Home, Shows}
 use Rattle.raft_voter_messages.specs.declared.reply.Reply.{Reply}
@@ -54,6 +54,7 @@ RoundIsAnswered qs told s t os us =
 -- request, or its sync was refused. The refused places are those of its replies, each for a cause.
 pub record CutsRoundOff (qs : List (ℕ × Request)) (refused : List ℕ) (s t : Shows) (os : ℕ → State) : Type 0 where
   pub told : List Reply
+  pub few : length told ≤ length qs
   pub places : refused ≡ refused_from 0 told
   pub excused : AreExcused qs told s os
   pub left : (home : Home) (V : World) → Keeps home s V → AreOutlines os V

@@ -3,6 +3,7 @@ ghost use Rattle.std.specs.Prelude.{◌≡◌, ℕ, false, IfErr, IfOk};
 ghost use Rattle.raft_log_engine_core.specs.Reads.{shows_of};
 
 mod rounds;
+mod service;
 mod upkeep;
 
 use crate::entries::read_entries;

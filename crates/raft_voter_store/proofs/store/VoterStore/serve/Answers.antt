@@ -9,14 +9,14 @@ use Rattle.raft_voter_store.proofs.store.VoterStore.serve.Goals as goal
 pub returns-in_default-take_all-clause-cut : goal.returns-in_default-take_all-clause-cut
 returns-in_default-take_all-clause-cut g c = λ cause.
     let shown = g.P.PipeLog.shown in
-    cut_at c.args.requests.now c.take_all.new.replies.items c.cut_off.result.refused (shows_of shown c.args.self.now.engine) (shows_of shown c.take_all.new.self.engine) (outlines_in c.args.self.now.outlines) (c.in_default-take_all.ensures.broke refl)
+    cut_at c.args.requests.now c.take_all.new.replies.items c.cut_off.result.refused (shows_of shown c.args.self.now.engine) (shows_of shown c.take_all.new.self.engine) (outlines_in c.args.self.now.outlines) (c.in_default-take_all.ensures.broke refl) c.take_all.ensures.few
     (ap (λ fault. fault.refused) c.cut_off.ensures ∙ ap (λ l. refused_from 0 l) c.as_slice.ensures.value)
 
 pub returns-in_default-sync-clause-cut : goal.returns-in_default-sync-clause-cut
 returns-in_default-sync-clause-cut g c = λ cause.
     let shown = g.P.PipeLog.shown in
     cut_unsynced c.args.requests.now c.take_all.new.replies.items c.cut_off-in_default-sync.result.refused c.in-Some.wrote c.in_default-sync.field-0 (shows_of shown c.args.self.now.engine) (shows_of shown c.take_all.new.self.engine) (shows_of shown c.sync.new.self)
-    (outlines_in c.args.self.now.outlines) (outlines_in c.take_all.new.self.outlines) c.in-Some.ensures.went c.in_default-sync.ensures.err
+    (outlines_in c.args.self.now.outlines) (outlines_in c.take_all.new.self.outlines) c.in-Some.ensures.went c.in_default-sync.ensures.err c.take_all.ensures.few
     (ap (λ fault. fault.refused) c.cut_off-in_default-sync.ensures ∙ ap (λ l. refused_from 0 l) c.as_slice-in_default-sync.ensures.value)
 
 pub returns-clause-ok : goal.returns-clause-ok

@@ -1,0 +1,31 @@
+-- The store as a service of rounds, whichever directories its log lies in.
+use Rattle.std.specs.Prelude.{◌≡◌, ℕ, List}
+use Rattle.raft_log_engine.specs.raft_log_engine_laws.specs.Shows.{Home, Shows, has_failed}
+use Rattle.raft_voter_messages.specs.declared.reply.Reply.{Reply}
+use Rattle.raft_voter_messages.specs.declared.request.Request.{Request}
+use Rattle.raft_voter_outline.specs.State.{State}
+use Rattle.raft_voter.specs.Rounds.{World}
+use Rattle.raft_voter.specs.Service.{CutRound, MayFollow, Service, refused_from}
+use Rattle.raft_voter_standing_laws.specs.Standing.{AreOutlines, IsLeftAmong, Keeps}
+use Rattle.raft_voter_store.specs.Rounds.{AreExcused}
+
+-- the engine keeps these voters, and these are their outlines
+abbrev pub ServesVoters : Shows → (ℕ → State) → World → Type 0
+ServesVoters s os W = (home : Home) × Keeps home s W × AreOutlines os W
+
+-- its log is left on its disk, and whatever a stop leaves of it means voters that may stand behind this round
+abbrev pub LeavesBehind : Shows → CutRound → Type 0
+LeavesBehind s cut = (home : Home) × IsLeftAmong home s.pipes.disk (MayFollow cut)
+
+-- places of a round that may be refused: those of some replies, each for a cause
+abbrev pub MayRefuse : Shows → (ℕ → State) → List (ℕ × Request) → List ℕ → Type 0
+MayRefuse s os qs refused = (told : List Reply) × (refused ≡ refused_from 0 told) × AreExcused qs told s os
+
+-- a store that shows so much of its engine, and of its outlines, as a service
+abbrev pub voter_service : {S : Type 0} → (S → Shows) → (S → ℕ → State) → Service S
+voter_service shows outlines = record {
+  serves = λ store W. ServesVoters (shows store) (outlines store) W;
+  is_failed = λ store. has_failed (shows store);
+  leaves = λ store cut. LeavesBehind (shows store) cut;
+  may_refuse = λ old new requests refused. MayRefuse (shows old) (outlines old) requests refused;
+}

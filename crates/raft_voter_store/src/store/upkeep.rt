@@ -1,5 +1,11 @@
 //! What keeps a store's files few, and what is told of them.
 ghost use Rattle.std.specs.Prelude.{◌≡◌, false, true, IfErr, IfOk, OnErr, OnOk};
+ghost use Rattle.raft_log_record_base.specs.declared.pipe_log.LogQueue.TheVariants.{Append};
+ghost use Rattle.raft_log_file_pair.specs.HoldingBack.{PipesHoldBack};
+ghost use Rattle.raft_log_purge.specs.Append.{RewritesAppend};
+ghost use Rattle.raft_log_purge.specs.Counted.{PurgesAndCounts};
+ghost use Rattle.raft_log_purge.specs.ExpiredFiles.{SyncsAndRewrites};
+ghost use Rattle.raft_log_engine_core.specs.Purging.{StopsPurgingExpired, StopsRewritingAppend};
 ghost use Rattle.raft_log_engine_core.specs.Reads.{shows_of, IsFailed, Lives};
 ghost use Rattle.raft_log_engine_core.specs.Whole.{ArmsEngine, TellsSpan};
 
@@ -64,9 +70,16 @@ impl<P: PipeLog> VoterStore<P> {
 
     /// Purges the files of both queues that are past the thresholds of the settings. The answer is the groups
     /// that are to be compacted, sorted. No voter changes, answered or refused; where the engine has failed the
-    /// voters are left alone.
+    /// voters are left alone. Which files go, and why it is refused, is as the engine says.
     pub fn maintain<R: Log>(&mut self, rt: &R) -> Result<Vec<u64>>
         ensures ok { OnOk result (KeepsVoters
+            (shows_of P.shown self.old.engine) (shows_of P.shown self.new.engine)) }
+        ensures purges { IfOk result (λ groups. PurgesAndCounts (PipesHoldBack P.shown P.holds_back Append)
+            self.old.engine.thresholds self.old.engine.tables self.new.engine.tables
+            self.old.engine.counts self.new.engine.counts groups.items
+            (shows_of P.shown self.old.engine) (shows_of P.shown self.new.engine)) }
+        ensures lived { OnOk result (Lives (shows_of P.shown self.old.engine)) }
+        ensures why { IfErr result (StopsPurgingExpired
             (shows_of P.shown self.old.engine) (shows_of P.shown self.new.engine)) }
         ensures err { IfErr result (λ error. KeepsOrLeavesVoters error
             (shows_of P.shown self.old.engine) (shows_of P.shown self.new.engine)) }
@@ -85,6 +98,11 @@ impl<P: PipeLog> VoterStore<P> {
     ) -> Result<()>
         ensures ok { OnOk result (KeepsVoters
             (shows_of P.shown self.old.engine) (shows_of P.shown self.new.engine)) }
+        ensures purges { OnOk result (RewritesAppend watermark exit_after_step self.new.engine.tables
+            (shows_of P.shown self.old.engine) (shows_of P.shown self.new.engine)) }
+        ensures lived { OnOk result (Lives (shows_of P.shown self.old.engine)) }
+        ensures why { IfErr result (StopsRewritingAppend
+            (shows_of P.shown self.old.engine) (shows_of P.shown self.new.engine)) }
         ensures err { IfErr result (λ error. KeepsOrLeavesVoters error
             (shows_of P.shown self.old.engine) (shows_of P.shown self.new.engine)) }
         ensures outlines { self.new.outlines ≡ self.old.outlines }
@@ -96,6 +114,11 @@ impl<P: PipeLog> VoterStore<P> {
     /// Rewrites Rewrite, whatever its size is. No voter changes.
     pub fn must_rewrite_rewrite_queue<R: Log>(&mut self, rt: &R) -> Result<()>
         ensures ok { OnOk result (KeepsVoters
+            (shows_of P.shown self.old.engine) (shows_of P.shown self.new.engine)) }
+        ensures purges { OnOk result (SyncsAndRewrites self.new.engine.tables
+            (shows_of P.shown self.old.engine) (shows_of P.shown self.new.engine)) }
+        ensures lived { OnOk result (Lives (shows_of P.shown self.old.engine)) }
+        ensures why { IfErr result (StopsPurgingExpired
             (shows_of P.shown self.old.engine) (shows_of P.shown self.new.engine)) }
         ensures err { IfErr result (λ error. KeepsOrLeavesVoters error
             (shows_of P.shown self.old.engine) (shows_of P.shown self.new.engine)) }

@@ -1,0 +1,3 @@
+mod Marking
+pub mod Leading
+pub mod Explaining

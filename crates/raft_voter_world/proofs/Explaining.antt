@@ -10,7 +10,7 @@ use Rattle.raft_voter.specs.declared.service.Cause.{Cause}
 use Rattle.raft_voter.specs.declared.service.Cause.TheVariants.{FileSystem, Memory, Failed, TooLong}
 use Rattle.raft_voter_world.specs.declared.storage.Storage.{Storage}
 use Rattle.raft_voter_world.specs.declared.storage.Storage.TheVariants.{Closed, Open}
-use Rattle.raft_voter_world.specs.Cuts.{AreLeast, ServeSome, cut_after, cut_by, cuts_in, next_place}
+use Rattle.raft_voter_world.specs.Cuts.{AreLeast, NoneLost, ServeSome, cut_after, cut_by, cuts_in, next_place}
 use Rattle.raft_voter_world.specs.History.{Change, Happen, Happens, IsAnswered, IsCutOff, Keeps, Moment, behind, rounds_in}
 use Rattle.raft_voter_world.specs.History.Change.{closes, purges, arms, copies}
 use Rattle.raft_voter_world.specs.History.Moment.{opened, unread, fell, unopened, crashed, kept, answered, cut_off, idle}
@@ -32,7 +32,7 @@ pub opened_serves : {S : Type 0} (v : Service S) (store now : S) (voters : List 
 opened_serves v store now voters W tells stays at = subst (λ (X : World). IsOpenAt v now X) (tells W at) (stays.served W at)
 
 -- a call that keeps the voters
-kept_serves : {S F : Type 0} (v : Service S) (u : Upkeep S) (d : Disk S F) (change : Change) (old new : Storage S F) (cut : CutRound) → Keeps v u d change old new → Serving v old cut → Serving v new cut
+pub kept_serves : {S F : Type 0} (v : Service S) (u : Upkeep S) (d : Disk S F) (change : Change) (old new : Storage S F) (cut : CutRound) → Keeps v u d change old new → Serving v old cut → Serving v new cut
 kept_serves v u d closes (Open store) (Closed files) cut k s = tt
 kept_serves v u d (purges p) (Open old) (Open new) cut k s = λ alive. go (v.is_failed old) refl alive
   where
@@ -52,7 +52,7 @@ kept_serves v u d (copies t) (Open old) new cut k s = absurd k
 kept_serves v u d (copies t) (Closed old) (Open new) cut k s = absurd k
 
 -- a store that isn't alive doesn't come alive by such a call
-kept_dead : {S F : Type 0} (v : Service S) (u : Upkeep S) (d : Disk S F) (change : Change) (old new : Storage S F) → Keeps v u d change old new → is_alive v old ≡ false → is_alive v new ≡ false
+pub kept_dead : {S F : Type 0} (v : Service S) (u : Upkeep S) (d : Disk S F) (change : Change) (old new : Storage S F) → Keeps v u d change old new → is_alive v old ≡ false → is_alive v new ≡ false
 kept_dead v u d closes (Open store) (Closed files) k e = refl
 kept_dead v u d (purges p) (Open old) (Open new) k e = ap not (k.1.failed (not_false (v.is_failed old) e))
   where
@@ -114,7 +114,7 @@ cut_on v old now cut round TooLong ms last X c s l = record {
   leads = idle_leads _ X round (rounds_in ms) (cuts_in last ms) c.told c.cuts.none l.leads;
 }
 
-cut_serves : {S : Type 0} (v : Service S) (old now : S) (cut : CutRound) (round : Round) (cause : Cause) → IsCutOff v old round cause now
+pub cut_serves : {S : Type 0} (v : Service S) (old now : S) (cut : CutRound) (round : Round) (cause : Cause) → IsCutOff v old round cause now
     → (v.is_failed old ≡ false → (cut ≡ uncut cut.before) × IsOpenAt v old cut.before)
     → v.is_failed now ≡ false → (cut_by cause cut round ≡ uncut (cut_by cause cut round).before) × IsOpenAt v now (cut_by cause cut round).before
 cut_serves v old now cut round FileSystem c s alive = absurd (false≢true (sym alive ∙ c.fails.2))
@@ -124,15 +124,8 @@ cut_serves v old now cut round TooLong c s alive = let before = s (sym c.fails.1
 
 -- The whole.
 
--- nothing was lost
-abbrev pub NoneLost : {S F : Type 0} → List (Moment S F) → Type 0
-NoneLost [] = Unit {0}
-NoneLost (opened workers store voters None now ∷ ms) = ⊥
-NoneLost (unread workers store now ∷ ms) = ⊥
-NoneLost (m ∷ ms) = NoneLost ms
-
 -- a moment that settles nothing and has no round
-passes : {S F : Type 0} (v : Service S) (old new : Storage S F) (cut : CutRound) (m : Moment S F) (ms : List (Moment S F)) (last : ℕ) (X : World)
+pub passes : {S F : Type 0} (v : Service S) (old new : Storage S F) (cut : CutRound) (m : Moment S F) (ms : List (Moment S F)) (last : ℕ) (X : World)
     → next_place last (m ∷ ms) ≡ next_place last ms → rounds_in (m ∷ ms) ≡ rounds_in ms → cuts_in last (m ∷ ms) ≡ cuts_in last ms
     → (is_alive v old ≡ false → is_alive v new ≡ false) → LeadsFrom v new cut ms last X → LeadsFrom v old cut (m ∷ ms) last X
 passes v old new cut m ms last X p r c dead l = record {

@@ -1,3 +1,5 @@
 mod Marking
 pub mod Leading
 pub mod Explaining
+pub mod Going
+pub mod Whole

@@ -73,3 +73,10 @@ abbrev pub ServeSome : {S F : Type 0} → Service S → List (Moment S F) → Ty
 ServeSome v [] = Unit {0}
 ServeSome v (opened workers store voters place now ∷ ms) = ((W : World) × IsOpenAt v store W) × ServeSome v ms
 ServeSome v (m ∷ ms) = ServeSome v ms
+
+-- nothing was lost
+abbrev pub NoneLost : {S F : Type 0} → List (Moment S F) → Type 0
+NoneLost [] = Unit {0}
+NoneLost (opened workers store voters None now ∷ ms) = ⊥
+NoneLost (unread workers store now ∷ ms) = ⊥
+NoneLost (m ∷ ms) = NoneLost ms

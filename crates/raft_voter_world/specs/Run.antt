@@ -9,7 +9,7 @@ use Rattle.raft_voter_world.specs.declared.event.Left.TheVariants.{Last}
 use Rattle.raft_voter_world.specs.declared.report.WorldReport.{WorldReport}
 use Rattle.raft_voter_world.specs.declared.storage.Storage.{Storage}
 use Rattle.raft_voter_world.specs.declared.storage.Storage.TheVariants.{Closed, Open}
-use Rattle.raft_voter_world.specs.Cuts.{AreLeast, ServeSome, cut_after, cut_by, cuts_in, lost_from}
+use Rattle.raft_voter_world.specs.Cuts.{AreLeast, NoneLost, ServeSome, cut_after, cut_by, cuts_in, lost_from}
 use Rattle.raft_voter_world.specs.History.{Ends, Happen, Moment, Plays, behind_all, left_from, rounds_in}
 use Rattle.raft_voter_world.specs.History.Moment.{opened, unread, fell, unopened, crashed, kept, answered, cut_off, idle}
 use Rattle.raft_voter_world.specs.Stores.{Disk, Upkeep}
@@ -72,6 +72,22 @@ moments_of (ms ∷ mss) = ms ++ moments_of mss
 pub record EndsWell {S F : Type 0} (ms : List (Moment S F)) (cut : CutRound) : Type 0 where
   pub explained : Explains (rounds_in ms) (cuts_in 0 ms)
   pub found : (X : World) → MayFollow cut X → (place : ℕ) × Leads fresh_world (rounds_in ms) (cuts_in place ms) X
+
+-- Whatever happens from files on, with the least place found behind each round that was cut off: where nothing was
+-- lost, and each store that was opened serves voters, voters that never fail explain the rounds.
+abbrev pub AllExplained : {S F : Type 0} → Service S → Upkeep S → Disk S F → Type 0
+AllExplained {S} {F} v u d =
+    (files : F) (ms : List (Moment S F)) → Happen v u d (Closed files) ms → AreLeast (uncut fresh_world) ms
+    → ServeSome v ms → NoneLost ms → Explains (rounds_in ms) (cuts_in 0 ms)
+
+-- Whatever happens from files on in which no voter is stored: unless something passes by chance of what is known
+-- to be left, each open shows voters behind some place, voters that never fail explain the rounds, and what is
+-- left in the end means what they led to.
+abbrev pub AllTransparent : {S F : Type 0} → Service S → Upkeep S → Disk S F → Type 0
+AllTransparent {S} {F} v u d =
+    (files : F) (ms : List (Moment S F)) → Happen v u d (Closed files) ms → AreLeast (uncut fresh_world) ms
+    → (known : d.leaves files (uncut fresh_world))
+    → Goes v d (λ storage cut. EndsWell ms cut) (Closed files) (uncut fresh_world) known ms
 
 -- A run of these events, which began with these files: what happened, what its report says of it, and what holds
 -- of it.

@@ -4,6 +4,7 @@
 mod disk;
 mod event;
 mod faults;
+pub mod laws;
 mod notes;
 mod places;
 mod report;

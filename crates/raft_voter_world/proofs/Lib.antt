@@ -3,3 +3,4 @@ pub mod Leading
 pub mod Explaining
 pub mod Going
 pub mod Whole
+mod Moving

@@ -5,4 +5,5 @@ pub mod History
 pub mod Storages
 pub mod Cuts
 pub mod Notes
+pub mod Steps
 pub mod Run

@@ -10,6 +10,7 @@ mod places;
 mod report;
 mod storage;
 mod store;
+mod world;
 
 pub use disk::VoterDisk;
 pub use event::{Event, Left};
@@ -18,3 +19,4 @@ pub use notes::{Loss, Lost};
 pub use report::WorldReport;
 pub use storage::Storage;
 pub use store::VoterStorage;
+pub use world::World;

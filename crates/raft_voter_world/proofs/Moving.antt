@@ -1,20 +1,22 @@
 -- Steps of a world.
-use Rattle.std.proofs.Common.{◌≡◌, ◌==◌, ℕ, Bool, true, false, List, [], ◌∷◌, ◌++◌, None, Result, Ok, Err, IfOk, ap, refl, sym, subst, ◌∙◌, append-nil}
+use Rattle.std.proofs.Common.{◌≡◌, ◌==◌, ℕ, Bool, true, false, List, [], ◌∷◌, ◌++◌, None, Result, Ok, Err, IfOk, Global, if◌then◌else◌, ap, refl, sym, subst, ◌∙◌, append-nil}
 use Rattle.std.proofs.lemmas.Bool.{false≢true}
+use Rattle.std.specs.String.{string_bytes}
+use Rattle.std.specs.declared.string.String.{String}
 use Rattle.raft_voter.specs.Service.{Service}
 use Rattle.raft_voter_world.specs.declared.event.Event.{Event}
-use Rattle.raft_voter_world.specs.declared.event.Event.TheVariants.{Crash, Refuse}
-use Rattle.raft_voter_world.specs.declared.faults.Fault.TheVariants.{Refuse as RefuseCall}
+use Rattle.raft_voter_world.specs.declared.event.Event.TheVariants.{Close, Crash, CrashAt, Fork, Refuse}
+use Rattle.raft_voter_world.specs.declared.faults.Fault.TheVariants.{Refuse as RefuseCall, Stop}
 use Rattle.raft_voter_world.specs.declared.event.Left.{Left}
 use Rattle.raft_voter_world.specs.declared.notes.Notes.{Notes}
 use Rattle.raft_voter_world.specs.declared.storage.Storage.{Storage}
 use Rattle.raft_voter_world.specs.declared.storage.Storage.TheVariants.{Closed, Open}
 use Rattle.raft_voter_world.specs.declared.world.World.{World}
-use Rattle.raft_voter_world.specs.History.{Change, Crashes, Either, Falls, IsChange, One, Happen, Happens, Keeps, Moment, Turns, behind_all, has_stopped, left_from, rounds_in}
+use Rattle.raft_voter_world.specs.History.{Change, Crashes, Either, Falls, IsChange, IsClosedAs, One, Happen, Happens, Keeps, Moment, Turns, behind_all, has_stopped, left_from, rounds_in}
 use Rattle.raft_voter_world.specs.History.Change.{closes, purges, arms, copies}
 use Rattle.raft_voter_world.specs.History.Moment.{crashed, kept}
 use Rattle.raft_voter_world.specs.Steps.{Falling, Grows, IsReady, IsStep, Moves, WhereAlive, event_of}
-use Rattle.raft_voter_world.specs.Storages.{KeepsIfOpen}
+use Rattle.raft_voter_world.specs.Storages.{KeepsIfClosed, KeepsIfOpen}
 use Rattle.raft_voter_world.specs.declared.faults.Purge.{Purge}
 use Rattle.raft_voter_world.specs.declared.faults.Purge.TheVariants.{Expired, RewriteAppend as Append, RewriteRewrite as Rewrite}
 use Rattle.raft_voter_world.specs.Stores.{Disk, Upkeep}
@@ -209,3 +211,65 @@ pub refuse_one : {S F : Type 0} (v : Service S) (u : Upkeep S) (d : Disk S F) (p
     → Falling v u d place mid new → IsStep v u d place (Refuse calls) old new
 refuse_one v u d place calls old mid new e k notes left f =
     kept_step v u d place (Refuse calls) (arms (RefuseCall calls)) old mid new k notes left (λ ms h. one_refused u d old.left calls old.storage mid.storage ms e (subst (λ (g : Left). Falls u d g mid.storage ms) left h)) f
+
+-- nothing is changed
+same_moves : {S F : Type 0} (v : Service S) (u : Upkeep S) (d : Disk S F) (event : ℕ) (old mid new : World S F) (ms : List (Moment S F)) → mid.storage ≡ old.storage → mid.notes ≡ old.notes → Moves v u d event mid ms new → Moves v u d event old ms new
+same_moves {S} {F} v u d event old mid new ms there notes m = record {
+  happened = subst (λ (x : Storage S F). Happen v u d x ms) there m.happened;
+  now = subst (λ (x : Storage S F). new.storage ≡ behind_all x ms) there m.now;
+  noted = subst (λ (n : Notes). Grows {S = S} {F = F} event n ms new.notes) notes m.noted;
+  ready = λ r. m.ready (subst (λ (n : Notes). WhereAlive v mid.storage (n.unsettled ≡ None)) (sym notes) (subst (λ (x : Storage S F). WhereAlive v x (old.notes.unsettled ≡ None)) (sym there) r));
+}
+
+same_step : {S F : Type 0} (v : Service S) (u : Upkeep S) (d : Disk S F) (place : ℕ) (event : Event) (old mid new : World S F) → mid.storage ≡ old.storage → mid.notes ≡ old.notes → mid.left ≡ old.left → old.left ≡ left_from event old.left
+    → ((ms : List (Moment S F)) → Falls u d old.left old.storage ms → Turns u d old.left old.storage event ms) → Falling v u d place mid new → IsStep v u d place event old new
+same_step {S} {F} v u d place event old mid new there notes left same turned f = record {
+  moments = f.moments;
+  turns = turned f.moments (subst (λ (g : Left). Falls u d g old.storage f.moments) left (subst (λ (x : Storage S F). Falls u d mid.left x f.moments) there f.falls));
+  moves = same_moves v u d place old mid new f.moments there notes f.moves;
+  left = f.left ∙ left ∙ same;
+}
+
+-- a store that is open is closed
+pub close_step : {S F : Type 0} (v : Service S) (u : Upkeep S) (d : Disk S F) (place : ℕ) (old mid new : World S F) (storage : Storage S F) (files : F) → old.storage ≡ storage → IsClosedAs v d storage files → mid.storage ≡ Closed files
+    → mid.notes ≡ old.notes → mid.left ≡ old.left → Falling v u d place mid new → IsStep v u d place Close old new
+close_step {S} {F} v u d place old mid new (Open store) files is k now notes left f =
+    kept_step v u d place Close closes old mid new
+    (subst (λ (x : Storage S F). Keeps v u d closes old.storage x) (sym now) (subst (λ (x : Storage S F). Keeps v u d closes x (Closed files)) (sym is) k)) notes left
+    (λ ms h. subst (λ (x : Storage S F). Turns u d old.left x Close (kept closes mid.storage ∷ ms)) (sym is) (refl, subst (λ (g : Left). Falls u d g mid.storage ms) left h)) f
+close_step {S} {F} v u d place old mid new (Closed x) files is k now notes left f =
+    same_step v u d place Close old mid new (now ∙ ap Closed k ∙ sym is) notes left refl
+    (λ ms h. subst (λ (y : Storage S F). Turns u d old.left y Close ms) (sym is) (subst (λ (y : Storage S F). Falls u d old.left y ms) is h)) f
+
+-- files are copied, where no store is open
+pub fork_step : {S F : Type 0} (v : Service S) (u : Upkeep S) (d : Disk S F) (place : ℕ) (target : String Global) (old mid new : World S F) (storage : Storage S F) → old.storage ≡ storage → KeepsIfClosed v u d (copies (string_bytes target)) storage mid.storage
+    → mid.notes ≡ old.notes → mid.left ≡ old.left → Falling v u d place mid new → IsStep v u d place (Fork target) old new
+fork_step {S} {F} v u d place target old mid new (Closed x) is k notes left f =
+    kept_step v u d place (Fork target) (copies (string_bytes target)) old mid new
+    (subst (λ (y : Storage S F). Keeps v u d (copies (string_bytes target)) y mid.storage) (sym is) k) notes left
+    (λ ms h. subst (λ (y : Storage S F). Turns u d old.left y (Fork target) (kept (copies (string_bytes target)) mid.storage ∷ ms)) (sym is) (refl, subst (λ (g : Left). Falls u d g mid.storage ms) left h)) f
+fork_step {S} {F} v u d place target old mid new (Open x) is k notes left f =
+    same_step v u d place (Fork target) old mid new (k ∙ sym is) notes left refl
+    (λ ms h. subst (λ (y : Storage S F). Turns u d old.left y (Fork target) ms) (sym is) (subst (λ (y : Storage S F). Falls u d old.left y ms) is h)) f
+
+one_stop : {S F : Type 0} (u : Upkeep S) (d : Disk S F) (gone gone' : Left) (calls : ℕ) (storage now : Storage S F) (ms : List (Moment S F)) → (calls == 0) ≡ false → Falls u d gone' now ms → Turns u d gone storage (CrashAt calls gone') (kept (arms (Stop calls)) now ∷ ms)
+one_stop {S} {F} u d gone gone' calls (Closed x) now ms e f =
+    let one : One u d gone' (IsChange {S = S} {F = F} (arms (Stop calls))) (kept (arms (Stop calls)) now ∷ ms) = (refl, f) in
+    second_so (calls == 0) _ _ e one
+one_stop {S} {F} u d gone gone' calls (Open x) now ms e f =
+    let one : One u d gone' (IsChange {S = S} {F = F} (arms (Stop calls))) (kept (arms (Stop calls)) now ∷ ms) = (refl, f) in
+    second_so (calls == 0) _ _ e one
+
+none_stop : {S F : Type 0} (u : Upkeep S) (d : Disk S F) (gone gone' : Left) (calls : ℕ) (storage : Storage S F) (ms : List (Moment S F)) → (calls == 0) ≡ true → Falls u d gone storage ms → Turns u d gone storage (CrashAt calls gone') ms
+none_stop u d gone gone' calls (Closed x) ms e f = first_so (calls == 0) _ _ e f
+none_stop u d gone gone' calls (Open x) ms e f = first_so (calls == 0) _ _ e f
+
+pub stop_none : {S F : Type 0} (v : Service S) (u : Upkeep S) (d : Disk S F) (place calls : ℕ) (gone : Left) (old new : World S F) → (calls == 0) ≡ true → Falling v u d place old new → IsStep v u d place (CrashAt calls gone) old new
+stop_none v u d place calls gone old new e f =
+    none_step v u d place (CrashAt calls gone) old new (ap (λ (b : Bool). if b then old.left else gone) (sym e)) (λ ms h. none_stop u d old.left gone calls old.storage ms e h) f
+
+pub stop_one : {S F : Type 0} (v : Service S) (u : Upkeep S) (d : Disk S F) (place calls : ℕ) (gone : Left) (old mid new : World S F) → (calls == 0) ≡ false → Keeps v u d (arms (Stop calls)) old.storage mid.storage → mid.notes ≡ old.notes → mid.left ≡ gone
+    → Falling v u d place mid new → IsStep v u d place (CrashAt calls gone) old new
+stop_one v u d place calls gone old mid new e k notes left f =
+    kept_step v u d place (CrashAt calls gone) (arms (Stop calls)) old mid new k notes (left ∙ ap (λ (b : Bool). if b then old.left else gone) (sym e))
+    (λ ms h. one_stop u d old.left gone calls old.storage mid.storage ms e (subst (λ (g : Left). Falls u d g mid.storage ms) left h)) f

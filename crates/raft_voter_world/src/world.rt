@@ -10,6 +10,7 @@ use crate::storage::Storage;
 use crate::store::VoterStorage;
 use raft_voter::Memory;
 use std::alloc::Global;
+use std::string::String;
 
 /// A store of voters and its disk: what is there, what is noted of the run so far, and what a stop leaves at
 /// the call that was armed last.
@@ -91,6 +92,55 @@ impl<S: Drop, F: Drop> World<S, F> {
             return self.fallen();
         }
         self.storage.arm(&Fault::Refuse { calls })?;
+        self.fallen()
+    }
+
+    /// Closes the store, if one is open.
+    pub fn close<R>(self, rt: &R, place: usize) -> Result<World<S, F>, Memory>
+    where
+        S: VoterStorage<R>,
+        F: VoterDisk<R, S>,
+        ensures { IfOk result (IsStep S.service S.upkeep F.disk place Event.Close self) }
+    {
+        let World {
+            alloc,
+            storage,
+            notes,
+            left,
+        } = self;
+        let files = storage.into_files(rt);
+        let closed = World {
+            alloc,
+            storage: Storage::Closed(files),
+            notes,
+            left,
+        };
+        closed.fallen()
+    }
+
+    /// Copies the files into a directory, where no store is open.
+    pub fn fork<R>(mut self, rt: &R, place: usize, target: String) -> Result<World<S, F>, Memory>
+    where
+        S: VoterStorage<R>,
+        F: VoterDisk<R, S>,
+        ensures { IfOk result (IsStep S.service S.upkeep F.disk place (Event.Fork target) self) }
+    {
+        self.storage.fork(rt, self.alloc, target.as_str());
+        self.fallen()
+    }
+
+    /// The disk stops at a later call that changes files, unless its number is 0; this is left then.
+    pub fn stop_at<R>(mut self, place: usize, calls: u64, left: Left) -> Result<World<S, F>, Memory>
+    where
+        S: VoterStorage<R>,
+        F: VoterDisk<R, S>,
+        ensures { IfOk result (IsStep S.service S.upkeep F.disk place (Event.CrashAt calls left) self) }
+    {
+        if calls == 0 {
+            return self.fallen();
+        }
+        self.storage.arm(&Fault::Stop { calls })?;
+        self.left = left;
         self.fallen()
     }
 }

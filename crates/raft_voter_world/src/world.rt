@@ -1,5 +1,8 @@
 //! A store of voters and its disk, to which events happen one after another.
-ghost use Rattle.std.specs.Prelude.{◌≡◌, ℕ, IfOk};
+ghost use Rattle.std.specs.Prelude.{◌≡◌, ℕ, [], IfOk};
+ghost use Rattle.raft_voter.specs.Rounds.{fresh_world};
+ghost use Rattle.raft_voter.specs.Service.{uncut};
+ghost use Rattle.raft_voter_world.specs.Notes.{all_rounds, cut_of};
 ghost use Rattle.raft_voter_world.specs.Steps.{event_of, Falling, IsStep};
 
 use crate::disk::VoterDisk;
@@ -23,6 +26,21 @@ pub struct World<S, F> {
 }
 
 impl<S: Drop, F: Drop> World<S, F> {
+    /// These files, with nothing noted and nothing armed.
+    pub fn new(alloc: Global, files: F) -> World<S, F>
+        ensures storage { result.storage ≡ Storage.Closed files }
+        ensures world { cut_of result.notes ≡ uncut fresh_world }
+        ensures rounds { all_rounds result.notes ≡ [] }
+        ensures left { result.left ≡ Left.Last }
+    {
+        World {
+            alloc,
+            storage: Storage::Closed(files),
+            notes: Notes::new(alloc),
+            left: Left::Last,
+        }
+    }
+
     /// Where the disk has stopped a crash follows.
     fn fallen<R>(self) -> Result<World<S, F>, Memory>
     where
